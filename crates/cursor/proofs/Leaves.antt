@@ -1,0 +1,133 @@
+-- The laws of the leaves: each moves on, stays inside its part, and is small. Callers use these, never the text of a definition.
+-- Assumes nothing.
+use mathlib.Core.Path.{_≡_, refl}
+use mathlib.Core.List.{List}
+use Prim.Native.Nat.{ℕ, zero, suc, _+_, _*_, _%_, _-_, _^_, _≤_, _<_}
+use native.Mathlib.Nat.{lt-of-not-le}
+use native.Mathlib.Decide.{decLe}
+use native.Mathlib.Omega.{arith}
+use lib.ListN.{getD}
+use borrow.Author.Tests.{ltb-true, ltb-false, leb-true, le-leb, lt-leb, eq-eqb, ne-eqb, lt-ltb, le-ltb}
+use Rattle.cursor.specs.Machine.{Out, ok, refused, run}
+use Rattle.cursor.specs.Rows.{Frame, Part, P}
+use Rattle.cursor.specs.Leaves.{next, digits, number, block, manufacturer, guidBytes, guid}
+use Rattle.cursor.proofs.Laws.{running}
+use Rattle.cursor.proofs.Digits.{grown, below}
+use Rattle.cursor.proofs.Stable.{depends}
+use Rattle.cursor.proofs.Wp.{Wp, at-end, wp-after, wp-weaken, wp-ret, wp-refuse, wp-here, wp-byte, wp-if, wp-check, wp-place}
+
+module _ {C : Part → ℕ → ℕ → Type 0} where
+  -- one byte
+  pub next-on : (κ : Frame) (past end p at : ℕ) → Wp C (next κ past end p) (λ _ q. (q ≡ at + 1) × (q ≤ end)) at
+  unfolding next
+  next-on κ past end p at = wp-here (wp-if (λ t. wp-byte λ b. wp-ret (omega arith, omega (arith, ltb-true at end t))) (λ t. wp-refuse))
+
+  digits-on : (κ : Frame) (past end p left v at : ℕ) → left ≤ 4 → v < 128 ^ (4 - left)
+      → Wp C (digits κ past end p left v) (λ w q. (at < q) × (q ≤ at + left) × (q ≤ end) × (w < 128 ^ 4)) at
+  unfolding digits
+  digits-on κ past end p zero v at l h = wp-refuse
+  digits-on κ past end p (suc left) v at l h =
+      let e : suc left - 1 ≡ left = omega arith in
+      wp-after (next-on κ past end p at) λ b q x.
+      wp-if
+      (λ t. wp-ret (omega arith, omega arith, omega arith, omega (arith, last v b (suc left) (λ z. omega arith) l h (ltb-true b 128 t))))
+      (λ t. wp-check _ _ λ u. wp-weaken (digits-on κ past end p left (v * 128 + b % 128) q (omega arith) (rw e at (grown v b (suc left) (λ z. omega arith) l h))) (λ w r y. (omega arith, omega arith, omega arith, omega arith)))
+    where
+      last : (v b left : ℕ) → ((left ≡ 0) → ⊥) → left ≤ 4 → v < 128 ^ (4 - left) → b < 128 → v * 128 + b < 128 ^ 4
+      last v b left some l h k =
+          let m : b % 128 ≡ b = omega arith in
+          below (v * 128 + b) (left - 1) (rw m at (grown v b left some l h))
+
+  -- a number moves on by 1 to 4 bytes, stays inside its part, and is below 2 ^ 28
+  pub number-on : (κ : Frame) (past end at : ℕ) → Wp C (number κ past end) (λ v q. (at < q) × (q ≤ at + 4) × (q ≤ end) × (v < 2 ^ 28)) at
+  unfolding number
+  number-on κ past end at = wp-place _ at (wp-weaken (digits-on κ past end at 4 0 at (omega arith) (omega arith)) (λ v q x. (omega arith, omega arith, omega arith, omega arith)))
+
+  -- a block lies inside the part
+  pub block-on : (κ : Frame) (past end at : ℕ) → Wp C (block κ past end) (λ v q. (at < q) × (q ≤ at + 4) × (q + v ≤ end) × (v < 2 ^ 28)) at
+  unfolding block
+  block-on κ past end at =
+      wp-place _ at
+      (wp-after (number-on κ past end at) λ size q x.
+      wp-place _ q (wp-check _ _ λ t. wp-ret (omega arith, omega arith, leb-true (q + size) end t, omega arith)))
+
+  pub manufacturer-on : (κ : Frame) (end at : ℕ) → Wp C (manufacturer κ end) (λ _ q. (at < q) × (q ≤ at + 3) × (q ≤ end)) at
+  unfolding manufacturer
+  manufacturer-on κ end at =
+      wp-place _ at
+      (wp-after (next-on κ _ end at at) λ b q x.
+      wp-if
+      (λ t. wp-after (next-on κ _ end at q) λ c r y. wp-after (next-on κ _ end at r) λ d s z. wp-ret (omega arith))
+      (λ t. wp-ret (omega arith)))
+
+  guid-bytes-on : (κ : Frame) (end p left at : ℕ) → Wp C (guidBytes κ end p left) (λ _ q. (at < q) × (q ≤ at + left) × (q ≤ end)) at
+  unfolding guidBytes
+  guid-bytes-on κ end p zero at = wp-refuse
+  guid-bytes-on κ end p (suc left) at =
+      wp-after (next-on κ _ end p at) λ b q x. wp-if (λ t. wp-ret (omega arith)) (λ t. wp-weaken (guid-bytes-on κ end p left q) (λ _ r y. omega arith))
+
+  pub guid-on : (κ : Frame) (end at : ℕ) → Wp C (guid κ end) (λ _ q. (at < q) × (q ≤ at + 19) × (q ≤ end)) at
+  unfolding guid
+  guid-on κ end at = wp-place _ at (guid-bytes-on κ end at 19 at)
+
+-- ---- the same of a run that is known
+
+-- nothing is asked of what is passed
+abbrev pub Any : Part → ℕ → ℕ → Type 0
+Any w p n = Unit {0}
+
+module _ (κ : Frame) (past end : ℕ) (f : List ℕ) (at : ℕ) {v q : ℕ} where
+  pub number-inside : run (number κ past end) f at ≡ ok v q → (at < q) × (q ≤ at + 4) × (q ≤ end) × (v < 2 ^ 28)
+  number-inside e = at-end f (number-on {C = Any} κ past end at) e
+
+  pub block-inside : run (block κ past end) f at ≡ ok v q → (at < q) × (q ≤ at + 4) × (q + v ≤ end) × (v < 2 ^ 28)
+  block-inside e = at-end f (block-on {C = Any} κ past end at) e
+
+  -- a number depends on the bytes that it read alone
+  pub number-depends : run (number κ past end) f at ≡ ok v q → (g : List ℕ) → ((k : ℕ) → at ≤ k → k < q → getD f k 0 ≡ getD g k 0) → run (number κ past end) g at ≡ ok v q
+  number-depends e g h = depends (number κ past end) f g at e h
+
+-- ---- the ways through a block and a manufacturer
+
+module _ (κ : Frame) (past end : ℕ) (f : List ℕ) (at : ℕ) where
+  pub block-size : {n p : ℕ} → run (number κ past end) f at ≡ refused n p → refused n p ≡ run (block κ past end) f at
+  unfolding block
+  block-size e = simp (running, e)
+
+  module _ {size q : ℕ} (e₁ : run (number κ past end) f at ≡ ok size q) where
+    pub block-past : end < q + size → refused past at ≡ run (block κ past end) f at
+    unfolding block
+    block-past l = simp (running, e₁, lt-leb _ _ l)
+
+    pub block-all : q + size ≤ end → ok size q ≡ run (block κ past end) f at
+    unfolding block
+    block-all l = simp (running, e₁, le-leb _ _ l)
+
+module _ (κ : Frame) (end : ℕ) (f : List ℕ) (at : ℕ) where
+  pub manufacturer-none : end ≤ at → refused 3 at ≡ run (manufacturer κ end) f at
+  unfolding manufacturer next
+  manufacturer-none l = simp (running, le-ltb _ _ l)
+
+  module _ (l : at < end) {b : ℕ} (is : b ≡ getD f at 0) where
+    pub manufacturer-one : ((b ≡ 0) → ⊥) → ok tt (at + 1) ≡ run (manufacturer κ end) f at
+    unfolding manufacturer next
+    manufacturer-one n = let n′ : (getD f at 0 ≡ 0) → ⊥ = rw is at n in simp (running, lt-ltb _ _ l, ne-eqb _ _ n′)
+
+    module _ (z : b ≡ 0) where
+      pub manufacturer-cut : end < at + 3 → refused 3 at ≡ run (manufacturer κ end) f at
+      unfolding manufacturer next
+      manufacturer-cut h =
+          let z′ : getD f at 0 ≡ 0 = rw is at z in
+          elim (decLe end (at + 1)) [
+            | yes k ↦ simp (running, lt-ltb _ _ l, eq-eqb _ _ z′, le-ltb _ _ k)
+            | no n ↦ let l₁ : at + 1 < end = lt-of-not-le n in let l₂ : end ≤ at + 1 + 1 = omega arith in simp (running, lt-ltb _ _ l, eq-eqb _ _ z′, lt-ltb _ _ l₁, le-ltb _ _ l₂)
+          ]
+
+      pub manufacturer-three : at + 3 ≤ end → ok tt (at + 3) ≡ run (manufacturer κ end) f at
+      unfolding manufacturer next
+      manufacturer-three h =
+          let z′ : getD f at 0 ≡ 0 = rw is at z in
+          let l₁ : at + 1 < end = omega arith in
+          let l₂ : at + 1 + 1 < end = omega arith in
+          let e : at + 1 + 1 + 1 ≡ at + 3 = omega arith in
+          simp (running, lt-ltb _ _ l, eq-eqb _ _ z′, lt-ltb _ _ l₁, lt-ltb _ _ l₂, e)

@@ -1,0 +1,5 @@
+pub mod Machine
+pub mod Rows
+pub mod Refusals
+pub mod Leaves
+pub mod Told

@@ -1,0 +1,77 @@
+-- The refusal list of 01: each number with its name. The code has the same names in capitals.
+-- Assumes nothing.
+use Prim.Native.Nat.{ℕ}
+
+abbrev pub notXmf : ℕ
+notXmf = 1
+
+abbrev pub badVersion : ℕ
+badVersion = 2
+
+-- a field runs past the part that holds it
+abbrev pub cutShort : ℕ
+cutShort = 3
+
+-- VLQ or GUID too long, or VLQ not shortest
+abbrev pub badNumber : ℕ
+badNumber = 4
+
+abbrev pub wrongLength : ℕ
+wrongLength = 5
+
+-- a type twice, or a 33rd entry
+abbrev pub badType : ℕ
+badType = 6
+
+abbrev pub badTree : ℕ
+badTree = 7
+
+-- a node past its holder, a root that does not fill the tree, a header past its node, a header field past its header
+abbrev pub badNode : ℕ
+badNode = 8
+
+abbrev pub tooDeep : ℕ
+tooDeep = 9
+
+abbrev pub noRowLeft : ℕ
+noRowLeft = 10
+
+-- universal length 0, or a type that is not declared
+abbrev pub badContents : ℕ
+badContents = 11
+
+abbrev pub badUnpacker : ℕ
+badUnpacker = 12
+
+abbrev pub badReference : ℕ
+badReference = 13
+
+abbrev pub badFolder : ℕ
+badFolder = 14
+
+abbrev pub bytesLeft : ℕ
+bytesLeft = 15
+
+abbrev pub badTarget : ℕ
+badTarget = 16
+
+abbrev pub tooLarge : ℕ
+tooLarge = 17
+
+abbrev pub noSuchRow : ℕ
+noSuchRow = 18
+
+abbrev pub endsAtFolder : ℕ
+endsAtFolder = 19
+
+abbrev pub endsAtUri : ℕ
+endsAtUri = 20
+
+abbrev pub tooManyHops : ℕ
+tooManyHops = 21
+
+abbrev pub noRoom : ℕ
+noRoom = 22
+
+abbrev pub noSuchItem : ℕ
+noSuchItem = 23

@@ -1,0 +1,22 @@
+-- What the code's answers say. Contracts read `told answer ≡ run program`.
+-- Assumes nothing.
+use Prim.Native.Nat.{ℕ, _+_}
+use Rattle.cursor.specs.Machine.{Out, ok, refused}
+use Rattle.cursor.specs.declared.FilePlace.{FilePlace}
+use Rattle.cursor.specs.declared.NodePlace.{NodePlace}
+use Rattle.cursor.specs.declared.Numbered.{Numbered}
+use Rattle.cursor.specs.declared.Numbered.the-variants as number
+use Rattle.cursor.specs.declared.Passed.{Passed}
+use Rattle.cursor.specs.declared.Passed.the-variants as passing
+
+abbrev pub numberTold : Numbered → Out ℕ
+numberTold (number.Is v c) = ok v (c .at .0)
+numberTold (number.Refused n p) = refused n (p .0)
+
+abbrev pub passTold : Passed → Out (Unit {0})
+passTold (passing.To c) = ok tt (c .at .0)
+passTold (passing.Refused n p) = refused n (p .0)
+
+-- the place p of a node that starts at `start`, as a place of the file
+abbrev pub inFile : FilePlace → NodePlace → FilePlace
+inFile start p = record { 0 = start .0 + p .0 }

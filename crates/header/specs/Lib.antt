@@ -1,0 +1,4 @@
+pub mod Types
+pub mod Header
+pub mod Told
+pub mod Worked
