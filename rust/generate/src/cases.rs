@@ -1,0 +1,410 @@
+//! Cases for comparing readers, each made from a seed and a number alone.
+
+use crate::damage::{damage, refused, Damage};
+use crate::encode::{encode, Encoded};
+use crate::mobile;
+use crate::model::{Contents, Field, File, Item, Node, Place, Unpacker, UnpackerName, Values};
+use crate::random::Random;
+use crate::shapes;
+use std::ops::Range;
+
+/// The words of a node row.
+const NODE_WORDS: usize = 12;
+/// The words of an item row.
+const ITEM_WORDS: usize = 10;
+/// The words of a table with as many node rows as there may be.
+pub const ALL_NODE_WORDS: usize = 256 * NODE_WORDS;
+/// The words of a table with as many item rows as there may be.
+pub const ALL_ITEM_WORDS: usize = 1024 * ITEM_WORDS;
+/// The bytes that the program lends for a sheet.
+pub const ALL_ROOM: usize = 65_536;
+
+/// The refusals that [`refused`] can make.
+const REFUSALS: [usize; 15] = [1, 2, 3, 4, 5, 6, 7, 8, 9, 11, 12, 13, 14, 15, 16];
+
+/// A kind of case.
+#[derive(Clone, Copy, Debug, PartialEq, Eq)]
+pub enum Kind {
+    /// A well-formed file of any shape.
+    WellFormed,
+    /// A chain of references.
+    Chain,
+    /// A Mobile XMF file; the verdicts 0 to 8 take turns.
+    Mobile,
+    /// A file at a limit or one past it.
+    Limit,
+    /// A file that is refused; the refusals take turns.
+    Refused,
+    /// A well-formed file and tables that may be too short.
+    ShortTables,
+    /// A damaged file.
+    Damaged(Damage),
+}
+
+/// The kinds of cases, in the order in which they take turns.
+pub const KINDS: [Kind; 16] = [
+    Kind::WellFormed,
+    Kind::Chain,
+    Kind::Mobile,
+    Kind::Limit,
+    Kind::Refused,
+    Kind::ShortTables,
+    Kind::WellFormed,
+    Kind::Damaged(Damage::Cut),
+    Kind::Damaged(Damage::LengthMore),
+    Kind::Damaged(Damage::LengthLess),
+    Kind::Damaged(Damage::Number),
+    Kind::Damaged(Damage::Form),
+    Kind::Damaged(Damage::Splice),
+    Kind::Damaged(Damage::Bits),
+    Kind::Damaged(Damage::Insert),
+    Kind::Damaged(Damage::Delete),
+];
+
+/// A file, what is lent with it, and what is asked about it.
+#[derive(Clone, Debug)]
+pub struct Case {
+    /// The kind of the case.
+    pub kind: Kind,
+    /// The verdict, if the case is known to have one.
+    pub verdict: Option<u64>,
+    /// The number of the refusal for reading the tree, if the case is known to have one.
+    pub refusal: Option<u64>,
+    /// The bytes of the file.
+    pub file: Vec<u8>,
+    /// What is lent.
+    pub lent: Lent,
+    /// The row to ask about.
+    pub row: u64,
+    /// The field to be found.
+    pub field: Field,
+}
+
+/// The sizes of what is lent for a question.
+#[derive(Clone, Copy, Debug)]
+pub struct Lent {
+    /// The number of words for node rows.
+    pub node_words: usize,
+    /// The number of words for item rows.
+    pub item_words: usize,
+    /// The number of bytes for a sheet.
+    pub room: usize,
+    /// The seed of what the words and bytes hold before; with 0 they hold zeros.
+    pub stale: u64,
+}
+
+/// Two files that differ in hidden data only, and one question about both.
+#[derive(Clone, Debug)]
+pub struct Pair {
+    /// The first file.
+    pub first: Vec<u8>,
+    /// The second file: as long, with other bytes in some of the hidden parts.
+    pub second: Vec<u8>,
+    /// The hidden parts. None is of a standard field 0, 3 or 13.
+    pub hidden: Vec<Range<usize>>,
+    /// What is lent; the tables are always large enough.
+    pub lent: Lent,
+    /// The row to ask about.
+    pub row: u64,
+    /// The field to be found.
+    pub field: Field,
+}
+
+impl Lent {
+    /// Full tables and room, all zeros.
+    pub fn full() -> Self {
+        Lent {
+            node_words: ALL_NODE_WORDS,
+            item_words: ALL_ITEM_WORDS,
+            room: ALL_ROOM,
+            stale: 0,
+        }
+    }
+
+    /// New words for node rows.
+    pub fn nodes(&self) -> Vec<u64> {
+        self.words(self.node_words, 1)
+    }
+
+    /// New words for item rows.
+    pub fn items(&self) -> Vec<u64> {
+        self.words(self.item_words, 2)
+    }
+
+    /// New bytes for a sheet.
+    pub fn sheet(&self) -> Vec<u8> {
+        let words = self.words(self.room, 3);
+        words.into_iter().map(|word| word as u8).collect()
+    }
+
+    fn words(&self, count: usize, number: u64) -> Vec<u64> {
+        let mut random = Random::for_case(self.stale, number);
+        (0..count)
+            .map(|_| match self.stale {
+                0 => 0,
+                _ => random.word(),
+            })
+            .collect()
+    }
+}
+
+/// Makes a case.
+pub fn case(seed: u64, number: u64) -> Case {
+    let random = &mut Random::for_case(seed, number);
+    let kind = KINDS[(number % KINDS.len() as u64) as usize];
+    let turn = (number / KINDS.len() as u64) as usize;
+    let (mut verdict, mut refusal) = (None, None);
+    let mut model = None;
+    let file = match kind {
+        Kind::Damaged(way) => {
+            let file = match random.below(4) {
+                0 => mobile::with_verdict(random, 0),
+                _ => shapes::any_file(random),
+            };
+            let bytes = damage(random, &file, way);
+            model = Some(file);
+            bytes
+        }
+        Kind::Refused => {
+            let number = REFUSALS[turn % REFUSALS.len()];
+            refusal = Some(number as u64);
+            refused(random, number)
+        }
+        _ => {
+            let file = match kind {
+                Kind::Chain => shapes::chain(random),
+                Kind::Mobile => {
+                    verdict = Some(turn as u64 % 9);
+                    mobile::with_verdict(random, turn % 9)
+                }
+                Kind::Limit => {
+                    let (file, past) = at_limit(random, turn);
+                    refusal = past;
+                    file
+                }
+                _ => shapes::any_file(random),
+            };
+            let bytes = encode(&file).bytes;
+            model = Some(file);
+            bytes
+        }
+    };
+    let (nodes, items) = match &model {
+        Some(file) => (file.nodes().len(), file.item_rows()),
+        None => (6, 6),
+    };
+    let lent = match kind {
+        Kind::ShortTables => short_tables(random, nodes, items),
+        Kind::Limit | Kind::Refused | Kind::Mobile => any_lent(random, 256, 1024),
+        _ => any_lent(random, nodes, items),
+    };
+    Case {
+        kind,
+        verdict,
+        refusal,
+        file,
+        lent,
+        row: any_row(random, nodes),
+        field: any_field(random, model.as_ref()),
+    }
+}
+
+/// Makes a pair of files that differ in hidden data only.
+pub fn pair(seed: u64, number: u64) -> Pair {
+    let random = &mut Random::for_case(!seed, number);
+    let mut file = match random.below(4) {
+        0 => {
+            let verdict = random.pick(&[0, 0, 5, 6, 7]);
+            mobile::with_verdict(random, verdict)
+        }
+        1 => shapes::chain(random),
+        _ => shapes::any_file(random),
+    };
+    add_hidden_item(random, &mut file);
+    let Encoded { bytes, hidden, .. } = encode(&file);
+    let mut second = bytes.clone();
+    while second == bytes {
+        for part in &hidden {
+            if random.once_in(2) {
+                change_part(random, &mut second[part.clone()]);
+            }
+        }
+    }
+    Pair {
+        first: bytes,
+        second,
+        hidden,
+        lent: any_lent(random, file.nodes().len(), file.item_rows()),
+        row: any_row(random, file.nodes().len()),
+        field: any_field(random, Some(&file)),
+    }
+}
+
+/// A file with 256 nodes and 1,024 item rows.
+pub fn large_file(seed: u64) -> Vec<u8> {
+    encode(&shapes::large(&mut Random::new(seed))).bytes
+}
+
+/// A file with a single resource of 60,000 bytes.
+pub fn large_resource(seed: u64) -> Vec<u8> {
+    encode(&shapes::single_resource(&mut Random::new(seed), 60_000)).bytes
+}
+
+/// A file at a limit, or past it with the refusal that follows.
+fn at_limit(random: &mut Random, turn: usize) -> (File, Option<u64>) {
+    match turn % 16 {
+        0 => (shapes::with_nodes(random, 256), None),
+        1 => (shapes::with_nodes(random, 257), Some(10)),
+        2 => (shapes::with_item_rows(random, 1024), None),
+        3 => (shapes::with_item_rows(random, 1025), Some(10)),
+        4 => (shapes::with_depth(random, 16), None),
+        5 => (shapes::with_depth(random, 17), Some(9)),
+        6 => (shapes::with_types(random, 32), None),
+        7 => (shapes::with_types(random, 33), Some(6)),
+        8 => (shapes::with_chain(random, 4), None),
+        9 => (shapes::with_chain(random, 5), None),
+        10 => (with_guid(random, 19), None),
+        11 => (with_guid(random, 20), Some(4)),
+        12 => {
+            let mut file = shapes::single_node(random);
+            file.root.contents = Contents::Node(Place::Node(0));
+            (file, None)
+        }
+        13 => {
+            let mut file = shapes::single_node(random);
+            file.root.contents = Contents::InFile(Place::BeforeEnd(0));
+            (file, None)
+        }
+        _ => (shapes::with_edge_lengths(random), None),
+    }
+}
+
+/// A file with a GUID of so many bytes.
+fn with_guid(random: &mut Random, size: usize) -> File {
+    let mut file = shapes::single_node(random);
+    file.root.unpackers = vec![Unpacker {
+        name: UnpackerName::Guid(shapes::guid(random, size)),
+        size: 1,
+    }];
+    file
+}
+
+/// Tables that hold at least so many rows: exactly these, a few words more, or all that may be.
+fn any_lent(random: &mut Random, nodes: usize, items: usize) -> Lent {
+    let mut lent = Lent::full();
+    match random.below(4) {
+        0 => {
+            lent.node_words = nodes * NODE_WORDS;
+            lent.item_words = items * ITEM_WORDS;
+        }
+        1 => {
+            lent.node_words = nodes * NODE_WORDS + random.below(30);
+            lent.item_words = items * ITEM_WORDS + random.below(30);
+        }
+        2 => {
+            lent.node_words += random.below(300);
+            lent.item_words += random.below(300);
+        }
+        _ => {}
+    }
+    any_room(random, &mut lent);
+    lent
+}
+
+/// Tables of which at least one is about as large as so many rows, or smaller.
+fn short_tables(random: &mut Random, nodes: usize, items: usize) -> Lent {
+    let mut lent = Lent::full();
+    let which = random.below(3);
+    if which != 0 {
+        lent.node_words = short_table(random, nodes * NODE_WORDS);
+    }
+    if which != 1 {
+        lent.item_words = short_table(random, items * ITEM_WORDS);
+    }
+    any_room(random, &mut lent);
+    lent
+}
+
+fn short_table(random: &mut Random, needed: usize) -> usize {
+    match random.below(4) {
+        0 => 0,
+        1 => needed.saturating_sub(1),
+        2 => needed,
+        _ => random.below(needed + 12),
+    }
+}
+
+/// Chooses the room for the sheet, and whether what is lent holds other values before.
+fn any_room(random: &mut Random, lent: &mut Lent) {
+    lent.room = match random.below(6) {
+        0 => 0,
+        1 | 2 => random.below(600),
+        _ => ALL_ROOM,
+    };
+    if random.once_in(2) {
+        lent.stale = random.word();
+    }
+}
+
+/// A row of a file with so many nodes, at times one that isn't there.
+fn any_row(random: &mut Random, nodes: usize) -> u64 {
+    match random.below(12) {
+        0 => nodes as u64,
+        1 => random.pick(&[nodes as u64 + 1, 256, u64::MAX]),
+        _ => random.below(nodes) as u64,
+    }
+}
+
+/// A field, mostly one that the file has.
+fn any_field(random: &mut Random, file: Option<&File>) -> Field {
+    let mut fields = vec![
+        Field::Standard(random.pick(&[0, 3, 8, 13, 99])),
+        Field::Custom(random.pick(&[&b""[..], b"a", b"n", b"zz"]).to_vec()),
+    ];
+    if let Some(file) = file {
+        let nodes = file.nodes();
+        let items = nodes.iter().flat_map(|node| &node.items);
+        fields.extend(items.map(|item| item.field.clone()));
+    }
+    fields.swap_remove(random.below(fields.len()))
+}
+
+/// Gives one node a hidden item with at least one byte of data.
+fn add_hidden_item(random: &mut Random, file: &mut File) {
+    let field = match random.below(3) {
+        0 => Field::Standard(random.pick(&[1, 2, 4, 8, 12, 14, 127])),
+        1 => Field::Standard(8),
+        _ => Field::Custom(random.pick(&[&b"a"[..], b"n", b"\x03", b"\x0D"]).to_vec()),
+    };
+    let size = random.between(1, 9);
+    let data = random.bytes(size);
+    let hidden_type = file.types.iter().find(|entry| entry.format % 2 == 1);
+    let values = match hidden_type {
+        Some(entry) if random.once_in(2) => Values::Versions(vec![(entry.number, data)]),
+        _ => Values::Universal {
+            format: random.pick(&[1, 3, 5, 7, 9, 129]),
+            data,
+        },
+    };
+    let item = Item { field, values };
+    let row = random.below(file.nodes().len());
+    let at = random.below(9);
+    file.for_each_node(|own_row, node: &mut Node| {
+        if own_row == row {
+            let at = at.min(node.items.len());
+            node.items.insert(at, item.clone());
+        }
+    });
+}
+
+/// Puts other bytes into a hidden part.
+fn change_part(random: &mut Random, part: &mut [u8]) {
+    match random.below(4) {
+        0 => part.fill(random.pick(&[0, 0xFF, 0x80, b'\\', b'\n'])),
+        1 => {
+            let at = random.below(part.len());
+            part[at] ^= 1 << random.below(8);
+        }
+        _ => part.fill_with(|| random.byte()),
+    }
+}

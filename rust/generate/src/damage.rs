@@ -1,0 +1,386 @@
+//! Damaged files.
+
+use crate::encode::{encode, encode_changed, number_bytes, LARGEST_NUMBER};
+use crate::encode::{Encoded, Mark, MarkKind};
+use crate::model::{Contents, Field, File, Item, Node, Place, TypeEntry};
+use crate::model::{Unpacker, UnpackerName, Values, Version};
+use crate::random::Random;
+use crate::shapes;
+
+/// More than the length of any file that [`refused`] makes.
+const FAR: usize = 20_000;
+
+/// A way to damage a file.
+#[derive(Clone, Copy, Debug, PartialEq, Eq)]
+pub enum Damage {
+    /// The file ends early.
+    Cut,
+    /// One length is one more than it should be.
+    LengthMore,
+    /// One length is one less than it should be.
+    LengthLess,
+    /// One number has another value.
+    Number,
+    /// One number isn't in the shortest form, is too long, is cut, is missing or has a byte after
+    /// it.
+    Form,
+    /// A part is replaced by a part of another file.
+    Splice,
+    /// Some bits have their other value.
+    Bits,
+    /// Some bytes are added.
+    Insert,
+    /// Some bytes are taken away.
+    Delete,
+}
+
+/// Damages a file. Where bytes come or go, FileLength is right again in half of the cases.
+pub fn damage(random: &mut Random, file: &File, way: Damage) -> Vec<u8> {
+    let encoded = encode(file);
+    let mut bytes = encoded.bytes.clone();
+    match way {
+        Damage::Cut => bytes.truncate(random.below(bytes.len())),
+        Damage::LengthMore => {
+            let mark = any_mark(random, &encoded, |mark| mark.kind.is_length());
+            return changed(random, file, &encoded, mark, &number_bytes(mark.value + 1));
+        }
+        Damage::LengthLess => {
+            let mark = any_mark(random, &encoded, |mark| {
+                mark.kind.is_length() && mark.value > 0
+            });
+            return changed(random, file, &encoded, mark, &number_bytes(mark.value - 1));
+        }
+        Damage::Number => {
+            let mark = any_mark(random, &encoded, |_| true);
+            let value = other_value(random, mark.value, bytes.len());
+            return changed(random, file, &encoded, mark, &number_bytes(value));
+        }
+        Damage::Form => {
+            let mark = any_mark(random, &encoded, |_| true);
+            let form = other_form(random, mark.value);
+            return changed(random, file, &encoded, mark, &form);
+        }
+        Damage::Splice => {
+            let other = encode(&shapes::any_file(random)).bytes;
+            let (start, end) = any_range(random, bytes.len(), 40);
+            let (other_start, other_end) = any_range(random, other.len(), 40);
+            bytes.splice(start..end, other[other_start..other_end].iter().copied());
+        }
+        Damage::Bits => {
+            for _ in 0..random.between(1, 3) {
+                let at = random.below(bytes.len());
+                bytes[at] ^= 1 << random.below(8);
+            }
+            return bytes;
+        }
+        Damage::Insert => {
+            let at = random.below(bytes.len() + 1);
+            let size = random.between(1, 3);
+            bytes.splice(at..at, random.bytes(size));
+        }
+        Damage::Delete => {
+            let (start, end) = any_range(random, bytes.len(), 3);
+            bytes.drain(start..end);
+        }
+    }
+    if random.once_in(2) {
+        bytes = with_right_length(&bytes, &encoded);
+    }
+    bytes
+}
+
+/// All cuts of a file, from no byte to all but one.
+pub fn every_cut(bytes: &[u8]) -> impl Iterator<Item = &[u8]> {
+    (0..bytes.len()).map(|end| &bytes[..end])
+}
+
+/// The file with each of its lengths one more and one less, in turn, all others being right.
+pub fn every_length_changed(file: &File) -> Vec<(Mark, Vec<u8>)> {
+    let mut files = Vec::new();
+    for mark in encode(file).marks {
+        if !mark.kind.is_length() {
+            continue;
+        }
+        let more = number_bytes(mark.value + 1);
+        files.push((mark, encode_changed(file, mark.index, &more).bytes));
+        if mark.value > 0 {
+            let less = number_bytes(mark.value - 1);
+            files.push((mark, encode_changed(file, mark.index, &less).bytes));
+        }
+    }
+    files
+}
+
+/// The damaged bytes with the right FileLength, if its place is still there.
+///
+/// `before` is the file before the damage.
+pub fn with_right_length(bytes: &[u8], before: &Encoded) -> Vec<u8> {
+    let mut repaired = bytes.to_vec();
+    let mark = first_mark(before, MarkKind::FileLength);
+    let end = mark.place + mark.size;
+    if bytes.len() >= end {
+        let others = bytes.len() - mark.size;
+        let mut length = number_bytes(others + 1);
+        while number_bytes(others + length.len()) != length {
+            length = number_bytes(others + length.len());
+        }
+        repaired.splice(mark.place..end, length);
+    }
+    repaired
+}
+
+/// A file that is refused with this number when the tables are large enough.
+///
+/// The number is 1 to 9 or 11 to 16: the others depend on the tables, the question or a very long
+/// file.
+pub fn refused(random: &mut Random, number: usize) -> Vec<u8> {
+    use MarkKind::*;
+    let mut file = rich(random);
+    let choice = random.below(12);
+    let even = choice.is_multiple_of(2);
+    let (kind, change): (MarkKind, fn(usize) -> usize) = match number {
+        1 | 2 => return with_wrong_start(random, &file, number),
+        3 => match choice % 6 {
+            0 => (TableLength, |value| value + FAR),
+            1 => (LanguageLength, |value| value + FAR),
+            2 => (NameLength, |value| value + FAR),
+            3 => (UniversalLength, |value| value + FAR),
+            4 => (VersionLength, |value| value + FAR),
+            _ => (UriLength, |value| value + FAR),
+        },
+        4 => return with_wrong_form(random, &file),
+        5 if even => (FileLength, |value| value + 1),
+        5 => (FileLength, |value| value - 1),
+        6 if even => return encode(&shapes::with_types(random, 33)).bytes,
+        6 => {
+            let mut again = file.types[random.below(file.types.len())].clone();
+            again.format = random.below(8);
+            file.types.push(again);
+            return encode(&file).bytes;
+        }
+        7 => match choice % 3 {
+            0 => (TreeStart, |_| 12),
+            1 => (TreeEnd, |_| 12),
+            _ => (TreeEnd, |value| value + FAR),
+        },
+        8 => match choice % 5 {
+            0 => (NodeLength, |value| value + FAR),
+            1 => (HeaderLength, |value| value + FAR),
+            2 => (HeaderLength, |_| 2),
+            3 => (MetadataLength, |value| value + FAR),
+            _ => (UnpackersLength, |value| value + 1),
+        },
+        9 => return encode(&shapes::with_depth(random, 17)).bytes,
+        11 if even => (UniversalLength, |_| 0),
+        11 => (VersionType, |_| 77),
+        12 => (UnpackerKind, |value| value + 4),
+        13 if even => (Reference, |_| 0),
+        13 => (Reference, |value| value + 4),
+        14 if even => {
+            file.root.unpackers = shapes::unpackers(random);
+            return encode(&file).bytes;
+        }
+        14 => {
+            let root = first_mark(&encode(&file), Reference).index;
+            let reference = number_bytes(random.between(2, 4));
+            return encode_changed(&file, root, &reference).bytes;
+        }
+        15 => match choice % 4 {
+            0 => (TableCount, |value| value - 1),
+            1 => (UriLength, |value| value - 1),
+            _ => {
+                let mark = any_mark(random, &encode(&file), |mark| mark.kind == Offset);
+                let mut form = number_bytes(mark.value);
+                form.push(random.byte());
+                return encode_changed(&file, mark.index, &form).bytes;
+            }
+        },
+        16 => {
+            let contents = match choice % 4 {
+                0 => Contents::InFile(Place::Fixed(random.below(12))),
+                1 => Contents::InFile(Place::Fixed(FAR)),
+                2 => Contents::Node(Place::AfterTree(random.below(2))),
+                _ => Contents::Node(Place::Fixed(random.below(12))),
+            };
+            if let Some(children) = file.root.children_mut() {
+                children.push(Node::new(contents));
+            }
+            return encode(&file).bytes;
+        }
+        _ => panic!("no file for refusal {number}"),
+    };
+    let mark = any_mark(random, &encode(&file), |mark| mark.kind == kind);
+    encode_changed(&file, mark.index, &number_bytes(change(mark.value))).bytes
+}
+
+/// A file with another mark at its start, or with another version.
+fn with_wrong_start(random: &mut Random, file: &File, number: usize) -> Vec<u8> {
+    let mut bytes = encode(file).bytes;
+    if number == 2 {
+        let versions: [&[u8]; 6] = [b"0.00", b"1.02", b"1.10", b"2.01", b"2.10", b"3.00"];
+        bytes[4..8].copy_from_slice(random.pick(&versions));
+    } else if random.once_in(2) {
+        bytes.truncate(random.below(8));
+    } else {
+        bytes[random.below(4)] ^= 1 << random.below(8);
+    }
+    bytes
+}
+
+/// A file with a number that is too long or not in the shortest form.
+fn with_wrong_form(random: &mut Random, file: &File) -> Vec<u8> {
+    let mark = any_mark(random, &encode(file), |_| true);
+    let form = match random.below(3) {
+        0 => vec![0xFF; 4],
+        1 => vec![0x81, 0x80, 0x80, 0x80, 0],
+        _ => padded(mark.value),
+    };
+    encode_changed(file, mark.index, &form).bytes
+}
+
+/// A file with at least one of each kind of part.
+fn rich(random: &mut Random) -> File {
+    let version = match random.below(3) {
+        0 => Version::V100,
+        1 => Version::V101,
+        _ => Version::V200 {
+            kind: 2,
+            revision: 1,
+        },
+    };
+    let name = |name| Unpacker { name, size: 9 };
+    let guid_size = random.between(1, 19);
+    let mut packed = Node::inline(&random.bytes(2));
+    packed.unpackers = vec![
+        name(UnpackerName::Standard(5)),
+        name(UnpackerName::Manufacturer(vec![0, 0x7C, 0x7F], 200)),
+        name(UnpackerName::Registered(7)),
+        name(UnpackerName::Guid(shapes::guid(random, guid_size))),
+    ];
+    let folder = Node::folder(vec![
+        packed,
+        Node::new(Contents::InFile(Place::AfterTree(0))),
+    ]);
+    let mut file = File::new(
+        version,
+        Node::folder(vec![
+            folder,
+            Node::new(Contents::Node(Place::Node(2))),
+            Node::new(Contents::Uri(b"file:x".to_vec())),
+        ]),
+    );
+    file.types = vec![
+        TypeEntry {
+            number: 1,
+            format: 0,
+            language: b"en".to_vec(),
+        },
+        TypeEntry {
+            number: 2,
+            format: 3,
+            language: b"fr".to_vec(),
+        },
+    ];
+    file.tail = random.bytes(3);
+    let types = file.types.clone();
+    file.for_each_node(|_, node| node.items = shapes::items(random, &types));
+    let own = [
+        Item::standard(8, 0, b"Hi"),
+        Item::custom(b"name", 1, b"hidden"),
+        Item {
+            field: Field::Custom(b"a".to_vec()),
+            values: Values::Versions(vec![(1, b"x".to_vec()), (2, b"yz".to_vec())]),
+        },
+    ];
+    let row = random.below(file.nodes().len());
+    file.for_each_node(|own_row, node| {
+        if own_row == row {
+            node.items.extend(own.iter().cloned());
+        }
+    });
+    file
+}
+
+/// Puts other bytes in place of a number: in half of the cases with all lengths around it right, in
+/// the others with FileLength right or with no length changed.
+fn changed(
+    random: &mut Random,
+    file: &File,
+    encoded: &Encoded,
+    mark: Mark,
+    form: &[u8],
+) -> Vec<u8> {
+    let way = random.below(4);
+    if way < 2 {
+        return encode_changed(file, mark.index, form).bytes;
+    }
+    let mut bytes = encoded.bytes.clone();
+    bytes.splice(mark.place..mark.place + mark.size, form.iter().copied());
+    if way == 2 && mark.kind != MarkKind::FileLength {
+        bytes = with_right_length(&bytes, encoded);
+    }
+    bytes
+}
+
+/// A value other than the right one, of those that tell readers apart.
+fn other_value(random: &mut Random, value: usize, length: usize) -> usize {
+    let values = [
+        0,
+        1,
+        2,
+        random.between(3, 6),
+        value + 1,
+        value.saturating_sub(1),
+        value * 2,
+        length - 1,
+        length,
+        length + 1,
+        127,
+        128,
+        16_384,
+        LARGEST_NUMBER,
+        random.below(length * 2),
+    ];
+    random.pick(&values).min(LARGEST_NUMBER)
+}
+
+/// A number in a form that isn't right, or with other bytes about it.
+fn other_form(random: &mut Random, value: usize) -> Vec<u8> {
+    match random.below(8) {
+        0 => padded(value),
+        1 => vec![0xFF; 4],
+        2 => vec![0x81, 0x80, 0x80, 0x80, 0],
+        3 => vec![0x80],
+        4 => vec![0x81],
+        5 => Vec::new(),
+        6 => [number_bytes(value), vec![random.byte()]].concat(),
+        _ => [vec![random.byte()], number_bytes(value)].concat(),
+    }
+}
+
+/// A number with a needless first byte.
+fn padded(value: usize) -> Vec<u8> {
+    [vec![0x80], number_bytes(value)].concat()
+}
+
+/// One of the numbers of a file.
+fn any_mark(random: &mut Random, encoded: &Encoded, wanted: impl Fn(&Mark) -> bool) -> Mark {
+    let marks = encoded.marks.iter().copied();
+    let marks: Vec<Mark> = marks.filter(|mark| wanted(mark)).collect();
+    random.pick(&marks)
+}
+
+/// The first number of a kind.
+fn first_mark(encoded: &Encoded, kind: MarkKind) -> Mark {
+    let mut marks = encoded.marks.iter();
+    *marks
+        .find(|mark| mark.kind == kind)
+        .expect("each file has such a number")
+}
+
+/// The start and the end of a part with at least one byte and at most so many.
+fn any_range(random: &mut Random, length: usize, most: usize) -> (usize, usize) {
+    let start = random.below(length);
+    let size = random.between(1, most.min(length - start));
+    (start, start + size)
+}

@@ -1,0 +1,16 @@
+//! Makes XMF files of many shapes, well-formed and damaged.
+//!
+//! Everything is fixed by a seed and a case number: [`case`] makes a file with what is lent and
+//! what is asked, [`pair`] makes two files that differ in hidden data only, [`large_file`] and
+//! [`large_resource`] make the largest files. The modules hold the parts they are made of.
+
+pub mod cases;
+pub mod damage;
+pub mod encode;
+pub mod mobile;
+pub mod model;
+pub mod random;
+pub mod samples;
+pub mod shapes;
+
+pub use cases::{case, large_file, large_resource, pair, Case, Lent, Pair};

@@ -1,0 +1,289 @@
+//! What a file consists of, before it is written as bytes.
+//!
+//! Lengths, counts and places aren't stated here: they follow when the file is written. A model may
+//! describe a file that a reader has to refuse, such as a folder with unpackers.
+
+/// A whole file.
+#[derive(Clone, Debug)]
+pub struct File {
+    /// The version, with type and revision in 2.00.
+    pub version: Version,
+    /// The entries of the types table.
+    pub types: Vec<TypeEntry>,
+    /// The bytes between the file header and the tree.
+    pub gap: Vec<u8>,
+    /// The tree.
+    pub root: Node,
+    /// The bytes after the tree.
+    pub tail: Vec<u8>,
+}
+
+/// A version of the format.
+#[derive(Clone, Copy, Debug, PartialEq, Eq)]
+pub enum Version {
+    /// Version 1.00.
+    V100,
+    /// Version 1.01.
+    V101,
+    /// Version 2.00, with the file's type and its revision.
+    V200 {
+        /// The type of the file; 2 is Mobile XMF.
+        kind: u32,
+        /// The revision of the type.
+        revision: u32,
+    },
+}
+
+/// An entry of the types table.
+#[derive(Clone, Debug)]
+pub struct TypeEntry {
+    /// The type that versions name.
+    pub number: usize,
+    /// The string format of its versions.
+    pub format: usize,
+    /// The name of the language.
+    pub language: Vec<u8>,
+}
+
+/// A node.
+#[derive(Clone, Debug)]
+pub struct Node {
+    /// The metadata items.
+    pub items: Vec<Item>,
+    /// The unpackers.
+    pub unpackers: Vec<Unpacker>,
+    /// The contents.
+    pub contents: Contents,
+}
+
+/// The contents of a node.
+#[derive(Clone, Debug)]
+pub enum Contents {
+    /// Nodes, by reference 1.
+    Folder(Vec<Node>),
+    /// Bytes in the node, by reference 1.
+    Inline(Vec<u8>),
+    /// Bytes in the file, by reference 2.
+    InFile(Place),
+    /// Another node, by reference 3.
+    Node(Place),
+    /// A URI, by reference 4.
+    Uri(Vec<u8>),
+}
+
+/// A place in the file, known once the file is written.
+#[derive(Clone, Copy, Debug)]
+pub enum Place {
+    /// The first byte of the node with this row.
+    Node(usize),
+    /// So many bytes after the header's end.
+    AfterHeader(usize),
+    /// So many bytes after the tree's end.
+    AfterTree(usize),
+    /// So many bytes before the file's end.
+    BeforeEnd(usize),
+    /// A fixed place.
+    Fixed(usize),
+}
+
+/// A metadata item.
+#[derive(Clone, Debug)]
+pub struct Item {
+    /// The field.
+    pub field: Field,
+    /// The content or contents.
+    pub values: Values,
+}
+
+/// A field of an item.
+#[derive(Clone, Debug, PartialEq, Eq)]
+pub enum Field {
+    /// A standard field, by its number.
+    Standard(usize),
+    /// A custom field, by its name.
+    Custom(Vec<u8>),
+}
+
+/// The contents of an item.
+#[derive(Clone, Debug)]
+pub enum Values {
+    /// One content for all languages.
+    Universal {
+        /// The string format.
+        format: usize,
+        /// The data.
+        data: Vec<u8>,
+    },
+    /// Contents by type, each a type and its data.
+    Versions(Vec<(usize, Vec<u8>)>),
+}
+
+/// An unpacker.
+#[derive(Clone, Debug)]
+pub struct Unpacker {
+    /// Which unpacker.
+    pub name: UnpackerName,
+    /// The decoded size.
+    pub size: usize,
+}
+
+/// The name of an unpacker.
+#[derive(Clone, Debug)]
+pub enum UnpackerName {
+    /// Kind 0: a number.
+    Standard(usize),
+    /// Kind 1: a manufacturer, one byte or three, and a number.
+    Manufacturer(Vec<u8>, usize),
+    /// Kind 2: a number.
+    Registered(usize),
+    /// Kind 3: a GUID.
+    Guid(Vec<u8>),
+}
+
+impl File {
+    /// A file with this tree and nothing else.
+    pub fn new(version: Version, root: Node) -> Self {
+        File {
+            version,
+            types: Vec::new(),
+            gap: Vec::new(),
+            root,
+            tail: Vec::new(),
+        }
+    }
+
+    /// All nodes, in row order.
+    pub fn nodes(&self) -> Vec<&Node> {
+        let mut nodes = Vec::new();
+        self.root.collect(&mut nodes);
+        nodes
+    }
+
+    /// Calls a function on each node, in row order, with its row.
+    pub fn for_each_node(&mut self, mut change: impl FnMut(usize, &mut Node)) {
+        let mut row = 0;
+        self.root.visit(&mut row, &mut change);
+    }
+
+    /// The number of item rows that the file has.
+    pub fn item_rows(&self) -> usize {
+        let nodes = self.nodes();
+        nodes
+            .iter()
+            .flat_map(|node| &node.items)
+            .map(Item::rows)
+            .sum()
+    }
+
+    /// Whether versions of this type are hidden; an undeclared type isn't.
+    pub fn is_hidden_type(&self, number: usize) -> bool {
+        self.types
+            .iter()
+            .any(|entry| entry.number == number && entry.format % 2 == 1)
+    }
+}
+
+impl Node {
+    /// A node without items and unpackers.
+    pub fn new(contents: Contents) -> Self {
+        Node {
+            items: Vec::new(),
+            unpackers: Vec::new(),
+            contents,
+        }
+    }
+
+    /// A folder without items.
+    pub fn folder(children: Vec<Node>) -> Self {
+        Node::new(Contents::Folder(children))
+    }
+
+    /// A file node with these bytes in it.
+    pub fn inline(bytes: &[u8]) -> Self {
+        Node::new(Contents::Inline(bytes.to_vec()))
+    }
+
+    /// The same node with these items.
+    pub fn with_items(mut self, items: Vec<Item>) -> Self {
+        self.items = items;
+        self
+    }
+
+    /// The nodes held; none for a file node.
+    pub fn children(&self) -> &[Node] {
+        match &self.contents {
+            Contents::Folder(children) => children,
+            _ => &[],
+        }
+    }
+
+    /// The nodes held, to be changed; nothing for a file node.
+    pub fn children_mut(&mut self) -> Option<&mut Vec<Node>> {
+        match &mut self.contents {
+            Contents::Folder(children) => Some(children),
+            _ => None,
+        }
+    }
+
+    /// Whether the node is a folder.
+    pub fn is_folder(&self) -> bool {
+        matches!(self.contents, Contents::Folder(_))
+    }
+
+    fn collect<'a>(&'a self, nodes: &mut Vec<&'a Node>) {
+        nodes.push(self);
+        for child in self.children() {
+            child.collect(nodes);
+        }
+    }
+
+    fn visit(&mut self, row: &mut usize, change: &mut impl FnMut(usize, &mut Node)) {
+        change(*row, self);
+        *row += 1;
+        if let Some(children) = self.children_mut() {
+            for child in children {
+                child.visit(row, change);
+            }
+        }
+    }
+}
+
+impl Item {
+    /// A universal item of a standard field.
+    pub fn standard(number: usize, format: usize, data: &[u8]) -> Self {
+        Item {
+            field: Field::Standard(number),
+            values: Values::Universal {
+                format,
+                data: data.to_vec(),
+            },
+        }
+    }
+
+    /// A universal item of a custom field.
+    pub fn custom(name: &[u8], format: usize, data: &[u8]) -> Self {
+        Item {
+            field: Field::Custom(name.to_vec()),
+            values: Values::Universal {
+                format,
+                data: data.to_vec(),
+            },
+        }
+    }
+
+    /// The number of item rows of this item.
+    pub fn rows(&self) -> usize {
+        match &self.values {
+            Values::Universal { .. } => 1,
+            Values::Versions(versions) => versions.len(),
+        }
+    }
+}
+
+impl Field {
+    /// Whether hidden data of this field may differ between two files that are to give the same
+    /// answers.
+    pub fn is_free(&self) -> bool {
+        !matches!(self, Field::Standard(0 | 3 | 13))
+    }
+}

@@ -1,0 +1,233 @@
+//! The files made are what they are said to be, by the plain reader.
+
+use generate::cases::Kind;
+use generate::damage::{every_cut, every_length_changed};
+use generate::encode::{encode, MarkKind};
+use generate::model::Field as Wanted;
+use generate::random::Random;
+use generate::{case, large_file, large_resource, pair, samples, shapes, Lent};
+use plain::{find, judge, node, read_tree, resolve, resource, write_sheet, Field, Refusal};
+
+const SEED: u64 = 1;
+const CASES: u64 = 4000;
+
+/// All that is answered about a file.
+#[derive(Debug, PartialEq)]
+struct Answers {
+    tree: Result<plain::Tree, Refusal>,
+    nodes: Vec<u64>,
+    items: Vec<u64>,
+    found: Result<plain::Found, Refusal>,
+    resolved: Result<plain::Resource, Refusal>,
+    verdict: Result<u64, Refusal>,
+    sheet: Result<usize, Refusal>,
+    text: Vec<u8>,
+}
+
+/// Asks everything, each time with newly lent tables, and checks what they hold afterwards.
+fn ask(file: &[u8], lent: &Lent, row: u64, wanted: &Wanted) -> Answers {
+    let field = match wanted {
+        Wanted::Standard(number) => Field::Standard(*number as u64),
+        Wanted::Custom(name) => Field::Custom(name),
+    };
+    let (mut nodes, mut items) = (lent.nodes(), lent.items());
+    let tree = read_tree(file, &mut nodes, &mut items);
+    if tree.is_err() {
+        assert!(nodes.iter().chain(&items).all(|&word| word == 0));
+    }
+
+    let check = |is_answered: bool, held: (&[u64], &[u64])| {
+        if is_answered {
+            assert_eq!(held, (&nodes[..], &items[..]));
+        } else {
+            assert!(held.0.iter().chain(held.1).all(|&word| word == 0));
+        }
+    };
+    let (mut held_nodes, mut held_items) = (lent.nodes(), lent.items());
+    let found = find(file, &mut held_nodes, &mut held_items, row, field);
+    check(found.is_ok(), (&held_nodes, &held_items));
+    let (mut held_nodes, mut held_items) = (lent.nodes(), lent.items());
+    let resolved = resolve(file, &mut held_nodes, &mut held_items, row);
+    check(resolved.is_ok(), (&held_nodes, &held_items));
+    let part = resource(file, &mut held_nodes, &mut held_items, row);
+    match resolved {
+        Ok(answer) => assert_eq!(
+            part,
+            &file[answer.place as usize..][..answer.length as usize]
+        ),
+        Err(_) => assert!(part.is_empty()),
+    }
+    let (mut held_nodes, mut held_items) = (lent.nodes(), lent.items());
+    let verdict = judge(file, &mut held_nodes, &mut held_items);
+    check(verdict.is_ok(), (&held_nodes, &held_items));
+    let (mut held_nodes, mut held_items) = (lent.nodes(), lent.items());
+    let mut text = lent.sheet();
+    let sheet = write_sheet(file, &mut held_nodes, &mut held_items, &mut text);
+    check(sheet.is_ok(), (&held_nodes, &held_items));
+    assert!(text[sheet.unwrap_or(0)..].iter().all(|&byte| byte == 0));
+
+    Answers {
+        tree,
+        nodes,
+        items,
+        found,
+        resolved,
+        verdict,
+        sheet,
+        text,
+    }
+}
+
+/// The sheet of a file, or its refusal.
+fn sheet(file: &[u8]) -> Result<String, Refusal> {
+    let lent = Lent::full();
+    let mut text = lent.sheet();
+    let length = write_sheet(file, &mut lent.nodes(), &mut lent.items(), &mut text)?;
+    Ok(String::from_utf8(text[..length].to_vec()).expect("a sheet is ASCII"))
+}
+
+#[test]
+fn cases_are_what_they_are_said_to_be() {
+    let mut refusals = [0; 24];
+    let mut verdicts = [0; 9];
+    let mut hops = [0; 5];
+    for number in 0..CASES {
+        let case = case(SEED, number);
+        let answers = ask(&case.file, &case.lent, case.row, &case.field);
+        let refusal = answers.tree.err().map(|refusal| refusal.number);
+        match case.kind {
+            Kind::Damaged(_) | Kind::ShortTables => {}
+            _ => assert_eq!(refusal, case.refusal, "case {number}"),
+        }
+        if let Some(verdict) = case.verdict {
+            assert_eq!(answers.verdict, Ok(verdict), "case {number}");
+        }
+        for refusal in [
+            answers.tree.err(),
+            answers.found.err(),
+            answers.resolved.err(),
+            answers.sheet.err(),
+        ] {
+            refusals[refusal.map_or(0, |refusal| refusal.number as usize)] += 1;
+        }
+        if let Ok(verdict) = answers.verdict {
+            verdicts[verdict as usize] += 1;
+        }
+        if let Ok(resolved) = answers.resolved {
+            hops[resolved.hops as usize] += 1;
+        }
+    }
+    for (number, count) in refusals.iter().enumerate() {
+        // Refusal 17 needs a file of 256 MiB.
+        assert!(*count > 0 || number == 17, "no refusal {number}");
+    }
+    assert!(verdicts.iter().all(|&count| count > 0), "{verdicts:?}");
+    assert!(hops.iter().all(|&count| count > 0), "{hops:?}");
+}
+
+#[test]
+fn cases_depend_on_seed_and_number_alone() {
+    for number in [0, 5, 77, 1234] {
+        assert_eq!(case(SEED, number).file, case(SEED, number).file);
+        assert_eq!(pair(SEED, number).second, pair(SEED, number).second);
+    }
+    assert_ne!(case(1, 0).file, case(2, 0).file);
+}
+
+#[test]
+fn rows_are_those_of_the_model() {
+    for number in 0..300 {
+        let file = shapes::any_file(&mut Random::for_case(SEED, number));
+        let encoded = encode(&file);
+        let lent = Lent::full();
+        let (mut nodes, mut items) = (lent.nodes(), lent.items());
+        let tree = read_tree(&encoded.bytes, &mut nodes, &mut items).expect("a well-formed file");
+        assert_eq!(tree.nodes as usize, file.nodes().len());
+        assert_eq!(tree.items as usize, file.item_rows());
+        let marks = encoded.marks.iter();
+        let starts = marks.filter(|mark| mark.kind == MarkKind::NodeLength);
+        for (row, start) in nodes.chunks(node::WORDS).zip(starts) {
+            assert_eq!(row[node::START], start.place as u64);
+            assert_eq!(row[node::LENGTH], start.value as u64);
+        }
+    }
+}
+
+#[test]
+fn pairs_have_the_same_answers() {
+    for number in 0..1000 {
+        let pair = pair(SEED, number);
+        assert_ne!(pair.first, pair.second);
+        let hidden = |place: usize| pair.hidden.iter().any(|part| part.contains(&place));
+        for (place, (first, second)) in pair.first.iter().zip(&pair.second).enumerate() {
+            assert!(first == second || hidden(place));
+        }
+        let first = ask(&pair.first, &pair.lent, pair.row, &pair.field);
+        let second = ask(&pair.second, &pair.lent, pair.row, &pair.field);
+        assert!(first.tree.is_ok());
+        assert_eq!(first, second, "pair {number}");
+    }
+}
+
+#[test]
+fn every_cut_and_every_changed_length_is_answered() {
+    let file = shapes::folders(&mut Random::new(SEED));
+    let field = Wanted::Standard(3);
+    for bytes in every_cut(&encode(&file).bytes) {
+        let answers = ask(bytes, &Lent::full(), 0, &field);
+        assert!(answers.tree.is_err());
+    }
+    for (mark, bytes) in every_length_changed(&file) {
+        let answers = ask(&bytes, &Lent::full(), 0, &field);
+        if mark.kind == MarkKind::FileLength {
+            assert_eq!(answers.tree.map_err(|refusal| refusal.number), Err(5));
+        }
+    }
+}
+
+#[test]
+fn large_files_are_large() {
+    let file = large_file(SEED);
+    let lent = Lent::full();
+    let tree = read_tree(&file, &mut lent.nodes(), &mut lent.items()).expect("a well-formed file");
+    assert_eq!((tree.nodes, tree.items), (256, 1024));
+    assert!(file.len() <= 65_536);
+    assert!(sheet(&file).is_ok());
+
+    let file = large_resource(SEED);
+    assert!(file.len() <= 65_536);
+    let part = resource(&file, &mut lent.nodes(), &mut lent.items(), 1);
+    assert_eq!(part.len(), 60_000);
+}
+
+#[test]
+fn samples_have_their_answers() {
+    for (name, bytes) in samples::all() {
+        assert!(bytes.len() < 400, "{name}");
+    }
+    assert_eq!(
+        sheet(&samples::worked()).as_deref(),
+        Ok("XMF\t2.00\t56\t2\t3\n\
+            N\t0\t0\t1\t1\t27\t29\n\
+            N\t1\t0\t2\t1\t54\t2\n\
+            M\t1\tC\ta\t0\t0\tHi\n\
+            M\t1\tS\t3\t0\t6\t\\00\\00\n")
+    );
+    let lent = Lent::full();
+    let verdict = |file: &[u8]| judge(file, &mut lent.nodes(), &mut lent.items());
+    assert_eq!(verdict(&samples::worked()), Ok(7));
+    assert_eq!(verdict(&samples::mobile()), Ok(0));
+    let file = samples::mobile();
+    let tune = resolve(&file, &mut lent.nodes(), &mut lent.items(), 1).expect("a tune");
+    assert_eq!(tune.place % 2, 0);
+    assert!(file[tune.place as usize..].starts_with(b"MThd"));
+    assert!(sheet(&samples::folders()).is_ok());
+
+    let refused = |number, place| Err(Refusal { number, place });
+    assert_eq!(sheet(&samples::cut()), refused(5, 16));
+    assert_eq!(sheet(&samples::header()), refused(8, 29));
+    assert_eq!(
+        sheet(&samples::undeclared_type()).map_err(|refusal| refusal.number),
+        Err(11)
+    );
+}

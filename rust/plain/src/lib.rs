@@ -1,0 +1,255 @@
+//! A reader of XMF files of versions 1.00, 1.01 and 2.00, written from the papers alone.
+//!
+//! It answers five questions about a file's bytes: read the tree ([`read_tree`]), find a metadata
+//! item ([`find`]), resolve a resource ([`resolve`], with [`resource`] for its bytes), judge Mobile
+//! XMF ([`judge`]) and write the support sheet ([`write_sheet`]).
+//!
+//! Each question takes the file and two lent tables of words, one for node rows and one for item
+//! rows, of any size and whatever they hold before. It reads the file afresh. After an answer the
+//! tables hold the file's rows, and zeros past the last row; after a refusal they hold zeros only.
+//! Nothing is allocated.
+//!
+//! Every place is counted from the file's first byte.
+
+mod cursor;
+mod questions;
+mod sheet;
+mod tree;
+
+/// The columns of a node row.
+pub mod node {
+    /// The number of words in a row.
+    pub const WORDS: usize = 12;
+    /// Place of the node's first byte.
+    pub const START: usize = 0;
+    /// The node's length.
+    pub const LENGTH: usize = 1;
+    /// Length of the node's header, from the node's first byte to its ReferenceTypeID.
+    pub const HEADER_LENGTH: usize = 2;
+    /// Number of nodes the node holds; 0 for a file node.
+    pub const CONTAINED: usize = 3;
+    /// Row of the folder that holds the node; 0 for the root.
+    pub const PARENT: usize = 4;
+    /// Depth, the root being at 1.
+    pub const DEPTH: usize = 5;
+    /// ReferenceTypeID, 1 to 4.
+    pub const REFERENCE: usize = 6;
+    /// Place of the contents (reference 1), the offset (2 and 3), or place of the URI (4).
+    pub const TARGET: usize = 7;
+    /// Length of the contents (reference 1), bytes to the file's end (2), 0 (3), or length of the
+    /// URI (4).
+    pub const EXTENT: usize = 8;
+    /// Place of the byte after the unpackers' length.
+    pub const UNPACKERS: usize = 9;
+    /// Number of unpackers.
+    pub const UNPACKER_COUNT: usize = 10;
+    /// Number of item rows of the node.
+    pub const ITEMS: usize = 11;
+}
+
+/// The columns of an item row.
+pub mod item {
+    /// The number of words in a row.
+    pub const WORDS: usize = 10;
+    /// Row of the node that has the item.
+    pub const NODE: usize = 0;
+    /// Number of the item in its node, from 0.
+    pub const NUMBER: usize = 1;
+    /// Kind of field: [`STANDARD`] or [`CUSTOM`].
+    pub const KIND: usize = 2;
+    /// The standard number, or the place of the custom name.
+    pub const FIELD: usize = 3;
+    /// Length of the custom name; 0 for a standard field.
+    pub const NAME_LENGTH: usize = 4;
+    /// Number of the version, from 1; 0 for a universal content.
+    pub const VERSION: usize = 5;
+    /// The version's type; 0 for a universal content.
+    pub const TYPE: usize = 6;
+    /// String format; an odd one is hidden.
+    pub const FORMAT: usize = 7;
+    /// Place of the data.
+    pub const DATA: usize = 8;
+    /// Length of the data.
+    pub const DATA_LENGTH: usize = 9;
+
+    /// Kind of an item with a standard field.
+    pub const STANDARD: u64 = 0;
+    /// Kind of an item with a custom field.
+    pub const CUSTOM: u64 = 1;
+}
+
+/// The words of one node row.
+pub type NodeRow = [u64; node::WORDS];
+
+/// The words of one item row.
+pub type ItemRow = [u64; item::WORDS];
+
+/// Why a question is refused.
+#[derive(Clone, Copy, Debug, PartialEq, Eq)]
+pub struct Refusal {
+    /// The number in the refusal list, 1 to 23.
+    pub number: u64,
+    /// The place of the refused field's first byte, or 0 where the list names none.
+    pub place: u64,
+}
+
+impl Refusal {
+    /// The refusal with a number and a place.
+    fn at(number: u64, place: usize) -> Self {
+        Refusal {
+            number,
+            place: place as u64,
+        }
+    }
+}
+
+/// What reading the tree answers, besides the rows.
+#[derive(Clone, Copy, Debug, PartialEq, Eq)]
+pub struct Tree {
+    /// The version times a hundred: 100, 101 or 200.
+    pub version: u64,
+    /// The number of node rows.
+    pub nodes: u64,
+    /// The number of item rows.
+    pub items: u64,
+}
+
+/// A field to be found.
+#[derive(Clone, Copy, Debug, PartialEq, Eq)]
+pub enum Field<'a> {
+    /// A standard field, by its number.
+    Standard(u64),
+    /// A custom field, by the bytes of its name. An empty name is never found.
+    Custom(&'a [u8]),
+}
+
+/// An item that has been found.
+#[derive(Clone, Copy, Debug, PartialEq, Eq)]
+pub struct Found {
+    /// The number of its item row.
+    pub row: u64,
+    /// The words of that row.
+    pub words: ItemRow,
+}
+
+/// A resource that has been resolved.
+#[derive(Clone, Copy, Debug, PartialEq, Eq)]
+pub struct Resource {
+    /// Place of its first byte.
+    pub place: u64,
+    /// The number of its bytes.
+    pub length: u64,
+    /// The node row whose unpackers apply.
+    pub row: u64,
+    /// The number of references followed.
+    pub hops: u64,
+}
+
+/// The rows of a file that has been read.
+struct Rows<'a> {
+    file: &'a [u8],
+    nodes: &'a [NodeRow],
+    items: &'a [ItemRow],
+}
+
+impl<'a> Rows<'a> {
+    /// The filled rows of the lent tables.
+    fn new(file: &'a [u8], nodes: &'a [u64], items: &'a [u64], tree: Tree) -> Self {
+        Rows {
+            file,
+            nodes: &nodes.as_chunks().0[..tree.nodes as usize],
+            items: &items.as_chunks().0[..tree.items as usize],
+        }
+    }
+}
+
+/// Reads the tree of a file into the lent tables.
+pub fn read_tree(file: &[u8], nodes: &mut [u64], items: &mut [u64]) -> Result<Tree, Refusal> {
+    let read = tree::read(file, nodes, items);
+    let (node_rows, item_rows) = match read {
+        Ok(tree) => (tree.nodes as usize, tree.items as usize),
+        Err(_) => (0, 0),
+    };
+    nodes[node_rows * node::WORDS..].fill(0);
+    items[item_rows * item::WORDS..].fill(0);
+    read
+}
+
+/// Finds the first item of a field on the node of a row, or on the nearest node above it that has
+/// one.
+///
+/// Refused with 18 when there is no such row, with 23 when there is no such item.
+pub fn find(
+    file: &[u8],
+    nodes: &mut [u64],
+    items: &mut [u64],
+    row: u64,
+    field: Field,
+) -> Result<Found, Refusal> {
+    ask(file, nodes, items, |rows, _| {
+        questions::find(rows, row, field)
+    })
+}
+
+/// Resolves the resource of a row's node, following at most four references.
+///
+/// Refused with 18 when there is no such row, with 19 when it ends at a folder, with 20 when it
+/// ends at a URI, with 21 when a fifth reference would be followed.
+pub fn resolve(
+    file: &[u8],
+    nodes: &mut [u64],
+    items: &mut [u64],
+    row: u64,
+) -> Result<Resource, Refusal> {
+    ask(file, nodes, items, |rows, _| questions::resolve(rows, row))
+}
+
+/// Gives the resource that [`resolve`] names, as a part of the lent file. A refusal gives an empty
+/// part.
+pub fn resource<'a>(file: &'a [u8], nodes: &mut [u64], items: &mut [u64], row: u64) -> &'a [u8] {
+    match resolve(file, nodes, items, row) {
+        Ok(found) => questions::part(file, found.place, found.length),
+        Err(_) => &[],
+    }
+}
+
+/// Judges whether a file is a Mobile XMF file: 0, or the number 1 to 8 of the first check that
+/// fails.
+pub fn judge(file: &[u8], nodes: &mut [u64], items: &mut [u64]) -> Result<u64, Refusal> {
+    ask(file, nodes, items, |rows, tree| {
+        Ok(questions::judge(rows, tree.version))
+    })
+}
+
+/// Writes the support sheet of a file into a lent buffer and answers the number of bytes written.
+///
+/// Bytes of the buffer past the sheet are 0; after a refusal all are. Refused with 22 when the
+/// sheet is longer than the buffer.
+pub fn write_sheet(
+    file: &[u8],
+    nodes: &mut [u64],
+    items: &mut [u64],
+    sheet: &mut [u8],
+) -> Result<usize, Refusal> {
+    let written = ask(file, nodes, items, |rows, tree| {
+        sheet::write(rows, tree.version, sheet)
+    });
+    sheet[written.unwrap_or(0)..].fill(0);
+    written
+}
+
+/// Reads the tree and asks about its rows. Every refusal clears the tables.
+fn ask<T>(
+    file: &[u8],
+    nodes: &mut [u64],
+    items: &mut [u64],
+    question: impl FnOnce(&Rows, Tree) -> Result<T, Refusal>,
+) -> Result<T, Refusal> {
+    let tree = read_tree(file, nodes, items)?;
+    let answer = question(&Rows::new(file, nodes, items, tree), tree);
+    if answer.is_err() {
+        nodes.fill(0);
+        items.fill(0);
+    }
+    answer
+}

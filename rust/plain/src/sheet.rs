@@ -1,0 +1,124 @@
+//! The support sheet.
+
+use crate::questions::{data, name};
+use crate::{item, node, Refusal, Rows};
+
+/// The columns of a node row that its line shows, in order.
+const NODE_COLUMNS: [usize; 5] = [
+    node::PARENT,
+    node::DEPTH,
+    node::REFERENCE,
+    node::TARGET,
+    node::EXTENT,
+];
+
+/// Writes the sheet into lent room. The answer is the number of bytes written; bytes past them are
+/// left as they were.
+pub fn write(rows: &Rows, version: u64, room: &mut [u8]) -> Result<usize, Refusal> {
+    let mut sheet = Sheet { room, used: 0 };
+    sheet.bytes(b"XMF\t")?;
+    sheet.bytes(match version {
+        100 => b"1.00",
+        101 => b"1.01",
+        _ => b"2.00",
+    })?;
+    sheet.column(rows.file.len() as u64)?;
+    sheet.column(rows.nodes.len() as u64)?;
+    sheet.column(rows.items.len() as u64)?;
+    sheet.bytes(b"\n")?;
+
+    for (row, words) in (0..).zip(rows.nodes) {
+        sheet.bytes(b"N")?;
+        sheet.column(row)?;
+        for column in NODE_COLUMNS {
+            sheet.column(words[column])?;
+        }
+        sheet.bytes(b"\n")?;
+    }
+
+    for words in rows.items {
+        if words[item::FORMAT] % 2 == 1 {
+            continue;
+        }
+        sheet.bytes(b"M")?;
+        sheet.column(words[item::NODE])?;
+        if words[item::KIND] == item::STANDARD {
+            sheet.bytes(b"\tS")?;
+            sheet.column(words[item::FIELD])?;
+        } else {
+            sheet.bytes(b"\tC\t")?;
+            sheet.text(name(rows.file, words))?;
+        }
+        sheet.column(words[item::VERSION])?;
+        sheet.column(words[item::FORMAT])?;
+        sheet.bytes(b"\t")?;
+        sheet.text(data(rows.file, words))?;
+        sheet.bytes(b"\n")?;
+    }
+    Ok(sheet.used)
+}
+
+/// The room of a sheet and how much of it is written.
+struct Sheet<'a> {
+    room: &'a mut [u8],
+    used: usize,
+}
+
+impl Sheet<'_> {
+    /// Adds bytes as they are: refusal 22 when there is no room for them.
+    #[inline]
+    fn bytes(&mut self, bytes: &[u8]) -> Result<(), Refusal> {
+        let end = self.used + bytes.len();
+        let Some(room) = self.room.get_mut(self.used..end) else {
+            return Err(Refusal::at(22, 0));
+        };
+        room.copy_from_slice(bytes);
+        self.used = end;
+        Ok(())
+    }
+
+    /// Adds a tab and a decimal number.
+    fn column(&mut self, mut value: u64) -> Result<(), Refusal> {
+        if value < 10 {
+            return self.bytes(&[b'\t', b'0' + value as u8]);
+        }
+        let mut digits = [0; 21];
+        let mut first = digits.len();
+        loop {
+            first -= 1;
+            digits[first] = b'0' + (value % 10) as u8;
+            value /= 10;
+            if value == 0 {
+                break;
+            }
+        }
+        first -= 1;
+        digits[first] = b'\t';
+        self.bytes(&digits[first..])
+    }
+
+    /// Adds a name or a text: bytes 20h to 7Eh but the backslash as themselves, others as a
+    /// backslash and two digits.
+    fn text(&mut self, text: &[u8]) -> Result<(), Refusal> {
+        const HEX: &[u8; 16] = b"0123456789abcdef";
+        let mut rest = text;
+        while !rest.is_empty() {
+            let run = rest.iter().position(|&byte| !is_plain(byte));
+            let (plain, other) = rest.split_at(run.unwrap_or(rest.len()));
+            self.bytes(plain)?;
+            let Some((&byte, following)) = other.split_first() else {
+                break;
+            };
+            let high = HEX[usize::from(byte >> 4)];
+            let low = HEX[usize::from(byte & 15)];
+            self.bytes(&[b'\\', high, low])?;
+            rest = following;
+        }
+        Ok(())
+    }
+}
+
+/// Whether a byte stands for itself in a name or a text.
+fn is_plain(byte: u8) -> bool {
+    (0x20..=0x7E).contains(&byte) && byte != b'\\'
+}
