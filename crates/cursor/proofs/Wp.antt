@@ -128,13 +128,13 @@ module _ {K W A : Type 0} where
   unfolding many
   wp-many I {end = end} s {at} step i l = wp-here (wp-turns I (end - at) s at step i (omega arith) l)
 
-  -- where no turn goes back or leaves the part, none of their number does
-  pub wp-times : {C : W → ℕ → ℕ → Type 0} (n : ℕ) {end : ℕ} {body : A → Prog K W A} (s : A) {at : ℕ}
-      → ((t : A) (p : ℕ) → p ≤ end → Wp C (body t) (λ _ q. (p ≤ q) × (q ≤ end)) p)
-      → at ≤ end → Wp C (times n body s) (λ _ q. q ≤ end) at
+  -- where no turn goes back or leaves the part, and each keeps I, none of their number does, and I is kept
+  pub wp-times : {C : W → ℕ → ℕ → Type 0} (I : A → Type 0) (n : ℕ) {end : ℕ} {body : A → Prog K W A} (s : A) {at : ℕ}
+      → ((t : A) (p : ℕ) → p ≤ end → I t → Wp C (body t) (λ t′ q. I t′ × (p ≤ q) × (q ≤ end)) p)
+      → I s → at ≤ end → Wp C (times n body s) (λ t q. I t × (at ≤ q) × (q ≤ end)) at
   unfolding times
-  wp-times zero s step l = wp-ret l
-  wp-times (suc n) s {at} step l = wp-after (step s at l) (λ r p q. wp-times n r step (q .1))
+  wp-times I zero s step i l = wp-ret (i, omega arith, l)
+  wp-times I (suc n) s {at} step i l = wp-after (step s at l i) (λ r p q. wp-weaken (wp-times I n r step (q .0) (q .2)) (λ t v w. (w .0, omega arith, w .2)))
 
 -- a check with nothing after it
 pub wp-checked : {K W : Type 0} {C : W → ℕ → ℕ → Type 0} {b : Bool} (n p : ℕ) {R : Unit {0} → ℕ → Type 0} {at : ℕ} → (b ≡ true → R tt at) → Wp {K = K} C (check b n p) R at

@@ -77,7 +77,8 @@ pub enum Passed {
     Refused(u64, FilePlace),
 }
 
-// A row of the node table (01, Rows), in the order of its twelve words.
+// A row of the node table (01, Rows), in the order of its twelve words. `held` is 01's contained items, `unpackers` the unpackers' place,
+// `layers` their count, `rows` the item row count.
 pub struct Node {
     pub start: u64,
     pub size: u64,
@@ -89,17 +90,18 @@ pub struct Node {
     pub target: u64,
     pub extent: u64,
     pub unpackers: u64,
-    pub unpacker_count: u64,
-    pub item_count: u64,
+    pub layers: u64,
+    pub rows: u64,
 }
 
-// A row of the item table (01, Rows), in the order of its ten words: one for each universal content or version. `declared` is 01's type.
+// A row of the item table (01, Rows), in the order of its ten words: one for each universal content or version. `declared` is
+// 01's type, `named` the name's length.
 pub struct Item {
     pub node: u64,
     pub item: u64,
     pub kind: u64,
     pub field: u64,
-    pub name_size: u64,
+    pub named: u64,
     pub version: u64,
     pub declared: u64,
     pub format: u64,

@@ -52,7 +52,7 @@ types-on size at =
     wp-after (block-on _ _ size at) λ n q x.
     wp-place _ q
     (wp-after (number-on _ _ (q + n) q) λ count r y.
-    wp-after (wp-times count _ (λ ds p l. wp-weaken (entry-on (q + n) ds p) (λ _ v z. (z .1, z .2))) (omega arith)) λ ds e z.
+    wp-after (wp-times (λ _. Unit {0}) count _ (λ ds p l i. wp-weaken (entry-on (q + n) ds p) (λ _ v z. (tt, z .1, z .2))) tt (omega arith)) λ ds e z.
     wp-place _ e (wp-check _ _ λ t. wp-ret (omega (arith, leb-true (q + n) e t), omega arith)))
 
 -- the tree lies after the header, in the bytes lent

@@ -1,0 +1,6 @@
+pub mod Sets
+pub mod Storing
+pub mod Quiet
+pub mod Gives
+pub mod Ends
+pub mod Ways

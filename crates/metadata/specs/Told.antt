@@ -1,0 +1,54 @@
+-- What the code's answers say, with the tables that the call left.
+-- Assumes nothing.
+use mathlib.Core.Path.{_≡_}
+use mathlib.Core.List.{List}
+use Prim.Native.Nat.{ℕ, _≤_}
+use Rattle.cursor.specs.Machine.{Out, ok, refused}
+use Rattle.header.specs.Types.{typesOf}
+use Rattle.metadata.specs.Tables.{State, state}
+use Rattle.metadata.specs.Metadata.{Context}
+use Rattle.metadata.specs.declared.Limits.{Limits}
+use Rattle.metadata.specs.declared.Made.{Made}
+use Rattle.metadata.specs.declared.Scope.{Scope}
+use Rattle.metadata.specs.declared.Field.{Field}
+use Rattle.metadata.specs.declared.Contents.{Contents}
+use Rattle.metadata.specs.declared.MetaItem.{MetaItem}
+use Rattle.metadata.specs.declared.Fielded.{Fielded}
+use Rattle.metadata.specs.declared.Fielded.the-variants as fielded
+use Rattle.metadata.specs.declared.Contained.{Contained}
+use Rattle.metadata.specs.declared.Contained.the-variants as contained
+use Rattle.metadata.specs.declared.Itemed.{Itemed}
+use Rattle.metadata.specs.declared.Itemed.the-variants as itemed
+use Rattle.metadata.specs.declared.Walked.{Walked}
+use Rattle.metadata.specs.declared.Walked.the-variants as walked
+
+-- the context of a scope, with the types as their table has them, in a file of `size` bytes
+abbrev pub contextOf : Scope → List ℕ → ℕ → Context
+contextOf s ws size = record { limits = s .limits; types = typesOf (s .types) ws; first = s .first .0; size = size }
+
+abbrev pub fieldTold : Fielded → Out Field
+fieldTold (fielded.Is f c) = ok f (c .at .0)
+fieldTold (fielded.Refused n p) = refused n (p .0)
+
+abbrev pub contentsTold : Contained → Out Contents
+contentsTold (contained.Is k c) = ok k (c .at .0)
+contentsTold (contained.Refused n p) = refused n (p .0)
+
+abbrev pub itemTold : Itemed → Out MetaItem
+itemTold (itemed.Is i c) = ok i (c .at .0)
+itemTold (itemed.Refused n p) = refused n (p .0)
+
+-- ---- a call that fills tables: a refusal says nothing of them
+
+abbrev pub told : Walked → List ℕ → List ℕ → Out (Made × State)
+told (walked.Done m c) t u = ok (m, state t u m) (c .at .0)
+told (walked.Refused n p) t u = refused n (p .0)
+
+abbrev pub Fits : Limits → Walked → Type 0
+Fits lim (walked.Done m c) = (m .nodes ≤ lim .nodes) × (m .items ≤ lim .items)
+Fits lim (walked.Refused n p) = Unit {0}
+
+-- what a call answered and left in the tables is o, and no more rows are made than there is room for
+pub record Gives (lim : Limits) (r : Walked) (t u : List ℕ) (o : Out (Made × State)) : Type 0 where
+  pub answer : told r t u ≡ o
+  pub fits : Fits lim r

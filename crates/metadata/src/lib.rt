@@ -1,0 +1,433 @@
+// Metadata: the items of a node, and their rows in the item table.
+ghost use mathlib.Core.Path.{_≡_};
+ghost use mathlib.Core.List.{List};
+ghost use Prim.Native.Nat.{ℕ, _≤_, _<_, _+_, _*_, _^_};
+ghost use lib.ListN.{length};
+ghost use lib.Seq.{sets};
+ghost use Rattle.cursor.specs.Machine.{run, exec, times};
+ghost use Rattle.metadata.specs.Tables.{itemWidth, itemWords, put, state};
+ghost use Rattle.metadata.specs.Metadata.{field, contents, itemFrame, rowOf, universal, version, rowsFor, item, metaItems, metadata};
+ghost use Rattle.metadata.specs.Told.{contextOf, fieldTold, contentsTold, itemTold, Gives};
+use cursor::Cursor;
+use cursor::FilePlace;
+use cursor::Item;
+use cursor::Numbered;
+use header::Found;
+
+// The rows that there is room for.
+pub struct Limits {
+    pub nodes: usize,
+    pub items: usize,
+}
+
+// The rows made so far.
+pub struct Made {
+    pub nodes: usize,
+    pub items: usize,
+}
+
+// What a node is read with: the limits, the number of declared types, the file header's end.
+pub struct Scope {
+    pub limits: Limits,
+    pub types: usize,
+    pub first: FilePlace,
+}
+
+// An item's field: a standard number, or where its custom name stands and how long that is.
+pub enum Field {
+    Standard(u64),
+    Name(FilePlace, u64),
+}
+
+// An item's contents: universal, or so many versions.
+pub enum Contents {
+    Universal,
+    Versions(u64),
+}
+
+pub struct MetaItem {
+    pub field: Field,
+    pub contents: Contents,
+}
+
+// Whose row it is: the node's row, the item's number in the node, and its field.
+pub struct Label {
+    pub node: usize,
+    pub item: usize,
+    pub field: Field,
+}
+
+pub enum Fielded {
+    Is(Field, Cursor),
+    Refused(u64, FilePlace),
+}
+
+pub enum Contained {
+    Is(Contents, Cursor),
+    Refused(u64, FilePlace),
+}
+
+pub enum Itemed {
+    Is(MetaItem, Cursor),
+    Refused(u64, FilePlace),
+}
+
+// The rows made by now, and the cursor after what was read.
+pub enum Walked {
+    Done(Made, Cursor),
+    Refused(u64, FilePlace),
+}
+
+// Stores the words from `at` on.
+pub fn store(table: &mut [u64], at: usize, words: &[u64])
+    requires { ⌜ at + length (now words) ≤ length (now table) ⌝ }
+    ensures { λ _. ⌜ now (table .exit) ≡ sets (now (table .entry)) at (now (words .entry)) ⌝ }
+{
+    let mut i = 0;
+    while i < words.len() {
+        table[at + i] = words[i];
+        i = i + 1;
+    }
+}
+
+// Stores an item row behind the `made` rows that are there.
+fn put_item(items: &mut [u64], made: usize, row: Item)
+    requires { ⌜ made * 10 + 10 ≤ length (now items) ⌝ }
+    ensures { λ _. ⌜ now (items .exit) ≡ sets (now (items .entry)) (made * itemWidth) (itemWords row) ⌝ }
+{
+    let words = [
+        row.node,
+        row.item,
+        row.kind,
+        row.field,
+        row.named,
+        row.version,
+        row.declared,
+        row.format,
+        row.place,
+        row.size,
+    ];
+    store(items, made * 10, &words);
+}
+
+// The field here: 0 and a standard number, or an XString, which is a custom name.
+fn read_field(c: Cursor, file: &[u8], end: FilePlace) -> Fielded
+    requires { ⌜ (end .0 ≤ length (now file)) × (length (now file) < 2 ^ 28) ⌝ }
+    ensures { λ r. ⌜ fieldTold r ≡ run (field (end .0)) (now (file .entry)) (c .at .0) ⌝ }
+{
+    match c.block(file, end, cursor::CUT_SHORT) {
+        Numbered::Refused(n, p) => Fielded::Refused(n, p),
+        Numbered::Is(size, d) => {
+            if size != 0 {
+                let at = d.at;
+                return Fielded::Is(Field::Name(at, size), d.on(size));
+            }
+            match d.number(file, end, cursor::CUT_SHORT) {
+                Numbered::Refused(n, p) => Fielded::Refused(n, p),
+                Numbered::Is(k, e) => Fielded::Is(Field::Standard(k), e),
+            }
+        }
+    }
+}
+
+// The contents here: 0 for universal, or the number of versions.
+fn read_contents(c: Cursor, file: &[u8], end: FilePlace) -> Contained
+    requires { ⌜ end .0 ≤ length (now file) ⌝ }
+    ensures { λ r. ⌜ contentsTold r ≡ run (contents (end .0)) (now (file .entry)) (c .at .0) ⌝ }
+{
+    match c.number(file, end, cursor::CUT_SHORT) {
+        Numbered::Refused(n, p) => Contained::Refused(n, p),
+        Numbered::Is(n, d) => {
+            if n == 0 {
+                return Contained::Is(Contents::Universal, d);
+            }
+            Contained::Is(Contents::Versions(n), d)
+        }
+    }
+}
+
+// An item's field and contents.
+fn read_frame(c: Cursor, file: &[u8], end: FilePlace) -> Itemed
+    requires { ⌜ (end .0 ≤ length (now file)) × (length (now file) < 2 ^ 28) ⌝ }
+    ensures { λ r. ⌜ itemTold r ≡ run (itemFrame (end .0)) (now (file .entry)) (c .at .0) ⌝ }
+{
+    match read_field(c, file, end) {
+        Fielded::Refused(n, p) => Itemed::Refused(n, p),
+        Fielded::Is(field, d) => match read_contents(d, file, end) {
+            Contained::Refused(n, p) => Itemed::Refused(n, p),
+            Contained::Is(contents, e) => {
+                let is = MetaItem { field, contents };
+                Itemed::Is(is, e)
+            }
+        },
+    }
+}
+
+// The row of a content of the labelled item.
+fn row_of(
+    l: Label,
+    version: usize,
+    declared: u64,
+    format: u64,
+    place: FilePlace,
+    size: usize,
+) -> Item
+    ensures { λ r. ⌜ r ≡ rowOf l version declared format (place .0) size ⌝ }
+{
+    let field = l.field;
+    let mut row = Item {
+        node: l.node as u64,
+        item: l.item as u64,
+        kind: 0,
+        field: 0,
+        named: 0,
+        version: version as u64,
+        declared,
+        format,
+        place: place.0 as u64,
+        size: size as u64,
+    };
+    match field {
+        Field::Standard(k) => {
+            row.field = k;
+            row
+        }
+        Field::Name(at, n) => {
+            row.kind = 1;
+            row.field = at.0 as u64;
+            row.named = n;
+            row
+        }
+    }
+}
+
+// A universal content: a length of at least 1, which covers string format and data.
+fn read_universal(
+    c: Cursor,
+    file: &[u8],
+    items: &mut [u64],
+    scope: Scope,
+    l: Label,
+    end: FilePlace,
+    made: Made,
+) -> Walked
+    requires { ⌜ (end .0 ≤ length (now file)) × (length (now file) < 2 ^ 28) × (scope .limits .items * 10 ≤ length (now items)) × (made .nodes ≤ scope .limits .nodes) ⌝ }
+    ensures { λ r. ⌜ ((t ws : List ℕ) → Gives (scope .limits) r t (now (items .exit)) (exec put (universal (contextOf scope ws (length (now (file .entry)))) l (end .0) made) (now (file .entry)) (c .at .0) (state t (now (items .entry)) made))) ⌝ }
+{
+    let place = c.at;
+    let limits = scope.limits;
+    if limits.items <= made.items {
+        return Walked::Refused(cursor::NO_ROW_LEFT, place);
+    }
+    match c.block(file, end, cursor::CUT_SHORT) {
+        Numbered::Refused(n, p) => Walked::Refused(n, p),
+        Numbered::Is(size, d) => {
+            if size == 0 {
+                return Walked::Refused(cursor::BAD_CONTENTS, place);
+            }
+            let after = d.on(size);
+            let stop = after.at;
+            match d.number(file, stop, cursor::CUT_SHORT) {
+                Numbered::Refused(n, p) => Walked::Refused(n, p),
+                Numbered::Is(format, e) => {
+                    let data = e.at;
+                    let now = Made {
+                        nodes: made.nodes,
+                        items: made.items + 1,
+                    };
+                    put_item(
+                        items,
+                        made.items,
+                        row_of(l, 0, 0, format, data, stop.0 - data.0),
+                    );
+                    Walked::Done(now, after)
+                }
+            }
+        }
+    }
+}
+
+// A version: a declared type, a length and data. `before` item rows were there when its item began.
+fn read_version(
+    c: Cursor,
+    file: &[u8],
+    types: &[u64],
+    items: &mut [u64],
+    scope: Scope,
+    l: Label,
+    end: FilePlace,
+    before: usize,
+    made: Made,
+) -> Walked
+    requires { ⌜ (end .0 ≤ length (now file)) × (length (now file) < 2 ^ 28) × (scope .types * 2 ≤ length (now types)) × (scope .limits .items * 10 ≤ length (now items)) × (made .nodes ≤ scope .limits .nodes) × (before ≤ made .items) ⌝ }
+    ensures { λ r. ⌜ ((t : List ℕ) → Gives (scope .limits) r t (now (items .exit)) (exec put (version (contextOf scope (now (types .entry)) (length (now (file .entry)))) l (end .0) before made) (now (file .entry)) (c .at .0) (state t (now (items .entry)) made))) ⌝ }
+{
+    let place = c.at;
+    let limits = scope.limits;
+    if limits.items <= made.items {
+        return Walked::Refused(cursor::NO_ROW_LEFT, place);
+    }
+    match c.number(file, end, cursor::CUT_SHORT) {
+        Numbered::Refused(n, p) => Walked::Refused(n, p),
+        Numbered::Is(of, d) => match header::format_of(types, scope.types, of) {
+            Found::Nothing => Walked::Refused(cursor::BAD_CONTENTS, place),
+            Found::Format(format) => match d.block(file, end, cursor::CUT_SHORT) {
+                Numbered::Refused(n, p) => Walked::Refused(n, p),
+                Numbered::Is(size, e) => {
+                    let data = e.at;
+                    let now = Made {
+                        nodes: made.nodes,
+                        items: made.items + 1,
+                    };
+                    let number = made.items + 1 - before;
+                    put_item(
+                        items,
+                        made.items,
+                        row_of(l, number, of, format, data, size as usize),
+                    );
+                    Walked::Done(now, e.on(size))
+                }
+            },
+        },
+    }
+}
+
+// So many versions.
+fn read_versions(
+    c: Cursor,
+    file: &[u8],
+    types: &[u64],
+    items: &mut [u64],
+    scope: Scope,
+    l: Label,
+    end: FilePlace,
+    count: u64,
+    made: Made,
+) -> Walked
+    requires { ⌜ (end .0 ≤ length (now file)) × (length (now file) < 2 ^ 28) × (scope .types * 2 ≤ length (now types)) × (scope .limits .items * 10 ≤ length (now items)) × (made .nodes ≤ scope .limits .nodes) × (made .items ≤ scope .limits .items) ⌝ }
+    ensures { λ r. ⌜ ((t : List ℕ) → Gives (scope .limits) r t (now (items .exit)) (exec put (times count (version (contextOf scope (now (types .entry)) (length (now (file .entry)))) l (end .0) (made .items)) made) (now (file .entry)) (c .at .0) (state t (now (items .entry)) made))) ⌝ }
+{
+    let before = made.items;
+    let mut next = c;
+    let mut m = made;
+    let mut left = count;
+    while 0 < left {
+        match read_version(next, file, types, items, scope, l, end, before, m) {
+            Walked::Refused(n, p) => return Walked::Refused(n, p),
+            Walked::Done(n, d) => {
+                m = n;
+                next = d;
+            }
+        }
+        left = left - 1;
+    }
+    Walked::Done(m, next)
+}
+
+// The rows of an item's contents.
+fn read_rows(
+    c: Cursor,
+    file: &[u8],
+    types: &[u64],
+    items: &mut [u64],
+    scope: Scope,
+    l: Label,
+    end: FilePlace,
+    contents: Contents,
+    made: Made,
+) -> Walked
+    requires { ⌜ (end .0 ≤ length (now file)) × (length (now file) < 2 ^ 28) × (scope .types * 2 ≤ length (now types)) × (scope .limits .items * 10 ≤ length (now items)) × (made .nodes ≤ scope .limits .nodes) × (made .items ≤ scope .limits .items) ⌝ }
+    ensures { λ r. ⌜ ((t : List ℕ) → Gives (scope .limits) r t (now (items .exit)) (exec put (rowsFor (contextOf scope (now (types .entry)) (length (now (file .entry)))) l (end .0) contents made) (now (file .entry)) (c .at .0) (state t (now (items .entry)) made))) ⌝ }
+{
+    match contents {
+        Contents::Universal => read_universal(c, file, items, scope, l, end, made),
+        Contents::Versions(n) => read_versions(c, file, types, items, scope, l, end, n, made),
+    }
+}
+
+// An item: its field, its contents, and their rows.
+fn read_item(
+    c: Cursor,
+    file: &[u8],
+    types: &[u64],
+    items: &mut [u64],
+    scope: Scope,
+    node: usize,
+    index: usize,
+    end: FilePlace,
+    made: Made,
+) -> Walked
+    requires { ⌜ (end .0 ≤ length (now file)) × (length (now file) < 2 ^ 28) × (scope .types * 2 ≤ length (now types)) × (scope .limits .items * 10 ≤ length (now items)) × (made .nodes ≤ scope .limits .nodes) × (made .items ≤ scope .limits .items) ⌝ }
+    ensures { λ r. ⌜ ((t : List ℕ) → Gives (scope .limits) r t (now (items .exit)) (exec put (item (contextOf scope (now (types .entry)) (length (now (file .entry)))) node index (end .0) made) (now (file .entry)) (c .at .0) (state t (now (items .entry)) made))) ⌝ }
+{
+    match read_frame(c, file, end) {
+        Itemed::Refused(n, p) => Walked::Refused(n, p),
+        Itemed::Is(is, d) => {
+            let field = is.field;
+            let l = Label {
+                node,
+                item: index,
+                field,
+            };
+            let contents = is.contents;
+            read_rows(d, file, types, items, scope, l, end, contents, made)
+        }
+    }
+}
+
+// Items end to end up to `end`.
+fn read_items(
+    c: Cursor,
+    file: &[u8],
+    types: &[u64],
+    items: &mut [u64],
+    scope: Scope,
+    node: usize,
+    end: FilePlace,
+    made: Made,
+) -> Walked
+    requires { ⌜ (end .0 ≤ length (now file)) × (length (now file) < 2 ^ 28) × (scope .types * 2 ≤ length (now types)) × (scope .limits .items * 10 ≤ length (now items)) × (made .nodes ≤ scope .limits .nodes) × (made .items ≤ scope .limits .items) ⌝ }
+    ensures { λ r. ⌜ ((t : List ℕ) → Gives (scope .limits) r t (now (items .exit)) (exec put (metaItems (contextOf scope (now (types .entry)) (length (now (file .entry)))) node (end .0) made) (now (file .entry)) (c .at .0) (state t (now (items .entry)) made))) ⌝ }
+{
+    let stop = end.0;
+    let mut next = c;
+    let mut at = c.at.0;
+    let mut m = made;
+    let mut index: usize = 0;
+    while at < stop {
+        match read_item(next, file, types, items, scope, node, index, end, m) {
+            Walked::Refused(n, p) => return Walked::Refused(n, p),
+            Walked::Done(n, d) => {
+                m = n;
+                next = d;
+                at = d.at.0;
+            }
+        }
+        index = index + 1;
+    }
+    Walked::Done(m, next)
+}
+
+// The metadata of a node whose header ends at `end`: a length, and items end to end.
+pub fn read_metadata(
+    c: Cursor,
+    file: &[u8],
+    types: &[u64],
+    items: &mut [u64],
+    scope: Scope,
+    node: usize,
+    end: FilePlace,
+    made: Made,
+) -> Walked
+    requires { ⌜ (end .0 ≤ length (now file)) × (length (now file) < 2 ^ 28) × (scope .types * 2 ≤ length (now types)) × (scope .limits .items * 10 ≤ length (now items)) × (made .nodes ≤ scope .limits .nodes) × (made .items ≤ scope .limits .items) ⌝ }
+    ensures { λ r. ⌜ ((t : List ℕ) → Gives (scope .limits) r t (now (items .exit)) (exec put (metadata (contextOf scope (now (types .entry)) (length (now (file .entry)))) node (end .0) made) (now (file .entry)) (c .at .0) (state t (now (items .entry)) made))) ⌝ }
+{
+    match c.block(file, end, cursor::BAD_NODE) {
+        Numbered::Refused(n, p) => Walked::Refused(n, p),
+        Numbered::Is(size, d) => {
+            let after = d.on(size);
+            let stop = after.at;
+            read_items(d, file, types, items, scope, node, stop, made)
+        }
+    }
+}
