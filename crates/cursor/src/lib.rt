@@ -5,7 +5,7 @@ ghost use lib.ListN.{length};
 ghost use Rattle.cursor.specs.Machine.{run};
 ghost use Rattle.cursor.specs.Rows.{Frame};
 ghost use Rattle.cursor.specs.Leaves.{number, block, manufacturer, guid};
-ghost use Rattle.cursor.specs.Told.{numberTold, passTold, inFile};
+ghost use Rattle.cursor.specs.Told.{numberTold, passTold};
 
 // The refusal list of document 01, in its order.
 pub const NOT_XMF: u64 = 1;
@@ -113,7 +113,7 @@ impl FilePlace {
     // The place p of the node that starts here, as a place of the file: the one way from the one unit to the other.
     pub fn of(self, p: NodePlace) -> FilePlace
         requires { ⌜ self .0 + p .0 < 2 ^ 64 ⌝ }
-        ensures { λ r. ⌜ r ≡ inFile self p ⌝ }
+        ensures { λ r. ⌜ r .0 ≡ self .0 + p .0 ⌝ }
     {
         FilePlace(self.0 + p.0)
     }

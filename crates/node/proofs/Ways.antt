@@ -1,0 +1,324 @@
+-- The ways through a node up to its contents: what each exit of the code comes to.
+-- Assumes nothing.
+use mathlib.Core.Path.{_≡_, refl, sym, ap, _∙_, subst}
+use mathlib.Core.Bool.{Bool, true, false, _||_}
+use mathlib.Core.Logic.{_⊎_, inl, inr}
+use mathlib.Core.List.{List, [], _∷_}
+use Prim.Native.Nat.{ℕ, zero, suc, _+_, _-_, _*_, _≤_, _<_}
+use native.Mathlib.Omega.{arith}
+use lib.ListN.{length}
+use borrow.Author.Tests.{lt-ltb, le-ltb, le-leb, lt-leb, eq-eqb, ne-eqb}
+use Rattle.cursor.specs.Machine.{Out, ok, refused, run, exec, turns, many}
+use Rattle.cursor.specs.Rows.{P, nodeFrame, unpackFrame, referenceFrame}
+use Rattle.cursor.specs.Leaves.{number, block, manufacturer, guid}
+use Rattle.cursor.specs.Told.{passTold}
+use Rattle.cursor.specs.declared.Cursor.{Cursor}
+use Rattle.cursor.specs.declared.FilePlace.{FilePlace}
+use Rattle.cursor.specs.declared.Node.{Node}
+use Rattle.cursor.specs.declared.Passed.{Passed}
+use Rattle.cursor.specs.declared.Passed.the-variants as passing
+use Rattle.cursor.proofs.Laws.{running, executing, andThen, run-turn, run-turned, run-many}
+use Rattle.cursor.proofs.Wp.{at-end}
+use Rattle.metadata.specs.Tables.{State, state, put}
+use Rattle.metadata.specs.Metadata.{Context, metadata}
+use Rattle.metadata.specs.declared.Made.{Made}
+use Rattle.metadata.specs.declared.Limits.{Limits}
+use Rattle.node.specs.Node.{headerLength, head, value, identifier, unpacker, entries, unpackers, resource, nodePlace, uriPlace, target, reference, Rest, rest, rowOf, front}
+use Rattle.node.specs.Told.{unpackerTold, frontTold, FrontFits, Fronts}
+use Rattle.node.specs.declared.Head.{Head}
+use Rattle.node.specs.declared.Unpackers.{Unpackers}
+use Rattle.node.specs.declared.Reference.{Reference}
+use Rattle.node.specs.declared.Front.{Front}
+use Rattle.node.specs.declared.Fronted.{Fronted}
+use Rattle.node.specs.declared.Fronted.the-variants as fronted
+use Rattle.node.proofs.Quiet.{exec-head, exec-rest}
+use Rattle.node.proofs.Ends.{unpacker-on}
+
+-- ---- the three numbers
+
+module _ (p size held : ℕ) (s : List ℕ) (at : ℕ) {stop : ℕ} (is : stop ≡ p + size) where
+  pub header-cut : {n r : ℕ} → run (number nodeFrame 3 stop) s at ≡ refused n r → refused n r ≡ run (headerLength p size held) s at
+  unfolding headerLength
+  header-cut e = let e′ = rw is at e in simp (running, e′)
+
+  module _ {header q : ℕ} (e₁ : run (number nodeFrame 3 stop) s at ≡ ok header q) where
+    pub header-past : size < header → refused 8 at ≡ run (headerLength p size held) s at
+    unfolding headerLength
+    header-past l = let e₁′ = rw is at e₁ in simp (running, e₁′, lt-leb _ _ l)
+
+    module _ (l₁ : header ≤ size) where
+      pub header-short : p + header < q → refused 8 at ≡ run (headerLength p size held) s at
+      unfolding headerLength
+      header-short l = let e₁′ = rw is at e₁ in simp (running, e₁′, le-leb _ _ l₁, lt-leb _ _ l)
+
+      pub header-all : q ≤ p + header → ok (record { size = size; held = held; header = header }) q ≡ run (headerLength p size held) s at
+      unfolding headerLength
+      header-all l = let e₁′ = rw is at e₁ in simp (running, e₁′, le-leb _ _ l₁, le-leb _ _ l)
+
+module _ (least end : ℕ) (s : List ℕ) (at : ℕ) where
+  pub head-size : {n p : ℕ} → run (number nodeFrame 3 end) s at ≡ refused n p → refused n p ≡ run (head least end) s at
+  unfolding head
+  head-size e = simp (running, e)
+
+  module _ {size p : ℕ} (e₁ : run (number nodeFrame 3 end) s at ≡ ok size p) {stop : ℕ} (is : stop ≡ at + size) where
+    pub head-past : end < stop → refused 8 at ≡ run (head least end) s at
+    unfolding head
+    head-past l = let l′ = rw is at l in simp (running, e₁, lt-leb _ _ l′)
+
+    module _ (l₁ : stop ≤ end) where
+      pub head-short : stop < least → refused 8 at ≡ run (head least end) s at
+      unfolding head
+      head-short l = let l₁′ = rw is at l₁ in let l′ = rw is at l in simp (running, e₁, le-leb _ _ l₁′, lt-leb _ _ l′)
+
+      module _ (l₂ : least ≤ stop) where
+        pub head-held : {n q : ℕ} → run (number nodeFrame 3 stop) s p ≡ refused n q → refused n q ≡ run (head least end) s at
+        unfolding head
+        head-held e = let l₁′ = rw is at l₁ in let l₂′ = rw is at l₂ in let e′ = rw is at e in simp (running, e₁, le-leb _ _ l₁′, le-leb _ _ l₂′, e′)
+
+        pub head-header : {held q : ℕ} → run (number nodeFrame 3 stop) s p ≡ ok held q → {o : Out Head} → o ≡ run (headerLength at size held) s q → o ≡ run (head least end) s at
+        unfolding head
+        head-header e h = let l₁′ = rw is at l₁ in let l₂′ = rw is at l₂ in let e′ = rw is at e in h ∙ simp (running, e₁, le-leb _ _ l₁′, le-leb _ _ l₂′, e′)
+
+-- ---- unpackers
+
+module _ (end : ℕ) (s : List ℕ) (at : ℕ) where
+  pub value-cut : {n p : ℕ} → run (number unpackFrame 3 end) s at ≡ refused n p → refused n p ≡ run (value end) s at
+  unfolding value
+  value-cut e = simp (running, e)
+
+  pub value-all : {v q : ℕ} → run (number unpackFrame 3 end) s at ≡ ok v q → ok tt q ≡ run (value end) s at
+  unfolding value
+  value-all e = simp (running, e)
+
+module _ (kind end : ℕ) (s : List ℕ) (at : ℕ) where
+  pub identifier-guid : kind ≡ 3 → {o : Out (Unit {0})} → o ≡ run (guid unpackFrame end) s at → o ≡ run (identifier kind end) s at
+  unfolding identifier
+  identifier-guid k h = h ∙ simp (running, eq-eqb _ _ k)
+
+  module _ (n₁ : (kind ≡ 3) → ⊥) where
+    pub identifier-cut : kind ≡ 1 → {n p : ℕ} → run (manufacturer unpackFrame end) s at ≡ refused n p → refused n p ≡ run (identifier kind end) s at
+    unfolding identifier
+    identifier-cut k e = simp (running, ne-eqb _ _ n₁, eq-eqb _ _ k, e)
+
+    pub identifier-two : kind ≡ 1 → {q : ℕ} → run (manufacturer unpackFrame end) s at ≡ ok tt q → {o : Out (Unit {0})} → o ≡ run (value end) s q → o ≡ run (identifier kind end) s at
+    unfolding identifier
+    identifier-two k e h = h ∙ simp (running, ne-eqb _ _ n₁, eq-eqb _ _ k, e)
+
+    pub identifier-one : ((kind ≡ 1) → ⊥) → {o : Out (Unit {0})} → o ≡ run (value end) s at → o ≡ run (identifier kind end) s at
+    unfolding identifier
+    identifier-one n₂ h = h ∙ simp (running, ne-eqb _ _ n₁, ne-eqb _ _ n₂)
+
+module _ (end : ℕ) (s : List ℕ) (at n : ℕ) where
+  pub unpacker-cut : {k p : ℕ} → run (number unpackFrame 3 end) s at ≡ refused k p → refused k p ≡ run (unpacker end n) s at
+  unfolding unpacker
+  unpacker-cut e = simp (running, e)
+
+  module _ {kind q : ℕ} (e₁ : run (number unpackFrame 3 end) s at ≡ ok kind q) where
+    pub unpacker-bad : 3 < kind → refused 12 at ≡ run (unpacker end n) s at
+    unfolding unpacker
+    unpacker-bad l = simp (running, e₁, lt-leb _ _ l)
+
+    module _ (l₁ : kind ≤ 3) where
+      pub unpacker-identifier : {k p : ℕ} → run (identifier kind end) s q ≡ refused k p → refused k p ≡ run (unpacker end n) s at
+      unfolding unpacker
+      unpacker-identifier e = simp (running, e₁, le-leb _ _ l₁, e)
+
+      pub unpacker-size : {r : ℕ} → run (identifier kind end) s q ≡ ok tt r → (v : Passed) → passTold v ≡ run (value end) s r → unpackerTold v n ≡ run (unpacker end n) s at
+      unfolding unpacker
+      unpacker-size e (passing.To c) h = let h′ = sym h in simp (running, e₁, le-leb _ _ l₁, e, h′)
+      unpacker-size e (passing.Refused k p) h = let h′ = sym h in simp (running, e₁, le-leb _ _ l₁, e, h′)
+
+-- what is left of the entries is the whole
+pub record Going (s : List ℕ) (end at : ℕ) (i k : ℕ) : Type 0 where
+  pub left : ℕ
+  pub enough : end ≤ i + left
+  pub few : k ≤ i
+  pub same : run (entries end) s at ≡ andThen (run (turns left end (unpacker end) k) s i) (λ n p. ok (record { place = record { 0 = at }; count = n }) p)
+
+pub entries-begun : (s : List ℕ) (end at : ℕ) → Going s end at at 0
+unfolding entries
+entries-begun s end at = record { left = end - at; enough = omega arith; few = omega arith; same = simp (running, run-many) }
+
+module _ {s : List ℕ} {end at i k : ℕ} (g : Going s end at i k) where
+  pub entries-done : end ≤ i → ok (record { place = record { 0 = at }; count = k }) i ≡ run (entries end) s at
+  entries-done l = sym (g .same ∙ rw (run-turned s (g .left) end i (unpacker end) k l) refl)
+
+  turn : i < end → run (entries end) s at ≡ andThen (andThen (run (unpacker end k) s i) (λ t p. run (turns (g .left - 1) end (unpacker end) t) s p)) (λ n p. ok (record { place = record { 0 = at }; count = n }) p)
+  turn l = g .same ∙ rw (run-turn s (g .left) end i (unpacker end) k l (g .enough)) refl
+
+  module _ (l : i < end) (r : Passed) (d : (n : ℕ) → unpackerTold r n ≡ run (unpacker end n) s i) where
+    pub entries-no : {n : ℕ} {p : FilePlace} → r ≡ passing.Refused n p → refused n (p .0) ≡ run (entries end) s at
+    entries-no e = let x = sym (d k) ∙ ap (λ v. unpackerTold v k) e in sym (turn l ∙ rw x refl)
+
+    pub entries-further : {c : Cursor} → r ≡ passing.To c → (i < c .at .0) × (c .at .0 ≤ end)
+    entries-further e = let w = at-end s (unpacker-on end end end k i) (sym (d k) ∙ ap (λ v. unpackerTold v k) e) in (w .1, w .2)
+
+    pub entries-on : {c : Cursor} → r ≡ passing.To c → Going s end at (c .at .0) (k + 1)
+    entries-on {c} e =
+        let x = sym (d k) ∙ ap (λ v. unpackerTold v k) e in
+        let w = entries-further e in
+        record { left = g .left - 1; enough = let y = g .enough in omega arith; few = let y = g .few in omega arith; same = turn l ∙ rw x refl }
+
+module _ (held end : ℕ) (s : List ℕ) (at : ℕ) where
+  pub unpackers-cut : {n p : ℕ} → run (block unpackFrame 8 end) s at ≡ refused n p → refused n p ≡ run (unpackers held end) s at
+  unfolding unpackers
+  unpackers-cut e = simp (running, e)
+
+  module _ {n q : ℕ} (e₁ : run (block unpackFrame 8 end) s at ≡ ok n q) where
+    pub unpackers-folder : ((held ≡ 0) → ⊥) → ((n ≡ 0) → ⊥) → refused 14 at ≡ run (unpackers held end) s at
+    unfolding unpackers
+    unpackers-folder h k = simp (running, e₁, ne-eqb _ _ h, ne-eqb _ _ k)
+
+    pub unpackers-file : held ≡ 0 → {stop : ℕ} → stop ≡ q + n → {o : Out Unpackers} → o ≡ run (entries stop) s q → o ≡ run (unpackers held end) s at
+    unfolding unpackers
+    unpackers-file z is h = let h′ = rw is at h in h′ ∙ simp (running, e₁, eq-eqb _ _ z)
+
+    pub unpackers-none : ((held ≡ 0) → ⊥) → n ≡ 0 → {stop : ℕ} → stop ≡ q + n → {o : Out Unpackers} → o ≡ run (entries stop) s q → o ≡ run (unpackers held end) s at
+    unfolding unpackers
+    unpackers-none k z is h = let h′ = rw is at h in h′ ∙ simp (running, e₁, ne-eqb _ _ k, eq-eqb _ _ z)
+
+-- ---- references
+
+module _ (first size end : ℕ) (s : List ℕ) (at : ℕ) where
+  pub resource-cut : {n p : ℕ} → run (number referenceFrame 3 end) s at ≡ refused n p → refused n p ≡ run (resource first size end) s at
+  unfolding resource
+  resource-cut e = simp (running, e)
+
+  module _ {o q : ℕ} (e₁ : run (number referenceFrame 3 end) s at ≡ ok o q) where
+    pub resource-before : o < first → refused 16 at ≡ run (resource first size end) s at
+    unfolding resource
+    resource-before l = simp (running, e₁, lt-leb _ _ l)
+
+    module _ (l₁ : first ≤ o) where
+      pub resource-past : size < o → refused 16 at ≡ run (resource first size end) s at
+      unfolding resource
+      resource-past l = simp (running, e₁, le-leb _ _ l₁, lt-leb _ _ l)
+
+      pub resource-all : o ≤ size → ok (record { kind = 2; target = o; extent = size - o }) q ≡ run (resource first size end) s at
+      unfolding resource
+      resource-all l = simp (running, e₁, le-leb _ _ l₁, le-leb _ _ l)
+
+module _ (end : ℕ) (s : List ℕ) (at : ℕ) where
+  pub place-cut : {n p : ℕ} → run (number referenceFrame 3 end) s at ≡ refused n p → refused n p ≡ run (nodePlace end) s at
+  unfolding nodePlace
+  place-cut e = simp (running, e)
+
+  pub place-all : {o q : ℕ} → run (number referenceFrame 3 end) s at ≡ ok o q → ok (record { kind = 3; target = o; extent = 0 }) q ≡ run (nodePlace end) s at
+  unfolding nodePlace
+  place-all e = simp (running, e)
+
+  pub uri-cut : {n p : ℕ} → run (block referenceFrame 3 end) s at ≡ refused n p → refused n p ≡ run (uriPlace end) s at
+  unfolding uriPlace
+  uri-cut e = simp (running, e)
+
+  pub uri-all : {n q : ℕ} → run (block referenceFrame 3 end) s at ≡ ok n q → {r : ℕ} → r ≡ q + n → ok (record { kind = 4; target = q; extent = n }) r ≡ run (uriPlace end) s at
+  unfolding uriPlace
+  uri-all e h = rw h (simp (running, e))
+
+module _ (first size r end : ℕ) (s : List ℕ) (at : ℕ) where
+  pub target-inline : r ≡ 1 → ok (record { kind = r; target = at; extent = end - at }) at ≡ run (target first size r end) s at
+  unfolding target
+  target-inline e = simp (running, eq-eqb _ _ e)
+
+  module _ (n₁ : (r ≡ 1) → ⊥) where
+    pub target-resource : r ≡ 2 → {o : Out Reference} → o ≡ run (resource first size end) s at → o ≡ run (target first size r end) s at
+    unfolding target
+    target-resource e h = h ∙ simp (running, ne-eqb _ _ n₁, eq-eqb _ _ e)
+
+    module _ (n₂ : (r ≡ 2) → ⊥) where
+      pub target-node : r ≡ 3 → {o : Out Reference} → o ≡ run (nodePlace end) s at → o ≡ run (target first size r end) s at
+      unfolding target
+      target-node e h = h ∙ simp (running, ne-eqb _ _ n₁, ne-eqb _ _ n₂, eq-eqb _ _ e)
+
+      pub target-uri : ((r ≡ 3) → ⊥) → {o : Out Reference} → o ≡ run (uriPlace end) s at → o ≡ run (target first size r end) s at
+      unfolding target
+      target-uri n₃ h = h ∙ simp (running, ne-eqb _ _ n₁, ne-eqb _ _ n₂, ne-eqb _ _ n₃)
+
+module _ (first size held end : ℕ) (s : List ℕ) (at : ℕ) where
+  pub reference-cut : {n p : ℕ} → run (number referenceFrame 3 end) s at ≡ refused n p → refused n p ≡ run (reference first size held end) s at
+  unfolding reference
+  reference-cut e = simp (running, e)
+
+  module _ {r q : ℕ} (e₁ : run (number referenceFrame 3 end) s at ≡ ok r q) where
+    pub reference-zero : r ≡ 0 → refused 13 at ≡ run (reference first size held end) s at
+    unfolding reference
+    reference-zero z = let z′ : r ≤ 0 = omega arith in simp (running, e₁, le-ltb _ _ z′)
+
+    module _ (some : (r ≡ 0) → ⊥) where
+      pub reference-above : 4 < r → refused 13 at ≡ run (reference first size held end) s at
+      unfolding reference
+      reference-above l = let l₁ : 0 < r = omega arith in simp (running, e₁, lt-ltb _ _ l₁, lt-leb _ _ l)
+
+      module _ (l₂ : r ≤ 4) where
+        pub reference-folder : ((held ≡ 0) → ⊥) → ((r ≡ 1) → ⊥) → refused 14 at ≡ run (reference first size held end) s at
+        unfolding reference
+        reference-folder h k = let l₁ : 0 < r = omega arith in simp (running, e₁, lt-ltb _ _ l₁, le-leb _ _ l₂, ne-eqb _ _ h, ne-eqb _ _ k)
+
+        pub reference-file : held ≡ 0 → {o : Out Reference} → o ≡ run (target first size r end) s q → o ≡ run (reference first size held end) s at
+        unfolding reference
+        reference-file z h = let l₁ : 0 < r = omega arith in h ∙ simp (running, e₁, lt-ltb _ _ l₁, le-leb _ _ l₂, eq-eqb _ _ z)
+
+        pub reference-one : ((held ≡ 0) → ⊥) → r ≡ 1 → {o : Out Reference} → o ≡ run (target first size r end) s q → o ≡ run (reference first size held end) s at
+        unfolding reference
+        reference-one k z h = let l₁ : 0 < r = omega arith in h ∙ simp (running, e₁, lt-ltb _ _ l₁, le-leb _ _ l₂, ne-eqb _ _ k, eq-eqb _ _ z)
+
+-- ---- what follows the metadata
+
+module _ (first size held inner stop : ℕ) (s : List ℕ) (at : ℕ) where
+  pub rest-unpackers : {n p : ℕ} → run (unpackers held inner) s at ≡ refused n p → refused n p ≡ run (rest first size held inner stop) s at
+  unfolding rest
+  rest-unpackers e = simp (running, e)
+
+  module _ {u : Unpackers} {q : ℕ} (e₁ : run (unpackers held inner) s at ≡ ok u q) where
+    pub rest-left : q < inner → refused 15 q ≡ run (rest first size held inner stop) s at
+    unfolding rest
+    rest-left l = simp (running, e₁, lt-leb _ _ l)
+
+    module _ (l₁ : inner ≤ q) where
+      pub rest-reference : {n p : ℕ} → run (reference first size held stop) s q ≡ refused n p → refused n p ≡ run (rest first size held inner stop) s at
+      unfolding rest
+      rest-reference e = simp (running, e₁, le-leb _ _ l₁, e)
+
+      pub rest-all : {r : Reference} {p : ℕ} → run (reference first size held stop) s q ≡ ok r p → ok (record { unpackers = u; reference = r }) p ≡ run (rest first size held inner stop) s at
+      unfolding rest
+      rest-all e = simp (running, e₁, le-leb _ _ l₁, e)
+
+-- ---- the whole
+
+module _ {lim : Limits} {r : Fronted} {t u : List ℕ} {o : Out (Front × State)} (g : Fronts lim r t u o) where
+  pub front-done : {w : Front} {c : Cursor} → r ≡ fronted.Is w c → o ≡ ok (w, state t u (w .made)) (c .at .0)
+  front-done e = sym (g .answer) ∙ ap (λ x. frontTold x t u) e
+
+  pub front-stopped : {n : ℕ} {p : FilePlace} → r ≡ fronted.Refused n p → o ≡ refused n (p .0)
+  front-stopped e = sym (g .answer) ∙ ap (λ x. frontTold x t u) e
+
+  pub front-fitting : {w : Front} {c : Cursor} → r ≡ fronted.Is w c → (w .made .nodes ≤ lim .nodes) × (w .made .items ≤ lim .items)
+  front-fitting e = subst (FrontFits lim) e (g .fits)
+
+module _ {lim : Limits} {t u : List ℕ} {o : Out (Front × State)} where
+  pub front-no : {n : ℕ} {p : FilePlace} → refused n (p .0) ≡ o → Fronts lim (fronted.Refused n p) t u o
+  front-no e = record { answer = e; fits = tt }
+
+  pub front-yes : {w : Front} {c : Cursor} → ok (w, state t u (w .made)) (c .at .0) ≡ o → (w .made .nodes ≤ lim .nodes) × (w .made .items ≤ lim .items) → Fronts lim (fronted.Is w c) t u o
+  front-yes e f = record { answer = e; fits = f }
+
+module _ (x : Context) (parent depth least end : ℕ) (m : Made) (s : List ℕ) (at : ℕ) (σ : State) where
+  pub front-head : {n p : ℕ} → run (head least end) s at ≡ refused n p → refused n p ≡ exec put (front x parent depth least end m) s at σ
+  unfolding front
+  front-head e = simp (executing, exec-head, e)
+
+  module _ {h : Head} {p : ℕ} (e₁ : run (head least end) s at ≡ ok h p) {inner : ℕ} (is : inner ≡ at + h .header) where
+    pub front-metadata : {n q : ℕ} → exec put (metadata x (m .nodes) inner m) s p σ ≡ refused n q → refused n q ≡ exec put (front x parent depth least end m) s at σ
+    unfolding front
+    front-metadata e = let e′ = rw is at e in simp (executing, exec-head, e₁, e′)
+
+    module _ {m′ : Made} {σ′ : State} {q : ℕ} (e₂ : exec put (metadata x (m .nodes) inner m) s p σ ≡ ok (m′, σ′) q) {stop : ℕ} (is₂ : stop ≡ at + h .size) where
+      pub front-rest : {n r : ℕ} → run (rest (x .first) (x .size) (h .held) inner stop) s q ≡ refused n r → refused n r ≡ exec put (front x parent depth least end m) s at σ
+      unfolding front
+      front-rest e = let e₂′ = rw is at e₂ in let e′ = rw (is, is₂) at e in simp (executing, exec-head, exec-rest, e₁, e₂′, e′)
+
+      pub front-all : {o : Rest} {r : ℕ} → run (rest (x .first) (x .size) (h .held) inner stop) s q ≡ ok o r
+          → {row : Node} → row ≡ rowOf at h parent depth (o .reference) (o .unpackers) (m′ .items - m .items)
+          → ok (record { row = row; made = m′ }, σ′) r ≡ exec put (front x parent depth least end m) s at σ
+      unfolding front
+      front-all e w = let e₂′ = rw is at e₂ in let e′ = rw (is, is₂) at e in rw w (simp (executing, exec-head, exec-rest, e₁, e₂′, e′))

@@ -1,0 +1,419 @@
+// A node up to its contents: its three numbers, metadata, unpackers, reference.
+ghost use mathlib.Core.Path.{_≡_};
+ghost use mathlib.Core.List.{List};
+ghost use Prim.Native.Nat.{ℕ, _≤_, _<_, _+_, _*_, _^_};
+ghost use lib.ListN.{length};
+ghost use Rattle.cursor.specs.Machine.{run, exec, many};
+ghost use Rattle.cursor.specs.Told.{passTold};
+ghost use Rattle.metadata.specs.Tables.{put, state};
+ghost use Rattle.metadata.specs.Told.{contextOf};
+ghost use Rattle.node.specs.Node.{headerLength, head, value, identifier, unpacker, entries, unpackers, resource, nodePlace, uriPlace, target, reference, rest, rowOf, front};
+ghost use Rattle.node.specs.Told.{headTold, unpackerTold, unpackersTold, referenceTold, restTold, Fronts};
+use cursor::Cursor;
+use cursor::FilePlace;
+use cursor::Node;
+use cursor::NodePlace;
+use cursor::Numbered;
+use cursor::Passed;
+use metadata::Made;
+use metadata::Scope;
+use metadata::Walked;
+
+// What a node starts with: its length, the number of nodes that it holds, its header's length.
+pub struct Head {
+    pub size: u64,
+    pub held: u64,
+    pub header: u64,
+}
+
+pub enum Headed {
+    Is(Head, Cursor),
+    Refused(u64, FilePlace),
+}
+
+// Where the unpackers stand, and how many there are.
+pub struct Unpackers {
+    pub place: FilePlace,
+    pub count: usize,
+}
+
+pub enum Unpacked {
+    Is(Unpackers, Cursor),
+    Refused(u64, FilePlace),
+}
+
+// A reference, and what it leads to.
+pub struct Reference {
+    pub kind: u64,
+    pub target: u64,
+    pub extent: u64,
+}
+
+pub enum Referred {
+    Is(Reference, Cursor),
+    Refused(u64, FilePlace),
+}
+
+// The unpackers and the reference, and the cursor after them.
+pub enum Rested {
+    Is(Unpackers, Reference, Cursor),
+    Refused(u64, FilePlace),
+}
+
+// A node's row, and the rows made by then, its own not among them.
+pub struct Front {
+    pub row: Node,
+    pub made: Made,
+}
+
+pub enum Fronted {
+    Is(Front, Cursor),
+    Refused(u64, FilePlace),
+}
+
+// NodeLength, NodeContainedItems and NodeHeaderLength of a node that ends at or before `end` and not before `least`.
+fn read_head(c: Cursor, file: &[u8], least: FilePlace, end: FilePlace) -> Headed
+    requires { ⌜ (end .0 ≤ length (now file)) × (length (now file) < 2 ^ 28) ⌝ }
+    ensures { λ r. ⌜ headTold r ≡ run (head (least .0) (end .0)) (now (file .entry)) (c .at .0) ⌝ }
+{
+    let start = c.at;
+    match c.number(file, end, cursor::CUT_SHORT) {
+        Numbered::Refused(n, p) => Headed::Refused(n, p),
+        Numbered::Is(size, d) => {
+            let stop = start.of(NodePlace(size as usize));
+            if end.0 < stop.0 {
+                return Headed::Refused(cursor::BAD_NODE, start);
+            }
+            if stop.0 < least.0 {
+                return Headed::Refused(cursor::BAD_NODE, start);
+            }
+            match d.number(file, stop, cursor::CUT_SHORT) {
+                Numbered::Refused(n, p) => Headed::Refused(n, p),
+                Numbered::Is(held, e) => read_header_length(e, file, start, size, held),
+            }
+        }
+    }
+}
+
+// NodeHeaderLength of a node that starts at `start`.
+fn read_header_length(c: Cursor, file: &[u8], start: FilePlace, size: u64, held: u64) -> Headed
+    requires { ⌜ (start .0 + size ≤ length (now file)) × (length (now file) < 2 ^ 28) ⌝ }
+    ensures { λ r. ⌜ headTold r ≡ run (headerLength (start .0) size held) (now (file .entry)) (c .at .0) ⌝ }
+{
+    let place = c.at;
+    match c.number(file, start.of(NodePlace(size as usize)), cursor::CUT_SHORT) {
+        Numbered::Refused(n, p) => Headed::Refused(n, p),
+        Numbered::Is(header, d) => {
+            if size < header {
+                return Headed::Refused(cursor::BAD_NODE, place);
+            }
+            let inner = start.of(NodePlace(header as usize));
+            let first = d.at;
+            if inner.0 < first.0 {
+                return Headed::Refused(cursor::BAD_NODE, place);
+            }
+            let is = Head { size, held, header };
+            Headed::Is(is, d)
+        }
+    }
+}
+
+// A number whose value is not kept.
+fn read_value(c: Cursor, file: &[u8], end: FilePlace) -> Passed
+    requires { ⌜ end .0 ≤ length (now file) ⌝ }
+    ensures { λ r. ⌜ passTold r ≡ run (value (end .0)) (now (file .entry)) (c .at .0) ⌝ }
+{
+    match c.number(file, end, cursor::CUT_SHORT) {
+        Numbered::Refused(n, p) => Passed::Refused(n, p),
+        Numbered::Is(_, d) => Passed::To(d),
+    }
+}
+
+// What names an unpacker of the kind.
+fn read_identifier(c: Cursor, file: &[u8], kind: u64, end: FilePlace) -> Passed
+    requires { ⌜ end .0 ≤ length (now file) ⌝ }
+    ensures { λ r. ⌜ passTold r ≡ run (identifier kind (end .0)) (now (file .entry)) (c .at .0) ⌝ }
+{
+    if kind == 3 {
+        return c.guid(file, end);
+    }
+    if kind == 1 {
+        return match c.manufacturer(file, end) {
+            Passed::Refused(n, p) => Passed::Refused(n, p),
+            Passed::To(d) => read_value(d, file, end),
+        };
+    }
+    read_value(c, file, end)
+}
+
+// An unpacker: its kind, what names it, its decoded size.
+fn read_unpacker(c: Cursor, file: &[u8], end: FilePlace) -> Passed
+    requires { ⌜ end .0 ≤ length (now file) ⌝ }
+    ensures { λ r. ⌜ ((n : ℕ) → unpackerTold r n ≡ run (unpacker (end .0) n) (now (file .entry)) (c .at .0)) ⌝ }
+{
+    let place = c.at;
+    match c.number(file, end, cursor::CUT_SHORT) {
+        Numbered::Refused(n, p) => Passed::Refused(n, p),
+        Numbered::Is(kind, d) => {
+            if 3 < kind {
+                return Passed::Refused(cursor::BAD_UNPACKER, place);
+            }
+            match read_identifier(d, file, kind, end) {
+                Passed::Refused(n, p) => Passed::Refused(n, p),
+                Passed::To(e) => read_value(e, file, end),
+            }
+        }
+    }
+}
+
+// Unpackers end to end up to `end`; they begin at c.
+fn read_entries(c: Cursor, file: &[u8], end: FilePlace) -> Unpacked
+    requires { ⌜ end .0 ≤ length (now file) ⌝ }
+    ensures { λ r. ⌜ unpackersTold r ≡ run (entries (end .0)) (now (file .entry)) (c .at .0) ⌝ }
+{
+    let place = c.at;
+    let stop = end.0;
+    let mut next = c;
+    let mut at = place.0;
+    let mut count: usize = 0;
+    while at < stop {
+        match read_unpacker(next, file, end) {
+            Passed::Refused(n, p) => return Unpacked::Refused(n, p),
+            Passed::To(d) => {
+                next = d;
+                at = d.at.0;
+            }
+        }
+        count = count + 1;
+    }
+    let is = Unpackers { place, count };
+    Unpacked::Is(is, next)
+}
+
+// The unpackers of a node whose header ends at `end`.
+fn read_unpackers(c: Cursor, file: &[u8], held: u64, end: FilePlace) -> Unpacked
+    requires { ⌜ (end .0 ≤ length (now file)) × (length (now file) < 2 ^ 28) ⌝ }
+    ensures { λ r. ⌜ unpackersTold r ≡ run (unpackers held (end .0)) (now (file .entry)) (c .at .0) ⌝ }
+{
+    let place = c.at;
+    match c.block(file, end, cursor::BAD_NODE) {
+        Numbered::Refused(n, p) => Unpacked::Refused(n, p),
+        Numbered::Is(size, d) => {
+            if held != 0 {
+                if size != 0 {
+                    return Unpacked::Refused(cursor::BAD_FOLDER, place);
+                }
+            }
+            let after = d.on(size);
+            let stop = after.at;
+            read_entries(d, file, stop)
+        }
+    }
+}
+
+// Reference 2: a place of the file at or after the header's end; its extent runs to the file's end.
+fn read_resource(c: Cursor, file: &[u8], first: FilePlace, end: FilePlace) -> Referred
+    requires { ⌜ end .0 ≤ length (now file) ⌝ }
+    ensures { λ r. ⌜ referenceTold r ≡ run (resource (first .0) (length (now (file .entry))) (end .0)) (now (file .entry)) (c .at .0) ⌝ }
+{
+    let place = c.at;
+    match c.number(file, end, cursor::CUT_SHORT) {
+        Numbered::Refused(n, p) => Referred::Refused(n, p),
+        Numbered::Is(offset, d) => {
+            let size = file.len();
+            if (offset as usize) < first.0 {
+                return Referred::Refused(cursor::BAD_TARGET, place);
+            }
+            if size < offset as usize {
+                return Referred::Refused(cursor::BAD_TARGET, place);
+            }
+            let is = Reference {
+                kind: 2,
+                target: offset,
+                extent: (size - offset as usize) as u64,
+            };
+            Referred::Is(is, d)
+        }
+    }
+}
+
+// Reference 3: the place of a node's first byte.
+fn read_node_place(c: Cursor, file: &[u8], end: FilePlace) -> Referred
+    requires { ⌜ end .0 ≤ length (now file) ⌝ }
+    ensures { λ r. ⌜ referenceTold r ≡ run (nodePlace (end .0)) (now (file .entry)) (c .at .0) ⌝ }
+{
+    match c.number(file, end, cursor::CUT_SHORT) {
+        Numbered::Refused(n, p) => Referred::Refused(n, p),
+        Numbered::Is(offset, d) => {
+            let is = Reference {
+                kind: 3,
+                target: offset,
+                extent: 0,
+            };
+            Referred::Is(is, d)
+        }
+    }
+}
+
+// Reference 4: an XString with a URI.
+fn read_uri(c: Cursor, file: &[u8], end: FilePlace) -> Referred
+    requires { ⌜ (end .0 ≤ length (now file)) × (length (now file) < 2 ^ 28) ⌝ }
+    ensures { λ r. ⌜ referenceTold r ≡ run (uriPlace (end .0)) (now (file .entry)) (c .at .0) ⌝ }
+{
+    match c.block(file, end, cursor::CUT_SHORT) {
+        Numbered::Refused(n, p) => Referred::Refused(n, p),
+        Numbered::Is(size, d) => {
+            let place = d.at;
+            let is = Reference {
+                kind: 4,
+                target: place.0 as u64,
+                extent: size,
+            };
+            Referred::Is(is, d.on(size))
+        }
+    }
+}
+
+// What a reference leads to, in a node that ends at `end`.
+fn read_target(c: Cursor, file: &[u8], first: FilePlace, kind: u64, end: FilePlace) -> Referred
+    requires { ⌜ (end .0 ≤ length (now file)) × (length (now file) < 2 ^ 28) × (c .at .0 ≤ end .0) ⌝ }
+    ensures { λ r. ⌜ referenceTold r ≡ run (target (first .0) (length (now (file .entry))) kind (end .0)) (now (file .entry)) (c .at .0) ⌝ }
+{
+    let place = c.at;
+    if kind == 1 {
+        let is = Reference {
+            kind,
+            target: place.0 as u64,
+            extent: (end.0 - place.0) as u64,
+        };
+        return Referred::Is(is, c);
+    }
+    if kind == 2 {
+        return read_resource(c, file, first, end);
+    }
+    if kind == 3 {
+        return read_node_place(c, file, end);
+    }
+    read_uri(c, file, end)
+}
+
+// ReferenceTypeID and what it leads to; a folder uses reference 1.
+fn read_reference(c: Cursor, file: &[u8], first: FilePlace, held: u64, end: FilePlace) -> Referred
+    requires { ⌜ (end .0 ≤ length (now file)) × (length (now file) < 2 ^ 28) ⌝ }
+    ensures { λ r. ⌜ referenceTold r ≡ run (reference (first .0) (length (now (file .entry))) held (end .0)) (now (file .entry)) (c .at .0) ⌝ }
+{
+    let place = c.at;
+    match c.number(file, end, cursor::CUT_SHORT) {
+        Numbered::Refused(n, p) => Referred::Refused(n, p),
+        Numbered::Is(kind, d) => {
+            if kind == 0 {
+                return Referred::Refused(cursor::BAD_REFERENCE, place);
+            }
+            if 4 < kind {
+                return Referred::Refused(cursor::BAD_REFERENCE, place);
+            }
+            if held != 0 {
+                if kind != 1 {
+                    return Referred::Refused(cursor::BAD_FOLDER, place);
+                }
+            }
+            read_target(d, file, first, kind, end)
+        }
+    }
+}
+
+// The unpackers, which end where the header does, and the reference.
+fn read_rest(
+    c: Cursor,
+    file: &[u8],
+    first: FilePlace,
+    held: u64,
+    inner: FilePlace,
+    stop: FilePlace,
+) -> Rested
+    requires { ⌜ (inner .0 ≤ length (now file)) × (stop .0 ≤ length (now file)) × (length (now file) < 2 ^ 28) ⌝ }
+    ensures { λ r. ⌜ restTold r ≡ run (rest (first .0) (length (now (file .entry))) held (inner .0) (stop .0)) (now (file .entry)) (c .at .0) ⌝ }
+{
+    match read_unpackers(c, file, held, inner) {
+        Unpacked::Refused(n, p) => Rested::Refused(n, p),
+        Unpacked::Is(u, d) => {
+            let place = d.at;
+            if place.0 < inner.0 {
+                return Rested::Refused(cursor::BYTES_LEFT, place);
+            }
+            match read_reference(d, file, first, held, stop) {
+                Referred::Refused(n, p) => Rested::Refused(n, p),
+                Referred::Is(r, e) => Rested::Is(u, r, e),
+            }
+        }
+    }
+}
+
+// A node's row.
+fn row_of(
+    start: FilePlace,
+    h: Head,
+    parent: usize,
+    depth: usize,
+    r: Reference,
+    u: Unpackers,
+    rows: usize,
+) -> Node
+    ensures { λ n. ⌜ n ≡ rowOf (start .0) h parent depth r u rows ⌝ }
+{
+    let place = u.place;
+    Node {
+        start: start.0 as u64,
+        size: h.size,
+        header: h.header,
+        held: h.held,
+        parent: parent as u64,
+        depth: depth as u64,
+        reference: r.kind,
+        target: r.target,
+        extent: r.extent,
+        unpackers: place.0 as u64,
+        layers: u.count as u64,
+        rows: rows as u64,
+    }
+}
+
+// A node up to its contents.
+pub fn read_front(
+    c: Cursor,
+    file: &[u8],
+    types: &[u64],
+    items: &mut [u64],
+    scope: Scope,
+    parent: usize,
+    depth: usize,
+    least: FilePlace,
+    end: FilePlace,
+    made: Made,
+) -> Fronted
+    requires { ⌜ (end .0 ≤ length (now file)) × (length (now file) < 2 ^ 28) × (scope .types * 2 ≤ length (now types)) × (scope .limits .items * 10 ≤ length (now items)) × (made .nodes ≤ scope .limits .nodes) × (made .items ≤ scope .limits .items) ⌝ }
+    ensures { λ r. ⌜ ((t : List ℕ) → Fronts (scope .limits) r t (now (items .exit)) (exec put (front (contextOf scope (now (types .entry)) (length (now (file .entry)))) parent depth (least .0) (end .0) made) (now (file .entry)) (c .at .0) (state t (now (items .entry)) made))) ⌝ }
+{
+    let start = c.at;
+    match read_head(c, file, least, end) {
+        Headed::Refused(n, p) => Fronted::Refused(n, p),
+        Headed::Is(h, d) => {
+            let inner = start.of(NodePlace(h.header as usize));
+            match metadata::read_metadata(d, file, types, items, scope, made.nodes, inner, made) {
+                Walked::Refused(n, p) => Fronted::Refused(n, p),
+                Walked::Done(m, e) => {
+                    let stop = start.of(NodePlace(h.size as usize));
+                    let first = scope.first;
+                    match read_rest(e, file, first, h.held, inner, stop) {
+                        Rested::Refused(n, p) => Fronted::Refused(n, p),
+                        Rested::Is(u, r, g) => {
+                            let row = row_of(start, h, parent, depth, r, u, m.items - made.items);
+                            let is = Front { row, made: m };
+                            Fronted::Is(is, g)
+                        }
+                    }
+                }
+            }
+        }
+    }
+}
