@@ -1,0 +1,72 @@
+-- `casetext::input::read_decimal` meets its contract. Assumes nothing.
+use mathlib.Core.Bool.{false≢true}
+use mathlib.Core.Path.{refl, _≡_}
+use Prim.Native.Nat.{_^_, _≤_, _<_, _-_}
+use native.Mathlib.Omega.{arith}
+use lib.ListN.{length, drop}
+use borrow.Author.Needs.{needs}
+use Rattle.casetext.proofs.Laws.{value-more, value-all}
+use Rattle.casetext.proofs.input.read_decimal.Statement.{statement}
+use Rattle.casetext.proofs.input.read_decimal.Tie as tie
+use Rattle.casetext.specs.Text.{valueFrom}
+
+abbrev Inv-loop : tie.InvT-loop
+Inv-loop digits value₀ i₀ value i = (value < 10 ^ 18) × (valueFrom 0 digits ≡ valueFrom value (drop i digits)) × (i ≤ length digits)
+
+abbrev μ-loop : tie.MeasureT-loop
+μ-loop digits value₀ i₀ value i = length digits - i
+
+loop-holds : tie.Need-loop-holds Inv-loop μ-loop
+loop-holds c = (omega arith, refl, omega arith)
+
+shared-slice-read-digit : tie.Need-shared-slice-read-digit Inv-loop μ-loop
+shared-slice-read-digit c = search needs
+
+digit-requires : tie.Need-digit-requires Inv-loop μ-loop
+digit-requires c κs = search needs
+
+returns : tie.Need-returns Inv-loop μ-loop
+returns c = record { small = omega arith; meant = λ e. absurd (false≢true e) }
+
+returns-2 : tie.Need-returns-2 Inv-loop μ-loop
+returns-2 c = record { small = omega arith; meant = λ e. absurd (false≢true e) }
+
+mul-value : tie.Need-mul-value Inv-loop μ-loop
+mul-value c = search needs
+
+wide-requires : tie.Need-wide-requires Inv-loop μ-loop
+wide-requires c κs = search needs
+
+add-value : tie.Need-add-value Inv-loop μ-loop
+add-value c = search needs
+
+add-i : tie.Need-add-i Inv-loop μ-loop
+add-i c = search needs
+
+loop-less : tie.Need-loop-less Inv-loop μ-loop
+loop-less c = search needs
+
+loop-again : tie.Need-loop-again Inv-loop μ-loop
+loop-again c = (omega arith, value-more _ _ _ _ _ (c .before .before .before .before .before .loop-test .taken) (c .before .before .before .before .before .before .loop .inv .1) (c .before .before .before .digit .ensures .0) (c .wide .ensures), omega arith)
+
+returns-3 : tie.Need-returns-3 Inv-loop μ-loop
+returns-3 c = record { small = omega arith; meant = λ e. value-all _ _ (c .before .loop .i) (c .loop-test .left) (c .before .loop .inv .1) }
+
+pub read-decimal-spec : {M : Type 1} → statement M
+read-decimal-spec =
+    tie.close
+    (tie.spec
+    Inv-loop
+    μ-loop
+    loop-holds
+    shared-slice-read-digit
+    digit-requires
+    returns
+    returns-2
+    mul-value
+    wide-requires
+    add-value
+    add-i
+    loop-less
+    loop-again
+    returns-3)

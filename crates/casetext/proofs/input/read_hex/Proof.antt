@@ -1,0 +1,122 @@
+-- `casetext::input::read_hex` meets its contract. Assumes nothing.
+use mathlib.Core.Logic.{inl, inr}
+use mathlib.Core.Path.{refl, sym, _≡_}
+use Prim.Native.Nat.{ℕ, _*_, _≤_, _<_, _-_}
+use native.Mathlib.Omega.{arith}
+use lib.ListN.{length-set, length, getD}
+use lib.Seq.{length-take-le}
+use borrow.Author.Needs.{needs}
+use borrow.Author.Tests.{eqb-true}
+use Rattle.casetext.proofs.Laws.{no-bytes, byte-more}
+use Rattle.casetext.proofs.input.read_hex.Statement.{statement}
+use Rattle.casetext.proofs.input.read_hex.Tie as tie
+use Rattle.casetext.specs.Text.{byteAt}
+
+abbrev Inv-loop : tie.InvT-loop
+Inv-loop digits bytes₀ count n₀ bytes n = (length bytes ≡ length bytes₀) × ((k : ℕ) → k < n → getD bytes k 0 ≡ byteAt digits k) × (n ≤ count) × (count ≤ length bytes) × (count * 2 ≤ length digits)
+
+abbrev μ-loop : tie.MeasureT-loop
+μ-loop digits bytes₀ count n₀ bytes n = count - n
+
+shared-slice-read-t10 : tie.Need-shared-slice-read-t10 Inv-loop μ-loop
+shared-slice-read-t10 c = search needs
+
+returns : tie.Need-returns Inv-loop μ-loop
+returns c = record { within = omega arith; counted = refl; each = λ k l. omega arith; whole = λ e. inr (c .before .if1 .taken, eqb-true _ _ e) }
+
+returns-2 : tie.Need-returns-2 Inv-loop μ-loop
+returns-2 c = no-bytes _ _
+
+loop-holds : tie.Need-loop-holds Inv-loop μ-loop
+loop-holds c = (refl, λ k l. omega arith, omega arith, omega arith, omega arith)
+
+mul-digit : tie.Need-mul-digit Inv-loop μ-loop
+mul-digit c = search needs
+
+shared-slice-read-digit : tie.Need-shared-slice-read-digit Inv-loop μ-loop
+shared-slice-read-digit c = search needs
+
+digit-requires : tie.Need-digit-requires Inv-loop μ-loop
+digit-requires c κs = search needs
+
+mul-digit-2 : tie.Need-mul-digit-2 Inv-loop μ-loop
+mul-digit-2 c = search needs
+
+add-digit : tie.Need-add-digit Inv-loop μ-loop
+add-digit c = search needs
+
+shared-slice-read-digit-2 : tie.Need-shared-slice-read-digit-2 Inv-loop μ-loop
+shared-slice-read-digit-2 c = search needs
+
+digit-requires-2 : tie.Need-digit-requires-2 Inv-loop μ-loop
+digit-requires-2 c κs = search needs
+
+same-length : tie.Need-same-length Inv-loop μ-loop
+same-length c = search needs
+
+returns-3 : tie.Need-returns-3 Inv-loop μ-loop
+returns-3 c = no-bytes _ _
+
+same-length-2 : tie.Need-same-length-2 Inv-loop μ-loop
+same-length-2 c = search needs
+
+returns-4 : tie.Need-returns-4 Inv-loop μ-loop
+returns-4 c = no-bytes _ _
+
+mul-bytes : tie.Need-mul-bytes Inv-loop μ-loop
+mul-bytes c = search needs
+
+add-bytes : tie.Need-add-bytes Inv-loop μ-loop
+add-bytes c = search needs
+
+slice-write-bytes : tie.Need-slice-write-bytes Inv-loop μ-loop
+slice-write-bytes c = search needs
+
+add-n : tie.Need-add-n Inv-loop μ-loop
+add-n c = search needs
+
+loop-less : tie.Need-loop-less Inv-loop μ-loop
+loop-less c = search needs
+
+loop-again : tie.Need-loop-again Inv-loop μ-loop
+loop-again c = (simp length-set (omega arith), byte-more (c .before .before .before .before .before .before .before .before .before .before .before .before .args .digits .now) (c .before .before .before .before .before .before .before .loop .bytes) (c .before .before .before .before .before .before .before .loop .n) _ _ (omega arith) (c .before .before .before .before .before .before .before .loop .inv .1) (c .before .before .before .before .digit .ensures .0) (c .before .before .digit2 .ensures .0), omega arith, simp length-set (omega arith), omega arith)
+
+mul-t20 : tie.Need-mul-t20 Inv-loop μ-loop
+mul-t20 c = search needs
+
+same-length-3 : tie.Need-same-length-3 Inv-loop μ-loop
+same-length-3 c = search needs
+
+returns-5 : tie.Need-returns-5 Inv-loop μ-loop
+returns-5 c = record { within = omega arith; counted = sym (length-take-le _ _ (omega arith)); each = λ k l. c .before .loop .inv .1 k (omega arith); whole = λ e. inl (eqb-true _ _ e) }
+
+pub read-hex-spec : {M : Type 1} → statement M
+read-hex-spec =
+    tie.close
+    (tie.spec
+    Inv-loop
+    μ-loop
+    shared-slice-read-t10
+    returns
+    returns-2
+    loop-holds
+    mul-digit
+    shared-slice-read-digit
+    digit-requires
+    mul-digit-2
+    add-digit
+    shared-slice-read-digit-2
+    digit-requires-2
+    same-length
+    returns-3
+    same-length-2
+    returns-4
+    mul-bytes
+    add-bytes
+    slice-write-bytes
+    add-n
+    loop-less
+    loop-again
+    mul-t20
+    same-length-3
+    returns-5)

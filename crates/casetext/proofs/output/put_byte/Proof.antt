@@ -1,0 +1,25 @@
+-- `casetext::output::put_byte` meets its contract. Assumes nothing.
+use native.Mathlib.Omega.{arith}
+use lib.ListN.{length-set}
+use borrow.Author.Needs.{needs}
+use Rattle.casetext.proofs.Laws.{ends}
+use Rattle.casetext.proofs.output.put_byte.Statement.{statement}
+use Rattle.casetext.proofs.output.put_byte.Tie as tie
+
+slice-write-out : tie.Need-slice-write-out
+slice-write-out c = search needs
+
+add-result : tie.Need-add-result
+add-result c = search needs
+
+same-length : tie.Need-same-length
+same-length c = search needs
+
+returns : tie.Need-returns
+returns c = ends _ _ _ (simp length-set (omega arith)) (simp length-set (omega arith))
+
+returns-2 : tie.Need-returns-2
+returns-2 c = ends _ _ _ (omega arith) (omega arith)
+
+pub put-byte-spec : {M : Type 1} → statement M
+put-byte-spec = tie.close (tie.spec slice-write-out add-result same-length returns returns-2)

@@ -1,0 +1,36 @@
+// Buffers for a program that runs cases. Each is on the stack.
+ghost use mathlib.Core.Path.{_≡_};
+ghost use lib.ListN.{length, replicate};
+
+// What every lent word holds before a call.
+pub const STALE: u64 = 7;
+
+// 1,048,576 zeros, for all of the text that standard input holds.
+pub fn text_buffer() -> [u8; 1048576]
+    ensures { λ r. ⌜ 1048576 ≡ length r ⌝ }
+{
+    [0; 1048576]
+}
+
+// 262,144 zeros, for the text of one answer.
+pub fn answer_buffer() -> [u8; 262144]
+    ensures { λ r. ⌜ 262144 ≡ length r ⌝ }
+{
+    [0; 262144]
+}
+
+// 3,344 stale words, 16 more than a case lends for nodes.
+pub fn node_buffer() -> [u64; 3344]
+    ensures { λ r. ⌜ 3344 ≡ length r ⌝ }
+    ensures { λ r. ⌜ r ≡ replicate 3344 7 ⌝ }
+{
+    [STALE; 3344]
+}
+
+// 10,256 stale words, 16 more than a case lends for items.
+pub fn item_buffer() -> [u64; 10256]
+    ensures { λ r. ⌜ 10256 ≡ length r ⌝ }
+    ensures { λ r. ⌜ r ≡ replicate 10256 7 ⌝ }
+{
+    [STALE; 10256]
+}

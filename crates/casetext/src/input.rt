@@ -1,0 +1,149 @@
+// Numbers and bytes read from a field.
+ghost use mathlib.Core.Path.{_≡_};
+ghost use Prim.Native.Nat.{_≤_};
+ghost use Rattle.casetext.specs.Text.{digitOf, Spells, SpellsBytes, Lends};
+use crate::fields::field;
+
+// A number, and whether the field spells it; 0 where it spells none.
+pub struct Number {
+    pub value: usize,
+    pub right: bool,
+}
+
+// How many bytes were decoded, and whether they are all that the field spells.
+pub struct Decoded {
+    pub count: usize,
+    pub right: bool,
+}
+
+// What every case starts with: how many bytes the file has, how many node words and how many item words are lent.
+pub struct Case {
+    pub bytes: usize,
+    pub nodes: usize,
+    pub items: usize,
+    pub right: bool,
+}
+
+// Reads a decimal number below 10 to the power 18.
+pub fn read_decimal(digits: &[u8]) -> Number
+    ensures { λ r. ⌜ Spells (now (digits .entry)) (r .value) (r .right) ⌝ }
+{
+    let mut value: usize = 0;
+    let mut i = 0;
+    while i < digits.len() {
+        let d = digit(digits[i]);
+        if d > 9 {
+            return Number {
+                value: 0,
+                right: false,
+            };
+        }
+        if value >= 100000000000000000 {
+            return Number {
+                value: 0,
+                right: false,
+            };
+        }
+        value = value * 10 + wide(d);
+        i += 1;
+    }
+    Number {
+        value,
+        right: digits.len() > 0,
+    }
+}
+
+// A byte as a count.
+fn wide(b: u8) -> usize
+    ensures { λ r. ⌜ r ≡ b ⌝ }
+{
+    b as usize
+}
+
+// The value of a lower-case hex digit, and 16 for any other byte.
+fn digit(b: u8) -> u8
+    ensures { λ r. ⌜ (r ≡ digitOf b) × (r ≤ 16) ⌝ }
+{
+    if b < 48 {
+        16
+    } else if b < 58 {
+        b - 48
+    } else if b < 97 {
+        16
+    } else if b < 103 {
+        b - 87
+    } else {
+        16
+    }
+}
+
+// Decodes lower-case hex, two digits to a byte, into the start of `bytes`; a single `-` stands for no bytes.
+pub fn read_hex(digits: &[u8], bytes: &mut [u8]) -> Decoded
+    ensures { λ r. ⌜ SpellsBytes (now (digits .entry)) (now (bytes .exit)) (r .count) (r .right) ⌝ }
+{
+    if digits.len() == 1 {
+        return Decoded {
+            count: 0,
+            right: digits[0] == b'-',
+        };
+    }
+    let count = digits.len() / 2;
+    if count > bytes.len() {
+        return Decoded {
+            count: 0,
+            right: false,
+        };
+    }
+    let mut n = 0;
+    while n < count {
+        let high = digit(digits[2 * n]);
+        let low = digit(digits[2 * n + 1]);
+        if high > 15 {
+            return Decoded {
+                count: 0,
+                right: false,
+            };
+        }
+        if low > 15 {
+            return Decoded {
+                count: 0,
+                right: false,
+            };
+        }
+        bytes[n] = high * 16 + low;
+        n += 1;
+    }
+    Decoded {
+        count,
+        right: digits.len() == count * 2,
+    }
+}
+
+// Reads the field with this index as a decimal number of at most `most`.
+pub fn read_number(line: &[u8], index: usize, most: usize) -> Number
+    ensures { λ r. ⌜ r .value ≤ most ⌝ }
+{
+    let number = read_decimal(field(line, index));
+    if number.value > most {
+        return Number {
+            value: 0,
+            right: false,
+        };
+    }
+    number
+}
+
+// Reads the bytes of a case into the start of `file`, and the numbers of words to lend, each at most the room for them.
+pub fn read_case(line: &[u8], file: &mut [u8], node_room: usize, item_room: usize) -> Case
+    ensures { λ r. ⌜ Lends (now (file .exit)) «node_room» «item_room» (r .bytes) (r .nodes) (r .items) ⌝ }
+{
+    let decoded = read_hex(field(line, 1), file);
+    let nodes = read_number(line, 2, node_room);
+    let items = read_number(line, 3, item_room);
+    Case {
+        bytes: decoded.count,
+        nodes: nodes.value,
+        items: items.value,
+        right: decoded.right && nodes.right && items.right,
+    }
+}

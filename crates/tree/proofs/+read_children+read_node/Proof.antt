@@ -1,0 +1,277 @@
+-- Reading a node and reading its children, which call each other. The measure is the levels left and twice the bytes left; one more for children.
+-- Assumes nothing.
+use mathlib.Core.Path.{_∙_}
+use mathlib.Core.List.{[]}
+use Rattle.metadata.proofs.Gives.{done, stopped, fitting, no, yes}
+use Rattle.node.proofs.Ends.{front-inside}
+use Rattle.node.proofs.Ways.{front-done, front-stopped, front-fitting}
+use Rattle.tree.proofs.Nodes.{node-none, node-limit, node-front, node-file, node-children, node-left, node-all, children-none, children-no, children-on, children-more}
+use native.Mathlib.Omega.{arith}
+use borrow.Author.Needs.{needs}
+use Prim.Native.Nat.{_+_, _*_, _-_}
+use Prim.Native.Nat.{ℕ, _<_}
+use borrow.Fn.Kinds.{In}
+use borrow.Fn.PlainCycle.{Measures, is, falls, and}
+use Rattle.tree.proofs.read_children.Reads as read-children
+use Rattle.tree.proofs.read_children.Kinds as read-children-kinds
+use Rattle.tree.proofs.+read_children+read_node.Lts-read_children as read-children-lts
+use Rattle.tree.proofs.read_node.Reads as read-node
+use Rattle.tree.proofs.read_node.Kinds as read-node-kinds
+use Rattle.tree.proofs.+read_children+read_node.Lts-read_node as read-node-lts
+use Rattle.cursor.proofs.FilePlace.of.Reads as of-reads
+use Rattle.node.proofs.read_front.Reads as read-front-reads
+use Rattle.tree.proofs.put_node.Reads as put-node-reads
+use Rattle.tree.proofs.read_contents.Reads as read-contents-reads
+use Rattle.tree.proofs.+read_children+read_node.{statement}
+use Rattle.tree.proofs.+read_children+read_node.Tie.{close}
+
+abbrev μ-read-children : Measures 4 read-children-kinds.ps ℕ
+μ-read-children κs a = a .1 .1 .1 .1 .1 .1 .0 + 2 * (a .1 .1 .1 .1 .1 .1 .1 .1 .0 .0 - a .0 .at .0) + 1
+
+abbrev μ-read-node : Measures 4 read-node-kinds.ps ℕ
+μ-read-node κs a = a .1 .1 .1 .1 .1 .1 .0 + 2 * (a .1 .1 .1 .1 .1 .1 .1 .1 .1 .0 .0 - a .0 .at .0)
+
+abbrev read-children-at : ℕ → In 4 read-children-kinds.ps
+read-children-at t =
+    and 4 read-children-kinds.ps (is 4 read-children-kinds.ps μ-read-children t) read-children.Pre
+
+abbrev read-children-below : ℕ → In 4 read-children-kinds.ps
+read-children-below t =
+    and
+    4
+    read-children-kinds.ps
+    (falls 4 read-children-kinds.ps _<_ μ-read-children t)
+    read-children.Pre
+
+abbrev read-node-at : ℕ → In 4 read-node-kinds.ps
+read-node-at t = and 4 read-node-kinds.ps (is 4 read-node-kinds.ps μ-read-node t) read-node.Pre
+
+abbrev read-node-below : ℕ → In 4 read-node-kinds.ps
+read-node-below t =
+    and 4 read-node-kinds.ps (falls 4 read-node-kinds.ps _<_ μ-read-node t) read-node.Pre
+
+-- what the members' callees ask and give
+abbrev children-calls : ℕ → read-children-lts.Claims
+children-calls t = (read-node-below t, read-node.Post, read-children-below t, read-children.Post)
+
+abbrev node-calls : ℕ → read-node-lts.Claims
+node-calls t = (read-front-reads.Asked, read-front-reads.Learnt, put-node-reads.Asked, put-node-reads.Learnt, of-reads.Asked, of-reads.Learnt, read-contents-reads.Asked, read-contents-reads.Learnt, read-children-below t, read-children.Post)
+
+-- src/lib.rt:180:9
+read-children-returns : (t : ℕ) → read-children-lts.Need-returns (children-calls t) (read-children-at t) read-children.Post
+read-children-returns t c = yes (children-none _ _ _ _ _ _ _ _ _ _ (c .if1 .taken)) (omega (arith, c .before .before .before .before .before .pre))
+
+-- src/lib.rt:182:11
+read-children-read-node-requires : (t : ℕ) → read-children-lts.Need-read-node-requires (children-calls t) (read-children-at t) read-children.Post
+read-children-read-node-requires t c κs = omega (arith, c .before .before .before .before .before .before .before .pre)
+
+-- src/lib.rt:183:25
+read-children-enum-known-n : (t : ℕ) → read-children-lts.Need-enum-known-n (children-calls t) (read-children-at t) read-children.Post
+read-children-enum-known-n t c = search needs
+
+-- src/lib.rt:184:22
+read-children-enum-known-m : (t : ℕ) → read-children-lts.Need-enum-known-m (children-calls t) (read-children-at t) read-children.Post
+read-children-enum-known-m t c = search needs
+
+-- src/lib.rt:184:103
+read-children-sub-read-children : (t : ℕ) → read-children-lts.Need-sub-read-children (children-calls t) (read-children-at t) read-children.Post
+read-children-sub-read-children t c = omega arith
+
+-- src/lib.rt:184:31
+read-children-read-children-requires : (t : ℕ) → read-children-lts.Need-read-children-requires (children-calls t) (read-children-at t) read-children.Post
+read-children-read-children-requires t c κs = omega (arith, c .before .before .before .before .before .before .before .before .before .before .before .before .before .before .before .before .before .pre, children-on _ _ _ _ _ _ _ _ _ _ (c .before .before .before .before .before .before .before .before .before .before .before .before .if1 .left) (c .before .before .before .before .before .before .before .before .before .read-node .ensures) (omega (arith, c .before .before .before .before .before .before .before .before .before .before .before .before .before .before .before .before .before .pre)) (c .before .before .before .m .given .1), fitting (c .before .before .before .before .before .before .before .before .before .read-node .ensures) (c .before .before .before .m .given .1), c .before .before .before .before .before .before .before .before .before .read-node .kept .1 .1 .1 .0, c .before .before .before .before .before .before .before .before .before .read-node .kept .1 .1 .1 .1 .0)
+
+-- src/lib.rt:163:1
+read-children-same-length : (t : ℕ) → read-children-lts.Need-same-length (children-calls t) (read-children-at t) read-children.Post
+read-children-same-length t c = c .before .before .before .before .before .before .before .read-node .kept .1 .1 .1 .0
+
+-- src/lib.rt:163:1
+read-children-same-length-2 : (t : ℕ) → read-children-lts.Need-same-length-2 (children-calls t) (read-children-at t) read-children.Post
+read-children-same-length-2 t c = c .before .before .before .before .before .before .before .read-node .kept .1 .1 .1 .1 .0
+
+-- src/lib.rt:163:1
+read-children-returns-2 : (t : ℕ) → read-children-lts.Need-returns-2 (children-calls t) (read-children-at t) read-children.Post
+read-children-returns-2 t c = no (children-no _ _ _ _ _ _ _ _ _ _ (c .before .before .before .before .before .before .before .before .before .before .if1 .left) (c .before .before .before .before .before .before .before .read-node .ensures) (c .before .n .given .1))
+
+-- src/lib.rt:163:1
+read-children-same-length-3 : (t : ℕ) → read-children-lts.Need-same-length-3 (children-calls t) (read-children-at t) read-children.Post
+read-children-same-length-3 t c = c .before .before .before .before .read-children .kept .1 .1 .1 .0 ∙ c .before .before .before .before .before .before .before .before .before .before .before .before .before .before .read-node .kept .1 .1 .1 .0
+
+-- src/lib.rt:163:1
+read-children-same-length-4 : (t : ℕ) → read-children-lts.Need-same-length-4 (children-calls t) (read-children-at t) read-children.Post
+read-children-same-length-4 t c = c .before .before .before .before .read-children .kept .1 .1 .1 .1 .0 ∙ c .before .before .before .before .before .before .before .before .before .before .before .before .before .before .read-node .kept .1 .1 .1 .1 .0
+
+-- src/lib.rt:163:1
+read-children-returns-3 : (t : ℕ) → read-children-lts.Need-returns-3 (children-calls t) (read-children-at t) read-children.Post
+read-children-returns-3 t c = children-more _ _ _ _ _ _ _ _ _ _ (c .before .before .before .before .before .before .before .before .before .before .before .before .before .before .before .before .before .if1 .left) (c .before .before .before .before .before .before .before .before .before .before .before .before .before .before .read-node .ensures) (c .before .before .before .before .before .before .before .before .m .given .1) (c .before .before .before .before .read-children .ensures)
+
+-- src/lib.rt:127:9
+read-node-returns : (t : ℕ) → read-node-lts.Need-returns (node-calls t) (read-node-at t) read-node.Post
+read-node-returns t c = no (node-none _ _ _ _ _ _ _ _ _ (c .if1 .taken))
+
+-- src/lib.rt:132:9
+read-node-returns-2 : (t : ℕ) → read-node-lts.Need-returns-2 (node-calls t) (read-node-at t) read-node.Post
+read-node-returns-2 t c = no (node-limit _ _ _ _ _ _ _ _ _ (c .before .before .before .if1 .left) (c .if2 .taken))
+
+-- src/lib.rt:134:66
+read-node-sub-read-front : (t : ℕ) → read-node-lts.Need-sub-read-front (node-calls t) (read-node-at t) read-node.Post
+read-node-sub-read-front t c = omega arith
+
+-- src/lib.rt:134:11
+read-node-read-front-requires : (t : ℕ) → read-node-lts.Need-read-front-requires (node-calls t) (read-node-at t) read-node.Post
+read-node-read-front-requires t c κs = omega (arith, c .before .before .before .before .before .before .before .before .before .before .pre)
+
+-- src/lib.rt:135:26
+read-node-enum-known-n : (t : ℕ) → read-node-lts.Need-enum-known-n (node-calls t) (read-node-at t) read-node.Post
+read-node-enum-known-n t c = search needs
+
+-- src/lib.rt:136:21
+read-node-enum-known-w : (t : ℕ) → read-node-lts.Need-enum-known-w (node-calls t) (read-node-at t) read-node.Post
+read-node-enum-known-w t c = search needs
+
+-- src/lib.rt:140:24
+read-node-add-read-children : (t : ℕ) → read-node-lts.Need-add-read-children (node-calls t) (read-node-at t) read-node.Post
+read-node-add-read-children t c = omega (arith, c .before .before .before .before .before .before .before .before .before .before .before .before .before .before .before .before .before .before .before .pre, c .before .before .before .before .before .before .before .before .before .before .before .before .before .before .before .before .before .before .before .good .1 .1 .1 .0 .0, c .before .before .before .before .before .before .before .before .before .before .if2 .left, front-fitting (c .before .before .before .before .before .before .before .before .read-front .ensures []) (c .before .before .before .before .w .given .1))
+
+-- src/lib.rt:143:13
+read-node-put-node-requires : (t : ℕ) → read-node-lts.Need-put-node-requires (node-calls t) (read-node-at t) read-node.Post
+read-node-put-node-requires t c κs = omega (arith, c .before .before .before .before .before .before .before .before .before .before .before .before .before .before .before .before .before .before .before .before .pre, c .before .before .before .before .before .before .before .before .before .before .before .if2 .left)
+
+-- src/lib.rt:144:17
+read-node-of-requires : (t : ℕ) → read-node-lts.Need-of-requires (node-calls t) (read-node-at t) read-node.Post
+read-node-of-requires t c κs = omega (arith, c .before .before .before .before .before .before .before .before .before .before .before .before .before .before .before .before .before .before .before .before .before .before .before .pre, front-inside _ _ _ _ _ _ _ _ _ (omega (arith, c .before .before .before .before .before .before .before .before .before .before .before .before .before .before .before .before .before .before .before .before .before .before .before .pre)) (front-done (c .before .before .before .before .before .before .before .before .before .before .before .before .read-front .ensures []) (c .before .before .before .before .before .before .before .before .w .given .1)))
+
+-- src/lib.rt:146:17
+read-node-read-contents-requires : (t : ℕ) → read-node-lts.Need-read-contents-requires (node-calls t) (read-node-at t) read-node.Post
+read-node-read-contents-requires t c κs = omega (arith, front-inside _ _ _ _ _ _ _ _ _ (omega (arith, c .before .before .before .before .before .before .before .before .before .before .before .before .before .before .before .before .before .before .before .before .before .before .before .before .before .before .pre)) (front-done (c .before .before .before .before .before .before .before .before .before .before .before .before .before .before .before .read-front .ensures []) (c .before .before .before .before .before .before .before .before .before .before .before .w .given .1)), c .before .before .of .ensures, c .before .before .before .before .before .before .before .before .before .before .before .before .before .before .before .before .before .if2 .left, front-fitting (c .before .before .before .before .before .before .before .before .before .before .before .before .before .before .before .read-front .ensures []) (c .before .before .before .before .before .before .before .before .before .before .before .w .given .1))
+
+-- src/lib.rt:146:17
+read-node-same-length : (t : ℕ) → read-node-lts.Need-same-length (node-calls t) (read-node-at t) read-node.Post
+read-node-same-length t c = c .before .before .before .before .before .before .put-node .kept .0
+
+-- src/lib.rt:146:17
+read-node-same-length-2 : (t : ℕ) → read-node-lts.Need-same-length-2 (node-calls t) (read-node-at t) read-node.Post
+read-node-same-length-2 t c = c .before .before .before .before .before .before .before .before .before .before .before .before .before .before .before .before .read-front .kept .1 .1 .1 .0
+
+-- src/lib.rt:146:17
+read-node-returns-3 : (t : ℕ) → read-node-lts.Need-returns-3 (node-calls t) (read-node-at t) read-node.Post
+read-node-returns-3 t c = node-file _ _ _ _ _ _ _ _ (c .before .before .before .before .before .before .before .before .before .before .before .before .before .before .before .before .before .before .before .before .before .if1 .left) (c .before .before .before .before .before .before .before .before .before .before .before .before .before .before .before .before .before .before .if2 .left) (omega (arith, c .before .before .before .before .before .before .before .before .before .before .before .before .before .before .before .before .before .before .before .before .before .before .before .before .before .before .before .pre)) _ _ _ (front-done (c .before .before .before .before .before .before .before .before .before .before .before .before .before .before .before .before .read-front .ensures _) (c .before .before .before .before .before .before .before .before .before .before .before .before .w .given .1)) _ (c .before .before .before .before .before .before .put-node .ensures) (c .before .before .before .of .ensures) (c .before .if3 .taken) (c .read-contents .ensures _ _ _)
+
+-- src/lib.rt:148:70
+read-node-sub-read-children : (t : ℕ) → read-node-lts.Need-sub-read-children (node-calls t) (read-node-at t) read-node.Post
+read-node-sub-read-children t c = omega (arith, c .before .before .before .before .before .before .before .before .before .before .before .before .before .before .before .before .before .before .before .before .before .before .if1 .left)
+
+-- src/lib.rt:148:19
+read-node-read-children-requires : (t : ℕ) → read-node-lts.Need-read-children-requires (node-calls t) (read-node-at t) read-node.Post
+read-node-read-children-requires t c κs = omega (arith, c .before .before .before .before .before .before .before .before .before .before .before .before .before .before .before .before .before .before .before .before .before .before .before .before .before .before .before .before .pre, c .before .before .before .before .before .before .before .before .before .before .before .before .before .before .before .before .before .before .before .before .before .before .if1 .left, c .before .before .before .before .before .before .before .before .before .before .before .before .before .before .before .before .before .before .before .if2 .left, front-inside _ _ _ _ _ _ _ _ _ (omega (arith, c .before .before .before .before .before .before .before .before .before .before .before .before .before .before .before .before .before .before .before .before .before .before .before .before .before .before .before .before .pre)) (front-done (c .before .before .before .before .before .before .before .before .before .before .before .before .before .before .before .before .before .read-front .ensures []) (c .before .before .before .before .before .before .before .before .before .before .before .before .before .w .given .1)), c .before .before .before .before .of .ensures, front-fitting (c .before .before .before .before .before .before .before .before .before .before .before .before .before .before .before .before .before .read-front .ensures []) (c .before .before .before .before .before .before .before .before .before .before .before .before .before .w .given .1), c .before .before .before .before .before .before .before .put-node .kept .0, c .before .before .before .before .before .before .before .before .before .before .before .before .before .before .before .before .before .read-front .kept .1 .1 .1 .0)
+
+-- src/lib.rt:149:33
+read-node-enum-known-n-2 : (t : ℕ) → read-node-lts.Need-enum-known-n-2 (node-calls t) (read-node-at t) read-node.Post
+read-node-enum-known-n-2 t c = search needs
+
+-- src/lib.rt:150:30
+read-node-enum-known-m : (t : ℕ) → read-node-lts.Need-enum-known-m (node-calls t) (read-node-at t) read-node.Post
+read-node-enum-known-m t c = search needs
+
+-- src/lib.rt:153:25
+read-node-same-length-3 : (t : ℕ) → read-node-lts.Need-same-length-3 (node-calls t) (read-node-at t) read-node.Post
+read-node-same-length-3 t c = c .before .before .before .before .before .before .before .before .before .before .before .read-children .kept .1 .1 .1 .0 ∙ c .before .before .before .before .before .before .before .before .before .before .before .before .before .before .before .before .before .before .before .put-node .kept .0
+
+-- src/lib.rt:153:25
+read-node-same-length-4 : (t : ℕ) → read-node-lts.Need-same-length-4 (node-calls t) (read-node-at t) read-node.Post
+read-node-same-length-4 t c = c .before .before .before .before .before .before .before .before .before .before .before .read-children .kept .1 .1 .1 .1 .0 ∙ c .before .before .before .before .before .before .before .before .before .before .before .before .before .before .before .before .before .before .before .before .before .before .before .before .before .before .before .before .before .read-front .kept .1 .1 .1 .0
+
+-- src/lib.rt:153:25
+read-node-returns-4 : (t : ℕ) → read-node-lts.Need-returns-4 (node-calls t) (read-node-at t) read-node.Post
+read-node-returns-4 t c = no (node-left _ _ _ _ _ _ _ _ (c .before .before .before .before .before .before .before .before .before .before .before .before .before .before .before .before .before .before .before .before .before .before .before .before .before .before .before .before .before .before .before .before .before .before .if1 .left) (c .before .before .before .before .before .before .before .before .before .before .before .before .before .before .before .before .before .before .before .before .before .before .before .before .before .before .before .before .before .before .before .if2 .left) (omega (arith, c .before .before .before .before .before .before .before .before .before .before .before .before .before .before .before .before .before .before .before .before .before .before .before .before .before .before .before .before .before .before .before .before .before .before .before .before .before .before .before .before .pre)) _ _ _ (front-done (c .before .before .before .before .before .before .before .before .before .before .before .before .before .before .before .before .before .before .before .before .before .before .before .before .before .before .before .before .before .read-front .ensures _) (c .before .before .before .before .before .before .before .before .before .before .before .before .before .before .before .before .before .before .before .before .before .before .before .before .before .w .given .1)) _ (c .before .before .before .before .before .before .before .before .before .before .before .before .before .before .before .before .before .before .before .put-node .ensures) (c .before .before .before .before .before .before .before .before .before .before .before .before .before .before .before .before .of .ensures) (c .before .before .before .before .before .before .before .before .before .before .before .before .before .before .if3 .left) (done (c .before .before .before .before .before .before .before .before .before .before .before .read-children .ensures) (c .before .before .before .before .before .m2 .given .1)) (c .if4 .taken))
+
+-- src/lib.rt:109:1
+read-node-same-length-5 : (t : ℕ) → read-node-lts.Need-same-length-5 (node-calls t) (read-node-at t) read-node.Post
+read-node-same-length-5 t c = c .before .before .before .before .before .read-front .kept .1 .1 .1 .0
+
+-- src/lib.rt:109:1
+read-node-returns-5 : (t : ℕ) → read-node-lts.Need-returns-5 (node-calls t) (read-node-at t) read-node.Post
+read-node-returns-5 t c = no (node-front _ _ _ _ _ _ _ _ _ (c .before .before .before .before .before .before .before .before .before .before .if1 .left) (c .before .before .before .before .before .before .before .if2 .left) (front-stopped (c .before .before .before .before .before .read-front .ensures _) (c .before .n .given .1)))
+
+-- src/lib.rt:109:1
+read-node-same-length-6 : (t : ℕ) → read-node-lts.Need-same-length-6 (node-calls t) (read-node-at t) read-node.Post
+read-node-same-length-6 t c = c .before .before .before .before .before .before .before .read-children .kept .1 .1 .1 .0 ∙ c .before .before .before .before .before .before .before .before .before .before .before .before .before .before .before .put-node .kept .0
+
+-- src/lib.rt:109:1
+read-node-same-length-7 : (t : ℕ) → read-node-lts.Need-same-length-7 (node-calls t) (read-node-at t) read-node.Post
+read-node-same-length-7 t c = c .before .before .before .before .before .before .before .read-children .kept .1 .1 .1 .1 .0 ∙ c .before .before .before .before .before .before .before .before .before .before .before .before .before .before .before .before .before .before .before .before .before .before .before .before .before .read-front .kept .1 .1 .1 .0
+
+-- src/lib.rt:109:1
+read-node-returns-6 : (t : ℕ) → read-node-lts.Need-returns-6 (node-calls t) (read-node-at t) read-node.Post
+read-node-returns-6 t c = no (node-children _ _ _ _ _ _ _ _ (c .before .before .before .before .before .before .before .before .before .before .before .before .before .before .before .before .before .before .before .before .before .before .before .before .before .before .before .before .before .before .if1 .left) (c .before .before .before .before .before .before .before .before .before .before .before .before .before .before .before .before .before .before .before .before .before .before .before .before .before .before .before .if2 .left) (omega (arith, c .before .before .before .before .before .before .before .before .before .before .before .before .before .before .before .before .before .before .before .before .before .before .before .before .before .before .before .before .before .before .before .before .before .before .before .before .pre)) _ _ _ (front-done (c .before .before .before .before .before .before .before .before .before .before .before .before .before .before .before .before .before .before .before .before .before .before .before .before .before .read-front .ensures _) (c .before .before .before .before .before .before .before .before .before .before .before .before .before .before .before .before .before .before .before .before .before .w .given .1)) _ (c .before .before .before .before .before .before .before .before .before .before .before .before .before .before .before .put-node .ensures) (c .before .before .before .before .before .before .before .before .before .before .before .before .of .ensures) (c .before .before .before .before .before .before .before .before .before .before .if3 .left) (stopped (c .before .before .before .before .before .before .before .read-children .ensures) (c .before .n2 .given .1)))
+
+-- src/lib.rt:109:1
+read-node-same-length-8 : (t : ℕ) → read-node-lts.Need-same-length-8 (node-calls t) (read-node-at t) read-node.Post
+read-node-same-length-8 t c = c .before .before .before .before .before .before .before .before .before .before .before .read-children .kept .1 .1 .1 .0 ∙ c .before .before .before .before .before .before .before .before .before .before .before .before .before .before .before .before .before .before .before .put-node .kept .0
+
+-- src/lib.rt:109:1
+read-node-same-length-9 : (t : ℕ) → read-node-lts.Need-same-length-9 (node-calls t) (read-node-at t) read-node.Post
+read-node-same-length-9 t c = c .before .before .before .before .before .before .before .before .before .before .before .read-children .kept .1 .1 .1 .1 .0 ∙ c .before .before .before .before .before .before .before .before .before .before .before .before .before .before .before .before .before .before .before .before .before .before .before .before .before .before .before .before .before .read-front .kept .1 .1 .1 .0
+
+-- src/lib.rt:109:1
+read-node-returns-7 : (t : ℕ) → read-node-lts.Need-returns-7 (node-calls t) (read-node-at t) read-node.Post
+read-node-returns-7 t c = yes (node-all _ _ _ _ _ _ _ _ (c .before .before .before .before .before .before .before .before .before .before .before .before .before .before .before .before .before .before .before .before .before .before .before .before .before .before .before .before .before .before .before .before .before .before .if1 .left) (c .before .before .before .before .before .before .before .before .before .before .before .before .before .before .before .before .before .before .before .before .before .before .before .before .before .before .before .before .before .before .before .if2 .left) (omega (arith, c .before .before .before .before .before .before .before .before .before .before .before .before .before .before .before .before .before .before .before .before .before .before .before .before .before .before .before .before .before .before .before .before .before .before .before .before .before .before .before .before .pre)) _ _ _ (front-done (c .before .before .before .before .before .before .before .before .before .before .before .before .before .before .before .before .before .before .before .before .before .before .before .before .before .before .before .before .before .read-front .ensures _) (c .before .before .before .before .before .before .before .before .before .before .before .before .before .before .before .before .before .before .before .before .before .before .before .before .before .w .given .1)) _ (c .before .before .before .before .before .before .before .before .before .before .before .before .before .before .before .before .before .before .before .put-node .ensures) (c .before .before .before .before .before .before .before .before .before .before .before .before .before .before .before .before .of .ensures) (c .before .before .before .before .before .before .before .before .before .before .before .before .before .before .if3 .left) (done (c .before .before .before .before .before .before .before .before .before .before .before .read-children .ensures) (c .before .before .before .before .before .m2 .given .1)) (c .if4 .left)) (fitting (c .before .before .before .before .before .before .before .before .before .before .before .read-children .ensures) (c .before .before .before .before .before .m2 .given .1))
+
+pub +read-children+read-node-spec : {M : Type 1} → statement M
++read-children+read-node-spec = close μ-read-children μ-read-node (λ t. read-children-lts.spec (children-calls t)
+    (read-children-at t)
+    read-children.Post
+    (read-children-returns t)
+    (read-children-read-node-requires t)
+    (read-children-enum-known-n t)
+    (read-children-enum-known-m t)
+    (read-children-sub-read-children t)
+    (read-children-read-children-requires t)
+    (read-children-same-length t)
+    (read-children-same-length-2 t)
+    (read-children-returns-2 t)
+    (read-children-same-length-3 t)
+    (read-children-same-length-4 t)
+    (read-children-returns-3 t))
+    λ t. read-node-lts.spec (
+      read-front-reads.Asked,
+      read-front-reads.Learnt,
+      put-node-reads.Asked,
+      put-node-reads.Learnt,
+      of-reads.Asked,
+      of-reads.Learnt,
+      read-contents-reads.Asked,
+      read-contents-reads.Learnt,
+      read-children-below t,
+      read-children.Post,
+    )
+    (read-node-at t)
+    read-node.Post
+    (read-node-returns t)
+    (read-node-returns-2 t)
+    (read-node-sub-read-front t)
+    (read-node-read-front-requires t)
+    (read-node-enum-known-n t)
+    (read-node-enum-known-w t)
+    (read-node-add-read-children t)
+    (read-node-put-node-requires t)
+    (read-node-of-requires t)
+    (read-node-read-contents-requires t)
+    (read-node-same-length t)
+    (read-node-same-length-2 t)
+    (read-node-returns-3 t)
+    (read-node-sub-read-children t)
+    (read-node-read-children-requires t)
+    (read-node-enum-known-n-2 t)
+    (read-node-enum-known-m t)
+    (read-node-same-length-3 t)
+    (read-node-same-length-4 t)
+    (read-node-returns-4 t)
+    (read-node-same-length-5 t)
+    (read-node-returns-5 t)
+    (read-node-same-length-6 t)
+    (read-node-same-length-7 t)
+    (read-node-returns-6 t)
+    (read-node-same-length-8 t)
+    (read-node-same-length-9 t)
+    (read-node-returns-7 t)

@@ -1,0 +1,6 @@
+pub mod Zeros
+pub mod Ends
+pub mod Nodes
+pub mod Targets
+pub mod Filled
+pub mod Whole

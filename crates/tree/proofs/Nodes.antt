@@ -1,0 +1,137 @@
+-- The ways through a node, and through nodes one after the other.
+-- Assumes nothing.
+use mathlib.Core.Path.{_≡_, refl, sym, ap, _∙_, subst}
+use mathlib.Core.List.{List, [], _∷_}
+use Prim.Native.Nat.{ℕ, zero, suc, _+_, _-_, _*_, _≤_, _<_}
+use native.Mathlib.Nat.{add-zero}
+use native.Mathlib.Omega.{arith}
+use borrow.Author.Tests.{lt-ltb, le-ltb, le-leb, lt-leb, eq-eqb, ne-eqb}
+use lib.Dec.{eqb}
+use lib.ListN.{length}
+use lib.Seq.{sets}
+use Rattle.cursor.specs.Machine.{Out, ok, refused, run, exec, if_then_else_, times}
+use Rattle.cursor.specs.Rows.{P, nodeRow}
+use Rattle.cursor.specs.declared.Cursor.{Cursor}
+use Rattle.cursor.specs.declared.FilePlace.{FilePlace}
+use Rattle.cursor.proofs.Laws.{executing, andThen, ran, exec-times, exec-timed}
+use Rattle.cursor.proofs.Wp.{at-end}
+use Rattle.metadata.specs.Tables.{State, state, put, nodeWords, plusNode}
+use Rattle.metadata.specs.Metadata.{Context}
+use Rattle.metadata.specs.Told.{Gives}
+use Rattle.metadata.specs.declared.Limits.{Limits}
+use Rattle.metadata.specs.declared.Made.{Made}
+use Rattle.metadata.specs.declared.Walked.{Walked}
+use Rattle.metadata.specs.declared.Walked.the-variants.{Done, Refused}
+use Rattle.metadata.proofs.Gives.{done, stopped, fitting, no, yes}
+use Rattle.node.specs.Node.{front}
+use Rattle.node.specs.declared.Front.{Front}
+use Rattle.node.proofs.Ends.{FrontIn, front-inside}
+use Rattle.tree.specs.Tree.{contents, folder, node, tree}
+use Rattle.tree.proofs.Ends.{node-on}
+
+-- ---- contents
+
+module _ (reference end : ℕ) (m : Made) (s : List ℕ) (at : ℕ) (σ : State) (l : at ≤ end) where
+  pub contents-inline : reference ≡ 1 → ok (m, σ) end ≡ exec put (contents reference end m) s at σ
+  unfolding contents
+  contents-inline e = let k : at + (end - at) ≡ end = omega arith in simp (executing, eq-eqb _ _ e, k)
+
+  pub contents-left : ((reference ≡ 1) → ⊥) → at < end → refused 15 at ≡ exec put (contents reference end m) s at σ
+  unfolding contents
+  contents-left n h = simp (executing, ne-eqb _ _ n, lt-leb _ _ h)
+
+  pub contents-none : ((reference ≡ 1) → ⊥) → end ≤ at → ok (m, σ) end ≡ exec put (contents reference end m) s at σ
+  unfolding contents
+  contents-none n h = let k : at + (end - at) ≡ end = omega arith in simp (executing, ne-eqb _ _ n, le-leb _ _ h, k)
+
+-- ---- a node
+
+module _ (x : Context) (parent least end : ℕ) (m : Made) (s : List ℕ) (at : ℕ) where
+  pub node-none : (levels : ℕ) (σ : State) → levels ≡ 0 → refused 9 at ≡ exec put (node levels x parent least end m) s at σ
+  unfolding node
+  node-none levels σ z = rw z (simp executing)
+
+  pub node-limit : (levels : ℕ) (σ : State) → ((levels ≡ 0) → ⊥) → x .limits .nodes ≤ m .nodes → refused 10 at ≡ exec put (node levels x parent least end m) s at σ
+  unfolding node
+  node-limit zero σ some l = absurd (some refl)
+  node-limit (suc d) σ some l = simp (executing, le-ltb _ _ l)
+
+  pub node-front : (levels : ℕ) (σ : State) → ((levels ≡ 0) → ⊥) → m .nodes < x .limits .nodes → {n p : ℕ} → exec put (front x parent (17 - levels) least end m) s at σ ≡ refused n p
+      → refused n p ≡ exec put (node levels x parent least end m) s at σ
+  unfolding node
+  node-front zero σ some l e = absurd (some refl)
+  node-front (suc d) σ some l e = let b : 17 - suc d ≡ 16 - d = omega arith in let e′ = rw b at e in simp (executing, lt-ltb _ _ l, e′)
+
+  -- past its front, with its row made
+  node-in : (levels : ℕ) (σ : State) → ((levels ≡ 0) → ⊥) → m .nodes < x .limits .nodes → {w : Front} {τ : State} {p : ℕ} → exec put (front x parent (17 - levels) least end m) s at σ ≡ ok (w, τ) p
+      → exec put (node levels x parent least end m) s at σ
+      ≡ exec put (if eqb (w .row .held) 0 then contents (w .row .reference) (at + w .row .size) (plusNode (w .made)) else folder (at + w .row .size) (times (w .row .held) (node (levels - 1) x (m .nodes) 0 (at + w .row .size)) (plusNode (w .made))))
+      s p (put (nodeRow (w .row)) p 0 τ)
+  unfolding node
+  node-in zero σ some l e = absurd (some refl)
+  node-in (suc d) σ some l e =
+      let a : suc d - 1 ≡ d = omega arith in
+      let b : 17 - suc d ≡ 16 - d = omega arith in
+      let e′ = rw b at e in
+      simp (executing, lt-ltb _ _ l, e′, a, add-zero)
+
+  module _ (levels : ℕ) (some : (levels ≡ 0) → ⊥) (l : m .nodes < x .limits .nodes) (i : end ≤ x .size) (t u u′ : List ℕ) {w : Front} {p : ℕ}
+      (e : exec put (front x parent (17 - levels) least end m) s at (state t u m) ≡ ok (w, state t u′ (w .made)) p)
+      (t′ : List ℕ) (row : t′ ≡ sets t (m .nodes * 12) (nodeWords (w .row))) {stop : ℕ} (is : stop ≡ at + w .row .size) where
+    row-is : sets t (w .made .nodes * 12) (nodeWords (w .row)) ≡ t′
+    row-is = ap (λ k. sets t (k * 12) (nodeWords (w .row))) (front-inside x parent (17 - levels) least end m s at (state t u m) i e .nodes) ∙ sym row
+
+    pub node-file : w .row .held ≡ 0 → {r : Walked} → Gives (x .limits) r t′ u′ (exec put (contents (w .row .reference) stop (plusNode (w .made))) s p (state t′ u′ (plusNode (w .made))))
+        → Gives (x .limits) r t′ u′ (exec put (node levels x parent least end m) s at (state t u m))
+    node-file z {r} g =
+        let y : exec put (node levels x parent least end m) s at (state t u m) ≡ exec put (contents (w .row .reference) stop (plusNode (w .made))) s p (state t′ u′ (plusNode (w .made))) =
+        rw is (node-in levels (state t u m) some l e ∙ simp (eq-eqb _ _ z, executing, row-is)) in
+        rw y g
+
+    module _ (some-held : (w .row .held ≡ 0) → ⊥) where
+      node-folder : exec put (node levels x parent least end m) s at (state t u m)
+          ≡ exec put (folder stop (times (w .row .held) (node (levels - 1) x (m .nodes) 0 stop) (plusNode (w .made)))) s p (state t′ u′ (plusNode (w .made)))
+      node-folder = rw is (node-in levels (state t u m) some l e ∙ simp (ne-eqb _ _ some-held, executing, row-is))
+
+      pub node-children : {n q : ℕ} → exec put (times (w .row .held) (node (levels - 1) x (m .nodes) 0 stop) (plusNode (w .made))) s p (state t′ u′ (plusNode (w .made))) ≡ refused n q
+          → refused n q ≡ exec put (node levels x parent least end m) s at (state t u m)
+      unfolding folder
+      node-children h = sym (node-folder ∙ simp (executing, h))
+
+      pub node-left : {m′ : Made} {σ : State} {q : ℕ} → exec put (times (w .row .held) (node (levels - 1) x (m .nodes) 0 stop) (plusNode (w .made))) s p (state t′ u′ (plusNode (w .made))) ≡ ok (m′, σ) q
+          → q < stop → refused 15 q ≡ exec put (node levels x parent least end m) s at (state t u m)
+      unfolding folder
+      node-left h k = sym (node-folder ∙ simp (executing, h, lt-leb _ _ k))
+
+      pub node-all : {m′ : Made} {σ : State} {q : ℕ} → exec put (times (w .row .held) (node (levels - 1) x (m .nodes) 0 stop) (plusNode (w .made))) s p (state t′ u′ (plusNode (w .made))) ≡ ok (m′, σ) q
+          → stop ≤ q → ok (m′, σ) q ≡ exec put (node levels x parent least end m) s at (state t u m)
+      unfolding folder
+      node-all h k = sym (node-folder ∙ simp (executing, h, le-leb _ _ k))
+
+-- ---- nodes one after the other
+
+module _ (levels : ℕ) (x : Context) (parent end : ℕ) (s : List ℕ) (at : ℕ) (m : Made) (t u : List ℕ) where
+  pub children-none : (left : ℕ) → left ≡ 0 → ok (m, state t u m) at ≡ exec put (times left (node levels x parent 0 end) m) s at (state t u m)
+  children-none left z = sym (exec-timed put s left at _ m (state t u m) z)
+
+  module _ (left : ℕ) (some : (left ≡ 0) → ⊥) {r : Walked} {t′ u′ : List ℕ} (g : Gives (x .limits) r t′ u′ (exec put (node levels x parent 0 end m) s at (state t u m))) where
+    pub children-no : {n : ℕ} {p : FilePlace} → r ≡ Refused n p → refused n (p .0) ≡ exec put (times left (node levels x parent 0 end) m) s at (state t u m)
+    children-no h = sym (exec-times put s left at (node levels x parent 0 end) m (state t u m) some ∙ rw (stopped g h) refl)
+
+    pub children-on : end ≤ x .size → {m′ : Made} {c : Cursor} → r ≡ Done m′ c → (at < c .at .0) × (c .at .0 ≤ end)
+    children-on i h = let w = at-end s (node-on end levels x parent 0 m end at (omega arith) i) (ran put _ s at (state t u m) (done g h)) in (w .0, w .1)
+
+    pub children-more : {m′ : Made} {c : Cursor} → r ≡ Done m′ c → {r′ : Walked} {t″ u″ : List ℕ}
+        → Gives (x .limits) r′ t″ u″ (exec put (times (left - 1) (node levels x parent 0 end) m′) s (c .at .0) (state t′ u′ m′))
+        → Gives (x .limits) r′ t″ u″ (exec put (times left (node levels x parent 0 end) m) s at (state t u m))
+    children-more {m′} {c} h k =
+        let y : exec put (times left (node levels x parent 0 end) m) s at (state t u m) ≡ exec put (times (left - 1) (node levels x parent 0 end) m′) s (c .at .0) (state t′ u′ m′) =
+        exec-times put s left at (node levels x parent 0 end) m (state t u m) some ∙ rw (done g h) refl in
+        rw y k
+
+-- ---- the root
+
+pub root-is : {lim : Limits} {r : Walked} {t u : List ℕ} (x : Context) (end : ℕ) (s : List ℕ) (at : ℕ) (σ : State)
+    → Gives lim r t u (exec put (node 16 x 0 end end (record { nodes = 0; items = 0 })) s at σ) → Gives lim r t u (exec put (tree x end) s at σ)
+unfolding tree
+root-is x end s at σ g = g

@@ -1,0 +1,398 @@
+// Reads the tree of a file into two lent tables, one of node rows and one of item rows.
+ghost use mathlib.Core.Path.{_≡_};
+ghost use mathlib.Core.List.{List, _∷_, []};
+ghost use Prim.Native.Nat.{ℕ, _≤_, _<_, _^_, _*_, _+_, min};
+ghost use lib.ListN.{length, replicate, drop};
+ghost use lib.Seq.{sets};
+ghost use Rattle.cursor.specs.Machine.{exec, times};
+ghost use Rattle.cursor.specs.declared.Node.{Node};
+ghost use Rattle.header.specs.Told.{headerOf};
+ghost use Rattle.metadata.specs.Tables.{nodeWidth, nodeWords, limits, put, state};
+ghost use Rattle.metadata.specs.Told.{contextOf, Gives};
+ghost use Rattle.tree.specs.Tree.{contents, node, tree};
+ghost use Rattle.tree.specs.Reading.{context, startsAt, lost, offsetAt, targets, Reading, readFile, readOf, answerOf, nodeTable, itemTable};
+ghost use Rattle.tree.specs.Told.{Stands, judge};
+use cursor::Cursor;
+use cursor::FilePlace;
+use cursor::Node;
+use cursor::NodePlace;
+use cursor::Numbered;
+use header::Edition;
+use header::Headed;
+use header::Header;
+use metadata::Limits;
+use metadata::Made;
+use metadata::Scope;
+use metadata::Walked;
+use node::Fronted;
+
+pub enum Checked {
+    Good,
+    Refused(u64, FilePlace),
+}
+
+// What is kept of an accepted file besides its rows.
+pub struct Summary {
+    pub version: u64,
+    pub edition: Edition,
+    pub nodes: usize,
+    pub items: usize,
+}
+
+pub enum Read {
+    Is(Summary),
+    Refused(u64, FilePlace),
+}
+
+// The first question's answer: version (100, 101, 200), number of node rows, number of item rows; or the refusal's number and place.
+pub enum Answer {
+    Tree(u64, usize, usize),
+    Refused(u64, usize),
+}
+
+// Sets every word of the table to 0.
+pub fn clear(table: &mut [u64])
+    ensures { λ _. ⌜ now (table .exit) ≡ replicate (length (now (table .entry))) 0 ⌝ }
+{
+    let mut i: usize = 0;
+    while i < table.len() {
+        table[i] = 0;
+        i = i + 1;
+    }
+}
+
+// Sets every word of both tables to 0.
+pub fn clear_all(nodes: &mut [u64], items: &mut [u64])
+    ensures nodes { λ _. ⌜ now (nodes .exit) ≡ replicate (length (now (nodes .entry))) 0 ⌝ }
+    ensures items { λ _. ⌜ now (items .exit) ≡ replicate (length (now (items .entry))) 0 ⌝ }
+{
+    clear(nodes);
+    clear(items);
+}
+
+// Stores a node row behind the `made` rows that are there.
+fn put_node(nodes: &mut [u64], made: usize, row: Node)
+    requires { ⌜ made * 12 + 12 ≤ length (now nodes) ⌝ }
+    ensures { λ _. ⌜ now (nodes .exit) ≡ sets (now (nodes .entry)) (made * nodeWidth) (nodeWords row) ⌝ }
+{
+    let words = [
+        row.start,
+        row.size,
+        row.header,
+        row.held,
+        row.parent,
+        row.depth,
+        row.reference,
+        row.target,
+        row.extent,
+        row.unpackers,
+        row.layers,
+        row.rows,
+    ];
+    metadata::store(nodes, made * 12, &words);
+}
+
+// What a file node holds, up to its end.
+fn read_contents(c: Cursor, reference: u64, end: FilePlace, lim: Limits, made: Made) -> Walked
+    requires { ⌜ (c .at .0 ≤ end .0) × (made .nodes ≤ lim .nodes) × (made .items ≤ lim .items) ⌝ }
+    ensures { λ r. ⌜ ((s t u : List ℕ) → Gives lim r t u (exec put (contents reference (end .0) made) s (c .at .0) (state t u made))) ⌝ }
+{
+    let place = c.at;
+    if reference == 1 {
+        return Walked::Done(made, Cursor { at: end });
+    }
+    if place.0 < end.0 {
+        return Walked::Refused(cursor::BYTES_LEFT, place);
+    }
+    Walked::Done(made, Cursor { at: end })
+}
+
+// The node at c and all that it holds. It ends at or before `end`, and not before `least`.
+fn read_node(
+    c: Cursor,
+    file: &[u8],
+    types: &[u64],
+    nodes: &mut [u64],
+    items: &mut [u64],
+    scope: Scope,
+    levels: usize,
+    parent: usize,
+    least: FilePlace,
+    end: FilePlace,
+    made: Made,
+) -> Walked
+    requires { ⌜ (end .0 ≤ length (now file)) × (length (now file) < 2 ^ 28) × (scope .types * 2 ≤ length (now types)) × (scope .limits .nodes * 12 ≤ length (now nodes)) × (scope .limits .items * 10 ≤ length (now items)) × (made .nodes ≤ scope .limits .nodes) × (made .items ≤ scope .limits .items) × (levels ≤ 16) ⌝ }
+    ensures { λ r. ⌜ Gives (scope .limits) r (now (nodes .exit)) (now (items .exit)) (exec put (node levels (contextOf scope (now (types .entry)) (length (now (file .entry)))) parent (least .0) (end .0) made) (now (file .entry)) (c .at .0) (state (now (nodes .entry)) (now (items .entry)) made)) ⌝ }
+{
+    let start = c.at;
+    if levels == 0 {
+        return Walked::Refused(cursor::TOO_DEEP, start);
+    }
+    let lim = scope.limits;
+    let index = made.nodes;
+    if lim.nodes <= index {
+        return Walked::Refused(cursor::NO_ROW_LEFT, start);
+    }
+    match node::read_front(
+        c,
+        file,
+        types,
+        items,
+        scope,
+        parent,
+        17 - levels,
+        least,
+        end,
+        made,
+    ) {
+        Fronted::Refused(n, p) => Walked::Refused(n, p),
+        Fronted::Is(w, d) => {
+            let row = w.row;
+            let m = w.made;
+            let now = Made {
+                nodes: m.nodes + 1,
+                items: m.items,
+            };
+            put_node(nodes, index, row);
+            let stop = start.of(NodePlace(row.size as usize));
+            if row.held == 0 {
+                return read_contents(d, row.reference, stop, lim, now);
+            }
+            match read_children(
+                d,
+                file,
+                types,
+                nodes,
+                items,
+                scope,
+                levels - 1,
+                index,
+                stop,
+                row.held,
+                now,
+            ) {
+                Walked::Refused(n, p) => Walked::Refused(n, p),
+                Walked::Done(m, e) => {
+                    let after = e.at;
+                    if after.0 < stop.0 {
+                        return Walked::Refused(cursor::BYTES_LEFT, after);
+                    }
+                    Walked::Done(m, e)
+                }
+            }
+        }
+    }
+}
+
+// `left` nodes, one after the other.
+fn read_children(
+    c: Cursor,
+    file: &[u8],
+    types: &[u64],
+    nodes: &mut [u64],
+    items: &mut [u64],
+    scope: Scope,
+    levels: usize,
+    parent: usize,
+    end: FilePlace,
+    left: u64,
+    made: Made,
+) -> Walked
+    requires { ⌜ (end .0 ≤ length (now file)) × (length (now file) < 2 ^ 28) × (scope .types * 2 ≤ length (now types)) × (scope .limits .nodes * 12 ≤ length (now nodes)) × (scope .limits .items * 10 ≤ length (now items)) × (made .nodes ≤ scope .limits .nodes) × (made .items ≤ scope .limits .items) × (levels ≤ 16) ⌝ }
+    ensures { λ r. ⌜ Gives (scope .limits) r (now (nodes .exit)) (now (items .exit)) (exec put (times left (node levels (contextOf scope (now (types .entry)) (length (now (file .entry)))) parent 0 (end .0)) made) (now (file .entry)) (c .at .0) (state (now (nodes .entry)) (now (items .entry)) made)) ⌝ }
+{
+    if left == 0 {
+        return Walked::Done(made, c);
+    }
+    match read_node(
+        c,
+        file,
+        types,
+        nodes,
+        items,
+        scope,
+        levels,
+        parent,
+        FilePlace(0),
+        end,
+        made,
+    ) {
+        Walked::Refused(n, p) => Walked::Refused(n, p),
+        Walked::Done(m, d) => read_children(
+            d,
+            file,
+            types,
+            nodes,
+            items,
+            scope,
+            levels,
+            parent,
+            end,
+            left - 1,
+            m,
+        ),
+    }
+}
+
+fn least(a: usize, b: usize) -> usize
+    ensures { λ r. ⌜ r ≡ min a b ⌝ }
+{
+    if a <= b { a } else { b }
+}
+
+// The rows that tables of so many words hold.
+fn room_of(nodes: usize, items: usize) -> Limits
+    ensures { λ r. ⌜ r ≡ limits nodes items ⌝ }
+{
+    let n = least(256, nodes / 12);
+    let i = least(1024, items / 10);
+    Limits { nodes: n, items: i }
+}
+
+// The tree of a file whose header is h, into tables with room for so many rows.
+fn read_root(
+    file: &[u8],
+    types: &[u64],
+    nodes: &mut [u64],
+    items: &mut [u64],
+    h: Header,
+    lim: Limits,
+) -> Walked
+    requires { ⌜ (h .extent .last .0 < length (now file)) × (length (now file) < 2 ^ 28) × (h .types * 2 ≤ length (now types)) × (lim .nodes * 12 ≤ length (now nodes)) × (lim .items * 10 ≤ length (now items)) ⌝ }
+    ensures { λ r. ⌜ Gives lim r (now (nodes .exit)) (now (items .exit)) (exec put (tree (context lim (headerOf h (now (types .entry))) (length (now (file .entry)))) (h .extent .last .0 + 1)) (now (file .entry)) (h .extent .start .0) (state (now (nodes .entry)) (now (items .entry)) (record { nodes = 0; items = 0 }))) ⌝ }
+{
+    let extent = h.extent;
+    let start = extent.start;
+    let last = extent.last;
+    let first = extent.end;
+    let scope = Scope {
+        limits: lim,
+        types: h.types,
+        first,
+    };
+    let none = Made { nodes: 0, items: 0 };
+    let end = FilePlace(last.0 + 1);
+    read_node(
+        Cursor { at: start },
+        file,
+        types,
+        nodes,
+        items,
+        scope,
+        16,
+        0,
+        end,
+        end,
+        none,
+    )
+}
+
+// Whether a node of the table starts at the place.
+fn starts_at(nodes: &[u64], count: usize, place: u64) -> bool
+    requires { ⌜ count * 12 ≤ length (now nodes) ⌝ }
+    ensures { λ r. ⌜ ((ns : List Node) (size : ℕ) → Stands ns count size (now (nodes .entry)) → r ≡ startsAt ns place) ⌝ }
+{
+    let mut i = 0;
+    while i < count {
+        if nodes[i * 12] == place {
+            return true;
+        }
+        i = i + 1;
+    }
+    false
+}
+
+// Whether row i refers to no node.
+fn is_lost(nodes: &[u64], count: usize, i: usize) -> bool
+    requires { ⌜ (count * 12 ≤ length (now nodes)) × (i < count) ⌝ }
+    ensures { λ r. ⌜ ((ns : List Node) (size : ℕ) → Stands ns count size (now (nodes .entry)) → (n : Node) (rest : List Node) → drop i ns ≡ n ∷ rest → r ≡ lost ns n) ⌝ }
+{
+    let k = i * 12;
+    if nodes[k + 6] != 3 {
+        return false;
+    }
+    let to = nodes[k + 7];
+    if starts_at(nodes, count, to) {
+        return false;
+    }
+    true
+}
+
+// The place of row i's offset, found again from its header.
+fn offset_at(file: &[u8], nodes: &[u64], count: usize, i: usize) -> FilePlace
+    requires { ⌜ ((ns : List Node) × Stands ns count (length (now file)) (now nodes)) × (count * 12 ≤ length (now nodes)) × (i < count) × (length (now file) < 2 ^ 28) ⌝ }
+    ensures { λ r. ⌜ ((ns : List Node) → Stands ns count (length (now (file .entry))) (now (nodes .entry)) → (n : Node) (rest : List Node) → drop i ns ≡ n ∷ rest → r .0 ≡ offsetAt (now (file .entry)) n) ⌝ }
+{
+    let k = i * 12;
+    let start = FilePlace(nodes[k] as usize);
+    let at = start.of(NodePlace(nodes[k + 2] as usize));
+    match (Cursor { at }).number(file, FilePlace(file.len()), cursor::CUT_SHORT) {
+        Numbered::Refused(_, place) => place,
+        Numbered::Is(_, next) => next.at,
+    }
+}
+
+// Checks that each reference 3 leads to a node, in row order.
+fn check_targets(file: &[u8], nodes: &[u64], count: usize) -> Checked
+    requires { ⌜ ((ns : List Node) × Stands ns count (length (now file)) (now nodes)) × (count * 12 ≤ length (now nodes)) × (length (now file) < 2 ^ 28) ⌝ }
+    ensures { λ r. ⌜ ((ns : List Node) → Stands ns count (length (now (file .entry))) (now (nodes .entry)) → (o : Reading) → judge r o ≡ targets (now (file .entry)) ns ns o) ⌝ }
+{
+    let mut i = 0;
+    while i < count {
+        if is_lost(nodes, count, i) {
+            return Checked::Refused(cursor::BAD_TARGET, offset_at(file, nodes, count, i));
+        }
+        i = i + 1;
+    }
+    Checked::Good
+}
+
+// Reads a file into the two tables: the start of every question.
+pub fn read_file(file: &[u8], nodes: &mut [u64], items: &mut [u64]) -> Read
+    ensures answer { λ r. ⌜ r ≡ readOf (readFile (limits (length (now (nodes .entry))) (length (now (items .entry)))) (now (file .entry))) ⌝ }
+    ensures nodes { λ _. ⌜ now (nodes .exit) ≡ nodeTable (length (now (nodes .entry))) (readFile (limits (length (now (nodes .entry))) (length (now (items .entry)))) (now (file .entry))) ⌝ }
+    ensures items { λ _. ⌜ now (items .exit) ≡ itemTable (length (now (items .entry))) (readFile (limits (length (now (nodes .entry))) (length (now (items .entry)))) (now (file .entry))) ⌝ }
+{
+    clear_all(nodes, items);
+    let mut types = [0u64; 64];
+    match header::read_header(file, &mut types) {
+        Headed::Refused(n, p) => Read::Refused(n, p),
+        Headed::Is(h) => {
+            let lim = room_of(nodes.len(), items.len());
+            match read_root(file, &types, nodes, items, h, lim) {
+                Walked::Refused(n, p) => {
+                    clear_all(nodes, items);
+                    Read::Refused(n, p)
+                }
+                Walked::Done(m, _) => match check_targets(file, nodes, m.nodes) {
+                    Checked::Refused(n, p) => {
+                        clear_all(nodes, items);
+                        Read::Refused(n, p)
+                    }
+                    Checked::Good => {
+                        let edition = h.edition;
+                        let is = Summary {
+                            version: h.version,
+                            edition,
+                            nodes: m.nodes,
+                            items: m.items,
+                        };
+                        Read::Is(is)
+                    }
+                },
+            }
+        }
+    }
+}
+
+// The first question: reads the tree into the two tables.
+pub fn read_tree(file: &[u8], nodes: &mut [u64], items: &mut [u64]) -> Answer
+    ensures answer { λ r. ⌜ r ≡ answerOf (readFile (limits (length (now (nodes .entry))) (length (now (items .entry)))) (now (file .entry))) ⌝ }
+    ensures nodes { λ _. ⌜ now (nodes .exit) ≡ nodeTable (length (now (nodes .entry))) (readFile (limits (length (now (nodes .entry))) (length (now (items .entry)))) (now (file .entry))) ⌝ }
+    ensures items { λ _. ⌜ now (items .exit) ≡ itemTable (length (now (items .entry))) (readFile (limits (length (now (nodes .entry))) (length (now (items .entry)))) (now (file .entry))) ⌝ }
+{
+    match read_file(file, nodes, items) {
+        Read::Refused(n, p) => Answer::Refused(n, p.0),
+        Read::Is(s) => Answer::Tree(s.version, s.nodes, s.items),
+    }
+}
