@@ -4,3 +4,4 @@ pub mod Nodes
 pub mod Targets
 pub mod Filled
 pub mod Whole
+pub mod Rows

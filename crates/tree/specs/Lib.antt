@@ -1,3 +1,5 @@
 pub mod Tree
 pub mod Reading
+pub mod Rows
+pub mod Asking
 pub mod Told

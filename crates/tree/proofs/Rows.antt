@@ -1,0 +1,286 @@
+-- Rows that stand in a table are read back as they are; and what a question knows of the tables after a file was read.
+-- Assumes nothing.
+use mathlib.Core.Path.{_≡_, refl, sym, ap, ap₂, _∙_}
+use mathlib.Core.Bool.{Bool, true, false}
+use mathlib.Core.Logic.{_⊎_, inl, inr}
+use mathlib.Core.List.{List, [], _∷_, _++_}
+use Prim.Native.Nat.{ℕ, zero, suc, _+_, _*_, _-_, _^_, _≤_, _<_}
+use native.Mathlib.Omega.{arith}
+use lib.ListN.{length, getD, replicate, length-append, length-replicate}
+use Rattle.cursor.specs.Machine.{Out, ok, refused, Event, seen, passed, run, trace, rowsOf}
+use Rattle.cursor.specs.Rows.{Part, nodeRow, itemRow, plain, Events}
+use Rattle.cursor.specs.declared.FilePlace.{FilePlace}
+use Rattle.cursor.specs.declared.Node.{Node}
+use Rattle.cursor.specs.declared.Item.{Item}
+use Rattle.cursor.proofs.Wp.{All, at-end}
+use Rattle.header.specs.Header.{Header, header}
+use Rattle.header.proofs.Ends.{header-on}
+use Rattle.metadata.specs.Tables.{nodeWords, itemWords, limits}
+use Rattle.metadata.specs.declared.Limits.{Limits}
+use Rattle.metadata.specs.declared.Made.{Made}
+use Rattle.metadata.proofs.Ends.{Inside}
+use Rattle.tree.specs.Tree.{tree}
+use Rattle.tree.specs.Reading.{nodesOf, itemsOf, allNodes, allItems, Reading, rows, refusal, startsAt, lost, offsetAt, checked, targets, reading, context, readTree, readFile, readOf, summary, padded, nodeTable, itemTable}
+use Rattle.tree.specs.Rows.{nodeFrom, itemFrom, nodesFrom, itemsFrom, nodesIn, itemsIn, noNode, noItem, nodeAt, itemAt}
+use Rattle.tree.specs.Asking.{Result, good, bad, ask, keptNodes, keptItems}
+use Rattle.tree.specs.declared.Summary.{Summary}
+use Rattle.tree.specs.declared.Read.{Read}
+use Rattle.tree.specs.declared.Read.the-variants as read
+use Rattle.tree.proofs.Ends.{tree-inside}
+use Rattle.tree.proofs.Filled.{nodes-length, items-length}
+
+-- ---- row i of the words
+
+module _ (ws : List ℕ) where
+  from-nodes : (i n j : ℕ) → j < n → getD (nodesFrom i n ws) j noNode ≡ nodeFrom ws ((i + j) * 12)
+  unfolding nodesFrom
+  from-nodes i zero j l = absurd (omega arith)
+  from-nodes i (suc n) zero l = let e : i + 0 ≡ i = omega arith in rw e
+  from-nodes i (suc n) (suc j) l = let e : i + 1 + j ≡ i + suc j = omega arith in from-nodes (i + 1) n j (omega arith) ∙ ap (λ k. nodeFrom ws (k * 12)) e
+
+  from-items : (i n j : ℕ) → j < n → getD (itemsFrom i n ws) j noItem ≡ itemFrom ws ((i + j) * 10)
+  unfolding itemsFrom
+  from-items i zero j l = absurd (omega arith)
+  from-items i (suc n) zero l = let e : i + 0 ≡ i = omega arith in rw e
+  from-items i (suc n) (suc j) l = let e : i + 1 + j ≡ i + suc j = omega arith in from-items (i + 1) n j (omega arith) ∙ ap (λ k. itemFrom ws (k * 10)) e
+
+  -- row i of the first n rows is the one whose words begin at row i
+  pub node-at : (n i : ℕ) → i < n → nodeAt (nodesIn n ws) i ≡ nodeFrom ws (i * 12)
+  unfolding nodesIn
+  node-at n i l = from-nodes 0 n i l ∙ ap (λ k. nodeFrom ws (k * 12)) (let e : 0 + i ≡ i = omega arith in e)
+
+  pub item-at : (n i : ℕ) → i < n → itemAt (itemsIn n ws) i ≡ itemFrom ws (i * 10)
+  unfolding itemsIn
+  item-at n i l = from-items 0 n i l ∙ ap (λ k. itemFrom ws (k * 10)) (let e : 0 + i ≡ i = omega arith in e)
+
+  nodes-count : (i n : ℕ) → length (nodesFrom i n ws) ≡ n
+  unfolding nodesFrom
+  nodes-count i zero = refl
+  nodes-count i (suc n) = ap suc (nodes-count (i + 1) n)
+
+  items-count : (i n : ℕ) → length (itemsFrom i n ws) ≡ n
+  unfolding itemsFrom
+  items-count i zero = refl
+  items-count i (suc n) = ap suc (items-count (i + 1) n)
+
+  pub nodes-in-length : (n : ℕ) → length (nodesIn n ws) ≡ n
+  unfolding nodesIn
+  nodes-in-length n = nodes-count 0 n
+
+  pub items-in-length : (n : ℕ) → length (itemsIn n ws) ≡ n
+  unfolding itemsIn
+  items-in-length n = items-count 0 n
+
+-- ---- rows that stand in words are read back
+
+-- the words after one row, read from the next row on
+next-node : (r : Node) (ws : List ℕ) (i : ℕ) → nodeFrom (nodeWords r ++ ws) (suc i * 12) ≡ nodeFrom ws (i * 12)
+next-node r ws i =
+    let e : (j : ℕ) → suc i * 12 + j ≡ suc (suc (suc (suc (suc (suc (suc (suc (suc (suc (suc (suc (i * 12 + j)))))))))))) = λ j. omega arith in
+    let e₀ : suc i * 12 ≡ suc (suc (suc (suc (suc (suc (suc (suc (suc (suc (suc (suc (i * 12)))))))))))) = omega arith in
+    rw (e 1, e 2, e 3, e 4, e 5, e 6, e 7, e 8, e 9, e 10, e 11, e₀)
+
+node-shift : (r : Node) (ws : List ℕ) (i n : ℕ) → nodesFrom (suc i) n (nodeWords r ++ ws) ≡ nodesFrom i n ws
+unfolding nodesFrom
+node-shift r ws i zero = refl
+node-shift r ws i (suc n) =
+    let b : suc i + 1 ≡ suc (i + 1) = omega arith in
+    ap₂ (λ (x : Node) (v : List Node). x ∷ v) (next-node r ws i) (ap (λ k. nodesFrom k n (nodeWords r ++ ws)) b ∙ node-shift r ws (i + 1) n)
+
+pub nodes-back : (ns : List Node) (rest : List ℕ) → nodesIn (length ns) (allNodes ns ++ rest) ≡ ns
+unfolding nodesIn nodesFrom
+nodes-back [] rest = refl
+nodes-back (r ∷ ns) rest = ap (λ v. r ∷ v) (node-shift r (allNodes ns ++ rest) 0 (length ns) ∙ nodes-back ns rest)
+
+next-item : (r : Item) (ws : List ℕ) (i : ℕ) → itemFrom (itemWords r ++ ws) (suc i * 10) ≡ itemFrom ws (i * 10)
+next-item r ws i =
+    let e : (j : ℕ) → suc i * 10 + j ≡ suc (suc (suc (suc (suc (suc (suc (suc (suc (suc (i * 10 + j)))))))))) = λ j. omega arith in
+    let e₀ : suc i * 10 ≡ suc (suc (suc (suc (suc (suc (suc (suc (suc (suc (i * 10)))))))))) = omega arith in
+    rw (e 1, e 2, e 3, e 4, e 5, e 6, e 7, e 8, e 9, e₀)
+
+item-shift : (r : Item) (ws : List ℕ) (i n : ℕ) → itemsFrom (suc i) n (itemWords r ++ ws) ≡ itemsFrom i n ws
+unfolding itemsFrom
+item-shift r ws i zero = refl
+item-shift r ws i (suc n) =
+    let b : suc i + 1 ≡ suc (i + 1) = omega arith in
+    ap₂ (λ (x : Item) (v : List Item). x ∷ v) (next-item r ws i) (ap (λ k. itemsFrom k n (itemWords r ++ ws)) b ∙ item-shift r ws (i + 1) n)
+
+pub items-back : (is : List Item) (rest : List ℕ) → itemsIn (length is) (allItems is ++ rest) ≡ is
+unfolding itemsIn itemsFrom
+items-back [] rest = refl
+items-back (r ∷ is) rest = ap (λ v. r ∷ v) (item-shift r (allItems is ++ rest) 0 (length is) ∙ items-back is rest)
+
+-- ---- what is known of the rows of an accepted file
+
+-- a node's places lie in a file of `size` bytes
+abbrev pub NodeIn : ℕ → Node → Type 0
+NodeIn size r = (r .header ≤ r .size) × (r .start + r .size ≤ size) × ((r .reference ≡ 3) ⊎ (r .target + r .extent ≤ size))
+
+-- an item's data and custom name lie in a file of `size` bytes
+abbrev pub ItemIn : ℕ → Item → Type 0
+ItemIn size r = (r .place + r .size ≤ size) × ((r .kind ≡ 0) ⊎ (r .field + r .named ≤ size))
+
+node-in : (es : Events) (end size : ℕ) → end ≤ size → All (Inside end size) es → (i : ℕ) → i < length (nodesOf es) → NodeIn size (nodeAt (nodesOf es) i)
+unfolding rowsOf
+node-in [] end size l a i h = absurd (omega arith)
+node-in (seen κ p ∷ es) end size l a i h = node-in es end size l a i h
+node-in (passed (nodeRow r) p n ∷ es) end size l a zero h = let b = a .0 .1 in (a .0 .0, omega arith, a .0 .2)
+node-in (passed (nodeRow r) p n ∷ es) end size l a (suc i) h = node-in es end size l (a .1) i (omega arith)
+node-in (passed (itemRow r) p n ∷ es) end size l a i h = node-in es end size l (a .1) i h
+node-in (passed (plain x) p n ∷ es) end size l a i h = node-in es end size l (a .1) i h
+
+named : {A : Type 0} (a b end size : ℕ) → end ≤ size → A ⊎ (a + b ≤ end) → A ⊎ (a + b ≤ size)
+named a b end size l (inl x) = inl x
+named a b end size l (inr x) = inr (omega arith)
+
+item-in : (es : Events) (end size : ℕ) → end ≤ size → All (Inside end size) es → (i : ℕ) → i < length (itemsOf es) → ItemIn size (itemAt (itemsOf es) i)
+unfolding rowsOf
+item-in [] end size l a i h = absurd (omega arith)
+item-in (seen κ p ∷ es) end size l a i h = item-in es end size l a i h
+item-in (passed (nodeRow r) p n ∷ es) end size l a i h = item-in es end size l (a .1) i h
+item-in (passed (itemRow r) p n ∷ es) end size l a zero h = let b = a .0 .0 in let c = a .0 .1 in let d = a .0 .2 in (omega arith, named (r .field) (r .named) end size l (a .0 .3))
+item-in (passed (itemRow r) p n ∷ es) end size l a (suc i) h = item-in es end size l (a .1) i (omega arith)
+item-in (passed (plain x) p n ∷ es) end size l a i h = item-in es end size l (a .1) i h
+
+pub record Accepted (f : List ℕ) (ns : List Node) (is : List Item) : Type 0 where
+  pub small : length f < 2 ^ 28
+  pub nodes-inside : (i : ℕ) → i < length ns → NodeIn (length f) (nodeAt ns i)
+  pub items-inside : (i : ℕ) → i < length is → ItemIn (length f) (itemAt is i)
+
+pub never : {n p : ℕ} {h : Header} {ns : List Node} {is : List Item} {B : Type 0} → refusal n p ≡ rows h ns is → B
+never e = let z : _≡_ {A = ℕ} 0 1 = cc in absurd (omega arith)
+
+-- the check of the targets lets the rows of an accepted file through as they are
+checked-through : (b : Bool) (p : ℕ) (v : Reading) {h : Header} {ns : List Node} {is : List Item} → checked b p v ≡ rows h ns is → v ≡ rows h ns is
+unfolding checked
+checked-through true p v e = never e
+checked-through false p v e = e
+
+targets-through : (f : List ℕ) (all rs : List Node) (o : Reading) {h : Header} {ns : List Node} {is : List Item} → targets f all rs o ≡ rows h ns is → o ≡ rows h ns is
+unfolding targets
+targets-through f all [] o e = e
+targets-through f all (r ∷ rs) o e = targets-through f all rs o (checked-through (lost all r) (offsetAt f r) (targets f all rs o) e)
+
+module _ (f : List ℕ) {h : Header} {ns : List Node} {is : List Item} where
+  of-events : (g : Header) (es : Events) (end : ℕ) → end ≤ length f → length f < 2 ^ 28 → All (Inside end (length f)) es
+      → rows g (nodesOf es) (itemsOf es) ≡ rows h ns is → Accepted f ns is
+  of-events g es end l small a e =
+      let x : nodesOf es ≡ ns = cc in
+      let y : itemsOf es ≡ is = cc in
+      rw (← x, ← y) (record { small = small; nodes-inside = node-in es end (length f) l a; items-inside = item-in es end (length f) l a })
+
+  of-tree : (g : Header) (end : ℕ) → end ≤ length f → length f < 2 ^ 28 → (o : Out Made) (es : Events) → All (Inside end (length f)) es → reading g f o es ≡ rows h ns is → Accepted f ns is
+  unfolding reading
+  of-tree g end l small (ok m p) es a e = of-events g es end l small a (targets-through f (nodesOf es) (nodesOf es) (rows g (nodesOf es) (itemsOf es)) e)
+  of-tree g end l small (refused n p) es a e = never e
+
+  of-header : (lim : Limits) (o : Out Header) → run (header (length f)) f 0 ≡ o → readTree lim f o ≡ rows h ns is → Accepted f ns is
+  unfolding readTree
+  of-header lim (ok g q) k e =
+      let w = at-end f (header-on (length f)) k in
+      of-tree g (g .extent .last + 1) (omega arith) (omega arith) (run (tree (context lim g (length f)) (g .extent .last + 1)) f (g .extent .start)) (trace (tree (context lim g (length f)) (g .extent .last + 1)) f (g .extent .start))
+      (tree-inside (context lim g (length f)) f (g .extent .start) (g .extent .last + 1) (omega arith)) e
+  of-header lim (refused n p) k e = never e
+
+pub accepted : (lim : Limits) (f : List ℕ) {h : Header} {ns : List Node} {is : List Item} → readFile lim f ≡ rows h ns is → Accepted f ns is
+unfolding readFile
+accepted lim f e = of-header f lim (run (header (length f)) f 0) refl e
+
+-- ---- what a question knows of the tables after a file was read
+
+pub record Standing (f : List ℕ) (o : Reading) (s : Summary) (t u : List ℕ) : Type 0 where
+  pub h : Header
+  pub ns : List Node
+  pub is : List Item
+  pub reads : o ≡ rows h ns is
+  pub summed : s ≡ summary h ns is
+  pub nodes-are : nodesIn (s .nodes) t ≡ ns
+  pub items-are : itemsIn (s .items) u ≡ is
+  pub node-room : s .nodes * 12 ≤ length t
+  pub item-room : s .items * 10 ≤ length u
+  pub sound : Accepted f ns is
+
+padded-back-nodes : (size : ℕ) (ns : List Node) → nodesIn (length ns) (padded size (allNodes ns)) ≡ ns
+unfolding padded
+padded-back-nodes size ns = nodes-back ns (replicate (size - length (allNodes ns)) 0)
+
+padded-back-items : (size : ℕ) (is : List Item) → itemsIn (length is) (padded size (allItems is)) ≡ is
+unfolding padded
+padded-back-items size is = items-back is (replicate (size - length (allItems is)) 0)
+
+padded-length : (size : ℕ) (ws : List ℕ) → length ws ≤ length (padded size ws)
+unfolding padded
+padded-length size ws = rw length-append (omega arith)
+
+module _ (f : List ℕ) (lim : Limits) (nsize isize : ℕ) {s : Summary} where
+  stand : (o : Reading) → readFile lim f ≡ o → read.Is s ≡ readOf o → {t u : List ℕ} → t ≡ nodeTable nsize o → u ≡ itemTable isize o → Standing f o s t u
+  unfolding readOf nodeTable itemTable
+  stand (rows h ns is) k e {t} {u} a b =
+      let z : s ≡ summary h ns is = cc in
+      let cn : s .nodes ≡ length ns = ap (λ (x : Summary). x .nodes) z in
+      let ci : s .items ≡ length is = ap (λ (x : Summary). x .items) z in
+      let ln = nodes-length ns in
+      let li = items-length is in
+      record {
+        h = h;
+        ns = ns;
+        is = is;
+        reads = refl;
+        summed = z;
+        nodes-are = ap₂ nodesIn cn a ∙ padded-back-nodes nsize ns;
+        items-are = ap₂ itemsIn ci b ∙ padded-back-items isize is;
+        node-room = rw a (omega (arith, padded-length nsize (allNodes ns)));
+        item-room = rw b (omega (arith, padded-length isize (allItems is)));
+        sound = accepted lim f k;
+      }
+  stand (refusal n p) k e a b = let z : _≡_ {A = ℕ} 0 1 = cc in absurd (omega arith)
+
+  pub standing : {r : Read} → r ≡ readOf (readFile lim f) → {t u : List ℕ} → t ≡ nodeTable nsize (readFile lim f) → u ≡ itemTable isize (readFile lim f) → r ≡ read.Is s
+      → Standing f (readFile lim f) s t u
+  standing e a b h = stand (readFile lim f) refl (sym h ∙ e) a b
+
+-- ---- a question that the reader refuses
+
+refusal-is : (o : Reading) {n : ℕ} {p : FilePlace} → read.Refused n p ≡ readOf o → o ≡ refusal n (p .0)
+unfolding readOf
+refusal-is (rows h ns is) e = let z : _≡_ {A = ℕ} 0 1 = cc in absurd (omega arith)
+refusal-is (refusal m q) {n} {p} e = let a : n ≡ m = cc in let b : p ≡ record { 0 = q } = cc in rw (a, b)
+
+-- the answer is the refusal, and the tables are zeros, as the reader left them
+pub ask-refused : (o : Reading) {r : Read} → r ≡ readOf o → {n : ℕ} {p : FilePlace} → r ≡ read.Refused n p → {A : Type 0} (question : Header → List Node → List Item → Result A)
+    → ask o question ≡ bad n (p .0)
+unfolding ask
+ask-refused o e k question = rw (refusal-is o (sym k ∙ e))
+
+module _ (o : Reading) {A : Type 0} (question : Header → List Node → List Item → Result A) {r : Read} (e : r ≡ readOf o) {n : ℕ} {p : FilePlace} (k : r ≡ read.Refused n p) (size : ℕ) {t : List ℕ} where
+  pub refused-nodes : t ≡ nodeTable size o → t ≡ keptNodes size o (ask o question)
+  unfolding nodeTable keptNodes
+  refused-nodes a = a ∙ rw (ask-refused o e k question, refusal-is o (sym k ∙ e))
+
+  pub refused-items : t ≡ itemTable size o → t ≡ keptItems size o (ask o question)
+  unfolding itemTable keptItems
+  refused-items a = a ∙ rw (ask-refused o e k question, refusal-is o (sym k ∙ e))
+
+-- ---- a question over an accepted file, whose answer is known
+
+module _ {o : Reading} {h : Header} {ns : List Node} {is : List Item} (reads : o ≡ rows h ns is) {A : Type 0} (question : Header → List Node → List Item → Result A) where
+  pub ask-is : ask o question ≡ question h ns is
+  unfolding ask
+  ask-is = rw reads
+
+  module _ (size : ℕ) {t : List ℕ} where
+    pub good-nodes : {a : A} → question h ns is ≡ good a → t ≡ nodeTable size o → t ≡ keptNodes size o (ask o question)
+    unfolding keptNodes
+    good-nodes e k = k ∙ rw (ask-is, e)
+
+    pub good-items : {a : A} → question h ns is ≡ good a → t ≡ itemTable size o → t ≡ keptItems size o (ask o question)
+    unfolding keptItems
+    good-items e k = k ∙ rw (ask-is, e)
+
+    pub bad-nodes : {n p : ℕ} → question h ns is ≡ bad n p → t ≡ replicate size 0 → t ≡ keptNodes size o (ask o question)
+    unfolding keptNodes
+    bad-nodes e k = k ∙ rw (ask-is, e)
+
+    pub bad-items : {n p : ℕ} → question h ns is ≡ bad n p → t ≡ replicate size 0 → t ≡ keptItems size o (ask o question)
+    unfolding keptItems
+    bad-items e k = k ∙ rw (ask-is, e)

@@ -1,0 +1,70 @@
+-- Rows read back off the words of a table.
+-- Assumes nothing.
+use mathlib.Core.List.{List, [], _∷_}
+use Prim.Native.Nat.{ℕ, zero, suc, _+_, _*_}
+use lib.ListN.{getD}
+use Rattle.cursor.specs.declared.Node.{Node}
+use Rattle.cursor.specs.declared.Item.{Item}
+use Rattle.metadata.specs.Tables.{nodeWidth, itemWidth}
+
+-- the node row whose words begin at k
+abbrev pub nodeFrom : List ℕ → ℕ → Node
+nodeFrom ws k = record {
+  start = getD ws k 0;
+  size = getD ws (k + 1) 0;
+  header = getD ws (k + 2) 0;
+  held = getD ws (k + 3) 0;
+  parent = getD ws (k + 4) 0;
+  depth = getD ws (k + 5) 0;
+  reference = getD ws (k + 6) 0;
+  target = getD ws (k + 7) 0;
+  extent = getD ws (k + 8) 0;
+  unpackers = getD ws (k + 9) 0;
+  layers = getD ws (k + 10) 0;
+  rows = getD ws (k + 11) 0;
+}
+
+-- the item row whose words begin at k
+abbrev pub itemFrom : List ℕ → ℕ → Item
+itemFrom ws k = record {
+  node = getD ws k 0;
+  item = getD ws (k + 1) 0;
+  kind = getD ws (k + 2) 0;
+  field = getD ws (k + 3) 0;
+  named = getD ws (k + 4) 0;
+  version = getD ws (k + 5) 0;
+  declared = getD ws (k + 6) 0;
+  format = getD ws (k + 7) 0;
+  place = getD ws (k + 8) 0;
+  size = getD ws (k + 9) 0;
+}
+
+-- n rows of the words, from row i on
+unfoldable pub nodesFrom : ℕ → ℕ → List ℕ → List Node
+nodesFrom i zero ws = []
+nodesFrom i (suc n) ws = nodeFrom ws (i * nodeWidth) ∷ nodesFrom (i + 1) n ws
+
+unfoldable pub itemsFrom : ℕ → ℕ → List ℕ → List Item
+itemsFrom i zero ws = []
+itemsFrom i (suc n) ws = itemFrom ws (i * itemWidth) ∷ itemsFrom (i + 1) n ws
+
+-- the first n rows
+unfoldable pub nodesIn : ℕ → List ℕ → List Node
+nodesIn n ws = nodesFrom 0 n ws
+
+unfoldable pub itemsIn : ℕ → List ℕ → List Item
+itemsIn n ws = itemsFrom 0 n ws
+
+-- a row that is not there
+abbrev pub noNode : Node
+noNode = nodeFrom [] 0
+
+abbrev pub noItem : Item
+noItem = itemFrom [] 0
+
+-- row i
+abbrev pub nodeAt : List Node → ℕ → Node
+nodeAt ns i = getD ns i noNode
+
+abbrev pub itemAt : List Item → ℕ → Item
+itemAt is i = getD is i noItem
