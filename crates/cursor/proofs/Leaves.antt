@@ -14,16 +14,16 @@ use Rattle.cursor.specs.Leaves.{next, digits, number, block, manufacture
 use Rattle.cursor.proofs.Laws.{running}
 use Rattle.cursor.proofs.Digits.{grown, below}
 use Rattle.cursor.proofs.Stable.{depends}
-use Rattle.cursor.proofs.Wp.{Wp, at-end, wp-after, wp-weaken, wp-ret, wp-refuse, wp-here, wp-byte, wp-if, wp-check, wp-place}
+use Rattle.cursor.proofs.Wp.{Wp, Rule, Free, at-end, wp-after, wp-weaken, wp-ret, wp-refuse, wp-here, wp-byte, wp-if, wp-check, wp-place}
 
-module _ {C : Part → ℕ → ℕ → Type 0} where
+module _ {U : Rule Part} where
   -- one byte
-  pub next-on : (κ : Frame) (past end p at : ℕ) → Wp C (next κ past end p) (λ _ q. (q ≡ at + 1) × (q ≤ end)) at
+  pub next-on : (κ : Frame) (past end p at : ℕ) → Wp U (next κ past end p) (λ _ q. (q ≡ at + 1) × (q ≤ end)) at
   unfolding next
   next-on κ past end p at = wp-here (wp-if (λ t. wp-byte λ b. wp-ret (omega arith, omega (arith, ltb-true at end t))) (λ t. wp-refuse))
 
   digits-on : (κ : Frame) (past end p left v at : ℕ) → left ≤ 4 → v < 128 ^ (4 - left)
-      → Wp C (digits κ past end p left v) (λ w q. (at < q) × (q ≤ at + left) × (q ≤ end) × (w < 128 ^ 4)) at
+      → Wp U (digits κ past end p left v) (λ w q. (at < q) × (q ≤ at + left) × (q ≤ end) × (w < 128 ^ 4)) at
   unfolding digits
   digits-on κ past end p zero v at l h = wp-refuse
   digits-on κ past end p (suc left) v at l h =
@@ -39,19 +39,19 @@ module _ {C : Part → ℕ → ℕ → Type 0} where
           below (v * 128 + b) (left - 1) (rw m at (grown v b left some l h))
 
   -- a number moves on by 1 to 4 bytes, stays inside its part, and is below 2 ^ 28
-  pub number-on : (κ : Frame) (past end at : ℕ) → Wp C (number κ past end) (λ v q. (at < q) × (q ≤ at + 4) × (q ≤ end) × (v < 2 ^ 28)) at
+  pub number-on : (κ : Frame) (past end at : ℕ) → Wp U (number κ past end) (λ v q. (at < q) × (q ≤ at + 4) × (q ≤ end) × (v < 2 ^ 28)) at
   unfolding number
   number-on κ past end at = wp-place _ at (wp-weaken (digits-on κ past end at 4 0 at (omega arith) (omega arith)) (λ v q x. (omega arith, omega arith, omega arith, omega arith)))
 
   -- a block lies inside the part
-  pub block-on : (κ : Frame) (past end at : ℕ) → Wp C (block κ past end) (λ v q. (at < q) × (q ≤ at + 4) × (q + v ≤ end) × (v < 2 ^ 28)) at
+  pub block-on : (κ : Frame) (past end at : ℕ) → Wp U (block κ past end) (λ v q. (at < q) × (q ≤ at + 4) × (q + v ≤ end) × (v < 2 ^ 28)) at
   unfolding block
   block-on κ past end at =
       wp-place _ at
       (wp-after (number-on κ past end at) λ size q x.
       wp-place _ q (wp-check _ _ λ t. wp-ret (omega arith, omega arith, leb-true (q + size) end t, omega arith)))
 
-  pub manufacturer-on : (κ : Frame) (end at : ℕ) → Wp C (manufacturer κ end) (λ _ q. (at < q) × (q ≤ at + 3) × (q ≤ end)) at
+  pub manufacturer-on : (κ : Frame) (end at : ℕ) → Wp U (manufacturer κ end) (λ _ q. (at < q) × (q ≤ at + 3) × (q ≤ end)) at
   unfolding manufacturer
   manufacturer-on κ end at =
       wp-place _ at
@@ -60,28 +60,31 @@ module _ {C : Part → ℕ → ℕ → Type 0} where
       (λ t. wp-after (next-on κ _ end at q) λ c r y. wp-after (next-on κ _ end at r) λ d s z. wp-ret (omega arith))
       (λ t. wp-ret (omega arith)))
 
-  guid-bytes-on : (κ : Frame) (end p left at : ℕ) → Wp C (guidBytes κ end p left) (λ _ q. (at < q) × (q ≤ at + left) × (q ≤ end)) at
+  guid-bytes-on : (κ : Frame) (end p left at : ℕ) → Wp U (guidBytes κ end p left) (λ _ q. (at < q) × (q ≤ at + left) × (q ≤ end)) at
   unfolding guidBytes
   guid-bytes-on κ end p zero at = wp-refuse
   guid-bytes-on κ end p (suc left) at =
       wp-after (next-on κ _ end p at) λ b q x. wp-if (λ t. wp-ret (omega arith)) (λ t. wp-weaken (guid-bytes-on κ end p left q) (λ _ r y. omega arith))
 
-  pub guid-on : (κ : Frame) (end at : ℕ) → Wp C (guid κ end) (λ _ q. (at < q) × (q ≤ at + 19) × (q ≤ end)) at
+  pub guid-on : (κ : Frame) (end at : ℕ) → Wp U (guid κ end) (λ _ q. (at < q) × (q ≤ at + 19) × (q ≤ end)) at
   unfolding guid
   guid-on κ end at = wp-place _ at (guid-bytes-on κ end at 19 at)
 
 -- ---- the same of a run that is known
 
--- nothing is asked of what is passed
-abbrev pub Any : Part → ℕ → ℕ → Type 0
-Any w p n = Unit {0}
+-- nothing is asked of what is passed, and nothing given
+abbrev pub Any : Rule Part
+Any = record { asks = λ w p n. Unit {0}; gets = λ w p n. Unit {0} }
+
+pub any-free : Free Any
+any-free w p n = tt
 
 module _ (κ : Frame) (past end : ℕ) (f : List ℕ) (at : ℕ) {v q : ℕ} where
   pub number-inside : run (number κ past end) f at ≡ ok v q → (at < q) × (q ≤ at + 4) × (q ≤ end) × (v < 2 ^ 28)
-  number-inside e = at-end f (number-on {C = Any} κ past end at) e
+  number-inside e = at-end any-free f (number-on {U = Any} κ past end at) e
 
   pub block-inside : run (block κ past end) f at ≡ ok v q → (at < q) × (q ≤ at + 4) × (q + v ≤ end) × (v < 2 ^ 28)
-  block-inside e = at-end f (block-on {C = Any} κ past end at) e
+  block-inside e = at-end any-free f (block-on {U = Any} κ past end at) e
 
   -- a number depends on the bytes that it read alone
   pub number-depends : run (number κ past end) f at ≡ ok v q → (g : List ℕ) → ((k : ℕ) → at ≤ k → k < q → getD f k 0 ≡ getD g k 0) → run (number κ past end) g at ≡ ok v q

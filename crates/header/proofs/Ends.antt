@@ -44,7 +44,7 @@ entry-on end ds at =
     (wp-after (number-on _ _ end at) λ t p x. wp-check _ _ λ u. wp-check _ _ λ v.
     wp-after (number-on _ _ end p) λ f q y.
     wp-after (block-on _ _ end q) λ n r z.
-    wp-skip _ _ tt (wp-ret (ltb-true _ _ u, omega arith, omega arith)))
+    wp-skip _ _ tt (λ _. wp-ret (ltb-true _ _ u, omega arith, omega arith)))
 
 pub types-on : (size at : ℕ) → Wp Any (typesTable size) (λ _ q. (at < q) × (q ≤ size)) at
 unfolding typesTable

@@ -18,6 +18,7 @@ use Rattle.cursor.specs.declared.Passed.the-variants as passing
 use Rattle.cursor.specs.declared.Cursor.{Cursor}
 use Rattle.cursor.specs.declared.FilePlace.{FilePlace}
 use Rattle.cursor.proofs.Laws.{running, andThen, run-times, run-timed, was}
+use Rattle.cursor.proofs.Leaves.{any-free}
 use Rattle.cursor.proofs.Wp.{at-end}
 use Rattle.header.specs.Types.{Declared, Known, known, unknown, formatOf, isUnknown, typesOf}
 use Rattle.header.specs.Header.{four, opening, Edition, edition, fileLength, entry, typesTable, Extent, extent, Header, header}
@@ -199,7 +200,7 @@ module _ {f : List ℕ} {end at count left made : ℕ} {ws : List ℕ} {i : ℕ}
     pub entries-on : {c : Cursor} → r ≡ passing.To c → Entries f end at count (left - 1) (made + 1) ws′ (c .at .0)
     entries-on {c} e =
         let k : run (entry end (typesOf made ws)) f i ≡ ok (typesOf (made + 1) ws′) (c .at .0) = sym d ∙ ap (λ x. entryTold x (typesOf (made + 1) ws′)) e in
-        let w = at-end f (entry-on end (typesOf made ws) i) k in
+        let w = at-end any-free f (entry-on end (typesOf made ws) i) k in
         record { few = omega (arith, types-length made ws); same = turn some ∙ rw k refl }
 
 -- ---- what is known of a call that read types

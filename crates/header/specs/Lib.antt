@@ -1,4 +1,3 @@
 pub mod Types
 pub mod Header
 pub mod Told
-pub mod Worked

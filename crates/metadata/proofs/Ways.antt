@@ -15,7 +15,7 @@ use Rattle.cursor.specs.declared.FilePlace.{FilePlace}
 use Rattle.cursor.specs.declared.Item.{Item}
 use Rattle.cursor.proofs.Laws.{running, executing, andThen, ran, exec-turn, exec-turned, exec-many, exec-times, exec-timed}
 use Rattle.cursor.proofs.Wp.{at-end}
-use Rattle.cursor.proofs.Leaves.{Any, number-inside, block-inside}
+use Rattle.cursor.proofs.Leaves.{Any, any-free, number-inside, block-inside}
 use Rattle.cursor.proofs.Quiet.{exec-number, exec-block}
 use Rattle.header.specs.Types.{Known, known, unknown, formatOf}
 use Rattle.metadata.specs.Tables.{State, state, put, itemWords, plusItem}
@@ -32,7 +32,7 @@ use Rattle.metadata.specs.declared.MetaItem.{MetaItem}
 use Rattle.metadata.specs.declared.Walked.{Walked}
 use Rattle.metadata.specs.declared.Walked.the-variants.{Done, Refused}
 use Rattle.metadata.proofs.Quiet.{exec-frame, exec-format}
-use Rattle.metadata.proofs.Ends.{version-on, item-on}
+use Rattle.metadata.proofs.Ends.{Nothing, inside-free, version-on, item-on}
 use Rattle.metadata.proofs.Gives.{done, stopped, fitting, no, yes}
 
 -- ---- field and contents
@@ -183,7 +183,7 @@ module _ (x : Context) (l : Label) (s u₀ : List ℕ) (end at count : ℕ) (mad
     pub versions-on : {n : Made} {c : Cursor} → r ≡ Done n c → length u′ ≡ length u → Going u′ (c .at .0) (left - 1) n
     versions-on {n} {c} h k =
         let b = fitting (d u) h in
-        let w = at-end s (version-on {C = Any} x l end (λ v d f p n h. tt) (made .items) m i) (ran put _ s i (state u u m) (done (d u) h)) in
+        let w = at-end any-free s (version-on {U = Any} x l end (λ v d f p n h. tt) (made .items) m i) (ran put _ s i (state u u m) (done (d u) h)) in
         let v = g .since in
         record { long = k ∙ g .long; nodes-fit = b .0; items-fit = b .1; since = omega arith; same = λ t. turn t ∙ rw (done (d t) h) refl }
 
@@ -259,7 +259,7 @@ module _ (x : Context) (s u₀ : List ℕ) (node end at : ℕ) (made : Made) whe
     items-no h t = no (turn-no t (stopped (d t) h))
 
     pub items-further : {n : Made} {c : Cursor} → r ≡ Done n c → (i < c .at .0) × (c .at .0 ≤ end)
-    items-further h = let w = at-end s (item-on end (length s) x node k end (omega arith) m i) (ran put _ s i (state u u m) (done (d u) h)) in (w .1, w .2)
+    items-further h = let w = at-end (inside-free end (length s)) s (item-on Nothing end (length s) x node k end (omega arith) m i) (ran put _ s i (state u u m) (done (d u) h)) in (w .1, w .2)
 
     pub items-on : {n : Made} {c : Cursor} → r ≡ Done n c → length u′ ≡ length u → Reading u′ (c .at .0) (k + 1) n
     items-on {n} {c} h e =

@@ -15,7 +15,7 @@ use Rattle.cursor.proofs.Leaves.{number-on, block-on, manufacturer-on, guid-on}
 use Rattle.metadata.specs.Tables.{State, put}
 use Rattle.metadata.specs.Metadata.{Context, metadata}
 use Rattle.metadata.specs.declared.Made.{Made}
-use Rattle.metadata.proofs.Ends.{Inside, Since, metadata-on}
+use Rattle.metadata.proofs.Ends.{OfNames, Nothing, inside-free, Inside, Since, metadata-on}
 use Rattle.node.specs.Node.{headerLength, head, value, identifier, unpacker, entries, unpackers, resource, nodePlace, uriPlace, target, reference, Rest, rest, front}
 use Rattle.node.specs.declared.Head.{Head}
 use Rattle.node.specs.declared.Unpackers.{Unpackers}
@@ -26,15 +26,15 @@ use Rattle.node.specs.declared.Front.{Front}
 abbrev pub Leads : ℕ → Reference → Type 0
 Leads size r = (r .kind ≡ 3) ⊎ (r .target + r .extent ≤ size)
 
-module _ (top size : ℕ) where
-  pub header-length-on : (p n held at : ℕ) → Wp (Inside top size) (headerLength p n held) (λ h q. (at < q) × (q ≤ p + h .header) × (h .header ≤ h .size) × (h .size ≡ n) × (h .held ≡ held)) at
+module _ (N : OfNames) (top size : ℕ) where
+  pub header-length-on : (p n held at : ℕ) → Wp (Inside N top size) (headerLength p n held) (λ h q. (at < q) × (q ≤ p + h .header) × (h .header ≤ h .size) × (h .size ≡ n) × (h .held ≡ held)) at
   unfolding headerLength
   header-length-on p n held at =
       wp-place _ at
       (wp-after (number-on _ _ (p + n) at) λ header q x.
       wp-place _ q (wp-check _ _ λ t. wp-check _ _ λ u. wp-ret (omega arith, leb-true q (p + header) u, leb-true header n t, refl, refl)))
 
-  pub head-on : (least end at : ℕ) → Wp (Inside top size) (head least end) (λ h q. (at < q) × (q ≤ at + h .header) × (h .header ≤ h .size) × (at + h .size ≤ end) × (least ≤ at + h .size)) at
+  pub head-on : (least end at : ℕ) → Wp (Inside N top size) (head least end) (λ h q. (at < q) × (q ≤ at + h .header) × (h .header ≤ h .size) × (at + h .size ≤ end) × (least ≤ at + h .size)) at
   unfolding head
   head-on least end at =
       wp-place _ at
@@ -42,17 +42,17 @@ module _ (top size : ℕ) where
       wp-after (number-on _ _ (at + n) p) λ held q y.
       wp-weaken (header-length-on at n held q) (λ h r z. (omega arith, omega arith, omega arith, omega (arith, leb-true (at + n) end t), omega (arith, leb-true least (at + n) u))))
 
-  value-on : (end at : ℕ) → Wp (Inside top size) (value end) (λ _ q. (at < q) × (q ≤ end)) at
+  value-on : (end at : ℕ) → Wp (Inside N top size) (value end) (λ _ q. (at < q) × (q ≤ end)) at
   unfolding value
   value-on end at = wp-after (number-on _ _ end at) λ v q x. wp-ret (omega arith)
 
-  identifier-on : (kind end at : ℕ) → Wp (Inside top size) (identifier kind end) (λ _ q. (at < q) × (q ≤ end)) at
+  identifier-on : (kind end at : ℕ) → Wp (Inside N top size) (identifier kind end) (λ _ q. (at < q) × (q ≤ end)) at
   unfolding identifier
   identifier-on kind end at =
       wp-if (λ t. wp-weaken (guid-on _ end at) (λ _ q x. omega arith))
       λ t. wp-if (λ u. wp-after (manufacturer-on _ end at) λ m q x. wp-weaken (value-on end q) (λ _ r y. omega arith)) (λ u. value-on end at)
 
-  pub unpacker-on : (end n at : ℕ) → Wp (Inside top size) (unpacker end n) (λ k q. (k ≡ n + 1) × (at < q) × (q ≤ end)) at
+  pub unpacker-on : (end n at : ℕ) → Wp (Inside N top size) (unpacker end n) (λ k q. (k ≡ n + 1) × (at < q) × (q ≤ end)) at
   unfolding unpacker
   unpacker-on end n at =
       wp-place _ at
@@ -60,37 +60,37 @@ module _ (top size : ℕ) where
       wp-after (identifier-on kind end q) λ i r y.
       wp-after (value-on end r) λ v s z. wp-ret (refl, omega arith, omega arith))
 
-  entries-on : (end at : ℕ) → at ≤ end → Wp (Inside top size) (entries end) (λ u q. (u .place .0 ≡ at) × (q ≡ end)) at
+  entries-on : (end at : ℕ) → at ≤ end → Wp (Inside N top size) (entries end) (λ u q. (u .place .0 ≡ at) × (q ≡ end)) at
   unfolding entries
   entries-on end at l =
       wp-place _ at
       (wp-after (wp-many (λ _. Unit {0}) 0 (λ n p l i. wp-weaken (unpacker-on end n p) (λ k q x. (tt, omega arith, omega arith))) tt l) λ k q x.
       wp-ret (refl, x .1))
 
-  unpackers-on : (held end at : ℕ) → Wp (Inside top size) (unpackers held end) (λ _ q. (at < q) × (q ≤ end)) at
+  unpackers-on : (held end at : ℕ) → Wp (Inside N top size) (unpackers held end) (λ _ q. (at < q) × (q ≤ end)) at
   unfolding unpackers
   unpackers-on held end at =
       wp-place _ at
       (wp-after (block-on _ _ end at) λ n q x. wp-check _ _ λ t.
       wp-place _ q (wp-weaken (entries-on (q + n) q (omega arith)) (λ u r y. omega arith)))
 
-  target-on : (first r end at : ℕ) → end ≤ top → end ≤ size → at ≤ end → Wp (Inside top size) (target first size r end) (λ r q. (at ≤ q) × (q ≤ end) × Leads size r) at
+  target-on : (first r end at : ℕ) → end ≤ top → end ≤ size → at ≤ end → Wp (Inside N top size) (target first size r end) (λ r q. (at ≤ q) × (q ≤ end) × Leads size r) at
   unfolding target resource nodePlace uriPlace
   target-on first r end at o i l =
       wp-if (λ t. wp-place _ at (wp-ret (omega arith, l, inr (omega arith))))
       λ t. wp-if
       (λ u. wp-place _ at (wp-after (number-on _ _ end at) λ v q x. wp-check _ _ λ c. wp-check _ _ λ d. wp-ret (omega arith, omega arith, inr (omega (arith, leb-true v size d)))))
       λ u. wp-if (λ w. wp-after (number-on _ _ end at) λ v q x. wp-ret (omega arith, omega arith, inl refl))
-      (λ w. wp-after (block-on _ _ end at) λ n q x. wp-place _ q (wp-skip _ _ (omega arith) (wp-ret (omega arith, omega arith, inr (omega arith)))))
+      (λ w. wp-after (block-on _ _ end at) λ n q x. wp-place _ q (wp-skip _ _ (omega arith) (λ _. wp-ret (omega arith, omega arith, inr (omega arith)))))
 
-  reference-on : (first held end at : ℕ) → end ≤ top → end ≤ size → Wp (Inside top size) (reference first size held end) (λ r q. (at < q) × (q ≤ end) × Leads size r) at
+  reference-on : (first held end at : ℕ) → end ≤ top → end ≤ size → Wp (Inside N top size) (reference first size held end) (λ r q. (at < q) × (q ≤ end) × Leads size r) at
   unfolding reference
   reference-on first held end at o i =
       wp-place _ at
       (wp-after (number-on _ _ end at) λ r q x. wp-check _ _ λ t. wp-check _ _ λ u. wp-check _ _ λ v.
       wp-weaken (target-on first r end q o i (omega arith)) (λ r p y. (omega arith, omega arith, y .2)))
 
-  rest-on : (first held inner stop at : ℕ) → stop ≤ top → stop ≤ size → Wp (Inside top size) (rest first size held inner stop) (λ r q. (inner < q) × (q ≤ stop) × Leads size (r .reference)) at
+  rest-on : (first held inner stop at : ℕ) → stop ≤ top → stop ≤ size → Wp (Inside N top size) (rest first size held inner stop) (λ r q. (inner < q) × (q ≤ stop) × Leads size (r .reference)) at
   unfolding rest
   rest-on first held inner stop at o i =
       wp-after (unpackers-on held inner at) λ u q x.
@@ -111,15 +111,15 @@ pub record FrontIn (x : Context) (least end : ℕ) (m : Made) (at : ℕ) (w : Fr
   pub header : w .row .header ≤ w .row .size
   pub leads : (w .row .reference ≡ 3) ⊎ (w .row .target + w .row .extent ≤ x .size)
 
-pub front-on : (top : ℕ) (x : Context) (parent depth least end : ℕ) (m : Made) (at : ℕ) → end ≤ top → end ≤ x .size
-    → Wp (Inside top (x .size)) (front x parent depth least end m) (FrontIn x least end m at) at
+pub front-on : (N : OfNames) (top : ℕ) (x : Context) (parent depth least end : ℕ) (m : Made) (at : ℕ) → end ≤ top → end ≤ x .size
+    → Wp (Inside N top (x .size)) (front x parent depth least end m) (FrontIn x least end m at) at
 unfolding front
-front-on top x parent depth least end m at o i =
+front-on N top x parent depth least end m at o i =
     let size = x .size in
     wp-place _ at
-    (wp-after (head-on top size least end at) λ h p y.
-    wp-after (metadata-on top size x (m .nodes) (at + h .header) (omega arith) m p) λ m′ q z.
-    wp-after (rest-on top size (x .first) (h .held) (at + h .header) (at + h .size) q (omega arith) (omega arith)) λ r s w.
+    (wp-after (head-on N top size least end at) λ h p y.
+    wp-after (metadata-on N top size x (m .nodes) (at + h .header) (omega arith) m p) λ m′ q z.
+    wp-after (rest-on N top size (x .first) (h .held) (at + h .header) (at + h .size) q (omega arith) (omega arith)) λ r s w.
     wp-ret (record {
       nodes = z .0 .0;
       items = z .0 .1;
@@ -136,11 +136,11 @@ front-on top x parent depth least end m at o i =
 
 pub head-inside : (least end : ℕ) (s : List ℕ) (at : ℕ) {h : Head} {p : ℕ} → run (head least end) s at ≡ ok h p
     → (at < p) × (p ≤ at + h .header) × (h .header ≤ h .size) × (at + h .size ≤ end)
-head-inside least end s at e = let w = at-end s (head-on end end least end at) e in (w .0, w .1, w .2, w .3)
+head-inside least end s at e = let w = at-end (inside-free end end) s (head-on Nothing end end least end at) e in (w .0, w .1, w .2, w .3)
 
 pub metadata-since : (x : Context) (node end : ℕ) (m : Made) (s : List ℕ) (at : ℕ) (σ : State) {m′ : Made} {τ : State} {p : ℕ} → exec put (metadata x node end m) s at σ ≡ ok (m′, τ) p → Since m m′
-metadata-since x node end m s at σ e = at-end s (metadata-on end end x node end (omega arith) m at) (ran put _ s at σ e) .0
+metadata-since x node end m s at σ e = at-end (inside-free end end) s (metadata-on Nothing end end x node end (omega arith) m at) (ran put _ s at σ e) .0
 
 pub front-inside : (x : Context) (parent depth least end : ℕ) (m : Made) (s : List ℕ) (at : ℕ) (σ : State) → end ≤ x .size → {w : Front} {τ : State} {p : ℕ}
     → exec put (front x parent depth least end m) s at σ ≡ ok (w, τ) p → FrontIn x least end m at w p
-front-inside x parent depth least end m s at σ i e = at-end s (front-on end x parent depth least end m at (omega arith) i) (ran put _ s at σ e)
+front-inside x parent depth least end m s at σ i e = at-end (inside-free end (x .size)) s (front-on Nothing end x parent depth least end m at (omega arith) i) (ran put _ s at σ e)

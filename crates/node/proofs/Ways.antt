@@ -19,6 +19,7 @@ use Rattle.cursor.specs.declared.Passed.{Passed}
 use Rattle.cursor.specs.declared.Passed.the-variants as passing
 use Rattle.cursor.proofs.Laws.{running, executing, andThen, run-turn, run-turned, run-many}
 use Rattle.cursor.proofs.Wp.{at-end}
+use Rattle.metadata.proofs.Ends.{Nothing, inside-free}
 use Rattle.metadata.specs.Tables.{State, state, put}
 use Rattle.metadata.specs.Metadata.{Context, metadata}
 use Rattle.metadata.specs.declared.Made.{Made}
@@ -151,7 +152,7 @@ module _ {s : List ℕ} {end at i k : ℕ} (g : Going s end at i k) where
     entries-no e = let x = sym (d k) ∙ ap (λ v. unpackerTold v k) e in sym (turn l ∙ rw x refl)
 
     pub entries-further : {c : Cursor} → r ≡ passing.To c → (i < c .at .0) × (c .at .0 ≤ end)
-    entries-further e = let w = at-end s (unpacker-on end end end k i) (sym (d k) ∙ ap (λ v. unpackerTold v k) e) in (w .1, w .2)
+    entries-further e = let w = at-end (inside-free end end) s (unpacker-on Nothing end end end k i) (sym (d k) ∙ ap (λ v. unpackerTold v k) e) in (w .1, w .2)
 
     pub entries-on : {c : Cursor} → r ≡ passing.To c → Going s end at (c .at .0) (k + 1)
     entries-on {c} e =

@@ -5,3 +5,4 @@ pub mod Targets
 pub mod Filled
 pub mod Whole
 pub mod Rows
+pub mod Demand

@@ -23,6 +23,7 @@ use Rattle.metadata.specs.declared.Made.{Made}
 use Rattle.metadata.specs.declared.Walked.{Walked}
 use Rattle.metadata.specs.declared.Walked.the-variants.{Done, Refused}
 use Rattle.metadata.proofs.Gives.{done, stopped, fitting, no, yes}
+use Rattle.metadata.proofs.Ends.{Nothing, inside-free}
 use Rattle.node.specs.Node.{front}
 use Rattle.node.specs.declared.Front.{Front}
 use Rattle.node.proofs.Ends.{FrontIn, front-inside}
@@ -119,7 +120,7 @@ module _ (levels : ℕ) (x : Context) (parent end : ℕ) (s : List ℕ) (at : �
     children-no h = sym (exec-times put s left at (node levels x parent 0 end) m (state t u m) some ∙ rw (stopped g h) refl)
 
     pub children-on : end ≤ x .size → {m′ : Made} {c : Cursor} → r ≡ Done m′ c → (at < c .at .0) × (c .at .0 ≤ end)
-    children-on i h = let w = at-end s (node-on end levels x parent 0 m end at (omega arith) i) (ran put _ s at (state t u m) (done g h)) in (w .0, w .1)
+    children-on i h = let w = at-end (inside-free end (x .size)) s (node-on Nothing end levels x parent 0 m end at (omega arith) i) (ran put _ s at (state t u m) (done g h)) in (w .0, w .1)
 
     pub children-more : {m′ : Made} {c : Cursor} → r ≡ Done m′ c → {r′ : Walked} {t″ u″ : List ℕ}
         → Gives (x .limits) r′ t″ u″ (exec put (times (left - 1) (node levels x parent 0 end) m′) s (c .at .0) (state t′ u′ m′))

@@ -13,12 +13,13 @@ use Rattle.cursor.specs.declared.FilePlace.{FilePlace}
 use Rattle.cursor.specs.declared.Node.{Node}
 use Rattle.cursor.specs.declared.Item.{Item}
 use Rattle.cursor.proofs.Wp.{All, at-end}
+use Rattle.cursor.proofs.Leaves.{any-free}
 use Rattle.header.specs.Header.{Header, header}
 use Rattle.header.proofs.Ends.{header-on}
 use Rattle.metadata.specs.Tables.{nodeWords, itemWords, limits}
 use Rattle.metadata.specs.declared.Limits.{Limits}
 use Rattle.metadata.specs.declared.Made.{Made}
-use Rattle.metadata.proofs.Ends.{Inside}
+use Rattle.metadata.proofs.Ends.{Nothing, Inside}
 use Rattle.tree.specs.Tree.{tree}
 use Rattle.tree.specs.Reading.{nodesOf, itemsOf, allNodes, allItems, Reading, rows, refusal, startsAt, lost, offsetAt, checked, targets, reading, context, readTree, readFile, readOf, summary, padded, nodeTable, itemTable}
 use Rattle.tree.specs.Rows.{nodeFrom, itemFrom, nodesFrom, itemsFrom, nodesIn, itemsIn, noNode, noItem, nodeAt, itemAt}
@@ -120,7 +121,7 @@ NodeIn size r = (r .header ≤ r .size) × (r .start + r .size ≤ size) × ((r 
 abbrev pub ItemIn : ℕ → Item → Type 0
 ItemIn size r = (r .place + r .size ≤ size) × ((r .kind ≡ 0) ⊎ (r .field + r .named ≤ size))
 
-node-in : (es : Events) (end size : ℕ) → end ≤ size → All (Inside end size) es → (i : ℕ) → i < length (nodesOf es) → NodeIn size (nodeAt (nodesOf es) i)
+node-in : (es : Events) (end size : ℕ) → end ≤ size → All (Inside Nothing end size .asks) es → (i : ℕ) → i < length (nodesOf es) → NodeIn size (nodeAt (nodesOf es) i)
 unfolding rowsOf
 node-in [] end size l a i h = absurd (omega arith)
 node-in (seen κ p ∷ es) end size l a i h = node-in es end size l a i h
@@ -129,11 +130,11 @@ node-in (passed (nodeRow r) p n ∷ es) end size l a (suc i) h = node-in es end 
 node-in (passed (itemRow r) p n ∷ es) end size l a i h = node-in es end size l (a .1) i h
 node-in (passed (plain x) p n ∷ es) end size l a i h = node-in es end size l (a .1) i h
 
-named : {A : Type 0} (a b end size : ℕ) → end ≤ size → A ⊎ (a + b ≤ end) → A ⊎ (a + b ≤ size)
+named : {A : Type 0} (a b end size : ℕ) → end ≤ size → A ⊎ ((a + b ≤ end) × Unit {0}) → A ⊎ (a + b ≤ size)
 named a b end size l (inl x) = inl x
-named a b end size l (inr x) = inr (omega arith)
+named a b end size l (inr x) = let y = x .0 in inr (omega arith)
 
-item-in : (es : Events) (end size : ℕ) → end ≤ size → All (Inside end size) es → (i : ℕ) → i < length (itemsOf es) → ItemIn size (itemAt (itemsOf es) i)
+item-in : (es : Events) (end size : ℕ) → end ≤ size → All (Inside Nothing end size .asks) es → (i : ℕ) → i < length (itemsOf es) → ItemIn size (itemAt (itemsOf es) i)
 unfolding rowsOf
 item-in [] end size l a i h = absurd (omega arith)
 item-in (seen κ p ∷ es) end size l a i h = item-in es end size l a i h
@@ -162,14 +163,14 @@ targets-through f all [] o e = e
 targets-through f all (r ∷ rs) o e = targets-through f all rs o (checked-through (lost all r) (offsetAt f r) (targets f all rs o) e)
 
 module _ (f : List ℕ) {h : Header} {ns : List Node} {is : List Item} where
-  of-events : (g : Header) (es : Events) (end : ℕ) → end ≤ length f → length f < 2 ^ 28 → All (Inside end (length f)) es
+  of-events : (g : Header) (es : Events) (end : ℕ) → end ≤ length f → length f < 2 ^ 28 → All (Inside Nothing end (length f) .asks) es
       → rows g (nodesOf es) (itemsOf es) ≡ rows h ns is → Accepted f ns is
   of-events g es end l small a e =
       let x : nodesOf es ≡ ns = cc in
       let y : itemsOf es ≡ is = cc in
       rw (← x, ← y) (record { small = small; nodes-inside = node-in es end (length f) l a; items-inside = item-in es end (length f) l a })
 
-  of-tree : (g : Header) (end : ℕ) → end ≤ length f → length f < 2 ^ 28 → (o : Out Made) (es : Events) → All (Inside end (length f)) es → reading g f o es ≡ rows h ns is → Accepted f ns is
+  of-tree : (g : Header) (end : ℕ) → end ≤ length f → length f < 2 ^ 28 → (o : Out Made) (es : Events) → All (Inside Nothing end (length f) .asks) es → reading g f o es ≡ rows h ns is → Accepted f ns is
   unfolding reading
   of-tree g end l small (ok m p) es a e = of-events g es end l small a (targets-through f (nodesOf es) (nodesOf es) (rows g (nodesOf es) (itemsOf es)) e)
   of-tree g end l small (refused n p) es a e = never e
@@ -177,7 +178,7 @@ module _ (f : List ℕ) {h : Header} {ns : List Node} {is : List Item} where
   of-header : (lim : Limits) (o : Out Header) → run (header (length f)) f 0 ≡ o → readTree lim f o ≡ rows h ns is → Accepted f ns is
   unfolding readTree
   of-header lim (ok g q) k e =
-      let w = at-end f (header-on (length f)) k in
+      let w = at-end any-free f (header-on (length f)) k in
       of-tree g (g .extent .last + 1) (omega arith) (omega arith) (run (tree (context lim g (length f)) (g .extent .last + 1)) f (g .extent .start)) (trace (tree (context lim g (length f)) (g .extent .last + 1)) f (g .extent .start))
       (tree-inside (context lim g (length f)) f (g .extent .start) (g .extent .last + 1) (omega arith)) e
   of-header lim (refused n p) k e = never e

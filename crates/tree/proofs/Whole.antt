@@ -15,6 +15,7 @@ use Rattle.cursor.specs.declared.Node.{Node}
 use Rattle.cursor.specs.declared.Item.{Item}
 use Rattle.cursor.proofs.Laws.{ran}
 use Rattle.cursor.proofs.Wp.{All, at-end}
+use Rattle.cursor.proofs.Leaves.{any-free}
 use Rattle.cursor.proofs.Quiet.{still}
 use Rattle.header.specs.Header.{Header, header}
 use Rattle.header.specs.Told.{headerOf, headerTold, Few}
@@ -28,7 +29,7 @@ use Rattle.metadata.specs.declared.Limits.{Limits}
 use Rattle.metadata.specs.declared.Made.{Made}
 use Rattle.metadata.specs.declared.Walked.{Walked}
 use Rattle.metadata.specs.declared.Walked.the-variants.{Done, Refused}
-use Rattle.metadata.proofs.Ends.{Inside}
+use Rattle.metadata.proofs.Ends.{Nothing, Inside}
 use Rattle.metadata.proofs.Gives.{done, stopped, fitting}
 use Rattle.tree.specs.Tree.{tree}
 use Rattle.tree.specs.Reading.{nodesOf, itemsOf, allNodes, allItems, Reading, rows, refusal, targets, reading, context, readTree, readFile, readOf, answerOf, padded, nodeTable, itemTable}
@@ -57,7 +58,7 @@ few {r} {h} f e = rw e at f
 
 -- ---- rows lie in the file
 
-in-file : (es : Events) (end size : ℕ) → end ≤ size → All (Inside end size) es → InFile size (nodesOf es)
+in-file : (es : Events) (end size : ℕ) → end ≤ size → All (Inside Nothing end size .asks) es → InFile size (nodesOf es)
 unfolding rowsOf
 in-file [] end size l a = tt
 in-file (seen κ p ∷ es) end size l a = in-file es end size l a
@@ -126,7 +127,7 @@ module _ (file : List ℕ) (nsize isize : ℕ) where
           let ci : m .items ≡ length (itemsOf es) = sym (ap (λ (σ : State). σ .made .items) k) ∙ zero-add _ in
           let ln = nodes-length (nodesOf es) in
           let li = items-length (itemsOf es) in
-          let w = at-end file (header-on (length file)) e₀ in
+          let w = at-end any-free file (header-on (length file)) e₀ in
           let tn : t′ ≡ padded nsize (allNodes (nodesOf es)) =
           sym (ap (λ (σ : State). σ .nodes) k) ∙ ap (λ v. sets v 0 (allNodes (nodesOf es))) zt ∙ sets-zeros nsize (allNodes (nodesOf es)) (omega arith) in
           record {
@@ -183,7 +184,7 @@ module _ (file : List ℕ) (nsize isize : ℕ) where
 
 -- what the call of the tree's root asks for
 pub whole-within : (file : List ℕ) {h : Header} {q : ℕ} → run (header (length file)) file 0 ≡ ok h q → (h .extent .last < length file) × (length file < 2 ^ 28)
-whole-within file e = let w = at-end file (header-on (length file)) e in (w .3, w .4)
+whole-within file e = let w = at-end any-free file (header-on (length file)) e in (w .3, w .4)
 
 pub whole-room : {lim : Limits} {n i : ℕ} → lim ≡ limits n i → (lim .nodes * 12 ≤ n) × (lim .items * 10 ≤ i)
 whole-room e = rw e (omega arith)

@@ -3,6 +3,7 @@
 use lib.ListN.{length}
 use Rattle.cursor.specs.Told.{numberTold}
 use Rattle.cursor.proofs.Laws.{was}
+use Rattle.cursor.proofs.Leaves.{any-free}
 use Rattle.cursor.proofs.Wp.{at-end}
 use Rattle.header.proofs.Ends.{four-on}
 use Rattle.header.proofs.Ways.{edition-none, edition-type, edition-revision, edition-all}
@@ -32,7 +33,7 @@ enum-known-kind c = search needs
 
 -- src/lib.rt:159:40
 read-four-requires-2 : tie.Need-read-four-requires-2
-read-four-requires-2 c κs = omega (arith, at-end (c .before .before .before .before .before .before .args .file .now) (four-on 3 (length (c .before .before .before .before .before .before .args .file .now)) (c .before .before .before .before .before .before .args .c .at .0)) (was numberTold (c .before .before .before .read-four .ensures) (c .before .kind .given .1)))
+read-four-requires-2 c κs = omega (arith, at-end any-free (c .before .before .before .before .before .before .args .file .now) (four-on 3 (length (c .before .before .before .before .before .before .args .file .now)) (c .before .before .before .before .before .before .args .c .at .0)) (was numberTold (c .before .before .before .read-four .ensures) (c .before .kind .given .1)))
 
 -- src/lib.rt:160:31
 enum-known-n-2 : tie.Need-enum-known-n-2

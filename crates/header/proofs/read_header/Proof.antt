@@ -3,6 +3,7 @@
 use lib.ListN.{length}
 use Rattle.cursor.specs.Told.{numberTold, passTold}
 use Rattle.cursor.proofs.Laws.{was}
+use Rattle.cursor.proofs.Leaves.{any-free}
 use Rattle.cursor.proofs.Wp.{at-end}
 use Rattle.header.specs.Told.{editionTold, extentTold}
 use Rattle.header.proofs.Ends.{opening-on}
@@ -33,7 +34,7 @@ enum-known-version c = search needs
 
 -- src/lib.rt:308:43
 read-edition-requires : tie.Need-read-edition-requires
-read-edition-requires c κs = omega (arith, at-end (c .before .before .before .before .before .before .args .file .now) (opening-on (length (c .before .before .before .before .before .before .args .file .now))) (was numberTold (c .before .before .before .read-opening .ensures) (c .before .version .given .1)))
+read-edition-requires c κs = omega (arith, at-end any-free (c .before .before .before .before .before .before .args .file .now) (opening-on (length (c .before .before .before .before .before .before .args .file .now))) (was numberTold (c .before .before .before .read-opening .ensures) (c .before .version .given .1)))
 
 -- src/lib.rt:309:32
 enum-known-n-2 : tie.Need-enum-known-n-2
@@ -57,7 +58,7 @@ enum-known-e c = search needs
 
 -- src/lib.rt:312:40
 read-types-requires : tie.Need-read-types-requires
-read-types-requires c κs = omega (arith, c .before .before .before .before .before .before .before .before .before .before .before .before .before .before .before .pre, at-end (c .before .before .before .before .before .before .before .before .before .before .before .before .before .before .before .args .file .now) (opening-on (length (c .before .before .before .before .before .before .before .before .before .before .before .before .before .before .before .args .file .now))) (was numberTold (c .before .before .before .before .before .before .before .before .before .before .before .before .read-opening .ensures) (c .before .before .before .before .before .before .before .before .before .before .version .given .1)))
+read-types-requires c κs = omega (arith, c .before .before .before .before .before .before .before .before .before .before .before .before .before .before .before .pre, at-end any-free (c .before .before .before .before .before .before .before .before .before .before .before .before .before .before .before .args .file .now) (opening-on (length (c .before .before .before .before .before .before .before .before .before .before .before .before .before .before .before .args .file .now))) (was numberTold (c .before .before .before .before .before .before .before .before .before .before .before .before .read-opening .ensures) (c .before .before .before .before .before .before .before .before .before .before .version .given .1)))
 
 -- src/lib.rt:313:36
 enum-known-n-4 : tie.Need-enum-known-n-4

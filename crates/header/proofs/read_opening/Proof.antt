@@ -2,6 +2,7 @@
 -- Assumes nothing.
 use Rattle.cursor.specs.Told.{numberTold}
 use Rattle.cursor.proofs.Laws.{was}
+use Rattle.cursor.proofs.Leaves.{any-free}
 use Rattle.cursor.proofs.Wp.{at-end}
 use Rattle.header.proofs.Ends.{four-on}
 use Rattle.header.proofs.Ways.{opening-large, opening-short, opening-cut, opening-other, opening-version, opening-100, opening-101, opening-200, opening-none}
@@ -40,7 +41,7 @@ returns-3 c = opening-other _ _ (omega arith) (c .before .before .before .before
 
 -- src/lib.rt:125:19
 read-four-requires-2 : tie.Need-read-four-requires-2
-read-four-requires-2 c κs = omega (arith, at-end (c .before .before .before .before .before .before .before .before .args .file .now) (four-on 1 (length (c .before .before .before .before .before .before .before .before .args .file .now)) 0) (was numberTold (c .before .before .before .before .read-four .ensures) (c .before .before .magic .given .1)))
+read-four-requires-2 c κs = omega (arith, at-end any-free (c .before .before .before .before .before .before .before .before .args .file .now) (four-on 1 (length (c .before .before .before .before .before .before .before .before .args .file .now)) 0) (was numberTold (c .before .before .before .before .read-four .ensures) (c .before .before .magic .given .1)))
 
 -- src/lib.rt:126:35
 enum-known-n-2 : tie.Need-enum-known-n-2
