@@ -5,3 +5,4 @@ pub mod Wp
 pub mod Quiet
 pub mod Digits
 pub mod Leaves
+pub mod Order

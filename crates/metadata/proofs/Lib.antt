@@ -4,3 +4,4 @@ pub mod Quiet
 pub mod Gives
 pub mod Ends
 pub mod Ways
+pub mod Order

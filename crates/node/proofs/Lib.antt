@@ -1,3 +1,4 @@
 pub mod Quiet
 pub mod Ends
 pub mod Ways
+pub mod Order

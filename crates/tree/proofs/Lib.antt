@@ -6,3 +6,4 @@ pub mod Filled
 pub mod Whole
 pub mod Rows
 pub mod Demand
+pub mod Order

@@ -162,6 +162,16 @@ unfolding targets
 targets-through f all [] o e = e
 targets-through f all (r ∷ rs) o e = targets-through f all rs o (checked-through (lost all r) (offsetAt f r) (targets f all rs o) e)
 
+-- the rows of an accepted file are those of its tree's events
+pub rows-of : (g : Header) (f : List ℕ) (o : Out Made) (es : Events) {h : Header} {ns : List Node} {is : List Item} → reading g f o es ≡ rows h ns is → (nodesOf es ≡ ns) × (itemsOf es ≡ is)
+unfolding reading
+rows-of g f (ok m p) es r = let e = targets-through f (nodesOf es) (nodesOf es) (rows g (nodesOf es) (itemsOf es)) r in (cc, cc)
+rows-of g f (refused n p) es r = never r
+
+pub reading-refused : (g : Header) (f : List ℕ) (es : Events) {n p : ℕ} {o : Reading} → reading g f (refused n p) es ≡ o → refusal n p ≡ o
+unfolding reading
+reading-refused g f es r = r
+
 module _ (f : List ℕ) {h : Header} {ns : List Node} {is : List Item} where
   of-events : (g : Header) (es : Events) (end : ℕ) → end ≤ length f → length f < 2 ^ 28 → All (Inside Nothing end (length f) .asks) es
       → rows g (nodesOf es) (itemsOf es) ≡ rows h ns is → Accepted f ns is

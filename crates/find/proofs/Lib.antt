@@ -1,0 +1,4 @@
+pub mod Matching
+pub mod Looking
+pub mod Climbing
+pub mod Depends

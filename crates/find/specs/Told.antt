@@ -1,0 +1,32 @@
+-- What the code's field and answer say, and what it knows of the rows.
+-- Assumes nothing.
+use mathlib.Core.Path.{_≡_}
+use mathlib.Core.Logic.{_⊎_}
+use mathlib.Core.List.{List}
+use Prim.Native.Nat.{ℕ, _+_, _≤_, _<_}
+use lib.ListN.{length}
+use Rattle.cursor.specs.declared.Item.{Item}
+use Rattle.tree.specs.Rows.{itemAt}
+use Rattle.tree.specs.Asking.{Result, good, bad}
+use Rattle.find.specs.Find.{Wanted, standard, custom, Hit}
+use Rattle.find.specs.declared.Field.{Field}
+use Rattle.find.specs.declared.Field.the-variants as field
+use Rattle.find.specs.declared.Found.{Found}
+use Rattle.find.specs.declared.Found.the-variants as found
+
+-- the field that is looked for, with the name that stands beside it
+abbrev pub wantedOf : Field → List ℕ → Wanted
+wantedOf (field.Standard n) name = standard n
+wantedOf field.Custom name = custom name
+
+abbrev pub told : Found → Result Hit
+told (found.Item i r) = good (record { row = i; item = r })
+told (found.Refused n p) = bad n p
+
+-- a custom name lies in a file of `size` bytes
+abbrev pub Named : ℕ → Item → Type 0
+Named size r = (r .kind ≡ 0) ⊎ (r .field + r .named ≤ size)
+
+-- all of them do
+abbrev pub AllNamed : ℕ → List Item → Type 0
+AllNamed size is = (i : ℕ) → i < length is → Named size (itemAt is i)

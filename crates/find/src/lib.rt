@@ -1,0 +1,243 @@
+// The question Find: the nearest item row of a field, climbing from a node to the root.
+ghost use mathlib.Core.Path.{_≡_};
+ghost use Prim.Native.Nat.{_≤_, _<_, _*_, _+_, min};
+ghost use lib.ListN.{length};
+ghost use lib.Seq.{slice};
+ghost use Rattle.metadata.specs.Tables.{limits};
+ghost use Rattle.tree.specs.Reading.{readFile};
+ghost use Rattle.tree.specs.Rows.{nodesIn, itemsIn, itemFrom};
+ghost use Rattle.tree.specs.Asking.{ask, keptNodes, keptItems};
+ghost use Rattle.find.specs.Find.{standard, custom, sameBytes, matches, firstRow, among, look, nearest, find};
+ghost use Rattle.find.specs.Told.{wantedOf, told, Named, AllNamed};
+use cursor::Item;
+use tree::Read;
+
+// The field that is looked for: a standard number, or the custom name that is lent beside it.
+pub enum Field {
+    Standard(u64),
+    Custom,
+}
+
+// The item row that was found, as its number in the item table and its ten words; or a refusal, as number and place.
+pub enum Found {
+    Item(usize, Item),
+    Refused(u64, usize),
+}
+
+fn least(a: usize, b: usize) -> usize
+    ensures { λ r. ⌜ r ≡ min a b ⌝ }
+{
+    if a <= b { a } else { b }
+}
+
+// Whether the file's bytes from `at` on are those of the name.
+fn same_bytes(file: &[u8], at: usize, name: &[u8]) -> bool
+    requires { ⌜ at + length (now name) ≤ length (now file) ⌝ }
+    ensures { λ r. ⌜ r ≡ sameBytes (now (file .entry)) at (now (name .entry)) ⌝ }
+{
+    let mut i = 0;
+    while i < name.len() {
+        if file[at + i] != name[i] {
+            return false;
+        }
+        i = i + 1;
+    }
+    true
+}
+
+// Whether the row is of that custom name.
+fn is_named(file: &[u8], row: Item, name: &[u8]) -> bool
+    requires { ⌜ Named (length (now file)) row ⌝ }
+    ensures { λ r. ⌜ r ≡ matches (now (file .entry)) (custom (now (name .entry))) row ⌝ }
+{
+    if name.len() == 0 {
+        return false;
+    }
+    if row.kind != 1 {
+        return false;
+    }
+    if row.named != name.len() as u64 {
+        return false;
+    }
+    same_bytes(file, row.field as usize, name)
+}
+
+// Whether the row is of that field.
+fn is_wanted(file: &[u8], row: Item, field: Field, name: &[u8]) -> bool
+    requires { ⌜ Named (length (now file)) row ⌝ }
+    ensures { λ r. ⌜ r ≡ matches (now (file .entry)) (wantedOf field (now (name .entry))) row ⌝ }
+{
+    match field {
+        Field::Custom => is_named(file, row, name),
+        Field::Standard(number) => {
+            if row.kind != 0 {
+                return false;
+            }
+            row.field == number
+        }
+    }
+}
+
+// Row i of the item table.
+fn item_at(items: &[u64], i: usize) -> Item
+    requires { ⌜ i * 10 + 10 ≤ length (now items) ⌝ }
+    ensures { λ r. ⌜ r ≡ itemFrom (now (items .entry)) (i * 10) ⌝ }
+{
+    let k = i * 10;
+    Item {
+        node: items[k],
+        item: items[k + 1],
+        kind: items[k + 2],
+        field: items[k + 3],
+        named: items[k + 4],
+        version: items[k + 5],
+        declared: items[k + 6],
+        format: items[k + 7],
+        place: items[k + 8],
+        size: items[k + 9],
+    }
+}
+
+// The rows of the nodes before node k, or `most` if there are more.
+fn first_row(nodes: &[u64], count: usize, k: usize, most: usize) -> usize
+    requires { ⌜ (count * 12 ≤ length (now nodes)) × (k ≤ count) ⌝ }
+    ensures { λ r. ⌜ r ≡ min (firstRow (nodesIn count (now (nodes .entry))) k) most ⌝ }
+{
+    let mut sum = 0;
+    let mut i = 0;
+    while i < k {
+        sum = sum + least(nodes[i * 12 + 11] as usize, most - sum);
+        i = i + 1;
+    }
+    sum
+}
+
+// The first row of that field from row `from` on, before row `end`.
+fn search(
+    file: &[u8],
+    items: &[u64],
+    rows: usize,
+    from: usize,
+    end: usize,
+    field: Field,
+    name: &[u8],
+) -> Found
+    requires { ⌜ (rows * 10 ≤ length (now items)) × (from ≤ end) × (end ≤ rows) × AllNamed (length (now file)) (itemsIn rows (now items)) ⌝ }
+    ensures { λ r. ⌜ told r ≡ among (now (file .entry)) (wantedOf field (now (name .entry))) from (slice from end (itemsIn rows (now (items .entry)))) ⌝ }
+{
+    let mut i = from;
+    while i < end {
+        let row = item_at(items, i);
+        if is_wanted(file, row, field, name) {
+            return Found::Item(i, row);
+        }
+        i = i + 1;
+    }
+    Found::Refused(cursor::NO_SUCH_ITEM, 0)
+}
+
+// The first row of that field on node k itself.
+fn look(
+    file: &[u8],
+    nodes: &[u64],
+    items: &[u64],
+    count: usize,
+    rows: usize,
+    k: usize,
+    field: Field,
+    name: &[u8],
+) -> Found
+    requires { ⌜ (count * 12 ≤ length (now nodes)) × (rows * 10 ≤ length (now items)) × (k < count) × AllNamed (length (now file)) (itemsIn rows (now items)) ⌝ }
+    ensures { λ r. ⌜ told r ≡ look (now (file .entry)) (wantedOf field (now (name .entry))) (nodesIn count (now (nodes .entry))) (itemsIn rows (now (items .entry))) k ⌝ }
+{
+    let from = first_row(nodes, count, k, rows);
+    let own = least(nodes[k * 12 + 11] as usize, rows - from);
+    search(file, items, rows, from, from + own, field, name)
+}
+
+// The nearest row of that field: on node k, or else on its parent, whose row is smaller, and so on to the root.
+fn climb(
+    file: &[u8],
+    nodes: &[u64],
+    items: &[u64],
+    count: usize,
+    rows: usize,
+    k: usize,
+    field: Field,
+    name: &[u8],
+) -> Found
+    requires { ⌜ (count * 12 ≤ length (now nodes)) × (rows * 10 ≤ length (now items)) × (k < count) × AllNamed (length (now file)) (itemsIn rows (now items)) ⌝ }
+    ensures { λ r. ⌜ told r ≡ nearest (now (file .entry)) (wantedOf field (now (name .entry))) (nodesIn count (now (nodes .entry))) (itemsIn rows (now (items .entry))) k ⌝ }
+{
+    match look(file, nodes, items, count, rows, k, field, name) {
+        Found::Item(i, row) => Found::Item(i, row),
+        Found::Refused(_, _) => {
+            let parent = nodes[k * 12 + 4] as usize;
+            if k <= parent {
+                return Found::Refused(cursor::NO_SUCH_ITEM, 0);
+            }
+            climb(file, nodes, items, count, rows, parent, field, name)
+        }
+    }
+}
+
+// Reads the file and climbs from the row.
+fn find_field(
+    file: &[u8],
+    nodes: &mut [u64],
+    items: &mut [u64],
+    row: usize,
+    field: Field,
+    name: &[u8],
+) -> Found
+    ensures answer { λ r. ⌜ told r ≡ ask (readFile (limits (length (now (nodes .entry))) (length (now (items .entry)))) (now (file .entry))) (find (now (file .entry)) (wantedOf field (now (name .entry))) row) ⌝ }
+    ensures nodes { λ _. ⌜ now (nodes .exit) ≡ keptNodes (length (now (nodes .entry))) (readFile (limits (length (now (nodes .entry))) (length (now (items .entry)))) (now (file .entry))) (ask (readFile (limits (length (now (nodes .entry))) (length (now (items .entry)))) (now (file .entry))) (find (now (file .entry)) (wantedOf field (now (name .entry))) row)) ⌝ }
+    ensures items { λ _. ⌜ now (items .exit) ≡ keptItems (length (now (items .entry))) (readFile (limits (length (now (nodes .entry))) (length (now (items .entry)))) (now (file .entry))) (ask (readFile (limits (length (now (nodes .entry))) (length (now (items .entry)))) (now (file .entry))) (find (now (file .entry)) (wantedOf field (now (name .entry))) row)) ⌝ }
+{
+    match tree::read_file(file, nodes, items) {
+        Read::Refused(n, p) => Found::Refused(n, p.0),
+        Read::Is(s) => {
+            if s.nodes <= row {
+                tree::clear_all(nodes, items);
+                return Found::Refused(cursor::NO_SUCH_ROW, 0);
+            }
+            match climb(file, nodes, items, s.nodes, s.items, row, field, name) {
+                Found::Item(i, item) => Found::Item(i, item),
+                Found::Refused(n, p) => {
+                    tree::clear_all(nodes, items);
+                    Found::Refused(n, p)
+                }
+            }
+        }
+    }
+}
+
+// The nearest item row of a standard field.
+pub fn find_standard(
+    file: &[u8],
+    nodes: &mut [u64],
+    items: &mut [u64],
+    row: usize,
+    number: u64,
+) -> Found
+    ensures answer { λ r. ⌜ told r ≡ ask (readFile (limits (length (now (nodes .entry))) (length (now (items .entry)))) (now (file .entry))) (find (now (file .entry)) (standard number) row) ⌝ }
+    ensures nodes { λ _. ⌜ now (nodes .exit) ≡ keptNodes (length (now (nodes .entry))) (readFile (limits (length (now (nodes .entry))) (length (now (items .entry)))) (now (file .entry))) (ask (readFile (limits (length (now (nodes .entry))) (length (now (items .entry)))) (now (file .entry))) (find (now (file .entry)) (standard number) row)) ⌝ }
+    ensures items { λ _. ⌜ now (items .exit) ≡ keptItems (length (now (items .entry))) (readFile (limits (length (now (nodes .entry))) (length (now (items .entry)))) (now (file .entry))) (ask (readFile (limits (length (now (nodes .entry))) (length (now (items .entry)))) (now (file .entry))) (find (now (file .entry)) (standard number) row)) ⌝ }
+{
+    find_field(file, nodes, items, row, Field::Standard(number), b"")
+}
+
+// The nearest item row of a custom field, whose name is lent.
+pub fn find_custom(
+    file: &[u8],
+    nodes: &mut [u64],
+    items: &mut [u64],
+    row: usize,
+    name: &[u8],
+) -> Found
+    ensures answer { λ r. ⌜ told r ≡ ask (readFile (limits (length (now (nodes .entry))) (length (now (items .entry)))) (now (file .entry))) (find (now (file .entry)) (custom (now (name .entry))) row) ⌝ }
+    ensures nodes { λ _. ⌜ now (nodes .exit) ≡ keptNodes (length (now (nodes .entry))) (readFile (limits (length (now (nodes .entry))) (length (now (items .entry)))) (now (file .entry))) (ask (readFile (limits (length (now (nodes .entry))) (length (now (items .entry)))) (now (file .entry))) (find (now (file .entry)) (custom (now (name .entry))) row)) ⌝ }
+    ensures items { λ _. ⌜ now (items .exit) ≡ keptItems (length (now (items .entry))) (readFile (limits (length (now (nodes .entry))) (length (now (items .entry)))) (now (file .entry))) (ask (readFile (limits (length (now (nodes .entry))) (length (now (items .entry)))) (now (file .entry))) (find (now (file .entry)) (custom (now (name .entry))) row)) ⌝ }
+{
+    find_field(file, nodes, items, row, Field::Custom, name)
+}

@@ -1,0 +1,134 @@
+-- The rows of an accepted file: each reference 3 leads to a row, and what a question resolves to lies in the file.
+-- Assumes nothing.
+use mathlib.Core.Path.{_≡_, refl, sym, ap, subst, _∙_}
+use mathlib.Core.Bool.{Bool, true, false, not, _&&_, _||_, true≢false}
+use mathlib.Core.Logic.{_⊎_, inl, inr}
+use mathlib.Core.List.{List, [], _∷_}
+use Prim.Native.Nat.{ℕ, zero, suc, _+_, _≤_, _<_}
+use native.Mathlib.Decide.{ℕ-discrete, decLt}
+use native.Mathlib.Omega.{arith}
+use lib.Dec.{eqb}
+use lib.ListN.{length}
+use borrow.Author.Tests.{eq-eqb, not-false, lt-ltb, le-ltb}
+use Rattle.cursor.specs.Machine.{Out, ok, refused, run, trace}
+use Rattle.cursor.specs.Rows.{Events}
+use Rattle.cursor.specs.declared.Node.{Node}
+use Rattle.cursor.specs.declared.Item.{Item}
+use Rattle.header.specs.Header.{Header, header}
+use Rattle.metadata.specs.declared.Limits.{Limits}
+use Rattle.metadata.specs.declared.Made.{Made}
+use Rattle.tree.specs.Tree.{tree}
+use Rattle.tree.specs.Reading.{nodesOf, itemsOf, Reading, rows, refusal, startsAt, lost, offsetAt, checked, targets, reading, context, readTree, readFile}
+use Rattle.tree.specs.Rows.{nodeAt}
+use Rattle.tree.specs.Asking.{Result, good, bad, ask}
+use Rattle.tree.proofs.Rows.{NodeIn, accepted, never}
+use Rattle.resolve.specs.Resolve.{if_then_else_, Resource, rowStarting, named, reached, chain, resolveRow, resolve}
+use Rattle.resolve.specs.Told.{Linked}
+use Rattle.resolve.proofs.Chain.{reached-folder, reached-one, reached-two, reached-three, reached-uri}
+
+-- ---- each reference 3 leads to a row
+
+below-by : (b c : Bool) (n m : ℕ) → (c ≡ true → n < m) → (b || c) ≡ true → (if b then 0 else suc n) < suc m
+unfolding if_then_else_
+below-by true c n m h e = omega arith
+below-by false c n m h e = let x = h e in omega arith
+
+row-below : (ns : List Node) (p : ℕ) → startsAt ns p ≡ true → rowStarting ns p < length ns
+unfolding startsAt rowStarting
+row-below [] p e = absurd (true≢false (sym e))
+row-below (r ∷ rs) p e = below-by (eqb (r .start) p) (startsAt rs p) (rowStarting rs p) (length rs) (row-below rs p) e
+
+found-by : (all : List Node) (r : Node) → lost all r ≡ false → r .reference ≡ 3 → startsAt all (r .target) ≡ true
+unfolding lost
+found-by all r e q = not-false _ (sym (ap (λ b. b && not (startsAt all (r .target))) (eq-eqb _ _ q)) ∙ e)
+
+module _ {h : Header} {ns : List Node} {is : List Item} where
+  checked-by : (b : Bool) (p : ℕ) (v : Reading) → checked b p v ≡ rows h ns is → (b ≡ false) × (v ≡ rows h ns is)
+  unfolding checked
+  checked-by true p v e = never e
+  checked-by false p v e = (refl, e)
+
+  none-lost : (f : List ℕ) (all rs : List Node) (o : Reading) → targets f all rs o ≡ rows h ns is → ((i : ℕ) → i < length rs → lost all (nodeAt rs i) ≡ false) × (o ≡ rows h ns is)
+  unfolding targets
+  none-lost f all [] o e = (λ i l. absurd (omega arith), e)
+  none-lost f all (r ∷ rs) o e =
+      let w = checked-by (lost all r) (offsetAt f r) (targets f all rs o) e in
+      let v = none-lost f all rs o (w .1) in
+      (λ i l. row-not-lost (w .0) (v .0) i l, v .1)
+    where
+      row-not-lost : lost all r ≡ false → ((i : ℕ) → i < length rs → lost all (nodeAt rs i) ≡ false) → (i : ℕ) → i < suc (length rs) → lost all (nodeAt (r ∷ rs) i) ≡ false
+      row-not-lost a b zero l = a
+      row-not-lost a b (suc i) l = b i (omega arith)
+
+  linked-tree : (f : List ℕ) (g : Header) (o : Out Made) (es : Events) → reading g f o es ≡ rows h ns is → Linked ns
+  unfolding reading
+  linked-tree f g (ok m p) es e =
+      let w = none-lost f (nodesOf es) (nodesOf es) (rows g (nodesOf es) (itemsOf es)) e in
+      let q = w .1 in
+      let x : nodesOf es ≡ ns = cc in
+      rw (← x) (λ i l t. row-below _ _ (found-by _ _ (w .0 i l) t))
+  linked-tree f g (refused n p) es e = never e
+
+  linked-header : (lim : Limits) (f : List ℕ) (o : Out Header) → readTree lim f o ≡ rows h ns is → Linked ns
+  unfolding readTree
+  linked-header lim f (ok g p) e =
+      linked-tree f g (run (tree (context lim g (length f)) (g .extent .last + 1)) f (g .extent .start)) (trace (tree (context lim g (length f)) (g .extent .last + 1)) f (g .extent .start)) e
+  linked-header lim f (refused n p) e = never e
+
+  pub linked : (lim : Limits) (f : List ℕ) → readFile lim f ≡ rows h ns is → Linked ns
+  unfolding readFile
+  linked lim f e = linked-header lim f (run (header (length f)) f 0) e
+
+-- ---- what is resolved lies in the file
+
+abbrev pub InPart : ℕ → Result Resource → Type 0
+InPart size (good r) = r .place + r .size ≤ size
+InPart size (bad n p) = Unit {0}
+
+in-named : (size : ℕ) (r : Node) (k hops : ℕ) → NodeIn size r → (r .reference ≡ 3 → ⊥) → InPart size (named r k hops)
+unfolding named
+in-named size r k hops w n = by (w .2)
+  where
+    by : (r .reference ≡ 3) ⊎ (r .target + r .extent ≤ size) → r .target + r .extent ≤ size
+    by (inl e) = absurd (n e)
+    by (inr l) = l
+
+in-reached : (size : ℕ) (r : Node) (k hops : ℕ) (two three : Result Resource) → NodeIn size r → (r .reference ≡ 2 → InPart size two) → (r .reference ≡ 3 → InPart size three)
+    → InPart size (reached r k hops two three)
+in-reached size r k hops two three w a b =
+    elim (ℕ-discrete (r .held) 0) [
+      | no n ↦ rw (reached-folder r k hops two three n) tt
+      | yes z ↦ elim (ℕ-discrete (r .reference) 1) [
+        | yes e ↦ rw (reached-one r k hops two three z e) (in-named size r k hops w (λ t. omega arith))
+        | no n ↦ elim (ℕ-discrete (r .reference) 2) [
+          | yes e ↦ rw (reached-two r k hops two three z e) (a e)
+          | no m ↦ elim (ℕ-discrete (r .reference) 3) [
+            | yes e ↦ rw (reached-three r k hops two three z e) (b e)
+            | no o ↦ rw (reached-uri r k hops two three z n m o) tt
+          ]
+        ]
+      ]
+    ]
+
+module _ (size : ℕ) (ns : List Node) (h : Linked ns) (inside : (i : ℕ) → i < length ns → NodeIn size (nodeAt ns i)) where
+  in-chain : (left k hops : ℕ) → k < length ns → InPart size (chain left ns k hops)
+  unfolding chain
+  in-chain zero k hops l = in-reached size (nodeAt ns k) k hops (bad 21 0) (bad 21 0) (inside k l) (λ e. tt) (λ e. tt)
+  in-chain (suc left) k hops l =
+      in-reached size (nodeAt ns k) k hops (named (nodeAt ns k) k (hops + 1)) (chain left ns (rowStarting ns (nodeAt ns k .target)) (hops + 1)) (inside k l)
+      (λ e. in-named size (nodeAt ns k) k (hops + 1) (inside k l) (λ t. omega arith)) (λ e. in-chain left (rowStarting ns (nodeAt ns k .target)) (hops + 1) (h k l e))
+
+  in-row : (row : ℕ) → InPart size (resolveRow row ns)
+  unfolding resolveRow if_then_else_
+  in-row row = elim (decLt row (length ns)) [
+    | yes l ↦ rw (lt-ltb _ _ l) (in-chain 4 row 0 l)
+    | no n ↦ rw (le-ltb row (length ns) (omega arith)) tt
+  ]
+
+in-ask : (lim : Limits) (f : List ℕ) (row : ℕ) (o : Reading) → readFile lim f ≡ o → InPart (length f) (ask o (resolve row))
+unfolding ask resolve
+in-ask lim f row (rows h ns is) e = in-row (length f) ns (linked lim f e) (accepted lim f e .nodes-inside) row
+in-ask lim f row (refusal n p) e = tt
+
+pub resolved-in : (lim : Limits) (f : List ℕ) (row : ℕ) {r : Resource} → good r ≡ ask (readFile lim f) (resolve row) → r .place + r .size ≤ length f
+resolved-in lim f row {r} e = subst (InPart (length f)) (sym e) (in-ask lim f row (readFile lim f) refl)

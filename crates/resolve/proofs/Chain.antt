@@ -1,0 +1,158 @@
+-- The search for a row that starts at a place; and the chain of references, case by case, on rows and on the words they are read from.
+-- Assumes nothing.
+use mathlib.Core.Path.{_≡_, refl, sym, ap, _∙_}
+use mathlib.Core.List.{List, _∷_}
+use Prim.Native.Nat.{ℕ, zero, suc, _+_, _*_, _-_, _≤_, _<_}
+use native.Mathlib.Omega.{arith}
+use lib.ListN.{length, getD}
+use borrow.Author.Tests.{eq-eqb, ne-eqb, lt-ltb, le-ltb}
+use Rattle.cursor.specs.declared.Node.{Node}
+use Rattle.tree.specs.Rows.{nodeFrom, nodesFrom, nodesIn, nodeAt}
+use Rattle.tree.specs.Asking.{Result, good, bad}
+use Rattle.tree.proofs.Rows.{node-at, nodes-in-length}
+use Rattle.resolve.specs.Resolve.{if_then_else_, Resource, rowStarting, named, reached, chain, resolveRow}
+use Rattle.resolve.specs.Told.{Linked}
+
+-- ---- the search
+
+-- what is left of the search from row i
+abbrev pub Searching : List ℕ → ℕ → ℕ → ℕ → Type 0
+Searching ws count p i = rowStarting (nodesIn count ws) p ≡ i + rowStarting (nodesFrom i (count - i) ws) p
+
+module _ (ws : List ℕ) (count p : ℕ) where
+  pub search-begins : Searching ws count p 0
+  unfolding nodesIn
+  search-begins = let e : count ≡ count - 0 = omega arith in let z : (n : ℕ) → n ≡ 0 + n = λ n. omega arith in ap (λ k. rowStarting (nodesFrom 0 k ws) p) e ∙ z _
+
+  module _ (i : ℕ) (h : Searching ws count p i) where
+    next-row : i < count → nodesFrom i (count - i) ws ≡ nodeFrom ws (i * 12) ∷ nodesFrom (i + 1) (count - (i + 1)) ws
+    unfolding nodesFrom
+    next-row l = let e : count - i ≡ suc (count - (i + 1)) = omega arith in ap (λ k. nodesFrom i k ws) e
+
+    pub search-found : i < count → getD ws (i * 12) 0 ≡ p → i ≡ rowStarting (nodesIn count ws) p
+    unfolding rowStarting if_then_else_
+    search-found l q =
+        let x : rowStarting (nodesFrom i (count - i) ws) p ≡ 0 = ap (λ v. rowStarting v p) (next-row l) ∙ simp (eq-eqb _ _ q) in
+        omega (arith, h)
+
+    pub search-on : i < count → (getD ws (i * 12) 0 ≡ p → ⊥) → Searching ws count p (i + 1)
+    unfolding rowStarting if_then_else_
+    search-on l n =
+        let x : rowStarting (nodesFrom i (count - i) ws) p ≡ suc (rowStarting (nodesFrom (i + 1) (count - (i + 1)) ws) p)
+        = ap (λ v. rowStarting v p) (next-row l) ∙ simp (ne-eqb _ _ n) in
+        omega (arith, h)
+
+    pub search-ends : count ≤ i → i ≡ rowStarting (nodesIn count ws) p
+    unfolding rowStarting nodesFrom
+    search-ends l =
+        let e : count - i ≡ 0 = omega arith in
+        let x : rowStarting (nodesFrom i (count - i) ws) p ≡ 0 = ap (λ k. rowStarting (nodesFrom i k ws) p) e in
+        omega (arith, h)
+
+-- ---- the answer at a node
+
+module _ (r : Node) (k hops : ℕ) (two three : Result Resource) where
+  pub reached-folder : (r .held ≡ 0 → ⊥) → reached r k hops two three ≡ bad 19 0
+  unfolding reached if_then_else_
+  reached-folder n = simp (ne-eqb _ _ n)
+
+  module _ (file : r .held ≡ 0) where
+    pub reached-one : r .reference ≡ 1 → reached r k hops two three ≡ named r k hops
+    unfolding reached if_then_else_
+    reached-one e = simp (eq-eqb _ _ file, eq-eqb _ _ e)
+
+    pub reached-two : r .reference ≡ 2 → reached r k hops two three ≡ two
+    unfolding reached if_then_else_
+    reached-two e = let n : r .reference ≡ 1 → ⊥ = λ z. omega arith in simp (eq-eqb _ _ file, ne-eqb _ _ n, eq-eqb _ _ e)
+
+    pub reached-three : r .reference ≡ 3 → reached r k hops two three ≡ three
+    unfolding reached if_then_else_
+    reached-three e =
+        let n : r .reference ≡ 1 → ⊥ = λ z. omega arith in
+        let m : r .reference ≡ 2 → ⊥ = λ z. omega arith in
+        simp (eq-eqb _ _ file, ne-eqb _ _ n, ne-eqb _ _ m, eq-eqb _ _ e)
+
+    pub reached-uri : (r .reference ≡ 1 → ⊥) → (r .reference ≡ 2 → ⊥) → (r .reference ≡ 3 → ⊥) → reached r k hops two three ≡ bad 20 0
+    unfolding reached if_then_else_
+    reached-uri n m o = simp (eq-eqb _ _ file, ne-eqb _ _ n, ne-eqb _ _ m, ne-eqb _ _ o)
+
+-- ---- the chain from row k of the words
+
+-- the two answers if a reference is followed
+abbrev afterTwo : ℕ → List Node → ℕ → ℕ → Result Resource
+afterTwo zero ns k hops = bad 21 0
+afterTwo (suc left) ns k hops = named (nodeAt ns k) k (hops + 1)
+
+abbrev afterThree : ℕ → List Node → ℕ → ℕ → Result Resource
+afterThree zero ns k hops = bad 21 0
+afterThree (suc left) ns k hops = chain left ns (rowStarting ns (nodeAt ns k .target)) (hops + 1)
+
+chain-is : (left : ℕ) (ns : List Node) (k hops : ℕ) → chain left ns k hops ≡ reached (nodeAt ns k) k hops (afterTwo left ns k hops) (afterThree left ns k hops)
+unfolding chain
+chain-is zero ns k hops = refl
+chain-is (suc left) ns k hops = refl
+
+module _ (ws : List ℕ) (count left k hops : ℕ) (l : k < count) where
+  on-words : chain left (nodesIn count ws) k hops
+      ≡ reached (nodeFrom ws (k * 12)) k hops (afterTwo left (nodesIn count ws) k hops) (afterThree left (nodesIn count ws) k hops)
+  on-words = chain-is left (nodesIn count ws) k hops ∙ ap (λ r. reached r k hops (afterTwo left (nodesIn count ws) k hops) (afterThree left (nodesIn count ws) k hops)) (node-at ws count k l)
+
+  pub at-folder : (getD ws (k * 12 + 3) 0 ≡ 0 → ⊥) → bad 19 0 ≡ chain left (nodesIn count ws) k hops
+  at-folder n = sym (on-words ∙ reached-folder _ k hops _ _ n)
+
+  module _ (file : getD ws (k * 12 + 3) 0 ≡ 0) where
+    pub at-one : getD ws (k * 12 + 6) 0 ≡ 1 → good (record { place = getD ws (k * 12 + 7) 0; size = getD ws (k * 12 + 8) 0; row = k; hops = hops }) ≡ chain left (nodesIn count ws) k hops
+    unfolding named
+    at-one e = sym (on-words ∙ reached-one _ k hops _ _ file e)
+
+    pub at-uri : (getD ws (k * 12 + 6) 0 ≡ 1 → ⊥) → (getD ws (k * 12 + 6) 0 ≡ 2 → ⊥) → (getD ws (k * 12 + 6) 0 ≡ 3 → ⊥) → bad 20 0 ≡ chain left (nodesIn count ws) k hops
+    at-uri n m o = sym (on-words ∙ reached-uri _ k hops _ _ file n m o)
+
+    pub two-many : getD ws (k * 12 + 6) 0 ≡ 2 → left ≡ 0 → bad 21 0 ≡ chain left (nodesIn count ws) k hops
+    two-many e z = sym (on-words ∙ reached-two _ k hops _ _ file e ∙ ap (λ n. afterTwo n (nodesIn count ws) k hops) z)
+
+    pub three-many : getD ws (k * 12 + 6) 0 ≡ 3 → left ≡ 0 → bad 21 0 ≡ chain left (nodesIn count ws) k hops
+    three-many e z = sym (on-words ∙ reached-three _ k hops _ _ file e ∙ ap (λ n. afterThree n (nodesIn count ws) k hops) z)
+
+    module _ (more : left ≡ 0 → ⊥) where
+      less : left ≡ suc (left - 1)
+      less = omega arith
+
+      pub two-on : getD ws (k * 12 + 6) 0 ≡ 2
+          → good (record { place = getD ws (k * 12 + 7) 0; size = getD ws (k * 12 + 8) 0; row = k; hops = hops + 1 }) ≡ chain left (nodesIn count ws) k hops
+      unfolding named
+      two-on e =
+          sym
+          (on-words ∙ reached-two _ k hops _ _ file e ∙ ap (λ n. afterTwo n (nodesIn count ws) k hops) less
+          ∙ ap (λ r. named r k (hops + 1)) (node-at ws count k l))
+
+      target-is : nodeAt (nodesIn count ws) k .target ≡ getD ws (k * 12 + 7) 0
+      target-is = ap (λ (r : Node). r .target) (node-at ws count k l)
+
+      pub three-on : getD ws (k * 12 + 6) 0 ≡ 3 → {next : ℕ} → next ≡ rowStarting (nodesIn count ws) (getD ws (k * 12 + 7) 0) → {a : Result Resource}
+          → a ≡ chain (left - 1) (nodesIn count ws) next (hops + 1) → a ≡ chain left (nodesIn count ws) k hops
+      three-on e {next} s {a} t =
+          t ∙ ap (λ n. chain (left - 1) (nodesIn count ws) n (hops + 1)) (s ∙ ap (rowStarting (nodesIn count ws)) (sym target-is))
+          ∙ sym (on-words ∙ reached-three _ k hops _ _ file e ∙ ap (λ n. afterThree n (nodesIn count ws) k hops) less)
+
+-- the row that a reference 3 leads to is there
+pub next-there : (ws : List ℕ) (count k : ℕ) → k < count → Linked (nodesIn count ws) → getD ws (k * 12 + 6) 0 ≡ 3 → {next : ℕ} → next ≡ rowStarting (nodesIn count ws) (getD ws (k * 12 + 7) 0)
+    → next < count
+next-there ws count k l h e {next} s =
+    let c = nodes-in-length ws count in
+    let q : nodeAt (nodesIn count ws) k .reference ≡ 3 = ap (λ (r : Node). r .reference) (node-at ws count k l) ∙ e in
+    let t : nodeAt (nodesIn count ws) k .target ≡ getD ws (k * 12 + 7) 0 = ap (λ (r : Node). r .target) (node-at ws count k l) in
+    let w : rowStarting (nodesIn count ws) (nodeAt (nodesIn count ws) k .target) < length (nodesIn count ws) = h k (omega arith) q in
+    let g : next ≡ rowStarting (nodesIn count ws) (nodeAt (nodesIn count ws) k .target) = s ∙ ap (rowStarting (nodesIn count ws)) (sym t) in
+    omega arith
+
+-- ---- a row
+
+module _ (ws : List ℕ) (count row : ℕ) where
+  pub row-none : count ≤ row → bad 18 0 ≡ resolveRow row (nodesIn count ws)
+  unfolding resolveRow if_then_else_
+  row-none l = let c = nodes-in-length ws count in let m : length (nodesIn count ws) ≤ row = omega arith in simp (le-ltb _ _ m)
+
+  pub row-there : row < count → {a : Result Resource} → a ≡ chain 4 (nodesIn count ws) row 0 → a ≡ resolveRow row (nodesIn count ws)
+  unfolding resolveRow if_then_else_
+  row-there l {a} e = let c = nodes-in-length ws count in let m : row < length (nodesIn count ws) = omega arith in e ∙ simp (lt-ltb _ _ m)

@@ -1,0 +1,77 @@
+-- The ways out of the question: what each exit of the code comes to, answer and both tables.
+-- Assumes nothing.
+use mathlib.Core.Path.{_≡_, sym, ap, _∙_}
+use mathlib.Core.List.{List, []}
+use Prim.Native.Nat.{ℕ, _+_, _*_, _-_, _≤_}
+use native.Mathlib.Omega.{arith}
+use lib.ListN.{length, replicate, take, drop}
+use Rattle.cursor.specs.declared.FilePlace.{FilePlace}
+use Rattle.metadata.specs.Tables.{limits}
+use Rattle.tree.specs.Reading.{readFile, readOf, nodeTable, itemTable}
+use Rattle.tree.specs.Rows.{nodesIn}
+use Rattle.tree.specs.Asking.{Result, good, bad, ask, keptNodes, keptItems}
+use Rattle.tree.specs.declared.Summary.{Summary}
+use Rattle.tree.specs.declared.Read.{Read}
+use Rattle.tree.specs.declared.Read.the-variants as read
+use Rattle.tree.proofs.Rows.{Standing, standing, ask-refused, refused-nodes, refused-items, ask-is, good-nodes, good-items, bad-nodes, bad-items}
+use Rattle.resolve.specs.Resolve.{Resource, resolveRow, resolve, part}
+use Rattle.resolve.specs.Told.{told, Linked}
+use Rattle.resolve.specs.declared.Resolved.{Resolved}
+use Rattle.resolve.specs.declared.Resolved.the-variants as resolved
+use Rattle.resolve.proofs.Accepted.{linked, resolved-in}
+
+-- the answer, and both tables
+abbrev pub Ends : List ℕ → ℕ → ℕ → ℕ → Result Resource → List ℕ → List ℕ → Type 0
+Ends f nsize isize row a t u =
+    (a ≡ ask (readFile (limits nsize isize) f) (resolve row))
+    × (t ≡ keptNodes nsize (readFile (limits nsize isize) f) (ask (readFile (limits nsize isize) f) (resolve row)))
+    × (u ≡ keptItems isize (readFile (limits nsize isize) f) (ask (readFile (limits nsize isize) f) (resolve row)))
+
+module _ (f : List ℕ) (nsize isize row : ℕ) {r : Read} {t u : List ℕ} (e : r ≡ readOf (readFile (limits nsize isize) f))
+    (a : t ≡ nodeTable nsize (readFile (limits nsize isize) f)) (b : u ≡ itemTable isize (readFile (limits nsize isize) f)) where
+  pub ends-unread : {n : ℕ} {p : FilePlace} → r ≡ read.Refused n p → Ends f nsize isize row (bad n (p .0)) t u
+  ends-unread k = (sym (ask-refused _ e k (resolve row)), refused-nodes _ (resolve row) e k nsize a, refused-items _ (resolve row) e k isize b)
+
+  module _ {s : Summary} (k : r ≡ read.Is s) where
+    stands : Standing f (readFile (limits nsize isize) f) s t u
+    stands = standing f (limits nsize isize) nsize isize e a b k
+
+    pub rows-linked : Linked (nodesIn (s .nodes) t)
+    rows-linked = let w = stands in rw (w .nodes-are) (linked (limits nsize isize) f (w .reads))
+
+    pub rows-room : s .nodes * 12 ≤ length t
+    rows-room = stands .node-room
+
+    module _ (x : Resolved) (y : told x ≡ resolveRow row (nodesIn (s .nodes) t)) where
+      answered : told x ≡ resolve row (stands .h) (stands .ns) (stands .is)
+      unfolding resolve
+      answered = y ∙ ap (resolveRow row) (stands .nodes-are)
+
+      pub ends-refused : {n p : ℕ} → x ≡ resolved.Refused n p → {t' u' : List ℕ} → t' ≡ replicate nsize 0 → u' ≡ replicate isize 0 → Ends f nsize isize row (bad n p) t' u'
+      ends-refused {n} {p} z c d =
+          let w = stands in
+          let q : resolve row (w .h) (w .ns) (w .is) ≡ bad n p = sym answered ∙ ap told z in
+          (sym (ask-is (w .reads) (resolve row) ∙ q), bad-nodes (w .reads) (resolve row) nsize q c, bad-items (w .reads) (resolve row) isize q d)
+
+      pub ends-at : {place size last hops : ℕ} → x ≡ resolved.At place size last hops
+          → Ends f nsize isize row (good (record { place = place; size = size; row = last; hops = hops })) t u
+      ends-at {place} {size} {last} {hops} z =
+          let w = stands in
+          let q : resolve row (w .h) (w .ns) (w .is) ≡ good (record { place = place; size = size; row = last; hops = hops }) = sym answered ∙ ap told z in
+          (sym (ask-is (w .reads) (resolve row) ∙ q), good-nodes (w .reads) (resolve row) nsize q a, good-items (w .reads) (resolve row) isize q b)
+
+-- ---- the part of the file
+
+module _ (f : List ℕ) (x : Resolved) {o : Result Resource} (y : told x ≡ o) where
+  pub part-none : {n p : ℕ} → x ≡ resolved.Refused n p → [] ≡ part f o
+  unfolding part
+  part-none z = ap (part f) (ap told (sym z) ∙ y)
+
+  pub part-at : {place size row hops : ℕ} → x ≡ resolved.At place size row hops → take (place + size - place) (drop place f) ≡ part f o
+  unfolding part
+  part-at {place} {size} z = let e : place + size - place ≡ size = omega arith in ap (λ n. take n (drop place f)) e ∙ ap (part f) (ap told (sym z) ∙ y)
+
+-- it lies in the file
+pub part-inside : (f : List ℕ) (nsize isize row : ℕ) (x : Resolved) → told x ≡ ask (readFile (limits nsize isize) f) (resolve row) → {place size last hops : ℕ}
+    → x ≡ resolved.At place size last hops → place + size ≤ length f
+part-inside f nsize isize row x y z = resolved-in (limits nsize isize) f row (ap told (sym z) ∙ y)

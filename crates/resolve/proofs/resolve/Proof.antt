@@ -1,0 +1,77 @@
+-- `resolve` answers what the question answers of the file's reading; the tables keep the rows, and are cleared on a refusal.
+-- Assumes nothing.
+use lib.ListN.{length, replicate}
+use mathlib.Core.Path.{_∙_, ap}
+use Rattle.resolve.proofs.Exits.{ends-unread, rows-linked, rows-room, ends-refused, ends-at}
+use borrow.Author.Needs.{needs}
+use Rattle.resolve.proofs.resolve.Statement.{statement}
+use Rattle.resolve.proofs.resolve.Tie as tie
+
+read-file-requires : tie.Need-read-file-requires
+read-file-requires c κs = search needs
+
+enum-known-n : tie.Need-enum-known-n
+enum-known-n c = search needs
+
+enum-known-s : tie.Need-enum-known-s
+enum-known-s c = search needs
+
+resolve-row-requires : tie.Need-resolve-row-requires
+resolve-row-requires c κs = (rows-room (c .before .before .before .before .before .before .before .before .before .before .before .before .before .before .args .file .now) (length (c .before .before .before .before .before .before .before .before .before .before .before .before .before .before .args .nodes .now)) (length (c .before .before .before .before .before .before .before .before .before .before .before .before .before .before .args .items .now)) (c .before .before .before .before .before .before .before .before .before .before .before .before .before .before .args .row) (c .before .before .before .before .before .before .before .before .read-file .ensures .0) (c .before .before .before .before .before .before .before .before .read-file .ensures .1 .0) (c .before .before .before .before .before .before .before .before .read-file .ensures .1 .1) (c .before .before .s .given .1), rows-linked (c .before .before .before .before .before .before .before .before .before .before .before .before .before .before .args .file .now) (length (c .before .before .before .before .before .before .before .before .before .before .before .before .before .before .args .nodes .now)) (length (c .before .before .before .before .before .before .before .before .before .before .before .before .before .before .args .items .now)) (c .before .before .before .before .before .before .before .before .before .before .before .before .before .before .args .row) (c .before .before .before .before .before .before .before .before .read-file .ensures .0) (c .before .before .before .before .before .before .before .before .read-file .ensures .1 .0) (c .before .before .before .before .before .before .before .before .read-file .ensures .1 .1) (c .before .before .s .given .1))
+
+enum-known-n-2 : tie.Need-enum-known-n-2
+enum-known-n-2 c = search needs
+
+clear-all-requires : tie.Need-clear-all-requires
+clear-all-requires c κs = search needs
+
+enum-known-place : tie.Need-enum-known-place
+enum-known-place c = search needs
+
+same-length : tie.Need-same-length
+same-length c = search needs
+
+same-length-2 : tie.Need-same-length-2
+same-length-2 c = search needs
+
+returns : tie.Need-returns
+returns c = let w = ends-unread (c .before .before .before .before .before .before .before .before .before .before .before .before .before .args .file .now) (length (c .before .before .before .before .before .before .before .before .before .before .before .before .before .args .nodes .now)) (length (c .before .before .before .before .before .before .before .before .before .before .before .before .before .args .items .now)) (c .before .before .before .before .before .before .before .before .before .before .before .before .before .args .row) (c .before .before .before .before .before .before .before .read-file .ensures .0) (c .before .before .before .before .before .before .before .read-file .ensures .1 .0) (c .before .before .before .before .before .before .before .read-file .ensures .1 .1) (c .before .n .given .1) in (w .0, (w .1, w .2))
+
+same-length-3 : tie.Need-same-length-3
+same-length-3 c = c .before .before .before .before .clear-all .kept .0 ∙ c .before .before .before .before .before .before .before .before .before .before .before .before .before .before .before .before .before .before .before .read-file .kept .1 .0
+
+same-length-4 : tie.Need-same-length-4
+same-length-4 c = c .before .before .before .before .clear-all .kept .1 .0 ∙ c .before .before .before .before .before .before .before .before .before .before .before .before .before .before .before .before .before .before .before .read-file .kept .1 .1 .0
+
+returns-2 : tie.Need-returns-2
+returns-2 c = let w = ends-refused (c .before .before .before .before .before .before .before .before .before .before .before .before .before .before .before .before .before .before .before .before .before .before .before .before .before .args .file .now) (length (c .before .before .before .before .before .before .before .before .before .before .before .before .before .before .before .before .before .before .before .before .before .before .before .before .before .args .nodes .now)) (length (c .before .before .before .before .before .before .before .before .before .before .before .before .before .before .before .before .before .before .before .before .before .before .before .before .before .args .items .now)) (c .before .before .before .before .before .before .before .before .before .before .before .before .before .before .before .before .before .before .before .before .before .before .before .before .before .args .row) (c .before .before .before .before .before .before .before .before .before .before .before .before .before .before .before .before .before .before .before .read-file .ensures .0) (c .before .before .before .before .before .before .before .before .before .before .before .before .before .before .before .before .before .before .before .read-file .ensures .1 .0) (c .before .before .before .before .before .before .before .before .before .before .before .before .before .before .before .before .before .before .before .read-file .ensures .1 .1) (c .before .before .before .before .before .before .before .before .before .before .before .before .before .s .given .1) _ (c .before .before .before .before .before .before .before .before .before .before .resolve-row .ensures) (c .before .before .before .before .before .before .before .before .n2 .given .1) (c .before .before .before .before .clear-all .ensures .0 ∙ ap (λ n. replicate n 0) (c .before .before .before .before .before .before .before .before .before .before .before .before .before .before .before .before .before .before .before .read-file .kept .1 .0)) (c .before .before .before .before .clear-all .ensures .1 ∙ ap (λ n. replicate n 0) (c .before .before .before .before .before .before .before .before .before .before .before .before .before .before .before .before .before .before .before .read-file .kept .1 .1 .0)) in (w .0, (w .1, w .2))
+
+same-length-5 : tie.Need-same-length-5
+same-length-5 c = search needs
+
+same-length-6 : tie.Need-same-length-6
+same-length-6 c = search needs
+
+returns-3 : tie.Need-returns-3
+returns-3 c = let w = ends-at (c .before .before .before .before .before .before .before .before .before .before .before .before .before .before .before .before .before .before .args .file .now) (length (c .before .before .before .before .before .before .before .before .before .before .before .before .before .before .before .before .before .before .args .nodes .now)) (length (c .before .before .before .before .before .before .before .before .before .before .before .before .before .before .before .before .before .before .args .items .now)) (c .before .before .before .before .before .before .before .before .before .before .before .before .before .before .before .before .before .before .args .row) (c .before .before .before .before .before .before .before .before .before .before .before .before .read-file .ensures .0) (c .before .before .before .before .before .before .before .before .before .before .before .before .read-file .ensures .1 .0) (c .before .before .before .before .before .before .before .before .before .before .before .before .read-file .ensures .1 .1) (c .before .before .before .before .before .before .s .given .1) _ (c .before .before .before .resolve-row .ensures) (c .before .place .given .1) in (w .0, (w .1, w .2))
+
+pub resolve-spec : {M : Type 1} → statement M
+resolve-spec =
+    tie.close
+    (tie.spec
+    read-file-requires
+    enum-known-n
+    enum-known-s
+    resolve-row-requires
+    enum-known-n-2
+    clear-all-requires
+    enum-known-place
+    same-length
+    same-length-2
+    returns
+    same-length-3
+    same-length-4
+    returns-2
+    same-length-5
+    same-length-6
+    returns-3)

@@ -1,0 +1,3 @@
+pub mod Resolve
+pub mod Told
+pub mod Worked

@@ -1,0 +1,66 @@
+-- The question Resolve (01, Questions): where a row's resource is. It is answered of the node rows alone: no definition up to `resolve` takes the file.
+-- Assumes nothing.
+use mathlib.Core.Bool.{Bool, true, false, not}
+use mathlib.Core.List.{List, [], _∷_}
+use Prim.Native.Nat.{ℕ, zero, suc, _+_}
+use lib.Dec.{ltb, eqb}
+use lib.ListN.{length, take, drop}
+use Rattle.cursor.specs.Refusals.{noSuchRow, endsAtFolder, endsAtUri, tooManyHops}
+use Rattle.cursor.specs.declared.Node.{Node}
+use Rattle.cursor.specs.declared.Item.{Item}
+use Rattle.header.specs.Header.{Header}
+use Rattle.tree.specs.Rows.{nodeAt}
+use Rattle.tree.specs.Asking.{Result, good, bad}
+
+infixr 2 if_then_else_
+unfoldable pub if_then_else_ : {A : Type 0} → Bool → A → A → A
+if true then a else b = a
+if false then a else b = b
+
+-- place and length of the resource, the row whose unpackers apply, the number of references followed
+pub record Resource : Type 0 where
+  pub place : ℕ
+  pub size : ℕ
+  pub row : ℕ
+  pub hops : ℕ
+
+-- so many references are followed at most
+abbrev pub mostHops : ℕ
+mostHops = 4
+
+-- the number of the first row that starts at p; how many rows there are if none does, which an accepted file's reference 3 excludes
+unfoldable pub rowStarting : List Node → ℕ → ℕ
+rowStarting [] p = 0
+rowStarting (r ∷ rs) p = if eqb (r .start) p then 0 else suc (rowStarting rs p)
+
+-- the resource that node r of row k names, after so many references
+unfoldable pub named : Node → (k hops : ℕ) → Result Resource
+named r k hops = good (record { place = r .target; size = r .extent; row = k; hops = hops })
+
+-- The answer at node r of row k, after so many references: `two` is the answer if its reference 2 is followed, `three` if its reference 3 is.
+unfoldable pub reached : Node → (k hops : ℕ) → (two three : Result Resource) → Result Resource
+reached r k hops two three =
+    if not (eqb (r .held) 0) then bad endsAtFolder 0
+    else if eqb (r .reference) 1 then named r k hops
+    else if eqb (r .reference) 2 then two
+    else if eqb (r .reference) 3 then three
+    else bad endsAtUri 0
+
+-- the answer from row k on, after so many references, where `left` more may be followed
+unfoldable pub chain : (left : ℕ) → List Node → (k hops : ℕ) → Result Resource
+chain zero ns k hops = reached (nodeAt ns k) k hops (bad tooManyHops 0) (bad tooManyHops 0)
+chain (suc left) ns k hops =
+    reached (nodeAt ns k) k hops (named (nodeAt ns k) k (hops + 1)) (chain left ns (rowStarting ns (nodeAt ns k .target)) (hops + 1))
+
+-- the answer for a row
+unfoldable pub resolveRow : (row : ℕ) → List Node → Result Resource
+resolveRow row ns = if ltb row (length ns) then chain mostHops ns row 0 else bad noSuchRow 0
+
+-- the question
+unfoldable pub resolve : (row : ℕ) → Header → List Node → List Item → Result Resource
+resolve row h ns is = resolveRow row ns
+
+-- the resource itself: that part of the file; empty on a refusal
+unfoldable pub part : List ℕ → Result Resource → List ℕ
+part f (good r) = take (r .size) (drop (r .place) f)
+part f (bad n p) = []

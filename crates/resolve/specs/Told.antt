@@ -1,0 +1,20 @@
+-- What the code's answer says, and what the code needs of the rows of an accepted file.
+-- Assumes nothing.
+use mathlib.Core.Path.{_≡_}
+use mathlib.Core.List.{List}
+use Prim.Native.Nat.{ℕ, _<_}
+use lib.ListN.{length}
+use Rattle.cursor.specs.declared.Node.{Node}
+use Rattle.tree.specs.Rows.{nodeAt}
+use Rattle.tree.specs.Asking.{Result, good, bad}
+use Rattle.resolve.specs.Resolve.{Resource, rowStarting}
+use Rattle.resolve.specs.declared.Resolved.{Resolved}
+use Rattle.resolve.specs.declared.Resolved.the-variants as resolved
+
+abbrev pub told : Resolved → Result Resource
+told (resolved.At place size row hops) = good (record { place = place; size = size; row = row; hops = hops })
+told (resolved.Refused n p) = bad n p
+
+-- each reference 3 leads to a row
+abbrev pub Linked : List Node → Type 0
+Linked ns = (i : ℕ) → i < length ns → nodeAt ns i .reference ≡ 3 → rowStarting ns (nodeAt ns i .target) < length ns

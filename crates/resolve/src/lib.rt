@@ -1,0 +1,104 @@
+// Resolves the resource of a node: follows references and gives its place, or the resource itself as a part of the file.
+ghost use mathlib.Core.Path.{_≡_};
+ghost use Prim.Native.Nat.{_≤_, _<_, _*_, _+_};
+ghost use lib.ListN.{length};
+ghost use Rattle.metadata.specs.Tables.{limits};
+ghost use Rattle.tree.specs.Reading.{readFile};
+ghost use Rattle.tree.specs.Rows.{nodesIn};
+ghost use Rattle.tree.specs.Asking.{ask, keptNodes, keptItems};
+ghost use Rattle.resolve.specs.Resolve.{rowStarting, chain, resolveRow, resolve, part};
+ghost use Rattle.resolve.specs.Told.{told, Linked};
+use tree::Read;
+
+// Place, length, the row whose unpackers apply, the number of references followed; or a refusal's number and place.
+pub enum Resolved {
+    At(usize, usize, usize, u64),
+    Refused(u64, usize),
+}
+
+// The first row that starts at the place; `count` if none does.
+fn row_starting(nodes: &[u64], count: usize, place: u64) -> usize
+    requires { ⌜ count * 12 ≤ length (now nodes) ⌝ }
+    ensures { λ r. ⌜ r ≡ rowStarting (nodesIn count (now (nodes .entry))) place ⌝ }
+{
+    let mut i = 0;
+    while i < count {
+        if nodes[i * 12] == place {
+            return i;
+        }
+        i = i + 1;
+    }
+    i
+}
+
+// Follows references from row k on, where `hops` were followed and `left` more may be.
+fn follow(nodes: &[u64], count: usize, left: u64, k: usize, hops: u64) -> Resolved
+    requires { ⌜ (count * 12 ≤ length (now nodes)) × (k < count) × (hops + left ≤ 4) × Linked (nodesIn count (now nodes)) ⌝ }
+    ensures { λ r. ⌜ told r ≡ chain left (nodesIn count (now (nodes .entry))) k hops ⌝ }
+{
+    let at = k * 12;
+    if nodes[at + 3] != 0 {
+        return Resolved::Refused(cursor::ENDS_AT_FOLDER, 0);
+    }
+    let reference = nodes[at + 6];
+    let target = nodes[at + 7];
+    let extent = nodes[at + 8];
+    if reference == 1 {
+        return Resolved::At(target as usize, extent as usize, k, hops);
+    }
+    if reference == 2 {
+        if left == 0 {
+            return Resolved::Refused(cursor::TOO_MANY_HOPS, 0);
+        }
+        return Resolved::At(target as usize, extent as usize, k, hops + 1);
+    }
+    if reference != 3 {
+        return Resolved::Refused(cursor::ENDS_AT_URI, 0);
+    }
+    if left == 0 {
+        return Resolved::Refused(cursor::TOO_MANY_HOPS, 0);
+    }
+    let next = row_starting(nodes, count, target);
+    follow(nodes, count, left - 1, next, hops + 1)
+}
+
+// The answer for a row of an accepted file.
+fn resolve_row(nodes: &[u64], count: usize, row: usize) -> Resolved
+    requires { ⌜ (count * 12 ≤ length (now nodes)) × Linked (nodesIn count (now nodes)) ⌝ }
+    ensures { λ r. ⌜ told r ≡ resolveRow row (nodesIn count (now (nodes .entry))) ⌝ }
+{
+    if count <= row {
+        return Resolved::Refused(cursor::NO_SUCH_ROW, 0);
+    }
+    follow(nodes, count, 4, row, 0)
+}
+
+// The third question: where the resource of a row is.
+pub fn resolve(file: &[u8], nodes: &mut [u64], items: &mut [u64], row: usize) -> Resolved
+    ensures answer { λ r. ⌜ told r ≡ ask (readFile (limits (length (now (nodes .entry))) (length (now (items .entry)))) (now (file .entry))) (resolve row) ⌝ }
+    ensures nodes { λ _. ⌜ now (nodes .exit) ≡ keptNodes (length (now (nodes .entry))) (readFile (limits (length (now (nodes .entry))) (length (now (items .entry)))) (now (file .entry))) (ask (readFile (limits (length (now (nodes .entry))) (length (now (items .entry)))) (now (file .entry))) (resolve row)) ⌝ }
+    ensures items { λ _. ⌜ now (items .exit) ≡ keptItems (length (now (items .entry))) (readFile (limits (length (now (nodes .entry))) (length (now (items .entry)))) (now (file .entry))) (ask (readFile (limits (length (now (nodes .entry))) (length (now (items .entry)))) (now (file .entry))) (resolve row)) ⌝ }
+{
+    match tree::read_file(file, nodes, items) {
+        Read::Refused(n, p) => Resolved::Refused(n, p.0),
+        Read::Is(s) => match resolve_row(nodes, s.nodes, row) {
+            Resolved::Refused(n, p) => {
+                tree::clear_all(nodes, items);
+                Resolved::Refused(n, p)
+            }
+            Resolved::At(place, size, last, hops) => Resolved::At(place, size, last, hops),
+        },
+    }
+}
+
+// The resource of a row itself, as that part of the file; an empty part on a refusal.
+pub fn resource<'a>(file: &'a [u8], nodes: &mut [u64], items: &mut [u64], row: usize) -> &'a [u8]
+    ensures bytes { λ r. ⌜ now r ≡ part (now (file .entry)) (ask (readFile (limits (length (now (nodes .entry))) (length (now (items .entry)))) (now (file .entry))) (resolve row)) ⌝ }
+    ensures nodes { λ _. ⌜ now (nodes .exit) ≡ keptNodes (length (now (nodes .entry))) (readFile (limits (length (now (nodes .entry))) (length (now (items .entry)))) (now (file .entry))) (ask (readFile (limits (length (now (nodes .entry))) (length (now (items .entry)))) (now (file .entry))) (resolve row)) ⌝ }
+    ensures items { λ _. ⌜ now (items .exit) ≡ keptItems (length (now (items .entry))) (readFile (limits (length (now (nodes .entry))) (length (now (items .entry)))) (now (file .entry))) (ask (readFile (limits (length (now (nodes .entry))) (length (now (items .entry)))) (now (file .entry))) (resolve row)) ⌝ }
+{
+    match resolve(file, nodes, items, row) {
+        Resolved::Refused(_, _) => &file[0..0],
+        Resolved::At(place, size, _, _) => &file[place..place + size],
+    }
+}
