@@ -1,0 +1,66 @@
+-- The sheet depends on few bytes of the file: those of the visible rows' data and of the custom names.
+-- Assumes nothing.
+use mathlib.Core.Path.{_≡_, refl, ap, ap₂}
+use mathlib.Core.Bool.{Bool, true, false}
+use mathlib.Core.List.{List, [], _∷_, _++_}
+use Prim.Native.Nat.{ℕ, zero, suc, _+_, _%_, _≤_, _<_}
+use native.Mathlib.Omega.{arith}
+use lib.Dec.{eqb}
+use lib.ListN.{length, getD}
+use borrow.Author.Tests.{eqb-true, eqb-false}
+use Rattle.cursor.specs.declared.Node.{Node}
+use Rattle.cursor.specs.declared.Item.{Item}
+use Rattle.header.specs.Header.{Header}
+use Rattle.tree.specs.Rows.{itemAt}
+use Rattle.tree.specs.Hidden.{isHidden}
+use Rattle.sheet.specs.Sheet.{choose, escaped, escapedPart, tabbed, number, label, textOf, itemLine, visibleLine, itemLines, linesOf, sheetOf}
+
+-- the files agree on n bytes from `at` on
+abbrev pub Agree : List ℕ → List ℕ → ℕ → ℕ → Type 0
+Agree f g at n = (k : ℕ) → at ≤ k → k < at + n → getD f k 0 ≡ getD g k 0
+
+-- the files agree on a row's data where its format is even, and on its custom name
+abbrev pub Shown : List ℕ → List ℕ → Item → Type 0
+Shown f g r = (r .format % 2 ≡ 0 → Agree f g (r .place) (r .size)) × (r .kind ≡ 1 → Agree f g (r .field) (r .named))
+
+part-same : (f g : List ℕ) (at n : ℕ) → Agree f g at n → escapedPart f at n ≡ escapedPart g at n
+unfolding escapedPart
+part-same f g at zero h = refl
+part-same f g at (suc n) h = ap₂ (λ (b : ℕ) (t : List ℕ). escaped b ++ t) (h at (omega arith) (omega arith)) (part-same f g (at + 1) n (λ k l m. h k (omega arith) (omega arith)))
+
+module _ (f g : List ℕ) (r : Item) (h : Shown f g r) where
+  label-by : (b : Bool) → eqb (r .kind) 1 ≡ b
+      → choose b (tabbed (0x43 ∷ tabbed (escapedPart f (r .field) (r .named)))) (tabbed (0x53 ∷ number (r .field))) ≡ choose b (tabbed (0x43 ∷ tabbed (escapedPart g (r .field) (r .named)))) (tabbed (0x53 ∷ number (r .field)))
+  label-by true e = ap (λ (t : List ℕ). tabbed (0x43 ∷ tabbed t)) (part-same f g (r .field) (r .named) (h .1 (eqb-true (r .kind) 1 e)))
+  label-by false e = refl
+
+  label-same : label f r ≡ label g r
+  unfolding label
+  label-same = label-by (eqb (r .kind) 1) refl
+
+  text-same : r .format % 2 ≡ 0 → textOf f r ≡ textOf g r
+  unfolding textOf
+  text-same e = part-same f g (r .place) (r .size) (h .0 e)
+
+  line-same : r .format % 2 ≡ 0 → itemLine f r ≡ itemLine g r
+  unfolding itemLine
+  line-same e =
+      ap₂ (λ (l : List ℕ) (t : List ℕ). 0x4D ∷ number (r .node) ++ l ++ number (r .version) ++ number (r .format) ++ tabbed t ++ 0x0A ∷ []) label-same (text-same e)
+
+  line-by : (b : Bool) → eqb (r .format % 2) 1 ≡ b → choose b [] (itemLine f r) ≡ choose b [] (itemLine g r)
+  line-by true e = refl
+  line-by false e = let n = eqb-false (r .format % 2) 1 e in line-same (omega arith)
+
+  visible-same : visibleLine f r ≡ visibleLine g r
+  unfolding visibleLine isHidden
+  visible-same = line-by (eqb (r .format % 2) 1) refl
+
+items-same : (f g : List ℕ) (is : List Item) → ((i : ℕ) → i < length is → Shown f g (itemAt is i)) → itemLines f is ≡ itemLines g is
+unfolding itemLines
+items-same f g [] h = refl
+items-same f g (r ∷ is) h = ap₂ (λ (a : List ℕ) (b : List ℕ). a ++ b) (visible-same f g r (h 0 (omega arith))) (items-same f g is (λ i l. h (suc i) (omega arith)))
+
+-- files of equal length that agree so on every row have the same sheet
+pub sheet-same : (f g : List ℕ) (h : Header) (ns : List Node) (is : List Item) → length f ≡ length g → ((i : ℕ) → i < length is → Shown f g (itemAt is i)) → sheetOf f h ns is ≡ sheetOf g h ns is
+unfolding sheetOf linesOf
+sheet-same f g h ns is e s = rw (e, items-same f g is s)

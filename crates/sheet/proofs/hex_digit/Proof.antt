@@ -1,0 +1,24 @@
+-- `hex_digit` gives what `hexDigit` gives.
+-- Assumes nothing.
+use Rattle.sheet.proofs.Lines.{hex-low, hex-high}
+use borrow.Author.Needs.{needs}
+use Rattle.sheet.proofs.hex_digit.Statement.{statement}
+use Rattle.sheet.proofs.hex_digit.Tie as tie
+
+add-result : tie.Need-add-result
+add-result c = search needs
+
+add-result-2 : tie.Need-add-result-2
+add-result-2 c = search needs
+
+sub-result : tie.Need-sub-result
+sub-result c = search needs
+
+returns : tie.Need-returns
+returns c = hex-low _ (c .if1 .taken)
+
+returns-2 : tie.Need-returns-2
+returns-2 c = hex-high _ (c .if1 .left)
+
+pub hex-digit-spec : {M : Type 1} → statement M
+hex-digit-spec = tie.close (tie.spec add-result add-result-2 sub-result returns returns-2)

@@ -1,0 +1,56 @@
+-- `put_item_lines` puts the lines of the visible rows. The invariant: of the whole, the lines from row i on are still to be put.
+-- Assumes nothing.
+use Prim.Native.Nat.{_-_, _≤_}
+use mathlib.Core.Path.{sym}
+use Rattle.tree.specs.Rows.{itemsFrom, itemsIn}
+use Rattle.sheet.specs.Sheet.{itemLines}
+use Rattle.sheet.proofs.Putting.{Going, going-start, going-on, going-end, going-length}
+use Rattle.sheet.proofs.Lines.{items-on, items-end, items-start}
+use native.Mathlib.Omega.{arith}
+use Rattle.sheet.proofs.put_item_lines.Statement.{statement}
+use Rattle.sheet.proofs.put_item_lines.Tie as tie
+
+abbrev Inv-loop : tie.InvT-loop
+Inv-loop out₀ file items count next₀ i₀ out next i = (i ≤ count) × Going out₀ out next₀ next (itemLines file (itemsIn count items)) (itemLines file (itemsFrom i (count - i) items))
+
+abbrev μ-loop : tie.MeasureT-loop
+μ-loop out₀ file items count next₀ i₀ out next i = count - i
+
+loop-holds : tie.Need-loop-holds Inv-loop μ-loop
+loop-holds c = (omega arith, going-start _ _ (sym (items-start _ _ _)))
+
+mul-put-visible-line : tie.Need-mul-put-visible-line Inv-loop μ-loop
+mul-put-visible-line c = omega arith
+
+put-visible-line-requires : tie.Need-put-visible-line-requires Inv-loop μ-loop
+put-visible-line-requires c κs = (omega (arith, c .before .before .before .before .before .before .pre .0), c .before .before .before .before .before .before .pre .1 _ (c .before .loop-test .taken))
+
+add-i : tie.Need-add-i Inv-loop μ-loop
+add-i c = omega arith
+
+loop-less : tie.Need-loop-less Inv-loop μ-loop
+loop-less c = omega arith
+
+loop-again : tie.Need-loop-again Inv-loop μ-loop
+loop-again c = (omega arith, going-on (items-on _ _ _ _ (c .before .before .before .before .loop-test .taken)) (c .before .before .before .before .before .loop .inv .1) (c .before .before .put-visible-line .ensures))
+
+same-length : tie.Need-same-length Inv-loop μ-loop
+same-length c = going-length (c .before .loop .inv .1)
+
+returns : tie.Need-returns Inv-loop μ-loop
+returns c = going-end (items-end _ _ _ _ (c .loop-test .left)) (c .before .loop .inv .1)
+
+pub put-item-lines-spec : {M : Type 1} → statement M
+put-item-lines-spec =
+    tie.close
+    (tie.spec
+    Inv-loop
+    μ-loop
+    loop-holds
+    mul-put-visible-line
+    put-visible-line-requires
+    add-i
+    loop-less
+    loop-again
+    same-length
+    returns)

@@ -1,0 +1,52 @@
+-- `put_node_lines` puts the lines of the node rows. The invariant: of the whole, the lines from row i on are still to be put.
+-- Assumes nothing.
+use Prim.Native.Nat.{_-_, _≤_}
+use mathlib.Core.Path.{sym}
+use Rattle.tree.specs.Rows.{nodesFrom, nodesIn}
+use Rattle.sheet.specs.Sheet.{nodeLines}
+use Rattle.sheet.proofs.Putting.{Going, going-start, going-on, going-end, going-length}
+use Rattle.sheet.proofs.Lines.{nodes-on, nodes-end, nodes-start}
+use native.Mathlib.Omega.{arith}
+use Rattle.sheet.proofs.put_node_lines.Statement.{statement}
+use Rattle.sheet.proofs.put_node_lines.Tie as tie
+
+abbrev Inv-loop : tie.InvT-loop
+Inv-loop out₀ nodes count next₀ i₀ out next i = (i ≤ count) × Going out₀ out next₀ next (nodeLines 0 (nodesIn count nodes)) (nodeLines i (nodesFrom i (count - i) nodes))
+
+abbrev μ-loop : tie.MeasureT-loop
+μ-loop out₀ nodes count next₀ i₀ out next i = count - i
+
+loop-holds : tie.Need-loop-holds Inv-loop μ-loop
+loop-holds c = (omega arith, going-start _ _ (sym (nodes-start _ _)))
+
+put-node-line-requires : tie.Need-put-node-line-requires Inv-loop μ-loop
+put-node-line-requires c κs = omega arith
+
+add-i : tie.Need-add-i Inv-loop μ-loop
+add-i c = omega arith
+
+loop-less : tie.Need-loop-less Inv-loop μ-loop
+loop-less c = omega arith
+
+loop-again : tie.Need-loop-again Inv-loop μ-loop
+loop-again c = (omega arith, going-on (nodes-on _ _ _ (c .before .before .before .before .loop-test .taken)) (c .before .before .before .before .before .loop .inv .1) (c .before .before .put-node-line .ensures))
+
+same-length : tie.Need-same-length Inv-loop μ-loop
+same-length c = going-length (c .before .loop .inv .1)
+
+returns : tie.Need-returns Inv-loop μ-loop
+returns c = going-end (nodes-end _ _ _ (c .loop-test .left)) (c .before .loop .inv .1)
+
+pub put-node-lines-spec : {M : Type 1} → statement M
+put-node-lines-spec =
+    tie.close
+    (tie.spec
+    Inv-loop
+    μ-loop
+    loop-holds
+    put-node-line-requires
+    add-i
+    loop-less
+    loop-again
+    same-length
+    returns)

@@ -1,0 +1,36 @@
+-- `put_version` puts what `versionText` says.
+-- Assumes nothing.
+use Rattle.sheet.proofs.Putting.{puts-then, puts-as}
+use Rattle.sheet.proofs.Lines.{version-is}
+use borrow.Author.Needs.{needs}
+use Rattle.sheet.proofs.put_version.Statement.{statement}
+use Rattle.sheet.proofs.put_version.Tie as tie
+
+put-decimal-requires : tie.Need-put-decimal-requires
+put-decimal-requires c κs = search needs
+
+put-byte-requires : tie.Need-put-byte-requires
+put-byte-requires c κs = search needs
+
+put-decimal-requires-2 : tie.Need-put-decimal-requires-2
+put-decimal-requires-2 c κs = search needs
+
+put-decimal-requires-3 : tie.Need-put-decimal-requires-3
+put-decimal-requires-3 c κs = search needs
+
+same-length : tie.Need-same-length
+same-length c = search needs
+
+returns : tie.Need-returns
+returns c = puts-as (version-is _) (puts-then (puts-then (puts-then (c .before .before .before .before .before .before .before .before .before .before .before .before .before .before .put-decimal .ensures) (c .before .before .before .before .before .before .before .before .before .before .put-byte .ensures)) (c .before .before .before .before .before .before .put-decimal2 .ensures)) (c .before .before .put-decimal3 .ensures))
+
+pub put-version-spec : {M : Type 1} → statement M
+put-version-spec =
+    tie.close
+    (tie.spec
+    put-decimal-requires
+    put-byte-requires
+    put-decimal-requires-2
+    put-decimal-requires-3
+    same-length
+    returns)

@@ -1,0 +1,120 @@
+-- The support sheet (01, Support sheet): lines of fields, written with bytes. And what the question answers and leaves in the sheet's buffer.
+-- Assumes nothing.
+use mathlib.Core.Bool.{Bool, true, false, not, _&&_}
+use mathlib.Core.List.{List, [], _∷_, _++_}
+use Prim.Native.Nat.{ℕ, zero, suc, _+_, _-_, _/_, _%_}
+use lib.Dec.{ltb, leb, eqb}
+use lib.ListN.{length, getD, replicate}
+use Rattle.cursor.specs.Refusals.{noRoom}
+use Rattle.cursor.specs.declared.Node.{Node}
+use Rattle.cursor.specs.declared.Item.{Item}
+use Rattle.header.specs.Header.{Header}
+use Rattle.tree.specs.Reading.{padded}
+use Rattle.tree.specs.Asking.{Result, good, bad}
+use Rattle.tree.specs.Hidden.{isHidden}
+
+-- the first where the test holds, else the second
+abbrev pub choose : {A : Type 0} → Bool → A → A → A
+choose true a b = a
+choose false a b = b
+
+-- ---- numbers and bytes
+
+-- the decimal digits of n, of which there are at most k: those of a tenth of it where it has more than one, and the last one
+unfoldable pub digits : ℕ → ℕ → List ℕ
+digits zero n = []
+digits (suc k) n = choose (ltb n 10) [] (digits k (n / 10)) ++ (0x30 + n % 10) ∷ []
+
+-- a decimal number: a word has at most 20 digits
+unfoldable pub decimal : ℕ → List ℕ
+decimal n = digits 20 n
+
+-- a lower-case hex digit
+unfoldable pub hexDigit : ℕ → ℕ
+hexDigit d = choose (ltb d 10) (0x30 + d) (0x61 + d - 10)
+
+-- bytes 20h to 7Eh but the backslash
+unfoldable pub plain : ℕ → Bool
+plain b = leb 0x20 b && leb b 0x7E && not (eqb b 0x5C)
+
+-- a plain byte as itself, another as a backslash and two hex digits
+unfoldable pub escaped : ℕ → List ℕ
+escaped b = choose (plain b) (b ∷ []) (0x5C ∷ hexDigit (b / 16) ∷ hexDigit (b % 16) ∷ [])
+
+-- n bytes of the file, from `at` on
+unfoldable pub escapedPart : List ℕ → ℕ → ℕ → List ℕ
+escapedPart f at zero = []
+escapedPart f at (suc n) = escaped (getD f at 0) ++ escapedPart f (at + 1) n
+
+-- ---- lines: a field after the first has a tab before it
+
+unfoldable pub tabbed : List ℕ → List ℕ
+tabbed t = 0x09 ∷ t
+
+unfoldable pub number : ℕ → List ℕ
+number n = tabbed (decimal n)
+
+-- `1.00`, `1.01` or `2.00`
+unfoldable pub versionText : ℕ → List ℕ
+versionText v = decimal (v / 100) ++ 0x2E ∷ decimal (v / 10 % 10) ++ decimal (v % 10)
+
+-- `XMF`, version, the file's length, node count, item row count
+unfoldable pub firstLine : (version size nodes items : ℕ) → List ℕ
+firstLine version size nodes items = 0x58 ∷ 0x4D ∷ 0x46 ∷ tabbed (versionText version) ++ number size ++ number nodes ++ number items ++ 0x0A ∷ []
+
+-- `N`, row, parent, depth, reference, target, extent
+unfoldable pub nodeLine : ℕ → Node → List ℕ
+nodeLine k r = 0x4E ∷ number k ++ number (r .parent) ++ number (r .depth) ++ number (r .reference) ++ number (r .target) ++ number (r .extent) ++ 0x0A ∷ []
+
+-- `C` and the name of a custom field, or `S` and the number of a standard one
+unfoldable pub label : List ℕ → Item → List ℕ
+label f r = choose (eqb (r .kind) 1) (tabbed (0x43 ∷ tabbed (escapedPart f (r .field) (r .named)))) (tabbed (0x53 ∷ number (r .field)))
+
+-- the row's data
+unfoldable pub textOf : List ℕ → Item → List ℕ
+textOf f r = escapedPart f (r .place) (r .size)
+
+-- `M`, node row, `S` or `C`, field, version, format, text
+unfoldable pub itemLine : List ℕ → Item → List ℕ
+itemLine f r = 0x4D ∷ number (r .node) ++ label f r ++ number (r .version) ++ number (r .format) ++ tabbed (textOf f r) ++ 0x0A ∷ []
+
+-- no line for a hidden content
+unfoldable pub visibleLine : List ℕ → Item → List ℕ
+visibleLine f r = choose (isHidden r) [] (itemLine f r)
+
+-- ---- the sheet
+
+-- the rows from row k on
+unfoldable pub nodeLines : ℕ → List Node → List ℕ
+nodeLines k [] = []
+nodeLines k (r ∷ rs) = nodeLine k r ++ nodeLines (k + 1) rs
+
+unfoldable pub itemLines : List ℕ → List Item → List ℕ
+itemLines f [] = []
+itemLines f (r ∷ rs) = visibleLine f r ++ itemLines f rs
+
+-- all lines of a file of that version
+unfoldable pub linesOf : ℕ → List ℕ → List Node → List Item → List ℕ
+linesOf version f ns is = firstLine version (length f) (length ns) (length is) ++ nodeLines 0 ns ++ itemLines f is
+
+unfoldable pub sheetOf : List ℕ → Header → List Node → List Item → List ℕ
+sheetOf f h ns is = linesOf (h .version) f ns is
+
+-- ---- the question
+
+-- the sheet, if a buffer of `room` bytes holds it
+unfoldable pub fitting : ℕ → List ℕ → Result (List ℕ)
+fitting room s = choose (leb (length s) room) (good s) (bad noRoom 0)
+
+unfoldable pub write : ℕ → List ℕ → Header → List Node → List Item → Result (List ℕ)
+write room f h ns is = fitting room (sheetOf f h ns is)
+
+-- the answer: the number of bytes
+unfoldable pub counted : Result (List ℕ) → Result ℕ
+counted (good s) = good (length s)
+counted (bad n p) = bad n p
+
+-- what the buffer holds: the sheet and zeros to its end; on a refusal zeros
+unfoldable pub keptSheet : ℕ → Result (List ℕ) → List ℕ
+keptSheet room (good s) = padded room s
+keptSheet room (bad n p) = replicate room 0

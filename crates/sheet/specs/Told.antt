@@ -1,0 +1,10 @@
+-- What the code's answer says.
+-- Assumes nothing.
+use Prim.Native.Nat.{ℕ}
+use Rattle.tree.specs.Asking.{Result, good, bad}
+use Rattle.sheet.specs.declared.Written.{Written}
+use Rattle.sheet.specs.declared.Written.the-variants as written
+
+abbrev pub told : Written → Result ℕ
+told (written.Bytes n) = good n
+told (written.Refused n p) = bad n p

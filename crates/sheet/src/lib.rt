@@ -1,0 +1,295 @@
+// Writes the support sheet of a file: its nodes and its visible metadata, as lines of text.
+ghost use mathlib.Core.Path.{_≡_};
+ghost use mathlib.Core.List.{List, _∷_, []};
+ghost use Prim.Native.Nat.{ℕ, _≤_, _<_, _*_, _+_};
+ghost use lib.ListN.{length, replicate, getD};
+ghost use Rattle.metadata.specs.Tables.{limits};
+ghost use Rattle.tree.specs.Reading.{readFile};
+ghost use Rattle.tree.specs.Rows.{nodeFrom, itemFrom, nodesIn, itemsIn};
+ghost use Rattle.tree.specs.Asking.{ask, keptNodes, keptItems};
+ghost use Rattle.sheet.specs.Sheet.{decimal, hexDigit, plain, escaped, escapedPart, number, versionText, firstLine, nodeLine, label, textOf, itemLine, visibleLine, nodeLines, itemLines, linesOf, write, counted, keptSheet};
+ghost use Rattle.sheet.specs.Told.{told};
+ghost use Rattle.sheet.specs.Puts.{Puts, ItemInside};
+ghost use Rattle.sheet.specs.declared.Placed.the-variants.{At};
+use tree::Read;
+
+// Where a writer stands: at a byte of the buffer or at its end; or it had more to write than there was room for.
+pub enum Placed {
+    At(usize),
+    Full,
+}
+
+// The answer: the number of the sheet's bytes; or the refusal's number and place.
+pub enum Written {
+    Bytes(usize),
+    Refused(u64, usize),
+}
+
+// Sets every byte to 0.
+fn clear_bytes(bytes: &mut [u8])
+    ensures { λ _. ⌜ now (bytes .exit) ≡ replicate (length (now (bytes .entry))) 0 ⌝ }
+{
+    let mut i: usize = 0;
+    while i < bytes.len() {
+        bytes[i] = 0;
+        i = i + 1;
+    }
+}
+
+// Puts one byte.
+fn put_byte(out: &mut [u8], to: Placed, byte: u8) -> Placed
+    ensures { λ r. ⌜ Puts (now (out .entry)) (now (out .exit)) to (byte ∷ []) r ⌝ }
+{
+    match to {
+        Placed::Full => Placed::Full,
+        Placed::At(i) => {
+            if i < out.len() {
+                out[i] = byte;
+                return Placed::At(i + 1);
+            }
+            Placed::Full
+        }
+    }
+}
+
+// Puts a decimal number.
+fn put_decimal(out: &mut [u8], to: Placed, n: u64) -> Placed
+    ensures { λ r. ⌜ Puts (now (out .entry)) (now (out .exit)) to (decimal n) r ⌝ }
+{
+    let last = 0x30 + (n % 10) as u8;
+    if n < 10 {
+        return put_byte(out, to, last);
+    }
+    let next = put_decimal(out, to, n / 10);
+    put_byte(out, next, last)
+}
+
+// Puts a tab and a decimal number.
+fn put_number(out: &mut [u8], to: Placed, n: u64) -> Placed
+    ensures { λ r. ⌜ Puts (now (out .entry)) (now (out .exit)) to (number n) r ⌝ }
+{
+    let next = put_byte(out, to, 0x09);
+    put_decimal(out, next, n)
+}
+
+// A lower-case hex digit.
+fn hex_digit(d: u8) -> u8
+    requires { ⌜ d < 16 ⌝ }
+    ensures { λ r. ⌜ r ≡ hexDigit d ⌝ }
+{
+    if d < 10 { 0x30 + d } else { 0x61 + d - 10 }
+}
+
+// Whether a byte stands for itself.
+fn is_plain(byte: u8) -> bool
+    ensures { λ r. ⌜ r ≡ plain byte ⌝ }
+{
+    if byte < 0x20 {
+        return false;
+    }
+    if byte > 0x7e {
+        return false;
+    }
+    if byte == 0x5c {
+        return false;
+    }
+    true
+}
+
+// Puts one byte as text.
+fn put_escaped_byte(out: &mut [u8], to: Placed, byte: u8) -> Placed
+    ensures { λ r. ⌜ Puts (now (out .entry)) (now (out .exit)) to (escaped byte) r ⌝ }
+{
+    if is_plain(byte) {
+        return put_byte(out, to, byte);
+    }
+    let high = hex_digit(byte / 16);
+    let low = hex_digit(byte % 16);
+    let one = put_byte(out, to, 0x5c);
+    let two = put_byte(out, one, high);
+    put_byte(out, two, low)
+}
+
+// Puts `size` bytes of the file as text.
+fn put_escaped(out: &mut [u8], to: Placed, file: &[u8], from: usize, size: usize) -> Placed
+    requires { ⌜ from + size ≤ length (now file) ⌝ }
+    ensures { λ r. ⌜ Puts (now (out .entry)) (now (out .exit)) to (escapedPart (now (file .entry)) from size) r ⌝ }
+{
+    let end = from + size;
+    let mut next = to;
+    let mut at = from;
+    while at < end {
+        next = put_escaped_byte(out, next, file[at]);
+        at = at + 1;
+    }
+    next
+}
+
+// Puts the version: 100 is `1.00`.
+fn put_version(out: &mut [u8], to: Placed, version: u64) -> Placed
+    ensures { λ r. ⌜ Puts (now (out .entry)) (now (out .exit)) to (versionText version) r ⌝ }
+{
+    let one = put_decimal(out, to, version / 100);
+    let two = put_byte(out, one, b'.');
+    let three = put_decimal(out, two, version / 10 % 10);
+    put_decimal(out, three, version % 10)
+}
+
+// Puts the first line.
+fn put_first(
+    out: &mut [u8],
+    to: Placed,
+    version: u64,
+    size: usize,
+    nodes: usize,
+    items: usize,
+) -> Placed
+    ensures { λ r. ⌜ Puts (now (out .entry)) (now (out .exit)) to (firstLine version size nodes items) r ⌝ }
+{
+    let a = put_byte(out, to, b'X');
+    let b = put_byte(out, a, b'M');
+    let c = put_byte(out, b, b'F');
+    let d = put_byte(out, c, 0x09);
+    let e = put_version(out, d, version);
+    let f = put_number(out, e, size as u64);
+    let g = put_number(out, f, nodes as u64);
+    let h = put_number(out, g, items as u64);
+    put_byte(out, h, 0x0a)
+}
+
+// Puts the line of node row i.
+fn put_node_line(out: &mut [u8], to: Placed, nodes: &[u64], i: usize) -> Placed
+    requires { ⌜ i * 12 + 12 ≤ length (now nodes) ⌝ }
+    ensures { λ r. ⌜ Puts (now (out .entry)) (now (out .exit)) to (nodeLine i (nodeFrom (now (nodes .entry)) (i * 12))) r ⌝ }
+{
+    let k = i * 12;
+    let parent = nodes[k + 4];
+    let depth = nodes[k + 5];
+    let reference = nodes[k + 6];
+    let target = nodes[k + 7];
+    let extent = nodes[k + 8];
+    let a = put_byte(out, to, b'N');
+    let b = put_number(out, a, i as u64);
+    let c = put_number(out, b, parent);
+    let d = put_number(out, c, depth);
+    let e = put_number(out, d, reference);
+    let f = put_number(out, e, target);
+    let g = put_number(out, f, extent);
+    put_byte(out, g, 0x0a)
+}
+
+// Puts the lines of the node rows.
+fn put_node_lines(out: &mut [u8], to: Placed, nodes: &[u64], count: usize) -> Placed
+    requires { ⌜ count * 12 ≤ length (now nodes) ⌝ }
+    ensures { λ r. ⌜ Puts (now (out .entry)) (now (out .exit)) to (nodeLines 0 (nodesIn count (now (nodes .entry)))) r ⌝ }
+{
+    let mut next = to;
+    let mut i = 0;
+    while i < count {
+        next = put_node_line(out, next, nodes, i);
+        i = i + 1;
+    }
+    next
+}
+
+// Puts the field of the item row whose words begin at k: `C` and its name, or `S` and its number.
+fn put_label(out: &mut [u8], to: Placed, file: &[u8], items: &[u64], k: usize) -> Placed
+    requires { ⌜ (k + 10 ≤ length (now items)) × ItemInside (length (now file)) (itemFrom (now items) k) ⌝ }
+    ensures { λ r. ⌜ Puts (now (out .entry)) (now (out .exit)) to (label (now (file .entry)) (itemFrom (now (items .entry)) k)) r ⌝ }
+{
+    let a = put_byte(out, to, 0x09);
+    if items[k + 2] == 1 {
+        let b = put_byte(out, a, b'C');
+        let c = put_byte(out, b, 0x09);
+        return put_escaped(out, c, file, items[k + 3] as usize, items[k + 4] as usize);
+    }
+    let d = put_byte(out, a, b'S');
+    put_number(out, d, items[k + 3])
+}
+
+// Puts the text of the item row whose words begin at k.
+fn put_text(out: &mut [u8], to: Placed, file: &[u8], items: &[u64], k: usize) -> Placed
+    requires { ⌜ (k + 10 ≤ length (now items)) × ItemInside (length (now file)) (itemFrom (now items) k) ⌝ }
+    ensures { λ r. ⌜ Puts (now (out .entry)) (now (out .exit)) to (textOf (now (file .entry)) (itemFrom (now (items .entry)) k)) r ⌝ }
+{
+    put_escaped(out, to, file, items[k + 8] as usize, items[k + 9] as usize)
+}
+
+// Puts the line of the item row whose words begin at k.
+fn put_item_line(out: &mut [u8], to: Placed, file: &[u8], items: &[u64], k: usize) -> Placed
+    requires { ⌜ (k + 10 ≤ length (now items)) × ItemInside (length (now file)) (itemFrom (now items) k) ⌝ }
+    ensures { λ r. ⌜ Puts (now (out .entry)) (now (out .exit)) to (itemLine (now (file .entry)) (itemFrom (now (items .entry)) k)) r ⌝ }
+{
+    let a = put_byte(out, to, b'M');
+    let b = put_number(out, a, items[k]);
+    let c = put_label(out, b, file, items, k);
+    let d = put_number(out, c, items[k + 5]);
+    let e = put_number(out, d, items[k + 7]);
+    let f = put_byte(out, e, 0x09);
+    let g = put_text(out, f, file, items, k);
+    put_byte(out, g, 0x0a)
+}
+
+// Puts the line of the item row whose words begin at k, if the row is visible.
+fn put_visible_line(out: &mut [u8], to: Placed, file: &[u8], items: &[u64], k: usize) -> Placed
+    requires { ⌜ (k + 10 ≤ length (now items)) × ItemInside (length (now file)) (itemFrom (now items) k) ⌝ }
+    ensures { λ r. ⌜ Puts (now (out .entry)) (now (out .exit)) to (visibleLine (now (file .entry)) (itemFrom (now (items .entry)) k)) r ⌝ }
+{
+    if items[k + 7] % 2 == 1 {
+        return to;
+    }
+    put_item_line(out, to, file, items, k)
+}
+
+// Puts the lines of the visible item rows.
+fn put_item_lines(out: &mut [u8], to: Placed, file: &[u8], items: &[u64], count: usize) -> Placed
+    requires { ⌜ (count * 10 ≤ length (now items)) × ((i : ℕ) → i < count → ItemInside (length (now file)) (itemFrom (now items) (i * 10))) ⌝ }
+    ensures { λ r. ⌜ Puts (now (out .entry)) (now (out .exit)) to (itemLines (now (file .entry)) (itemsIn count (now (items .entry)))) r ⌝ }
+{
+    let mut next = to;
+    let mut i = 0;
+    while i < count {
+        next = put_visible_line(out, next, file, items, i * 10);
+        i = i + 1;
+    }
+    next
+}
+
+// Puts the whole sheet of the rows that stand in the tables.
+fn put_sheet(
+    out: &mut [u8],
+    file: &[u8],
+    nodes: &[u64],
+    items: &[u64],
+    version: u64,
+    rows: usize,
+    contents: usize,
+) -> Placed
+    requires { ⌜ (rows * 12 ≤ length (now nodes)) × (contents * 10 ≤ length (now items)) × ((i : ℕ) → i < contents → ItemInside (length (now file)) (itemFrom (now items) (i * 10))) ⌝ }
+    ensures { λ r. ⌜ Puts (now (out .entry)) (now (out .exit)) (At 0) (linesOf version (now (file .entry)) (nodesIn rows (now (nodes .entry))) (itemsIn contents (now (items .entry)))) r ⌝ }
+{
+    let one = put_first(out, Placed::At(0), version, file.len(), rows, contents);
+    let two = put_node_lines(out, one, nodes, rows);
+    put_item_lines(out, two, file, items, contents)
+}
+
+// Reads a file and writes its support sheet.
+pub fn write_sheet(file: &[u8], nodes: &mut [u64], items: &mut [u64], sheet: &mut [u8]) -> Written
+    ensures answer { λ r. ⌜ told r ≡ counted (ask (readFile (limits (length (now (nodes .entry))) (length (now (items .entry)))) (now (file .entry))) (write (length (now (sheet .entry))) (now (file .entry)))) ⌝ }
+    ensures nodes { λ _. ⌜ now (nodes .exit) ≡ keptNodes (length (now (nodes .entry))) (readFile (limits (length (now (nodes .entry))) (length (now (items .entry)))) (now (file .entry))) (ask (readFile (limits (length (now (nodes .entry))) (length (now (items .entry)))) (now (file .entry))) (write (length (now (sheet .entry))) (now (file .entry)))) ⌝ }
+    ensures items { λ _. ⌜ now (items .exit) ≡ keptItems (length (now (items .entry))) (readFile (limits (length (now (nodes .entry))) (length (now (items .entry)))) (now (file .entry))) (ask (readFile (limits (length (now (nodes .entry))) (length (now (items .entry)))) (now (file .entry))) (write (length (now (sheet .entry))) (now (file .entry)))) ⌝ }
+    ensures sheet { λ _. ⌜ now (sheet .exit) ≡ keptSheet (length (now (sheet .entry))) (ask (readFile (limits (length (now (nodes .entry))) (length (now (items .entry)))) (now (file .entry))) (write (length (now (sheet .entry))) (now (file .entry)))) ⌝ }
+{
+    clear_bytes(sheet);
+    match tree::read_file(file, nodes, items) {
+        Read::Refused(n, p) => Written::Refused(n, p.0),
+        Read::Is(s) => match put_sheet(sheet, file, nodes, items, s.version, s.nodes, s.items) {
+            Placed::Full => {
+                tree::clear_all(nodes, items);
+                clear_bytes(sheet);
+                Written::Refused(cursor::NO_ROOM, 0)
+            }
+            Placed::At(n) => Written::Bytes(n),
+        },
+    }
+}
