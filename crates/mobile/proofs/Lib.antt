@@ -1,0 +1,5 @@
+pub mod Lists
+pub mod Tests
+pub mod Roles
+pub mod Checks
+pub mod Depends

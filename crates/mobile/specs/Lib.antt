@@ -1,0 +1,2 @@
+pub mod Mobile
+pub mod Told
