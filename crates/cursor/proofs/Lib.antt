@@ -6,3 +6,4 @@ pub mod Quiet
 pub mod Digits
 pub mod Leaves
 pub mod Order
+pub mod Listed

@@ -5,3 +5,4 @@ pub mod Gives
 pub mod Ends
 pub mod Ways
 pub mod Order
+pub mod Listed

@@ -2,3 +2,4 @@ pub mod Quiet
 pub mod Ends
 pub mod Ways
 pub mod Order
+pub mod Listed

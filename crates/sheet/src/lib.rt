@@ -1,8 +1,8 @@
 // Writes the support sheet of a file: its nodes and its visible metadata, as lines of text.
 ghost use mathlib.Core.Path.{_≡_};
-ghost use mathlib.Core.List.{List, _∷_, []};
+ghost use mathlib.Core.List.{_∷_, []};
 ghost use Prim.Native.Nat.{ℕ, _≤_, _<_, _*_, _+_};
-ghost use lib.ListN.{length, replicate, getD};
+ghost use lib.ListN.{length, replicate};
 ghost use Rattle.metadata.specs.Tables.{limits};
 ghost use Rattle.tree.specs.Reading.{readFile};
 ghost use Rattle.tree.specs.Rows.{nodeFrom, itemFrom, nodesIn, itemsIn};

@@ -7,3 +7,4 @@ pub mod Whole
 pub mod Rows
 pub mod Demand
 pub mod Order
+pub mod Listed

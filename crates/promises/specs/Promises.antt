@@ -1,0 +1,99 @@
+-- The page that a user reads: the five questions, what each leaves behind, and what is promised of them. Proofs are in proofs/Kept.antt.
+-- Assumes nothing.
+use mathlib.Core.Path.{_≡_}
+use mathlib.Core.List.{List, [], _∷_}
+use Prim.Native.Nat.{ℕ, _≤_, _<_}
+use lib.ListN.{length, getD, replicate}
+use Rattle.cursor.specs.declared.Node.{Node}
+use Rattle.cursor.specs.declared.Item.{Item}
+use Rattle.header.specs.Header.{Header}
+use Rattle.metadata.specs.Tables.{limits, itemWords}
+use Rattle.tree.specs.Reading.{Reading, rows, refusal, readFile, nodeTable, itemTable}
+use Rattle.tree.specs.Asking.{Result, good, bad, ask, keptNodes, keptItems}
+use Rattle.tree.specs.Hidden.{DifferInHidden}
+use Rattle.find.specs.Find as find
+use Rattle.resolve.specs.Resolve as resolve
+use Rattle.mobile.specs.Mobile as mobile
+use Rattle.sheet.specs.Sheet as sheet
+
+-- ---- questions, and what is lent
+
+pub data Question : Type 0 where
+  readTree : Question
+  findItem : find.Wanted → (row : ℕ) → Question
+  resolveRow : (row : ℕ) → Question
+  judgeMobile : Question
+  writeSheet : Question
+
+-- the words of the two tables and the bytes of the sheet's buffer
+pub record Lent : Type 0 where
+  pub nodes : ℕ
+  pub items : ℕ
+  pub sheet : ℕ
+
+-- ---- what a call leaves: its answer in words (refusal number and place, 0 and 0 if there is none, then the answer's values), both tables, the sheet
+
+pub record Outcome : Type 0 where
+  pub answer : List ℕ
+  pub nodes : List ℕ
+  pub items : List ℕ
+  pub sheet : List ℕ
+
+abbrev pub answered : List ℕ → List ℕ
+answered values = 0 ∷ 0 ∷ values
+
+abbrev pub refused : ℕ → ℕ → List ℕ
+refused n p = n ∷ p ∷ []
+
+-- version, number of node rows, number of item rows
+unfoldable pub treeAnswer : Reading → List ℕ
+treeAnswer (rows h ns is) = answered (h .version ∷ length ns ∷ length is ∷ [])
+treeAnswer (refusal n p) = refused n p
+
+-- the item row's number and its ten words
+unfoldable pub findAnswer : Result find.Hit → List ℕ
+findAnswer (good a) = answered (a .row ∷ itemWords (a .item))
+findAnswer (bad n p) = refused n p
+
+-- place, length, row, references followed
+unfoldable pub resolveAnswer : Result resolve.Resource → List ℕ
+resolveAnswer (good a) = answered (a .place ∷ a .size ∷ a .row ∷ a .hops ∷ [])
+resolveAnswer (bad n p) = refused n p
+
+-- the verdict; the number of bytes written
+unfoldable pub numberAnswer : Result ℕ → List ℕ
+numberAnswer (good n) = answered (n ∷ [])
+numberAnswer (bad n p) = refused n p
+
+-- what a file reads as, with the tables lent
+unfoldable pub reads : Lent → List ℕ → Reading
+reads l f = readFile (limits (l .nodes) (l .items)) f
+
+-- the tables after a question whose result is r
+unfoldable pub leaves : {A : Type 0} → Lent → Reading → Result A → (answer sheet : List ℕ) → Outcome
+leaves l o r answer sheet = record { answer = answer; nodes = keptNodes (l .nodes) o r; items = keptItems (l .items) o r; sheet = sheet }
+
+-- each question's outcome, in the words of its own contract
+unfoldable pub outcome : Question → Lent → List ℕ → Outcome
+outcome readTree l f = record { answer = treeAnswer (reads l f); nodes = nodeTable (l .nodes) (reads l f); items = itemTable (l .items) (reads l f); sheet = [] }
+outcome (findItem w row) l f = leaves l (reads l f) (ask (reads l f) (find.find f w row)) (findAnswer (ask (reads l f) (find.find f w row))) []
+outcome (resolveRow row) l f = leaves l (reads l f) (ask (reads l f) (resolve.resolve row)) (resolveAnswer (ask (reads l f) (resolve.resolve row))) []
+outcome judgeMobile l f = leaves l (reads l f) (ask (reads l f) (mobile.mobile f)) (numberAnswer (ask (reads l f) (mobile.mobile f))) []
+outcome writeSheet l f =
+    leaves l (reads l f) (ask (reads l f) (sheet.write (l .sheet) f)) (numberAnswer (sheet.counted (ask (reads l f) (sheet.write (l .sheet) f)))) (sheet.keptSheet (l .sheet) (ask (reads l f) (sheet.write (l .sheet) f)))
+
+-- ---- the promises
+
+-- Demand 1. Whatever the bytes, the tables and the question: the answer's first word is 0 or a number of the list; and where it is a refusal, every
+-- lent table is zero, and the sheet's buffer too.
+abbrev pub Demand1 : Type 0
+Demand1 = (q : Question) (l : Lent) (f : List ℕ)
+    → (getD (outcome q l f .answer) 0 0 ≤ 23)
+    × ((0 < getD (outcome q l f .answer) 0 0) → (outcome q l f .nodes ≡ replicate (l .nodes) 0) × (outcome q l f .items ≡ replicate (l .items) 0) × (outcome q l f .sheet ≡ replicate (length (outcome q l f .sheet)) 0))
+
+-- Demand 3. Two files of equal length, the first accepted with the tables lent, alike but for data bytes of its hidden contents in custom fields or in
+-- standard fields other than 0, 3 and 13: the second is accepted too, and every question leaves the same of both, to the last word and byte.
+abbrev pub Demand3 : Type 0
+Demand3 = (q : Question) (l : Lent) (f g : List ℕ) (h : Header) (ns : List Node) (is : List Item)
+    → reads l f ≡ rows h ns is → DifferInHidden is f g
+    → (reads l g ≡ rows h ns is) × (outcome q l g ≡ outcome q l f)
