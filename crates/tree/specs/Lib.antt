@@ -4,4 +4,3 @@ pub mod Rows
 pub mod Asking
 pub mod Hidden
 pub mod Told
-pub mod Worked

@@ -1,0 +1,136 @@
+-- The cases of document 01, 'On both sides', and others of the five questions, computed in one test.
+-- Assumes nothing.
+use mathlib.Core.Path.{_≡_, refl}
+use mathlib.Core.Bool.{not, _&&_, _||_}
+use mathlib.Core.List.{List, [], _∷_, _++_}
+use Prim.Native.Nat.{ℕ}
+use lib.ListN.{length, take}
+use Rattle.cursor.specs.Machine.{Out, ok, refused, run, trace, rowsOf, _>>=_, _>>_, if_then_else_, place, skip, check, turns, many, times}
+use Rattle.cursor.specs.Rows.{fileFrame}
+use Rattle.cursor.specs.Leaves.{next, digits, number, block, manufacturer, guidBytes, guid}
+use Rattle.cursor.specs.declared.Node.{Node}
+use Rattle.cursor.specs.declared.Item.{Item}
+use Rattle.header.specs.Types.{formatOf, either}
+use Rattle.header.specs.Header.{Header, four, opening, edition, fileLength, entry, typesTable, extent, header}
+use Rattle.metadata.specs.Tables.{limits}
+use Rattle.metadata.specs.Metadata.{field, contents, itemFrame, universal, declaredFormat, version, rowsFor, item, nextItem, metaItems, metadata}
+use Rattle.node.specs.Node.{headerLength, head, value, identifier, unpacker, entries, unpackers, resource, nodePlace, uriPlace, target, reference, rest, front}
+use Rattle.tree.specs.Tree as tree
+use Rattle.tree.specs.Tree.{folder, node}
+use Rattle.tree.specs.Reading.{Reading, rows, refusal, startsAt, offsetAt, lost, checked, targets, reading, readTree, readFile}
+use Rattle.tree.specs.Asking.{good, bad, ask}
+use Rattle.tree.specs.Hidden.{isHidden}
+use Rattle.find.specs.Find as find
+use Rattle.resolve.specs.Resolve as resolve
+use Rattle.mobile.specs.Mobile as mobile
+use Rattle.sheet.specs.Sheet as sheet
+
+-- the number that the bytes begin with
+unfoldable pub first : List ℕ → Out ℕ
+first f = run (number fileFrame 3 (length f)) f 0
+
+-- what a file reads as, with full tables
+unfoldable pub full : List ℕ → Reading
+full f = readFile (limits 3072 10240) f
+
+-- the mended worked file (docs/DECISIONS.md)
+abbrev pub worked : List ℕ
+worked =
+    0x58 ∷ 0x4D ∷ 0x46 ∷ 0x5F ∷ 0x32 ∷ 0x2E ∷ 0x30 ∷ 0x30 ∷ 0x00 ∷ 0x00 ∷ 0x00 ∷ 0x02 ∷ 0x00 ∷ 0x00 ∷ 0x00 ∷ 0x01
+    ∷ 0x38 ∷ 0x01 ∷ 0x00 ∷ 0x15 ∷ 0x37 ∷ 0x23 ∷ 0x01 ∷ 0x05 ∷ 0x00 ∷ 0x00 ∷ 0x01 ∷ 0x1D ∷ 0x00 ∷ 0x1A ∷ 0x15 ∷ 0x01
+    ∷ 0x61 ∷ 0x00 ∷ 0x03 ∷ 0x00 ∷ 0x48 ∷ 0x69 ∷ 0x01 ∷ 0x74 ∷ 0x00 ∷ 0x03 ∷ 0x07 ∷ 0x11 ∷ 0x22 ∷ 0x00 ∷ 0x03 ∷ 0x00
+    ∷ 0x03 ∷ 0x06 ∷ 0x00 ∷ 0x00 ∷ 0x00 ∷ 0x01 ∷ 0xAA ∷ 0xBB ∷ []
+
+-- its sheet
+abbrev pub workedSheet : List ℕ
+workedSheet =
+    0x58 ∷ 0x4D ∷ 0x46 ∷ 0x09 ∷ 0x32 ∷ 0x2E ∷ 0x30 ∷ 0x30 ∷ 0x09 ∷ 0x35 ∷ 0x36 ∷ 0x09 ∷ 0x32 ∷ 0x09 ∷ 0x33 ∷ 0x0A
+    ∷ 0x4E ∷ 0x09 ∷ 0x30 ∷ 0x09 ∷ 0x30 ∷ 0x09 ∷ 0x31 ∷ 0x09 ∷ 0x31 ∷ 0x09 ∷ 0x32 ∷ 0x37 ∷ 0x09 ∷ 0x32 ∷ 0x39 ∷ 0x0A
+    ∷ 0x4E ∷ 0x09 ∷ 0x31 ∷ 0x09 ∷ 0x30 ∷ 0x09 ∷ 0x32 ∷ 0x09 ∷ 0x31 ∷ 0x09 ∷ 0x35 ∷ 0x34 ∷ 0x09 ∷ 0x32 ∷ 0x0A
+    ∷ 0x4D ∷ 0x09 ∷ 0x31 ∷ 0x09 ∷ 0x43 ∷ 0x09 ∷ 0x61 ∷ 0x09 ∷ 0x30 ∷ 0x09 ∷ 0x30 ∷ 0x09 ∷ 0x48 ∷ 0x69 ∷ 0x0A
+    ∷ 0x4D ∷ 0x09 ∷ 0x31 ∷ 0x09 ∷ 0x53 ∷ 0x09 ∷ 0x33 ∷ 0x09 ∷ 0x30 ∷ 0x09 ∷ 0x36 ∷ 0x09 ∷ 0x5C ∷ 0x30 ∷ 0x30 ∷ 0x5C ∷ 0x30 ∷ 0x30 ∷ 0x0A ∷ []
+
+-- ---- rows that stand alone
+
+-- a node row of which only start, contained items, reference, target and extent matter
+abbrev pub row : (start held reference target extent : ℕ) → Node
+row start held reference target extent = record {
+  start = start;
+  size = 0;
+  header = 0;
+  held = held;
+  parent = 0;
+  depth = 0;
+  reference = reference;
+  target = target;
+  extent = extent;
+  unpackers = 0;
+  layers = 0;
+  rows = 0;
+}
+
+-- a folder; five nodes of which each refers to the next; a resource that follows its node; a reference 2; a URI; a node that refers to itself
+abbrev pub links : List Node
+links =
+    row 10 9 1 11 99
+    ∷ row 20 0 3 30 0
+    ∷ row 30 0 3 40 0
+    ∷ row 40 0 3 50 0
+    ∷ row 50 0 3 60 0
+    ∷ row 60 0 3 70 0
+    ∷ row 70 0 1 2 3
+    ∷ row 80 0 2 1 4
+    ∷ row 90 0 4 95 3
+    ∷ row 100 0 3 100 0
+    ∷ row 110 0 3 10 0
+    ∷ []
+
+-- a node row with so many item rows
+abbrev pub rowWith : ℕ → Node
+rowWith n = record { start = 0; size = 0; header = 0; held = 0; parent = 0; depth = 0; reference = 1; target = 0; extent = 0; unpackers = 0; layers = 0; rows = n }
+
+-- a root with one item row of standard field 9, and a child with none
+abbrev pub family : List Node
+family = rowWith 1 ∷ rowWith 0 ∷ []
+
+abbrev pub title : Item
+title = record { node = 0; item = 0; kind = 0; field = 9; named = 0; version = 0; declared = 0; format = 0; place = 0; size = 0 }
+
+-- ---- the test
+
+cases : (first (0x7F ∷ []) ≡ ok 127 1)
+    × (first (0x81 ∷ 0x00 ∷ []) ≡ ok 128 2)
+    × (first (0xFF ∷ 0xFF ∷ 0xFF ∷ 0x7F ∷ []) ≡ ok 268435455 4)
+    × (first (0x80 ∷ 0x01 ∷ []) ≡ refused 4 0)
+    × (first (0x81 ∷ 0x46 ∷ []) ≡ ok 198 2)
+    × (first (0x80 ∷ []) ≡ refused 4 0)
+    × (first (0x81 ∷ []) ≡ refused 3 0)
+    × (first (0xFF ∷ 0xFF ∷ 0xFF ∷ 0xFF ∷ []) ≡ refused 4 0)
+    × (full [] ≡ refusal 1 0)
+    × (full (take 55 worked) ≡ refusal 5 16)
+    × (full worked
+    ≡ rows
+    (record { version = 200; edition = record { type = 2; revision = 1 }; types = []; extent = record { start = 21; last = 55; end = 21 } })
+    (record { start = 21; size = 35; header = 5; held = 1; parent = 0; depth = 1; reference = 1; target = 27; extent = 29; unpackers = 26; layers = 0; rows = 0 }
+    ∷ record { start = 27; size = 29; header = 26; held = 0; parent = 0; depth = 2; reference = 1; target = 54; extent = 2; unpackers = 53; layers = 0; rows = 3 } ∷ [])
+    (record { node = 1; item = 0; kind = 1; field = 32; named = 1; version = 0; declared = 0; format = 0; place = 36; size = 2 }
+    ∷ record { node = 1; item = 1; kind = 1; field = 39; named = 1; version = 0; declared = 0; format = 7; place = 43; size = 2 }
+    ∷ record { node = 1; item = 2; kind = 0; field = 3; named = 0; version = 0; declared = 0; format = 6; place = 50; size = 2 } ∷ []))
+    × (ask (full worked) (mobile.mobile worked) ≡ good 7)
+    × (ask (full worked) (sheet.write 100 worked) ≡ good workedSheet)
+    × (ask (full worked) (sheet.write 20 worked) ≡ bad 22 0)
+    × (ask (full worked) (find.find worked (find.custom (0x61 ∷ [])) 1)
+    ≡ good (record { row = 0; item = record { node = 1; item = 0; kind = 1; field = 32; named = 1; version = 0; declared = 0; format = 0; place = 36; size = 2 } }))
+    × (find.nearest [] (find.standard 9) family (title ∷ []) 1 ≡ good (record { row = 0; item = title }))
+    × (find.nearest [] (find.standard 8) family (title ∷ []) 1 ≡ bad 23 0)
+    × (resolve.chain 4 links 2 0 ≡ good (record { place = 2; size = 3; row = 6; hops = 4 }))
+    × (resolve.chain 4 links 1 0 ≡ bad 21 0)
+    × (resolve.chain 4 links 9 0 ≡ bad 21 0)
+    × (resolve.chain 4 links 6 0 ≡ good (record { place = 2; size = 3; row = 6; hops = 0 }))
+    × (resolve.chain 4 links 7 0 ≡ good (record { place = 1; size = 4; row = 7; hops = 1 }))
+    × (resolve.chain 4 links 8 0 ≡ bad 20 0)
+    × (resolve.chain 4 links 10 0 ≡ bad 19 0)
+    × (resolve.part (5 ∷ 6 ∷ 7 ∷ 8 ∷ 9 ∷ []) (resolve.chain 4 links 7 0) ≡ 6 ∷ 7 ∷ 8 ∷ 9 ∷ [])
+    × (resolve.part (5 ∷ 6 ∷ 7 ∷ 8 ∷ 9 ∷ []) (resolve.chain 4 links 8 0) ≡ [])
+unfolding run trace rowsOf _>>=_ _>>_ if_then_else_ place skip check turns many times next digits number block manufacturer guidBytes guid formatOf either four opening edition fileLength entry typesTable extent header field contents itemFrame universal declaredFormat version rowsFor item nextItem metaItems metadata headerLength head value identifier unpacker entries unpackers resource nodePlace uriPlace target reference rest front tree.contents folder node tree.tree startsAt offsetAt lost checked targets reading readTree readFile first full ask isHidden find.choose find.sameBytes find.matches find.among find.firstRow find.own find.look find.orElse find.climb find.nearest find.find resolve.if_then_else_ resolve.rowStarting resolve.named resolve.reached resolve.chain resolve.part mobile.all mobile.keepIf mobile.those mobile.isEmpty mobile.isField mobile.isBinary mobile.choose mobile.roleOfType mobile.roleOfNumber mobile.roleOfRow mobile.roleOfRows mobile.roleOf mobile.roles mobile.childRoles mobile.count mobile.rowOf mobile.rightEdition mobile.isFile mobile.filesOnly mobile.isPlain mobile.plainReferences mobile.isUnpacked mobile.noUnpackers mobile.childrenTyped mobile.tuneRow mobile.bankRow mobile.oneTune mobile.isNeed mobile.tuneNeeds mobile.isShort mobile.fieldSize mobile.isSmall mobile.smallFields mobile.check mobile.verdict mobile.mobile sheet.digits sheet.decimal sheet.hexDigit sheet.plain sheet.escaped sheet.escapedPart sheet.tabbed sheet.number sheet.versionText sheet.firstLine sheet.nodeLine sheet.label sheet.textOf sheet.itemLine sheet.visibleLine sheet.nodeLines sheet.itemLines sheet.linesOf sheet.sheetOf sheet.fitting sheet.write
+cases = (refl, refl, refl, refl, refl, refl, refl, refl, refl, refl, refl, refl, refl, refl, refl, refl, refl, refl, refl, refl, refl, refl, refl, refl, refl, refl)
