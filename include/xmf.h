@@ -1,0 +1,187 @@
+/* Five questions about XMF files (versions 1.00, 1.01 and 2.00).
+ *
+ * The functions are in target/staticlib/libcapi.a, which `rt staticlib capi` proves and writes. The
+ * archive is for x86-64 Linux and needs no other library.
+ *
+ * What is lent
+ *
+ *   file    the bytes of the file; they are only read
+ *   nodes   words for node rows, 12 words each; a full table has XMF_ALL_NODE_WORDS
+ *   items   words for item rows, 10 words each; a full table has XMF_ALL_ITEM_WORDS
+ *   answer  words for the answer; XMF_ANSWER_WORDS are enough for each question
+ *
+ * Each is a pointer and a number of elements. They may have any size and hold anything before the
+ * call; smaller tables hold fewer rows. The caller must see to four things:
+ *
+ *   - each pointer is not null, not even for 0 elements, and is aligned for its type;
+ *   - so many elements can be read there, and but for file and name also written;
+ *   - what is written overlaps nothing else that is lent in the same call;
+ *   - no other thread writes what is lent, or reads what is written, until the call returns.
+ *
+ * What is left
+ *
+ * No function returns a value. The answer is, in this order:
+ *
+ *   answer[0]   the refusal number, or 0 when the question is answered
+ *   answer[1]   the place of the refusal, or 0
+ *   answer[2]   the first of the answer's values; they are listed at each function
+ *
+ * Words past the last value are 0. After a refusal all words from answer[2] on are 0. A shorter
+ * buffer gets the words that fit.
+ *
+ * After an answer the tables hold the file's rows, and zeros past the last row. After a refusal both
+ * tables, and the buffer for a sheet, hold zeros only. Each call reads the file afresh. Nothing is
+ * allocated and nothing is kept between calls. Places count from 0 at the file's first byte.
+ *
+ * Refusals
+ *
+ *    1  fewer than 8 bytes, or not an XMF file
+ *    2  the version is not 1.00, 1.01 or 2.00
+ *    3  a field runs past the part that holds it
+ *    4  a number or a GUID is too long, or a number is not in its shortest form
+ *    5  the length in the header is not the number of bytes received
+ *    6  the types table has a type twice, or more than 32 entries
+ *    7  the tree begins inside the header, or ends before it begins or past the file
+ *    8  a node does not fit its holder, or a node's header does not fit the node
+ *    9  a node at depth 17
+ *   10  no row left in a table: more than 256 nodes or 1,024 item rows, or a smaller table was lent
+ *   11  a universal content of length 0, or a type that the file does not declare
+ *   12  an unpacker of an unknown kind
+ *   13  reference 0, or above 4
+ *   14  a folder that is packed, or whose contents do not follow in it
+ *   15  bytes left between a part's last field and its end
+ *   16  a reference leads outside the file, into the header, or to no node
+ *   17  more than 268,435,455 bytes
+ *   18  the row asked for is not there (find, resolve)
+ *   19  resolving ends at a folder
+ *   20  resolving ends at a URI
+ *   21  a fifth reference would be followed
+ *   22  the sheet is longer than its buffer
+ *   23  no such item
+ */
+#ifndef XMF_H
+#define XMF_H
+
+#include <stddef.h>
+#include <stdint.h>
+
+#ifdef __cplusplus
+extern "C" {
+#endif
+
+/* The words of a node row and of an item row. */
+#define XMF_NODE_WORDS 12
+#define XMF_ITEM_WORDS 10
+
+/* The words of tables with as many rows as there may be: 256 nodes and 1,024 items. */
+#define XMF_ALL_NODE_WORDS (256 * XMF_NODE_WORDS)
+#define XMF_ALL_ITEM_WORDS (1024 * XMF_ITEM_WORDS)
+
+/* The words of the longest answer, that of xmf_find. */
+#define XMF_ANSWER_WORDS 13
+
+/* The words of a node row. */
+enum xmf_node {
+    XMF_NODE_START = 0,          /* place of the node's first byte */
+    XMF_NODE_LENGTH = 1,         /* the node's length */
+    XMF_NODE_HEADER_LENGTH = 2,  /* length of its header, up to the reference */
+    XMF_NODE_CONTAINED = 3,      /* number of nodes it holds; 0 for a file node */
+    XMF_NODE_PARENT = 4,         /* row of the folder that holds it; 0 for the root */
+    XMF_NODE_DEPTH = 5,          /* depth, the root being at 1 */
+    XMF_NODE_REFERENCE = 6,      /* 1 in the node, 2 a place in the file, 3 another node, 4 a URI */
+    XMF_NODE_TARGET = 7,         /* place of the contents (1), the offset (2, 3), place of the URI (4) */
+    XMF_NODE_EXTENT = 8,         /* length of the contents (1), bytes to the file's end (2), 0 (3),
+                                    length of the URI (4) */
+    XMF_NODE_UNPACKERS = 9,      /* place of the byte after the unpackers' length */
+    XMF_NODE_UNPACKER_COUNT = 10, /* number of unpackers */
+    XMF_NODE_ITEMS = 11          /* number of item rows of the node */
+};
+
+/* The words of an item row. */
+enum xmf_item {
+    XMF_ITEM_NODE = 0,        /* row of the node that has the item */
+    XMF_ITEM_NUMBER = 1,      /* number of the item in its node, from 0 */
+    XMF_ITEM_KIND = 2,        /* XMF_STANDARD or XMF_CUSTOM */
+    XMF_ITEM_FIELD = 3,       /* the standard number, or the place of the custom name */
+    XMF_ITEM_NAME_LENGTH = 4, /* length of the custom name; 0 for a standard field */
+    XMF_ITEM_VERSION = 5,     /* number of the version, from 1; 0 for a universal content */
+    XMF_ITEM_TYPE = 6,        /* the version's type; 0 for a universal content */
+    XMF_ITEM_FORMAT = 7,      /* string format; an odd one is hidden */
+    XMF_ITEM_DATA = 8,        /* place of the data */
+    XMF_ITEM_DATA_LENGTH = 9  /* length of the data */
+};
+
+/* The kinds of fields. */
+#define XMF_STANDARD UINT64_C(0)
+#define XMF_CUSTOM UINT64_C(1)
+
+/* Reads the tree into the tables.
+ *
+ *   answer[2]  the version: 100, 101 or 200
+ *   answer[3]  the number of node rows
+ *   answer[4]  the number of item rows
+ */
+void xmf_read_tree(const uint8_t *file, size_t file_length,
+                   uint64_t *nodes, size_t node_words,
+                   uint64_t *items, size_t item_words,
+                   uint64_t *answer, size_t answer_words);
+
+/* Finds the first item of a field on the node of a row, or on the nearest node above it that has one.
+ * Hidden items are found too.
+ *
+ * With kind XMF_STANDARD the field is the one of that number, and the name is not used. With any
+ * other kind it is the custom field of that name, and the number is not used. An empty name is never
+ * found.
+ *
+ *   answer[2]       the number of the item row
+ *   answer[3..12]   the ten words of that row
+ */
+void xmf_find(const uint8_t *file, size_t file_length,
+              uint64_t *nodes, size_t node_words,
+              uint64_t *items, size_t item_words,
+              size_t row, uint64_t kind, uint64_t number,
+              const uint8_t *name, size_t name_length,
+              uint64_t *answer, size_t answer_words);
+
+/* Resolves the resource of a row's node, following at most four references.
+ *
+ *   answer[2]  the place of its first byte
+ *   answer[3]  the number of its bytes
+ *   answer[4]  the node row whose unpackers apply
+ *   answer[5]  the number of references followed
+ *
+ * A reference 2 may lead to any place after the file header, so the bytes of the resource may include
+ * hidden data. Do not put them into a ticket.
+ */
+void xmf_resolve(const uint8_t *file, size_t file_length,
+                 uint64_t *nodes, size_t node_words,
+                 uint64_t *items, size_t item_words,
+                 size_t row,
+                 uint64_t *answer, size_t answer_words);
+
+/* Judges whether the file is a Mobile XMF file.
+ *
+ *   answer[2]  0, or the number 1 to 8 of the first check that fails
+ */
+void xmf_judge(const uint8_t *file, size_t file_length,
+               uint64_t *nodes, size_t node_words,
+               uint64_t *items, size_t item_words,
+               uint64_t *answer, size_t answer_words);
+
+/* Writes the support sheet into a lent buffer. Hidden items have no line in it.
+ *
+ *   answer[2]  the number of bytes written
+ *
+ * Bytes of the buffer past the sheet are 0.
+ */
+void xmf_write_sheet(const uint8_t *file, size_t file_length,
+                     uint64_t *nodes, size_t node_words,
+                     uint64_t *items, size_t item_words,
+                     uint8_t *sheet, size_t sheet_length,
+                     uint64_t *answer, size_t answer_words);
+
+#ifdef __cplusplus
+}
+#endif
+
+#endif

@@ -1,0 +1,215 @@
+//! Times the proved reader beside the plain one.
+//!
+//! `bench [REPETITIONS]` asks both readers each question about three files. A repetition calls one
+//! reader many times and takes the mean; the readers take turns, and the median of the repetitions
+//! (21 when nothing is said) is printed, in nanoseconds per call, with the ratio proved to plain.
+//!
+//! The tables and the room for the sheet are full. Each call fills or clears all of them.
+
+use generate::cases::{ALL_ITEM_WORDS, ALL_NODE_WORDS, ALL_ROOM};
+use generate::{large_file, large_resource, samples};
+use std::hint::black_box;
+use std::process::ExitCode;
+use std::time::{Duration, Instant};
+use std::{env, fs};
+
+/// The seed of the files.
+const SEED: u64 = 1;
+/// The least time that one repetition takes.
+const LEAST: Duration = Duration::from_millis(10);
+
+/// A file and what is asked about it.
+struct Subject {
+    name: &'static str,
+    file: Vec<u8>,
+    /// The row from which an item is looked for, and its standard field.
+    find: (u64, u64),
+    /// The row that is resolved.
+    resolve: u64,
+}
+
+/// What is lent to a reader.
+struct Lent {
+    nodes: Vec<u64>,
+    items: Vec<u64>,
+    sheet: Vec<u8>,
+}
+
+/// A question to one reader.
+type Ask = fn(&Subject, &mut Lent) -> bool;
+
+/// The questions, each to the proved and to the plain reader.
+const QUESTIONS: [(&str, Ask, Ask); 5] = [
+    (
+        "tree",
+        |about, lent| xmf::read_tree(&about.file, &mut lent.nodes, &mut lent.items).is_ok(),
+        |about, lent| plain::read_tree(&about.file, &mut lent.nodes, &mut lent.items).is_ok(),
+    ),
+    (
+        "find",
+        |about, lent| {
+            let (row, number) = about.find;
+            let field = xmf::Field::Standard(number);
+            xmf::find(
+                &about.file,
+                &mut lent.nodes,
+                &mut lent.items,
+                row as usize,
+                field,
+            )
+            .is_ok()
+        },
+        |about, lent| {
+            let (row, number) = about.find;
+            let field = plain::Field::Standard(number);
+            plain::find(&about.file, &mut lent.nodes, &mut lent.items, row, field).is_ok()
+        },
+    ),
+    (
+        "resolve",
+        |about, lent| {
+            let row = about.resolve as usize;
+            xmf::resolve(&about.file, &mut lent.nodes, &mut lent.items, row).is_ok()
+        },
+        |about, lent| {
+            let row = about.resolve;
+            plain::resolve(&about.file, &mut lent.nodes, &mut lent.items, row).is_ok()
+        },
+    ),
+    (
+        "verdict",
+        |about, lent| xmf::judge(&about.file, &mut lent.nodes, &mut lent.items).is_ok(),
+        |about, lent| plain::judge(&about.file, &mut lent.nodes, &mut lent.items).is_ok(),
+    ),
+    (
+        "sheet",
+        |about, lent| {
+            xmf::write_sheet(
+                &about.file,
+                &mut lent.nodes,
+                &mut lent.items,
+                &mut lent.sheet,
+            )
+            .is_ok()
+        },
+        |about, lent| {
+            plain::write_sheet(
+                &about.file,
+                &mut lent.nodes,
+                &mut lent.items,
+                &mut lent.sheet,
+            )
+            .is_ok()
+        },
+    ),
+];
+
+fn main() -> ExitCode {
+    let arguments: Vec<String> = env::args().skip(1).collect();
+    let repetitions = match arguments.as_slice() {
+        [] => Some(21),
+        [word] => word.parse().ok().filter(|&count: &usize| count > 0),
+        _ => None,
+    };
+    let Some(repetitions) = repetitions else {
+        eprintln!("usage: bench [REPETITIONS]");
+        return ExitCode::from(2);
+    };
+    let subjects = [
+        Subject {
+            name: "large",
+            file: large_file(SEED),
+            // The item is on the root, two levels above. The resource is two references away.
+            find: (255, 1),
+            resolve: 250,
+        },
+        Subject {
+            name: "worked",
+            file: samples::worked(),
+            find: (1, 3),
+            resolve: 1,
+        },
+        Subject {
+            name: "resource",
+            file: large_resource(SEED),
+            find: (1, 8),
+            resolve: 1,
+        },
+    ];
+    let mut lent = Lent {
+        nodes: vec![0; ALL_NODE_WORDS],
+        items: vec![0; ALL_ITEM_WORDS],
+        sheet: vec![0; ALL_ROOM],
+    };
+    if let Some(processor) = processor() {
+        println!("processor: {processor}");
+    }
+    println!("nanoseconds per call, median of {repetitions} repetitions, seed {SEED}");
+    println!(
+        "{:10}{:>8}  {:10}{:>12}{:>12}{:>8}",
+        "file", "bytes", "question", "proved", "plain", "ratio"
+    );
+    for about in &subjects {
+        for (question, proved, plain) in QUESTIONS {
+            for ask in [proved, plain] {
+                assert!(ask(about, &mut lent), "{question} is refused");
+            }
+            let calls = calls(about, &mut lent, proved).max(calls(about, &mut lent, plain));
+            let (mut first, mut second) = (Vec::new(), Vec::new());
+            for _ in 0..repetitions {
+                first.push(nanoseconds(about, &mut lent, proved, calls));
+                second.push(nanoseconds(about, &mut lent, plain, calls));
+            }
+            let (proved, plain) = (median(first), median(second));
+            println!(
+                "{:10}{:>8}  {:10}{:>12.0}{:>12.0}{:>8.2}",
+                about.name,
+                about.file.len(),
+                question,
+                proved,
+                plain,
+                proved / plain
+            );
+        }
+    }
+    ExitCode::SUCCESS
+}
+
+/// The number of calls that take the least time of a repetition.
+fn calls(about: &Subject, lent: &mut Lent, ask: Ask) -> u32 {
+    let mut calls = 1;
+    loop {
+        let start = Instant::now();
+        repeat(about, lent, ask, calls);
+        if start.elapsed() >= LEAST {
+            return calls;
+        }
+        calls *= 2;
+    }
+}
+
+/// The mean time of a call.
+fn nanoseconds(about: &Subject, lent: &mut Lent, ask: Ask, calls: u32) -> f64 {
+    let start = Instant::now();
+    repeat(about, lent, ask, calls);
+    start.elapsed().as_nanos() as f64 / f64::from(calls)
+}
+
+fn repeat(about: &Subject, lent: &mut Lent, ask: Ask, calls: u32) {
+    for _ in 0..calls {
+        black_box(ask(black_box(about), black_box(&mut *lent)));
+    }
+}
+
+fn median(mut times: Vec<f64>) -> f64 {
+    times.sort_by(f64::total_cmp);
+    times[times.len() / 2]
+}
+
+/// The name of the processor, where the system tells it.
+fn processor() -> Option<String> {
+    let text = fs::read_to_string("/proc/cpuinfo").ok()?;
+    let line = text.lines().find(|line| line.starts_with("model name"))?;
+    let (_, name) = line.split_once(':')?;
+    Some(name.trim().to_string())
+}

@@ -1,0 +1,196 @@
+//! Comparing two readers on a case, and two files of a pair on one reader.
+
+use crate::buffers::{Buffers, Noise};
+use crate::readers::{ask_plain, ask_proved, ask_words, Answer, Question, Subject, QUESTIONS};
+use generate::{Case, Pair};
+use std::fmt::Debug;
+
+/// The largest answer buffer that is lent as words.
+const MOST_ANSWER_WORDS: u64 = 16;
+/// The words after an answer buffer, which must not change.
+const ANSWER_GUARD: usize = 4;
+
+/// Compares, counts what is compared, and holds what that needs.
+pub struct Comparer {
+    first: Buffers,
+    second: Buffers,
+    noise: Noise,
+    /// The number of answers, tables and sheets compared.
+    pub comparisons: u64,
+    /// The number of words and bytes in them.
+    pub values: u64,
+    /// For each refusal number, how many files of cases are refused so for reading the tree; at 0
+    /// how many are read.
+    pub outcomes: [u64; 24],
+}
+
+/// Two values that should be equal.
+#[derive(Clone, Debug)]
+pub struct Difference {
+    /// The question asked.
+    pub question: Question,
+    /// What differs, and both values.
+    pub what: String,
+}
+
+impl Comparer {
+    /// A comparer; the seed fixes what tables hold before a question.
+    pub fn new(seed: u64) -> Self {
+        Comparer {
+            first: Buffers::new(),
+            second: Buffers::new(),
+            noise: Noise::new(seed),
+            comparisons: 0,
+            values: 0,
+            outcomes: [0; 24],
+        }
+    }
+
+    /// Asks both readers everything about a case. The questions take turns in being the first.
+    ///
+    /// When the case lends zeros, the first question finds zeros and each other one what the
+    /// question before it left. When it lends other values, each question finds such values.
+    pub fn case(&mut self, case: &Case, number: u64) -> Result<(), Difference> {
+        let about = Subject {
+            file: &case.file,
+            row: case.row,
+            field: &case.field,
+        };
+        self.first.resize(&case.lent);
+        self.second.resize(&case.lent);
+        if case.lent.stale == 0 {
+            self.first.clear();
+            self.second.clear();
+        }
+        let turn = (number / 16) as usize;
+        for step in 0..QUESTIONS.len() {
+            let question = QUESTIONS[(turn + step) % QUESTIONS.len()];
+            if case.lent.stale != 0 {
+                let noise = case.lent.stale ^ step as u64;
+                self.fill(question, noise, noise);
+            }
+            let proved = ask_proved(question, about, self.first.lend());
+            let plain = ask_plain(question, about, self.second.lend());
+            if question == Question::Tree {
+                self.outcomes[plain[0] as usize] += 1;
+            }
+            self.answer(question, &proved, &plain)?;
+            self.left(question)?;
+            if step == 0 {
+                let room = (number / 80) % (MOST_ANSWER_WORDS + 1);
+                self.words(question, about, &plain, room as usize)?;
+            }
+        }
+        Ok(())
+    }
+
+    /// Asks the proved reader everything about both files of a pair.
+    pub fn pair(&mut self, pair: &Pair, number: u64) -> Result<(), Difference> {
+        let [first, second] = [&pair.first, &pair.second].map(|file| Subject {
+            file,
+            row: pair.row,
+            field: &pair.field,
+        });
+        self.first.resize(&pair.lent);
+        self.second.resize(&pair.lent);
+        for question in QUESTIONS {
+            self.fill(question, number, !number);
+            let left = ask_proved(question, first, self.first.lend());
+            let right = ask_proved(question, second, self.second.lend());
+            if question == Question::Tree && left[0] != 0 {
+                return Err(Difference {
+                    question,
+                    what: format!("the first file is refused: {left:?}"),
+                });
+            }
+            self.answer(question, &left, &right)?;
+            self.left(question)?;
+        }
+        Ok(())
+    }
+
+    /// Sets what a question finds in the first and in the second buffers.
+    fn fill(&mut self, question: Question, first: u64, second: u64) {
+        self.first.fill_tables(&self.noise, first);
+        self.second.fill_tables(&self.noise, second);
+        if question == Question::Sheet {
+            self.first.fill_sheet(&self.noise, first);
+            self.second.fill_sheet(&self.noise, second);
+        }
+    }
+
+    /// Asks the proved reader again, with a buffer of so many words for the answer.
+    fn words(
+        &mut self,
+        question: Question,
+        about: Subject,
+        expected: &Answer,
+        room: usize,
+    ) -> Result<(), Difference> {
+        const MARK: u64 = 0x5A5A_5A5A_5A5A_5A5A;
+        let mut answer = [MARK; MOST_ANSWER_WORDS as usize + ANSWER_GUARD];
+        ask_words(question, about, self.first.lend(), &mut answer[..room]);
+        let mut wanted = [MARK; MOST_ANSWER_WORDS as usize + ANSWER_GUARD];
+        wanted[..room].fill(0);
+        let fitting = room.min(expected.len());
+        wanted[..fitting].copy_from_slice(&expected[..fitting]);
+        self.answer(question, &answer, &wanted)?;
+        self.left(question)
+    }
+
+    fn answer(
+        &mut self,
+        question: Question,
+        first: &[u64],
+        second: &[u64],
+    ) -> Result<(), Difference> {
+        self.count(first.len());
+        equal(question, "answer", first, second)
+    }
+
+    /// Compares what is left in the buffers.
+    fn left(&mut self, question: Question) -> Result<(), Difference> {
+        self.count(self.first.nodes().len());
+        self.count(self.first.items().len());
+        let (first, second) = (&self.first, &self.second);
+        equal(question, "node table", first.nodes(), second.nodes())?;
+        equal(question, "item table", first.items(), second.items())?;
+        if question == Question::Sheet {
+            equal(question, "sheet", first.sheet(), second.sheet())?;
+            self.count(self.first.sheet().len());
+        }
+        if !(self.first.are_guards_kept() && self.second.are_guards_kept()) {
+            return Err(Difference {
+                question,
+                what: "a word or byte that was not lent has changed".to_string(),
+            });
+        }
+        Ok(())
+    }
+
+    fn count(&mut self, values: usize) {
+        self.comparisons += 1;
+        self.values += values as u64;
+    }
+}
+
+/// Whether two sequences of the same length are equal; otherwise where they first differ.
+fn equal<T: PartialEq + Debug>(
+    question: Question,
+    name: &str,
+    first: &[T],
+    second: &[T],
+) -> Result<(), Difference> {
+    if first == second {
+        return Ok(());
+    }
+    let mut both = first.iter().zip(second);
+    let at = both.position(|(left, right)| left != right).unwrap_or(0);
+    let what = if name == "answer" {
+        format!("{name}: {first:?} and {second:?}")
+    } else {
+        let (left, right) = (&first[at], &second[at]);
+        format!("{name}, first at {at}: {left:?} and {right:?}")
+    };
+    Err(Difference { question, what })
+}

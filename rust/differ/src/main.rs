@@ -1,0 +1,153 @@
+//! Compares the proved reader with the plain one on generated cases.
+//!
+//! `differ [CASES [SEED [FIRST]]]` takes the cases from number FIRST on (a million from number 0,
+//! with seed 1, when nothing is said). For each it asks both readers all five questions, with the
+//! same contents of tables and buffers before, and compares the answers, each word of both tables
+//! and each byte of the sheet. Each case also asks one question through the interface of words, with
+//! an answer buffer of 0 to 16 words.
+//!
+//! For each tenth case it takes a pair of files that differ in hidden data only, asks the proved
+//! reader all five questions about both, with different contents of tables and buffers before, and
+//! compares in the same way.
+//!
+//! Before that it compares the readers on the samples: each sample, each of its cuts, each file that
+//! differs from it in one byte, and two very long files.
+//!
+//! It stops at the first difference, with exit status 1.
+
+mod buffers;
+mod changed;
+mod compare;
+mod readers;
+
+use compare::{Comparer, Difference};
+use generate::model::Field;
+use generate::{Case, Lent, Pair};
+use std::process::ExitCode;
+use std::time::Instant;
+use std::{env, fmt::Write};
+
+/// One pair for so many cases.
+const CASES_FOR_A_PAIR: u64 = 10;
+/// The most bytes of a file that a report shows.
+const MOST_SHOWN: usize = 70_000;
+
+fn main() -> ExitCode {
+    let arguments: Result<Vec<u64>, _> = env::args().skip(1).map(|word| word.parse()).collect();
+    let (cases, seed, first) = match arguments.as_deref() {
+        Ok([]) => (1_000_000, 1, 0),
+        Ok(&[cases]) => (cases, 1, 0),
+        Ok(&[cases, seed]) => (cases, seed, 0),
+        Ok(&[cases, seed, first]) => (cases, seed, first),
+        _ => {
+            eprintln!("usage: differ [CASES [SEED [FIRST]]]");
+            return ExitCode::from(2);
+        }
+    };
+    let mut comparer = Comparer::new(seed);
+    let compared = compare_samples(&mut comparer)
+        .and_then(|()| compare_cases(&mut comparer, cases, seed, first));
+    match compared {
+        Ok(()) => {
+            println!("differences: 0");
+            ExitCode::SUCCESS
+        }
+        Err(report) => {
+            print!("{report}");
+            ExitCode::FAILURE
+        }
+    }
+}
+
+/// Compares on all changed samples, and prints how many there are, or reports a difference.
+fn compare_samples(comparer: &mut Comparer) -> Result<(), String> {
+    let mut count = 0;
+    changed::for_each(|case| {
+        let number = count;
+        count += 1;
+        comparer.case(case, number).map_err(|difference| {
+            case_report(&format!("changed sample {number}"), case, &difference)
+        })
+    })?;
+    println!("changed samples: {count}");
+    Ok(())
+}
+
+/// Compares on generated cases and pairs, and prints how many there are, or reports a difference.
+fn compare_cases(comparer: &mut Comparer, cases: u64, seed: u64, first: u64) -> Result<(), String> {
+    let start = Instant::now();
+    let mut pairs = 0;
+    for number in first..first.saturating_add(cases) {
+        let case = generate::case(seed, number);
+        comparer.case(&case, number).map_err(|difference| {
+            case_report(&format!("case {number} of seed {seed}"), &case, &difference)
+        })?;
+        if number % CASES_FOR_A_PAIR == 0 {
+            let pair = generate::pair(seed, number);
+            comparer.pair(&pair, number).map_err(|difference| {
+                pair_report(&format!("pair {number} of seed {seed}"), &pair, &difference)
+            })?;
+            pairs += 1;
+        }
+    }
+    let seconds = start.elapsed().as_secs_f64();
+    println!("cases: {cases} from number {first}, seed {seed}");
+    println!("pairs: {pairs}");
+    print_counts(comparer);
+    let rate = cases as f64 / seconds;
+    println!("time: {seconds:.1} s, {rate:.0} cases per second");
+    Ok(())
+}
+
+/// Prints what has been compared, the changed samples included.
+fn print_counts(comparer: &Comparer) {
+    println!(
+        "comparisons: {} answers, tables and sheets, with {} words and bytes",
+        comparer.comparisons, comparer.values
+    );
+    println!("files read: {}", comparer.outcomes[0]);
+    let refusals = comparer.outcomes.iter().enumerate().skip(1);
+    let refusals: Vec<String> = refusals
+        .filter(|(_, count)| **count > 0)
+        .map(|(number, count)| format!("{number}: {count}"))
+        .collect();
+    println!("files refused, by number: {}", refusals.join(", "));
+}
+
+/// Tells a difference between the readers.
+fn case_report(name: &str, case: &Case, difference: &Difference) -> String {
+    format!(
+        "difference in {name}, proved and plain\n{}file: {}\n",
+        asked(difference, case.row, &case.field, &case.lent),
+        hex(&case.file)
+    )
+}
+
+/// Tells a difference between the files of a pair.
+fn pair_report(name: &str, pair: &Pair, difference: &Difference) -> String {
+    format!(
+        "difference in {name}, first and second file\n{}first file: {}\nsecond file: {}\n",
+        asked(difference, pair.row, &pair.field, &pair.lent),
+        hex(&pair.first),
+        hex(&pair.second)
+    )
+}
+
+/// A difference and what was asked.
+fn asked(difference: &Difference, row: u64, field: &Field, lent: &Lent) -> String {
+    let Difference { question, what } = difference;
+    format!("question: {question:?}\n{what}\nrow {row}, field {field:?}, {lent:?}\n")
+}
+
+/// Bytes in hexadecimal; of a long file only the first ones.
+fn hex(bytes: &[u8]) -> String {
+    let shown = &bytes[..bytes.len().min(MOST_SHOWN)];
+    let mut text = format!("{} bytes ", bytes.len());
+    for byte in shown {
+        write!(text, "{byte:02x}").expect("a string takes all");
+    }
+    if shown.len() < bytes.len() {
+        text += "..";
+    }
+    text
+}

@@ -1,0 +1,142 @@
+//! The two readers behind one form of questions and answers.
+
+use generate::model::Field;
+
+/// The words of an answer in the order of the C interface: refusal number (0: none), place, then the
+/// answer's values, and zeros.
+pub type Answer = [u64; xmf::ANSWER_WORDS];
+
+/// A question.
+#[derive(Clone, Copy, Debug, PartialEq, Eq)]
+pub enum Question {
+    /// Read the tree.
+    Tree,
+    /// Find a metadata item.
+    Find,
+    /// Resolve a resource.
+    Resolve,
+    /// Judge Mobile XMF.
+    Judge,
+    /// Write the support sheet.
+    Sheet,
+}
+
+/// All questions.
+pub const QUESTIONS: [Question; 5] = [
+    Question::Tree,
+    Question::Find,
+    Question::Resolve,
+    Question::Judge,
+    Question::Sheet,
+];
+
+/// What the questions are about.
+#[derive(Clone, Copy, Debug)]
+pub struct Subject<'a> {
+    /// The bytes of the file.
+    pub file: &'a [u8],
+    /// The row to ask about.
+    pub row: u64,
+    /// The field to be found.
+    pub field: &'a Field,
+}
+
+/// What is lent to a reader.
+pub struct Lent<'a> {
+    /// The words for node rows.
+    pub nodes: &'a mut [u64],
+    /// The words for item rows.
+    pub items: &'a mut [u64],
+    /// The bytes for a sheet.
+    pub sheet: &'a mut [u8],
+}
+
+/// Asks the proved reader.
+pub fn ask_proved(question: Question, about: Subject, lent: Lent) -> Answer {
+    let Subject { file, row, .. } = about;
+    let (nodes, items) = (lent.nodes, lent.items);
+    let row = row as usize;
+    let answer = match question {
+        Question::Tree => xmf::read_tree(file, nodes, items)
+            .map(|tree| words(&[tree.version, tree.nodes as u64, tree.items as u64])),
+        Question::Find => xmf::find(file, nodes, items, row, xmf_field(about.field)).map(|found| {
+            let mut answer = words(&[found.row as u64]);
+            answer[3..].copy_from_slice(&found.words);
+            answer
+        }),
+        Question::Resolve => xmf::resolve(file, nodes, items, row).map(|found| {
+            words(&[
+                found.place as u64,
+                found.length as u64,
+                found.row as u64,
+                found.hops,
+            ])
+        }),
+        Question::Judge => xmf::judge(file, nodes, items).map(|verdict| words(&[verdict])),
+        Question::Sheet => {
+            xmf::write_sheet(file, nodes, items, lent.sheet).map(|length| words(&[length as u64]))
+        }
+    };
+    answer.unwrap_or_else(|refusal| refused(refusal.number, refusal.place))
+}
+
+/// Asks the proved reader for the answer as words, in a buffer of any size.
+pub fn ask_words(question: Question, about: Subject, lent: Lent, answer: &mut [u64]) {
+    let Subject { file, row, field } = about;
+    let (nodes, items) = (lent.nodes, lent.items);
+    let row = row as usize;
+    match question {
+        Question::Tree => xmf::words::read_tree(file, nodes, items, answer),
+        Question::Find => xmf::words::find(file, nodes, items, row, xmf_field(field), answer),
+        Question::Resolve => xmf::words::resolve(file, nodes, items, row, answer),
+        Question::Judge => xmf::words::judge(file, nodes, items, answer),
+        Question::Sheet => xmf::words::write_sheet(file, nodes, items, lent.sheet, answer),
+    }
+}
+
+/// Asks the plain reader.
+pub fn ask_plain(question: Question, about: Subject, lent: Lent) -> Answer {
+    let Subject { file, row, .. } = about;
+    let (nodes, items) = (lent.nodes, lent.items);
+    let field = match about.field {
+        Field::Standard(number) => plain::Field::Standard(*number as u64),
+        Field::Custom(name) => plain::Field::Custom(name),
+    };
+    let answer = match question {
+        Question::Tree => plain::read_tree(file, nodes, items)
+            .map(|tree| words(&[tree.version, tree.nodes, tree.items])),
+        Question::Find => plain::find(file, nodes, items, row, field).map(|found| {
+            let mut answer = words(&[found.row]);
+            answer[3..].copy_from_slice(&found.words);
+            answer
+        }),
+        Question::Resolve => plain::resolve(file, nodes, items, row)
+            .map(|found| words(&[found.place, found.length, found.row, found.hops])),
+        Question::Judge => plain::judge(file, nodes, items).map(|verdict| words(&[verdict])),
+        Question::Sheet => {
+            plain::write_sheet(file, nodes, items, lent.sheet).map(|length| words(&[length as u64]))
+        }
+    };
+    answer.unwrap_or_else(|refusal| refused(refusal.number, refusal.place))
+}
+
+fn xmf_field(field: &Field) -> xmf::Field<'_> {
+    match field {
+        Field::Standard(number) => xmf::Field::Standard(*number as u64),
+        Field::Custom(name) => xmf::Field::Custom(name),
+    }
+}
+
+/// The words of an answer with these values.
+fn words(values: &[u64]) -> Answer {
+    let mut answer = [0; xmf::ANSWER_WORDS];
+    answer[2..][..values.len()].copy_from_slice(values);
+    answer
+}
+
+/// The words of a refusal.
+fn refused(number: u64, place: u64) -> Answer {
+    let mut answer = [0; xmf::ANSWER_WORDS];
+    answer[..2].copy_from_slice(&[number, place]);
+    answer
+}

@@ -1,0 +1,77 @@
+//! The C interface, as `include/xmf.h` declares it.
+//!
+//! A slice passes as a pointer and a number of elements. No function has a precondition on values.
+//! The caller sees to the pointers: none is null, each is aligned, so many elements can be read
+//! there, and written where the pointer is `*mut`. What is written overlaps nothing else that is
+//! lent, and no other thread uses it during the call.
+
+extern "C" {
+    /// Reads the tree. Answer: version (100, 101 or 200), node rows, item rows.
+    pub fn xmf_read_tree(
+        file: *const u8,
+        file_length: usize,
+        nodes: *mut u64,
+        node_words: usize,
+        items: *mut u64,
+        item_words: usize,
+        answer: *mut u64,
+        answer_words: usize,
+    );
+
+    /// Finds an item: of the standard number (kind 0), or of the custom name (any other kind).
+    /// Answer: item row, its ten words.
+    pub fn xmf_find(
+        file: *const u8,
+        file_length: usize,
+        nodes: *mut u64,
+        node_words: usize,
+        items: *mut u64,
+        item_words: usize,
+        row: usize,
+        kind: u64,
+        number: u64,
+        name: *const u8,
+        name_length: usize,
+        answer: *mut u64,
+        answer_words: usize,
+    );
+
+    /// Resolves a resource. Answer: place, length, row, references followed.
+    pub fn xmf_resolve(
+        file: *const u8,
+        file_length: usize,
+        nodes: *mut u64,
+        node_words: usize,
+        items: *mut u64,
+        item_words: usize,
+        row: usize,
+        answer: *mut u64,
+        answer_words: usize,
+    );
+
+    /// Judges Mobile XMF. Answer: the verdict.
+    pub fn xmf_judge(
+        file: *const u8,
+        file_length: usize,
+        nodes: *mut u64,
+        node_words: usize,
+        items: *mut u64,
+        item_words: usize,
+        answer: *mut u64,
+        answer_words: usize,
+    );
+
+    /// Writes the support sheet. Answer: bytes written.
+    pub fn xmf_write_sheet(
+        file: *const u8,
+        file_length: usize,
+        nodes: *mut u64,
+        node_words: usize,
+        items: *mut u64,
+        item_words: usize,
+        sheet: *mut u8,
+        sheet_length: usize,
+        answer: *mut u64,
+        answer_words: usize,
+    );
+}

@@ -1,0 +1,303 @@
+//! Five questions about XMF files of versions 1.00, 1.01 and 2.00, answered by the proved reader.
+//!
+//! | Question | Function |
+//! |---|---|
+//! | read the tree | [`read_tree`] |
+//! | find a metadata item | [`find`] |
+//! | resolve a resource | [`resolve`], and [`resource`] for its bytes |
+//! | judge Mobile XMF | [`judge`] |
+//! | write the support sheet | [`write_sheet`] |
+//!
+//! Each question takes the file and two lent tables of words, one for node rows and one for item
+//! rows, of any size and whatever they hold before. It reads the file afresh. After an answer the
+//! tables hold the file's rows, and zeros past the last row. After a refusal they hold zeros only.
+//! Nothing is allocated and nothing panics.
+//!
+//! Every place is counted from the file's first byte.
+//!
+//! ```
+//! use xmf::{Field, ALL_ITEM_WORDS, ALL_NODE_WORDS};
+//!
+//! let file = std::fs::read("../../samples/worked.xmf").unwrap();
+//! let mut nodes = vec![0; ALL_NODE_WORDS];
+//! let mut items = vec![0; ALL_ITEM_WORDS];
+//! let tree = xmf::read_tree(&file, &mut nodes, &mut items).unwrap();
+//! assert_eq!((tree.version, tree.nodes, tree.items), (200, 2, 3));
+//!
+//! let found = xmf::find(&file, &mut nodes, &mut items, 1, Field::Custom(b"a")).unwrap();
+//! let data = found.words[xmf::item::DATA] as usize;
+//! let length = found.words[xmf::item::DATA_LENGTH] as usize;
+//! assert_eq!(&file[data..data + length], b"Hi");
+//! ```
+
+use std::{error, fmt};
+
+pub mod c;
+pub mod words;
+
+/// The words of a table with as many node rows as there may be.
+pub const ALL_NODE_WORDS: usize = 256 * node::WORDS;
+/// The words of a table with as many item rows as there may be.
+pub const ALL_ITEM_WORDS: usize = 1024 * item::WORDS;
+/// The words of the longest answer, that of find.
+pub const ANSWER_WORDS: usize = 3 + item::WORDS;
+
+/// The columns of a node row.
+pub mod node {
+    /// The number of words in a row.
+    pub const WORDS: usize = 12;
+    /// Place of the node's first byte.
+    pub const START: usize = 0;
+    /// The node's length.
+    pub const LENGTH: usize = 1;
+    /// Length of the node's header, from the node's first byte to its reference.
+    pub const HEADER_LENGTH: usize = 2;
+    /// Number of nodes the node holds; 0 for a file node.
+    pub const CONTAINED: usize = 3;
+    /// Row of the folder that holds the node; 0 for the root.
+    pub const PARENT: usize = 4;
+    /// Depth, the root being at 1.
+    pub const DEPTH: usize = 5;
+    /// Reference: 1 in the node, 2 a place in the file, 3 another node, 4 a URI.
+    pub const REFERENCE: usize = 6;
+    /// Place of the contents (reference 1), the offset (2 and 3), or place of the URI (4).
+    pub const TARGET: usize = 7;
+    /// Length of the contents (reference 1), bytes to the file's end (2), 0 (3), or length of the
+    /// URI (4).
+    pub const EXTENT: usize = 8;
+    /// Place of the byte after the unpackers' length.
+    pub const UNPACKERS: usize = 9;
+    /// Number of unpackers.
+    pub const UNPACKER_COUNT: usize = 10;
+    /// Number of item rows of the node.
+    pub const ITEMS: usize = 11;
+}
+
+/// The columns of an item row.
+pub mod item {
+    /// The number of words in a row.
+    pub const WORDS: usize = 10;
+    /// Row of the node that has the item.
+    pub const NODE: usize = 0;
+    /// Number of the item in its node, from 0.
+    pub const NUMBER: usize = 1;
+    /// Kind of field: [`STANDARD`] or [`CUSTOM`].
+    pub const KIND: usize = 2;
+    /// The standard number, or the place of the custom name.
+    pub const FIELD: usize = 3;
+    /// Length of the custom name; 0 for a standard field.
+    pub const NAME_LENGTH: usize = 4;
+    /// Number of the version, from 1; 0 for a universal content.
+    pub const VERSION: usize = 5;
+    /// The version's type; 0 for a universal content.
+    pub const TYPE: usize = 6;
+    /// String format; an odd one is hidden.
+    pub const FORMAT: usize = 7;
+    /// Place of the data.
+    pub const DATA: usize = 8;
+    /// Length of the data.
+    pub const DATA_LENGTH: usize = 9;
+
+    /// Kind of an item with a standard field.
+    pub const STANDARD: u64 = 0;
+    /// Kind of an item with a custom field.
+    pub const CUSTOM: u64 = 1;
+}
+
+/// Why a question is refused.
+#[derive(Clone, Copy, Debug, PartialEq, Eq)]
+pub struct Refusal {
+    /// The number in the refusal list, 1 to 23.
+    pub number: u64,
+    /// The place of the refused field's first byte, or 0 where the list names none.
+    pub place: u64,
+}
+
+impl Refusal {
+    /// What the number means.
+    pub fn meaning(&self) -> &'static str {
+        match self.number {
+            1 => "fewer than 8 bytes, or not an XMF file",
+            2 => "the version is not 1.00, 1.01 or 2.00",
+            3 => "a field runs past the part that holds it",
+            4 => "a number or a GUID is too long, or a number is not in its shortest form",
+            5 => "the length in the header is not the number of bytes received",
+            6 => "the types table has a type twice, or more than 32 entries",
+            7 => "the tree begins inside the header, or ends before it begins or past the file",
+            8 => "a node does not fit its holder, or a node's header does not fit the node",
+            9 => "a node at depth 17",
+            10 => "no row left: more than 256 nodes or 1,024 item rows, or smaller tables lent",
+            11 => "a universal content of length 0, or a type that the file does not declare",
+            12 => "an unpacker of an unknown kind",
+            13 => "reference 0, or above 4",
+            14 => "a folder that is packed, or whose contents do not follow in it",
+            15 => "bytes left between a part's last field and its end",
+            16 => "a reference leads outside the file, into the header, or to no node",
+            17 => "more than 268,435,455 bytes",
+            18 => "the row asked for is not there",
+            19 => "resolving ends at a folder",
+            20 => "resolving ends at a URI",
+            21 => "a fifth reference would be followed",
+            22 => "the sheet is longer than its buffer",
+            23 => "no such item",
+            _ => "not in the list",
+        }
+    }
+}
+
+impl fmt::Display for Refusal {
+    fn fmt(&self, out: &mut fmt::Formatter) -> fmt::Result {
+        let Refusal { number, place } = self;
+        write!(out, "refusal {number} at {place}: {}", self.meaning())
+    }
+}
+
+impl error::Error for Refusal {}
+
+/// What reading the tree answers, besides the rows.
+#[derive(Clone, Copy, Debug, PartialEq, Eq)]
+pub struct Tree {
+    /// The version times a hundred: 100, 101 or 200.
+    pub version: u64,
+    /// The number of node rows.
+    pub nodes: usize,
+    /// The number of item rows.
+    pub items: usize,
+}
+
+/// A field to be found.
+#[derive(Clone, Copy, Debug, PartialEq, Eq)]
+pub enum Field<'a> {
+    /// A standard field, by its number.
+    Standard(u64),
+    /// A custom field, by the bytes of its name. An empty name is never found.
+    Custom(&'a [u8]),
+}
+
+/// An item that has been found.
+#[derive(Clone, Copy, Debug, PartialEq, Eq)]
+pub struct Found {
+    /// The number of its item row.
+    pub row: usize,
+    /// The words of that row; [`item`] names the columns.
+    pub words: [u64; item::WORDS],
+}
+
+/// A resource that has been resolved.
+#[derive(Clone, Copy, Debug, PartialEq, Eq)]
+pub struct Resource {
+    /// Place of its first byte.
+    pub place: usize,
+    /// The number of its bytes.
+    pub length: usize,
+    /// The node row whose unpackers apply.
+    pub row: usize,
+    /// The number of references followed.
+    pub hops: u64,
+}
+
+/// Reads the tree of a file into the lent tables.
+pub fn read_tree(file: &[u8], nodes: &mut [u64], items: &mut [u64]) -> Result<Tree, Refusal> {
+    let mut answer = [0; 5];
+    words::read_tree(file, nodes, items, &mut answer);
+    let [version, node_rows, item_rows] = values(answer)?;
+    Ok(Tree {
+        version,
+        nodes: node_rows as usize,
+        items: item_rows as usize,
+    })
+}
+
+/// Finds the first item of a field on the node of a row, or on the nearest node above it that has
+/// one. Hidden items are found too.
+///
+/// Refused with 18 when there is no such row, with 23 when there is no such item.
+pub fn find(
+    file: &[u8],
+    nodes: &mut [u64],
+    items: &mut [u64],
+    row: usize,
+    field: Field,
+) -> Result<Found, Refusal> {
+    let mut answer = [0; ANSWER_WORDS];
+    words::find(file, nodes, items, row, field, &mut answer);
+    let [row, words @ ..] = values::<ANSWER_WORDS, { 1 + item::WORDS }>(answer)?;
+    Ok(Found {
+        row: row as usize,
+        words,
+    })
+}
+
+/// Resolves the resource of a row's node, following at most four references.
+///
+/// Refused with 18 when there is no such row, with 19 when it ends at a folder, with 20 when it
+/// ends at a URI, with 21 when a fifth reference would be followed.
+pub fn resolve(
+    file: &[u8],
+    nodes: &mut [u64],
+    items: &mut [u64],
+    row: usize,
+) -> Result<Resource, Refusal> {
+    let mut answer = [0; 6];
+    words::resolve(file, nodes, items, row, &mut answer);
+    let [place, length, row, hops] = values(answer)?;
+    Ok(Resource {
+        place: place as usize,
+        length: length as usize,
+        row: row as usize,
+        hops,
+    })
+}
+
+/// Gives the resource that [`resolve`] names, as a part of the lent file.
+///
+/// A reference 2 may lead to any place after the file header, so these bytes may include hidden
+/// data. Do not put them into a ticket.
+pub fn resource<'a>(
+    file: &'a [u8],
+    nodes: &mut [u64],
+    items: &mut [u64],
+    row: usize,
+) -> Result<&'a [u8], Refusal> {
+    let found = resolve(file, nodes, items, row)?;
+    Ok(&file[found.place..][..found.length])
+}
+
+/// Judges whether a file is a Mobile XMF file: 0, or the number 1 to 8 of the first check that
+/// fails.
+pub fn judge(file: &[u8], nodes: &mut [u64], items: &mut [u64]) -> Result<u64, Refusal> {
+    let mut answer = [0; 3];
+    words::judge(file, nodes, items, &mut answer);
+    let [verdict] = values(answer)?;
+    Ok(verdict)
+}
+
+/// Writes the support sheet of a file into a lent buffer and answers the number of bytes written.
+///
+/// Bytes of the buffer past the sheet are 0; after a refusal all are. Refused with 22 when the
+/// sheet is longer than the buffer.
+pub fn write_sheet(
+    file: &[u8],
+    nodes: &mut [u64],
+    items: &mut [u64],
+    sheet: &mut [u8],
+) -> Result<usize, Refusal> {
+    let mut answer = [0; 3];
+    words::write_sheet(file, nodes, items, sheet, &mut answer);
+    let [written] = values(answer)?;
+    Ok(written as usize)
+}
+
+/// The values of an answer, or its refusal. There are two words more than values.
+fn values<const WORDS: usize, const VALUES: usize>(
+    answer: [u64; WORDS],
+) -> Result<[u64; VALUES], Refusal> {
+    const { assert!(WORDS == VALUES + 2) };
+    match answer[0] {
+        0 => Ok(std::array::from_fn(|value| answer[value + 2])),
+        number => Err(Refusal {
+            number,
+            place: answer[1],
+        }),
+    }
+}

@@ -1,0 +1,146 @@
+//! The questions about the worked file, and what the interface says of odd arguments.
+
+use xmf::{c, item, node, Field, Refusal, Resource, Tree};
+use xmf::{ALL_ITEM_WORDS, ALL_NODE_WORDS, ANSWER_WORDS};
+
+const WORKED: &[u8] = include_bytes!("../../../samples/worked.xmf");
+const SHEET: &str = "XMF\t2.00\t56\t2\t3\n\
+                     N\t0\t0\t1\t1\t27\t29\n\
+                     N\t1\t0\t2\t1\t54\t2\n\
+                     M\t1\tC\ta\t0\t0\tHi\n\
+                     M\t1\tS\t3\t0\t6\t\\00\\00\n";
+
+fn tables() -> (Vec<u64>, Vec<u64>) {
+    (vec![7; ALL_NODE_WORDS], vec![7; ALL_ITEM_WORDS])
+}
+
+fn refusal<T>(number: u64, place: u64) -> Result<T, Refusal> {
+    Err(Refusal { number, place })
+}
+
+#[test]
+fn each_question_is_answered() {
+    let (mut nodes, mut items) = tables();
+    let tree = Tree {
+        version: 200,
+        nodes: 2,
+        items: 3,
+    };
+    assert_eq!(xmf::read_tree(WORKED, &mut nodes, &mut items), Ok(tree));
+    assert_eq!(nodes[node::WORDS + node::TARGET], 54);
+    assert!(nodes[2 * node::WORDS..].iter().all(|&word| word == 0));
+    assert!(items[3 * item::WORDS..].iter().all(|&word| word == 0));
+
+    let field = Field::Custom(b"a");
+    let found = xmf::find(WORKED, &mut nodes, &mut items, 1, field).unwrap();
+    assert_eq!(found.row, 0);
+    assert_eq!(found.words[..], items[..item::WORDS]);
+    let field = Field::Standard(3);
+    let found = xmf::find(WORKED, &mut nodes, &mut items, 1, field).unwrap();
+    assert_eq!(found.row, 2);
+
+    let resource = Resource {
+        place: 54,
+        length: 2,
+        row: 1,
+        hops: 0,
+    };
+    let resolved = xmf::resolve(WORKED, &mut nodes, &mut items, 1);
+    assert_eq!(resolved, Ok(resource));
+    let part = xmf::resource(WORKED, &mut nodes, &mut items, 1);
+    assert_eq!(part, Ok(&[0xAA, 0xBB][..]));
+
+    assert_eq!(xmf::judge(WORKED, &mut nodes, &mut items), Ok(7));
+
+    let mut sheet = [7; 200];
+    let length = xmf::write_sheet(WORKED, &mut nodes, &mut items, &mut sheet).unwrap();
+    assert_eq!(&sheet[..length], SHEET.as_bytes());
+    assert!(sheet[length..].iter().all(|&byte| byte == 0));
+}
+
+#[test]
+fn refusals_clear_what_is_lent() {
+    let (mut nodes, mut items) = tables();
+    let mut sheet = [7; 200];
+    let cut = &WORKED[..55];
+    let written = xmf::write_sheet(cut, &mut nodes, &mut items, &mut sheet);
+    assert_eq!(written, refusal(5, 16));
+    assert!(nodes.iter().chain(&items).all(|&word| word == 0));
+    assert_eq!(sheet, [0; 200]);
+
+    let (mut nodes, mut items) = tables();
+    let found = xmf::find(WORKED, &mut nodes, &mut items, 1, Field::Standard(9));
+    assert_eq!(found, refusal(23, 0));
+    assert!(nodes.iter().chain(&items).all(|&word| word == 0));
+    let resolved = xmf::resolve(WORKED, &mut nodes, &mut items, usize::MAX);
+    assert_eq!(resolved, refusal(18, 0));
+    let resolved = xmf::resolve(WORKED, &mut nodes, &mut items, 0);
+    assert_eq!(resolved, refusal(19, 0));
+    let mut short = vec![7; SHEET.len() - 1];
+    let written = xmf::write_sheet(WORKED, &mut nodes, &mut items, &mut short);
+    assert_eq!(written, refusal(22, 0));
+    assert!(short.iter().all(|&byte| byte == 0));
+}
+
+#[test]
+fn nothing_need_be_lent() {
+    assert_eq!(xmf::read_tree(&[], &mut [], &mut []), refusal(1, 0));
+    assert_eq!(xmf::read_tree(WORKED, &mut [], &mut []), refusal(10, 21));
+    assert_eq!(
+        xmf::write_sheet(&[], &mut [], &mut [], &mut []),
+        refusal(1, 0)
+    );
+    let (mut nodes, mut items) = tables();
+    xmf::words::judge(WORKED, &mut nodes, &mut items, &mut []);
+    let written = xmf::write_sheet(WORKED, &mut nodes, &mut items, &mut []);
+    assert_eq!(written, refusal(22, 0));
+}
+
+#[test]
+fn an_answer_fits_its_buffer() {
+    let (mut nodes, mut items) = tables();
+    for room in 0..ANSWER_WORDS + 3 {
+        let mut answer = [7; ANSWER_WORDS + 4];
+        xmf::words::read_tree(WORKED, &mut nodes, &mut items, &mut answer[..room]);
+        let mut wanted = [7; ANSWER_WORDS + 4];
+        for (word, place) in wanted[..room].iter_mut().zip(0..) {
+            *word = [0, 0, 200, 2, 3].get::<usize>(place).copied().unwrap_or(0);
+        }
+        assert_eq!(answer, wanted);
+    }
+}
+
+/// Finds with a kind, a number and a name; gives the item row.
+fn find_row(kind: u64, number: u64, name: &[u8]) -> u64 {
+    let (mut nodes, mut items) = tables();
+    let mut answer = [7; ANSWER_WORDS];
+    // Safety: the pointers and lengths are those of slices that do not overlap.
+    unsafe {
+        c::xmf_find(
+            WORKED.as_ptr(),
+            WORKED.len(),
+            nodes.as_mut_ptr(),
+            nodes.len(),
+            items.as_mut_ptr(),
+            items.len(),
+            1,
+            kind,
+            number,
+            name.as_ptr(),
+            name.len(),
+            answer.as_mut_ptr(),
+            answer.len(),
+        );
+    }
+    assert_eq!(answer[..2], [0, 0]);
+    answer[2]
+}
+
+#[test]
+fn the_kind_chooses_number_or_name() {
+    assert_eq!(find_row(0, 3, b"a"), 2);
+    for kind in [1, 2, u64::MAX] {
+        assert_eq!(find_row(kind, 3, b"a"), 0);
+        assert_eq!(find_row(kind, 3, b"t"), 1);
+    }
+}
