@@ -54,6 +54,17 @@ pub const NO_ROOM: u64 = 22;
 
 pub const NO_SUCH_ITEM: u64 = 23;
 
+// The words of a row, and how many rows and levels there may be.
+pub const NODE_WIDTH: usize = 12;
+
+pub const ITEM_WIDTH: usize = 10;
+
+pub const MOST_NODES: usize = 256;
+
+pub const MOST_ITEMS: usize = 1024;
+
+pub const MOST_DEPTH: usize = 16;
+
 // A place counted from the file's first byte.
 pub struct FilePlace(pub usize);
 

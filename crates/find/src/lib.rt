@@ -83,7 +83,7 @@ fn item_at(items: &[u64], i: usize) -> Item
     requires { ⌜ i * 10 + 10 ≤ length (now items) ⌝ }
     ensures { λ r. ⌜ r ≡ itemFrom (now (items .entry)) (i * 10) ⌝ }
 {
-    let k = i * 10;
+    let k = i * cursor::ITEM_WIDTH;
     Item {
         node: items[k],
         item: items[k + 1],
@@ -106,7 +106,7 @@ fn first_row(nodes: &[u64], count: usize, k: usize, most: usize) -> usize
     let mut sum = 0;
     let mut i = 0;
     while i < k {
-        sum = sum + least(nodes[i * 12 + 11] as usize, most - sum);
+        sum = sum + least(nodes[i * cursor::NODE_WIDTH + 11] as usize, most - sum);
         i = i + 1;
     }
     sum
@@ -151,7 +151,7 @@ fn look(
     ensures { λ r. ⌜ told r ≡ look (now (file .entry)) (wantedOf field (now (name .entry))) (nodesIn count (now (nodes .entry))) (itemsIn rows (now (items .entry))) k ⌝ }
 {
     let from = first_row(nodes, count, k, rows);
-    let own = least(nodes[k * 12 + 11] as usize, rows - from);
+    let own = least(nodes[k * cursor::NODE_WIDTH + 11] as usize, rows - from);
     search(file, items, rows, from, from + own, field, name)
 }
 
@@ -172,7 +172,7 @@ fn climb(
     match look(file, nodes, items, count, rows, k, field, name) {
         Found::Item(i, row) => Found::Item(i, row),
         Found::Refused(_, _) => {
-            let parent = nodes[k * 12 + 4] as usize;
+            let parent = nodes[k * cursor::NODE_WIDTH + 4] as usize;
             if k <= parent {
                 return Found::Refused(cursor::NO_SUCH_ITEM, 0);
             }

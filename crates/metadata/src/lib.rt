@@ -107,7 +107,7 @@ fn put_item(items: &mut [u64], made: usize, row: Item)
         row.place,
         row.size,
     ];
-    store(items, made * 10, &words);
+    store(items, made * cursor::ITEM_WIDTH, &words);
 }
 
 // The field here: 0 and a standard number, or an XString, which is a custom name.

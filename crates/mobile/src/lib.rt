@@ -56,7 +56,7 @@ fn files_only(nodes: &[u64], many: usize) -> bool
     }
     let mut i = 1;
     while i < many {
-        if nodes[i * 12 + 3] != 0 {
+        if nodes[i * cursor::NODE_WIDTH + 3] != 0 {
             return false;
         }
         i = i + 1;
@@ -80,7 +80,7 @@ fn plain_references(nodes: &[u64], many: usize) -> bool
 {
     let mut i = 0;
     while i < many {
-        if !is_plain(nodes[i * 12 + 6]) {
+        if !is_plain(nodes[i * cursor::NODE_WIDTH + 6]) {
             return false;
         }
         i = i + 1;
@@ -95,7 +95,7 @@ fn no_unpackers(nodes: &[u64], many: usize) -> bool
 {
     let mut i = 0;
     while i < many {
-        if nodes[i * 12 + 10] != 0 {
+        if nodes[i * cursor::NODE_WIDTH + 10] != 0 {
             return false;
         }
         i = i + 1;
@@ -111,7 +111,7 @@ fn own_end(nodes: &[u64], many: usize, i: usize, at: usize, most: usize) -> usiz
     if many <= i {
         return at;
     }
-    let rows = nodes[i * 12 + 11] as usize;
+    let rows = nodes[i * cursor::NODE_WIDTH + 11] as usize;
     if most - at <= rows {
         return most;
     }
@@ -151,7 +151,7 @@ fn next_row(items: &[u64], many: usize, field: u64, from: usize, end: usize) -> 
 {
     let mut i = from;
     while i < end {
-        if is_field(items, i * 10, field) {
+        if is_field(items, i * cursor::ITEM_WIDTH, field) {
             return i;
         }
         i = i + 1;
@@ -180,7 +180,7 @@ fn role_of_row(file: &[u8], items: &[u64], many: usize, i: usize) -> u64
     requires { ⌜ (many * 10 ≤ length (now items)) × (i < many) × DataIn (length (now file)) (itemsIn many (now items)) ⌝ }
     ensures { λ r. ⌜ r ≡ roleOfRow (now (file .entry)) (itemAt (itemsIn many (now (items .entry))) i) ⌝ }
 {
-    let k = i * 10;
+    let k = i * cursor::ITEM_WIDTH;
     if !is_binary(items, k) {
         return NOTHING;
     }
@@ -310,7 +310,7 @@ fn all_needs(items: &[u64], many: usize, row: u64) -> bool
 {
     let mut i = 0;
     while i < many {
-        if !is_need(items, i * 10, row) {
+        if !is_need(items, i * cursor::ITEM_WIDTH, row) {
             return false;
         }
         i = i + 1;
@@ -338,7 +338,7 @@ fn short_headers(nodes: &[u64], many: usize) -> bool
 {
     let mut i = 0;
     while i < many {
-        if 65535 < nodes[i * 12 + 2] {
+        if 65535 < nodes[i * cursor::NODE_WIDTH + 2] {
             return false;
         }
         i = i + 1;
@@ -364,7 +364,7 @@ fn small_items(items: &[u64], many: usize) -> bool
 {
     let mut i = 0;
     while i < many {
-        if 256 < field_size(items, i * 10) {
+        if 256 < field_size(items, i * cursor::ITEM_WIDTH) {
             return false;
         }
         i = i + 1;

@@ -23,7 +23,7 @@ fn row_starting(nodes: &[u64], count: usize, place: u64) -> usize
 {
     let mut i = 0;
     while i < count {
-        if nodes[i * 12] == place {
+        if nodes[i * cursor::NODE_WIDTH] == place {
             return i;
         }
         i = i + 1;
@@ -36,7 +36,7 @@ fn follow(nodes: &[u64], count: usize, left: u64, k: usize, hops: u64) -> Resolv
     requires { ⌜ (count * 12 ≤ length (now nodes)) × (k < count) × (hops + left ≤ 4) × Linked (nodesIn count (now nodes)) ⌝ }
     ensures { λ r. ⌜ told r ≡ chain left (nodesIn count (now (nodes .entry))) k hops ⌝ }
 {
-    let at = k * 12;
+    let at = k * cursor::NODE_WIDTH;
     if nodes[at + 3] != 0 {
         return Resolved::Refused(cursor::ENDS_AT_FOLDER, 0);
     }

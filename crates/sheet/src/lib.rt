@@ -162,7 +162,7 @@ fn put_node_line(out: &mut [u8], to: Placed, nodes: &[u64], i: usize) -> Placed
     requires { ⌜ i * 12 + 12 ≤ length (now nodes) ⌝ }
     ensures { λ r. ⌜ Puts (now (out .entry)) (now (out .exit)) to (nodeLine i (nodeFrom (now (nodes .entry)) (i * 12))) r ⌝ }
 {
-    let k = i * 12;
+    let k = i * cursor::NODE_WIDTH;
     let parent = nodes[k + 4];
     let depth = nodes[k + 5];
     let reference = nodes[k + 6];
@@ -249,7 +249,7 @@ fn put_item_lines(out: &mut [u8], to: Placed, file: &[u8], items: &[u64], count:
     let mut next = to;
     let mut i = 0;
     while i < count {
-        next = put_visible_line(out, next, file, items, i * 10);
+        next = put_visible_line(out, next, file, items, i * cursor::ITEM_WIDTH);
         i = i + 1;
     }
     next

@@ -89,7 +89,7 @@ fn put_node(nodes: &mut [u64], made: usize, row: Node)
         row.layers,
         row.rows,
     ];
-    metadata::store(nodes, made * 12, &words);
+    metadata::store(nodes, made * cursor::NODE_WIDTH, &words);
 }
 
 // What a file node holds, up to its end.
@@ -244,8 +244,8 @@ fn least(a: usize, b: usize) -> usize
 fn room_of(nodes: usize, items: usize) -> Limits
     ensures { λ r. ⌜ r ≡ limits nodes items ⌝ }
 {
-    let n = least(256, nodes / 12);
-    let i = least(1024, items / 10);
+    let n = least(cursor::MOST_NODES, nodes / cursor::NODE_WIDTH);
+    let i = least(cursor::MOST_ITEMS, items / cursor::ITEM_WIDTH);
     Limits { nodes: n, items: i }
 }
 
@@ -279,7 +279,7 @@ fn read_root(
         nodes,
         items,
         scope,
-        16,
+        cursor::MOST_DEPTH,
         0,
         end,
         end,
@@ -294,7 +294,7 @@ fn starts_at(nodes: &[u64], count: usize, place: u64) -> bool
 {
     let mut i = 0;
     while i < count {
-        if nodes[i * 12] == place {
+        if nodes[i * cursor::NODE_WIDTH] == place {
             return true;
         }
         i = i + 1;
@@ -307,7 +307,7 @@ fn is_lost(nodes: &[u64], count: usize, i: usize) -> bool
     requires { ⌜ (count * 12 ≤ length (now nodes)) × (i < count) ⌝ }
     ensures { λ r. ⌜ ((ns : List Node) (size : ℕ) → Stands ns count size (now (nodes .entry)) → (n : Node) (rest : List Node) → drop i ns ≡ n ∷ rest → r ≡ lost ns n) ⌝ }
 {
-    let k = i * 12;
+    let k = i * cursor::NODE_WIDTH;
     if nodes[k + 6] != 3 {
         return false;
     }
@@ -323,7 +323,7 @@ fn offset_at(file: &[u8], nodes: &[u64], count: usize, i: usize) -> FilePlace
     requires { ⌜ ((ns : List Node) × Stands ns count (length (now file)) (now nodes)) × (count * 12 ≤ length (now nodes)) × (i < count) × (length (now file) < 2 ^ 28) ⌝ }
     ensures { λ r. ⌜ ((ns : List Node) → Stands ns count (length (now (file .entry))) (now (nodes .entry)) → (n : Node) (rest : List Node) → drop i ns ≡ n ∷ rest → r .0 ≡ offsetAt (now (file .entry)) n) ⌝ }
 {
-    let k = i * 12;
+    let k = i * cursor::NODE_WIDTH;
     let start = FilePlace(nodes[k] as usize);
     let at = start.of(NodePlace(nodes[k + 2] as usize));
     match (Cursor { at }).number(file, FilePlace(file.len()), cursor::CUT_SHORT) {
