@@ -92,6 +92,20 @@ module _ (l : Lent) (f g : List ℕ) (h : Header) (ns : List Node) (is : List It
 pub demand3 : Demand3
 demand3 q l f g h ns is r d = (reads-same l f g h ns is r d ∙ r, outcome-alike l f g h ns is r d q)
 
+-- The same of two calls: whatever their buffers held, where each left what its contract says, both left the same.
+pub calls-alike : (q : Question) (l : Lent) (f g : List ℕ) (h : Header) (ns : List Node) (is : List Item) → reads l f ≡ rows h ns is → DifferInHidden is f g
+    → {a a′ t t′ u u′ s s′ : List ℕ}
+    → a ≡ outcome q l f .answer → t ≡ outcome q l f .nodes → u ≡ outcome q l f .items → s ≡ outcome q l f .sheet
+    → a′ ≡ outcome q l g .answer → t′ ≡ outcome q l g .nodes → u′ ≡ outcome q l g .items → s′ ≡ outcome q l g .sheet
+    → (a′ ≡ a) × (t′ ≡ t) × (u′ ≡ u) × (s′ ≡ s)
+calls-alike q l f g h ns is r d a t u s a′ t′ u′ s′ =
+    let e = outcome-alike l f g h ns is r d q in (
+      a′ ∙ ap (λ (o : Outcome). o .answer) e ∙ sym a,
+      t′ ∙ ap (λ (o : Outcome). o .nodes) e ∙ sym t,
+      u′ ∙ ap (λ (o : Outcome). o .items) e ∙ sym u,
+      s′ ∙ ap (λ (o : Outcome). o .sheet) e ∙ sym s,
+    )
+
 -- ---- refusals are from the list
 
 -- a question's own refusal is one of 18 to 23
