@@ -8,7 +8,7 @@ use mathlib.Core.List.{List, [], _∷_}
 use Prim.Native.Nat.{ℕ, zero, suc, _+_, _%_, _≤_, _<_}
 use native.Mathlib.Omega.{arith}
 use lib.Dec.{T, eqb, leb}
-use lib.ListN.{length, getD, replicate, length-replicate}
+use lib.ListN.{length, getD, replicate}
 use borrow.Author.Tests.{eq-eqb, ne-eqb}
 use Rattle.cursor.specs.declared.Node.{Node}
 use Rattle.cursor.specs.declared.Item.{Item}
@@ -28,7 +28,7 @@ use Rattle.mobile.specs.Mobile as mobile
 use Rattle.mobile.proofs.Depends.{verdict-depends}
 use Rattle.sheet.specs.Sheet as sheet
 use Rattle.sheet.proofs.Depends.{sheet-same}
-use Rattle.promises.specs.Promises.{Question, readTree, findItem, resolveRow, judgeMobile, writeSheet, Lent, Outcome, treeAnswer, findAnswer, resolveAnswer, numberAnswer, reads, leaves, outcome, Demand1, Demand3}
+use Rattle.promises.specs.Promises.{Question, readTree, findItem, resolveRow, judgeMobile, writeSheet, Lent, Outcome, treeAnswer, findAnswer, resolveAnswer, numberAnswer, reads, leaves, outcome, sheetRoom, Demand1, Demand3}
 
 -- ---- which data may not differ
 
@@ -177,32 +177,32 @@ asked-own (refusal n p) q a b = a n p refl
 -- ---- and leave zeros
 
 -- what demand 1 says of an outcome
-abbrev Tidy : Lent → Outcome → Type 0
-Tidy l o = (getD (o .answer) 0 0 ≤ 23)
-    × ((0 < getD (o .answer) 0 0) → (o .nodes ≡ replicate (l .nodes) 0) × (o .items ≡ replicate (l .items) 0) × (o .sheet ≡ replicate (length (o .sheet)) 0))
+abbrev Tidy : ℕ → Lent → Outcome → Type 0
+Tidy room l o = (getD (o .answer) 0 0 ≤ 23)
+    × ((0 < getD (o .answer) 0 0) → (o .nodes ≡ replicate (l .nodes) 0) × (o .items ≡ replicate (l .items) 0) × (o .sheet ≡ replicate room 0))
 
 module _ (l : Lent) (o : Reading) where
-  find-tidy : (r : Result find.Hit) → Own r → Tidy l (leaves l o r (findAnswer r) [])
+  find-tidy : (r : Result find.Hit) → Own r → Tidy 0 l (leaves l o r (findAnswer r) [])
   unfolding leaves findAnswer keptNodes keptItems
   find-tidy (good a) k = (omega arith, λ z. absurd (omega arith))
   find-tidy (bad n p) k = (k .1, λ z. (refl, refl, refl))
 
-  resolve-tidy : (r : Result resolve.Resource) → Own r → Tidy l (leaves l o r (resolveAnswer r) [])
+  resolve-tidy : (r : Result resolve.Resource) → Own r → Tidy 0 l (leaves l o r (resolveAnswer r) [])
   unfolding leaves resolveAnswer keptNodes keptItems
   resolve-tidy (good a) k = (omega arith, λ z. absurd (omega arith))
   resolve-tidy (bad n p) k = (k .1, λ z. (refl, refl, refl))
 
-  number-tidy : (r : Result ℕ) → Own r → Tidy l (leaves l o r (numberAnswer r) [])
+  number-tidy : (r : Result ℕ) → Own r → Tidy 0 l (leaves l o r (numberAnswer r) [])
   unfolding leaves numberAnswer keptNodes keptItems
   number-tidy (good a) k = (omega arith, λ z. absurd (omega arith))
   number-tidy (bad n p) k = (k .1, λ z. (refl, refl, refl))
 
-  sheet-tidy : (r : Result (List ℕ)) → Own r → Tidy l (leaves l o r (numberAnswer (sheet.counted r)) (sheet.keptSheet (l .sheet) r))
+  sheet-tidy : (r : Result (List ℕ)) → Own r → Tidy (l .sheet) l (leaves l o r (numberAnswer (sheet.counted r)) (sheet.keptSheet (l .sheet) r))
   unfolding leaves numberAnswer sheet.counted sheet.keptSheet keptNodes keptItems
   sheet-tidy (good s) k = (omega arith, λ z. absurd (omega arith))
-  sheet-tidy (bad n p) k = (k .1, λ z. (refl, refl, rw length-replicate refl))
+  sheet-tidy (bad n p) k = (k .1, λ z. (refl, refl, refl))
 
-tree-tidy : (l : Lent) (o : Reading) → ((n p : ℕ) → o ≡ refusal n p → (0 < n) × (n ≤ 23)) → Tidy l (record { answer = treeAnswer o; nodes = nodeTable (l .nodes) o; items = itemTable (l .items) o; sheet = [] })
+tree-tidy : (l : Lent) (o : Reading) → ((n p : ℕ) → o ≡ refusal n p → (0 < n) × (n ≤ 23)) → Tidy 0 l (record { answer = treeAnswer o; nodes = nodeTable (l .nodes) o; items = itemTable (l .items) o; sheet = [] })
 unfolding treeAnswer nodeTable itemTable
 tree-tidy l (rows h ns is) k = (omega arith, λ z. absurd (omega arith))
 tree-tidy l (refusal n p) k = (k n p refl .1, λ z. (refl, refl, refl))
@@ -212,7 +212,7 @@ unfolding reads
 reader-own l f n p e = let w = refusal-listed (limits (l .nodes) (l .items)) f e in (w .0, omega arith)
 
 pub demand1 : Demand1
-unfolding outcome
+unfolding outcome sheetRoom
 demand1 readTree l f = tree-tidy l (reads l f) (reader-own l f)
 demand1 (findItem w row) l f = find-tidy l (reads l f) _ (asked-own (reads l f) (find.find f w row) (reader-own l f) (find-own f w row))
 demand1 (resolveRow row) l f = resolve-tidy l (reads l f) _ (asked-own (reads l f) (resolve.resolve row) (reader-own l f) (resolve-own row))

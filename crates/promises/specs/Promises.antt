@@ -82,6 +82,14 @@ outcome judgeMobile l f = leaves l (reads l f) (ask (reads l f) (mobile.mobile f
 outcome writeSheet l f =
     leaves l (reads l f) (ask (reads l f) (sheet.write (l .sheet) f)) (numberAnswer (sheet.counted (ask (reads l f) (sheet.write (l .sheet) f)))) (sheet.keptSheet (l .sheet) (ask (reads l f) (sheet.write (l .sheet) f)))
 
+-- the bytes of the sheet's buffer that a question has
+unfoldable pub sheetRoom : Question → Lent → ℕ
+sheetRoom readTree l = 0
+sheetRoom (findItem w row) l = 0
+sheetRoom (resolveRow row) l = 0
+sheetRoom judgeMobile l = 0
+sheetRoom writeSheet l = l .sheet
+
 -- ---- the promises
 
 -- Demand 1. Whatever the bytes, the tables and the question: the answer's first word is 0 or a number of the list; and where it is a refusal, every
@@ -89,7 +97,7 @@ outcome writeSheet l f =
 abbrev pub Demand1 : Type 0
 Demand1 = (q : Question) (l : Lent) (f : List ℕ)
     → (getD (outcome q l f .answer) 0 0 ≤ 23)
-    × ((0 < getD (outcome q l f .answer) 0 0) → (outcome q l f .nodes ≡ replicate (l .nodes) 0) × (outcome q l f .items ≡ replicate (l .items) 0) × (outcome q l f .sheet ≡ replicate (length (outcome q l f .sheet)) 0))
+    × ((0 < getD (outcome q l f .answer) 0 0) → (outcome q l f .nodes ≡ replicate (l .nodes) 0) × (outcome q l f .items ≡ replicate (l .items) 0) × (outcome q l f .sheet ≡ replicate (sheetRoom q l) 0))
 
 -- Demand 3. Two files of equal length, the first accepted with the tables lent, alike but for data bytes of its hidden contents in custom fields or in
 -- standard fields other than 0, 3 and 13: the second is accepted too, and every question leaves the same of both, to the last word and byte.
