@@ -19,11 +19,9 @@ use Rattle.tree.proofs.Rows.{Standing, item-at, items-in-length, ask-refused, r
 use Rattle.sheet.specs.Sheet.{linesOf, sheetOf, fitting, write, counted, keptSheet}
 use Rattle.sheet.specs.Told.{told}
 use Rattle.sheet.specs.Puts.{Puts, ItemInside}
-use Rattle.sheet.specs.declared.Placed.{Placed}
-use Rattle.sheet.specs.declared.Placed.the-variants.{At, Full}
 use Rattle.sheet.specs.declared.Written.{Written}
 use Rattle.sheet.specs.declared.Written.the-variants as written
-use Rattle.sheet.proofs.Putting.{puts-as, wrote-at, wrote-full}
+use Rattle.sheet.proofs.Putting.{puts-as, wrote-all, wrote-past}
 
 -- the rows that stand in the table lie in the file
 pub items-inside : {f : List ℕ} {o : Reading} {s : Summary} {t u : List ℕ} → Standing f o s t u → (i : ℕ) → i < s .items → ItemInside (length f) (itemFrom u (i * 10))
@@ -58,22 +56,22 @@ module _ (file : List ℕ) (nsize isize room : ℕ) where
         let q = ask-refused o e k (write room file) in
         (sym (ap counted q), refused-nodes o (write room file) e k nsize tn, refused-items o (write room file) e k isize tu, z ∙ sym (ap (keptSheet room) q))
 
-    module _ {s : Summary} (st : Standing file o s t u) {sheet′ : List ℕ} {r : Placed} (p : Puts sheet sheet′ (At 0) (linesOf (s .version) file (nodesIn (s .nodes) t) (itemsIn (s .items) u)) r) where
-      puts : Puts sheet sheet′ (At 0) (sheetOf file (st .h) (st .ns) (st .is)) r
+    module _ {s : Summary} (st : Standing file o s t u) {sheet′ : List ℕ} {r : ℕ} (p : Puts sheet sheet′ 0 (linesOf (s .version) file (nodesIn (s .nodes) t) (itemsIn (s .items) u)) r) where
+      puts : Puts sheet sheet′ 0 (sheetOf file (st .h) (st .ns) (st .is)) r
       puts = puts-as (sheet-is st) p
 
-      pub asked-good : {n : ℕ} → r ≡ At n → Says o (written.Bytes n) t u sheet′
+      pub asked-good : r ≤ room → Says o (written.Bytes r) t u sheet′
       unfolding counted keptSheet write
       asked-good e =
-          let w = wrote-at room z puts e in
+          let w = wrote-all room z puts e in
           let g : write room file (st .h) (st .ns) (st .is) ≡ good (sheetOf file (st .h) (st .ns) (st .is)) = fitting-good room _ (w .0) in
           let q : ask o (write room file) ≡ good (sheetOf file (st .h) (st .ns) (st .is)) = ask-is (st .reads) (write room file) ∙ g in
           (ap good (w .1) ∙ sym (ap counted q), good-nodes (st .reads) (write room file) nsize g tn, good-items (st .reads) (write room file) isize g tu, w .2 ∙ sym (ap (keptSheet room) q))
 
-      pub asked-full : r ≡ Full → {t′ u′ sheet″ : List ℕ} → t′ ≡ replicate nsize 0 → u′ ≡ replicate isize 0 → sheet″ ≡ replicate room 0 → Says o (written.Refused 22 0) t′ u′ sheet″
+      pub asked-full : room < r → {t′ u′ sheet″ : List ℕ} → t′ ≡ replicate nsize 0 → u′ ≡ replicate isize 0 → sheet″ ≡ replicate room 0 → Says o (written.Refused 22 0) t′ u′ sheet″
       unfolding counted keptSheet write
       asked-full e zt zu zs =
-          let g : write room file (st .h) (st .ns) (st .is) ≡ bad 22 0 = fitting-bad room _ (wrote-full room z puts e) in
+          let g : write room file (st .h) (st .ns) (st .is) ≡ bad 22 0 = fitting-bad room _ (wrote-past room z puts e) in
           let q : ask o (write room file) ≡ bad 22 0 = ask-is (st .reads) (write room file) ∙ g in
           (sym (ap counted q), bad-nodes (st .reads) (write room file) nsize g zt, bad-items (st .reads) (write room file) isize g zu, zs ∙ sym (ap (keptSheet room) q))
 

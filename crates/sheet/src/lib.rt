@@ -1,8 +1,9 @@
 // Writes the support sheet of a file: its nodes and its visible metadata, as lines of text.
 ghost use mathlib.Core.Path.{_≡_};
 ghost use mathlib.Core.List.{_∷_, []};
-ghost use Prim.Native.Nat.{ℕ, _≤_, _<_, _*_, _+_};
+ghost use Prim.Native.Nat.{ℕ, _≤_, _<_, _*_, _+_, _-_};
 ghost use lib.ListN.{length, replicate};
+ghost use lib.Seq.{sets};
 ghost use Rattle.metadata.specs.Tables.{limits};
 ghost use Rattle.tree.specs.Reading.{readFile};
 ghost use Rattle.tree.specs.Rows.{nodeFrom, itemFrom, nodesIn, itemsIn};
@@ -10,14 +11,7 @@ ghost use Rattle.tree.specs.Asking.{ask, keptNodes, keptItems};
 ghost use Rattle.sheet.specs.Sheet.{decimal, hexDigit, plain, escaped, escapedPart, number, versionText, firstLine, nodeLine, label, textOf, itemLine, visibleLine, nodeLines, itemLines, linesOf, write, counted, keptSheet};
 ghost use Rattle.sheet.specs.Told.{told};
 ghost use Rattle.sheet.specs.Puts.{Puts, ItemInside};
-ghost use Rattle.sheet.specs.declared.Placed.the-variants.{At};
 use tree::Read;
-
-// Where a writer stands: at a byte of the buffer or at its end; or it had more to write than there was room for.
-pub enum Placed {
-    At(usize),
-    Full,
-}
 
 // The answer: the number of the sheet's bytes; or the refusal's number and place.
 pub enum Written {
@@ -36,36 +30,67 @@ fn clear_bytes(bytes: &mut [u8])
     }
 }
 
-// Puts one byte.
-fn put_byte(out: &mut [u8], to: Placed, byte: u8) -> Placed
+// Puts one byte. A writer is given the place of its first byte and answers the place after its last one; where the buffer has no room for all of
+// its bytes, it answers a place past the buffer's end.
+fn put_byte(out: &mut [u8], to: usize, byte: u8) -> usize
     ensures { λ r. ⌜ Puts (now (out .entry)) (now (out .exit)) to (byte ∷ []) r ⌝ }
 {
-    match to {
-        Placed::Full => Placed::Full,
-        Placed::At(i) => {
-            if i < out.len() {
-                out[i] = byte;
-                return Placed::At(i + 1);
-            }
-            Placed::Full
-        }
+    if to < out.len() {
+        out[to] = byte;
+        return to + 1;
     }
+    out.len() + 1
+}
+
+// The number of decimal digits.
+fn digit_count(n: u64) -> usize
+    ensures { λ r. ⌜ r ≡ length (decimal n) ⌝ }
+{
+    let mut size: usize = 1;
+    let mut rest = n / 10;
+    while 0 < rest {
+        size = size + 1;
+        rest = rest / 10;
+    }
+    size
+}
+
+// Stores the decimal digits from `from` up to `end`, the last one first.
+fn store_digits(out: &mut [u8], from: usize, end: usize, n: u64)
+    requires { ⌜ (end ≡ from + length (decimal n)) × (end ≤ length (now out)) ⌝ }
+    ensures { λ _. ⌜ now (out .exit) ≡ sets (now (out .entry)) from (decimal n) ⌝ }
+{
+    let mut at = end;
+    let mut rest = n;
+    while from < at {
+        at = at - 1;
+        out[at] = 0x30 + (rest % 10) as u8;
+        rest = rest / 10;
+    }
+}
+
+// The bytes from a place up to the end of so many.
+fn room_at(size: usize, place: usize) -> usize
+    ensures { λ r. ⌜ r ≡ size - place ⌝ }
+{
+    if place < size { size - place } else { 0 }
 }
 
 // Puts a decimal number.
-fn put_decimal(out: &mut [u8], to: Placed, n: u64) -> Placed
+fn put_decimal(out: &mut [u8], to: usize, n: u64) -> usize
     ensures { λ r. ⌜ Puts (now (out .entry)) (now (out .exit)) to (decimal n) r ⌝ }
 {
-    let last = 0x30 + (n % 10) as u8;
-    if n < 10 {
-        return put_byte(out, to, last);
+    let size = digit_count(n);
+    if room_at(out.len(), to) < size {
+        return out.len() + 1;
     }
-    let next = put_decimal(out, to, n / 10);
-    put_byte(out, next, last)
+    let end = to + size;
+    store_digits(out, to, end, n);
+    end
 }
 
 // Puts a tab and a decimal number.
-fn put_number(out: &mut [u8], to: Placed, n: u64) -> Placed
+fn put_number(out: &mut [u8], to: usize, n: u64) -> usize
     ensures { λ r. ⌜ Puts (now (out .entry)) (now (out .exit)) to (number n) r ⌝ }
 {
     let next = put_byte(out, to, 0x09);
@@ -97,7 +122,7 @@ fn is_plain(byte: u8) -> bool
 }
 
 // Puts one byte as text.
-fn put_escaped_byte(out: &mut [u8], to: Placed, byte: u8) -> Placed
+fn put_escaped_byte(out: &mut [u8], to: usize, byte: u8) -> usize
     ensures { λ r. ⌜ Puts (now (out .entry)) (now (out .exit)) to (escaped byte) r ⌝ }
 {
     if is_plain(byte) {
@@ -111,7 +136,7 @@ fn put_escaped_byte(out: &mut [u8], to: Placed, byte: u8) -> Placed
 }
 
 // Puts `size` bytes of the file as text.
-fn put_escaped(out: &mut [u8], to: Placed, file: &[u8], from: usize, size: usize) -> Placed
+fn put_escaped(out: &mut [u8], to: usize, file: &[u8], from: usize, size: usize) -> usize
     requires { ⌜ from + size ≤ length (now file) ⌝ }
     ensures { λ r. ⌜ Puts (now (out .entry)) (now (out .exit)) to (escapedPart (now (file .entry)) from size) r ⌝ }
 {
@@ -126,7 +151,7 @@ fn put_escaped(out: &mut [u8], to: Placed, file: &[u8], from: usize, size: usize
 }
 
 // Puts the version: 100 is `1.00`.
-fn put_version(out: &mut [u8], to: Placed, version: u64) -> Placed
+fn put_version(out: &mut [u8], to: usize, version: u64) -> usize
     ensures { λ r. ⌜ Puts (now (out .entry)) (now (out .exit)) to (versionText version) r ⌝ }
 {
     let one = put_decimal(out, to, version / 100);
@@ -138,12 +163,12 @@ fn put_version(out: &mut [u8], to: Placed, version: u64) -> Placed
 // Puts the first line.
 fn put_first(
     out: &mut [u8],
-    to: Placed,
+    to: usize,
     version: u64,
     size: usize,
     nodes: usize,
     items: usize,
-) -> Placed
+) -> usize
     ensures { λ r. ⌜ Puts (now (out .entry)) (now (out .exit)) to (firstLine version size nodes items) r ⌝ }
 {
     let a = put_byte(out, to, b'X');
@@ -158,7 +183,7 @@ fn put_first(
 }
 
 // Puts the line of node row i.
-fn put_node_line(out: &mut [u8], to: Placed, nodes: &[u64], i: usize) -> Placed
+fn put_node_line(out: &mut [u8], to: usize, nodes: &[u64], i: usize) -> usize
     requires { ⌜ i * 12 + 12 ≤ length (now nodes) ⌝ }
     ensures { λ r. ⌜ Puts (now (out .entry)) (now (out .exit)) to (nodeLine i (nodeFrom (now (nodes .entry)) (i * 12))) r ⌝ }
 {
@@ -179,7 +204,7 @@ fn put_node_line(out: &mut [u8], to: Placed, nodes: &[u64], i: usize) -> Placed
 }
 
 // Puts the lines of the node rows.
-fn put_node_lines(out: &mut [u8], to: Placed, nodes: &[u64], count: usize) -> Placed
+fn put_node_lines(out: &mut [u8], to: usize, nodes: &[u64], count: usize) -> usize
     requires { ⌜ count * 12 ≤ length (now nodes) ⌝ }
     ensures { λ r. ⌜ Puts (now (out .entry)) (now (out .exit)) to (nodeLines 0 (nodesIn count (now (nodes .entry)))) r ⌝ }
 {
@@ -193,7 +218,7 @@ fn put_node_lines(out: &mut [u8], to: Placed, nodes: &[u64], count: usize) -> Pl
 }
 
 // Puts the field of the item row whose words begin at k: `C` and its name, or `S` and its number.
-fn put_label(out: &mut [u8], to: Placed, file: &[u8], items: &[u64], k: usize) -> Placed
+fn put_label(out: &mut [u8], to: usize, file: &[u8], items: &[u64], k: usize) -> usize
     requires { ⌜ (k + 10 ≤ length (now items)) × ItemInside (length (now file)) (itemFrom (now items) k) ⌝ }
     ensures { λ r. ⌜ Puts (now (out .entry)) (now (out .exit)) to (label (now (file .entry)) (itemFrom (now (items .entry)) k)) r ⌝ }
 {
@@ -208,7 +233,7 @@ fn put_label(out: &mut [u8], to: Placed, file: &[u8], items: &[u64], k: usize) -
 }
 
 // Puts the text of the item row whose words begin at k.
-fn put_text(out: &mut [u8], to: Placed, file: &[u8], items: &[u64], k: usize) -> Placed
+fn put_text(out: &mut [u8], to: usize, file: &[u8], items: &[u64], k: usize) -> usize
     requires { ⌜ (k + 10 ≤ length (now items)) × ItemInside (length (now file)) (itemFrom (now items) k) ⌝ }
     ensures { λ r. ⌜ Puts (now (out .entry)) (now (out .exit)) to (textOf (now (file .entry)) (itemFrom (now (items .entry)) k)) r ⌝ }
 {
@@ -216,7 +241,7 @@ fn put_text(out: &mut [u8], to: Placed, file: &[u8], items: &[u64], k: usize) ->
 }
 
 // Puts the line of the item row whose words begin at k.
-fn put_item_line(out: &mut [u8], to: Placed, file: &[u8], items: &[u64], k: usize) -> Placed
+fn put_item_line(out: &mut [u8], to: usize, file: &[u8], items: &[u64], k: usize) -> usize
     requires { ⌜ (k + 10 ≤ length (now items)) × ItemInside (length (now file)) (itemFrom (now items) k) ⌝ }
     ensures { λ r. ⌜ Puts (now (out .entry)) (now (out .exit)) to (itemLine (now (file .entry)) (itemFrom (now (items .entry)) k)) r ⌝ }
 {
@@ -231,7 +256,7 @@ fn put_item_line(out: &mut [u8], to: Placed, file: &[u8], items: &[u64], k: usiz
 }
 
 // Puts the line of the item row whose words begin at k, if the row is visible.
-fn put_visible_line(out: &mut [u8], to: Placed, file: &[u8], items: &[u64], k: usize) -> Placed
+fn put_visible_line(out: &mut [u8], to: usize, file: &[u8], items: &[u64], k: usize) -> usize
     requires { ⌜ (k + 10 ≤ length (now items)) × ItemInside (length (now file)) (itemFrom (now items) k) ⌝ }
     ensures { λ r. ⌜ Puts (now (out .entry)) (now (out .exit)) to (visibleLine (now (file .entry)) (itemFrom (now (items .entry)) k)) r ⌝ }
 {
@@ -242,7 +267,7 @@ fn put_visible_line(out: &mut [u8], to: Placed, file: &[u8], items: &[u64], k: u
 }
 
 // Puts the lines of the visible item rows.
-fn put_item_lines(out: &mut [u8], to: Placed, file: &[u8], items: &[u64], count: usize) -> Placed
+fn put_item_lines(out: &mut [u8], to: usize, file: &[u8], items: &[u64], count: usize) -> usize
     requires { ⌜ (count * 10 ≤ length (now items)) × ((i : ℕ) → i < count → ItemInside (length (now file)) (itemFrom (now items) (i * 10))) ⌝ }
     ensures { λ r. ⌜ Puts (now (out .entry)) (now (out .exit)) to (itemLines (now (file .entry)) (itemsIn count (now (items .entry)))) r ⌝ }
 {
@@ -264,11 +289,11 @@ fn put_sheet(
     version: u64,
     rows: usize,
     contents: usize,
-) -> Placed
+) -> usize
     requires { ⌜ (rows * 12 ≤ length (now nodes)) × (contents * 10 ≤ length (now items)) × ((i : ℕ) → i < contents → ItemInside (length (now file)) (itemFrom (now items) (i * 10))) ⌝ }
-    ensures { λ r. ⌜ Puts (now (out .entry)) (now (out .exit)) (At 0) (linesOf version (now (file .entry)) (nodesIn rows (now (nodes .entry))) (itemsIn contents (now (items .entry)))) r ⌝ }
+    ensures { λ r. ⌜ Puts (now (out .entry)) (now (out .exit)) 0 (linesOf version (now (file .entry)) (nodesIn rows (now (nodes .entry))) (itemsIn contents (now (items .entry)))) r ⌝ }
 {
-    let one = put_first(out, Placed::At(0), version, file.len(), rows, contents);
+    let one = put_first(out, 0, version, file.len(), rows, contents);
     let two = put_node_lines(out, one, nodes, rows);
     put_item_lines(out, two, file, items, contents)
 }
@@ -283,13 +308,14 @@ pub fn write_sheet(file: &[u8], nodes: &mut [u64], items: &mut [u64], sheet: &mu
     clear_bytes(sheet);
     match tree::read_file(file, nodes, items) {
         Read::Refused(n, p) => Written::Refused(n, p.0),
-        Read::Is(s) => match put_sheet(sheet, file, nodes, items, s.version, s.nodes, s.items) {
-            Placed::Full => {
+        Read::Is(s) => {
+            let end = put_sheet(sheet, file, nodes, items, s.version, s.nodes, s.items);
+            if sheet.len() < end {
                 tree::clear_all(nodes, items);
                 clear_bytes(sheet);
-                Written::Refused(cursor::NO_ROOM, 0)
+                return Written::Refused(cursor::NO_ROOM, 0);
             }
-            Placed::At(n) => Written::Bytes(n),
-        },
+            Written::Bytes(end)
+        }
     }
 }

@@ -12,10 +12,10 @@ use Rattle.sheet.proofs.put_escaped.Statement.{statement}
 use Rattle.sheet.proofs.put_escaped.Tie as tie
 
 abbrev Inv-loop : tie.InvT-loop
-Inv-loop out₀ file from size end next₀ at₀ out next at = (at ≤ end) × (end ≤ length file) × Going out₀ out next₀ next (escapedPart file from size) (escapedPart file at (end - at))
+Inv-loop out₀ to file from size end next₀ at₀ out next at = (at ≤ end) × (end ≤ length file) × Going out₀ out next₀ next (escapedPart file from size) (escapedPart file at (end - at))
 
 abbrev μ-loop : tie.MeasureT-loop
-μ-loop out₀ file from size end next₀ at₀ out next at = end - at
+μ-loop out₀ to file from size end next₀ at₀ out next at = end - at
 
 add-end : tie.Need-add-end Inv-loop μ-loop
 add-end c = omega arith

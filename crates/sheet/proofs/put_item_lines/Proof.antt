@@ -11,10 +11,10 @@ use Rattle.sheet.proofs.put_item_lines.Statement.{statement}
 use Rattle.sheet.proofs.put_item_lines.Tie as tie
 
 abbrev Inv-loop : tie.InvT-loop
-Inv-loop out₀ file items count next₀ i₀ out next i = (i ≤ count) × Going out₀ out next₀ next (itemLines file (itemsIn count items)) (itemLines file (itemsFrom i (count - i) items))
+Inv-loop out₀ to file items count next₀ i₀ out next i = (i ≤ count) × Going out₀ out next₀ next (itemLines file (itemsIn count items)) (itemLines file (itemsFrom i (count - i) items))
 
 abbrev μ-loop : tie.MeasureT-loop
-μ-loop out₀ file items count next₀ i₀ out next i = count - i
+μ-loop out₀ to file items count next₀ i₀ out next i = count - i
 
 loop-holds : tie.Need-loop-holds Inv-loop μ-loop
 loop-holds c = (omega arith, going-start _ _ (sym (items-start _ _ _)))

@@ -11,10 +11,10 @@ use Rattle.sheet.proofs.put_node_lines.Statement.{statement}
 use Rattle.sheet.proofs.put_node_lines.Tie as tie
 
 abbrev Inv-loop : tie.InvT-loop
-Inv-loop out₀ nodes count next₀ i₀ out next i = (i ≤ count) × Going out₀ out next₀ next (nodeLines 0 (nodesIn count nodes)) (nodeLines i (nodesFrom i (count - i) nodes))
+Inv-loop out₀ to nodes count next₀ i₀ out next i = (i ≤ count) × Going out₀ out next₀ next (nodeLines 0 (nodesIn count nodes)) (nodeLines i (nodesFrom i (count - i) nodes))
 
 abbrev μ-loop : tie.MeasureT-loop
-μ-loop out₀ nodes count next₀ i₀ out next i = count - i
+μ-loop out₀ to nodes count next₀ i₀ out next i = count - i
 
 loop-holds : tie.Need-loop-holds Inv-loop μ-loop
 loop-holds c = (omega arith, going-start _ _ (sym (nodes-start _ _)))

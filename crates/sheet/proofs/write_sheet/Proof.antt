@@ -4,6 +4,7 @@ use lib.ListN.{length}
 use mathlib.Core.Path.{_∙_}
 use Rattle.tree.proofs.Rows.{standing}
 use Rattle.sheet.proofs.Asked.{items-inside, asked-refused, asked-good, asked-full, zeros}
+use native.Mathlib.Omega.{arith}
 use borrow.Author.Needs.{needs}
 use Rattle.sheet.proofs.write_sheet.Statement.{statement}
 use Rattle.sheet.proofs.write_sheet.Tie as tie
@@ -23,17 +24,11 @@ enum-known-s c = search needs
 put-sheet-requires : tie.Need-put-sheet-requires
 put-sheet-requires c κs = let w = (standing (c .before .before .before .before .before .before .before .before .before .before .before .before .before .before .before .before .before .before .before .before .before .args .file .now) _ _ _ (c .before .before .before .before .before .before .before .before .before .before .read-file .ensures .0) (c .before .before .before .before .before .before .before .before .before .before .read-file .ensures .1 .0) (c .before .before .before .before .before .before .before .before .before .before .read-file .ensures .1 .1) (c .before .before .before .before .s .given .1)) in (w .node-room, w .item-room, items-inside w)
 
-enum-told : tie.Need-enum-told
-enum-told c = search needs
-
 clear-all-requires : tie.Need-clear-all-requires
 clear-all-requires c κs = search needs
 
 clear-bytes-requires-2 : tie.Need-clear-bytes-requires-2
 clear-bytes-requires-2 c κs = search needs
-
-enum-known-n-2 : tie.Need-enum-known-n-2
-enum-known-n-2 c = search needs
 
 same-length : tie.Need-same-length
 same-length c = search needs
@@ -42,10 +37,10 @@ same-length-2 : tie.Need-same-length-2
 same-length-2 c = search needs
 
 same-length-3 : tie.Need-same-length-3
-same-length-3 c = search needs
+same-length-3 c = c .before .before .clear-bytes2 .kept .0 ∙ c .before .before .before .before .before .before .before .before .before .before .before .before .before .before .put-sheet .kept .0 ∙ c .before .before .before .before .before .before .before .before .before .before .before .before .before .before .before .before .before .before .before .before .before .before .before .before .before .before .before .before .before .before .clear-bytes .kept .0
 
 returns : tie.Need-returns
-returns c = let w = asked-refused (c .before .before .before .before .before .before .before .before .before .before .before .before .before .before .before .before .before .before .args .file .now) (length (c .before .before .before .before .before .before .before .before .before .before .before .before .before .before .before .before .before .before .args .nodes .now)) (length (c .before .before .before .before .before .before .before .before .before .before .before .before .before .before .before .before .before .before .args .items .now)) (length (c .before .before .before .before .before .before .before .before .before .before .before .before .before .before .before .before .before .before .args .sheet .now)) _ (c .before .before .before .before .before .before .before .read-file .ensures .1 .0) (c .before .before .before .before .before .before .before .read-file .ensures .1 .1) (c .before .before .before .before .before .before .before .before .before .before .before .before .clear-bytes .ensures) (c .before .before .before .before .before .before .before .read-file .ensures .0) (c .before .n .given .1) in (w .0, (w .1, (w .2, w .3)))
+returns c = let w = asked-full (c .before .before .before .before .before .before .before .before .before .before .before .before .before .before .before .before .before .before .before .before .before .before .before .before .before .before .before .before .before .before .before .before .before .before .before .before .args .file .now) (length (c .before .before .before .before .before .before .before .before .before .before .before .before .before .before .before .before .before .before .before .before .before .before .before .before .before .before .before .before .before .before .before .before .before .before .before .before .args .nodes .now)) (length (c .before .before .before .before .before .before .before .before .before .before .before .before .before .before .before .before .before .before .before .before .before .before .before .before .before .before .before .before .before .before .before .before .before .before .before .before .args .items .now)) (length (c .before .before .before .before .before .before .before .before .before .before .before .before .before .before .before .before .before .before .before .before .before .before .before .before .before .before .before .before .before .before .before .before .before .before .before .before .args .sheet .now)) _ (c .before .before .before .before .before .before .before .before .before .before .before .before .before .before .before .before .before .before .before .before .before .before .before .before .before .read-file .ensures .1 .0) (c .before .before .before .before .before .before .before .before .before .before .before .before .before .before .before .before .before .before .before .before .before .before .before .before .before .read-file .ensures .1 .1) (c .before .before .before .before .before .before .before .before .before .before .before .before .before .before .before .before .before .before .before .before .before .before .before .before .before .before .before .before .before .before .clear-bytes .ensures) (standing (c .before .before .before .before .before .before .before .before .before .before .before .before .before .before .before .before .before .before .before .before .before .before .before .before .before .before .before .before .before .before .before .before .before .before .before .before .args .file .now) _ _ _ (c .before .before .before .before .before .before .before .before .before .before .before .before .before .before .before .before .before .before .before .before .before .before .before .before .before .read-file .ensures .0) (c .before .before .before .before .before .before .before .before .before .before .before .before .before .before .before .before .before .before .before .before .before .before .before .before .before .read-file .ensures .1 .0) (c .before .before .before .before .before .before .before .before .before .before .before .before .before .before .before .before .before .before .before .before .before .before .before .before .before .read-file .ensures .1 .1) (c .before .before .before .before .before .before .before .before .before .before .before .before .before .before .before .before .before .before .before .s .given .1)) (c .before .before .before .before .before .before .before .before .before .before .before .before .before .before .put-sheet .ensures) (omega (arith, c .before .before .before .before .before .before .before .before .before .before .before .if1 .taken, c .before .before .before .before .before .before .before .before .before .before .before .before .before .before .put-sheet .kept .0, c .before .before .before .before .before .before .before .before .before .before .before .before .before .before .before .before .before .before .before .before .before .before .before .before .before .before .before .before .before .before .clear-bytes .kept .0)) (zeros (c .before .before .before .before .before .before .before .before .clear-all .ensures .0) (c .before .before .before .before .before .before .before .before .before .before .before .before .before .before .before .before .before .before .before .before .before .before .before .before .before .read-file .kept .1 .0)) (zeros (c .before .before .before .before .before .before .before .before .clear-all .ensures .1) (c .before .before .before .before .before .before .before .before .before .before .before .before .before .before .before .before .before .before .before .before .before .before .before .before .before .read-file .kept .1 .1 .0)) (zeros (c .before .before .clear-bytes2 .ensures) (c .before .before .before .before .before .before .before .before .before .before .before .before .before .before .put-sheet .kept .0 ∙ c .before .before .before .before .before .before .before .before .before .before .before .before .before .before .before .before .before .before .before .before .before .before .before .before .before .before .before .before .before .before .clear-bytes .kept .0)) in (w .0, (w .1, (w .2, w .3)))
 
 same-length-4 : tie.Need-same-length-4
 same-length-4 c = search needs
@@ -54,10 +49,10 @@ same-length-5 : tie.Need-same-length-5
 same-length-5 c = search needs
 
 same-length-6 : tie.Need-same-length-6
-same-length-6 c = c .before .before .clear-bytes2 .kept .0 ∙ c .before .before .before .before .before .before .before .before .before .before .before .before .before .before .before .put-sheet .kept .0 ∙ c .before .before .before .before .before .before .before .before .before .before .before .before .before .before .before .before .before .before .before .before .before .before .before .before .before .before .before .before .before .before .before .clear-bytes .kept .0
+same-length-6 c = search needs
 
 returns-2 : tie.Need-returns-2
-returns-2 c = let w = asked-full (c .before .before .before .before .before .before .before .before .before .before .before .before .before .before .before .before .before .before .before .before .before .before .before .before .before .before .before .before .before .before .before .before .before .before .before .before .before .args .file .now) (length (c .before .before .before .before .before .before .before .before .before .before .before .before .before .before .before .before .before .before .before .before .before .before .before .before .before .before .before .before .before .before .before .before .before .before .before .before .before .args .nodes .now)) (length (c .before .before .before .before .before .before .before .before .before .before .before .before .before .before .before .before .before .before .before .before .before .before .before .before .before .before .before .before .before .before .before .before .before .before .before .before .before .args .items .now)) (length (c .before .before .before .before .before .before .before .before .before .before .before .before .before .before .before .before .before .before .before .before .before .before .before .before .before .before .before .before .before .before .before .before .before .before .before .before .before .args .sheet .now)) _ (c .before .before .before .before .before .before .before .before .before .before .before .before .before .before .before .before .before .before .before .before .before .before .before .before .before .before .read-file .ensures .1 .0) (c .before .before .before .before .before .before .before .before .before .before .before .before .before .before .before .before .before .before .before .before .before .before .before .before .before .before .read-file .ensures .1 .1) (c .before .before .before .before .before .before .before .before .before .before .before .before .before .before .before .before .before .before .before .before .before .before .before .before .before .before .before .before .before .before .before .clear-bytes .ensures) (standing (c .before .before .before .before .before .before .before .before .before .before .before .before .before .before .before .before .before .before .before .before .before .before .before .before .before .before .before .before .before .before .before .before .before .before .before .before .before .args .file .now) _ _ _ (c .before .before .before .before .before .before .before .before .before .before .before .before .before .before .before .before .before .before .before .before .before .before .before .before .before .before .read-file .ensures .0) (c .before .before .before .before .before .before .before .before .before .before .before .before .before .before .before .before .before .before .before .before .before .before .before .before .before .before .read-file .ensures .1 .0) (c .before .before .before .before .before .before .before .before .before .before .before .before .before .before .before .before .before .before .before .before .before .before .before .before .before .before .read-file .ensures .1 .1) (c .before .before .before .before .before .before .before .before .before .before .before .before .before .before .before .before .before .before .before .before .s .given .1)) (c .before .before .before .before .before .before .before .before .before .before .before .before .before .before .before .put-sheet .ensures) (c .before .before .before .before .before .before .before .before .before .before .before .enum-told .given .1) (zeros (c .before .before .before .before .before .before .before .before .clear-all .ensures .0) (c .before .before .before .before .before .before .before .before .before .before .before .before .before .before .before .before .before .before .before .before .before .before .before .before .before .before .read-file .kept .1 .0)) (zeros (c .before .before .before .before .before .before .before .before .clear-all .ensures .1) (c .before .before .before .before .before .before .before .before .before .before .before .before .before .before .before .before .before .before .before .before .before .before .before .before .before .before .read-file .kept .1 .1 .0)) (zeros (c .before .before .clear-bytes2 .ensures) (c .before .before .before .before .before .before .before .before .before .before .before .before .before .before .before .put-sheet .kept .0 ∙ c .before .before .before .before .before .before .before .before .before .before .before .before .before .before .before .before .before .before .before .before .before .before .before .before .before .before .before .before .before .before .before .clear-bytes .kept .0)) in (w .0, (w .1, (w .2, w .3)))
+returns-2 c = let w = asked-refused (c .before .before .before .before .before .before .before .before .before .before .before .before .before .before .before .before .before .before .args .file .now) (length (c .before .before .before .before .before .before .before .before .before .before .before .before .before .before .before .before .before .before .args .nodes .now)) (length (c .before .before .before .before .before .before .before .before .before .before .before .before .before .before .before .before .before .before .args .items .now)) (length (c .before .before .before .before .before .before .before .before .before .before .before .before .before .before .before .before .before .before .args .sheet .now)) _ (c .before .before .before .before .before .before .before .read-file .ensures .1 .0) (c .before .before .before .before .before .before .before .read-file .ensures .1 .1) (c .before .before .before .before .before .before .before .before .before .before .before .before .clear-bytes .ensures) (c .before .before .before .before .before .before .before .read-file .ensures .0) (c .before .n .given .1) in (w .0, (w .1, (w .2, w .3)))
 
 same-length-7 : tie.Need-same-length-7
 same-length-7 c = search needs
@@ -69,7 +64,7 @@ same-length-9 : tie.Need-same-length-9
 same-length-9 c = search needs
 
 returns-3 : tie.Need-returns-3
-returns-3 c = let w = asked-good (c .before .before .before .before .before .before .before .before .before .before .before .before .before .before .before .before .before .before .before .before .before .before .before .before .before .before .before .args .file .now) (length (c .before .before .before .before .before .before .before .before .before .before .before .before .before .before .before .before .before .before .before .before .before .before .before .before .before .before .before .args .nodes .now)) (length (c .before .before .before .before .before .before .before .before .before .before .before .before .before .before .before .before .before .before .before .before .before .before .before .before .before .before .before .args .items .now)) (length (c .before .before .before .before .before .before .before .before .before .before .before .before .before .before .before .before .before .before .before .before .before .before .before .before .before .before .before .args .sheet .now)) _ (c .before .before .before .before .before .before .before .before .before .before .before .before .before .before .before .before .read-file .ensures .1 .0) (c .before .before .before .before .before .before .before .before .before .before .before .before .before .before .before .before .read-file .ensures .1 .1) (c .before .before .before .before .before .before .before .before .before .before .before .before .before .before .before .before .before .before .before .before .before .clear-bytes .ensures) (standing (c .before .before .before .before .before .before .before .before .before .before .before .before .before .before .before .before .before .before .before .before .before .before .before .before .before .before .before .args .file .now) _ _ _ (c .before .before .before .before .before .before .before .before .before .before .before .before .before .before .before .before .read-file .ensures .0) (c .before .before .before .before .before .before .before .before .before .before .before .before .before .before .before .before .read-file .ensures .1 .0) (c .before .before .before .before .before .before .before .before .before .before .before .before .before .before .before .before .read-file .ensures .1 .1) (c .before .before .before .before .before .before .before .before .before .before .s .given .1)) (c .before .before .before .before .before .put-sheet .ensures) (c .before .n2 .given .1) in (w .0, (w .1, (w .2, w .3)))
+returns-3 c = let w = asked-good (c .before .before .before .before .before .before .before .before .before .before .before .before .before .before .before .before .before .before .before .before .before .before .before .before .before .args .file .now) (length (c .before .before .before .before .before .before .before .before .before .before .before .before .before .before .before .before .before .before .before .before .before .before .before .before .before .args .nodes .now)) (length (c .before .before .before .before .before .before .before .before .before .before .before .before .before .before .before .before .before .before .before .before .before .before .before .before .before .args .items .now)) (length (c .before .before .before .before .before .before .before .before .before .before .before .before .before .before .before .before .before .before .before .before .before .before .before .before .before .args .sheet .now)) _ (c .before .before .before .before .before .before .before .before .before .before .before .before .before .before .read-file .ensures .1 .0) (c .before .before .before .before .before .before .before .before .before .before .before .before .before .before .read-file .ensures .1 .1) (c .before .before .before .before .before .before .before .before .before .before .before .before .before .before .before .before .before .before .before .clear-bytes .ensures) (standing (c .before .before .before .before .before .before .before .before .before .before .before .before .before .before .before .before .before .before .before .before .before .before .before .before .before .args .file .now) _ _ _ (c .before .before .before .before .before .before .before .before .before .before .before .before .before .before .read-file .ensures .0) (c .before .before .before .before .before .before .before .before .before .before .before .before .before .before .read-file .ensures .1 .0) (c .before .before .before .before .before .before .before .before .before .before .before .before .before .before .read-file .ensures .1 .1) (c .before .before .before .before .before .before .before .before .s .given .1)) (c .before .before .before .put-sheet .ensures) (omega (arith, c .if1 .left, c .before .before .before .put-sheet .kept .0, c .before .before .before .before .before .before .before .before .before .before .before .before .before .before .before .before .before .before .before .clear-bytes .kept .0)) in (w .0, (w .1, (w .2, w .3)))
 
 pub write-sheet-spec : {M : Type 1} → statement M
 write-sheet-spec =
@@ -80,10 +75,8 @@ write-sheet-spec =
     enum-known-n
     enum-known-s
     put-sheet-requires
-    enum-told
     clear-all-requires
     clear-bytes-requires-2
-    enum-known-n-2
     same-length
     same-length-2
     same-length-3
