@@ -19,8 +19,10 @@ use Rattle.metadata.specs.declared.Contained.{Contained}
 use Rattle.metadata.specs.declared.Contained.the-variants as contained
 use Rattle.metadata.specs.declared.Itemed.{Itemed}
 use Rattle.metadata.specs.declared.Itemed.the-variants as itemed
+use Rattle.metadata.specs.declared.Rowed.{Rowed}
+use Rattle.metadata.specs.declared.Rowed.the-variants as rows
 use Rattle.metadata.specs.declared.Walked.{Walked}
-use Rattle.metadata.specs.declared.Walked.the-variants as walked
+use Rattle.metadata.specs.declared.Walked.the-variants as all
 
 -- the context of a scope, with the types as their table has them, in a file of `size` bytes
 abbrev pub contextOf : Scope → List ℕ → ℕ → Context
@@ -41,14 +43,24 @@ itemTold (itemed.Refused n p) = refused n (p .0)
 -- ---- a call that fills tables: a refusal says nothing of them
 
 abbrev pub told : Walked → List ℕ → List ℕ → Out (Made × State)
-told (walked.Done m c) t u = ok (m, state t u m) (c .at .0)
-told (walked.Refused n p) t u = refused n (p .0)
+told (all.Done m c) t u = ok (m, state t u m) (c .at .0)
+told (all.Refused n p) t u = refused n (p .0)
 
 abbrev pub Fits : Limits → Walked → Type 0
-Fits lim (walked.Done m c) = (m .nodes ≤ lim .nodes) × (m .items ≤ lim .items)
-Fits lim (walked.Refused n p) = Unit {0}
+Fits lim (all.Done m c) = (m .nodes ≤ lim .nodes) × (m .items ≤ lim .items)
+Fits lim (all.Refused n p) = Unit {0}
 
 -- what a call answered and left in the tables is o, and no more rows are made than there is room for
 pub record Gives (lim : Limits) (r : Walked) (t u : List ℕ) (o : Out (Made × State)) : Type 0 where
   pub answer : told r t u ≡ o
   pub fits : Fits lim r
+
+-- ---- metadata makes item rows alone
+
+-- the rows made while the metadata of node row `node` is read: the node rows before it, and so many item rows
+abbrev pub counts : ℕ → ℕ → Made
+counts node n = record { nodes = node; items = n }
+
+abbrev pub walked : ℕ → Rowed → Walked
+walked node (rows.Done n c) = all.Done (counts node n) c
+walked node (rows.Refused n p) = all.Refused n p

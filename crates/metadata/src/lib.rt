@@ -7,7 +7,7 @@ ghost use lib.Seq.{sets};
 ghost use Rattle.cursor.specs.Machine.{run, exec, times};
 ghost use Rattle.metadata.specs.Tables.{itemWidth, itemWords, put, state};
 ghost use Rattle.metadata.specs.Metadata.{field, contents, itemFrame, rowOf, universal, version, rowsFor, item, metaItems, metadata};
-ghost use Rattle.metadata.specs.Told.{contextOf, fieldTold, contentsTold, itemTold, Gives};
+ghost use Rattle.metadata.specs.Told.{contextOf, counts, walked, fieldTold, contentsTold, itemTold, Gives};
 use cursor::Cursor;
 use cursor::FilePlace;
 use cursor::Item;
@@ -69,6 +69,12 @@ pub enum Contained {
 
 pub enum Itemed {
     Is(MetaItem, Cursor),
+    Refused(u64, FilePlace),
+}
+
+// The item rows made by now, and the cursor after what was read: metadata makes no other rows.
+pub enum Rowed {
+    Done(usize, Cursor),
     Refused(u64, FilePlace),
 }
 
@@ -209,38 +215,31 @@ fn read_universal(
     scope: Scope,
     l: Label,
     end: FilePlace,
-    made: Made,
-) -> Walked
-    requires { ⌜ (end .0 ≤ length (now file)) × (length (now file) < 2 ^ 28) × (scope .limits .items * 10 ≤ length (now items)) × (made .nodes ≤ scope .limits .nodes) ⌝ }
-    ensures { λ r. ⌜ ((t ws : List ℕ) → Gives (scope .limits) r t (now (items .exit)) (exec put (universal (contextOf scope ws (length (now (file .entry)))) l (end .0) made) (now (file .entry)) (c .at .0) (state t (now (items .entry)) made))) ⌝ }
+    rows: usize,
+) -> Rowed
+    requires { ⌜ (end .0 ≤ length (now file)) × (length (now file) < 2 ^ 28) × (scope .limits .items * 10 ≤ length (now items)) × (l .node ≤ scope .limits .nodes) ⌝ }
+    ensures { λ r. ⌜ ((t ws : List ℕ) → Gives (scope .limits) (walked (l .node) r) t (now (items .exit)) (exec put (universal (contextOf scope ws (length (now (file .entry)))) l (end .0) (counts (l .node) rows)) (now (file .entry)) (c .at .0) (state t (now (items .entry)) (counts (l .node) rows)))) ⌝ }
 {
     let place = c.at;
     let limits = scope.limits;
-    if limits.items <= made.items {
-        return Walked::Refused(cursor::NO_ROW_LEFT, place);
+    if limits.items <= rows {
+        return Rowed::Refused(cursor::NO_ROW_LEFT, place);
     }
     match c.block(file, end, cursor::CUT_SHORT) {
-        Numbered::Refused(n, p) => Walked::Refused(n, p),
+        Numbered::Refused(n, p) => Rowed::Refused(n, p),
         Numbered::Is(size, d) => {
             if size == 0 {
-                return Walked::Refused(cursor::BAD_CONTENTS, place);
+                return Rowed::Refused(cursor::BAD_CONTENTS, place);
             }
             let after = d.on(size);
             let stop = after.at;
             match d.number(file, stop, cursor::CUT_SHORT) {
-                Numbered::Refused(n, p) => Walked::Refused(n, p),
+                Numbered::Refused(n, p) => Rowed::Refused(n, p),
                 Numbered::Is(format, e) => {
                     let data = e.at;
-                    let now = Made {
-                        nodes: made.nodes,
-                        items: made.items + 1,
-                    };
-                    put_item(
-                        items,
-                        made.items,
-                        row_of(l, 0, 0, format, data, stop.0 - data.0),
-                    );
-                    Walked::Done(now, after)
+                    let made = rows + 1;
+                    put_item(items, rows, row_of(l, 0, 0, format, data, stop.0 - data.0));
+                    Rowed::Done(made, after)
                 }
             }
         }
@@ -257,35 +256,32 @@ fn read_version(
     l: Label,
     end: FilePlace,
     before: usize,
-    made: Made,
-) -> Walked
-    requires { ⌜ (end .0 ≤ length (now file)) × (length (now file) < 2 ^ 28) × (scope .types * 2 ≤ length (now types)) × (scope .limits .items * 10 ≤ length (now items)) × (made .nodes ≤ scope .limits .nodes) × (before ≤ made .items) ⌝ }
-    ensures { λ r. ⌜ ((t : List ℕ) → Gives (scope .limits) r t (now (items .exit)) (exec put (version (contextOf scope (now (types .entry)) (length (now (file .entry)))) l (end .0) before made) (now (file .entry)) (c .at .0) (state t (now (items .entry)) made))) ⌝ }
+    rows: usize,
+) -> Rowed
+    requires { ⌜ (end .0 ≤ length (now file)) × (length (now file) < 2 ^ 28) × (scope .types * 2 ≤ length (now types)) × (scope .limits .items * 10 ≤ length (now items)) × (l .node ≤ scope .limits .nodes) × (before ≤ rows) ⌝ }
+    ensures { λ r. ⌜ ((t : List ℕ) → Gives (scope .limits) (walked (l .node) r) t (now (items .exit)) (exec put (version (contextOf scope (now (types .entry)) (length (now (file .entry)))) l (end .0) before (counts (l .node) rows)) (now (file .entry)) (c .at .0) (state t (now (items .entry)) (counts (l .node) rows)))) ⌝ }
 {
     let place = c.at;
     let limits = scope.limits;
-    if limits.items <= made.items {
-        return Walked::Refused(cursor::NO_ROW_LEFT, place);
+    if limits.items <= rows {
+        return Rowed::Refused(cursor::NO_ROW_LEFT, place);
     }
     match c.number(file, end, cursor::CUT_SHORT) {
-        Numbered::Refused(n, p) => Walked::Refused(n, p),
+        Numbered::Refused(n, p) => Rowed::Refused(n, p),
         Numbered::Is(of, d) => match header::format_of(types, scope.types, of) {
-            Found::Nothing => Walked::Refused(cursor::BAD_CONTENTS, place),
+            Found::Nothing => Rowed::Refused(cursor::BAD_CONTENTS, place),
             Found::Format(format) => match d.block(file, end, cursor::CUT_SHORT) {
-                Numbered::Refused(n, p) => Walked::Refused(n, p),
+                Numbered::Refused(n, p) => Rowed::Refused(n, p),
                 Numbered::Is(size, e) => {
                     let data = e.at;
-                    let now = Made {
-                        nodes: made.nodes,
-                        items: made.items + 1,
-                    };
-                    let number = made.items + 1 - before;
+                    let made = rows + 1;
+                    let number = made - before;
                     put_item(
                         items,
-                        made.items,
+                        rows,
                         row_of(l, number, of, format, data, size as usize),
                     );
-                    Walked::Done(now, e.on(size))
+                    Rowed::Done(made, e.on(size))
                 }
             },
         },
@@ -302,26 +298,26 @@ fn read_versions(
     l: Label,
     end: FilePlace,
     count: u64,
-    made: Made,
-) -> Walked
-    requires { ⌜ (end .0 ≤ length (now file)) × (length (now file) < 2 ^ 28) × (scope .types * 2 ≤ length (now types)) × (scope .limits .items * 10 ≤ length (now items)) × (made .nodes ≤ scope .limits .nodes) × (made .items ≤ scope .limits .items) ⌝ }
-    ensures { λ r. ⌜ ((t : List ℕ) → Gives (scope .limits) r t (now (items .exit)) (exec put (times count (version (contextOf scope (now (types .entry)) (length (now (file .entry)))) l (end .0) (made .items)) made) (now (file .entry)) (c .at .0) (state t (now (items .entry)) made))) ⌝ }
+    rows: usize,
+) -> Rowed
+    requires { ⌜ (end .0 ≤ length (now file)) × (length (now file) < 2 ^ 28) × (scope .types * 2 ≤ length (now types)) × (scope .limits .items * 10 ≤ length (now items)) × (l .node ≤ scope .limits .nodes) × (rows ≤ scope .limits .items) ⌝ }
+    ensures { λ r. ⌜ ((t : List ℕ) → Gives (scope .limits) (walked (l .node) r) t (now (items .exit)) (exec put (times count (version (contextOf scope (now (types .entry)) (length (now (file .entry)))) l (end .0) rows) (counts (l .node) rows)) (now (file .entry)) (c .at .0) (state t (now (items .entry)) (counts (l .node) rows)))) ⌝ }
 {
-    let before = made.items;
+    let before = rows;
     let mut next = c;
-    let mut m = made;
+    let mut m = rows;
     let mut left = count;
     while 0 < left {
         match read_version(next, file, types, items, scope, l, end, before, m) {
-            Walked::Refused(n, p) => return Walked::Refused(n, p),
-            Walked::Done(n, d) => {
+            Rowed::Refused(n, p) => return Rowed::Refused(n, p),
+            Rowed::Done(n, d) => {
                 m = n;
                 next = d;
             }
         }
         left = left - 1;
     }
-    Walked::Done(m, next)
+    Rowed::Done(m, next)
 }
 
 // The rows of an item's contents.
@@ -334,14 +330,14 @@ fn read_rows(
     l: Label,
     end: FilePlace,
     contents: Contents,
-    made: Made,
-) -> Walked
-    requires { ⌜ (end .0 ≤ length (now file)) × (length (now file) < 2 ^ 28) × (scope .types * 2 ≤ length (now types)) × (scope .limits .items * 10 ≤ length (now items)) × (made .nodes ≤ scope .limits .nodes) × (made .items ≤ scope .limits .items) ⌝ }
-    ensures { λ r. ⌜ ((t : List ℕ) → Gives (scope .limits) r t (now (items .exit)) (exec put (rowsFor (contextOf scope (now (types .entry)) (length (now (file .entry)))) l (end .0) contents made) (now (file .entry)) (c .at .0) (state t (now (items .entry)) made))) ⌝ }
+    rows: usize,
+) -> Rowed
+    requires { ⌜ (end .0 ≤ length (now file)) × (length (now file) < 2 ^ 28) × (scope .types * 2 ≤ length (now types)) × (scope .limits .items * 10 ≤ length (now items)) × (l .node ≤ scope .limits .nodes) × (rows ≤ scope .limits .items) ⌝ }
+    ensures { λ r. ⌜ ((t : List ℕ) → Gives (scope .limits) (walked (l .node) r) t (now (items .exit)) (exec put (rowsFor (contextOf scope (now (types .entry)) (length (now (file .entry)))) l (end .0) contents (counts (l .node) rows)) (now (file .entry)) (c .at .0) (state t (now (items .entry)) (counts (l .node) rows)))) ⌝ }
 {
     match contents {
-        Contents::Universal => read_universal(c, file, items, scope, l, end, made),
-        Contents::Versions(n) => read_versions(c, file, types, items, scope, l, end, n, made),
+        Contents::Universal => read_universal(c, file, items, scope, l, end, rows),
+        Contents::Versions(n) => read_versions(c, file, types, items, scope, l, end, n, rows),
     }
 }
 
@@ -355,13 +351,13 @@ fn read_item(
     node: usize,
     index: usize,
     end: FilePlace,
-    made: Made,
-) -> Walked
-    requires { ⌜ (end .0 ≤ length (now file)) × (length (now file) < 2 ^ 28) × (scope .types * 2 ≤ length (now types)) × (scope .limits .items * 10 ≤ length (now items)) × (made .nodes ≤ scope .limits .nodes) × (made .items ≤ scope .limits .items) ⌝ }
-    ensures { λ r. ⌜ ((t : List ℕ) → Gives (scope .limits) r t (now (items .exit)) (exec put (item (contextOf scope (now (types .entry)) (length (now (file .entry)))) node index (end .0) made) (now (file .entry)) (c .at .0) (state t (now (items .entry)) made))) ⌝ }
+    rows: usize,
+) -> Rowed
+    requires { ⌜ (end .0 ≤ length (now file)) × (length (now file) < 2 ^ 28) × (scope .types * 2 ≤ length (now types)) × (scope .limits .items * 10 ≤ length (now items)) × (node ≤ scope .limits .nodes) × (rows ≤ scope .limits .items) ⌝ }
+    ensures { λ r. ⌜ ((t : List ℕ) → Gives (scope .limits) (walked node r) t (now (items .exit)) (exec put (item (contextOf scope (now (types .entry)) (length (now (file .entry)))) node index (end .0) (counts node rows)) (now (file .entry)) (c .at .0) (state t (now (items .entry)) (counts node rows)))) ⌝ }
 {
     match read_frame(c, file, end) {
-        Itemed::Refused(n, p) => Walked::Refused(n, p),
+        Itemed::Refused(n, p) => Rowed::Refused(n, p),
         Itemed::Is(is, d) => {
             let field = is.field;
             let l = Label {
@@ -370,7 +366,7 @@ fn read_item(
                 field,
             };
             let contents = is.contents;
-            read_rows(d, file, types, items, scope, l, end, contents, made)
+            read_rows(d, file, types, items, scope, l, end, contents, rows)
         }
     }
 }
@@ -384,20 +380,20 @@ fn read_items(
     scope: Scope,
     node: usize,
     end: FilePlace,
-    made: Made,
-) -> Walked
-    requires { ⌜ (end .0 ≤ length (now file)) × (length (now file) < 2 ^ 28) × (scope .types * 2 ≤ length (now types)) × (scope .limits .items * 10 ≤ length (now items)) × (made .nodes ≤ scope .limits .nodes) × (made .items ≤ scope .limits .items) ⌝ }
-    ensures { λ r. ⌜ ((t : List ℕ) → Gives (scope .limits) r t (now (items .exit)) (exec put (metaItems (contextOf scope (now (types .entry)) (length (now (file .entry)))) node (end .0) made) (now (file .entry)) (c .at .0) (state t (now (items .entry)) made))) ⌝ }
+    rows: usize,
+) -> Rowed
+    requires { ⌜ (end .0 ≤ length (now file)) × (length (now file) < 2 ^ 28) × (scope .types * 2 ≤ length (now types)) × (scope .limits .items * 10 ≤ length (now items)) × (node ≤ scope .limits .nodes) × (rows ≤ scope .limits .items) ⌝ }
+    ensures { λ r. ⌜ ((t : List ℕ) → Gives (scope .limits) (walked node r) t (now (items .exit)) (exec put (metaItems (contextOf scope (now (types .entry)) (length (now (file .entry)))) node (end .0) (counts node rows)) (now (file .entry)) (c .at .0) (state t (now (items .entry)) (counts node rows)))) ⌝ }
 {
     let stop = end.0;
     let mut next = c;
     let mut at = c.at.0;
-    let mut m = made;
+    let mut m = rows;
     let mut index: usize = 0;
     while at < stop {
         match read_item(next, file, types, items, scope, node, index, end, m) {
-            Walked::Refused(n, p) => return Walked::Refused(n, p),
-            Walked::Done(n, d) => {
+            Rowed::Refused(n, p) => return Rowed::Refused(n, p),
+            Rowed::Done(n, d) => {
                 m = n;
                 next = d;
                 at = d.at.0;
@@ -405,7 +401,7 @@ fn read_items(
         }
         index = index + 1;
     }
-    Walked::Done(m, next)
+    Rowed::Done(m, next)
 }
 
 // The metadata of a node whose header ends at `end`: a length, and items end to end.
@@ -417,17 +413,17 @@ pub fn read_metadata(
     scope: Scope,
     node: usize,
     end: FilePlace,
-    made: Made,
-) -> Walked
-    requires { ⌜ (end .0 ≤ length (now file)) × (length (now file) < 2 ^ 28) × (scope .types * 2 ≤ length (now types)) × (scope .limits .items * 10 ≤ length (now items)) × (made .nodes ≤ scope .limits .nodes) × (made .items ≤ scope .limits .items) ⌝ }
-    ensures { λ r. ⌜ ((t : List ℕ) → Gives (scope .limits) r t (now (items .exit)) (exec put (metadata (contextOf scope (now (types .entry)) (length (now (file .entry)))) node (end .0) made) (now (file .entry)) (c .at .0) (state t (now (items .entry)) made))) ⌝ }
+    rows: usize,
+) -> Rowed
+    requires { ⌜ (end .0 ≤ length (now file)) × (length (now file) < 2 ^ 28) × (scope .types * 2 ≤ length (now types)) × (scope .limits .items * 10 ≤ length (now items)) × (node ≤ scope .limits .nodes) × (rows ≤ scope .limits .items) ⌝ }
+    ensures { λ r. ⌜ ((t : List ℕ) → Gives (scope .limits) (walked node r) t (now (items .exit)) (exec put (metadata (contextOf scope (now (types .entry)) (length (now (file .entry)))) node (end .0) (counts node rows)) (now (file .entry)) (c .at .0) (state t (now (items .entry)) (counts node rows)))) ⌝ }
 {
     match c.block(file, end, cursor::BAD_NODE) {
-        Numbered::Refused(n, p) => Walked::Refused(n, p),
+        Numbered::Refused(n, p) => Rowed::Refused(n, p),
         Numbered::Is(size, d) => {
             let after = d.on(size);
             let stop = after.at;
-            read_items(d, file, types, items, scope, node, stop, made)
+            read_items(d, file, types, items, scope, node, stop, rows)
         }
     }
 }

@@ -16,8 +16,8 @@ use cursor::NodePlace;
 use cursor::Numbered;
 use cursor::Passed;
 use metadata::Made;
+use metadata::Rowed;
 use metadata::Scope;
-use metadata::Walked;
 
 // What a node starts with: its length, the number of nodes that it holds, its header's length.
 pub struct Head {
@@ -399,15 +399,28 @@ pub fn read_front(
         Headed::Refused(n, p) => Fronted::Refused(n, p),
         Headed::Is(h, d) => {
             let inner = start.of(NodePlace(h.header as usize));
-            match metadata::read_metadata(d, file, types, items, scope, made.nodes, inner, made) {
-                Walked::Refused(n, p) => Fronted::Refused(n, p),
-                Walked::Done(m, e) => {
+            match metadata::read_metadata(
+                d,
+                file,
+                types,
+                items,
+                scope,
+                made.nodes,
+                inner,
+                made.items,
+            ) {
+                Rowed::Refused(n, p) => Fronted::Refused(n, p),
+                Rowed::Done(rows, e) => {
                     let stop = start.of(NodePlace(h.size as usize));
                     let first = scope.first;
                     match read_rest(e, file, first, h.held, inner, stop) {
                         Rested::Refused(n, p) => Fronted::Refused(n, p),
                         Rested::Is(u, r, g) => {
-                            let row = row_of(start, h, parent, depth, r, u, m.items - made.items);
+                            let row = row_of(start, h, parent, depth, r, u, rows - made.items);
+                            let m = Made {
+                                nodes: made.nodes,
+                                items: rows,
+                            };
                             let is = Front { row, made: m };
                             Fronted::Is(is, g)
                         }

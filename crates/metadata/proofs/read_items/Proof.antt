@@ -1,65 +1,52 @@
 -- `read_items` reads items end to end. The invariant: what is left of them comes to what the whole comes to.
 -- Assumes nothing.
-use mathlib.Core.Path.{_≡_, refl, _∙_}
+use mathlib.Core.Path.{_≡_, refl, ap, _∙_}
 use Prim.Native.Nat.{_-_}
 use lib.ListN.{length}
-use Rattle.metadata.specs.Told.{contextOf}
+use Rattle.metadata.specs.Told.{contextOf, counts, walked}
 use Rattle.metadata.proofs.Ways.{Reading, items-begun, items-done, items-no, items-further, items-on}
 use native.Mathlib.Omega.{arith}
 use borrow.Author.Needs.{needs}
+use borrow.Author.Needs.{needs}
 use Rattle.metadata.proofs.read_items.Statement.{statement}
 use Rattle.metadata.proofs.read_items.Tie as tie
-use Rattle.metadata.proofs.read_items.Reads as reads
-use Rattle.metadata.proofs.read_items.Lts as lts
-use Rattle.metadata.proofs.read_item.Reads as read-item-reads
 
 abbrev Inv-loop : tie.InvT-loop
-Inv-loop file types items₀ scope node end stop next₀ at₀ m₀ index₀ items next at m index = (next .at .0 ≡ at) × Reading (contextOf scope types (length file)) file items₀ node stop at₀ m₀ items at index m
+Inv-loop file types items₀ scope node end rows stop next₀ at₀ m₀ index₀ items next at m index = (next .at .0 ≡ at) × Reading (contextOf scope types (length file)) file items₀ node stop at₀ (counts node m₀) items at index (counts node m)
 
 abbrev μ-loop : tie.MeasureT-loop
-μ-loop file types items₀ scope node end stop next₀ at₀ m₀ index₀ items next at m index = stop - at
+μ-loop file types items₀ scope node end rows stop next₀ at₀ m₀ index₀ items next at m index = stop - at
 
--- src/lib.rt:382:5
 loop-holds : tie.Need-loop-holds Inv-loop μ-loop
 loop-holds c = (refl, items-begun _ _ _ _ _ _ _ (omega arith) (omega arith))
 
--- src/lib.rt:383:15
 read-item-requires : tie.Need-read-item-requires Inv-loop μ-loop
 read-item-requires c κs = omega (arith, c .before .before .before .before .before .before .pre, c .before .before .loop .inv .1 .long, c .before .before .loop .inv .1 .nodes-fit, c .before .before .loop .inv .1 .items-fit)
 
--- src/lib.rt:384:29
 enum-known-n : tie.Need-enum-known-n Inv-loop μ-loop
 enum-known-n c = search needs
 
--- src/lib.rt:384:38
 same-length : tie.Need-same-length Inv-loop μ-loop
 same-length c = c .before .before .before .before .before .read-item .kept .1 .1 .1 .0 ∙ c .before .before .before .before .before .before .before .before .loop .inv .1 .long
 
--- src/lib.rt:384:38
 returns : tie.Need-returns Inv-loop μ-loop
-returns c = items-no _ _ _ _ _ _ _ (c .before .before .before .before .before .before .before .before .loop .inv .1) (c .before .before .before .before .before .before .before .loop-test .taken) (λ t. rw (c .before .before .before .before .before .before .before .before .loop .inv .0) at (c .before .before .before .before .before .read-item .ensures t)) (c .before .n .given .1)
+returns c = items-no _ _ _ _ _ _ _ (c .before .before .before .before .before .before .before .before .loop .inv .1) (c .before .before .before .before .before .before .before .loop-test .taken) (λ t. rw (c .before .before .before .before .before .before .before .before .loop .inv .0) at (c .before .before .before .before .before .read-item .ensures t)) (ap (walked _) (c .before .n .given .1))
 
--- src/lib.rt:385:26
 enum-known-n-2 : tie.Need-enum-known-n-2 Inv-loop μ-loop
 enum-known-n-2 c = search needs
 
--- src/lib.rt:391:17
 add-index : tie.Need-add-index Inv-loop μ-loop
 add-index c = omega (arith, c .before .before .before .before .before .before .before .before .loop .inv .1 .few, c .before .before .before .before .before .before .before .before .before .before .before .before .pre)
 
--- src/lib.rt:382:5
 loop-less : tie.Need-loop-less Inv-loop μ-loop
-loop-less c = omega (arith, items-further _ _ _ _ _ _ _ (c .before .before .before .before .before .before .before .before .loop .inv .1) (c .before .before .before .before .before .before .before .loop-test .taken) (λ t. rw (c .before .before .before .before .before .before .before .before .loop .inv .0) at (c .before .before .before .before .before .read-item .ensures t)) (c .before .n2 .given .1))
+loop-less c = omega (arith, items-further _ _ _ _ _ _ _ (c .before .before .before .before .before .before .before .before .loop .inv .1) (c .before .before .before .before .before .before .before .loop-test .taken) (λ t. rw (c .before .before .before .before .before .before .before .before .loop .inv .0) at (c .before .before .before .before .before .read-item .ensures t)) (ap (walked _) (c .before .n2 .given .1)))
 
--- src/lib.rt:382:5
 loop-again : tie.Need-loop-again Inv-loop μ-loop
-loop-again c = (refl, items-on _ _ _ _ _ _ _ (c .before .before .before .before .before .before .before .before .loop .inv .1) (c .before .before .before .before .before .before .before .loop-test .taken) (λ t. rw (c .before .before .before .before .before .before .before .before .loop .inv .0) at (c .before .before .before .before .before .read-item .ensures t)) (c .before .n2 .given .1) (c .before .before .before .before .before .read-item .kept .1 .1 .1 .0))
+loop-again c = (refl, items-on _ _ _ _ _ _ _ (c .before .before .before .before .before .before .before .before .loop .inv .1) (c .before .before .before .before .before .before .before .loop-test .taken) (λ t. rw (c .before .before .before .before .before .before .before .before .loop .inv .0) at (c .before .before .before .before .before .read-item .ensures t)) (ap (walked _) (c .before .n2 .given .1)) (c .before .before .before .before .before .read-item .kept .1 .1 .1 .0))
 
--- src/lib.rt:364:1
 same-length-2 : tie.Need-same-length-2 Inv-loop μ-loop
 same-length-2 c = c .before .loop .inv .1 .long
 
--- src/lib.rt:364:1
 returns-2 : tie.Need-returns-2 Inv-loop μ-loop
 returns-2 c = items-done _ _ _ _ _ _ _ (c .before .loop .inv .0) (c .before .loop .inv .1) (c .loop-test .left)
 

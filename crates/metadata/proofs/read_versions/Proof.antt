@@ -1,64 +1,51 @@
 -- `read_versions` reads the versions one after the other. The invariant: what is left of them comes to what the whole comes to.
 -- Assumes nothing.
-use mathlib.Core.Path.{_∙_}
+use mathlib.Core.Path.{ap, _∙_}
 use lib.ListN.{length}
-use Rattle.metadata.specs.Told.{contextOf}
+use Rattle.metadata.specs.Told.{contextOf, counts, walked}
 use Rattle.metadata.proofs.Ways.{Going, versions-begun, versions-done, versions-no, versions-on}
 use native.Mathlib.Omega.{arith}
 use borrow.Author.Needs.{needs}
+use borrow.Author.Needs.{needs}
 use Rattle.metadata.proofs.read_versions.Statement.{statement}
 use Rattle.metadata.proofs.read_versions.Tie as tie
-use Rattle.metadata.proofs.read_versions.Reads as reads
-use Rattle.metadata.proofs.read_versions.Lts as lts
-use Rattle.metadata.proofs.read_version.Reads as read-version-reads
 
 abbrev Inv-loop : tie.InvT-loop
-Inv-loop file types items₀ scope l end count before next₀ m₀ left₀ items next m left = Going (contextOf scope types (length file)) l file items₀ (end .0) (next₀ .at .0) count m₀ items (next .at .0) left m
+Inv-loop file types items₀ scope l end count rows before next₀ m₀ left₀ items next m left = Going (contextOf scope types (length file)) l file items₀ (end .0) (next₀ .at .0) count (counts (l .node) m₀) items (next .at .0) left (counts (l .node) m)
 
 abbrev μ-loop : tie.MeasureT-loop
-μ-loop file types items₀ scope l end count before next₀ m₀ left₀ items next m left = left
+μ-loop file types items₀ scope l end count rows before next₀ m₀ left₀ items next m left = left
 
--- src/lib.rt:299:5
 loop-holds : tie.Need-loop-holds Inv-loop μ-loop
 loop-holds c = versions-begun _ _ _ _ _ _ _ _ (omega arith) (omega arith)
 
--- src/lib.rt:300:15
 read-version-requires : tie.Need-read-version-requires Inv-loop μ-loop
 read-version-requires c κs = omega (arith, c .before .before .before .before .before .before .pre, c .before .before .loop .inv .long, c .before .before .loop .inv .nodes-fit, c .before .before .loop .inv .items-fit, c .before .before .loop .inv .since)
 
--- src/lib.rt:301:29
 enum-known-n : tie.Need-enum-known-n Inv-loop μ-loop
 enum-known-n c = search needs
 
--- src/lib.rt:301:38
 same-length : tie.Need-same-length Inv-loop μ-loop
 same-length c = c .before .before .before .before .before .read-version .kept .1 .1 .1 .0 ∙ c .before .before .before .before .before .before .before .before .loop .inv .long
 
--- src/lib.rt:301:38
 returns : tie.Need-returns Inv-loop μ-loop
-returns c = versions-no _ _ _ _ _ _ _ _ (c .before .before .before .before .before .before .before .before .loop .inv) (c .before .before .before .before .before .before .before .loop-test .taken) (c .before .before .before .before .before .read-version .ensures) (c .before .n .given .1)
+returns c = versions-no _ _ _ _ _ _ _ _ (c .before .before .before .before .before .before .before .before .loop .inv) (c .before .before .before .before .before .before .before .loop-test .taken) (c .before .before .before .before .before .read-version .ensures) (ap (walked _) (c .before .n .given .1))
 
--- src/lib.rt:302:26
 enum-known-n-2 : tie.Need-enum-known-n-2 Inv-loop μ-loop
 enum-known-n-2 c = search needs
 
--- src/lib.rt:307:16
 sub-left : tie.Need-sub-left Inv-loop μ-loop
 sub-left c = omega arith
 
--- src/lib.rt:299:5
 loop-less : tie.Need-loop-less Inv-loop μ-loop
 loop-less c = omega arith
 
--- src/lib.rt:299:5
 loop-again : tie.Need-loop-again Inv-loop μ-loop
-loop-again c = versions-on _ _ _ _ _ _ _ _ (c .before .before .before .before .before .before .before .before .loop .inv) (c .before .before .before .before .before .before .before .loop-test .taken) (c .before .before .before .before .before .read-version .ensures) (c .before .n2 .given .1) (c .before .before .before .before .before .read-version .kept .1 .1 .1 .0)
+loop-again c = versions-on _ _ _ _ _ _ _ _ (c .before .before .before .before .before .before .before .before .loop .inv) (c .before .before .before .before .before .before .before .loop-test .taken) (c .before .before .before .before .before .read-version .ensures) (ap (walked _) (c .before .n2 .given .1)) (c .before .before .before .before .before .read-version .kept .1 .1 .1 .0)
 
--- src/lib.rt:281:1
 same-length-2 : tie.Need-same-length-2 Inv-loop μ-loop
 same-length-2 c = c .before .loop .inv .long
 
--- src/lib.rt:281:1
 returns-2 : tie.Need-returns-2 Inv-loop μ-loop
 returns-2 c = versions-done _ _ _ _ _ _ _ _ (c .before .loop .inv) (c .loop-test .left)
 

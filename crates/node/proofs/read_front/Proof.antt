@@ -1,107 +1,78 @@
 -- `read_front` gives what `front` gives, and leaves the rows of the items in the table.
 -- Assumes nothing.
-use mathlib.Core.Path.{refl, sym, _∙_}
-use Rattle.cursor.specs.Rows.{nodeFrame, unpackFrame, referenceFrame}
-use Rattle.cursor.specs.Told.{numberTold, passTold}
+use mathlib.Core.Path.{ap}
 use Rattle.cursor.proofs.Laws.{was}
-use Rattle.cursor.proofs.Leaves.{number-inside, block-inside}
 use mathlib.Core.List.{[]}
-use Rattle.metadata.specs.Tables.{state}
+use Rattle.metadata.specs.Told.{walked}
 use Rattle.metadata.proofs.Gives.{done, stopped, fitting}
 use Rattle.node.specs.Told.{headTold, restTold}
 use Rattle.node.proofs.Ends.{head-inside, metadata-since}
 use Rattle.node.proofs.Ways.{front-no, front-yes, front-head, front-metadata, front-rest, front-all}
 use native.Mathlib.Omega.{arith}
 use borrow.Author.Needs.{needs}
+use borrow.Author.Needs.{needs}
 use Rattle.node.proofs.read_front.Statement.{statement}
 use Rattle.node.proofs.read_front.Tie as tie
-use Rattle.node.proofs.read_front.Reads as reads
-use Rattle.node.proofs.read_front.Lts as lts
-use Rattle.cursor.proofs.FilePlace.of.Reads as of-reads
-use Rattle.metadata.proofs.read_metadata.Reads as read-metadata-reads
-use Rattle.node.proofs.read_head.Reads as read-head-reads
-use Rattle.node.proofs.read_rest.Reads as read-rest-reads
-use Rattle.node.proofs.row_of.Reads as row-of-reads
 
--- src/lib.rt:391:11
 read-head-requires : tie.Need-read-head-requires
 read-head-requires c κs = search needs
 
--- src/lib.rt:392:25
 enum-known-n : tie.Need-enum-known-n
 enum-known-n c = search needs
 
--- src/lib.rt:393:20
 enum-known-h : tie.Need-enum-known-h
 enum-known-h c = search needs
 
--- src/lib.rt:394:17
 of-requires : tie.Need-of-requires
 of-requires c κs = omega (arith, c .before .before .before .before .before .before .before .before .pre, head-inside _ _ _ _ (was headTold (c .before .before .before .read-head .ensures) (c .before .h .given .1)))
 
--- src/lib.rt:395:19
 read-metadata-requires : tie.Need-read-metadata-requires
 read-metadata-requires c κs = omega (arith, c .before .before .before .before .before .before .before .before .before .before .pre, head-inside _ _ _ _ (was headTold (c .before .before .before .before .before .read-head .ensures) (c .before .before .before .h .given .1)), c .before .of .ensures)
 
--- src/lib.rt:396:33
 enum-known-n-2 : tie.Need-enum-known-n-2
 enum-known-n-2 c = search needs
 
--- src/lib.rt:397:30
-enum-known-m : tie.Need-enum-known-m
-enum-known-m c = search needs
+enum-known-rows : tie.Need-enum-known-rows
+enum-known-rows c = search needs
 
--- src/lib.rt:398:25
 of-requires-2 : tie.Need-of-requires-2
 of-requires-2 c κs = omega (arith, c .before .before .before .before .before .before .before .before .before .before .before .before .before .before .before .before .pre, head-inside _ _ _ _ (was headTold (c .before .before .before .before .before .before .before .before .before .before .before .read-head .ensures) (c .before .before .before .before .before .before .before .before .before .h .given .1)))
 
--- src/lib.rt:400:27
 read-rest-requires : tie.Need-read-rest-requires
 read-rest-requires c κs = omega (arith, c .before .before .before .before .before .before .before .before .before .before .before .before .before .before .before .before .before .before .pre, head-inside _ _ _ _ (was headTold (c .before .before .before .before .before .before .before .before .before .before .before .before .before .read-head .ensures) (c .before .before .before .before .before .before .before .before .before .before .before .h .given .1)), c .before .before .before .before .before .before .before .before .before .of .ensures, c .before .of2 .ensures)
 
--- src/lib.rt:401:41
 enum-known-n-3 : tie.Need-enum-known-n-3
 enum-known-n-3 c = search needs
 
--- src/lib.rt:402:36
 enum-known-u : tie.Need-enum-known-u
 enum-known-u c = search needs
 
--- src/lib.rt:403:77
 sub-row-of : tie.Need-sub-row-of
-sub-row-of c = omega (arith, metadata-since _ _ _ _ _ _ _ (done (c .before .before .before .before .before .before .before .before .before .before .before .before .before .read-metadata .ensures []) (c .before .before .before .before .before .before .before .before .before .m .given .1)))
+sub-row-of c = omega (arith, metadata-since _ _ _ _ _ _ _ (done (c .before .before .before .before .before .before .before .before .before .before .before .before .read-metadata .ensures []) (ap (walked _) (c .before .before .before .before .before .before .before .before .rows .given .1))))
 
--- src/lib.rt:403:33
 row-of-requires : tie.Need-row-of-requires
 row-of-requires c κs = search needs
 
--- src/lib.rt:375:1
 returns : tie.Need-returns
 returns c = λ t. front-no (front-head _ _ _ _ _ _ _ _ _ (was headTold (c .before .before .before .read-head .ensures) (c .before .n .given .1)))
 
--- src/lib.rt:375:1
 same-length : tie.Need-same-length
 same-length c = search needs
 
--- src/lib.rt:375:1
 returns-2 : tie.Need-returns-2
-returns-2 c = λ t. front-no (front-metadata _ _ _ _ _ _ _ _ _ (was headTold (c .before .before .before .before .before .before .before .before .before .before .before .read-head .ensures) (c .before .before .before .before .before .before .before .before .before .h .given .1)) (c .before .before .before .before .before .before .before .of .ensures) (stopped (c .before .before .before .before .before .read-metadata .ensures t) (c .before .n2 .given .1)))
+returns-2 c = λ t. front-no (front-metadata _ _ _ _ _ _ _ _ _ (was headTold (c .before .before .before .before .before .before .before .before .before .before .before .read-head .ensures) (c .before .before .before .before .before .before .before .before .before .h .given .1)) (c .before .before .before .before .before .before .before .of .ensures) (stopped (c .before .before .before .before .before .read-metadata .ensures t) (ap (walked _) (c .before .n2 .given .1))))
 
--- src/lib.rt:375:1
 same-length-2 : tie.Need-same-length-2
 same-length-2 c = search needs
 
--- src/lib.rt:375:1
 returns-3 : tie.Need-returns-3
-returns-3 c = λ t. front-no (front-rest _ _ _ _ _ _ _ _ _ (was headTold (c .before .before .before .before .before .before .before .before .before .before .before .before .before .before .before .before .before .read-head .ensures) (c .before .before .before .before .before .before .before .before .before .before .before .before .before .before .before .h .given .1)) (c .before .before .before .before .before .before .before .before .before .before .before .before .before .of .ensures) (done (c .before .before .before .before .before .before .before .before .before .before .before .read-metadata .ensures t) (c .before .before .before .before .before .before .before .m .given .1)) (c .before .before .before .before .before .of2 .ensures) (was restTold (c .before .before .before .read-rest .ensures) (c .before .n3 .given .1)))
+returns-3 c = λ t. front-no (front-rest _ _ _ _ _ _ _ _ _ (was headTold (c .before .before .before .before .before .before .before .before .before .before .before .before .before .before .before .before .before .read-head .ensures) (c .before .before .before .before .before .before .before .before .before .before .before .before .before .before .before .h .given .1)) (c .before .before .before .before .before .before .before .before .before .before .before .before .before .of .ensures) (done (c .before .before .before .before .before .before .before .before .before .before .before .read-metadata .ensures t) (ap (walked _) (c .before .before .before .before .before .before .before .rows .given .1))) (c .before .before .before .before .before .of2 .ensures) (was restTold (c .before .before .before .read-rest .ensures) (c .before .n3 .given .1)))
 
--- src/lib.rt:375:1
 same-length-3 : tie.Need-same-length-3
-same-length-3 c = c .before .before .before .before .before .before .before .before .before .before .before .before .before .before .read-metadata .kept .1 .1 .1 .0
+same-length-3 c = c .before .before .before .before .before .before .before .before .before .before .before .before .before .read-metadata .kept .1 .1 .1 .0
 
--- src/lib.rt:375:1
 returns-4 : tie.Need-returns-4
-returns-4 c = λ t. front-yes (front-all _ _ _ _ _ _ _ _ _ (was headTold (c .before .before .before .before .before .before .before .before .before .before .before .before .before .before .before .before .before .before .before .before .read-head .ensures) (c .before .before .before .before .before .before .before .before .before .before .before .before .before .before .before .before .before .before .h .given .1)) (c .before .before .before .before .before .before .before .before .before .before .before .before .before .before .before .before .of .ensures) (done (c .before .before .before .before .before .before .before .before .before .before .before .before .before .before .read-metadata .ensures t) (c .before .before .before .before .before .before .before .before .before .before .m .given .1)) (c .before .before .before .before .before .before .before .before .of2 .ensures) (was restTold (c .before .before .before .before .before .before .read-rest .ensures) (c .before .before .before .before .u .given .1)) (c .row-of .ensures)) (fitting (c .before .before .before .before .before .before .before .before .before .before .before .before .before .before .read-metadata .ensures t) (c .before .before .before .before .before .before .before .before .before .before .m .given .1))
+returns-4 c = λ t. front-yes (front-all _ _ _ _ _ _ _ _ _ (was headTold (c .before .before .before .before .before .before .before .before .before .before .before .before .before .before .before .before .before .before .before .read-head .ensures) (c .before .before .before .before .before .before .before .before .before .before .before .before .before .before .before .before .before .h .given .1)) (c .before .before .before .before .before .before .before .before .before .before .before .before .before .before .before .of .ensures) (done (c .before .before .before .before .before .before .before .before .before .before .before .before .before .read-metadata .ensures t) (ap (walked _) (c .before .before .before .before .before .before .before .before .before .rows .given .1))) (c .before .before .before .before .before .before .before .of2 .ensures) (was restTold (c .before .before .before .before .before .read-rest .ensures) (c .before .before .before .u .given .1)) (c .row-of .ensures)) (fitting (c .before .before .before .before .before .before .before .before .before .before .before .before .before .read-metadata .ensures t) (ap (walked _) (c .before .before .before .before .before .before .before .before .before .rows .given .1)))
 
 pub read-front-spec : {M : Type 1} → statement M
 read-front-spec =
@@ -113,7 +84,7 @@ read-front-spec =
     of-requires
     read-metadata-requires
     enum-known-n-2
-    enum-known-m
+    enum-known-rows
     of-requires-2
     read-rest-requires
     enum-known-n-3
