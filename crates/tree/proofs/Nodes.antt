@@ -1,7 +1,7 @@
 -- The ways through a node, and through nodes one after the other.
 -- Assumes nothing.
-use mathlib.Core.Path.{_≡_, refl, sym, ap, _∙_, subst}
-use mathlib.Core.List.{List, [], _∷_}
+use mathlib.Core.Path.{_≡_, refl, sym, ap, _∙_}
+use mathlib.Core.List.{List}
 use Prim.Native.Nat.{ℕ, zero, suc, _+_, _-_, _*_, _≤_, _<_}
 use native.Mathlib.Nat.{add-zero}
 use native.Mathlib.Omega.{arith}
@@ -9,12 +9,11 @@ use borrow.Author.Tests.{lt-ltb, le-ltb, le-leb, lt-leb, eq-eqb, ne-eqb}
 use lib.Dec.{eqb}
 use lib.ListN.{length}
 use lib.Seq.{sets}
-use Rattle.cursor.specs.Machine.{Out, ok, refused, run, exec, if_then_else_, times}
-use Rattle.cursor.specs.Rows.{P, nodeRow}
+use Rattle.cursor.specs.Machine.{ok, refused, exec, if_then_else_, times}
+use Rattle.cursor.specs.Rows.{nodeRow}
 use Rattle.cursor.specs.declared.Cursor.{Cursor}
 use Rattle.cursor.specs.declared.FilePlace.{FilePlace}
-use Rattle.cursor.proofs.Laws.{executing, andThen, ran, exec-times, exec-timed}
-use Rattle.cursor.proofs.Wp.{at-end}
+use Rattle.cursor.proofs.Laws.{executing, andThen, exec-times, exec-timed}
 use Rattle.metadata.specs.Tables.{State, state, put, nodeWords, plusNode}
 use Rattle.metadata.specs.Metadata.{Context}
 use Rattle.metadata.specs.Told.{Gives}
@@ -23,12 +22,10 @@ use Rattle.metadata.specs.declared.Made.{Made}
 use Rattle.metadata.specs.declared.Walked.{Walked}
 use Rattle.metadata.specs.declared.Walked.the-variants.{Done, Refused}
 use Rattle.metadata.proofs.Gives.{done, stopped, fitting, no, yes}
-use Rattle.metadata.proofs.Ends.{Nothing, inside-free}
 use Rattle.node.specs.Node.{front}
 use Rattle.node.specs.declared.Front.{Front}
-use Rattle.node.proofs.Ends.{FrontIn, front-inside}
+use Rattle.node.proofs.Ends.{front-inside}
 use Rattle.tree.specs.Tree.{contents, folder, node, tree}
-use Rattle.tree.proofs.Ends.{node-on}
 
 -- ---- contents
 
@@ -111,24 +108,35 @@ module _ (x : Context) (parent least end : ℕ) (m : Made) (s : List ℕ) (at : 
 
 -- ---- nodes one after the other
 
-module _ (levels : ℕ) (x : Context) (parent end : ℕ) (s : List ℕ) (at : ℕ) (m : Made) (t u : List ℕ) where
-  pub children-none : (left : ℕ) → left ≡ 0 → ok (m, state t u m) at ≡ exec put (times left (node levels x parent 0 end) m) s at (state t u m)
-  children-none left z = sym (exec-timed put s left at _ m (state t u m) z)
+module _ (x : Context) (s t₀ u₀ : List ℕ) (levels parent end at left : ℕ) (made : Made) where
+  -- at i, with `rest` nodes to come, the rows m made and the tables t and u: what is left comes to what the whole comes to
+  pub record Going (t u : List ℕ) (i rest : ℕ) (m : Made) : Type 0 where
+    pub nodes-long : length t ≡ length t₀
+    pub items-long : length u ≡ length u₀
+    pub nodes-fit : m .nodes ≤ x .limits .nodes
+    pub items-fit : m .items ≤ x .limits .items
+    pub same : exec put (times left (node levels x parent 0 end) made) s at (state t₀ u₀ made) ≡ exec put (times rest (node levels x parent 0 end) m) s i (state t u m)
 
-  module _ (left : ℕ) (some : (left ≡ 0) → ⊥) {r : Walked} {t′ u′ : List ℕ} (g : Gives (x .limits) r t′ u′ (exec put (node levels x parent 0 end m) s at (state t u m))) where
-    pub children-no : {n : ℕ} {p : FilePlace} → r ≡ Refused n p → refused n (p .0) ≡ exec put (times left (node levels x parent 0 end) m) s at (state t u m)
-    children-no h = sym (exec-times put s left at (node levels x parent 0 end) m (state t u m) some ∙ rw (stopped g h) refl)
+  pub children-begun : made .nodes ≤ x .limits .nodes → made .items ≤ x .limits .items → Going t₀ u₀ at left made
+  children-begun h k = record { nodes-long = refl; items-long = refl; nodes-fit = h; items-fit = k; same = refl }
 
-    pub children-on : end ≤ x .size → {m′ : Made} {c : Cursor} → r ≡ Done m′ c → (at < c .at .0) × (c .at .0 ≤ end)
-    children-on i h = let w = at-end (inside-free end (x .size)) s (node-on Nothing end levels x parent 0 m end at (omega arith) i) (ran put _ s at (state t u m) (done g h)) in (w .0, w .1)
+  pub children-done : {t u : List ℕ} {c : Cursor} {rest : ℕ} {m : Made} → Going t u (c .at .0) rest m → rest ≤ 0
+      → Gives (x .limits) (Done m c) t u (exec put (times left (node levels x parent 0 end) made) s at (state t₀ u₀ made))
+  children-done {t} {u} {c} {rest} {m} g z = yes (sym (g .same ∙ exec-timed put s rest (c .at .0) _ m (state t u m) (omega arith))) (g .nodes-fit, g .items-fit)
 
-    pub children-more : {m′ : Made} {c : Cursor} → r ≡ Done m′ c → {r′ : Walked} {t″ u″ : List ℕ}
-        → Gives (x .limits) r′ t″ u″ (exec put (times (left - 1) (node levels x parent 0 end) m′) s (c .at .0) (state t′ u′ m′))
-        → Gives (x .limits) r′ t″ u″ (exec put (times left (node levels x parent 0 end) m) s at (state t u m))
-    children-more {m′} {c} h k =
-        let y : exec put (times left (node levels x parent 0 end) m) s at (state t u m) ≡ exec put (times (left - 1) (node levels x parent 0 end) m′) s (c .at .0) (state t′ u′ m′) =
-        exec-times put s left at (node levels x parent 0 end) m (state t u m) some ∙ rw (done g h) refl in
-        rw y k
+  module _ {t u : List ℕ} {i rest : ℕ} {m : Made} (g : Going t u i rest m) (some : 0 < rest) {t′ u′ : List ℕ} {r : Walked}
+      (d : Gives (x .limits) r t′ u′ (exec put (node levels x parent 0 end m) s i (state t u m))) where
+    turn : exec put (times left (node levels x parent 0 end) made) s at (state t₀ u₀ made)
+        ≡ andThen (exec put (node levels x parent 0 end m) s i (state t u m)) (λ y p. exec put (times (rest - 1) (node levels x parent 0 end) (y .0)) s p (y .1))
+    turn = g .same ∙ exec-times put s rest i _ m (state t u m) (λ z. omega arith)
+
+    pub children-no : {n : ℕ} {p : FilePlace} → r ≡ Refused n p → Gives (x .limits) (Refused n p) t′ u′ (exec put (times left (node levels x parent 0 end) made) s at (state t₀ u₀ made))
+    children-no h = no (sym (turn ∙ rw (stopped d h) refl))
+
+    pub children-on : {n : Made} {c : Cursor} → r ≡ Done n c → length t′ ≡ length t → length u′ ≡ length u → Going t′ u′ (c .at .0) (rest - 1) n
+    children-on h j k =
+        let b = fitting d h in
+        record { nodes-long = j ∙ g .nodes-long; items-long = k ∙ g .items-long; nodes-fit = b .0; items-fit = b .1; same = turn ∙ rw (done d h) refl }
 
 -- ---- the root
 

@@ -5,8 +5,7 @@ use mathlib.Core.List.{List, [], _∷_, _++_}
 use Prim.Native.Nat.{ℕ, zero, suc, _+_, _*_, _-_, _/_, _^_, _≤_, _<_, min}
 use native.Mathlib.Nat.{zero-add}
 use native.Mathlib.Omega.{arith}
-use lib.ListN.{length, replicate, length-replicate}
-use lib.Seq.{sets}
+use lib.ListN.{length, replicate, take, drop}
 use Rattle.cursor.specs.Machine.{Out, ok, refused, Event, seen, passed, run, trace, exec, rowsOf}
 use Rattle.cursor.specs.Rows.{Part, nodeRow, itemRow, plain, Events}
 use Rattle.cursor.specs.declared.Cursor.{Cursor}
@@ -23,7 +22,7 @@ use Rattle.header.specs.declared.Headed.{Headed}
 use Rattle.header.specs.declared.Headed.the-variants as headed
 use Rattle.header.specs.declared.Header as code
 use Rattle.header.proofs.Ends.{header-on}
-use Rattle.metadata.specs.Tables.{State, state, put, limits}
+use Rattle.metadata.specs.Tables.{State, state, put, limits, mostNodes, mostItems}
 use Rattle.metadata.specs.Told.{Gives}
 use Rattle.metadata.specs.declared.Limits.{Limits}
 use Rattle.metadata.specs.declared.Made.{Made}
@@ -42,7 +41,7 @@ use Rattle.tree.specs.declared.Answer.the-variants as answer
 use Rattle.tree.specs.declared.Read.{Read}
 use Rattle.tree.specs.declared.Read.the-variants as read
 use Rattle.tree.proofs.Ends.{tree-inside}
-use Rattle.tree.proofs.Filled.{filled, exec-fills, sets-zeros, nodes-length, items-length}
+use Rattle.tree.proofs.Filled.{filled, exec-fills, sets-front, padded-behind, nodes-length, items-length}
 
 -- ---- what is known of the header's answer
 
@@ -74,48 +73,44 @@ same e = cc
 abbrev none : Made
 none = record { nodes = 0; items = 0 }
 
-module _ (file : List ℕ) (nsize isize : ℕ) where
-  -- what the call says of its answer and of the tables that it leaves
+module _ (file t u : List ℕ) where
+  -- what the call that is lent the tables t and u says of its answer and of the tables that it leaves
   abbrev pub Says : Read → List ℕ → List ℕ → Type 0
-  Says a t u = (a ≡ readOf (readFile (limits nsize isize) file)) × (t ≡ nodeTable nsize (readFile (limits nsize isize) file)) × (u ≡ itemTable isize (readFile (limits nsize isize) file))
+  Says a t′ u′ = (a ≡ readOf (readFile (limits (length t) (length u)) file)) × (t′ ≡ nodeTable (length t) (readFile (limits (length t) (length u)) file)) × (u′ ≡ itemTable (length u) (readFile (limits (length t) (length u)) file))
 
-  pub whole-header : {t u : List ℕ} {n : ℕ} {p : FilePlace} → t ≡ replicate nsize 0 → u ≡ replicate isize 0 → run (header (length file)) file 0 ≡ refused n (p .0) → Says (read.Refused n p) t u
+  pub whole-header : {t′ u′ : List ℕ} {n : ℕ} {p : FilePlace} → t′ ≡ replicate (length t) 0 → u′ ≡ replicate (length u) 0 → run (header (length file)) file 0 ≡ refused n (p .0) → Says (read.Refused n p) t′ u′
   unfolding readFile readTree readOf nodeTable itemTable
   whole-header zt zu e = simp e (refl, zt, zu)
 
   module _ {h : Header} {q : ℕ} (e₀ : run (header (length file)) file 0 ≡ ok h q) where
-    whole-rows : {m : Made} {p : ℕ} → run (tree (context (limits nsize isize) h (length file)) (h .extent .last + 1)) file (h .extent .start) ≡ ok m p
-        → let es = trace (tree (context (limits nsize isize) h (length file)) (h .extent .last + 1)) file (h .extent .start) in readFile (limits nsize isize) file ≡ targets file (nodesOf es) (nodesOf es) (rows h (nodesOf es) (itemsOf es))
+    whole-rows : {m : Made} {p : ℕ} → run (tree (context (limits (length t) (length u)) h (length file)) (h .extent .last + 1)) file (h .extent .start) ≡ ok m p
+        → let es = trace (tree (context (limits (length t) (length u)) h (length file)) (h .extent .last + 1)) file (h .extent .start) in readFile (limits (length t) (length u)) file ≡ targets file (nodesOf es) (nodesOf es) (rows h (nodesOf es) (itemsOf es))
     unfolding readFile readTree reading
     whole-rows e = simp (e₀, e)
 
-    whole-refusal : {n p : ℕ} → run (tree (context (limits nsize isize) h (length file)) (h .extent .last + 1)) file (h .extent .start) ≡ refused n p → readFile (limits nsize isize) file ≡ refusal n p
+    whole-refusal : {n p : ℕ} → run (tree (context (limits (length t) (length u)) h (length file)) (h .extent .last + 1)) file (h .extent .start) ≡ refused n p → readFile (limits (length t) (length u)) file ≡ refusal n p
     unfolding readFile readTree reading
     whole-refusal e = simp (e₀, e)
 
-    module _ {t u t′ u′ : List ℕ} (zt : t ≡ replicate nsize 0) (zu : u ≡ replicate isize 0) {lim : Limits} (room : lim ≡ limits (length t) (length u)) {r : Walked}
+    module _ {t′ u′ : List ℕ} {lim : Limits} (room : lim ≡ limits (length t) (length u)) {r : Walked}
         (g : Gives lim r t′ u′ (exec put (tree (context lim h (length file)) (h .extent .last + 1)) file (h .extent .start) (state t u none))) where
-      room-is : lim ≡ limits nsize isize
-      room-is = room ∙ ap₂ limits (ap length zt ∙ length-replicate nsize 0) (ap length zu ∙ length-replicate isize 0)
-
-      gives : Gives (limits nsize isize) r t′ u′ (exec put (tree (context (limits nsize isize) h (length file)) (h .extent .last + 1)) file (h .extent .start) (state t u none))
-      gives = rw room-is at g
+      gives : Gives (limits (length t) (length u)) r t′ u′ (exec put (tree (context (limits (length t) (length u)) h (length file)) (h .extent .last + 1)) file (h .extent .start) (state t u none))
+      gives = rw room at g
 
       -- a tree that was read: its rows, and where they stand
       pub record Found (m : Made) : Type 0 where
         pub ns : List Node
         pub is : List Item
-        pub reads : readFile (limits nsize isize) file ≡ targets file ns ns (rows h ns is)
+        pub reads : readFile (limits (length t) (length u)) file ≡ targets file ns ns (rows h ns is)
         pub node-count : m .nodes ≡ length ns
         pub item-count : m .items ≡ length is
-        pub node-table : t′ ≡ padded nsize (allNodes ns)
-        pub item-table : u′ ≡ padded isize (allItems is)
+        pub node-table : t′ ≡ allNodes ns ++ drop (length (allNodes ns)) t
+        pub item-table : u′ ≡ allItems is ++ drop (length (allItems is)) u
         pub stands : Stands ns (m .nodes) (length file) t′
 
       pub whole-found : {m : Made} {c : Cursor} → r ≡ Done m c → Found m
-      unfolding padded
       whole-found {m} {c} d =
-          let x = context (limits nsize isize) h (length file) in
+          let x = context (limits (length t) (length u)) h (length file) in
           let mt = tree x (h .extent .last + 1) in
           let es = trace mt file (h .extent .start) in
           let e : run mt file (h .extent .start) ≡ ok m (c .at .0) = ran put mt file (h .extent .start) (state t u none) (done gives d) in
@@ -128,8 +123,7 @@ module _ (file : List ℕ) (nsize isize : ℕ) where
           let ln = nodes-length (nodesOf es) in
           let li = items-length (itemsOf es) in
           let w = at-end any-free file (header-on (length file)) e₀ in
-          let tn : t′ ≡ padded nsize (allNodes (nodesOf es)) =
-          sym (ap (λ (σ : State). σ .nodes) k) ∙ ap (λ v. sets v 0 (allNodes (nodesOf es))) zt ∙ sets-zeros nsize (allNodes (nodesOf es)) (omega arith) in
+          let tn : t′ ≡ allNodes (nodesOf es) ++ drop (length (allNodes (nodesOf es))) t = sym (ap (λ (σ : State). σ .nodes) k) ∙ sets-front t (allNodes (nodesOf es)) (omega arith) in
           record {
             ns = nodesOf es;
             is = itemsOf es;
@@ -137,56 +131,48 @@ module _ (file : List ℕ) (nsize isize : ℕ) where
             node-count = cn;
             item-count = ci;
             node-table = tn;
-            item-table = sym (ap (λ (σ : State). σ .items) k) ∙ ap (λ v. sets v 0 (allItems (itemsOf es))) zu ∙ sets-zeros isize (allItems (itemsOf es)) (omega arith);
+            item-table = sym (ap (λ (σ : State). σ .items) k) ∙ sets-front u (allItems (itemsOf es)) (omega arith);
             stands = record {
-              rest = replicate (nsize - length (allNodes (nodesOf es))) 0;
+              rest = drop (length (allNodes (nodesOf es))) t;
               words = tn;
               counted = sym cn;
               inside = in-file es (h .extent .last + 1) (length file) (omega arith) (tree-inside x file (h .extent .start) (h .extent .last + 1) (omega arith));
             };
           }
 
-      module _ {m : Made} {p : Cursor} (d : r ≡ Done m p) {c : Checked} (k : (ns : List Node) → Stands ns (m .nodes) (length file) t′ → (o : Reading) → judge c o ≡ targets file ns ns o) where
-        pub whole-good : c ≡ checks.Good
-            → Says (read.Is (record { version = h .version; edition = record { kind = h .edition .type; revision = h .edition .revision }; nodes = m .nodes; items = m .items })) t′ u′
-        unfolding readOf nodeTable itemTable
-        whole-good e =
-            let w = whole-found d in
-            let z : readFile (limits nsize isize) file ≡ rows h (w .ns) (w .is) = w .reads ∙ sym (k (w .ns) (w .stands) (rows h (w .ns) (w .is))) ∙ ap (λ v. judge v (rows h (w .ns) (w .is))) e in
-            rw z (
-              ap₂ (λ (n : ℕ) (i : ℕ). read.Is (record { version = h .version; edition = record { kind = h .edition .type; revision = h .edition .revision }; nodes = n; items = i })) (w .node-count) (w .item-count),
-              w .node-table,
-              w .item-table,
-            )
+      -- the tables that are left, as long as those that are lent
+      module _ {t″ u″ : List ℕ} (lt : length t′ ≡ length t) (lu : length u′ ≡ length u) where
+        module _ {m : Made} {p : Cursor} (d : r ≡ Done m p) {c : Checked} (k : (ns : List Node) → Stands ns (m .nodes) (length file) t′ → (o : Reading) → judge c o ≡ targets file ns ns o) where
+          pub whole-good : c ≡ checks.Good → t″ ≡ take (m .nodes * 12) t′ ++ replicate (length t′ - m .nodes * 12) 0 → u″ ≡ take (m .items * 10) u′ ++ replicate (length u′ - m .items * 10) 0
+              → Says (read.Is (record { version = h .version; edition = record { kind = h .edition .type; revision = h .edition .revision }; nodes = m .nodes; items = m .items })) t″ u″
+          unfolding readOf nodeTable itemTable
+          whole-good e ct cu =
+              let w = whole-found d in
+              let z : readFile (limits (length t) (length u)) file ≡ rows h (w .ns) (w .is) = w .reads ∙ sym (k (w .ns) (w .stands) (rows h (w .ns) (w .is))) ∙ ap (λ v. judge v (rows h (w .ns) (w .is))) e in
+              rw z (
+                ap₂ (λ (n : ℕ) (i : ℕ). read.Is (record { version = h .version; edition = record { kind = h .edition .type; revision = h .edition .revision }; nodes = n; items = i })) (w .node-count) (w .item-count),
+                ct ∙ padded-behind (allNodes (w .ns)) _ (w .node-table) (ap (λ n. n * 12) (w .node-count) ∙ sym (nodes-length (w .ns))) ∙ ap (λ n. padded n (allNodes (w .ns))) lt,
+                cu ∙ padded-behind (allItems (w .is)) _ (w .item-table) (ap (λ n. n * 10) (w .item-count) ∙ sym (items-length (w .is))) ∙ ap (λ n. padded n (allItems (w .is))) lu,
+              )
 
-        pub whole-lost : {n : ℕ} {q : FilePlace} → c ≡ checks.Refused n q → {t″ u″ : List ℕ} → t″ ≡ replicate (length t′) 0 → u″ ≡ replicate (length u′) 0
-            → length t′ ≡ length t → length u′ ≡ length u → Says (read.Refused n q) t″ u″
-        unfolding readOf nodeTable itemTable
-        whole-lost {n} {q} e ct cu lt lu =
-            let w = whole-found d in
-            let z : readFile (limits nsize isize) file ≡ refusal n (q .0) = w .reads ∙ sym (k (w .ns) (w .stands) (rows h (w .ns) (w .is))) ∙ ap (λ v. judge v (rows h (w .ns) (w .is))) e in
-            rw z (
-              refl,
-              ct ∙ ap (λ k. replicate k 0) (lt ∙ ap length zt ∙ length-replicate nsize 0),
-              cu ∙ ap (λ k. replicate k 0) (lu ∙ ap length zu ∙ length-replicate isize 0),
-            )
+          pub whole-lost : {n : ℕ} {q : FilePlace} → c ≡ checks.Refused n q → t″ ≡ replicate (length t′) 0 → u″ ≡ replicate (length u′) 0 → Says (read.Refused n q) t″ u″
+          unfolding readOf nodeTable itemTable
+          whole-lost {n} {q} e ct cu =
+              let w = whole-found d in
+              let z : readFile (limits (length t) (length u)) file ≡ refusal n (q .0) = w .reads ∙ sym (k (w .ns) (w .stands) (rows h (w .ns) (w .is))) ∙ ap (λ v. judge v (rows h (w .ns) (w .is))) e in
+              rw z (refl, ct ∙ ap (λ k. replicate k 0) lt, cu ∙ ap (λ k. replicate k 0) lu)
 
-      pub whole-refused : {n : ℕ} {p : FilePlace} → r ≡ Refused n p → {t″ u″ : List ℕ} → t″ ≡ replicate (length t′) 0 → u″ ≡ replicate (length u′) 0
-          → length t′ ≡ length t → length u′ ≡ length u → Says (read.Refused n p) t″ u″
-      unfolding readOf nodeTable itemTable
-      whole-refused d ct cu lt lu =
-          let e = ran put (tree (context (limits nsize isize) h (length file)) (h .extent .last + 1)) file (h .extent .start) (state t u none) (stopped gives d) in
-          rw (whole-refusal e) (
-            refl,
-            ct ∙ ap (λ k. replicate k 0) (lt ∙ ap length zt ∙ length-replicate nsize 0),
-            cu ∙ ap (λ k. replicate k 0) (lu ∙ ap length zu ∙ length-replicate isize 0),
-          )
+        pub whole-refused : {n : ℕ} {p : FilePlace} → r ≡ Refused n p → t″ ≡ replicate (length t′) 0 → u″ ≡ replicate (length u′) 0 → Says (read.Refused n p) t″ u″
+        unfolding readOf nodeTable itemTable
+        whole-refused d ct cu =
+            let e = ran put (tree (context (limits (length t) (length u)) h (length file)) (h .extent .last + 1)) file (h .extent .start) (state t u none) (stopped gives d) in
+            rw (whole-refusal e) (refl, ct ∙ ap (λ k. replicate k 0) lt, cu ∙ ap (λ k. replicate k 0) lu)
 
 -- what the call of the tree's root asks for
 pub whole-within : (file : List ℕ) {h : Header} {q : ℕ} → run (header (length file)) file 0 ≡ ok h q → (h .extent .last < length file) × (length file < 2 ^ 28)
 whole-within file e = let w = at-end any-free file (header-on (length file)) e in (w .3, w .4)
 
-pub whole-room : {lim : Limits} {n i : ℕ} → lim ≡ limits n i → (lim .nodes * 12 ≤ n) × (lim .items * 10 ≤ i)
+pub whole-room : {lim : Limits} {n i : ℕ} → lim ≡ limits n i → (lim .nodes * 12 ≤ n) × (lim .items * 10 ≤ i) × (lim .nodes ≤ mostNodes) × (lim .items ≤ mostItems)
 whole-room e = rw e (omega arith)
 
 -- ---- the first question's answer, from what is kept of the file

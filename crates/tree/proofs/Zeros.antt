@@ -1,11 +1,13 @@
--- A table that is cleared from the front.
+-- A table that is cleared from the front, and one that is cleared from some word on.
 -- Assumes nothing.
-use Prim.Native.Nat.{ℕ, _+_, _≤_, _<_}
-use mathlib.Core.Path.{_≡_, ap, _∙_}
-use mathlib.Core.List.{List, _++_, append-nil}
+use Prim.Native.Nat.{ℕ, _+_, _-_, _≤_, _<_}
+use mathlib.Core.Path.{_≡_, sym, ap, _∙_}
+use mathlib.Core.List.{List, [], _++_, append-nil}
 use native.Mathlib.Omega.{arith}
-use lib.ListN.{length, replicate, drop, set, drop-of-length-le, length-set}
+use lib.ListN.{length, replicate, take, drop, set, drop-of-length-le, length-set}
+use lib.Seq.{take-all, drop-length}
 use borrow.Author.Fill.{fill-none, fill-more}
+use borrow.Rule.Slice.PartMut.{midOf, postOf, putMid, post-is, mid-len}
 
 -- the first i words are 0, the others as they were
 pub record Cleared (t : List ℕ) (i : ℕ) (t′ : List ℕ) : Type 0 where
@@ -27,3 +29,15 @@ pub all : {t t′ : List ℕ} {i : ℕ} → length t′ ≤ i → Cleared t i t�
 all {t} {t′} {i} l k =
     let e : i ≡ length t = let s = k .same in let w = k .within in omega arith in
     k .words ∙ rw (e, drop-of-length-le t {i = length t} (omega arith)) (append-nil _)
+
+-- the words from i on, which are lent and come back as zeros
+pub tail-cleared : (t : List ℕ) (i : ℕ) → i ≤ length t → {ws : List ℕ} → ws ≡ replicate (length (midOf i (length t - i) t)) 0
+    → putMid i (length t - i) t ws ≡ take i t ++ replicate (length t - i) 0
+tail-cleared t i l {ws} e =
+    let k : length (midOf i (length t - i) t) ≡ length t - i = mid-len i (length t) t (omega arith) in
+    let p : postOf i (length t - i) t ≡ [] = post-is i (length t) t l ∙ drop-length t in
+    rw (e, k, p) (ap (λ (x : List ℕ). take i t ++ x) (append-nil _))
+
+-- no word is past the end
+pub tail-none : (t : List ℕ) (i : ℕ) → length t ≤ i → t ≡ take i t ++ replicate (length t - i) 0
+tail-none t i l = let z : length t - i ≡ 0 = omega arith in rw z (sym (take-all i t l) ∙ sym (append-nil _))

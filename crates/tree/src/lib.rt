@@ -1,8 +1,8 @@
 // Reads the tree of a file into two lent tables, one of node rows and one of item rows.
 ghost use mathlib.Core.Path.{_≡_};
-ghost use mathlib.Core.List.{List, _∷_, []};
-ghost use Prim.Native.Nat.{ℕ, _≤_, _<_, _^_, _*_, _+_, min};
-ghost use lib.ListN.{length, replicate, drop};
+ghost use mathlib.Core.List.{List, _∷_, [], _++_};
+ghost use Prim.Native.Nat.{ℕ, _≤_, _<_, _^_, _*_, _+_, _-_, min};
+ghost use lib.ListN.{length, replicate, take, drop};
 ghost use lib.Seq.{sets};
 ghost use Rattle.cursor.specs.Machine.{exec, times};
 ghost use Rattle.cursor.specs.declared.Node.{Node};
@@ -58,6 +58,15 @@ pub fn clear(table: &mut [u64])
     while i < table.len() {
         table[i] = 0;
         i = i + 1;
+    }
+}
+
+// Sets every word of the table from `from` on to 0.
+fn clear_from(table: &mut [u64], from: usize)
+    ensures { λ _. ⌜ now (table .exit) ≡ take from (now (table .entry)) ++ replicate (length (now (table .entry)) - from) 0 ⌝ }
+{
+    if from < table.len() {
+        clear(&mut table[from..]);
     }
 }
 
@@ -201,25 +210,12 @@ fn read_children(
     requires { ⌜ (end .0 ≤ length (now file)) × (length (now file) < 2 ^ 28) × (scope .types * 2 ≤ length (now types)) × (scope .limits .nodes * 12 ≤ length (now nodes)) × (scope .limits .items * 10 ≤ length (now items)) × (made .nodes ≤ scope .limits .nodes) × (made .items ≤ scope .limits .items) × (levels ≤ 16) ⌝ }
     ensures { λ r. ⌜ Gives (scope .limits) r (now (nodes .exit)) (now (items .exit)) (exec put (times left (node levels (contextOf scope (now (types .entry)) (length (now (file .entry)))) parent 0 (end .0)) made) (now (file .entry)) (c .at .0) (state (now (nodes .entry)) (now (items .entry)) made)) ⌝ }
 {
-    if left == 0 {
-        return Walked::Done(made, c);
-    }
-    match read_node(
-        c,
-        file,
-        types,
-        nodes,
-        items,
-        scope,
-        levels,
-        parent,
-        FilePlace(0),
-        end,
-        made,
-    ) {
-        Walked::Refused(n, p) => Walked::Refused(n, p),
-        Walked::Done(m, d) => read_children(
-            d,
+    let mut next = c;
+    let mut m = made;
+    let mut rest = left;
+    while 0 < rest {
+        match read_node(
+            next,
             file,
             types,
             nodes,
@@ -227,11 +223,19 @@ fn read_children(
             scope,
             levels,
             parent,
+            FilePlace(0),
             end,
-            left - 1,
             m,
-        ),
+        ) {
+            Walked::Refused(n, p) => return Walked::Refused(n, p),
+            Walked::Done(n, d) => {
+                m = n;
+                next = d;
+            }
+        }
+        rest = rest - 1;
     }
+    Walked::Done(m, next)
 }
 
 fn least(a: usize, b: usize) -> usize
@@ -353,10 +357,12 @@ pub fn read_file(file: &[u8], nodes: &mut [u64], items: &mut [u64]) -> Read
     ensures nodes { λ _. ⌜ now (nodes .exit) ≡ nodeTable (length (now (nodes .entry))) (readFile (limits (length (now (nodes .entry))) (length (now (items .entry)))) (now (file .entry))) ⌝ }
     ensures items { λ _. ⌜ now (items .exit) ≡ itemTable (length (now (items .entry))) (readFile (limits (length (now (nodes .entry))) (length (now (items .entry)))) (now (file .entry))) ⌝ }
 {
-    clear_all(nodes, items);
     let mut types = [0u64; 64];
     match header::read_header(file, &mut types) {
-        Headed::Refused(n, p) => Read::Refused(n, p),
+        Headed::Refused(n, p) => {
+            clear_all(nodes, items);
+            Read::Refused(n, p)
+        }
         Headed::Is(h) => {
             let lim = room_of(nodes.len(), items.len());
             match read_root(file, &types, nodes, items, h, lim) {
@@ -370,6 +376,8 @@ pub fn read_file(file: &[u8], nodes: &mut [u64], items: &mut [u64]) -> Read
                         Read::Refused(n, p)
                     }
                     Checked::Good => {
+                        clear_from(nodes, m.nodes * cursor::NODE_WIDTH);
+                        clear_from(items, m.items * cursor::ITEM_WIDTH);
                         let edition = h.edition;
                         let is = Summary {
                             version: h.version,

@@ -5,24 +5,31 @@
 
 use crate::{c, item, Field};
 
-// Safety of all calls below: the pointers and lengths come from slices, so they are not null, are
-// aligned, can be read and, where they are lent for writing, written, and do not overlap. The called
-// functions are proved to stay within them, whatever the values.
+/// Asks a question of the C interface: file, tables, what the question itself takes, answer.
+macro_rules! ask {
+    ($question:ident($file:ident, $nodes:ident, $items:ident, [$($own:expr),*], $answer:ident)) => {
+        // Safety: the pointers and lengths come from slices, so they are not null, are aligned, can
+        // be read and, where they are lent for writing, written, and do not overlap. The called
+        // functions are proved to stay within them, whatever the values.
+        unsafe {
+            c::$question(
+                $file.as_ptr(),
+                $file.len(),
+                $nodes.as_mut_ptr(),
+                $nodes.len(),
+                $items.as_mut_ptr(),
+                $items.len(),
+                $($own,)*
+                $answer.as_mut_ptr(),
+                $answer.len(),
+            )
+        }
+    };
+}
 
 /// Reads the tree. Values: version (100, 101 or 200), node rows, item rows.
 pub fn read_tree(file: &[u8], nodes: &mut [u64], items: &mut [u64], answer: &mut [u64]) {
-    unsafe {
-        c::xmf_read_tree(
-            file.as_ptr(),
-            file.len(),
-            nodes.as_mut_ptr(),
-            nodes.len(),
-            items.as_mut_ptr(),
-            items.len(),
-            answer.as_mut_ptr(),
-            answer.len(),
-        )
-    }
+    ask!(xmf_read_tree(file, nodes, items, [], answer))
 }
 
 /// Finds an item of a field. Values: item row, its ten words.
@@ -38,56 +45,24 @@ pub fn find(
         Field::Standard(number) => (item::STANDARD, number, &[][..]),
         Field::Custom(name) => (item::CUSTOM, 0, name),
     };
-    unsafe {
-        c::xmf_find(
-            file.as_ptr(),
-            file.len(),
-            nodes.as_mut_ptr(),
-            nodes.len(),
-            items.as_mut_ptr(),
-            items.len(),
-            row,
-            kind,
-            number,
-            name.as_ptr(),
-            name.len(),
-            answer.as_mut_ptr(),
-            answer.len(),
-        )
-    }
+    let (name, length) = (name.as_ptr(), name.len());
+    ask!(xmf_find(
+        file,
+        nodes,
+        items,
+        [row, kind, number, name, length],
+        answer
+    ))
 }
 
 /// Resolves a resource. Values: place, length, row, references followed.
 pub fn resolve(file: &[u8], nodes: &mut [u64], items: &mut [u64], row: usize, answer: &mut [u64]) {
-    unsafe {
-        c::xmf_resolve(
-            file.as_ptr(),
-            file.len(),
-            nodes.as_mut_ptr(),
-            nodes.len(),
-            items.as_mut_ptr(),
-            items.len(),
-            row,
-            answer.as_mut_ptr(),
-            answer.len(),
-        )
-    }
+    ask!(xmf_resolve(file, nodes, items, [row], answer))
 }
 
 /// Judges Mobile XMF. Values: the verdict.
 pub fn judge(file: &[u8], nodes: &mut [u64], items: &mut [u64], answer: &mut [u64]) {
-    unsafe {
-        c::xmf_judge(
-            file.as_ptr(),
-            file.len(),
-            nodes.as_mut_ptr(),
-            nodes.len(),
-            items.as_mut_ptr(),
-            items.len(),
-            answer.as_mut_ptr(),
-            answer.len(),
-        )
-    }
+    ask!(xmf_judge(file, nodes, items, [], answer))
 }
 
 /// Writes the support sheet. Values: bytes written.
@@ -98,18 +73,6 @@ pub fn write_sheet(
     sheet: &mut [u8],
     answer: &mut [u64],
 ) {
-    unsafe {
-        c::xmf_write_sheet(
-            file.as_ptr(),
-            file.len(),
-            nodes.as_mut_ptr(),
-            nodes.len(),
-            items.as_mut_ptr(),
-            items.len(),
-            sheet.as_mut_ptr(),
-            sheet.len(),
-            answer.as_mut_ptr(),
-            answer.len(),
-        )
-    }
+    let (text, length) = (sheet.as_mut_ptr(), sheet.len());
+    ask!(xmf_write_sheet(file, nodes, items, [text, length], answer))
 }
