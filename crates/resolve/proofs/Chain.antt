@@ -1,53 +1,17 @@
--- The search for a row that starts at a place; and the chain of references, case by case, on rows and on the words they are read from.
+-- The chain of references, case by case, on rows and on the words they are read from.
 -- Assumes nothing.
 use mathlib.Core.Path.{_≡_, refl, sym, ap, _∙_}
-use mathlib.Core.List.{List, _∷_}
+use mathlib.Core.List.{List}
 use Prim.Native.Nat.{ℕ, zero, suc, _+_, _*_, _-_, _≤_, _<_}
 use native.Mathlib.Omega.{arith}
 use lib.ListN.{length, getD}
 use borrow.Author.Tests.{eq-eqb, ne-eqb, lt-ltb, le-ltb}
 use Rattle.cursor.specs.declared.Node.{Node}
-use Rattle.tree.specs.Rows.{nodeFrom, nodesFrom, nodesIn, nodeAt}
+use Rattle.tree.specs.Rows.{nodeFrom, nodesIn, nodeAt}
 use Rattle.tree.specs.Asking.{Result, good, bad}
 use Rattle.tree.proofs.Rows.{node-at, nodes-in-length}
 use Rattle.resolve.specs.Resolve.{if_then_else_, Resource, rowStarting, named, reached, chain, resolveRow}
 use Rattle.resolve.specs.Told.{Linked}
-
--- ---- the search
-
--- what is left of the search from row i
-abbrev pub Searching : List ℕ → ℕ → ℕ → ℕ → Type 0
-Searching ws count p i = rowStarting (nodesIn count ws) p ≡ i + rowStarting (nodesFrom i (count - i) ws) p
-
-module _ (ws : List ℕ) (count p : ℕ) where
-  pub search-begins : Searching ws count p 0
-  unfolding nodesIn
-  search-begins = let e : count ≡ count - 0 = omega arith in let z : (n : ℕ) → n ≡ 0 + n = λ n. omega arith in ap (λ k. rowStarting (nodesFrom 0 k ws) p) e ∙ z _
-
-  module _ (i : ℕ) (h : Searching ws count p i) where
-    next-row : i < count → nodesFrom i (count - i) ws ≡ nodeFrom ws (i * 12) ∷ nodesFrom (i + 1) (count - (i + 1)) ws
-    unfolding nodesFrom
-    next-row l = let e : count - i ≡ suc (count - (i + 1)) = omega arith in ap (λ k. nodesFrom i k ws) e
-
-    pub search-found : i < count → getD ws (i * 12) 0 ≡ p → i ≡ rowStarting (nodesIn count ws) p
-    unfolding rowStarting if_then_else_
-    search-found l q =
-        let x : rowStarting (nodesFrom i (count - i) ws) p ≡ 0 = ap (λ v. rowStarting v p) (next-row l) ∙ simp (eq-eqb _ _ q) in
-        omega (arith, h)
-
-    pub search-on : i < count → (getD ws (i * 12) 0 ≡ p → ⊥) → Searching ws count p (i + 1)
-    unfolding rowStarting if_then_else_
-    search-on l n =
-        let x : rowStarting (nodesFrom i (count - i) ws) p ≡ suc (rowStarting (nodesFrom (i + 1) (count - (i + 1)) ws) p)
-        = ap (λ v. rowStarting v p) (next-row l) ∙ simp (ne-eqb _ _ n) in
-        omega (arith, h)
-
-    pub search-ends : count ≤ i → i ≡ rowStarting (nodesIn count ws) p
-    unfolding rowStarting nodesFrom
-    search-ends l =
-        let e : count - i ≡ 0 = omega arith in
-        let x : rowStarting (nodesFrom i (count - i) ws) p ≡ 0 = ap (λ k. rowStarting (nodesFrom i k ws) p) e in
-        omega (arith, h)
 
 -- ---- the answer at a node
 

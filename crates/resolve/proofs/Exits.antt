@@ -8,12 +8,13 @@ use lib.ListN.{length, replicate, take, drop}
 use Rattle.cursor.specs.declared.FilePlace.{FilePlace}
 use Rattle.metadata.specs.Tables.{limits}
 use Rattle.tree.specs.Reading.{readFile, readOf, nodeTable, itemTable}
-use Rattle.tree.specs.Rows.{nodesIn}
+use Rattle.tree.specs.Rows.{nodesIn, Rising}
 use Rattle.tree.specs.Asking.{Result, good, bad, ask, keptNodes, keptItems}
 use Rattle.tree.specs.declared.Summary.{Summary}
 use Rattle.tree.specs.declared.Read.{Read}
 use Rattle.tree.specs.declared.Read.the-variants as read
 use Rattle.tree.proofs.Rows.{Standing, standing, ask-refused, refused-nodes, refused-items, ask-is, good-nodes, good-items, bad-nodes, bad-items}
+use Rattle.tree.proofs.Order.{in-row-order}
 use Rattle.resolve.specs.Resolve.{Resource, resolveRow, resolve, part}
 use Rattle.resolve.specs.Told.{told, Linked}
 use Rattle.resolve.specs.declared.Resolved.{Resolved}
@@ -38,6 +39,9 @@ module _ (f : List ℕ) (nsize isize row : ℕ) {r : Read} {t u : List ℕ} (e :
 
     pub rows-linked : Linked (nodesIn (s .nodes) t)
     rows-linked = let w = stands in rw (w .nodes-are) (linked (limits nsize isize) f (w .reads))
+
+    pub rows-rise : Rising (nodesIn (s .nodes) t)
+    rows-rise = let w = stands in rw (w .nodes-are) (in-row-order (limits nsize isize) f (w .reads) .starts-rise)
 
     pub rows-room : s .nodes * 12 ≤ length t
     rows-room = stands .node-room

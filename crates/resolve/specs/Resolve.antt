@@ -1,7 +1,7 @@
 -- The question Resolve (01, Questions): where a row's resource is. It is answered of the node rows alone: no definition up to `resolve` takes the file.
 -- Assumes nothing.
-use mathlib.Core.Bool.{Bool, true, false, not}
-use mathlib.Core.List.{List, [], _∷_}
+use mathlib.Core.Bool.{not}
+use mathlib.Core.List.{List, []}
 use Prim.Native.Nat.{ℕ, zero, suc, _+_}
 use lib.Dec.{ltb, eqb}
 use lib.ListN.{length, take, drop}
@@ -10,12 +10,8 @@ use Rattle.cursor.specs.declared.Node.{Node}
 use Rattle.cursor.specs.declared.Item.{Item}
 use Rattle.header.specs.Header.{Header}
 use Rattle.tree.specs.Rows.{nodeAt}
+unfoldable pub use Rattle.tree.specs.Rows.{if_then_else_, rowStarting}
 use Rattle.tree.specs.Asking.{Result, good, bad}
-
-infixr 2 if_then_else_
-unfoldable pub if_then_else_ : {A : Type 0} → Bool → A → A → A
-if true then a else b = a
-if false then a else b = b
 
 -- place and length of the resource, the row whose unpackers apply, the number of references followed
 pub record Resource : Type 0 where
@@ -27,11 +23,6 @@ pub record Resource : Type 0 where
 -- so many references are followed at most
 abbrev pub mostHops : ℕ
 mostHops = 4
-
--- the number of the first row that starts at p; how many rows there are if none does, which an accepted file's reference 3 excludes
-unfoldable pub rowStarting : List Node → ℕ → ℕ
-rowStarting [] p = 0
-rowStarting (r ∷ rs) p = if eqb (r .start) p then 0 else suc (rowStarting rs p)
 
 -- the resource that node r of row k names, after so many references
 unfoldable pub named : Node → (k hops : ℕ) → Result Resource

@@ -4,9 +4,9 @@ ghost use Prim.Native.Nat.{_≤_, _<_, _*_, _+_};
 ghost use lib.ListN.{length};
 ghost use Rattle.metadata.specs.Tables.{limits};
 ghost use Rattle.tree.specs.Reading.{readFile};
-ghost use Rattle.tree.specs.Rows.{nodesIn};
+ghost use Rattle.tree.specs.Rows.{nodesIn, Rising};
 ghost use Rattle.tree.specs.Asking.{ask, keptNodes, keptItems};
-ghost use Rattle.resolve.specs.Resolve.{rowStarting, chain, resolveRow, resolve, part};
+ghost use Rattle.resolve.specs.Resolve.{chain, resolveRow, resolve, part};
 ghost use Rattle.resolve.specs.Told.{told, Linked};
 use tree::Read;
 
@@ -16,24 +16,9 @@ pub enum Resolved {
     Refused(u64, usize),
 }
 
-// The first row that starts at the place; `count` if none does.
-fn row_starting(nodes: &[u64], count: usize, place: u64) -> usize
-    requires { ⌜ count * 12 ≤ length (now nodes) ⌝ }
-    ensures { λ r. ⌜ r ≡ rowStarting (nodesIn count (now (nodes .entry))) place ⌝ }
-{
-    let mut i = 0;
-    while i < count {
-        if nodes[i * cursor::NODE_WIDTH] == place {
-            return i;
-        }
-        i = i + 1;
-    }
-    i
-}
-
 // Follows references from row k on, where `hops` were followed and `left` more may be.
 fn follow(nodes: &[u64], count: usize, left: u64, k: usize, hops: u64) -> Resolved
-    requires { ⌜ (count * 12 ≤ length (now nodes)) × (k < count) × (hops + left ≤ 4) × Linked (nodesIn count (now nodes)) ⌝ }
+    requires { ⌜ (count * 12 ≤ length (now nodes)) × (k < count) × (hops + left ≤ 4) × Linked (nodesIn count (now nodes)) × Rising (nodesIn count (now nodes)) ⌝ }
     ensures { λ r. ⌜ told r ≡ chain left (nodesIn count (now (nodes .entry))) k hops ⌝ }
 {
     let at = k * cursor::NODE_WIDTH;
@@ -58,13 +43,13 @@ fn follow(nodes: &[u64], count: usize, left: u64, k: usize, hops: u64) -> Resolv
     if left == 0 {
         return Resolved::Refused(cursor::TOO_MANY_HOPS, 0);
     }
-    let next = row_starting(nodes, count, target);
+    let next = tree::row_starting(nodes, count, target);
     follow(nodes, count, left - 1, next, hops + 1)
 }
 
 // The answer for a row of an accepted file.
 fn resolve_row(nodes: &[u64], count: usize, row: usize) -> Resolved
-    requires { ⌜ (count * 12 ≤ length (now nodes)) × Linked (nodesIn count (now nodes)) ⌝ }
+    requires { ⌜ (count * 12 ≤ length (now nodes)) × Linked (nodesIn count (now nodes)) × Rising (nodesIn count (now nodes)) ⌝ }
     ensures { λ r. ⌜ told r ≡ resolveRow row (nodesIn count (now (nodes .entry))) ⌝ }
 {
     if count <= row {

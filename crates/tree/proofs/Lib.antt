@@ -1,5 +1,6 @@
 pub mod Zeros
 pub mod Ends
+pub mod Starts
 pub mod Nodes
 pub mod Targets
 pub mod Filled

@@ -1,4 +1,4 @@
--- Rows stand in file order: a node's row comes after its parent's, and item rows stand in node order, as many for each node as its row says.
+-- Rows stand in file order: a node's row comes after its parent's, its start after the starts before, and item rows stand in node order, as many for each node as its row says.
 -- Assumes nothing.
 use mathlib.Core.Path.{_≡_, refl, sym, ap, _∙_, subst}
 use mathlib.Core.Logic.{_⊎_, inl, inr}
@@ -10,15 +10,19 @@ use Rattle.cursor.specs.Machine.{Out, ok, refused, seen, passed, run, trace, ro
 use Rattle.cursor.specs.Rows.{nodeRow, itemRow, plain, P, Events}
 use Rattle.cursor.specs.declared.Node.{Node}
 use Rattle.cursor.specs.declared.Item.{Item}
+use Rattle.cursor.proofs.Wp.{at-end}
+use Rattle.cursor.proofs.Leaves.{any-free}
 use Rattle.cursor.proofs.Order.{Orders, Ordered, Made, in-order, after, weaken, ends, stops, at-place, either, checks, places, passes-node, passes-plain, counts}
 use Rattle.header.specs.Header.{Header, header}
+use Rattle.header.proofs.Ends.{header-on}
 use Rattle.metadata.specs.Metadata.{Context}
 use Rattle.metadata.specs.declared.Limits.{Limits}
 use Rattle.metadata.specs.declared.Made as made
 use Rattle.node.proofs.Order.{front-orders}
 use Rattle.tree.specs.Tree.{contents, folder, node, tree}
 use Rattle.tree.specs.Reading.{nodesOf, itemsOf, Reading, rows, refusal, reading, context, readTree, readFile}
-use Rattle.tree.specs.Rows.{nodeAt}
+use Rattle.tree.specs.Rows.{nodeAt, Rising}
+use Rattle.tree.proofs.Starts.{tree-rises}
 use Rattle.tree.proofs.Rows.{never, rows-of, reading-refused}
 
 -- ---- the tree makes its rows in order
@@ -89,28 +93,32 @@ parents-before k c (passed (plain x) p n ∷ es) k′ c′ o i l = parents-befor
 pub record InOrder (ns : List Node) (is : List Item) : Type 0 where
   pub items-follow : map (λ (r : Item). r .node) is ≡ spread 0 ns
   pub parents-first : (i : ℕ) → i < length ns → (i ≡ 0) ⊎ (nodeAt ns i .parent < i)
+  pub starts-rise : Rising ns
 
-ordered-rows : (es : Events) (k′ : ℕ) → Ordered 0 0 es k′ 0 → InOrder (nodesOf es) (itemsOf es)
-ordered-rows es k′ o = record {
+ordered-rows : (es : Events) (k′ : ℕ) → Ordered 0 0 es k′ 0 → Rising (nodesOf es) → InOrder (nodesOf es) (itemsOf es)
+ordered-rows es k′ o s = record {
   items-follow = in-node-order 0 0 es k′ o;
   parents-first = λ i l. let e : 0 + i ≡ i = omega arith in subst (λ v. (v ≡ 0) ⊎ (nodeAt (nodesOf es) i .parent < v)) e (parents-before 0 0 es k′ 0 o i l);
+  starts-rise = s;
 }
 
 module _ (f : List ℕ) {h : Header} {ns : List Node} {is : List Item} where
-  of-tree : (x : Context) (end at : ℕ) (g : Header) (o : Out made.Made) → run (tree x end) f at ≡ o → reading g f o (trace (tree x end) f at) ≡ rows h ns is → InOrder ns is
-  of-tree x end at g (ok m p) e r =
+  of-tree : (x : Context) (end at : ℕ) → end ≤ x .size → (g : Header) (o : Out made.Made) → run (tree x end) f at ≡ o → reading g f o (trace (tree x end) f at) ≡ rows h ns is → InOrder ns is
+  of-tree x end at l g (ok m p) e r =
       let w = in-order f at (tree-orders x end) e in
       let z = rows-of g f (ok m p) (trace (tree x end) f at) r in
       let o : Ordered 0 0 (trace (tree x end) f at) (w .nodes) 0 = subst (λ v. Ordered 0 0 (trace (tree x end) f at) (w .nodes) v) (w .ends .1) (w .ordered) in
-      rw (← z .0, ← z .1) (ordered-rows (trace (tree x end) f at) (w .nodes) o)
-  of-tree x end at g (refused n p) e r = never (reading-refused g f (trace (tree x end) f at) r)
+      rw (← z .0, ← z .1) (ordered-rows (trace (tree x end) f at) (w .nodes) o (tree-rises x end f at l e))
+  of-tree x end at l g (refused n p) e r = never (reading-refused g f (trace (tree x end) f at) r)
 
-  of-header : (lim : Limits) (o : Out Header) → readTree lim f o ≡ rows h ns is → InOrder ns is
+  of-header : (lim : Limits) (o : Out Header) → run (header (length f)) f 0 ≡ o → readTree lim f o ≡ rows h ns is → InOrder ns is
   unfolding readTree
-  of-header lim (ok g q) r = of-tree (context lim g (length f)) (g .extent .last + 1) (g .extent .start) g (run (tree (context lim g (length f)) (g .extent .last + 1)) f (g .extent .start)) refl r
-  of-header lim (refused n p) r = never r
+  of-header lim (ok g q) k r =
+      let w = at-end any-free f (header-on (length f)) k in
+      of-tree (context lim g (length f)) (g .extent .last + 1) (g .extent .start) (omega arith) g (run (tree (context lim g (length f)) (g .extent .last + 1)) f (g .extent .start)) refl r
+  of-header lim (refused n p) k r = never r
 
--- item rows stand in node order, and a child's row is after its parent's
+-- item rows stand in node order, a child's row is after its parent's, and starts increase
 pub in-row-order : (lim : Limits) (f : List ℕ) {h : Header} {ns : List Node} {is : List Item} → readFile lim f ≡ rows h ns is → InOrder ns is
 unfolding readFile
-in-row-order lim f r = of-header f lim (run (header (length f)) f 0) r
+in-row-order lim f r = of-header f lim (run (header (length f)) f 0) refl r

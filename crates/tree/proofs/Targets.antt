@@ -6,7 +6,8 @@ use mathlib.Core.List.{List, [], _∷_, _++_}
 use Prim.Native.Nat.{ℕ, zero, suc, _+_, _*_, _-_, _≤_, _<_}
 use native.Mathlib.Omega.{arith}
 use native.Mathlib.Numerals.{add-one}
-use lib.Dec.{eqb}
+use native.Mathlib.Decide.{decLt}
+use lib.Dec.{eqb, eqb·zero-suc, eqb·suc-suc}
 use lib.ListN.{length, getD, drop, drop-of-length-le}
 use borrow.Author.Tests.{eq-eqb, ne-eqb}
 use Rattle.cursor.specs.Machine.{Out, ok, refused, run}
@@ -15,7 +16,9 @@ use Rattle.cursor.specs.Leaves.{number}
 use Rattle.cursor.specs.declared.Node.{Node}
 use Rattle.metadata.specs.Tables.{nodeWords}
 use Rattle.tree.specs.Reading.{allNodes, Reading, refusal, startsAt, lost, cursor, offsetAt, checked, targets}
+use Rattle.tree.specs.Rows.{nodesIn, nodeAt, if_then_else_, rowStarting, Rising}
 use Rattle.tree.specs.Told.{InFile, Stands, judge}
+use Rattle.tree.proofs.Rows.{node-at, nodes-in-length, nodes-back}
 
 -- row i of the rows ns, and its words
 pub record RowAt (ns : List Node) (ws : List ℕ) (i size : ℕ) : Type 0 where
@@ -49,33 +52,84 @@ at-row (r ∷ ns) rest (suc i) size h l =
 pub row-at : {ns : List Node} {count size : ℕ} {ws : List ℕ} → Stands ns count size ws → (i : ℕ) → i < count → RowAt ns ws i size
 row-at {ns} {count} {size} {ws} s i l = let c = s .counted in rw (s .words) (at-row ns (s .rest) i size (s .inside) (omega arith))
 
+-- the rows are those that the words are read as, so these rise
+stands-back : {ns : List Node} {count size : ℕ} {ws : List ℕ} → Stands ns count size ws → nodesIn count ws ≡ ns
+stands-back {ns} s = ap₂ nodesIn (sym (s .counted)) (s .words) ∙ nodes-back ns (s .rest)
+
+pub stands-rise : {ns : List Node} {count size : ℕ} {ws : List ℕ} → Stands ns count size ws → Rising (nodesIn count ws)
+stands-rise s = rw (stands-back s) (s .rising)
+
 first : {r r′ : Node} {rs rs′ : List Node} → r ∷ rs ≡ r′ ∷ rs′ → r ≡ r′
 first e = cc
 
 -- ---- the search for a start
 
--- what is left of the search from row i
-abbrev pub Searching : ℕ → ℕ → List ℕ → ℕ → Type 0
-Searching count place ws i = (ns : List Node) (size : ℕ) → Stands ns count size ws → startsAt ns place ≡ startsAt (drop i ns) place
+-- the number of a row that starts at p, where none before it does; or how many rows there are, where none does
+starting-is : (ns : List Node) (p k : ℕ) → k ≤ length ns → (k < length ns → nodeAt ns k .start ≡ p) → ((i : ℕ) → i < k → nodeAt ns i .start ≡ p → ⊥) → k ≡ rowStarting ns p
+unfolding rowStarting if_then_else_
+starting-is [] p k l e n = omega arith
+starting-is (r ∷ rs) p zero l e n = let q : r .start ≡ p = e (omega arith) in simp (eq-eqb _ _ q)
+starting-is (r ∷ rs) p (suc k) l e n =
+    let q : r .start ≡ p → ⊥ = n 0 (omega arith) in
+    simp (ne-eqb _ _ q) (ap suc (starting-is rs p k (omega arith) (λ j. e (omega arith)) (λ i j. n (suc i) (omega arith))))
 
-module _ (count place : ℕ) (ws : List ℕ) (i : ℕ) (h : Searching count place ws i) where
-  pub start-found : i < count → getD ws (i * 12) 0 ≡ place → (ns : List Node) (size : ℕ) → Stands ns count size ws → true ≡ startsAt ns place
-  unfolding startsAt
-  start-found l e ns size s =
-      let x = row-at s i l in
-      let q : x .row .start ≡ place = sym (x .start) ∙ e in
-      sym (h ns size s ∙ ap (λ v. startsAt v place) (x .here) ∙ simp (eq-eqb _ _ q))
+-- rows before `low` start before the place, rows from `high` on start after it
+pub record Between (ws : List ℕ) (count place low high : ℕ) : Type 0 where
+  pub before : (i : ℕ) → i < low → getD ws (i * 12) 0 < place
+  pub after : (i : ℕ) → high ≤ i → i < count → place < getD ws (i * 12) 0
 
-  pub start-on : i < count → ((getD ws (i * 12) 0 ≡ place) → ⊥) → Searching count place ws (i + 1)
-  unfolding startsAt
-  start-on l n ns size s =
-      let x = row-at s i l in
-      let q : (x .row .start ≡ place) → ⊥ = λ e. n (x .start ∙ e) in
-      h ns size s ∙ ap (λ v. startsAt v place) (x .here) ∙ simp (ne-eqb _ _ q)
+pub search-begins : (ws : List ℕ) (count place : ℕ) → Between ws count place 0 count
+search-begins ws count place = record { before = λ i l. absurd (omega arith); after = λ i l m. absurd (omega arith) }
 
-  pub start-none : count ≤ i → (ns : List Node) (size : ℕ) → Stands ns count size ws → false ≡ startsAt ns place
-  unfolding startsAt
-  start-none l ns size s = let c = s .counted in sym (h ns size s ∙ ap (λ v. startsAt v place) (drop-of-length-le ns {i = i} (omega arith)))
+module _ (ws : List ℕ) (count place : ℕ) (h : Rising (nodesIn count ws)) where
+  start-at : (i : ℕ) → i < count → nodeAt (nodesIn count ws) i .start ≡ getD ws (i * 12) 0
+  start-at i l = ap (λ (r : Node). r .start) (node-at ws count i l)
+
+  later-start : (i j : ℕ) → i < j → j < count → getD ws (i * 12) 0 < getD ws (j * 12) 0
+  later-start i j l m = let c = nodes-in-length ws count in let g = h i j l (omega arith) in omega (arith, start-at i (omega arith), start-at j m)
+
+  module _ {low high : ℕ} (b : Between ws count place low high) (k : ℕ) (l : k < count) where
+    pub search-later : getD ws (k * 12) 0 < place → Between ws count place (k + 1) high
+    search-later g = record {
+      before = λ i m. elim (decLt i k) [
+        | yes n ↦ omega (arith, later-start i k n l)
+        | no n ↦ let e : i ≡ k = omega arith in rw e g
+      ];
+      after = b .after;
+    }
+
+    pub search-sooner : place < getD ws (k * 12) 0 → Between ws count place low k
+    search-sooner g = record {
+      before = b .before;
+      after = λ i m n. elim (decLt k i) [
+        | yes o ↦ omega (arith, later-start k i o n)
+        | no o ↦ let e : i ≡ k = omega arith in rw e g
+      ];
+    }
+
+  pub search-found : (k : ℕ) → k < count → getD ws (k * 12) 0 ≡ place → k ≡ rowStarting (nodesIn count ws) place
+  search-found k l e =
+      let c = nodes-in-length ws count in
+      starting-is (nodesIn count ws) place k (omega arith) (λ m. start-at k l ∙ e) (λ i m q. omega (arith, start-at i (omega arith), later-start i k m l))
+
+  pub search-ends : {low high : ℕ} → Between ws count place low high → high ≤ low → count ≡ rowStarting (nodesIn count ws) place
+  search-ends {low} {high} b l =
+      let c = nodes-in-length ws count in
+      starting-is (nodesIn count ws) place count (omega arith) (λ m. absurd (omega arith)) (λ i m q. elim (decLt i low) [
+        | yes n ↦ omega (arith, start-at i m, b .before i n)
+        | no n ↦ omega (arith, start-at i m, b .after i (omega arith) m)
+      ])
+
+-- no row has that number just where no row starts at p
+none-by : (b c : Bool) (k n : ℕ) → eqb k n ≡ not c → eqb (if b then 0 else suc k) (suc n) ≡ not (b || c)
+unfolding if_then_else_
+none-by true c k n e = eqb·zero-suc n
+none-by false c k n e = eqb·suc-suc k n ∙ e
+
+none-starts : (ns : List Node) (p : ℕ) → eqb (rowStarting ns p) (length ns) ≡ not (startsAt ns p)
+unfolding startsAt rowStarting
+none-starts [] p = refl
+none-starts (r ∷ rs) p = none-by (eqb (r .start) p) (startsAt rs p) (rowStarting rs p) (length rs) (none-starts rs p)
 
 -- ---- a lost row
 
@@ -87,12 +141,12 @@ module _ {ns : List Node} {count size : ℕ} {ws : List ℕ} (s : Stands ns coun
   unfolding lost
   lost-other k = let q : (n .reference ≡ 3) → ⊥ = λ z. k (row-at s i l .reference ∙ ap (λ (x : Node). x .reference) row-is ∙ z) in simp (ne-eqb _ _ q)
 
-  pub lost-by : getD ws (i * 12 + 6) 0 ≡ 3 → {b : Bool} → b ≡ startsAt ns (getD ws (i * 12 + 7) 0) → not b ≡ lost ns n
+  pub lost-by : getD ws (i * 12 + 6) 0 ≡ 3 → {k : ℕ} → k ≡ rowStarting (nodesIn count ws) (getD ws (i * 12 + 7) 0) → eqb k count ≡ lost ns n
   unfolding lost
-  lost-by z {b} f =
+  lost-by z {k} f =
       let q : n .reference ≡ 3 = sym (row-at s i l .reference ∙ ap (λ (x : Node). x .reference) row-is) ∙ z in
       let t : getD ws (i * 12 + 7) 0 ≡ n .target = row-at s i l .target ∙ ap (λ (x : Node). x .target) row-is in
-      simp (eq-eqb _ _ q, f, t)
+      ap₂ eqb (f ∙ ap₂ rowStarting (stands-back s) t) (sym (s .counted)) ∙ none-starts ns (n .target) ∙ simp (eq-eqb _ _ q)
 
   pub offset-is : (f : List ℕ) (o : Out ℕ) {at : ℕ} → at ≡ getD ws (i * 12) 0 + getD ws (i * 12 + 2) 0 → o ≡ run (number referenceFrame 3 (length f)) f at → cursor o ≡ offsetAt f n
   unfolding offsetAt

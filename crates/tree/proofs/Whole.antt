@@ -41,6 +41,7 @@ use Rattle.tree.specs.declared.Answer.the-variants as answer
 use Rattle.tree.specs.declared.Read.{Read}
 use Rattle.tree.specs.declared.Read.the-variants as read
 use Rattle.tree.proofs.Ends.{tree-inside}
+use Rattle.tree.proofs.Starts.{tree-rises}
 use Rattle.tree.proofs.Filled.{filled, exec-fills, sets-front, padded-behind, nodes-length, items-length}
 
 -- ---- what is known of the header's answer
@@ -137,6 +138,7 @@ module _ (file t u : List ℕ) where
               words = tn;
               counted = sym cn;
               inside = in-file es (h .extent .last + 1) (length file) (omega arith) (tree-inside x file (h .extent .start) (h .extent .last + 1) (omega arith));
+              rising = tree-rises x (h .extent .last + 1) file (h .extent .start) (omega arith) e;
             };
           }
 

@@ -1,8 +1,10 @@
--- Rows read back off the words of a table.
+-- Rows read back off the words of a table, by their number and by where they start.
 -- Assumes nothing.
+use mathlib.Core.Bool.{Bool, true, false}
 use mathlib.Core.List.{List, [], _∷_}
-use Prim.Native.Nat.{ℕ, zero, suc, _+_, _*_}
-use lib.ListN.{getD}
+use Prim.Native.Nat.{ℕ, zero, suc, _+_, _*_, _<_}
+use lib.Dec.{eqb}
+use lib.ListN.{length, getD}
 use Rattle.cursor.specs.declared.Node.{Node}
 use Rattle.cursor.specs.declared.Item.{Item}
 use Rattle.metadata.specs.Tables.{nodeWidth, itemWidth}
@@ -68,3 +70,19 @@ nodeAt ns i = getD ns i noNode
 
 abbrev pub itemAt : List Item → ℕ → Item
 itemAt is i = getD is i noItem
+
+-- ---- where rows start
+
+infixr 2 if_then_else_
+unfoldable pub if_then_else_ : {A : Type 0} → Bool → A → A → A
+if true then a else b = a
+if false then a else b = b
+
+-- the number of the first row that starts at p; how many rows there are if none does, which an accepted file's reference 3 excludes
+unfoldable pub rowStarting : List Node → ℕ → ℕ
+rowStarting [] p = 0
+rowStarting (r ∷ rs) p = if eqb (r .start) p then 0 else suc (rowStarting rs p)
+
+-- each row starts before those after it
+abbrev pub Rising : List Node → Type 0
+Rising ns = (i j : ℕ) → i < j → j < length ns → nodeAt ns i .start < nodeAt ns j .start

@@ -6,6 +6,7 @@ use Prim.Native.Nat.{ℕ, _+_, _≤_}
 use lib.ListN.{length}
 use Rattle.cursor.specs.declared.Node.{Node}
 use Rattle.tree.specs.Reading.{allNodes, Reading, refusal}
+use Rattle.tree.specs.Rows.{Rising}
 use Rattle.tree.specs.declared.Checked.{Checked}
 use Rattle.tree.specs.declared.Checked.the-variants as checks
 
@@ -20,6 +21,7 @@ pub record Stands (ns : List Node) (count size : ℕ) (ws : List ℕ) : Type 0 w
   pub words : ws ≡ allNodes ns ++ rest
   pub counted : length ns ≡ count
   pub inside : InFile size ns
+  pub rising : Rising ns
 
 -- what the check of the targets says, where o is what is answered if all is well
 abbrev pub judge : Checked → Reading → Reading

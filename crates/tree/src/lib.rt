@@ -10,7 +10,8 @@ ghost use Rattle.header.specs.Told.{headerOf};
 ghost use Rattle.metadata.specs.Tables.{nodeWidth, nodeWords, limits, put, state};
 ghost use Rattle.metadata.specs.Told.{contextOf, Gives};
 ghost use Rattle.tree.specs.Tree.{contents, node, tree};
-ghost use Rattle.tree.specs.Reading.{context, startsAt, lost, offsetAt, targets, Reading, readFile, readOf, answerOf, nodeTable, itemTable};
+ghost use Rattle.tree.specs.Reading.{context, lost, offsetAt, targets, Reading, readFile, readOf, answerOf, nodeTable, itemTable};
+ghost use Rattle.tree.specs.Rows.{nodesIn, rowStarting, Rising};
 ghost use Rattle.tree.specs.Told.{Stands, judge};
 use cursor::Cursor;
 use cursor::FilePlace;
@@ -291,24 +292,31 @@ fn read_root(
     )
 }
 
-// Whether a node of the table starts at the place.
-fn starts_at(nodes: &[u64], count: usize, place: u64) -> bool
-    requires { ⌜ count * 12 ≤ length (now nodes) ⌝ }
-    ensures { λ r. ⌜ ((ns : List Node) (size : ℕ) → Stands ns count size (now (nodes .entry)) → r ≡ startsAt ns place) ⌝ }
+// The row that starts at the place; `count` if none does.
+pub fn row_starting(nodes: &[u64], count: usize, place: u64) -> usize
+    requires { ⌜ (count * 12 ≤ length (now nodes)) × Rising (nodesIn count (now nodes)) ⌝ }
+    ensures { λ r. ⌜ r ≡ rowStarting (nodesIn count (now (nodes .entry))) place ⌝ }
 {
-    let mut i = 0;
-    while i < count {
-        if nodes[i * cursor::NODE_WIDTH] == place {
-            return true;
+    let mut low: usize = 0;
+    let mut high = count;
+    while low < high {
+        let middle = low + (high - low) / 2;
+        let start = nodes[middle * cursor::NODE_WIDTH];
+        if start == place {
+            return middle;
         }
-        i = i + 1;
+        if start < place {
+            low = middle + 1;
+        } else {
+            high = middle;
+        }
     }
-    false
+    count
 }
 
 // Whether row i refers to no node.
 fn is_lost(nodes: &[u64], count: usize, i: usize) -> bool
-    requires { ⌜ (count * 12 ≤ length (now nodes)) × (i < count) ⌝ }
+    requires { ⌜ (count * 12 ≤ length (now nodes)) × (i < count) × Rising (nodesIn count (now nodes)) ⌝ }
     ensures { λ r. ⌜ ((ns : List Node) (size : ℕ) → Stands ns count size (now (nodes .entry)) → (n : Node) (rest : List Node) → drop i ns ≡ n ∷ rest → r ≡ lost ns n) ⌝ }
 {
     let k = i * cursor::NODE_WIDTH;
@@ -316,10 +324,7 @@ fn is_lost(nodes: &[u64], count: usize, i: usize) -> bool
         return false;
     }
     let to = nodes[k + 7];
-    if starts_at(nodes, count, to) {
-        return false;
-    }
-    true
+    row_starting(nodes, count, to) == count
 }
 
 // The place of row i's offset, found again from its header.

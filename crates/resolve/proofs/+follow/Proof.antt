@@ -8,7 +8,7 @@ use borrow.Fn.PlainCycle.{Measures, is, falls, and}
 use Rattle.resolve.proofs.follow.Reads as follow
 use Rattle.resolve.proofs.follow.Kinds as follow-kinds
 use Rattle.resolve.proofs.+follow.Lts-follow as follow-lts
-use Rattle.resolve.proofs.row_starting.Reads as row-starting-reads
+use Rattle.tree.proofs.row_starting.Reads as row-starting-reads
 use Rattle.resolve.proofs.+follow.{statement}
 use Rattle.resolve.proofs.+follow.Tie.{close}
 
@@ -86,7 +86,7 @@ follow-returns-6 : (t : ℕ) → follow-lts.Need-returns-6 (follow-calls t) (fol
 follow-returns-6 t c = three-many _ _ _ _ _ (omega (arith, c .before .before .before .before .before .before .before .before .before .before .pre)) (c .before .before .before .before .before .before .before .if1 .left) (c .before .if5 .left) (c .if6 .taken)
 
 follow-row-starting-requires : (t : ℕ) → follow-lts.Need-row-starting-requires (follow-calls t) (follow-at t) follow.Post
-follow-row-starting-requires t c κs = omega (arith, c .before .before .before .before .before .before .before .before .before .before .pre)
+follow-row-starting-requires t c κs = (omega (arith, c .before .before .before .before .before .before .before .before .before .before .pre), c .before .before .before .before .before .before .before .before .before .before .pre .1 .4)
 
 follow-sub-follow : (t : ℕ) → follow-lts.Need-sub-follow (follow-calls t) (follow-at t) follow.Post
 follow-sub-follow t c = omega (arith, c .before .before .before .before .before .before .before .before .before .before .before .pre)
@@ -95,7 +95,7 @@ follow-add-follow : (t : ℕ) → follow-lts.Need-add-follow (follow-calls t) (f
 follow-add-follow t c = omega (arith, c .before .before .before .before .before .before .before .before .before .before .before .pre)
 
 follow-follow-requires : (t : ℕ) → follow-lts.Need-follow-requires (follow-calls t) (follow-at t) follow.Post
-follow-follow-requires t c κs = (omega (arith, c .before .before .before .before .before .before .before .before .before .before .before .pre), (omega (arith, c .before .before .before .before .before .before .before .before .before .before .before .pre), next-there _ _ _ (omega (arith, c .before .before .before .before .before .before .before .before .before .before .before .pre)) (c .before .before .before .before .before .before .before .before .before .before .before .pre .1 .3) (c .before .before .if5 .left) (c .row-starting .ensures), omega (arith, c .before .before .before .before .before .before .before .before .before .before .before .pre), c .before .before .before .before .before .before .before .before .before .before .before .pre .1 .3))
+follow-follow-requires t c κs = (omega (arith, c .before .before .before .before .before .before .before .before .before .before .before .pre), (omega (arith, c .before .before .before .before .before .before .before .before .before .before .before .pre), next-there _ _ _ (omega (arith, c .before .before .before .before .before .before .before .before .before .before .before .pre)) (c .before .before .before .before .before .before .before .before .before .before .before .pre .1 .3) (c .before .before .if5 .left) (c .row-starting .ensures), omega (arith, c .before .before .before .before .before .before .before .before .before .before .before .pre), c .before .before .before .before .before .before .before .before .before .before .before .pre .1 .3, c .before .before .before .before .before .before .before .before .before .before .before .pre .1 .4))
 
 follow-returns-7 : (t : ℕ) → follow-lts.Need-returns-7 (follow-calls t) (follow-at t) follow.Post
 follow-returns-7 t c = three-on _ _ _ _ _ (omega (arith, c .before .before .before .before .before .before .before .before .before .before .before .before .pre)) (c .before .before .before .before .before .before .before .before .before .if1 .left) (c .before .before .if6 .left) (c .before .before .before .if5 .left) (c .before .row-starting .ensures) (c .follow .ensures)

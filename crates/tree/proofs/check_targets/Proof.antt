@@ -2,7 +2,7 @@
 -- Assumes nothing.
 use Prim.Native.Nat.{_-_, _≤_}
 use mathlib.Core.Path.{refl}
-use Rattle.tree.proofs.Targets.{Checking, target-lost, target-on, targets-good}
+use Rattle.tree.proofs.Targets.{stands-rise, Checking, target-lost, target-on, targets-good}
 use native.Mathlib.Omega.{arith}
 use borrow.Author.Needs.{needs}
 use Rattle.tree.proofs.check_targets.Statement.{statement}
@@ -24,7 +24,7 @@ loop-holds c = (omega arith, λ ns s o. refl)
 
 -- src/lib.rt:276:12
 is-lost-requires : tie.Need-is-lost-requires Inv-loop μ-loop
-is-lost-requires c κs = omega (arith, c .before .before .before .before .pre)
+is-lost-requires c κs = (omega (arith, c .before .before .before .before .pre), omega (arith, c .before .before .before .before .pre), stands-rise (c .before .before .before .before .pre .0 .1))
 
 -- src/lib.rt:277:57
 offset-at-requires : tie.Need-offset-at-requires Inv-loop μ-loop
