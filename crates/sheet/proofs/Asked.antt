@@ -1,10 +1,10 @@
 -- The ways through the question: what each exit of the code comes to, answer, tables and sheet.
 -- Assumes nothing.
 use mathlib.Core.Path.{_≡_, sym, ap, ap₂, _∙_, subst}
-use mathlib.Core.List.{List}
-use Prim.Native.Nat.{ℕ, _*_, _≤_, _<_}
+use mathlib.Core.List.{List, _++_}
+use Prim.Native.Nat.{ℕ, _*_, _-_, _≤_, _<_}
 use native.Mathlib.Omega.{arith}
-use lib.ListN.{length, replicate}
+use lib.ListN.{length, replicate, take}
 use borrow.Author.Tests.{le-leb, lt-leb}
 use Rattle.cursor.specs.declared.FilePlace.{FilePlace}
 use Rattle.cursor.specs.declared.Node.{Node}
@@ -43,27 +43,30 @@ fitting-bad : (room : ℕ) (w : List ℕ) → room < length w → fitting room w
 unfolding fitting
 fitting-bad room w l = simp (lt-leb (length w) room l)
 
-module _ (file : List ℕ) (nsize isize room : ℕ) where
+module _ (file : List ℕ) (nsize isize : ℕ) (lent : List ℕ) where
+  abbrev room : ℕ
+  room = length lent
+
   -- what the call says of its answer, and of the tables and the buffer that it leaves
   abbrev pub Says : Reading → Written → List ℕ → List ℕ → List ℕ → Type 0
   Says o a t u sheet =
       (told a ≡ counted (ask o (write room file))) × (t ≡ keptNodes nsize o (ask o (write room file))) × (u ≡ keptItems isize o (ask o (write room file))) × (sheet ≡ keptSheet room (ask o (write room file)))
 
-  module _ (o : Reading) {t u : List ℕ} (tn : t ≡ nodeTable nsize o) (tu : u ≡ itemTable isize o) {sheet : List ℕ} (z : sheet ≡ replicate room 0) where
-    pub asked-refused : {r : Read} → r ≡ readOf o → {n : ℕ} {p : FilePlace} → r ≡ read.Refused n p → Says o (written.Refused n (p .0)) t u sheet
+  module _ (o : Reading) {t u : List ℕ} (tn : t ≡ nodeTable nsize o) (tu : u ≡ itemTable isize o) where
+    pub asked-refused : {r : Read} → r ≡ readOf o → {n : ℕ} {p : FilePlace} → r ≡ read.Refused n p → {sheet : List ℕ} → sheet ≡ replicate room 0 → Says o (written.Refused n (p .0)) t u sheet
     unfolding counted keptSheet
-    asked-refused e k =
+    asked-refused e k z =
         let q = ask-refused o e k (write room file) in
         (sym (ap counted q), refused-nodes o (write room file) e k nsize tn, refused-items o (write room file) e k isize tu, z ∙ sym (ap (keptSheet room) q))
 
-    module _ {s : Summary} (st : Standing file o s t u) {sheet′ : List ℕ} {r : ℕ} (p : Puts sheet sheet′ 0 (linesOf (s .version) file (nodesIn (s .nodes) t) (itemsIn (s .items) u)) r) where
-      puts : Puts sheet sheet′ 0 (sheetOf file (st .h) (st .ns) (st .is)) r
+    module _ {s : Summary} (st : Standing file o s t u) {sheet′ : List ℕ} {r : ℕ} (p : Puts lent sheet′ 0 (linesOf (s .version) file (nodesIn (s .nodes) t) (itemsIn (s .items) u)) r) where
+      puts : Puts lent sheet′ 0 (sheetOf file (st .h) (st .ns) (st .is)) r
       puts = puts-as (sheet-is st) p
 
-      pub asked-good : r ≤ room → Says o (written.Bytes r) t u sheet′
+      pub asked-good : r ≤ room → {sheet″ : List ℕ} → sheet″ ≡ take r sheet′ ++ replicate (length sheet′ - r) 0 → Says o (written.Bytes r) t u sheet″
       unfolding counted keptSheet write
-      asked-good e =
-          let w = wrote-all room z puts e in
+      asked-good e c =
+          let w = wrote-all puts e c in
           let g : write room file (st .h) (st .ns) (st .is) ≡ good (sheetOf file (st .h) (st .ns) (st .is)) = fitting-good room _ (w .0) in
           let q : ask o (write room file) ≡ good (sheetOf file (st .h) (st .ns) (st .is)) = ask-is (st .reads) (write room file) ∙ g in
           (ap good (w .1) ∙ sym (ap counted q), good-nodes (st .reads) (write room file) nsize g tn, good-items (st .reads) (write room file) isize g tu, w .2 ∙ sym (ap (keptSheet room) q))
@@ -71,7 +74,7 @@ module _ (file : List ℕ) (nsize isize room : ℕ) where
       pub asked-full : room < r → {t′ u′ sheet″ : List ℕ} → t′ ≡ replicate nsize 0 → u′ ≡ replicate isize 0 → sheet″ ≡ replicate room 0 → Says o (written.Refused 22 0) t′ u′ sheet″
       unfolding counted keptSheet write
       asked-full e zt zu zs =
-          let g : write room file (st .h) (st .ns) (st .is) ≡ bad 22 0 = fitting-bad room _ (wrote-past room z puts e) in
+          let g : write room file (st .h) (st .ns) (st .is) ≡ bad 22 0 = fitting-bad room _ (wrote-past puts e) in
           let q : ask o (write room file) ≡ bad 22 0 = ask-is (st .reads) (write room file) ∙ g in
           (sym (ap counted q), bad-nodes (st .reads) (write room file) nsize g zt, bad-items (st .reads) (write room file) isize g zu, zs ∙ sym (ap (keptSheet room) q))
 

@@ -5,11 +5,11 @@ use mathlib.Core.List.{List, [], _∷_, _++_, append-assoc, append-nil}
 use Prim.Native.Nat.{ℕ, _+_, _-_, _≤_, _<_}
 use native.Mathlib.Decide.{decLt}
 use native.Mathlib.Omega.{arith}
-use lib.ListN.{length, length-append, length-replicate, replicate, set, length-set}
+use lib.ListN.{length, length-append, replicate, take, drop, set, length-set}
 use lib.Seq.{sets, length-sets}
 use Rattle.metadata.proofs.Sets.{sets-append}
 use Rattle.tree.specs.Reading.{padded}
-use Rattle.tree.proofs.Filled.{sets-zeros}
+use Rattle.tree.proofs.Filled.{sets-front, padded-behind}
 use Rattle.sheet.specs.Puts.{Puts}
 
 -- ---- no byte, one byte
@@ -73,26 +73,21 @@ going-end e g = puts-as (sym (append-nil (g .done)) ∙ ap (λ v. g .done ++ v) 
 pub going-length : {o o′ : List ℕ} {s r : ℕ} {whole rest : List ℕ} → Going o o′ s r whole rest → length o′ ≡ length o
 going-length g = puts-length (g .puts)
 
--- ---- a buffer of zeros, written from its first byte on
+-- ---- a buffer that is written from its first byte on, and cleared behind the last one
 
-module _ (room : ℕ) {o o′ : List ℕ} (z : o ≡ replicate room 0) {w : List ℕ} {r : ℕ} (p : Puts o o′ 0 w r) where
-  all-there : length o ≡ room
-  all-there = ap length z ∙ length-replicate room 0
-
-  pub wrote-all : r ≤ room → (length w ≤ room) × (r ≡ length w) × (o′ ≡ padded room w)
-  wrote-all l =
-      let n = all-there in
+module _ {o o′ w : List ℕ} {r : ℕ} (p : Puts o o′ 0 w r) where
+  pub wrote-all : r ≤ length o → {o″ : List ℕ} → o″ ≡ take r o′ ++ replicate (length o′ - r) 0 → (length w ≤ length o) × (r ≡ length w) × (o″ ≡ padded (length o) w)
+  wrote-all l c =
       elim (decLt (length o) (length w)) [
         | yes h ↦ let k = p .over (omega arith) in absurd (omega arith)
         | no h ↦ let x = p .fits (omega arith) in
-            let q : length w ≤ room = omega arith in
-            (q, omega (arith, x .0), x .1 ∙ ap (λ (v : List ℕ). sets v 0 w) z ∙ sets-zeros room w q)
+            let e : r ≡ length w = omega (arith, x .0) in
+            let q : length w ≤ length o = omega arith in
+            (q, e, c ∙ padded-behind w (drop (length w) o) (x .1 ∙ sets-front o w q) e ∙ ap (λ (n : ℕ). padded n w) (p .long))
       ]
 
-  pub wrote-past : room < r → room < length w
-  wrote-past l =
-      let n = all-there in
-      elim (decLt (length o) (length w)) [
-        | yes h ↦ omega arith
-        | no h ↦ let x = p .fits (omega arith) in absurd (omega (arith, x .0))
-      ]
+  pub wrote-past : length o < r → length o < length w
+  wrote-past l = elim (decLt (length o) (length w)) [
+    | yes h ↦ omega arith
+    | no h ↦ let x = p .fits (omega arith) in absurd (omega (arith, x .0))
+  ]

@@ -1,8 +1,8 @@
 // Writes the support sheet of a file: its nodes and its visible metadata, as lines of text.
 ghost use mathlib.Core.Path.{_≡_};
-ghost use mathlib.Core.List.{_∷_, []};
+ghost use mathlib.Core.List.{_∷_, [], _++_};
 ghost use Prim.Native.Nat.{ℕ, _≤_, _<_, _*_, _+_, _-_};
-ghost use lib.ListN.{length, replicate};
+ghost use lib.ListN.{length, replicate, take};
 ghost use lib.Seq.{sets};
 ghost use Rattle.metadata.specs.Tables.{limits};
 ghost use Rattle.tree.specs.Reading.{readFile};
@@ -27,6 +27,15 @@ fn clear_bytes(bytes: &mut [u8])
     while i < bytes.len() {
         bytes[i] = 0;
         i = i + 1;
+    }
+}
+
+// Sets every byte from `from` on to 0.
+fn clear_from(bytes: &mut [u8], from: usize)
+    ensures { λ _. ⌜ now (bytes .exit) ≡ take from (now (bytes .entry)) ++ replicate (length (now (bytes .entry)) - from) 0 ⌝ }
+{
+    if from < bytes.len() {
+        clear_bytes(&mut bytes[from..]);
     }
 }
 
@@ -305,9 +314,11 @@ pub fn write_sheet(file: &[u8], nodes: &mut [u64], items: &mut [u64], sheet: &mu
     ensures items { λ _. ⌜ now (items .exit) ≡ keptItems (length (now (items .entry))) (readFile (limits (length (now (nodes .entry))) (length (now (items .entry)))) (now (file .entry))) (ask (readFile (limits (length (now (nodes .entry))) (length (now (items .entry)))) (now (file .entry))) (write (length (now (sheet .entry))) (now (file .entry)))) ⌝ }
     ensures sheet { λ _. ⌜ now (sheet .exit) ≡ keptSheet (length (now (sheet .entry))) (ask (readFile (limits (length (now (nodes .entry))) (length (now (items .entry)))) (now (file .entry))) (write (length (now (sheet .entry))) (now (file .entry)))) ⌝ }
 {
-    clear_bytes(sheet);
     match tree::read_file(file, nodes, items) {
-        Read::Refused(n, p) => Written::Refused(n, p.0),
+        Read::Refused(n, p) => {
+            clear_bytes(sheet);
+            Written::Refused(n, p.0)
+        }
         Read::Is(s) => {
             let end = put_sheet(sheet, file, nodes, items, s.version, s.nodes, s.items);
             if sheet.len() < end {
@@ -315,6 +326,7 @@ pub fn write_sheet(file: &[u8], nodes: &mut [u64], items: &mut [u64], sheet: &mu
                 clear_bytes(sheet);
                 return Written::Refused(cursor::NO_ROOM, 0);
             }
+            clear_from(sheet, end);
             Written::Bytes(end)
         }
     }
