@@ -1,14 +1,16 @@
 -- The laws of the leaves: each moves on, stays inside its part, and is small. Callers use these, never the text of a definition.
 -- Assumes nothing.
-use mathlib.Core.Path.{_≡_, refl}
+use mathlib.Core.Path.{_≡_, refl, ap, _∙_}
+use mathlib.Core.Bool.{Bool, true, false}
 use mathlib.Core.List.{List}
 use Prim.Native.Nat.{ℕ, zero, suc, _+_, _*_, _%_, _-_, _^_, _≤_, _<_}
 use native.Mathlib.Nat.{lt-of-not-le}
 use native.Mathlib.Decide.{decLe}
 use native.Mathlib.Omega.{arith}
+use lib.Dec.{ltb}
 use lib.ListN.{getD}
 use borrow.Author.Tests.{ltb-true, ltb-false, leb-true, le-leb, lt-leb, eq-eqb, ne-eqb, lt-ltb, le-ltb}
-use Rattle.cursor.specs.Machine.{Out, ok, refused, run}
+use Rattle.cursor.specs.Machine.{ret, refuse, byte, _>>=_, _>>_, if_then_else_, place, check, Out, ok, refused, run}
 use Rattle.cursor.specs.Rows.{Frame, Part, P}
 use Rattle.cursor.specs.Leaves.{next, digits, number, block, manufacturer, guidBytes, guid}
 use Rattle.cursor.proofs.Laws.{running}
@@ -134,3 +136,33 @@ module _ (κ : Frame) (end : ℕ) (f : List ℕ) (at : ℕ) where
           let l₂ : at + 1 + 1 < end = omega arith in
           let e : at + 1 + 1 + 1 ≡ at + 3 = omega arith in
           simp (running, lt-ltb _ _ l, eq-eqb _ _ z′, lt-ltb _ _ l₁, lt-ltb _ _ l₂, e)
+
+-- ---- a number, given or refused, depends on the bytes of its part alone
+
+module _ (f g : List ℕ) where
+  after-byte : (c t : Bool) (x n p at : ℕ) (m : P ℕ) → run m f at ≡ run m g at → run (if c then ret x else (check t n p >> m)) f at ≡ run (if c then ret x else (check t n p >> m)) g at
+  unfolding run _>>=_ _>>_ if_then_else_ check
+  after-byte true t x n p at m h = refl
+  after-byte false true x n p at m h = h
+  after-byte false false x n p at m h = refl
+
+  a-byte : (c : Bool) (κ : Frame) (past p at : ℕ) (m : ℕ → P ℕ) → (c ≡ true → run (m (getD f at 0)) f (at + 1) ≡ run (m (getD g at 0)) g (at + 1))
+      → run ((if c then byte κ ret else refuse past p) >>= m) f at ≡ run ((if c then byte κ ret else refuse past p) >>= m) g at
+  unfolding run _>>=_ if_then_else_
+  a-byte true κ past p at m h = h refl
+  a-byte false κ past p at m h = refl
+
+  digits-same : (κ : Frame) (past end p left v at : ℕ) → ((k : ℕ) → at ≤ k → k < end → getD f k 0 ≡ getD g k 0) → run (digits κ past end p left v) f at ≡ run (digits κ past end p left v) g at
+  unfolding run _>>=_ next digits
+  digits-same κ past end p zero v at h = refl
+  digits-same κ past end p (suc left) v at h =
+      let rest : ℕ → P ℕ = λ b. if ltb b 0x80 then ret (v * 128 + b) else (check (ltb 0 (v * 128 + b % 0x80)) 4 p >> digits κ past end p left (v * 128 + b % 0x80)) in
+      a-byte (ltb at end) κ past p at rest λ t.
+      let l : at < end = ltb-true at end t in
+      let b = getD g at 0 in
+      ap (λ x. run (rest x) f (at + 1)) (h at (omega arith) l)
+      ∙ after-byte (ltb b 0x80) (ltb 0 (v * 128 + b % 0x80)) (v * 128 + b) 4 p (at + 1) (digits κ past end p left (v * 128 + b % 0x80)) (digits-same κ past end p left (v * 128 + b % 0x80) (at + 1) (λ k lo hi. h k (omega arith) hi))
+
+  pub number-same : (κ : Frame) (past end at : ℕ) → ((k : ℕ) → at ≤ k → k < end → getD f k 0 ≡ getD g k 0) → run (number κ past end) f at ≡ run (number κ past end) g at
+  unfolding run _>>=_ number place
+  number-same κ past end at h = digits-same κ past end at 4 0 at h

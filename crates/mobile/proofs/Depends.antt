@@ -1,19 +1,19 @@
 -- The verdict depends on the rows and on the data of the rows of field 3 alone: no other byte of the file counts.
 -- Assumes nothing.
-use mathlib.Core.Path.{_≡_, refl, ap, ap₂, _∙_}
+use mathlib.Core.Path.{_≡_, refl, ap, ap₂}
 use mathlib.Core.Bool.{Bool, true, false, _&&_}
 use mathlib.Core.List.{List, [], _∷_}
-use Prim.Native.Nat.{ℕ, zero, suc, _+_, _*_, _%_, _≤_, _<_}
+use Prim.Native.Nat.{ℕ, zero, suc, _+_, _≤_, _<_}
 use native.Mathlib.Omega.{arith}
 use native.Mathlib.Decide.{decLt}
 use lib.Dec.{ltb, eqb}
 use lib.ListN.{length, getD, take, drop}
-use borrow.Author.Tests.{ltb-true, le-ltb, eqb-true}
-use Rattle.cursor.specs.Machine.{ret, refuse, byte, Out, run, _>>=_, _>>_, if_then_else_, check, place}
-use Rattle.cursor.specs.Rows.{Frame, P, metaFrame}
-use Rattle.cursor.specs.Leaves.{next, digits, number}
+use borrow.Author.Tests.{le-ltb, eqb-true}
+use Rattle.cursor.specs.Machine.{Out}
+use Rattle.cursor.specs.Rows.{metaFrame}
 use Rattle.cursor.specs.declared.Node.{Node}
 use Rattle.cursor.specs.declared.Item.{Item}
+use Rattle.cursor.proofs.Leaves.{number-same}
 use Rattle.header.specs.Header.{Header}
 use Rattle.tree.specs.Rows.{nodeAt, itemAt}
 use Rattle.mobile.specs.Mobile.{those, keepIf, isField, isBinary, nothing, choose, roleOfNumber, roleOfRow, roleOfRows, roleOf, roles, childRoles, childrenTyped, tuneRow, bankRow, oneTune, tuneNeeds, verdict}
@@ -43,35 +43,6 @@ module _ (f g : List ℕ) where
   abbrev Agree : ℕ → ℕ → Type 0
   Agree from end = (k : ℕ) → from ≤ k → k < end → getD f k 0 ≡ getD g k 0
 
-  -- ---- a number
-
-  branch : (c t : Bool) (x n p at : ℕ) (m : P ℕ) → run m f at ≡ run m g at → run (if c then ret x else (check t n p >> m)) f at ≡ run (if c then ret x else (check t n p >> m)) g at
-  unfolding run _>>=_ _>>_ if_then_else_ check
-  branch true t x n p at m h = refl
-  branch false true x n p at m h = h
-  branch false false x n p at m h = refl
-
-  step : (c : Bool) (κ : Frame) (past p at : ℕ) (m : ℕ → P ℕ) → (c ≡ true → run (m (getD f at 0)) f (at + 1) ≡ run (m (getD g at 0)) g (at + 1))
-      → run ((if c then byte κ ret else refuse past p) >>= m) f at ≡ run ((if c then byte κ ret else refuse past p) >>= m) g at
-  unfolding run _>>=_ if_then_else_
-  step true κ past p at m h = h refl
-  step false κ past p at m h = refl
-
-  digits-same : (κ : Frame) (past end p left v at : ℕ) → Agree at end → run (digits κ past end p left v) f at ≡ run (digits κ past end p left v) g at
-  unfolding run _>>=_ next digits
-  digits-same κ past end p zero v at h = refl
-  digits-same κ past end p (suc left) v at h =
-      let rest : ℕ → P ℕ = λ b. if ltb b 0x80 then ret (v * 128 + b) else (check (ltb 0 (v * 128 + b % 0x80)) 4 p >> digits κ past end p left (v * 128 + b % 0x80)) in
-      step (ltb at end) κ past p at rest λ t.
-      let l : at < end = ltb-true at end t in
-      let b = getD g at 0 in
-      ap (λ x. run (rest x) f (at + 1)) (h at (omega arith) l)
-      ∙ branch (ltb b 0x80) (ltb 0 (v * 128 + b % 0x80)) (v * 128 + b) 4 p (at + 1) (digits κ past end p left (v * 128 + b % 0x80)) (digits-same κ past end p left (v * 128 + b % 0x80) (at + 1) (λ k lo hi. h k (omega arith) hi))
-
-  number-same : (κ : Frame) (past end at : ℕ) → Agree at end → run (number κ past end) f at ≡ run (number κ past end) g at
-  unfolding run _>>=_ number place
-  number-same κ past end at h = digits-same κ past end at 4 0 at h
-
   -- ---- what a child is
 
   -- the files agree on a row's data
@@ -84,10 +55,10 @@ module _ (f g : List ℕ) where
     | yes l ↦ (
         ap₂ (λ (x : ℕ) (o : Out ℕ). choose (isBinary r && (ltb 0 (r .size) && eqb x 0)) (roleOfNumber (r .place + r .size) o) nothing)
         (h (r .place) (omega arith) (omega arith))
-        (number-same metaFrame 3 (r .place + r .size) (r .place + 1) (λ k lo hi. h k (omega arith) hi))
+        (number-same f g metaFrame 3 (r .place + r .size) (r .place + 1) (λ k lo hi. h k (omega arith) hi))
         )
     | no n ↦ simp (le-ltb 0 (r .size) (omega arith))
-        (ap (λ (o : Out ℕ). choose (isBinary r && false) (roleOfNumber (r .place + r .size) o) nothing) (number-same metaFrame 3 (r .place + r .size) (r .place + 1) (λ k lo hi. absurd (omega arith))))
+        (ap (λ (o : Out ℕ). choose (isBinary r && false) (roleOfNumber (r .place + r .size) o) nothing) (number-same f g metaFrame 3 (r .place + r .size) (r .place + 1) (λ k lo hi. absurd (omega arith))))
   ]
 
   rows-same : (rs : List Item) → Each Same rs → roleOfRows f rs ≡ roleOfRows g rs

@@ -150,7 +150,7 @@ fn read_node(
         items,
         scope,
         parent,
-        17 - levels,
+        cursor::MOST_DEPTH + 1 - levels,
         least,
         end,
         made,

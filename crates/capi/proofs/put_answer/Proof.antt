@@ -6,48 +6,34 @@ use native.Mathlib.Omega.{arith}
 use borrow.Author.Needs.{needs}
 use Rattle.capi.proofs.put_answer.Statement.{statement}
 use Rattle.capi.proofs.put_answer.Tie as tie
-use Rattle.capi.proofs.put_answer.Reads as reads
-use Rattle.capi.proofs.put_answer.Lts as lts
-use Rattle.metadata.proofs.store.Reads as store-reads
-use Rattle.tree.proofs.clear.Reads as clear-reads
 
--- src/lib.rt:14:5
 clear-requires : tie.Need-clear-requires
 clear-requires c κs = search needs
 
--- src/lib.rt:17:9
 store-requires : tie.Need-store-requires
 store-requires c κs = search needs
 
--- src/lib.rt:19:36
 sub-store : tie.Need-sub-store
 sub-store c = search needs
 
--- src/lib.rt:19:36
 part-store-start : tie.Need-part-store-start
 part-store-start c = search needs
 
--- src/lib.rt:19:36
 part-store-end : tie.Need-part-store-end
 part-store-end c = search needs
 
--- src/lib.rt:19:9
 store-requires-2 : tie.Need-store-requires-2
 store-requires-2 c κs = search needs
 
--- src/lib.rt:11:1
 same-length : tie.Need-same-length
 same-length c = search needs
 
--- src/lib.rt:11:1
 returns : tie.Need-returns
 returns c = all-fits (length (c .before .before .before .before .before .before .before .before .before .before .before .args .answer .now)) _ (c .before .before .before .before .before .before .before .clear .ensures) (omega (arith, c .before .before .before .before .if1 .taken, c .before .before .before .before .before .before .before .clear .kept .0)) (c .before .before .store .ensures)
 
--- src/lib.rt:11:1
 same-length-2 : tie.Need-same-length-2
 same-length-2 c = search needs
 
--- src/lib.rt:11:1
 returns-2 : tie.Need-returns-2
 returns-2 c = part-fits (length (c .before .before .before .before .before .before .before .before .before .before .before .before .args .answer .now)) _ (c .before .before .before .before .before .before .before .before .clear .ensures) (omega (arith, c .before .before .before .before .before .if1 .left, c .before .before .before .before .before .before .before .before .clear .kept .0)) (c .before .before .store2 .ensures) (part-is _ _ _ (c .before .before .before .before .before .before .before .before .clear .kept .0))
 

@@ -8,57 +8,40 @@ use native.Mathlib.Omega.{arith}
 use borrow.Author.Needs.{needs}
 use Rattle.capi.proofs.xmf_find.Statement.{statement}
 use Rattle.capi.proofs.xmf_find.Tie as tie
-use Rattle.capi.proofs.xmf_find.Reads as reads
-use Rattle.capi.proofs.xmf_find.Lts as lts
-use Rattle.capi.proofs.put_found.Reads as put-found-reads
-use Rattle.find.proofs.find_custom.Reads as find-custom-reads
-use Rattle.find.proofs.find_standard.Reads as find-standard-reads
 
--- src/lib.rt:96:27
 find-standard-requires : tie.Need-find-standard-requires
 find-standard-requires c κs = search needs
 
--- src/lib.rt:96:9
 put-found-requires : tie.Need-put-found-requires
 put-found-requires c κs = search needs
 
--- src/lib.rt:98:27
 find-custom-requires : tie.Need-find-custom-requires
 find-custom-requires c κs = search needs
 
--- src/lib.rt:98:9
 put-found-requires-2 : tie.Need-put-found-requires-2
 put-found-requires-2 c κs = search needs
 
--- src/lib.rt:80:1
 same-length : tie.Need-same-length
 same-length c = search needs
 
--- src/lib.rt:80:1
 same-length-2 : tie.Need-same-length-2
 same-length-2 c = search needs
 
--- src/lib.rt:80:1
 same-length-3 : tie.Need-same-length-3
 same-length-3 c = search needs
 
--- src/lib.rt:80:1
 returns : tie.Need-returns
 returns c = find-left (record { nodes = length (c .before .before .before .before .before .before .before .before .before .before .before .before .before .before .before .before .before .args .nodes .now); items = length (c .before .before .before .before .before .before .before .before .before .before .before .before .before .before .before .before .before .args .items .now); sheet = 0 }) (c .before .before .before .before .before .before .before .before .before .before .before .before .before .before .before .before .before .args .file .now) (length (c .before .before .before .before .before .before .before .before .before .before .before .before .before .before .before .before .before .args .answer .now)) (standard (c .before .before .before .before .before .before .before .before .before .before .before .before .before .before .before .before .before .args .number)) (c .before .before .before .before .before .before .before .before .before .before .before .before .before .before .before .before .before .args .row) (c .before .before .before .before .before .before .before .find-standard .ensures .0) (c .before .before .before .before .before .before .before .find-standard .ensures .1 .0) (c .before .before .before .before .before .before .before .find-standard .ensures .1 .1) (c .before .before .put-found .ensures) (asked-standard _ _ _ (c .before .before .before .before .before .before .before .before .before .before .before .if1 .taken))
 
--- src/lib.rt:80:1
 same-length-4 : tie.Need-same-length-4
 same-length-4 c = search needs
 
--- src/lib.rt:80:1
 same-length-5 : tie.Need-same-length-5
 same-length-5 c = search needs
 
--- src/lib.rt:80:1
 same-length-6 : tie.Need-same-length-6
 same-length-6 c = search needs
 
--- src/lib.rt:80:1
 returns-2 : tie.Need-returns-2
 returns-2 c = find-left (record { nodes = length (c .before .before .before .before .before .before .before .before .before .before .before .before .before .before .before .before .before .args .nodes .now); items = length (c .before .before .before .before .before .before .before .before .before .before .before .before .before .before .before .before .before .args .items .now); sheet = 0 }) (c .before .before .before .before .before .before .before .before .before .before .before .before .before .before .before .before .before .args .file .now) (length (c .before .before .before .before .before .before .before .before .before .before .before .before .before .before .before .before .before .args .answer .now)) (custom (c .before .before .before .before .before .before .before .before .before .before .before .before .before .before .before .before .before .args .name .now)) (c .before .before .before .before .before .before .before .before .before .before .before .before .before .before .before .before .before .args .row) (c .before .before .before .before .before .before .before .find-custom .ensures .0) (c .before .before .before .before .before .before .before .find-custom .ensures .1 .0) (c .before .before .before .before .before .before .before .find-custom .ensures .1 .1) (c .before .before .put-found2 .ensures) (asked-custom _ _ _ (c .before .before .before .before .before .before .before .before .before .before .before .if1 .left))
 

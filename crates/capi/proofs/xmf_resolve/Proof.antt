@@ -8,65 +8,46 @@ use native.Mathlib.Omega.{arith}
 use borrow.Author.Needs.{needs}
 use Rattle.capi.proofs.xmf_resolve.Statement.{statement}
 use Rattle.capi.proofs.xmf_resolve.Tie as tie
-use Rattle.capi.proofs.xmf_resolve.Reads as reads
-use Rattle.capi.proofs.xmf_resolve.Lts as lts
-use Rattle.capi.proofs.put_answer.Reads as put-answer-reads
-use Rattle.capi.proofs.put_refusal.Reads as put-refusal-reads
-use Rattle.resolve.proofs.resolve.Reads as resolve-reads
 
--- src/lib.rt:109:11
 resolve-requires : tie.Need-resolve-requires
 resolve-requires c κs = search needs
 
--- src/lib.rt:110:27
 enum-known-n : tie.Need-enum-known-n
 enum-known-n c = search needs
 
--- src/lib.rt:110:36
 put-refusal-requires : tie.Need-put-refusal-requires
 put-refusal-requires c κs = search needs
 
--- src/lib.rt:111:22
 enum-known-place : tie.Need-enum-known-place
 enum-known-place c = search needs
 
--- src/lib.rt:113:32
 slice-aggregate-put-answer : tie.Need-slice-aggregate-put-answer
 slice-aggregate-put-answer c = search needs
 
--- src/lib.rt:113:13
 put-answer-requires : tie.Need-put-answer-requires
 put-answer-requires c κs = search needs
 
--- src/lib.rt:103:1
 same-length : tie.Need-same-length
 same-length c = search needs
 
--- src/lib.rt:103:1
 same-length-2 : tie.Need-same-length-2
 same-length-2 c = search needs
 
--- src/lib.rt:103:1
 same-length-3 : tie.Need-same-length-3
 same-length-3 c = search needs
 
--- src/lib.rt:103:1
 returns : tie.Need-returns
 returns c = resolve-left (record { nodes = length (c .before .before .before .before .before .before .before .before .before .before .before .before .before .before .before .before .before .before .args .nodes .now); items = length (c .before .before .before .before .before .before .before .before .before .before .before .before .before .before .before .before .before .before .args .items .now); sheet = 0 }) (c .before .before .before .before .before .before .before .before .before .before .before .before .before .before .before .before .before .before .args .file .now) (length (c .before .before .before .before .before .before .before .before .before .before .before .before .before .before .before .before .before .before .args .answer .now)) (c .before .before .before .before .before .before .before .before .before .before .before .before .before .before .before .before .before .before .args .row) (c .before .before .before .before .before .before .before .before .before .before .before .resolve .ensures .0) (c .before .before .before .before .before .before .before .before .before .before .before .resolve .ensures .1 .0) (c .before .before .before .before .before .before .before .before .before .before .before .resolve .ensures .1 .1) (ap told (c .before .before .before .before .before .n .given .1)) (resolve-no _ _ _ (c .before .before .put-refusal .ensures))
 
--- src/lib.rt:103:1
 same-length-4 : tie.Need-same-length-4
 same-length-4 c = search needs
 
--- src/lib.rt:103:1
 same-length-5 : tie.Need-same-length-5
 same-length-5 c = search needs
 
--- src/lib.rt:103:1
 same-length-6 : tie.Need-same-length-6
 same-length-6 c = search needs
 
--- src/lib.rt:103:1
 returns-2 : tie.Need-returns-2
 returns-2 c = resolve-left (record { nodes = length (c .before .before .before .before .before .before .before .before .before .before .before .before .before .before .before .before .before .before .before .args .nodes .now); items = length (c .before .before .before .before .before .before .before .before .before .before .before .before .before .before .before .before .before .before .before .args .items .now); sheet = 0 }) (c .before .before .before .before .before .before .before .before .before .before .before .before .before .before .before .before .before .before .before .args .file .now) (length (c .before .before .before .before .before .before .before .before .before .before .before .before .before .before .before .before .before .before .before .args .answer .now)) (c .before .before .before .before .before .before .before .before .before .before .before .before .before .before .before .before .before .before .before .args .row) (c .before .before .before .before .before .before .before .before .before .before .before .before .resolve .ensures .0) (c .before .before .before .before .before .before .before .before .before .before .before .before .resolve .ensures .1 .0) (c .before .before .before .before .before .before .before .before .before .before .before .before .resolve .ensures .1 .1) (ap told (c .before .before .before .before .before .before .place .given .1)) (resolve-at _ _ _ _ _ (c .before .before .put-answer .ensures))
 

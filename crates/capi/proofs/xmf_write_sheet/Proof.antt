@@ -8,73 +8,52 @@ use native.Mathlib.Omega.{arith}
 use borrow.Author.Needs.{needs}
 use Rattle.capi.proofs.xmf_write_sheet.Statement.{statement}
 use Rattle.capi.proofs.xmf_write_sheet.Tie as tie
-use Rattle.capi.proofs.xmf_write_sheet.Reads as reads
-use Rattle.capi.proofs.xmf_write_sheet.Lts as lts
-use Rattle.capi.proofs.put_answer.Reads as put-answer-reads
-use Rattle.capi.proofs.put_refusal.Reads as put-refusal-reads
-use Rattle.sheet.proofs.write_sheet.Reads as write-sheet-reads
 
--- src/lib.rt:148:11
 write-sheet-requires : tie.Need-write-sheet-requires
 write-sheet-requires c κs = search needs
 
--- src/lib.rt:149:26
 enum-known-n : tie.Need-enum-known-n
 enum-known-n c = search needs
 
--- src/lib.rt:149:35
 put-refusal-requires : tie.Need-put-refusal-requires
 put-refusal-requires c κs = search needs
 
--- src/lib.rt:150:24
 enum-known-n-2 : tie.Need-enum-known-n-2
 enum-known-n-2 c = search needs
 
--- src/lib.rt:152:32
 slice-aggregate-put-answer : tie.Need-slice-aggregate-put-answer
 slice-aggregate-put-answer c = search needs
 
--- src/lib.rt:152:13
 put-answer-requires : tie.Need-put-answer-requires
 put-answer-requires c κs = search needs
 
--- src/lib.rt:135:1
 same-length : tie.Need-same-length
 same-length c = search needs
 
--- src/lib.rt:135:1
 same-length-2 : tie.Need-same-length-2
 same-length-2 c = search needs
 
--- src/lib.rt:135:1
 same-length-3 : tie.Need-same-length-3
 same-length-3 c = search needs
 
--- src/lib.rt:135:1
 same-length-4 : tie.Need-same-length-4
 same-length-4 c = search needs
 
--- src/lib.rt:135:1
 returns : tie.Need-returns
 returns c = sheet-left (record { nodes = length (c .before .before .before .before .before .before .before .before .before .before .before .before .before .before .before .before .before .before .before .before .before .before .args .nodes .now); items = length (c .before .before .before .before .before .before .before .before .before .before .before .before .before .before .before .before .before .before .before .before .before .before .args .items .now); sheet = length (c .before .before .before .before .before .before .before .before .before .before .before .before .before .before .before .before .before .before .before .before .before .before .args .sheet .now) }) (c .before .before .before .before .before .before .before .before .before .before .before .before .before .before .before .before .before .before .before .before .before .before .args .file .now) (length (c .before .before .before .before .before .before .before .before .before .before .before .before .before .before .before .before .before .before .before .before .before .before .args .answer .now)) (c .before .before .before .before .before .before .before .before .before .before .before .before .before .write-sheet .ensures .0) (c .before .before .before .before .before .before .before .before .before .before .before .before .before .write-sheet .ensures .1 .0) (c .before .before .before .before .before .before .before .before .before .before .before .before .before .write-sheet .ensures .1 .1 .0) (c .before .before .before .before .before .before .before .before .before .before .before .before .before .write-sheet .ensures .1 .1 .1) (ap told (c .before .before .before .before .before .n .given .1)) (number-no _ _ _ (c .before .before .put-refusal .ensures))
 
--- src/lib.rt:135:1
 same-length-5 : tie.Need-same-length-5
 same-length-5 c = search needs
 
--- src/lib.rt:135:1
 same-length-6 : tie.Need-same-length-6
 same-length-6 c = search needs
 
--- src/lib.rt:135:1
 same-length-7 : tie.Need-same-length-7
 same-length-7 c = search needs
 
--- src/lib.rt:135:1
 same-length-8 : tie.Need-same-length-8
 same-length-8 c = search needs
 
--- src/lib.rt:135:1
 returns-2 : tie.Need-returns-2
 returns-2 c = sheet-left (record { nodes = length (c .before .before .before .before .before .before .before .before .before .before .before .before .before .before .before .before .before .before .before .before .before .before .before .args .nodes .now); items = length (c .before .before .before .before .before .before .before .before .before .before .before .before .before .before .before .before .before .before .before .before .before .before .before .args .items .now); sheet = length (c .before .before .before .before .before .before .before .before .before .before .before .before .before .before .before .before .before .before .before .before .before .before .before .args .sheet .now) }) (c .before .before .before .before .before .before .before .before .before .before .before .before .before .before .before .before .before .before .before .before .before .before .before .args .file .now) (length (c .before .before .before .before .before .before .before .before .before .before .before .before .before .before .before .before .before .before .before .before .before .before .before .args .answer .now)) (c .before .before .before .before .before .before .before .before .before .before .before .before .before .before .write-sheet .ensures .0) (c .before .before .before .before .before .before .before .before .before .before .before .before .before .before .write-sheet .ensures .1 .0) (c .before .before .before .before .before .before .before .before .before .before .before .before .before .before .write-sheet .ensures .1 .1 .0) (c .before .before .before .before .before .before .before .before .before .before .before .before .before .before .write-sheet .ensures .1 .1 .1) (ap told (c .before .before .before .before .before .before .n2 .given .1)) (number-at _ _ (c .before .before .put-answer .ensures))
 

@@ -22,7 +22,6 @@ climb-at t = and 4 climb-kinds.ps (is 4 climb-kinds.ps μ-climb t) climb.Pre
 abbrev climb-below : ℕ → In 4 climb-kinds.ps
 climb-below t = and 4 climb-kinds.ps (falls 4 climb-kinds.ps _<_ μ-climb t) climb.Pre
 
--- src/lib.rt:172:11
 climb-look-requires : (t : ℕ) → climb-lts.Need-look-requires (
   look-reads.Asked,
   look-reads.Learnt,
@@ -31,7 +30,6 @@ climb-look-requires : (t : ℕ) → climb-lts.Need-look-requires (
 ) (climb-at t) climb.Post
 climb-look-requires t c κs = (c .before .before .before .before .pre .1 .0, c .before .before .before .before .pre .1 .1, c .before .before .before .before .pre .1 .2, c .before .before .before .before .pre .1 .3)
 
--- src/lib.rt:173:21
 climb-enum-known-i : (t : ℕ) → climb-lts.Need-enum-known-i (
   look-reads.Asked,
   look-reads.Learnt,
@@ -40,7 +38,6 @@ climb-enum-known-i : (t : ℕ) → climb-lts.Need-enum-known-i (
 ) (climb-at t) climb.Post
 climb-enum-known-i t c = search needs
 
--- src/lib.rt:175:32
 climb-enum-told : (t : ℕ) → climb-lts.Need-enum-told (
   look-reads.Asked,
   look-reads.Learnt,
@@ -49,7 +46,6 @@ climb-enum-told : (t : ℕ) → climb-lts.Need-enum-told (
 ) (climb-at t) climb.Post
 climb-enum-told t c = search needs
 
--- src/lib.rt:175:32
 climb-mul-parent : (t : ℕ) → climb-lts.Need-mul-parent (
   look-reads.Asked,
   look-reads.Learnt,
@@ -58,7 +54,6 @@ climb-mul-parent : (t : ℕ) → climb-lts.Need-mul-parent (
 ) (climb-at t) climb.Post
 climb-mul-parent t c = search needs
 
--- src/lib.rt:175:32
 climb-add-parent : (t : ℕ) → climb-lts.Need-add-parent (
   look-reads.Asked,
   look-reads.Learnt,
@@ -67,7 +62,6 @@ climb-add-parent : (t : ℕ) → climb-lts.Need-add-parent (
 ) (climb-at t) climb.Post
 climb-add-parent t c = search needs
 
--- src/lib.rt:175:26
 climb-mul-parent-2 : (t : ℕ) → climb-lts.Need-mul-parent-2 (
   look-reads.Asked,
   look-reads.Learnt,
@@ -76,7 +70,6 @@ climb-mul-parent-2 : (t : ℕ) → climb-lts.Need-mul-parent-2 (
 ) (climb-at t) climb.Post
 climb-mul-parent-2 t c = search needs
 
--- src/lib.rt:175:26
 climb-shared-slice-read-parent : (t : ℕ) → climb-lts.Need-shared-slice-read-parent (
   look-reads.Asked,
   look-reads.Learnt,
@@ -85,7 +78,6 @@ climb-shared-slice-read-parent : (t : ℕ) → climb-lts.Need-shared-slice-read-
 ) (climb-at t) climb.Post
 climb-shared-slice-read-parent t c = search needs
 
--- src/lib.rt:177:17
 climb-returns : (t : ℕ) → climb-lts.Need-returns (
   look-reads.Asked,
   look-reads.Learnt,
@@ -94,7 +86,6 @@ climb-returns : (t : ℕ) → climb-lts.Need-returns (
 ) (climb-at t) climb.Post
 climb-returns t c = climb-top _ _ _ _ _ _ (c .before .before .before .before .before .before .before .before .before .pre .1 .2) _ (c .before .before .before .before .look .ensures) (c .before .before .enum-told .given .1) (c .if1 .taken)
 
--- src/lib.rt:179:13
 climb-climb-requires : (t : ℕ) → climb-lts.Need-climb-requires (
   look-reads.Asked,
   look-reads.Learnt,
@@ -103,7 +94,6 @@ climb-climb-requires : (t : ℕ) → climb-lts.Need-climb-requires (
 ) (climb-at t) climb.Post
 climb-climb-requires t c κs = (omega arith, (c .before .before .before .before .before .before .before .before .before .pre .1 .0, c .before .before .before .before .before .before .before .before .before .pre .1 .1, omega arith, c .before .before .before .before .before .before .before .before .before .pre .1 .3))
 
--- src/lib.rt:159:1
 climb-returns-2 : (t : ℕ) → climb-lts.Need-returns-2 (
   look-reads.Asked,
   look-reads.Learnt,
@@ -112,7 +102,6 @@ climb-returns-2 : (t : ℕ) → climb-lts.Need-returns-2 (
 ) (climb-at t) climb.Post
 climb-returns-2 t c = climb-here _ _ _ _ _ _ (c .before .before .before .before .before .before .before .before .pre .1 .2) _ (c .before .before .before .look .ensures) (c .before .i .given .1)
 
--- src/lib.rt:159:1
 climb-returns-3 : (t : ℕ) → climb-lts.Need-returns-3 (
   look-reads.Asked,
   look-reads.Learnt,

@@ -10,9 +10,6 @@ use native.Mathlib.Omega.{arith}
 use borrow.Author.Needs.{needs}
 use Rattle.find.proofs.first_row.Statement.{statement}
 use Rattle.find.proofs.first_row.Tie as tie
-use Rattle.find.proofs.first_row.Reads as reads
-use Rattle.find.proofs.first_row.Lts as lts
-use Rattle.find.proofs.least.Reads as least-reads
 
 abbrev Inv-loop : tie.InvT-loop
 Inv-loop nodes count k most sum₀ i₀ sum i = (i ≤ k) × (sum ≤ most) × Summing nodes count most i sum
@@ -20,51 +17,39 @@ Inv-loop nodes count k most sum₀ i₀ sum i = (i ≤ k) × (sum ≤ most) × S
 abbrev μ-loop : tie.MeasureT-loop
 μ-loop nodes count k most sum₀ i₀ sum i = k - i
 
--- src/lib.rt:108:5
 loop-holds : tie.Need-loop-holds Inv-loop μ-loop
 loop-holds c = (omega arith, omega arith, sum-begin _ _ _)
 
--- src/lib.rt:109:33
 mul-least : tie.Need-mul-least Inv-loop μ-loop
 mul-least c = omega arith
 
--- src/lib.rt:109:33
 add-least : tie.Need-add-least Inv-loop μ-loop
 add-least c = omega arith
 
--- src/lib.rt:109:27
 mul-least-2 : tie.Need-mul-least-2 Inv-loop μ-loop
 mul-least-2 c = omega arith
 
--- src/lib.rt:109:27
 shared-slice-read-least : tie.Need-shared-slice-read-least Inv-loop μ-loop
 shared-slice-read-least c = omega arith
 
--- src/lib.rt:109:56
 sub-least : tie.Need-sub-least Inv-loop μ-loop
 sub-least c = omega arith
 
--- src/lib.rt:109:21
 least-requires : tie.Need-least-requires Inv-loop μ-loop
 least-requires c κs = omega arith
 
--- src/lib.rt:109:15
 add-sum : tie.Need-add-sum Inv-loop μ-loop
 add-sum c = omega arith
 
--- src/lib.rt:110:13
 add-i : tie.Need-add-i Inv-loop μ-loop
 add-i c = omega arith
 
--- src/lib.rt:108:5
 loop-less : tie.Need-loop-less Inv-loop μ-loop
 loop-less c = omega arith
 
--- src/lib.rt:108:5
 loop-again : tie.Need-loop-again Inv-loop μ-loop
 loop-again c = (omega arith, omega arith, sum-on _ _ _ _ _ (c .before .before .before .loop .inv .2) (omega arith) (c .least .ensures))
 
--- src/lib.rt:102:1
 returns : tie.Need-returns Inv-loop μ-loop
 returns c = let e : c .before .loop .i ≡ c .before .before .before .args .k = omega arith in c .before .loop .inv .2 ∙ ap (λ (x : ℕ). min (firstRow (nodesIn (c .before .before .before .args .count) (c .before .before .before .args .nodes .now)) x) (c .before .before .before .args .most)) e
 

@@ -5,27 +5,19 @@ use native.Mathlib.Omega.{arith}
 use borrow.Author.Needs.{needs}
 use Rattle.find.proofs.is_named.Statement.{statement}
 use Rattle.find.proofs.is_named.Tie as tie
-use Rattle.find.proofs.is_named.Reads as reads
-use Rattle.find.proofs.is_named.Lts as lts
-use Rattle.find.proofs.same_bytes.Reads as same-bytes-reads
 
--- src/lib.rt:54:9
 returns : tie.Need-returns
 returns c = named-empty _ _ _ (c .if1 .taken)
 
--- src/lib.rt:57:9
 returns-2 : tie.Need-returns-2
 returns-2 c = named-kind _ _ _ (c .if2 .taken) (c .before .before .if1 .left)
 
--- src/lib.rt:60:9
 returns-3 : tie.Need-returns-3
 returns-3 c = named-size _ _ _ (c .if3 .taken) (c .before .before .if2 .left) (c .before .before .before .before .if1 .left)
 
--- src/lib.rt:62:5
 same-bytes-requires : tie.Need-same-bytes-requires
 same-bytes-requires c κs = name-inside (c .before .before .before .before .before .before .before .args .row) (c .before .before .before .before .before .before .before .pre) (c .before .before .if2 .left) (c .if3 .left)
 
--- src/lib.rt:49:1
 returns-4 : tie.Need-returns-4
 returns-4 c = named-bytes _ _ _ (c .same-bytes .ensures) (c .before .if3 .left) (c .before .before .before .if2 .left) (c .before .before .before .before .before .if1 .left)
 

@@ -5,31 +5,22 @@ use native.Mathlib.Omega.{arith}
 use borrow.Author.Needs.{needs}
 use Rattle.find.proofs.is_wanted.Statement.{statement}
 use Rattle.find.proofs.is_wanted.Tie as tie
-use Rattle.find.proofs.is_wanted.Reads as reads
-use Rattle.find.proofs.is_wanted.Lts as lts
-use Rattle.find.proofs.is_named.Reads as is-named-reads
 
--- src/lib.rt:71:26
 enum-told : tie.Need-enum-told
 enum-told c = search needs
 
--- src/lib.rt:71:26
 is-named-requires : tie.Need-is-named-requires
 is-named-requires c κs = search needs
 
--- src/lib.rt:72:25
 enum-known-field : tie.Need-enum-known-field
 enum-known-field c = search needs
 
--- src/lib.rt:74:17
 returns : tie.Need-returns
 returns c = wanted-kind _ _ _ _ (c .before .before .before .field .given .1) (c .if1 .taken)
 
--- src/lib.rt:66:1
 returns-2 : tie.Need-returns-2
 returns-2 c = wanted-name _ _ _ _ (c .before .enum-told .given .1) (c .is-named .ensures)
 
--- src/lib.rt:66:1
 returns-3 : tie.Need-returns-3
 returns-3 c = wanted-field _ _ _ _ (c .before .before .before .before .field .given .1) (c .before .if1 .left)
 

@@ -10,10 +10,6 @@ use native.Mathlib.Omega.{arith}
 use borrow.Author.Needs.{needs}
 use Rattle.find.proofs.search.Statement.{statement}
 use Rattle.find.proofs.search.Tie as tie
-use Rattle.find.proofs.search.Reads as reads
-use Rattle.find.proofs.search.Lts as lts
-use Rattle.find.proofs.is_wanted.Reads as is-wanted-reads
-use Rattle.find.proofs.item_at.Reads as item-at-reads
 
 abbrev Inv-loop : tie.InvT-loop
 Inv-loop file items rows from end field name i₀ i = (from ≤ i) × (i ≤ end) × Left file (wantedOf field name) (itemsIn rows items) from end i
@@ -21,35 +17,27 @@ Inv-loop file items rows from end field name i₀ i = (from ≤ i) × (i ≤ end
 abbrev μ-loop : tie.MeasureT-loop
 μ-loop file items rows from end field name i₀ i = end - i
 
--- src/lib.rt:129:5
 loop-holds : tie.Need-loop-holds Inv-loop μ-loop
 loop-holds c = (omega arith, omega arith, refl)
 
--- src/lib.rt:130:13
 item-at-requires : tie.Need-item-at-requires Inv-loop μ-loop
 item-at-requires c κs = omega arith
 
--- src/lib.rt:131:12
 is-wanted-requires : tie.Need-is-wanted-requires Inv-loop μ-loop
 is-wanted-requires c κs = row-named (length (c .before .before .before .before .before .before .args .file .now)) (c .before .before .before .before .before .before .args .items .now) (c .before .before .before .before .before .before .args .rows) (c .before .before .loop .i) (c .before .before .before .before .before .before .pre .3) (omega arith) (c .item-at .ensures)
 
--- src/lib.rt:132:13
 returns : tie.Need-returns Inv-loop μ-loop
 returns c = row-found _ _ _ _ _ _ _ (c .before .before .before .before .loop .inv .2) (c .before .before .before .before .before .before .before .before .pre .2) (c .before .before .before .loop-test .taken) (c .before .before .item-at .ensures) (c .before .is-wanted .ensures) (c .if1 .taken)
 
--- src/lib.rt:134:13
 add-i : tie.Need-add-i Inv-loop μ-loop
 add-i c = omega arith
 
--- src/lib.rt:129:5
 loop-less : tie.Need-loop-less Inv-loop μ-loop
 loop-less c = omega arith
 
--- src/lib.rt:129:5
 loop-again : tie.Need-loop-again Inv-loop μ-loop
 loop-again c = (omega arith, omega arith, row-other _ _ _ _ _ _ _ (c .before .before .before .before .loop .inv .2) (c .before .before .before .before .before .before .before .before .pre .2) (c .before .before .before .loop-test .taken) (c .before .before .item-at .ensures) (c .before .is-wanted .ensures) (c .if1 .left))
 
--- src/lib.rt:116:1
 returns-2 : tie.Need-returns-2 Inv-loop μ-loop
 returns-2 c = row-none _ _ _ _ _ _ _ (c .before .loop .inv .2) (c .before .before .before .before .before .pre .2) (omega arith) (c .loop-test .left)
 

@@ -6,42 +6,31 @@ use lib.ListN.{length-set}
 use borrow.Author.Needs.{needs}
 use Rattle.header.proofs.declare.Statement.{statement}
 use Rattle.header.proofs.declare.Tie as tie
-use Rattle.header.proofs.declare.Reads as reads
-use Rattle.header.proofs.declare.Lts as lts
 
--- src/lib.rt:87:11
 mul-types : tie.Need-mul-types
 mul-types c = search needs
 
--- src/lib.rt:87:5
 mul-types-2 : tie.Need-mul-types-2
 mul-types-2 c = search needs
 
--- src/lib.rt:87:5
 slice-write-types : tie.Need-slice-write-types
 slice-write-types c = search needs
 
--- src/lib.rt:88:11
 mul-types-3 : tie.Need-mul-types-3
 mul-types-3 c = search needs
 
--- src/lib.rt:88:11
 add-types : tie.Need-add-types
 add-types c = search needs
 
--- src/lib.rt:88:5
 mul-types-4 : tie.Need-mul-types-4
 mul-types-4 c = search needs
 
--- src/lib.rt:88:5
 slice-write-types-2 : tie.Need-slice-write-types-2
 slice-write-types-2 c = simp length-set (omega arith)
 
--- src/lib.rt:83:1
 same-length : tie.Need-same-length
 same-length c = search needs
 
--- src/lib.rt:83:1
 returns : tie.Need-returns
 returns c = declared _ _ _ _ (omega arith)
 

@@ -11,47 +11,34 @@ use native.Mathlib.Omega.{arith}
 use borrow.Author.Needs.{needs}
 use Rattle.header.proofs.read_edition.Statement.{statement}
 use Rattle.header.proofs.read_edition.Tie as tie
-use Rattle.header.proofs.read_edition.Reads as reads
-use Rattle.header.proofs.read_edition.Lts as lts
-use Rattle.header.proofs.read_four.Reads as read-four-reads
 
--- src/lib.rt:154:9
 returns : tie.Need-returns
 returns c = edition-none _ _ _ _ (c .if1 .taken)
 
--- src/lib.rt:157:11
 read-four-requires : tie.Need-read-four-requires
 read-four-requires c κs = search needs
 
--- src/lib.rt:158:27
 enum-known-n : tie.Need-enum-known-n
 enum-known-n c = search needs
 
--- src/lib.rt:159:22
 enum-known-kind : tie.Need-enum-known-kind
 enum-known-kind c = search needs
 
--- src/lib.rt:159:40
 read-four-requires-2 : tie.Need-read-four-requires-2
 read-four-requires-2 c κs = omega (arith, at-end any-free (c .before .before .before .before .before .before .args .file .now) (four-on 3 (length (c .before .before .before .before .before .before .args .file .now)) (c .before .before .before .before .before .before .args .c .at .0)) (was numberTold (c .before .before .before .read-four .ensures) (c .before .kind .given .1)))
 
--- src/lib.rt:160:31
 enum-known-n-2 : tie.Need-enum-known-n-2
 enum-known-n-2 c = search needs
 
--- src/lib.rt:161:26
 enum-known-revision : tie.Need-enum-known-revision
 enum-known-revision c = search needs
 
--- src/lib.rt:145:1
 returns-2 : tie.Need-returns-2
 returns-2 c = edition-type _ _ _ _ (c .before .before .before .before .if1 .left) (was numberTold (c .before .before .before .read-four .ensures) (c .before .n .given .1))
 
--- src/lib.rt:145:1
 returns-3 : tie.Need-returns-3
 returns-3 c = edition-revision _ _ _ _ (c .before .before .before .before .before .before .before .before .if1 .left) (was numberTold (c .before .before .before .before .before .before .before .read-four .ensures) (c .before .before .before .before .before .kind .given .1)) (was numberTold (c .before .before .before .read-four2 .ensures) (c .before .n2 .given .1))
 
--- src/lib.rt:145:1
 returns-4 : tie.Need-returns-4
 returns-4 c = edition-all _ _ _ _ (c .before .before .before .before .before .before .before .before .if1 .left) (was numberTold (c .before .before .before .before .before .before .before .read-four .ensures) (c .before .before .before .before .before .kind .given .1)) (was numberTold (c .before .before .before .read-four2 .ensures) (c .before .revision .given .1))
 

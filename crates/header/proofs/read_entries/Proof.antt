@@ -7,9 +7,6 @@ use native.Mathlib.Omega.{arith}
 use borrow.Author.Needs.{needs}
 use Rattle.header.proofs.read_entries.Statement.{statement}
 use Rattle.header.proofs.read_entries.Tie as tie
-use Rattle.header.proofs.read_entries.Reads as reads
-use Rattle.header.proofs.read_entries.Lts as lts
-use Rattle.header.proofs.read_entry.Reads as read-entry-reads
 
 abbrev Inv-loop : tie.InvT-loop
 Inv-loop file types₀ count end next₀ left₀ made₀ types next left made = (length types ≡ length types₀) × Entries file (end .0) (next₀ .at .0) count left made types (next .at .0)
@@ -17,51 +14,39 @@ Inv-loop file types₀ count end next₀ left₀ made₀ types next left made = 
 abbrev μ-loop : tie.MeasureT-loop
 μ-loop file types₀ count end next₀ left₀ made₀ types next left made = left
 
--- src/lib.rt:224:5
 loop-holds : tie.Need-loop-holds Inv-loop μ-loop
 loop-holds c = (refl, entries-begun _ _ _ _ _)
 
--- src/lib.rt:225:15
 read-entry-requires : tie.Need-read-entry-requires Inv-loop μ-loop
 read-entry-requires c κs = omega (arith, c .before .before .loop .inv .0, c .before .before .loop .inv .1 .few, c .before .before .before .before .before .pre)
 
--- src/lib.rt:226:29
 enum-known-n : tie.Need-enum-known-n Inv-loop μ-loop
 enum-known-n c = search needs
 
--- src/lib.rt:226:38
 same-length : tie.Need-same-length Inv-loop μ-loop
 same-length c = c .before .before .before .before .before .read-entry .kept .1 .1 .0 ∙ c .before .before .before .before .before .before .before .before .loop .inv .0
 
--- src/lib.rt:226:38
 returns : tie.Need-returns Inv-loop μ-loop
 returns c = (entries-no (c .before .before .before .before .before .before .before .before .loop .inv .1) (c .before .before .before .before .before .before .before .loop-test .taken) _ _ (c .before .before .before .before .before .read-entry .ensures) (c .before .n .given .1), tt)
 
--- src/lib.rt:227:24
 enum-known-d : tie.Need-enum-known-d Inv-loop μ-loop
 enum-known-d c = search needs
 
--- src/lib.rt:231:16
 add-made : tie.Need-add-made Inv-loop μ-loop
 add-made c = omega (arith, c .before .before .before .before .before .before .before .before .loop .inv .1 .few)
 
--- src/lib.rt:232:16
 sub-left : tie.Need-sub-left Inv-loop μ-loop
 sub-left c = omega arith
 
--- src/lib.rt:224:5
 loop-less : tie.Need-loop-less Inv-loop μ-loop
 loop-less c = omega arith
 
--- src/lib.rt:224:5
 loop-again : tie.Need-loop-again Inv-loop μ-loop
 loop-again c = (c .before .before .before .before .before .read-entry .kept .1 .1 .0 ∙ c .before .before .before .before .before .before .before .before .loop .inv .0, entries-on (c .before .before .before .before .before .before .before .before .loop .inv .1) (c .before .before .before .before .before .before .before .loop-test .taken) _ _ (c .before .before .before .before .before .read-entry .ensures) (c .before .d .given .1))
 
--- src/lib.rt:216:1
 same-length-2 : tie.Need-same-length-2 Inv-loop μ-loop
 same-length-2 c = c .before .loop .inv .0
 
--- src/lib.rt:216:1
 returns-2 : tie.Need-returns-2 Inv-loop μ-loop
 returns-2 c = (entries-done (c .before .loop .inv .1) (c .loop-test .left), c .before .loop .inv .1 .few)
 

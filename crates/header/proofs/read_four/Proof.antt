@@ -5,92 +5,67 @@ use native.Mathlib.Omega.{arith}
 use borrow.Author.Needs.{needs}
 use Rattle.header.proofs.read_four.Statement.{statement}
 use Rattle.header.proofs.read_four.Tie as tie
-use Rattle.header.proofs.read_four.Reads as reads
-use Rattle.header.proofs.read_four.Lts as lts
-use Rattle.cursor.proofs.Cursor.on.Reads as on-reads
-use Rattle.cursor.proofs.wide.Reads as wide-reads
 
--- src/lib.rt:98:8
 sub-if1 : tie.Need-sub-if1
 sub-if1 c = search needs
 
--- src/lib.rt:99:9
 returns : tie.Need-returns
 returns c = four-cut _ _ _ _ (omega arith)
 
--- src/lib.rt:101:29
 shared-slice-read-wide : tie.Need-shared-slice-read-wide
 shared-slice-read-wide c = search needs
 
--- src/lib.rt:101:16
 wide-requires : tie.Need-wide-requires
 wide-requires c κs = search needs
 
--- src/lib.rt:101:16
 mul-high : tie.Need-mul-high
 mul-high c = search needs
 
--- src/lib.rt:101:65
 add-wide : tie.Need-add-wide
 add-wide c = search needs
 
--- src/lib.rt:101:60
 shared-slice-read-wide-2 : tie.Need-shared-slice-read-wide-2
 shared-slice-read-wide-2 c = search needs
 
--- src/lib.rt:101:47
 wide-requires-2 : tie.Need-wide-requires-2
 wide-requires-2 c κs = search needs
 
--- src/lib.rt:101:16
 add-high : tie.Need-add-high
 add-high c = search needs
 
--- src/lib.rt:102:33
 add-wide-2 : tie.Need-add-wide-2
 add-wide-2 c = search needs
 
--- src/lib.rt:102:28
 shared-slice-read-wide-3 : tie.Need-shared-slice-read-wide-3
 shared-slice-read-wide-3 c = search needs
 
--- src/lib.rt:102:15
 wide-requires-3 : tie.Need-wide-requires-3
 wide-requires-3 c κs = search needs
 
--- src/lib.rt:102:15
 mul-low : tie.Need-mul-low
 mul-low c = search needs
 
--- src/lib.rt:102:68
 add-wide-3 : tie.Need-add-wide-3
 add-wide-3 c = search needs
 
--- src/lib.rt:102:63
 shared-slice-read-wide-4 : tie.Need-shared-slice-read-wide-4
 shared-slice-read-wide-4 c = search needs
 
--- src/lib.rt:102:50
 wide-requires-4 : tie.Need-wide-requires-4
 wide-requires-4 c κs = search needs
 
--- src/lib.rt:102:15
 add-low : tie.Need-add-low
 add-low c = search needs
 
--- src/lib.rt:103:18
 mul-t11 : tie.Need-mul-t11
 mul-t11 c = search needs
 
--- src/lib.rt:103:18
 add-t15 : tie.Need-add-t15
 add-t15 c = search needs
 
--- src/lib.rt:103:38
 on-requires : tie.Need-on-requires
 on-requires c κs = search needs
 
--- src/lib.rt:92:1
 returns-2 : tie.Need-returns-2
 returns-2 c = four-all _ _ _ _ (omega arith) (c .before .before .before .before .before .before .before .wide .ensures .0) (c .before .before .before .before .before .wide2 .ensures .0) (c .before .before .before .wide3 .ensures .0) (c .before .wide4 .ensures .0) (c .on .ensures)
 

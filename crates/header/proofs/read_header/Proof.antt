@@ -12,107 +12,76 @@ use native.Mathlib.Omega.{arith}
 use borrow.Author.Needs.{needs}
 use Rattle.header.proofs.read_header.Statement.{statement}
 use Rattle.header.proofs.read_header.Tie as tie
-use Rattle.header.proofs.read_header.Reads as reads
-use Rattle.header.proofs.read_header.Lts as lts
-use Rattle.header.proofs.read_edition.Reads as read-edition-reads
-use Rattle.header.proofs.read_extent.Reads as read-extent-reads
-use Rattle.header.proofs.read_length.Reads as read-length-reads
-use Rattle.header.proofs.read_opening.Reads as read-opening-reads
-use Rattle.header.proofs.read_types.Reads as read-types-reads
 
--- src/lib.rt:306:11
 read-opening-requires : tie.Need-read-opening-requires
 read-opening-requires c κs = search needs
 
--- src/lib.rt:307:27
 enum-known-n : tie.Need-enum-known-n
 enum-known-n c = search needs
 
--- src/lib.rt:308:22
 enum-known-version : tie.Need-enum-known-version
 enum-known-version c = search needs
 
--- src/lib.rt:308:43
 read-edition-requires : tie.Need-read-edition-requires
 read-edition-requires c κs = omega (arith, at-end any-free (c .before .before .before .before .before .before .args .file .now) (opening-on (length (c .before .before .before .before .before .before .args .file .now))) (was numberTold (c .before .before .before .read-opening .ensures) (c .before .version .given .1)))
 
--- src/lib.rt:309:32
 enum-known-n-2 : tie.Need-enum-known-n-2
 enum-known-n-2 c = search needs
 
--- src/lib.rt:310:27
 enum-known-edition : tie.Need-enum-known-edition
 enum-known-edition c = search needs
 
--- src/lib.rt:310:48
 read-length-requires : tie.Need-read-length-requires
 read-length-requires c κs = search needs
 
--- src/lib.rt:311:33
 enum-known-n-3 : tie.Need-enum-known-n-3
 enum-known-n-3 c = search needs
 
--- src/lib.rt:312:28
 enum-known-e : tie.Need-enum-known-e
 enum-known-e c = search needs
 
--- src/lib.rt:312:40
 read-types-requires : tie.Need-read-types-requires
 read-types-requires c κs = omega (arith, c .before .before .before .before .before .before .before .before .before .before .before .before .before .before .before .pre, at-end any-free (c .before .before .before .before .before .before .before .before .before .before .before .before .before .before .before .args .file .now) (opening-on (length (c .before .before .before .before .before .before .before .before .before .before .before .before .before .before .before .args .file .now))) (was numberTold (c .before .before .before .before .before .before .before .before .before .before .before .before .read-opening .ensures) (c .before .before .before .before .before .before .before .before .before .before .version .given .1)))
 
--- src/lib.rt:313:36
 enum-known-n-4 : tie.Need-enum-known-n-4
 enum-known-n-4 c = search needs
 
--- src/lib.rt:314:34
 enum-known-count : tie.Need-enum-known-count
 enum-known-count c = search needs
 
--- src/lib.rt:314:53
 read-extent-requires : tie.Need-read-extent-requires
 read-extent-requires c κs = search needs
 
--- src/lib.rt:315:42
 enum-known-n-5 : tie.Need-enum-known-n-5
 enum-known-n-5 c = search needs
 
--- src/lib.rt:316:37
 enum-known-extent : tie.Need-enum-known-extent
 enum-known-extent c = search needs
 
--- src/lib.rt:301:1
 returns : tie.Need-returns
 returns c = (header-opening _ _ (was numberTold (c .before .before .before .read-opening .ensures) (c .before .n .given .1)), tt)
 
--- src/lib.rt:301:1
 returns-2 : tie.Need-returns-2
 returns-2 c = (header-edition _ _ (was numberTold (c .before .before .before .before .before .before .before .read-opening .ensures) (c .before .before .before .before .before .version .given .1)) (was editionTold (c .before .before .before .read-edition .ensures) (c .before .n2 .given .1)), tt)
 
--- src/lib.rt:301:1
 returns-3 : tie.Need-returns-3
 returns-3 c = (header-length _ _ (was numberTold (c .before .before .before .before .before .before .before .before .before .before .before .read-opening .ensures) (c .before .before .before .before .before .before .before .before .before .version .given .1)) (was editionTold (c .before .before .before .before .before .before .before .read-edition .ensures) (c .before .before .before .before .before .edition .given .1)) (was passTold (c .before .before .before .read-length .ensures) (c .before .n3 .given .1)), tt)
 
--- src/lib.rt:301:1
 same-length : tie.Need-same-length
 same-length c = search needs
 
--- src/lib.rt:301:1
 returns-4 : tie.Need-returns-4
 returns-4 c = (header-types _ _ (was numberTold (c .before .before .before .before .before .before .before .before .before .before .before .before .before .before .before .before .before .before .read-opening .ensures) (c .before .before .before .before .before .before .before .before .before .before .before .before .before .before .before .before .version .given .1)) (was editionTold (c .before .before .before .before .before .before .before .before .before .before .before .before .before .before .read-edition .ensures) (c .before .before .before .before .before .before .before .before .before .before .before .before .edition .given .1)) (was passTold (c .before .before .before .before .before .before .before .before .before .before .read-length .ensures) (c .before .before .before .before .before .before .before .before .e .given .1)) (types-refused _ _ (c .before .before .before .before .before .read-types .ensures .0) (c .before .n4 .given .1)), tt)
 
--- src/lib.rt:301:1
 same-length-2 : tie.Need-same-length-2
 same-length-2 c = search needs
 
--- src/lib.rt:301:1
 returns-5 : tie.Need-returns-5
 returns-5 c = (header-extent _ _ (was numberTold (c .before .before .before .before .before .before .before .before .before .before .before .before .before .before .before .before .before .before .before .before .before .before .read-opening .ensures) (c .before .before .before .before .before .before .before .before .before .before .before .before .before .before .before .before .before .before .before .before .version .given .1)) (was editionTold (c .before .before .before .before .before .before .before .before .before .before .before .before .before .before .before .before .before .before .read-edition .ensures) (c .before .before .before .before .before .before .before .before .before .before .before .before .before .before .before .before .edition .given .1)) (was passTold (c .before .before .before .before .before .before .before .before .before .before .before .before .before .before .read-length .ensures) (c .before .before .before .before .before .before .before .before .before .before .before .before .e .given .1)) (types-counted _ _ (c .before .before .before .before .before .before .before .before .before .read-types .ensures .0) (c .before .before .before .before .before .count .given .1)) (was extentTold (c .before .before .before .read-extent .ensures) (c .before .n5 .given .1)), tt)
 
--- src/lib.rt:301:1
 same-length-3 : tie.Need-same-length-3
 same-length-3 c = search needs
 
--- src/lib.rt:301:1
 returns-6 : tie.Need-returns-6
 returns-6 c = (header-all _ _ (was numberTold (c .before .before .before .before .before .before .before .before .before .before .before .before .before .before .before .before .before .before .before .before .before .before .read-opening .ensures) (c .before .before .before .before .before .before .before .before .before .before .before .before .before .before .before .before .before .before .before .before .version .given .1)) (was editionTold (c .before .before .before .before .before .before .before .before .before .before .before .before .before .before .before .before .before .before .read-edition .ensures) (c .before .before .before .before .before .before .before .before .before .before .before .before .before .before .before .before .edition .given .1)) (was passTold (c .before .before .before .before .before .before .before .before .before .before .before .before .before .before .read-length .ensures) (c .before .before .before .before .before .before .before .before .before .before .before .before .e .given .1)) (types-counted _ _ (c .before .before .before .before .before .before .before .before .before .read-types .ensures .0) (c .before .before .before .before .before .count .given .1)) (was extentTold (c .before .before .before .read-extent .ensures) (c .before .extent .given .1)), listed (c .before .before .before .before .before .before .before .before .before .read-types .ensures .1) (c .before .before .before .before .before .count .given .1))
 

@@ -8,31 +8,22 @@ use native.Mathlib.Omega.{arith}
 use borrow.Author.Needs.{needs}
 use Rattle.header.proofs.read_length.Statement.{statement}
 use Rattle.header.proofs.read_length.Tie as tie
-use Rattle.header.proofs.read_length.Reads as reads
-use Rattle.header.proofs.read_length.Lts as lts
-use Rattle.cursor.proofs.Cursor.number.Reads as number-reads
 
--- src/lib.rt:175:11
 number-requires : tie.Need-number-requires
 number-requires c κs = search needs
 
--- src/lib.rt:176:27
 enum-known-n : tie.Need-enum-known-n
 enum-known-n c = search needs
 
--- src/lib.rt:177:22
 enum-known-n-2 : tie.Need-enum-known-n-2
 enum-known-n-2 c = search needs
 
--- src/lib.rt:179:17
 returns : tie.Need-returns
 returns c = length-other _ _ _ (was numberTold (c .before .before .before .before .number .ensures fileFrame) (c .before .before .n2 .given .1)) (c .if1 .taken)
 
--- src/lib.rt:170:1
 returns-2 : tie.Need-returns-2
 returns-2 c = length-no _ _ _ (was numberTold (c .before .before .before .number .ensures fileFrame) (c .before .n .given .1))
 
--- src/lib.rt:170:1
 returns-3 : tie.Need-returns-3
 returns-3 c = length-is _ _ _ (was numberTold (c .before .before .before .before .number .ensures fileFrame) (c .before .before .n2 .given .1)) (c .if1 .left)
 

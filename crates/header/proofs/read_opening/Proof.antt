@@ -11,67 +11,49 @@ use native.Mathlib.Omega.{arith}
 use borrow.Author.Needs.{needs}
 use Rattle.header.proofs.read_opening.Statement.{statement}
 use Rattle.header.proofs.read_opening.Tie as tie
-use Rattle.header.proofs.read_opening.Reads as reads
-use Rattle.header.proofs.read_opening.Lts as lts
-use Rattle.header.proofs.read_four.Reads as read-four-reads
 
--- src/lib.rt:113:9
 returns : tie.Need-returns
 returns c = opening-large _ _ (omega arith)
 
--- src/lib.rt:116:9
 returns-2 : tie.Need-returns-2
 returns-2 c = opening-short _ _ (omega arith) (c .if2 .taken)
 
--- src/lib.rt:119:11
 read-four-requires : tie.Need-read-four-requires
 read-four-requires c κs = search needs
 
--- src/lib.rt:120:27
 enum-known-n : tie.Need-enum-known-n
 enum-known-n c = search needs
 
--- src/lib.rt:121:22
 enum-known-magic : tie.Need-enum-known-magic
 enum-known-magic c = search needs
 
--- src/lib.rt:123:17
 returns-3 : tie.Need-returns-3
 returns-3 c = opening-other _ _ (omega arith) (c .before .before .before .before .before .if2 .left) (was numberTold (c .before .before .before .before .read-four .ensures) (c .before .before .magic .given .1)) (c .if3 .taken)
 
--- src/lib.rt:125:19
 read-four-requires-2 : tie.Need-read-four-requires-2
 read-four-requires-2 c κs = omega (arith, at-end any-free (c .before .before .before .before .before .before .before .before .args .file .now) (four-on 1 (length (c .before .before .before .before .before .before .before .before .args .file .now)) 0) (was numberTold (c .before .before .before .before .read-four .ensures) (c .before .before .magic .given .1)))
 
--- src/lib.rt:126:35
 enum-known-n-2 : tie.Need-enum-known-n-2
 enum-known-n-2 c = search needs
 
--- src/lib.rt:127:30
 enum-known-version : tie.Need-enum-known-version
 enum-known-version c = search needs
 
--- src/lib.rt:129:25
 returns-4 : tie.Need-returns-4
 returns-4 c = opening-100 _ _ (omega arith) (c .before .before .before .before .before .before .before .before .before .before .if2 .left) (was numberTold (c .before .before .before .before .before .before .before .before .before .read-four .ensures) (c .before .before .before .before .before .before .before .magic .given .1)) (c .before .before .before .before .before .if3 .left) (was numberTold (c .before .before .before .before .read-four2 .ensures) (c .before .before .version .given .1)) (c .if4 .taken)
 
--- src/lib.rt:132:25
 returns-5 : tie.Need-returns-5
 returns-5 c = opening-101 _ _ (omega arith) (c .before .before .before .before .before .before .before .before .before .before .before .if2 .left) (was numberTold (c .before .before .before .before .before .before .before .before .before .before .read-four .ensures) (c .before .before .before .before .before .before .before .before .magic .given .1)) (c .before .before .before .before .before .before .if3 .left) (was numberTold (c .before .before .before .before .before .read-four2 .ensures) (c .before .before .before .version .given .1)) (c .before .if4 .left) (c .if5 .taken)
 
--- src/lib.rt:135:25
 returns-6 : tie.Need-returns-6
 returns-6 c = opening-200 _ _ (omega arith) (c .before .before .before .before .before .before .before .before .before .before .before .before .if2 .left) (was numberTold (c .before .before .before .before .before .before .before .before .before .before .before .read-four .ensures) (c .before .before .before .before .before .before .before .before .before .magic .given .1)) (c .before .before .before .before .before .before .before .if3 .left) (was numberTold (c .before .before .before .before .before .before .read-four2 .ensures) (c .before .before .before .before .version .given .1)) (c .before .before .if4 .left) (c .before .if5 .left) (c .if6 .taken)
 
--- src/lib.rt:107:1
 returns-7 : tie.Need-returns-7
 returns-7 c = opening-cut _ _ (omega arith) (c .before .before .before .before .if2 .left) (was numberTold (c .before .before .before .read-four .ensures) (c .before .n .given .1))
 
--- src/lib.rt:107:1
 returns-8 : tie.Need-returns-8
 returns-8 c = opening-version _ _ (omega arith) (c .before .before .before .before .before .before .before .before .before .if2 .left) (was numberTold (c .before .before .before .before .before .before .before .before .read-four .ensures) (c .before .before .before .before .before .before .magic .given .1)) (c .before .before .before .before .if3 .left) (was numberTold (c .before .before .before .read-four2 .ensures) (c .before .n2 .given .1))
 
--- src/lib.rt:107:1
 returns-9 : tie.Need-returns-9
 returns-9 c = opening-none _ _ (omega arith) (c .before .before .before .before .before .before .before .before .before .before .before .before .if2 .left) (was numberTold (c .before .before .before .before .before .before .before .before .before .before .before .read-four .ensures) (c .before .before .before .before .before .before .before .before .before .magic .given .1)) (c .before .before .before .before .before .before .before .if3 .left) (was numberTold (c .before .before .before .before .before .before .read-four2 .ensures) (c .before .before .before .before .version .given .1)) (c .before .before .if4 .left) (c .before .if5 .left) (c .if6 .left)
 

@@ -9,82 +9,58 @@ use native.Mathlib.Omega.{arith}
 use borrow.Author.Needs.{needs}
 use Rattle.header.proofs.read_types.Statement.{statement}
 use Rattle.header.proofs.read_types.Tie as tie
-use Rattle.header.proofs.read_types.Reads as reads
-use Rattle.header.proofs.read_types.Lts as lts
-use Rattle.cursor.proofs.Cursor.block.Reads as block-reads
-use Rattle.cursor.proofs.Cursor.number.Reads as number-reads
-use Rattle.cursor.proofs.Cursor.on.Reads as on-reads
-use Rattle.header.proofs.read_entries.Reads as read-entries-reads
 
--- src/lib.rt:243:11
 block-requires : tie.Need-block-requires
 block-requires c κs = search needs
 
--- src/lib.rt:244:27
 enum-known-n : tie.Need-enum-known-n
 enum-known-n c = search needs
 
--- src/lib.rt:245:22
 enum-known-size : tie.Need-enum-known-size
 enum-known-size c = search needs
 
--- src/lib.rt:246:23
 on-requires : tie.Need-on-requires
 on-requires c κs = omega (arith, block-inside fileFrame _ _ _ _ (was numberTold (c .before .before .before .block .ensures fileFrame) (c .before .size .given .1)))
 
--- src/lib.rt:247:19
 number-requires : tie.Need-number-requires
 number-requires c κs = omega (arith, c .before .on .ensures, block-inside fileFrame _ _ _ _ (was numberTold (c .before .before .before .before .before .block .ensures fileFrame) (c .before .before .before .size .given .1)))
 
--- src/lib.rt:248:35
 enum-known-n-2 : tie.Need-enum-known-n-2
 enum-known-n-2 c = search needs
 
--- src/lib.rt:249:30
 enum-known-count : tie.Need-enum-known-count
 enum-known-count c = search needs
 
--- src/lib.rt:249:49
 read-entries-requires : tie.Need-read-entries-requires
 read-entries-requires c κs = omega (arith, c .before .before .before .before .before .before .on .ensures, block-inside fileFrame _ _ _ _ (was numberTold (c .before .before .before .before .before .before .before .before .before .before .block .ensures fileFrame) (c .before .before .before .before .before .before .before .before .size .given .1)))
 
--- src/lib.rt:250:36
 enum-known-n-3 : tie.Need-enum-known-n-3
 enum-known-n-3 c = search needs
 
--- src/lib.rt:251:34
 enum-known-made : tie.Need-enum-known-made
 enum-known-made c = search needs
 
--- src/lib.rt:254:29
 same-length : tie.Need-same-length
 same-length c = search needs
 
--- src/lib.rt:254:29
 returns : tie.Need-returns
 returns c = (types-left _ _ _ (was numberTold (c .before .before .before .before .before .before .before .before .before .before .before .before .before .before .before .before .before .before .before .before .block .ensures fileFrame) (c .before .before .before .before .before .before .before .before .before .before .before .before .before .before .before .before .before .before .size .given .1)) (c .before .before .before .before .before .before .before .before .before .before .before .before .before .before .before .before .on .ensures) (was numberTold (c .before .before .before .before .before .before .before .before .before .before .before .before .before .before .number .ensures fileFrame) (c .before .before .before .before .before .before .before .before .before .before .before .before .count .given .1)) (types-counted _ _ (c .before .before .before .before .before .before .before .before .before .read-entries .ensures .0) (c .before .before .before .before .before .made .given .1)) (c .if1 .taken), tt)
 
--- src/lib.rt:238:1
 returns-2 : tie.Need-returns-2
 returns-2 c = (types-block _ _ _ (was numberTold (c .before .before .before .block .ensures fileFrame) (c .before .n .given .1)), tt)
 
--- src/lib.rt:238:1
 returns-3 : tie.Need-returns-3
 returns-3 c = (types-count _ _ _ (was numberTold (c .before .before .before .before .before .before .before .before .before .block .ensures fileFrame) (c .before .before .before .before .before .before .before .size .given .1)) (c .before .before .before .before .before .on .ensures) (was numberTold (c .before .before .before .number .ensures fileFrame) (c .before .n2 .given .1)), tt)
 
--- src/lib.rt:238:1
 same-length-2 : tie.Need-same-length-2
 same-length-2 c = search needs
 
--- src/lib.rt:238:1
 returns-4 : tie.Need-returns-4
 returns-4 c = (types-entries _ _ _ (was numberTold (c .before .before .before .before .before .before .before .before .before .before .before .before .before .before .before .before .block .ensures fileFrame) (c .before .before .before .before .before .before .before .before .before .before .before .before .before .before .size .given .1)) (c .before .before .before .before .before .before .before .before .before .before .before .before .on .ensures) (was numberTold (c .before .before .before .before .before .before .before .before .before .before .number .ensures fileFrame) (c .before .before .before .before .before .before .before .before .count .given .1)) (types-refused _ _ (c .before .before .before .before .before .read-entries .ensures .0) (c .before .n3 .given .1)), tt)
 
--- src/lib.rt:238:1
 same-length-3 : tie.Need-same-length-3
 same-length-3 c = search needs
 
--- src/lib.rt:238:1
 returns-5 : tie.Need-returns-5
 returns-5 c = (types-all _ _ _ (was numberTold (c .before .before .before .before .before .before .before .before .before .before .before .before .before .before .before .before .before .before .before .before .block .ensures fileFrame) (c .before .before .before .before .before .before .before .before .before .before .before .before .before .before .before .before .before .before .size .given .1)) (c .before .before .before .before .before .before .before .before .before .before .before .before .before .before .before .before .on .ensures) (was numberTold (c .before .before .before .before .before .before .before .before .before .before .before .before .before .before .number .ensures fileFrame) (c .before .before .before .before .before .before .before .before .before .before .before .before .count .given .1)) (types-counted _ _ (c .before .before .before .before .before .before .before .before .before .read-entries .ensures .0) (c .before .before .before .before .before .made .given .1)) (c .if1 .left), listed (c .before .before .before .before .before .before .before .before .before .read-entries .ensures .1) (c .before .before .before .before .before .made .given .1))
 

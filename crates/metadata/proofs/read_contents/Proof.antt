@@ -8,31 +8,22 @@ use native.Mathlib.Omega.{arith}
 use borrow.Author.Needs.{needs}
 use Rattle.metadata.proofs.read_contents.Statement.{statement}
 use Rattle.metadata.proofs.read_contents.Tie as tie
-use Rattle.metadata.proofs.read_contents.Reads as reads
-use Rattle.metadata.proofs.read_contents.Lts as lts
-use Rattle.cursor.proofs.Cursor.number.Reads as number-reads
 
--- src/lib.rt:138:11
 number-requires : tie.Need-number-requires
 number-requires c κs = search needs
 
--- src/lib.rt:139:27
 enum-known-n : tie.Need-enum-known-n
 enum-known-n c = search needs
 
--- src/lib.rt:140:22
 enum-known-n-2 : tie.Need-enum-known-n-2
 enum-known-n-2 c = search needs
 
--- src/lib.rt:142:17
 returns : tie.Need-returns
 returns c = contents-universal _ _ _ (was numberTold (c .before .before .before .before .number .ensures metaFrame) (c .before .before .n2 .given .1)) (c .if1 .taken)
 
--- src/lib.rt:134:1
 returns-2 : tie.Need-returns-2
 returns-2 c = contents-cut _ _ _ (was numberTold (c .before .before .before .number .ensures metaFrame) (c .before .n .given .1))
 
--- src/lib.rt:134:1
 returns-3 : tie.Need-returns-3
 returns-3 c = contents-versions _ _ _ (was numberTold (c .before .before .before .before .number .ensures metaFrame) (c .before .before .n2 .given .1)) (c .if1 .left)
 

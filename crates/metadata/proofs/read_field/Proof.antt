@@ -10,53 +10,37 @@ use native.Mathlib.Omega.{arith}
 use borrow.Author.Needs.{needs}
 use Rattle.metadata.proofs.read_field.Statement.{statement}
 use Rattle.metadata.proofs.read_field.Tie as tie
-use Rattle.metadata.proofs.read_field.Reads as reads
-use Rattle.metadata.proofs.read_field.Lts as lts
-use Rattle.cursor.proofs.Cursor.block.Reads as block-reads
-use Rattle.cursor.proofs.Cursor.number.Reads as number-reads
-use Rattle.cursor.proofs.Cursor.on.Reads as on-reads
 
--- src/lib.rt:118:11
 block-requires : tie.Need-block-requires
 block-requires c κs = search needs
 
--- src/lib.rt:119:27
 enum-known-n : tie.Need-enum-known-n
 enum-known-n c = search needs
 
--- src/lib.rt:120:22
 enum-known-size : tie.Need-enum-known-size
 enum-known-size c = search needs
 
--- src/lib.rt:123:59
 on-requires : tie.Need-on-requires
 on-requires c κs = omega (arith, block-inside metaFrame _ _ _ _ (was numberTold (c .before .before .before .before .before .block .ensures metaFrame) (c .before .before .before .size .given .1)))
 
--- src/lib.rt:123:17
 returns : tie.Need-returns
 returns c = field-name _ _ _ (was numberTold (c .before .before .before .before .before .before .block .ensures metaFrame) (c .before .before .before .before .size .given .1)) (c .before .before .if1 .taken) refl (c .on .ensures)
 
--- src/lib.rt:125:19
 number-requires : tie.Need-number-requires
 number-requires c κs = search needs
 
--- src/lib.rt:126:35
 enum-known-n-2 : tie.Need-enum-known-n-2
 enum-known-n-2 c = search needs
 
--- src/lib.rt:127:30
 enum-known-k : tie.Need-enum-known-k
 enum-known-k c = search needs
 
--- src/lib.rt:114:1
 returns-2 : tie.Need-returns-2
 returns-2 c = field-cut _ _ _ (was numberTold (c .before .before .before .block .ensures metaFrame) (c .before .n .given .1))
 
--- src/lib.rt:114:1
 returns-3 : tie.Need-returns-3
 returns-3 c = field-number _ _ _ (was numberTold (c .before .before .before .before .before .before .before .before .block .ensures metaFrame) (c .before .before .before .before .before .before .size .given .1)) (c .before .before .before .before .if1 .left) (was numberTold (c .before .before .before .number .ensures metaFrame) (c .before .n2 .given .1))
 
--- src/lib.rt:114:1
 returns-4 : tie.Need-returns-4
 returns-4 c = field-standard _ _ _ (was numberTold (c .before .before .before .before .before .before .before .before .block .ensures metaFrame) (c .before .before .before .before .before .before .size .given .1)) (c .before .before .before .before .if1 .left) (was numberTold (c .before .before .before .number .ensures metaFrame) (c .before .k .given .1))
 

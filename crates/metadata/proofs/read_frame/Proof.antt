@@ -7,44 +7,31 @@ use native.Mathlib.Omega.{arith}
 use borrow.Author.Needs.{needs}
 use Rattle.metadata.proofs.read_frame.Statement.{statement}
 use Rattle.metadata.proofs.read_frame.Tie as tie
-use Rattle.metadata.proofs.read_frame.Reads as reads
-use Rattle.metadata.proofs.read_frame.Lts as lts
-use Rattle.metadata.proofs.read_contents.Reads as read-contents-reads
-use Rattle.metadata.proofs.read_field.Reads as read-field-reads
 
--- src/lib.rt:154:11
 read-field-requires : tie.Need-read-field-requires
 read-field-requires c κs = search needs
 
--- src/lib.rt:155:26
 enum-known-n : tie.Need-enum-known-n
 enum-known-n c = search needs
 
--- src/lib.rt:156:21
 enum-known-field : tie.Need-enum-known-field
 enum-known-field c = search needs
 
--- src/lib.rt:156:40
 read-contents-requires : tie.Need-read-contents-requires
 read-contents-requires c κs = search needs
 
--- src/lib.rt:157:32
 enum-known-n-2 : tie.Need-enum-known-n-2
 enum-known-n-2 c = search needs
 
--- src/lib.rt:158:27
 enum-known-contents : tie.Need-enum-known-contents
 enum-known-contents c = search needs
 
--- src/lib.rt:150:1
 returns : tie.Need-returns
 returns c = frame-field _ _ _ (was fieldTold (c .before .before .before .read-field .ensures) (c .before .n .given .1))
 
--- src/lib.rt:150:1
 returns-2 : tie.Need-returns-2
 returns-2 c = frame-contents _ _ _ (was fieldTold (c .before .before .before .before .before .before .before .read-field .ensures) (c .before .before .before .before .before .field .given .1)) (was contentsTold (c .before .before .before .read-contents .ensures) (c .before .n2 .given .1))
 
--- src/lib.rt:150:1
 returns-3 : tie.Need-returns-3
 returns-3 c = frame-all _ _ _ (was fieldTold (c .before .before .before .before .before .before .before .read-field .ensures) (c .before .before .before .before .before .field .given .1)) (was contentsTold (c .before .before .before .read-contents .ensures) (c .before .contents .given .1))
 

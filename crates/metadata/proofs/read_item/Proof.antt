@@ -8,36 +8,25 @@ use native.Mathlib.Omega.{arith}
 use borrow.Author.Needs.{needs}
 use Rattle.metadata.proofs.read_item.Statement.{statement}
 use Rattle.metadata.proofs.read_item.Tie as tie
-use Rattle.metadata.proofs.read_item.Reads as reads
-use Rattle.metadata.proofs.read_item.Lts as lts
-use Rattle.metadata.proofs.read_frame.Reads as read-frame-reads
-use Rattle.metadata.proofs.read_rows.Reads as read-rows-reads
 
--- src/lib.rt:348:11
 read-frame-requires : tie.Need-read-frame-requires
 read-frame-requires c κs = search needs
 
--- src/lib.rt:349:25
 enum-known-n : tie.Need-enum-known-n
 enum-known-n c = search needs
 
--- src/lib.rt:350:20
 enum-known-is : tie.Need-enum-known-is
 enum-known-is c = search needs
 
--- src/lib.rt:358:13
 read-rows-requires : tie.Need-read-rows-requires
 read-rows-requires c κs = search needs
 
--- src/lib.rt:334:1
 returns : tie.Need-returns
 returns c = λ t. no (item-frame _ _ _ _ _ _ _ _ (was itemTold (c .before .before .before .read-frame .ensures) (c .before .n .given .1)))
 
--- src/lib.rt:334:1
 same-length : tie.Need-same-length
 same-length c = search needs
 
--- src/lib.rt:334:1
 returns-2 : tie.Need-returns-2
 returns-2 c = λ t. along (item-rows _ _ _ _ _ _ _ _ (was itemTold (c .before .before .before .before .before .before .before .read-frame .ensures) (c .before .before .before .before .before .is .given .1))) (c .before .before .read-rows .ensures t)
 

@@ -6,40 +6,28 @@ use native.Mathlib.Omega.{arith}
 use borrow.Author.Needs.{needs}
 use Rattle.metadata.proofs.read_rows.Statement.{statement}
 use Rattle.metadata.proofs.read_rows.Tie as tie
-use Rattle.metadata.proofs.read_rows.Reads as reads
-use Rattle.metadata.proofs.read_rows.Lts as lts
-use Rattle.metadata.proofs.read_universal.Reads as read-universal-reads
-use Rattle.metadata.proofs.read_versions.Reads as read-versions-reads
 
--- src/lib.rt:328:56
 enum-told : tie.Need-enum-told
 enum-told c = search needs
 
--- src/lib.rt:328:32
 read-universal-requires : tie.Need-read-universal-requires
 read-universal-requires c κs = search needs
 
--- src/lib.rt:329:28
 enum-known-contents : tie.Need-enum-known-contents
 enum-known-contents c = search needs
 
--- src/lib.rt:329:34
 read-versions-requires : tie.Need-read-versions-requires
 read-versions-requires c κs = search needs
 
--- src/lib.rt:313:1
 same-length : tie.Need-same-length
 same-length c = search needs
 
--- src/lib.rt:313:1
 returns : tie.Need-returns
 returns c = λ t. along (rows-universal _ _ _ _ _ _ _ (c .before .before .before .before .enum-told .given .1)) (c .before .before .read-universal .ensures t _)
 
--- src/lib.rt:313:1
 same-length-2 : tie.Need-same-length-2
 same-length-2 c = search needs
 
--- src/lib.rt:313:1
 returns-2 : tie.Need-returns-2
 returns-2 c = λ t. along (rows-versions _ _ _ _ _ _ _ (c .before .before .before .before .before .contents .given .1)) (c .before .before .read-versions .ensures t)
 

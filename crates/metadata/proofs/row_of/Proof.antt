@@ -5,22 +5,16 @@ use native.Mathlib.Omega.{arith}
 use borrow.Author.Needs.{needs}
 use Rattle.metadata.proofs.row_of.Statement.{statement}
 use Rattle.metadata.proofs.row_of.Tie as tie
-use Rattle.metadata.proofs.row_of.Reads as reads
-use Rattle.metadata.proofs.row_of.Lts as lts
 
--- src/lib.rt:184:25
 enum-known-field : tie.Need-enum-known-field
 enum-known-field c = search needs
 
--- src/lib.rt:188:21
 enum-known-field-2 : tie.Need-enum-known-field-2
 enum-known-field-2 c = search needs
 
--- src/lib.rt:167:1
 returns : tie.Need-returns
 returns c = row-standard _ _ _ _ _ _ (c .before .field .given .1)
 
--- src/lib.rt:167:1
 returns-2 : tie.Need-returns-2
 returns-2 c = row-name _ _ _ _ _ _ (c .before .field2 .given .1)
 

@@ -4,8 +4,6 @@ use lib.ListN.{length}
 use Rattle.metadata.proofs.Storing.{Storing, none, more, all}
 use Rattle.metadata.proofs.store.Statement.{statement}
 use Rattle.metadata.proofs.store.Tie as tie
-use Rattle.metadata.proofs.store.Reads as reads
-use Rattle.metadata.proofs.store.Lts as lts
 
 abbrev Inv-loop : tie.InvT-loop
 Inv-loop table₀ at words i₀ table i = Storing table₀ at words i table
@@ -13,47 +11,36 @@ Inv-loop table₀ at words i₀ table i = Storing table₀ at words i table
 abbrev μ-loop : tie.MeasureT-loop
 μ-loop table₀ at words i₀ table i = length words - i
 
--- src/lib.rt:28:5
 loop-holds : tie.Need-loop-holds Inv-loop μ-loop
 loop-holds c = none _ _ _
 
--- src/lib.rt:29:25
 mul-table : tie.Need-mul-table Inv-loop μ-loop
 mul-table c = omega arith
 
--- src/lib.rt:29:25
 shared-slice-read-table : tie.Need-shared-slice-read-table Inv-loop μ-loop
 shared-slice-read-table c = omega arith
 
--- src/lib.rt:29:15
 add-table : tie.Need-add-table Inv-loop μ-loop
 add-table c = omega arith
 
--- src/lib.rt:29:9
 mul-table-2 : tie.Need-mul-table-2 Inv-loop μ-loop
 mul-table-2 c = omega arith
 
--- src/lib.rt:29:9
 slice-write-table : tie.Need-slice-write-table Inv-loop μ-loop
 slice-write-table c = omega arith
 
--- src/lib.rt:30:13
 add-i : tie.Need-add-i Inv-loop μ-loop
 add-i c = omega arith
 
--- src/lib.rt:28:5
 loop-less : tie.Need-loop-less Inv-loop μ-loop
 loop-less c = omega arith
 
--- src/lib.rt:28:5
 loop-again : tie.Need-loop-again Inv-loop μ-loop
 loop-again c = more _ _ _ _ _ (c .before .loop-test .taken) (c .before .before .loop .inv)
 
--- src/lib.rt:23:1
 same-length : tie.Need-same-length Inv-loop μ-loop
 same-length c = c .before .loop .inv .same
 
--- src/lib.rt:23:1
 returns : tie.Need-returns Inv-loop μ-loop
 returns c = all _ _ _ _ _ (c .loop-test .left) (c .before .loop .inv)
 

@@ -11,9 +11,6 @@ use native.Mathlib.Omega.{arith}
 use borrow.Author.Needs.{needs}
 use Rattle.mobile.proofs.all_needs.Statement.{statement}
 use Rattle.mobile.proofs.all_needs.Tie as tie
-use Rattle.mobile.proofs.all_needs.Reads as reads
-use Rattle.mobile.proofs.all_needs.Lts as lts
-use Rattle.mobile.proofs.is_need.Reads as is-need-reads
 
 abbrev Inv-loop : tie.InvT-loop
 Inv-loop items many row i₀ i = (i ≤ many) × (all (isNeed row) (itemsIn many items) ≡ all (isNeed row) (drop i (itemsIn many items)))
@@ -21,35 +18,27 @@ Inv-loop items many row i₀ i = (i ≤ many) × (all (isNeed row) (itemsIn many
 abbrev μ-loop : tie.MeasureT-loop
 μ-loop items many row i₀ i = many - i
 
--- src/lib.rt:315:5
 loop-holds : tie.Need-loop-holds Inv-loop μ-loop
 loop-holds c = (omega arith, refl)
 
--- src/lib.rt:316:28
 mul-is-need : tie.Need-mul-is-need Inv-loop μ-loop
 mul-is-need c = omega arith
 
--- src/lib.rt:316:13
 is-need-requires : tie.Need-is-need-requires Inv-loop μ-loop
 is-need-requires c κs = omega arith
 
--- src/lib.rt:317:13
 returns : tie.Need-returns Inv-loop μ-loop
 returns c = items-no _ _ _ _ (c .before .before .before .loop .inv .1) (c .before .before .loop-test .taken) (sym (c .before .is-need .ensures) ∙ not-true (c .before .is-need .result) (c .if1 .taken))
 
--- src/lib.rt:319:13
 add-i : tie.Need-add-i Inv-loop μ-loop
 add-i c = omega arith
 
--- src/lib.rt:315:5
 loop-less : tie.Need-loop-less Inv-loop μ-loop
 loop-less c = omega arith
 
--- src/lib.rt:315:5
 loop-again : tie.Need-loop-again Inv-loop μ-loop
 loop-again c = (omega arith, items-on _ _ _ _ (c .before .before .before .loop .inv .1) (c .before .before .loop-test .taken) (sym (c .before .is-need .ensures) ∙ not-false (c .before .is-need .result) (c .if1 .left)))
 
--- src/lib.rt:310:1
 returns-2 : tie.Need-returns-2 Inv-loop μ-loop
 returns-2 c = items-yes _ _ _ _ (c .before .loop .inv .1) (c .loop-test .left)
 

@@ -6,15 +6,10 @@ use native.Mathlib.Omega.{arith}
 use borrow.Author.Needs.{needs}
 use Rattle.mobile.proofs.children_typed.Statement.{statement}
 use Rattle.mobile.proofs.children_typed.Tie as tie
-use Rattle.mobile.proofs.children_typed.Reads as reads
-use Rattle.mobile.proofs.children_typed.Lts as lts
-use Rattle.mobile.proofs.count_of.Reads as count-of-reads
 
--- src/lib.rt:271:5
 count-of-requires : tie.Need-count-of-requires
 count-of-requires c κs = c .before .before .before .pre
 
--- src/lib.rt:267:1
 returns : tie.Need-returns
 returns c = typed-by (c .before .before .before .before .args .file .now) _ _ (c .count-of .ensures) refl
 

@@ -11,8 +11,6 @@ use native.Mathlib.Omega.{arith}
 use borrow.Author.Needs.{needs}
 use Rattle.mobile.proofs.files_only.Statement.{statement}
 use Rattle.mobile.proofs.files_only.Tie as tie
-use Rattle.mobile.proofs.files_only.Reads as reads
-use Rattle.mobile.proofs.files_only.Lts as lts
 
 abbrev Inv-loop : tie.InvT-loop
 Inv-loop nodes many i₀ i = (1 ≤ i) × (filesOnly (nodesIn many nodes) ≡ all isFile (drop i (nodesIn many nodes)))
@@ -20,55 +18,42 @@ Inv-loop nodes many i₀ i = (1 ≤ i) × (filesOnly (nodesIn many nodes) ≡ al
 abbrev μ-loop : tie.MeasureT-loop
 μ-loop nodes many i₀ i = many - i
 
--- src/lib.rt:53:9
 returns : tie.Need-returns Inv-loop μ-loop
 returns c = root-none (c .before .args .nodes .now) (c .before .args .many) (c .if1 .taken)
 
--- src/lib.rt:55:8
 shared-slice-read-if2 : tie.Need-shared-slice-read-if2 Inv-loop μ-loop
 shared-slice-read-if2 c = omega arith
 
--- src/lib.rt:56:9
 returns-2 : tie.Need-returns-2 Inv-loop μ-loop
 returns-2 c = root-file (c .before .before .before .args .nodes .now) (c .before .before .before .args .many) (omega arith) (c .if2 .taken)
 
--- src/lib.rt:59:5
 loop-holds : tie.Need-loop-holds Inv-loop μ-loop
 loop-holds c = (omega arith, root-folder (c .before .before .before .args .nodes .now) (c .before .before .before .args .many) (omega arith) (c .if2 .left))
 
--- src/lib.rt:60:18
 mul-if3 : tie.Need-mul-if3 Inv-loop μ-loop
 mul-if3 c = omega arith
 
--- src/lib.rt:60:18
 add-if3 : tie.Need-add-if3 Inv-loop μ-loop
 add-if3 c = omega arith
 
--- src/lib.rt:60:12
 mul-if3-2 : tie.Need-mul-if3-2 Inv-loop μ-loop
 mul-if3-2 c = omega arith
 
--- src/lib.rt:60:12
 shared-slice-read-if3 : tie.Need-shared-slice-read-if3 Inv-loop μ-loop
 shared-slice-read-if3 c = omega arith
 
--- src/lib.rt:61:13
 returns-3 : tie.Need-returns-3 Inv-loop μ-loop
 returns-3 c = nodes-no _ _ _ _ (c .before .before .before .loop .inv .1) (c .before .before .loop-test .taken) (file-no (c .before .before .before .before .before .before .before .args .nodes .now) (c .before .before .before .loop .i * 12) (c .if3 .taken))
 
--- src/lib.rt:63:13
 add-i : tie.Need-add-i Inv-loop μ-loop
 add-i c = omega arith
 
--- src/lib.rt:59:5
 loop-less : tie.Need-loop-less Inv-loop μ-loop
 loop-less c = omega arith
 
--- src/lib.rt:59:5
 loop-again : tie.Need-loop-again Inv-loop μ-loop
 loop-again c = (omega arith, nodes-on _ _ _ _ (c .before .before .before .loop .inv .1) (c .before .before .loop-test .taken) (file-yes (c .before .before .before .before .before .before .before .args .nodes .now) (c .before .before .before .loop .i * 12) (c .if3 .left)))
 
--- src/lib.rt:48:1
 returns-4 : tie.Need-returns-4 Inv-loop μ-loop
 returns-4 c = nodes-yes _ _ _ _ (c .before .loop .inv .1) (c .loop-test .left)
 

@@ -6,38 +6,28 @@ use native.Mathlib.Omega.{arith}
 use borrow.Author.Needs.{needs}
 use Rattle.mobile.proofs.is_field.Statement.{statement}
 use Rattle.mobile.proofs.is_field.Tie as tie
-use Rattle.mobile.proofs.is_field.Reads as reads
-use Rattle.mobile.proofs.is_field.Lts as lts
 
--- src/lib.rt:127:14
 add-if1 : tie.Need-add-if1
 add-if1 c = search needs
 
--- src/lib.rt:127:8
 mul-if1 : tie.Need-mul-if1
 mul-if1 c = search needs
 
--- src/lib.rt:127:8
 shared-slice-read-if1 : tie.Need-shared-slice-read-if1
 shared-slice-read-if1 c = search needs
 
--- src/lib.rt:128:9
 returns : tie.Need-returns
 returns c = field-other (c .before .before .args .items .now) (c .before .before .args .k) (c .before .before .args .field) (c .if1 .taken)
 
--- src/lib.rt:130:11
 add-result : tie.Need-add-result
 add-result c = search needs
 
--- src/lib.rt:130:5
 mul-result : tie.Need-mul-result
 mul-result c = search needs
 
--- src/lib.rt:130:5
 shared-slice-read-result : tie.Need-shared-slice-read-result
 shared-slice-read-result c = search needs
 
--- src/lib.rt:123:1
 returns-2 : tie.Need-returns-2
 returns-2 c = field-by (c .before .before .before .args .items .now) (c .before .before .before .args .k) (c .before .before .before .args .field) (c .before .if1 .left) refl
 

@@ -6,36 +6,25 @@ use native.Mathlib.Omega.{arith}
 use borrow.Author.Needs.{needs}
 use Rattle.mobile.proofs.is_need.Statement.{statement}
 use Rattle.mobile.proofs.is_need.Tie as tie
-use Rattle.mobile.proofs.is_need.Reads as reads
-use Rattle.mobile.proofs.is_need.Lts as lts
-use Rattle.mobile.proofs.is_binary.Reads as is-binary-reads
-use Rattle.mobile.proofs.is_field.Reads as is-field-reads
 
--- src/lib.rt:300:9
 is-field-requires : tie.Need-is-field-requires
 is-field-requires c κs = search needs
 
--- src/lib.rt:301:9
 returns : tie.Need-returns
 returns c = need-other (c .before .before .before .args .items .now) (c .before .before .before .args .k) (c .before .before .before .args .row) (c .before .is-field .ensures) (not-true (c .before .is-field .result) (c .if1 .taken))
 
--- src/lib.rt:303:8
 mul-if2 : tie.Need-mul-if2
 mul-if2 c = search needs
 
--- src/lib.rt:303:8
 shared-slice-read-if2 : tie.Need-shared-slice-read-if2
 shared-slice-read-if2 c = search needs
 
--- src/lib.rt:304:9
 returns-2 : tie.Need-returns-2
 returns-2 c = need-node (c .before .before .before .before .before .args .items .now) (c .before .before .before .before .before .args .k) (c .before .before .before .before .before .args .row) (c .before .before .before .is-field .ensures) (not-false (c .before .before .before .is-field .result) (c .before .before .if1 .left)) (c .if2 .taken)
 
--- src/lib.rt:306:5
 is-binary-requires : tie.Need-is-binary-requires
 is-binary-requires c κs = search needs
 
--- src/lib.rt:296:1
 returns-3 : tie.Need-returns-3
 returns-3 c = need-by (c .before .before .before .before .before .before .args .items .now) (c .before .before .before .before .before .before .args .k) (c .before .before .before .before .before .before .args .row) (c .before .before .before .before .is-field .ensures) (not-false (c .before .before .before .before .is-field .result) (c .before .before .before .if1 .left)) (c .before .if2 .left) (c .is-binary .ensures)
 

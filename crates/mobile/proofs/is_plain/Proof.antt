@@ -6,14 +6,10 @@ use native.Mathlib.Omega.{arith}
 use borrow.Author.Needs.{needs}
 use Rattle.mobile.proofs.is_plain.Statement.{statement}
 use Rattle.mobile.proofs.is_plain.Tie as tie
-use Rattle.mobile.proofs.is_plain.Reads as reads
-use Rattle.mobile.proofs.is_plain.Lts as lts
 
--- src/lib.rt:72:9
 returns : tie.Need-returns
 returns c = plain-one _ (c .if1 .taken)
 
--- src/lib.rt:68:1
 returns-2 : tie.Need-returns-2
 returns-2 c = plain-by _ (c .if1 .left) refl
 

@@ -8,48 +8,34 @@ use native.Mathlib.Omega.{arith}
 use borrow.Author.Needs.{needs}
 use Rattle.mobile.proofs.judge.Statement.{statement}
 use Rattle.mobile.proofs.judge.Tie as tie
-use Rattle.mobile.proofs.judge.Reads as reads
-use Rattle.mobile.proofs.judge.Lts as lts
-use Rattle.mobile.proofs.verdict.Reads as verdict-reads
-use Rattle.tree.proofs.read_file.Reads as read-file-reads
 
--- src/lib.rt:430:11
 read-file-requires : tie.Need-read-file-requires
 read-file-requires c κs = search needs
 
--- src/lib.rt:431:23
 enum-known-n : tie.Need-enum-known-n
 enum-known-n c = search needs
 
--- src/lib.rt:432:18
 enum-known-s : tie.Need-enum-known-s
 enum-known-s c = search needs
 
--- src/lib.rt:432:40
 verdict-requires : tie.Need-verdict-requires
 verdict-requires c κs = let st = standing _ _ _ _ (c .before .before .before .before .before .before .before .before .before .read-file .ensures .0) (c .before .before .before .before .before .before .before .before .before .read-file .ensures .1 .0) (c .before .before .before .before .before .before .before .before .before .read-file .ensures .1 .1) (c .before .before .before .s .given .1) in (st .node-room, st .item-room, data-within st)
 
--- src/lib.rt:425:1
 same-length : tie.Need-same-length
 same-length c = search needs
 
--- src/lib.rt:425:1
 same-length-2 : tie.Need-same-length-2
 same-length-2 c = search needs
 
--- src/lib.rt:425:1
 returns : tie.Need-returns
 returns c = (sym (ask-refused _ (c .before .before .before .before .before .before .before .read-file .ensures .0) (c .before .n .given .1) (mobile (c .before .before .before .before .before .before .before .before .before .before .before .before .before .args .file .now))), (refused-nodes _ (mobile (c .before .before .before .before .before .before .before .before .before .before .before .before .before .args .file .now)) (c .before .before .before .before .before .before .before .read-file .ensures .0) (c .before .n .given .1) _ (c .before .before .before .before .before .before .before .read-file .ensures .1 .0), refused-items _ (mobile (c .before .before .before .before .before .before .before .before .before .before .before .before .before .args .file .now)) (c .before .before .before .before .before .before .before .read-file .ensures .0) (c .before .n .given .1) _ (c .before .before .before .before .before .before .before .read-file .ensures .1 .1)))
 
--- src/lib.rt:425:1
 same-length-3 : tie.Need-same-length-3
 same-length-3 c = search needs
 
--- src/lib.rt:425:1
 same-length-4 : tie.Need-same-length-4
 same-length-4 c = search needs
 
--- src/lib.rt:425:1
 returns-2 : tie.Need-returns-2
 returns-2 c = let st = standing _ _ _ _ (c .before .before .before .before .before .before .before .before .before .before .read-file .ensures .0) (c .before .before .before .before .before .before .before .before .before .before .read-file .ensures .1 .0) (c .before .before .before .before .before .before .before .before .before .before .read-file .ensures .1 .1) (c .before .before .before .before .s .given .1) in (judged st (c .verdict .ensures), (judged-nodes st (c .verdict .ensures) _ (c .before .before .before .before .before .before .before .before .before .before .read-file .ensures .1 .0), judged-items st (c .verdict .ensures) _ (c .before .before .before .before .before .before .before .before .before .before .read-file .ensures .1 .1)))
 

@@ -10,9 +10,6 @@ use native.Mathlib.Omega.{arith}
 use borrow.Author.Needs.{needs}
 use Rattle.mobile.proofs.next_row.Statement.{statement}
 use Rattle.mobile.proofs.next_row.Tie as tie
-use Rattle.mobile.proofs.next_row.Reads as reads
-use Rattle.mobile.proofs.next_row.Lts as lts
-use Rattle.mobile.proofs.is_field.Reads as is-field-reads
 
 abbrev Inv-loop : tie.InvT-loop
 Inv-loop items many field from end i₀ i = (from ≤ i) × (i ≤ end) × (those (isField field) (part (itemsIn many items) from end) ≡ those (isField field) (part (itemsIn many items) i end))
@@ -20,35 +17,27 @@ Inv-loop items many field from end i₀ i = (from ≤ i) × (i ≤ end) × (thos
 abbrev μ-loop : tie.MeasureT-loop
 μ-loop items many field from end i₀ i = end - i
 
--- src/lib.rt:154:5
 loop-holds : tie.Need-loop-holds Inv-loop μ-loop
 loop-holds c = (omega arith, omega arith, refl)
 
--- src/lib.rt:155:28
 mul-is-field : tie.Need-mul-is-field Inv-loop μ-loop
 mul-is-field c = omega arith
 
--- src/lib.rt:155:12
 is-field-requires : tie.Need-is-field-requires Inv-loop μ-loop
 is-field-requires c κs = omega arith
 
--- src/lib.rt:156:13
 returns : tie.Need-returns Inv-loop μ-loop
 returns c = next-here (c .before .before .before .before .before .args .items .now) (c .before .before .before .before .before .args .many) (c .before .before .before .before .before .args .field) (c .before .before .before .before .before .args .from) (c .before .before .before .before .before .args .end) (c .before .before .before .loop .i) (c .before .before .before .loop .inv .2) (omega arith) (omega arith) (c .before .before .loop-test .taken) (sym (c .before .is-field .ensures) ∙ c .if1 .taken)
 
--- src/lib.rt:158:13
 add-i : tie.Need-add-i Inv-loop μ-loop
 add-i c = omega arith
 
--- src/lib.rt:154:5
 loop-less : tie.Need-loop-less Inv-loop μ-loop
 loop-less c = omega arith
 
--- src/lib.rt:154:5
 loop-again : tie.Need-loop-again Inv-loop μ-loop
 loop-again c = (omega arith, omega arith, next-on (c .before .before .before .before .before .args .items .now) (c .before .before .before .before .before .args .many) (c .before .before .before .before .before .args .field) (c .before .before .before .before .before .args .from) (c .before .before .before .before .before .args .end) (c .before .before .before .loop .i) (c .before .before .before .loop .inv .2) (omega arith) (omega arith) (c .before .before .loop-test .taken) (sym (c .before .is-field .ensures) ∙ c .if1 .left))
 
--- src/lib.rt:149:1
 returns-2 : tie.Need-returns-2 Inv-loop μ-loop
 returns-2 c = next-none (c .before .before .before .args .items .now) (c .before .before .before .args .many) (c .before .before .before .args .field) (c .before .before .before .args .from) (c .before .before .before .args .end) (c .before .loop .i) (c .before .loop .inv .2) (omega arith) (omega arith) (omega arith) (c .loop-test .left)
 

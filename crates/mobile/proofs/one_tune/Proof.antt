@@ -6,40 +6,28 @@ use native.Mathlib.Omega.{arith}
 use borrow.Author.Needs.{needs}
 use Rattle.mobile.proofs.one_tune.Statement.{statement}
 use Rattle.mobile.proofs.one_tune.Tie as tie
-use Rattle.mobile.proofs.one_tune.Reads as reads
-use Rattle.mobile.proofs.one_tune.Lts as lts
-use Rattle.mobile.proofs.count_of.Reads as count-of-reads
-use Rattle.mobile.proofs.row_of.Reads as row-of-reads
 
--- src/lib.rt:279:9
 count-of-requires : tie.Need-count-of-requires
 count-of-requires c κs = c .before .before .before .pre
 
--- src/lib.rt:281:9
 returns : tie.Need-returns
 returns c = tune-other (c .before .before .before .before .before .args .file .now) _ _ (c .before .count-of .ensures) (c .if1 .taken)
 
--- src/lib.rt:283:9
 count-of-requires-2 : tie.Need-count-of-requires-2
 count-of-requires-2 c κs = c .before .before .before .before .before .pre
 
--- src/lib.rt:285:9
 returns-2 : tie.Need-returns-2
 returns-2 c = bank-none (c .before .before .before .before .before .before .before .args .file .now) _ _ (c .before .before .before .count-of .ensures) (c .before .before .if1 .left) (c .before .count-of2 .ensures) (c .if2 .taken)
 
--- src/lib.rt:288:9
 returns-3 : tie.Need-returns-3
 returns-3 c = bank-more (c .before .before .before .before .before .before .before .before .args .file .now) _ _ (c .before .before .before .before .count-of .ensures) (c .before .before .before .if1 .left) (c .before .before .count-of2 .ensures) (c .before .if2 .left) (c .if3 .taken)
 
--- src/lib.rt:290:9
 row-of-requires : tie.Need-row-of-requires
 row-of-requires c κs = c .before .before .before .before .before .before .before .before .pre
 
--- src/lib.rt:291:9
 row-of-requires-2 : tie.Need-row-of-requires-2
 row-of-requires-2 c κs = c .before .before .before .before .before .before .before .before .before .pre
 
--- src/lib.rt:275:1
 returns-4 : tie.Need-returns-4
 returns-4 c = bank-by (c .before .before .before .before .before .before .before .before .before .before .args .file .now) _ _ (c .before .before .before .before .before .before .count-of .ensures) (c .before .before .before .before .before .if1 .left) (c .before .before .before .before .count-of2 .ensures) (c .before .before .before .if2 .left) (c .before .before .if3 .left) (c .before .row-of .ensures) (c .row-of2 .ensures) refl
 

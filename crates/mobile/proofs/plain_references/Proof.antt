@@ -12,9 +12,6 @@ use native.Mathlib.Omega.{arith}
 use borrow.Author.Needs.{needs}
 use Rattle.mobile.proofs.plain_references.Statement.{statement}
 use Rattle.mobile.proofs.plain_references.Tie as tie
-use Rattle.mobile.proofs.plain_references.Reads as reads
-use Rattle.mobile.proofs.plain_references.Lts as lts
-use Rattle.mobile.proofs.is_plain.Reads as is-plain-reads
 
 abbrev Inv-loop : tie.InvT-loop
 Inv-loop nodes many i₀ i = (i ≤ many) × (plainReferences (nodesIn many nodes) ≡ all isPlain (drop i (nodesIn many nodes)))
@@ -22,47 +19,36 @@ Inv-loop nodes many i₀ i = (i ≤ many) × (plainReferences (nodesIn many node
 abbrev μ-loop : tie.MeasureT-loop
 μ-loop nodes many i₀ i = many - i
 
--- src/lib.rt:83:5
 loop-holds : tie.Need-loop-holds Inv-loop μ-loop
 loop-holds c = (omega arith, plain-are _)
 
--- src/lib.rt:84:28
 mul-is-plain : tie.Need-mul-is-plain Inv-loop μ-loop
 mul-is-plain c = omega arith
 
--- src/lib.rt:84:28
 add-is-plain : tie.Need-add-is-plain Inv-loop μ-loop
 add-is-plain c = omega arith
 
--- src/lib.rt:84:22
 mul-is-plain-2 : tie.Need-mul-is-plain-2 Inv-loop μ-loop
 mul-is-plain-2 c = omega arith
 
--- src/lib.rt:84:22
 shared-slice-read-is-plain : tie.Need-shared-slice-read-is-plain Inv-loop μ-loop
 shared-slice-read-is-plain c = omega arith
 
--- src/lib.rt:84:13
 is-plain-requires : tie.Need-is-plain-requires Inv-loop μ-loop
 is-plain-requires c κs = omega arith
 
--- src/lib.rt:85:13
 returns : tie.Need-returns Inv-loop μ-loop
 returns c = nodes-no _ _ _ _ (c .before .before .before .before .loop .inv .1) (c .before .before .before .loop-test .taken) (plain-is (c .before .before .before .before .before .before .args .nodes .now) (c .before .before .before .before .loop .i * 12) (c .before .is-plain .ensures) (not-true (c .before .is-plain .result) (c .if1 .taken)))
 
--- src/lib.rt:87:13
 add-i : tie.Need-add-i Inv-loop μ-loop
 add-i c = omega arith
 
--- src/lib.rt:83:5
 loop-less : tie.Need-loop-less Inv-loop μ-loop
 loop-less c = omega arith
 
--- src/lib.rt:83:5
 loop-again : tie.Need-loop-again Inv-loop μ-loop
 loop-again c = (omega arith, nodes-on _ _ _ _ (c .before .before .before .before .loop .inv .1) (c .before .before .before .loop-test .taken) (plain-is (c .before .before .before .before .before .before .args .nodes .now) (c .before .before .before .before .loop .i * 12) (c .before .is-plain .ensures) (not-false (c .before .is-plain .result) (c .if1 .left))))
 
--- src/lib.rt:78:1
 returns-2 : tie.Need-returns-2 Inv-loop μ-loop
 returns-2 c = nodes-yes _ _ _ _ (c .before .loop .inv .1) (c .loop-test .left)
 

@@ -6,18 +6,13 @@ use native.Mathlib.Omega.{arith}
 use borrow.Author.Needs.{needs}
 use Rattle.mobile.proofs.right_edition.Statement.{statement}
 use Rattle.mobile.proofs.right_edition.Tie as tie
-use Rattle.mobile.proofs.right_edition.Reads as reads
-use Rattle.mobile.proofs.right_edition.Lts as lts
 
--- src/lib.rt:39:9
 returns : tie.Need-returns
 returns c = edition-version (c .before .args .version) (c .before .args .kind) (c .before .args .revision) (c .if1 .taken)
 
--- src/lib.rt:42:9
 returns-2 : tie.Need-returns-2
 returns-2 c = edition-kind (c .before .before .args .version) (c .before .before .args .kind) (c .before .before .args .revision) (c .before .if1 .left) (c .if2 .taken)
 
--- src/lib.rt:35:1
 returns-3 : tie.Need-returns-3
 returns-3 c = edition-by (c .before .before .args .version) (c .before .before .args .kind) (c .before .before .args .revision) (c .before .if1 .left) (c .if2 .left) refl
 

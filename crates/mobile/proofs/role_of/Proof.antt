@@ -5,36 +5,25 @@ use native.Mathlib.Omega.{arith}
 use borrow.Author.Needs.{needs}
 use Rattle.mobile.proofs.role_of.Statement.{statement}
 use Rattle.mobile.proofs.role_of.Tie as tie
-use Rattle.mobile.proofs.role_of.Reads as reads
-use Rattle.mobile.proofs.role_of.Lts as lts
-use Rattle.mobile.proofs.next_row.Reads as next-row-reads
-use Rattle.mobile.proofs.role_of_row.Reads as role-of-row-reads
 
--- src/lib.rt:218:9
 next-row-requires : tie.Need-next-row-requires
 next-row-requires c κs = search needs
 
--- src/lib.rt:220:9
 returns : tie.Need-returns
 returns c = role-none (c .before .before .before .before .args .file .now) (c .before .next-row .ensures) (c .if1 .taken)
 
--- src/lib.rt:222:43
 add-next-row : tie.Need-add-next-row
 add-next-row c = search needs
 
--- src/lib.rt:222:9
 next-row-requires-2 : tie.Need-next-row-requires-2
 next-row-requires-2 c κs = search needs
 
--- src/lib.rt:224:9
 returns-2 : tie.Need-returns-2
 returns-2 c = role-two (c .before .before .before .before .before .before .args .file .now) (c .before .before .before .next-row .ensures) (c .before .before .if1 .left) (c .before .next-row2 .ensures) (c .if2 .taken)
 
--- src/lib.rt:226:5
 role-of-row-requires : tie.Need-role-of-row-requires
 role-of-row-requires c κs = search needs
 
--- src/lib.rt:214:1
 returns-3 : tie.Need-returns-3
 returns-3 c = role-one (c .before .before .before .before .before .before .before .args .file .now) (c .before .before .before .before .next-row .ensures) (c .before .before .before .if1 .left) (c .before .before .next-row2 .ensures) (c .before .if2 .left) (c .role-of-row .ensures)
 

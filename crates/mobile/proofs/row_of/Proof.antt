@@ -10,10 +10,6 @@ use native.Mathlib.Omega.{arith}
 use borrow.Author.Needs.{needs}
 use Rattle.mobile.proofs.row_of.Statement.{statement}
 use Rattle.mobile.proofs.row_of.Tie as tie
-use Rattle.mobile.proofs.row_of.Reads as reads
-use Rattle.mobile.proofs.row_of.Lts as lts
-use Rattle.mobile.proofs.own_end.Reads as own-end-reads
-use Rattle.mobile.proofs.role_of.Reads as role-of-reads
 
 abbrev Inv-loop : tie.InvT-loop
 Inv-loop file nodes items n m role at₀ i₀ at i = (at ≤ m) × (rowOf role 1 (childRoles file (nodesIn n nodes) (itemsIn m items)) ≡ rowOf role i (roles file (drop i (nodesIn n nodes)) (drop at (itemsIn m items))))
@@ -21,39 +17,30 @@ Inv-loop file nodes items n m role at₀ i₀ at i = (at ≤ m) × (rowOf role 1
 abbrev μ-loop : tie.MeasureT-loop
 μ-loop file nodes items n m role at₀ i₀ at i = n - i
 
--- src/lib.rt:253:9
 own-end-requires : tie.Need-own-end-requires Inv-loop μ-loop
 own-end-requires c κs = omega arith
 
--- src/lib.rt:255:5
 loop-holds : tie.Need-loop-holds Inv-loop μ-loop
 loop-holds c = (omega (arith, c .own-end .ensures), row-start (c .before .before .before .before .args .file .now) (c .before .before .before .before .args .nodes .now) (c .before .before .before .before .args .items .now) (c .before .before .before .before .args .n) (c .before .before .before .before .args .m) (c .before .before .before .before .args .role) (c .own-end .result) (c .own-end .ensures))
 
--- src/lib.rt:256:13
 own-end-requires-2 : tie.Need-own-end-requires-2 Inv-loop μ-loop
 own-end-requires-2 c κs = omega arith
 
--- src/lib.rt:257:12
 role-of-requires : tie.Need-role-of-requires Inv-loop μ-loop
 role-of-requires c κs = (omega arith, omega (arith, c .own-end2 .ensures), omega (arith, c .own-end2 .ensures), c .before .before .before .before .before .before .before .pre .2)
 
--- src/lib.rt:258:13
 returns : tie.Need-returns Inv-loop μ-loop
 returns c = row-hit (c .before .before .before .before .before .before .before .before .before .args .file .now) (c .before .before .before .before .before .before .before .before .before .args .nodes .now) (c .before .before .before .before .before .before .before .before .before .args .items .now) (c .before .before .before .before .before .before .before .before .before .args .n) (c .before .before .before .before .before .before .before .before .before .args .m) (c .before .before .before .before .loop .at) (c .before .before .before .before .loop .i) (c .before .before .own-end2 .result) (c .before .before .before .loop-test .taken) (c .before .before .before .before .loop .inv .0) (c .before .before .own-end2 .ensures) (c .before .role-of .ensures) (c .before .before .before .before .before .before .before .before .before .args .role) _ (c .before .before .before .before .loop .inv .1) (c .if1 .taken)
 
--- src/lib.rt:261:13
 add-i : tie.Need-add-i Inv-loop μ-loop
 add-i c = omega arith
 
--- src/lib.rt:255:5
 loop-less : tie.Need-loop-less Inv-loop μ-loop
 loop-less c = omega arith
 
--- src/lib.rt:255:5
 loop-again : tie.Need-loop-again Inv-loop μ-loop
 loop-again c = (omega (arith, c .before .before .own-end2 .ensures), row-miss (c .before .before .before .before .before .before .before .before .before .args .file .now) (c .before .before .before .before .before .before .before .before .before .args .nodes .now) (c .before .before .before .before .before .before .before .before .before .args .items .now) (c .before .before .before .before .before .before .before .before .before .args .n) (c .before .before .before .before .before .before .before .before .before .args .m) (c .before .before .before .before .loop .at) (c .before .before .before .before .loop .i) (c .before .before .own-end2 .result) (c .before .before .before .loop-test .taken) (c .before .before .before .before .loop .inv .0) (c .before .before .own-end2 .ensures) (c .before .role-of .ensures) (c .before .before .before .before .before .before .before .before .before .args .role) _ (c .before .before .before .before .loop .inv .1) (c .if1 .left))
 
--- src/lib.rt:249:1
 returns-2 : tie.Need-returns-2 Inv-loop μ-loop
 returns-2 c = row-end (c .before .before .before .before .before .before .args .file .now) (c .before .before .before .before .before .before .args .nodes .now) (c .before .before .before .before .before .before .args .items .now) (c .before .before .before .before .before .before .args .n) (c .before .before .before .before .before .before .args .m) (c .before .before .before .before .before .before .args .role) (c .before .loop .at) (c .before .loop .i) (c .loop-test .left) (c .before .loop .inv .1)
 

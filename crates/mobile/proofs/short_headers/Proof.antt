@@ -11,8 +11,6 @@ use native.Mathlib.Omega.{arith}
 use borrow.Author.Needs.{needs}
 use Rattle.mobile.proofs.short_headers.Statement.{statement}
 use Rattle.mobile.proofs.short_headers.Tie as tie
-use Rattle.mobile.proofs.short_headers.Reads as reads
-use Rattle.mobile.proofs.short_headers.Lts as lts
 
 abbrev Inv-loop : tie.InvT-loop
 Inv-loop nodes many i₀ i = (i ≤ many) × (all isShort (nodesIn many nodes) ≡ all isShort (drop i (nodesIn many nodes)))
@@ -20,43 +18,33 @@ Inv-loop nodes many i₀ i = (i ≤ many) × (all isShort (nodesIn many nodes) �
 abbrev μ-loop : tie.MeasureT-loop
 μ-loop nodes many i₀ i = many - i
 
--- src/lib.rt:343:5
 loop-holds : tie.Need-loop-holds Inv-loop μ-loop
 loop-holds c = (omega arith, refl)
 
--- src/lib.rt:344:26
 mul-if1 : tie.Need-mul-if1 Inv-loop μ-loop
 mul-if1 c = omega arith
 
--- src/lib.rt:344:26
 add-if1 : tie.Need-add-if1 Inv-loop μ-loop
 add-if1 c = omega arith
 
--- src/lib.rt:344:20
 mul-if1-2 : tie.Need-mul-if1-2 Inv-loop μ-loop
 mul-if1-2 c = omega arith
 
--- src/lib.rt:344:20
 shared-slice-read-if1 : tie.Need-shared-slice-read-if1 Inv-loop μ-loop
 shared-slice-read-if1 c = omega arith
 
--- src/lib.rt:345:13
 returns : tie.Need-returns Inv-loop μ-loop
 returns c = nodes-no _ _ _ _ (c .before .before .before .loop .inv .1) (c .before .before .loop-test .taken) (short-no (c .before .before .before .before .args .nodes .now) (c .before .before .before .loop .i * 12) (c .if1 .taken))
 
--- src/lib.rt:347:13
 add-i : tie.Need-add-i Inv-loop μ-loop
 add-i c = omega arith
 
--- src/lib.rt:343:5
 loop-less : tie.Need-loop-less Inv-loop μ-loop
 loop-less c = omega arith
 
--- src/lib.rt:343:5
 loop-again : tie.Need-loop-again Inv-loop μ-loop
 loop-again c = (omega arith, nodes-on _ _ _ _ (c .before .before .before .loop .inv .1) (c .before .before .loop-test .taken) (short-yes (c .before .before .before .before .args .nodes .now) (c .before .before .before .loop .i * 12) (c .if1 .left)))
 
--- src/lib.rt:338:1
 returns-2 : tie.Need-returns-2 Inv-loop μ-loop
 returns-2 c = nodes-yes _ _ _ _ (c .before .loop .inv .1) (c .loop-test .left)
 

@@ -6,24 +6,16 @@ use native.Mathlib.Omega.{arith}
 use borrow.Author.Needs.{needs}
 use Rattle.mobile.proofs.small_fields.Statement.{statement}
 use Rattle.mobile.proofs.small_fields.Tie as tie
-use Rattle.mobile.proofs.small_fields.Reads as reads
-use Rattle.mobile.proofs.small_fields.Lts as lts
-use Rattle.mobile.proofs.short_headers.Reads as short-headers-reads
-use Rattle.mobile.proofs.small_items.Reads as small-items-reads
 
--- src/lib.rt:383:9
 short-headers-requires : tie.Need-short-headers-requires
 short-headers-requires c κs = search needs
 
--- src/lib.rt:384:9
 returns : tie.Need-returns
 returns c = small-long _ _ (c .before .short-headers .ensures) (not-true (c .before .short-headers .result) (c .if1 .taken))
 
--- src/lib.rt:386:5
 small-items-requires : tie.Need-small-items-requires
 small-items-requires c κs = search needs
 
--- src/lib.rt:379:1
 returns-2 : tie.Need-returns-2
 returns-2 c = small-by _ _ (c .before .before .short-headers .ensures) (not-false (c .before .before .short-headers .result) (c .before .if1 .left)) (c .small-items .ensures)
 

@@ -11,9 +11,6 @@ use native.Mathlib.Omega.{arith}
 use borrow.Author.Needs.{needs}
 use Rattle.mobile.proofs.small_items.Statement.{statement}
 use Rattle.mobile.proofs.small_items.Tie as tie
-use Rattle.mobile.proofs.small_items.Reads as reads
-use Rattle.mobile.proofs.small_items.Lts as lts
-use Rattle.mobile.proofs.field_size.Reads as field-size-reads
 
 abbrev Inv-loop : tie.InvT-loop
 Inv-loop items many i₀ i = (i ≤ many) × (all isSmall (itemsIn many items) ≡ all isSmall (drop i (itemsIn many items)))
@@ -21,35 +18,27 @@ Inv-loop items many i₀ i = (i ≤ many) × (all isSmall (itemsIn many items) �
 abbrev μ-loop : tie.MeasureT-loop
 μ-loop items many i₀ i = many - i
 
--- src/lib.rt:369:5
 loop-holds : tie.Need-loop-holds Inv-loop μ-loop
 loop-holds c = (omega arith, refl)
 
--- src/lib.rt:370:36
 mul-field-size : tie.Need-mul-field-size Inv-loop μ-loop
 mul-field-size c = omega arith
 
--- src/lib.rt:370:18
 field-size-requires : tie.Need-field-size-requires Inv-loop μ-loop
 field-size-requires c κs = omega arith
 
--- src/lib.rt:371:13
 returns : tie.Need-returns Inv-loop μ-loop
 returns c = items-no _ _ _ _ (c .before .before .before .loop .inv .1) (c .before .before .loop-test .taken) (small-no (c .before .before .before .before .before .args .items .now) (c .before .before .before .loop .i * 10) (c .before .field-size .ensures) (c .if1 .taken))
 
--- src/lib.rt:373:13
 add-i : tie.Need-add-i Inv-loop μ-loop
 add-i c = omega arith
 
--- src/lib.rt:369:5
 loop-less : tie.Need-loop-less Inv-loop μ-loop
 loop-less c = omega arith
 
--- src/lib.rt:369:5
 loop-again : tie.Need-loop-again Inv-loop μ-loop
 loop-again c = (omega arith, items-on _ _ _ _ (c .before .before .before .loop .inv .1) (c .before .before .loop-test .taken) (small-yes (c .before .before .before .before .before .args .items .now) (c .before .before .before .loop .i * 10) (c .before .field-size .ensures) (c .if1 .left)))
 
--- src/lib.rt:364:1
 returns-2 : tie.Need-returns-2 Inv-loop μ-loop
 returns-2 c = items-yes _ _ _ _ (c .before .loop .inv .1) (c .loop-test .left)
 

@@ -6,29 +6,19 @@ use native.Mathlib.Omega.{arith}
 use borrow.Author.Needs.{needs}
 use Rattle.mobile.proofs.tune_needs.Statement.{statement}
 use Rattle.mobile.proofs.tune_needs.Tie as tie
-use Rattle.mobile.proofs.tune_needs.Reads as reads
-use Rattle.mobile.proofs.tune_needs.Lts as lts
-use Rattle.mobile.proofs.all_needs.Reads as all-needs-reads
-use Rattle.mobile.proofs.next_row.Reads as next-row-reads
-use Rattle.mobile.proofs.row_of.Reads as row-of-reads
 
--- src/lib.rt:329:9
 next-row-requires : tie.Need-next-row-requires
 next-row-requires c κs = omega arith
 
--- src/lib.rt:331:9
 returns : tie.Need-returns
 returns c = needs-none (c .before .before .before .before .before .args .file .now) _ _ (items-in-length (c .before .before .before .before .before .args .items .now) (c .before .before .before .before .before .args .m)) (c .before .next-row .ensures) (c .if1 .taken)
 
--- src/lib.rt:333:9
 row-of-requires : tie.Need-row-of-requires
 row-of-requires c κs = c .before .before .before .before .before .pre
 
--- src/lib.rt:334:5
 all-needs-requires : tie.Need-all-needs-requires
 all-needs-requires c κs = omega arith
 
--- src/lib.rt:325:1
 returns-2 : tie.Need-returns-2
 returns-2 c = needs-by (c .before .before .before .before .before .before .before .args .file .now) _ _ (items-in-length (c .before .before .before .before .before .before .before .args .items .now) (c .before .before .before .before .before .before .before .args .m)) (c .before .before .before .next-row .ensures) (c .before .before .if1 .left) (c .before .row-of .ensures) (c .all-needs .ensures)
 

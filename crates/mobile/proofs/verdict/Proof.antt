@@ -7,82 +7,55 @@ use native.Mathlib.Omega.{arith}
 use borrow.Author.Needs.{needs}
 use Rattle.mobile.proofs.verdict.Statement.{statement}
 use Rattle.mobile.proofs.verdict.Tie as tie
-use Rattle.mobile.proofs.verdict.Reads as reads
-use Rattle.mobile.proofs.verdict.Lts as lts
-use Rattle.mobile.proofs.children_typed.Reads as children-typed-reads
-use Rattle.mobile.proofs.files_only.Reads as files-only-reads
-use Rattle.mobile.proofs.no_unpackers.Reads as no-unpackers-reads
-use Rattle.mobile.proofs.one_tune.Reads as one-tune-reads
-use Rattle.mobile.proofs.plain_references.Reads as plain-references-reads
-use Rattle.mobile.proofs.right_edition.Reads as right-edition-reads
-use Rattle.mobile.proofs.small_fields.Reads as small-fields-reads
-use Rattle.mobile.proofs.tune_needs.Reads as tune-needs-reads
 
--- src/lib.rt:395:9
 right-edition-requires : tie.Need-right-edition-requires
 right-edition-requires c κs = omega arith
 
--- src/lib.rt:396:9
 returns : tie.Need-returns
 returns c = λ h e. verdict-by (c .before .before .before .before .before .before .args .file .now) h _ _ (stop 1 _ (edition-is h (nodesIn (c .before .before .before .before .before .before .args .s .nodes) (c .before .before .before .before .before .before .args .nodes .now)) (itemsIn (c .before .before .before .before .before .before .args .s .items) (c .before .before .before .before .before .before .args .items .now)) e (c .before .right-edition .ensures)) (c .if1 .taken))
 
--- src/lib.rt:400:9
 files-only-requires : tie.Need-files-only-requires
 files-only-requires c κs = omega arith
 
--- src/lib.rt:401:9
 returns-2 : tie.Need-returns-2
 returns-2 c = λ h e. verdict-by (c .before .before .before .before .before .before .before .before .args .file .now) h _ _ (skip 1 (edition-is h (nodesIn (c .before .before .before .before .before .before .before .before .args .s .nodes) (c .before .before .before .before .before .before .before .before .args .nodes .now)) (itemsIn (c .before .before .before .before .before .before .before .before .args .s .items) (c .before .before .before .before .before .before .before .before .args .items .now)) e (c .before .before .before .right-edition .ensures)) (c .before .before .if1 .left) (stop 2 _ (c .before .files-only .ensures) (c .if2 .taken)))
 
--- src/lib.rt:403:9
 plain-references-requires : tie.Need-plain-references-requires
 plain-references-requires c κs = omega arith
 
--- src/lib.rt:404:9
 returns-3 : tie.Need-returns-3
 returns-3 c = λ h e. verdict-by (c .before .before .before .before .before .before .before .before .before .before .args .file .now) h _ _ (skip 1 (edition-is h (nodesIn (c .before .before .before .before .before .before .before .before .before .before .args .s .nodes) (c .before .before .before .before .before .before .before .before .before .before .args .nodes .now)) (itemsIn (c .before .before .before .before .before .before .before .before .before .before .args .s .items) (c .before .before .before .before .before .before .before .before .before .before .args .items .now)) e (c .before .before .before .before .before .right-edition .ensures)) (c .before .before .before .before .if1 .left) (skip 2 (c .before .before .before .files-only .ensures) (c .before .before .if2 .left) (stop 3 _ (c .before .plain-references .ensures) (c .if3 .taken))))
 
--- src/lib.rt:406:9
 no-unpackers-requires : tie.Need-no-unpackers-requires
 no-unpackers-requires c κs = omega arith
 
--- src/lib.rt:407:9
 returns-4 : tie.Need-returns-4
 returns-4 c = λ h e. verdict-by (c .before .before .before .before .before .before .before .before .before .before .before .before .args .file .now) h _ _ (skip 1 (edition-is h (nodesIn (c .before .before .before .before .before .before .before .before .before .before .before .before .args .s .nodes) (c .before .before .before .before .before .before .before .before .before .before .before .before .args .nodes .now)) (itemsIn (c .before .before .before .before .before .before .before .before .before .before .before .before .args .s .items) (c .before .before .before .before .before .before .before .before .before .before .before .before .args .items .now)) e (c .before .before .before .before .before .before .before .right-edition .ensures)) (c .before .before .before .before .before .before .if1 .left) (skip 2 (c .before .before .before .before .before .files-only .ensures) (c .before .before .before .before .if2 .left) (skip 3 (c .before .before .before .plain-references .ensures) (c .before .before .if3 .left) (stop 4 _ (c .before .no-unpackers .ensures) (c .if4 .taken)))))
 
--- src/lib.rt:409:9
 children-typed-requires : tie.Need-children-typed-requires
 children-typed-requires c κs = c .before .before .before .before .before .before .before .before .before .before .before .before .pre
 
--- src/lib.rt:410:9
 returns-5 : tie.Need-returns-5
 returns-5 c = λ h e. verdict-by (c .before .before .before .before .before .before .before .before .before .before .before .before .before .before .args .file .now) h _ _ (skip 1 (edition-is h (nodesIn (c .before .before .before .before .before .before .before .before .before .before .before .before .before .before .args .s .nodes) (c .before .before .before .before .before .before .before .before .before .before .before .before .before .before .args .nodes .now)) (itemsIn (c .before .before .before .before .before .before .before .before .before .before .before .before .before .before .args .s .items) (c .before .before .before .before .before .before .before .before .before .before .before .before .before .before .args .items .now)) e (c .before .before .before .before .before .before .before .before .before .right-edition .ensures)) (c .before .before .before .before .before .before .before .before .if1 .left) (skip 2 (c .before .before .before .before .before .before .before .files-only .ensures) (c .before .before .before .before .before .before .if2 .left) (skip 3 (c .before .before .before .before .before .plain-references .ensures) (c .before .before .before .before .if3 .left) (skip 4 (c .before .before .before .no-unpackers .ensures) (c .before .before .if4 .left) (stop 5 _ (c .before .children-typed .ensures) (c .if5 .taken))))))
 
--- src/lib.rt:412:9
 one-tune-requires : tie.Need-one-tune-requires
 one-tune-requires c κs = c .before .before .before .before .before .before .before .before .before .before .before .before .before .before .pre
 
--- src/lib.rt:413:9
 returns-6 : tie.Need-returns-6
 returns-6 c = λ h e. verdict-by (c .before .before .before .before .before .before .before .before .before .before .before .before .before .before .before .before .args .file .now) h _ _ (skip 1 (edition-is h (nodesIn (c .before .before .before .before .before .before .before .before .before .before .before .before .before .before .before .before .args .s .nodes) (c .before .before .before .before .before .before .before .before .before .before .before .before .before .before .before .before .args .nodes .now)) (itemsIn (c .before .before .before .before .before .before .before .before .before .before .before .before .before .before .before .before .args .s .items) (c .before .before .before .before .before .before .before .before .before .before .before .before .before .before .before .before .args .items .now)) e (c .before .before .before .before .before .before .before .before .before .before .before .right-edition .ensures)) (c .before .before .before .before .before .before .before .before .before .before .if1 .left) (skip 2 (c .before .before .before .before .before .before .before .before .before .files-only .ensures) (c .before .before .before .before .before .before .before .before .if2 .left) (skip 3 (c .before .before .before .before .before .before .before .plain-references .ensures) (c .before .before .before .before .before .before .if3 .left) (skip 4 (c .before .before .before .before .before .no-unpackers .ensures) (c .before .before .before .before .if4 .left) (skip 5 (c .before .before .before .children-typed .ensures) (c .before .before .if5 .left) (stop 6 _ (c .before .one-tune .ensures) (c .if6 .taken)))))))
 
--- src/lib.rt:415:9
 tune-needs-requires : tie.Need-tune-needs-requires
 tune-needs-requires c κs = c .before .before .before .before .before .before .before .before .before .before .before .before .before .before .before .before .pre
 
--- src/lib.rt:416:9
 returns-7 : tie.Need-returns-7
 returns-7 c = λ h e. verdict-by (c .before .before .before .before .before .before .before .before .before .before .before .before .before .before .before .before .before .before .args .file .now) h _ _ (skip 1 (edition-is h (nodesIn (c .before .before .before .before .before .before .before .before .before .before .before .before .before .before .before .before .before .before .args .s .nodes) (c .before .before .before .before .before .before .before .before .before .before .before .before .before .before .before .before .before .before .args .nodes .now)) (itemsIn (c .before .before .before .before .before .before .before .before .before .before .before .before .before .before .before .before .before .before .args .s .items) (c .before .before .before .before .before .before .before .before .before .before .before .before .before .before .before .before .before .before .args .items .now)) e (c .before .before .before .before .before .before .before .before .before .before .before .before .before .right-edition .ensures)) (c .before .before .before .before .before .before .before .before .before .before .before .before .if1 .left) (skip 2 (c .before .before .before .before .before .before .before .before .before .before .before .files-only .ensures) (c .before .before .before .before .before .before .before .before .before .before .if2 .left) (skip 3 (c .before .before .before .before .before .before .before .before .before .plain-references .ensures) (c .before .before .before .before .before .before .before .before .if3 .left) (skip 4 (c .before .before .before .before .before .before .before .no-unpackers .ensures) (c .before .before .before .before .before .before .if4 .left) (skip 5 (c .before .before .before .before .before .children-typed .ensures) (c .before .before .before .before .if5 .left) (skip 6 (c .before .before .before .one-tune .ensures) (c .before .before .if6 .left) (stop 7 _ (c .before .tune-needs .ensures) (c .if7 .taken))))))))
 
--- src/lib.rt:418:9
 small-fields-requires : tie.Need-small-fields-requires
 small-fields-requires c κs = omega arith
 
--- src/lib.rt:419:9
 returns-8 : tie.Need-returns-8
 returns-8 c = λ h e. verdict-by (c .before .before .before .before .before .before .before .before .before .before .before .before .before .before .before .before .before .before .before .before .args .file .now) h _ _ (skip 1 (edition-is h (nodesIn (c .before .before .before .before .before .before .before .before .before .before .before .before .before .before .before .before .before .before .before .before .args .s .nodes) (c .before .before .before .before .before .before .before .before .before .before .before .before .before .before .before .before .before .before .before .before .args .nodes .now)) (itemsIn (c .before .before .before .before .before .before .before .before .before .before .before .before .before .before .before .before .before .before .before .before .args .s .items) (c .before .before .before .before .before .before .before .before .before .before .before .before .before .before .before .before .before .before .before .before .args .items .now)) e (c .before .before .before .before .before .before .before .before .before .before .before .before .before .before .before .right-edition .ensures)) (c .before .before .before .before .before .before .before .before .before .before .before .before .before .before .if1 .left) (skip 2 (c .before .before .before .before .before .before .before .before .before .before .before .before .before .files-only .ensures) (c .before .before .before .before .before .before .before .before .before .before .before .before .if2 .left) (skip 3 (c .before .before .before .before .before .before .before .before .before .before .before .plain-references .ensures) (c .before .before .before .before .before .before .before .before .before .before .if3 .left) (skip 4 (c .before .before .before .before .before .before .before .before .before .no-unpackers .ensures) (c .before .before .before .before .before .before .before .before .if4 .left) (skip 5 (c .before .before .before .before .before .before .before .children-typed .ensures) (c .before .before .before .before .before .before .if5 .left) (skip 6 (c .before .before .before .before .before .one-tune .ensures) (c .before .before .before .before .if6 .left) (skip 7 (c .before .before .before .tune-needs .ensures) (c .before .before .if7 .left) (stop 8 _ (c .before .small-fields .ensures) (c .if8 .taken)))))))))
 
--- src/lib.rt:390:1
 returns-9 : tie.Need-returns-9
 returns-9 c = λ h e. verdict-by (c .before .before .before .before .before .before .before .before .before .before .before .before .before .before .before .before .before .before .before .before .args .file .now) h _ _ (skip 1 (edition-is h (nodesIn (c .before .before .before .before .before .before .before .before .before .before .before .before .before .before .before .before .before .before .before .before .args .s .nodes) (c .before .before .before .before .before .before .before .before .before .before .before .before .before .before .before .before .before .before .before .before .args .nodes .now)) (itemsIn (c .before .before .before .before .before .before .before .before .before .before .before .before .before .before .before .before .before .before .before .before .args .s .items) (c .before .before .before .before .before .before .before .before .before .before .before .before .before .before .before .before .before .before .before .before .args .items .now)) e (c .before .before .before .before .before .before .before .before .before .before .before .before .before .before .before .right-edition .ensures)) (c .before .before .before .before .before .before .before .before .before .before .before .before .before .before .if1 .left) (skip 2 (c .before .before .before .before .before .before .before .before .before .before .before .before .before .files-only .ensures) (c .before .before .before .before .before .before .before .before .before .before .before .before .if2 .left) (skip 3 (c .before .before .before .before .before .before .before .before .before .before .before .plain-references .ensures) (c .before .before .before .before .before .before .before .before .before .before .if3 .left) (skip 4 (c .before .before .before .before .before .before .before .before .before .no-unpackers .ensures) (c .before .before .before .before .before .before .before .before .if4 .left) (skip 5 (c .before .before .before .before .before .before .before .children-typed .ensures) (c .before .before .before .before .before .before .if5 .left) (skip 6 (c .before .before .before .before .before .one-tune .ensures) (c .before .before .before .before .if6 .left) (skip 7 (c .before .before .before .tune-needs .ensures) (c .before .before .if7 .left) (skip 8 (c .before .small-fields .ensures) (c .if8 .left) refl))))))))
 

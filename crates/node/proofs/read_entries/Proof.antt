@@ -12,9 +12,6 @@ use native.Mathlib.Omega.{arith}
 use borrow.Author.Needs.{needs}
 use Rattle.node.proofs.read_entries.Statement.{statement}
 use Rattle.node.proofs.read_entries.Tie as tie
-use Rattle.node.proofs.read_entries.Reads as reads
-use Rattle.node.proofs.read_entries.Lts as lts
-use Rattle.node.proofs.read_unpacker.Reads as read-unpacker-reads
 
 abbrev Inv-loop : tie.InvT-loop
 Inv-loop file end place stop next₀ at₀ count₀ next at count = (next .at .0 ≡ at) × Going file stop at₀ at count
@@ -22,39 +19,30 @@ Inv-loop file end place stop next₀ at₀ count₀ next at count = (next .at .0
 abbrev μ-loop : tie.MeasureT-loop
 μ-loop file end place stop next₀ at₀ count₀ next at count = stop - at
 
--- src/lib.rt:179:5
 loop-holds : tie.Need-loop-holds Inv-loop μ-loop
 loop-holds c = (refl, entries-begun _ _ _)
 
--- src/lib.rt:180:15
 read-unpacker-requires : tie.Need-read-unpacker-requires Inv-loop μ-loop
 read-unpacker-requires c κs = omega arith
 
--- src/lib.rt:181:29
 enum-known-n : tie.Need-enum-known-n Inv-loop μ-loop
 enum-known-n c = search needs
 
--- src/lib.rt:181:38
 returns : tie.Need-returns Inv-loop μ-loop
 returns c = entries-no (c .before .before .before .before .before .loop .inv .1) (c .before .before .before .before .loop-test .taken) _ (λ n. rw (c .before .before .before .before .before .loop .inv .0) at (c .before .before .before .read-unpacker .ensures n)) (c .before .n .given .1)
 
--- src/lib.rt:182:24
 enum-known-d : tie.Need-enum-known-d Inv-loop μ-loop
 enum-known-d c = search needs
 
--- src/lib.rt:187:17
 add-count : tie.Need-add-count Inv-loop μ-loop
 add-count c = omega (arith, c .before .before .before .before .before .loop .inv .1 .few, c .before .before .before .before .before .before .before .before .pre)
 
--- src/lib.rt:179:5
 loop-less : tie.Need-loop-less Inv-loop μ-loop
 loop-less c = omega (arith, entries-further (c .before .before .before .before .before .loop .inv .1) (c .before .before .before .before .loop-test .taken) _ (λ n. rw (c .before .before .before .before .before .loop .inv .0) at (c .before .before .before .read-unpacker .ensures n)) (c .before .d .given .1))
 
--- src/lib.rt:179:5
 loop-again : tie.Need-loop-again Inv-loop μ-loop
 loop-again c = (refl, entries-on (c .before .before .before .before .before .loop .inv .1) (c .before .before .before .before .loop-test .taken) _ (λ n. rw (c .before .before .before .before .before .loop .inv .0) at (c .before .before .before .read-unpacker .ensures n)) (c .before .d .given .1))
 
--- src/lib.rt:170:1
 returns-2 : tie.Need-returns-2 Inv-loop μ-loop
 returns-2 c = rw (c .before .loop .inv .0) (entries-done (c .before .loop .inv .1) (c .loop-test .left))
 

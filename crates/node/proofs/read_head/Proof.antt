@@ -10,61 +10,43 @@ use native.Mathlib.Omega.{arith}
 use borrow.Author.Needs.{needs}
 use Rattle.node.proofs.read_head.Statement.{statement}
 use Rattle.node.proofs.read_head.Tie as tie
-use Rattle.node.proofs.read_head.Reads as reads
-use Rattle.node.proofs.read_head.Lts as lts
-use Rattle.cursor.proofs.Cursor.number.Reads as number-reads
-use Rattle.cursor.proofs.FilePlace.of.Reads as of-reads
-use Rattle.node.proofs.read_header_length.Reads as read-header-length-reads
 
--- src/lib.rt:80:11
 number-requires : tie.Need-number-requires
 number-requires c κs = search needs
 
--- src/lib.rt:81:27
 enum-known-n : tie.Need-enum-known-n
 enum-known-n c = search needs
 
--- src/lib.rt:82:22
 enum-known-size : tie.Need-enum-known-size
 enum-known-size c = search needs
 
--- src/lib.rt:83:17
 of-requires : tie.Need-of-requires
 of-requires c κs = omega (arith, c .before .before .before .before .before .before .pre, number-inside nodeFrame _ _ _ _ (was numberTold (c .before .before .before .number .ensures nodeFrame) (c .before .size .given .1)))
 
--- src/lib.rt:85:17
 returns : tie.Need-returns
 returns c = head-past _ _ _ _ (was numberTold (c .before .before .before .before .before .before .before .number .ensures nodeFrame) (c .before .before .before .before .before .size .given .1)) (c .before .before .before .of .ensures) (c .if1 .taken)
 
--- src/lib.rt:88:17
 returns-2 : tie.Need-returns-2
 returns-2 c = head-short _ _ _ _ (was numberTold (c .before .before .before .before .before .before .before .before .before .before .number .ensures nodeFrame) (c .before .before .before .before .before .before .before .before .size .given .1)) (c .before .before .before .before .before .before .of .ensures) (c .before .before .before .if1 .left) (c .if2 .taken)
 
--- src/lib.rt:90:19
 number-requires-2 : tie.Need-number-requires-2
 number-requires-2 c κs = omega (arith, c .before .before .before .before .before .before .before .before .before .before .before .before .before .pre, c .before .before .before .if1 .left)
 
--- src/lib.rt:91:35
 enum-known-n-2 : tie.Need-enum-known-n-2
 enum-known-n-2 c = search needs
 
--- src/lib.rt:92:30
 enum-known-held : tie.Need-enum-known-held
 enum-known-held c = search needs
 
--- src/lib.rt:92:42
 read-header-length-requires : tie.Need-read-header-length-requires
 read-header-length-requires c κs = omega (arith, c .before .before .before .before .before .before .before .before .before .before .before .before .before .before .before .before .before .pre, c .before .before .before .before .before .before .before .if1 .left, c .before .before .before .before .before .before .before .before .before .before .of .ensures)
 
--- src/lib.rt:75:1
 returns-3 : tie.Need-returns-3
 returns-3 c = head-size _ _ _ _ (was numberTold (c .before .before .before .number .ensures nodeFrame) (c .before .n .given .1))
 
--- src/lib.rt:75:1
 returns-4 : tie.Need-returns-4
 returns-4 c = head-held _ _ _ _ (was numberTold (c .before .before .before .before .before .before .before .before .before .before .before .before .before .before .number .ensures nodeFrame) (c .before .before .before .before .before .before .before .before .before .before .before .before .size .given .1)) (c .before .before .before .before .before .before .before .before .before .before .of .ensures) (c .before .before .before .before .before .before .before .if1 .left) (c .before .before .before .before .if2 .left) (was numberTold (c .before .before .before .number2 .ensures nodeFrame) (c .before .n2 .given .1))
 
--- src/lib.rt:75:1
 returns-5 : tie.Need-returns-5
 returns-5 c = head-header _ _ _ _ (was numberTold (c .before .before .before .before .before .before .before .before .before .before .before .before .before .before .before .number .ensures nodeFrame) (c .before .before .before .before .before .before .before .before .before .before .before .before .before .size .given .1)) (c .before .before .before .before .before .before .before .before .before .before .before .of .ensures) (c .before .before .before .before .before .before .before .before .if1 .left) (c .before .before .before .before .before .if2 .left) (was numberTold (c .before .before .before .before .number2 .ensures nodeFrame) (c .before .before .held .given .1)) (c .read-header-length .ensures)
 

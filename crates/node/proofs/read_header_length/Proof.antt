@@ -10,44 +10,31 @@ use native.Mathlib.Omega.{arith}
 use borrow.Author.Needs.{needs}
 use Rattle.node.proofs.read_header_length.Statement.{statement}
 use Rattle.node.proofs.read_header_length.Tie as tie
-use Rattle.node.proofs.read_header_length.Reads as reads
-use Rattle.node.proofs.read_header_length.Lts as lts
-use Rattle.cursor.proofs.Cursor.number.Reads as number-reads
-use Rattle.cursor.proofs.FilePlace.of.Reads as of-reads
 
--- src/lib.rt:104:26
 of-requires : tie.Need-of-requires
 of-requires c κs = search needs
 
--- src/lib.rt:104:11
 number-requires : tie.Need-number-requires
 number-requires c κs = omega (arith, c .of .ensures, c .before .before .before .pre)
 
--- src/lib.rt:105:27
 enum-known-n : tie.Need-enum-known-n
 enum-known-n c = search needs
 
--- src/lib.rt:106:22
 enum-known-header : tie.Need-enum-known-header
 enum-known-header c = search needs
 
--- src/lib.rt:108:17
 returns : tie.Need-returns
 returns c = header-past _ _ _ _ _ (c .before .before .before .before .before .of .ensures) (was numberTold (c .before .before .before .before .number .ensures nodeFrame) (c .before .before .header .given .1)) (c .if1 .taken)
 
--- src/lib.rt:110:17
 of-requires-2 : tie.Need-of-requires-2
 of-requires-2 c κs = search needs
 
--- src/lib.rt:113:17
 returns-2 : tie.Need-returns-2
 returns-2 c = header-short _ _ _ _ _ (c .before .before .before .before .before .before .before .before .before .before .of .ensures) (was numberTold (c .before .before .before .before .before .before .before .before .before .number .ensures nodeFrame) (c .before .before .before .before .before .before .before .header .given .1)) (c .before .before .before .before .before .if1 .left) (omega (arith, c .before .before .before .before .of2 .ensures, c .if2 .taken))
 
--- src/lib.rt:99:1
 returns-3 : tie.Need-returns-3
 returns-3 c = header-cut _ _ _ _ _ (c .before .before .before .before .of .ensures) (was numberTold (c .before .before .before .number .ensures nodeFrame) (c .before .n .given .1))
 
--- src/lib.rt:99:1
 returns-4 : tie.Need-returns-4
 returns-4 c = header-all _ _ _ _ _ (c .before .before .before .before .before .before .before .before .before .before .of .ensures) (was numberTold (c .before .before .before .before .before .before .before .before .before .number .ensures nodeFrame) (c .before .before .before .before .before .before .before .header .given .1)) (c .before .before .before .before .before .if1 .left) (omega (arith, c .before .before .before .before .of2 .ensures, c .if2 .left))
 

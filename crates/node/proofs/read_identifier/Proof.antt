@@ -10,49 +10,34 @@ use native.Mathlib.Omega.{arith}
 use borrow.Author.Needs.{needs}
 use Rattle.node.proofs.read_identifier.Statement.{statement}
 use Rattle.node.proofs.read_identifier.Tie as tie
-use Rattle.node.proofs.read_identifier.Reads as reads
-use Rattle.node.proofs.read_identifier.Lts as lts
-use Rattle.cursor.proofs.Cursor.guid.Reads as guid-reads
-use Rattle.cursor.proofs.Cursor.manufacturer.Reads as manufacturer-reads
-use Rattle.node.proofs.read_value.Reads as read-value-reads
 
--- src/lib.rt:138:9
 guid-requires : tie.Need-guid-requires
 guid-requires c κs = search needs
 
--- src/lib.rt:138:9
 returns : tie.Need-returns
 returns c = identifier-guid _ _ _ _ (c .before .if1 .taken) (c .guid .ensures unpackFrame)
 
--- src/lib.rt:141:22
 manufacturer-requires : tie.Need-manufacturer-requires
 manufacturer-requires c κs = search needs
 
--- src/lib.rt:142:29
 enum-known-n : tie.Need-enum-known-n
 enum-known-n c = search needs
 
--- src/lib.rt:143:24
 enum-known-d : tie.Need-enum-known-d
 enum-known-d c = search needs
 
--- src/lib.rt:143:30
 read-value-requires : tie.Need-read-value-requires
 read-value-requires c κs = search needs
 
--- src/lib.rt:141:9
 returns-2 : tie.Need-returns-2
 returns-2 c = identifier-cut _ _ _ _ (c .before .before .before .before .before .if1 .left) (c .before .before .before .before .if2 .taken) (was passTold (c .before .before .before .manufacturer .ensures unpackFrame) (c .before .n .given .1))
 
--- src/lib.rt:141:9
 returns-3 : tie.Need-returns-3
 returns-3 c = identifier-two _ _ _ _ (c .before .before .before .before .before .before .if1 .left) (c .before .before .before .before .before .if2 .taken) (was passTold (c .before .before .before .before .manufacturer .ensures unpackFrame) (c .before .before .d .given .1)) (c .read-value .ensures)
 
--- src/lib.rt:146:5
 read-value-requires-2 : tie.Need-read-value-requires-2
 read-value-requires-2 c κs = search needs
 
--- src/lib.rt:133:1
 returns-4 : tie.Need-returns-4
 returns-4 c = identifier-one _ _ _ _ (c .before .before .if1 .left) (c .before .if2 .left) (c .read-value2 .ensures)
 

@@ -11,44 +11,31 @@ use native.Mathlib.Omega.{arith}
 use borrow.Author.Needs.{needs}
 use Rattle.node.proofs.read_reference.Statement.{statement}
 use Rattle.node.proofs.read_reference.Tie as tie
-use Rattle.node.proofs.read_reference.Reads as reads
-use Rattle.node.proofs.read_reference.Lts as lts
-use Rattle.cursor.proofs.Cursor.number.Reads as number-reads
-use Rattle.node.proofs.read_target.Reads as read-target-reads
 
--- src/lib.rt:306:11
 number-requires : tie.Need-number-requires
 number-requires c κs = search needs
 
--- src/lib.rt:307:27
 enum-known-n : tie.Need-enum-known-n
 enum-known-n c = search needs
 
--- src/lib.rt:308:22
 enum-known-kind : tie.Need-enum-known-kind
 enum-known-kind c = search needs
 
--- src/lib.rt:310:17
 returns : tie.Need-returns
 returns c = reference-zero _ _ _ _ _ _ (was numberTold (c .before .before .before .before .number .ensures referenceFrame) (c .before .before .kind .given .1)) (c .if1 .taken)
 
--- src/lib.rt:313:17
 returns-2 : tie.Need-returns-2
 returns-2 c = reference-above _ _ _ _ _ _ (was numberTold (c .before .before .before .before .before .number .ensures referenceFrame) (c .before .before .before .kind .given .1)) (c .before .if1 .left) (c .if2 .taken)
 
--- src/lib.rt:317:21
 returns-3 : tie.Need-returns-3
 returns-3 c = reference-folder _ _ _ _ _ _ (was numberTold (c .before .before .before .before .before .before .before .number .ensures referenceFrame) (c .before .before .before .before .before .kind .given .1)) (c .before .before .before .if1 .left) (c .before .before .if2 .left) (c .before .if3 .taken) (c .if4 .taken)
 
--- src/lib.rt:320:13
 read-target-requires : tie.Need-read-target-requires
 read-target-requires c κs = omega (arith, c .before .before .before .before .before .before .before .before .before .pre, number-inside referenceFrame _ _ _ _ (was numberTold (c .before .before .before .before .before .before .number .ensures referenceFrame) (c .before .before .before .before .kind .given .1)))
 
--- src/lib.rt:301:1
 returns-4 : tie.Need-returns-4
 returns-4 c = reference-cut _ _ _ _ _ _ (was numberTold (c .before .before .before .number .ensures referenceFrame) (c .before .n .given .1))
 
--- src/lib.rt:301:1
 returns-5 : tie.Need-returns-5
 returns-5 c = ⊎-elim (λ w. reference-one _ _ _ _ _ _ (was numberTold (c .before .before .before .before .before .before .before .number .ensures referenceFrame) (c .before .before .before .before .before .kind .given .1)) (c .before .before .before .if1 .left) (c .before .before .if2 .left) (w .0 .taken) (w .1 .left) (c .read-target .ensures)) (λ w. reference-file _ _ _ _ _ _ (was numberTold (c .before .before .before .before .before .before .before .number .ensures referenceFrame) (c .before .before .before .before .before .kind .given .1)) (c .before .before .before .if1 .left) (c .before .before .if2 .left) (w .left) (c .read-target .ensures)) (c .before .if3 .came)
 

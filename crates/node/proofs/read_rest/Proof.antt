@@ -11,48 +11,34 @@ use native.Mathlib.Omega.{arith}
 use borrow.Author.Needs.{needs}
 use Rattle.node.proofs.read_rest.Statement.{statement}
 use Rattle.node.proofs.read_rest.Tie as tie
-use Rattle.node.proofs.read_rest.Reads as reads
-use Rattle.node.proofs.read_rest.Lts as lts
-use Rattle.node.proofs.read_reference.Reads as read-reference-reads
-use Rattle.node.proofs.read_unpackers.Reads as read-unpackers-reads
 
--- src/lib.rt:330:11
 read-unpackers-requires : tie.Need-read-unpackers-requires
 read-unpackers-requires c κs = search needs
 
--- src/lib.rt:331:27
 enum-known-n : tie.Need-enum-known-n
 enum-known-n c = search needs
 
--- src/lib.rt:332:22
 enum-known-u : tie.Need-enum-known-u
 enum-known-u c = search needs
 
--- src/lib.rt:335:17
 returns : tie.Need-returns
 returns c = rest-left _ _ _ _ _ _ _ (was unpackersTold (c .before .before .before .before .before .before .before .read-unpackers .ensures) (c .before .before .before .before .before .u .given .1)) (c .if1 .taken)
 
--- src/lib.rt:337:19
 read-reference-requires : tie.Need-read-reference-requires
 read-reference-requires c κs = search needs
 
--- src/lib.rt:338:35
 enum-known-n-2 : tie.Need-enum-known-n-2
 enum-known-n-2 c = search needs
 
--- src/lib.rt:339:30
 enum-known-r : tie.Need-enum-known-r
 enum-known-r c = search needs
 
--- src/lib.rt:326:1
 returns-2 : tie.Need-returns-2
 returns-2 c = rest-unpackers _ _ _ _ _ _ _ (was unpackersTold (c .before .before .before .read-unpackers .ensures) (c .before .n .given .1))
 
--- src/lib.rt:326:1
 returns-3 : tie.Need-returns-3
 returns-3 c = rest-reference _ _ _ _ _ _ _ (was unpackersTold (c .before .before .before .before .before .before .before .before .before .before .before .read-unpackers .ensures) (c .before .before .before .before .before .before .before .before .before .u .given .1)) (c .before .before .before .before .if1 .left) (was referenceTold (c .before .before .before .read-reference .ensures) (c .before .n2 .given .1))
 
--- src/lib.rt:326:1
 returns-4 : tie.Need-returns-4
 returns-4 c = rest-all _ _ _ _ _ _ _ (was unpackersTold (c .before .before .before .before .before .before .before .before .before .before .before .read-unpackers .ensures) (c .before .before .before .before .before .before .before .before .before .u .given .1)) (c .before .before .before .before .if1 .left) (was referenceTold (c .before .before .before .read-reference .ensures) (c .before .r .given .1))
 

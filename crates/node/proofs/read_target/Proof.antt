@@ -10,41 +10,28 @@ use native.Mathlib.Omega.{arith}
 use borrow.Author.Needs.{needs}
 use Rattle.node.proofs.read_target.Statement.{statement}
 use Rattle.node.proofs.read_target.Tie as tie
-use Rattle.node.proofs.read_target.Reads as reads
-use Rattle.node.proofs.read_target.Lts as lts
-use Rattle.node.proofs.read_node_place.Reads as read-node-place-reads
-use Rattle.node.proofs.read_resource.Reads as read-resource-reads
-use Rattle.node.proofs.read_uri.Reads as read-uri-reads
 
--- src/lib.rt:287:22
 sub-t10 : tie.Need-sub-t10
 sub-t10 c = search needs
 
--- src/lib.rt:289:9
 returns : tie.Need-returns
 returns c = target-inline _ _ _ _ _ _ (c .before .before .if1 .taken)
 
--- src/lib.rt:292:9
 read-resource-requires : tie.Need-read-resource-requires
 read-resource-requires c κs = search needs
 
--- src/lib.rt:292:9
 returns-2 : tie.Need-returns-2
 returns-2 c = target-resource _ _ _ _ _ _ (c .before .before .if1 .left) (c .before .if2 .taken) (c .read-resource .ensures)
 
--- src/lib.rt:295:9
 read-node-place-requires : tie.Need-read-node-place-requires
 read-node-place-requires c κs = search needs
 
--- src/lib.rt:295:9
 returns-3 : tie.Need-returns-3
 returns-3 c = target-node _ _ _ _ _ _ (c .before .before .before .if1 .left) (c .before .before .if2 .left) (c .before .if3 .taken) (c .read-node-place .ensures)
 
--- src/lib.rt:297:5
 read-uri-requires : tie.Need-read-uri-requires
 read-uri-requires c κs = search needs
 
--- src/lib.rt:278:1
 returns-4 : tie.Need-returns-4
 returns-4 c = target-uri _ _ _ _ _ _ (c .before .before .before .if1 .left) (c .before .before .if2 .left) (c .before .if3 .left) (c .read-uri .ensures)
 

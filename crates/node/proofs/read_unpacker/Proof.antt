@@ -10,53 +10,37 @@ use native.Mathlib.Omega.{arith}
 use borrow.Author.Needs.{needs}
 use Rattle.node.proofs.read_unpacker.Statement.{statement}
 use Rattle.node.proofs.read_unpacker.Tie as tie
-use Rattle.node.proofs.read_unpacker.Reads as reads
-use Rattle.node.proofs.read_unpacker.Lts as lts
-use Rattle.cursor.proofs.Cursor.number.Reads as number-reads
-use Rattle.node.proofs.read_identifier.Reads as read-identifier-reads
-use Rattle.node.proofs.read_value.Reads as read-value-reads
 
--- src/lib.rt:155:11
 number-requires : tie.Need-number-requires
 number-requires c κs = search needs
 
--- src/lib.rt:156:27
 enum-known-n : tie.Need-enum-known-n
 enum-known-n c = search needs
 
--- src/lib.rt:157:22
 enum-known-kind : tie.Need-enum-known-kind
 enum-known-kind c = search needs
 
--- src/lib.rt:159:17
 returns : tie.Need-returns
 returns c = λ n. unpacker-bad _ _ _ n (was numberTold (c .before .before .before .before .number .ensures unpackFrame) (c .before .before .kind .given .1)) (c .if1 .taken)
 
--- src/lib.rt:161:19
 read-identifier-requires : tie.Need-read-identifier-requires
 read-identifier-requires c κs = search needs
 
--- src/lib.rt:162:33
 enum-known-n-2 : tie.Need-enum-known-n-2
 enum-known-n-2 c = search needs
 
--- src/lib.rt:163:28
 enum-known-e : tie.Need-enum-known-e
 enum-known-e c = search needs
 
--- src/lib.rt:163:34
 read-value-requires : tie.Need-read-value-requires
 read-value-requires c κs = search needs
 
--- src/lib.rt:150:1
 returns-2 : tie.Need-returns-2
 returns-2 c = λ n. unpacker-cut _ _ _ n (was numberTold (c .before .before .before .number .ensures unpackFrame) (c .before .n .given .1))
 
--- src/lib.rt:150:1
 returns-3 : tie.Need-returns-3
 returns-3 c = λ n. unpacker-identifier _ _ _ n (was numberTold (c .before .before .before .before .before .before .before .before .number .ensures unpackFrame) (c .before .before .before .before .before .before .kind .given .1)) (c .before .before .before .before .if1 .left) (was passTold (c .before .before .before .read-identifier .ensures) (c .before .n2 .given .1))
 
--- src/lib.rt:150:1
 returns-4 : tie.Need-returns-4
 returns-4 c = λ n. unpacker-size _ _ _ n (was numberTold (c .before .before .before .before .before .before .before .before .before .number .ensures unpackFrame) (c .before .before .before .before .before .before .before .kind .given .1)) (c .before .before .before .before .before .if1 .left) (was passTold (c .before .before .before .before .read-identifier .ensures) (c .before .before .e .given .1)) (c .read-value .result) (c .read-value .ensures)
 

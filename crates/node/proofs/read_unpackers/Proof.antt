@@ -11,41 +11,28 @@ use native.Mathlib.Omega.{arith}
 use borrow.Author.Needs.{needs}
 use Rattle.node.proofs.read_unpackers.Statement.{statement}
 use Rattle.node.proofs.read_unpackers.Tie as tie
-use Rattle.node.proofs.read_unpackers.Reads as reads
-use Rattle.node.proofs.read_unpackers.Lts as lts
-use Rattle.cursor.proofs.Cursor.block.Reads as block-reads
-use Rattle.cursor.proofs.Cursor.on.Reads as on-reads
-use Rattle.node.proofs.read_entries.Reads as read-entries-reads
 
--- src/lib.rt:199:11
 block-requires : tie.Need-block-requires
 block-requires c κs = search needs
 
--- src/lib.rt:200:27
 enum-known-n : tie.Need-enum-known-n
 enum-known-n c = search needs
 
--- src/lib.rt:201:22
 enum-known-size : tie.Need-enum-known-size
 enum-known-size c = search needs
 
--- src/lib.rt:204:21
 returns : tie.Need-returns
 returns c = unpackers-folder _ _ _ _ (was numberTold (c .before .before .before .before .before .block .ensures unpackFrame) (c .before .before .before .size .given .1)) (c .before .if1 .taken) (c .if2 .taken)
 
--- src/lib.rt:207:17
 on-requires : tie.Need-on-requires
 on-requires c κs = omega (arith, c .before .before .before .before .before .before .before .pre, block-inside unpackFrame _ _ _ _ (was numberTold (c .before .before .before .before .block .ensures unpackFrame) (c .before .before .size .given .1)))
 
--- src/lib.rt:209:13
 read-entries-requires : tie.Need-read-entries-requires
 read-entries-requires c κs = omega (arith, c .before .before .before .before .before .before .before .before .before .pre, c .before .on .ensures, block-inside unpackFrame _ _ _ _ (was numberTold (c .before .before .before .before .before .before .block .ensures unpackFrame) (c .before .before .before .before .size .given .1)))
 
--- src/lib.rt:194:1
 returns-2 : tie.Need-returns-2
 returns-2 c = unpackers-cut _ _ _ _ (was numberTold (c .before .before .before .block .ensures unpackFrame) (c .before .n .given .1))
 
--- src/lib.rt:194:1
 returns-3 : tie.Need-returns-3
 returns-3 c = ⊎-elim (λ w. unpackers-none _ _ _ _ (was numberTold (c .before .before .before .before .before .before .before .block .ensures unpackFrame) (c .before .before .before .before .before .size .given .1)) (w .0 .taken) (w .1 .left) (c .before .before .on .ensures) (c .read-entries .ensures)) (λ w. unpackers-file _ _ _ _ (was numberTold (c .before .before .before .before .before .before .before .block .ensures unpackFrame) (c .before .before .before .before .before .size .given .1)) (w .left) (c .before .before .on .ensures) (c .read-entries .ensures)) (c .before .before .before .if1 .came)
 

@@ -10,32 +10,22 @@ use native.Mathlib.Omega.{arith}
 use borrow.Author.Needs.{needs}
 use Rattle.node.proofs.read_uri.Statement.{statement}
 use Rattle.node.proofs.read_uri.Tie as tie
-use Rattle.node.proofs.read_uri.Reads as reads
-use Rattle.node.proofs.read_uri.Lts as lts
-use Rattle.cursor.proofs.Cursor.block.Reads as block-reads
-use Rattle.cursor.proofs.Cursor.on.Reads as on-reads
 
--- src/lib.rt:263:11
 block-requires : tie.Need-block-requires
 block-requires c κs = search needs
 
--- src/lib.rt:264:27
 enum-known-n : tie.Need-enum-known-n
 enum-known-n c = search needs
 
--- src/lib.rt:265:22
 enum-known-size : tie.Need-enum-known-size
 enum-known-size c = search needs
 
--- src/lib.rt:272:30
 on-requires : tie.Need-on-requires
 on-requires c κs = omega (arith, c .before .before .before .before .before .before .pre, block-inside referenceFrame _ _ _ _ (was numberTold (c .before .before .before .before .block .ensures referenceFrame) (c .before .before .size .given .1)))
 
--- src/lib.rt:259:1
 returns : tie.Need-returns
 returns c = uri-cut _ _ _ (was numberTold (c .before .before .before .block .ensures referenceFrame) (c .before .n .given .1))
 
--- src/lib.rt:259:1
 returns-2 : tie.Need-returns-2
 returns-2 c = uri-all _ _ _ (was numberTold (c .before .before .before .before .before .block .ensures referenceFrame) (c .before .before .before .size .given .1)) (c .on .ensures)
 

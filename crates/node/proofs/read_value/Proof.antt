@@ -10,27 +10,19 @@ use native.Mathlib.Omega.{arith}
 use borrow.Author.Needs.{needs}
 use Rattle.node.proofs.read_value.Statement.{statement}
 use Rattle.node.proofs.read_value.Tie as tie
-use Rattle.node.proofs.read_value.Reads as reads
-use Rattle.node.proofs.read_value.Lts as lts
-use Rattle.cursor.proofs.Cursor.number.Reads as number-reads
 
--- src/lib.rt:126:11
 number-requires : tie.Need-number-requires
 number-requires c κs = search needs
 
--- src/lib.rt:127:27
 enum-known-n : tie.Need-enum-known-n
 enum-known-n c = search needs
 
--- src/lib.rt:128:25
 enum-known-d : tie.Need-enum-known-d
 enum-known-d c = search needs
 
--- src/lib.rt:122:1
 returns : tie.Need-returns
 returns c = value-cut _ _ _ (was numberTold (c .before .before .before .number .ensures unpackFrame) (c .before .n .given .1))
 
--- src/lib.rt:122:1
 returns-2 : tie.Need-returns-2
 returns-2 c = value-all _ _ _ (was numberTold (c .before .before .before .number .ensures unpackFrame) (c .before .d .given .1))
 

@@ -65,167 +65,129 @@ Inv-loop file types nodes₀ items₀ scope levels parent end left next₀ m₀ 
 abbrev μ-loop : read-children-lts.MeasureT-loop
 μ-loop file types nodes₀ items₀ scope levels parent end left next₀ m₀ rest₀ nodes items next m rest = rest
 
--- src/lib.rt:216:5
 read-children-loop-holds : (t : ℕ) → read-children-lts.Need-loop-holds (children-calls t) (read-children-at t) read-children.Post Inv-loop μ-loop
 read-children-loop-holds t c = children-begun _ _ _ _ _ _ _ _ _ _ (omega (arith, c .before .before .before .before .pre)) (omega (arith, c .before .before .before .before .pre))
 
--- src/lib.rt:217:15
 read-children-read-node-requires : (t : ℕ) → read-children-lts.Need-read-node-requires (children-calls t) (read-children-at t) read-children.Post Inv-loop μ-loop
 read-children-read-node-requires t c κs = omega (arith, c .before .before .before .before .before .before .before .before .pre, c .before .before .before .loop .inv .nodes-long, c .before .before .before .loop .inv .items-long, c .before .before .before .loop .inv .nodes-fit, c .before .before .before .loop .inv .items-fit)
 
--- src/lib.rt:230:29
 read-children-enum-known-n : (t : ℕ) → read-children-lts.Need-enum-known-n (children-calls t) (read-children-at t) read-children.Post Inv-loop μ-loop
 read-children-enum-known-n t c = search needs
 
--- src/lib.rt:230:38
 read-children-same-length : (t : ℕ) → read-children-lts.Need-same-length (children-calls t) (read-children-at t) read-children.Post Inv-loop μ-loop
 read-children-same-length t c = c .before .before .before .before .before .before .before .read-node .kept .1 .1 .1 .0 ∙ c .before .before .before .before .before .before .before .before .before .before .before .loop .inv .nodes-long
 
--- src/lib.rt:230:38
 read-children-same-length-2 : (t : ℕ) → read-children-lts.Need-same-length-2 (children-calls t) (read-children-at t) read-children.Post Inv-loop μ-loop
 read-children-same-length-2 t c = c .before .before .before .before .before .before .before .read-node .kept .1 .1 .1 .1 .0 ∙ c .before .before .before .before .before .before .before .before .before .before .before .loop .inv .items-long
 
--- src/lib.rt:230:38
 read-children-returns : (t : ℕ) → read-children-lts.Need-returns (children-calls t) (read-children-at t) read-children.Post Inv-loop μ-loop
 read-children-returns t c = children-no _ _ _ _ _ _ _ _ _ _ (c .before .before .before .before .before .before .before .before .before .before .before .loop .inv) (c .before .before .before .before .before .before .before .before .before .before .loop-test .taken) (c .before .before .before .before .before .before .before .read-node .ensures) (c .before .n .given .1)
 
--- src/lib.rt:231:26
 read-children-enum-known-n-2 : (t : ℕ) → read-children-lts.Need-enum-known-n-2 (children-calls t) (read-children-at t) read-children.Post Inv-loop μ-loop
 read-children-enum-known-n-2 t c = search needs
 
--- src/lib.rt:236:16
 read-children-sub-rest : (t : ℕ) → read-children-lts.Need-sub-rest (children-calls t) (read-children-at t) read-children.Post Inv-loop μ-loop
 read-children-sub-rest t c = omega arith
 
--- src/lib.rt:216:5
 read-children-loop-less : (t : ℕ) → read-children-lts.Need-loop-less (children-calls t) (read-children-at t) read-children.Post Inv-loop μ-loop
 read-children-loop-less t c = omega arith
 
--- src/lib.rt:216:5
 read-children-loop-again : (t : ℕ) → read-children-lts.Need-loop-again (children-calls t) (read-children-at t) read-children.Post Inv-loop μ-loop
 read-children-loop-again t c = children-on _ _ _ _ _ _ _ _ _ _ (c .before .before .before .before .before .before .before .before .before .before .before .loop .inv) (c .before .before .before .before .before .before .before .before .before .before .loop-test .taken) (c .before .before .before .before .before .before .before .read-node .ensures) (c .before .n2 .given .1) (c .before .before .before .before .before .before .before .read-node .kept .1 .1 .1 .0) (c .before .before .before .before .before .before .before .read-node .kept .1 .1 .1 .1 .0)
 
--- src/lib.rt:197:1
 read-children-same-length-3 : (t : ℕ) → read-children-lts.Need-same-length-3 (children-calls t) (read-children-at t) read-children.Post Inv-loop μ-loop
 read-children-same-length-3 t c = c .before .loop .inv .nodes-long
 
--- src/lib.rt:197:1
 read-children-same-length-4 : (t : ℕ) → read-children-lts.Need-same-length-4 (children-calls t) (read-children-at t) read-children.Post Inv-loop μ-loop
 read-children-same-length-4 t c = c .before .loop .inv .items-long
 
--- src/lib.rt:197:1
 read-children-returns-2 : (t : ℕ) → read-children-lts.Need-returns-2 (children-calls t) (read-children-at t) read-children.Post Inv-loop μ-loop
 read-children-returns-2 t c = children-done _ _ _ _ _ _ _ _ _ _ (c .before .loop .inv) (c .loop-test .left)
 
--- src/lib.rt:138:9
 read-node-returns : (t : ℕ) → read-node-lts.Need-returns (node-calls t) (read-node-at t) read-node.Post
 read-node-returns t c = no (node-none _ _ _ _ _ _ _ _ _ (c .if1 .taken))
 
--- src/lib.rt:143:9
 read-node-returns-2 : (t : ℕ) → read-node-lts.Need-returns-2 (node-calls t) (read-node-at t) read-node.Post
 read-node-returns-2 t c = no (node-limit _ _ _ _ _ _ _ _ _ (c .before .before .before .if1 .left) (c .if2 .taken))
 
--- src/lib.rt:152:9
+read-node-add-read-front : (t : ℕ) → read-node-lts.Need-add-read-front (node-calls t) (read-node-at t) read-node.Post
+read-node-add-read-front t c = omega arith
+
 read-node-sub-read-front : (t : ℕ) → read-node-lts.Need-sub-read-front (node-calls t) (read-node-at t) read-node.Post
 read-node-sub-read-front t c = omega arith
 
--- src/lib.rt:145:11
 read-node-read-front-requires : (t : ℕ) → read-node-lts.Need-read-front-requires (node-calls t) (read-node-at t) read-node.Post
 read-node-read-front-requires t c κs = omega (arith, c .before .before .before .before .before .before .before .before .before .before .pre)
 
--- src/lib.rt:157:26
 read-node-enum-known-n : (t : ℕ) → read-node-lts.Need-enum-known-n (node-calls t) (read-node-at t) read-node.Post
 read-node-enum-known-n t c = search needs
 
--- src/lib.rt:158:21
 read-node-enum-known-w : (t : ℕ) → read-node-lts.Need-enum-known-w (node-calls t) (read-node-at t) read-node.Post
 read-node-enum-known-w t c = search needs
 
--- src/lib.rt:162:24
 read-node-add-read-children : (t : ℕ) → read-node-lts.Need-add-read-children (node-calls t) (read-node-at t) read-node.Post
 read-node-add-read-children t c = omega (arith, c .before .before .before .before .before .before .before .before .before .before .before .before .before .before .before .before .before .before .before .pre, c .before .before .before .before .before .before .before .before .before .before .before .before .before .before .before .before .before .before .before .good .1 .1 .1 .0 .0, c .before .before .before .before .before .before .before .before .before .before .if2 .left, front-fitting (c .before .before .before .before .before .before .before .before .read-front .ensures []) (c .before .before .before .before .w .given .1))
 
--- src/lib.rt:165:13
 read-node-put-node-requires : (t : ℕ) → read-node-lts.Need-put-node-requires (node-calls t) (read-node-at t) read-node.Post
 read-node-put-node-requires t c κs = omega (arith, c .before .before .before .before .before .before .before .before .before .before .before .before .before .before .before .before .before .before .before .before .pre, c .before .before .before .before .before .before .before .before .before .before .before .if2 .left)
 
--- src/lib.rt:166:17
 read-node-of-requires : (t : ℕ) → read-node-lts.Need-of-requires (node-calls t) (read-node-at t) read-node.Post
 read-node-of-requires t c κs = omega (arith, c .before .before .before .before .before .before .before .before .before .before .before .before .before .before .before .before .before .before .before .before .before .before .before .pre, front-inside _ _ _ _ _ _ _ _ _ (omega (arith, c .before .before .before .before .before .before .before .before .before .before .before .before .before .before .before .before .before .before .before .before .before .before .before .pre)) (front-done (c .before .before .before .before .before .before .before .before .before .before .before .before .read-front .ensures []) (c .before .before .before .before .before .before .before .before .w .given .1)))
 
--- src/lib.rt:168:17
 read-node-read-contents-requires : (t : ℕ) → read-node-lts.Need-read-contents-requires (node-calls t) (read-node-at t) read-node.Post
 read-node-read-contents-requires t c κs = omega (arith, front-inside _ _ _ _ _ _ _ _ _ (omega (arith, c .before .before .before .before .before .before .before .before .before .before .before .before .before .before .before .before .before .before .before .before .before .before .before .before .before .before .pre)) (front-done (c .before .before .before .before .before .before .before .before .before .before .before .before .before .before .before .read-front .ensures []) (c .before .before .before .before .before .before .before .before .before .before .before .w .given .1)), c .before .before .of .ensures, c .before .before .before .before .before .before .before .before .before .before .before .before .before .before .before .before .before .if2 .left, front-fitting (c .before .before .before .before .before .before .before .before .before .before .before .before .before .before .before .read-front .ensures []) (c .before .before .before .before .before .before .before .before .before .before .before .w .given .1))
 
--- src/lib.rt:168:17
 read-node-same-length : (t : ℕ) → read-node-lts.Need-same-length (node-calls t) (read-node-at t) read-node.Post
 read-node-same-length t c = c .before .before .before .before .before .before .put-node .kept .0
 
--- src/lib.rt:168:17
 read-node-same-length-2 : (t : ℕ) → read-node-lts.Need-same-length-2 (node-calls t) (read-node-at t) read-node.Post
 read-node-same-length-2 t c = c .before .before .before .before .before .before .before .before .before .before .before .before .before .before .before .before .read-front .kept .1 .1 .1 .0
 
--- src/lib.rt:168:17
 read-node-returns-3 : (t : ℕ) → read-node-lts.Need-returns-3 (node-calls t) (read-node-at t) read-node.Post
 read-node-returns-3 t c = node-file _ _ _ _ _ _ _ _ (c .before .before .before .before .before .before .before .before .before .before .before .before .before .before .before .before .before .before .before .before .before .if1 .left) (c .before .before .before .before .before .before .before .before .before .before .before .before .before .before .before .before .before .before .if2 .left) (omega (arith, c .before .before .before .before .before .before .before .before .before .before .before .before .before .before .before .before .before .before .before .before .before .before .before .before .before .before .before .pre)) _ _ _ (front-done (c .before .before .before .before .before .before .before .before .before .before .before .before .before .before .before .before .read-front .ensures _) (c .before .before .before .before .before .before .before .before .before .before .before .before .w .given .1)) _ (c .before .before .before .before .before .before .put-node .ensures) (c .before .before .before .of .ensures) (c .before .if3 .taken) (c .read-contents .ensures _ _ _)
 
--- src/lib.rt:177:17
 read-node-sub-read-children : (t : ℕ) → read-node-lts.Need-sub-read-children (node-calls t) (read-node-at t) read-node.Post
 read-node-sub-read-children t c = omega (arith, c .before .before .before .before .before .before .before .before .before .before .before .before .before .before .before .before .before .before .before .before .before .before .if1 .left)
 
--- src/lib.rt:170:19
 read-node-read-children-requires : (t : ℕ) → read-node-lts.Need-read-children-requires (node-calls t) (read-node-at t) read-node.Post
 read-node-read-children-requires t c κs = omega (arith, c .before .before .before .before .before .before .before .before .before .before .before .before .before .before .before .before .before .before .before .before .before .before .before .before .before .before .before .before .pre, c .before .before .before .before .before .before .before .before .before .before .before .before .before .before .before .before .before .before .before .before .before .before .if1 .left, c .before .before .before .before .before .before .before .before .before .before .before .before .before .before .before .before .before .before .before .if2 .left, front-inside _ _ _ _ _ _ _ _ _ (omega (arith, c .before .before .before .before .before .before .before .before .before .before .before .before .before .before .before .before .before .before .before .before .before .before .before .before .before .before .before .before .pre)) (front-done (c .before .before .before .before .before .before .before .before .before .before .before .before .before .before .before .before .before .read-front .ensures []) (c .before .before .before .before .before .before .before .before .before .before .before .before .before .w .given .1)), c .before .before .before .before .of .ensures, front-fitting (c .before .before .before .before .before .before .before .before .before .before .before .before .before .before .before .before .before .read-front .ensures []) (c .before .before .before .before .before .before .before .before .before .before .before .before .before .w .given .1), c .before .before .before .before .before .before .before .put-node .kept .0, c .before .before .before .before .before .before .before .before .before .before .before .before .before .before .before .before .before .read-front .kept .1 .1 .1 .0)
 
--- src/lib.rt:183:33
 read-node-enum-known-n-2 : (t : ℕ) → read-node-lts.Need-enum-known-n-2 (node-calls t) (read-node-at t) read-node.Post
 read-node-enum-known-n-2 t c = search needs
 
--- src/lib.rt:184:30
 read-node-enum-known-m : (t : ℕ) → read-node-lts.Need-enum-known-m (node-calls t) (read-node-at t) read-node.Post
 read-node-enum-known-m t c = search needs
 
--- src/lib.rt:187:25
 read-node-same-length-3 : (t : ℕ) → read-node-lts.Need-same-length-3 (node-calls t) (read-node-at t) read-node.Post
 read-node-same-length-3 t c = c .before .before .before .before .before .before .before .before .before .before .before .read-children .kept .1 .1 .1 .0 ∙ c .before .before .before .before .before .before .before .before .before .before .before .before .before .before .before .before .before .before .before .put-node .kept .0
 
--- src/lib.rt:187:25
 read-node-same-length-4 : (t : ℕ) → read-node-lts.Need-same-length-4 (node-calls t) (read-node-at t) read-node.Post
 read-node-same-length-4 t c = c .before .before .before .before .before .before .before .before .before .before .before .read-children .kept .1 .1 .1 .1 .0 ∙ c .before .before .before .before .before .before .before .before .before .before .before .before .before .before .before .before .before .before .before .before .before .before .before .before .before .before .before .before .before .read-front .kept .1 .1 .1 .0
 
--- src/lib.rt:187:25
 read-node-returns-4 : (t : ℕ) → read-node-lts.Need-returns-4 (node-calls t) (read-node-at t) read-node.Post
 read-node-returns-4 t c = no (node-left _ _ _ _ _ _ _ _ (c .before .before .before .before .before .before .before .before .before .before .before .before .before .before .before .before .before .before .before .before .before .before .before .before .before .before .before .before .before .before .before .before .before .before .if1 .left) (c .before .before .before .before .before .before .before .before .before .before .before .before .before .before .before .before .before .before .before .before .before .before .before .before .before .before .before .before .before .before .before .if2 .left) (omega (arith, c .before .before .before .before .before .before .before .before .before .before .before .before .before .before .before .before .before .before .before .before .before .before .before .before .before .before .before .before .before .before .before .before .before .before .before .before .before .before .before .before .pre)) _ _ _ (front-done (c .before .before .before .before .before .before .before .before .before .before .before .before .before .before .before .before .before .before .before .before .before .before .before .before .before .before .before .before .before .read-front .ensures _) (c .before .before .before .before .before .before .before .before .before .before .before .before .before .before .before .before .before .before .before .before .before .before .before .before .before .w .given .1)) _ (c .before .before .before .before .before .before .before .before .before .before .before .before .before .before .before .before .before .before .before .put-node .ensures) (c .before .before .before .before .before .before .before .before .before .before .before .before .before .before .before .before .of .ensures) (c .before .before .before .before .before .before .before .before .before .before .before .before .before .before .if3 .left) (done (c .before .before .before .before .before .before .before .before .before .before .before .read-children .ensures) (c .before .before .before .before .before .m2 .given .1)) (c .if4 .taken))
 
--- src/lib.rt:120:1
 read-node-same-length-5 : (t : ℕ) → read-node-lts.Need-same-length-5 (node-calls t) (read-node-at t) read-node.Post
 read-node-same-length-5 t c = c .before .before .before .before .before .read-front .kept .1 .1 .1 .0
 
--- src/lib.rt:120:1
 read-node-returns-5 : (t : ℕ) → read-node-lts.Need-returns-5 (node-calls t) (read-node-at t) read-node.Post
 read-node-returns-5 t c = no (node-front _ _ _ _ _ _ _ _ _ (c .before .before .before .before .before .before .before .before .before .before .if1 .left) (c .before .before .before .before .before .before .before .if2 .left) (front-stopped (c .before .before .before .before .before .read-front .ensures _) (c .before .n .given .1)))
 
--- src/lib.rt:120:1
 read-node-same-length-6 : (t : ℕ) → read-node-lts.Need-same-length-6 (node-calls t) (read-node-at t) read-node.Post
 read-node-same-length-6 t c = c .before .before .before .before .before .before .before .read-children .kept .1 .1 .1 .0 ∙ c .before .before .before .before .before .before .before .before .before .before .before .before .before .before .before .put-node .kept .0
 
--- src/lib.rt:120:1
 read-node-same-length-7 : (t : ℕ) → read-node-lts.Need-same-length-7 (node-calls t) (read-node-at t) read-node.Post
 read-node-same-length-7 t c = c .before .before .before .before .before .before .before .read-children .kept .1 .1 .1 .1 .0 ∙ c .before .before .before .before .before .before .before .before .before .before .before .before .before .before .before .before .before .before .before .before .before .before .before .before .before .read-front .kept .1 .1 .1 .0
 
--- src/lib.rt:120:1
 read-node-returns-6 : (t : ℕ) → read-node-lts.Need-returns-6 (node-calls t) (read-node-at t) read-node.Post
 read-node-returns-6 t c = no (node-children _ _ _ _ _ _ _ _ (c .before .before .before .before .before .before .before .before .before .before .before .before .before .before .before .before .before .before .before .before .before .before .before .before .before .before .before .before .before .before .if1 .left) (c .before .before .before .before .before .before .before .before .before .before .before .before .before .before .before .before .before .before .before .before .before .before .before .before .before .before .before .if2 .left) (omega (arith, c .before .before .before .before .before .before .before .before .before .before .before .before .before .before .before .before .before .before .before .before .before .before .before .before .before .before .before .before .before .before .before .before .before .before .before .before .pre)) _ _ _ (front-done (c .before .before .before .before .before .before .before .before .before .before .before .before .before .before .before .before .before .before .before .before .before .before .before .before .before .read-front .ensures _) (c .before .before .before .before .before .before .before .before .before .before .before .before .before .before .before .before .before .before .before .before .before .w .given .1)) _ (c .before .before .before .before .before .before .before .before .before .before .before .before .before .before .before .put-node .ensures) (c .before .before .before .before .before .before .before .before .before .before .before .before .of .ensures) (c .before .before .before .before .before .before .before .before .before .before .if3 .left) (stopped (c .before .before .before .before .before .before .before .read-children .ensures) (c .before .n2 .given .1)))
 
--- src/lib.rt:120:1
 read-node-same-length-8 : (t : ℕ) → read-node-lts.Need-same-length-8 (node-calls t) (read-node-at t) read-node.Post
 read-node-same-length-8 t c = c .before .before .before .before .before .before .before .before .before .before .before .read-children .kept .1 .1 .1 .0 ∙ c .before .before .before .before .before .before .before .before .before .before .before .before .before .before .before .before .before .before .before .put-node .kept .0
 
--- src/lib.rt:120:1
 read-node-same-length-9 : (t : ℕ) → read-node-lts.Need-same-length-9 (node-calls t) (read-node-at t) read-node.Post
 read-node-same-length-9 t c = c .before .before .before .before .before .before .before .before .before .before .before .read-children .kept .1 .1 .1 .1 .0 ∙ c .before .before .before .before .before .before .before .before .before .before .before .before .before .before .before .before .before .before .before .before .before .before .before .before .before .before .before .before .before .read-front .kept .1 .1 .1 .0
 
--- src/lib.rt:120:1
 read-node-returns-7 : (t : ℕ) → read-node-lts.Need-returns-7 (node-calls t) (read-node-at t) read-node.Post
 read-node-returns-7 t c = yes (node-all _ _ _ _ _ _ _ _ (c .before .before .before .before .before .before .before .before .before .before .before .before .before .before .before .before .before .before .before .before .before .before .before .before .before .before .before .before .before .before .before .before .before .before .if1 .left) (c .before .before .before .before .before .before .before .before .before .before .before .before .before .before .before .before .before .before .before .before .before .before .before .before .before .before .before .before .before .before .before .if2 .left) (omega (arith, c .before .before .before .before .before .before .before .before .before .before .before .before .before .before .before .before .before .before .before .before .before .before .before .before .before .before .before .before .before .before .before .before .before .before .before .before .before .before .before .before .pre)) _ _ _ (front-done (c .before .before .before .before .before .before .before .before .before .before .before .before .before .before .before .before .before .before .before .before .before .before .before .before .before .before .before .before .before .read-front .ensures _) (c .before .before .before .before .before .before .before .before .before .before .before .before .before .before .before .before .before .before .before .before .before .before .before .before .before .w .given .1)) _ (c .before .before .before .before .before .before .before .before .before .before .before .before .before .before .before .before .before .before .before .put-node .ensures) (c .before .before .before .before .before .before .before .before .before .before .before .before .before .before .before .before .of .ensures) (c .before .before .before .before .before .before .before .before .before .before .before .before .before .before .if3 .left) (done (c .before .before .before .before .before .before .before .before .before .before .before .read-children .ensures) (c .before .before .before .before .before .m2 .given .1)) (c .if4 .left)) (fitting (c .before .before .before .before .before .before .before .before .before .before .before .read-children .ensures) (c .before .before .before .before .before .m2 .given .1))
 
@@ -264,6 +226,7 @@ pub +read-children+read-node-spec : {M : Type 1} → statement M
     read-node.Post
     (read-node-returns t)
     (read-node-returns-2 t)
+    (read-node-add-read-front t)
     (read-node-sub-read-front t)
     (read-node-read-front-requires t)
     (read-node-enum-known-n t)

@@ -7,10 +7,6 @@ use native.Mathlib.Omega.{arith}
 use borrow.Author.Needs.{needs}
 use Rattle.tree.proofs.check_targets.Statement.{statement}
 use Rattle.tree.proofs.check_targets.Tie as tie
-use Rattle.tree.proofs.check_targets.Reads as reads
-use Rattle.tree.proofs.check_targets.Lts as lts
-use Rattle.tree.proofs.is_lost.Reads as is-lost-reads
-use Rattle.tree.proofs.offset_at.Reads as offset-at-reads
 
 abbrev Inv-loop : tie.InvT-loop
 Inv-loop file nodes count i₀ i = (i ≤ count) × Checking file count nodes i
@@ -18,35 +14,27 @@ Inv-loop file nodes count i₀ i = (i ≤ count) × Checking file count nodes i
 abbrev μ-loop : tie.MeasureT-loop
 μ-loop file nodes count i₀ i = count - i
 
--- src/lib.rt:275:5
 loop-holds : tie.Need-loop-holds Inv-loop μ-loop
 loop-holds c = (omega arith, λ ns s o. refl)
 
--- src/lib.rt:276:12
 is-lost-requires : tie.Need-is-lost-requires Inv-loop μ-loop
 is-lost-requires c κs = (omega (arith, c .before .before .before .before .pre), omega (arith, c .before .before .before .before .pre), stands-rise (c .before .before .before .before .pre .0 .1))
 
--- src/lib.rt:277:57
 offset-at-requires : tie.Need-offset-at-requires Inv-loop μ-loop
 offset-at-requires c κs = (c .before .before .before .before .before .before .pre .0, omega (arith, c .before .before .before .before .before .before .pre), omega (arith, c .before .before .before .before .before .before .pre), omega (arith, c .before .before .before .before .before .before .pre))
 
--- src/lib.rt:277:13
 returns : tie.Need-returns Inv-loop μ-loop
 returns c = target-lost _ _ _ _ (c .before .before .before .before .loop .inv .1) (c .before .before .before .loop-test .taken) (c .before .before .is-lost .ensures) (c .before .if1 .taken) (c .offset-at .ensures)
 
--- src/lib.rt:279:13
 add-i : tie.Need-add-i Inv-loop μ-loop
 add-i c = omega arith
 
--- src/lib.rt:275:5
 loop-less : tie.Need-loop-less Inv-loop μ-loop
 loop-less c = omega arith
 
--- src/lib.rt:275:5
 loop-again : tie.Need-loop-again Inv-loop μ-loop
 loop-again c = (omega arith, target-on _ _ _ _ (c .before .before .before .loop .inv .1) (c .before .before .loop-test .taken) (c .before .is-lost .ensures) (c .if1 .left))
 
--- src/lib.rt:270:1
 returns-2 : tie.Need-returns-2 Inv-loop μ-loop
 returns-2 c = targets-good _ _ _ _ (c .before .loop .inv .1) (c .loop-test .left)
 

@@ -9,56 +9,40 @@ use native.Mathlib.Omega.{arith}
 use borrow.Author.Needs.{needs}
 use Rattle.tree.proofs.offset_at.Statement.{statement}
 use Rattle.tree.proofs.offset_at.Tie as tie
-use Rattle.tree.proofs.offset_at.Reads as reads
-use Rattle.tree.proofs.offset_at.Lts as lts
-use Rattle.cursor.proofs.Cursor.number.Reads as number-reads
-use Rattle.cursor.proofs.FilePlace.of.Reads as of-reads
 
--- src/lib.rt:261:13
 mul-k : tie.Need-mul-k
 mul-k c = search needs
 
--- src/lib.rt:262:27
 mul-t10 : tie.Need-mul-t10
 mul-t10 c = search needs
 
--- src/lib.rt:262:27
 shared-slice-read-t12 : tie.Need-shared-slice-read-t12
 shared-slice-read-t12 c = search needs
 
--- src/lib.rt:263:39
 add-t10 : tie.Need-add-t10
 add-t10 c = search needs
 
--- src/lib.rt:263:33
 mul-t13 : tie.Need-mul-t13
 mul-t13 c = search needs
 
--- src/lib.rt:263:33
 shared-slice-read-t12-2 : tie.Need-shared-slice-read-t12-2
 shared-slice-read-t12-2 c = search needs
 
--- src/lib.rt:263:9
 of-requires : tie.Need-of-requires
 of-requires c κs = omega (arith, row-at (c .before .before .before .before .pre .0 .1) (c .before .before .before .before .args .i) (omega (arith, c .before .before .before .before .pre)))
 
--- src/lib.rt:264:11
 number-requires : tie.Need-number-requires
 number-requires c κs = search needs
 
--- src/lib.rt:265:30
 enum-known-place : tie.Need-enum-known-place
 enum-known-place c = search needs
 
--- src/lib.rt:266:25
 enum-known-next : tie.Need-enum-known-next
 enum-known-next c = search needs
 
--- src/lib.rt:257:1
 returns : tie.Need-returns
 returns c = λ ns s n rest e. offset-is s _ (omega (arith, c .before .before .before .before .before .before .before .before .before .pre)) n rest e _ _ (c .before .before .before .before .of .ensures) (sym (was numberTold (c .before .before .before .number .ensures referenceFrame) (c .before .place .given .1)))
 
--- src/lib.rt:257:1
 returns-2 : tie.Need-returns-2
 returns-2 c = λ ns s n rest e. offset-is s _ (omega (arith, c .before .before .before .before .before .before .before .before .before .before .pre)) n rest e _ _ (c .before .before .before .before .before .of .ensures) (sym (was numberTold (c .before .before .before .before .number .ensures referenceFrame) (c .before .before .next .given .1)))
 

@@ -6,18 +6,13 @@ use native.Mathlib.Omega.{arith}
 use borrow.Author.Needs.{needs}
 use Rattle.tree.proofs.read_contents.Statement.{statement}
 use Rattle.tree.proofs.read_contents.Tie as tie
-use Rattle.tree.proofs.read_contents.Reads as reads
-use Rattle.tree.proofs.read_contents.Lts as lts
 
--- src/lib.rt:100:9
 returns : tie.Need-returns
 returns c = λ s t u. yes (contents-inline _ _ _ _ _ _ (omega (arith, c .before .before .pre)) (c .if1 .taken)) (omega (arith, c .before .before .pre))
 
--- src/lib.rt:103:9
 returns-2 : tie.Need-returns-2
 returns-2 c = λ s t u. no (contents-left _ _ _ _ _ _ (omega (arith, c .before .before .before .before .before .pre)) (c .before .before .before .if1 .left) (c .if2 .taken))
 
--- src/lib.rt:94:1
 returns-3 : tie.Need-returns-3
 returns-3 c = λ s t u. yes (contents-none _ _ _ _ _ _ (omega (arith, c .before .before .before .before .before .pre)) (c .before .before .before .if1 .left) (c .if2 .left)) (omega (arith, c .before .before .before .before .before .pre))
 

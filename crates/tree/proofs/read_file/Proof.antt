@@ -8,128 +8,97 @@ use borrow.Author.Needs.{needs}
 use Rattle.tree.proofs.read_file.Statement.{statement}
 use Rattle.tree.proofs.read_file.Tie as tie
 
--- src/lib.rt:361:37
 slice-aggregate-read-header : tie.Need-slice-aggregate-read-header
 slice-aggregate-read-header c = search needs
 
--- src/lib.rt:361:11
 read-header-requires : tie.Need-read-header-requires
 read-header-requires c κs = search needs
 
--- src/lib.rt:362:25
 enum-known-n : tie.Need-enum-known-n
 enum-known-n c = search needs
 
--- src/lib.rt:363:13
 clear-all-requires : tie.Need-clear-all-requires
 clear-all-requires c κs = search needs
 
--- src/lib.rt:366:20
 enum-known-h : tie.Need-enum-known-h
 enum-known-h c = search needs
 
--- src/lib.rt:367:17
 room-of-requires : tie.Need-room-of-requires
 room-of-requires c κs = search needs
 
--- src/lib.rt:368:35
 slice-aggregate-read-root : tie.Need-slice-aggregate-read-root
 slice-aggregate-read-root c = search needs
 
--- src/lib.rt:368:19
 read-root-requires : tie.Need-read-root-requires
 read-root-requires c κs = omega (arith, whole-within (c .before .before .before .before .before .before .before .before .before .before .before .before .before .args .file .now) (header-is _ _ (c .before .before .before .before .before .before .before .before .read-header .ensures .0) (c .before .before .before .before .before .h .given .1)), few (c .before .before .before .before .before .before .before .before .read-header .ensures .1) (c .before .before .before .before .before .h .given .1), whole-room (c .before .before .before .room-of .ensures))
 
--- src/lib.rt:369:33
 enum-known-n-2 : tie.Need-enum-known-n-2
 enum-known-n-2 c = search needs
 
--- src/lib.rt:370:21
 clear-all-requires-2 : tie.Need-clear-all-requires-2
 clear-all-requires-2 c κs = search needs
 
--- src/lib.rt:373:30
 enum-known-m : tie.Need-enum-known-m
 enum-known-m c = search needs
 
--- src/lib.rt:373:45
 check-targets-requires : tie.Need-check-targets-requires
 check-targets-requires c κs = let w = whole-found (c .before .before .before .before .before .before .before .before .before .before .before .before .before .before .before .before .before .before .before .before .before .before .args .file .now) (c .before .before .before .before .before .before .before .before .before .before .before .before .before .before .before .before .before .before .before .before .before .before .args .nodes .now) (c .before .before .before .before .before .before .before .before .before .before .before .before .before .before .before .before .before .before .before .before .before .before .args .items .now) (header-is _ _ (c .before .before .before .before .before .before .before .before .before .before .before .before .before .before .before .before .before .read-header .ensures .0) (c .before .before .before .before .before .before .before .before .before .before .before .before .before .before .h .given .1)) (c .before .before .before .before .before .before .before .before .before .before .before .before .room-of .ensures) (c .before .before .before .before .before .before .before .before .read-root .ensures) (c .before .before .m .given .1) in
     ((w .ns, w .stands), omega (arith, fitting (c .before .before .before .before .before .before .before .before .read-root .ensures) (c .before .before .m .given .1), whole-room (c .before .before .before .before .before .before .before .before .before .before .before .before .room-of .ensures), c .before .before .before .before .before .before .before .before .read-root .kept .1 .1 .0), omega (arith, whole-within (c .before .before .before .before .before .before .before .before .before .before .before .before .before .before .before .before .before .before .before .before .before .before .args .file .now) (header-is _ _ (c .before .before .before .before .before .before .before .before .before .before .before .before .before .before .before .before .before .read-header .ensures .0) (c .before .before .before .before .before .before .before .before .before .before .before .before .before .before .h .given .1))))
 
--- src/lib.rt:374:38
 enum-known-n-3 : tie.Need-enum-known-n-3
 enum-known-n-3 c = search needs
 
--- src/lib.rt:375:25
 clear-all-requires-3 : tie.Need-clear-all-requires-3
 clear-all-requires-3 c κs = search needs
 
--- src/lib.rt:379:36
 enum-told : tie.Need-enum-told
 enum-told c = search needs
 
--- src/lib.rt:379:43
 mul-clear-from : tie.Need-mul-clear-from
 mul-clear-from c = omega (arith, fitting (c .before .before .before .before .before .before .before .before .before .before .before .before .before .read-root .ensures) (c .before .before .before .before .before .before .before .m .given .1), whole-room (c .before .before .before .before .before .before .before .before .before .before .before .before .before .before .before .before .before .room-of .ensures))
 
--- src/lib.rt:379:25
 clear-from-requires : tie.Need-clear-from-requires
 clear-from-requires c κs = search needs
 
--- src/lib.rt:380:43
 mul-clear-from-2 : tie.Need-mul-clear-from-2
 mul-clear-from-2 c = omega (arith, fitting (c .before .before .before .before .before .before .before .before .before .before .before .before .before .before .before .before .before .before .read-root .ensures) (c .before .before .before .before .before .before .before .before .before .before .before .before .m .given .1), whole-room (c .before .before .before .before .before .before .before .before .before .before .before .before .before .before .before .before .before .before .before .before .before .before .room-of .ensures))
 
--- src/lib.rt:380:25
 clear-from-requires-2 : tie.Need-clear-from-requires-2
 clear-from-requires-2 c κs = search needs
 
--- src/lib.rt:355:1
 same-length : tie.Need-same-length
 same-length c = search needs
 
--- src/lib.rt:355:1
 same-length-2 : tie.Need-same-length-2
 same-length-2 c = search needs
 
--- src/lib.rt:355:1
 returns : tie.Need-returns
 returns c = let w = whole-header (c .before .before .before .before .before .before .before .before .before .before .before .before .before .before .before .before .args .file .now) (c .before .before .before .before .before .before .before .before .before .before .before .before .before .before .before .before .args .nodes .now) (c .before .before .before .before .before .before .before .before .before .before .before .before .before .before .before .before .args .items .now) (c .before .before .before .before .clear-all .ensures .0) (c .before .before .before .before .clear-all .ensures .1) (header-no _ _ (c .before .before .before .before .before .before .before .before .before .before .before .read-header .ensures .0) (c .before .before .before .before .before .before .before .before .n .given .1)) in (w .0, (w .1, w .2))
 
--- src/lib.rt:355:1
 same-length-3 : tie.Need-same-length-3
 same-length-3 c = c .before .before .before .before .clear-all2 .kept .0 ∙ c .before .before .before .before .before .before .before .before .before .before .before .before .before .before .read-root .kept .1 .1 .0
 
--- src/lib.rt:355:1
 same-length-4 : tie.Need-same-length-4
 same-length-4 c = c .before .before .before .before .clear-all2 .kept .1 .0 ∙ c .before .before .before .before .before .before .before .before .before .before .before .before .before .before .read-root .kept .1 .1 .1 .0
 
--- src/lib.rt:355:1
 returns-2 : tie.Need-returns-2
 returns-2 c = let w = whole-refused (c .before .before .before .before .before .before .before .before .before .before .before .before .before .before .before .before .before .before .before .before .before .before .before .before .before .before .before .before .args .file .now) (c .before .before .before .before .before .before .before .before .before .before .before .before .before .before .before .before .before .before .before .before .before .before .before .before .before .before .before .before .args .nodes .now) (c .before .before .before .before .before .before .before .before .before .before .before .before .before .before .before .before .before .before .before .before .before .before .before .before .before .before .before .before .args .items .now) (header-is _ _ (c .before .before .before .before .before .before .before .before .before .before .before .before .before .before .before .before .before .before .before .before .before .before .before .read-header .ensures .0) (c .before .before .before .before .before .before .before .before .before .before .before .before .before .before .before .before .before .before .before .before .h .given .1)) (c .before .before .before .before .before .before .before .before .before .before .before .before .before .before .before .before .before .before .room-of .ensures) (c .before .before .before .before .before .before .before .before .before .before .before .before .before .before .read-root .ensures) (c .before .before .before .before .before .before .before .before .before .before .before .before .before .before .read-root .kept .1 .1 .0) (c .before .before .before .before .before .before .before .before .before .before .before .before .before .before .read-root .kept .1 .1 .1 .0) (c .before .before .before .before .before .before .before .before .n2 .given .1) (c .before .before .before .before .clear-all2 .ensures .0) (c .before .before .before .before .clear-all2 .ensures .1) in (w .0, (w .1, w .2))
 
--- src/lib.rt:355:1
 same-length-5 : tie.Need-same-length-5
 same-length-5 c = c .before .before .before .before .clear-all3 .kept .0 ∙ c .before .before .before .before .before .before .before .before .before .before .before .before .before .before .before .before .before .before .before .read-root .kept .1 .1 .0
 
--- src/lib.rt:355:1
 same-length-6 : tie.Need-same-length-6
 same-length-6 c = c .before .before .before .before .clear-all3 .kept .1 .0 ∙ c .before .before .before .before .before .before .before .before .before .before .before .before .before .before .before .before .before .before .before .read-root .kept .1 .1 .1 .0
 
--- src/lib.rt:355:1
 returns-3 : tie.Need-returns-3
 returns-3 c = let w = whole-lost (c .before .before .before .before .before .before .before .before .before .before .before .before .before .before .before .before .before .before .before .before .before .before .before .before .before .before .before .before .before .before .before .before .before .args .file .now) (c .before .before .before .before .before .before .before .before .before .before .before .before .before .before .before .before .before .before .before .before .before .before .before .before .before .before .before .before .before .before .before .before .before .args .nodes .now) (c .before .before .before .before .before .before .before .before .before .before .before .before .before .before .before .before .before .before .before .before .before .before .before .before .before .before .before .before .before .before .before .before .before .args .items .now) (header-is _ _ (c .before .before .before .before .before .before .before .before .before .before .before .before .before .before .before .before .before .before .before .before .before .before .before .before .before .before .before .before .read-header .ensures .0) (c .before .before .before .before .before .before .before .before .before .before .before .before .before .before .before .before .before .before .before .before .before .before .before .before .before .h .given .1)) (c .before .before .before .before .before .before .before .before .before .before .before .before .before .before .before .before .before .before .before .before .before .before .before .room-of .ensures) (c .before .before .before .before .before .before .before .before .before .before .before .before .before .before .before .before .before .before .before .read-root .ensures) (c .before .before .before .before .before .before .before .before .before .before .before .before .before .before .before .before .before .before .before .read-root .kept .1 .1 .0) (c .before .before .before .before .before .before .before .before .before .before .before .before .before .before .before .before .before .before .before .read-root .kept .1 .1 .1 .0) (c .before .before .before .before .before .before .before .before .before .before .before .before .before .m .given .1) (c .before .before .before .before .before .before .before .before .before .before .check-targets .ensures) (c .before .before .before .before .before .before .before .before .n3 .given .1) (c .before .before .before .before .clear-all3 .ensures .0) (c .before .before .before .before .clear-all3 .ensures .1) in (w .0, (w .1, w .2))
 
--- src/lib.rt:355:1
 same-length-7 : tie.Need-same-length-7
 same-length-7 c = c .before .before .before .before .before .before .before .before .clear-from .kept .0 ∙ c .before .before .before .before .before .before .before .before .before .before .before .before .before .before .before .before .before .before .before .before .before .before .read-root .kept .1 .1 .0
 
--- src/lib.rt:355:1
 same-length-8 : tie.Need-same-length-8
 same-length-8 c = c .before .before .before .clear-from2 .kept .0 ∙ c .before .before .before .before .before .before .before .before .before .before .before .before .before .before .before .before .before .before .before .before .before .before .read-root .kept .1 .1 .1 .0
 
--- src/lib.rt:355:1
 returns-4 : tie.Need-returns-4
 returns-4 c = let w = whole-good (c .before .before .before .before .before .before .before .before .before .before .before .before .before .before .before .before .before .before .before .before .before .before .before .before .before .before .before .before .before .before .before .before .before .before .before .before .args .file .now) (c .before .before .before .before .before .before .before .before .before .before .before .before .before .before .before .before .before .before .before .before .before .before .before .before .before .before .before .before .before .before .before .before .before .before .before .before .args .nodes .now) (c .before .before .before .before .before .before .before .before .before .before .before .before .before .before .before .before .before .before .before .before .before .before .before .before .before .before .before .before .before .before .before .before .before .before .before .before .args .items .now) (header-is _ _ (c .before .before .before .before .before .before .before .before .before .before .before .before .before .before .before .before .before .before .before .before .before .before .before .before .before .before .before .before .before .before .before .read-header .ensures .0) (c .before .before .before .before .before .before .before .before .before .before .before .before .before .before .before .before .before .before .before .before .before .before .before .before .before .before .before .before .h .given .1)) (c .before .before .before .before .before .before .before .before .before .before .before .before .before .before .before .before .before .before .before .before .before .before .before .before .before .before .room-of .ensures) (c .before .before .before .before .before .before .before .before .before .before .before .before .before .before .before .before .before .before .before .before .before .before .read-root .ensures) (c .before .before .before .before .before .before .before .before .before .before .before .before .before .before .before .before .before .before .before .before .before .before .read-root .kept .1 .1 .0) (c .before .before .before .before .before .before .before .before .before .before .before .before .before .before .before .before .before .before .before .before .before .before .read-root .kept .1 .1 .1 .0) (c .before .before .before .before .before .before .before .before .before .before .before .before .before .before .before .before .m .given .1) (c .before .before .before .before .before .before .before .before .before .before .before .before .before .check-targets .ensures) (c .before .before .before .before .before .before .before .before .before .before .before .enum-told .given .1) (c .before .before .before .before .before .before .before .before .clear-from .ensures) (c .before .before .before .clear-from2 .ensures) in (w .0, (w .1, w .2))
 

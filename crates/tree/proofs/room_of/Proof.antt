@@ -6,19 +6,13 @@ use native.Mathlib.Omega.{arith}
 use borrow.Author.Needs.{needs}
 use Rattle.tree.proofs.room_of.Statement.{statement}
 use Rattle.tree.proofs.room_of.Tie as tie
-use Rattle.tree.proofs.room_of.Reads as reads
-use Rattle.tree.proofs.room_of.Lts as lts
-use Rattle.tree.proofs.least.Reads as least-reads
 
--- src/lib.rt:200:9
 least-requires : tie.Need-least-requires
 least-requires c κs = search needs
 
--- src/lib.rt:201:9
 least-requires-2 : tie.Need-least-requires-2
 least-requires-2 c κs = search needs
 
--- src/lib.rt:197:1
 returns : tie.Need-returns
 returns c = ap₂ (λ (n : ℕ) (i : ℕ). record { nodes = n; items = i }) (c .before .least .ensures) (c .least2 .ensures)
 

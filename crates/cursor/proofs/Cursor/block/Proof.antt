@@ -6,35 +6,25 @@ use native.Mathlib.Omega.{arith}
 use borrow.Author.Needs.{needs}
 use Rattle.cursor.proofs.Cursor.block.Statement.{statement}
 use Rattle.cursor.proofs.Cursor.block.Tie as tie
-use Rattle.cursor.proofs.Cursor.block.Reads as reads
-use Rattle.cursor.proofs.Cursor.block.Lts as lts
-use Rattle.cursor.proofs.Cursor.number.Reads as number-reads
 
--- src/lib.rt:128:15
 number-requires : tie.Need-number-requires
 number-requires c κs = search needs
 
--- src/lib.rt:129:31
 enum-known-n : tie.Need-enum-known-n
 enum-known-n c = search needs
 
--- src/lib.rt:130:26
 enum-known-size : tie.Need-enum-known-size
 enum-known-size c = search needs
 
--- src/lib.rt:132:20
 sub-if1 : tie.Need-sub-if1
 sub-if1 c = omega (arith, number-inside fileFrame _ _ _ _ (was numberTold (c .before .before .before .before .before .before .number .ensures fileFrame) (c .before .before .before .before .size .given .1)))
 
--- src/lib.rt:133:21
 returns : tie.Need-returns
 returns c = λ κ. block-past κ _ _ _ _ (was numberTold (c .before .before .before .before .before .before .before .number .ensures κ) (c .before .before .before .before .before .size .given .1)) (omega (arith, number-inside κ _ _ _ _ (was numberTold (c .before .before .before .before .before .before .before .number .ensures κ) (c .before .before .before .before .before .size .given .1)), c .if1 .taken))
 
--- src/lib.rt:123:5
 returns-2 : tie.Need-returns-2
 returns-2 c = λ κ. block-size κ _ _ _ _ (was numberTold (c .before .before .before .number .ensures κ) (c .before .n .given .1))
 
--- src/lib.rt:123:5
 returns-3 : tie.Need-returns-3
 returns-3 c = λ κ. block-all κ _ _ _ _ (was numberTold (c .before .before .before .before .before .before .before .number .ensures κ) (c .before .before .before .before .before .size .given .1)) (omega (arith, number-inside κ _ _ _ _ (was numberTold (c .before .before .before .before .before .before .before .number .ensures κ) (c .before .before .before .before .before .size .given .1)), c .if1 .left))
 

@@ -5,9 +5,6 @@ use native.Mathlib.Omega.{arith}
 use mathlib.Core.Path.{_≡_}
 use Rattle.cursor.proofs.Cursor.guid.Statement.{statement}
 use Rattle.cursor.proofs.Cursor.guid.Tie as tie
-use Rattle.cursor.proofs.Cursor.guid.Reads as reads
-use Rattle.cursor.proofs.Cursor.guid.Lts as lts
-use Rattle.cursor.proofs.wide.Reads as wide-reads
 
 abbrev Inv-loop : tie.InvT-loop
 Inv-loop file start stop at₀ left₀ at left = GuidReading file stop (start .0) left at × (left ≤ 19)
@@ -15,43 +12,33 @@ Inv-loop file start stop at₀ left₀ at left = GuidReading file stop (start .0
 abbrev μ-loop : tie.MeasureT-loop
 μ-loop file start stop at₀ left₀ at left = left
 
--- src/lib.rt:173:9
 loop-holds : tie.Need-loop-holds Inv-loop μ-loop
 loop-holds c = (guid-begun _ _ _, omega arith)
 
--- src/lib.rt:180:29
 shared-slice-read-wide : tie.Need-shared-slice-read-wide Inv-loop μ-loop
 shared-slice-read-wide c = omega arith
 
--- src/lib.rt:180:17
 wide-requires : tie.Need-wide-requires Inv-loop μ-loop
 wide-requires c κs = search needs
 
--- src/lib.rt:181:18
 add-at : tie.Need-add-at Inv-loop μ-loop
 add-at c = omega arith
 
--- src/lib.rt:182:20
 sub-left : tie.Need-sub-left Inv-loop μ-loop
 sub-left c = omega arith
 
--- src/lib.rt:173:9
 loop-less : tie.Need-loop-less Inv-loop μ-loop
 loop-less c = omega arith
 
--- src/lib.rt:173:9
 loop-again : tie.Need-loop-again Inv-loop μ-loop
 loop-again c = (guid-on (c .before .before .before .before .before .loop .inv .0) (c .before .before .before .before .if1 .left) (c .before .before .before .if2 .left) (c .before .wide .ensures .0) (c .if3 .left), omega arith)
 
--- src/lib.rt:165:5
 returns : tie.Need-returns Inv-loop μ-loop
 returns c = guid-out (c .before .loop .inv .0) (c .if1 .taken)
 
--- src/lib.rt:165:5
 returns-2 : tie.Need-returns-2 Inv-loop μ-loop
 returns-2 c = guid-cut (c .before .before .loop .inv .0) (c .before .if1 .left) (c .if2 .taken)
 
--- src/lib.rt:165:5
 returns-3 : tie.Need-returns-3 Inv-loop μ-loop
 returns-3 c = guid-end (c .before .before .before .before .before .loop .inv .0) (c .before .before .before .before .if1 .left) (c .before .before .before .if2 .left) (c .before .wide .ensures .0) (c .if3 .taken)
 

@@ -10,9 +10,6 @@ use Rattle.cursor.specs.Leaves.{number, digits}
 use Rattle.cursor.proofs.Digits.{Reading, begun, out, missing, last, long, more, grown, below}
 use Rattle.cursor.proofs.Cursor.number.Statement.{statement}
 use Rattle.cursor.proofs.Cursor.number.Tie as tie
-use Rattle.cursor.proofs.Cursor.number.Reads as reads
-use Rattle.cursor.proofs.Cursor.number.Lts as lts
-use Rattle.cursor.proofs.wide.Reads as wide-reads
 
 abbrev Inv-loop : tie.InvT-loop
 Inv-loop file past start stop at₀ value₀ left₀ at value left = Reading file past stop (start .0) left value at × (left ≤ 4) × (value < 128 ^ (4 - left))
@@ -20,55 +17,42 @@ Inv-loop file past start stop at₀ value₀ left₀ at value left = Reading fil
 abbrev μ-loop : tie.MeasureT-loop
 μ-loop file past start stop at₀ value₀ left₀ at value left = left
 
--- src/lib.rt:86:9
 loop-holds : tie.Need-loop-holds Inv-loop μ-loop
 loop-holds c = (begun _ _ _ _, omega arith, omega arith)
 
--- src/lib.rt:93:29
 shared-slice-read-wide : tie.Need-shared-slice-read-wide Inv-loop μ-loop
 shared-slice-read-wide c = omega arith
 
--- src/lib.rt:93:17
 wide-requires : tie.Need-wide-requires Inv-loop μ-loop
 wide-requires c κs = search needs
 
--- src/lib.rt:94:18
 add-at : tie.Need-add-at Inv-loop μ-loop
 add-at c = omega arith
 
--- src/lib.rt:95:20
 sub-left : tie.Need-sub-left Inv-loop μ-loop
 sub-left c = omega arith
 
--- src/lib.rt:96:21
 mul-value : tie.Need-mul-value Inv-loop μ-loop
 mul-value c = omega (arith, below _ _ (c .before .before .before .before .loop .inv .2))
 
--- src/lib.rt:96:21
 add-value : tie.Need-add-value Inv-loop μ-loop
 add-value c = omega (arith, below _ _ (c .before .before .before .before .loop .inv .2))
 
--- src/lib.rt:86:9
 loop-less : tie.Need-loop-less Inv-loop μ-loop
 loop-less c = omega arith
 
--- src/lib.rt:86:9
 loop-again : tie.Need-loop-again Inv-loop μ-loop
 loop-again c = (more (c .before .before .before .before .before .before .loop .inv .0) (c .before .before .before .before .before .if1 .left) (c .before .before .before .before .if2 .left) (c .before .before .wide .ensures .0) (c .before .if3 .left) (c .if4 .left), omega arith, grown _ _ _ (c .before .before .before .before .before .if1 .left) (c .before .before .before .before .before .before .loop .inv .1) (c .before .before .before .before .before .before .loop .inv .2))
 
--- src/lib.rt:77:5
 returns : tie.Need-returns Inv-loop μ-loop
 returns c = out (c .before .loop .inv .0) (c .if1 .taken)
 
--- src/lib.rt:77:5
 returns-2 : tie.Need-returns-2 Inv-loop μ-loop
 returns-2 c = missing (c .before .before .loop .inv .0) (c .before .if1 .left) (c .if2 .taken)
 
--- src/lib.rt:77:5
 returns-3 : tie.Need-returns-3 Inv-loop μ-loop
 returns-3 c = last (c .before .before .before .before .before .loop .inv .0) (c .before .before .before .before .if1 .left) (c .before .before .before .if2 .left) (c .before .wide .ensures .0) (c .if3 .taken)
 
--- src/lib.rt:77:5
 returns-4 : tie.Need-returns-4 Inv-loop μ-loop
 returns-4 c = long (c .before .before .before .before .before .before .loop .inv .0) (c .before .before .before .before .before .if1 .left) (c .before .before .before .before .if2 .left) (c .before .before .wide .ensures .0) (c .before .if3 .left) (c .if4 .taken)
 
