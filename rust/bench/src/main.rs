@@ -5,9 +5,12 @@
 //! (21 when nothing is said) is printed, in nanoseconds per call, with the ratio proved to plain.
 //!
 //! The tables and the room for the sheet are full. Each call fills or clears all of them.
+//!
+//! Then it times the proved reader on files of growing size, with tables and room of just the size
+//! that each file needs, and prints the nanoseconds per byte of the file.
 
 use generate::cases::{ALL_ITEM_WORDS, ALL_NODE_WORDS, ALL_ROOM};
-use generate::{large_file, large_resource, samples};
+use generate::{folders_file, large_file, large_resource, samples};
 use std::hint::black_box;
 use std::process::ExitCode;
 use std::time::{Duration, Instant};
@@ -154,13 +157,7 @@ fn main() -> ExitCode {
             for ask in [proved, plain] {
                 assert!(ask(about, &mut lent), "{question} is refused");
             }
-            let calls = calls(about, &mut lent, proved).max(calls(about, &mut lent, plain));
-            let (mut first, mut second) = (Vec::new(), Vec::new());
-            for _ in 0..repetitions {
-                first.push(nanoseconds(about, &mut lent, proved, calls));
-                second.push(nanoseconds(about, &mut lent, plain, calls));
-            }
-            let (proved, plain) = (median(first), median(second));
+            let [proved, plain] = times(about, &mut lent, [proved, plain], repetitions);
             println!(
                 "{:10}{:>8}  {:10}{:>12.0}{:>12.0}{:>8.2}",
                 about.name,
@@ -172,7 +169,58 @@ fn main() -> ExitCode {
             );
         }
     }
+    growth(repetitions);
     ExitCode::SUCCESS
+}
+
+/// Times the proved reader on files of growing size.
+fn growth(repetitions: usize) {
+    println!("\nthe proved reader on files of growing size, nanoseconds per byte of the file");
+    println!("{:>8}{:>8}{:>8}{:>8}", "nodes", "bytes", "tree", "sheet");
+    for folders in [1, 3, 7, 15] {
+        let nodes = 1 + folders * 17;
+        let about = Subject {
+            name: "folders",
+            file: folders_file(SEED, folders),
+            find: (0, 0),
+            resolve: 0,
+        };
+        let mut lent = Lent {
+            nodes: vec![0; nodes * xmf::node::WORDS],
+            items: vec![0; nodes * 4 * xmf::item::WORDS],
+            sheet: vec![0; ALL_ROOM],
+        };
+        let sheet = xmf::write_sheet(
+            &about.file,
+            &mut lent.nodes,
+            &mut lent.items,
+            &mut lent.sheet,
+        );
+        lent.sheet.truncate(sheet.expect("a well-formed file"));
+        let bytes = about.file.len();
+        let [(_, tree, _), .., (_, sheet, _)] = QUESTIONS;
+        let taken = times(&about, &mut lent, [tree, sheet], repetitions);
+        let [tree, sheet] = taken.map(|time| time / bytes as f64);
+        println!("{nodes:>8}{bytes:>8}{tree:>8.2}{sheet:>8.2}");
+    }
+}
+
+/// The median time of a call to each, in nanoseconds. They take turns.
+fn times<const COUNT: usize>(
+    about: &Subject,
+    lent: &mut Lent,
+    asks: [Ask; COUNT],
+    repetitions: usize,
+) -> [f64; COUNT] {
+    let most = asks.map(|ask| calls(about, lent, ask));
+    let calls = most.into_iter().max().unwrap_or(1);
+    let mut taken = [(); COUNT].map(|()| Vec::new());
+    for _ in 0..repetitions {
+        for (ask, taken) in asks.iter().zip(&mut taken) {
+            taken.push(nanoseconds(about, lent, *ask, calls));
+        }
+    }
+    taken.map(median)
 }
 
 /// The number of calls that take the least time of a repetition.

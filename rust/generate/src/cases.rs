@@ -242,7 +242,12 @@ pub fn pair(seed: u64, number: u64) -> Pair {
 
 /// A file with 256 nodes and 1,024 item rows.
 pub fn large_file(seed: u64) -> Vec<u8> {
-    encode(&shapes::large(&mut Random::new(seed))).bytes
+    folders_file(seed, 15)
+}
+
+/// A file whose root holds so many folders of 16 nodes each; four item rows for each node.
+pub fn folders_file(seed: u64, folders: usize) -> Vec<u8> {
+    encode(&shapes::large(&mut Random::new(seed), folders)).bytes
 }
 
 /// A file with a single resource of 60,000 bytes.

@@ -163,10 +163,11 @@ pub fn with_edge_lengths(random: &mut Random) -> File {
     file
 }
 
-/// A file with 256 nodes and 1,024 item rows, of which most are visible.
+/// A file whose root holds so many folders of 16 nodes each, with four item rows for each node, of
+/// which most are visible.
 ///
-/// It has folders, versions, hidden contents, unpackers and references 1 to 4.
-pub fn large(random: &mut Random) -> File {
+/// It has versions, hidden contents, unpackers and references 1 to 4.
+pub fn large(random: &mut Random, folders: usize) -> File {
     let mut file = start(random);
     file.version = Version::V200 {
         kind: 1,
@@ -179,8 +180,8 @@ pub fn large(random: &mut Random) -> File {
         type_entry(4, 7, b"ja"),
     ];
     file.tail = random.bytes(64);
-    // The root holds 15 folders, each folder holds 16 nodes: 1 + 15 + 15 * 16 = 256.
-    let folders = (0..15)
+    // With 15 folders there are 1 + 15 + 15 * 16 = 256 nodes.
+    let folders = (0..folders)
         .map(|_| Node::folder(vec![Node::inline(&[]); 16]))
         .collect();
     file.root = Node::folder(folders);
