@@ -13,7 +13,8 @@ use Rattle.cursor.specs.Machine.{ok, refused, exec, if_then_else_, times}
 use Rattle.cursor.specs.Rows.{nodeRow}
 use Rattle.cursor.specs.declared.Cursor.{Cursor}
 use Rattle.cursor.specs.declared.FilePlace.{FilePlace}
-use Rattle.cursor.proofs.Laws.{executing, andThen, exec-times, exec-timed}
+use Rattle.cursor.proofs.Laws.{executing, andThen, ran, exec-times, exec-timed}
+use Rattle.cursor.proofs.Wp.{at-end}
 use Rattle.metadata.specs.Tables.{State, state, put, nodeWords, plusNode}
 use Rattle.metadata.specs.Metadata.{Context}
 use Rattle.metadata.specs.Told.{Gives}
@@ -22,10 +23,12 @@ use Rattle.metadata.specs.declared.Made.{Made}
 use Rattle.metadata.specs.declared.Walked.{Walked}
 use Rattle.metadata.specs.declared.Walked.the-variants.{Done, Refused}
 use Rattle.metadata.proofs.Gives.{done, stopped, fitting, no, yes}
+use Rattle.metadata.proofs.Ends.{Nothing, inside-free}
 use Rattle.node.specs.Node.{front}
 use Rattle.node.specs.declared.Front.{Front}
 use Rattle.node.proofs.Ends.{front-inside}
 use Rattle.tree.specs.Tree.{contents, folder, node, tree}
+use Rattle.tree.proofs.Ends.{node-on}
 
 -- ---- contents
 
@@ -132,6 +135,10 @@ module _ (x : Context) (s t₀ u₀ : List ℕ) (levels parent end at left : ℕ
 
     pub children-no : {n : ℕ} {p : FilePlace} → r ≡ Refused n p → Gives (x .limits) (Refused n p) t′ u′ (exec put (times left (node levels x parent 0 end) made) s at (state t₀ u₀ made))
     children-no h = no (sym (turn ∙ rw (stopped d h) refl))
+
+    -- a node moves on, and ends where its holder does or before
+    pub children-further : end ≤ x .size → {n : Made} {c : Cursor} → r ≡ Done n c → (i < c .at .0) × (c .at .0 ≤ end)
+    children-further o h = let w = at-end (inside-free end (x .size)) s (node-on Nothing end levels x parent 0 m end i (omega arith) o) (ran put _ s i (state t u m) (done d h)) in (w .0, w .1)
 
     pub children-on : {n : Made} {c : Cursor} → r ≡ Done n c → length t′ ≡ length t → length u′ ≡ length u → Going t′ u′ (c .at .0) (rest - 1) n
     children-on h j k =

@@ -1,5 +1,5 @@
--- Reading a node and reading its children, which call each other. The measure is twice the levels left; one more for children.
--- The invariant of the children: what is left of them comes to what the whole comes to.
+-- Reading a node and reading its children, which call each other. The measure is twice the levels left; one more for children. The children are
+-- read in a loop, whose measure is the bytes left. Its invariant: what is left of the children comes to what the whole comes to.
 -- Assumes nothing.
 use mathlib.Core.Path.{_∙_}
 use mathlib.Core.List.{[]}
@@ -8,10 +8,10 @@ use Rattle.metadata.specs.Told.{contextOf}
 use Rattle.metadata.proofs.Gives.{done, stopped, fitting, no, yes}
 use Rattle.node.proofs.Ends.{front-inside}
 use Rattle.node.proofs.Ways.{front-done, front-stopped, front-fitting}
-use Rattle.tree.proofs.Nodes.{node-none, node-limit, node-front, node-file, node-children, node-left, node-all, Going, children-begun, children-done, children-no, children-on}
+use Rattle.tree.proofs.Nodes.{node-none, node-limit, node-front, node-file, node-children, node-left, node-all, Going, children-begun, children-further, children-done, children-no, children-on}
 use native.Mathlib.Omega.{arith}
 use borrow.Author.Needs.{needs}
-use Prim.Native.Nat.{ℕ, _+_, _*_, _<_}
+use Prim.Native.Nat.{ℕ, _+_, _*_, _-_, _<_}
 use borrow.Fn.Kinds.{In}
 use borrow.Fn.PlainCycle.{Measures, is, falls, and}
 use Rattle.tree.proofs.read_children.Reads as read-children
@@ -63,7 +63,7 @@ abbrev Inv-loop : read-children-lts.InvT-loop
 Inv-loop file types nodes₀ items₀ scope levels parent end left next₀ m₀ rest₀ nodes items next m rest = Going (contextOf scope types (length file)) file nodes₀ items₀ levels parent (end .0) (next₀ .at .0) left m₀ nodes items (next .at .0) rest m
 
 abbrev μ-loop : read-children-lts.MeasureT-loop
-μ-loop file types nodes₀ items₀ scope levels parent end left next₀ m₀ rest₀ nodes items next m rest = rest
+μ-loop file types nodes₀ items₀ scope levels parent end left next₀ m₀ rest₀ nodes items next m rest = end .0 - next .at .0
 
 read-children-loop-holds : (t : ℕ) → read-children-lts.Need-loop-holds (children-calls t) (read-children-at t) read-children.Post Inv-loop μ-loop
 read-children-loop-holds t c = children-begun _ _ _ _ _ _ _ _ _ _ (omega (arith, c .before .before .before .before .pre)) (omega (arith, c .before .before .before .before .pre))
@@ -90,7 +90,7 @@ read-children-sub-rest : (t : ℕ) → read-children-lts.Need-sub-rest (children
 read-children-sub-rest t c = omega arith
 
 read-children-loop-less : (t : ℕ) → read-children-lts.Need-loop-less (children-calls t) (read-children-at t) read-children.Post Inv-loop μ-loop
-read-children-loop-less t c = omega arith
+read-children-loop-less t c = omega (arith, children-further _ _ _ _ _ _ _ _ _ _ (c .before .before .before .before .before .before .before .before .before .before .before .loop .inv) (c .before .before .before .before .before .before .before .before .before .before .loop-test .taken) (c .before .before .before .before .before .before .before .read-node .ensures) (omega (arith, c .before .before .before .before .before .before .before .before .before .before .before .before .before .before .before .before .pre)) (c .before .n2 .given .1))
 
 read-children-loop-again : (t : ℕ) → read-children-lts.Need-loop-again (children-calls t) (read-children-at t) read-children.Post Inv-loop μ-loop
 read-children-loop-again t c = children-on _ _ _ _ _ _ _ _ _ _ (c .before .before .before .before .before .before .before .before .before .before .before .loop .inv) (c .before .before .before .before .before .before .before .before .before .before .loop-test .taken) (c .before .before .before .before .before .before .before .read-node .ensures) (c .before .n2 .given .1) (c .before .before .before .before .before .before .before .read-node .kept .1 .1 .1 .0) (c .before .before .before .before .before .before .before .read-node .kept .1 .1 .1 .1 .0)
