@@ -72,7 +72,8 @@ pub enum Itemed {
     Refused(u64, FilePlace),
 }
 
-// The item rows made by now, and the cursor after what was read: metadata makes no other rows.
+// The item rows made by now, and the cursor after what was read: metadata makes no other rows. A function that answers this takes, as `rows`, the
+// number of item rows that are there.
 pub enum Rowed {
     Done(usize, Cursor),
     Refused(u64, FilePlace),
