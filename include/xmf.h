@@ -42,7 +42,8 @@
  *    5  the length in the header is not the number of bytes received
  *    6  the types table has a type twice, or more than 32 entries
  *    7  the tree begins inside the header, or ends before it begins or past the file
- *    8  a node does not fit its holder, or a node's header does not fit the node
+ *    8  a node does not fit its holder (the root: does not fill the tree), its header does not fit
+ *       the node, or metadata or unpackers run past the header
  *    9  a node at depth 17
  *   10  no row left in a table: more than 256 nodes or 1,024 item rows, or a smaller table was lent
  *   11  a universal content of length 0, or a type that the file does not declare

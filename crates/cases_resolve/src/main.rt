@@ -18,6 +18,46 @@ fn ask(
     resolve::resolve(file, &mut nodes[0..n], &mut items[0..m], row)
 }
 
+// Whether a part is the `size` bytes of the file from `place` on.
+fn is_part(file: &[u8], part: &[u8], place: usize, size: usize) -> bool {
+    if part.len() != size {
+        return false;
+    }
+    if file.len() < place {
+        return false;
+    }
+    if file.len() - place < size {
+        return false;
+    }
+    let mut i: usize = 0;
+    while i < size {
+        if part[i] != file[place + i] {
+            return false;
+        }
+        i = i + 1;
+    }
+    true
+}
+
+// Whether the second call gives the part that the answer names, or none on a refusal.
+fn is_given(
+    file: &[u8],
+    nodes: &mut [u64],
+    n: usize,
+    items: &mut [u64],
+    m: usize,
+    row: usize,
+    answer: Resolved,
+) -> bool
+    requires { ⌜ (n ≤ length (now nodes)) × (m ≤ length (now items)) ⌝ }
+{
+    let part = resolve::resource(file, &mut nodes[0..n], &mut items[0..m], row);
+    match answer {
+        Resolved::Refused(_, _) => part.len() == 0,
+        Resolved::At(place, size, _, _) => is_part(file, part, place, size),
+    }
+}
+
 // Puts an answer.
 fn put_answer(out: &mut [u8], answer: Resolved) -> usize {
     match answer {
@@ -30,6 +70,15 @@ fn put_answer(out: &mut [u8], answer: Resolved) -> usize {
             casetext::put_spaced(out, end, hops)
         }
     }
+}
+
+// Puts an answer, and says so where the second call did not give its part.
+fn put_both(out: &mut [u8], answer: Resolved, given: bool) -> usize {
+    let end = put_answer(out, answer);
+    if given {
+        return end;
+    }
+    casetext::put(out, end, b" and another part")
 }
 
 // Runs one case over these buffers and writes the answer; answers whether the line is a case.
@@ -57,7 +106,16 @@ fn run_case(
         case.items,
         row.value,
     );
-    let end = put_answer(out, answer);
+    let given = is_given(
+        &file[..bytes],
+        nodes,
+        case.nodes,
+        items,
+        case.items,
+        row.value,
+        answer,
+    );
+    let end = put_both(out, answer, given);
     casetext::write_line(out, end);
     true
 }

@@ -1,7 +1,8 @@
 // Lines of a text and fields of a line.
 ghost use mathlib.Core.Path.{_≡_};
-ghost use mathlib.Core.Bool.{true};
+ghost use mathlib.Core.Bool.{_&&_};
 ghost use Prim.Native.Nat.{ℕ, _+_, _≤_, _<_};
+ghost use lib.Dec.{eqb};
 ghost use lib.ListN.{length, getD};
 ghost use Rattle.casetext.specs.Text.{FirstMark};
 
@@ -55,7 +56,7 @@ pub fn field(line: &[u8], index: usize) -> &[u8]
 
 // Whether a field is this one letter.
 pub fn is_letter(field: &[u8], letter: u8) -> bool
-    ensures { λ r. ⌜ (r ≡ true → (length (now (field .entry)) ≡ 1) × (getD (now (field .entry)) 0 0 ≡ letter)) ⌝ }
+    ensures { λ r. ⌜ r ≡ (eqb (length (now (field .entry))) 1 && eqb (getD (now (field .entry)) 0 0) letter) ⌝ }
 {
     if field.len() != 1 {
         return false;

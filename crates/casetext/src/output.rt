@@ -1,7 +1,7 @@
 // Answers put into a buffer: each function puts its text from `at` on and answers the place after it; what does not fit is left out.
 ghost use mathlib.Core.Path.{_≡_};
 ghost use Prim.Native.Nat.{_+_, _≤_, _<_, min};
-ghost use lib.ListN.{length};
+ghost use lib.ListN.{length, set};
 ghost use Rattle.casetext.specs.Text.{Ends, digitOf};
 use libc::STDOUT_FILENO;
 
@@ -148,8 +148,13 @@ pub fn put_refusal(out: &mut [u8], at: usize, number: u64, place: usize) -> usiz
     put_spaced(out, end, place as u64)
 }
 
-// Puts a line end and writes the line to standard output; answers whether all of it was written.
-pub fn write_line(out: &mut [u8], at: usize) -> bool {
-    let end = put_byte(out, at, b'\n');
-    io::write_all(STDOUT_FILENO, &out[..end])
+// Puts a line end, if there is room for it, and writes the line to standard output; answers whether all of it was written.
+pub fn write_line(out: &mut [u8], at: usize) -> bool
+    ensures { λ _. ⌜ now (out .exit) ≡ set (now (out .entry)) at 0x0a ⌝ }
+{
+    if at < out.len() {
+        out[at] = b'\n';
+        return io::write_all(STDOUT_FILENO, &out[..at + 1]);
+    }
+    io::write_all(STDOUT_FILENO, out)
 }

@@ -8,7 +8,8 @@ use mathlib.Core.List.{List, [], _∷_}
 use Prim.Native.Nat.{ℕ, zero, suc, _+_, _%_, _≤_, _<_}
 use native.Mathlib.Omega.{arith}
 use lib.Dec.{T, eqb, leb}
-use lib.ListN.{length, getD, replicate}
+use lib.ListN.{length, getD, replicate, take, drop, length-take, length-drop}
+use lib.Seq.{getD-take, getD-drop}
 use borrow.Author.Tests.{eq-eqb, ne-eqb}
 use Rattle.cursor.specs.declared.Node.{Node}
 use Rattle.cursor.specs.declared.Item.{Item}
@@ -28,7 +29,7 @@ use Rattle.mobile.specs.Mobile as mobile
 use Rattle.mobile.proofs.Depends.{verdict-depends}
 use Rattle.sheet.specs.Sheet as sheet
 use Rattle.sheet.proofs.Depends.{sheet-same}
-use Rattle.promises.specs.Promises.{Question, readTree, findItem, resolveRow, judgeMobile, writeSheet, Lent, Outcome, treeAnswer, findAnswer, resolveAnswer, numberAnswer, reads, leaves, outcome, sheetRoom, Demand1, Demand3}
+use Rattle.promises.specs.Promises.{Question, readTree, findItem, resolveRow, judgeMobile, writeSheet, Lent, Outcome, treeAnswer, findAnswer, resolveAnswer, numberAnswer, reads, leaves, outcome, resource, sheetRoom, OnlyThere, Demand1, Demand3}
 
 -- ---- which data may not differ
 
@@ -89,8 +90,27 @@ module _ (l : Lent) (f g : List ℕ) (h : Header) (ns : List Node) (is : List It
   outcome-alike judgeMobile = rw (asks-alike mobile.mobile mobile-alike, reads-same)
   outcome-alike writeSheet = rw (asks-alike (sheet.write (l .sheet)) (sheet-alike (l .sheet)), reads-same)
 
+-- ---- the resource itself
+
+part-there : (f g : List ℕ) → length f ≡ length g → (a : Result resolve.Resource) → OnlyThere f g (getD (resolveAnswer a) 2 0) (resolve.part f a) (resolve.part g a)
+unfolding resolveAnswer resolve.part
+part-there f g e (good a) =
+    let n = length-take (a .size) (drop (a .place) f) in
+    let m = length-take (a .size) (drop (a .place) g) in
+    let x = length-drop (a .place) f in
+    let y = length-drop (a .place) g in
+    let one : (v : List ℕ) (k : ℕ) → k < a .size → getD (take (a .size) (drop (a .place) v)) k 0 ≡ getD v (a .place + k) 0 =
+    λ v k l. getD-take (a .size) (drop (a .place) v) k 0 l ∙ getD-drop (a .place) v k 0 in
+    (omega arith, λ k l s. let b : k < a .size = omega arith in one f k b ∙ s ∙ sym (one g k b))
+part-there f g e (bad n p) = (refl, λ k l s. refl)
+
+resource-there : (l : Lent) (f g : List ℕ) → length f ≡ length g → reads l g ≡ reads l f → (row : ℕ)
+    → OnlyThere f g (getD (outcome (resolveRow row) l f .answer) 2 0) (resource row l f) (resource row l g)
+unfolding outcome leaves resource
+resource-there l f g n e row = rw e (part-there f g n (ask (reads l f) (resolve.resolve row)))
+
 pub demand3 : Demand3
-demand3 q l f g h ns is r d = (reads-same l f g h ns is r d ∙ r, outcome-alike l f g h ns is r d q)
+demand3 q l f g h ns is r d = let e = reads-same l f g h ns is r d in (e ∙ r, outcome-alike l f g h ns is r d q, resource-there l f g (d .same-length) e)
 
 -- The same of two calls: whatever their buffers held, where each left what its contract says, both left the same.
 pub calls-alike : (q : Question) (l : Lent) (f g : List ℕ) (h : Header) (ns : List Node) (is : List Item) → reads l f ≡ rows h ns is → DifferInHidden is f g
@@ -108,7 +128,7 @@ calls-alike q l f g h ns is r d a t u s a′ t′ u′ s′ =
 
 -- ---- refusals are from the list
 
--- a question's own refusal is one of 18 to 23
+-- a refusal, of the reader or of the question itself, is one of the list
 abbrev Own : {A : Type 0} → Result A → Type 0
 Own (good a) = Unit {0}
 Own (bad n p) = (0 < n) × (n ≤ 23)

@@ -2,7 +2,7 @@
 -- Assumes nothing.
 use mathlib.Core.Path.{_≡_}
 use mathlib.Core.List.{List, [], _∷_}
-use Prim.Native.Nat.{ℕ, _≤_, _<_}
+use Prim.Native.Nat.{ℕ, _+_, _≤_, _<_}
 use lib.ListN.{length, getD, replicate}
 use Rattle.cursor.specs.declared.Node.{Node}
 use Rattle.cursor.specs.declared.Item.{Item}
@@ -82,6 +82,10 @@ outcome judgeMobile l f = leaves l (reads l f) (ask (reads l f) (mobile.mobile f
 outcome writeSheet l f =
     leaves l (reads l f) (ask (reads l f) (sheet.write (l .sheet) f)) (numberAnswer (sheet.counted (ask (reads l f) (sheet.write (l .sheet) f)))) (sheet.keptSheet (l .sheet) (ask (reads l f) (sheet.write (l .sheet) f)))
 
+-- what the second call of resolve gives: the part of the file itself
+unfoldable pub resource : (row : ℕ) → Lent → List ℕ → List ℕ
+resource row l f = resolve.part f (ask (reads l f) (resolve.resolve row))
+
 -- the bytes of the sheet's buffer that a question has
 unfoldable pub sheetRoom : Question → Lent → ℕ
 sheetRoom readTree l = 0
@@ -99,9 +103,15 @@ Demand1 = (q : Question) (l : Lent) (f : List ℕ)
     → (getD (outcome q l f .answer) 0 0 ≤ 23)
     × ((0 < getD (outcome q l f .answer) 0 0) → (outcome q l f .nodes ≡ replicate (l .nodes) 0) × (outcome q l f .items ≡ replicate (l .items) 0) × (outcome q l f .sheet ≡ replicate (sheetRoom q l) 0))
 
+-- two parts of equal length, which stand in the files f and g at the same place, differ only where the files do
+abbrev pub OnlyThere : (f g : List ℕ) (place : ℕ) (x y : List ℕ) → Type 0
+OnlyThere f g place x y = (length x ≡ length y) × ((k : ℕ) → k < length x → getD f (place + k) 0 ≡ getD g (place + k) 0 → getD x k 0 ≡ getD y k 0)
+
 -- Demand 3. Two files of equal length, the first accepted with the tables lent, alike but for data bytes of its hidden contents in custom fields or in
--- standard fields other than 0, 3 and 13: the second is accepted too, and every question leaves the same of both, to the last word and byte.
+-- standard fields other than 0, 3 and 13: the second is accepted too, every question leaves the same of both, to the last word and byte, and the part
+-- that the second call of resolve gives, whose place is the third word of resolve's answer, differs only where the files do.
 abbrev pub Demand3 : Type 0
 Demand3 = (q : Question) (l : Lent) (f g : List ℕ) (h : Header) (ns : List Node) (is : List Item)
     → reads l f ≡ rows h ns is → DifferInHidden is f g
     → (reads l g ≡ rows h ns is) × (outcome q l g ≡ outcome q l f)
+    × ((row : ℕ) → OnlyThere f g (getD (outcome (resolveRow row) l f .answer) 2 0) (resource row l f) (resource row l g))

@@ -10,6 +10,9 @@ ghost use Rattle.resolve.specs.Resolve.{chain, resolveRow, resolve, part
 ghost use Rattle.resolve.specs.Told.{told, Linked};
 use tree::Read;
 
+// The references that are followed at most.
+pub const MOST_HOPS: u64 = 4;
+
 // Place, length, the row whose unpackers apply, the number of references followed; or a refusal's number and place.
 pub enum Resolved {
     At(usize, usize, usize, u64),
@@ -55,7 +58,7 @@ fn resolve_row(nodes: &[u64], count: usize, row: usize) -> Resolved
     if count <= row {
         return Resolved::Refused(cursor::NO_SUCH_ROW, 0);
     }
-    follow(nodes, count, 4, row, 0)
+    follow(nodes, count, MOST_HOPS, row, 0)
 }
 
 // The third question: where the resource of a row is.

@@ -124,7 +124,7 @@ impl Refusal {
             5 => "the length in the header is not the number of bytes received",
             6 => "the types table has a type twice, or more than 32 entries",
             7 => "the tree begins inside the header, or ends before it begins or past the file",
-            8 => "a node does not fit its holder, or a node's header does not fit the node",
+            8 => "a node does not fit its holder, or what its header holds does not fit",
             9 => "a node at depth 17",
             10 => "no row left: more than 256 nodes or 1,024 item rows, or smaller tables lent",
             11 => "a universal content of length 0, or a type that the file does not declare",

@@ -1,18 +1,17 @@
 -- `casetext::fields::is_letter` meets its contract. Assumes nothing.
-use mathlib.Core.Bool.{false≢true}
 use borrow.Author.Needs.{needs}
-use borrow.Author.Tests.{eqb-true}
+use borrow.Author.Tests.{eq-eqb, ne-eqb}
 use Rattle.casetext.proofs.fields.is_letter.Statement.{statement}
 use Rattle.casetext.proofs.fields.is_letter.Tie as tie
 
 returns : tie.Need-returns
-returns c = λ e. absurd (false≢true e)
+returns c = simp (ne-eqb _ _ (c .if1 .taken))
 
 shared-slice-read-result : tie.Need-shared-slice-read-result
 shared-slice-read-result c = search needs
 
 returns-2 : tie.Need-returns-2
-returns-2 c = λ e. (c .before .if1 .left, eqb-true _ _ e)
+returns-2 c = simp (eq-eqb _ _ (c .before .if1 .left))
 
 pub is-letter-spec : {M : Type 1} → statement M
 is-letter-spec = tie.close (tie.spec returns shared-slice-read-result returns-2)
