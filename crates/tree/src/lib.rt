@@ -362,7 +362,7 @@ pub fn read_file(file: &[u8], nodes: &mut [u64], items: &mut [u64]) -> Read
     ensures nodes { λ _. ⌜ now (nodes .exit) ≡ nodeTable (length (now (nodes .entry))) (readFile (limits (length (now (nodes .entry))) (length (now (items .entry)))) (now (file .entry))) ⌝ }
     ensures items { λ _. ⌜ now (items .exit) ≡ itemTable (length (now (items .entry))) (readFile (limits (length (now (nodes .entry))) (length (now (items .entry)))) (now (file .entry))) ⌝ }
 {
-    let mut types = [0u64; 64];
+    let mut types = [0u64; header::MOST_TYPES * 2];
     match header::read_header(file, &mut types) {
         Headed::Refused(n, p) => {
             clear_all(nodes, items);
