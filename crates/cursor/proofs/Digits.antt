@@ -28,17 +28,11 @@ module _ (κ : Frame) (past end p : ℕ) (f : List ℕ) (at v : ℕ) where
   digits-last zero some l b = absurd (some refl)
   digits-last (suc left) some l b = simp (running, lt-ltb _ _ l, lt-ltb _ _ b)
 
-  pub digits-long : (left : ℕ) → ((left ≡ 0) → ⊥) → at < end → 128 ≤ getD f at 0 → v * 128 + getD f at 0 % 128 ≤ 0
-      → run (digits κ past end p left v) f at ≡ refused 4 p
-  unfolding digits next
-  digits-long zero some l b z = absurd (some refl)
-  digits-long (suc left) some l b z = simp (running, lt-ltb _ _ l, le-ltb _ _ b, le-ltb _ _ z)
-
-  pub digits-more : (left : ℕ) → ((left ≡ 0) → ⊥) → at < end → 128 ≤ getD f at 0 → 0 < v * 128 + getD f at 0 % 128
+  pub digits-more : (left : ℕ) → ((left ≡ 0) → ⊥) → at < end → 128 ≤ getD f at 0
       → run (digits κ past end p left v) f at ≡ run (digits κ past end p (left - 1) (v * 128 + getD f at 0 % 128)) f (at + 1)
   unfolding digits next
-  digits-more zero some l b z = absurd (some refl)
-  digits-more (suc left) some l b z = simp (running, lt-ltb _ _ l, le-ltb _ _ b, lt-ltb _ _ z, sub-one)
+  digits-more zero some l b = absurd (some refl)
+  digits-more (suc left) some l b = simp (running, lt-ltb _ _ l, le-ltb _ _ b, sub-one)
 
 -- ---- the loop: what is left of a number that began at p is the whole
 
@@ -63,13 +57,8 @@ module _ {f : List ℕ} {past end p left v at : ℕ} (r : Reading f past end p l
           let m : v * 128 + b % 128 ≡ v * 128 + getD f at 0 = omega arith in
           rw m (sym (r .same κ ∙ digits-last κ past end p f at v left some l (rw is at h)))
 
-      pub long : 128 ≤ b → v * 128 + b % 128 ≡ 0 → (κ : Frame) → refused 4 p ≡ run (number κ past end) f p
-      long h z κ = let z′ : v * 128 + getD f at 0 % 128 ≤ 0 = omega arith in sym (r .same κ ∙ digits-long κ past end p f at v left some l (rw is at h) z′)
-
-      pub more : 128 ≤ b → ((v * 128 + b % 128 ≡ 0) → ⊥) → Reading f past end p (left - 1) (v * 128 + b % 128) (at + 1)
-      more h z =
-          let z′ : 0 < v * 128 + getD f at 0 % 128 = omega arith in
-          record { same = λ κ. r .same κ ∙ digits-more κ past end p f at v left some l (rw is at h) z′ ∙ rw is }
+      pub more : 128 ≤ b → Reading f past end p (left - 1) (v * 128 + b % 128) (at + 1)
+      more h = record { same = λ κ. r .same κ ∙ digits-more κ past end p f at v left some l (rw is at h) ∙ rw is }
 
 -- the value of k bytes is below 128 ^ k
 pub grown : (v d left : ℕ) → ((left ≡ 0) → ⊥) → left ≤ 4 → v < 128 ^ (4 - left) → v * 128 + d % 128 < 128 ^ (4 - (left - 1))

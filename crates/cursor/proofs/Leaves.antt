@@ -33,7 +33,7 @@ module _ {U : Rule Part} where
       wp-after (next-on κ past end p at) λ b q x.
       wp-if
       (λ t. wp-ret (omega arith, omega arith, omega arith, omega (arith, last v b (suc left) (λ z. omega arith) l h (ltb-true b 128 t))))
-      (λ t. wp-check _ _ λ u. wp-weaken (digits-on κ past end p left (v * 128 + b % 128) q (omega arith) (rw e at (grown v b (suc left) (λ z. omega arith) l h))) (λ w r y. (omega arith, omega arith, omega arith, omega arith)))
+      (λ t. wp-weaken (digits-on κ past end p left (v * 128 + b % 128) q (omega arith) (rw e at (grown v b (suc left) (λ z. omega arith) l h))) (λ w r y. (omega arith, omega arith, omega arith, omega arith)))
     where
       last : (v b left : ℕ) → ((left ≡ 0) → ⊥) → left ≤ 4 → v < 128 ^ (4 - left) → b < 128 → v * 128 + b < 128 ^ 4
       last v b left some l h k =
@@ -140,11 +140,10 @@ module _ (κ : Frame) (end : ℕ) (f : List ℕ) (at : ℕ) where
 -- ---- a number, given or refused, depends on the bytes of its part alone
 
 module _ (f g : List ℕ) where
-  after-byte : (c t : Bool) (x n p at : ℕ) (m : P ℕ) → run m f at ≡ run m g at → run (if c then ret x else (check t n p >> m)) f at ≡ run (if c then ret x else (check t n p >> m)) g at
-  unfolding run _>>=_ _>>_ if_then_else_ check
-  after-byte true t x n p at m h = refl
-  after-byte false true x n p at m h = h
-  after-byte false false x n p at m h = refl
+  after-byte : (c : Bool) (x at : ℕ) (m : P ℕ) → run m f at ≡ run m g at → run (if c then ret x else m) f at ≡ run (if c then ret x else m) g at
+  unfolding run if_then_else_
+  after-byte true x at m h = refl
+  after-byte false x at m h = h
 
   a-byte : (c : Bool) (κ : Frame) (past p at : ℕ) (m : ℕ → P ℕ) → (c ≡ true → run (m (getD f at 0)) f (at + 1) ≡ run (m (getD g at 0)) g (at + 1))
       → run ((if c then byte κ ret else refuse past p) >>= m) f at ≡ run ((if c then byte κ ret else refuse past p) >>= m) g at
@@ -156,12 +155,12 @@ module _ (f g : List ℕ) where
   unfolding run _>>=_ next digits
   digits-same κ past end p zero v at h = refl
   digits-same κ past end p (suc left) v at h =
-      let rest : ℕ → P ℕ = λ b. if ltb b 0x80 then ret (v * 128 + b) else (check (ltb 0 (v * 128 + b % 0x80)) 4 p >> digits κ past end p left (v * 128 + b % 0x80)) in
+      let rest : ℕ → P ℕ = λ b. if ltb b 0x80 then ret (v * 128 + b) else digits κ past end p left (v * 128 + b % 0x80) in
       a-byte (ltb at end) κ past p at rest λ t.
       let l : at < end = ltb-true at end t in
       let b = getD g at 0 in
       ap (λ x. run (rest x) f (at + 1)) (h at (omega arith) l)
-      ∙ after-byte (ltb b 0x80) (ltb 0 (v * 128 + b % 0x80)) (v * 128 + b) 4 p (at + 1) (digits κ past end p left (v * 128 + b % 0x80)) (digits-same κ past end p left (v * 128 + b % 0x80) (at + 1) (λ k lo hi. h k (omega arith) hi))
+      ∙ after-byte (ltb b 0x80) (v * 128 + b) (at + 1) (digits κ past end p left (v * 128 + b % 0x80)) (digits-same κ past end p left (v * 128 + b % 0x80) (at + 1) (λ k lo hi. h k (omega arith) hi))
 
   pub number-same : (κ : Frame) (past end at : ℕ) → ((k : ℕ) → at ≤ k → k < end → getD f k 0 ≡ getD g k 0) → run (number κ past end) f at ≡ run (number κ past end) g at
   unfolding run _>>=_ number place

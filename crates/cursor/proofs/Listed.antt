@@ -113,7 +113,7 @@ next-listed κ past end p i = at-place λ at. either _ (reads λ b. ends) (stops
 pub digits-listed : (κ : Frame) (past end p left v : ℕ) → InList past → Listed (digits κ past end p left v)
 unfolding digits
 digits-listed κ past end p zero v i = stops (omega arith, omega arith)
-digits-listed κ past end p (suc left) v i = after (next-listed κ past end p i) λ b. either _ ends (checks _ _ _ (omega arith, omega arith) (digits-listed κ past end p left _ i))
+digits-listed κ past end p (suc left) v i = after (next-listed κ past end p i) λ b. either _ ends (digits-listed κ past end p left _ i)
 
 pub number-listed : (κ : Frame) (past end : ℕ) → InList past → Listed (number κ past end)
 unfolding number

@@ -162,7 +162,7 @@ then-rowless {R = R} {k} {c} w h = after (w k c) λ a k′ c′ q. rw (q .0, q .
 digits-rowless : (κ : Frame) (past end p left v : ℕ) → Rowless (digits κ past end p left v)
 unfolding digits
 digits-rowless κ past end p zero v k c = stops
-digits-rowless κ past end p (suc left) v k c = then-rowless (next-rowless κ past end p) λ b. either _ (ends (refl, refl)) (checks _ _ _ (digits-rowless κ past end p left _ k c))
+digits-rowless κ past end p (suc left) v k c = then-rowless (next-rowless κ past end p) λ b. either _ (ends (refl, refl)) (digits-rowless κ past end p left _ k c)
 
 pub number-rowless : (κ : Frame) (past end : ℕ) → Rowless (number κ past end)
 unfolding number

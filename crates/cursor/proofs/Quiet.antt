@@ -81,7 +81,7 @@ module _ {S : Type 0} {put : Part → ℕ → ℕ → S → S} where
   digits-quiet : (κ : Frame) (past end p left v : ℕ) → Quiet put (digits κ past end p left v)
   unfolding digits
   digits-quiet κ past end p zero v = quiet-refuse
-  digits-quiet κ past end p (suc left) v = quiet-bind (next-quiet κ past end p) λ b. quiet-if _ quiet-ret (quiet-check _ _ _ (digits-quiet κ past end p left _))
+  digits-quiet κ past end p (suc left) v = quiet-bind (next-quiet κ past end p) λ b. quiet-if _ quiet-ret (digits-quiet κ past end p left _)
 
   pub number-quiet : (κ : Frame) (past end : ℕ) → Quiet put (number κ past end)
   unfolding number

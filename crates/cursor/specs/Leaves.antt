@@ -12,16 +12,12 @@ use Rattle.cursor.specs.Refusals.{cutShort, badNumber}
 unfoldable pub next : Frame → (past end p : ℕ) → P ℕ
 next κ past end p = here λ at. if ltb at end then byte κ ret else refuse past p
 
--- The rest of a number that began at p: `left` bytes may still come, v is what the earlier ones gave. A byte of 80h or more goes on; if
--- the value is 0 after it, it is the first and is 80h, and the form is not the shortest.
+-- The rest of a number that began at p: `left` bytes may still come, v is what the earlier ones gave. A byte of 80h or more goes on.
 unfoldable pub digits : Frame → (past end p left v : ℕ) → P ℕ
 digits κ past end p zero v = refuse badNumber p
 digits κ past end p (suc left) v = do
   b ← next κ past end p
-  if ltb b 0x80 then ret (v * 128 + b)
-      else (do
-        check (ltb 0 (v * 128 + b % 0x80)) badNumber p
-        digits κ past end p left (v * 128 + b % 0x80))
+  if ltb b 0x80 then ret (v * 128 + b) else digits κ past end p left (v * 128 + b % 0x80)
 
 -- a VLQ: at most four bytes
 unfoldable pub number : Frame → (past end : ℕ) → P ℕ

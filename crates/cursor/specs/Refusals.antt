@@ -12,7 +12,7 @@ badVersion = 2
 abbrev pub cutShort : ℕ
 cutShort = 3
 
--- VLQ or GUID too long, or VLQ not shortest
+-- a VLQ of more than four bytes, or a GUID of more than nineteen
 abbrev pub badNumber : ℕ
 badNumber = 4
 

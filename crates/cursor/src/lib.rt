@@ -157,13 +157,10 @@ impl Cursor {
             }
             let byte = wide(file[at]);
             at = at + 1;
-            left = left - 1;
+            left = left - 1; // a leading 80h counts too
             value = value * 128 + byte % 128;
             if byte < 128 {
                 break Numbered::Is(value, Cursor { at: FilePlace(at) });
-            }
-            if value == 0 {
-                break Numbered::Refused(BAD_NUMBER, start);
             }
         }
     }

@@ -7,7 +7,7 @@ use borrow.Author.Needs.{needs}
 use Rattle.cursor.specs.Machine.{run}
 use Rattle.cursor.specs.Rows.{Frame}
 use Rattle.cursor.specs.Leaves.{number, digits}
-use Rattle.cursor.proofs.Digits.{Reading, begun, out, missing, last, long, more, grown, below}
+use Rattle.cursor.proofs.Digits.{Reading, begun, out, missing, last, more, grown, below}
 use Rattle.cursor.proofs.Cursor.number.Statement.{statement}
 use Rattle.cursor.proofs.Cursor.number.Tie as tie
 
@@ -42,7 +42,7 @@ loop-less : tie.Need-loop-less Inv-loop μ-loop
 loop-less c = omega arith
 
 loop-again : tie.Need-loop-again Inv-loop μ-loop
-loop-again c = (more (c .before .before .before .before .before .before .loop .inv .0) (c .before .before .before .before .before .if1 .left) (c .before .before .before .before .if2 .left) (c .before .before .wide .ensures .0) (c .before .if3 .left) (c .if4 .left), omega arith, grown _ _ _ (c .before .before .before .before .before .if1 .left) (c .before .before .before .before .before .before .loop .inv .1) (c .before .before .before .before .before .before .loop .inv .2))
+loop-again c = (more (c .before .before .before .before .before .loop .inv .0) (c .before .before .before .before .if1 .left) (c .before .before .before .if2 .left) (c .before .wide .ensures .0) (c .if3 .left), omega arith, grown _ _ _ (c .before .before .before .before .if1 .left) (c .before .before .before .before .before .loop .inv .1) (c .before .before .before .before .before .loop .inv .2))
 
 returns : tie.Need-returns Inv-loop μ-loop
 returns c = out (c .before .loop .inv .0) (c .if1 .taken)
@@ -52,9 +52,6 @@ returns-2 c = missing (c .before .before .loop .inv .0) (c .before .if1 .left) (
 
 returns-3 : tie.Need-returns-3 Inv-loop μ-loop
 returns-3 c = last (c .before .before .before .before .before .loop .inv .0) (c .before .before .before .before .if1 .left) (c .before .before .before .if2 .left) (c .before .wide .ensures .0) (c .if3 .taken)
-
-returns-4 : tie.Need-returns-4 Inv-loop μ-loop
-returns-4 c = long (c .before .before .before .before .before .before .loop .inv .0) (c .before .before .before .before .before .if1 .left) (c .before .before .before .before .if2 .left) (c .before .before .wide .ensures .0) (c .before .if3 .left) (c .if4 .taken)
 
 pub number-spec : {M : Type 1} → statement M
 number-spec =
@@ -73,5 +70,4 @@ number-spec =
     loop-again
     returns
     returns-2
-    returns-3
-    returns-4)
+    returns-3)
