@@ -1,4 +1,5 @@
-//! The samples, their cuts, all files that differ from a sample in one byte, and two very long files.
+//! The samples and their padded copies, the cuts of these, all files that differ from one of them in
+//! one byte, and two very long files.
 
 use generate::cases::Kind;
 use generate::damage::every_cut;
@@ -13,7 +14,7 @@ pub fn for_each<E>(mut compare: impl FnMut(&Case) -> Result<(), E>) -> Result<()
         number += 1;
         compare(&case(file, number))
     };
-    for (_, sample) in samples::all() {
+    for (_, sample) in samples::all().into_iter().chain(samples::padded()) {
         compare_file(sample.clone())?;
         for cut in every_cut(&sample) {
             compare_file(cut.to_vec())?;

@@ -10,8 +10,8 @@
 //! reader all five questions about both, with different contents of tables and buffers before, and
 //! compares in the same way.
 //!
-//! Before that it compares the readers on the samples: each sample, each of its cuts, each file that
-//! differs from it in one byte, and two very long files.
+//! Before that it compares the readers on the samples and their padded copies: each of them, each of
+//! its cuts, each file that differs from it in one byte, and two very long files.
 //!
 //! It stops at the first difference, with exit status 1.
 

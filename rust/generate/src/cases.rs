@@ -157,10 +157,11 @@ pub fn case(seed: u64, number: u64) -> Case {
     let mut model = None;
     let file = match kind {
         Kind::Damaged(way) => {
-            let file = match random.below(4) {
+            let mut file = match random.below(4) {
                 0 => mobile::with_verdict(random, 0),
                 _ => shapes::any_file(random),
             };
+            file.widths = shapes::any_widths(random);
             let bytes = damage(random, &file, way);
             model = Some(file);
             bytes
@@ -171,7 +172,7 @@ pub fn case(seed: u64, number: u64) -> Case {
             refused(random, number)
         }
         _ => {
-            let file = match kind {
+            let mut file = match kind {
                 Kind::Chain => shapes::chain(random),
                 Kind::Mobile => {
                     verdict = Some(turn as u64 % 9);
@@ -184,6 +185,7 @@ pub fn case(seed: u64, number: u64) -> Case {
                 }
                 _ => shapes::any_file(random),
             };
+            file.widths = shapes::any_widths(random);
             let bytes = encode(&file).bytes;
             model = Some(file);
             bytes
@@ -220,6 +222,7 @@ pub fn pair(seed: u64, number: u64) -> Pair {
         1 => shapes::chain(random),
         _ => shapes::any_file(random),
     };
+    file.widths = shapes::any_widths(random);
     add_hidden_item(random, &mut file);
     let Encoded { bytes, hidden, .. } = encode(&file);
     let mut second = bytes.clone();

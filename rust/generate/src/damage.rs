@@ -1,6 +1,6 @@
 //! Damaged files.
 
-use crate::encode::{encode, encode_changed, number_bytes, LARGEST_NUMBER};
+use crate::encode::{encode, encode_changed, number_bytes, padded_bytes, LARGEST_NUMBER};
 use crate::encode::{Encoded, Mark, MarkKind};
 use crate::model::{Contents, Field, File, Item, Node, Place, TypeEntry};
 use crate::model::{Unpacker, UnpackerName, Values, Version};
@@ -21,8 +21,7 @@ pub enum Damage {
     LengthLess,
     /// One number has another value.
     Number,
-    /// One number isn't in the shortest form, is too long, is cut, is missing or has a byte after
-    /// it.
+    /// One number has a byte more, is too long, is cut, is missing or has a byte after it.
     Form,
     /// A part is replaced by a part of another file.
     Splice,
@@ -42,26 +41,31 @@ pub fn damage(random: &mut Random, file: &File, way: Damage) -> Vec<u8> {
         Damage::Cut => bytes.truncate(random.below(bytes.len())),
         Damage::LengthMore => {
             let mark = any_mark(random, &encoded, |mark| mark.kind.is_length());
-            return changed(random, file, &encoded, mark, &number_bytes(mark.value + 1));
+            let more = padded_bytes(mark.value + 1, mark.size);
+            return changed(random, file, &encoded, mark, &more);
         }
         Damage::LengthLess => {
             let mark = any_mark(random, &encoded, |mark| {
                 mark.kind.is_length() && mark.value > 0
             });
-            return changed(random, file, &encoded, mark, &number_bytes(mark.value - 1));
+            let less = padded_bytes(mark.value - 1, mark.size);
+            return changed(random, file, &encoded, mark, &less);
         }
         Damage::Number => {
             let mark = any_mark(random, &encoded, |_| true);
             let value = other_value(random, mark.value, bytes.len());
-            return changed(random, file, &encoded, mark, &number_bytes(value));
+            let width = random.pick(&[1, mark.size]);
+            return changed(random, file, &encoded, mark, &padded_bytes(value, width));
         }
         Damage::Form => {
             let mark = any_mark(random, &encoded, |_| true);
-            let form = other_form(random, mark.value);
+            let form = other_form(random, mark);
             return changed(random, file, &encoded, mark, &form);
         }
         Damage::Splice => {
-            let other = encode(&shapes::any_file(random)).bytes;
+            let mut other = shapes::any_file(random);
+            other.widths = shapes::any_widths(random);
+            let other = encode(&other).bytes;
             let (start, end) = any_range(random, bytes.len(), 40);
             let (other_start, other_end) = any_range(random, other.len(), 40);
             bytes.splice(start..end, other[other_start..other_end].iter().copied());
@@ -101,10 +105,10 @@ pub fn every_length_changed(file: &File) -> Vec<(Mark, Vec<u8>)> {
         if !mark.kind.is_length() {
             continue;
         }
-        let more = number_bytes(mark.value + 1);
+        let more = padded_bytes(mark.value + 1, mark.size);
         files.push((mark, encode_changed(file, mark.index, &more).bytes));
         if mark.value > 0 {
-            let less = number_bytes(mark.value - 1);
+            let less = padded_bytes(mark.value - 1, mark.size);
             files.push((mark, encode_changed(file, mark.index, &less).bytes));
         }
     }
@@ -120,9 +124,9 @@ pub fn with_right_length(bytes: &[u8], before: &Encoded) -> Vec<u8> {
     let end = mark.place + mark.size;
     if bytes.len() >= end {
         let others = bytes.len() - mark.size;
-        let mut length = number_bytes(others + 1);
-        while number_bytes(others + length.len()) != length {
-            length = number_bytes(others + length.len());
+        let mut length = padded_bytes(bytes.len(), mark.size);
+        while padded_bytes(others + length.len(), mark.size) != length {
+            length = padded_bytes(others + length.len(), mark.size);
         }
         repaired.splice(mark.place..end, length);
     }
@@ -140,6 +144,7 @@ pub fn refused(random: &mut Random, number: usize) -> Vec<u8> {
     let even = choice.is_multiple_of(2);
     let (kind, change): (MarkKind, fn(usize) -> usize) = match number {
         1 | 2 => return with_wrong_start(random, &file, number),
+        3 if choice >= 9 => return with_cut_number(random, &file),
         3 => match choice % 6 {
             0 => (TableLength, |value| value + FAR),
             1 => (LanguageLength, |value| value + FAR),
@@ -190,7 +195,7 @@ pub fn refused(random: &mut Random, number: usize) -> Vec<u8> {
             1 => (UriLength, |value| value - 1),
             _ => {
                 let mark = any_mark(random, &encode(&file), |mark| mark.kind == Offset);
-                let mut form = number_bytes(mark.value);
+                let mut form = padded_bytes(mark.value, mark.size);
                 form.push(random.byte());
                 return encode_changed(&file, mark.index, &form).bytes;
             }
@@ -210,7 +215,8 @@ pub fn refused(random: &mut Random, number: usize) -> Vec<u8> {
         _ => panic!("no file for refusal {number}"),
     };
     let mark = any_mark(random, &encode(&file), |mark| mark.kind == kind);
-    encode_changed(&file, mark.index, &number_bytes(change(mark.value))).bytes
+    let form = padded_bytes(change(mark.value), mark.size);
+    encode_changed(&file, mark.index, &form).bytes
 }
 
 /// A file with another mark at its start, or with another version.
@@ -227,15 +233,27 @@ fn with_wrong_start(random: &mut Random, file: &File, number: usize) -> Vec<u8> 
     bytes
 }
 
-/// A file with a number that is too long or not in the shortest form.
+/// A file with a number that is too long.
 fn with_wrong_form(random: &mut Random, file: &File) -> Vec<u8> {
     let mark = any_mark(random, &encode(file), |_| true);
     let form = match random.below(3) {
         0 => vec![0xFF; 4],
         1 => vec![0x81, 0x80, 0x80, 0x80, 0],
-        _ => padded(mark.value),
+        _ => padded_bytes(mark.value, 5),
     };
     encode_changed(file, mark.index, &form).bytes
+}
+
+/// A file with a number that the end of its part cuts: the last decoded size, or an offset.
+fn with_cut_number(random: &mut Random, file: &File) -> Vec<u8> {
+    let encoded = encode(file);
+    let kind = random.pick(&[MarkKind::DecodedSize, MarkKind::Offset]);
+    let mut marks = encoded.marks.iter().rev();
+    let mark = marks
+        .find(|mark| mark.kind == kind)
+        .expect("a rich file has such a number");
+    let run = vec![random.pick(&[0x80, 0x81]); random.between(1, 3)];
+    encode_changed(file, mark.index, &run).bytes
 }
 
 /// A file with at least one of each kind of part.
@@ -282,6 +300,7 @@ fn rich(random: &mut Random) -> File {
         },
     ];
     file.tail = random.bytes(3);
+    file.widths = shapes::any_widths(random);
     let types = file.types.clone();
     file.for_each_node(|_, node| node.items = shapes::items(random, &types));
     let own = [
@@ -344,23 +363,19 @@ fn other_value(random: &mut Random, value: usize, length: usize) -> usize {
     random.pick(&values).min(LARGEST_NUMBER)
 }
 
-/// A number in a form that isn't right, or with other bytes about it.
-fn other_form(random: &mut Random, value: usize) -> Vec<u8> {
+/// A number in another form, or with other bytes about it.
+fn other_form(random: &mut Random, mark: Mark) -> Vec<u8> {
+    let right = padded_bytes(mark.value, mark.size);
     match random.below(8) {
-        0 => padded(value),
+        0 => padded_bytes(mark.value, mark.size + 1),
         1 => vec![0xFF; 4],
         2 => vec![0x81, 0x80, 0x80, 0x80, 0],
-        3 => vec![0x80],
+        3 => vec![0x80; random.between(1, 4)],
         4 => vec![0x81],
         5 => Vec::new(),
-        6 => [number_bytes(value), vec![random.byte()]].concat(),
-        _ => [vec![random.byte()], number_bytes(value)].concat(),
+        6 => [right, vec![random.byte()]].concat(),
+        _ => [vec![random.byte()], right].concat(),
     }
-}
-
-/// A number with a needless first byte.
-fn padded(value: usize) -> Vec<u8> {
-    [vec![0x80], number_bytes(value)].concat()
 }
 
 /// One of the numbers of a file.

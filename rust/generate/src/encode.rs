@@ -137,10 +137,15 @@ impl Encoded {
 
 /// The bytes of a VLQ in its shortest form.
 pub fn number_bytes(value: usize) -> Vec<u8> {
+    padded_bytes(value, 1)
+}
+
+/// The bytes of a VLQ, padded to so many bytes where it has fewer.
+pub fn padded_bytes(value: usize, width: usize) -> Vec<u8> {
     assert!(value <= LARGEST_NUMBER, "no VLQ for {value}");
     let mut bytes = vec![(value & 0x7F) as u8];
     let mut rest = value >> 7;
-    while rest > 0 {
+    while rest > 0 || bytes.len() < width {
         bytes.insert(0, (rest & 0x7F) as u8 | 0x80);
         rest >>= 7;
     }
@@ -394,7 +399,7 @@ impl Encoder<'_> {
     fn bytes_of(&self, index: usize, value: usize) -> Vec<u8> {
         match self.change {
             Some((changed, bytes)) if changed == index => bytes.to_vec(),
-            _ => number_bytes(value),
+            _ => padded_bytes(value, self.file.widths.of(index)),
         }
     }
 

@@ -1,6 +1,6 @@
 //! Mobile XMF files, with every verdict.
 
-use crate::encode::number_bytes;
+use crate::encode::{number_bytes, padded_bytes};
 use crate::model::{Contents, Field, File, Item, Node, Place, TypeEntry, Values, Version};
 use crate::random::Random;
 use crate::shapes::unpackers;
@@ -72,7 +72,9 @@ fn child(random: &mut Random, format: usize) -> Node {
         }
     };
     let mut node = Node::new(contents);
-    node.items.push(resource_format(random, &[0, format as u8]));
+    let width = random.pick(&[1, 1, 1, 2, 3, 4]);
+    let data = [vec![0], padded_bytes(format, width)].concat();
+    node.items.push(resource_format(random, &data));
     if random.once_in(2) {
         let at = random.below(2);
         let number = random.pick(&[1, 8, 255, 256]);
@@ -171,7 +173,11 @@ fn fail_resource_format(random: &mut Random, file: &mut File) {
         &[1, 0],
         &[],
         &[0, 0, 0],
-        &[0, 0x80, 0],
+        &[0, 0x80, 0, 0],
+        &[0, 0x80, 2],
+        &[0, 0x80],
+        &[0, 0x80, 0x80, 0x80, 0x80],
+        &[0, 0x80, 0x80, 0x80, 0x80, 0],
         &[0x80, 0, 0],
         &[0, 0x81, 0],
         &[0, 0x85],

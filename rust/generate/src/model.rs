@@ -3,11 +3,15 @@
 //! Lengths, counts and places aren't stated here: they follow when the file is written. A model may
 //! describe a file that a reader has to refuse, such as a folder with unpackers.
 
+use crate::random::Random;
+
 /// A whole file.
 #[derive(Clone, Debug)]
 pub struct File {
     /// The version, with type and revision in 2.00.
     pub version: Version,
+    /// How many bytes the numbers have.
+    pub widths: Widths,
     /// The entries of the types table.
     pub types: Vec<TypeEntry>,
     /// The bytes between the file header and the tree.
@@ -32,6 +36,17 @@ pub enum Version {
         /// The revision of the type.
         revision: u32,
     },
+}
+
+/// How many bytes the numbers of a file have.
+#[derive(Clone, Copy, Debug, PartialEq, Eq)]
+pub enum Widths {
+    /// Each number has its shortest form.
+    Least,
+    /// Some numbers are padded, to at most four bytes; the seed fixes which, and to how many.
+    Mixed(u64),
+    /// Each number is padded to four bytes.
+    Four,
 }
 
 /// An entry of the types table.
@@ -141,10 +156,11 @@ pub enum UnpackerName {
 }
 
 impl File {
-    /// A file with this tree and nothing else.
+    /// A file with this tree and nothing else, its numbers in the shortest form.
     pub fn new(version: Version, root: Node) -> Self {
         File {
             version,
+            widths: Widths::Least,
             types: Vec::new(),
             gap: Vec::new(),
             root,
@@ -180,6 +196,20 @@ impl File {
         self.types
             .iter()
             .any(|entry| entry.number == number && entry.format % 2 == 1)
+    }
+}
+
+impl Widths {
+    /// The least number of bytes of a number in the file, by its index there.
+    pub fn of(self, index: usize) -> usize {
+        match self {
+            Widths::Least => 1,
+            Widths::Mixed(seed) => {
+                let mut random = Random::for_case(seed, index as u64);
+                random.pick(&[1, 1, 1, 2, 3, 4])
+            }
+            Widths::Four => 4,
+        }
     }
 }
 

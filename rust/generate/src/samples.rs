@@ -1,51 +1,68 @@
 //! Small sample files.
 
-use crate::encode::{encode, encode_changed, number_bytes, MarkKind};
+use crate::encode::{encode, encode_changed, padded_bytes, Mark, MarkKind};
 use crate::mobile::{tune, tune_items};
-use crate::model::{Contents, Field, File, Item, Node, Place, TypeEntry, Values, Version};
+use crate::model::{Contents, Field, File, Item, Node, Place, TypeEntry, Values, Version, Widths};
 
-/// The worked file, 56 bytes.
-const WORKED: [u8; 56] = [
-    0x58, 0x4D, 0x46, 0x5F, 0x32, 0x2E, 0x30, 0x30, 0x00, 0x00, 0x00, 0x02, 0x00, 0x00, 0x00, 0x01,
-    0x38, 0x01, 0x00, 0x15, 0x37, 0x23, 0x01, 0x05, 0x00, 0x00, 0x01, 0x1D, 0x00, 0x1A, 0x15, 0x01,
-    0x61, 0x00, 0x03, 0x00, 0x48, 0x69, 0x01, 0x74, 0x00, 0x03, 0x07, 0x11, 0x22, 0x00, 0x03, 0x00,
-    0x03, 0x06, 0x00, 0x00, 0x00, 0x01, 0xAA, 0xBB,
-];
+/// Version 2.00, with type and revision of Mobile XMF.
+const MOBILE: Version = Version::V200 {
+    kind: 2,
+    revision: 1,
+};
 
 /// All samples, each with its file name.
 pub fn all() -> Vec<(&'static str, Vec<u8>)> {
+    with_widths(Widths::Least)
+}
+
+/// The samples with every number padded to four bytes, each with the name of the sample.
+pub fn padded() -> Vec<(&'static str, Vec<u8>)> {
+    with_widths(Widths::Four)
+}
+
+/// The worked file, 56 bytes.
+pub fn worked() -> Vec<u8> {
+    encode(&worked_file(Widths::Least)).bytes
+}
+
+/// All samples with such numbers.
+fn with_widths(widths: Widths) -> Vec<(&'static str, Vec<u8>)> {
     vec![
-        ("worked.xmf", worked()),
-        ("mobile.xmf", mobile()),
-        ("folders.xmf", folders()),
-        ("cut.xmf", cut()),
-        ("header.xmf", header()),
-        ("type.xmf", undeclared_type()),
+        ("worked.xmf", encode(&worked_file(widths)).bytes),
+        ("mobile.xmf", encode(&mobile_file(widths)).bytes),
+        ("folders.xmf", encode(&folders_file(widths)).bytes),
+        ("cut.xmf", cut(widths)),
+        ("header.xmf", long_header(widths)),
+        ("type.xmf", undeclared_type(widths)),
     ]
 }
 
 /// The worked file.
-pub fn worked() -> Vec<u8> {
-    WORKED.to_vec()
+fn worked_file(widths: Widths) -> File {
+    let node = Node::inline(&[0xAA, 0xBB]).with_items(vec![
+        Item::custom(b"a", 0, b"Hi"),
+        Item::custom(b"t", 7, &[0x11, 0x22]),
+        Item::standard(3, 6, &[0, 0]),
+    ]);
+    let mut file = File::new(MOBILE, Node::folder(vec![node]));
+    file.widths = widths;
+    file
 }
 
 /// A Mobile XMF file with one tune, a Standard MIDI File that starts at an even place.
-pub fn mobile() -> Vec<u8> {
+fn mobile_file(widths: Widths) -> File {
     let node = Node::inline(&tune()).with_items(tune_items());
-    let version = Version::V200 {
-        kind: 2,
-        revision: 1,
-    };
-    let mut file = File::new(version, Node::folder(vec![node]));
+    let mut file = File::new(MOBILE, Node::folder(vec![node]));
+    file.widths = widths;
     let length = tune().len();
     if (encode(&file).bytes.len() - length) % 2 == 1 {
         file.gap = vec![0];
     }
-    encode(&file).bytes
+    file
 }
 
 /// A file with folders, versions of declared types, references 1 to 4 and hidden items.
-pub fn folders() -> Vec<u8> {
+fn folders_file(widths: Widths) -> File {
     let first = Node::inline(b"first tune").with_items(vec![
         Item::standard(1, 0, b"first"),
         Item::custom(b"rating", 0, b"five"),
@@ -80,35 +97,48 @@ pub fn folders() -> Vec<u8> {
     ];
     file.gap = b"gap".to_vec();
     file.tail = b"a tune after the tree".to_vec();
-    encode(&file).bytes
+    file.widths = widths;
+    file
 }
 
 /// The worked file without its last byte.
-pub fn cut() -> Vec<u8> {
-    WORKED[..WORKED.len() - 1].to_vec()
-}
-
-/// The worked file with a header length that is greater than its node's length.
-pub fn header() -> Vec<u8> {
-    let mut bytes = worked();
-    bytes[29] = bytes[27] + 1;
+fn cut(widths: Widths) -> Vec<u8> {
+    let mut bytes = encode(&worked_file(widths)).bytes;
+    bytes.pop();
     bytes
 }
 
+/// The worked file with a header length that is greater than its node's length.
+fn long_header(widths: Widths) -> Vec<u8> {
+    let file = worked_file(widths);
+    let length = last(&file, MarkKind::NodeLength).value;
+    changed(&file, MarkKind::HeaderLength, length + 1)
+}
+
 /// A file with a version whose type isn't declared.
-pub fn undeclared_type() -> Vec<u8> {
+fn undeclared_type(widths: Widths) -> Vec<u8> {
     let node = Node::inline(b"tune").with_items(vec![Item {
         field: Field::Standard(8),
         values: Values::Versions(vec![(1, b"Title".to_vec()), (1, b"Titel".to_vec())]),
     }]);
     let mut file = File::new(Version::V100, node);
     file.types = vec![type_entry(1, 0, b"en")];
-    let marks = encode(&file).marks.into_iter().rev();
-    let last = marks
-        .clone()
-        .find(|mark| mark.kind == MarkKind::VersionType)
-        .expect("the file has versions");
-    encode_changed(&file, last.index, &number_bytes(2)).bytes
+    file.widths = widths;
+    changed(&file, MarkKind::VersionType, 2)
+}
+
+/// A file in which the last number of a kind has another value and as many bytes.
+fn changed(file: &File, kind: MarkKind, value: usize) -> Vec<u8> {
+    let mark = last(file, kind);
+    encode_changed(file, mark.index, &padded_bytes(value, mark.size)).bytes
+}
+
+/// The last number of a kind in a file.
+fn last(file: &File, kind: MarkKind) -> Mark {
+    let mut marks = encode(file).marks.into_iter().rev();
+    marks
+        .find(|mark| mark.kind == kind)
+        .expect("the file has such a number")
 }
 
 fn type_entry(number: usize, format: usize, language: &[u8]) -> TypeEntry {

@@ -1,7 +1,7 @@
 //! Well-formed files of many shapes.
 
 use crate::model::{Contents, Field, File, Item, Node, Place, TypeEntry};
-use crate::model::{Unpacker, UnpackerName, Values, Version};
+use crate::model::{Unpacker, UnpackerName, Values, Version, Widths};
 use crate::random::Random;
 
 /// The standard fields that items take, the last two above what Mobile XMF allows or close to it.
@@ -226,6 +226,15 @@ pub fn single_resource(random: &mut Random, size: usize) -> File {
     ]);
     file.root = Node::folder(vec![node]);
     file
+}
+
+/// Any widths: least, mixed or all four.
+pub fn any_widths(random: &mut Random) -> Widths {
+    match random.below(5) {
+        0 | 1 => Widths::Least,
+        2 | 3 => Widths::Mixed(random.word()),
+        _ => Widths::Four,
+    }
 }
 
 /// A file with an empty root.

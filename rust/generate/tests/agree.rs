@@ -3,13 +3,25 @@
 use generate::cases::Kind;
 use generate::damage::{every_cut, every_length_changed};
 use generate::encode::{encode, MarkKind};
-use generate::model::Field as Wanted;
+use generate::model::{Field as Wanted, Widths};
 use generate::random::Random;
 use generate::{case, large_file, large_resource, pair, samples, shapes, Lent};
-use plain::{find, judge, node, read_tree, resolve, resource, write_sheet, Field, Refusal};
+use plain::{find, judge, read_tree, resolve, resource, write_sheet};
+use plain::{item, node, Field, Refusal};
 
 const SEED: u64 = 1;
 const CASES: u64 = 4000;
+
+/// The worked file.
+const WORKED: [u8; 56] = [
+    0x58, 0x4D, 0x46, 0x5F, 0x32, 0x2E, 0x30, 0x30, 0x00, 0x00, 0x00, 0x02, 0x00, 0x00, 0x00, 0x01,
+    0x38, 0x01, 0x00, 0x15, 0x37, 0x23, 0x01, 0x05, 0x00, 0x00, 0x01, 0x1D, 0x00, 0x1A, 0x15, 0x01,
+    0x61, 0x00, 0x03, 0x00, 0x48, 0x69, 0x01, 0x74, 0x00, 0x03, 0x07, 0x11, 0x22, 0x00, 0x03, 0x00,
+    0x03, 0x06, 0x00, 0x00, 0x00, 0x01, 0xAA, 0xBB,
+];
+
+/// The words of a row without places and lengths, and up to two parts of the file that it names.
+type Outline = (Vec<u64>, Vec<u8>, Vec<u8>);
 
 /// All that is answered about a file.
 #[derive(Debug, PartialEq)]
@@ -78,6 +90,64 @@ fn ask(file: &[u8], lent: &Lent, row: u64, wanted: &Wanted) -> Answers {
     }
 }
 
+/// What padding leaves as it is: the verdict, and of each row the words that are no place and no
+/// length of a part with numbers, with the bytes that the row names; or the number of the refusal.
+fn outline(file: &[u8]) -> Result<(u64, Vec<Outline>), u64> {
+    let lent = Lent::full();
+    let (mut nodes, mut items) = (lent.nodes(), lent.items());
+    let verdict = judge(file, &mut nodes, &mut items).map_err(|refusal| refusal.number)?;
+    let tree = read_tree(file, &mut nodes, &mut items).map_err(|refusal| refusal.number)?;
+    let bytes = |place: u64, length: u64| file[place as usize..][..length as usize].to_vec();
+    let starts: Vec<u64> = nodes
+        .chunks(node::WORDS)
+        .map(|row| row[node::START])
+        .collect();
+
+    let node_rows = nodes.chunks(node::WORDS).take(tree.nodes as usize);
+    let node_rows = node_rows.map(|row| {
+        let mut words = row.to_vec();
+        for place_or_length in [
+            node::START,
+            node::LENGTH,
+            node::HEADER_LENGTH,
+            node::TARGET,
+            node::EXTENT,
+            node::UNPACKERS,
+        ] {
+            words[place_or_length] = 0;
+        }
+        let is_folder = row[node::CONTAINED] > 0;
+        let named = match row[node::REFERENCE] {
+            1 | 4 if !is_folder => bytes(row[node::TARGET], row[node::EXTENT]),
+            _ => Vec::new(),
+        };
+        if row[node::REFERENCE] == 3 {
+            let target = starts.iter().position(|&start| start == row[node::TARGET]);
+            words[node::TARGET] = target.expect("a node starts there") as u64;
+        }
+        (words, named, Vec::new())
+    });
+    let item_rows = items.chunks(item::WORDS).take(tree.items as usize);
+    let item_rows = item_rows.map(|row| {
+        let mut words = row.to_vec();
+        let mut name = Vec::new();
+        if row[item::KIND] == item::CUSTOM {
+            name = bytes(row[item::FIELD], row[item::NAME_LENGTH]);
+            words[item::FIELD] = 0;
+        }
+        words[item::DATA] = 0;
+        (words, name, bytes(row[item::DATA], row[item::DATA_LENGTH]))
+    });
+    Ok((verdict, node_rows.chain(item_rows).collect()))
+}
+
+/// A sample by its name.
+fn sample(samples: Vec<(&str, Vec<u8>)>, name: &str) -> Vec<u8> {
+    let mut samples = samples.into_iter();
+    let found = samples.find(|(own_name, _)| *own_name == name);
+    found.expect("a sample of this name").1
+}
+
 /// The sheet of a file, or its refusal.
 fn sheet(file: &[u8]) -> Result<String, Refusal> {
     let lent = Lent::full();
@@ -137,7 +207,9 @@ fn cases_depend_on_seed_and_number_alone() {
 #[test]
 fn rows_are_those_of_the_model() {
     for number in 0..300 {
-        let file = shapes::any_file(&mut Random::for_case(SEED, number));
+        let random = &mut Random::for_case(SEED, number);
+        let mut file = shapes::any_file(random);
+        file.widths = shapes::any_widths(random);
         let encoded = encode(&file);
         let lent = Lent::full();
         let (mut nodes, mut items) = (lent.nodes(), lent.items());
@@ -205,6 +277,7 @@ fn samples_have_their_answers() {
     for (name, bytes) in samples::all() {
         assert!(bytes.len() < 400, "{name}");
     }
+    assert_eq!(samples::worked(), WORKED);
     assert_eq!(
         sheet(&samples::worked()).as_deref(),
         Ok("XMF\t2.00\t56\t2\t3\n\
@@ -216,18 +289,44 @@ fn samples_have_their_answers() {
     let lent = Lent::full();
     let verdict = |file: &[u8]| judge(file, &mut lent.nodes(), &mut lent.items());
     assert_eq!(verdict(&samples::worked()), Ok(7));
-    assert_eq!(verdict(&samples::mobile()), Ok(0));
-    let file = samples::mobile();
-    let tune = resolve(&file, &mut lent.nodes(), &mut lent.items(), 1).expect("a tune");
-    assert_eq!(tune.place % 2, 0);
-    assert!(file[tune.place as usize..].starts_with(b"MThd"));
-    assert!(sheet(&samples::folders()).is_ok());
+    for mobile in [
+        sample(samples::all(), "mobile.xmf"),
+        sample(samples::padded(), "mobile.xmf"),
+    ] {
+        assert_eq!(verdict(&mobile), Ok(0));
+        let tune = resolve(&mobile, &mut lent.nodes(), &mut lent.items(), 1).expect("a tune");
+        assert_eq!(tune.place % 2, 0);
+        assert!(mobile[tune.place as usize..].starts_with(b"MThd"));
+    }
+    assert!(sheet(&sample(samples::all(), "folders.xmf")).is_ok());
 
     let refused = |number, place| Err(Refusal { number, place });
-    assert_eq!(sheet(&samples::cut()), refused(5, 16));
-    assert_eq!(sheet(&samples::header()), refused(8, 29));
+    let refusal = |name| sheet(&sample(samples::all(), name));
+    assert_eq!(refusal("cut.xmf"), refused(5, 16));
+    assert_eq!(refusal("header.xmf"), refused(8, 29));
     assert_eq!(
-        sheet(&samples::undeclared_type()).map_err(|refusal| refusal.number),
+        refusal("type.xmf").map_err(|refusal| refusal.number),
         Err(11)
     );
+}
+
+#[test]
+fn padding_changes_places_and_lengths_only() {
+    for ((name, bytes), (_, padded)) in samples::all().into_iter().zip(samples::padded()) {
+        assert!(bytes.len() < padded.len(), "{name}");
+        assert_eq!(outline(&bytes), outline(&padded), "{name}");
+    }
+    for number in 0..300 {
+        let random = &mut Random::for_case(SEED, number);
+        let mut file = shapes::any_file(random);
+        let least = outline(&encode(&file).bytes);
+        assert!(least.is_ok());
+        for widths in [Widths::Mixed(random.word()), Widths::Four] {
+            file.widths = widths;
+            let encoded = encode(&file);
+            assert_eq!(outline(&encoded.bytes), least, "file {number}, {widths:?}");
+            let is_four = encoded.marks.iter().all(|mark| mark.size == 4);
+            assert_eq!(is_four, widths == Widths::Four);
+        }
+    }
 }

@@ -44,8 +44,8 @@ impl<'a> Cursor<'a> {
         }
     }
 
-    /// Reads a VLQ: refusal 3 for a missing byte, 4 for a number too long or not in the shortest
-    /// form.
+    /// Reads a VLQ: refusal 3 for a missing byte, 4 when the fourth byte does not end it. Needless
+    /// bytes 80h may stand first.
     #[inline]
     pub fn number(&mut self) -> Result<u64, Refusal> {
         match self.bytes.get(self.at) {
@@ -63,9 +63,6 @@ impl<'a> Cursor<'a> {
         let rest = self.bytes.get(start..).unwrap_or_default();
         let mut value = 0;
         for (count, &byte) in rest.iter().take(NUMBER_BYTES).enumerate() {
-            if count == 0 && byte == 0x80 {
-                return Err(Refusal::at(4, start));
-            }
             value = value << 7 | u64::from(byte & 0x7F);
             if byte < 0x80 {
                 self.at = start + count + 1;

@@ -1,5 +1,6 @@
 //! The questions about a file that has been read: find, resolve and the Mobile XMF verdict.
 
+use crate::cursor::Cursor;
 use crate::tree::row_at;
 use crate::{item, node, Field, Found, ItemRow, NodeRow, Refusal, Resource, Rows};
 
@@ -146,7 +147,7 @@ fn contents(rows: &Rows, root: &NodeRow, children: &[NodeRow]) -> Option<Content
 }
 
 /// The resource format that a child's items name: 0 or 1 for a tune, 5 for a bank.
-fn resource_format(file: &[u8], own: &[ItemRow]) -> Option<u8> {
+fn resource_format(file: &[u8], own: &[ItemRow]) -> Option<u64> {
     let mut formats = own
         .iter()
         .filter(|words| is_standard(words, RESOURCE_FORMAT));
@@ -154,10 +155,10 @@ fn resource_format(file: &[u8], own: &[ItemRow]) -> Option<u8> {
     if formats.next().is_some() || !is_universal_binary(words) {
         return None;
     }
-    match data(file, words) {
-        &[0, format @ (0 | 1 | 5)] => Some(format),
-        _ => None,
-    }
+    let number = data(file, words).strip_prefix(&[0])?;
+    let mut number = Cursor::new(number, 0);
+    let format = number.number().ok()?;
+    (number.left() == 0 && matches!(format, 0 | 1 | 5)).then_some(format)
 }
 
 /// Whether content descriptions stand on the tune, at least one, and nowhere else, all of them

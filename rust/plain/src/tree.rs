@@ -306,12 +306,18 @@ impl<'a> Reader<'a, '_> {
         let nodes = &self.nodes[..self.node_count];
         for row in nodes.iter().filter(|row| row[node::REFERENCE] == 3) {
             if row_at(nodes, row[node::TARGET]).is_none() {
-                // The offset follows the ReferenceTypeID, which is one byte.
-                let place = row[node::START] + row[node::HEADER_LENGTH] + 1;
-                return Err(Refusal::at(16, place as usize));
+                return Err(Refusal::at(16, self.offset_place(row)?));
             }
         }
         Ok(())
+    }
+
+    /// The place of the offset that follows a node's ReferenceTypeID.
+    fn offset_place(&self, row: &NodeRow) -> Result<usize, Refusal> {
+        let reference = row[node::START] + row[node::HEADER_LENGTH];
+        let mut cursor = Cursor::new(self.file, reference as usize);
+        cursor.number()?;
+        Ok(cursor.at)
     }
 }
 

@@ -120,7 +120,7 @@ impl Refusal {
             1 => "fewer than 8 bytes, or not an XMF file",
             2 => "the version is not 1.00, 1.01 or 2.00",
             3 => "a field runs past the part that holds it",
-            4 => "a number or a GUID is too long, or a number is not in its shortest form",
+            4 => "a number has more than four bytes, or a GUID more than nineteen",
             5 => "the length in the header is not the number of bytes received",
             6 => "the types table has a type twice, or more than 32 entries",
             7 => "the tree begins inside the header, or ends before it begins or past the file",
