@@ -6,7 +6,7 @@
  * What is lent
  *
  *   file    the bytes of the file; they are only read
- *   nodes   words for node rows, 12 words each; a full table has XMF_ALL_NODE_WORDS
+ *   nodes   words for node rows, 13 words each; a full table has XMF_ALL_NODE_WORDS
  *   items   words for item rows, 10 words each; a full table has XMF_ALL_ITEM_WORDS
  *   answer  words for the answer; XMF_ANSWER_WORDS are enough for each question
  *
@@ -51,7 +51,8 @@
  *   13  reference 0, or above 4
  *   14  a folder that is packed, or whose contents do not follow in it
  *   15  bytes left between a part's last field and its end
- *   16  a reference leads outside the file, into the header, or to no node
+ *   16  a reference leads outside the file or into the header, or one to a node leads into the tree
+ *       where no node starts
  *   17  more than 268,435,455 bytes
  *   18  the row asked for is not there (find, resolve)
  *   19  resolving ends at a folder
@@ -59,6 +60,7 @@
  *   21  a fifth reference would be followed
  *   22  the sheet is longer than its buffer
  *   23  no such item
+ *   24  a detached node overlaps another one, or is a folder
  */
 #ifndef XMF_H
 #define XMF_H
@@ -71,7 +73,7 @@ extern "C" {
 #endif
 
 /* The words of a node row and of an item row. */
-#define XMF_NODE_WORDS 12
+#define XMF_NODE_WORDS 13
 #define XMF_ITEM_WORDS 10
 
 /* The words of tables with as many rows as there may be: 256 nodes and 1,024 items. */
@@ -81,21 +83,25 @@ extern "C" {
 /* The words of the longest answer, that of xmf_find. */
 #define XMF_ANSWER_WORDS 13
 
-/* The words of a node row. */
+/* The words of a node row. The rows of the tree's nodes come first, in file order. The rows of the
+ * detached nodes, which are outside the tree, follow in the order in which references first lead to
+ * them. */
 enum xmf_node {
     XMF_NODE_START = 0,          /* place of the node's first byte */
     XMF_NODE_LENGTH = 1,         /* the node's length */
     XMF_NODE_HEADER_LENGTH = 2,  /* length of its header, up to the reference */
     XMF_NODE_CONTAINED = 3,      /* number of nodes it holds; 0 for a file node */
-    XMF_NODE_PARENT = 4,         /* row of the folder that holds it; 0 for the root */
-    XMF_NODE_DEPTH = 5,          /* depth, the root being at 1 */
+    XMF_NODE_PARENT = 4,         /* row of the folder that holds it; the own row for the root, which
+                                    is 0, and for a detached node */
+    XMF_NODE_DEPTH = 5,          /* depth, the root being at 1; 0 for a detached node */
     XMF_NODE_REFERENCE = 6,      /* 1 in the node, 2 a place in the file, 3 another node, 4 a URI */
     XMF_NODE_TARGET = 7,         /* place of the contents (1), the offset (2, 3), place of the URI (4) */
     XMF_NODE_EXTENT = 8,         /* length of the contents (1), bytes to the file's end (2), 0 (3),
                                     length of the URI (4) */
     XMF_NODE_UNPACKERS = 9,      /* place of the byte after the unpackers' length */
     XMF_NODE_UNPACKER_COUNT = 10, /* number of unpackers */
-    XMF_NODE_ITEMS = 11          /* number of item rows of the node */
+    XMF_NODE_ITEMS = 11,         /* number of item rows of the node */
+    XMF_NODE_DETACHED = 12       /* 1 if the node is detached, otherwise 0 */
 };
 
 /* The words of an item row. */
@@ -116,7 +122,7 @@ enum xmf_item {
 #define XMF_STANDARD UINT64_C(0)
 #define XMF_CUSTOM UINT64_C(1)
 
-/* Reads the tree into the tables.
+/* Reads the tree, and the detached nodes that references lead to, into the tables.
  *
  *   answer[2]  the version: 100, 101 or 200
  *   answer[3]  the number of node rows
@@ -128,7 +134,7 @@ void xmf_read_tree(const uint8_t *file, size_t file_length,
                    uint64_t *answer, size_t answer_words);
 
 /* Finds the first item of a field on the node of a row, or on the nearest node above it that has one.
- * Hidden items are found too.
+ * From a detached node it looks at that node only. Hidden items are found too.
  *
  * With kind XMF_STANDARD the field is the one of that number, and the name is not used. With any
  * other kind it is the custom field of that name, and the number is not used. An empty name is never

@@ -19,12 +19,12 @@ pub fn answer_buffer() -> [u8; 262144]
     [0; 262144]
 }
 
-// 3,344 stale words, 16 more than a case lends for nodes.
-pub fn node_buffer() -> [u64; 3344]
-    ensures { λ r. ⌜ 3344 ≡ length r ⌝ }
-    ensures { λ r. ⌜ r ≡ replicate 3344 7 ⌝ }
+// 4,112 stale words, at least 16 more than a case lends for nodes.
+pub fn node_buffer() -> [u64; 4112]
+    ensures { λ r. ⌜ 4112 ≡ length r ⌝ }
+    ensures { λ r. ⌜ r ≡ replicate 4112 7 ⌝ }
 {
-    [STALE; 3344]
+    [STALE; 4112]
 }
 
 // 10,256 stale words, 16 more than a case lends for items.

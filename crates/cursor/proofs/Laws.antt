@@ -3,12 +3,12 @@
 -- Assumes nothing.
 use mathlib.Core.Path.{_≡_, refl, sym, ap, _∙_}
 use mathlib.Core.Bool.{Bool, true, false}
-use mathlib.Core.List.{List}
+use mathlib.Core.List.{List, [], _∷_, _++_, append-assoc}
 use Prim.Native.Nat.{ℕ, zero, suc, _+_, _-_, _≤_, _<_}
 use native.Mathlib.Omega.{arith}
 use lib.ListN.{getD}
 use borrow.Author.Tests.{lt-ltb, le-ltb}
-use Rattle.cursor.specs.Machine.{Prog, ret, refuse, here, byte, pass, Out, ok, refused, run, exec, _>>=_, _>>_, if_then_else_, place, skip, check, turns, many, times}
+use Rattle.cursor.specs.Machine.{Prog, ret, refuse, here, byte, pass, Out, ok, refused, Event, seen, passed, run, trace, exec, puts, rowsOf, _>>=_, _>>_, if_then_else_, place, skip, check, turns, many, times}
 
 -- what a call answered, where its contract says `told r ≡ o` and r is known
 pub was : {E O : Type 0} (told : E → O) {r r′ : E} {o : O} → told r ≡ o → r ≡ r′ → o ≡ told r′
@@ -134,6 +134,20 @@ exec-run put (pass w n m) f at σ = exec-run put m f (at + n) (put w at n σ)
 
 pub ran : {K W S A : Type 0} (put : W → ℕ → ℕ → S → S) (m : Prog K W A) (f : List ℕ) (at : ℕ) (σ : S) {o : Out (A × S)} → exec put m f at σ ≡ o → run m f at ≡ answered o
 ran put m f at σ e = exec-run put m f at σ ∙ ap answered e
+
+-- ---- events, and more behind them
+
+pub puts-on : {K W S : Type 0} (put : W → ℕ → ℕ → S → S) (es fs : List (Event K W)) (σ : S) → puts put (es ++ fs) σ ≡ puts put fs (puts put es σ)
+unfolding puts
+puts-on put [] fs σ = refl
+puts-on put (seen κ p ∷ es) fs σ = puts-on put es fs σ
+puts-on put (passed w p n ∷ es) fs σ = puts-on put es fs (put w p n σ)
+
+pub rows-on : {K W R : Type 0} (pick : W → ℕ → ℕ → List R) (es fs : List (Event K W)) → rowsOf pick (es ++ fs) ≡ rowsOf pick es ++ rowsOf pick fs
+unfolding rowsOf
+rows-on pick [] fs = refl
+rows-on pick (seen κ p ∷ es) fs = rows-on pick es fs
+rows-on pick (passed w p n ∷ es) fs = ap (λ v. pick w p n ++ v) (rows-on pick es fs) ∙ sym (append-assoc (pick w p n) _ _)
 
 -- ---- repetitions, one turn at a time
 

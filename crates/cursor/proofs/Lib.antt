@@ -1,6 +1,7 @@
 pub mod Laws
 pub mod Stable
-pub mod Apart
+pub mod Log
+pub mod Near
 pub mod Wp
 pub mod Quiet
 pub mod Digits

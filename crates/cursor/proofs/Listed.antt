@@ -11,7 +11,7 @@ use Rattle.cursor.specs.Rows.{Frame, Part, P}
 use Rattle.cursor.specs.Leaves.{next, digits, number, block, manufacturer, guidBytes, guid}
 
 abbrev pub InList : ℕ → Type 0
-InList n = (0 < n) × (n ≤ 17)
+InList n = (0 < n) × (n ≤ 24)
 
 abbrev ListedOf : {A : Type 0} → P A → Type 0
 ListedOf (ret a) = Unit {0}

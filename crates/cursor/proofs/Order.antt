@@ -1,11 +1,10 @@
 -- The order in which a run makes rows: each item row names the node whose row comes next, each node row counts the item rows since the last one
--- and names a parent whose row was made before. A rule for each form, proved once; the leaves make no row.
+-- and names a parent whose row is not later. A rule for each form, proved once; the leaves make no row.
 -- Assumes nothing.
-use mathlib.Core.Path.{_≡_, refl, subst}
+use mathlib.Core.Path.{_≡_, refl, sym, subst}
 use mathlib.Core.Bool.{Bool, true, false}
-use mathlib.Core.Logic.{_⊎_}
-use mathlib.Core.List.{List, [], _∷_}
-use Prim.Native.Nat.{ℕ, zero, suc, _+_, _-_, _<_}
+use mathlib.Core.List.{List, [], _∷_, _++_}
+use Prim.Native.Nat.{ℕ, zero, suc, _+_, _-_, _≤_}
 use native.Mathlib.Omega.{arith}
 use lib.ListN.{getD}
 use Rattle.cursor.specs.Machine.{ret, refuse, here, byte, pass, Out, ok, refused, seen, passed, run, trace, _>>=_, _>>_, if_then_else_, place, skip, check, turns, many, times}
@@ -16,7 +15,7 @@ use Rattle.cursor.specs.Leaves.{next, digits, number, block, manufacture
 
 -- k node rows were made, and c item rows since the last of them: what a thing that is passed asks for, and the counts after it
 abbrev Step : Part → (k c : ℕ) → (ℕ → ℕ → Type 0) → Type 0
-Step (nodeRow r) k c X = (r .rows ≡ c) × ((k ≡ 0) ⊎ (r .parent < k)) × X (k + 1) 0
+Step (nodeRow r) k c X = (r .rows ≡ c) × (r .parent ≤ k) × X (k + 1) 0
 Step (itemRow r) k c X = (r .node ≡ k) × X k (c + 1)
 Step (plain x) k c X = X k c
 
@@ -24,9 +23,16 @@ Step (plain x) k c X = X k c
 abbrev pub Ordered : (k c : ℕ) → Events → (k′ c′ : ℕ) → Type 0
 Ordered k c [] k′ c′ = (k ≡ k′) × (c ≡ c′)
 Ordered k c (seen κ p ∷ es) k′ c′ = Ordered k c es k′ c′
-Ordered k c (passed (nodeRow r) p n ∷ es) k′ c′ = (r .rows ≡ c) × ((k ≡ 0) ⊎ (r .parent < k)) × Ordered (k + 1) 0 es k′ c′
+Ordered k c (passed (nodeRow r) p n ∷ es) k′ c′ = (r .rows ≡ c) × (r .parent ≤ k) × Ordered (k + 1) 0 es k′ c′
 Ordered k c (passed (itemRow r) p n ∷ es) k′ c′ = (r .node ≡ k) × Ordered k (c + 1) es k′ c′
 Ordered k c (passed (plain x) p n ∷ es) k′ c′ = Ordered k c es k′ c′
+
+pub ordered-on : (k c : ℕ) (es fs : Events) (k′ c′ k″ c″ : ℕ) → Ordered k c es k′ c′ → Ordered k′ c′ fs k″ c″ → Ordered k c (es ++ fs) k″ c″
+ordered-on k c [] fs k′ c′ k″ c″ a b = rw (a .0, a .1) b
+ordered-on k c (seen κ p ∷ es) fs k′ c′ k″ c″ a b = ordered-on k c es fs k′ c′ k″ c″ a b
+ordered-on k c (passed (nodeRow r) p n ∷ es) fs k′ c′ k″ c″ a b = (a .0, a .1, ordered-on (k + 1) 0 es fs k′ c′ k″ c″ (a .2) b)
+ordered-on k c (passed (itemRow r) p n ∷ es) fs k′ c′ k″ c″ a b = (a .0, ordered-on k (c + 1) es fs k′ c′ k″ c″ (a .1) b)
+ordered-on k c (passed (plain x) p n ∷ es) fs k′ c′ k″ c″ a b = ordered-on k c es fs k′ c′ k″ c″ a b
 
 abbrev OrdersOf : {A : Type 0} → P A → (A → ℕ → ℕ → Type 0) → (k c : ℕ) → Type 0
 OrdersOf (ret a) Q k c = Q a k c
@@ -115,7 +121,7 @@ module _ {A : Type 0} where
   unfolding _>>=_ place
   places h = record { orders = λ at. h at .orders }
 
-  pub passes-node : (r : Node) (n : ℕ) {m : P A} {R : A → ℕ → ℕ → Type 0} {k c : ℕ} → r .rows ≡ c → (k ≡ 0) ⊎ (r .parent < k) → Orders m R (k + 1) 0 → Orders (skip (nodeRow r) n >> m) R k c
+  pub passes-node : (r : Node) (n : ℕ) {m : P A} {R : A → ℕ → ℕ → Type 0} {k c : ℕ} → r .rows ≡ c → r .parent ≤ k → Orders m R (k + 1) 0 → Orders (skip (nodeRow r) n >> m) R k c
   unfolding _>>=_ _>>_ skip
   passes-node r n a b h = record { orders = (a, b, h .orders) }
 

@@ -6,15 +6,24 @@ use mathlib.Core.List.{List}
 use Prim.Native.Nat.{ℕ, zero, suc, _+_, _-_, _*_, _%_}
 use lib.Dec.{ltb, leb, eqb}
 use lib.ListN.{getD}
-use Rattle.cursor.specs.Machine.{ret, refuse, here, byte, pass, Out, ok, refused, run, exec, _>>=_, _>>_, if_then_else_, place, skip, check, turns, many, times}
+use Rattle.cursor.specs.Machine.{Prog, ret, refuse, here, byte, pass, Out, ok, refused, run, trace, exec, puts, _>>=_, _>>_, if_then_else_, place, skip, check, turns, many, times}
 use Rattle.cursor.specs.Rows.{Frame, Part, P}
 use Rattle.cursor.specs.Leaves.{next, digits, number, block, manufacturer, guidBytes, guid}
 use Rattle.cursor.proofs.Laws.{andThen, run-bind, exec-bind}
 
--- an answer beside a state that is as it was
+-- an answer beside a state
 abbrev pub still : {A S : Type 0} → Out A → S → Out (A × S)
 still (ok a p) σ = ok (a, σ) p
 still (refused n p) σ = refused n p
+
+-- the state that is left is what the trace puts
+pub exec-puts : {K W S A : Type 0} (put : W → ℕ → ℕ → S → S) (m : Prog K W A) (f : List ℕ) (at : ℕ) (σ : S) → exec put m f at σ ≡ still (run m f at) (puts put (trace m f at) σ)
+unfolding exec run trace puts
+exec-puts put (ret a) f at σ = refl
+exec-puts put (refuse n p) f at σ = refl
+exec-puts put (here k) f at σ = exec-puts put (k at) f at σ
+exec-puts put (byte κ k) f at σ = exec-puts put (k (getD f at 0)) f (at + 1) σ
+exec-puts put (pass w n m) f at σ = exec-puts put m f (at + n) (put w at n σ)
 
 pub record Quiet {S A : Type 0} (put : Part → ℕ → ℕ → S → S) (m : P A) : Type 0 where
   pub quiet : (f : List ℕ) (at : ℕ) (σ : S) → exec put m f at σ ≡ still (run m f at) σ

@@ -52,30 +52,42 @@ module _ {K W : Type 0} (free : W → Bool) where
   Free (seen κ p ∷ es) k = Free es k
   Free (passed w p n ∷ es) k = (T (free w) × (p ≤ k) × (k < p + n)) ⊎ Free es k
 
-  -- two files agree at each byte of each event that is not free
+  -- P holds of each byte of each event that is not free
+  abbrev pub Held : (ℕ → Type 0) → List (Event K W) → Type 0
+  Held P [] = Unit {0}
+  Held P (seen κ p ∷ es) = P p × Held P es
+  Held P (passed w p n ∷ es) = (T (not (free w)) → (k : ℕ) → p ≤ k → k < p + n → P k) × Held P es
+
+  -- two files agree there
   abbrev pub Kept : List ℕ → List ℕ → List (Event K W) → Type 0
-  Kept f g [] = Unit {0}
-  Kept f g (seen κ p ∷ es) = (getD f p 0 ≡ getD g p 0) × Kept f g es
-  Kept f g (passed w p n ∷ es) = (T (not (free w)) → (k : ℕ) → p ≤ k → k < p + n → getD f k 0 ≡ getD g k 0) × Kept f g es
+  Kept f g es = Held (λ k. getD f k 0 ≡ getD g k 0) es
+
+  pub held-by : (P Q : ℕ → Type 0) (es : List (Event K W)) → ((k : ℕ) → P k → Q k) → Held P es → Held Q es
+  held-by P Q [] h x = tt
+  held-by P Q (seen κ p ∷ es) h x = (h p (x .0), held-by P Q es h (x .1))
+  held-by P Q (passed w p n ∷ es) h x = (λ u k lo hi. h k (x .0 u k lo hi), held-by P Q es h (x .1))
 
   before : (es : List (Event K W)) (at k : ℕ) → Chain at es → k < at → Free es k → ⊥
   before (seen κ p ∷ es) at k c h y = before es (at + 1) k (c .1) (omega arith) y
   before (passed w p n ∷ es) at k c h (inl x) = omega arith
   before (passed w p n ∷ es) at k c h (inr y) = before es (at + n) k (c .1) (omega arith) y
 
+  -- events that lie end to end: no byte of those that are not free is a free one
+  pub unmixed : (es : List (Event K W)) (at : ℕ) → Chain at es → Held (λ k. (at ≤ k) × (k < endOf at es) × (Free es k → ⊥)) es
+  unmixed [] at c = tt
+  unmixed (seen κ p ∷ es) at c = (
+    (omega arith, omega (arith, at-least es (at + 1)), before es (at + 1) p (c .1) (omega arith)),
+    held-by _ _ es (λ k x. let l = x .0 in (omega arith, x .1, x .2)) (unmixed es (at + 1) (c .1)),
+  )
+  unmixed (passed w p n ∷ es) at c = (
+    λ u k lo hi. (omega arith, omega (arith, at-least es (at + n)), elim [ inl x ↦ T-not (free w) u (x .0) | inr y ↦ before es (at + n) k (c .1) (omega arith) y ]),
+    held-by _ _ es (λ k x. let l = x .0 in (omega arith, x .1, elim [ inl y ↦ omega arith | inr y ↦ x .2 y ])) (unmixed es (at + n) (c .1)),
+  )
+
   -- files that agree outside the free events agree on the others
   pub kept : (f g : List ℕ) (es : List (Event K W)) (at : ℕ) → Chain at es
       → ((k : ℕ) → at ≤ k → k < endOf at es → (Free es k → ⊥) → getD f k 0 ≡ getD g k 0) → Kept f g es
-  kept f g [] at c h = tt
-  kept f g (seen κ p ∷ es) at c h = (
-    h p (omega arith) (omega (arith, at-least es (at + 1))) (before es (at + 1) p (c .1) (omega arith)),
-    kept f g es (at + 1) (c .1) (λ k lo hi fr. h k (omega arith) hi fr),
-  )
-  kept f g (passed w p n ∷ es) at c h = (
-    λ nf k lo hi. h k (omega arith) (omega (arith, at-least es (at + n)))
-        (elim [ inl x ↦ T-not (free w) nf (x .0) | inr y ↦ before es (at + n) k (c .1) (omega arith) y ]),
-    kept f g es (at + n) (c .1) (λ k lo hi fr. h k (omega arith) hi (elim [ inl x ↦ omega arith | inr y ↦ fr y ])),
-  )
+  kept f g es at c h = held-by _ _ es (λ k x. h k (x .0) (x .1) (x .2)) (unmixed es at c)
 
   -- the run is the same: a byte that was read is in no free event
   pub stable : {A : Type 0} (m : Prog K W A) (f g : List ℕ) (at : ℕ) → Kept f g (trace m f at)

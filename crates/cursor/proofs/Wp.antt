@@ -2,7 +2,7 @@
 -- Assumes nothing.
 use mathlib.Core.Path.{_≡_, refl, subst}
 use mathlib.Core.Bool.{Bool, true, false}
-use mathlib.Core.List.{List, [], _∷_}
+use mathlib.Core.List.{List, [], _∷_, _++_}
 use Prim.Native.Nat.{ℕ, zero, suc, _+_, _-_, _≤_, _<_}
 use native.Mathlib.Omega.{arith}
 use borrow.Author.Tests.{ltb-true, ltb-false}
@@ -20,6 +20,16 @@ abbrev pub All : {K W : Type 0} → (W → ℕ → ℕ → Type 0) → List (Eve
 All C [] = Unit {0}
 All C (seen κ p ∷ es) = All C es
 All C (passed w p n ∷ es) = C w p n × All C es
+
+pub all-on : {K W : Type 0} (C : W → ℕ → ℕ → Type 0) (es fs : List (Event K W)) → All C es → All C fs → All C (es ++ fs)
+all-on C [] fs a b = b
+all-on C (seen κ p ∷ es) fs a b = all-on C es fs a b
+all-on C (passed w p n ∷ es) fs a b = (a .0, all-on C es fs (a .1) b)
+
+pub all-by : {K W : Type 0} (C D : W → ℕ → ℕ → Type 0) (es : List (Event K W)) → ((w : W) (p n : ℕ) → C w p n → D w p n) → All C es → All D es
+all-by C D [] h a = tt
+all-by C D (seen κ p ∷ es) h a = all-by C D es h a
+all-by C D (passed w p n ∷ es) h a = (h w p n (a .0), all-by C D es h (a .1))
 
 abbrev WpOf : {K W A : Type 0} → Rule W → Prog K W A → (A → ℕ → Type 0) → ℕ → Type 0
 WpOf U (ret a) Q at = Q a at

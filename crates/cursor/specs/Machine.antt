@@ -51,6 +51,12 @@ exec put (here k) f at σ = exec put (k at) f at σ
 exec put (byte κ k) f at σ = exec put (k (getD f at 0)) f (at + 1) σ
 exec put (pass w n m) f at σ = exec put m f (at + n) (put w at n σ)
 
+-- the state after everything that events passed was put into it
+unfoldable pub puts : {K W S : Type 0} → (W → ℕ → ℕ → S → S) → List (Event K W) → S → S
+puts put [] σ = σ
+puts put (seen κ p ∷ es) σ = puts put es σ
+puts put (passed w p n ∷ es) σ = puts put es (put w p n σ)
+
 -- the rows that `pick` takes from what was passed over
 unfoldable pub rowsOf : {K W R : Type 0} → (W → ℕ → ℕ → List R) → List (Event K W) → List R
 rowsOf pick [] = []

@@ -75,3 +75,6 @@ noRoom = 22
 
 abbrev pub noSuchItem : ℕ
 noSuchItem = 23
+
+abbrev pub badDetached : ℕ
+badDetached = 24

@@ -54,8 +54,10 @@ pub const NO_ROOM: u64 = 22;
 
 pub const NO_SUCH_ITEM: u64 = 23;
 
+pub const BAD_DETACHED: u64 = 24;
+
 // The words of a row, and how many rows and levels there may be.
-pub const NODE_WIDTH: usize = 12;
+pub const NODE_WIDTH: usize = 13;
 
 pub const ITEM_WIDTH: usize = 10;
 
@@ -103,6 +105,7 @@ pub struct Node {
     pub unpackers: u64,
     pub layers: u64,
     pub rows: u64,
+    pub detached: u64,
 }
 
 // A row of the item table (01, Rows), in the order of its ten words: one for each universal content or version. `declared` is

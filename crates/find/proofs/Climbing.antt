@@ -38,31 +38,31 @@ enough f w ns is (suc m) (suc n) k a b = elim (decLt (nodeAt ns k .parent) k) [
 
 module _ (f : List ℕ) (w : Wanted) (ws : List ℕ) (count : ℕ) (is : List Item) (k : ℕ) (l : k < count) (r : Found) (g : told r ≡ look f w (nodesIn count ws) is k) where
   -- one look and the rest
-  step : nearest f w (nodesIn count ws) is k ≡ orElse (told r) (choose (ltb (getD ws (k * 12 + 4) 0) k) (climb f w (nodesIn count ws) is k (getD ws (k * 12 + 4) 0)) (bad 23 0))
+  step : nearest f w (nodesIn count ws) is k ≡ orElse (told r) (choose (ltb (getD ws (k * 13 + 4) 0) k) (climb f w (nodesIn count ws) is k (getD ws (k * 13 + 4) 0)) (bad 23 0))
   unfolding nearest climb
   step =
       let s : k + 1 ≡ suc k = omega arith in
-      let p : nodeAt (nodesIn count ws) k .parent ≡ getD ws (k * 12 + 4) 0 = ap (λ (x : Node). x .parent) (node-at ws count k l) in
+      let p : nodeAt (nodesIn count ws) k .parent ≡ getD ws (k * 13 + 4) 0 = ap (λ (x : Node). x .parent) (node-at ws count k l) in
       ap (λ (n : ℕ). climb f w (nodesIn count ws) is n k) s
       ∙ ap₂ (λ (o : Result Hit) (q : ℕ). orElse o (choose (ltb q k) (climb f w (nodesIn count ws) is k q) (bad 23 0))) (sym g) p
 
   pub climb-here : {i : ℕ} {item : Item} → r ≡ found.Item i item → good (record { row = i; item = item }) ≡ nearest f w (nodesIn count ws) is k
   unfolding orElse
-  climb-here e = sym (step ∙ ap (λ (x : Found). orElse (told x) (choose (ltb (getD ws (k * 12 + 4) 0) k) (climb f w (nodesIn count ws) is k (getD ws (k * 12 + 4) 0)) (bad 23 0))) e)
+  climb-here e = sym (step ∙ ap (λ (x : Found). orElse (told x) (choose (ltb (getD ws (k * 13 + 4) 0) k) (climb f w (nodesIn count ws) is k (getD ws (k * 13 + 4) 0)) (bad 23 0))) e)
 
   module _ {n p : ℕ} (e : r ≡ found.Refused n p) where
-    on : nearest f w (nodesIn count ws) is k ≡ choose (ltb (getD ws (k * 12 + 4) 0) k) (climb f w (nodesIn count ws) is k (getD ws (k * 12 + 4) 0)) (bad 23 0)
+    on : nearest f w (nodesIn count ws) is k ≡ choose (ltb (getD ws (k * 13 + 4) 0) k) (climb f w (nodesIn count ws) is k (getD ws (k * 13 + 4) 0)) (bad 23 0)
     unfolding orElse
-    on = step ∙ ap (λ (x : Found). orElse (told x) (choose (ltb (getD ws (k * 12 + 4) 0) k) (climb f w (nodesIn count ws) is k (getD ws (k * 12 + 4) 0)) (bad 23 0))) e
+    on = step ∙ ap (λ (x : Found). orElse (told x) (choose (ltb (getD ws (k * 13 + 4) 0) k) (climb f w (nodesIn count ws) is k (getD ws (k * 13 + 4) 0)) (bad 23 0))) e
 
-    pub climb-top : k ≤ getD ws (k * 12 + 4) 0 → bad 23 0 ≡ nearest f w (nodesIn count ws) is k
+    pub climb-top : k ≤ getD ws (k * 13 + 4) 0 → bad 23 0 ≡ nearest f w (nodesIn count ws) is k
     unfolding choose
     climb-top h = sym (on ∙ simp (le-ltb _ _ h))
 
-    pub climb-up : getD ws (k * 12 + 4) 0 < k → {o : Result Hit} → o ≡ nearest f w (nodesIn count ws) is (getD ws (k * 12 + 4) 0) → o ≡ nearest f w (nodesIn count ws) is k
+    pub climb-up : getD ws (k * 13 + 4) 0 < k → {o : Result Hit} → o ≡ nearest f w (nodesIn count ws) is (getD ws (k * 13 + 4) 0) → o ≡ nearest f w (nodesIn count ws) is k
     unfolding nearest choose
     climb-up h z =
-        z ∙ enough f w (nodesIn count ws) is (getD ws (k * 12 + 4) 0 + 1) k (getD ws (k * 12 + 4) 0) (omega arith) h ∙ sym (on ∙ simp (lt-ltb _ _ h))
+        z ∙ enough f w (nodesIn count ws) is (getD ws (k * 13 + 4) 0 + 1) k (getD ws (k * 13 + 4) 0) (omega arith) h ∙ sym (on ∙ simp (lt-ltb _ _ h))
 
 -- ---- the question over a file that the reader refuses
 

@@ -18,7 +18,7 @@ use Rattle.find.specs.Told.{Named, AllNamed}
 
 -- ---- where a node's own rows begin
 
-pub first-next : (ws : List ℕ) (count i : ℕ) → i < count → firstRow (nodesIn count ws) (i + 1) ≡ firstRow (nodesIn count ws) i + getD ws (i * 12 + 11) 0
+pub first-next : (ws : List ℕ) (count i : ℕ) → i < count → firstRow (nodesIn count ws) (i + 1) ≡ firstRow (nodesIn count ws) i + getD ws (i * 13 + 11) 0
 unfolding firstRow
 first-next ws count i l =
     let e : i + 1 ≡ suc i = omega arith in
@@ -32,7 +32,7 @@ pub sum-begin : (ws : List ℕ) (count most : ℕ) → Summing ws count most 0 0
 unfolding firstRow
 sum-begin ws count most = omega arith
 
-pub sum-on : (ws : List ℕ) (count most i sum : ℕ) → Summing ws count most i sum → i < count → {own : ℕ} → own ≡ min (getD ws (i * 12 + 11) 0) (most - sum) → Summing ws count most (i + 1) (sum + own)
+pub sum-on : (ws : List ℕ) (count most i sum : ℕ) → Summing ws count most i sum → i < count → {own : ℕ} → own ≡ min (getD ws (i * 13 + 11) 0) (most - sum) → Summing ws count most (i + 1) (sum + own)
 sum-on ws count most i sum h l e = let k = first-next ws count i l in omega arith
 
 -- ---- row by row
@@ -98,10 +98,10 @@ cut f w is from n first size a b = elim (decLt from (length is)) [
 ]
 
 -- the look at node k, from where the code finds its rows
-pub look-is : (f : List ℕ) (w : Wanted) (ws us : List ℕ) (count rows k : ℕ) → k < count → {from size : ℕ} → from ≡ min (firstRow (nodesIn count ws) k) rows → size ≡ min (getD ws (k * 12 + 11) 0) (rows - from)
+pub look-is : (f : List ℕ) (w : Wanted) (ws us : List ℕ) (count rows k : ℕ) → k < count → {from size : ℕ} → from ≡ min (firstRow (nodesIn count ws) k) rows → size ≡ min (getD ws (k * 13 + 11) 0) (rows - from)
     → {o : Result Hit} → o ≡ among f w from (slice from (from + size) (itemsIn rows us)) → o ≡ look f w (nodesIn count ws) (itemsIn rows us) k
 unfolding look own
 look-is f w ws us count rows k l {from} {size} a b e =
     let n = items-in-length us rows in
-    let r : nodeAt (nodesIn count ws) k .rows ≡ getD ws (k * 12 + 11) 0 = ap (λ (x : Node). x .rows) (node-at ws count k l) in
+    let r : nodeAt (nodesIn count ws) k .rows ≡ getD ws (k * 13 + 11) 0 = ap (λ (x : Node). x .rows) (node-at ws count k l) in
     e ∙ ap (among f w from) (part (itemsIn rows us) from size) ∙ cut f w (itemsIn rows us) (firstRow (nodesIn count ws) k) (nodeAt (nodesIn count ws) k .rows) from size (a ∙ ap (min (firstRow (nodesIn count ws) k)) (sym n)) (omega arith)

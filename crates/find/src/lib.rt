@@ -100,7 +100,7 @@ fn item_at(items: &[u64], i: usize) -> Item
 
 // The rows of the nodes before node k, or `most` if there are more.
 fn first_row(nodes: &[u64], count: usize, k: usize, most: usize) -> usize
-    requires { ⌜ (count * 12 ≤ length (now nodes)) × (k ≤ count) ⌝ }
+    requires { ⌜ (count * 13 ≤ length (now nodes)) × (k ≤ count) ⌝ }
     ensures { λ r. ⌜ r ≡ min (firstRow (nodesIn count (now (nodes .entry))) k) most ⌝ }
 {
     let mut sum = 0;
@@ -147,7 +147,7 @@ fn look(
     field: Field,
     name: &[u8],
 ) -> Found
-    requires { ⌜ (count * 12 ≤ length (now nodes)) × (rows * 10 ≤ length (now items)) × (k < count) × AllNamed (length (now file)) (itemsIn rows (now items)) ⌝ }
+    requires { ⌜ (count * 13 ≤ length (now nodes)) × (rows * 10 ≤ length (now items)) × (k < count) × AllNamed (length (now file)) (itemsIn rows (now items)) ⌝ }
     ensures { λ r. ⌜ told r ≡ look (now (file .entry)) (wantedOf field (now (name .entry))) (nodesIn count (now (nodes .entry))) (itemsIn rows (now (items .entry))) k ⌝ }
 {
     let from = first_row(nodes, count, k, rows);
@@ -166,7 +166,7 @@ fn climb(
     field: Field,
     name: &[u8],
 ) -> Found
-    requires { ⌜ (count * 12 ≤ length (now nodes)) × (rows * 10 ≤ length (now items)) × (k < count) × AllNamed (length (now file)) (itemsIn rows (now items)) ⌝ }
+    requires { ⌜ (count * 13 ≤ length (now nodes)) × (rows * 10 ≤ length (now items)) × (k < count) × AllNamed (length (now file)) (itemsIn rows (now items)) ⌝ }
     ensures { λ r. ⌜ told r ≡ nearest (now (file .entry)) (wantedOf field (now (name .entry))) (nodesIn count (now (nodes .entry))) (itemsIn rows (now (items .entry))) k ⌝ }
 {
     match look(file, nodes, items, count, rows, k, field, name) {

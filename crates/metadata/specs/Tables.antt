@@ -12,14 +12,14 @@ use Rattle.metadata.specs.declared.Made.{Made}
 -- ---- rows as words
 
 abbrev pub nodeWidth : ℕ
-nodeWidth = 12
+nodeWidth = 13
 
 abbrev pub itemWidth : ℕ
 itemWidth = 10
 
 abbrev pub nodeWords : Node → List ℕ
 nodeWords r =
-    r .start ∷ r .size ∷ r .header ∷ r .held ∷ r .parent ∷ r .depth ∷ r .reference ∷ r .target ∷ r .extent ∷ r .unpackers ∷ r .layers ∷ r .rows ∷ []
+    r .start ∷ r .size ∷ r .header ∷ r .held ∷ r .parent ∷ r .depth ∷ r .reference ∷ r .target ∷ r .extent ∷ r .unpackers ∷ r .layers ∷ r .rows ∷ r .detached ∷ []
 
 abbrev pub itemWords : Item → List ℕ
 itemWords r = r .node ∷ r .item ∷ r .kind ∷ r .field ∷ r .named ∷ r .version ∷ r .declared ∷ r .format ∷ r .place ∷ r .size ∷ []

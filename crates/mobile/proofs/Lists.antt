@@ -36,10 +36,10 @@ module _ {A : Type 0} (p : A → Bool) (xs : List A) (i : ℕ) {whole : Bool} wh
 
 -- the same over the rows of a table
 module _ (p : Node → Bool) (ws : List ℕ) (n i : ℕ) {whole : Bool} (h : whole ≡ all p (drop i (nodesIn n ws))) where
-  pub nodes-no : i < n → p (nodeFrom ws (i * 12)) ≡ false → false ≡ whole
+  pub nodes-no : i < n → p (nodeFrom ws (i * 13)) ≡ false → false ≡ whole
   nodes-no l e = all-no p _ i h noNode (omega (arith, nodes-in-length ws n)) (ap p (node-at ws n i l) ∙ e)
 
-  pub nodes-on : i < n → p (nodeFrom ws (i * 12)) ≡ true → whole ≡ all p (drop (i + 1) (nodesIn n ws))
+  pub nodes-on : i < n → p (nodeFrom ws (i * 13)) ≡ true → whole ≡ all p (drop (i + 1) (nodesIn n ws))
   nodes-on l e = all-on p _ i h noNode (omega (arith, nodes-in-length ws n)) (ap p (node-at ws n i l) ∙ e)
 
   pub nodes-yes : n ≤ i → true ≡ whole

@@ -34,11 +34,11 @@ module _ (ws : List ℕ) (n i at most : ℕ) where
       let e : nodeAt (nodesIn n ws) i .rows ≡ 0 = ap (λ (r : Node). r .rows) (beyond (nodesIn n ws) i noNode (omega (arith, nodes-in-length ws n))) in
       omega arith
 
-  pub end-most : i < n → most - at ≤ getD ws (i * 12 + 11) 0 → at ≤ most → most ≡ min (at + nodeAt (nodesIn n ws) i .rows) most
-  end-most l h k = let e : nodeAt (nodesIn n ws) i .rows ≡ getD ws (i * 12 + 11) 0 = ap (λ (r : Node). r .rows) (node-at ws n i l) in omega arith
+  pub end-most : i < n → most - at ≤ getD ws (i * 13 + 11) 0 → at ≤ most → most ≡ min (at + nodeAt (nodesIn n ws) i .rows) most
+  end-most l h k = let e : nodeAt (nodesIn n ws) i .rows ≡ getD ws (i * 13 + 11) 0 = ap (λ (r : Node). r .rows) (node-at ws n i l) in omega arith
 
-  pub end-row : i < n → getD ws (i * 12 + 11) 0 < most - at → at ≤ most → at + getD ws (i * 12 + 11) 0 ≡ min (at + nodeAt (nodesIn n ws) i .rows) most
-  end-row l h k = let e : nodeAt (nodesIn n ws) i .rows ≡ getD ws (i * 12 + 11) 0 = ap (λ (r : Node). r .rows) (node-at ws n i l) in omega arith
+  pub end-row : i < n → getD ws (i * 13 + 11) 0 < most - at → at ≤ most → at + getD ws (i * 13 + 11) 0 ≡ min (at + nodeAt (nodesIn n ws) i .rows) most
+  end-row l h k = let e : nodeAt (nodesIn n ws) i .rows ≡ getD ws (i * 13 + 11) 0 = ap (λ (r : Node). r .rows) (node-at ws n i l) in omega arith
 
 -- ---- one row of field 3
 

@@ -45,7 +45,7 @@ fn right_edition(version: u64, kind: u64, revision: u64) -> bool
 
 // Whether the root is a folder and all others are file nodes.
 fn files_only(nodes: &[u64], many: usize) -> bool
-    requires { ⌜ many * 12 ≤ length (now nodes) ⌝ }
+    requires { ⌜ many * 13 ≤ length (now nodes) ⌝ }
     ensures { λ r. ⌜ r ≡ filesOnly (nodesIn many (now (nodes .entry))) ⌝ }
 {
     if many == 0 {
@@ -75,7 +75,7 @@ fn is_plain(reference: u64) -> bool
 
 // Whether every node uses reference 1 or 2.
 fn plain_references(nodes: &[u64], many: usize) -> bool
-    requires { ⌜ many * 12 ≤ length (now nodes) ⌝ }
+    requires { ⌜ many * 13 ≤ length (now nodes) ⌝ }
     ensures { λ r. ⌜ r ≡ plainReferences (nodesIn many (now (nodes .entry))) ⌝ }
 {
     let mut i = 0;
@@ -90,7 +90,7 @@ fn plain_references(nodes: &[u64], many: usize) -> bool
 
 // Whether no node has unpackers.
 fn no_unpackers(nodes: &[u64], many: usize) -> bool
-    requires { ⌜ many * 12 ≤ length (now nodes) ⌝ }
+    requires { ⌜ many * 13 ≤ length (now nodes) ⌝ }
     ensures { λ r. ⌜ r ≡ noUnpackers (nodesIn many (now (nodes .entry))) ⌝ }
 {
     let mut i = 0;
@@ -105,7 +105,7 @@ fn no_unpackers(nodes: &[u64], many: usize) -> bool
 
 // Where the own item rows of node row i end, which begin at `at`; the item table has `most` rows.
 fn own_end(nodes: &[u64], many: usize, i: usize, at: usize, most: usize) -> usize
-    requires { ⌜ (many * 12 ≤ length (now nodes)) × (at ≤ most) ⌝ }
+    requires { ⌜ (many * 13 ≤ length (now nodes)) × (at ≤ most) ⌝ }
     ensures { λ r. ⌜ r ≡ min (at + nodeAt (nodesIn many (now (nodes .entry))) i .rows) most ⌝ }
 {
     if many <= i {
@@ -225,7 +225,7 @@ fn role_of(file: &[u8], items: &[u64], many: usize, at: usize, end: usize) -> u6
 
 // How many children are this; n node rows and m item rows.
 fn count_of(file: &[u8], nodes: &[u64], items: &[u64], n: usize, m: usize, role: u64) -> usize
-    requires { ⌜ (n * 12 ≤ length (now nodes)) × (m * 10 ≤ length (now items)) × DataIn (length (now file)) (itemsIn m (now items)) ⌝ }
+    requires { ⌜ (n * 13 ≤ length (now nodes)) × (m * 10 ≤ length (now items)) × DataIn (length (now file)) (itemsIn m (now items)) ⌝ }
     ensures { λ r. ⌜ r ≡ count role (childRoles (now (file .entry)) (nodesIn n (now (nodes .entry))) (itemsIn m (now (items .entry)))) ⌝ }
 {
     let mut found: usize = 0;
@@ -244,7 +244,7 @@ fn count_of(file: &[u8], nodes: &[u64], items: &[u64], n: usize, m: usize, role:
 
 // The row of the first child that is this; n node rows and m item rows.
 fn row_of(file: &[u8], nodes: &[u64], items: &[u64], n: usize, m: usize, role: u64) -> usize
-    requires { ⌜ (n * 12 ≤ length (now nodes)) × (m * 10 ≤ length (now items)) × DataIn (length (now file)) (itemsIn m (now items)) ⌝ }
+    requires { ⌜ (n * 13 ≤ length (now nodes)) × (m * 10 ≤ length (now items)) × DataIn (length (now file)) (itemsIn m (now items)) ⌝ }
     ensures { λ r. ⌜ r ≡ rowOf role 1 (childRoles (now (file .entry)) (nodesIn n (now (nodes .entry))) (itemsIn m (now (items .entry)))) ⌝ }
 {
     let mut at = own_end(nodes, n, 0, 0, m);
@@ -262,7 +262,7 @@ fn row_of(file: &[u8], nodes: &[u64], items: &[u64], n: usize, m: usize, role: u
 
 // Whether each child has one type of its own, 0, 1 or 5.
 fn children_typed(file: &[u8], nodes: &[u64], items: &[u64], n: usize, m: usize) -> bool
-    requires { ⌜ (n * 12 ≤ length (now nodes)) × (m * 10 ≤ length (now items)) × DataIn (length (now file)) (itemsIn m (now items)) ⌝ }
+    requires { ⌜ (n * 13 ≤ length (now nodes)) × (m * 10 ≤ length (now items)) × DataIn (length (now file)) (itemsIn m (now items)) ⌝ }
     ensures { λ r. ⌜ r ≡ childrenTyped (now (file .entry)) (nodesIn n (now (nodes .entry))) (itemsIn m (now (items .entry))) ⌝ }
 {
     count_of(file, nodes, items, n, m, NOTHING) == 0
@@ -270,7 +270,7 @@ fn children_typed(file: &[u8], nodes: &[u64], items: &[u64], n: usize, m: usize)
 
 // Whether there is one tune, and at most one bank, which is earlier.
 fn one_tune(file: &[u8], nodes: &[u64], items: &[u64], n: usize, m: usize) -> bool
-    requires { ⌜ (n * 12 ≤ length (now nodes)) × (m * 10 ≤ length (now items)) × DataIn (length (now file)) (itemsIn m (now items)) ⌝ }
+    requires { ⌜ (n * 13 ≤ length (now nodes)) × (m * 10 ≤ length (now items)) × DataIn (length (now file)) (itemsIn m (now items)) ⌝ }
     ensures { λ r. ⌜ r ≡ oneTune (now (file .entry)) (nodesIn n (now (nodes .entry))) (itemsIn m (now (items .entry))) ⌝ }
 {
     let tunes = count_of(file, nodes, items, n, m, TUNE);
@@ -320,7 +320,7 @@ fn all_needs(items: &[u64], many: usize, row: u64) -> bool
 
 // Whether field 13 is on the tune, and there only.
 fn tune_needs(file: &[u8], nodes: &[u64], items: &[u64], n: usize, m: usize) -> bool
-    requires { ⌜ (n * 12 ≤ length (now nodes)) × (m * 10 ≤ length (now items)) × DataIn (length (now file)) (itemsIn m (now items)) ⌝ }
+    requires { ⌜ (n * 13 ≤ length (now nodes)) × (m * 10 ≤ length (now items)) × DataIn (length (now file)) (itemsIn m (now items)) ⌝ }
     ensures { λ r. ⌜ r ≡ tuneNeeds (now (file .entry)) (nodesIn n (now (nodes .entry))) (itemsIn m (now (items .entry))) ⌝ }
 {
     let first = next_row(items, m, 13, 0, m);
@@ -333,7 +333,7 @@ fn tune_needs(file: &[u8], nodes: &[u64], items: &[u64], n: usize, m: usize) -> 
 
 // Whether every header length is at most 65,535.
 fn short_headers(nodes: &[u64], many: usize) -> bool
-    requires { ⌜ many * 12 ≤ length (now nodes) ⌝ }
+    requires { ⌜ many * 13 ≤ length (now nodes) ⌝ }
     ensures { λ r. ⌜ r ≡ all isShort (nodesIn many (now (nodes .entry))) ⌝ }
 {
     let mut i = 0;
@@ -374,7 +374,7 @@ fn small_items(items: &[u64], many: usize) -> bool
 
 // Whether header lengths, field numbers and name lengths are small enough.
 fn small_fields(nodes: &[u64], items: &[u64], n: usize, m: usize) -> bool
-    requires { ⌜ (n * 12 ≤ length (now nodes)) × (m * 10 ≤ length (now items)) ⌝ }
+    requires { ⌜ (n * 13 ≤ length (now nodes)) × (m * 10 ≤ length (now items)) ⌝ }
     ensures { λ r. ⌜ r ≡ smallFields (nodesIn n (now (nodes .entry))) (itemsIn m (now (items .entry))) ⌝ }
 {
     if !short_headers(nodes, n) {
@@ -385,7 +385,7 @@ fn small_fields(nodes: &[u64], items: &[u64], n: usize, m: usize) -> bool
 
 // The number of the first check that fails, 0 if none.
 fn verdict(file: &[u8], nodes: &[u64], items: &[u64], s: Summary) -> u64
-    requires { ⌜ (s .nodes * 12 ≤ length (now nodes)) × (s .items * 10 ≤ length (now items)) × DataIn (length (now file)) (itemsIn (s .items) (now items)) ⌝ }
+    requires { ⌜ (s .nodes * 13 ≤ length (now nodes)) × (s .items * 10 ≤ length (now items)) × DataIn (length (now file)) (itemsIn (s .items) (now items)) ⌝ }
     ensures { λ r. ⌜ ((h : Header) → s ≡ summary h (nodesIn (s .nodes) (now (nodes .entry))) (itemsIn (s .items) (now (items .entry))) → r ≡ verdict (now (file .entry)) h (nodesIn (s .nodes) (now (nodes .entry))) (itemsIn (s .items) (now (items .entry)))) ⌝ }
 {
     let edition = s.edition;

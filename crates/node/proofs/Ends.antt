@@ -17,6 +17,7 @@ use Rattle.metadata.specs.Metadata.{Context, metadata}
 use Rattle.metadata.specs.declared.Made.{Made}
 use Rattle.metadata.proofs.Ends.{OfNames, Nothing, inside-free, Inside, Since, metadata-on}
 use Rattle.node.specs.Node.{headerLength, head, value, identifier, unpacker, entries, unpackers, resource, nodePlace, uriPlace, target, reference, Rest, rest, front}
+use Rattle.node.specs.declared.Standing.{Standing}
 use Rattle.node.specs.declared.Head.{Head}
 use Rattle.node.specs.declared.Unpackers.{Unpackers}
 use Rattle.node.specs.declared.Reference.{Reference}
@@ -34,13 +35,13 @@ module _ (N : OfNames) (top size : ℕ) where
       (wp-after (number-on _ _ (p + n) at) λ header q x.
       wp-place _ q (wp-check _ _ λ t. wp-check _ _ λ u. wp-ret (omega arith, leb-true q (p + header) u, leb-true header n t, refl, refl)))
 
-  pub head-on : (least end at : ℕ) → Wp (Inside N top size) (head least end) (λ h q. (at < q) × (q ≤ at + h .header) × (h .header ≤ h .size) × (at + h .size ≤ end) × (least ≤ at + h .size)) at
+  pub head-on : (s : Standing) (at : ℕ) → Wp (Inside N top size) (head s) (λ h q. (at < q) × (q ≤ at + h .header) × (h .header ≤ h .size) × (at + h .size ≤ s .end .0) × (s .least .0 ≤ at + h .size) × (at + h .size ≤ s .taken .0)) at
   unfolding head
-  head-on least end at =
+  head-on s at =
       wp-place _ at
-      (wp-after (number-on _ _ end at) λ n p x. wp-check _ _ λ t. wp-check _ _ λ u.
-      wp-after (number-on _ _ (at + n) p) λ held q y.
-      wp-weaken (header-length-on at n held q) (λ h r z. (omega arith, omega arith, omega arith, omega (arith, leb-true (at + n) end t), omega (arith, leb-true least (at + n) u))))
+      (wp-after (number-on _ _ (s .end .0) at) λ n p x. wp-check _ _ λ t. wp-check _ _ λ u. wp-check _ _ λ v.
+      wp-after (number-on _ _ (at + n) p) λ held q y. wp-check _ _ λ w.
+      wp-weaken (header-length-on at n held q) (λ h r z. (omega arith, omega arith, omega arith, omega (arith, leb-true (at + n) (s .end .0) t), omega (arith, leb-true (s .least .0) (at + n) u), omega (arith, leb-true (at + n) (s .taken .0) v))))
 
   value-on : (end at : ℕ) → Wp (Inside N top size) (value end) (λ _ q. (at < q) × (q ≤ end)) at
   unfolding value
@@ -100,26 +101,28 @@ module _ (N : OfNames) (top size : ℕ) where
 -- ---- the whole
 
 -- what is known of a node up to its contents: the row's places lie in the node, the node in its holder
-pub record FrontIn (x : Context) (least end : ℕ) (m : Made) (at : ℕ) (w : Front) (q : ℕ) : Type 0 where
+pub record FrontIn (x : Context) (s : Standing) (m : Made) (at : ℕ) (w : Front) (q : ℕ) : Type 0 where
   pub nodes : w .made .nodes ≡ m .nodes
   pub items : m .items ≤ w .made .items
   pub moves : at < q
   pub inside : q ≤ at + w .row .size
-  pub within : at + w .row .size ≤ end
-  pub least-is : least ≤ at + w .row .size
+  pub within : at + w .row .size ≤ s .end .0
+  pub least-is : s .least .0 ≤ at + w .row .size
+  pub taken-is : at + w .row .size ≤ s .taken .0
+  pub detached-is : w .row .detached ≡ s .detached
   pub start : w .row .start ≡ at
   pub header : w .row .header ≤ w .row .size
   pub leads : (w .row .reference ≡ 3) ⊎ (w .row .target + w .row .extent ≤ x .size)
 
-pub front-on : (N : OfNames) (top : ℕ) (x : Context) (parent depth least end : ℕ) (m : Made) (at : ℕ) → end ≤ top → end ≤ x .size
-    → Wp (Inside N top (x .size)) (front x parent depth least end m) (FrontIn x least end m at) at
+pub front-on : (N : OfNames) (top : ℕ) (x : Context) (parent depth : ℕ) (s : Standing) (m : Made) (at : ℕ) → s .end .0 ≤ top → s .end .0 ≤ x .size
+    → Wp (Inside N top (x .size)) (front x parent depth s m) (FrontIn x s m at) at
 unfolding front
-front-on N top x parent depth least end m at o i =
+front-on N top x parent depth s m at o i =
     let size = x .size in
     wp-place _ at
-    (wp-after (head-on N top size least end at) λ h p y.
+    (wp-after (head-on N top size s at) λ h p y.
     wp-after (metadata-on N top size x (m .nodes) (at + h .header) (omega arith) m p) λ m′ q z.
-    wp-after (rest-on N top size (x .first) (h .held) (at + h .header) (at + h .size) q (omega arith) (omega arith)) λ r s w.
+    wp-after (rest-on N top size (x .first) (h .held) (at + h .header) (at + h .size) q (omega arith) (omega arith)) λ r v w.
     wp-ret (record {
       nodes = z .0 .0;
       items = z .0 .1;
@@ -127,6 +130,8 @@ front-on N top x parent depth least end m at o i =
       inside = w .1;
       within = y .3;
       least-is = y .4;
+      taken-is = y .5;
+      detached-is = refl;
       start = refl;
       header = y .2;
       leads = w .2;
@@ -134,13 +139,13 @@ front-on N top x parent depth least end m at o i =
 
 -- ---- the same of a run that is known
 
-pub head-inside : (least end : ℕ) (s : List ℕ) (at : ℕ) {h : Head} {p : ℕ} → run (head least end) s at ≡ ok h p
-    → (at < p) × (p ≤ at + h .header) × (h .header ≤ h .size) × (at + h .size ≤ end)
-head-inside least end s at e = let w = at-end (inside-free end end) s (head-on Nothing end end least end at) e in (w .0, w .1, w .2, w .3)
+pub head-inside : (z : Standing) (s : List ℕ) (at : ℕ) {h : Head} {p : ℕ} → run (head z) s at ≡ ok h p
+    → (at < p) × (p ≤ at + h .header) × (h .header ≤ h .size) × (at + h .size ≤ z .end .0)
+head-inside z s at e = let w = at-end (inside-free 0 0) s (head-on Nothing 0 0 z at) e in (w .0, w .1, w .2, w .3)
 
 pub metadata-since : (x : Context) (node end : ℕ) (m : Made) (s : List ℕ) (at : ℕ) (σ : State) {m′ : Made} {τ : State} {p : ℕ} → exec put (metadata x node end m) s at σ ≡ ok (m′, τ) p → Since m m′
 metadata-since x node end m s at σ e = at-end (inside-free end end) s (metadata-on Nothing end end x node end (omega arith) m at) (ran put _ s at σ e) .0
 
-pub front-inside : (x : Context) (parent depth least end : ℕ) (m : Made) (s : List ℕ) (at : ℕ) (σ : State) → end ≤ x .size → {w : Front} {τ : State} {p : ℕ}
-    → exec put (front x parent depth least end m) s at σ ≡ ok (w, τ) p → FrontIn x least end m at w p
-front-inside x parent depth least end m s at σ i e = at-end (inside-free end (x .size)) s (front-on Nothing end x parent depth least end m at (omega arith) i) (ran put _ s at σ e)
+pub front-inside : (x : Context) (parent depth : ℕ) (z : Standing) (m : Made) (s : List ℕ) (at : ℕ) (σ : State) → z .end .0 ≤ x .size → {w : Front} {τ : State} {p : ℕ}
+    → exec put (front x parent depth z m) s at σ ≡ ok (w, τ) p → FrontIn x z m at w p
+front-inside x parent depth z m s at σ i e = at-end (inside-free (z .end .0) (x .size)) s (front-on Nothing (z .end .0) x parent depth z m at (omega arith) i) (ran put _ s at σ e)

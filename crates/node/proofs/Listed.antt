@@ -6,6 +6,7 @@ use Rattle.cursor.proofs.Listed.{Listed, after, ends, either, checks, places, p
 use Rattle.metadata.specs.Metadata.{Context}
 use Rattle.metadata.specs.declared.Made.{Made}
 use Rattle.metadata.proofs.Listed.{metadata-listed}
+use Rattle.node.specs.declared.Standing.{Standing}
 use Rattle.node.specs.Node.{headerLength, head, value, identifier, unpacker, entries, unpackers, resource, nodePlace, uriPlace, target, reference, rest, front}
 
 header-length-listed : (p size held : ℕ) → Listed (headerLength p size held)
@@ -14,12 +15,12 @@ header-length-listed p size held =
     places λ h. after (number-listed _ _ _ (omega arith, omega arith)) λ header. places λ q.
     checks _ _ _ (omega arith, omega arith) (checks _ _ _ (omega arith, omega arith) ends)
 
-head-listed : (least end : ℕ) → Listed (head least end)
+head-listed : (s : Standing) → Listed (head s)
 unfolding head
-head-listed least end =
+head-listed s =
     places λ p. after (number-listed _ _ _ (omega arith, omega arith)) λ size.
-    checks _ _ _ (omega arith, omega arith) (checks _ _ _ (omega arith, omega arith)
-    (after (number-listed _ _ _ (omega arith, omega arith)) λ held. header-length-listed p size held))
+    checks _ _ _ (omega arith, omega arith) (checks _ _ _ (omega arith, omega arith) (checks _ _ _ (omega arith, omega arith)
+    (after (number-listed _ _ _ (omega arith, omega arith)) λ held. checks _ _ _ (omega arith, omega arith) (header-length-listed p size held))))
 
 value-listed : (end : ℕ) → Listed (value end)
 unfolding value
@@ -62,9 +63,9 @@ unfolding rest
 rest-listed first size held inner stop =
     after (unpackers-listed held inner) λ u. places λ e. checks _ _ _ (omega arith, omega arith) (after (reference-listed first size held stop) λ r. ends)
 
-pub front-listed : (x : Context) (parent depth least end : ℕ) (m : Made) → Listed (front x parent depth least end m)
+pub front-listed : (x : Context) (parent depth : ℕ) (s : Standing) (m : Made) → Listed (front x parent depth s m)
 unfolding front
-front-listed x parent depth least end m =
-    places λ p. after (head-listed least end) λ h.
+front-listed x parent depth s m =
+    places λ p. after (head-listed s) λ h.
     after (metadata-listed x (m .nodes) (p + h .header) m) λ m′.
     after (rest-listed (x .first) (x .size) (h .held) (p + h .header) (p + h .size)) λ o. ends

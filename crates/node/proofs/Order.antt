@@ -8,16 +8,17 @@ use Rattle.cursor.proofs.Order.{Orders, Rowless, Same, after, weaken, ends, eit
 use Rattle.metadata.specs.Metadata.{Context}
 use Rattle.metadata.specs.declared.Made.{Made}
 use Rattle.metadata.proofs.Order.{metadata-orders}
+use Rattle.node.specs.declared.Standing.{Standing}
 use Rattle.node.specs.Node.{headerLength, head, value, identifier, unpacker, entries, unpackers, resource, nodePlace, uriPlace, target, reference, rest, front}
 
 header-length-rowless : (p size held : ℕ) → Rowless (headerLength p size held)
 unfolding headerLength
 header-length-rowless p size held k c = places λ h. then-rowless (number-rowless _ _ _) λ header. places λ q. checks _ _ _ (checks _ _ _ (ends (refl, refl)))
 
-head-rowless : (least end : ℕ) → Rowless (head least end)
+head-rowless : (s : Standing) → Rowless (head s)
 unfolding head
-head-rowless least end k c =
-    places λ p. then-rowless (number-rowless _ _ _) λ size. checks _ _ _ (checks _ _ _ (then-rowless (number-rowless _ _ _) λ held. header-length-rowless p size held k c))
+head-rowless s k c =
+    places λ p. then-rowless (number-rowless _ _ _) λ size. checks _ _ _ (checks _ _ _ (checks _ _ _ (then-rowless (number-rowless _ _ _) λ held. checks _ _ _ (header-length-rowless p size held k c))))
 
 value-rowless : (end : ℕ) → Rowless (value end)
 unfolding value
@@ -58,11 +59,11 @@ unfolding rest
 rest-rowless first size held inner stop k c =
     then-rowless (unpackers-rowless held inner) λ u. places λ e. checks _ _ _ (then-rowless (reference-rowless first size held stop) λ r. ends (refl, refl))
 
-pub front-orders : (x : Context) (parent depth least end : ℕ) (m : Made) → Orders (front x parent depth least end m)
+pub front-orders : (x : Context) (parent depth : ℕ) (s : Standing) (m : Made) → Orders (front x parent depth s m)
     (λ w k c. (k ≡ m .nodes) × (w .made .nodes ≡ m .nodes) × (w .row .rows ≡ c) × (w .row .parent ≡ parent)) (m .nodes) 0
 unfolding front
-front-orders x parent depth least end m =
-    places λ p. then-rowless (head-rowless least end) λ h.
+front-orders x parent depth s m =
+    places λ p. then-rowless (head-rowless s) λ h.
     after (metadata-orders x (m .nodes) (p + h .header) m (m .nodes) 0 refl) λ m′ k c i.
     then-rowless (rest-rowless (x .first) (x .size) (h .held) (p + h .header) (p + h .size)) λ o.
     ends (i .0, i .1, omega arith, refl)

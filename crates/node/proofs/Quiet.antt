@@ -7,6 +7,7 @@ use Rattle.cursor.specs.Machine.{run, exec}
 use Rattle.cursor.specs.Rows.{P}
 use Rattle.cursor.proofs.Quiet.{Quiet, still, quiet-bind, quiet-if, quiet-ret, quiet-place, quiet-check, quiet-skip, quiet-many, number-quiet, block-quiet, manufacturer-quiet, guid-quiet}
 use Rattle.metadata.specs.Tables.{State, put}
+use Rattle.node.specs.declared.Standing.{Standing}
 use Rattle.node.specs.Node.{headerLength, head, value, identifier, unpacker, entries, unpackers, resource, nodePlace, uriPlace, target, reference, rest}
 
 header-length-quiet : (p size held : ℕ) → Quiet put (headerLength p size held)
@@ -14,11 +15,11 @@ unfolding headerLength
 header-length-quiet p size held =
     quiet-bind quiet-place λ h. quiet-bind (number-quiet _ _ _) λ header. quiet-bind quiet-place λ q. quiet-check _ _ _ (quiet-check _ _ _ quiet-ret)
 
-head-quiet : (least end : ℕ) → Quiet put (head least end)
+head-quiet : (s : Standing) → Quiet put (head s)
 unfolding head
-head-quiet least end =
+head-quiet s =
     quiet-bind quiet-place λ p. quiet-bind (number-quiet _ _ _) λ size.
-    quiet-check _ _ _ (quiet-check _ _ _ (quiet-bind (number-quiet _ _ _) λ held. header-length-quiet p size held))
+    quiet-check _ _ _ (quiet-check _ _ _ (quiet-check _ _ _ (quiet-bind (number-quiet _ _ _) λ held. quiet-check _ _ _ (header-length-quiet p size held))))
 
 value-quiet : (end : ℕ) → Quiet put (value end)
 unfolding value
@@ -68,8 +69,8 @@ unfolding rest
 rest-quiet first size held inner stop =
     quiet-bind (unpackers-quiet held inner) λ u. quiet-bind quiet-place λ e. quiet-check _ _ _ (quiet-bind (reference-quiet first size held stop) λ r. quiet-ret)
 
-pub exec-head : (least end : ℕ) (f : List ℕ) (at : ℕ) (σ : State) → exec put (head least end) f at σ ≡ still (run (head least end) f at) σ
-exec-head least end = head-quiet least end .quiet
+pub exec-head : (s : Standing) (f : List ℕ) (at : ℕ) (σ : State) → exec put (head s) f at σ ≡ still (run (head s) f at) σ
+exec-head s = head-quiet s .quiet
 
 pub exec-rest : (first size held inner stop : ℕ) (f : List ℕ) (at : ℕ) (σ : State) → exec put (rest first size held inner stop) f at σ ≡ still (run (rest first size held inner stop) f at) σ
 exec-rest first size held inner stop = rest-quiet first size held inner stop .quiet

@@ -1,13 +1,14 @@
 -- The ways through a node up to its contents: what each exit of the code comes to.
 -- Assumes nothing.
 use mathlib.Core.Path.{_≡_, refl, sym, ap, _∙_, subst}
-use mathlib.Core.Bool.{Bool, true, false, _||_}
+use mathlib.Core.Bool.{Bool, true, false, not, _||_}
+use lib.Dec.{eqb}
 use mathlib.Core.Logic.{_⊎_, inl, inr}
 use mathlib.Core.List.{List, [], _∷_}
 use Prim.Native.Nat.{ℕ, zero, suc, _+_, _-_, _*_, _≤_, _<_}
 use native.Mathlib.Omega.{arith}
 use lib.ListN.{length}
-use borrow.Author.Tests.{lt-ltb, le-ltb, le-leb, lt-leb, eq-eqb, ne-eqb}
+use borrow.Author.Tests.{lt-ltb, le-ltb, le-leb, lt-leb, eq-eqb, ne-eqb, not-false, not-true}
 use Rattle.cursor.specs.Machine.{Out, ok, refused, run, exec, turns, many}
 use Rattle.cursor.specs.Rows.{P, nodeFrame, unpackFrame, referenceFrame}
 use Rattle.cursor.specs.Leaves.{number, block, manufacturer, guid}
@@ -26,6 +27,7 @@ use Rattle.metadata.specs.declared.Made.{Made}
 use Rattle.metadata.specs.declared.Limits.{Limits}
 use Rattle.node.specs.Node.{headerLength, head, value, identifier, unpacker, entries, unpackers, resource, nodePlace, uriPlace, target, reference, Rest, rest, rowOf, front}
 use Rattle.node.specs.Told.{unpackerTold, frontTold, FrontFits, Fronts}
+use Rattle.node.specs.declared.Standing.{Standing}
 use Rattle.node.specs.declared.Head.{Head}
 use Rattle.node.specs.declared.Unpackers.{Unpackers}
 use Rattle.node.specs.declared.Reference.{Reference}
@@ -56,29 +58,45 @@ module _ (p size held : ℕ) (s : List ℕ) (at : ℕ) {stop : ℕ} (is : stop �
       unfolding headerLength
       header-all l = let e₁′ = rw is at e₁ in simp (running, e₁′, le-leb _ _ l₁, le-leb _ _ l)
 
-module _ (least end : ℕ) (s : List ℕ) (at : ℕ) where
-  pub head-size : {n p : ℕ} → run (number nodeFrame 3 end) s at ≡ refused n p → refused n p ≡ run (head least end) s at
+module _ (z : Standing) (s : List ℕ) (at : ℕ) where
+  pub head-size : {n p : ℕ} → run (number nodeFrame 3 (z .end .0)) s at ≡ refused n p → refused n p ≡ run (head z) s at
   unfolding head
   head-size e = simp (running, e)
 
-  module _ {size p : ℕ} (e₁ : run (number nodeFrame 3 end) s at ≡ ok size p) {stop : ℕ} (is : stop ≡ at + size) where
-    pub head-past : end < stop → refused 8 at ≡ run (head least end) s at
+  module _ {size p : ℕ} (e₁ : run (number nodeFrame 3 (z .end .0)) s at ≡ ok size p) {stop : ℕ} (is : stop ≡ at + size) where
+    pub head-past : z .end .0 < stop → refused 8 at ≡ run (head z) s at
     unfolding head
     head-past l = let l′ = rw is at l in simp (running, e₁, lt-leb _ _ l′)
 
-    module _ (l₁ : stop ≤ end) where
-      pub head-short : stop < least → refused 8 at ≡ run (head least end) s at
+    module _ (l₁ : stop ≤ z .end .0) where
+      pub head-short : stop < z .least .0 → refused 8 at ≡ run (head z) s at
       unfolding head
       head-short l = let l₁′ = rw is at l₁ in let l′ = rw is at l in simp (running, e₁, le-leb _ _ l₁′, lt-leb _ _ l′)
 
-      module _ (l₂ : least ≤ stop) where
-        pub head-held : {n q : ℕ} → run (number nodeFrame 3 stop) s p ≡ refused n q → refused n q ≡ run (head least end) s at
+      module _ (l₂ : z .least .0 ≤ stop) where
+        pub head-meets : z .taken .0 < stop → refused 24 (z .named .0) ≡ run (head z) s at
         unfolding head
-        head-held e = let l₁′ = rw is at l₁ in let l₂′ = rw is at l₂ in let e′ = rw is at e in simp (running, e₁, le-leb _ _ l₁′, le-leb _ _ l₂′, e′)
+        head-meets l = let l₁′ = rw is at l₁ in let l₂′ = rw is at l₂ in let l′ = rw is at l in simp (running, e₁, le-leb _ _ l₁′, le-leb _ _ l₂′, lt-leb _ _ l′)
 
-        pub head-header : {held q : ℕ} → run (number nodeFrame 3 stop) s p ≡ ok held q → {o : Out Head} → o ≡ run (headerLength at size held) s q → o ≡ run (head least end) s at
-        unfolding head
-        head-header e h = let l₁′ = rw is at l₁ in let l₂′ = rw is at l₂ in let e′ = rw is at e in h ∙ simp (running, e₁, le-leb _ _ l₁′, le-leb _ _ l₂′, e′)
+        module _ (l₃ : stop ≤ z .taken .0) where
+          pub head-held : {n q : ℕ} → run (number nodeFrame 3 stop) s p ≡ refused n q → refused n q ≡ run (head z) s at
+          unfolding head
+          head-held e = let l₁′ = rw is at l₁ in let l₂′ = rw is at l₂ in let l₃′ = rw is at l₃ in let e′ = rw is at e in simp (running, e₁, le-leb _ _ l₁′, le-leb _ _ l₂′, le-leb _ _ l₃′, e′)
+
+          module _ {held q : ℕ} (e₂ : run (number nodeFrame 3 stop) s p ≡ ok held q) where
+            pub head-folder : true ≡ not (eqb held 0 || eqb (z .detached) 0) → refused 24 (z .named .0) ≡ run (head z) s at
+            unfolding head
+            head-folder b =
+                let l₁′ = rw is at l₁ in let l₂′ = rw is at l₂ in let l₃′ = rw is at l₃ in let e₂′ = rw is at e₂ in
+                let c : (eqb held 0 || eqb (z .detached) 0) ≡ false = not-true _ (sym b) in
+                simp (running, e₁, le-leb _ _ l₁′, le-leb _ _ l₂′, le-leb _ _ l₃′, e₂′, c)
+
+            pub head-header : false ≡ not (eqb held 0 || eqb (z .detached) 0) → {o : Out Head} → o ≡ run (headerLength at size held) s q → o ≡ run (head z) s at
+            unfolding head
+            head-header b h =
+                let l₁′ = rw is at l₁ in let l₂′ = rw is at l₂ in let l₃′ = rw is at l₃ in let e₂′ = rw is at e₂ in
+                let c : (eqb held 0 || eqb (z .detached) 0) ≡ true = not-false _ (sym b) in
+                h ∙ simp (running, e₁, le-leb _ _ l₁′, le-leb _ _ l₂′, le-leb _ _ l₃′, e₂′, c)
 
 -- ---- unpackers
 
@@ -303,23 +321,23 @@ module _ {lim : Limits} {t u : List ℕ} {o : Out (Front × State)} where
   pub front-yes : {w : Front} {c : Cursor} → ok (w, state t u (w .made)) (c .at .0) ≡ o → (w .made .nodes ≤ lim .nodes) × (w .made .items ≤ lim .items) → Fronts lim (fronted.Is w c) t u o
   front-yes e f = record { answer = e; fits = f }
 
-module _ (x : Context) (parent depth least end : ℕ) (m : Made) (s : List ℕ) (at : ℕ) (σ : State) where
-  pub front-head : {n p : ℕ} → run (head least end) s at ≡ refused n p → refused n p ≡ exec put (front x parent depth least end m) s at σ
+module _ (x : Context) (parent depth : ℕ) (z : Standing) (m : Made) (s : List ℕ) (at : ℕ) (σ : State) where
+  pub front-head : {n p : ℕ} → run (head z) s at ≡ refused n p → refused n p ≡ exec put (front x parent depth z m) s at σ
   unfolding front
   front-head e = simp (executing, exec-head, e)
 
-  module _ {h : Head} {p : ℕ} (e₁ : run (head least end) s at ≡ ok h p) {inner : ℕ} (is : inner ≡ at + h .header) where
-    pub front-metadata : {n q : ℕ} → exec put (metadata x (m .nodes) inner m) s p σ ≡ refused n q → refused n q ≡ exec put (front x parent depth least end m) s at σ
+  module _ {h : Head} {p : ℕ} (e₁ : run (head z) s at ≡ ok h p) {inner : ℕ} (is : inner ≡ at + h .header) where
+    pub front-metadata : {n q : ℕ} → exec put (metadata x (m .nodes) inner m) s p σ ≡ refused n q → refused n q ≡ exec put (front x parent depth z m) s at σ
     unfolding front
     front-metadata e = let e′ = rw is at e in simp (executing, exec-head, e₁, e′)
 
     module _ {m′ : Made} {σ′ : State} {q : ℕ} (e₂ : exec put (metadata x (m .nodes) inner m) s p σ ≡ ok (m′, σ′) q) {stop : ℕ} (is₂ : stop ≡ at + h .size) where
-      pub front-rest : {n r : ℕ} → run (rest (x .first) (x .size) (h .held) inner stop) s q ≡ refused n r → refused n r ≡ exec put (front x parent depth least end m) s at σ
+      pub front-rest : {n r : ℕ} → run (rest (x .first) (x .size) (h .held) inner stop) s q ≡ refused n r → refused n r ≡ exec put (front x parent depth z m) s at σ
       unfolding front
       front-rest e = let e₂′ = rw is at e₂ in let e′ = rw (is, is₂) at e in simp (executing, exec-head, exec-rest, e₁, e₂′, e′)
 
       pub front-all : {o : Rest} {r : ℕ} → run (rest (x .first) (x .size) (h .held) inner stop) s q ≡ ok o r
-          → {row : Node} → row ≡ rowOf at h parent depth (o .reference) (o .unpackers) (m′ .items - m .items)
-          → ok (record { row = row; made = m′ }, σ′) r ≡ exec put (front x parent depth least end m) s at σ
+          → {row : Node} → row ≡ rowOf at h parent depth (z .detached) (o .reference) (o .unpackers) (m′ .items - m .items)
+          → ok (record { row = row; made = m′ }, σ′) r ≡ exec put (front x parent depth z m) s at σ
       unfolding front
       front-all e w = let e₂′ = rw is at e₂ in let e′ = rw (is, is₂) at e in rw w (simp (executing, exec-head, exec-rest, e₁, e₂′, e′))

@@ -5,11 +5,12 @@ use Prim.Native.Nat.{ℕ, _+_, _-_}
 use lib.Dec.{ltb, leb, eqb}
 use Rattle.cursor.specs.Machine.{ret, refuse, _>>=_, _>>_, if_then_else_, place, skip, check, many}
 use Rattle.cursor.specs.Rows.{P, nodeFrame, unpackFrame, referenceFrame, plain, uri}
-use Rattle.cursor.specs.Refusals.{cutShort, badNode, badUnpacker, badReference, badFolder, bytesLeft, badTarget}
+use Rattle.cursor.specs.Refusals.{cutShort, badNode, badUnpacker, badReference, badFolder, bytesLeft, badTarget, badDetached}
 use Rattle.cursor.specs.Leaves.{number, block, manufacturer, guid}
 use Rattle.cursor.specs.declared.Node.{Node}
 use Rattle.metadata.specs.Metadata.{Context, metadata}
 use Rattle.metadata.specs.declared.Made.{Made}
+use Rattle.node.specs.declared.Standing.{Standing}
 use Rattle.node.specs.declared.Head.{Head}
 use Rattle.node.specs.declared.Unpackers.{Unpackers}
 use Rattle.node.specs.declared.Reference.{Reference}
@@ -27,15 +28,25 @@ headerLength p size held = do
   check (leb q (p + header)) badNode h
   ret (record { size = size; held = held; header = header })
 
--- the node may not end past `end`, nor before `least`
-unfoldable pub head : (least end : ℕ) → P Head
-head least end = do
+-- The node may not end past `end`, nor before `least`. A detached one may not end past `taken`, the first byte of another, and is no folder: both are
+-- refused at the number that names it.
+unfoldable pub head : Standing → P Head
+head s = do
   p ← place
-  size ← number nodeFrame cutShort end
-  check (leb (p + size) end) badNode p
-  check (leb least (p + size)) badNode p
+  size ← number nodeFrame cutShort (s .end .0)
+  check (leb (p + size) (s .end .0)) badNode p
+  check (leb (s .least .0) (p + size)) badNode p
+  check (leb (p + size) (s .taken .0)) badDetached (s .named .0)
   held ← number nodeFrame cutShort (p + size)
+  check (eqb held 0 || eqb (s .detached) 0) badDetached (s .named .0)
   headerLength p size held
+
+-- how a node of the tree stands in its holder; how a detached one stands
+abbrev pub inTree : (least end : ℕ) → Standing
+inTree least end = record { least = record { 0 = least }; end = record { 0 = end }; taken = record { 0 = end }; named = record { 0 = 0 }; detached = 0 }
+
+abbrev pub loose : (end taken named : ℕ) → Standing
+loose end taken named = record { least = record { 0 = 0 }; end = record { 0 = end }; taken = record { 0 = taken }; named = record { 0 = named }; detached = 1 }
 
 -- ---- unpackers
 
@@ -140,8 +151,8 @@ rest first size held inner stop = do
   r ← reference first size held stop
   ret (record { unpackers = u; reference = r })
 
-abbrev pub rowOf : ℕ → Head → (parent depth : ℕ) → Reference → Unpackers → ℕ → Node
-rowOf start h parent depth r u rows = record {
+abbrev pub rowOf : ℕ → Head → (parent depth detached : ℕ) → Reference → Unpackers → ℕ → Node
+rowOf start h parent depth detached r u rows = record {
   start = start;
   size = h .size;
   header = h .header;
@@ -154,13 +165,14 @@ rowOf start h parent depth r u rows = record {
   unpackers = u .place .0;
   layers = u .count;
   rows = rows;
+  detached = detached;
 }
 
 -- a node up to its contents: the rows of its items are made, and its own row is known
-unfoldable pub front : Context → (parent depth least end : ℕ) → Made → P Front
-front x parent depth least end m = do
+unfoldable pub front : Context → (parent depth : ℕ) → Standing → Made → P Front
+front x parent depth s m = do
   p ← place
-  h ← head least end
+  h ← head s
   m′ ← metadata x (m .nodes) (p + h .header) m
   o ← rest (x .first) (x .size) (h .held) (p + h .header) (p + h .size)
-  ret (record { row = rowOf p h parent depth (o .reference) (o .unpackers) (m′ .items - m .items); made = m′ })
+  ret (record { row = rowOf p h parent depth (s .detached) (o .reference) (o .unpackers) (m′ .items - m .items); made = m′ })

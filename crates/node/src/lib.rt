@@ -1,6 +1,8 @@
 // A node up to its contents: its three numbers, metadata, unpackers, reference.
 ghost use mathlib.Core.Path.{_≡_};
+ghost use mathlib.Core.Bool.{not, _||_};
 ghost use mathlib.Core.List.{List};
+ghost use lib.Dec.{eqb};
 ghost use Prim.Native.Nat.{ℕ, _≤_, _<_, _+_, _*_, _^_};
 ghost use lib.ListN.{length};
 ghost use Rattle.cursor.specs.Machine.{run, exec, many};
@@ -18,6 +20,16 @@ use cursor::Passed;
 use metadata::Made;
 use metadata::Rowed;
 use metadata::Scope;
+
+// How a node stands: it ends at or before `end` and not before `least`. A detached one ends at or before `taken`, where another
+// begins, and `named` is the place of the number that names it.
+pub struct Standing {
+    pub least: FilePlace,
+    pub end: FilePlace,
+    pub taken: FilePlace,
+    pub named: FilePlace,
+    pub detached: u64,
+}
 
 // What a node starts with: its length, the number of nodes that it holds, its header's length.
 pub struct Head {
@@ -71,12 +83,26 @@ pub enum Fronted {
     Refused(u64, FilePlace),
 }
 
-// NodeLength, NodeContainedItems and NodeHeaderLength of a node that ends at or before `end` and not before `least`.
-fn read_head(c: Cursor, file: &[u8], least: FilePlace, end: FilePlace) -> Headed
-    requires { ⌜ (end .0 ≤ length (now file)) × (length (now file) < 2 ^ 28) ⌝ }
-    ensures { λ r. ⌜ headTold r ≡ run (head (least .0) (end .0)) (now (file .entry)) (c .at .0) ⌝ }
+// Whether a node that holds so many is a folder and detached.
+fn is_loose_folder(held: u64, detached: u64) -> bool
+    ensures { λ r. ⌜ r ≡ not (eqb held 0 || eqb detached 0) ⌝ }
+{
+    if held == 0 {
+        return false;
+    }
+    detached != 0
+}
+
+// NodeLength, NodeContainedItems and NodeHeaderLength of a node that stands so.
+fn read_head(c: Cursor, file: &[u8], s: Standing) -> Headed
+    requires { ⌜ (s .end .0 ≤ length (now file)) × (length (now file) < 2 ^ 28) ⌝ }
+    ensures { λ r. ⌜ headTold r ≡ run (head s) (now (file .entry)) (c .at .0) ⌝ }
 {
     let start = c.at;
+    let end = s.end;
+    let least = s.least;
+    let taken = s.taken;
+    let named = s.named;
     match c.number(file, end, cursor::CUT_SHORT) {
         Numbered::Refused(n, p) => Headed::Refused(n, p),
         Numbered::Is(size, d) => {
@@ -87,9 +113,17 @@ fn read_head(c: Cursor, file: &[u8], least: FilePlace, end: FilePlace) -> Headed
             if stop.0 < least.0 {
                 return Headed::Refused(cursor::BAD_NODE, start);
             }
+            if taken.0 < stop.0 {
+                return Headed::Refused(cursor::BAD_DETACHED, named);
+            }
             match d.number(file, stop, cursor::CUT_SHORT) {
                 Numbered::Refused(n, p) => Headed::Refused(n, p),
-                Numbered::Is(held, e) => read_header_length(e, file, start, size, held),
+                Numbered::Is(held, e) => {
+                    if is_loose_folder(held, s.detached) {
+                        return Headed::Refused(cursor::BAD_DETACHED, named);
+                    }
+                    read_header_length(e, file, start, size, held)
+                }
             }
         }
     }
@@ -355,11 +389,12 @@ fn row_of(
     h: Head,
     parent: usize,
     depth: usize,
+    detached: u64,
     r: Reference,
     u: Unpackers,
     rows: usize,
 ) -> Node
-    ensures { λ n. ⌜ n ≡ rowOf (start .0) h parent depth r u rows ⌝ }
+    ensures { λ n. ⌜ n ≡ rowOf (start .0) h parent depth detached r u rows ⌝ }
 {
     let place = u.place;
     Node {
@@ -375,6 +410,7 @@ fn row_of(
         unpackers: place.0 as u64,
         layers: u.count as u64,
         rows: rows as u64,
+        detached,
     }
 }
 
@@ -387,15 +423,14 @@ pub fn read_front(
     scope: Scope,
     parent: usize,
     depth: usize,
-    least: FilePlace,
-    end: FilePlace,
+    s: Standing,
     made: Made,
 ) -> Fronted
-    requires { ⌜ (end .0 ≤ length (now file)) × (length (now file) < 2 ^ 28) × (scope .types * 2 ≤ length (now types)) × (scope .limits .items * 10 ≤ length (now items)) × (made .nodes ≤ scope .limits .nodes) × (made .items ≤ scope .limits .items) ⌝ }
-    ensures { λ r. ⌜ ((t : List ℕ) → Fronts (scope .limits) r t (now (items .exit)) (exec put (front (contextOf scope (now (types .entry)) (length (now (file .entry)))) parent depth (least .0) (end .0) made) (now (file .entry)) (c .at .0) (state t (now (items .entry)) made))) ⌝ }
+    requires { ⌜ (s .end .0 ≤ length (now file)) × (length (now file) < 2 ^ 28) × (scope .types * 2 ≤ length (now types)) × (scope .limits .items * 10 ≤ length (now items)) × (made .nodes ≤ scope .limits .nodes) × (made .items ≤ scope .limits .items) ⌝ }
+    ensures { λ r. ⌜ ((t : List ℕ) → Fronts (scope .limits) r t (now (items .exit)) (exec put (front (contextOf scope (now (types .entry)) (length (now (file .entry)))) parent depth s made) (now (file .entry)) (c .at .0) (state t (now (items .entry)) made))) ⌝ }
 {
     let start = c.at;
-    match read_head(c, file, least, end) {
+    match read_head(c, file, s) {
         Headed::Refused(n, p) => Fronted::Refused(n, p),
         Headed::Is(h, d) => {
             let inner = start.of(NodePlace(h.header as usize));
@@ -416,7 +451,16 @@ pub fn read_front(
                     match read_rest(e, file, first, h.held, inner, stop) {
                         Rested::Refused(n, p) => Fronted::Refused(n, p),
                         Rested::Is(u, r, g) => {
-                            let row = row_of(start, h, parent, depth, r, u, rows - made.items);
+                            let row = row_of(
+                                start,
+                                h,
+                                parent,
+                                depth,
+                                s.detached,
+                                r,
+                                u,
+                                rows - made.items,
+                            );
                             let m = Made {
                                 nodes: made.nodes,
                                 items: rows,

@@ -131,7 +131,7 @@ calls-alike q l f g h ns is r d a t u s a′ t′ u′ s′ =
 -- a refusal, of the reader or of the question itself, is one of the list
 abbrev Own : {A : Type 0} → Result A → Type 0
 Own (good a) = Unit {0}
-Own (bad n p) = (0 < n) × (n ≤ 23)
+Own (bad n p) = (0 < n) × (n ≤ 24)
 
 module _ (f : List ℕ) (w : find.Wanted) where
   choose-own : (b : Bool) (x y : Result find.Hit) → Own x → Own y → Own (find.choose b x y)
@@ -189,7 +189,7 @@ unfolding mobile.mobile
 mobile-own f h ns is = tt
 
 -- the reader's refusal, or the question's own
-asked-own : {A : Type 0} (o : Reading) (q : Header → List Node → List Item → Result A) → ((n p : ℕ) → o ≡ refusal n p → (0 < n) × (n ≤ 23)) → ((h : Header) (ns : List Node) (is : List Item) → Own (q h ns is)) → Own (ask o q)
+asked-own : {A : Type 0} (o : Reading) (q : Header → List Node → List Item → Result A) → ((n p : ℕ) → o ≡ refusal n p → (0 < n) × (n ≤ 24)) → ((h : Header) (ns : List Node) (is : List Item) → Own (q h ns is)) → Own (ask o q)
 unfolding ask
 asked-own (rows h ns is) q a b = b h ns is
 asked-own (refusal n p) q a b = a n p refl
@@ -198,7 +198,7 @@ asked-own (refusal n p) q a b = a n p refl
 
 -- what demand 1 says of an outcome
 abbrev Tidy : ℕ → Lent → Outcome → Type 0
-Tidy room l o = (getD (o .answer) 0 0 ≤ 23)
+Tidy room l o = (getD (o .answer) 0 0 ≤ 24)
     × ((0 < getD (o .answer) 0 0) → (o .nodes ≡ replicate (l .nodes) 0) × (o .items ≡ replicate (l .items) 0) × (o .sheet ≡ replicate room 0))
 
 module _ (l : Lent) (o : Reading) where
@@ -222,12 +222,12 @@ module _ (l : Lent) (o : Reading) where
   sheet-tidy (good s) k = (omega arith, λ z. absurd (omega arith))
   sheet-tidy (bad n p) k = (k .1, λ z. (refl, refl, refl))
 
-tree-tidy : (l : Lent) (o : Reading) → ((n p : ℕ) → o ≡ refusal n p → (0 < n) × (n ≤ 23)) → Tidy 0 l (record { answer = treeAnswer o; nodes = nodeTable (l .nodes) o; items = itemTable (l .items) o; sheet = [] })
+tree-tidy : (l : Lent) (o : Reading) → ((n p : ℕ) → o ≡ refusal n p → (0 < n) × (n ≤ 24)) → Tidy 0 l (record { answer = treeAnswer o; nodes = nodeTable (l .nodes) o; items = itemTable (l .items) o; sheet = [] })
 unfolding treeAnswer nodeTable itemTable
 tree-tidy l (rows h ns is) k = (omega arith, λ z. absurd (omega arith))
 tree-tidy l (refusal n p) k = (k n p refl .1, λ z. (refl, refl, refl))
 
-reader-own : (l : Lent) (f : List ℕ) (n p : ℕ) → reads l f ≡ refusal n p → (0 < n) × (n ≤ 23)
+reader-own : (l : Lent) (f : List ℕ) (n p : ℕ) → reads l f ≡ refusal n p → (0 < n) × (n ≤ 24)
 unfolding reads
 reader-own l f n p e = let w = refusal-listed (limits (l .nodes) (l .items)) f e in (w .0, omega arith)
 

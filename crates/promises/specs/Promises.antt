@@ -100,7 +100,7 @@ sheetRoom writeSheet l = l .sheet
 -- lent table is zero, and the sheet's buffer too.
 abbrev pub Demand1 : Type 0
 Demand1 = (q : Question) (l : Lent) (f : List ℕ)
-    → (getD (outcome q l f .answer) 0 0 ≤ 23)
+    → (getD (outcome q l f .answer) 0 0 ≤ 24)
     × ((0 < getD (outcome q l f .answer) 0 0) → (outcome q l f .nodes ≡ replicate (l .nodes) 0) × (outcome q l f .items ≡ replicate (l .items) 0) × (outcome q l f .sheet ≡ replicate (sheetRoom q l) 0))
 
 -- two parts of equal length, which stand in the files f and g at the same place, differ only where the files do

@@ -17,8 +17,8 @@ use Rattle.metadata.specs.Metadata.{field, contents, itemFrame, universal, decl
 use Rattle.node.specs.Node.{headerLength, head, value, identifier, unpacker, entries, unpackers, resource, nodePlace, uriPlace, target, reference, rest, front}
 use Rattle.tree.specs.Tree as tree
 use Rattle.tree.specs.Tree.{folder, node}
-use Rattle.tree.specs.Reading.{Reading, rows, refusal, startsAt, offsetAt, lost, checked, targets, reading, readTree, readFile}
-use Rattle.tree.specs.Asking.{good, bad, ask}
+use Rattle.tree.specs.Reading.{Reading, rows, refusal, logged, startsAt, offsetAt, lost, outside, partEnd, takenFrom, detachedAt, reach, follow, reading, readTree, readFile}
+use Rattle.tree.specs.Asking.{Result, good, bad, ask}
 use Rattle.tree.specs.Hidden.{isHidden}
 use Rattle.find.specs.Find as find
 use Rattle.resolve.specs.Resolve as resolve
@@ -31,7 +31,7 @@ first f = run (number fileFrame 3 (length f)) f 0
 
 -- what a file reads as, with full tables
 unfoldable pub full : List ℕ → Reading
-full f = readFile (limits 3072 10240) f
+full f = readFile (limits 3328 10240) f
 
 -- the mended worked file (docs/DECISIONS.md)
 abbrev pub worked : List ℕ
@@ -67,6 +67,7 @@ row start held reference target extent = record {
   unpackers = 0;
   layers = 0;
   rows = 0;
+  detached = 0;
 }
 
 -- a folder; five nodes of which each refers to the next; a resource that follows its node; a reference 2; a URI; a node that refers to itself
@@ -87,7 +88,7 @@ links =
 
 -- a node row with so many item rows
 abbrev pub rowWith : ℕ → Node
-rowWith n = record { start = 0; size = 0; header = 0; held = 0; parent = 0; depth = 0; reference = 1; target = 0; extent = 0; unpackers = 0; layers = 0; rows = n }
+rowWith n = record { start = 0; size = 0; header = 0; held = 0; parent = 0; depth = 0; reference = 1; target = 0; extent = 0; unpackers = 0; layers = 0; rows = n; detached = 0 }
 
 -- a root with one item row of standard field 9, and a child with none
 abbrev pub family : List Node
@@ -95,6 +96,30 @@ family = rowWith 1 ∷ rowWith 0 ∷ []
 
 abbrev pub title : Item
 title = record { node = 0; item = 0; kind = 0; field = 9; named = 0; version = 0; declared = 0; format = 0; place = 0; size = 0 }
+
+-- ---- nodes outside the tree
+
+-- a file of version 1.00 with no types: its length, the tree's first and last byte, and what follows the header
+abbrev pub small : (size start last : ℕ) → List ℕ → List ℕ
+small size start last rest = 0x58 ∷ 0x4D ∷ 0x46 ∷ 0x5F ∷ 0x31 ∷ 0x2E ∷ 0x30 ∷ 0x30 ∷ size ∷ 0x01 ∷ 0x00 ∷ start ∷ last ∷ rest
+
+-- a file node that refers to the node at p; one that holds AA BB; what a folder of two nodes that refer to p and q begins with, and these
+abbrev pub to : ℕ → List ℕ
+to p = 0x07 ∷ 0x00 ∷ 0x05 ∷ 0x00 ∷ 0x00 ∷ 0x03 ∷ p ∷ []
+
+abbrev pub holding : List ℕ
+holding = 0x08 ∷ 0x00 ∷ 0x05 ∷ 0x00 ∷ 0x00 ∷ 0x01 ∷ 0xAA ∷ 0xBB ∷ []
+
+abbrev pub both : (p q : ℕ) → List ℕ
+both p q = 0x14 ∷ 0x02 ∷ 0x05 ∷ 0x00 ∷ 0x00 ∷ 0x01 ∷ to p ++ to q
+
+-- of each node row: start, parent, depth, target, the thirteenth word
+unfoldable pub places : List Node → List (List ℕ)
+places [] = []
+places (r ∷ rs) = (r .start ∷ r .parent ∷ r .depth ∷ r .target ∷ r .detached ∷ []) ∷ places rs
+
+unfoldable pub nodesRead : List ℕ → Result (List (List ℕ))
+nodesRead f = ask (full f) λ h ns is. good (places ns)
 
 -- ---- the test
 
@@ -113,8 +138,8 @@ cases : (first (0x7F ∷ []) ≡ ok 127 1)
     × (full worked
     ≡ rows
     (record { version = 200; edition = record { type = 2; revision = 1 }; types = []; extent = record { start = 21; last = 55; end = 21 } })
-    (record { start = 21; size = 35; header = 5; held = 1; parent = 0; depth = 1; reference = 1; target = 27; extent = 29; unpackers = 26; layers = 0; rows = 0 }
-    ∷ record { start = 27; size = 29; header = 26; held = 0; parent = 0; depth = 2; reference = 1; target = 54; extent = 2; unpackers = 53; layers = 0; rows = 3 } ∷ [])
+    (record { start = 21; size = 35; header = 5; held = 1; parent = 0; depth = 1; reference = 1; target = 27; extent = 29; unpackers = 26; layers = 0; rows = 0; detached = 0 }
+    ∷ record { start = 27; size = 29; header = 26; held = 0; parent = 0; depth = 2; reference = 1; target = 54; extent = 2; unpackers = 53; layers = 0; rows = 3; detached = 0 } ∷ [])
     (record { node = 1; item = 0; kind = 1; field = 32; named = 1; version = 0; declared = 0; format = 0; place = 36; size = 2 }
     ∷ record { node = 1; item = 1; kind = 1; field = 39; named = 1; version = 0; declared = 0; format = 7; place = 43; size = 2 }
     ∷ record { node = 1; item = 2; kind = 0; field = 3; named = 0; version = 0; declared = 0; format = 6; place = 50; size = 2 } ∷ []))
@@ -134,5 +159,19 @@ cases : (first (0x7F ∷ []) ≡ ok 127 1)
     × (resolve.chain 4 links 10 0 ≡ bad 19 0)
     × (resolve.part (5 ∷ 6 ∷ 7 ∷ 8 ∷ 9 ∷ []) (resolve.chain 4 links 7 0) ≡ 6 ∷ 7 ∷ 8 ∷ 9 ∷ [])
     × (resolve.part (5 ∷ 6 ∷ 7 ∷ 8 ∷ 9 ∷ []) (resolve.chain 4 links 8 0) ≡ [])
-unfolding run trace rowsOf _>>=_ _>>_ if_then_else_ place skip check turns many times next digits number block manufacturer guidBytes guid formatOf either four opening edition fileLength entry typesTable extent header field contents itemFrame universal declaredFormat version rowsFor item nextItem metaItems metadata headerLength head value identifier unpacker entries unpackers resource nodePlace uriPlace target reference rest front tree.contents folder node tree.tree startsAt offsetAt lost checked targets reading readTree readFile first full ask isHidden find.choose find.sameBytes find.matches find.among find.firstRow find.own find.look find.orElse find.climb find.nearest find.find resolve.if_then_else_ resolve.rowStarting resolve.named resolve.reached resolve.chain resolve.part mobile.all mobile.keepIf mobile.those mobile.isEmpty mobile.isField mobile.isBinary mobile.choose mobile.roleOfType mobile.roleOfNumber mobile.roleOfRow mobile.roleOfRows mobile.roleOf mobile.roles mobile.childRoles mobile.count mobile.rowOf mobile.rightEdition mobile.isFile mobile.filesOnly mobile.isPlain mobile.plainReferences mobile.isUnpacked mobile.noUnpackers mobile.childrenTyped mobile.tuneRow mobile.bankRow mobile.oneTune mobile.isNeed mobile.tuneNeeds mobile.isShort mobile.fieldSize mobile.isSmall mobile.smallFields mobile.check mobile.verdict mobile.mobile sheet.digits sheet.decimal sheet.hexDigit sheet.plain sheet.escaped sheet.escapedPart sheet.tabbed sheet.number sheet.versionText sheet.firstLine sheet.nodeLine sheet.label sheet.textOf sheet.itemLine sheet.visibleLine sheet.nodeLines sheet.itemLines sheet.linesOf sheet.sheetOf sheet.fitting sheet.write
-cases = (refl, refl, refl, refl, refl, refl, refl, refl, refl, refl, refl, refl, refl, refl, refl, refl, refl, refl, refl, refl, refl, refl, refl, refl, refl, refl, refl, refl)
+    × (nodesRead (small 28 13 19 (to 20 ++ holding)) ≡ good ((13 ∷ 0 ∷ 1 ∷ 20 ∷ 0 ∷ []) ∷ (20 ∷ 1 ∷ 0 ∷ 26 ∷ 1 ∷ []) ∷ []))
+    × (nodesRead (small 28 21 27 (holding ++ to 13)) ≡ good ((21 ∷ 0 ∷ 1 ∷ 13 ∷ 0 ∷ []) ∷ (13 ∷ 1 ∷ 0 ∷ 19 ∷ 1 ∷ []) ∷ []))
+    × (nodesRead (small 27 13 19 (to 20 ++ to 20)) ≡ good ((13 ∷ 0 ∷ 1 ∷ 20 ∷ 0 ∷ []) ∷ (20 ∷ 1 ∷ 0 ∷ 20 ∷ 1 ∷ []) ∷ []))
+    × (nodesRead (small 35 13 19 (to 20 ++ to 27 ++ holding)) ≡ good ((13 ∷ 0 ∷ 1 ∷ 20 ∷ 0 ∷ []) ∷ (20 ∷ 1 ∷ 0 ∷ 27 ∷ 1 ∷ []) ∷ (27 ∷ 2 ∷ 0 ∷ 33 ∷ 1 ∷ []) ∷ []))
+    × (nodesRead (small 41 13 32 (both 33 33 ++ holding)) ≡ good ((13 ∷ 0 ∷ 1 ∷ 19 ∷ 0 ∷ []) ∷ (19 ∷ 0 ∷ 2 ∷ 33 ∷ 0 ∷ []) ∷ (26 ∷ 0 ∷ 2 ∷ 33 ∷ 0 ∷ []) ∷ (33 ∷ 3 ∷ 0 ∷ 39 ∷ 1 ∷ []) ∷ []))
+    × (nodesRead (small 49 13 32 (both 41 33 ++ holding ++ holding))
+    ≡ good ((13 ∷ 0 ∷ 1 ∷ 19 ∷ 0 ∷ []) ∷ (19 ∷ 0 ∷ 2 ∷ 41 ∷ 0 ∷ []) ∷ (26 ∷ 0 ∷ 2 ∷ 33 ∷ 0 ∷ []) ∷ (41 ∷ 3 ∷ 0 ∷ 47 ∷ 1 ∷ []) ∷ (33 ∷ 4 ∷ 0 ∷ 39 ∷ 1 ∷ []) ∷ []))
+    × (nodesRead (small 34 13 19 (to 20 ++ (0x0E ∷ 0x01 ∷ 0x05 ∷ 0x00 ∷ 0x00 ∷ 0x01 ∷ holding))) ≡ bad 24 19)
+    × (nodesRead (small 27 13 19 (to 20 ++ to 22)) ≡ bad 24 26)
+    × (nodesRead (small 27 13 19 (to 20 ++ to 23)) ≡ bad 3 24)
+    × (nodesRead (small 20 13 19 (to 5)) ≡ bad 16 19)
+    × (nodesRead (small 28 13 19 (to 28 ++ holding)) ≡ bad 16 19)
+    × (nodesRead (small 20 13 19 (to 14)) ≡ bad 16 19)
+    × (nodesRead (small 27 20 26 (0x08 ∷ 0x00 ∷ 0x05 ∷ 0x00 ∷ 0x00 ∷ 0x01 ∷ 0xAA ∷ to 13)) ≡ bad 8 13)
+unfolding run trace rowsOf _>>=_ _>>_ if_then_else_ place skip check turns many times next digits number block manufacturer guidBytes guid formatOf either four opening edition fileLength entry typesTable extent header field contents itemFrame universal declaredFormat version rowsFor item nextItem metaItems metadata headerLength head value identifier unpacker entries unpackers resource nodePlace uriPlace target reference rest front tree.contents folder node tree.tree startsAt offsetAt lost logged outside partEnd takenFrom detachedAt reach follow tree.detached reading readTree readFile first full ask places nodesRead isHidden find.choose find.sameBytes find.matches find.among find.firstRow find.own find.look find.orElse find.climb find.nearest find.find resolve.if_then_else_ resolve.rowStarting resolve.named resolve.reached resolve.chain resolve.part mobile.all mobile.keepIf mobile.those mobile.isEmpty mobile.isField mobile.isBinary mobile.choose mobile.roleOfType mobile.roleOfNumber mobile.roleOfRow mobile.roleOfRows mobile.roleOf mobile.roles mobile.childRoles mobile.count mobile.rowOf mobile.rightEdition mobile.isFile mobile.filesOnly mobile.isPlain mobile.plainReferences mobile.isUnpacked mobile.noUnpackers mobile.childrenTyped mobile.tuneRow mobile.bankRow mobile.oneTune mobile.isNeed mobile.tuneNeeds mobile.isShort mobile.fieldSize mobile.isSmall mobile.smallFields mobile.check mobile.verdict mobile.mobile sheet.digits sheet.decimal sheet.hexDigit sheet.plain sheet.escaped sheet.escapedPart sheet.tabbed sheet.number sheet.versionText sheet.firstLine sheet.nodeLine sheet.label sheet.textOf sheet.itemLine sheet.visibleLine sheet.nodeLines sheet.itemLines sheet.linesOf sheet.sheetOf sheet.fitting sheet.write
+cases = (refl, refl, refl, refl, refl, refl, refl, refl, refl, refl, refl, refl, refl, refl, refl, refl, refl, refl, refl, refl, refl, refl, refl, refl, refl, refl, refl, refl, refl, refl, refl, refl, refl, refl, refl, refl, refl, refl, refl, refl, refl)

@@ -17,11 +17,11 @@ use Rattle.cursor.specs.declared.Item.{Item}
 use Rattle.header.specs.Header.{Header, header}
 use Rattle.metadata.specs.declared.Limits.{Limits}
 use Rattle.metadata.specs.declared.Made.{Made}
-use Rattle.tree.specs.Tree.{tree}
-use Rattle.tree.specs.Reading.{nodesOf, itemsOf, Reading, rows, refusal, startsAt, lost, offsetAt, checked, targets, reading, context, readTree, readFile}
+use Rattle.tree.specs.Reading.{Reading, rows, refusal, startsAt, readFile}
 use Rattle.tree.specs.Rows.{nodeAt}
 use Rattle.tree.specs.Asking.{Result, good, bad, ask}
-use Rattle.tree.proofs.Rows.{NodeIn, accepted, never}
+use Rattle.tree.proofs.Rows.{NodeIn, accepted}
+use Rattle.tree.proofs.Links.{led}
 use Rattle.resolve.specs.Resolve.{if_then_else_, Resource, rowStarting, named, reached, chain, resolveRow, resolve}
 use Rattle.resolve.specs.Told.{Linked}
 use Rattle.resolve.proofs.Chain.{reached-folder, reached-one, reached-two, reached-three, reached-uri}
@@ -38,46 +38,8 @@ unfolding startsAt rowStarting
 row-below [] p e = absurd (true≢false (sym e))
 row-below (r ∷ rs) p e = below-by (eqb (r .start) p) (startsAt rs p) (rowStarting rs p) (length rs) (row-below rs p) e
 
-found-by : (all : List Node) (r : Node) → lost all r ≡ false → r .reference ≡ 3 → startsAt all (r .target) ≡ true
-unfolding lost
-found-by all r e q = not-false _ (sym (ap (λ b. b && not (startsAt all (r .target))) (eq-eqb _ _ q)) ∙ e)
-
-module _ {h : Header} {ns : List Node} {is : List Item} where
-  checked-by : (b : Bool) (p : ℕ) (v : Reading) → checked b p v ≡ rows h ns is → (b ≡ false) × (v ≡ rows h ns is)
-  unfolding checked
-  checked-by true p v e = never e
-  checked-by false p v e = (refl, e)
-
-  none-lost : (f : List ℕ) (all rs : List Node) (o : Reading) → targets f all rs o ≡ rows h ns is → ((i : ℕ) → i < length rs → lost all (nodeAt rs i) ≡ false) × (o ≡ rows h ns is)
-  unfolding targets
-  none-lost f all [] o e = (λ i l. absurd (omega arith), e)
-  none-lost f all (r ∷ rs) o e =
-      let w = checked-by (lost all r) (offsetAt f r) (targets f all rs o) e in
-      let v = none-lost f all rs o (w .1) in
-      (λ i l. row-not-lost (w .0) (v .0) i l, v .1)
-    where
-      row-not-lost : lost all r ≡ false → ((i : ℕ) → i < length rs → lost all (nodeAt rs i) ≡ false) → (i : ℕ) → i < suc (length rs) → lost all (nodeAt (r ∷ rs) i) ≡ false
-      row-not-lost a b zero l = a
-      row-not-lost a b (suc i) l = b i (omega arith)
-
-  linked-tree : (f : List ℕ) (g : Header) (o : Out Made) (es : Events) → reading g f o es ≡ rows h ns is → Linked ns
-  unfolding reading
-  linked-tree f g (ok m p) es e =
-      let w = none-lost f (nodesOf es) (nodesOf es) (rows g (nodesOf es) (itemsOf es)) e in
-      let q = w .1 in
-      let x : nodesOf es ≡ ns = cc in
-      rw (← x) (λ i l t. row-below _ _ (found-by _ _ (w .0 i l) t))
-  linked-tree f g (refused n p) es e = never e
-
-  linked-header : (lim : Limits) (f : List ℕ) (o : Out Header) → readTree lim f o ≡ rows h ns is → Linked ns
-  unfolding readTree
-  linked-header lim f (ok g p) e =
-      linked-tree f g (run (tree (context lim g (length f)) (g .extent .last + 1)) f (g .extent .start)) (trace (tree (context lim g (length f)) (g .extent .last + 1)) f (g .extent .start)) e
-  linked-header lim f (refused n p) e = never e
-
-  pub linked : (lim : Limits) (f : List ℕ) → readFile lim f ≡ rows h ns is → Linked ns
-  unfolding readFile
-  linked lim f e = linked-header lim f (run (header (length f)) f 0) e
+pub linked : (lim : Limits) (f : List ℕ) {h : Header} {ns : List Node} {is : List Item} → readFile lim f ≡ rows h ns is → Linked ns
+linked lim f e i l t = row-below _ _ (led lim f e i l t)
 
 -- ---- what is resolved lies in the file
 

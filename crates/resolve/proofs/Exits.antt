@@ -1,6 +1,6 @@
 -- The ways out of the question: what each exit of the code comes to, answer and both tables.
 -- Assumes nothing.
-use mathlib.Core.Path.{_≡_, sym, ap, _∙_}
+use mathlib.Core.Path.{_≡_, sym, ap, ap₂, subst, _∙_}
 use mathlib.Core.List.{List, []}
 use Prim.Native.Nat.{ℕ, _+_, _*_, _-_, _≤_}
 use native.Mathlib.Omega.{arith}
@@ -8,13 +8,13 @@ use lib.ListN.{length, replicate, take, drop}
 use Rattle.cursor.specs.declared.FilePlace.{FilePlace}
 use Rattle.metadata.specs.Tables.{limits}
 use Rattle.tree.specs.Reading.{readFile, readOf, nodeTable, itemTable}
-use Rattle.tree.specs.Rows.{nodesIn, Rising}
+use Rattle.tree.specs.Rows.{nodesIn, treeRows, Rising}
 use Rattle.tree.specs.Asking.{Result, good, bad, ask, keptNodes, keptItems}
 use Rattle.tree.specs.declared.Summary.{Summary}
 use Rattle.tree.specs.declared.Read.{Read}
 use Rattle.tree.specs.declared.Read.the-variants as read
-use Rattle.tree.proofs.Rows.{Standing, standing, ask-refused, refused-nodes, refused-items, ask-is, good-nodes, good-items, bad-nodes, bad-items}
-use Rattle.tree.proofs.Order.{in-row-order}
+use Rattle.tree.proofs.Rows.{in-front, Standing, standing, ask-refused, refused-nodes, refused-items, ask-is, good-nodes, good-items, bad-nodes, bad-items}
+use Rattle.tree.proofs.TreeRows.{tree-few, rows-rise}
 use Rattle.resolve.specs.Resolve.{Resource, resolveRow, resolve, part}
 use Rattle.resolve.specs.Told.{told, Linked}
 use Rattle.resolve.specs.declared.Resolved.{Resolved}
@@ -40,11 +40,17 @@ module _ (f : List ℕ) (nsize isize row : ℕ) {r : Read} {t u : List ℕ} (e :
     pub rows-linked : Linked (nodesIn (s .nodes) t)
     rows-linked = let w = stands in rw (w .nodes-are) (linked (limits nsize isize) f (w .reads))
 
-    pub rows-rise : Rising (nodesIn (s .nodes) t)
-    rows-rise = let w = stands in rw (w .nodes-are) (in-row-order (limits nsize isize) f (w .reads) .starts-rise)
-
-    pub rows-room : s .nodes * 12 ≤ length t
+    pub rows-room : s .nodes * 13 ≤ length t
     rows-room = stands .node-room
+
+    pub tree-among : s .tree ≤ s .nodes
+    tree-among = let w = stands in let z = w .summed in let a = tree-few (w .ns) in rw z (omega arith)
+
+    pub rows-rising : Rising (nodesIn (s .tree) t)
+    rows-rising =
+        let w = stands in
+        let e : s .tree ≡ treeRows (w .ns) = ap (λ (x : Summary). x .tree) (w .summed) in
+        subst Rising (sym (in-front t (s .tree) (s .nodes) tree-among ∙ ap₂ take e (w .nodes-are))) (rows-rise (limits nsize isize) f (w .reads))
 
     module _ (x : Resolved) (y : told x ≡ resolveRow row (nodesIn (s .nodes) t)) where
       answered : told x ≡ resolve row (stands .h) (stands .ns) (stands .is)

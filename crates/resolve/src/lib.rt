@@ -2,7 +2,7 @@
 ghost use mathlib.Core.Path.{_≡_};
 ghost use Prim.Native.Nat.{_≤_, _<_, _*_, _+_};
 ghost use lib.ListN.{length};
-ghost use Rattle.metadata.specs.Tables.{limits};
+ghost use Rattle.metadata.specs.Tables.{limits, nodeWidth};
 ghost use Rattle.tree.specs.Reading.{readFile};
 ghost use Rattle.tree.specs.Rows.{nodesIn, Rising};
 ghost use Rattle.tree.specs.Asking.{ask, keptNodes, keptItems};
@@ -19,9 +19,9 @@ pub enum Resolved {
     Refused(u64, usize),
 }
 
-// Follows references from row k on, where `hops` were followed and `left` more may be.
-fn follow(nodes: &[u64], count: usize, left: u64, k: usize, hops: u64) -> Resolved
-    requires { ⌜ (count * 12 ≤ length (now nodes)) × (k < count) × (hops + left ≤ 4) × Linked (nodesIn count (now nodes)) × Rising (nodesIn count (now nodes)) ⌝ }
+// Follows references from row k on, where `hops` were followed and `left` more may be. The first `tree` of the rows are the tree's.
+fn follow(nodes: &[u64], tree: usize, count: usize, left: u64, k: usize, hops: u64) -> Resolved
+    requires { ⌜ (count * nodeWidth ≤ length (now nodes)) × (k < count) × (hops + left ≤ 4) × Linked (nodesIn count (now nodes)) × (tree ≤ count) × Rising (nodesIn tree (now nodes)) ⌝ }
     ensures { λ r. ⌜ told r ≡ chain left (nodesIn count (now (nodes .entry))) k hops ⌝ }
 {
     let at = k * cursor::NODE_WIDTH;
@@ -46,19 +46,19 @@ fn follow(nodes: &[u64], count: usize, left: u64, k: usize, hops: u64) -> Resolv
     if left == 0 {
         return Resolved::Refused(cursor::TOO_MANY_HOPS, 0);
     }
-    let next = tree::row_starting(nodes, count, target);
-    follow(nodes, count, left - 1, next, hops + 1)
+    let next = tree::row_starting(nodes, tree, count, target);
+    follow(nodes, tree, count, left - 1, next, hops + 1)
 }
 
 // The answer for a row of an accepted file.
-fn resolve_row(nodes: &[u64], count: usize, row: usize) -> Resolved
-    requires { ⌜ (count * 12 ≤ length (now nodes)) × Linked (nodesIn count (now nodes)) × Rising (nodesIn count (now nodes)) ⌝ }
+fn resolve_row(nodes: &[u64], tree: usize, count: usize, row: usize) -> Resolved
+    requires { ⌜ (count * nodeWidth ≤ length (now nodes)) × Linked (nodesIn count (now nodes)) × (tree ≤ count) × Rising (nodesIn tree (now nodes)) ⌝ }
     ensures { λ r. ⌜ told r ≡ resolveRow row (nodesIn count (now (nodes .entry))) ⌝ }
 {
     if count <= row {
         return Resolved::Refused(cursor::NO_SUCH_ROW, 0);
     }
-    follow(nodes, count, MOST_HOPS, row, 0)
+    follow(nodes, tree, count, MOST_HOPS, row, 0)
 }
 
 // The third question: where the resource of a row is.
@@ -69,7 +69,7 @@ pub fn resolve(file: &[u8], nodes: &mut [u64], items: &mut [u64], row: usize) ->
 {
     match tree::read_file(file, nodes, items) {
         Read::Refused(n, p) => Resolved::Refused(n, p.0),
-        Read::Is(s) => match resolve_row(nodes, s.nodes, row) {
+        Read::Is(s) => match resolve_row(nodes, s.tree, s.nodes, row) {
             Resolved::Refused(n, p) => {
                 tree::clear_all(nodes, items);
                 Resolved::Refused(n, p)

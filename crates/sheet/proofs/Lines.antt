@@ -129,7 +129,7 @@ named-inside r (a, inr l) k = l
 -- ---- rows
 
 module _ (ws : List ℕ) (count : ℕ) where
-  pub nodes-on : (i : ℕ) → i < count → nodeLines i (nodesFrom i (count - i) ws) ≡ nodeLine i (nodeFrom ws (i * 12)) ++ nodeLines (i + 1) (nodesFrom (i + 1) (count - (i + 1)) ws)
+  pub nodes-on : (i : ℕ) → i < count → nodeLines i (nodesFrom i (count - i) ws) ≡ nodeLine i (nodeFrom ws (i * 13)) ++ nodeLines (i + 1) (nodesFrom (i + 1) (count - (i + 1)) ws)
   unfolding nodesFrom nodeLines
   nodes-on i l = let e : count - i ≡ suc (count - (i + 1)) = omega arith in rw e
 

@@ -193,8 +193,8 @@ fn put_first(
 
 // Puts the line of node row i.
 fn put_node_line(out: &mut [u8], to: usize, nodes: &[u64], i: usize) -> usize
-    requires { ⌜ i * 12 + 12 ≤ length (now nodes) ⌝ }
-    ensures { λ r. ⌜ Puts (now (out .entry)) (now (out .exit)) to (nodeLine i (nodeFrom (now (nodes .entry)) (i * 12))) r ⌝ }
+    requires { ⌜ i * 13 + 13 ≤ length (now nodes) ⌝ }
+    ensures { λ r. ⌜ Puts (now (out .entry)) (now (out .exit)) to (nodeLine i (nodeFrom (now (nodes .entry)) (i * 13))) r ⌝ }
 {
     let k = i * cursor::NODE_WIDTH;
     let parent = nodes[k + 4];
@@ -214,7 +214,7 @@ fn put_node_line(out: &mut [u8], to: usize, nodes: &[u64], i: usize) -> usize
 
 // Puts the lines of the node rows.
 fn put_node_lines(out: &mut [u8], to: usize, nodes: &[u64], count: usize) -> usize
-    requires { ⌜ count * 12 ≤ length (now nodes) ⌝ }
+    requires { ⌜ count * 13 ≤ length (now nodes) ⌝ }
     ensures { λ r. ⌜ Puts (now (out .entry)) (now (out .exit)) to (nodeLines 0 (nodesIn count (now (nodes .entry)))) r ⌝ }
 {
     let mut next = to;
@@ -299,7 +299,7 @@ fn put_sheet(
     rows: usize,
     contents: usize,
 ) -> usize
-    requires { ⌜ (rows * 12 ≤ length (now nodes)) × (contents * 10 ≤ length (now items)) × ((i : ℕ) → i < contents → ItemInside (length (now file)) (itemFrom (now items) (i * 10))) ⌝ }
+    requires { ⌜ (rows * 13 ≤ length (now nodes)) × (contents * 10 ≤ length (now items)) × ((i : ℕ) → i < contents → ItemInside (length (now file)) (itemFrom (now items) (i * 10))) ⌝ }
     ensures { λ r. ⌜ Puts (now (out .entry)) (now (out .exit)) 0 (linesOf version (now (file .entry)) (nodesIn rows (now (nodes .entry))) (itemsIn contents (now (items .entry)))) r ⌝ }
 {
     let one = put_first(out, 0, version, file.len(), rows, contents);

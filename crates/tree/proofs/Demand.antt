@@ -1,132 +1,128 @@
 -- The reading of a file depends on its frame bytes alone. Stated for any choice of what may differ among the bytes that are passed over: two files
--- that agree on every other byte of header and tree read alike. With everything free: the frame bytes alone decide. With hidden data free: demand 3
--- for the first question. What the other questions use besides: custom names, and the data of rows that are not free, agree too.
+-- that agree on every other byte of header, tree and detached nodes read alike. With everything free: the frame bytes alone decide. With hidden data free:
+-- demand 3 for the first question. What the other questions use besides: custom names, and the data of rows that are not free, agree too.
 -- Assumes nothing.
-use mathlib.Core.Path.{_≡_, refl, sym, ap, _∙_, subst}
-use mathlib.Core.Bool.{Bool, true, false, not}
+use mathlib.Core.Path.{_≡_, refl, sym, ap, ap₂, _∙_, subst}
+use mathlib.Core.Bool.{Bool, true, false, not, _&&_, _||_}
 use mathlib.Core.Logic.{_⊎_, inl, inr}
-use mathlib.Core.List.{List, [], _∷_, _++_, List·Memᴰ, List·Memᴰ·cases-cons}
-use Prim.Native.Nat.{ℕ, zero, suc, _+_, _-_, _≤_, _<_}
+use mathlib.Core.List.{List, [], _∷_, _++_, append-assoc, append-nil}
+use Prim.Native.Nat.{ℕ, zero, suc, _+_, _-_, _≤_, _<_, min, max}
 use native.Mathlib.Nat.{lt-of-not-le}
-use native.Mathlib.Decide.{decLe}
+use native.Mathlib.Decide.{decLe, decLt}
 use native.Mathlib.Omega.{arith}
-use lib.Dec.{T}
-use lib.ListN.{length, getD, List·getD-eq-default}
-use Rattle.cursor.specs.Machine.{Out, ok, refused, Event, seen, passed, run, trace, rowsOf}
-use Rattle.cursor.specs.Rows.{Frame, Part, nodeRow, itemRow, Plain, language, name, uri, inline, plain, Events}
+use borrow.Author.Tests.{ltb-true, ltb-false, leb-true, lt-ltb, eq-eqb}
+use lib.Dec.{T, eqb, ltb, leb}
+use lib.ListN.{length, getD, List·getD-eq-default, length-append}
+use Rattle.cursor.specs.Machine.{Out, ok, refused, Event, seen, passed, run, trace, rowsOf, _>>=_, _>>_, place}
+use Rattle.cursor.specs.Rows.{Frame, Part, nodeRow, itemRow, Plain, language, name, uri, inline, plain, P, Events}
 use Rattle.cursor.specs.declared.Node.{Node}
 use Rattle.cursor.specs.declared.Item.{Item}
+use Rattle.cursor.proofs.Laws.{rows-on}
 use Rattle.cursor.proofs.Leaves.{any-free}
-use Rattle.cursor.proofs.Wp.{All, at-end}
-use Rattle.cursor.proofs.Stable.{Chain, Free, Kept, chain, ends, endOf, stable}
-use Rattle.cursor.proofs.Apart.{Run, In, InAny, Apart, FreeAny, KeptAll, kept-all}
+use Rattle.cursor.proofs.Wp.{All, all-on, at-end}
+use Rattle.cursor.proofs.Stable.{Chain, Free, Held, Kept, held-by, chain, ends, endOf, stable}
+use Rattle.cursor.proofs.Log.{held-on, held-parts, Sound, sound-run, sound-on, sound-in, sound-kept}
+use Rattle.cursor.proofs.Near.{Near, near-run, near-same, near-then, near-on, near-check}
 use Rattle.header.specs.Header.{Header, header}
 use Rattle.header.proofs.Ends.{header-on}
 use Rattle.metadata.specs.Metadata.{Context}
 use Rattle.metadata.specs.declared.Limits.{Limits}
 use Rattle.metadata.specs.declared.Made.{Made}
-use Rattle.metadata.proofs.Ends.{Nothing, Given, Inside}
-use Rattle.tree.specs.Tree.{tree}
-use Rattle.tree.specs.Reading.{nodesOf, itemsOf, Reading, rows, refusal, lost, offsetAt, checked, targets, reading, context, readTree, readFile}
-use Rattle.tree.specs.Rows.{itemAt}
+use Rattle.metadata.proofs.Ends.{OfNames, Nothing, Given, Inside}
+use Rattle.node.specs.Node.{headerLength, head, front, loose}
+use Rattle.tree.specs.Tree.{tree, node, detached}
+use Rattle.tree.specs.Reading.{nodeOf, nodesOf, itemsOf, Result, good, bad, Reading, rows, refusal, madeBy, logged, lost, offsetAt, outside, partEnd, takenFrom, detachedAt, reach, follow, reading, context, readTree, readFile}
+use Rattle.tree.specs.Rows.{nodeAt, itemAt, if_then_else_}
 use Rattle.tree.specs.Hidden.{mayDiffer, Open, DifferInHidden}
-use Rattle.tree.proofs.Ends.{tree-shows, tree-inside}
-use Rattle.tree.proofs.Rows.{never}
+use Rattle.tree.proofs.Ends.{tree-ends, detached-ends}
+use Rattle.tree.proofs.Starts.{OwnRow, detached-row, From, tree-from, detached-from}
+use Rattle.tree.proofs.Shown.{outside-is, part-is, header-of, log-shows, log-inside}
+use Rattle.tree.proofs.Follow.{never, stops, treeOf, target, Step, stepped, Reached, known, added, reached, followed, ReadAs, read-back}
 
--- the tree's program, where the header is h
-abbrev pub treeOf : Limits → List ℕ → Header → Events
-treeOf lim f h = trace (tree (context lim h (length f)) (h .extent .last + 1)) f (h .extent .start)
+-- ---- the place of the number that names a detached node matters to a refusal alone
 
--- the two parts of a file that are read: the header, and the tree where the header says that it is
-abbrev pub parts : Limits → List ℕ → Header → List (Run Frame Part)
-parts lim f h = record { at = 0; es = trace (header (length f)) f 0; chain = chain (header (length f)) f 0 }
-    ∷ record { at = h .extent .start; es = treeOf lim f h; chain = chain (tree (context lim h (length f)) (h .extent .last + 1)) f (h .extent .start) } ∷ []
+loose-near : (end taken p q : ℕ) → Near (head (loose end taken p)) (head (loose end taken q))
+unfolding head
+loose-near end taken p q =
+    near-then place λ at. near-then _ λ size. near-check _ _ _ _ _ (near-check _ _ _ _ _ (near-check _ _ _ _ _ (near-then _ λ held. near-check _ _ _ _ _ (near-same (headerLength at size held)))))
 
-apart : (lim : Limits) (f : List ℕ) {h : Header} {q : ℕ} → run (header (length f)) f 0 ≡ ok h q → Apart (parts lim f h)
-apart lim f e =
-    let w = at-end any-free f (header-on (length f)) e in
-    let z = ends (header (length f)) f 0 e in
-    (λ k i. elim [ inl j ↦ omega arith | inr j ↦ j ], (λ k i j. j, tt))
+detached-near : (x : Context) (end taken p q : ℕ) (m : Made) → Near (detached x end taken p m) (detached x end taken q m)
+unfolding detached node front
+detached-near x end taken p q m = near-then place λ at. near-check _ _ _ _ _ (near-on _ (near-then place λ at. near-on _ (loose-near end taken p q)))
 
--- ---- the check of the targets of an accepted file reads no byte
+-- ---- files that agree on what the one's log does not leave free are read alike
 
-module _ (f g : List ℕ) (all : List Node) (o : Reading) {h : Header} {ns : List Node} {is : List Item} where
-  checked-same : (b : Bool) (p q : ℕ) (v w : Reading) → checked b p v ≡ rows h ns is → (v ≡ rows h ns is → (w ≡ v) × (o ≡ rows h ns is))
-      → (checked b q w ≡ checked b p v) × (o ≡ rows h ns is)
-  unfolding checked
-  checked-same true p q v w e k = never e
-  checked-same false p q v w e k = k e
+module _ (free : Part → Bool) (lim : Limits) (f g : List ℕ) (l : length f ≡ length g) (h : Header) where
+  begins : (log₁ : Events) (k i : ℕ) {log : Events} → follow k lim f h i (good log₁) ≡ good log → (rest : Events) × (log ≡ log₁ ++ rest)
+  begins log₁ k i e = followed lim f h (λ _ log. (rest : Events) × (log ≡ log₁ ++ rest)) further k i (good log₁) (λ log q. ([], same q ∙ sym (append-nil log₁))) e .1
+    where
+      same : {a b : Events} → good a ≡ good b → b ≡ a
+      same x = cc
 
-  targets-same : (rs : List Node) → targets f all rs o ≡ rows h ns is → (targets g all rs o ≡ targets f all rs o) × (o ≡ rows h ns is)
-  unfolding targets
-  targets-same [] e = (refl, e)
-  targets-same (r ∷ rs) e = checked-same (lost all r) (offsetAt f r) (offsetAt g r) (targets f all rs o) (targets g all rs o) e (targets-same rs)
+      further : (i : ℕ) (log log′ : Events) → (rest : Events) × (log ≡ log₁ ++ rest) → i < length (nodesOf log) → Reached lim f h log (nodeAt (nodesOf log) i) log′ → (rest : Events) × (log′ ≡ log₁ ++ rest)
+      further i log log′ w m (known x y) = (w .0, y ∙ w .1)
+      further i log log′ w m (added s y) = (_, y ∙ ap (λ v. v ++ trace (target lim f h log (nodeAt (nodesOf log) i)) f (nodeAt (nodesOf log) i .target)) (w .1) ∙ append-assoc log₁ (w .0) _)
 
-reading-same : (f g : List ℕ) (x : Header) (o : Out Made) (es : Events) {h : Header} {ns : List Node} {is : List Item} → reading x f o es ≡ rows h ns is
-    → (reading x g o es ≡ reading x f o es) × (nodesOf es ≡ ns) × (itemsOf es ≡ is)
-unfolding reading
-reading-same f g x (ok m e) es r =
-    let w = targets-same f g (nodesOf es) (rows x (nodesOf es) (itemsOf es)) (nodesOf es) r in
-    let z = w .1 in
-    (w .0, cc, cc)
-reading-same f g x (refused n p) es r = never r
+  -- where row r leads in the one, it leads in the other
+  reach-same : (log : Events) (r : Node) {log′ : Events} → Kept free f g log′ → Reached lim f h log r log′ → reach lim g h log r ≡ good log′
+  unfolding reach if_then_else_ detachedAt logged
+  reach-same log r keep (known x y) = rw x (ap good (sym y))
+  reach-same log r {log′} keep (added s y) =
+      let m = target lim f h log r in
+      let es = trace m f (r .target) in
+      let keeps : Kept free f g es = held-parts free _ log es (subst (Kept free f g) y keep) .1 in
+      let (a, b) = stable free m f g (r .target) keeps in
+      let n = detached-near (context lim h (length f)) (partEnd h (length f) (r .target)) (takenFrom (nodesOf log) (r .target) (partEnd h (length f) (r .target))) (offsetAt f r) (offsetAt g r) (madeBy log) in
+      let (c, d) = near-run n g (r .target) (sym a ∙ s .runs) in
+      rw (s .is-lost, ← l, s .is-outside, c, d, ← b) (ap good (sym y))
 
--- ---- what two files have in common that agree on header and tree but for what is free in the one
+  follow-same : (k i : ℕ) (o : Result Events) {log′ : Events} → Kept free f g log′ → follow k lim f h i o ≡ good log′ → follow k lim g h i o ≡ good log′
+  unfolding follow if_then_else_
+  follow-same zero i o keep e = e
+  follow-same (suc k) i (bad n p) keep e = e
+  follow-same (suc k) i (good log) {log′} keep e = by (ltb i (length (nodesOf log))) (λ o. follow-same k (i + 1) o keep) e
+    where
+      r : Node
+      r = nodeAt (nodesOf log) i
+
+      on : (o : Result Events) → reach lim f h log r ≡ o → ((o : Result Events) → follow k lim f h (i + 1) o ≡ good log′ → follow k lim g h (i + 1) o ≡ good log′)
+          → follow k lim f h (i + 1) o ≡ good log′ → follow k lim g h (i + 1) (reach lim g h log r) ≡ good log′
+      on (good log₁) q rest z =
+          let (after, w) = begins log₁ k (i + 1) z in
+          let keeps : Kept free f g log₁ = held-parts free _ log₁ after (subst (Kept free f g) w keep) .0 in
+          rw (reach-same log r keeps (reached lim f h log r q)) (rest (good log₁) z)
+      on (bad n p) q rest z = absurd (stops lim f k (i + 1) h n p z)
+
+      by : (b : Bool) → ((o : Result Events) → follow k lim f h (i + 1) o ≡ good log′ → follow k lim g h (i + 1) o ≡ good log′)
+          → (if b then follow k lim f h (i + 1) (reach lim f h log r) else good log) ≡ good log′ → (if b then follow k lim g h (i + 1) (reach lim g h log r) else good log) ≡ good log′
+      by true rest z = on (reach lim f h log r) refl rest z
+      by false rest z = z
+
+-- ---- what two files have in common that agree on what was read but for what is free in the one
 
 module _ (free : Part → Bool) where
   pub record Alike (lim : Limits) (f g : List ℕ) (ns : List Node) (is : List Item) : Type 0 where
     pub header : Header
+    pub read-as : ReadAs lim f header ns is
     pub same-reading : readFile lim g ≡ readFile lim f
-    pub nodes-are : nodesOf (treeOf lim f header) ≡ ns
-    pub items-are : itemsOf (treeOf lim f header) ≡ is
-    pub keeps : Kept free f g (treeOf lim f header)
-    pub inside : header .extent .last + 1 ≤ length f
+    pub keeps : Kept free f g (read-as .log)
 
-  alike-kept : (lim : Limits) (f g : List ℕ) → length f ≡ length g → {h : Header} {ns : List Node} {is : List Item} (o : Out Header) → run (header (length f)) f 0 ≡ o → readTree lim f o ≡ rows h ns is
-      → ((x : Header) (q : ℕ) → o ≡ ok x q → KeptAll free f g (parts lim f x)) → Alike lim f g ns is
-  unfolding readFile readTree
-  alike-kept lim f g l (ok x q) e r keeps =
-      let k = keeps x q refl in
-      let m = tree (context lim x (length f)) (x .extent .last + 1) in
-      let (a, b) = stable free (header (length f)) f g 0 (k .0) in
-      let (c, d) = stable free m f g (x .extent .start) (k .1 .0) in
-      let w = reading-same f g x (run m f (x .extent .start)) (trace m f (x .extent .start)) r in
-      let z = at-end any-free f (header-on (length f)) e in
+  alike-kept : (lim : Limits) (f g : List ℕ) → length f ≡ length g → {h : Header} {ns : List Node} {is : List Item} → readFile lim f ≡ rows h ns is
+      → (a : ReadAs lim f h ns is) → Kept free f g (trace (header (length f)) f 0 ++ a .log) → Alike lim f g ns is
+  unfolding readFile readTree reading logged
+  alike-kept lim f g l {h} {ns} {is} r a keep =
+      let (x, y) = held-parts free _ (trace (header (length f)) f 0) (a .log) keep in
+      let m = treeOf lim (length f) h in
+      let (rest, w) = begins free lim f g l h (trace m f (h .extent .start)) (lim .nodes) 0 (a .follows) in
+      let (b, c) = stable free (header (length f)) f g 0 x in
+      let (d, e) = stable free m f g (h .extent .start) (held-parts free _ (trace m f (h .extent .start)) rest (subst (Kept free f g) w y) .0) in
+      let z = follow-same free lim f g l h (lim .nodes) 0 (good (trace m f (h .extent .start))) y (a .follows) in
       record {
-        header = x;
-        same-reading = rw (← l, ← a, e, ← l, ← c, ← d) (w .0);
-        nodes-are = w .1;
-        items-are = w .2;
-        keeps = k .1 .0;
-        inside = omega arith;
+        header = h;
+        read-as = a;
+        same-reading = rw (r, ← l, ← b, a .header-is, ← l, ← d, ← e, a .tree-is, z, a .nodes-are, a .items-are) refl;
+        keeps = y;
       }
-  alike-kept lim f g l (refused n p) e r keeps = never r
-
--- ---- the frame bytes alone
-
--- k is a byte that is read
-abbrev pub Seen : Events → ℕ → Type 0
-Seen [] k = ⊥
-Seen (seen κ p ∷ es) k = (p ≡ k) ⊎ Seen es k
-Seen (passed w p n ∷ es) k = Seen es k
-
-seen-kept : (f g : List ℕ) (es : Events) → ((k : ℕ) → Seen es k → getD f k 0 ≡ getD g k 0) → Kept (λ _. true) f g es
-seen-kept f g [] h = tt
-seen-kept f g (seen κ p ∷ es) h = (h p (inl refl), seen-kept f g es (λ k s. h k (inr s)))
-seen-kept f g (passed w p n ∷ es) h = (λ u. absurd u, seen-kept f g es h)
-
--- k is a frame byte of header or tree
-abbrev pub FrameByte : Limits → List ℕ → ℕ → Type 0
-FrameByte lim f k = Seen (trace (header (length f)) f 0) k ⊎ ((x : Header) × (q : ℕ) × (run (header (length f)) f 0 ≡ ok x q) × Seen (treeOf lim f x) k)
-
--- the reading of an accepted file depends on its frame bytes alone
-pub frames-decide : (lim : Limits) (f g : List ℕ) {h : Header} {ns : List Node} {is : List Item} → readFile lim f ≡ rows h ns is → length f ≡ length g
-    → ((k : ℕ) → FrameByte lim f k → getD f k 0 ≡ getD g k 0) → readFile lim g ≡ readFile lim f
-unfolding readFile
-frames-decide lim f g r l agree =
-    alike-kept (λ _. true) lim f g l (run (header (length f)) f 0) refl r
-    (λ x q e. (seen-kept f g (trace (header (length f)) f 0) (λ k s. agree k (inl s)), (seen-kept f g (treeOf lim f x) (λ k s. agree k (inr (x, q, e, s))), tt)))
-    .same-reading
 
 -- the two files agree on the n bytes from p on
 abbrev pub Agree : List ℕ → List ℕ → ℕ → ℕ → Type 0
@@ -165,11 +161,121 @@ module _ (free : Part → Bool) (f g : List ℕ) where
 
   pub rows-alike : (lim : Limits) {ns : List Node} {is : List Item} → T (not (free (plain name))) → Alike free lim f g ns is → (i : ℕ) → i < length is → RowAlike (itemAt is i)
   rows-alike lim {ns} {is} u a =
-      let h = a .header in
+      let log = a .read-as .log in
+      let y = row-alike log (length f) (length f) (a .keeps) (log-shows (Agree f g) (a .read-as) (names-agree u log (a .keeps))) in
+      subst (λ v. (i : ℕ) → i < length v → RowAlike (itemAt v i)) (a .read-as .items-are) y
+
+-- ---- the parts lie apart
+
+-- k is a byte of a detached node
+abbrev pub Taken : List Node → ℕ → Type 0
+Taken [] k = ⊥
+Taken (r ∷ ns) k = ((r .detached ≡ 1) × (r .start ≤ k) × (k < r .start + r .size)) ⊎ Taken ns k
+
+taken-on : (ns ms : List Node) (k : ℕ) → Taken ns k → Taken (ns ++ ms) k
+taken-on (r ∷ ns) ms k (inl x) = inl x
+taken-on (r ∷ ns) ms k (inr y) = inr (taken-on ns ms k y)
+
+taken-own : (ns ms : List Node) (k : ℕ) → Taken ms k → Taken (ns ++ ms) k
+taken-own [] ms k x = x
+taken-own (r ∷ ns) ms k x = inr (taken-own ns ms k x)
+
+taken-parts : (ns ms : List Node) (k : ℕ) → Taken (ns ++ ms) k → Taken ns k ⊎ Taken ms k
+taken-parts [] ms k x = inr x
+taken-parts (r ∷ ns) ms k (inl x) = inl (inl x)
+taken-parts (r ∷ ns) ms k (inr y) = elim (taken-parts ns ms k y) [ inl z ↦ inl (inr z) | inr z ↦ inr z ]
+
+taken-after : (ns : List Node) (at k : ℕ) → From at ns → Taken ns k → at ≤ k
+taken-after (r ∷ ns) at k h (inl x) = omega arith
+taken-after (r ∷ ns) at k h (inr y) = taken-after ns at k (h .1) y
+
+-- none before the first
+from-taken : (ns : List Node) (p end k : ℕ) → p ≤ k → Taken ns k → takenFrom ns p end ≤ k
+unfolding takenFrom if_then_else_
+from-taken (r ∷ ns) p end k l (inl x) =
+    let b : (eqb (r .detached) 1 && ltb p (r .start + r .size)) ≡ true = ap₂ _&&_ (eq-eqb _ _ (x .0)) (lt-ltb p (r .start + r .size) (omega arith)) in
+    rw b (omega arith)
+from-taken (r ∷ ns) p end k l (inr y) = let z = from-taken ns p end k l y in by (eqb (r .detached) 1 && ltb p (r .start + r .size)) z
+  where
+    by : (b : Bool) → takenFrom ns p end ≤ k → (if b then min (max p (r .start)) (takenFrom ns p end) else takenFrom ns p end) ≤ k
+    by true z = omega arith
+    by false z = z
+
+module _ (free : Part → Bool) (lim : Limits) (f : List ℕ) (h : Header) where
+  -- k lies in the tree or in a detached node; and where these lie
+  abbrev pub Within : List Node → ℕ → Type 0
+  Within ns k = ((h .extent .start ≤ k) × (k < h .extent .last + 1)) ⊎ Taken ns k
+
+  -- what was read lies there, behind the header
+  record Lies (log : Events) : Type 0 where
+    sound : Sound free (Within (nodesOf log)) log
+    behind : (k : ℕ) → Taken (nodesOf log) k → h .extent .end ≤ k
+
+  tree-lies : {m : Made} {q : ℕ} → run (treeOf lim (length f) h) f (h .extent .start) ≡ ok m q → h .extent .last < length f → h .extent .end ≤ h .extent .start
+      → Lies (trace (treeOf lim (length f) h) f (h .extent .start))
+  tree-lies e l z =
+      let m = treeOf lim (length f) h in
       let x = context lim h (length f) in
-      let y = row-alike (treeOf lim f h) (h .extent .last + 1) (length f) (a .keeps)
-      (tree-shows (Agree f g) x f (h .extent .start) (h .extent .last + 1) (a .inside) (names-agree u (treeOf lim f h) (a .keeps))) in
-      subst (λ v. (i : ℕ) → i < length v → RowAlike (itemAt v i)) (a .items-are) y
+      let v = ends m f (h .extent .start) e in
+      let u = tree-ends x f (h .extent .start) (h .extent .last + 1) (omega arith) e in
+      record {
+        sound = sound-in free (λ k a. inl (a .0, omega arith)) (sound-run free (trace m f (h .extent .start)) (h .extent .start) (chain m f (h .extent .start)));
+        behind = λ k a. let b = taken-after (nodesOf (trace m f (h .extent .start))) (h .extent .start) k (tree-from f x (h .extent .last + 1) (h .extent .start) (omega arith) e) a in omega arith;
+      }
+
+  wider : (ns ms : List Node) (k : ℕ) → Within ns k → Within (ns ++ ms) k
+  wider ns ms k (inl a) = inl a
+  wider ns ms k (inr a) = inr (taken-on ns ms k a)
+
+  -- a node at p in the part of p, which ends before what is taken, meets nothing
+  meets-none : (ns : List Node) (p q k : ℕ) → (p < h .extent .start) ⊎ (h .extent .last < p) → (p < h .extent .start → partEnd h (length f) p ≡ h .extent .start)
+      → q ≤ partEnd h (length f) p → q ≤ takenFrom ns p (partEnd h (length f) p) → Within ns k → p ≤ k → k < q → ⊥
+  meets-none ns p q k (inl a) b c d (inl w) l m = let e = b a in omega arith
+  meets-none ns p q k (inr a) b c d (inl w) l m = omega arith
+  meets-none ns p q k o b c d (inr w) l m = let e = from-taken ns p (partEnd h (length f) p) k l w in omega arith
+
+  more-lies : (log log′ : Events) (r : Node) → h .extent .start ≤ length f → Lies log → Reached lim f h log r log′ → Lies log′
+  unfolding detachedAt
+  more-lies log log′ r z s (known x y) = rw y s
+  more-lies log log′ r z s (added t y) =
+      let x = context lim h (length f) in
+      let m = target lim f h log r in
+      let es = trace m f (r .target) in
+      let o = outside-is h (length f) (r .target) (t .is-outside) in
+      let p = part-is h (length f) (r .target) z in
+      let u = detached-ends x f (r .target) _ _ _ _ (p .0) (t .runs) in
+      let v = ends m f (r .target) (t .runs) in
+      let w = detached-row f x _ _ _ _ (r .target) (p .0) (t .runs) in
+      let from = detached-from f x _ _ _ _ (r .target) (p .0) (t .runs) in
+      let n : nodesOf (log ++ es) ≡ nodesOf log ++ nodesOf es = rows-on nodeOf log es in
+      rw y (record {
+        sound = rw n (sound-in free (λ k. elim [
+          | inl a ↦ wider (nodesOf log) (nodesOf es) k a
+          | inr a ↦ inr (taken-own (nodesOf log) (nodesOf es) k (rw (w .rows-are) (inl (w .detached-is, (let b = w .start in omega arith), (let b = w .stop in omega arith)))))
+        ]) (sound-on free (s .sound) (sound-run free es (r .target) (chain m f (r .target))) (λ k a b. meets-none (nodesOf log) (r .target) (t .after) k (o .2) (p .1) (u .1) (u .2) a (b .0) (let c = b .1 in omega arith))));
+        behind = λ k a. elim (taken-parts (nodesOf log) (nodesOf es) k (rw n at a)) [ inl b ↦ s .behind k b | inr b ↦ (let c = taken-after (nodesOf es) (r .target) k from b in omega arith) ];
+      })
+
+  log-lies : {ns : List Node} {is : List Item} (a : ReadAs lim f h ns is) → Lies (a .log)
+  log-lies a =
+      let w = header-of a in
+      let t = tree-lies (a .tree-is) (w .3) (omega arith) in
+      followed lim f h (λ i. Lies) (λ i log log′ s l. more-lies log log′ _ (omega arith) s) (lim .nodes) 0 _ (λ log e. subst Lies (same e) t) (a .follows) .1
+    where
+      same : {x y : Events} → good x ≡ good y → x ≡ y
+      same e = cc
+
+  -- header, tree and detached nodes
+  abbrev pub Parts : List Node → ℕ → Type 0
+  Parts ns k = (k < h .extent .end) ⊎ Within ns k
+
+  pub all-sound : {ns : List Node} {is : List Item} (a : ReadAs lim f h ns is) → Sound free (Parts (nodesOf (a .log))) (trace (header (length f)) f 0 ++ a .log)
+  all-sound a =
+      let w = header-of a in
+      let z = ends (header (length f)) f 0 (a .header-is) in
+      let l = log-lies a in
+      sound-on free (sound-in free (λ k b. let c = b .1 in omega arith) (sound-run free (trace (header (length f)) f 0) 0 (chain (header (length f)) f 0))) (l .sound)
+      (λ k b. elim [ inl c ↦ omega arith | inr c ↦ (let d = l .behind k c in omega arith) ])
 
 -- ---- demand 3 for the first question
 
@@ -187,10 +293,10 @@ hiddenData (nodeRow r) = false
 hiddenData (itemRow r) = mayDiffer r
 hiddenData (plain x) = false
 
-abbrev Lies : Item → ℕ → Type 0
-Lies r k = T (mayDiffer r) × (r .place ≤ k) × (k < r .place + r .size)
+abbrev LiesIn : Item → ℕ → Type 0
+LiesIn r k = T (mayDiffer r) × (r .place ≤ k) × (k < r .place + r .size)
 
-open-free : (es : Events) (end size k : ℕ) → All (Inside Nothing end size .asks) es → (i : ℕ) → i < length (itemsOf es) → Lies (itemAt (itemsOf es) i) k → Free hiddenData es k
+open-free : (es : Events) (end size k : ℕ) → All (Inside Nothing end size .asks) es → (i : ℕ) → i < length (itemsOf es) → LiesIn (itemAt (itemsOf es) i) k → Free hiddenData es k
 unfolding rowsOf
 open-free [] end size k a i l h = absurd (omega arith)
 open-free (seen κ p ∷ es) end size k a i l h = open-free es end size k a i l h
@@ -199,18 +305,45 @@ open-free (passed (itemRow r) p n ∷ es) end size k a zero l h = let x = a .0 .
 open-free (passed (itemRow r) p n ∷ es) end size k a (suc i) l h = inr (open-free es end size k (a .1) i (omega arith) h)
 open-free (passed (plain x) p n ∷ es) end size k a i l h = inr (open-free es end size k (a .1) i l h)
 
+-- a free byte of the log is one of all
+free-behind : (free : Part → Bool) (es fs : Events) (k : ℕ) → Free free fs k → Free free (es ++ fs) k
+free-behind free [] fs k x = x
+free-behind free (seen κ p ∷ es) fs k x = free-behind free es fs k x
+free-behind free (passed w p n ∷ es) fs k x = inr (free-behind free es fs k x)
+
 pub hidden-alike : (lim : Limits) (f g : List ℕ) {h : Header} {ns : List Node} {is : List Item} → readFile lim f ≡ rows h ns is → DifferInHidden is f g → Alike hiddenData lim f g ns is
-unfolding readFile readTree
 hidden-alike lim f g {h} {ns} {is} r d =
-    alike-kept hiddenData lim f g (d .same-length) (run (header (length f)) f 0) refl r λ x q e.
-    kept-all hiddenData f g (parts lim f x) (apart lim f e) λ k i n.
+    let a = read-back lim f r in
+    alike-kept hiddenData lim f g (d .same-length) r a
+    (sound-kept hiddenData f g (trace (header (length f)) f 0 ++ a .log) (all-sound hiddenData lim f h a) λ k i n.
     past-end f g (d .same-length) k λ s. d .elsewhere k s λ o.
-    let z = at-end any-free f (header-on (length f)) e in
-    let m = tree (context lim x (length f)) (x .extent .last + 1) in
-    let w = reading-same f g x (run m f (x .extent .start)) (trace m f (x .extent .start)) (subst (λ v. readTree lim f v ≡ rows h ns is) e r) in
-    n (inr (inl (open-free (treeOf lim f x) (x .extent .last + 1) (length f) k (tree-inside (context lim x (length f)) f (x .extent .start) (x .extent .last + 1) (omega arith))
-    (o .0) (subst (λ v. o .0 < length v) (sym (w .2)) (o .1)) (subst (λ v. Lies (itemAt v (o .0)) k) (sym (w .2)) (o .2, o .3, o .4)))))
+    n (free-behind hiddenData (trace (header (length f)) f 0) (a .log) k (open-free (a .log) (length f) (length f) k (log-inside a) (o .0) (subst (λ v. o .0 < length v) (sym (a .items-are)) (o .1))
+    (subst (λ v. LiesIn (itemAt v (o .0)) k) (sym (a .items-are)) (o .2, o .3, o .4)))))
 
 -- two files that differ only in data bytes of the first's hidden contents: the second is accepted too, and reads the same
 pub demand3 : (lim : Limits) (f g : List ℕ) {h : Header} {ns : List Node} {is : List Item} → readFile lim f ≡ rows h ns is → DifferInHidden is f g → readFile lim g ≡ readFile lim f
 demand3 lim f g r d = hidden-alike lim f g r d .same-reading
+
+-- ---- the frame bytes alone
+
+-- k is a byte that is read
+abbrev pub Seen : Events → ℕ → Type 0
+Seen [] k = ⊥
+Seen (seen κ p ∷ es) k = (p ≡ k) ⊎ Seen es k
+Seen (passed w p n ∷ es) k = Seen es k
+
+seen-kept : (f g : List ℕ) (es : Events) → ((k : ℕ) → Seen es k → getD f k 0 ≡ getD g k 0) → Kept (λ _. true) f g es
+seen-kept f g [] h = tt
+seen-kept f g (seen κ p ∷ es) h = (h p (inl refl), seen-kept f g es (λ k s. h k (inr s)))
+seen-kept f g (passed w p n ∷ es) h = (λ u. absurd u, seen-kept f g es h)
+
+-- the reading of an accepted file depends on its frame bytes alone: those of header, tree and detached nodes
+pub frames-decide : (lim : Limits) (f g : List ℕ) {h : Header} {ns : List Node} {is : List Item} (r : readFile lim f ≡ rows h ns is) → length f ≡ length g
+    → ((k : ℕ) → Seen (trace (header (length f)) f 0 ++ read-back lim f r .log) k → getD f k 0 ≡ getD g k 0) → readFile lim g ≡ readFile lim f
+frames-decide lim f g r l agree = alike-kept (λ _. true) lim f g l r (read-back lim f r) (seen-kept f g (trace (header (length f)) f 0 ++ read-back lim f r .log) agree) .same-reading
+
+-- ---- E13: with any choice of what is free, files that agree on the other bytes of header, tree and detached nodes read alike; the bytes outside these are no matter
+
+pub parts-decide : (free : Part → Bool) (lim : Limits) (f g : List ℕ) {h : Header} {ns : List Node} {is : List Item} (r : readFile lim f ≡ rows h ns is) → length f ≡ length g
+    → ((k : ℕ) → Parts free lim f h (nodesOf (read-back lim f r .log)) k → (Free free (trace (header (length f)) f 0 ++ read-back lim f r .log) k → ⊥) → getD f k 0 ≡ getD g k 0) → readFile lim g ≡ readFile lim f
+parts-decide free lim f g {h} r l agree = let a = read-back lim f r in alike-kept free lim f g l r a (sound-kept free f g (trace (header (length f)) f 0 ++ a .log) (all-sound free lim f h a) agree) .same-reading

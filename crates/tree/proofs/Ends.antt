@@ -6,14 +6,19 @@ use mathlib.Core.List.{List}
 use Prim.Native.Nat.{ℕ, zero, suc, _+_, _-_, _≤_, _<_}
 use native.Mathlib.Omega.{arith}
 use borrow.Author.Tests.{leb-true}
-use Rattle.cursor.specs.Machine.{ok, run, trace}
-use Rattle.cursor.specs.Rows.{P}
-use Rattle.cursor.proofs.Wp.{Wp, All, asked, given, wp-after, wp-weaken, wp-ret, wp-refuse, wp-here, wp-if, wp-check, wp-place, wp-skip, wp-times}
+use lib.Dec.{eqb}
+use Rattle.cursor.specs.Machine.{ok, run, trace, _>>_, if_then_else_, skip, times}
+use Rattle.cursor.specs.Rows.{nodeRow, P}
+use Rattle.cursor.proofs.Wp.{Wp, All, at-end, asked, given, wp-after, wp-weaken, wp-ret, wp-refuse, wp-here, wp-if, wp-check, wp-place, wp-skip, wp-times}
+use Rattle.metadata.specs.Tables.{plusNode}
 use Rattle.metadata.specs.Metadata.{Context}
 use Rattle.metadata.specs.declared.Made.{Made}
 use Rattle.metadata.proofs.Ends.{OfNames, Nothing, Given, inside-free, Inside}
+use Rattle.node.specs.Node.{inTree, loose}
+use Rattle.node.specs.declared.Standing.{Standing}
+use Rattle.node.specs.declared.Front.{Front}
 use Rattle.node.proofs.Ends.{FrontIn, front-on}
-use Rattle.tree.specs.Tree.{contents, folder, node, tree}
+use Rattle.tree.specs.Tree.{contents, folder, node, tree, detached}
 
 module _ (N : OfNames) (top size : ℕ) where
   pub contents-fill : (reference end : ℕ) (m : Made) (at : ℕ) → end ≤ top → at ≤ end → Wp (Inside N top size) (contents reference end m) (λ _ q. q ≡ end) at
@@ -24,27 +29,51 @@ module _ (N : OfNames) (top size : ℕ) where
   unfolding folder
   folder-fills {end = end} w = wp-after w λ m q h. wp-place _ q (wp-check _ _ λ t. wp-ret (omega (arith, leb-true end q t)))
 
--- a node moves on, and ends in the part that holds it
-pub node-on : (N : OfNames) (top d : ℕ) (x : Context) (parent least : ℕ) (m : Made) (end at : ℕ) → end ≤ top → end ≤ x .size
-    → Wp (Inside N top (x .size)) (node d x parent least end m) (λ _ q. (at < q) × (q ≤ end) × (least ≤ q)) at
-unfolding node
-node-on N top zero x parent least m end at o i = wp-here wp-refuse
-node-on N top (suc d) x parent least m end at o i =
-    wp-place _ at (wp-check _ _ λ t₁.
-    wp-after (front-on N top x parent (16 - d) least end m at o i) λ w q y.
-    let a = y .within in let b = y .inside in let c = y .least-is in let e = y .start in let g = y .moves in
-    wp-skip _ _ (y .header, omega arith, y .leads) (λ _. wp-weaken
-    (wp-if (λ t. contents-fill N top (x .size) _ (at + w .row .size) _ (q + 0) (omega arith) (omega arith)) λ t.
+-- a node's row, and what it holds, which fills it
+pub held-fills : (N : OfNames) (top d : ℕ) (x : Context) (s : Standing) (m : Made) (at : ℕ) (w : Front) (q : ℕ) → s .end .0 ≤ top → FrontIn x s m at w q
+    → ((t : Made) (p : ℕ) → p ≤ at + w .row .size → Wp (Inside N top (x .size)) (node d x (m .nodes) (inTree 0 (at + w .row .size)) t) (λ _ v. (p ≤ v) × (v ≤ at + w .row .size)) p)
+    → Wp (Inside N top (x .size)) (skip (nodeRow (w .row)) 0 >> if eqb (w .row .held) 0 then contents (w .row .reference) (at + w .row .size) (plusNode (w .made))
+    else folder (at + w .row .size) (times (w .row .held) (node d x (m .nodes) (inTree 0 (at + w .row .size))) (plusNode (w .made)))) (λ _ v. v ≡ at + w .row .size) q
+held-fills N top d x s m at w q o y children =
+    let a = y .within in let b = y .inside in let e = y .start in
+    wp-skip _ _ (y .header, omega arith, y .leads) (λ _.
+    wp-if (λ t. contents-fill N top (x .size) _ (at + w .row .size) _ (q + 0) (omega arith) (omega arith)) λ t.
     folder-fills N top (x .size)
-    (wp-weaken
-    (wp-times (λ _. Unit {0}) (w .row .held) _ (λ s p l j. wp-weaken (node-on N top d x (m .nodes) 0 s (at + w .row .size) p (omega arith) (omega arith)) (λ _ v z. (tt, omega arith, omega arith))) tt (omega arith))
-    (λ _ v z. z .2)))
-    (λ _ v z. (omega arith, omega arith, omega arith))))
+    (wp-weaken (wp-times (λ _. Unit {0}) (w .row .held) _ (λ t p l j. wp-weaken (children t p l) (λ _ v z. (tt, z .0, z .1))) tt (omega arith)) (λ _ v z. z .2)))
+
+-- a node moves on, and ends in the part that holds it
+pub node-on : (N : OfNames) (top d : ℕ) (x : Context) (parent : ℕ) (s : Standing) (m : Made) (at : ℕ) → s .end .0 ≤ top → s .end .0 ≤ x .size
+    → Wp (Inside N top (x .size)) (node d x parent s m) (λ _ q. (at < q) × (q ≤ s .end .0) × (s .least .0 ≤ q) × (q ≤ s .taken .0)) at
+unfolding node
+node-on N top zero x parent s m at o i = wp-here wp-refuse
+node-on N top (suc d) x parent s m at o i =
+    wp-place _ at (wp-check _ _ λ t₁.
+    wp-after (front-on N top x parent (16 - d) s m at o i) λ w q y.
+    let a = y .within in let b = y .inside in let c = y .least-is in let e = y .start in let g = y .moves in let j = y .taken-is in
+    wp-weaken (held-fills N top d x s m at w q o y (λ t p l. wp-weaken (node-on N top d x (m .nodes) (inTree 0 (at + w .row .size)) t p (omega arith) (omega arith)) (λ _ v z. (omega arith, z .1))))
+    (λ _ v z. (omega arith, omega arith, omega arith, omega arith)))
 
 -- every row of a tree lies in it, and its custom name was passed
-pub tree-shows : (N : OfNames) (x : Context) (f : List ℕ) (at end : ℕ) → end ≤ x .size → All (Given N) (trace (tree x end) f at) → All (Inside N end (x .size) .asks) (trace (tree x end) f at)
+pub tree-shows : (N : OfNames) (x : Context) (f : List ℕ) (at end : ℕ) → end ≤ x .size → All (Given N) (trace (tree x end) f at) → All (Inside N (x .size) (x .size) .asks) (trace (tree x end) f at)
 unfolding tree
-tree-shows N x f at end i g = asked f (node-on N end 16 x 0 end _ end at (omega arith) i) g
+tree-shows N x f at end i g = asked f (node-on N (x .size) 16 x 0 (inTree end end) _ at i i) g
 
-pub tree-inside : (x : Context) (f : List ℕ) (at end : ℕ) → end ≤ x .size → All (Inside Nothing end (x .size) .asks) (trace (tree x end) f at)
-tree-inside x f at end i = tree-shows Nothing x f at end i (given (Inside Nothing end (x .size)) (inside-free end (x .size)) (trace (tree x end) f at))
+pub tree-inside : (x : Context) (f : List ℕ) (at end : ℕ) → end ≤ x .size → All (Inside Nothing (x .size) (x .size) .asks) (trace (tree x end) f at)
+tree-inside x f at end i = tree-shows Nothing x f at end i (given (Inside Nothing (x .size) (x .size)) (inside-free (x .size) (x .size)) (trace (tree x end) f at))
+
+-- the same of a detached node
+pub detached-shows : (N : OfNames) (x : Context) (f : List ℕ) (at end taken named : ℕ) (m : Made) → end ≤ x .size → All (Given N) (trace (detached x end taken named m) f at)
+    → All (Inside N (x .size) (x .size) .asks) (trace (detached x end taken named m) f at)
+unfolding detached
+detached-shows N x f at end taken named m i g = asked f (node-on N (x .size) 17 x (m .nodes) (loose end taken named) m at i i) g
+
+pub detached-inside : (x : Context) (f : List ℕ) (at end taken named : ℕ) (m : Made) → end ≤ x .size → All (Inside Nothing (x .size) (x .size) .asks) (trace (detached x end taken named m) f at)
+detached-inside x f at end taken named m i = detached-shows Nothing x f at end taken named m i (given (Inside Nothing (x .size) (x .size)) (inside-free (x .size) (x .size)) (trace (detached x end taken named m) f at))
+
+pub detached-ends : (x : Context) (f : List ℕ) (at end taken named : ℕ) (m : Made) → end ≤ x .size → {m′ : Made} {q : ℕ} → run (detached x end taken named m) f at ≡ ok m′ q → (at < q) × (q ≤ end) × (q ≤ taken)
+unfolding detached
+detached-ends x f at end taken named m i e = let w = at-end (inside-free (x .size) (x .size)) f (node-on Nothing (x .size) 17 x (m .nodes) (loose end taken named) m at i i) e in (w .0, w .1, w .3)
+
+pub tree-ends : (x : Context) (f : List ℕ) (at end : ℕ) → end ≤ x .size → {m : Made} {q : ℕ} → run (tree x end) f at ≡ ok m q → q ≤ end
+unfolding tree
+tree-ends x f at end i e = at-end (inside-free (x .size) (x .size)) f (node-on Nothing (x .size) 16 x 0 (inTree end end) _ at i i) e .1

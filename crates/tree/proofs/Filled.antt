@@ -7,7 +7,7 @@ use native.Mathlib.Nat.{zero-add, add-zero, sub-zero, zero-sub, suc-sub-suc}
 use native.Mathlib.Omega.{arith}
 use lib.ListN.{length, getD, replicate, take, drop, length-replicate}
 use lib.Seq.{sets, sets-eq, take-at}
-use Rattle.cursor.specs.Machine.{Prog, ret, refuse, here, byte, pass, Out, ok, refused, Event, seen, passed, run, trace, exec, rowsOf}
+use Rattle.cursor.specs.Machine.{Prog, ret, refuse, here, byte, pass, Out, ok, refused, Event, seen, passed, run, trace, exec, puts, rowsOf}
 use Rattle.cursor.specs.Rows.{Part, nodeRow, itemRow, plain, P, Events}
 use Rattle.cursor.specs.declared.Node.{Node}
 use Rattle.cursor.specs.declared.Item.{Item}
@@ -18,7 +18,7 @@ use Rattle.tree.specs.Reading.{nodesOf, itemsOf, allNodes, allItems, pad
 -- the rows of events, behind those that are there
 abbrev pub filled : Events → State → State
 filled es σ = record {
-  nodes = sets (σ .nodes) (σ .made .nodes * 12) (allNodes (nodesOf es));
+  nodes = sets (σ .nodes) (σ .made .nodes * 13) (allNodes (nodesOf es));
   items = sets (σ .items) (σ .made .items * 10) (allItems (itemsOf es));
   made = record { nodes = σ .made .nodes + length (nodesOf es); items = σ .made .items + length (itemsOf es) };
 }
@@ -26,7 +26,7 @@ filled es σ = record {
 filled-more : (w : Part) (p n : ℕ) (es : Events) (σ : State) → filled es (put w p n σ) ≡ filled (passed w p n ∷ es) σ
 unfolding rowsOf
 filled-more (nodeRow r) p n es σ =
-    let a : (σ .made .nodes + 1) * 12 ≡ suc (suc (suc (suc (suc (suc (suc (suc (suc (suc (suc (suc (σ .made .nodes * 12)))))))))))) = omega arith in
+    let a : (σ .made .nodes + 1) * 13 ≡ suc (suc (suc (suc (suc (suc (suc (suc (suc (suc (suc (suc (suc (σ .made .nodes * 13))))))))))))) = omega arith in
     let b : σ .made .nodes + 1 + length (nodesOf es) ≡ σ .made .nodes + suc (length (nodesOf es)) = omega arith in
     rw (a, b)
 filled-more (itemRow r) p n es σ =
@@ -34,6 +34,12 @@ filled-more (itemRow r) p n es σ =
     let b : σ .made .items + 1 + length (itemsOf es) ≡ σ .made .items + suc (length (itemsOf es)) = omega arith in
     rw (a, b)
 filled-more (plain x) p n es σ = refl
+
+pub puts-fills : (es : Events) (σ : State) → puts put es σ ≡ filled es σ
+unfolding puts rowsOf
+puts-fills [] σ = rw (add-zero (σ .made .nodes), add-zero (σ .made .items))
+puts-fills (seen κ p ∷ es) σ = puts-fills es σ
+puts-fills (passed w p n ∷ es) σ = puts-fills es (put w p n σ) ∙ filled-more w p n es σ
 
 pub exec-fills : {A : Type 0} (m : P A) (f : List ℕ) (at : ℕ) (σ : State) → exec put m f at σ ≡ still (run m f at) (filled (trace m f at) σ)
 unfolding exec run trace rowsOf
@@ -62,7 +68,7 @@ pub padded-behind : (ws rest : List ℕ) {t : List ℕ} {n : ℕ} → t ≡ ws +
 unfolding padded
 padded-behind ws rest {t} {n} e k = let h : take n t ≡ ws = ap (λ (x : List ℕ). take n x) e ∙ take-at ws rest n (sym k) in rw (h, k)
 
-pub nodes-length : (ns : List Node) → length (allNodes ns) ≡ length ns * 12
+pub nodes-length : (ns : List Node) → length (allNodes ns) ≡ length ns * 13
 nodes-length [] = refl
 nodes-length (r ∷ ns) = let e = nodes-length ns in omega arith
 

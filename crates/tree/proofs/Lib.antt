@@ -1,11 +1,16 @@
 pub mod Zeros
 pub mod Ends
 pub mod Starts
+pub mod Follow
+pub mod Shown
+pub mod TreeRows
 pub mod Nodes
 pub mod Targets
 pub mod Filled
+pub mod Growing
 pub mod Whole
 pub mod Rows
 pub mod Demand
 pub mod Order
+pub mod Links
 pub mod Listed

@@ -1,13 +1,14 @@
--- Each refusal of the reader has a number of the list, 1 to 17: the header's, the tree's, and that of a target that is no node's place.
+-- Each refusal of the reader has a number of the list, 1 to 24: the header's, the tree's, and those of targets.
 -- Assumes nothing.
 use mathlib.Core.Path.{_≡_, refl, subst}
 use mathlib.Core.Bool.{Bool, true, false}
 use mathlib.Core.List.{List, [], _∷_}
 use Prim.Native.Nat.{ℕ, zero, suc, _+_, _-_, _<_, _≤_}
 use native.Mathlib.Omega.{arith}
+use lib.Dec.{ltb}
 use lib.ListN.{length}
 use Rattle.cursor.specs.Machine.{Out, ok, refused, run, trace}
-use Rattle.cursor.specs.Rows.{P}
+use Rattle.cursor.specs.Rows.{P, Events}
 use Rattle.cursor.specs.declared.Node.{Node}
 use Rattle.cursor.proofs.Listed.{InList, Listed, refused-listed, after, ends, stops, at-place, either, checks, places, passes, counts}
 use Rattle.header.specs.Header.{Header, header}
@@ -15,9 +16,12 @@ use Rattle.header.proofs.Listed.{header-listed}
 use Rattle.metadata.specs.Metadata.{Context}
 use Rattle.metadata.specs.declared.Limits.{Limits}
 use Rattle.metadata.specs.declared.Made.{Made}
+use Rattle.node.specs.Node.{inTree, loose}
+use Rattle.node.specs.declared.Standing.{Standing}
 use Rattle.node.proofs.Listed.{front-listed}
-use Rattle.tree.specs.Tree.{contents, folder, node, tree}
-use Rattle.tree.specs.Reading.{Reading, refusal, lost, offsetAt, checked, targets, reading, context, readTree, readFile}
+use Rattle.tree.specs.Tree.{contents, folder, node, tree, detached}
+use Rattle.tree.specs.Rows.{nodeAt, if_then_else_}
+use Rattle.tree.specs.Reading.{nodesOf, Result, good, bad, Reading, rows, refusal, logged, lost, offsetAt, outside, detachedAt, reach, follow, reading, context, readTree, readFile}
 
 -- ---- the tree
 
@@ -29,46 +33,73 @@ folder-listed : (end : ℕ) {children : P Made} → Listed children → Listed (
 unfolding folder
 folder-listed end w = after w λ m. places λ q. checks _ _ _ (omega arith, omega arith) ends
 
-node-listed : (d : ℕ) (x : Context) (parent least end : ℕ) (m : Made) → Listed (node d x parent least end m)
+node-listed : (d : ℕ) (x : Context) (parent : ℕ) (s : Standing) (m : Made) → Listed (node d x parent s m)
 unfolding node
-node-listed zero x parent least end m = at-place λ p. stops (omega arith, omega arith)
-node-listed (suc d) x parent least end m =
+node-listed zero x parent s m = at-place λ p. stops (omega arith, omega arith)
+node-listed (suc d) x parent s m =
     places λ p. checks _ _ _ (omega arith, omega arith)
-    (after (front-listed x parent (16 - d) least end m) λ w. passes _ _
+    (after (front-listed x parent (16 - d) s m) λ w. passes _ _
     (either _ (contents-listed _ _ _)
-    (folder-listed _ (counts (w .row .held) _ (λ s. node-listed d x (m .nodes) 0 (p + w .row .size) s)))))
+    (folder-listed _ (counts (w .row .held) _ (λ t. node-listed d x (m .nodes) (inTree 0 (p + w .row .size)) t)))))
 
 pub tree-listed : (x : Context) (end : ℕ) → Listed (tree x end)
 unfolding tree
-tree-listed x end = node-listed 16 x 0 end end (record { nodes = 0; items = 0 })
+tree-listed x end = node-listed 16 x 0 (inTree end end) (record { nodes = 0; items = 0 })
+
+detached-listed : (x : Context) (end taken named : ℕ) (m : Made) → Listed (detached x end taken named m)
+unfolding detached
+detached-listed x end taken named m = node-listed 17 x (m .nodes) (loose end taken named) m
 
 -- ---- the file
 
-module _ {n p : ℕ} where
-  same : {k q : ℕ} → InList k → refusal k q ≡ refusal n p → InList n
-  same {k} i e = let z : k ≡ n = cc in subst (λ v. InList v) z i
+same-bad : {A : Type 0} {k q n p : ℕ} → InList k → _≡_ {A = Result A} (bad k q) (bad n p) → InList n
+same-bad {k = k} {n = n} i e = let z : k ≡ n = cc in subst (λ v. InList v) z i
 
-  -- the check of the targets refuses by 16, or lets through what was there
-  checked-listed : (b : Bool) (q : ℕ) {o : Reading} → (o ≡ refusal n p → InList n) → checked b q o ≡ refusal n p → InList n
-  unfolding checked
-  checked-listed true q i e = same (omega arith, omega arith) e
-  checked-listed false q i e = i e
+not-good : {A B : Type 0} {a : A} {n p : ℕ} → _≡_ {A = Result A} (good a) (bad n p) → B
+not-good e = let z : _≡_ {A = ℕ} 0 1 = cc in absurd (omega arith)
 
-  targets-listed : (f : List ℕ) (all rs : List Node) {o : Reading} → (o ≡ refusal n p → InList n) → targets f all rs o ≡ refusal n p → InList n
-  unfolding targets
-  targets-listed f all [] i e = i e
-  targets-listed f all (r ∷ rs) i e = checked-listed (lost all r) (offsetAt f r) (targets-listed f all rs i) e
+logged-listed : {m : P Made} (f : List ℕ) (at : ℕ) → Listed m → (log : Events) (o : Out Made) → run m f at ≡ o → {n p : ℕ} → logged log o (trace m f at) ≡ bad n p → InList n
+unfolding logged
+logged-listed f at l log (ok v q) e z = not-good z
+logged-listed f at l log (refused k q) e z = same-bad (refused-listed f at l e) z
 
-  of-tree : (x : Context) (end at : ℕ) (g : Header) (f : List ℕ) (o : Out Made) → run (tree x end) f at ≡ o → reading g f o (trace (tree x end) f at) ≡ refusal n p → InList n
+module _ (lim : Limits) (f : List ℕ) (h : Header) {n p : ℕ} where
+  reach-listed : (log : Events) (r : Node) → reach lim f h log r ≡ bad n p → InList n
+  unfolding reach if_then_else_ detachedAt
+  reach-listed log r e = by (lost (nodesOf log) r) (outside h (length f) (r .target)) e
+    where
+      m : P Made
+      m = detachedAt lim h (length f) log (r .target) (offsetAt f r)
+
+      by : (b c : Bool) → (if b then if c then logged log (run m f (r .target)) (trace m f (r .target)) else bad 16 (offsetAt f r) else good log) ≡ bad n p → InList n
+      by true true z = logged-listed f (r .target) (detached-listed _ _ _ _ _) log (run m f (r .target)) refl z
+      by true false z = same-bad (omega arith, omega arith) z
+      by false true z = not-good z
+      by false false z = not-good z
+
+  follow-listed : (k i : ℕ) (o : Result Events) → (o ≡ bad n p → InList n) → follow k lim f h i o ≡ bad n p → InList n
+  unfolding follow if_then_else_
+  follow-listed zero i o base e = base e
+  follow-listed (suc k) i (bad a b) base e = base e
+  follow-listed (suc k) i (good log) base e = by (ltb i (length (nodesOf log))) (follow-listed k (i + 1) (reach lim f h log (nodeAt (nodesOf log) i)) (reach-listed log (nodeAt (nodesOf log) i))) e
+    where
+      by : (b : Bool) → (follow k lim f h (i + 1) (reach lim f h log (nodeAt (nodesOf log) i)) ≡ bad n p → InList n)
+          → (if b then follow k lim f h (i + 1) (reach lim f h log (nodeAt (nodesOf log) i)) else good log) ≡ bad n p → InList n
+      by true rest z = rest z
+      by false rest z = not-good z
+
+module _ (lim : Limits) (f : List ℕ) {n p : ℕ} where
+  of-log : (g : Header) (o : Result Events) → (o ≡ bad n p → InList n) → reading g o ≡ refusal n p → InList n
   unfolding reading
-  of-tree x end at g f (ok m q) e r = targets-listed f _ _ (λ k. let z : _≡_ {A = ℕ} 0 1 = cc in absurd (omega arith)) r
-  of-tree x end at g f (refused k q) e r = same (refused-listed f at (tree-listed x end) e) r
+  of-log g (good log) base e = let z : _≡_ {A = ℕ} 0 1 = cc in absurd (omega arith)
+  of-log g (bad k q) base e = base (let z : k ≡ n = cc in let y : q ≡ p = cc in rw (z, y) refl)
 
-  of-header : (lim : Limits) (f : List ℕ) (o : Out Header) → run (header (length f)) f 0 ≡ o → readTree lim f o ≡ refusal n p → InList n
+  of-header : (o : Out Header) → run (header (length f)) f 0 ≡ o → readTree lim f o ≡ refusal n p → InList n
   unfolding readTree
-  of-header lim f (ok g q) e r = of-tree (context lim g (length f)) (g .extent .last + 1) (g .extent .start) g f (run (tree (context lim g (length f)) (g .extent .last + 1)) f (g .extent .start)) refl r
-  of-header lim f (refused k q) e r = same (refused-listed f 0 (header-listed (length f)) e) r
+  of-header (ok g q) e r =
+      of-log g _ (follow-listed lim f g (lim .nodes) 0 _ (logged-listed f (g .extent .start) (tree-listed (context lim g (length f)) (g .extent .last + 1)) [] (run (tree (context lim g (length f)) (g .extent .last + 1)) f (g .extent .start)) refl)) r
+  of-header (refused k q) e r = let z : k ≡ n = cc in subst (λ v. InList v) z (refused-listed f 0 (header-listed (length f)) e)
 
-pub refusal-listed : (lim : Limits) (f : List ℕ) {n p : ℕ} → readFile lim f ≡ refusal n p → (0 < n) × (n ≤ 17)
+pub refusal-listed : (lim : Limits) (f : List ℕ) {n p : ℕ} → readFile lim f ≡ refusal n p → (0 < n) × (n ≤ 24)
 unfolding readFile
 refusal-listed lim f e = of-header lim f (run (header (length f)) f 0) refl e

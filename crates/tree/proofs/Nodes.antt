@@ -24,7 +24,8 @@ use Rattle.metadata.specs.declared.Walked.{Walked}
 use Rattle.metadata.specs.declared.Walked.the-variants.{Done, Refused}
 use Rattle.metadata.proofs.Gives.{done, stopped, fitting, no, yes}
 use Rattle.metadata.proofs.Ends.{Nothing, inside-free}
-use Rattle.node.specs.Node.{front}
+use Rattle.node.specs.Node.{inTree, front}
+use Rattle.node.specs.declared.Standing.{Standing}
 use Rattle.node.specs.declared.Front.{Front}
 use Rattle.node.proofs.Ends.{front-inside}
 use Rattle.tree.specs.Tree.{contents, folder, node, tree}
@@ -47,26 +48,26 @@ module _ (reference end : ℕ) (m : Made) (s : List ℕ) (at : ℕ) (σ : State)
 
 -- ---- a node
 
-module _ (x : Context) (parent least end : ℕ) (m : Made) (s : List ℕ) (at : ℕ) where
-  pub node-none : (levels : ℕ) (σ : State) → levels ≡ 0 → refused 9 at ≡ exec put (node levels x parent least end m) s at σ
+module _ (x : Context) (parent : ℕ) (z : Standing) (m : Made) (s : List ℕ) (at : ℕ) where
+  pub node-none : (levels : ℕ) (σ : State) → levels ≡ 0 → refused 9 at ≡ exec put (node levels x parent z m) s at σ
   unfolding node
-  node-none levels σ z = rw z (simp executing)
+  node-none levels σ e = rw e (simp executing)
 
-  pub node-limit : (levels : ℕ) (σ : State) → ((levels ≡ 0) → ⊥) → x .limits .nodes ≤ m .nodes → refused 10 at ≡ exec put (node levels x parent least end m) s at σ
+  pub node-limit : (levels : ℕ) (σ : State) → ((levels ≡ 0) → ⊥) → x .limits .nodes ≤ m .nodes → refused 10 at ≡ exec put (node levels x parent z m) s at σ
   unfolding node
   node-limit zero σ some l = absurd (some refl)
   node-limit (suc d) σ some l = simp (executing, le-ltb _ _ l)
 
-  pub node-front : (levels : ℕ) (σ : State) → ((levels ≡ 0) → ⊥) → m .nodes < x .limits .nodes → {n p : ℕ} → exec put (front x parent (17 - levels) least end m) s at σ ≡ refused n p
-      → refused n p ≡ exec put (node levels x parent least end m) s at σ
+  pub node-front : (levels : ℕ) (σ : State) → ((levels ≡ 0) → ⊥) → m .nodes < x .limits .nodes → {n p : ℕ} → exec put (front x parent (17 - levels) z m) s at σ ≡ refused n p
+      → refused n p ≡ exec put (node levels x parent z m) s at σ
   unfolding node
   node-front zero σ some l e = absurd (some refl)
   node-front (suc d) σ some l e = let b : 17 - suc d ≡ 16 - d = omega arith in let e′ = rw b at e in simp (executing, lt-ltb _ _ l, e′)
 
   -- past its front, with its row made
-  node-in : (levels : ℕ) (σ : State) → ((levels ≡ 0) → ⊥) → m .nodes < x .limits .nodes → {w : Front} {τ : State} {p : ℕ} → exec put (front x parent (17 - levels) least end m) s at σ ≡ ok (w, τ) p
-      → exec put (node levels x parent least end m) s at σ
-      ≡ exec put (if eqb (w .row .held) 0 then contents (w .row .reference) (at + w .row .size) (plusNode (w .made)) else folder (at + w .row .size) (times (w .row .held) (node (levels - 1) x (m .nodes) 0 (at + w .row .size)) (plusNode (w .made))))
+  node-in : (levels : ℕ) (σ : State) → ((levels ≡ 0) → ⊥) → m .nodes < x .limits .nodes → {w : Front} {τ : State} {p : ℕ} → exec put (front x parent (17 - levels) z m) s at σ ≡ ok (w, τ) p
+      → exec put (node levels x parent z m) s at σ
+      ≡ exec put (if eqb (w .row .held) 0 then contents (w .row .reference) (at + w .row .size) (plusNode (w .made)) else folder (at + w .row .size) (times (w .row .held) (node (levels - 1) x (m .nodes) (inTree 0 (at + w .row .size))) (plusNode (w .made))))
       s p (put (nodeRow (w .row)) p 0 τ)
   unfolding node
   node-in zero σ some l e = absurd (some refl)
@@ -76,36 +77,36 @@ module _ (x : Context) (parent least end : ℕ) (m : Made) (s : List ℕ) (at : 
       let e′ = rw b at e in
       simp (executing, lt-ltb _ _ l, e′, a, add-zero)
 
-  module _ (levels : ℕ) (some : (levels ≡ 0) → ⊥) (l : m .nodes < x .limits .nodes) (i : end ≤ x .size) (t u u′ : List ℕ) {w : Front} {p : ℕ}
-      (e : exec put (front x parent (17 - levels) least end m) s at (state t u m) ≡ ok (w, state t u′ (w .made)) p)
-      (t′ : List ℕ) (row : t′ ≡ sets t (m .nodes * 12) (nodeWords (w .row))) {stop : ℕ} (is : stop ≡ at + w .row .size) where
-    row-is : sets t (w .made .nodes * 12) (nodeWords (w .row)) ≡ t′
-    row-is = ap (λ k. sets t (k * 12) (nodeWords (w .row))) (front-inside x parent (17 - levels) least end m s at (state t u m) i e .nodes) ∙ sym row
+  module _ (levels : ℕ) (some : (levels ≡ 0) → ⊥) (l : m .nodes < x .limits .nodes) (i : z .end .0 ≤ x .size) (t u u′ : List ℕ) {w : Front} {p : ℕ}
+      (e : exec put (front x parent (17 - levels) z m) s at (state t u m) ≡ ok (w, state t u′ (w .made)) p)
+      (t′ : List ℕ) (row : t′ ≡ sets t (m .nodes * 13) (nodeWords (w .row))) {stop : ℕ} (is : stop ≡ at + w .row .size) where
+    row-is : sets t (w .made .nodes * 13) (nodeWords (w .row)) ≡ t′
+    row-is = ap (λ k. sets t (k * 13) (nodeWords (w .row))) (front-inside x parent (17 - levels) z m s at (state t u m) i e .nodes) ∙ sym row
 
     pub node-file : w .row .held ≡ 0 → {r : Walked} → Gives (x .limits) r t′ u′ (exec put (contents (w .row .reference) stop (plusNode (w .made))) s p (state t′ u′ (plusNode (w .made))))
-        → Gives (x .limits) r t′ u′ (exec put (node levels x parent least end m) s at (state t u m))
-    node-file z {r} g =
-        let y : exec put (node levels x parent least end m) s at (state t u m) ≡ exec put (contents (w .row .reference) stop (plusNode (w .made))) s p (state t′ u′ (plusNode (w .made))) =
-        rw is (node-in levels (state t u m) some l e ∙ simp (eq-eqb _ _ z, executing, row-is)) in
+        → Gives (x .limits) r t′ u′ (exec put (node levels x parent z m) s at (state t u m))
+    node-file none {r} g =
+        let y : exec put (node levels x parent z m) s at (state t u m) ≡ exec put (contents (w .row .reference) stop (plusNode (w .made))) s p (state t′ u′ (plusNode (w .made))) =
+        rw is (node-in levels (state t u m) some l e ∙ simp (eq-eqb _ _ none, executing, row-is)) in
         rw y g
 
     module _ (some-held : (w .row .held ≡ 0) → ⊥) where
-      node-folder : exec put (node levels x parent least end m) s at (state t u m)
-          ≡ exec put (folder stop (times (w .row .held) (node (levels - 1) x (m .nodes) 0 stop) (plusNode (w .made)))) s p (state t′ u′ (plusNode (w .made)))
+      node-folder : exec put (node levels x parent z m) s at (state t u m)
+          ≡ exec put (folder stop (times (w .row .held) (node (levels - 1) x (m .nodes) (inTree 0 stop)) (plusNode (w .made)))) s p (state t′ u′ (plusNode (w .made)))
       node-folder = rw is (node-in levels (state t u m) some l e ∙ simp (ne-eqb _ _ some-held, executing, row-is))
 
-      pub node-children : {n q : ℕ} → exec put (times (w .row .held) (node (levels - 1) x (m .nodes) 0 stop) (plusNode (w .made))) s p (state t′ u′ (plusNode (w .made))) ≡ refused n q
-          → refused n q ≡ exec put (node levels x parent least end m) s at (state t u m)
+      pub node-children : {n q : ℕ} → exec put (times (w .row .held) (node (levels - 1) x (m .nodes) (inTree 0 stop)) (plusNode (w .made))) s p (state t′ u′ (plusNode (w .made))) ≡ refused n q
+          → refused n q ≡ exec put (node levels x parent z m) s at (state t u m)
       unfolding folder
       node-children h = sym (node-folder ∙ simp (executing, h))
 
-      pub node-left : {m′ : Made} {σ : State} {q : ℕ} → exec put (times (w .row .held) (node (levels - 1) x (m .nodes) 0 stop) (plusNode (w .made))) s p (state t′ u′ (plusNode (w .made))) ≡ ok (m′, σ) q
-          → q < stop → refused 15 q ≡ exec put (node levels x parent least end m) s at (state t u m)
+      pub node-left : {m′ : Made} {σ : State} {q : ℕ} → exec put (times (w .row .held) (node (levels - 1) x (m .nodes) (inTree 0 stop)) (plusNode (w .made))) s p (state t′ u′ (plusNode (w .made))) ≡ ok (m′, σ) q
+          → q < stop → refused 15 q ≡ exec put (node levels x parent z m) s at (state t u m)
       unfolding folder
       node-left h k = sym (node-folder ∙ simp (executing, h, lt-leb _ _ k))
 
-      pub node-all : {m′ : Made} {σ : State} {q : ℕ} → exec put (times (w .row .held) (node (levels - 1) x (m .nodes) 0 stop) (plusNode (w .made))) s p (state t′ u′ (plusNode (w .made))) ≡ ok (m′, σ) q
-          → stop ≤ q → ok (m′, σ) q ≡ exec put (node levels x parent least end m) s at (state t u m)
+      pub node-all : {m′ : Made} {σ : State} {q : ℕ} → exec put (times (w .row .held) (node (levels - 1) x (m .nodes) (inTree 0 stop)) (plusNode (w .made))) s p (state t′ u′ (plusNode (w .made))) ≡ ok (m′, σ) q
+          → stop ≤ q → ok (m′, σ) q ≡ exec put (node levels x parent z m) s at (state t u m)
       unfolding folder
       node-all h k = sym (node-folder ∙ simp (executing, h, le-leb _ _ k))
 
@@ -118,27 +119,27 @@ module _ (x : Context) (s t₀ u₀ : List ℕ) (levels parent end at left : ℕ
     pub items-long : length u ≡ length u₀
     pub nodes-fit : m .nodes ≤ x .limits .nodes
     pub items-fit : m .items ≤ x .limits .items
-    pub same : exec put (times left (node levels x parent 0 end) made) s at (state t₀ u₀ made) ≡ exec put (times rest (node levels x parent 0 end) m) s i (state t u m)
+    pub same : exec put (times left (node levels x parent (inTree 0 end)) made) s at (state t₀ u₀ made) ≡ exec put (times rest (node levels x parent (inTree 0 end)) m) s i (state t u m)
 
   pub children-begun : made .nodes ≤ x .limits .nodes → made .items ≤ x .limits .items → Going t₀ u₀ at left made
   children-begun h k = record { nodes-long = refl; items-long = refl; nodes-fit = h; items-fit = k; same = refl }
 
   pub children-done : {t u : List ℕ} {c : Cursor} {rest : ℕ} {m : Made} → Going t u (c .at .0) rest m → rest ≤ 0
-      → Gives (x .limits) (Done m c) t u (exec put (times left (node levels x parent 0 end) made) s at (state t₀ u₀ made))
+      → Gives (x .limits) (Done m c) t u (exec put (times left (node levels x parent (inTree 0 end)) made) s at (state t₀ u₀ made))
   children-done {t} {u} {c} {rest} {m} g z = yes (sym (g .same ∙ exec-timed put s rest (c .at .0) _ m (state t u m) (omega arith))) (g .nodes-fit, g .items-fit)
 
   module _ {t u : List ℕ} {i rest : ℕ} {m : Made} (g : Going t u i rest m) (some : 0 < rest) {t′ u′ : List ℕ} {r : Walked}
-      (d : Gives (x .limits) r t′ u′ (exec put (node levels x parent 0 end m) s i (state t u m))) where
-    turn : exec put (times left (node levels x parent 0 end) made) s at (state t₀ u₀ made)
-        ≡ andThen (exec put (node levels x parent 0 end m) s i (state t u m)) (λ y p. exec put (times (rest - 1) (node levels x parent 0 end) (y .0)) s p (y .1))
+      (d : Gives (x .limits) r t′ u′ (exec put (node levels x parent (inTree 0 end) m) s i (state t u m))) where
+    turn : exec put (times left (node levels x parent (inTree 0 end)) made) s at (state t₀ u₀ made)
+        ≡ andThen (exec put (node levels x parent (inTree 0 end) m) s i (state t u m)) (λ y p. exec put (times (rest - 1) (node levels x parent (inTree 0 end)) (y .0)) s p (y .1))
     turn = g .same ∙ exec-times put s rest i _ m (state t u m) (λ z. omega arith)
 
-    pub children-no : {n : ℕ} {p : FilePlace} → r ≡ Refused n p → Gives (x .limits) (Refused n p) t′ u′ (exec put (times left (node levels x parent 0 end) made) s at (state t₀ u₀ made))
+    pub children-no : {n : ℕ} {p : FilePlace} → r ≡ Refused n p → Gives (x .limits) (Refused n p) t′ u′ (exec put (times left (node levels x parent (inTree 0 end)) made) s at (state t₀ u₀ made))
     children-no h = no (sym (turn ∙ rw (stopped d h) refl))
 
     -- a node moves on, and ends where its holder does or before
     pub children-further : end ≤ x .size → {n : Made} {c : Cursor} → r ≡ Done n c → (i < c .at .0) × (c .at .0 ≤ end)
-    children-further o h = let w = at-end (inside-free end (x .size)) s (node-on Nothing end levels x parent 0 m end i (omega arith) o) (ran put _ s i (state t u m) (done d h)) in (w .0, w .1)
+    children-further o h = let w = at-end (inside-free end (x .size)) s (node-on Nothing end levels x parent (inTree 0 end) m i (omega arith) o) (ran put _ s i (state t u m) (done d h)) in (w .0, w .1)
 
     pub children-on : {n : Made} {c : Cursor} → r ≡ Done n c → length t′ ≡ length t → length u′ ≡ length u → Going t′ u′ (c .at .0) (rest - 1) n
     children-on h j k =
@@ -148,6 +149,6 @@ module _ (x : Context) (s t₀ u₀ : List ℕ) (levels parent end at left : ℕ
 -- ---- the root
 
 pub root-is : {lim : Limits} {r : Walked} {t u : List ℕ} (x : Context) (end : ℕ) (s : List ℕ) (at : ℕ) (σ : State)
-    → Gives lim r t u (exec put (node 16 x 0 end end (record { nodes = 0; items = 0 })) s at σ) → Gives lim r t u (exec put (tree x end) s at σ)
+    → Gives lim r t u (exec put (node 16 x 0 (inTree end end) (record { nodes = 0; items = 0 })) s at σ) → Gives lim r t u (exec put (tree x end) s at σ)
 unfolding tree
 root-is x end s at σ g = g

@@ -12,23 +12,25 @@ use Rattle.cursor.specs.declared.Node.{Node}
 use Rattle.cursor.specs.declared.Item.{Item}
 use Rattle.cursor.proofs.Wp.{at-end}
 use Rattle.cursor.proofs.Leaves.{any-free}
-use Rattle.cursor.proofs.Order.{Orders, Ordered, Made, in-order, after, weaken, ends, stops, at-place, either, checks, places, passes-node, passes-plain, counts}
+use Rattle.cursor.proofs.Order.{Orders, Ordered, Made, ordered-on, in-order, after, weaken, ends, stops, at-place, either, checks, places, passes-node, passes-plain, counts}
 use Rattle.header.specs.Header.{Header, header}
 use Rattle.header.proofs.Ends.{header-on}
 use Rattle.metadata.specs.Metadata.{Context}
 use Rattle.metadata.specs.declared.Limits.{Limits}
 use Rattle.metadata.specs.declared.Made as made
+use Rattle.node.specs.Node.{inTree, loose}
+use Rattle.node.specs.declared.Standing.{Standing}
 use Rattle.node.proofs.Order.{front-orders}
-use Rattle.tree.specs.Tree.{contents, folder, node, tree}
-use Rattle.tree.specs.Reading.{nodesOf, itemsOf, Reading, rows, refusal, reading, context, readTree, readFile}
-use Rattle.tree.specs.Rows.{nodeAt, Rising}
-use Rattle.tree.proofs.Starts.{tree-rises}
-use Rattle.tree.proofs.Rows.{never, rows-of, reading-refused}
+use Rattle.tree.specs.Tree.{contents, folder, node, tree, detached}
+use Rattle.tree.specs.Reading.{nodesOf, itemsOf, good, madeBy, detachedAt, rows, readFile}
+use Rattle.tree.specs.Rows.{nodeAt}
+use Rattle.tree.proofs.Starts.{counted}
+use Rattle.tree.proofs.Follow.{treeOf, Reached, known, added, followed, ReadAs, read-back}
 
 -- ---- the tree makes its rows in order
 
 -- as many node rows as are counted, which are more than n, and no item row since the last of them
-abbrev Above : ℕ → made.Made → ℕ → ℕ → Type 0
+abbrev pub Above : ℕ → made.Made → ℕ → ℕ → Type 0
 Above n m k c = (k ≡ m .nodes) × (c ≡ 0) × (n < m .nodes)
 
 contents-order : (n reference end : ℕ) (m : made.Made) (k c : ℕ) → Above n m k c → Orders (contents reference end m) (Above n) k c
@@ -39,26 +41,22 @@ folder-orders : (n end : ℕ) {children : P made.Made} {k c : ℕ} → Orders ch
 unfolding folder
 folder-orders n end w = after w λ m k c i. places λ q. checks _ _ _ (ends i)
 
-later : (k n q r : ℕ) → k ≡ n → q ≡ r → (n ≡ 0) ⊎ (r < n) → (k ≡ 0) ⊎ (q < k)
-later k n q r a b (inl z) = inl (a ∙ z)
-later k n q r a b (inr l) = inr (omega arith)
-
-node-orders : (d : ℕ) (x : Context) (parent least end : ℕ) (m : made.Made) (k c : ℕ) → k ≡ m .nodes → c ≡ 0 → (m .nodes ≡ 0) ⊎ (parent < m .nodes) → Orders (node d x parent least end m) (Above (m .nodes)) k c
+node-orders : (d : ℕ) (x : Context) (parent : ℕ) (s : Standing) (m : made.Made) (k c : ℕ) → k ≡ m .nodes → c ≡ 0 → parent ≤ m .nodes → Orders (node d x parent s m) (Above (m .nodes)) k c
 unfolding node
-node-orders zero x parent least end m k c a b before = at-place λ p. stops
-node-orders (suc d) x parent least end m k c a b before =
+node-orders zero x parent s m k c a b before = at-place λ p. stops
+node-orders (suc d) x parent s m k c a b before =
     rw (a, b) (places λ p. checks _ _ _
-    (after (front-orders x parent (16 - d) least end m) λ w k c i.
-    passes-node (w .row) 0 (i .2) (later k (m .nodes) (w .row .parent) parent (i .0) (i .3) before)
+    (after (front-orders x parent (16 - d) s m) λ w k c i.
+    passes-node (w .row) 0 (i .2) (let a = i .0 in let b = i .3 in omega arith)
     (either _ (contents-order (m .nodes) _ _ _ (k + 1) 0 (omega arith, refl, omega arith))
     (folder-orders (m .nodes) _
     (counts (Above (m .nodes)) (w .row .held) _
-    (λ s k′ c′ j. weaken (node-orders d x (m .nodes) 0 (p + w .row .size) s k′ c′ (j .0) (j .1) (inr (j .2))) (λ s′ k″ c″ l. (l .0, l .1, omega arith)))
+    (λ t k′ c′ j. weaken (node-orders d x (m .nodes) (inTree 0 (p + w .row .size)) t k′ c′ (j .0) (j .1) (let z = j .2 in omega arith)) (λ s′ k″ c″ l. (l .0, l .1, omega arith)))
     (omega arith, refl, omega arith))))))
 
-tree-orders : (x : Context) (end : ℕ) → Orders (tree x end) (Above 0) 0 0
+pub tree-orders : (x : Context) (end : ℕ) → Orders (tree x end) (Above 0) 0 0
 unfolding tree
-tree-orders x end = node-orders 16 x 0 end end (record { nodes = 0; items = 0 }) 0 0 refl refl (inl refl)
+tree-orders x end = node-orders 16 x 0 (inTree end end) (record { nodes = 0; items = 0 }) 0 0 refl refl (omega arith)
 
 -- ---- what that says of the rows
 
@@ -79,46 +77,68 @@ in-node-order k c (passed (nodeRow r) p n ∷ es) k′ o = rw (o .0) (ap (λ v. 
 in-node-order k c (passed (itemRow r) p n ∷ es) k′ o = rw (o .0) (one-more c k _ ∙ in-node-order k (c + 1) es k′ (o .1))
 in-node-order k c (passed (plain x) p n ∷ es) k′ o = in-node-order k c es k′ o
 
-parents-before : (k c : ℕ) (es : Events) (k′ c′ : ℕ) → Ordered k c es k′ c′ → (i : ℕ) → i < length (nodesOf es) → (k + i ≡ 0) ⊎ (nodeAt (nodesOf es) i .parent < k + i)
+parents-before : (k c : ℕ) (es : Events) (k′ c′ : ℕ) → Ordered k c es k′ c′ → (i : ℕ) → i < length (nodesOf es) → nodeAt (nodesOf es) i .parent ≤ k + i
 unfolding rowsOf
 parents-before k c [] k′ c′ o i l = absurd (omega arith)
 parents-before k c (seen κ p ∷ es) k′ c′ o i l = parents-before k c es k′ c′ o i l
-parents-before k c (passed (nodeRow r) p n ∷ es) k′ c′ o zero l = let e : k + 0 ≡ k = omega arith in rw e (o .1)
-parents-before k c (passed (nodeRow r) p n ∷ es) k′ c′ o (suc i) l = let e : k + suc i ≡ k + 1 + i = omega arith in rw e (parents-before (k + 1) 0 es k′ c′ (o .2) i (omega arith))
+parents-before k c (passed (nodeRow r) p n ∷ es) k′ c′ o zero l = let z = o .1 in omega arith
+parents-before k c (passed (nodeRow r) p n ∷ es) k′ c′ o (suc i) l = let z = parents-before (k + 1) 0 es k′ c′ (o .2) i (omega arith) in omega arith
 parents-before k c (passed (itemRow r) p n ∷ es) k′ c′ o i l = parents-before k (c + 1) es k′ c′ (o .1) i l
 parents-before k c (passed (plain x) p n ∷ es) k′ c′ o i l = parents-before k c es k′ c′ o i l
+
+-- a detached node makes its row behind k others
+pub detached-orders : (x : Context) (end taken named : ℕ) (m : made.Made) → Orders (detached x end taken named m) (Above (m .nodes)) (m .nodes) 0
+unfolding detached
+detached-orders x end taken named m = node-orders 17 x (m .nodes) (loose end taken named) m (m .nodes) 0 refl refl (omega arith)
 
 -- ---- the rows of an accepted file
 
 pub record InOrder (ns : List Node) (is : List Item) : Type 0 where
   pub items-follow : map (λ (r : Item). r .node) is ≡ spread 0 ns
-  pub parents-first : (i : ℕ) → i < length ns → (i ≡ 0) ⊎ (nodeAt ns i .parent < i)
-  pub starts-rise : Rising ns
+  pub parents-first : (i : ℕ) → i < length ns → nodeAt ns i .parent ≤ i
 
-ordered-rows : (es : Events) (k′ : ℕ) → Ordered 0 0 es k′ 0 → Rising (nodesOf es) → InOrder (nodesOf es) (itemsOf es)
-ordered-rows es k′ o s = record {
-  items-follow = in-node-order 0 0 es k′ o;
-  parents-first = λ i l. let e : 0 + i ≡ i = omega arith in subst (λ v. (v ≡ 0) ⊎ (nodeAt (nodesOf es) i .parent < v)) e (parents-before 0 0 es k′ 0 o i l);
-  starts-rise = s;
-}
+-- the log's rows stand in order, and no item row comes behind the last node's
+abbrev InLog : Events → Type 0
+InLog log = Ordered 0 0 log (length (nodesOf log)) 0
 
-module _ (f : List ℕ) {h : Header} {ns : List Node} {is : List Item} where
-  of-tree : (x : Context) (end at : ℕ) → end ≤ x .size → (g : Header) (o : Out made.Made) → run (tree x end) f at ≡ o → reading g f o (trace (tree x end) f at) ≡ rows h ns is → InOrder ns is
-  of-tree x end at l g (ok m p) e r =
-      let w = in-order f at (tree-orders x end) e in
-      let z = rows-of g f (ok m p) (trace (tree x end) f at) r in
-      let o : Ordered 0 0 (trace (tree x end) f at) (w .nodes) 0 = subst (λ v. Ordered 0 0 (trace (tree x end) f at) (w .nodes) v) (w .ends .1) (w .ordered) in
-      rw (← z .0, ← z .1) (ordered-rows (trace (tree x end) f at) (w .nodes) o (tree-rises x end f at l e))
-  of-tree x end at l g (refused n p) e r = never (reading-refused g f (trace (tree x end) f at) r)
+tree-log : (f : List ℕ) (x : Context) (end at : ℕ) {m : made.Made} {p : ℕ} → run (tree x end) f at ≡ ok m p → InLog (trace (tree x end) f at)
+tree-log f x end at e =
+    let w = in-order f at (tree-orders x end) e in
+    let c = counted 0 0 (trace (tree x end) f at) (w .nodes) (w .items) (w .ordered) in
+    let n : length (nodesOf (trace (tree x end) f at)) ≡ w .nodes = omega arith in
+    rw n (subst (λ v. Ordered 0 0 (trace (tree x end) f at) (w .nodes) v) (w .ends .1) (w .ordered))
 
-  of-header : (lim : Limits) (o : Out Header) → run (header (length f)) f 0 ≡ o → readTree lim f o ≡ rows h ns is → InOrder ns is
-  unfolding readTree
-  of-header lim (ok g q) k r =
-      let w = at-end any-free f (header-on (length f)) k in
-      of-tree (context lim g (length f)) (g .extent .last + 1) (g .extent .start) (omega arith) g (run (tree (context lim g (length f)) (g .extent .last + 1)) f (g .extent .start)) refl r
-  of-header lim (refused n p) k r = never r
+more-log : (f : List ℕ) (x : Context) (end taken named at : ℕ) (log : Events) {m : made.Made} {p : ℕ} → InLog log → run (detached x end taken named (madeBy log)) f at ≡ ok m p
+    → InLog (log ++ trace (detached x end taken named (madeBy log)) f at)
+more-log f x end taken named at log i e =
+    let es = trace (detached x end taken named (madeBy log)) f at in
+    let w = in-order f at (detached-orders x end taken named (madeBy log)) e in
+    let k = length (nodesOf log) in
+    let o : Ordered k 0 es (w .nodes) 0 = subst (λ v. Ordered k 0 es (w .nodes) v) (w .ends .1) (w .ordered) in
+    let a = ordered-on 0 0 log es k 0 (w .nodes) 0 i o in
+    let c = counted 0 0 (log ++ es) (w .nodes) 0 a in
+    let n : length (nodesOf (log ++ es)) ≡ w .nodes = omega arith in
+    rw n a
 
--- item rows stand in node order, a child's row is after its parent's, and starts increase
+module _ (lim : Limits) (f : List ℕ) (h : Header) where
+  one-more-row : (log log′ : Events) (r : Node) → InLog log → Reached lim f h log r log′ → InLog log′
+  unfolding detachedAt
+  one-more-row log log′ r i (known x e) = rw e i
+  one-more-row log log′ r i (added s e) = rw e (more-log f _ _ _ _ (r .target) log i (s .runs))
+
+of-log : (log : Events) → InLog log → {ns : List Node} {is : List Item} → nodesOf log ≡ ns → itemsOf log ≡ is → InOrder ns is
+of-log log o a b = rw (← a, ← b) (record {
+  items-follow = in-node-order 0 0 log _ o;
+  parents-first = λ i l. let z = parents-before 0 0 log _ 0 o i l in omega arith;
+})
+
+-- item rows stand in node order, and no parent's row is later
 pub in-row-order : (lim : Limits) (f : List ℕ) {h : Header} {ns : List Node} {is : List Item} → readFile lim f ≡ rows h ns is → InOrder ns is
-unfolding readFile
-in-row-order lim f r = of-header f lim (run (header (length f)) f 0) refl r
+in-row-order lim f {h} r =
+    let a = read-back lim f r in
+    let t : InLog (trace (treeOf lim (length f) h) f (h .extent .start)) = tree-log f _ _ (h .extent .start) (a .tree-is) in
+    let w = followed lim f h (λ i. InLog) (λ i log log′ o l. one-more-row lim f h log log′ _ o) (lim .nodes) 0 _ (λ log e. subst InLog (same e) t) (a .follows) in
+    of-log (a .log) (w .1) (a .nodes-are) (a .items-are)
+  where
+    same : {x y : Events} → good x ≡ good y → x ≡ y
+    same e = cc

@@ -6,7 +6,7 @@ use mathlib.Core.Logic.{_⊎_, inl, inr}
 use mathlib.Core.List.{List, [], _∷_, _++_}
 use Prim.Native.Nat.{ℕ, zero, suc, _+_, _*_, _-_, _^_, _≤_, _<_}
 use native.Mathlib.Omega.{arith}
-use lib.ListN.{length, getD, replicate, length-append, length-replicate}
+use lib.ListN.{length, getD, replicate, take, length-append, length-replicate}
 use Rattle.cursor.specs.Machine.{Out, ok, refused, Event, seen, passed, run, trace, rowsOf}
 use Rattle.cursor.specs.Rows.{Part, nodeRow, itemRow, plain, Events}
 use Rattle.cursor.specs.declared.FilePlace.{FilePlace}
@@ -21,23 +21,24 @@ use Rattle.metadata.specs.declared.Limits.{Limits}
 use Rattle.metadata.specs.declared.Made.{Made}
 use Rattle.metadata.proofs.Ends.{Nothing, Inside}
 use Rattle.tree.specs.Tree.{tree}
-use Rattle.tree.specs.Reading.{nodesOf, itemsOf, allNodes, allItems, Reading, rows, refusal, startsAt, lost, offsetAt, checked, targets, reading, context, readTree, readFile, readOf, summary, padded, nodeTable, itemTable}
+use Rattle.tree.specs.Reading.{nodesOf, itemsOf, allNodes, allItems, Reading, rows, refusal, readFile, readOf, summary, padded, nodeTable, itemTable}
 use Rattle.tree.specs.Rows.{nodeFrom, itemFrom, nodesFrom, itemsFrom, nodesIn, itemsIn, noNode, noItem, nodeAt, itemAt}
 use Rattle.tree.specs.Asking.{Result, good, bad, ask, keptNodes, keptItems}
 use Rattle.tree.specs.declared.Summary.{Summary}
 use Rattle.tree.specs.declared.Read.{Read}
 use Rattle.tree.specs.declared.Read.the-variants as read
-use Rattle.tree.proofs.Ends.{tree-inside}
+use Rattle.tree.proofs.Follow.{ReadAs, read-back}
+use Rattle.tree.proofs.Shown.{header-of, log-inside}
 use Rattle.tree.proofs.Filled.{nodes-length, items-length}
 
 -- ---- row i of the words
 
 module _ (ws : List ℕ) where
-  from-nodes : (i n j : ℕ) → j < n → getD (nodesFrom i n ws) j noNode ≡ nodeFrom ws ((i + j) * 12)
+  from-nodes : (i n j : ℕ) → j < n → getD (nodesFrom i n ws) j noNode ≡ nodeFrom ws ((i + j) * 13)
   unfolding nodesFrom
   from-nodes i zero j l = absurd (omega arith)
   from-nodes i (suc n) zero l = let e : i + 0 ≡ i = omega arith in rw e
-  from-nodes i (suc n) (suc j) l = let e : i + 1 + j ≡ i + suc j = omega arith in from-nodes (i + 1) n j (omega arith) ∙ ap (λ k. nodeFrom ws (k * 12)) e
+  from-nodes i (suc n) (suc j) l = let e : i + 1 + j ≡ i + suc j = omega arith in from-nodes (i + 1) n j (omega arith) ∙ ap (λ k. nodeFrom ws (k * 13)) e
 
   from-items : (i n j : ℕ) → j < n → getD (itemsFrom i n ws) j noItem ≡ itemFrom ws ((i + j) * 10)
   unfolding itemsFrom
@@ -46,9 +47,9 @@ module _ (ws : List ℕ) where
   from-items i (suc n) (suc j) l = let e : i + 1 + j ≡ i + suc j = omega arith in from-items (i + 1) n j (omega arith) ∙ ap (λ k. itemFrom ws (k * 10)) e
 
   -- row i of the first n rows is the one whose words begin at row i
-  pub node-at : (n i : ℕ) → i < n → nodeAt (nodesIn n ws) i ≡ nodeFrom ws (i * 12)
+  pub node-at : (n i : ℕ) → i < n → nodeAt (nodesIn n ws) i ≡ nodeFrom ws (i * 13)
   unfolding nodesIn
-  node-at n i l = from-nodes 0 n i l ∙ ap (λ k. nodeFrom ws (k * 12)) (let e : 0 + i ≡ i = omega arith in e)
+  node-at n i l = from-nodes 0 n i l ∙ ap (λ k. nodeFrom ws (k * 13)) (let e : 0 + i ≡ i = omega arith in e)
 
   pub item-at : (n i : ℕ) → i < n → itemAt (itemsIn n ws) i ≡ itemFrom ws (i * 10)
   unfolding itemsIn
@@ -72,14 +73,25 @@ module _ (ws : List ℕ) where
   unfolding itemsIn
   items-in-length n = items-count 0 n
 
+  nodes-front : (i k n : ℕ) → k ≤ n → nodesFrom i k ws ≡ take k (nodesFrom i n ws)
+  unfolding nodesFrom
+  nodes-front i zero n l = refl
+  nodes-front i (suc k) zero l = absurd (omega arith)
+  nodes-front i (suc k) (suc n) l = ap (λ v. nodeFrom ws (i * 13) ∷ v) (nodes-front (i + 1) k n (omega arith))
+
+  -- the first k of n rows
+  pub in-front : (k n : ℕ) → k ≤ n → nodesIn k ws ≡ take k (nodesIn n ws)
+  unfolding nodesIn
+  in-front k n l = nodes-front 0 k n l
+
 -- ---- rows that stand in words are read back
 
 -- the words after one row, read from the next row on
-next-node : (r : Node) (ws : List ℕ) (i : ℕ) → nodeFrom (nodeWords r ++ ws) (suc i * 12) ≡ nodeFrom ws (i * 12)
+next-node : (r : Node) (ws : List ℕ) (i : ℕ) → nodeFrom (nodeWords r ++ ws) (suc i * 13) ≡ nodeFrom ws (i * 13)
 next-node r ws i =
-    let e : (j : ℕ) → suc i * 12 + j ≡ suc (suc (suc (suc (suc (suc (suc (suc (suc (suc (suc (suc (i * 12 + j)))))))))))) = λ j. omega arith in
-    let e₀ : suc i * 12 ≡ suc (suc (suc (suc (suc (suc (suc (suc (suc (suc (suc (suc (i * 12)))))))))))) = omega arith in
-    rw (e 1, e 2, e 3, e 4, e 5, e 6, e 7, e 8, e 9, e 10, e 11, e₀)
+    let e : (j : ℕ) → suc i * 13 + j ≡ suc (suc (suc (suc (suc (suc (suc (suc (suc (suc (suc (suc (suc (i * 13 + j))))))))))))) = λ j. omega arith in
+    let e₀ : suc i * 13 ≡ suc (suc (suc (suc (suc (suc (suc (suc (suc (suc (suc (suc (suc (i * 13))))))))))))) = omega arith in
+    rw (e 1, e 2, e 3, e 4, e 5, e 6, e 7, e 8, e 9, e 10, e 11, e 12, e₀)
 
 node-shift : (r : Node) (ws : List ℕ) (i n : ℕ) → nodesFrom (suc i) n (nodeWords r ++ ws) ≡ nodesFrom i n ws
 unfolding nodesFrom
@@ -121,7 +133,7 @@ NodeIn size r = (r .header ≤ r .size) × (r .start + r .size ≤ size) × ((r 
 abbrev pub ItemIn : ℕ → Item → Type 0
 ItemIn size r = (r .place + r .size ≤ size) × ((r .kind ≡ 0) ⊎ (r .field + r .named ≤ size))
 
-node-in : (es : Events) (end size : ℕ) → end ≤ size → All (Inside Nothing end size .asks) es → (i : ℕ) → i < length (nodesOf es) → NodeIn size (nodeAt (nodesOf es) i)
+pub node-in : (es : Events) (end size : ℕ) → end ≤ size → All (Inside Nothing end size .asks) es → (i : ℕ) → i < length (nodesOf es) → NodeIn size (nodeAt (nodesOf es) i)
 unfolding rowsOf
 node-in [] end size l a i h = absurd (omega arith)
 node-in (seen κ p ∷ es) end size l a i h = node-in es end size l a i h
@@ -148,54 +160,11 @@ pub record Accepted (f : List ℕ) (ns : List Node) (is : List Item) : Type 0 wh
   pub nodes-inside : (i : ℕ) → i < length ns → NodeIn (length f) (nodeAt ns i)
   pub items-inside : (i : ℕ) → i < length is → ItemIn (length f) (itemAt is i)
 
-pub never : {n p : ℕ} {h : Header} {ns : List Node} {is : List Item} {B : Type 0} → refusal n p ≡ rows h ns is → B
-never e = let z : _≡_ {A = ℕ} 0 1 = cc in absurd (omega arith)
-
--- the check of the targets lets the rows of an accepted file through as they are
-checked-through : (b : Bool) (p : ℕ) (v : Reading) {h : Header} {ns : List Node} {is : List Item} → checked b p v ≡ rows h ns is → v ≡ rows h ns is
-unfolding checked
-checked-through true p v e = never e
-checked-through false p v e = e
-
-targets-through : (f : List ℕ) (all rs : List Node) (o : Reading) {h : Header} {ns : List Node} {is : List Item} → targets f all rs o ≡ rows h ns is → o ≡ rows h ns is
-unfolding targets
-targets-through f all [] o e = e
-targets-through f all (r ∷ rs) o e = targets-through f all rs o (checked-through (lost all r) (offsetAt f r) (targets f all rs o) e)
-
--- the rows of an accepted file are those of its tree's events
-pub rows-of : (g : Header) (f : List ℕ) (o : Out Made) (es : Events) {h : Header} {ns : List Node} {is : List Item} → reading g f o es ≡ rows h ns is → (nodesOf es ≡ ns) × (itemsOf es ≡ is)
-unfolding reading
-rows-of g f (ok m p) es r = let e = targets-through f (nodesOf es) (nodesOf es) (rows g (nodesOf es) (itemsOf es)) r in (cc, cc)
-rows-of g f (refused n p) es r = never r
-
-pub reading-refused : (g : Header) (f : List ℕ) (es : Events) {n p : ℕ} {o : Reading} → reading g f (refused n p) es ≡ o → refusal n p ≡ o
-unfolding reading
-reading-refused g f es r = r
-
-module _ (f : List ℕ) {h : Header} {ns : List Node} {is : List Item} where
-  of-events : (g : Header) (es : Events) (end : ℕ) → end ≤ length f → length f < 2 ^ 28 → All (Inside Nothing end (length f) .asks) es
-      → rows g (nodesOf es) (itemsOf es) ≡ rows h ns is → Accepted f ns is
-  of-events g es end l small a e =
-      let x : nodesOf es ≡ ns = cc in
-      let y : itemsOf es ≡ is = cc in
-      rw (← x, ← y) (record { small = small; nodes-inside = node-in es end (length f) l a; items-inside = item-in es end (length f) l a })
-
-  of-tree : (g : Header) (end : ℕ) → end ≤ length f → length f < 2 ^ 28 → (o : Out Made) (es : Events) → All (Inside Nothing end (length f) .asks) es → reading g f o es ≡ rows h ns is → Accepted f ns is
-  unfolding reading
-  of-tree g end l small (ok m p) es a e = of-events g es end l small a (targets-through f (nodesOf es) (nodesOf es) (rows g (nodesOf es) (itemsOf es)) e)
-  of-tree g end l small (refused n p) es a e = never e
-
-  of-header : (lim : Limits) (o : Out Header) → run (header (length f)) f 0 ≡ o → readTree lim f o ≡ rows h ns is → Accepted f ns is
-  unfolding readTree
-  of-header lim (ok g q) k e =
-      let w = at-end any-free f (header-on (length f)) k in
-      of-tree g (g .extent .last + 1) (omega arith) (omega arith) (run (tree (context lim g (length f)) (g .extent .last + 1)) f (g .extent .start)) (trace (tree (context lim g (length f)) (g .extent .last + 1)) f (g .extent .start))
-      (tree-inside (context lim g (length f)) f (g .extent .start) (g .extent .last + 1) (omega arith)) e
-  of-header lim (refused n p) k e = never e
-
 pub accepted : (lim : Limits) (f : List ℕ) {h : Header} {ns : List Node} {is : List Item} → readFile lim f ≡ rows h ns is → Accepted f ns is
-unfolding readFile
-accepted lim f e = of-header f lim (run (header (length f)) f 0) refl e
+accepted lim f e = let a = read-back lim f e in of-log (a .log) (header-of a .4) (log-inside a) (a .nodes-are) (a .items-are)
+  where
+    of-log : (log : Events) → length f < 2 ^ 28 → All (Inside Nothing (length f) (length f) .asks) log → {ns : List Node} {is : List Item} → nodesOf log ≡ ns → itemsOf log ≡ is → Accepted f ns is
+    of-log log s a x y = rw (← x, ← y) (record { small = s; nodes-inside = node-in log (length f) (length f) (omega arith) a; items-inside = item-in log (length f) (length f) (omega arith) a })
 
 -- ---- what a question knows of the tables after a file was read
 
@@ -207,7 +176,7 @@ pub record Standing (f : List ℕ) (o : Reading) (s : Summary) (t u : List ℕ) 
   pub summed : s ≡ summary h ns is
   pub nodes-are : nodesIn (s .nodes) t ≡ ns
   pub items-are : itemsIn (s .items) u ≡ is
-  pub node-room : s .nodes * 12 ≤ length t
+  pub node-room : s .nodes * 13 ≤ length t
   pub item-room : s .items * 10 ≤ length u
   pub sound : Accepted f ns is
 

@@ -10,45 +10,47 @@ use Rattle.cursor.specs.Machine.{ret, refuse, here, byte, pass, ok, seen, passe
 use Rattle.cursor.specs.Rows.{nodeRow, itemRow, plain, P, Events}
 use Rattle.cursor.specs.declared.Node.{Node}
 use Rattle.cursor.proofs.Stable.{ends, at-least}
-use Rattle.cursor.proofs.Wp.{at-end}
+use Rattle.cursor.proofs.Wp.{Wp, at-end, wp-weaken}
 use Rattle.cursor.proofs.Order.{Orders, Ordered, Rowless, in-order}
 use Rattle.cursor.proofs.Order as order
 use Rattle.metadata.specs.Metadata.{Context}
 use Rattle.metadata.specs.declared.Made.{Made}
-use Rattle.metadata.proofs.Ends.{Nothing, inside-free}
-use Rattle.node.specs.Node.{front}
+use Rattle.metadata.proofs.Ends.{Nothing, Inside, inside-free}
+use Rattle.tree.proofs.Ends.{held-fills, node-on}
+use Rattle.node.specs.Node.{inTree, loose, front}
+use Rattle.node.specs.declared.Standing.{Standing}
 use Rattle.node.specs.declared.Front.{Front}
 use Rattle.node.proofs.Ends.{FrontIn, front-on}
 use Rattle.node.proofs.Order.{front-orders}
-use Rattle.tree.specs.Tree.{contents, folder, node, tree}
+use Rattle.tree.specs.Tree.{contents, folder, node, tree, detached}
 use Rattle.tree.specs.Reading.{nodeOf, nodesOf}
 use Rattle.tree.specs.Rows.{nodeAt, Rising}
 
 -- ---- rows that rise
 
--- the starts are from `low` on, each before the next, and before `high`
-data Rise : ℕ → List Node → ℕ → Type 0 where
-  done : {low high : ℕ} → low ≤ high → Rise low [] high
-  more : {low high : ℕ} {r : Node} {ns : List Node} → low ≤ r .start → Rise (r .start + 1) ns high → Rise low (r ∷ ns) high
+-- the starts are from `low` on, each before the next, and before `high`; the thirteenth word is d at most
+data Rise (d : ℕ) : ℕ → List Node → ℕ → Type 0 where
+  done : {low high : ℕ} → low ≤ high → Rise d low [] high
+  more : {low high : ℕ} {r : Node} {ns : List Node} → low ≤ r .start → r .detached ≤ d → Rise d (r .start + 1) ns high → Rise d low (r ∷ ns) high
 
-rise-sooner : {low low′ high : ℕ} {ns : List Node} → low′ ≤ low → Rise low ns high → Rise low′ ns high
+rise-sooner : {d low low′ high : ℕ} {ns : List Node} → low′ ≤ low → Rise d low ns high → Rise d low′ ns high
 rise-sooner {low′ = low′} {high} l (done a) = let b : low′ ≤ high = omega arith in done b
-rise-sooner {low′ = low′} l (more {r = r} a h) = let b : low′ ≤ r .start = omega arith in more b h
+rise-sooner {low′ = low′} l (more {r = r} a x h) = let b : low′ ≤ r .start = omega arith in more b x h
 
-rise-on : {low middle high : ℕ} {ns ms : List Node} → Rise low ns middle → Rise middle ms high → Rise low (ns ++ ms) high
+rise-on : {d low middle high : ℕ} {ns ms : List Node} → Rise d low ns middle → Rise d middle ms high → Rise d low (ns ++ ms) high
 rise-on (done a) k = rise-sooner a k
-rise-on (more a h) k = more a (rise-on h k)
+rise-on (more a x h) k = more a x (rise-on h k)
 
-from-low : {low high : ℕ} {ns : List Node} → Rise low ns high → (j : ℕ) → j < length ns → low ≤ nodeAt ns j .start
+from-low : {d low high : ℕ} {ns : List Node} → Rise d low ns high → (j : ℕ) → j < length ns → low ≤ nodeAt ns j .start
 from-low (done a) j l = absurd (omega arith)
-from-low (more a h) zero l = a
-from-low (more a h) (suc j) l = let b = from-low h j (omega arith) in omega arith
+from-low (more a x h) zero l = a
+from-low (more a x h) (suc j) l = let b = from-low h j (omega arith) in omega arith
 
-rising : {low high : ℕ} {ns : List Node} → Rise low ns high → Rising ns
+rising : {d low high : ℕ} {ns : List Node} → Rise d low ns high → Rising ns
 rising (done a) i j l m = absurd (omega arith)
-rising (more a h) i zero l m = absurd (omega arith)
-rising (more a h) zero (suc j) l m = let b = from-low h j (omega arith) in omega arith
-rising (more a h) (suc i) (suc j) l m = rising h i j (omega arith) (omega arith)
+rising (more a x h) i zero l m = absurd (omega arith)
+rising (more a x h) zero (suc j) l m = let b = from-low h j (omega arith) in omega arith
+rising (more a x h) (suc i) (suc j) l m = rising h i j (omega arith) (omega arith)
 
 -- ---- an accepted run, part by part
 
@@ -71,12 +73,12 @@ parts (pass w n m) g f at e =
     record { a = x .a; p = x .p; first = x .first; second = x .second; joined = ap (λ v. nodeOf w at n ++ v) (x .joined) ∙ sym (append-assoc (nodeOf w at n) _ _) }
 
 -- each accepted run of m from `at` makes rows that rise, from `at` on and before where it ends
-record Rises {A : Type 0} (f : List ℕ) (m : P A) (at : ℕ) : Type 0 where
-  rises : {a : A} {p : ℕ} → run m f at ≡ ok a p → Rise at (nodesOf (trace m f at)) p
+record Rises {A : Type 0} (d : ℕ) (f : List ℕ) (m : P A) (at : ℕ) : Type 0 where
+  rises : {a : A} {p : ℕ} → run m f at ≡ ok a p → Rise d at (nodesOf (trace m f at)) p
 
 -- ---- a run that makes no node row
 
-counted : (k c : ℕ) (es : Events) (k′ c′ : ℕ) → Ordered k c es k′ c′ → k + length (nodesOf es) ≡ k′
+pub counted : (k c : ℕ) (es : Events) (k′ c′ : ℕ) → Ordered k c es k′ c′ → k + length (nodesOf es) ≡ k′
 unfolding rowsOf
 counted k c [] k′ c′ o = omega arith
 counted k c (seen κ p ∷ es) k′ c′ o = counted k c es k′ c′ o
@@ -98,66 +100,155 @@ no-rows {m = m} {k = k} {c} f at o h {a} e =
 
 -- ---- the rules
 
-module _ (f : List ℕ) where
-  after : {A B : Type 0} {m : P A} {g : A → P B} {at : ℕ} → Rises f m at → ((a : A) (p : ℕ) → Rises f (g a) p) → Rises f (m >>= g) at
+module _ (b : ℕ) (f : List ℕ) where
+  after : {A B : Type 0} {m : P A} {g : A → P B} {at : ℕ} → Rises b f m at → ((a : A) (p : ℕ) → Rises b f (g a) p) → Rises b f (m >>= g) at
   after {m = m} {g} {at} w h = record { rises = λ e. let x = parts m g f at e in rw (x .joined) (rise-on (w .rises (x .first)) (h (x .a) (x .p) .rises (x .second))) }
 
-  rowless : {A : Type 0} (m : P A) (at : ℕ) → Rowless m → Rises f m at
-  rowless m at o = record { rises = λ {a} {p} e. let z = ends m f at e in let l = at-least (trace m f at) at in let b : at ≤ p = omega arith in rw (no-rows f at (o 0 0) (λ a k′ c′ q. q .0) e) (done b) }
+  rowless : {A : Type 0} (m : P A) (at : ℕ) → Rowless m → Rises b f m at
+  rowless m at o = record { rises = λ {a} {p} e. let z = ends m f at e in let l = at-least (trace m f at) at in let c : at ≤ p = omega arith in rw (no-rows f at (o 0 0) (λ a k′ c′ q. q .0) e) (done c) }
 
-  places : {A : Type 0} (g : ℕ → P A) (at : ℕ) → Rises f (g at) at → Rises f (place >>= g) at
+  places : {A : Type 0} (g : ℕ → P A) (at : ℕ) → Rises b f (g at) at → Rises b f (place >>= g) at
   unfolding run trace _>>=_ place
   places g at h = record { rises = h .rises }
 
-  checks : (b : Bool) (n p : ℕ) {A : Type 0} {m : P A} {at : ℕ} → Rises f m at → Rises f (check b n p >> m) at
+  checks : (c : Bool) (n p : ℕ) {A : Type 0} {m : P A} {at : ℕ} → Rises b f m at → Rises b f (check c n p >> m) at
   unfolding run trace _>>=_ _>>_ check
   checks true n p h = h
   checks false n p h = record { rises = λ e. let z : _≡_ {A = ℕ} 0 1 = cc in absurd (omega arith) }
 
-  either : (b : Bool) {A : Type 0} {m n : P A} {at : ℕ} → Rises f m at → Rises f n at → Rises f (if b then m else n) at
+  either : (c : Bool) {A : Type 0} {m n : P A} {at : ℕ} → Rises b f m at → Rises b f n at → Rises b f (if c then m else n) at
   unfolding if_then_else_
   either true h k = h
   either false h k = k
 
-  times-rise : {A : Type 0} (n : ℕ) {body : A → P A} (s : A) (at : ℕ) → ((s : A) (p : ℕ) → Rises f (body s) p) → Rises f (times n body s) at
+  times-rise : {A : Type 0} (n : ℕ) {body : A → P A} (s : A) (at : ℕ) → ((s : A) (p : ℕ) → Rises b f (body s) p) → Rises b f (times n body s) at
   unfolding times
   times-rise zero s at step = rowless _ at λ k c. order.ends (refl, refl)
   times-rise (suc n) s at step = after (step s at) λ r p. times-rise n r p step
 
   -- ---- the tree
 
-  contents-rises : (reference end : ℕ) (m : Made) (at : ℕ) → Rises f (contents reference end m) at
+  contents-rises : (reference end : ℕ) (m : Made) (at : ℕ) → Rises b f (contents reference end m) at
   unfolding contents
   contents-rises reference end m at = rowless _ at λ k c. order.places λ p. order.checks _ _ _ (order.passes-plain _ _ (order.ends (refl, refl)))
 
-  folder-rises : (end : ℕ) {children : P Made} {at : ℕ} → Rises f children at → Rises f (folder end children) at
+  folder-rises : (end : ℕ) {children : P Made} {at : ℕ} → Rises b f children at → Rises b f (folder end children) at
   unfolding folder
   folder-rises end w = after w λ m p. rowless _ p λ k c. order.places λ q. order.checks _ _ _ (order.ends (refl, refl))
 
   -- a node's row, and then the rows of what it holds
-  front-then : (x : Context) (parent depth least end : ℕ) (m : Made) (at : ℕ) → end ≤ x .size → {g : Front → P Made} → ((w : Front) (q : ℕ) → FrontIn x least end m at w q → Rises f (g w) (q + 0))
-      → Rises f (front x parent depth least end m >>= λ w. (skip (nodeRow (w .row)) 0 >> g w)) at
+  front-then : (x : Context) (parent depth : ℕ) (s : Standing) (m : Made) (at : ℕ) → s .end .0 ≤ x .size → s .detached ≤ b → {g : Front → P Made} → ((w : Front) (q : ℕ) → FrontIn x s m at w q → Rises b f (g w) (q + 0))
+      → Rises b f (front x parent depth s m >>= λ w. (skip (nodeRow (w .row)) 0 >> g w)) at
   unfolding run trace rowsOf _>>=_ _>>_ skip
-  front-then x parent depth least end m at l {g} h = record {
+  front-then x parent depth s m at l v {g} h = record {
     rises = λ e.
-        let y = parts (front x parent depth least end m) (λ w. (skip (nodeRow (w .row)) 0 >> g w)) f at e in
-        let i = at-end (inside-free end (x .size)) f (front-on Nothing end x parent depth least end m at (omega arith) l) (y .first) in
-        let s = i .start in
+        let y = parts (front x parent depth s m) (λ w. (skip (nodeRow (w .row)) 0 >> g w)) f at e in
+        let i = at-end (inside-free (s .end .0) (x .size)) f (front-on Nothing (s .end .0) x parent depth s m at (omega arith) l) (y .first) in
+        let z = i .start in
         let n = i .moves in
-        let b : at ≤ y .a .row .start = omega arith in
-        rw (y .joined, no-rows f at (front-orders x parent depth least end m) (λ a k′ c′ q. q .0) (y .first)) (more b (rise-sooner (omega arith) (h (y .a) (y .p) i .rises (y .second))));
+        let c : at ≤ y .a .row .start = omega arith in
+        let j = i .detached-is in
+        let k : y .a .row .detached ≤ b = omega arith in
+        rw (y .joined, no-rows f at (front-orders x parent depth s m) (λ a k′ c′ q. q .0) (y .first)) (more c k (rise-sooner (omega arith) (h (y .a) (y .p) i .rises (y .second))));
   }
 
-  node-rises : (d : ℕ) (x : Context) (parent least end : ℕ) (m : Made) (at : ℕ) → end ≤ x .size → Rises f (node d x parent least end m) at
+  node-rises : (d : ℕ) (x : Context) (parent : ℕ) (s : Standing) (m : Made) (at : ℕ) → s .end .0 ≤ x .size → s .detached ≤ b → Rises b f (node d x parent s m) at
   unfolding node
-  node-rises zero x parent least end m at l = rowless _ at λ k c. order.at-place λ p. order.stops
-  node-rises (suc d) x parent least end m at l =
-      places _ at (checks _ _ _ (front-then x parent (16 - d) least end m at l λ w q i.
+  node-rises zero x parent s m at l v = rowless _ at λ k c. order.at-place λ p. order.stops
+  node-rises (suc d) x parent s m at l v =
+      places _ at (checks _ _ _ (front-then x parent (16 - d) s m at l v λ w q i.
       let a = i .within in
       either _ (contents-rises _ _ _ (q + 0))
-      (folder-rises _ (times-rise (w .row .held) _ (q + 0) λ s p. node-rises d x (m .nodes) 0 (at + w .row .size) s p (omega arith)))))
+      (folder-rises _ (times-rise (w .row .held) _ (q + 0) λ t p. node-rises d x (m .nodes) (inTree 0 (at + w .row .size)) t p (omega arith) (omega arith)))))
 
 -- the rows of a tree that was read
 pub tree-rises : (x : Context) (end : ℕ) (f : List ℕ) (at : ℕ) → end ≤ x .size → {m : Made} {p : ℕ} → run (tree x end) f at ≡ ok m p → Rising (nodesOf (trace (tree x end) f at))
 unfolding tree
-tree-rises x end f at l e = rising (node-rises f 16 x 0 end end _ at l .rises e)
+tree-rises x end f at l e = rising (node-rises 0 f 16 x 0 (inTree end end) _ at l (omega arith) .rises e)
+
+-- ---- the row of a node that was read
+
+-- the first row is the node's own: it starts where the run did, and ends where the run did
+pub record OwnRow (s : Standing) (at q : ℕ) (ns : List Node) : Type 0 where
+  pub row : Node
+  pub others : List Node
+  pub rows-are : ns ≡ row ∷ others
+  pub start : row .start ≡ at
+  pub stop : row .start + row .size ≡ q
+  pub detached-is : row .detached ≡ s .detached
+
+record Owns {A : Type 0} (f : List ℕ) (s : Standing) (start : ℕ) (m : P A) (at : ℕ) : Type 0 where
+  owns : {a : A} {q : ℕ} → run m f at ≡ ok a q → OwnRow s start q (nodesOf (trace m f at))
+
+module _ (f : List ℕ) (s : Standing) (start : ℕ) where
+  own-place : {A : Type 0} (g : ℕ → P A) (at : ℕ) → Owns f s start (g at) at → Owns f s start (place >>= g) at
+  unfolding run trace _>>=_ place
+  own-place g at h = record { owns = h .owns }
+
+  own-check : (b : Bool) (n p : ℕ) {A : Type 0} {m : P A} {at : ℕ} → Owns f s start m at → Owns f s start (check b n p >> m) at
+  unfolding run trace _>>=_ _>>_ check
+  own-check true n p h = h
+  own-check false n p h = record { owns = λ e. let z : _≡_ {A = ℕ} 0 1 = cc in absurd (omega arith) }
+
+own-front : (f : List ℕ) (x : Context) (parent depth : ℕ) (s : Standing) (m : Made) (at : ℕ) → s .end .0 ≤ x .size → (g : Front → P Made)
+    → ((w : Front) (q : ℕ) → FrontIn x s m at w q → Wp (Inside Nothing (s .end .0) (x .size)) (skip (nodeRow (w .row)) 0 >> g w) (λ _ v. v ≡ at + w .row .size) q)
+    → Owns f s at (front x parent depth s m >>= λ w. (skip (nodeRow (w .row)) 0 >> g w)) at
+unfolding run trace rowsOf _>>=_ _>>_ skip
+own-front f x parent depth s m at l g h = record {
+  owns = λ e.
+      let y = parts (front x parent depth s m) (λ w. (skip (nodeRow (w .row)) 0 >> g w)) f at e in
+      let i = at-end (inside-free (s .end .0) (x .size)) f (front-on Nothing (s .end .0) x parent depth s m at (omega arith) l) (y .first) in
+      let v = at-end (inside-free (s .end .0) (x .size)) f (h (y .a) (y .p) i) (y .second) in
+      let z = i .start in
+      record {
+        row = y .a .row;
+        others = nodesOf (trace (g (y .a)) f (y .p + 0));
+        rows-are = y .joined ∙ ap (λ v. v ++ (y .a .row ∷ nodesOf (trace (g (y .a)) f (y .p + 0)))) (no-rows f at (front-orders x parent depth s m) (λ a k′ c′ q. q .0) (y .first));
+        start = z;
+        stop = omega arith;
+        detached-is = i .detached-is;
+      };
+}
+
+own-row : (f : List ℕ) (d : ℕ) (x : Context) (parent : ℕ) (s : Standing) (m : Made) (at : ℕ) → s .end .0 ≤ x .size → Owns f s at (node (suc d) x parent s m) at
+unfolding node
+own-row f d x parent s m at l =
+    own-place f s at _ at (own-check f s at _ _ _ (own-front f x parent (16 - d) s m at l _ λ w q i.
+    let a = i .within in
+    held-fills Nothing (s .end .0) d x s m at w q (omega arith) i
+    (λ t p j. wp-weaken (node-on Nothing (s .end .0) d x (m .nodes) (inTree 0 (at + w .row .size)) t p (omega arith) (omega arith)) (λ _ v z. (omega arith, z .1)))))
+
+-- a detached node's row
+pub detached-row : (f : List ℕ) (x : Context) (end taken named : ℕ) (m : Made) (at : ℕ) → end ≤ x .size → {m′ : Made} {q : ℕ} → run (detached x end taken named m) f at ≡ ok m′ q
+    → OwnRow (loose end taken named) at q (nodesOf (trace (detached x end taken named m) f at))
+unfolding detached
+detached-row f x end taken named m at l e = own-row f 16 x (m .nodes) (loose end taken named) m at l .owns e
+
+-- all rows start at `at` or later
+abbrev pub From : ℕ → List Node → Type 0
+From at [] = Unit {0}
+From at (r ∷ ns) = (at ≤ r .start) × From at ns
+
+rise-from : {d low high : ℕ} {ns : List Node} (at : ℕ) → at ≤ low → Rise d low ns high → From at ns
+rise-from at l (done a) = tt
+rise-from at l (more a x h) = (omega arith, rise-from at (omega arith) h)
+
+pub detached-from : (f : List ℕ) (x : Context) (end taken named : ℕ) (m : Made) (at : ℕ) → end ≤ x .size → {m′ : Made} {q : ℕ} → run (detached x end taken named m) f at ≡ ok m′ q
+    → From at (nodesOf (trace (detached x end taken named m) f at))
+unfolding detached
+detached-from f x end taken named m at l e = rise-from at (omega arith) (node-rises 1 f 17 x (m .nodes) (loose end taken named) m at l (omega arith) .rises e)
+
+pub tree-from : (f : List ℕ) (x : Context) (end at : ℕ) → end ≤ x .size → {m : Made} {q : ℕ} → run (tree x end) f at ≡ ok m q → From at (nodesOf (trace (tree x end) f at))
+unfolding tree
+tree-from f x end at l e = rise-from at (omega arith) (node-rises 0 f 16 x 0 (inTree end end) _ at l (omega arith) .rises e)
+
+-- no row of the tree is detached
+rise-word : {d low high : ℕ} {ns : List Node} → Rise d low ns high → (i : ℕ) → i < length ns → nodeAt ns i .detached ≤ d
+rise-word (done a) i l = absurd (omega arith)
+rise-word (more a x h) zero l = x
+rise-word (more a x h) (suc i) l = rise-word h i (omega arith)
+
+pub tree-attached : (x : Context) (end : ℕ) (f : List ℕ) (at : ℕ) → end ≤ x .size → {m : Made} {p : ℕ} → run (tree x end) f at ≡ ok m p → (i : ℕ) → i < length (nodesOf (trace (tree x end) f at))
+    → nodeAt (nodesOf (trace (tree x end) f at)) i .detached ≡ 0
+unfolding tree
+tree-attached x end f at l e i m = let w = rise-word (node-rises 0 f 16 x 0 (inTree end end) _ at l (omega arith) .rises e) i m in omega arith

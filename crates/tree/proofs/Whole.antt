@@ -1,12 +1,13 @@
 -- The ways through the reading of a file: what each exit of the code comes to, answer and both tables.
 -- Assumes nothing.
-use mathlib.Core.Path.{_≡_, refl, sym, ap, ap₂, _∙_}
+use mathlib.Core.Path.{_≡_, refl, sym, ap, ap₂, _∙_, subst}
 use mathlib.Core.List.{List, [], _∷_, _++_}
 use Prim.Native.Nat.{ℕ, zero, suc, _+_, _*_, _-_, _/_, _^_, _≤_, _<_, min}
 use native.Mathlib.Nat.{zero-add}
 use native.Mathlib.Omega.{arith}
 use lib.ListN.{length, replicate, take, drop}
-use Rattle.cursor.specs.Machine.{Out, ok, refused, Event, seen, passed, run, trace, exec, rowsOf}
+use lib.Seq.{take-all}
+use Rattle.cursor.specs.Machine.{Out, ok, refused, Event, seen, passed, run, trace, exec, puts, rowsOf}
 use Rattle.cursor.specs.Rows.{Part, nodeRow, itemRow, plain, Events}
 use Rattle.cursor.specs.declared.Cursor.{Cursor}
 use Rattle.cursor.specs.declared.FilePlace.{FilePlace}
@@ -15,7 +16,7 @@ use Rattle.cursor.specs.declared.Item.{Item}
 use Rattle.cursor.proofs.Laws.{ran}
 use Rattle.cursor.proofs.Wp.{All, at-end}
 use Rattle.cursor.proofs.Leaves.{any-free}
-use Rattle.cursor.proofs.Quiet.{still}
+use Rattle.cursor.proofs.Quiet.{still, exec-puts}
 use Rattle.header.specs.Header.{Header, header}
 use Rattle.header.specs.Told.{headerOf, headerTold, Few}
 use Rattle.header.specs.declared.Headed.{Headed}
@@ -23,7 +24,7 @@ use Rattle.header.specs.declared.Headed.the-variants as headed
 use Rattle.header.specs.declared.Header as code
 use Rattle.header.proofs.Ends.{header-on}
 use Rattle.metadata.specs.Tables.{State, state, put, limits, mostNodes, mostItems}
-use Rattle.metadata.specs.Told.{Gives}
+use Rattle.metadata.specs.Told.{Fits, Gives}
 use Rattle.metadata.specs.declared.Limits.{Limits}
 use Rattle.metadata.specs.declared.Made.{Made}
 use Rattle.metadata.specs.declared.Walked.{Walked}
@@ -31,18 +32,20 @@ use Rattle.metadata.specs.declared.Walked.the-variants.{Done, Refused}
 use Rattle.metadata.proofs.Ends.{Nothing, Inside}
 use Rattle.metadata.proofs.Gives.{done, stopped, fitting}
 use Rattle.tree.specs.Tree.{tree}
-use Rattle.tree.specs.Reading.{nodesOf, itemsOf, allNodes, allItems, Reading, rows, refusal, targets, reading, context, readTree, readFile, readOf, answerOf, padded, nodeTable, itemTable}
-use Rattle.tree.specs.Told.{InFile, Stands, judge}
-use Rattle.tree.specs.declared.Checked.{Checked}
-use Rattle.tree.specs.declared.Checked.the-variants as checks
+use Rattle.tree.specs.Reading.{nodesOf, itemsOf, allNodes, allItems, Result, good, bad, Reading, rows, refusal, logged, follow, reading, context, readTree, readFile, readOf, answerOf, padded, nodeTable, itemTable}
+use Rattle.tree.specs.Rows.{treeRows}
+use Rattle.tree.specs.Told.{TreeFirst, Stands, said, left, Leaves}
 use Rattle.tree.specs.declared.Summary.{Summary}
 use Rattle.tree.specs.declared.Answer.{Answer}
 use Rattle.tree.specs.declared.Answer.the-variants as answer
 use Rattle.tree.specs.declared.Read.{Read}
 use Rattle.tree.specs.declared.Read.the-variants as read
 use Rattle.tree.proofs.Ends.{tree-inside}
-use Rattle.tree.proofs.Starts.{tree-rises}
-use Rattle.tree.proofs.Filled.{filled, exec-fills, sets-front, padded-behind, nodes-length, items-length}
+use Rattle.tree.proofs.TreeRows.{tree-first, tree-followed}
+use Rattle.tree.proofs.Follow.{treeOf}
+use Rattle.tree.proofs.Growing.{bad-is, same-state}
+use Rattle.tree.proofs.Rows.{node-in}
+use Rattle.tree.proofs.Filled.{filled, puts-fills, sets-front, padded-behind, nodes-length, items-length}
 
 -- ---- what is known of the header's answer
 
@@ -55,16 +58,6 @@ module _ (r : Headed) (ws : List ℕ) {o : Out Header} (told : headerTold r ws �
 
 pub few : {r : Headed} {h : code.Header} → Few r → r ≡ headed.Is h → h .types ≤ 32
 few {r} {h} f e = rw e at f
-
--- ---- rows lie in the file
-
-in-file : (es : Events) (end size : ℕ) → end ≤ size → All (Inside Nothing end size .asks) es → InFile size (nodesOf es)
-unfolding rowsOf
-in-file [] end size l a = tt
-in-file (seen κ p ∷ es) end size l a = in-file es end size l a
-in-file (passed (nodeRow r) p n ∷ es) end size l a = let b = a .0 .0 in let c = a .0 .1 in (omega arith, in-file es end size l (a .1))
-in-file (passed (itemRow r) p n ∷ es) end size l a = in-file es end size l (a .1)
-in-file (passed (plain x) p n ∷ es) end size l a = in-file es end size l (a .1)
 
 same : {A : Type 0} {a b : A} {p q : ℕ} → ok a p ≡ ok b q → a ≡ b
 same e = cc
@@ -84,97 +77,106 @@ module _ (file t u : List ℕ) where
   whole-header zt zu e = simp e (refl, zt, zu)
 
   module _ {h : Header} {q : ℕ} (e₀ : run (header (length file)) file 0 ≡ ok h q) where
-    whole-rows : {m : Made} {p : ℕ} → run (tree (context (limits (length t) (length u)) h (length file)) (h .extent .last + 1)) file (h .extent .start) ≡ ok m p
-        → let es = trace (tree (context (limits (length t) (length u)) h (length file)) (h .extent .last + 1)) file (h .extent .start) in readFile (limits (length t) (length u)) file ≡ targets file (nodesOf es) (nodesOf es) (rows h (nodesOf es) (itemsOf es))
-    unfolding readFile readTree reading
-    whole-rows e = simp (e₀, e)
+    abbrev room : Limits
+    room = limits (length t) (length u)
 
-    whole-refusal : {n p : ℕ} → run (tree (context (limits (length t) (length u)) h (length file)) (h .extent .last + 1)) file (h .extent .start) ≡ refused n p → readFile (limits (length t) (length u)) file ≡ refusal n p
-    unfolding readFile readTree reading
-    whole-refusal e = simp (e₀, e)
+    abbrev start : State
+    start = state t u none
 
-    module _ {t′ u′ : List ℕ} {lim : Limits} (room : lim ≡ limits (length t) (length u)) {r : Walked}
-        (g : Gives lim r t′ u′ (exec put (tree (context lim h (length file)) (h .extent .last + 1)) file (h .extent .start) (state t u none))) where
-      gives : Gives (limits (length t) (length u)) r t′ u′ (exec put (tree (context (limits (length t) (length u)) h (length file)) (h .extent .last + 1)) file (h .extent .start) (state t u none))
-      gives = rw room at g
+    whole-log : {m : Made} {p : ℕ} → run (treeOf room (length file) h) file (h .extent .start) ≡ ok m p
+        → readFile room file ≡ reading h (follow (room .nodes) room file h 0 (good (trace (treeOf room (length file) h) file (h .extent .start))))
+    unfolding readFile readTree logged
+    whole-log e = rw (e₀, e) refl
 
-      -- a tree that was read: its rows, and where they stand
-      pub record Found (m : Made) : Type 0 where
-        pub ns : List Node
-        pub is : List Item
-        pub reads : readFile (limits (length t) (length u)) file ≡ targets file ns ns (rows h ns is)
-        pub node-count : m .nodes ≡ length ns
-        pub item-count : m .items ≡ length is
-        pub node-table : t′ ≡ allNodes ns ++ drop (length (allNodes ns)) t
-        pub item-table : u′ ≡ allItems is ++ drop (length (allItems is)) u
-        pub stands : Stands ns (m .nodes) (length file) t′
+    whole-refusal : {n p : ℕ} → run (treeOf room (length file) h) file (h .extent .start) ≡ refused n p → readFile room file ≡ refusal n p
+    unfolding readFile readTree logged reading
+    whole-refusal {n} {p} e = rw (e₀, e, bad-is room file h 0 (room .nodes) n p) refl
 
-      pub whole-found : {m : Made} {c : Cursor} → r ≡ Done m c → Found m
-      whole-found {m} {c} d =
-          let x = context (limits (length t) (length u)) h (length file) in
-          let mt = tree x (h .extent .last + 1) in
+    module _ {t′ u′ : List ℕ} {lim : Limits} (is : lim ≡ room) {r : Walked} (g : Gives lim r t′ u′ (exec put (treeOf lim (length file) h) file (h .extent .start) start)) (lt : length t′ ≡ length t) (lu : length u′ ≡ length u) where
+      gives : Gives room r t′ u′ (exec put (treeOf room (length file) h) file (h .extent .start) start)
+      gives = rw is at g
+
+      ran-tree : {m : Made} {c : Cursor} → r ≡ Done m c → run (treeOf room (length file) h) file (h .extent .start) ≡ ok m (c .at .0)
+      ran-tree d = ran put (treeOf room (length file) h) file (h .extent .start) start (done gives d)
+
+      -- the tree's rows stand in the tables
+      whole-stand : {m : Made} {c : Cursor} → r ≡ Done m c → Stands room (length file) start (trace (treeOf room (length file) h) file (h .extent .start)) (m .nodes) t′ u′ m
+      whole-stand {m} {c} d =
+          let x = context room h (length file) in
+          let mt = treeOf room (length file) h in
           let es = trace mt file (h .extent .start) in
-          let e : run mt file (h .extent .start) ≡ ok m (c .at .0) = ran put mt file (h .extent .start) (state t u none) (done gives d) in
-          let f : _≡_ {A = Out (Made × State)} (ok (m, filled es (state t u none)) (c .at .0)) (ok (m, state t′ u′ m) (c .at .0)) =
-          ap (λ o. still o (filled es (state t u none))) (sym e) ∙ sym (exec-fills mt file (h .extent .start) (state t u none)) ∙ done gives d in
-          let k : filled es (state t u none) ≡ state t′ u′ m = ap (λ (y : Made × State). y .1) (same f) in
-          let fits = fitting gives d in
-          let cn : m .nodes ≡ length (nodesOf es) = sym (ap (λ (σ : State). σ .made .nodes) k) ∙ zero-add _ in
-          let ci : m .items ≡ length (itemsOf es) = sym (ap (λ (σ : State). σ .made .items) k) ∙ zero-add _ in
-          let ln = nodes-length (nodesOf es) in
-          let li = items-length (itemsOf es) in
+          let e = ran-tree d in
           let w = at-end any-free file (header-on (length file)) e₀ in
-          let tn : t′ ≡ allNodes (nodesOf es) ++ drop (length (allNodes (nodesOf es))) t = sym (ap (λ (σ : State). σ .nodes) k) ∙ sets-front t (allNodes (nodesOf es)) (omega arith) in
+          let f : _≡_ {A = Out (Made × State)} (ok (m, puts put es start) (c .at .0)) (ok (m, state t′ u′ m) (c .at .0)) =
+          ap (λ o. still o (puts put es start)) (sym e) ∙ sym (exec-puts put mt file (h .extent .start) start) ∙ done gives d in
+          let k : puts put es start ≡ state t′ u′ m = ap (λ (y : Made × State). y .1) (same f) in
+          let cn : m .nodes ≡ length (nodesOf es) = sym (ap (λ (σ : State). σ .made .nodes) (sym (puts-fills es start) ∙ k)) ∙ zero-add _ in
+          let v = node-in es (length file) (length file) (omega arith) (tree-inside x file (h .extent .start) (h .extent .last + 1) (omega arith)) in
           record {
-            ns = nodesOf es;
-            is = itemsOf es;
-            reads = whole-rows e;
-            node-count = cn;
-            item-count = ci;
-            node-table = tn;
-            item-table = sym (ap (λ (σ : State). σ .items) k) ∙ sets-front u (allItems (itemsOf es)) (omega arith);
-            stands = record {
-              rest = drop (length (allNodes (nodesOf es))) t;
-              words = tn;
-              counted = sym cn;
-              inside = in-file es (h .extent .last + 1) (length file) (omega arith) (tree-inside x file (h .extent .start) (h .extent .last + 1) (omega arith));
-              rising = tree-rises x (h .extent .last + 1) file (h .extent .start) (omega arith) e;
-            };
+            empty = refl;
+            fills = k;
+            fits = fitting gives d;
+            long = (lt, lu);
+            inside = λ i l. (v i l .0, v i l .1);
+            first = subst (λ n. TreeFirst n es) (sym cn) (tree-first room file h (w .3) e);
           }
 
-      -- the tables that are left, as long as those that are lent
-      module _ {t″ u″ : List ℕ} (lt : length t′ ≡ length t) (lu : length u′ ≡ length u) where
-        module _ {m : Made} {p : Cursor} (d : r ≡ Done m p) {c : Checked} (k : (ns : List Node) → Stands ns (m .nodes) (length file) t′ → (o : Reading) → judge c o ≡ targets file ns ns o) where
-          pub whole-good : c ≡ checks.Good → t″ ≡ take (m .nodes * 12) t′ ++ replicate (length t′ - m .nodes * 12) 0 → u″ ≡ take (m .items * 10) u′ ++ replicate (length u′ - m .items * 10) 0
-              → Says (read.Is (record { version = h .version; edition = record { kind = h .edition .type; revision = h .edition .revision }; nodes = m .nodes; items = m .items })) t″ u″
-          unfolding readOf nodeTable itemTable
-          whole-good e ct cu =
-              let w = whole-found d in
-              let z : readFile (limits (length t) (length u)) file ≡ rows h (w .ns) (w .is) = w .reads ∙ sym (k (w .ns) (w .stands) (rows h (w .ns) (w .is))) ∙ ap (λ v. judge v (rows h (w .ns) (w .is))) e in
-              rw z (
-                ap₂ (λ (n : ℕ) (i : ℕ). read.Is (record { version = h .version; edition = record { kind = h .edition .type; revision = h .edition .revision }; nodes = n; items = i })) (w .node-count) (w .item-count),
-                ct ∙ padded-behind (allNodes (w .ns)) _ (w .node-table) (ap (λ n. n * 12) (w .node-count) ∙ sym (nodes-length (w .ns))) ∙ ap (λ n. padded n (allNodes (w .ns))) lt,
-                cu ∙ padded-behind (allItems (w .is)) _ (w .item-table) (ap (λ n. n * 10) (w .item-count) ∙ sym (items-length (w .is))) ∙ ap (λ n. padded n (allItems (w .is))) lu,
-              )
+      pub whole-stands : {m : Made} {c : Cursor} → r ≡ Done m c → (σ : State) × (log : Events) × Stands lim (length file) σ log (m .nodes) t′ u′ m
+      whole-stands {m} d = (start, trace (treeOf room (length file) h) file (h .extent .start), subst (λ v. Stands v (length file) start (trace (treeOf room (length file) h) file (h .extent .start)) (m .nodes) t′ u′ m) (sym is) (whole-stand d))
 
-          pub whole-lost : {n : ℕ} {q : FilePlace} → c ≡ checks.Refused n q → t″ ≡ replicate (length t′) 0 → u″ ≡ replicate (length u′) 0 → Says (read.Refused n q) t″ u″
-          unfolding readOf nodeTable itemTable
-          whole-lost {n} {q} e ct cu =
-              let w = whole-found d in
-              let z : readFile (limits (length t) (length u)) file ≡ refusal n (q .0) = w .reads ∙ sym (k (w .ns) (w .stands) (rows h (w .ns) (w .is))) ∙ ap (λ v. judge v (rows h (w .ns) (w .is))) e in
-              rw z (refl, ct ∙ ap (λ k. replicate k 0) lt, cu ∙ ap (λ k. replicate k 0) lu)
+      pub whole-refused : {t‴ u‴ : List ℕ} {n : ℕ} {p : FilePlace} → r ≡ Refused n p → t‴ ≡ replicate (length t′) 0 → u‴ ≡ replicate (length u′) 0 → Says (read.Refused n p) t‴ u‴
+      unfolding readOf nodeTable itemTable
+      whole-refused d ct cu =
+          let e = ran put (treeOf room (length file) h) file (h .extent .start) start (stopped gives d) in
+          rw (whole-refusal e) (refl, ct ∙ ap (λ k. replicate k 0) lt, cu ∙ ap (λ k. replicate k 0) lu)
 
-        pub whole-refused : {n : ℕ} {p : FilePlace} → r ≡ Refused n p → t″ ≡ replicate (length t′) 0 → u″ ≡ replicate (length u′) 0 → Says (read.Refused n p) t″ u″
-        unfolding readOf nodeTable itemTable
-        whole-refused d ct cu =
-            let e = ran put (tree (context (limits (length t) (length u)) h (length file)) (h .extent .last + 1)) file (h .extent .start) (state t u none) (stopped gives d) in
-            rw (whole-refusal e) (refl, ct ∙ ap (λ k. replicate k 0) lt, cu ∙ ap (λ k. replicate k 0) lu)
+      -- after the rows were followed
+      module _ {m : Made} {c : Cursor} (d : r ≡ Done m c) {r′ : Walked} {t″ u″ : List ℕ}
+          (k : (σ : State) (log : Events) → Stands lim (length file) σ log (m .nodes) t′ u′ m → Leaves lim σ r′ t″ u″ (follow (lim .nodes) lim file h 0 (good log))) (lt′ : length t″ ≡ length t′) (lu′ : length u″ ≡ length u′) where
+        left-is : Leaves room start r′ t″ u″ (follow (room .nodes) room file h 0 (good (trace (treeOf room (length file) h) file (h .extent .start))))
+        left-is = (rw is at k) start (trace (treeOf room (length file) h) file (h .extent .start)) (whole-stand d)
+
+        pub whole-fits : {n : Made} {p : Cursor} → r′ ≡ Done n p → (n .nodes ≤ lim .nodes) × (n .items ≤ lim .items)
+        whole-fits e = let w = whole-stands d in subst (Fits lim) e (k (w .0) (w .1) (w .2) .fits)
+
+        pub whole-lost : {t‴ u‴ : List ℕ} {n : ℕ} {p : FilePlace} → r′ ≡ Refused n p → t‴ ≡ replicate (length t″) 0 → u‴ ≡ replicate (length u″) 0 → Says (read.Refused n p) t‴ u‴
+        unfolding readOf nodeTable itemTable reading
+        whole-lost {t‴} {u‴} {n} {p} e ct cu = by (follow (room .nodes) room file h 0 (good (trace (treeOf room (length file) h) file (h .extent .start)))) (whole-log (ran-tree d)) (ap (λ v. said v t″ u″) (sym e) ∙ left-is .answer)
+          where
+            by : (o : Result Events) → readFile room file ≡ reading h o → bad n (p .0) ≡ left start o → Says (read.Refused n p) t‴ u‴
+            by (good log) x y = let z : _≡_ {A = ℕ} 0 1 = cc in absurd (omega arith)
+            by (bad a b) x y = let v : n ≡ a = cc in let w : p .0 ≡ b = cc in rw (x, ← v, ← w) (refl, ct ∙ ap (λ i. replicate i 0) (lt′ ∙ lt), cu ∙ ap (λ i. replicate i 0) (lu′ ∙ lu))
+
+        pub whole-good : {t‴ u‴ : List ℕ} {n : Made} {p : Cursor} → r′ ≡ Done n p → t‴ ≡ take (n .nodes * 13) t″ ++ replicate (length t″ - n .nodes * 13) 0 → u‴ ≡ take (n .items * 10) u″ ++ replicate (length u″ - n .items * 10) 0
+            → Says (read.Is (record { version = h .version; edition = record { kind = h .edition .type; revision = h .edition .revision }; tree = m .nodes; nodes = n .nodes; items = n .items })) t‴ u‴
+        unfolding readOf nodeTable itemTable reading
+        whole-good {t‴} {u‴} {n} {p} e ct cu =
+            by (follow (room .nodes) room file h 0 (good (trace (treeOf room (length file) h) file (h .extent .start)))) refl (whole-log (ran-tree d)) (ap (λ v. said v t″ u″) (sym e) ∙ left-is .answer) (subst (Fits room) e (left-is .fits))
+          where
+            by : (o : Result Events) → follow (room .nodes) room file h 0 (good (trace (treeOf room (length file) h) file (h .extent .start))) ≡ o → readFile room file ≡ reading h o → good (state t″ u″ n) ≡ left start o
+                → (n .nodes ≤ room .nodes) × (n .items ≤ room .items) → Says (read.Is (record { version = h .version; edition = record { kind = h .edition .type; revision = h .edition .revision }; tree = m .nodes; nodes = n .nodes; items = n .items })) t‴ u‴
+            by (bad a b) q x y fits = let z : _≡_ {A = ℕ} 0 1 = cc in absurd (omega arith)
+            by (good log) q x y fits =
+                let w = at-end any-free file (header-on (length file)) e₀ in
+                let first = tree-followed room file h (room .nodes) 0 _ (omega arith) (whole-stand d .first) q in
+                let z : filled log start ≡ state t″ u″ n = sym (puts-fills log start) ∙ sym (same-state y) in
+                let cn : n .nodes ≡ length (nodesOf log) = sym (ap (λ (σ : State). σ .made .nodes) z) ∙ zero-add _ in
+                let ci : n .items ≡ length (itemsOf log) = sym (ap (λ (σ : State). σ .made .items) z) ∙ zero-add _ in
+                let ln = nodes-length (nodesOf log) in
+                let li = items-length (itemsOf log) in
+                let tn : t″ ≡ allNodes (nodesOf log) ++ drop (length (allNodes (nodesOf log))) t = sym (ap (λ (σ : State). σ .nodes) z) ∙ sets-front t (allNodes (nodesOf log)) (omega arith) in
+                let ui : u″ ≡ allItems (itemsOf log) ++ drop (length (allItems (itemsOf log))) u = sym (ap (λ (σ : State). σ .items) z) ∙ sets-front u (allItems (itemsOf log)) (omega arith) in
+                rw x (
+                  ap (λ (a : ℕ). read.Is (record { version = h .version; edition = record { kind = h .edition .type; revision = h .edition .revision }; tree = a; nodes = n .nodes; items = n .items })) (sym (first .tree-is)) ∙ ap₂ (λ (a : ℕ) (b : ℕ). read.Is (record { version = h .version; edition = record { kind = h .edition .type; revision = h .edition .revision }; tree = treeRows (nodesOf log); nodes = a; items = b })) cn ci,
+                  ct ∙ padded-behind (allNodes (nodesOf log)) _ tn (ap (λ a. a * 13) cn ∙ sym ln) ∙ ap (λ a. padded a (allNodes (nodesOf log))) (lt′ ∙ lt),
+                  cu ∙ padded-behind (allItems (itemsOf log)) _ ui (ap (λ a. a * 10) ci ∙ sym li) ∙ ap (λ a. padded a (allItems (itemsOf log))) (lu′ ∙ lu),
+                )
 
 -- what the call of the tree's root asks for
-pub whole-within : (file : List ℕ) {h : Header} {q : ℕ} → run (header (length file)) file 0 ≡ ok h q → (h .extent .last < length file) × (length file < 2 ^ 28)
-whole-within file e = let w = at-end any-free file (header-on (length file)) e in (w .3, w .4)
+pub whole-within : (file : List ℕ) {h : Header} {q : ℕ} → run (header (length file)) file 0 ≡ ok h q → (h .extent .last < length file) × (length file < 2 ^ 28) × (h .extent .start ≤ length file)
+whole-within file e = let w = at-end any-free file (header-on (length file)) e in (w .3, w .4, omega arith)
 
-pub whole-room : {lim : Limits} {n i : ℕ} → lim ≡ limits n i → (lim .nodes * 12 ≤ n) × (lim .items * 10 ≤ i) × (lim .nodes ≤ mostNodes) × (lim .items ≤ mostItems)
+pub whole-room : {lim : Limits} {n i : ℕ} → lim ≡ limits n i → (lim .nodes * 13 ≤ n) × (lim .items * 10 ≤ i) × (lim .nodes ≤ mostNodes) × (lim .items ≤ mostItems)
 whole-room e = rw e (omega arith)
 
 -- ---- the first question's answer, from what is kept of the file

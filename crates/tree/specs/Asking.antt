@@ -6,12 +6,8 @@ use lib.ListN.{replicate}
 use Rattle.cursor.specs.declared.Node.{Node}
 use Rattle.cursor.specs.declared.Item.{Item}
 use Rattle.header.specs.Header.{Header}
+pub use Rattle.tree.specs.Reading.{Result, good, bad}
 use Rattle.tree.specs.Reading.{Reading, rows, refusal, nodeTable, itemTable}
-
--- an answer, or a refusal's number and place
-pub data Result (A : Type 0) : Type 0 where
-  good : A → Result A
-  bad : ℕ → ℕ → Result A
 
 -- what a question answers, of what a file reads as
 unfoldable pub ask : {A : Type 0} → Reading → (Header → List Node → List Item → Result A) → Result A

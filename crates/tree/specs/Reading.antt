@@ -2,11 +2,11 @@
 -- Assumes nothing.
 use mathlib.Core.List.{List, [], _∷_, _++_}
 use mathlib.Core.Bool.{Bool, true, false, not, _&&_, _||_}
-use Prim.Native.Nat.{ℕ, _+_, _-_}
-use lib.Dec.{eqb}
+use Prim.Native.Nat.{ℕ, zero, suc, _+_, _-_, min, max}
+use lib.Dec.{eqb, ltb, leb}
 use lib.ListN.{length, replicate}
 use Rattle.cursor.specs.Machine.{Out, ok, refused, run, trace, rowsOf}
-use Rattle.cursor.specs.Rows.{Part, nodeRow, itemRow, plain, Events, referenceFrame}
+use Rattle.cursor.specs.Rows.{Part, nodeRow, itemRow, plain, P, Events, referenceFrame}
 use Rattle.cursor.specs.Refusals.{cutShort, badTarget}
 use Rattle.cursor.specs.Leaves.{number}
 use Rattle.cursor.specs.declared.Node.{Node}
@@ -16,7 +16,8 @@ use Rattle.metadata.specs.Tables.{nodeWords, itemWords}
 use Rattle.metadata.specs.Metadata.{Context}
 use Rattle.metadata.specs.declared.Limits.{Limits}
 use Rattle.metadata.specs.declared.Made.{Made}
-use Rattle.tree.specs.Tree.{tree}
+use Rattle.tree.specs.Tree.{tree, detached}
+use Rattle.tree.specs.Rows.{nodeAt, treeRows, if_then_else_}
 use Rattle.tree.specs.declared.Summary.{Summary}
 use Rattle.tree.specs.declared.Read.{Read}
 use Rattle.tree.specs.declared.Read.the-variants as read
@@ -52,11 +53,29 @@ allItems (r ∷ rs) = itemWords r ++ allItems rs
 
 -- ---- what a file reads as
 
+-- an answer, or a refusal's number and place
+pub data Result (A : Type 0) : Type 0 where
+  good : A → Result A
+  bad : ℕ → ℕ → Result A
+
 pub data Reading : Type 0 where
   rows : Header → List Node → List Item → Reading
   refusal : ℕ → ℕ → Reading
 
--- ---- the targets of reference 3, which are checked after the tree, in row order
+-- ---- the log: what was read and passed so far, part after part; the rows are taken off it
+
+abbrev pub context : Limits → Header → ℕ → Context
+context lim h size = record { limits = lim; types = h .types; first = h .extent .end; size = size }
+
+abbrev pub madeBy : Events → Made
+madeBy log = record { nodes = length (nodesOf log); items = length (itemsOf log) }
+
+-- one more run, whose events go behind the log; or its refusal
+unfoldable pub logged : Events → Out Made → Events → Result Events
+logged log (ok m p) es = good (log ++ es)
+logged log (refused n p) es = bad n p
+
+-- ---- where a reference 3 leads: to a node that has a row, or to one outside header and tree, which is read now
 
 unfoldable pub startsAt : List Node → ℕ → Bool
 startsAt [] p = false
@@ -70,31 +89,51 @@ cursor (refused n p) = p
 unfoldable pub offsetAt : List ℕ → Node → ℕ
 offsetAt f r = cursor (run (number referenceFrame cutShort (length f)) f (r .start + r .header))
 
--- a row that refers to no node
+-- a row that refers to no node so far
 unfoldable pub lost : List Node → Node → Bool
 lost all r = eqb (r .reference) 3 && not (startsAt all (r .target))
 
-unfoldable pub checked : Bool → ℕ → Reading → Reading
-checked true p o = refusal badTarget p
-checked false p o = o
+-- p lies in a file of `size` bytes, outside header and tree
+unfoldable pub outside : Header → (size p : ℕ) → Bool
+outside h size p = leb (h .extent .end) p && (ltb p size && (ltb p (h .extent .start) || ltb (h .extent .last) p))
 
-unfoldable pub targets : List ℕ → List Node → List Node → Reading → Reading
-targets f all [] o = o
-targets f all (r ∷ rs) o = checked (lost all r) (offsetAt f r) (targets f all rs o)
+-- the end of the part that p lies in: the tree's start, or the file's end
+unfoldable pub partEnd : Header → (size p : ℕ) → ℕ
+partEnd h size p = if ltb p (h .extent .start) then h .extent .start else size
 
--- ---- header and tree: two runs on two parts of the file
+-- the first byte from p on that a detached node has; `end` if none before that
+unfoldable pub takenFrom : List Node → (p end : ℕ) → ℕ
+takenFrom [] p end = end
+takenFrom (r ∷ rs) p end = if eqb (r .detached) 1 && ltb p (r .start + r .size) then min (max p (r .start)) (takenFrom rs p end) else takenFrom rs p end
 
-unfoldable pub reading : Header → List ℕ → Out Made → Events → Reading
-reading h f (ok m e) es = targets f (nodesOf es) (nodesOf es) (rows h (nodesOf es) (itemsOf es))
-reading h f (refused n p) es = refusal n p
+-- the node at p, which is named at `named`
+unfoldable pub detachedAt : Limits → Header → (size : ℕ) → Events → (p named : ℕ) → P Made
+detachedAt lim h size log p named = detached (context lim h size) (partEnd h size p) (takenFrom (nodesOf log) p (partEnd h size p)) named (madeBy log)
 
-abbrev pub context : Limits → Header → ℕ → Context
-context lim h size = record { limits = lim; types = h .types; first = h .extent .end; size = size }
+unfoldable pub reach : Limits → List ℕ → Header → Events → Node → Result Events
+reach lim f h log r =
+    if lost (nodesOf log) r
+    then if outside h (length f) (r .target)
+    then logged log (run (detachedAt lim h (length f) log (r .target) (offsetAt f r)) f (r .target)) (trace (detachedAt lim h (length f) log (r .target) (offsetAt f r)) f (r .target))
+    else bad badTarget (offsetAt f r)
+    else good log
 
--- the tree, where the header says that it is
+-- the rows from row i on, in row order, over the growing log; each turn takes a row, so as many turns as there may be rows are enough
+unfoldable pub follow : ℕ → Limits → List ℕ → Header → ℕ → Result Events → Result Events
+follow zero lim f h i o = o
+follow (suc k) lim f h i (bad n p) = bad n p
+follow (suc k) lim f h i (good log) = if ltb i (length (nodesOf log)) then follow k lim f h (i + 1) (reach lim f h log (nodeAt (nodesOf log) i)) else good log
+
+-- ---- header, tree and detached nodes, each a run on a part of the file of its own
+
+unfoldable pub reading : Header → Result Events → Reading
+reading h (good log) = rows h (nodesOf log) (itemsOf log)
+reading h (bad n p) = refusal n p
+
+-- the tree, where the header says that it is, and what is referred to from there
 unfoldable pub readTree : Limits → List ℕ → Out Header → Reading
 readTree lim f (ok h p) =
-    reading h f (run (tree (context lim h (length f)) (h .extent .last + 1)) f (h .extent .start)) (trace (tree (context lim h (length f)) (h .extent .last + 1)) f (h .extent .start))
+    reading h (follow (lim .nodes) lim f h 0 (logged [] (run (tree (context lim h (length f)) (h .extent .last + 1)) f (h .extent .start)) (trace (tree (context lim h (length f)) (h .extent .last + 1)) f (h .extent .start))))
 readTree lim f (refused n p) = refusal n p
 
 unfoldable pub readFile : Limits → List ℕ → Reading
@@ -107,6 +146,7 @@ abbrev pub summary : Header → List Node → List Item → Summary
 summary h ns is = record {
   version = h .version;
   edition = record { kind = h .edition .type; revision = h .edition .revision };
+  tree = treeRows ns;
   nodes = length ns;
   items = length is;
 }

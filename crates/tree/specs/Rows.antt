@@ -24,6 +24,7 @@ nodeFrom ws k = record {
   unpackers = getD ws (k + 9) 0;
   layers = getD ws (k + 10) 0;
   rows = getD ws (k + 11) 0;
+  detached = getD ws (k + 12) 0;
 }
 
 -- the item row whose words begin at k
@@ -82,6 +83,11 @@ if false then a else b = b
 unfoldable pub rowStarting : List Node → ℕ → ℕ
 rowStarting [] p = 0
 rowStarting (r ∷ rs) p = if eqb (r .start) p then 0 else suc (rowStarting rs p)
+
+-- how many rows are the tree's: those before the first detached one
+unfoldable pub treeRows : List Node → ℕ
+treeRows [] = 0
+treeRows (r ∷ rs) = if eqb (r .detached) 0 then suc (treeRows rs) else 0
 
 -- each row starts before those after it
 abbrev pub Rising : List Node → Type 0

@@ -1,29 +1,44 @@
--- Rows that stand in a table, and what the check of the targets says.
+-- Rows that stand in the tables, and what following them leaves there.
 -- Assumes nothing.
 use mathlib.Core.Path.{_≡_}
-use mathlib.Core.List.{List, [], _∷_, _++_}
-use Prim.Native.Nat.{ℕ, _+_, _≤_}
-use lib.ListN.{length}
+use mathlib.Core.List.{List, [], _∷_}
+use Prim.Native.Nat.{ℕ, _+_, _≤_, _<_}
+use lib.ListN.{length, take}
+use Rattle.cursor.specs.Machine.{puts}
+use Rattle.cursor.specs.Rows.{Events}
 use Rattle.cursor.specs.declared.Node.{Node}
-use Rattle.tree.specs.Reading.{allNodes, Reading, refusal}
-use Rattle.tree.specs.Rows.{Rising}
-use Rattle.tree.specs.declared.Checked.{Checked}
-use Rattle.tree.specs.declared.Checked.the-variants as checks
+use Rattle.metadata.specs.Tables.{State, state, put}
+use Rattle.metadata.specs.declared.Limits.{Limits}
+use Rattle.metadata.specs.declared.Made.{Made}
+use Rattle.metadata.specs.declared.Walked.{Walked}
+use Rattle.metadata.specs.declared.Walked.the-variants as all
+use Rattle.metadata.specs.Told.{Fits}
+use Rattle.tree.specs.Reading.{nodesOf, Result, good, bad}
+use Rattle.tree.specs.Rows.{nodeAt, treeRows, Rising}
 
--- each row's reference lies in the file
-abbrev pub InFile : ℕ → List Node → Type 0
-InFile size [] = Unit {0}
-InFile size (r ∷ ns) = (r .start + r .header ≤ size) × InFile size ns
+-- the log's first `tree` rows are the tree's, and rise
+pub record TreeFirst (tree : ℕ) (log : Events) : Type 0 where
+  pub tree-is : treeRows (nodesOf log) ≡ tree
+  pub rising : Rising (take tree (nodesOf log))
 
--- the words begin with the rows ns
-pub record Stands (ns : List Node) (count size : ℕ) (ws : List ℕ) : Type 0 where
-  pub rest : List ℕ
-  pub words : ws ≡ allNodes ns ++ rest
-  pub counted : length ns ≡ count
-  pub inside : InFile size ns
-  pub rising : Rising ns
+-- The tables t and u are what the log left there, from the state σ on, and its first `tree` rows are the tree's.
+pub record Stands (lim : Limits) (size : ℕ) (σ : State) (log : Events) (tree : ℕ) (t u : List ℕ) (m : Made) : Type 0 where
+  pub empty : σ .made ≡ record { nodes = 0; items = 0 }
+  pub fills : puts put log σ ≡ state t u m
+  pub fits : (m .nodes ≤ lim .nodes) × (m .items ≤ lim .items)
+  pub long : (length t ≡ length (σ .nodes)) × (length u ≡ length (σ .items))
+  pub inside : (i : ℕ) → i < length (nodesOf log) → (nodeAt (nodesOf log) i .header ≤ nodeAt (nodesOf log) i .size) × (nodeAt (nodesOf log) i .start + nodeAt (nodesOf log) i .size ≤ size)
+  pub first : TreeFirst tree log
 
--- what the check of the targets says, where o is what is answered if all is well
-abbrev pub judge : Checked → Reading → Reading
-judge checks.Good o = o
-judge (checks.Refused n p) o = refusal n (p .0)
+-- what a call says that followed rows: the log's refusal; or its counts, with the tables as the log leaves them
+abbrev pub said : Walked → List ℕ → List ℕ → Result State
+said (all.Done m c) t u = good (state t u m)
+said (all.Refused n p) t u = bad n (p .0)
+
+abbrev pub left : State → Result Events → Result State
+left σ (good log) = good (puts put log σ)
+left σ (bad n p) = bad n p
+
+pub record Leaves (lim : Limits) (σ : State) (r : Walked) (t u : List ℕ) (o : Result Events) : Type 0 where
+  pub answer : said r t u ≡ left σ o
+  pub fits : Fits lim r

@@ -9,7 +9,8 @@ use Rattle.cursor.specs.Refusals.{tooDeep, noRowLeft, bytesLeft}
 use Rattle.metadata.specs.Tables.{plusNode}
 use Rattle.metadata.specs.Metadata.{Context}
 use Rattle.metadata.specs.declared.Made.{Made}
-use Rattle.node.specs.Node.{front}
+use Rattle.node.specs.Node.{inTree, loose, front}
+use Rattle.node.specs.declared.Standing.{Standing}
 
 -- the deepest level, with the root at 1
 abbrev pub mostDepth : ℕ
@@ -31,17 +32,21 @@ folder end children = do
   check (leb end q) bytesLeft q
   ret m
 
--- a node in a part that ends at `end`, with d levels left; it may not end before `least`
-unfoldable pub node : ℕ → Context → (parent least end : ℕ) → Made → P Made
-node zero x parent least end m = here λ p. refuse tooDeep p
-node (suc d) x parent least end m = do
+-- a node that stands so, with d levels left
+unfoldable pub node : ℕ → Context → (parent : ℕ) → Standing → Made → P Made
+node zero x parent s m = here λ p. refuse tooDeep p
+node (suc d) x parent s m = do
   p ← place
   check (ltb (m .nodes) (x .limits .nodes)) noRowLeft p
-  w ← front x parent (mostDepth - d) least end m
+  w ← front x parent (mostDepth - d) s m
   skip (nodeRow (w .row)) 0
   if eqb (w .row .held) 0 then contents (w .row .reference) (p + w .row .size) (plusNode (w .made))
-      else folder (p + w .row .size) (times (w .row .held) (node d x (m .nodes) 0 (p + w .row .size)) (plusNode (w .made)))
+      else folder (p + w .row .size) (times (w .row .held) (node d x (m .nodes) (inTree 0 (p + w .row .size))) (plusNode (w .made)))
 
 -- the tree is one node, the root, which ends where the tree does
 unfoldable pub tree : Context → ℕ → P Made
-tree x end = node mostDepth x 0 end end (record { nodes = 0; items = 0 })
+tree x end = node mostDepth x 0 (inTree end end) (record { nodes = 0; items = 0 })
+
+-- a detached node: of depth 0, one level above the root's, and its own parent
+unfoldable pub detached : Context → (end taken named : ℕ) → Made → P Made
+detached x end taken named m = node (suc mostDepth) x (m .nodes) (loose end taken named) m

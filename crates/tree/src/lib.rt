@@ -1,24 +1,29 @@
 // Reads the tree of a file into two lent tables, one of node rows and one of item rows.
 ghost use mathlib.Core.Path.{_≡_};
 ghost use mathlib.Core.List.{List, _∷_, [], _++_};
-ghost use Prim.Native.Nat.{ℕ, _≤_, _<_, _^_, _*_, _+_, _-_, min};
+ghost use Prim.Native.Nat.{ℕ, _≤_, _<_, _^_, _*_, _+_, _-_, min, max};
 ghost use lib.ListN.{length, replicate, take, drop};
 ghost use lib.Seq.{sets};
 ghost use Rattle.cursor.specs.Machine.{exec, times};
 ghost use Rattle.cursor.specs.declared.Node.{Node};
-ghost use Rattle.header.specs.Told.{headerOf};
-ghost use Rattle.metadata.specs.Tables.{nodeWidth, nodeWords, limits, put, state};
+ghost use Rattle.header.specs.Told.{headerOf, extentOf};
+ghost use Rattle.header.specs.Header as spec;
+ghost use Rattle.metadata.specs.Tables.{State, nodeWidth, nodeWords, limits, put, state};
 ghost use Rattle.metadata.specs.Told.{contextOf, Gives};
+ghost use Rattle.node.specs.Node.{inTree};
+ghost use Rattle.node.specs.declared.Standing.{Standing};
+ghost use Rattle.cursor.specs.Rows.{Events};
 ghost use Rattle.tree.specs.Tree.{contents, node, tree};
-ghost use Rattle.tree.specs.Reading.{context, lost, offsetAt, targets, Reading, readFile, readOf, answerOf, nodeTable, itemTable};
-ghost use Rattle.tree.specs.Rows.{nodesIn, rowStarting, Rising};
-ghost use Rattle.tree.specs.Told.{Stands, judge};
+ghost use Rattle.tree.specs.Reading.{nodesOf, good, context, offsetAt, outside, partEnd, takenFrom, reach, follow, readFile, readOf, answerOf, nodeTable, itemTable};
+ghost use Rattle.tree.specs.Rows.{nodeAt, nodesIn, rowStarting, Rising};
+ghost use Rattle.tree.specs.Told.{Stands, Leaves};
 use cursor::Cursor;
 use cursor::FilePlace;
 use cursor::Node;
 use cursor::NodePlace;
 use cursor::Numbered;
 use header::Edition;
+use header::Extent;
 use header::Headed;
 use header::Header;
 use metadata::Limits;
@@ -26,16 +31,13 @@ use metadata::Made;
 use metadata::Scope;
 use metadata::Walked;
 use node::Fronted;
+use node::Standing;
 
-pub enum Checked {
-    Good,
-    Refused(u64, FilePlace),
-}
-
-// What is kept of an accepted file besides its rows.
+// What is kept of an accepted file besides its rows: how many rows there are, and how many of the node rows are the tree's.
 pub struct Summary {
     pub version: u64,
     pub edition: Edition,
+    pub tree: usize,
     pub nodes: usize,
     pub items: usize,
 }
@@ -82,7 +84,7 @@ pub fn clear_all(nodes: &mut [u64], items: &mut [u64])
 
 // Stores a node row behind the `made` rows that are there.
 fn put_node(nodes: &mut [u64], made: usize, row: Node)
-    requires { ⌜ made * 12 + 12 ≤ length (now nodes) ⌝ }
+    requires { ⌜ made * 13 + 13 ≤ length (now nodes) ⌝ }
     ensures { λ _. ⌜ now (nodes .exit) ≡ sets (now (nodes .entry)) (made * nodeWidth) (nodeWords row) ⌝ }
 {
     let words = [
@@ -98,6 +100,7 @@ fn put_node(nodes: &mut [u64], made: usize, row: Node)
         row.unpackers,
         row.layers,
         row.rows,
+        row.detached,
     ];
     metadata::store(nodes, made * cursor::NODE_WIDTH, &words);
 }
@@ -117,7 +120,7 @@ fn read_contents(c: Cursor, reference: u64, end: FilePlace, lim: Limits, made: M
     Walked::Done(made, Cursor { at: end })
 }
 
-// The node at c and all that it holds. It ends at or before `end`, and not before `least`.
+// The node at c, which stands so, and all that it holds.
 fn read_node(
     c: Cursor,
     file: &[u8],
@@ -127,12 +130,11 @@ fn read_node(
     scope: Scope,
     levels: usize,
     parent: usize,
-    least: FilePlace,
-    end: FilePlace,
+    s: Standing,
     made: Made,
 ) -> Walked
-    requires { ⌜ (end .0 ≤ length (now file)) × (length (now file) < 2 ^ 28) × (scope .types * 2 ≤ length (now types)) × (scope .limits .nodes * 12 ≤ length (now nodes)) × (scope .limits .items * 10 ≤ length (now items)) × (made .nodes ≤ scope .limits .nodes) × (made .items ≤ scope .limits .items) × (levels ≤ 16) ⌝ }
-    ensures { λ r. ⌜ Gives (scope .limits) r (now (nodes .exit)) (now (items .exit)) (exec put (node levels (contextOf scope (now (types .entry)) (length (now (file .entry)))) parent (least .0) (end .0) made) (now (file .entry)) (c .at .0) (state (now (nodes .entry)) (now (items .entry)) made)) ⌝ }
+    requires { ⌜ (s .end .0 ≤ length (now file)) × (length (now file) < 2 ^ 28) × (scope .types * 2 ≤ length (now types)) × (scope .limits .nodes * 13 ≤ length (now nodes)) × (scope .limits .items * 10 ≤ length (now items)) × (made .nodes ≤ scope .limits .nodes) × (made .items ≤ scope .limits .items) × (levels ≤ 17) ⌝ }
+    ensures { λ r. ⌜ Gives (scope .limits) r (now (nodes .exit)) (now (items .exit)) (exec put (node levels (contextOf scope (now (types .entry)) (length (now (file .entry)))) parent s made) (now (file .entry)) (c .at .0) (state (now (nodes .entry)) (now (items .entry)) made)) ⌝ }
 {
     let start = c.at;
     if levels == 0 {
@@ -151,8 +153,7 @@ fn read_node(
         scope,
         parent,
         cursor::MOST_DEPTH + 1 - levels,
-        least,
-        end,
+        s,
         made,
     ) {
         Fronted::Refused(n, p) => Walked::Refused(n, p),
@@ -208,26 +209,21 @@ fn read_children(
     left: u64,
     made: Made,
 ) -> Walked
-    requires { ⌜ (end .0 ≤ length (now file)) × (length (now file) < 2 ^ 28) × (scope .types * 2 ≤ length (now types)) × (scope .limits .nodes * 12 ≤ length (now nodes)) × (scope .limits .items * 10 ≤ length (now items)) × (made .nodes ≤ scope .limits .nodes) × (made .items ≤ scope .limits .items) × (levels ≤ 16) ⌝ }
-    ensures { λ r. ⌜ Gives (scope .limits) r (now (nodes .exit)) (now (items .exit)) (exec put (times left (node levels (contextOf scope (now (types .entry)) (length (now (file .entry)))) parent 0 (end .0)) made) (now (file .entry)) (c .at .0) (state (now (nodes .entry)) (now (items .entry)) made)) ⌝ }
+    requires { ⌜ (end .0 ≤ length (now file)) × (length (now file) < 2 ^ 28) × (scope .types * 2 ≤ length (now types)) × (scope .limits .nodes * 13 ≤ length (now nodes)) × (scope .limits .items * 10 ≤ length (now items)) × (made .nodes ≤ scope .limits .nodes) × (made .items ≤ scope .limits .items) × (levels ≤ 16) ⌝ }
+    ensures { λ r. ⌜ Gives (scope .limits) r (now (nodes .exit)) (now (items .exit)) (exec put (times left (node levels (contextOf scope (now (types .entry)) (length (now (file .entry)))) parent (inTree 0 (end .0))) made) (now (file .entry)) (c .at .0) (state (now (nodes .entry)) (now (items .entry)) made)) ⌝ }
 {
     let mut next = c;
     let mut m = made;
     let mut rest = left;
     while 0 < rest {
-        match read_node(
-            next,
-            file,
-            types,
-            nodes,
-            items,
-            scope,
-            levels,
-            parent,
-            FilePlace(0),
+        let s = Standing {
+            least: FilePlace(0),
             end,
-            m,
-        ) {
+            taken: end,
+            named: FilePlace(0),
+            detached: 0,
+        };
+        match read_node(next, file, types, nodes, items, scope, levels, parent, s, m) {
             Walked::Refused(n, p) => return Walked::Refused(n, p),
             Walked::Done(n, d) => {
                 m = n;
@@ -263,7 +259,7 @@ fn read_root(
     h: Header,
     lim: Limits,
 ) -> Walked
-    requires { ⌜ (h .extent .last .0 < length (now file)) × (length (now file) < 2 ^ 28) × (h .types * 2 ≤ length (now types)) × (lim .nodes * 12 ≤ length (now nodes)) × (lim .items * 10 ≤ length (now items)) ⌝ }
+    requires { ⌜ (h .extent .last .0 < length (now file)) × (length (now file) < 2 ^ 28) × (h .types * 2 ≤ length (now types)) × (lim .nodes * 13 ≤ length (now nodes)) × (lim .items * 10 ≤ length (now items)) ⌝ }
     ensures { λ r. ⌜ Gives lim r (now (nodes .exit)) (now (items .exit)) (exec put (tree (context lim (headerOf h (now (types .entry))) (length (now (file .entry)))) (h .extent .last .0 + 1)) (now (file .entry)) (h .extent .start .0) (state (now (nodes .entry)) (now (items .entry)) (record { nodes = 0; items = 0 }))) ⌝ }
 {
     let extent = h.extent;
@@ -277,6 +273,13 @@ fn read_root(
     };
     let none = Made { nodes: 0, items: 0 };
     let end = FilePlace(last.0 + 1);
+    let s = Standing {
+        least: end,
+        end,
+        taken: end,
+        named: FilePlace(0),
+        detached: 0,
+    };
     read_node(
         Cursor { at: start },
         file,
@@ -286,19 +289,18 @@ fn read_root(
         scope,
         cursor::MOST_DEPTH,
         0,
-        end,
-        end,
+        s,
         none,
     )
 }
 
-// The row that starts at the place; `count` if none does.
-pub fn row_starting(nodes: &[u64], count: usize, place: u64) -> usize
-    requires { ⌜ (count * 12 ≤ length (now nodes)) × Rising (nodesIn count (now nodes)) ⌝ }
+// The row that starts at the place; `count` if none does. The starts of the first `tree` rows rise.
+pub fn row_starting(nodes: &[u64], tree: usize, count: usize, place: u64) -> usize
+    requires { ⌜ (tree ≤ count) × (count * nodeWidth ≤ length (now nodes)) × Rising (nodesIn tree (now nodes)) ⌝ }
     ensures { λ r. ⌜ r ≡ rowStarting (nodesIn count (now (nodes .entry))) place ⌝ }
 {
     let mut low: usize = 0;
-    let mut high = count;
+    let mut high = tree;
     while low < high {
         let middle = low + (high - low) / 2;
         let start = nodes[middle * cursor::NODE_WIDTH];
@@ -311,26 +313,82 @@ pub fn row_starting(nodes: &[u64], count: usize, place: u64) -> usize
             high = middle;
         }
     }
+    let mut i = tree;
+    while i < count {
+        if nodes[i * cursor::NODE_WIDTH] == place {
+            return i;
+        }
+        i = i + 1;
+    }
     count
 }
 
-// Whether row i refers to no node.
-fn is_lost(nodes: &[u64], count: usize, i: usize) -> bool
-    requires { ⌜ (count * 12 ≤ length (now nodes)) × (i < count) × Rising (nodesIn count (now nodes)) ⌝ }
-    ensures { λ r. ⌜ ((ns : List Node) (size : ℕ) → Stands ns count size (now (nodes .entry)) → (n : Node) (rest : List Node) → drop i ns ≡ n ∷ rest → r ≡ lost ns n) ⌝ }
+// The first byte from `place` on that a detached node has; `end` if none before that. No row before row `tree` is detached.
+fn taken_from(nodes: &[u64], tree: usize, count: usize, place: u64, end: u64) -> u64
+    requires { ⌜ (tree ≤ count) × (count * nodeWidth ≤ length (now nodes)) × ((i : ℕ) → i < count → nodeAt (nodesIn count (now nodes)) i .start + nodeAt (nodesIn count (now nodes)) i .size < 2 ^ 28) × ((i : ℕ) → i < tree → nodeAt (nodesIn count (now nodes)) i .detached ≡ 0) ⌝ }
+    ensures { λ r. ⌜ r ≡ takenFrom (nodesIn count (now (nodes .entry))) place end ⌝ }
 {
-    let k = i * cursor::NODE_WIDTH;
-    if nodes[k + 6] != 3 {
+    let mut i = count;
+    let mut taken = end;
+    while tree < i {
+        i = i - 1;
+        let k = i * cursor::NODE_WIDTH;
+        let start = nodes[k];
+        if nodes[k + 12] == 1 {
+            if place < start + nodes[k + 1] {
+                taken = lesser(greater(place, start), taken);
+            }
+        }
+    }
+    taken
+}
+
+fn lesser(a: u64, b: u64) -> u64
+    ensures { λ r. ⌜ r ≡ min a b ⌝ }
+{
+    if a <= b { a } else { b }
+}
+
+fn greater(a: u64, b: u64) -> u64
+    ensures { λ r. ⌜ r ≡ max a b ⌝ }
+{
+    if a <= b { b } else { a }
+}
+
+// Whether the place lies in a file of `size` bytes, outside header and tree.
+fn is_outside(extent: Extent, size: usize, place: usize) -> bool
+    ensures { λ r. ⌜ ((h : spec.Header) → h .extent ≡ extentOf extent → r ≡ outside h size place) ⌝ }
+{
+    let end = extent.end;
+    let start = extent.start;
+    let last = extent.last;
+    if place < end.0 {
         return false;
     }
-    let to = nodes[k + 7];
-    row_starting(nodes, count, to) == count
+    if size <= place {
+        return false;
+    }
+    if place < start.0 {
+        return true;
+    }
+    last.0 < place
+}
+
+// The end of the part that the place lies in.
+fn part_end(extent: Extent, size: usize, place: usize) -> usize
+    ensures { λ r. ⌜ ((h : spec.Header) → h .extent ≡ extentOf extent → r ≡ partEnd h size place) ⌝ }
+{
+    let start = extent.start;
+    if place < start.0 {
+        return start.0;
+    }
+    size
 }
 
 // The place of row i's offset, found again from its header.
 fn offset_at(file: &[u8], nodes: &[u64], count: usize, i: usize) -> FilePlace
-    requires { ⌜ ((ns : List Node) × Stands ns count (length (now file)) (now nodes)) × (count * 12 ≤ length (now nodes)) × (i < count) × (length (now file) < 2 ^ 28) ⌝ }
-    ensures { λ r. ⌜ ((ns : List Node) → Stands ns count (length (now (file .entry))) (now (nodes .entry)) → (n : Node) (rest : List Node) → drop i ns ≡ n ∷ rest → r .0 ≡ offsetAt (now (file .entry)) n) ⌝ }
+    requires { ⌜ (i < count) × (count * nodeWidth ≤ length (now nodes)) × (nodeAt (nodesIn count (now nodes)) i .start + nodeAt (nodesIn count (now nodes)) i .header ≤ length (now file)) × (length (now file) < 2 ^ 28) ⌝ }
+    ensures { λ r. ⌜ r .0 ≡ offsetAt (now (file .entry)) (nodeAt (nodesIn count (now (nodes .entry))) i) ⌝ }
 {
     let k = i * cursor::NODE_WIDTH;
     let start = FilePlace(nodes[k] as usize);
@@ -341,19 +399,94 @@ fn offset_at(file: &[u8], nodes: &[u64], count: usize, i: usize) -> FilePlace
     }
 }
 
-// Checks that each reference 3 leads to a node, in row order.
-fn check_targets(file: &[u8], nodes: &[u64], count: usize) -> Checked
-    requires { ⌜ ((ns : List Node) × Stands ns count (length (now file)) (now nodes)) × (count * 12 ≤ length (now nodes)) × (length (now file) < 2 ^ 28) ⌝ }
-    ensures { λ r. ⌜ ((ns : List Node) → Stands ns count (length (now (file .entry))) (now (nodes .entry)) → (o : Reading) → judge r o ≡ targets (now (file .entry)) ns ns o) ⌝ }
+// Follows row i: reads the node that it refers to, if that one has no row yet.
+fn reach_from(
+    file: &[u8],
+    types: &[u64],
+    nodes: &mut [u64],
+    items: &mut [u64],
+    h: Header,
+    lim: Limits,
+    tree: usize,
+    i: usize,
+    made: Made,
+) -> Walked
+    requires { ⌜ (h .extent .last .0 < length (now file)) × (length (now file) < 2 ^ 28) × (h .types * 2 ≤ length (now types)) × (lim .nodes * nodeWidth ≤ length (now nodes)) × (lim .items * 10 ≤ length (now items)) × (h .extent .start .0 ≤ length (now file)) × (i < made .nodes) × ((σ : State) × (log : Events) × Stands lim (length (now file)) σ log tree (now nodes) (now items) made) ⌝ }
+    ensures { λ r. ⌜ ((σ : State) (log : Events) → Stands lim (length (now (file .entry))) σ log tree (now (nodes .entry)) (now (items .entry)) made
+        → Leaves lim σ r (now (nodes .exit)) (now (items .exit)) (reach lim (now (file .entry)) (headerOf h (now (types .entry))) log (nodeAt (nodesOf log) i))) ⌝ }
 {
+    let here = Cursor { at: FilePlace(0) };
+    let k = i * cursor::NODE_WIDTH;
+    if nodes[k + 6] != 3 {
+        return Walked::Done(made, here);
+    }
+    let to = nodes[k + 7];
+    if row_starting(nodes, tree, made.nodes, to) < made.nodes {
+        return Walked::Done(made, here);
+    }
+    let named = offset_at(file, nodes, made.nodes, i);
+    let extent = h.extent;
+    let place = to as usize;
+    if is_outside(extent, file.len(), place) {
+        let end = part_end(extent, file.len(), place);
+        let taken = taken_from(nodes, tree, made.nodes, to, end as u64);
+        let first = extent.end;
+        let scope = Scope {
+            limits: lim,
+            types: h.types,
+            first,
+        };
+        let s = Standing {
+            least: FilePlace(0),
+            end: FilePlace(end),
+            taken: FilePlace(taken as usize),
+            named,
+            detached: 1,
+        };
+        let at = Cursor {
+            at: FilePlace(place),
+        };
+        let levels = cursor::MOST_DEPTH + 1;
+        return read_node(
+            at,
+            file,
+            types,
+            nodes,
+            items,
+            scope,
+            levels,
+            made.nodes,
+            s,
+            made,
+        );
+    }
+    Walked::Refused(cursor::BAD_TARGET, named)
+}
+
+// Follows the rows from the first on, in row order, over the growing table.
+fn follow_all(
+    file: &[u8],
+    types: &[u64],
+    nodes: &mut [u64],
+    items: &mut [u64],
+    h: Header,
+    lim: Limits,
+    made: Made,
+) -> Walked
+    requires { ⌜ (h .extent .last .0 < length (now file)) × (length (now file) < 2 ^ 28) × (h .types * 2 ≤ length (now types)) × (lim .nodes * nodeWidth ≤ length (now nodes)) × (lim .items * 10 ≤ length (now items)) × (h .extent .start .0 ≤ length (now file)) × ((σ : State) × (log : Events) × Stands lim (length (now file)) σ log (made .nodes) (now nodes) (now items) made) ⌝ }
+    ensures { λ r. ⌜ ((σ : State) (log : Events) → Stands lim (length (now (file .entry))) σ log (made .nodes) (now (nodes .entry)) (now (items .entry)) made
+        → Leaves lim σ r (now (nodes .exit)) (now (items .exit)) (follow (lim .nodes) lim (now (file .entry)) (headerOf h (now (types .entry))) 0 (good log))) ⌝ }
+{
+    let mut m = made;
     let mut i = 0;
-    while i < count {
-        if is_lost(nodes, count, i) {
-            return Checked::Refused(cursor::BAD_TARGET, offset_at(file, nodes, count, i));
+    while i < m.nodes {
+        match reach_from(file, types, nodes, items, h, lim, made.nodes, i, m) {
+            Walked::Refused(n, p) => return Walked::Refused(n, p),
+            Walked::Done(n, _) => m = n,
         }
         i = i + 1;
     }
-    Checked::Good
+    Walked::Done(m, Cursor { at: FilePlace(0) })
 }
 
 // Reads a file into the two tables: the start of every question.
@@ -375,18 +508,27 @@ pub fn read_file(file: &[u8], nodes: &mut [u64], items: &mut [u64]) -> Read
                     clear_all(nodes, items);
                     Read::Refused(n, p)
                 }
-                Walked::Done(m, _) => match check_targets(file, nodes, m.nodes) {
-                    Checked::Refused(n, p) => {
+                Walked::Done(tree, _) => match follow_all(
+                    file,
+                    &types,
+                    nodes,
+                    items,
+                    h,
+                    lim,
+                    tree,
+                ) {
+                    Walked::Refused(n, p) => {
                         clear_all(nodes, items);
                         Read::Refused(n, p)
                     }
-                    Checked::Good => {
+                    Walked::Done(m, _) => {
                         clear_from(nodes, m.nodes * cursor::NODE_WIDTH);
                         clear_from(items, m.items * cursor::ITEM_WIDTH);
                         let edition = h.edition;
                         let is = Summary {
                             version: h.version,
                             edition,
+                            tree: tree.nodes,
                             nodes: m.nodes,
                             items: m.items,
                         };

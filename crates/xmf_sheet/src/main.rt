@@ -26,10 +26,10 @@ fn file_buffer() -> [u8; 65537]
 }
 
 // Room for 256 node rows.
-fn node_table() -> [u64; 3072]
-    ensures { λ r. ⌜ 3072 ≡ length r ⌝ }
+fn node_table() -> [u64; 3328]
+    ensures { λ r. ⌜ 3328 ≡ length r ⌝ }
 {
-    [0; 3072]
+    [0; 3328]
 }
 
 // Room for 1,024 item rows.

@@ -2,6 +2,7 @@
 
 use crate::buffers::{Buffers, Noise};
 use crate::readers::{ask_plain, ask_proved, ask_words, Answer, Question, Subject, QUESTIONS};
+use generate::cases::KINDS;
 use generate::{Case, Pair};
 use std::fmt::Debug;
 
@@ -21,7 +22,7 @@ pub struct Comparer {
     pub values: u64,
     /// For each refusal number, how many files of cases are refused so for reading the tree; at 0
     /// how many are read.
-    pub outcomes: [u64; 24],
+    pub outcomes: [u64; 25],
 }
 
 /// Two values that should be equal.
@@ -42,7 +43,7 @@ impl Comparer {
             noise: Noise::new(seed),
             comparisons: 0,
             values: 0,
-            outcomes: [0; 24],
+            outcomes: [0; 25],
         }
     }
 
@@ -62,7 +63,7 @@ impl Comparer {
             self.first.clear();
             self.second.clear();
         }
-        let turn = (number / 16) as usize;
+        let turn = number as usize / KINDS.len();
         for step in 0..QUESTIONS.len() {
             let question = QUESTIONS[(turn + step) % QUESTIONS.len()];
             if case.lent.stale != 0 {

@@ -9,7 +9,7 @@ use crate::shapes;
 use std::ops::Range;
 
 /// The words of a node row.
-const NODE_WORDS: usize = 12;
+const NODE_WORDS: usize = 13;
 /// The words of an item row.
 const ITEM_WORDS: usize = 10;
 /// The words of a table with as many node rows as there may be.
@@ -20,7 +20,7 @@ pub const ALL_ITEM_WORDS: usize = 1024 * ITEM_WORDS;
 pub const ALL_ROOM: usize = 65_536;
 
 /// The refusals that [`refused`] can make.
-const REFUSALS: [usize; 15] = [1, 2, 3, 4, 5, 6, 7, 8, 9, 11, 12, 13, 14, 15, 16];
+const REFUSALS: [usize; 16] = [1, 2, 3, 4, 5, 6, 7, 8, 9, 11, 12, 13, 14, 15, 16, 24];
 
 /// A kind of case.
 #[derive(Clone, Copy, Debug, PartialEq, Eq)]
@@ -29,6 +29,8 @@ pub enum Kind {
     WellFormed,
     /// A chain of references.
     Chain,
+    /// A file with detached nodes.
+    Detached,
     /// A Mobile XMF file; the verdicts 0 to 8 take turns.
     Mobile,
     /// A file at a limit or one past it.
@@ -42,9 +44,10 @@ pub enum Kind {
 }
 
 /// The kinds of cases, in the order in which they take turns.
-pub const KINDS: [Kind; 16] = [
+pub const KINDS: [Kind; 18] = [
     Kind::WellFormed,
     Kind::Chain,
+    Kind::Detached,
     Kind::Mobile,
     Kind::Limit,
     Kind::Refused,
@@ -55,6 +58,7 @@ pub const KINDS: [Kind; 16] = [
     Kind::Damaged(Damage::LengthLess),
     Kind::Damaged(Damage::Number),
     Kind::Damaged(Damage::Form),
+    Kind::Damaged(Damage::Target),
     Kind::Damaged(Damage::Splice),
     Kind::Damaged(Damage::Bits),
     Kind::Damaged(Damage::Insert),
@@ -158,7 +162,9 @@ pub fn case(seed: u64, number: u64) -> Case {
     let file = match kind {
         Kind::Damaged(way) => {
             let mut file = match random.below(4) {
+                0 if way == Damage::Target => shapes::chain(random),
                 0 => mobile::with_verdict(random, 0),
+                1 => shapes::detached(random),
                 _ => shapes::any_file(random),
             };
             file.widths = shapes::any_widths(random);
@@ -174,6 +180,7 @@ pub fn case(seed: u64, number: u64) -> Case {
         _ => {
             let mut file = match kind {
                 Kind::Chain => shapes::chain(random),
+                Kind::Detached => shapes::detached(random),
                 Kind::Mobile => {
                     verdict = Some(turn as u64 % 9);
                     mobile::with_verdict(random, turn % 9)
@@ -220,6 +227,7 @@ pub fn pair(seed: u64, number: u64) -> Pair {
             mobile::with_verdict(random, verdict)
         }
         1 => shapes::chain(random),
+        2 => shapes::detached(random),
         _ => shapes::any_file(random),
     };
     file.widths = shapes::any_widths(random);
@@ -260,7 +268,7 @@ pub fn large_resource(seed: u64) -> Vec<u8> {
 
 /// A file at a limit, or past it with the refusal that follows.
 fn at_limit(random: &mut Random, turn: usize) -> (File, Option<u64>) {
-    match turn % 16 {
+    match turn % 20 {
         0 => (shapes::with_nodes(random, 256), None),
         1 => (shapes::with_nodes(random, 257), Some(10)),
         2 => (shapes::with_item_rows(random, 1024), None),
@@ -283,6 +291,10 @@ fn at_limit(random: &mut Random, turn: usize) -> (File, Option<u64>) {
             file.root.contents = Contents::InFile(Place::BeforeEnd(0));
             (file, None)
         }
+        14 => (shapes::with_detached_nodes(random, 256), None),
+        15 => (shapes::with_detached_nodes(random, 257), Some(10)),
+        16 => (shapes::with_detached_chain(random, 4), None),
+        17 => (shapes::with_detached_chain(random, 5), None),
         _ => (shapes::with_edge_lengths(random), None),
     }
 }
@@ -377,7 +389,7 @@ fn any_field(random: &mut Random, file: Option<&File>) -> Field {
     fields.swap_remove(random.below(fields.len()))
 }
 
-/// Gives one node a hidden item with at least one byte of data.
+/// Gives one node that has a row a hidden item with at least one byte of data.
 fn add_hidden_item(random: &mut Random, file: &mut File) {
     let field = match random.below(3) {
         0 => Field::Standard(random.pick(&[1, 2, 4, 8, 12, 14, 127])),
@@ -395,10 +407,16 @@ fn add_hidden_item(random: &mut Random, file: &mut File) {
         },
     };
     let item = Item { field, values };
-    let row = random.below(file.nodes().len());
+    let in_tree = file.tree().len();
+    let reached = file.reached();
+    let number = match reached.len() {
+        0 => random.below(in_tree),
+        _ if random.once_in(2) => random.below(in_tree),
+        _ => in_tree + random.pick(&reached),
+    };
     let at = random.below(9);
-    file.for_each_node(|own_row, node: &mut Node| {
-        if own_row == row {
+    file.for_each_node(|own_number, node: &mut Node| {
+        if own_number == number {
             let at = at.min(node.items.len());
             node.items.insert(at, item.clone());
         }

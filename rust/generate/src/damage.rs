@@ -1,8 +1,8 @@
 //! Damaged files.
 
-use crate::encode::{encode, encode_changed, number_bytes, padded_bytes, LARGEST_NUMBER};
-use crate::encode::{Encoded, Mark, MarkKind};
-use crate::model::{Contents, Field, File, Item, Node, Place, TypeEntry};
+use crate::encode::{encode, encode_changed, padded_bytes, LARGEST_NUMBER};
+use crate::encode::{Encoded, Layout, Mark, MarkKind};
+use crate::model::{Contents, Field, File, Item, Node, Part, Place, TypeEntry};
 use crate::model::{Unpacker, UnpackerName, Values, Version};
 use crate::random::Random;
 use crate::shapes;
@@ -23,6 +23,8 @@ pub enum Damage {
     Number,
     /// One number has a byte more, is too long, is cut, is missing or has a byte after it.
     Form,
+    /// One offset of a reference 2 or 3, if the file has any, leads to another place.
+    Target,
     /// A part is replaced by a part of another file.
     Splice,
     /// Some bits have their other value.
@@ -61,6 +63,13 @@ pub fn damage(random: &mut Random, file: &File, way: Damage) -> Vec<u8> {
             let mark = any_mark(random, &encoded, |_| true);
             let form = other_form(random, mark);
             return changed(random, file, &encoded, mark, &form);
+        }
+        Damage::Target => {
+            if let Some(mark) = some_mark(random, &encoded, |mark| mark.kind == MarkKind::Offset) {
+                let place = other_place(random, &encoded.layout);
+                let form = padded_bytes(place, mark.size);
+                return changed(random, file, &encoded, mark, &form);
+            }
         }
         Damage::Splice => {
             let mut other = shapes::any_file(random);
@@ -120,7 +129,7 @@ pub fn every_length_changed(file: &File) -> Vec<(Mark, Vec<u8>)> {
 /// `before` is the file before the damage.
 pub fn with_right_length(bytes: &[u8], before: &Encoded) -> Vec<u8> {
     let mut repaired = bytes.to_vec();
-    let mark = first_mark(before, MarkKind::FileLength);
+    let mark = first_mark(before, MarkKind::FileLength, 0);
     let end = mark.place + mark.size;
     if bytes.len() >= end {
         let others = bytes.len() - mark.size;
@@ -135,8 +144,8 @@ pub fn with_right_length(bytes: &[u8], before: &Encoded) -> Vec<u8> {
 
 /// A file that is refused with this number when the tables are large enough.
 ///
-/// The number is 1 to 9 or 11 to 16: the others depend on the tables, the question or a very long
-/// file.
+/// The number is 1 to 9, 11 to 16 or 24: the others depend on the tables, the question or a very
+/// long file.
 pub fn refused(random: &mut Random, number: usize) -> Vec<u8> {
     use MarkKind::*;
     let mut file = rich(random);
@@ -144,7 +153,8 @@ pub fn refused(random: &mut Random, number: usize) -> Vec<u8> {
     let even = choice.is_multiple_of(2);
     let (kind, change): (MarkKind, fn(usize) -> usize) = match number {
         1 | 2 => return with_wrong_start(random, &file, number),
-        3 if choice >= 9 => return with_cut_number(random, &file),
+        3 if choice >= 10 => return with_empty_node(random, &file),
+        3 if choice >= 8 => return with_cut_number(random, &file),
         3 => match choice % 6 {
             0 => (TableLength, |value| value + FAR),
             1 => (LanguageLength, |value| value + FAR),
@@ -186,9 +196,10 @@ pub fn refused(random: &mut Random, number: usize) -> Vec<u8> {
             return encode(&file).bytes;
         }
         14 => {
-            let root = first_mark(&encode(&file), Reference).index;
-            let reference = number_bytes(random.between(2, 4));
-            return encode_changed(&file, root, &reference).bytes;
+            let encoded = encode(&file);
+            let root = first_mark(&encoded, Reference, encoded.layout.tree.start);
+            let reference = padded_bytes(random.between(2, 4), root.size);
+            return encode_changed(&file, root.index, &reference).bytes;
         }
         15 => match choice % 4 {
             0 => (TableCount, |value| value - 1),
@@ -201,17 +212,28 @@ pub fn refused(random: &mut Random, number: usize) -> Vec<u8> {
             }
         },
         16 => {
-            let contents = match choice % 4 {
+            let wrong = Node::new(match choice % 6 {
                 0 => Contents::InFile(Place::Fixed(random.below(12))),
                 1 => Contents::InFile(Place::Fixed(FAR)),
-                2 => Contents::Node(Place::AfterTree(random.below(2))),
-                _ => Contents::Node(Place::Fixed(random.below(12))),
-            };
-            if let Some(children) = file.root.children_mut() {
-                children.push(Node::new(contents));
+                2 => Contents::Node(Place::Fixed(random.below(12))),
+                3 => Contents::Node(Place::BeforeEnd(0)),
+                4 => Contents::Node(Place::Fixed(FAR)),
+                _ => Contents::Node(Place::InNode(random.below(file.tree().len()))),
+            });
+            if random.once_in(2) {
+                let place = file.add_detached(wrong);
+                add_reference(&mut file, place);
+            } else {
+                add_child(&mut file, wrong);
             }
             return encode(&file).bytes;
         }
+        24 if even => {
+            let place = file.add_detached(Node::folder(vec![Node::inline(b"x")]));
+            add_reference(&mut file, place);
+            return encode(&file).bytes;
+        }
+        24 => return with_overlap(random),
         _ => panic!("no file for refusal {number}"),
     };
     let mark = any_mark(random, &encode(&file), |mark| mark.kind == kind);
@@ -256,7 +278,65 @@ fn with_cut_number(random: &mut Random, file: &File) -> Vec<u8> {
     encode_changed(file, mark.index, &run).bytes
 }
 
-/// A file with at least one of each kind of part.
+/// A file in which a reference 3 leads to a byte 0, a node of no length: one outside all nodes, or the
+/// last one of a detached node.
+fn with_empty_node(random: &mut Random, file: &File) -> Vec<u8> {
+    let mut file = file.clone();
+    if random.once_in(2) {
+        let holder = file.add_detached(Node::inline(&[1, 0]));
+        add_reference(&mut file, holder);
+    } else {
+        file.tail.push(Part::Bytes(vec![0]));
+    }
+    add_reference(&mut file, Place::BeforeEnd(1));
+    encode(&file).bytes
+}
+
+/// A file with two detached nodes side by side, of which the first is so long that it has bytes of
+/// the second: one byte, some, or all and what follows it.
+fn with_overlap(random: &mut Random) -> Vec<u8> {
+    let mut numbers = [0, 1];
+    if random.once_in(2) {
+        numbers.reverse();
+    }
+    let named = numbers.map(|number| Node::new(Contents::Node(Place::Detached(number))));
+    let mut file = File::new(Version::V101, Node::folder(named.to_vec()));
+    let more = random.below(4);
+    let parts = vec![
+        Part::Node(Node::inline(&random.bytes(2))),
+        Part::Node(Node::inline(b"x")),
+        Part::Bytes(random.bytes(more)),
+    ];
+    if random.once_in(2) {
+        file.gap = parts;
+    } else {
+        file.tail = parts;
+    }
+    file.widths = shapes::any_widths(random);
+    let encoded = encode(&file);
+    let [first, second] = [0, 1].map(|number| {
+        let start = encoded.layout.detached[number];
+        first_mark(&encoded, MarkKind::NodeLength, start)
+    });
+    let shared = random.pick(&[1, second.value, second.value + more]);
+    let shared = random.between(1, shared);
+    let form = padded_bytes(first.value + shared, first.size);
+    encode_changed(&file, first.index, &form).bytes
+}
+
+/// Adds a node at the end of the root, which is a folder.
+fn add_child(file: &mut File, node: Node) {
+    if let Some(children) = file.root.children_mut() {
+        children.push(node);
+    }
+}
+
+/// Adds a node with a reference 3 to a place at the end of the root.
+fn add_reference(file: &mut File, place: Place) {
+    add_child(file, Node::new(Contents::Node(place)));
+}
+
+/// A file with at least one of each kind of part. Each detached node in it has a row.
 fn rich(random: &mut Random) -> File {
     let version = match random.below(3) {
         0 => Version::V100,
@@ -275,18 +355,24 @@ fn rich(random: &mut Random) -> File {
         name(UnpackerName::Registered(7)),
         name(UnpackerName::Guid(shapes::guid(random, guid_size))),
     ];
-    let folder = Node::folder(vec![
+    let folder = Node::folder(vec![Node::inline(&random.bytes(2))]);
+    let first = Node::new(Contents::Node(Place::Node(2)));
+    let mut file = File::new(version, Node::folder(vec![folder, first]));
+    file.tail.push(Part::Bytes(random.bytes(3)));
+    for node in [
         packed,
         Node::new(Contents::InFile(Place::AfterTree(0))),
-    ]);
-    let mut file = File::new(
-        version,
-        Node::folder(vec![
-            folder,
-            Node::new(Contents::Node(Place::Node(2))),
-            Node::new(Contents::Uri(b"file:x".to_vec())),
-        ]),
-    );
+        Node::new(Contents::Uri(b"file:x".to_vec())),
+    ] {
+        match random.below(4) {
+            0 => file.gap.push(Part::Node(node)),
+            1 => file.tail.push(Part::Node(node)),
+            _ => add_child(&mut file, node),
+        }
+    }
+    for number in 0..file.detached().len() {
+        add_reference(&mut file, Place::Detached(number));
+    }
     file.types = vec![
         TypeEntry {
             number: 1,
@@ -299,7 +385,6 @@ fn rich(random: &mut Random) -> File {
             language: b"fr".to_vec(),
         },
     ];
-    file.tail = random.bytes(3);
     file.widths = shapes::any_widths(random);
     let types = file.types.clone();
     file.for_each_node(|_, node| node.items = shapes::items(random, &types));
@@ -378,18 +463,44 @@ fn other_form(random: &mut Random, mark: Mark) -> Vec<u8> {
     }
 }
 
-/// One of the numbers of a file.
-fn any_mark(random: &mut Random, encoded: &Encoded, wanted: impl Fn(&Mark) -> bool) -> Mark {
-    let marks = encoded.marks.iter().copied();
-    let marks: Vec<Mark> = marks.filter(|mark| wanted(mark)).collect();
-    random.pick(&marks)
+/// A place other than the right one, of those that tell readers apart: where a part of the file
+/// starts or ends, or the byte before or after.
+fn other_place(random: &mut Random, layout: &Layout) -> usize {
+    let mut places = vec![
+        layout.header_end,
+        layout.tree.start,
+        layout.tree.end,
+        layout.length,
+    ];
+    places.extend(&layout.nodes);
+    places.extend(&layout.detached);
+    random.pick(&places) + random.below(3) - 1
 }
 
-/// The first number of a kind.
-fn first_mark(encoded: &Encoded, kind: MarkKind) -> Mark {
+/// One of the numbers of a file.
+fn any_mark(random: &mut Random, encoded: &Encoded, wanted: impl Fn(&Mark) -> bool) -> Mark {
+    some_mark(random, encoded, wanted).expect("each file has such a number")
+}
+
+/// One of the numbers of a file, if it has one that is wanted.
+fn some_mark(
+    random: &mut Random,
+    encoded: &Encoded,
+    wanted: impl Fn(&Mark) -> bool,
+) -> Option<Mark> {
+    let marks = encoded.marks.iter().copied();
+    let marks: Vec<Mark> = marks.filter(|mark| wanted(mark)).collect();
+    match marks.len() {
+        0 => None,
+        _ => Some(random.pick(&marks)),
+    }
+}
+
+/// The first number of a kind from a place on.
+fn first_mark(encoded: &Encoded, kind: MarkKind, place: usize) -> Mark {
     let mut marks = encoded.marks.iter();
     *marks
-        .find(|mark| mark.kind == kind)
+        .find(|mark| mark.kind == kind && mark.place >= place)
         .expect("each file has such a number")
 }
 

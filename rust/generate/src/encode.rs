@@ -1,7 +1,7 @@
 //! Writing of a model as bytes.
 
-use crate::model::{Contents, Field, File, Item, Node, Place, Unpacker, UnpackerName};
-use crate::model::{Values, Version};
+use crate::model::{Contents, Field, File, Item, Node, Part, Place};
+use crate::model::{Unpacker, UnpackerName, Values, Version};
 use std::ops::Range;
 
 /// The largest number that a VLQ of four bytes can hold.
@@ -116,8 +116,10 @@ pub struct Encoded {
     pub bytes: Vec<u8>,
     /// All numbers, in file order.
     pub marks: Vec<Mark>,
-    /// The parts with hidden data, of fields other than standard 0, 3 and 13.
+    /// The parts with hidden data that has a row, of fields other than standard 0, 3 and 13.
     pub hidden: Vec<Range<usize>>,
+    /// Where the parts of a whole file stand.
+    pub layout: Layout,
 }
 
 impl Encoded {
@@ -166,34 +168,43 @@ pub fn encode_changed(file: &File, index: usize, bytes: &[u8]) -> Encoded {
 
 /// Writes the file again and again, until its places are those of the time before.
 fn encode_with(file: &File, change: Option<(usize, &[u8])>) -> Encoded {
+    let reached = file.reached();
     let mut layout = Layout::default();
     loop {
         let mut encoder = Encoder {
             file,
+            reached: &reached,
             change,
             layout: &layout,
             given: 0,
         };
-        let (encoded, next) = encoder.file();
-        if next == layout {
+        let encoded = encoder.file();
+        if encoded.layout == layout {
             return encoded;
         }
-        layout = next;
+        layout = encoded.layout;
     }
 }
 
 /// The places that numbers in the file name.
-#[derive(Default, PartialEq, Eq)]
-struct Layout {
-    header_end: usize,
-    tree_start: usize,
-    tree_end: usize,
-    length: usize,
-    nodes: Vec<usize>,
+#[derive(Clone, Debug, Default, PartialEq, Eq)]
+pub struct Layout {
+    /// The place after the file header.
+    pub header_end: usize,
+    /// The places of the tree.
+    pub tree: Range<usize>,
+    /// The file's length.
+    pub length: usize,
+    /// The first bytes of the tree's nodes, in row order.
+    pub nodes: Vec<usize>,
+    /// The first bytes of the detached nodes, in file order.
+    pub detached: Vec<usize>,
 }
 
 struct Encoder<'a> {
     file: &'a File,
+    /// The detached nodes that have rows.
+    reached: &'a [usize],
     change: Option<(usize, &'a [u8])>,
     layout: &'a Layout,
     /// How many marks have their index.
@@ -201,8 +212,8 @@ struct Encoder<'a> {
 }
 
 impl Encoder<'_> {
-    /// Writes the whole file. The places found are given as well.
-    fn file(&mut self) -> (Encoded, Layout) {
+    /// Writes the whole file.
+    fn file(&mut self) -> Encoded {
         let mut out = Encoded::default();
         out.bytes.extend(b"XMF_");
         match self.file.version {
@@ -217,27 +228,39 @@ impl Encoder<'_> {
         self.number(&mut out, MarkKind::FileLength, self.layout.length);
         let table = self.types();
         self.block(&mut out, MarkKind::TableLength, table);
-        self.number(&mut out, MarkKind::TreeStart, self.layout.tree_start);
-        let last = self.layout.tree_end.saturating_sub(1);
+        self.number(&mut out, MarkKind::TreeStart, self.layout.tree.start);
+        let last = self.layout.tree.end.saturating_sub(1);
         self.number(&mut out, MarkKind::TreeEnd, last);
-        let header_end = out.bytes.len();
-        out.bytes.extend(&self.file.gap);
+        out.layout.header_end = out.bytes.len();
+        self.outside(&mut out, &self.file.gap);
         let tree_start = out.bytes.len();
         let tree = self.node(&self.file.root);
-        out.append(tree);
-        let tree_end = out.bytes.len();
-        out.bytes.extend(&self.file.tail);
-
-        let starts = out.marks.iter();
+        let starts = tree.marks.iter();
         let starts = starts.filter(|mark| mark.kind == MarkKind::NodeLength);
-        let layout = Layout {
-            header_end,
-            tree_start,
-            tree_end,
-            length: out.bytes.len(),
-            nodes: starts.map(|mark| mark.place).collect(),
-        };
-        (out, layout)
+        out.layout.nodes = starts.map(|mark| tree_start + mark.place).collect();
+        out.append(tree);
+        out.layout.tree = tree_start..out.bytes.len();
+        self.outside(&mut out, &self.file.tail);
+        out.layout.length = out.bytes.len();
+        out
+    }
+
+    /// Writes parts that are outside header and tree.
+    fn outside(&mut self, out: &mut Encoded, parts: &[Part]) {
+        for part in parts {
+            match part {
+                Part::Bytes(bytes) => out.bytes.extend(bytes),
+                Part::Node(node) => {
+                    let number = out.layout.detached.len();
+                    out.layout.detached.push(out.bytes.len());
+                    let mut node = self.node(node);
+                    if !self.reached.contains(&number) {
+                        node.hidden.clear();
+                    }
+                    out.append(node);
+                }
+            }
+        }
     }
 
     fn types(&mut self) -> Encoded {
@@ -382,9 +405,12 @@ impl Encoder<'_> {
 
     fn place(&self, place: Place) -> usize {
         match place {
+            // The layout is empty when the file is written for the first time.
             Place::Node(row) => self.layout.nodes.get(row).copied().unwrap_or(0),
+            Place::InNode(row) => self.place(Place::Node(row)) + 1,
+            Place::Detached(number) => self.layout.detached.get(number).copied().unwrap_or(0),
             Place::AfterHeader(count) => self.layout.header_end + count,
-            Place::AfterTree(count) => self.layout.tree_end + count,
+            Place::AfterTree(count) => self.layout.tree.end + count,
             Place::BeforeEnd(count) => self.layout.length.saturating_sub(count),
             Place::Fixed(place) => place,
         }

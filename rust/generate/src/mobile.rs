@@ -1,7 +1,8 @@
 //! Mobile XMF files, with every verdict.
 
 use crate::encode::{number_bytes, padded_bytes};
-use crate::model::{Contents, Field, File, Item, Node, Place, TypeEntry, Values, Version};
+use crate::model::{Contents, Field, File, Item, Node, Part, Place};
+use crate::model::{TypeEntry, Values, Version};
 use crate::random::Random;
 use crate::shapes::unpackers;
 
@@ -54,10 +55,10 @@ fn right_file(random: &mut Random) -> File {
         });
     }
     if random.once_in(3) {
-        file.gap = random.bytes(2);
+        file.gap = vec![Part::Bytes(random.bytes(2))];
     }
     if random.once_in(3) {
-        file.tail = random.bytes(3);
+        file.tail = vec![Part::Bytes(random.bytes(3))];
     }
     file
 }
@@ -107,8 +108,9 @@ fn fail(random: &mut Random, file: &mut File, check: usize) {
         1 => fail_version(random, file),
         2 => fail_folders(random, file),
         3 => {
-            let contents = match random.below(2) {
+            let contents = match random.below(3) {
                 0 => Contents::Node(Place::Node(0)),
+                1 => Contents::Node(file.add_detached(Node::inline(b"x"))),
                 _ => Contents::Uri(b"file:a".to_vec()),
             };
             if let Some(child) = any_file_child(random, file) {

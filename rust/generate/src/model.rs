@@ -14,12 +14,21 @@ pub struct File {
     pub widths: Widths,
     /// The entries of the types table.
     pub types: Vec<TypeEntry>,
-    /// The bytes between the file header and the tree.
-    pub gap: Vec<u8>,
+    /// What stands between the file header and the tree.
+    pub gap: Vec<Part>,
     /// The tree.
     pub root: Node,
-    /// The bytes after the tree.
-    pub tail: Vec<u8>,
+    /// What stands after the tree.
+    pub tail: Vec<Part>,
+}
+
+/// A part of the file outside header and tree.
+#[derive(Clone, Debug)]
+pub enum Part {
+    /// Bytes that are no node.
+    Bytes(Vec<u8>),
+    /// A detached node. It has a row if a node with a row names it by [`Place::Detached`].
+    Node(Node),
 }
 
 /// A version of the format.
@@ -89,8 +98,12 @@ pub enum Contents {
 /// A place in the file, known once the file is written.
 #[derive(Clone, Copy, Debug)]
 pub enum Place {
-    /// The first byte of the node with this row.
+    /// The first byte of the tree's node with this row.
     Node(usize),
+    /// The second byte of the tree's node with this row, where no node starts.
+    InNode(usize),
+    /// The first byte of a detached node, by its number among them in file order.
+    Detached(usize),
     /// So many bytes after the header's end.
     AfterHeader(usize),
     /// So many bytes after the tree's end.
@@ -168,17 +181,63 @@ impl File {
         }
     }
 
-    /// All nodes, in row order.
-    pub fn nodes(&self) -> Vec<&Node> {
+    /// The tree's nodes, in row order.
+    pub fn tree(&self) -> Vec<&Node> {
         let mut nodes = Vec::new();
         self.root.collect(&mut nodes);
         nodes
     }
 
-    /// Calls a function on each node, in row order, with its row.
-    pub fn for_each_node(&mut self, mut change: impl FnMut(usize, &mut Node)) {
+    /// The detached nodes, in file order, with rows or without.
+    pub fn detached(&self) -> Vec<&Node> {
+        let parts = self.gap.iter().chain(&self.tail);
+        parts.filter_map(Part::node).collect()
+    }
+
+    /// The numbers of the detached nodes that have rows, in row order.
+    pub fn reached(&self) -> Vec<usize> {
+        let detached = self.detached();
+        let mut nodes = self.tree();
+        let mut reached = Vec::new();
         let mut row = 0;
-        self.root.visit(&mut row, &mut change);
+        while row < nodes.len() {
+            if let Contents::Node(Place::Detached(number)) = nodes[row].contents {
+                if !reached.contains(&number) {
+                    reached.push(number);
+                    nodes.push(detached[number]);
+                }
+            }
+            row += 1;
+        }
+        reached
+    }
+
+    /// All nodes that have rows, in row order.
+    pub fn nodes(&self) -> Vec<&Node> {
+        let detached = self.detached();
+        let mut nodes = self.tree();
+        nodes.extend(self.reached().into_iter().map(|number| detached[number]));
+        nodes
+    }
+
+    /// Adds a detached node at the file's end and gives its place.
+    pub fn add_detached(&mut self, node: Node) -> Place {
+        let number = self.detached().len();
+        self.tail.push(Part::Node(node));
+        Place::Detached(number)
+    }
+
+    /// Calls a function on each node: on the tree's in row order with their rows, then on the
+    /// detached ones in file order with the numbers that follow.
+    pub fn for_each_node(&mut self, mut change: impl FnMut(usize, &mut Node)) {
+        let mut number = 0;
+        self.root.visit(&mut number, &mut change);
+        for part in self.gap.iter_mut().chain(&mut self.tail) {
+            if let Part::Node(node) = part {
+                change(number, node);
+                number += 1;
+            }
+        }
     }
 
     /// The number of item rows that the file has.
@@ -196,6 +255,16 @@ impl File {
         self.types
             .iter()
             .any(|entry| entry.number == number && entry.format % 2 == 1)
+    }
+}
+
+impl Part {
+    /// The detached node, if the part is one.
+    fn node(&self) -> Option<&Node> {
+        match self {
+            Part::Bytes(_) => None,
+            Part::Node(node) => Some(node),
+        }
     }
 }
 

@@ -2,7 +2,8 @@
 
 use crate::encode::{encode, encode_changed, padded_bytes, Mark, MarkKind};
 use crate::mobile::{tune, tune_items};
-use crate::model::{Contents, Field, File, Item, Node, Place, TypeEntry, Values, Version, Widths};
+use crate::model::{Contents, Field, File, Item, Node, Part, Place};
+use crate::model::{TypeEntry, Values, Version, Widths};
 
 /// Version 2.00, with type and revision of Mobile XMF.
 const MOBILE: Version = Version::V200 {
@@ -31,6 +32,7 @@ fn with_widths(widths: Widths) -> Vec<(&'static str, Vec<u8>)> {
         ("worked.xmf", encode(&worked_file(widths)).bytes),
         ("mobile.xmf", encode(&mobile_file(widths)).bytes),
         ("folders.xmf", encode(&folders_file(widths)).bytes),
+        ("detached.xmf", encode(&detached_file(widths)).bytes),
         ("cut.xmf", cut(widths)),
         ("header.xmf", long_header(widths)),
         ("type.xmf", undeclared_type(widths)),
@@ -56,7 +58,7 @@ fn mobile_file(widths: Widths) -> File {
     file.widths = widths;
     let length = tune().len();
     if (encode(&file).bytes.len() - length) % 2 == 1 {
-        file.gap = vec![0];
+        file.gap = vec![Part::Bytes(vec![0])];
     }
     file
 }
@@ -95,8 +97,37 @@ fn folders_file(widths: Widths) -> File {
         type_entry(2, 4, b"fr"),
         type_entry(3, 1, b"en"),
     ];
-    file.gap = b"gap".to_vec();
-    file.tail = b"a tune after the tree".to_vec();
+    file.gap = vec![Part::Bytes(b"gap".to_vec())];
+    file.tail = vec![Part::Bytes(b"a tune after the tree".to_vec())];
+    file.widths = widths;
+    file
+}
+
+/// A file with three detached nodes: one after the tree that two nodes of the tree name, and one
+/// after the tree that names one before it.
+fn detached_file(widths: Widths) -> File {
+    let titled =
+        |contents, title| Node::new(contents).with_items(vec![Item::standard(8, 0, title)]);
+    let (drum, piano, organ) = (Place::Detached(0), Place::Detached(1), Place::Detached(2));
+    let mut file = File::new(
+        MOBILE,
+        Node::folder(vec![
+            titled(Contents::Node(piano), b"Waltz"),
+            titled(Contents::Node(piano), b"March"),
+            titled(Contents::Node(organ), b"Reel"),
+        ]),
+    );
+    let mut shared = titled(Contents::Inline(b"piano samples".to_vec()), b"Piano");
+    shared.items.push(Item::custom(b"key", 1, b"hidden"));
+    file.gap = vec![
+        Part::Node(titled(Contents::Inline(b"drum samples".to_vec()), b"Drum")),
+        Part::Bytes(b"gap".to_vec()),
+    ];
+    file.tail = vec![
+        Part::Node(shared),
+        Part::Bytes(b"end".to_vec()),
+        Part::Node(titled(Contents::Node(drum), b"Organ")),
+    ];
     file.widths = widths;
     file
 }

@@ -1,6 +1,6 @@
 //! Well-formed files of many shapes.
 
-use crate::model::{Contents, Field, File, Item, Node, Place, TypeEntry};
+use crate::model::{Contents, Field, File, Item, Node, Part, Place, TypeEntry};
 use crate::model::{Unpacker, UnpackerName, Values, Version, Widths};
 use crate::random::Random;
 
@@ -19,10 +19,11 @@ const NUMBERS: [usize; 9] = [0, 1, 5, 127, 128, 16_383, 16_384, 2_097_152, 268_4
 
 /// A file of any well-formed shape.
 pub fn any_file(random: &mut Random) -> File {
-    match random.below(8) {
+    match random.below(9) {
         0 => single_node(random),
         1 => chain(random),
         2 => deep(random),
+        3 | 4 => detached(random),
         _ => folders(random),
     }
 }
@@ -62,33 +63,83 @@ pub fn deep(random: &mut Random) -> File {
     file
 }
 
-/// A file with a chain of one to six references 3, in either direction, and an end of any kind.
+/// A file with a chain of one to six references 3, in either direction, and an end of any kind. In
+/// half of the files its nodes after the first are in the tree, before it or after it. Up to two more
+/// nodes name some node of the chain.
 pub fn chain(random: &mut Random) -> File {
     let mut file = start(random);
     let links = random.between(1, 6);
-    let is_forward = random.once_in(2);
+    let mut order: Vec<usize> = (0..=links).collect();
+    if random.once_in(2) {
+        order.reverse();
+    }
+    let is_detached = random.once_in(2);
+    let (mut tree, mut gap, mut tail) = (Vec::new(), Vec::new(), Vec::new());
+    for link in order {
+        match random.below(3) {
+            0 if is_detached && link > 0 => gap.push(link),
+            1 if is_detached && link > 0 => tail.push(link),
+            _ => tree.push(link),
+        }
+    }
+    let mut places = vec![Place::Node(0); links + 1];
+    for (row, &link) in (1..).zip(&tree) {
+        places[link] = Place::Node(row);
+    }
+    for (number, &link) in gap.iter().chain(&tail).enumerate() {
+        places[link] = Place::Detached(number);
+    }
+
     let end = match random.below(6) {
-        0 => Contents::InFile(any_place(random, links + 2)),
+        0 => Contents::InFile(any_place(random, tree.len() + 1)),
         1 => Contents::Uri(b"file:a".to_vec()),
         2 => Contents::Node(Place::Node(0)),
-        3 => Contents::Node(Place::Node(if is_forward { links + 1 } else { 1 })),
+        3 => Contents::Node(places[links]),
         _ => Contents::Inline(random.bytes(3)),
     };
-    let mut children: Vec<Node> = (0..links)
-        .map(|link| {
-            // The link in row `link + 1` names the next row, or the one before.
-            let row = if is_forward { link + 2 } else { link + 1 };
-            Node::new(Contents::Node(Place::Node(row)))
-        })
-        .collect();
-    let end = Node::new(end);
-    if is_forward {
-        children.push(end);
-    } else {
-        children.insert(0, end);
+    let next = places[1..].iter().map(|&place| Contents::Node(place));
+    let contents: Vec<Contents> = next.chain([end]).collect();
+    let node = |&link: &usize| Node::new(contents[link].clone());
+    let mut children: Vec<Node> = tree.iter().map(node).collect();
+    for _ in 0..random.below(3) {
+        children.push(Node::new(Contents::Node(random.pick(&places))));
     }
     file.root = Node::folder(children);
+    file.gap = gap.iter().map(node).map(Part::Node).collect();
+    file.tail = tail.iter().map(node).map(Part::Node).collect();
     for_some_nodes(random, &mut file);
+    file
+}
+
+/// A file with one to six detached nodes before and after the tree. Half of all file nodes name one
+/// of them, so that some are named twice and some by none.
+pub fn detached(random: &mut Random) -> File {
+    let mut file = start(random);
+    let children = random.between(1, 6);
+    file.root = match random.below(8) {
+        0 => Node::inline(&[]),
+        _ => Node::folder(vec![Node::inline(&[]); children]),
+    };
+    let count = random.between(1, 6);
+    for _ in 0..count {
+        let parts = match random.below(2) {
+            0 => &mut file.gap,
+            _ => &mut file.tail,
+        };
+        if random.once_in(3) {
+            let size = random.between(1, 9);
+            parts.push(Part::Bytes(random.bytes(size)));
+        }
+        parts.push(Part::Node(Node::inline(&[])));
+    }
+    fill_nodes(random, &mut file);
+    let mut is_first = true;
+    file.for_each_node(|_, node| {
+        if !node.is_folder() && (is_first || random.once_in(2)) {
+            node.contents = Contents::Node(Place::Detached(random.below(count)));
+            is_first = false;
+        }
+    });
     file
 }
 
@@ -96,6 +147,19 @@ pub fn chain(random: &mut Random) -> File {
 pub fn with_nodes(random: &mut Random, nodes: usize) -> File {
     let mut file = start(random);
     file.root = Node::folder((1..nodes).map(|_| Node::inline(b"x")).collect());
+    file
+}
+
+/// A file with so many node rows, of which some are of detached nodes.
+pub fn with_detached_nodes(random: &mut Random, rows: usize) -> File {
+    let mut file = start(random);
+    let detached = random.between(1, 100);
+    let children = (0..rows - detached - 1).map(|child| match child {
+        _ if child < detached => Node::new(Contents::Node(Place::Detached(child))),
+        _ => Node::inline(b"x"),
+    });
+    file.root = Node::folder(children.collect());
+    file.tail = vec![Part::Node(Node::inline(b"y")); detached];
     file
 }
 
@@ -147,6 +211,25 @@ pub fn with_chain(random: &mut Random, links: usize) -> File {
     file
 }
 
+/// A file with a chain of so many references 3, all but the first in detached nodes, that ends at
+/// bytes in one.
+pub fn with_detached_chain(random: &mut Random, links: usize) -> File {
+    let mut file = start(random);
+    let first = random.below(links);
+    file.root = Node::folder(vec![Node::new(Contents::Node(Place::Detached(0)))]);
+    for link in 1..=links {
+        let parts = match link {
+            _ if link <= first => &mut file.gap,
+            _ => &mut file.tail,
+        };
+        parts.push(Part::Node(match link {
+            _ if link == links => Node::inline(b"end"),
+            _ => Node::new(Contents::Node(Place::Detached(link))),
+        }));
+    }
+    file
+}
+
 /// A file whose lengths stand at the sizes where a VLQ takes one more byte.
 pub fn with_edge_lengths(random: &mut Random) -> File {
     let mut file = start(random);
@@ -179,7 +262,7 @@ pub fn large(random: &mut Random, folders: usize) -> File {
         type_entry(3, 1, b"fr"),
         type_entry(4, 7, b"ja"),
     ];
-    file.tail = random.bytes(64);
+    file.tail = vec![Part::Bytes(random.bytes(64))];
     // With 15 folders there are 1 + 15 + 15 * 16 = 256 nodes.
     let folders = (0..folders)
         .map(|_| Node::folder(vec![Node::inline(&[]); 16]))
@@ -256,16 +339,16 @@ fn start(random: &mut Random) -> File {
 
 /// Gives a file its types, its gap, its tail, and each node its items and contents.
 fn fill(random: &mut Random, file: &mut File) {
+    file.gap = outside(random);
+    file.tail = outside(random);
+    fill_nodes(random, file);
+}
+
+/// Gives a file its types, and each node its items and contents.
+fn fill_nodes(random: &mut Random, file: &mut File) {
     file.types = types(random);
-    if random.once_in(3) {
-        let size = random.pick(&[1, 2, 7, 100]);
-        file.gap = random.bytes(size);
-    }
-    if random.once_in(2) {
-        let size = random.pick(&[1, 3, 12]);
-        file.tail = random.bytes(size);
-    }
-    let count = file.nodes().len();
+    let nodes = file.tree().len();
+    let detached = file.detached().len();
     let types = file.types.clone();
     file.for_each_node(|_, node| {
         node.items = items(random, &types);
@@ -273,9 +356,23 @@ fn fill(random: &mut Random, file: &mut File) {
             if random.once_in(3) {
                 node.unpackers = unpackers(random);
             }
-            node.contents = contents(random, count);
+            node.contents = contents(random, nodes, detached);
         }
     });
+}
+
+/// Bytes and empty detached nodes in any order; often nothing.
+fn outside(random: &mut Random) -> Vec<Part> {
+    let count = random.pick(&[0, 0, 0, 1, 1, 2, 3]);
+    (0..count)
+        .map(|_| match random.below(2) {
+            0 => Part::Node(Node::inline(&[])),
+            _ => {
+                let size = random.pick(&[1, 2, 7, 100]);
+                Part::Bytes(random.bytes(size))
+            }
+        })
+        .collect()
 }
 
 /// Gives some nodes items and unpackers, and leaves their contents as they are.
@@ -424,10 +521,13 @@ pub(crate) fn guid(random: &mut Random, size: usize) -> Vec<u8> {
     guid
 }
 
-/// Contents of a file node in a tree of so many nodes.
-fn contents(random: &mut Random, nodes: usize) -> Contents {
+/// Contents of a file node in a file with so many nodes in the tree and so many detached ones.
+fn contents(random: &mut Random, nodes: usize, detached: usize) -> Contents {
     match random.below(10) {
         0 | 1 => Contents::InFile(any_place(random, nodes)),
+        2 | 3 if detached > 0 && random.once_in(2) => {
+            Contents::Node(Place::Detached(random.below(detached)))
+        }
         2 | 3 => Contents::Node(Place::Node(random.below(nodes))),
         4 => {
             let size = random.pick(&[0, 1, 6]);

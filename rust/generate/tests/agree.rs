@@ -158,7 +158,8 @@ fn sheet(file: &[u8]) -> Result<String, Refusal> {
 
 #[test]
 fn cases_are_what_they_are_said_to_be() {
-    let mut refusals = [0; 24];
+    let mut refusals = [0; 25];
+    let mut detached = 0;
     let mut verdicts = [0; 9];
     let mut hops = [0; 5];
     for number in 0..CASES {
@@ -180,6 +181,8 @@ fn cases_are_what_they_are_said_to_be() {
         ] {
             refusals[refusal.map_or(0, |refusal| refusal.number as usize)] += 1;
         }
+        let rows = answers.nodes.chunks_exact(node::WORDS);
+        detached += rows.filter(|row| row[node::DETACHED] == 1).count();
         if let Ok(verdict) = answers.verdict {
             verdicts[verdict as usize] += 1;
         }
@@ -193,6 +196,7 @@ fn cases_are_what_they_are_said_to_be() {
     }
     assert!(verdicts.iter().all(|&count| count > 0), "{verdicts:?}");
     assert!(hops.iter().all(|&count| count > 0), "{hops:?}");
+    assert!(detached > 0);
 }
 
 #[test]
@@ -216,17 +220,24 @@ fn rows_are_those_of_the_model() {
         let tree = read_tree(&encoded.bytes, &mut nodes, &mut items).expect("a well-formed file");
         assert_eq!(tree.nodes as usize, file.nodes().len());
         assert_eq!(tree.items as usize, file.item_rows());
-        let marks = encoded.marks.iter();
-        let starts = marks.filter(|mark| mark.kind == MarkKind::NodeLength);
-        for (row, start) in nodes.chunks(node::WORDS).zip(starts) {
-            assert_eq!(row[node::START], start.place as u64);
-            assert_eq!(row[node::LENGTH], start.value as u64);
+        let layout = &encoded.layout;
+        let detached = file.reached().into_iter();
+        let detached = detached.map(|number| (layout.detached[number], 1));
+        let tree = layout.nodes.iter().map(|&start| (start, 0));
+        for (row, (start, detached)) in nodes.chunks(node::WORDS).zip(tree.chain(detached)) {
+            let mut marks = encoded.marks.iter();
+            let length = marks.find(|mark| mark.place == start).expect("a length");
+            assert_eq!(length.kind, MarkKind::NodeLength);
+            assert_eq!(row[node::START], start as u64);
+            assert_eq!(row[node::LENGTH], length.value as u64);
+            assert_eq!(row[node::DETACHED], detached);
         }
     }
 }
 
 #[test]
 fn pairs_have_the_same_answers() {
+    let mut detached = 0;
     for number in 0..1000 {
         let pair = pair(SEED, number);
         assert_ne!(pair.first, pair.second);
@@ -238,21 +249,29 @@ fn pairs_have_the_same_answers() {
         let second = ask(&pair.second, &pair.lent, pair.row, &pair.field);
         assert!(first.tree.is_ok());
         assert_eq!(first, second, "pair {number}");
+        let rows = first.nodes.chunks_exact(node::WORDS);
+        for row in rows.filter(|row| row[node::DETACHED] == 1) {
+            let part = row[node::START] as usize..(row[node::START] + row[node::LENGTH]) as usize;
+            detached += usize::from(pair.first[part.clone()] != pair.second[part]);
+        }
     }
+    assert!(detached > 0);
 }
 
 #[test]
 fn every_cut_and_every_changed_length_is_answered() {
-    let file = shapes::folders(&mut Random::new(SEED));
+    let random = &mut Random::new(SEED);
     let field = Wanted::Standard(3);
-    for bytes in every_cut(&encode(&file).bytes) {
-        let answers = ask(bytes, &Lent::full(), 0, &field);
-        assert!(answers.tree.is_err());
-    }
-    for (mark, bytes) in every_length_changed(&file) {
-        let answers = ask(&bytes, &Lent::full(), 0, &field);
-        if mark.kind == MarkKind::FileLength {
-            assert_eq!(answers.tree.map_err(|refusal| refusal.number), Err(5));
+    for file in [shapes::folders(random), shapes::detached(random)] {
+        for bytes in every_cut(&encode(&file).bytes) {
+            let answers = ask(bytes, &Lent::full(), 0, &field);
+            assert!(answers.tree.is_err());
+        }
+        for (mark, bytes) in every_length_changed(&file) {
+            let answers = ask(&bytes, &Lent::full(), 0, &field);
+            if mark.kind == MarkKind::FileLength {
+                assert_eq!(answers.tree.map_err(|refusal| refusal.number), Err(5));
+            }
         }
     }
 }
@@ -299,6 +318,19 @@ fn samples_have_their_answers() {
         assert!(mobile[tune.place as usize..].starts_with(b"MThd"));
     }
     assert!(sheet(&sample(samples::all(), "folders.xmf")).is_ok());
+
+    let file = sample(samples::all(), "detached.xmf");
+    let (mut nodes, mut items) = (lent.nodes(), lent.items());
+    let tree = read_tree(&file, &mut nodes, &mut items).expect("a well-formed file");
+    assert_eq!((tree.nodes, tree.items), (7, 7));
+    let rows = nodes.chunks(node::WORDS).take(7);
+    let detached: Vec<u64> = rows.map(|row| row[node::DETACHED]).collect();
+    assert_eq!(detached, [0, 0, 0, 0, 1, 1, 1]);
+    let organ = resolve(&file, &mut nodes, &mut items, 3).expect("an instrument");
+    assert_eq!((organ.row, organ.hops), (6, 2));
+    let key = Field::Custom(b"key");
+    assert!(find(&file, &mut nodes, &mut items, 4, key).is_ok());
+    assert!(find(&file, &mut nodes, &mut items, 5, key).is_err());
 
     let refused = |number, place| Err(Refusal { number, place });
     let refusal = |name| sheet(&sample(samples::all(), name));

@@ -19,7 +19,7 @@ mod tree;
 /// The columns of a node row.
 pub mod node {
     /// The number of words in a row.
-    pub const WORDS: usize = 12;
+    pub const WORDS: usize = 13;
     /// Place of the node's first byte.
     pub const START: usize = 0;
     /// The node's length.
@@ -28,9 +28,10 @@ pub mod node {
     pub const HEADER_LENGTH: usize = 2;
     /// Number of nodes the node holds; 0 for a file node.
     pub const CONTAINED: usize = 3;
-    /// Row of the folder that holds the node; 0 for the root.
+    /// Row of the folder that holds the node; the own row for the root, which is 0, and for a
+    /// detached node.
     pub const PARENT: usize = 4;
-    /// Depth, the root being at 1.
+    /// Depth, the root being at 1; 0 for a detached node.
     pub const DEPTH: usize = 5;
     /// ReferenceTypeID, 1 to 4.
     pub const REFERENCE: usize = 6;
@@ -45,6 +46,8 @@ pub mod node {
     pub const UNPACKER_COUNT: usize = 10;
     /// Number of item rows of the node.
     pub const ITEMS: usize = 11;
+    /// 1 if the node is detached, that is, outside the tree; otherwise 0.
+    pub const DETACHED: usize = 12;
 }
 
 /// The columns of an item row.
@@ -87,7 +90,7 @@ pub type ItemRow = [u64; item::WORDS];
 /// Why a question is refused.
 #[derive(Clone, Copy, Debug, PartialEq, Eq)]
 pub struct Refusal {
-    /// The number in the refusal list, 1 to 23.
+    /// The number in the refusal list, 1 to 24.
     pub number: u64,
     /// The place of the refused field's first byte, or 0 where the list names none.
     pub place: u64,
@@ -163,7 +166,7 @@ impl<'a> Rows<'a> {
     }
 }
 
-/// Reads the tree of a file into the lent tables.
+/// Reads the tree of a file, and the detached nodes that references lead to, into the lent tables.
 pub fn read_tree(file: &[u8], nodes: &mut [u64], items: &mut [u64]) -> Result<Tree, Refusal> {
     let read = tree::read(file, nodes, items);
     let (node_rows, item_rows) = match read {
@@ -176,7 +179,7 @@ pub fn read_tree(file: &[u8], nodes: &mut [u64], items: &mut [u64]) -> Result<Tr
 }
 
 /// Finds the first item of a field on the node of a row, or on the nearest node above it that has
-/// one.
+/// one. From a detached node it looks at that node only.
 ///
 /// Refused with 18 when there is no such row, with 23 when there is no such item.
 pub fn find(

@@ -26,10 +26,11 @@ pub fn find(rows: &Rows, row: u64, field: Field) -> Result<Found, Refusal> {
                 words: own[index],
             });
         }
-        if row == 0 {
+        let parent = rows.nodes[row][node::PARENT] as usize;
+        if parent == row {
             return Err(Refusal::at(23, 0));
         }
-        row = rows.nodes[row][node::PARENT] as usize;
+        row = parent;
     }
 }
 
@@ -61,7 +62,7 @@ pub fn resolve(rows: &Rows, row: u64) -> Result<Resource, Refusal> {
             });
         }
         row = row_at(rows.nodes, words[node::TARGET])
-            .expect("reading has checked the target of each reference 3");
+            .expect("each reference 3 that has been read names a row");
     }
 }
 

@@ -2,6 +2,7 @@
 
 use crate::cursor::Cursor;
 use crate::{item, node, ItemRow, NodeRow, Refusal, Tree};
+use std::ops::Range;
 
 /// The largest number of bytes a file may have.
 const FILE_BYTES: usize = 268_435_455;
@@ -32,6 +33,17 @@ struct Reader<'a, 't> {
     type_count: usize,
     /// The place after the file header.
     header_end: usize,
+    /// The places of the tree.
+    tree: Range<usize>,
+}
+
+/// Where a node stands.
+#[derive(Clone, Copy)]
+enum Position {
+    /// In the tree, at this depth, in the folder of the row `parent`.
+    InTree { parent: u64, depth: u64 },
+    /// Outside the tree; the first number that names it is at this place.
+    Detached { named_at: usize },
 }
 
 /// Reads a file into the rows. Words past the last row, and all words after a refusal, are left for
@@ -50,10 +62,11 @@ pub fn read(file: &[u8], nodes: &mut [u64], items: &mut [u64]) -> Result<Tree, R
         types: [DeclaredType::default(); TYPE_LIMIT],
         type_count: 0,
         header_end: 0,
+        tree: 0..0,
     };
-    let (version, mut tree) = reader.read_header()?;
-    reader.read_node(&mut tree, 0, 1)?;
-    reader.check_node_references()?;
+    let version = reader.read_header()?;
+    reader.read_root()?;
+    reader.read_named_nodes()?;
     Ok(Tree {
         version,
         nodes: reader.node_count as u64,
@@ -61,16 +74,27 @@ pub fn read(file: &[u8], nodes: &mut [u64], items: &mut [u64]) -> Result<Tree, R
     })
 }
 
-/// The row of the node that starts at a place. Rows stand in file order, so their starts increase.
+/// The row of the node that starts at a place. The tree's rows come first, in file order, so their
+/// starts increase.
 pub fn row_at(nodes: &[NodeRow], place: u64) -> Option<usize> {
-    nodes
-        .binary_search_by_key(&place, |row| row[node::START])
-        .ok()
+    let (tree, detached) = nodes.split_at(tree_rows(nodes));
+    match tree.binary_search_by_key(&place, |row| row[node::START]) {
+        Ok(row) => Some(row),
+        Err(_) => detached
+            .iter()
+            .position(|row| row[node::START] == place)
+            .map(|row| tree.len() + row),
+    }
+}
+
+/// The number of rows of nodes in the tree.
+fn tree_rows(nodes: &[NodeRow]) -> usize {
+    nodes.partition_point(|row| row[node::DETACHED] == 0)
 }
 
 impl<'a> Reader<'a, '_> {
-    /// Reads the file header. The answer is the version and the part that is the tree.
-    fn read_header(&mut self) -> Result<(u64, Cursor<'a>), Refusal> {
+    /// Reads the file header. The answer is the version.
+    fn read_header(&mut self) -> Result<u64, Refusal> {
         let file = self.file;
         if file.len() > FILE_BYTES {
             return Err(Refusal::at(17, 0));
@@ -107,7 +131,8 @@ impl<'a> Reader<'a, '_> {
         if last < start || last >= file.len() {
             return Err(Refusal::at(7, end_place));
         }
-        Ok((version, Cursor::new(&file[..=last], start)))
+        self.tree = start..last + 1;
+        Ok(version)
     }
 
     /// Reads the types table: a count, then that many entries of type, format and language.
@@ -134,16 +159,71 @@ impl<'a> Reader<'a, '_> {
             .map(|declared| declared.format)
     }
 
+    /// Reads the root and with it the whole tree.
+    fn read_root(&mut self) -> Result<(), Refusal> {
+        let mut tree = Cursor::new(&self.file[..self.tree.end], self.tree.start);
+        let root = Position::InTree {
+            parent: 0,
+            depth: 1,
+        };
+        self.read_node(&mut tree, root)
+    }
+
+    /// Reads the nodes outside the tree that references 3 name, in row order. The rows of these nodes
+    /// take their turn as well.
+    fn read_named_nodes(&mut self) -> Result<(), Refusal> {
+        let mut row = 0;
+        while row < self.node_count {
+            let words = self.nodes[row];
+            row += 1;
+            let target = words[node::TARGET];
+            let known = &self.nodes[..self.node_count];
+            if words[node::REFERENCE] != 3 || row_at(known, target).is_some() {
+                continue;
+            }
+            let named_at = self.offset_place(&words)?;
+            let Some(mut part) = self.part_outside(target as usize) else {
+                return Err(Refusal::at(16, named_at));
+            };
+            self.read_node(&mut part, Position::Detached { named_at })?;
+        }
+        Ok(())
+    }
+
+    /// The part in which a node outside the tree starts at a place: it ends at the tree's start or at
+    /// the file's end. There is none in the header, in the tree, and from the file's end on.
+    fn part_outside(&self, place: usize) -> Option<Cursor<'a>> {
+        let before = self.header_end..self.tree.start;
+        let after = self.tree.end..self.file.len();
+        let part = [before, after]
+            .into_iter()
+            .find(|part| part.contains(&place))?;
+        Some(Cursor::new(&self.file[..part.end], place))
+    }
+
+    /// The place of the offset that follows a node's ReferenceTypeID.
+    fn offset_place(&self, row: &NodeRow) -> Result<usize, Refusal> {
+        let reference = row[node::START] + row[node::HEADER_LENGTH];
+        let mut cursor = Cursor::new(self.file, reference as usize);
+        cursor.number()?;
+        Ok(cursor.at)
+    }
+
+    /// Whether one of the detached nodes with a row has a byte of a part.
+    fn is_taken(&self, part: &Range<usize>, rows: usize) -> bool {
+        let nodes = &self.nodes[..rows];
+        nodes[tree_rows(nodes)..].iter().any(|row| {
+            let start = row[node::START] as usize;
+            let end = start + row[node::LENGTH] as usize;
+            start.max(part.start) < end.min(part.end)
+        })
+    }
+
     /// Reads a node and all nodes in it from the place where its holder is being read, and moves
     /// the holder past it.
-    fn read_node(
-        &mut self,
-        holder: &mut Cursor<'a>,
-        parent: u64,
-        depth: u64,
-    ) -> Result<(), Refusal> {
+    fn read_node(&mut self, holder: &mut Cursor<'a>, position: Position) -> Result<(), Refusal> {
         let start = holder.at;
-        if depth > DEPTH_LIMIT {
+        if matches!(position, Position::InTree { depth, .. } if depth > DEPTH_LIMIT) {
             return Err(Refusal::at(9, start));
         }
         if self.node_count == self.nodes.len() {
@@ -154,13 +234,26 @@ impl<'a> Reader<'a, '_> {
 
         let length = holder.number()? as usize;
         let end = start + length;
-        if end > holder.end() || (depth == 1 && end < holder.end()) {
+        let is_root = row == 0;
+        if end > holder.end() || (is_root && end < holder.end()) {
             return Err(Refusal::at(8, start));
+        }
+        if let Position::Detached { named_at } = position {
+            if self.is_taken(&(start..end), row) {
+                return Err(Refusal::at(24, named_at));
+            }
         }
         let mut node = holder.ending_at(end);
         holder.at = end;
 
         let contained = node.number()?;
+        let (parent, depth, detached) = match position {
+            Position::InTree { parent, depth } => (parent, depth, 0),
+            Position::Detached { named_at } if contained > 0 => {
+                return Err(Refusal::at(24, named_at));
+            }
+            Position::Detached { .. } => (row as u64, 0, 1),
+        };
         let header_length_place = node.at;
         let header_length = node.number()? as usize;
         let header_end = start + header_length;
@@ -202,11 +295,16 @@ impl<'a> Reader<'a, '_> {
             unpackers.at as u64,
             unpacker_count,
             (self.item_count - first_item) as u64,
+            detached,
         ];
 
         if contained > 0 {
+            let child = Position::InTree {
+                parent: row as u64,
+                depth: depth + 1,
+            };
             for _ in 0..contained {
-                self.read_node(&mut node, row as u64, depth + 1)?;
+                self.read_node(&mut node, child)?;
             }
             node.finish()?;
         }
@@ -299,25 +397,6 @@ impl<'a> Reader<'a, '_> {
         row[item::DATA_LENGTH] = data.left() as u64;
         self.items[self.item_count] = row;
         self.item_count += 1;
-    }
-
-    /// Checks, in row order, that a node starts at the target of each reference 3.
-    fn check_node_references(&self) -> Result<(), Refusal> {
-        let nodes = &self.nodes[..self.node_count];
-        for row in nodes.iter().filter(|row| row[node::REFERENCE] == 3) {
-            if row_at(nodes, row[node::TARGET]).is_none() {
-                return Err(Refusal::at(16, self.offset_place(row)?));
-            }
-        }
-        Ok(())
-    }
-
-    /// The place of the offset that follows a node's ReferenceTypeID.
-    fn offset_place(&self, row: &NodeRow) -> Result<usize, Refusal> {
-        let reference = row[node::START] + row[node::HEADER_LENGTH];
-        let mut cursor = Cursor::new(self.file, reference as usize);
-        cursor.number()?;
-        Ok(cursor.at)
     }
 }
 

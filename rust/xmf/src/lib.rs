@@ -45,7 +45,7 @@ pub const ANSWER_WORDS: usize = 3 + item::WORDS;
 /// The columns of a node row.
 pub mod node {
     /// The number of words in a row.
-    pub const WORDS: usize = 12;
+    pub const WORDS: usize = 13;
     /// Place of the node's first byte.
     pub const START: usize = 0;
     /// The node's length.
@@ -54,9 +54,10 @@ pub mod node {
     pub const HEADER_LENGTH: usize = 2;
     /// Number of nodes the node holds; 0 for a file node.
     pub const CONTAINED: usize = 3;
-    /// Row of the folder that holds the node; 0 for the root.
+    /// Row of the folder that holds the node; the own row for the root, which is 0, and for a
+    /// detached node.
     pub const PARENT: usize = 4;
-    /// Depth, the root being at 1.
+    /// Depth, the root being at 1; 0 for a detached node.
     pub const DEPTH: usize = 5;
     /// Reference: 1 in the node, 2 a place in the file, 3 another node, 4 a URI.
     pub const REFERENCE: usize = 6;
@@ -71,6 +72,8 @@ pub mod node {
     pub const UNPACKER_COUNT: usize = 10;
     /// Number of item rows of the node.
     pub const ITEMS: usize = 11;
+    /// 1 if the node is detached, that is, outside the tree; otherwise 0.
+    pub const DETACHED: usize = 12;
 }
 
 /// The columns of an item row.
@@ -107,7 +110,7 @@ pub mod item {
 /// Why a question is refused.
 #[derive(Clone, Copy, Debug, PartialEq, Eq)]
 pub struct Refusal {
-    /// The number in the refusal list, 1 to 23.
+    /// The number in the refusal list, 1 to 24.
     pub number: u64,
     /// The place of the refused field's first byte, or 0 where the list names none.
     pub place: u64,
@@ -132,7 +135,10 @@ impl Refusal {
             13 => "reference 0, or above 4",
             14 => "a folder that is packed, or whose contents do not follow in it",
             15 => "bytes left between a part's last field and its end",
-            16 => "a reference leads outside the file, into the header, or to no node",
+            16 => {
+                "a reference leads outside the file or into the header, or one to a node leads \
+                 into the tree where no node starts"
+            }
             17 => "more than 268,435,455 bytes",
             18 => "the row asked for is not there",
             19 => "resolving ends at a folder",
@@ -140,6 +146,7 @@ impl Refusal {
             21 => "a fifth reference would be followed",
             22 => "the sheet is longer than its buffer",
             23 => "no such item",
+            24 => "a detached node overlaps another one, or is a folder",
             _ => "not in the list",
         }
     }
@@ -196,7 +203,7 @@ pub struct Resource {
     pub hops: u64,
 }
 
-/// Reads the tree of a file into the lent tables.
+/// Reads the tree of a file, and the detached nodes that references lead to, into the lent tables.
 pub fn read_tree(file: &[u8], nodes: &mut [u64], items: &mut [u64]) -> Result<Tree, Refusal> {
     let mut answer = [0; 5];
     words::read_tree(file, nodes, items, &mut answer);
@@ -209,7 +216,7 @@ pub fn read_tree(file: &[u8], nodes: &mut [u64], items: &mut [u64]) -> Result<Tr
 }
 
 /// Finds the first item of a field on the node of a row, or on the nearest node above it that has
-/// one. Hidden items are found too.
+/// one. From a detached node it looks at that node only. Hidden items are found too.
 ///
 /// Refused with 18 when there is no such row, with 23 when there is no such item.
 pub fn find(

@@ -1,9 +1,11 @@
-//! The questions about the worked file, and what the interface says of odd arguments.
+//! The questions about the worked file and one with detached nodes, and what the interface says of odd
+//! arguments.
 
 use xmf::{c, item, node, Field, Refusal, Resource, Tree};
 use xmf::{ALL_ITEM_WORDS, ALL_NODE_WORDS, ANSWER_WORDS};
 
 const WORKED: &[u8] = include_bytes!("../../../samples/worked.xmf");
+const DETACHED: &[u8] = include_bytes!("../../../samples/detached.xmf");
 const SHEET: &str = "XMF\t2.00\t56\t2\t3\n\
                      N\t0\t0\t1\t1\t27\t29\n\
                      N\t1\t0\t2\t1\t54\t2\n\
@@ -56,6 +58,27 @@ fn each_question_is_answered() {
     let length = xmf::write_sheet(WORKED, &mut nodes, &mut items, &mut sheet).unwrap();
     assert_eq!(&sheet[..length], SHEET.as_bytes());
     assert!(sheet[length..].iter().all(|&byte| byte == 0));
+}
+
+#[test]
+fn detached_nodes_have_rows() {
+    let (mut nodes, mut items) = tables();
+    let tree = xmf::read_tree(DETACHED, &mut nodes, &mut items).unwrap();
+    assert_eq!((tree.nodes, tree.items), (7, 7));
+    for (row, words) in (0..7).zip(nodes.chunks(node::WORDS)) {
+        let is_detached = row >= 4;
+        assert_eq!(words[node::DETACHED], u64::from(is_detached));
+        if is_detached {
+            assert_eq!((words[node::PARENT], words[node::DEPTH]), (row, 0));
+        }
+    }
+    let resolved = xmf::resolve(DETACHED, &mut nodes, &mut items, 3).unwrap();
+    assert_eq!((resolved.row, resolved.hops), (6, 2));
+    let key = Field::Custom(b"key");
+    let found = xmf::find(DETACHED, &mut nodes, &mut items, 4, key).unwrap();
+    assert_eq!(found.words[item::NODE], 4);
+    let found = xmf::find(DETACHED, &mut nodes, &mut items, 5, key);
+    assert_eq!(found, refusal(23, 0));
 }
 
 #[test]

@@ -43,7 +43,7 @@ shared-slice-read-if3 : tie.Need-shared-slice-read-if3 Inv-loop μ-loop
 shared-slice-read-if3 c = omega arith
 
 returns-3 : tie.Need-returns-3 Inv-loop μ-loop
-returns-3 c = nodes-no _ _ _ _ (c .before .before .before .loop .inv .1) (c .before .before .loop-test .taken) (file-no (c .before .before .before .before .before .before .before .args .nodes .now) (c .before .before .before .loop .i * 12) (c .if3 .taken))
+returns-3 c = nodes-no _ _ _ _ (c .before .before .before .loop .inv .1) (c .before .before .loop-test .taken) (file-no (c .before .before .before .before .before .before .before .args .nodes .now) (c .before .before .before .loop .i * 13) (c .if3 .taken))
 
 add-i : tie.Need-add-i Inv-loop μ-loop
 add-i c = omega arith
@@ -52,7 +52,7 @@ loop-less : tie.Need-loop-less Inv-loop μ-loop
 loop-less c = omega arith
 
 loop-again : tie.Need-loop-again Inv-loop μ-loop
-loop-again c = (omega arith, nodes-on _ _ _ _ (c .before .before .before .loop .inv .1) (c .before .before .loop-test .taken) (file-yes (c .before .before .before .before .before .before .before .args .nodes .now) (c .before .before .before .loop .i * 12) (c .if3 .left)))
+loop-again c = (omega arith, nodes-on _ _ _ _ (c .before .before .before .loop .inv .1) (c .before .before .loop-test .taken) (file-yes (c .before .before .before .before .before .before .before .args .nodes .now) (c .before .before .before .loop .i * 13) (c .if3 .left)))
 
 returns-4 : tie.Need-returns-4 Inv-loop μ-loop
 returns-4 c = nodes-yes _ _ _ _ (c .before .loop .inv .1) (c .loop-test .left)

@@ -38,7 +38,7 @@ is-plain-requires : tie.Need-is-plain-requires Inv-loop μ-loop
 is-plain-requires c κs = omega arith
 
 returns : tie.Need-returns Inv-loop μ-loop
-returns c = nodes-no _ _ _ _ (c .before .before .before .before .loop .inv .1) (c .before .before .before .loop-test .taken) (plain-is (c .before .before .before .before .before .before .args .nodes .now) (c .before .before .before .before .loop .i * 12) (c .before .is-plain .ensures) (not-true (c .before .is-plain .result) (c .if1 .taken)))
+returns c = nodes-no _ _ _ _ (c .before .before .before .before .loop .inv .1) (c .before .before .before .loop-test .taken) (plain-is (c .before .before .before .before .before .before .args .nodes .now) (c .before .before .before .before .loop .i * 13) (c .before .is-plain .ensures) (not-true (c .before .is-plain .result) (c .if1 .taken)))
 
 add-i : tie.Need-add-i Inv-loop μ-loop
 add-i c = omega arith
@@ -47,7 +47,7 @@ loop-less : tie.Need-loop-less Inv-loop μ-loop
 loop-less c = omega arith
 
 loop-again : tie.Need-loop-again Inv-loop μ-loop
-loop-again c = (omega arith, nodes-on _ _ _ _ (c .before .before .before .before .loop .inv .1) (c .before .before .before .loop-test .taken) (plain-is (c .before .before .before .before .before .before .args .nodes .now) (c .before .before .before .before .loop .i * 12) (c .before .is-plain .ensures) (not-false (c .before .is-plain .result) (c .if1 .left))))
+loop-again c = (omega arith, nodes-on _ _ _ _ (c .before .before .before .before .loop .inv .1) (c .before .before .before .loop-test .taken) (plain-is (c .before .before .before .before .before .before .args .nodes .now) (c .before .before .before .before .loop .i * 13) (c .before .is-plain .ensures) (not-false (c .before .is-plain .result) (c .if1 .left))))
 
 returns-2 : tie.Need-returns-2 Inv-loop μ-loop
 returns-2 c = nodes-yes _ _ _ _ (c .before .loop .inv .1) (c .loop-test .left)

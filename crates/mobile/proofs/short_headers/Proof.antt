@@ -34,7 +34,7 @@ shared-slice-read-if1 : tie.Need-shared-slice-read-if1 Inv-loop μ-loop
 shared-slice-read-if1 c = omega arith
 
 returns : tie.Need-returns Inv-loop μ-loop
-returns c = nodes-no _ _ _ _ (c .before .before .before .loop .inv .1) (c .before .before .loop-test .taken) (short-no (c .before .before .before .before .args .nodes .now) (c .before .before .before .loop .i * 12) (c .if1 .taken))
+returns c = nodes-no _ _ _ _ (c .before .before .before .loop .inv .1) (c .before .before .loop-test .taken) (short-no (c .before .before .before .before .args .nodes .now) (c .before .before .before .loop .i * 13) (c .if1 .taken))
 
 add-i : tie.Need-add-i Inv-loop μ-loop
 add-i c = omega arith
@@ -43,7 +43,7 @@ loop-less : tie.Need-loop-less Inv-loop μ-loop
 loop-less c = omega arith
 
 loop-again : tie.Need-loop-again Inv-loop μ-loop
-loop-again c = (omega arith, nodes-on _ _ _ _ (c .before .before .before .loop .inv .1) (c .before .before .loop-test .taken) (short-yes (c .before .before .before .before .args .nodes .now) (c .before .before .before .loop .i * 12) (c .if1 .left)))
+loop-again c = (omega arith, nodes-on _ _ _ _ (c .before .before .before .loop .inv .1) (c .before .before .loop-test .taken) (short-yes (c .before .before .before .before .args .nodes .now) (c .before .before .before .loop .i * 13) (c .if1 .left)))
 
 returns-2 : tie.Need-returns-2 Inv-loop μ-loop
 returns-2 c = nodes-yes _ _ _ _ (c .before .loop .inv .1) (c .loop-test .left)

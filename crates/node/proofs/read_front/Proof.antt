@@ -24,10 +24,10 @@ enum-known-h : tie.Need-enum-known-h
 enum-known-h c = search needs
 
 of-requires : tie.Need-of-requires
-of-requires c κs = omega (arith, c .before .before .before .before .before .before .before .before .pre, head-inside _ _ _ _ (was headTold (c .before .before .before .read-head .ensures) (c .before .h .given .1)))
+of-requires c κs = omega (arith, c .before .before .before .before .before .before .before .before .pre, head-inside _ _ _ (was headTold (c .before .before .before .read-head .ensures) (c .before .h .given .1)))
 
 read-metadata-requires : tie.Need-read-metadata-requires
-read-metadata-requires c κs = omega (arith, c .before .before .before .before .before .before .before .before .before .before .pre, head-inside _ _ _ _ (was headTold (c .before .before .before .before .before .read-head .ensures) (c .before .before .before .h .given .1)), c .before .of .ensures)
+read-metadata-requires c κs = omega (arith, c .before .before .before .before .before .before .before .before .before .before .pre, head-inside _ _ _ (was headTold (c .before .before .before .before .before .read-head .ensures) (c .before .before .before .h .given .1)), c .before .of .ensures)
 
 enum-known-n-2 : tie.Need-enum-known-n-2
 enum-known-n-2 c = search needs
@@ -36,10 +36,10 @@ enum-known-rows : tie.Need-enum-known-rows
 enum-known-rows c = search needs
 
 of-requires-2 : tie.Need-of-requires-2
-of-requires-2 c κs = omega (arith, c .before .before .before .before .before .before .before .before .before .before .before .before .before .before .before .before .pre, head-inside _ _ _ _ (was headTold (c .before .before .before .before .before .before .before .before .before .before .before .read-head .ensures) (c .before .before .before .before .before .before .before .before .before .h .given .1)))
+of-requires-2 c κs = omega (arith, c .before .before .before .before .before .before .before .before .before .before .before .before .before .before .before .before .pre, head-inside _ _ _ (was headTold (c .before .before .before .before .before .before .before .before .before .before .before .read-head .ensures) (c .before .before .before .before .before .before .before .before .before .h .given .1)))
 
 read-rest-requires : tie.Need-read-rest-requires
-read-rest-requires c κs = omega (arith, c .before .before .before .before .before .before .before .before .before .before .before .before .before .before .before .before .before .before .pre, head-inside _ _ _ _ (was headTold (c .before .before .before .before .before .before .before .before .before .before .before .before .before .read-head .ensures) (c .before .before .before .before .before .before .before .before .before .before .before .h .given .1)), c .before .before .before .before .before .before .before .before .before .of .ensures, c .before .of2 .ensures)
+read-rest-requires c κs = omega (arith, c .before .before .before .before .before .before .before .before .before .before .before .before .before .before .before .before .before .before .pre, head-inside _ _ _ (was headTold (c .before .before .before .before .before .before .before .before .before .before .before .before .before .read-head .ensures) (c .before .before .before .before .before .before .before .before .before .before .before .h .given .1)), c .before .before .before .before .before .before .before .before .before .of .ensures, c .before .of2 .ensures)
 
 enum-known-n-3 : tie.Need-enum-known-n-3
 enum-known-n-3 c = search needs
@@ -54,25 +54,25 @@ row-of-requires : tie.Need-row-of-requires
 row-of-requires c κs = search needs
 
 returns : tie.Need-returns
-returns c = λ t. front-no (front-head _ _ _ _ _ _ _ _ _ (was headTold (c .before .before .before .read-head .ensures) (c .before .n .given .1)))
+returns c = λ t. front-no (front-head _ _ _ _ _ _ _ _ (was headTold (c .before .before .before .read-head .ensures) (c .before .n .given .1)))
 
 same-length : tie.Need-same-length
 same-length c = search needs
 
 returns-2 : tie.Need-returns-2
-returns-2 c = λ t. front-no (front-metadata _ _ _ _ _ _ _ _ _ (was headTold (c .before .before .before .before .before .before .before .before .before .before .before .read-head .ensures) (c .before .before .before .before .before .before .before .before .before .h .given .1)) (c .before .before .before .before .before .before .before .of .ensures) (stopped (c .before .before .before .before .before .read-metadata .ensures t) (ap (walked _) (c .before .n2 .given .1))))
+returns-2 c = λ t. front-no (front-metadata _ _ _ _ _ _ _ _ (was headTold (c .before .before .before .before .before .before .before .before .before .before .before .read-head .ensures) (c .before .before .before .before .before .before .before .before .before .h .given .1)) (c .before .before .before .before .before .before .before .of .ensures) (stopped (c .before .before .before .before .before .read-metadata .ensures t) (ap (walked _) (c .before .n2 .given .1))))
 
 same-length-2 : tie.Need-same-length-2
 same-length-2 c = search needs
 
 returns-3 : tie.Need-returns-3
-returns-3 c = λ t. front-no (front-rest _ _ _ _ _ _ _ _ _ (was headTold (c .before .before .before .before .before .before .before .before .before .before .before .before .before .before .before .before .before .read-head .ensures) (c .before .before .before .before .before .before .before .before .before .before .before .before .before .before .before .h .given .1)) (c .before .before .before .before .before .before .before .before .before .before .before .before .before .of .ensures) (done (c .before .before .before .before .before .before .before .before .before .before .before .read-metadata .ensures t) (ap (walked _) (c .before .before .before .before .before .before .before .rows .given .1))) (c .before .before .before .before .before .of2 .ensures) (was restTold (c .before .before .before .read-rest .ensures) (c .before .n3 .given .1)))
+returns-3 c = λ t. front-no (front-rest _ _ _ _ _ _ _ _ (was headTold (c .before .before .before .before .before .before .before .before .before .before .before .before .before .before .before .before .before .read-head .ensures) (c .before .before .before .before .before .before .before .before .before .before .before .before .before .before .before .h .given .1)) (c .before .before .before .before .before .before .before .before .before .before .before .before .before .of .ensures) (done (c .before .before .before .before .before .before .before .before .before .before .before .read-metadata .ensures t) (ap (walked _) (c .before .before .before .before .before .before .before .rows .given .1))) (c .before .before .before .before .before .of2 .ensures) (was restTold (c .before .before .before .read-rest .ensures) (c .before .n3 .given .1)))
 
 same-length-3 : tie.Need-same-length-3
 same-length-3 c = c .before .before .before .before .before .before .before .before .before .before .before .before .before .read-metadata .kept .1 .1 .1 .0
 
 returns-4 : tie.Need-returns-4
-returns-4 c = λ t. front-yes (front-all _ _ _ _ _ _ _ _ _ (was headTold (c .before .before .before .before .before .before .before .before .before .before .before .before .before .before .before .before .before .before .before .read-head .ensures) (c .before .before .before .before .before .before .before .before .before .before .before .before .before .before .before .before .before .h .given .1)) (c .before .before .before .before .before .before .before .before .before .before .before .before .before .before .before .of .ensures) (done (c .before .before .before .before .before .before .before .before .before .before .before .before .before .read-metadata .ensures t) (ap (walked _) (c .before .before .before .before .before .before .before .before .before .rows .given .1))) (c .before .before .before .before .before .before .before .of2 .ensures) (was restTold (c .before .before .before .before .before .read-rest .ensures) (c .before .before .before .u .given .1)) (c .row-of .ensures)) (fitting (c .before .before .before .before .before .before .before .before .before .before .before .before .before .read-metadata .ensures t) (ap (walked _) (c .before .before .before .before .before .before .before .before .before .rows .given .1)))
+returns-4 c = λ t. front-yes (front-all _ _ _ _ _ _ _ _ (was headTold (c .before .before .before .before .before .before .before .before .before .before .before .before .before .before .before .before .before .before .before .read-head .ensures) (c .before .before .before .before .before .before .before .before .before .before .before .before .before .before .before .before .before .h .given .1)) (c .before .before .before .before .before .before .before .before .before .before .before .before .before .before .before .of .ensures) (done (c .before .before .before .before .before .before .before .before .before .before .before .before .before .read-metadata .ensures t) (ap (walked _) (c .before .before .before .before .before .before .before .before .before .rows .given .1))) (c .before .before .before .before .before .before .before .of2 .ensures) (was restTold (c .before .before .before .before .before .read-rest .ensures) (c .before .before .before .u .given .1)) (c .row-of .ensures)) (fitting (c .before .before .before .before .before .before .before .before .before .before .before .before .before .read-metadata .ensures t) (ap (walked _) (c .before .before .before .before .before .before .before .before .before .rows .given .1)))
 
 pub read-front-spec : {M : Type 1} → statement M
 read-front-spec =

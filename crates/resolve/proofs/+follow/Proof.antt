@@ -13,7 +13,7 @@ use Rattle.resolve.proofs.+follow.{statement}
 use Rattle.resolve.proofs.+follow.Tie.{close}
 
 abbrev μ-follow : Measures 1 follow-kinds.ps ℕ
-μ-follow κs a = a .1 .1 .0
+μ-follow κs a = a .1 .1 .1 .0
 
 abbrev follow-at : ℕ → In 1 follow-kinds.ps
 follow-at t = and 1 follow-kinds.ps (is 1 follow-kinds.ps μ-follow t) follow.Pre
@@ -73,8 +73,8 @@ follow-returns-2 t c = at-one _ _ _ _ _ (omega (arith, c .before .before .before
 follow-returns-3 : (t : ℕ) → follow-lts.Need-returns-3 (follow-calls t) (follow-at t) follow.Post
 follow-returns-3 t c = two-many _ _ _ _ _ (omega (arith, c .before .before .before .before .before .before .before .before .before .pre)) (c .before .before .before .before .before .before .if1 .left) (c .before .if3 .taken) (c .if4 .taken)
 
-follow-add-t24 : (t : ℕ) → follow-lts.Need-add-t24 (follow-calls t) (follow-at t) follow.Post
-follow-add-t24 t c = omega (arith, c .before .before .before .before .before .before .before .before .before .pre)
+follow-add-t25 : (t : ℕ) → follow-lts.Need-add-t25 (follow-calls t) (follow-at t) follow.Post
+follow-add-t25 t c = omega (arith, c .before .before .before .before .before .before .before .before .before .pre)
 
 follow-returns-4 : (t : ℕ) → follow-lts.Need-returns-4 (follow-calls t) (follow-at t) follow.Post
 follow-returns-4 t c = two-on _ _ _ _ _ (omega (arith, c .before .before .before .before .before .before .before .before .before .pre)) (c .before .before .before .before .before .before .if1 .left) (c .if4 .left) (c .before .if3 .taken)
@@ -86,7 +86,7 @@ follow-returns-6 : (t : ℕ) → follow-lts.Need-returns-6 (follow-calls t) (fol
 follow-returns-6 t c = three-many _ _ _ _ _ (omega (arith, c .before .before .before .before .before .before .before .before .before .before .pre)) (c .before .before .before .before .before .before .before .if1 .left) (c .before .if5 .left) (c .if6 .taken)
 
 follow-row-starting-requires : (t : ℕ) → follow-lts.Need-row-starting-requires (follow-calls t) (follow-at t) follow.Post
-follow-row-starting-requires t c κs = (omega (arith, c .before .before .before .before .before .before .before .before .before .before .pre), c .before .before .before .before .before .before .before .before .before .before .pre .1 .4)
+follow-row-starting-requires t c κs = (omega (arith, c .before .before .before .before .before .before .before .before .before .before .pre), omega (arith, c .before .before .before .before .before .before .before .before .before .before .pre), c .before .before .before .before .before .before .before .before .before .before .pre .1 .5)
 
 follow-sub-follow : (t : ℕ) → follow-lts.Need-sub-follow (follow-calls t) (follow-at t) follow.Post
 follow-sub-follow t c = omega (arith, c .before .before .before .before .before .before .before .before .before .before .before .pre)
@@ -95,7 +95,7 @@ follow-add-follow : (t : ℕ) → follow-lts.Need-add-follow (follow-calls t) (f
 follow-add-follow t c = omega (arith, c .before .before .before .before .before .before .before .before .before .before .before .pre)
 
 follow-follow-requires : (t : ℕ) → follow-lts.Need-follow-requires (follow-calls t) (follow-at t) follow.Post
-follow-follow-requires t c κs = (omega (arith, c .before .before .before .before .before .before .before .before .before .before .before .pre), (omega (arith, c .before .before .before .before .before .before .before .before .before .before .before .pre), next-there _ _ _ (omega (arith, c .before .before .before .before .before .before .before .before .before .before .before .pre)) (c .before .before .before .before .before .before .before .before .before .before .before .pre .1 .3) (c .before .before .if5 .left) (c .row-starting .ensures), omega (arith, c .before .before .before .before .before .before .before .before .before .before .before .pre), c .before .before .before .before .before .before .before .before .before .before .before .pre .1 .3, c .before .before .before .before .before .before .before .before .before .before .before .pre .1 .4))
+follow-follow-requires t c κs = (omega (arith, c .before .before .before .before .before .before .before .before .before .before .before .pre), (omega (arith, c .before .before .before .before .before .before .before .before .before .before .before .pre), next-there _ _ _ (omega (arith, c .before .before .before .before .before .before .before .before .before .before .before .pre)) (c .before .before .before .before .before .before .before .before .before .before .before .pre .1 .3) (c .before .before .if5 .left) (c .row-starting .ensures), omega (arith, c .before .before .before .before .before .before .before .before .before .before .before .pre), c .before .before .before .before .before .before .before .before .before .before .before .pre .1 .3, omega (arith, c .before .before .before .before .before .before .before .before .before .before .before .pre), c .before .before .before .before .before .before .before .before .before .before .before .pre .1 .5))
 
 follow-returns-7 : (t : ℕ) → follow-lts.Need-returns-7 (follow-calls t) (follow-at t) follow.Post
 follow-returns-7 t c = three-on _ _ _ _ _ (omega (arith, c .before .before .before .before .before .before .before .before .before .before .before .before .pre)) (c .before .before .before .before .before .before .before .before .before .if1 .left) (c .before .before .if6 .left) (c .before .before .before .if5 .left) (c .before .row-starting .ensures) (c .follow .ensures)
@@ -120,7 +120,7 @@ pub +follow-spec : {M : Type 1} → statement M
     (follow-shared-slice-read-extent t)
     (follow-returns-2 t)
     (follow-returns-3 t)
-    (follow-add-t24 t)
+    (follow-add-t25 t)
     (follow-returns-4 t)
     (follow-returns-5 t)
     (follow-returns-6 t)

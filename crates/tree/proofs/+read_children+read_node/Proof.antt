@@ -105,10 +105,10 @@ read-children-returns-2 : (t : ℕ) → read-children-lts.Need-returns-2 (childr
 read-children-returns-2 t c = children-done _ _ _ _ _ _ _ _ _ _ (c .before .loop .inv) (c .loop-test .left)
 
 read-node-returns : (t : ℕ) → read-node-lts.Need-returns (node-calls t) (read-node-at t) read-node.Post
-read-node-returns t c = no (node-none _ _ _ _ _ _ _ _ _ (c .if1 .taken))
+read-node-returns t c = no (node-none _ _ _ _ _ _ _ _ (c .if1 .taken))
 
 read-node-returns-2 : (t : ℕ) → read-node-lts.Need-returns-2 (node-calls t) (read-node-at t) read-node.Post
-read-node-returns-2 t c = no (node-limit _ _ _ _ _ _ _ _ _ (c .before .before .before .if1 .left) (c .if2 .taken))
+read-node-returns-2 t c = no (node-limit _ _ _ _ _ _ _ _ (c .before .before .before .if1 .left) (c .if2 .taken))
 
 read-node-add-read-front : (t : ℕ) → read-node-lts.Need-add-read-front (node-calls t) (read-node-at t) read-node.Post
 read-node-add-read-front t c = omega arith
@@ -132,10 +132,10 @@ read-node-put-node-requires : (t : ℕ) → read-node-lts.Need-put-node-requires
 read-node-put-node-requires t c κs = omega (arith, c .before .before .before .before .before .before .before .before .before .before .before .before .before .before .before .before .before .before .before .before .pre, c .before .before .before .before .before .before .before .before .before .before .before .if2 .left)
 
 read-node-of-requires : (t : ℕ) → read-node-lts.Need-of-requires (node-calls t) (read-node-at t) read-node.Post
-read-node-of-requires t c κs = omega (arith, c .before .before .before .before .before .before .before .before .before .before .before .before .before .before .before .before .before .before .before .before .before .before .before .pre, front-inside _ _ _ _ _ _ _ _ _ (omega (arith, c .before .before .before .before .before .before .before .before .before .before .before .before .before .before .before .before .before .before .before .before .before .before .before .pre)) (front-done (c .before .before .before .before .before .before .before .before .before .before .before .before .read-front .ensures []) (c .before .before .before .before .before .before .before .before .w .given .1)))
+read-node-of-requires t c κs = omega (arith, c .before .before .before .before .before .before .before .before .before .before .before .before .before .before .before .before .before .before .before .before .before .before .before .pre, front-inside _ _ _ _ _ _ _ _ (omega (arith, c .before .before .before .before .before .before .before .before .before .before .before .before .before .before .before .before .before .before .before .before .before .before .before .pre)) (front-done (c .before .before .before .before .before .before .before .before .before .before .before .before .read-front .ensures []) (c .before .before .before .before .before .before .before .before .w .given .1)))
 
 read-node-read-contents-requires : (t : ℕ) → read-node-lts.Need-read-contents-requires (node-calls t) (read-node-at t) read-node.Post
-read-node-read-contents-requires t c κs = omega (arith, front-inside _ _ _ _ _ _ _ _ _ (omega (arith, c .before .before .before .before .before .before .before .before .before .before .before .before .before .before .before .before .before .before .before .before .before .before .before .before .before .before .pre)) (front-done (c .before .before .before .before .before .before .before .before .before .before .before .before .before .before .before .read-front .ensures []) (c .before .before .before .before .before .before .before .before .before .before .before .w .given .1)), c .before .before .of .ensures, c .before .before .before .before .before .before .before .before .before .before .before .before .before .before .before .before .before .if2 .left, front-fitting (c .before .before .before .before .before .before .before .before .before .before .before .before .before .before .before .read-front .ensures []) (c .before .before .before .before .before .before .before .before .before .before .before .w .given .1))
+read-node-read-contents-requires t c κs = omega (arith, front-inside _ _ _ _ _ _ _ _ (omega (arith, c .before .before .before .before .before .before .before .before .before .before .before .before .before .before .before .before .before .before .before .before .before .before .before .before .before .before .pre)) (front-done (c .before .before .before .before .before .before .before .before .before .before .before .before .before .before .before .read-front .ensures []) (c .before .before .before .before .before .before .before .before .before .before .before .w .given .1)), c .before .before .of .ensures, c .before .before .before .before .before .before .before .before .before .before .before .before .before .before .before .before .before .if2 .left, front-fitting (c .before .before .before .before .before .before .before .before .before .before .before .before .before .before .before .read-front .ensures []) (c .before .before .before .before .before .before .before .before .before .before .before .w .given .1))
 
 read-node-same-length : (t : ℕ) → read-node-lts.Need-same-length (node-calls t) (read-node-at t) read-node.Post
 read-node-same-length t c = c .before .before .before .before .before .before .put-node .kept .0
@@ -144,13 +144,13 @@ read-node-same-length-2 : (t : ℕ) → read-node-lts.Need-same-length-2 (node-c
 read-node-same-length-2 t c = c .before .before .before .before .before .before .before .before .before .before .before .before .before .before .before .before .read-front .kept .1 .1 .1 .0
 
 read-node-returns-3 : (t : ℕ) → read-node-lts.Need-returns-3 (node-calls t) (read-node-at t) read-node.Post
-read-node-returns-3 t c = node-file _ _ _ _ _ _ _ _ (c .before .before .before .before .before .before .before .before .before .before .before .before .before .before .before .before .before .before .before .before .before .if1 .left) (c .before .before .before .before .before .before .before .before .before .before .before .before .before .before .before .before .before .before .if2 .left) (omega (arith, c .before .before .before .before .before .before .before .before .before .before .before .before .before .before .before .before .before .before .before .before .before .before .before .before .before .before .before .pre)) _ _ _ (front-done (c .before .before .before .before .before .before .before .before .before .before .before .before .before .before .before .before .read-front .ensures _) (c .before .before .before .before .before .before .before .before .before .before .before .before .w .given .1)) _ (c .before .before .before .before .before .before .put-node .ensures) (c .before .before .before .of .ensures) (c .before .if3 .taken) (c .read-contents .ensures _ _ _)
+read-node-returns-3 t c = node-file _ _ _ _ _ _ _ (c .before .before .before .before .before .before .before .before .before .before .before .before .before .before .before .before .before .before .before .before .before .if1 .left) (c .before .before .before .before .before .before .before .before .before .before .before .before .before .before .before .before .before .before .if2 .left) (omega (arith, c .before .before .before .before .before .before .before .before .before .before .before .before .before .before .before .before .before .before .before .before .before .before .before .before .before .before .before .pre)) _ _ _ (front-done (c .before .before .before .before .before .before .before .before .before .before .before .before .before .before .before .before .read-front .ensures _) (c .before .before .before .before .before .before .before .before .before .before .before .before .w .given .1)) _ (c .before .before .before .before .before .before .put-node .ensures) (c .before .before .before .of .ensures) (c .before .if3 .taken) (c .read-contents .ensures _ _ _)
 
 read-node-sub-read-children : (t : ℕ) → read-node-lts.Need-sub-read-children (node-calls t) (read-node-at t) read-node.Post
 read-node-sub-read-children t c = omega (arith, c .before .before .before .before .before .before .before .before .before .before .before .before .before .before .before .before .before .before .before .before .before .before .if1 .left)
 
 read-node-read-children-requires : (t : ℕ) → read-node-lts.Need-read-children-requires (node-calls t) (read-node-at t) read-node.Post
-read-node-read-children-requires t c κs = omega (arith, c .before .before .before .before .before .before .before .before .before .before .before .before .before .before .before .before .before .before .before .before .before .before .before .before .before .before .before .before .pre, c .before .before .before .before .before .before .before .before .before .before .before .before .before .before .before .before .before .before .before .before .before .before .if1 .left, c .before .before .before .before .before .before .before .before .before .before .before .before .before .before .before .before .before .before .before .if2 .left, front-inside _ _ _ _ _ _ _ _ _ (omega (arith, c .before .before .before .before .before .before .before .before .before .before .before .before .before .before .before .before .before .before .before .before .before .before .before .before .before .before .before .before .pre)) (front-done (c .before .before .before .before .before .before .before .before .before .before .before .before .before .before .before .before .before .read-front .ensures []) (c .before .before .before .before .before .before .before .before .before .before .before .before .before .w .given .1)), c .before .before .before .before .of .ensures, front-fitting (c .before .before .before .before .before .before .before .before .before .before .before .before .before .before .before .before .before .read-front .ensures []) (c .before .before .before .before .before .before .before .before .before .before .before .before .before .w .given .1), c .before .before .before .before .before .before .before .put-node .kept .0, c .before .before .before .before .before .before .before .before .before .before .before .before .before .before .before .before .before .read-front .kept .1 .1 .1 .0)
+read-node-read-children-requires t c κs = omega (arith, c .before .before .before .before .before .before .before .before .before .before .before .before .before .before .before .before .before .before .before .before .before .before .before .before .before .before .before .before .pre, c .before .before .before .before .before .before .before .before .before .before .before .before .before .before .before .before .before .before .before .before .before .before .if1 .left, c .before .before .before .before .before .before .before .before .before .before .before .before .before .before .before .before .before .before .before .if2 .left, front-inside _ _ _ _ _ _ _ _ (omega (arith, c .before .before .before .before .before .before .before .before .before .before .before .before .before .before .before .before .before .before .before .before .before .before .before .before .before .before .before .before .pre)) (front-done (c .before .before .before .before .before .before .before .before .before .before .before .before .before .before .before .before .before .read-front .ensures []) (c .before .before .before .before .before .before .before .before .before .before .before .before .before .w .given .1)), c .before .before .before .before .of .ensures, front-fitting (c .before .before .before .before .before .before .before .before .before .before .before .before .before .before .before .before .before .read-front .ensures []) (c .before .before .before .before .before .before .before .before .before .before .before .before .before .w .given .1), c .before .before .before .before .before .before .before .put-node .kept .0, c .before .before .before .before .before .before .before .before .before .before .before .before .before .before .before .before .before .read-front .kept .1 .1 .1 .0)
 
 read-node-enum-known-n-2 : (t : ℕ) → read-node-lts.Need-enum-known-n-2 (node-calls t) (read-node-at t) read-node.Post
 read-node-enum-known-n-2 t c = search needs
@@ -165,13 +165,13 @@ read-node-same-length-4 : (t : ℕ) → read-node-lts.Need-same-length-4 (node-c
 read-node-same-length-4 t c = c .before .before .before .before .before .before .before .before .before .before .before .read-children .kept .1 .1 .1 .1 .0 ∙ c .before .before .before .before .before .before .before .before .before .before .before .before .before .before .before .before .before .before .before .before .before .before .before .before .before .before .before .before .before .read-front .kept .1 .1 .1 .0
 
 read-node-returns-4 : (t : ℕ) → read-node-lts.Need-returns-4 (node-calls t) (read-node-at t) read-node.Post
-read-node-returns-4 t c = no (node-left _ _ _ _ _ _ _ _ (c .before .before .before .before .before .before .before .before .before .before .before .before .before .before .before .before .before .before .before .before .before .before .before .before .before .before .before .before .before .before .before .before .before .before .if1 .left) (c .before .before .before .before .before .before .before .before .before .before .before .before .before .before .before .before .before .before .before .before .before .before .before .before .before .before .before .before .before .before .before .if2 .left) (omega (arith, c .before .before .before .before .before .before .before .before .before .before .before .before .before .before .before .before .before .before .before .before .before .before .before .before .before .before .before .before .before .before .before .before .before .before .before .before .before .before .before .before .pre)) _ _ _ (front-done (c .before .before .before .before .before .before .before .before .before .before .before .before .before .before .before .before .before .before .before .before .before .before .before .before .before .before .before .before .before .read-front .ensures _) (c .before .before .before .before .before .before .before .before .before .before .before .before .before .before .before .before .before .before .before .before .before .before .before .before .before .w .given .1)) _ (c .before .before .before .before .before .before .before .before .before .before .before .before .before .before .before .before .before .before .before .put-node .ensures) (c .before .before .before .before .before .before .before .before .before .before .before .before .before .before .before .before .of .ensures) (c .before .before .before .before .before .before .before .before .before .before .before .before .before .before .if3 .left) (done (c .before .before .before .before .before .before .before .before .before .before .before .read-children .ensures) (c .before .before .before .before .before .m2 .given .1)) (c .if4 .taken))
+read-node-returns-4 t c = no (node-left _ _ _ _ _ _ _ (c .before .before .before .before .before .before .before .before .before .before .before .before .before .before .before .before .before .before .before .before .before .before .before .before .before .before .before .before .before .before .before .before .before .before .if1 .left) (c .before .before .before .before .before .before .before .before .before .before .before .before .before .before .before .before .before .before .before .before .before .before .before .before .before .before .before .before .before .before .before .if2 .left) (omega (arith, c .before .before .before .before .before .before .before .before .before .before .before .before .before .before .before .before .before .before .before .before .before .before .before .before .before .before .before .before .before .before .before .before .before .before .before .before .before .before .before .before .pre)) _ _ _ (front-done (c .before .before .before .before .before .before .before .before .before .before .before .before .before .before .before .before .before .before .before .before .before .before .before .before .before .before .before .before .before .read-front .ensures _) (c .before .before .before .before .before .before .before .before .before .before .before .before .before .before .before .before .before .before .before .before .before .before .before .before .before .w .given .1)) _ (c .before .before .before .before .before .before .before .before .before .before .before .before .before .before .before .before .before .before .before .put-node .ensures) (c .before .before .before .before .before .before .before .before .before .before .before .before .before .before .before .before .of .ensures) (c .before .before .before .before .before .before .before .before .before .before .before .before .before .before .if3 .left) (done (c .before .before .before .before .before .before .before .before .before .before .before .read-children .ensures) (c .before .before .before .before .before .m2 .given .1)) (c .if4 .taken))
 
 read-node-same-length-5 : (t : ℕ) → read-node-lts.Need-same-length-5 (node-calls t) (read-node-at t) read-node.Post
 read-node-same-length-5 t c = c .before .before .before .before .before .read-front .kept .1 .1 .1 .0
 
 read-node-returns-5 : (t : ℕ) → read-node-lts.Need-returns-5 (node-calls t) (read-node-at t) read-node.Post
-read-node-returns-5 t c = no (node-front _ _ _ _ _ _ _ _ _ (c .before .before .before .before .before .before .before .before .before .before .if1 .left) (c .before .before .before .before .before .before .before .if2 .left) (front-stopped (c .before .before .before .before .before .read-front .ensures _) (c .before .n .given .1)))
+read-node-returns-5 t c = no (node-front _ _ _ _ _ _ _ _ (c .before .before .before .before .before .before .before .before .before .before .if1 .left) (c .before .before .before .before .before .before .before .if2 .left) (front-stopped (c .before .before .before .before .before .read-front .ensures _) (c .before .n .given .1)))
 
 read-node-same-length-6 : (t : ℕ) → read-node-lts.Need-same-length-6 (node-calls t) (read-node-at t) read-node.Post
 read-node-same-length-6 t c = c .before .before .before .before .before .before .before .read-children .kept .1 .1 .1 .0 ∙ c .before .before .before .before .before .before .before .before .before .before .before .before .before .before .before .put-node .kept .0
@@ -180,7 +180,7 @@ read-node-same-length-7 : (t : ℕ) → read-node-lts.Need-same-length-7 (node-c
 read-node-same-length-7 t c = c .before .before .before .before .before .before .before .read-children .kept .1 .1 .1 .1 .0 ∙ c .before .before .before .before .before .before .before .before .before .before .before .before .before .before .before .before .before .before .before .before .before .before .before .before .before .read-front .kept .1 .1 .1 .0
 
 read-node-returns-6 : (t : ℕ) → read-node-lts.Need-returns-6 (node-calls t) (read-node-at t) read-node.Post
-read-node-returns-6 t c = no (node-children _ _ _ _ _ _ _ _ (c .before .before .before .before .before .before .before .before .before .before .before .before .before .before .before .before .before .before .before .before .before .before .before .before .before .before .before .before .before .before .if1 .left) (c .before .before .before .before .before .before .before .before .before .before .before .before .before .before .before .before .before .before .before .before .before .before .before .before .before .before .before .if2 .left) (omega (arith, c .before .before .before .before .before .before .before .before .before .before .before .before .before .before .before .before .before .before .before .before .before .before .before .before .before .before .before .before .before .before .before .before .before .before .before .before .pre)) _ _ _ (front-done (c .before .before .before .before .before .before .before .before .before .before .before .before .before .before .before .before .before .before .before .before .before .before .before .before .before .read-front .ensures _) (c .before .before .before .before .before .before .before .before .before .before .before .before .before .before .before .before .before .before .before .before .before .w .given .1)) _ (c .before .before .before .before .before .before .before .before .before .before .before .before .before .before .before .put-node .ensures) (c .before .before .before .before .before .before .before .before .before .before .before .before .of .ensures) (c .before .before .before .before .before .before .before .before .before .before .if3 .left) (stopped (c .before .before .before .before .before .before .before .read-children .ensures) (c .before .n2 .given .1)))
+read-node-returns-6 t c = no (node-children _ _ _ _ _ _ _ (c .before .before .before .before .before .before .before .before .before .before .before .before .before .before .before .before .before .before .before .before .before .before .before .before .before .before .before .before .before .before .if1 .left) (c .before .before .before .before .before .before .before .before .before .before .before .before .before .before .before .before .before .before .before .before .before .before .before .before .before .before .before .if2 .left) (omega (arith, c .before .before .before .before .before .before .before .before .before .before .before .before .before .before .before .before .before .before .before .before .before .before .before .before .before .before .before .before .before .before .before .before .before .before .before .before .pre)) _ _ _ (front-done (c .before .before .before .before .before .before .before .before .before .before .before .before .before .before .before .before .before .before .before .before .before .before .before .before .before .read-front .ensures _) (c .before .before .before .before .before .before .before .before .before .before .before .before .before .before .before .before .before .before .before .before .before .w .given .1)) _ (c .before .before .before .before .before .before .before .before .before .before .before .before .before .before .before .put-node .ensures) (c .before .before .before .before .before .before .before .before .before .before .before .before .of .ensures) (c .before .before .before .before .before .before .before .before .before .before .if3 .left) (stopped (c .before .before .before .before .before .before .before .read-children .ensures) (c .before .n2 .given .1)))
 
 read-node-same-length-8 : (t : ℕ) → read-node-lts.Need-same-length-8 (node-calls t) (read-node-at t) read-node.Post
 read-node-same-length-8 t c = c .before .before .before .before .before .before .before .before .before .before .before .read-children .kept .1 .1 .1 .0 ∙ c .before .before .before .before .before .before .before .before .before .before .before .before .before .before .before .before .before .before .before .put-node .kept .0
@@ -189,7 +189,7 @@ read-node-same-length-9 : (t : ℕ) → read-node-lts.Need-same-length-9 (node-c
 read-node-same-length-9 t c = c .before .before .before .before .before .before .before .before .before .before .before .read-children .kept .1 .1 .1 .1 .0 ∙ c .before .before .before .before .before .before .before .before .before .before .before .before .before .before .before .before .before .before .before .before .before .before .before .before .before .before .before .before .before .read-front .kept .1 .1 .1 .0
 
 read-node-returns-7 : (t : ℕ) → read-node-lts.Need-returns-7 (node-calls t) (read-node-at t) read-node.Post
-read-node-returns-7 t c = yes (node-all _ _ _ _ _ _ _ _ (c .before .before .before .before .before .before .before .before .before .before .before .before .before .before .before .before .before .before .before .before .before .before .before .before .before .before .before .before .before .before .before .before .before .before .if1 .left) (c .before .before .before .before .before .before .before .before .before .before .before .before .before .before .before .before .before .before .before .before .before .before .before .before .before .before .before .before .before .before .before .if2 .left) (omega (arith, c .before .before .before .before .before .before .before .before .before .before .before .before .before .before .before .before .before .before .before .before .before .before .before .before .before .before .before .before .before .before .before .before .before .before .before .before .before .before .before .before .pre)) _ _ _ (front-done (c .before .before .before .before .before .before .before .before .before .before .before .before .before .before .before .before .before .before .before .before .before .before .before .before .before .before .before .before .before .read-front .ensures _) (c .before .before .before .before .before .before .before .before .before .before .before .before .before .before .before .before .before .before .before .before .before .before .before .before .before .w .given .1)) _ (c .before .before .before .before .before .before .before .before .before .before .before .before .before .before .before .before .before .before .before .put-node .ensures) (c .before .before .before .before .before .before .before .before .before .before .before .before .before .before .before .before .of .ensures) (c .before .before .before .before .before .before .before .before .before .before .before .before .before .before .if3 .left) (done (c .before .before .before .before .before .before .before .before .before .before .before .read-children .ensures) (c .before .before .before .before .before .m2 .given .1)) (c .if4 .left)) (fitting (c .before .before .before .before .before .before .before .before .before .before .before .read-children .ensures) (c .before .before .before .before .before .m2 .given .1))
+read-node-returns-7 t c = yes (node-all _ _ _ _ _ _ _ (c .before .before .before .before .before .before .before .before .before .before .before .before .before .before .before .before .before .before .before .before .before .before .before .before .before .before .before .before .before .before .before .before .before .before .if1 .left) (c .before .before .before .before .before .before .before .before .before .before .before .before .before .before .before .before .before .before .before .before .before .before .before .before .before .before .before .before .before .before .before .if2 .left) (omega (arith, c .before .before .before .before .before .before .before .before .before .before .before .before .before .before .before .before .before .before .before .before .before .before .before .before .before .before .before .before .before .before .before .before .before .before .before .before .before .before .before .before .pre)) _ _ _ (front-done (c .before .before .before .before .before .before .before .before .before .before .before .before .before .before .before .before .before .before .before .before .before .before .before .before .before .before .before .before .before .read-front .ensures _) (c .before .before .before .before .before .before .before .before .before .before .before .before .before .before .before .before .before .before .before .before .before .before .before .before .before .w .given .1)) _ (c .before .before .before .before .before .before .before .before .before .before .before .before .before .before .before .before .before .before .before .put-node .ensures) (c .before .before .before .before .before .before .before .before .before .before .before .before .before .before .before .before .of .ensures) (c .before .before .before .before .before .before .before .before .before .before .before .before .before .before .if3 .left) (done (c .before .before .before .before .before .before .before .before .before .before .before .read-children .ensures) (c .before .before .before .before .before .m2 .given .1)) (c .if4 .left)) (fitting (c .before .before .before .before .before .before .before .before .before .before .before .read-children .ensures) (c .before .before .before .before .before .m2 .given .1))
 
 pub +read-children+read-node-spec : {M : Type 1} → statement M
 +read-children+read-node-spec = close μ-read-children μ-read-node (λ t. read-children-lts.spec (children-calls t)

@@ -4,7 +4,7 @@ use mathlib.Core.Path.{sym, ap, _∙_}
 use Rattle.cursor.specs.Rows.{referenceFrame}
 use Rattle.cursor.specs.Told.{numberTold}
 use Rattle.cursor.proofs.Laws.{was}
-use Rattle.tree.proofs.Targets.{row-at, offset-is}
+use Rattle.tree.proofs.Targets.{words-inside, offset-is}
 use native.Mathlib.Omega.{arith}
 use borrow.Author.Needs.{needs}
 use Rattle.tree.proofs.offset_at.Statement.{statement}
@@ -29,7 +29,7 @@ shared-slice-read-t12-2 : tie.Need-shared-slice-read-t12-2
 shared-slice-read-t12-2 c = search needs
 
 of-requires : tie.Need-of-requires
-of-requires c κs = omega (arith, row-at (c .before .before .before .before .pre .0 .1) (c .before .before .before .before .args .i) (omega (arith, c .before .before .before .before .pre)))
+of-requires c κs = omega (arith, words-inside _ _ _ (c .before .before .before .before .pre .0) (c .before .before .before .before .pre .2), c .before .before .before .before .pre)
 
 number-requires : tie.Need-number-requires
 number-requires c κs = search needs
@@ -41,24 +41,10 @@ enum-known-next : tie.Need-enum-known-next
 enum-known-next c = search needs
 
 returns : tie.Need-returns
-returns c = λ ns s n rest e. offset-is s _ (omega (arith, c .before .before .before .before .before .before .before .before .before .pre)) n rest e _ _ (c .before .before .before .before .of .ensures) (sym (was numberTold (c .before .before .before .number .ensures referenceFrame) (c .before .place .given .1)))
+returns c = offset-is _ _ _ (c .before .before .before .before .before .before .before .before .before .pre .0) _ _ (c .before .before .before .before .of .ensures) (sym (was numberTold (c .before .before .before .number .ensures referenceFrame) (c .before .place .given .1)))
 
 returns-2 : tie.Need-returns-2
-returns-2 c = λ ns s n rest e. offset-is s _ (omega (arith, c .before .before .before .before .before .before .before .before .before .before .pre)) n rest e _ _ (c .before .before .before .before .before .of .ensures) (sym (was numberTold (c .before .before .before .before .number .ensures referenceFrame) (c .before .before .next .given .1)))
+returns-2 c = offset-is _ _ _ (c .before .before .before .before .before .before .before .before .before .before .pre .0) _ _ (c .before .before .before .before .before .of .ensures) (sym (was numberTold (c .before .before .before .before .number .ensures referenceFrame) (c .before .before .next .given .1)))
 
 pub offset-at-spec : {M : Type 1} → statement M
-offset-at-spec =
-    tie.close
-    (tie.spec
-    mul-k
-    mul-t10
-    shared-slice-read-t12
-    add-t10
-    mul-t13
-    shared-slice-read-t12-2
-    of-requires
-    number-requires
-    enum-known-place
-    enum-known-next
-    returns
-    returns-2)
+offset-at-spec = tie.close (tie.spec mul-k mul-t10 shared-slice-read-t12 add-t10 mul-t13 shared-slice-read-t12-2 of-requires number-requires enum-known-place enum-known-next returns returns-2)

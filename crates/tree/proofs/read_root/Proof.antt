@@ -6,8 +6,8 @@ use borrow.Author.Needs.{needs}
 use Rattle.tree.proofs.read_root.Statement.{statement}
 use Rattle.tree.proofs.read_root.Tie as tie
 
-add-t14 : tie.Need-add-t14
-add-t14 c = search needs
+add-t15 : tie.Need-add-t15
+add-t15 c = search needs
 
 read-node-requires : tie.Need-read-node-requires
 read-node-requires c κs = omega (arith, c .before .before .before .before .before .before .before .before .before .before .before .pre)
@@ -22,4 +22,4 @@ returns : tie.Need-returns
 returns c = root-is _ _ _ _ _ (c .before .before .before .before .read-node .ensures)
 
 pub read-root-spec : {M : Type 1} → statement M
-read-root-spec = tie.close (tie.spec add-t14 read-node-requires same-length same-length-2 returns)
+read-root-spec = tie.close (tie.spec add-t15 read-node-requires same-length same-length-2 returns)

@@ -1,72 +1,86 @@
--- `row_starting` gives what `rowStarting` gives. The invariant: rows before `low` start before the place, rows from `high` on after it.
+-- `row_starting` gives what `rowStarting` gives. In the first loop rows before `low` start before the place and rows of the tree from `high` on after it; in the second no row so far starts there.
 -- Assumes nothing.
 use Prim.Native.Nat.{_-_, _≤_}
-use Rattle.tree.proofs.Targets.{Between, search-begins, search-later, search-sooner, search-found, search-ends}
+use Rattle.tree.proofs.Targets.{Between, search-begins, search-later, search-sooner, search-found, NoneBefore, search-none, linear-on, linear-found, linear-ends}
 use native.Mathlib.Omega.{arith}
+use borrow.Author.Needs.{needs}
 use Rattle.tree.proofs.row_starting.Statement.{statement}
 use Rattle.tree.proofs.row_starting.Tie as tie
 
 abbrev Inv-loop : tie.InvT-loop
-Inv-loop nodes count place low₀ high₀ low high = (high ≤ count) × Between nodes count place low high
+Inv-loop nodes tree count place low₀ high₀ low high = (high ≤ tree) × Between nodes tree place low high
 
 abbrev μ-loop : tie.MeasureT-loop
-μ-loop nodes count place low₀ high₀ low high = high - low
+μ-loop nodes tree count place low₀ high₀ low high = high - low
 
-loop-holds : tie.Need-loop-holds Inv-loop μ-loop
+abbrev Inv-loop2 : tie.InvT-loop2
+Inv-loop2 nodes tree count place low high i₀ i = (tree ≤ i) × (i ≤ count) × NoneBefore nodes place i
+
+abbrev μ-loop2 : tie.MeasureT-loop2
+μ-loop2 nodes tree count place low high i₀ i = count - i
+
+loop-holds : tie.Need-loop-holds Inv-loop μ-loop Inv-loop2 μ-loop2
 loop-holds c = (omega arith, search-begins _ _ _)
 
-sub-middle : tie.Need-sub-middle Inv-loop μ-loop
+sub-middle : tie.Need-sub-middle Inv-loop μ-loop Inv-loop2 μ-loop2
 sub-middle c = omega arith
 
-add-middle : tie.Need-add-middle Inv-loop μ-loop
+add-middle : tie.Need-add-middle Inv-loop μ-loop Inv-loop2 μ-loop2
 add-middle c = omega arith
 
-mul-start : tie.Need-mul-start Inv-loop μ-loop
+mul-start : tie.Need-mul-start Inv-loop μ-loop Inv-loop2 μ-loop2
 mul-start c = omega arith
 
-mul-start-2 : tie.Need-mul-start-2 Inv-loop μ-loop
-mul-start-2 c = omega arith
+mul-start-2 : tie.Need-mul-start-2 Inv-loop μ-loop Inv-loop2 μ-loop2
+mul-start-2 c = omega (arith, c .before .before .pre)
 
-shared-slice-read-start : tie.Need-shared-slice-read-start Inv-loop μ-loop
-shared-slice-read-start c = omega arith
+shared-slice-read-start : tie.Need-shared-slice-read-start Inv-loop μ-loop Inv-loop2 μ-loop2
+shared-slice-read-start c = omega (arith, c .before .before .before .pre)
 
-returns : tie.Need-returns Inv-loop μ-loop
-returns c = search-found _ _ _ (c .before .before .before .before .pre .1) _ (omega arith) (c .if1 .taken)
+returns : tie.Need-returns Inv-loop μ-loop Inv-loop2 μ-loop2
+returns c = search-found _ _ _ _ (c .before .before .before .before .pre .0) (c .before .before .before .before .pre .2) _ (omega arith) (c .if1 .taken)
 
-add-low : tie.Need-add-low Inv-loop μ-loop
+add-low : tie.Need-add-low Inv-loop μ-loop Inv-loop2 μ-loop2
 add-low c = omega arith
 
-loop-less : tie.Need-loop-less Inv-loop μ-loop
+loop-less : tie.Need-loop-less Inv-loop μ-loop Inv-loop2 μ-loop2
 loop-less c = omega arith
 
-loop-again : tie.Need-loop-again Inv-loop μ-loop
-loop-again c = (omega arith, search-later _ _ _ (c .before .before .before .before .before .pre .1) (c .before .before .before .before .loop .inv .1) _ (omega arith) (c .if2 .taken))
+loop-again : tie.Need-loop-again Inv-loop μ-loop Inv-loop2 μ-loop2
+loop-again c = (omega arith, search-later _ _ _ _ (c .before .before .before .before .before .pre .0) (c .before .before .before .before .before .pre .2) (c .before .before .before .before .loop .inv .1) _ (omega arith) (c .if2 .taken))
 
-loop-less-2 : tie.Need-loop-less-2 Inv-loop μ-loop
+loop-less-2 : tie.Need-loop-less-2 Inv-loop μ-loop Inv-loop2 μ-loop2
 loop-less-2 c = omega arith
 
-loop-again-2 : tie.Need-loop-again-2 Inv-loop μ-loop
-loop-again-2 c = (omega arith, search-sooner _ _ _ (c .before .before .before .before .before .pre .1) (c .before .before .before .before .loop .inv .1) _ (omega arith) (omega arith))
+loop-again-2 : tie.Need-loop-again-2 Inv-loop μ-loop Inv-loop2 μ-loop2
+loop-again-2 c = (omega arith, search-sooner _ _ _ _ (c .before .before .before .before .before .pre .0) (c .before .before .before .before .before .pre .2) (c .before .before .before .before .loop .inv .1) _ (omega arith) (omega arith))
 
-returns-2 : tie.Need-returns-2 Inv-loop μ-loop
-returns-2 c = search-ends _ _ _ (c .before .before .pre .1) (c .before .loop .inv .1) (c .loop-test .left)
+loop2-holds : tie.Need-loop2-holds Inv-loop μ-loop Inv-loop2 μ-loop2
+loop2-holds c = (omega arith, c .before .before .pre .0, search-none _ _ _ _ (c .before .before .pre .0) (c .before .loop .inv .1) (c .loop-test .left))
+
+mul-if3 : tie.Need-mul-if3 Inv-loop μ-loop Inv-loop2 μ-loop2
+mul-if3 c = omega arith
+
+mul-if3-2 : tie.Need-mul-if3-2 Inv-loop μ-loop Inv-loop2 μ-loop2
+mul-if3-2 c = omega (arith, c .before .before .before .before .pre)
+
+shared-slice-read-if3 : tie.Need-shared-slice-read-if3 Inv-loop μ-loop Inv-loop2 μ-loop2
+shared-slice-read-if3 c = omega (arith, c .before .before .before .before .before .pre)
+
+returns-2 : tie.Need-returns-2 Inv-loop μ-loop Inv-loop2 μ-loop2
+returns-2 c = linear-found _ _ _ _ (c .before .before .before .before .before .before .pre .0) (c .before .before .before .loop2 .inv .2) (c .before .before .loop2-test .taken) (c .if3 .taken)
+
+add-i : tie.Need-add-i Inv-loop μ-loop Inv-loop2 μ-loop2
+add-i c = omega arith
+
+loop2-less : tie.Need-loop2-less Inv-loop μ-loop Inv-loop2 μ-loop2
+loop2-less c = omega arith
+
+loop2-again : tie.Need-loop2-again Inv-loop μ-loop Inv-loop2 μ-loop2
+loop2-again c = (omega arith, omega arith, linear-on (c .before .before .before .before .before .before .args .nodes .now) (c .before .before .before .before .before .before .args .tree) (c .before .before .before .before .before .before .args .count) (c .before .before .before .before .before .before .args .place) (c .before .before .before .before .before .before .pre .0) (c .before .before .before .loop2 .inv .2) (c .if3 .left))
+
+returns-3 : tie.Need-returns-3 Inv-loop μ-loop Inv-loop2 μ-loop2
+returns-3 c = linear-ends _ _ _ _ (c .before .before .before .before .pre .0) (c .before .loop2 .inv .2) (omega arith)
 
 pub row-starting-spec : {M : Type 1} → statement M
-row-starting-spec =
-    tie.close
-    (tie.spec
-    Inv-loop
-    μ-loop
-    loop-holds
-    sub-middle
-    add-middle
-    mul-start
-    mul-start-2
-    shared-slice-read-start
-    returns
-    add-low
-    loop-less
-    loop-again
-    loop-less-2
-    loop-again-2
-    returns-2)
+row-starting-spec = tie.close (tie.spec Inv-loop μ-loop Inv-loop2 μ-loop2 loop-holds sub-middle add-middle mul-start mul-start-2 shared-slice-read-start returns add-low loop-less loop-again loop-less-2 loop-again-2 loop2-holds mul-if3 mul-if3-2 shared-slice-read-if3 returns-2 add-i loop2-less loop2-again returns-3)

@@ -7,7 +7,7 @@ use Rattle.casetext.proofs.buffers.node_buffer.Statement.{statement}
 use Rattle.casetext.proofs.buffers.node_buffer.Tie as tie
 
 returns : tie.Need-returns
-returns c = (sym (length-replicate {0} {A = ℕ} 3344 7), refl)
+returns c = (sym (length-replicate {0} {A = ℕ} 4112 7), refl)
 
 pub node-buffer-spec : {M : Type 1} → statement M
 node-buffer-spec = tie.close (tie.spec returns)

@@ -1,0 +1,292 @@
+-- The ways through following the rows: what each exit of the code comes to, over a log that grows.
+-- Assumes nothing.
+use mathlib.Core.Path.{_≡_, refl, sym, ap, ap₂, _∙_, subst}
+use mathlib.Core.Bool.{Bool, true, false, not, _&&_, _||_}
+use mathlib.Core.List.{List, [], _∷_, _++_}
+use Prim.Native.Nat.{ℕ, zero, suc, _+_, _*_, _-_, _^_, _≤_, _<_}
+use native.Mathlib.Nat.{zero-add}
+use native.Mathlib.Omega.{arith}
+use native.Mathlib.Decide.{decLt}
+use borrow.Author.Tests.{lt-ltb, le-ltb, eq-eqb, ne-eqb}
+use lib.Dec.{eqb, ltb}
+use lib.ListN.{length, getD, take, drop, length-append, List·getD-append}
+use Rattle.cursor.specs.Machine.{Out, ok, refused, run, trace, exec, puts}
+use Rattle.cursor.specs.Rows.{P, Events}
+use Rattle.cursor.specs.declared.Cursor.{Cursor}
+use Rattle.cursor.specs.declared.FilePlace.{FilePlace}
+use Rattle.cursor.specs.declared.Node.{Node}
+use Rattle.cursor.proofs.Laws.{puts-on, rows-on}
+use Rattle.cursor.proofs.Quiet.{still, exec-puts}
+use Rattle.header.specs.Header.{Header}
+use Rattle.metadata.specs.Tables.{State, state, put}
+use Rattle.metadata.specs.Told.{told, Fits, Gives}
+use Rattle.metadata.specs.declared.Limits.{Limits}
+use Rattle.metadata.specs.declared.Made.{Made}
+use Rattle.metadata.specs.declared.Walked.{Walked}
+use Rattle.metadata.specs.declared.Walked.the-variants.{Done, Refused}
+use Rattle.tree.specs.Reading.{nodeOf, nodesOf, itemsOf, allNodes, Result, good, bad, madeBy, logged, startsAt, lost, offsetAt, outside, partEnd, takenFrom, detachedAt, reach, follow, context}
+use Rattle.node.specs.Node.{loose}
+use Rattle.tree.specs.Tree.{node, detached}
+use Rattle.tree.specs.Rows.{noNode, nodeFrom, nodesFrom, nodeAt, nodesIn, rowStarting, Rising, if_then_else_}
+use Rattle.tree.specs.Told.{Stands, said, left, Leaves}
+use Rattle.tree.proofs.Filled.{filled, puts-fills, sets-front, nodes-length}
+use Rattle.tree.proofs.Follow.{target, Reached, known, added, reached}
+use Rattle.tree.proofs.Ends.{detached-inside}
+use Rattle.tree.proofs.Shown.{part-is}
+use Rattle.tree.proofs.TreeRows.{tree-few, attached, tree-still}
+use Rattle.tree.proofs.Rows.{node-at, in-front, nodes-back, NodeIn, node-in}
+
+-- ---- what stands in the tables
+
+module _ {lim : Limits} {size : ℕ} {σ : State} {log : Events} {tree : ℕ} {t u : List ℕ} {m : Made} (s : Stands lim size σ log tree t u m) where
+  fills : filled log σ ≡ state t u m
+  fills = sym (puts-fills log σ) ∙ s .fills
+
+  pub node-count : m .nodes ≡ length (nodesOf log)
+  node-count = sym (ap (λ (v : State). v .made .nodes) fills) ∙ ap (λ (v : Made). v .nodes + length (nodesOf log)) (s .empty) ∙ zero-add _
+
+  pub item-count : m .items ≡ length (itemsOf log)
+  item-count = sym (ap (λ (v : State). v .made .items) fills) ∙ ap (λ (v : Made). v .items + length (itemsOf log)) (s .empty) ∙ zero-add _
+
+  pub made-is : madeBy log ≡ m
+  made-is = ap₂ (λ (a : ℕ) (b : ℕ). record { nodes = a; items = b }) (sym node-count) (sym item-count)
+
+  -- the log's rows are those that the table's words are read as
+  pub rows-stand : lim .nodes * 13 ≤ length t → nodesIn (m .nodes) t ≡ nodesOf log
+  rows-stand room =
+      let n = nodes-length (nodesOf log) in
+      let c = node-count in
+      let f = s .fits .0 in
+      let l = s .long .0 in
+      let e : t ≡ allNodes (nodesOf log) ++ drop (length (allNodes (nodesOf log))) (σ .nodes) =
+      sym (ap (λ (v : State). v .nodes) fills) ∙ ap (λ (v : Made). filled log (record { nodes = σ .nodes; items = σ .items; made = v }) .nodes) (s .empty) ∙ sets-front (σ .nodes) (allNodes (nodesOf log)) (omega arith) in
+      ap₂ nodesIn c e ∙ nodes-back (nodesOf log) _
+
+  -- nothing new
+  pub leaves-same : (c : Cursor) → Leaves lim σ (Done m c) t u (good log)
+  leaves-same c = record { answer = ap good (sym (s .fills)); fits = s .fits }
+
+  -- one more node
+  pub leaves-more : {r : Walked} {t′ u′ : List ℕ} (f : List ℕ) (at : ℕ) (n : P Made) → Gives lim r t′ u′ (exec put n f at (state t u m)) → Leaves lim σ r t′ u′ (logged log (run n f at) (trace n f at))
+  unfolding logged
+  leaves-more {r} {t′} {u′} f at n g =
+      let e : puts put (log ++ trace n f at) σ ≡ puts put (trace n f at) (state t u m) = puts-on put log (trace n f at) σ ∙ ap (puts put (trace n f at)) (s .fills) in
+      by r (run n f at) (trace n f at) (g .answer ∙ exec-puts put n f at (state t u m) ∙ ap (still (run n f at)) (sym e)) (g .fits)
+    where
+      same : {a b : Made × State} {p q : ℕ} → ok a p ≡ ok b q → a ≡ b
+      same z = cc
+
+      by : (r : Walked) (o : Out Made) (es : Events) → told r t′ u′ ≡ still o (puts put (log ++ es) σ) → Fits lim r → Leaves lim σ r t′ u′ (logged log o es)
+      by (Done a c) (ok b p) es z fits = record { answer = ap (λ (y : Made × State). good (y .1)) (same z); fits = fits }
+      by (Done a c) (refused n p) es z fits = let y : _≡_ {A = ℕ} 0 1 = cc in absurd (omega arith)
+      by (Refused n p) (ok b q) es z fits = let y : _≡_ {A = ℕ} 0 1 = cc in absurd (omega arith)
+      by (Refused n p) (refused k q) es z fits = let x : n ≡ k = cc in let y : p .0 ≡ q = cc in record { answer = ap₂ (λ (a : ℕ) (b : ℕ). bad a b) x y; fits = tt }
+
+-- ---- what the calls that look at the table ask for
+
+module _ {lim : Limits} {size : ℕ} {σ : State} {log : Events} {tree : ℕ} {t u : List ℕ} {m : Made} (s : Stands lim size σ log tree t u m) (room : lim .nodes * 13 ≤ length t) where
+  pub stand-few : (tree ≤ m .nodes) × (m .nodes * 13 ≤ length t)
+  stand-few = let n = node-count s in let f = tree-few (nodesOf log) in let e = s .first .tree-is in let g = s .fits .0 in (omega arith, omega arith)
+
+  pub stand-rising : Rising (nodesIn tree t)
+  stand-rising = subst Rising (sym (in-front t tree (m .nodes) (stand-few .0) ∙ ap (take tree) (rows-stand s room))) (s .first .rising)
+
+  pub stand-inside : (i : ℕ) → i < m .nodes → (nodeAt (nodesIn (m .nodes) t) i .header ≤ nodeAt (nodesIn (m .nodes) t) i .size) × (nodeAt (nodesIn (m .nodes) t) i .start + nodeAt (nodesIn (m .nodes) t) i .size ≤ size)
+  stand-inside i l = let n = node-count s in subst (λ v. (nodeAt v i .header ≤ nodeAt v i .size) × (nodeAt v i .start + nodeAt v i .size ≤ size)) (sym (rows-stand s room)) (s .inside i (omega arith))
+
+  pub stand-attached : (i : ℕ) → i < tree → nodeAt (nodesIn (m .nodes) t) i .detached ≡ 0
+  stand-attached i l = subst (λ v. nodeAt v i .detached ≡ 0) (sym (rows-stand s room)) (attached (nodesOf log) i (let e = s .first .tree-is in omega arith))
+
+pub part-in : (h : Header) (size p : ℕ) → h .extent .start ≤ size → {end : ℕ} → end ≡ partEnd h size p → end ≤ size
+part-in h size p l e = let w = part-is h size p l .0 in omega arith
+
+-- ---- one row
+
+none-by : (ns : List Node) (p : ℕ) → startsAt ns p ≡ true → rowStarting ns p < length ns
+unfolding startsAt rowStarting if_then_else_
+none-by [] p e = let y : _≡_ {A = ℕ} 0 1 = cc in absurd (omega arith)
+none-by (r ∷ rs) p e = by (eqb (r .start) p) e (none-by rs p)
+  where
+    by : (b : Bool) → (b || startsAt rs p) ≡ true → (startsAt rs p ≡ true → rowStarting rs p < length rs) → (if b then 0 else suc (rowStarting rs p)) < suc (length rs)
+    by true z rest = omega arith
+    by false z rest = let w = rest z in omega arith
+
+some-by : (ns : List Node) (p : ℕ) → startsAt ns p ≡ false → length ns ≤ rowStarting ns p
+unfolding startsAt rowStarting if_then_else_
+some-by [] p e = omega arith
+some-by (r ∷ rs) p e = by (eqb (r .start) p) e (some-by rs p)
+  where
+    by : (b : Bool) → (b || startsAt rs p) ≡ false → (startsAt rs p ≡ false → length rs ≤ rowStarting rs p) → suc (length rs) ≤ (if b then 0 else suc (rowStarting rs p))
+    by true z rest = let y : _≡_ {A = ℕ} 0 1 = cc in absurd (omega arith)
+    by false z rest = let w = rest z in omega arith
+
+starts-when : (ns : List Node) (p : ℕ) → rowStarting ns p < length ns → startsAt ns p ≡ true
+starts-when ns p l = by (startsAt ns p) refl
+  where
+    by : (b : Bool) → startsAt ns p ≡ b → b ≡ true
+    by true e = refl
+    by false e = let w = some-by ns p e in absurd (omega arith)
+
+starts-not : (ns : List Node) (p : ℕ) → length ns ≤ rowStarting ns p → startsAt ns p ≡ false
+starts-not ns p l = by (startsAt ns p) refl
+  where
+    by : (b : Bool) → startsAt ns p ≡ b → b ≡ false
+    by true e = let w = none-by ns p e in absurd (omega arith)
+    by false e = refl
+
+module _ (lim : Limits) (f : List ℕ) (h : Header) {σ : State} {log : Events} {tree : ℕ} {t u : List ℕ} {m : Made} (s : Stands lim (length f) σ log tree t u m) (room : lim .nodes * 13 ≤ length t) (i : ℕ) (l : i < m .nodes) where
+  abbrev r : Node
+  r = nodeAt (nodesOf log) i
+
+  pub row-words : nodeFrom t (i * 13) ≡ r
+  row-words = sym (node-at t (m .nodes) i l) ∙ ap (λ v. nodeAt v i) (rows-stand s room)
+
+  reach-same : lost (nodesOf log) r ≡ false → (c : Cursor) → Leaves lim σ (Done m c) t u (reach lim f h log r)
+  unfolding reach if_then_else_
+  reach-same e c = rw e (leaves-same s c)
+
+  -- no reference 3
+  pub reach-other : ((getD t (i * 13 + 6) 0 ≡ 3) → ⊥) → (c : Cursor) → Leaves lim σ (Done m c) t u (reach lim f h log r)
+  unfolding lost
+  reach-other n c = let q : (r .reference ≡ 3) → ⊥ = λ z. n (ap (λ (x : Node). x .reference) row-words ∙ z) in reach-same (ap (λ b. b && not (startsAt (nodesOf log) (r .target))) (ne-eqb _ _ q)) c
+
+  -- a row starts there
+  pub reach-known : {k to : ℕ} → to ≡ getD t (i * 13 + 7) 0 → k ≡ rowStarting (nodesIn (m .nodes) t) to → k < m .nodes → (c : Cursor) → Leaves lim σ (Done m c) t u (reach lim f h log r)
+  unfolding lost
+  reach-known {k} {to} a e j c =
+      let z : to ≡ r .target = a ∙ ap (λ (x : Node). x .target) row-words in
+      let y : k ≡ rowStarting (nodesOf log) (r .target) = e ∙ ap₂ rowStarting (rows-stand s room) z in
+      let n = node-count s in
+      reach-same (rw (starts-when (nodesOf log) (r .target) (omega arith)) (and-false (eqb (r .reference) 3))) c
+    where
+      and-false : (b : Bool) → (b && not true) ≡ false
+      and-false true = refl
+      and-false false = refl
+
+  module _ (three : getD t (i * 13 + 6) 0 ≡ 3) {k to : ℕ} (is : to ≡ getD t (i * 13 + 7) 0) (e : k ≡ rowStarting (nodesIn (m .nodes) t) to) (none : m .nodes ≤ k) where
+    to-is : to ≡ r .target
+    to-is = is ∙ ap (λ (x : Node). x .target) row-words
+
+    is-lost : lost (nodesOf log) r ≡ true
+    unfolding lost
+    is-lost =
+        let y : k ≡ rowStarting (nodesOf log) (r .target) = e ∙ ap₂ rowStarting (rows-stand s room) to-is in
+        let n = node-count s in
+        let q : r .reference ≡ 3 = sym (ap (λ (x : Node). x .reference) row-words) ∙ three in
+        rw (eq-eqb _ _ q, starts-not (nodesOf log) (r .target) (omega arith)) refl
+
+    -- no node may start there
+    pub reach-nowhere : false ≡ outside h (length f) to → {p : FilePlace} → p .0 ≡ offsetAt f (nodeAt (nodesIn (m .nodes) t) i) → Leaves lim σ (Refused 16 p) t u (reach lim f h log r)
+    unfolding reach if_then_else_
+    reach-nowhere b {p} q =
+        let o : outside h (length f) (r .target) ≡ false = sym (b ∙ ap (outside h (length f)) to-is) in
+        let z : p .0 ≡ offsetAt f r = q ∙ ap (λ v. offsetAt f (nodeAt v i)) (rows-stand s room) in
+        rw (is-lost, o) (record { answer = ap (bad 16) z; fits = tt })
+
+    -- a node is read there
+    pub reach-node : true ≡ outside h (length f) to → {named end taken : ℕ} → named ≡ offsetAt f (nodeAt (nodesIn (m .nodes) t) i) → end ≡ partEnd h (length f) to → taken ≡ takenFrom (nodesIn (m .nodes) t) to end
+        → {w : Walked} {t′ u′ : List ℕ} → Gives lim w t′ u′ (exec put (node 17 (context lim h (length f)) (m .nodes) (loose end taken named) m) f to (state t u m)) → Leaves lim σ w t′ u′ (reach lim f h log r)
+    unfolding reach if_then_else_ detachedAt detached
+    reach-node b {named} {end} {taken} q en ta {w} {t′} {u′} g =
+        let o : outside h (length f) (r .target) ≡ true = sym (b ∙ ap (outside h (length f)) to-is) in
+        let z : named ≡ offsetAt f r = q ∙ ap (λ v. offsetAt f (nodeAt v i)) (rows-stand s room) in
+        let en′ : end ≡ partEnd h (length f) (r .target) = en ∙ ap (partEnd h (length f)) to-is in
+        let ta′ : taken ≡ takenFrom (nodesOf log) (r .target) (partEnd h (length f) (r .target)) = ta ∙ ap₂ (λ v p. takenFrom v p end) (rows-stand s room) to-is ∙ ap (takenFrom (nodesOf log) (r .target)) en′ in
+        let x = context lim h (length f) in
+        let n : node 17 x (m .nodes) (loose end taken named) m ≡ node 17 x (madeBy log .nodes) (loose (partEnd h (length f) (r .target)) (takenFrom (nodesOf log) (r .target) (partEnd h (length f) (r .target))) (offsetAt f r)) (madeBy log) =
+        ap (λ (v : Made). node 17 x (v .nodes) (loose end taken named) v) (sym (made-is s)) ∙ ap₂ (λ (a : ℕ) (b : ℕ). node 17 x (madeBy log .nodes) (loose a b named) (madeBy log)) en′ ta′ ∙ ap (λ c. node 17 x (madeBy log .nodes) (loose (partEnd h (length f) (r .target)) (takenFrom (nodesOf log) (r .target) (partEnd h (length f) (r .target))) c) (madeBy log)) z in
+        rw (is-lost, o) (subst (λ (v : P Made). Leaves lim σ w t′ u′ (logged log (run v f (r .target)) (trace v f (r .target)))) n (subst (λ v. Leaves lim σ w t′ u′ (logged log (run (node 17 x (m .nodes) (loose end taken named) m) f v) (trace (node 17 x (m .nodes) (loose end taken named) m) f v))) to-is (leaves-more s f to _ g)))
+
+-- ---- all rows
+
+pub bad-is : (lim : Limits) (f : List ℕ) (h : Header) (i k n p : ℕ) → follow k lim f h i (bad n p) ≡ bad n p
+unfolding follow
+bad-is lim f h i zero n p = refl
+bad-is lim f h i (suc k) n p = refl
+
+each : (C : Node → Type 0) (ns ms : List Node) → ((i : ℕ) → i < length ns → C (nodeAt ns i)) → ((i : ℕ) → i < length ms → C (nodeAt ms i)) → (i : ℕ) → i < length (ns ++ ms) → C (nodeAt (ns ++ ms) i)
+each C [] ms a b i l = b i l
+each C (r ∷ ns) ms a b zero l = a 0 (omega arith)
+each C (r ∷ ns) ms a b (suc i) l = each C ns ms (λ j k. a (suc j) (omega arith)) b i (omega arith)
+
+-- one more row, or none: the table's rows stand as before
+more-stands : (lim : Limits) (f : List ℕ) (h : Header) {σ : State} {log log′ : Events} {tree : ℕ} {t u t′ u′ : List ℕ} {m m′ : Made} {r : Node} → h .extent .start ≤ length f → Stands lim (length f) σ log tree t u m
+    → Reached lim f h log r log′ → puts put log′ σ ≡ state t′ u′ m′ → (m′ .nodes ≤ lim .nodes) × (m′ .items ≤ lim .items) → length t′ ≡ length t → length u′ ≡ length u → Stands lim (length f) σ log′ tree t′ u′ m′
+unfolding detachedAt
+more-stands lim f h {σ = σ} {log = log} z s (known x y) e fits j k = rw y (record { empty = s .empty; fills = ap (λ v. puts put v σ) (sym y) ∙ e; fits = fits; long = (j ∙ s .long .0, k ∙ s .long .1); inside = s .inside; first = s .first })
+more-stands lim f h {σ = σ} {log = log} {log′ = log′} {r = r} z s (added a y) e fits j k =
+    let es = trace (target lim f h log r) f (r .target) in
+    let n : nodesOf (log ++ es) ≡ nodesOf log ++ nodesOf es = rows-on nodeOf log es in
+    let in-all = node-in es (length f) (length f) (omega arith) (detached-inside (context lim h (length f)) f (r .target) _ _ _ _ (part-is h (length f) (r .target) z .0)) in
+    record {
+      empty = s .empty;
+      fills = e;
+      fits = fits;
+      long = (j ∙ s .long .0, k ∙ s .long .1);
+      inside = rw (y, n) (each (λ v. (v .header ≤ v .size) × (v .start + v .size ≤ length f)) (nodesOf log) (nodesOf es) (s .inside) (λ i l. let w = in-all i l in (w .0, w .1)));
+      first = tree-still lim f h z (s .first) (added a y);
+    }
+
+pub same-state : {v w : State} → good v ≡ good w → v ≡ w
+same-state e = cc
+
+module _ (lim : Limits) (f : List ℕ) (h : Header) (tree : ℕ) (t₀ u₀ : List ℕ) (m₀ : Made) where
+  -- with row i next, the rows m made and the tables t and u: what is left comes to what the whole comes to
+  pub record Following (i : ℕ) (t u : List ℕ) (m : Made) (σ : State) (log₀ : Events) : Type 0 where
+    pub log : Events
+    pub stands : Stands lim (length f) σ log tree t u m
+    pub same : follow (lim .nodes) lim f h 0 (good log₀) ≡ follow (lim .nodes - i) lim f h i (good log)
+
+  abbrev pub Follows : ℕ → List ℕ → List ℕ → Made → Type 0
+  Follows i t u m = (σ : State) (log₀ : Events) → Stands lim (length f) σ log₀ tree t₀ u₀ m₀ → Following i t u m σ log₀
+
+  pub follows-begun : Follows 0 t₀ u₀ m₀
+  follows-begun σ log₀ s = record { log = log₀; stands = s; same = ap (λ k. follow k lim f h 0 (good log₀)) (let e : lim .nodes ≡ lim .nodes - 0 = omega arith in e) }
+
+  module _ {i : ℕ} {t u : List ℕ} {m : Made} (w : Follows i t u m) where
+    -- a row is left: what it leads to
+    turn : (σ : State) (log₀ : Events) (s : Stands lim (length f) σ log₀ tree t₀ u₀ m₀) → i < m .nodes
+        → follow (lim .nodes) lim f h 0 (good log₀) ≡ follow (lim .nodes - (i + 1)) lim f h (i + 1) (reach lim f h (w σ log₀ s .log) (nodeAt (nodesOf (w σ log₀ s .log)) i))
+    unfolding follow if_then_else_
+    turn σ log₀ s l =
+        let x = w σ log₀ s in
+        let n = node-count (x .stands) in
+        let q = x .stands .fits .0 in
+        let k : lim .nodes - i ≡ suc (lim .nodes - (i + 1)) = omega arith in
+        let b : ltb i (length (nodesOf (x .log))) ≡ true = lt-ltb i (length (nodesOf (x .log))) (omega arith) in
+        x .same ∙ ap (λ v. follow v lim f h i (good (x .log))) k ∙ rw b refl
+
+    module _ (l : i < m .nodes) {r : Walked} {t′ u′ : List ℕ} (g : (σ : State) (log : Events) → Stands lim (length f) σ log tree t u m → Leaves lim σ r t′ u′ (reach lim f h log (nodeAt (nodesOf log) i))) where
+      pub follows-no : {n : ℕ} {p : FilePlace} → r ≡ Refused n p → (σ : State) (log₀ : Events) → Stands lim (length f) σ log₀ tree t₀ u₀ m₀ → Leaves lim σ (Refused n p) t′ u′ (follow (lim .nodes) lim f h 0 (good log₀))
+      follows-no {n} {p} e σ log₀ s =
+          let x = w σ log₀ s in
+          rw (turn σ log₀ s l) (by (reach lim f h (x .log) (nodeAt (nodesOf (x .log)) i)) (lim .nodes - (i + 1)) (ap (λ v. said v t′ u′) (sym e) ∙ g σ (x .log) (x .stands) .answer))
+        where
+          by : (o : Result Events) (k : ℕ) → bad n (p .0) ≡ left σ o → Leaves lim σ (Refused n p) t′ u′ (follow k lim f h (i + 1) o)
+          by (good log) k z = let y : _≡_ {A = ℕ} 0 1 = cc in absurd (omega arith)
+          by (bad a b) k z = record { answer = z ∙ ap (left σ) (sym (bad-is lim f h (i + 1) k a b)); fits = tt }
+
+      pub follows-on : h .extent .start ≤ length f → {n : Made} {c : Cursor} → r ≡ Done n c → length t′ ≡ length t → length u′ ≡ length u → Follows (i + 1) t′ u′ n
+      follows-on z {n} {c} e j k σ log₀ s =
+          let x = w σ log₀ s in
+          let a = g σ (x .log) (x .stands) in
+          by (reach lim f h (x .log) (nodeAt (nodesOf (x .log)) i)) refl (ap (λ v. said v t′ u′) (sym e) ∙ a .answer) (subst (Fits lim) e (a .fits))
+        where
+          by : (o : Result Events) → reach lim f h (w σ log₀ s .log) (nodeAt (nodesOf (w σ log₀ s .log)) i) ≡ o → good (state t′ u′ n) ≡ left σ o → (n .nodes ≤ lim .nodes) × (n .items ≤ lim .items) → Following (i + 1) t′ u′ n σ log₀
+          by (good log) q y fits = record {
+            log = log;
+            stands = more-stands lim f h z (w σ log₀ s .stands) (reached lim f h _ _ q) (same-state (sym y)) fits j k;
+            same = turn σ log₀ s l ∙ ap (follow (lim .nodes - (i + 1)) lim f h (i + 1)) q;
+          }
+          by (bad a b) q y fits = let v : _≡_ {A = ℕ} 0 1 = cc in absurd (omega arith)
+
+    pub follows-done : m .nodes ≤ i → (c : Cursor) → (σ : State) (log₀ : Events) → Stands lim (length f) σ log₀ tree t₀ u₀ m₀ → Leaves lim σ (Done m c) t u (follow (lim .nodes) lim f h 0 (good log₀))
+    unfolding follow if_then_else_
+    follows-done l c σ log₀ s =
+        let x = w σ log₀ s in
+        let n = node-count (x .stands) in
+        rw (x .same) (by (lim .nodes - i) (le-ltb i (length (nodesOf (x .log))) (omega arith)) (leaves-same (x .stands) c))
+      where
+        by : (k : ℕ) → ltb i (length (nodesOf (w σ log₀ s .log))) ≡ false → Leaves lim σ (Done m c) t u (good (w σ log₀ s .log)) → Leaves lim σ (Done m c) t u (follow k lim f h i (good (w σ log₀ s .log)))
+        by zero b v = v
+        by (suc k) b v = rw b v

@@ -1,0 +1,77 @@
+-- `follow_all` leaves what `follow` leaves. The invariant: what is left of the rows comes to what the whole comes to.
+-- Assumes nothing.
+use mathlib.Core.Path.{refl, sym, _∙_}
+use Prim.Native.Nat.{_-_, _≤_}
+use lib.ListN.{length}
+use mathlib.Core.Path.{_≡_}
+use Rattle.header.specs.Told.{headerOf}
+use Rattle.tree.proofs.Growing.{Follows, follows-begun, follows-no, follows-on, follows-done}
+use native.Mathlib.Omega.{arith}
+use borrow.Author.Needs.{needs}
+use Rattle.tree.proofs.follow_all.Statement.{statement}
+use Rattle.tree.proofs.follow_all.Tie as tie
+
+abbrev Inv-loop : tie.InvT-loop
+Inv-loop file types nodes₀ items₀ h lim made m₀ i₀ nodes items m i = Follows lim file (headerOf h types) (made .nodes) nodes₀ items₀ made i nodes items m × (length nodes ≡ length nodes₀) × (length items ≡ length items₀)
+
+abbrev μ-loop : tie.MeasureT-loop
+μ-loop file types nodes₀ items₀ h lim made m₀ i₀ nodes items m i = lim .nodes - i
+
+loop-holds : tie.Need-loop-holds Inv-loop μ-loop
+loop-holds c = (follows-begun _ _ _ _ _ _ _, refl, refl)
+
+reach-from-requires : tie.Need-reach-from-requires Inv-loop μ-loop
+reach-from-requires c κs = let w = c .before .before .before .before .before .before .before .before .before .pre .6 in let x = c .before .before .before .before .loop .inv .0 (w .0) (w .1) (w .2) in let p = c .before .before .before .before .before .before .before .before .before .pre in let a = c .before .before .before .before .loop .inv .1 in let b = c .before .before .before .before .loop .inv .2 in (p .0, p .1, p .2, omega (arith, p .3), omega (arith, p .4), p .5, c .before .before .if1 .taken, (w .0, x .log, x .stands))
+
+enum-known-n : tie.Need-enum-known-n Inv-loop μ-loop
+enum-known-n c = search needs
+
+same-length : tie.Need-same-length Inv-loop μ-loop
+same-length c = c .before .before .before .before .before .before .before .reach-from .kept .1 .1 .0 ∙ c .before .before .before .before .before .before .before .before .before .before .before .before .loop .inv .1
+
+same-length-2 : tie.Need-same-length-2 Inv-loop μ-loop
+same-length-2 c = c .before .before .before .before .before .before .before .reach-from .kept .1 .1 .1 .0 ∙ c .before .before .before .before .before .before .before .before .before .before .before .before .loop .inv .2
+
+returns : tie.Need-returns Inv-loop μ-loop
+returns c = follows-no _ _ _ _ _ _ _ (c .before .before .before .before .before .before .before .before .before .before .before .before .loop .inv .0) (c .before .before .before .before .before .before .before .before .before .before .if1 .taken) (c .before .before .before .before .before .before .before .reach-from .ensures) (c .before .n .given .1)
+
+enum-known-n-2 : tie.Need-enum-known-n-2 Inv-loop μ-loop
+enum-known-n-2 c = search needs
+
+add-i : tie.Need-add-i Inv-loop μ-loop
+add-i c = omega arith
+
+loop-less : tie.Need-loop-less Inv-loop μ-loop
+loop-less c = let w = c .before .before .before .before .before .before .before .before .before .before .before .before .before .before .before .before .before .pre .6 in let x = c .before .before .before .before .before .before .before .before .before .before .before .before .loop .inv .0 (w .0) (w .1) (w .2) in omega (arith, c .before .before .before .before .before .before .before .before .before .before .if1 .taken, x .stands .fits)
+
+loop-again : tie.Need-loop-again Inv-loop μ-loop
+loop-again c = (follows-on _ _ _ _ _ _ _ (c .before .before .before .before .before .before .before .before .before .before .before .before .loop .inv .0) (c .before .before .before .before .before .before .before .before .before .before .if1 .taken) (c .before .before .before .before .before .before .before .reach-from .ensures) (c .before .before .before .before .before .before .before .before .before .before .before .before .before .before .before .before .before .pre .5) (c .before .n2 .given .1) (c .before .before .before .before .before .before .before .reach-from .kept .1 .1 .0) (c .before .before .before .before .before .before .before .reach-from .kept .1 .1 .1 .0), c .before .before .before .before .before .before .before .reach-from .kept .1 .1 .0 ∙ c .before .before .before .before .before .before .before .before .before .before .before .before .loop .inv .1, c .before .before .before .before .before .before .before .reach-from .kept .1 .1 .1 .0 ∙ c .before .before .before .before .before .before .before .before .before .before .before .before .loop .inv .2)
+
+same-length-3 : tie.Need-same-length-3 Inv-loop μ-loop
+same-length-3 c = c .before .before .loop .inv .1
+
+same-length-4 : tie.Need-same-length-4 Inv-loop μ-loop
+same-length-4 c = c .before .before .loop .inv .2
+
+returns-2 : tie.Need-returns-2 Inv-loop μ-loop
+returns-2 c = follows-done _ _ _ _ _ _ _ (c .before .before .loop .inv .0) (c .if1 .left) _
+
+pub follow-all-spec : {M : Type 1} → statement M
+follow-all-spec =
+    tie.close
+    (tie.spec
+    Inv-loop
+    μ-loop
+    loop-holds
+    reach-from-requires
+    enum-known-n
+    same-length
+    same-length-2
+    returns
+    enum-known-n-2
+    add-i
+    loop-less
+    loop-again
+    same-length-3
+    same-length-4
+    returns-2)
