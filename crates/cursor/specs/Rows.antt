@@ -1,6 +1,9 @@
 -- What the bytes of a file are: the kinds of frame bytes, and what is passed over. The rows of 01's two tables are among the latter.
 -- Assumes nothing.
+use mathlib.Core.Bool.{Bool, true, false, _&&_}
 use mathlib.Core.List.{List}
+use Prim.Native.Nat.{ℕ}
+use lib.Dec.{eqb}
 use Rattle.cursor.specs.Machine.{Prog, Event}
 use Rattle.cursor.specs.declared.Node.{Node}
 use Rattle.cursor.specs.declared.Item.{Item}
@@ -9,15 +12,28 @@ use Rattle.cursor.specs.declared.Item.{Item}
 pub data Frame : Type 0 where
   fileFrame nodeFrame metaFrame unpackFrame referenceFrame : Frame
 
--- bytes that are passed over and make no row: a language's name, a custom field's name, a URI, an inline resource
+-- bytes that are passed over and make no row: a language's name, a custom field's name, a URI
 pub data Plain : Type 0 where
-  language name uri inline : Plain
+  language name uri : Plain
 
--- what is passed over: no byte, where a node's row is made; an item row's data; other bytes
+-- what is passed over: a node row's inline data, which only a file node has; an item row's data; other bytes
 pub data Part : Type 0 where
   nodeRow : Node → Part
   itemRow : Item → Part
   plain : Plain → Part
+
+-- a file node with reference 1, whose contents follow it to its end
+abbrev pub hasInline : Node → Bool
+hasInline r = eqb (r .held) 0 && eqb (r .reference) 1
+
+-- n, or 0
+abbrev pub sizeIf : Bool → ℕ → ℕ
+sizeIf true n = n
+sizeIf false n = 0
+
+-- the bytes of a node's inline data
+abbrev pub inlineSize : Node → ℕ
+inlineSize r = sizeIf (hasInline r) (r .extent)
 
 -- a program that reads XMF
 abbrev pub P : Type 0 → Type 0

@@ -5,8 +5,9 @@ use mathlib.Core.Logic.{_⊎_, inl, inr}
 use mathlib.Core.List.{List}
 use Prim.Native.Nat.{ℕ, _+_, _-_, _≤_, _<_}
 use native.Mathlib.Omega.{arith}
+use lib.Dec.{T}
 use borrow.Author.Tests.{ltb-true, leb-true}
-use Rattle.cursor.specs.Rows.{Part, nodeRow, itemRow, plain, Plain, language, name, uri, inline, P}
+use Rattle.cursor.specs.Rows.{Part, nodeRow, itemRow, plain, Plain, language, name, uri, hasInline, inlineSize, P}
 use Rattle.cursor.specs.Machine.{times, many}
 use Rattle.cursor.specs.declared.Node.{Node}
 use Rattle.cursor.specs.declared.Item.{Item}
@@ -25,10 +26,10 @@ use Rattle.metadata.specs.declared.Contents.the-variants.{Universal, Ver
 abbrev pub OfNames : Type 1
 OfNames = ℕ → ℕ → Type 0
 
--- What is shown of each thing that is passed, in a tree that ends at `top`, in a file of `size` bytes: an item's data is where its row says, and
--- its custom name was passed, so that what N gives of a name that is passed holds of it.
+-- What is shown of each thing that is passed, in a tree that ends at `top`, in a file of `size` bytes: a node's inline data and an item's
+-- data are where their rows say, and an item's custom name was passed, so that what N gives of a name that is passed holds of it.
 abbrev Shown : OfNames → (top size : ℕ) → Part → ℕ → ℕ → Type 0
-Shown N top size (nodeRow r) p n = (r .header ≤ r .size) × (r .start + r .size ≤ top) × ((r .reference ≡ 3) ⊎ (r .target + r .extent ≤ size))
+Shown N top size (nodeRow r) p n = (r .header ≤ r .size) × (r .start + r .size ≤ top) × ((r .reference ≡ 3) ⊎ (r .target + r .extent ≤ size)) × (n ≡ inlineSize r) × (T (hasInline r) → r .target ≡ p)
 Shown N top size (itemRow r) p n = (r .place ≡ p) × (r .size ≡ n) × (p + n ≤ top) × ((r .kind ≡ 0) ⊎ ((r .field + r .named ≤ top) × N (r .field) (r .named)))
 Shown N top size (plain x) p n = p + n ≤ top
 
@@ -36,7 +37,6 @@ abbrev OfPlain : OfNames → Plain → ℕ → ℕ → Type 0
 OfPlain N name p n = N p n
 OfPlain N language p n = Unit {0}
 OfPlain N uri p n = Unit {0}
-OfPlain N inline p n = Unit {0}
 
 abbrev pub Given : OfNames → Part → ℕ → ℕ → Type 0
 Given N (nodeRow r) p n = Unit {0}
@@ -56,7 +56,6 @@ inside-free top size (itemRow r) p n = tt
 inside-free top size (plain name) p n = tt
 inside-free top size (plain language) p n = tt
 inside-free top size (plain uri) p n = tt
-inside-free top size (plain inline) p n = tt
 
 -- rows of nodes are made by nodes alone, and no row is taken back
 abbrev pub Since : Made → Made → Type 0

@@ -1,14 +1,17 @@
 -- Where each part of a node ends: after it began, and not past the part that holds it; and what a node's row says of its places.
 -- Assumes nothing.
 use mathlib.Core.Path.{_≡_, refl}
+use mathlib.Core.Bool.{Bool, true, false, _&&_}
 use mathlib.Core.Logic.{_⊎_, inl, inr}
 use mathlib.Core.List.{List}
 use Prim.Native.Nat.{ℕ, _+_, _-_, _≤_, _<_}
 use native.Mathlib.Omega.{arith}
+use lib.Dec.{T, eqb, eqb→eq}
 use lib.ListN.{length}
-use borrow.Author.Tests.{ltb-true, leb-true, eqb-true}
+use borrow.Author.Tests.{ltb-true, leb-true}
 use Rattle.cursor.specs.Machine.{ok, run, exec}
-use Rattle.cursor.specs.Rows.{Part, nodeRow, itemRow, plain, P}
+use Rattle.cursor.specs.Rows.{Part, nodeRow, itemRow, plain, hasInline, sizeIf, inlineSize, P}
+use Rattle.cursor.specs.declared.Node.{Node}
 use Rattle.cursor.proofs.Laws.{ran}
 use Rattle.cursor.proofs.Wp.{Wp, at-end, wp-after, wp-weaken, wp-ret, wp-refuse, wp-if, wp-check, wp-place, wp-skip, wp-many}
 use Rattle.cursor.proofs.Leaves.{number-on, block-on, manufacturer-on, guid-on}
@@ -26,6 +29,10 @@ use Rattle.node.specs.declared.Front.{Front}
 -- a reference 3 leads to a node; what any other leads to lies in a file of `size` bytes
 abbrev pub Leads : ℕ → Reference → Type 0
 Leads size r = (r .kind ≡ 3) ⊎ (r .target + r .extent ≤ size)
+
+-- what a reference 1 leads to begins where the reference ends, at q, and runs to the node's end
+abbrev pub Follows : (end q : ℕ) → Reference → Type 0
+Follows end q r = (r .kind ≡ 1) → (r .target ≡ q) × (r .extent ≡ end - q)
 
 module _ (N : OfNames) (top size : ℕ) where
   pub header-length-on : (p n held at : ℕ) → Wp (Inside N top size) (headerLength p n held) (λ h q. (at < q) × (q ≤ p + h .header) × (h .header ≤ h .size) × (h .size ≡ n) × (h .held ≡ held)) at
@@ -75,28 +82,28 @@ module _ (N : OfNames) (top size : ℕ) where
       (wp-after (block-on _ _ end at) λ n q x. wp-check _ _ λ t.
       wp-place _ q (wp-weaken (entries-on (q + n) q (omega arith)) (λ u r y. omega arith)))
 
-  target-on : (first r end at : ℕ) → end ≤ top → end ≤ size → at ≤ end → Wp (Inside N top size) (target first size r end) (λ r q. (at ≤ q) × (q ≤ end) × Leads size r) at
+  target-on : (first r end at : ℕ) → end ≤ top → end ≤ size → at ≤ end → Wp (Inside N top size) (target first size r end) (λ r q. (at ≤ q) × (q ≤ end) × Leads size r × Follows end q r) at
   unfolding target resource nodePlace uriPlace
   target-on first r end at o i l =
-      wp-if (λ t. wp-place _ at (wp-ret (omega arith, l, inr (omega arith))))
+      wp-if (λ t. wp-place _ at (wp-ret (omega arith, l, inr (omega arith), λ k. (refl, refl))))
       λ t. wp-if
-      (λ u. wp-place _ at (wp-after (number-on _ _ end at) λ v q x. wp-check _ _ λ c. wp-check _ _ λ d. wp-ret (omega arith, omega arith, inr (omega (arith, leb-true v size d)))))
-      λ u. wp-if (λ w. wp-after (number-on _ _ end at) λ v q x. wp-ret (omega arith, omega arith, inl refl))
-      (λ w. wp-after (block-on _ _ end at) λ n q x. wp-place _ q (wp-skip _ _ (omega arith) (λ _. wp-ret (omega arith, omega arith, inr (omega arith)))))
+      (λ u. wp-place _ at (wp-after (number-on _ _ end at) λ v q x. wp-check _ _ λ c. wp-check _ _ λ d. wp-ret (omega arith, omega arith, inr (omega (arith, leb-true v size d)), λ k. absurd (omega arith))))
+      λ u. wp-if (λ w. wp-after (number-on _ _ end at) λ v q x. wp-ret (omega arith, omega arith, inl refl, λ k. absurd (omega arith)))
+      (λ w. wp-after (block-on _ _ end at) λ n q x. wp-place _ q (wp-skip _ _ (omega arith) (λ _. wp-ret (omega arith, omega arith, inr (omega arith), λ k. absurd (omega arith)))))
 
-  reference-on : (first held end at : ℕ) → end ≤ top → end ≤ size → Wp (Inside N top size) (reference first size held end) (λ r q. (at < q) × (q ≤ end) × Leads size r) at
+  reference-on : (first held end at : ℕ) → end ≤ top → end ≤ size → Wp (Inside N top size) (reference first size held end) (λ r q. (at < q) × (q ≤ end) × Leads size r × Follows end q r) at
   unfolding reference
   reference-on first held end at o i =
       wp-place _ at
       (wp-after (number-on _ _ end at) λ r q x. wp-check _ _ λ t. wp-check _ _ λ u. wp-check _ _ λ v.
-      wp-weaken (target-on first r end q o i (omega arith)) (λ r p y. (omega arith, omega arith, y .2)))
+      wp-weaken (target-on first r end q o i (omega arith)) (λ r p y. (omega arith, omega arith, y .2, y .3)))
 
-  rest-on : (first held inner stop at : ℕ) → stop ≤ top → stop ≤ size → Wp (Inside N top size) (rest first size held inner stop) (λ r q. (inner < q) × (q ≤ stop) × Leads size (r .reference)) at
+  rest-on : (first held inner stop at : ℕ) → stop ≤ top → stop ≤ size → Wp (Inside N top size) (rest first size held inner stop) (λ r q. (inner < q) × (q ≤ stop) × Leads size (r .reference) × Follows stop q (r .reference)) at
   unfolding rest
   rest-on first held inner stop at o i =
       wp-after (unpackers-on held inner at) λ u q x.
       wp-place _ q (wp-check _ _ λ t.
-      wp-after (reference-on first held stop q o i) λ r p y. wp-ret (omega (arith, leb-true inner q t), omega arith, y .2))
+      wp-after (reference-on first held stop q o i) λ r p y. wp-ret (omega (arith, leb-true inner q t), omega arith, y .2, y .3))
 
 -- ---- the whole
 
@@ -113,6 +120,7 @@ pub record FrontIn (x : Context) (s : Standing) (m : Made) (at : ℕ) (w : Front
   pub start : w .row .start ≡ at
   pub header : w .row .header ≤ w .row .size
   pub leads : (w .row .reference ≡ 3) ⊎ (w .row .target + w .row .extent ≤ x .size)
+  pub follows : (w .row .reference ≡ 1) → (w .row .target ≡ q) × (w .row .extent ≡ at + w .row .size - q)
 
 pub front-on : (N : OfNames) (top : ℕ) (x : Context) (parent depth : ℕ) (s : Standing) (m : Made) (at : ℕ) → s .end .0 ≤ top → s .end .0 ≤ x .size
     → Wp (Inside N top (x .size)) (front x parent depth s m) (FrontIn x s m at) at
@@ -135,7 +143,30 @@ front-on N top x parent depth s m at o i =
       start = refl;
       header = y .2;
       leads = w .2;
+      follows = w .3;
     }))
+
+-- what its row passes lies in the node, at its target
+has-inline : (r : Node) → T (hasInline r) → r .reference ≡ 1
+has-inline r t = eqb→eq (r .reference) 1 (second (eqb (r .held) 0) (eqb (r .reference) 1) t)
+  where
+    second : (a b : Bool) → T (a && b) → T b
+    second true b t = t
+    second false b t = absurd t
+
+size-if : (c : Bool) (n k : ℕ) → (T c → n ≤ k) → sizeIf c n ≤ k
+size-if true n k h = h tt
+size-if false n k h = omega arith
+
+module _ {x : Context} {s : Standing} {m : Made} {at : ℕ} {w : Front} {q : ℕ} (y : FrontIn x s m at w q) where
+  pub inline-at : T (hasInline (w .row)) → w .row .target ≡ q
+  inline-at t = y .follows (has-inline (w .row) t) .0
+
+  pub inline-fits : q + inlineSize (w .row) ≤ at + w .row .size
+  inline-fits =
+      let i = y .inside in
+      let l = size-if (hasInline (w .row)) (w .row .extent) (at + w .row .size - q) (λ t. let z = y .follows (has-inline (w .row) t) .1 in omega arith) in
+      omega arith
 
 -- ---- the same of a run that is known
 

@@ -19,8 +19,8 @@ use Rattle.metadata.specs.declared.Limits.{Limits}
 use Rattle.tree.specs.Reading.{Reading, rows, refusal, readFile, nodeTable, itemTable}
 use Rattle.tree.specs.Rows.{itemAt}
 use Rattle.tree.specs.Asking.{Result, good, bad, ask, keptNodes, keptItems}
-use Rattle.tree.specs.Hidden.{isHidden, mayDiffer, DifferInHidden}
-use Rattle.tree.proofs.Demand.{Agree, Alike, RowAlike, hiddenData, hidden-alike, rows-alike}
+use Rattle.tree.specs.Hidden.{isHidden, mayDiffer, DifferInPrivate}
+use Rattle.tree.proofs.Demand.{Agree, Alike, RowAlike, privateData, private-alike, rows-alike}
 use Rattle.tree.proofs.Listed.{refusal-listed}
 use Rattle.find.specs.Find as find
 use Rattle.find.proofs.Depends.{find-same}
@@ -52,15 +52,15 @@ named : (r : Item) {X : Type 0} → (r .kind ≡ 0) ⊎ X → r .kind ≡ 1 → 
 named r (inl z) e = absurd (omega arith)
 named r (inr x) e = x
 
--- ---- the five questions of two files that differ in hidden data
+-- ---- the five questions of two files that differ at private places
 
-module _ (l : Lent) (f g : List ℕ) (h : Header) (ns : List Node) (is : List Item) (r : reads l f ≡ rows h ns is) (d : DifferInHidden is f g) where
-  alike : Alike hiddenData (limits (l .nodes) (l .items)) f g ns is
+module _ (l : Lent) (f g : List ℕ) (h : Header) (ns : List Node) (is : List Item) (r : reads l f ≡ rows h ns is) (d : DifferInPrivate h ns is f g) where
+  alike : Alike privateData (limits (l .nodes) (l .items)) f g ns is
   unfolding reads
-  alike = hidden-alike (limits (l .nodes) (l .items)) f g r d
+  alike = private-alike (limits (l .nodes) (l .items)) f g r d
 
-  row : (i : ℕ) → i < length is → RowAlike hiddenData f g (itemAt is i)
-  row = rows-alike hiddenData f g (limits (l .nodes) (l .items)) tt alike
+  row : (i : ℕ) → i < length is → RowAlike privateData f g (itemAt is i)
+  row = rows-alike privateData f g (limits (l .nodes) (l .items)) tt alike
 
   reads-same : reads l g ≡ reads l f
   unfolding reads
@@ -113,7 +113,7 @@ pub demand3 : Demand3
 demand3 q l f g h ns is r d = let e = reads-same l f g h ns is r d in (e ∙ r, outcome-alike l f g h ns is r d q, resource-there l f g (d .same-length) e)
 
 -- The same of two calls: whatever their buffers held, where each left what its contract says, both left the same.
-pub calls-alike : (q : Question) (l : Lent) (f g : List ℕ) (h : Header) (ns : List Node) (is : List Item) → reads l f ≡ rows h ns is → DifferInHidden is f g
+pub calls-alike : (q : Question) (l : Lent) (f g : List ℕ) (h : Header) (ns : List Node) (is : List Item) → reads l f ≡ rows h ns is → DifferInPrivate h ns is f g
     → {a a′ t t′ u u′ s s′ : List ℕ}
     → a ≡ outcome q l f .answer → t ≡ outcome q l f .nodes → u ≡ outcome q l f .items → s ≡ outcome q l f .sheet
     → a′ ≡ outcome q l g .answer → t′ ≡ outcome q l g .nodes → u′ ≡ outcome q l g .items → s′ ≡ outcome q l g .sheet

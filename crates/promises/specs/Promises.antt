@@ -10,7 +10,7 @@ use Rattle.header.specs.Header.{Header}
 use Rattle.metadata.specs.Tables.{limits, itemWords}
 use Rattle.tree.specs.Reading.{Reading, rows, refusal, readFile, nodeTable, itemTable}
 use Rattle.tree.specs.Asking.{Result, good, bad, ask, keptNodes, keptItems}
-use Rattle.tree.specs.Hidden.{DifferInHidden}
+use Rattle.tree.specs.Hidden.{DifferInPrivate}
 use Rattle.find.specs.Find as find
 use Rattle.resolve.specs.Resolve as resolve
 use Rattle.mobile.specs.Mobile as mobile
@@ -107,11 +107,12 @@ Demand1 = (q : Question) (l : Lent) (f : List ℕ)
 abbrev pub OnlyThere : (f g : List ℕ) (place : ℕ) (x y : List ℕ) → Type 0
 OnlyThere f g place x y = (length x ≡ length y) × ((k : ℕ) → k < length x → getD f (place + k) 0 ≡ getD g (place + k) 0 → getD x k 0 ≡ getD y k 0)
 
--- Demand 3. Two files of equal length, the first accepted with the tables lent, alike but for data bytes of its hidden contents in custom fields or in
--- standard fields other than 0, 3 and 13: the second is accepted too, every question leaves the same of both, to the last word and byte, and the part
--- that the second call of resolve gives, whose place is the third word of resolve's answer, differs only where the files do.
+-- Demand 3. Two files of equal length, the first accepted with the tables lent, that differ at private places of the first alone. These are: data bytes of
+-- hidden contents in custom fields or in standard fields other than 0, 3 and 13; inline data of file nodes; bytes outside header, tree and detached nodes.
+-- The second is accepted too, every question leaves the same of both, to the last word and byte, and the part that the second call of resolve gives, whose
+-- place is the third word of resolve's answer, differs only where the files do.
 abbrev pub Demand3 : Type 0
 Demand3 = (q : Question) (l : Lent) (f g : List ℕ) (h : Header) (ns : List Node) (is : List Item)
-    → reads l f ≡ rows h ns is → DifferInHidden is f g
+    → reads l f ≡ rows h ns is → DifferInPrivate h ns is f g
     → (reads l g ≡ rows h ns is) × (outcome q l g ≡ outcome q l f)
     × ((row : ℕ) → OnlyThere f g (getD (outcome (resolveRow row) l f .answer) 2 0) (resource row l f) (resource row l g))

@@ -4,7 +4,7 @@ use mathlib.Core.Path.{_≡_, refl}
 use mathlib.Core.Bool.{not, _&&_, _||_}
 use mathlib.Core.List.{List, [], _∷_, _++_}
 use Prim.Native.Nat.{ℕ}
-use lib.ListN.{length, take}
+use lib.ListN.{length, take, drop}
 use Rattle.cursor.specs.Machine.{Out, ok, refused, run, trace, rowsOf, _>>=_, _>>_, if_then_else_, place, skip, check, turns, many, times}
 use Rattle.cursor.specs.Rows.{fileFrame}
 use Rattle.cursor.specs.Leaves.{next, digits, number, block, manufacturer, guidBytes, guid}
@@ -49,6 +49,22 @@ workedSheet =
     ∷ 0x4E ∷ 0x09 ∷ 0x31 ∷ 0x09 ∷ 0x30 ∷ 0x09 ∷ 0x32 ∷ 0x09 ∷ 0x31 ∷ 0x09 ∷ 0x35 ∷ 0x34 ∷ 0x09 ∷ 0x32 ∷ 0x0A
     ∷ 0x4D ∷ 0x09 ∷ 0x31 ∷ 0x09 ∷ 0x43 ∷ 0x09 ∷ 0x61 ∷ 0x09 ∷ 0x30 ∷ 0x09 ∷ 0x30 ∷ 0x09 ∷ 0x48 ∷ 0x69 ∷ 0x0A
     ∷ 0x4D ∷ 0x09 ∷ 0x31 ∷ 0x09 ∷ 0x53 ∷ 0x09 ∷ 0x33 ∷ 0x09 ∷ 0x30 ∷ 0x09 ∷ 0x36 ∷ 0x09 ∷ 0x5C ∷ 0x30 ∷ 0x30 ∷ 0x5C ∷ 0x30 ∷ 0x30 ∷ 0x0A ∷ []
+
+-- the worked file with other inline data, which is its last two bytes
+abbrev pub withInline : ℕ → ℕ → List ℕ
+withInline a b = take 54 worked ++ a ∷ b ∷ []
+
+-- the worked file with one byte after the tree
+abbrev pub withTail : ℕ → List ℕ
+withTail b = take 16 worked ++ 0x39 ∷ drop 17 worked ++ b ∷ []
+
+-- its sheet, whose length is 57
+abbrev pub tailSheet : List ℕ
+tailSheet = take 10 workedSheet ++ 0x37 ∷ drop 11 workedSheet
+
+-- the worked file with another reference in its last node: the byte before the inline data
+abbrev pub withReference : ℕ → List ℕ
+withReference b = take 53 worked ++ b ∷ drop 54 worked
 
 -- ---- rows that stand alone
 
@@ -146,6 +162,12 @@ cases : (first (0x7F ∷ []) ≡ ok 127 1)
     × (ask (full worked) (mobile.mobile worked) ≡ good 7)
     × (ask (full worked) (sheet.write 100 worked) ≡ good workedSheet)
     × (ask (full worked) (sheet.write 20 worked) ≡ bad 22 0)
+    × (full (withInline 0x00 0xFF) ≡ full worked)
+    × (ask (full (withInline 0x00 0xFF)) (sheet.write 100 (withInline 0x00 0xFF)) ≡ good workedSheet)
+    × (full (withTail 0x00) ≡ full (withTail 0xFF))
+    × (ask (full (withTail 0x00)) (sheet.write 100 (withTail 0x00)) ≡ good tailSheet)
+    × (ask (full (withTail 0xFF)) (sheet.write 100 (withTail 0xFF)) ≡ good tailSheet)
+    × (full (withReference 0x05) ≡ refusal 13 53)
     × (ask (full worked) (find.find worked (find.custom (0x61 ∷ [])) 1)
     ≡ good (record { row = 0; item = record { node = 1; item = 0; kind = 1; field = 32; named = 1; version = 0; declared = 0; format = 0; place = 36; size = 2 } }))
     × (find.nearest [] (find.standard 9) family (title ∷ []) 1 ≡ good (record { row = 0; item = title }))
@@ -173,5 +195,5 @@ cases : (first (0x7F ∷ []) ≡ ok 127 1)
     × (nodesRead (small 28 13 19 (to 28 ++ holding)) ≡ bad 16 19)
     × (nodesRead (small 20 13 19 (to 14)) ≡ bad 16 19)
     × (nodesRead (small 27 20 26 (0x08 ∷ 0x00 ∷ 0x05 ∷ 0x00 ∷ 0x00 ∷ 0x01 ∷ 0xAA ∷ to 13)) ≡ bad 8 13)
-unfolding run trace rowsOf _>>=_ _>>_ if_then_else_ place skip check turns many times next digits number block manufacturer guidBytes guid formatOf either four opening edition fileLength entry typesTable extent header field contents itemFrame universal declaredFormat version rowsFor item nextItem metaItems metadata headerLength head value identifier unpacker entries unpackers resource nodePlace uriPlace target reference rest front tree.contents folder node tree.tree startsAt offsetAt lost logged outside partEnd takenFrom detachedAt reach follow tree.detached reading readTree readFile first full ask places nodesRead isHidden find.choose find.sameBytes find.matches find.among find.firstRow find.own find.look find.orElse find.climb find.nearest find.find resolve.if_then_else_ resolve.rowStarting resolve.named resolve.reached resolve.chain resolve.part mobile.all mobile.keepIf mobile.those mobile.isEmpty mobile.isField mobile.isBinary mobile.choose mobile.roleOfType mobile.roleOfNumber mobile.roleOfRow mobile.roleOfRows mobile.roleOf mobile.roles mobile.childRoles mobile.count mobile.rowOf mobile.rightEdition mobile.isFile mobile.filesOnly mobile.isPlain mobile.plainReferences mobile.isUnpacked mobile.noUnpackers mobile.childrenTyped mobile.tuneRow mobile.bankRow mobile.oneTune mobile.isNeed mobile.tuneNeeds mobile.isShort mobile.fieldSize mobile.isSmall mobile.smallFields mobile.check mobile.verdict mobile.mobile sheet.digits sheet.decimal sheet.hexDigit sheet.plain sheet.escaped sheet.escapedPart sheet.tabbed sheet.number sheet.versionText sheet.firstLine sheet.nodeLine sheet.label sheet.textOf sheet.itemLine sheet.visibleLine sheet.nodeLines sheet.itemLines sheet.linesOf sheet.sheetOf sheet.fitting sheet.write
-cases = (refl, refl, refl, refl, refl, refl, refl, refl, refl, refl, refl, refl, refl, refl, refl, refl, refl, refl, refl, refl, refl, refl, refl, refl, refl, refl, refl, refl, refl, refl, refl, refl, refl, refl, refl, refl, refl, refl, refl, refl, refl)
+unfolding run trace rowsOf _>>=_ _>>_ if_then_else_ place skip check turns many times next digits number block manufacturer guidBytes guid formatOf either four opening edition fileLength entry typesTable extent header field contents itemFrame universal declaredFormat version rowsFor item nextItem metaItems metadata headerLength head value identifier unpacker entries unpackers resource nodePlace uriPlace target reference rest front folder node tree.tree startsAt offsetAt lost logged outside partEnd takenFrom detachedAt reach follow tree.detached reading readTree readFile first full ask places nodesRead isHidden find.choose find.sameBytes find.matches find.among find.firstRow find.own find.look find.orElse find.climb find.nearest find.find resolve.if_then_else_ resolve.rowStarting resolve.named resolve.reached resolve.chain resolve.part mobile.all mobile.keepIf mobile.those mobile.isEmpty mobile.isField mobile.isBinary mobile.choose mobile.roleOfType mobile.roleOfNumber mobile.roleOfRow mobile.roleOfRows mobile.roleOf mobile.roles mobile.childRoles mobile.count mobile.rowOf mobile.rightEdition mobile.isFile mobile.filesOnly mobile.isPlain mobile.plainReferences mobile.isUnpacked mobile.noUnpackers mobile.childrenTyped mobile.tuneRow mobile.bankRow mobile.oneTune mobile.isNeed mobile.tuneNeeds mobile.isShort mobile.fieldSize mobile.isSmall mobile.smallFields mobile.check mobile.verdict mobile.mobile sheet.digits sheet.decimal sheet.hexDigit sheet.plain sheet.escaped sheet.escapedPart sheet.tabbed sheet.number sheet.versionText sheet.firstLine sheet.nodeLine sheet.label sheet.textOf sheet.itemLine sheet.visibleLine sheet.nodeLines sheet.itemLines sheet.linesOf sheet.sheetOf sheet.fitting sheet.write
+cases = (refl, refl, refl, refl, refl, refl, refl, refl, refl, refl, refl, refl, refl, refl, refl, refl, refl, refl, refl, refl, refl, refl, refl, refl, refl, refl, refl, refl, refl, refl, refl, refl, refl, refl, refl, refl, refl, refl, refl, refl, refl, refl, refl, refl, refl, refl, refl)

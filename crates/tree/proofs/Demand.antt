@@ -1,6 +1,6 @@
 -- The reading of a file depends on its frame bytes alone. Stated for any choice of what may differ among the bytes that are passed over: two files
--- that agree on every other byte of header, tree and detached nodes read alike. With everything free: the frame bytes alone decide. With hidden data free:
--- demand 3 for the first question. What the other questions use besides: custom names, and the data of rows that are not free, agree too.
+-- that agree on every other byte of header, tree and detached nodes read alike. With everything free: the frame bytes alone decide. With hidden data
+-- and inline data free: demand 3 for the first question. What the other questions use besides: custom names, and the data of rows that are not free, agree too.
 -- Assumes nothing.
 use mathlib.Core.Path.{_≡_, refl, sym, ap, ap₂, _∙_, subst}
 use mathlib.Core.Bool.{Bool, true, false, not, _&&_, _||_}
@@ -14,7 +14,7 @@ use borrow.Author.Tests.{ltb-true, ltb-false, leb-true, lt-ltb, eq-eqb}
 use lib.Dec.{T, eqb, ltb, leb}
 use lib.ListN.{length, getD, List·getD-eq-default, length-append}
 use Rattle.cursor.specs.Machine.{Out, ok, refused, Event, seen, passed, run, trace, rowsOf, _>>=_, _>>_, place}
-use Rattle.cursor.specs.Rows.{Frame, Part, nodeRow, itemRow, Plain, language, name, uri, inline, plain, P, Events}
+use Rattle.cursor.specs.Rows.{Frame, Part, nodeRow, itemRow, Plain, language, name, uri, plain, hasInline, P, Events}
 use Rattle.cursor.specs.declared.Node.{Node}
 use Rattle.cursor.specs.declared.Item.{Item}
 use Rattle.cursor.proofs.Laws.{rows-on}
@@ -33,8 +33,9 @@ use Rattle.node.specs.Node.{headerLength, head, front, loose}
 use Rattle.tree.specs.Tree.{tree, node, detached}
 use Rattle.tree.specs.Reading.{nodeOf, nodesOf, itemsOf, Result, good, bad, Reading, rows, refusal, madeBy, logged, lost, offsetAt, outside, partEnd, takenFrom, detachedAt, reach, follow, reading, context, readTree, readFile}
 use Rattle.tree.specs.Rows.{nodeAt, itemAt, if_then_else_}
-use Rattle.tree.specs.Hidden.{mayDiffer, Open, DifferInHidden}
+use Rattle.tree.specs.Hidden.{mayDiffer, HiddenData, InlineData, InDetached, InParts, Private, DifferInPrivate, DifferInHidden}
 use Rattle.tree.proofs.Ends.{tree-ends, detached-ends}
+use Rattle.tree.proofs.Nodes.{inline-is}
 use Rattle.tree.proofs.Starts.{OwnRow, detached-row, From, tree-from, detached-from}
 use Rattle.tree.proofs.Shown.{outside-is, part-is, header-of, log-shows, log-inside}
 use Rattle.tree.proofs.Follow.{never, stops, treeOf, target, Step, stepped, Reached, known, added, reached, followed, ReadAs, read-back}
@@ -139,7 +140,6 @@ module _ (free : Part → Bool) (f g : List ℕ) where
   names-agree u (passed (plain name) p n ∷ es) h = (h .0 u, names-agree u es (h .1))
   names-agree u (passed (plain language) p n ∷ es) h = (tt, names-agree u es (h .1))
   names-agree u (passed (plain uri) p n ∷ es) h = (tt, names-agree u es (h .1))
-  names-agree u (passed (plain inline) p n ∷ es) h = (tt, names-agree u es (h .1))
 
   -- what is alike of a row
   abbrev pub RowAlike : Item → Type 0
@@ -287,23 +287,16 @@ past-end f g e k h =
       | no n ↦ h (lt-of-not-le n)
     ]
 
--- what may differ: data of a hidden content
-abbrev pub hiddenData : Part → Bool
-hiddenData (nodeRow r) = false
-hiddenData (itemRow r) = mayDiffer r
-hiddenData (plain x) = false
+-- with any choice of what is free, files that agree on the other bytes of header, tree and detached nodes read alike; other bytes are no matter
+parts-alike : (free : Part → Bool) (lim : Limits) (f g : List ℕ) {h : Header} {ns : List Node} {is : List Item} → readFile lim f ≡ rows h ns is → length f ≡ length g → (a : ReadAs lim f h ns is)
+    → ((k : ℕ) → Parts free lim f h (nodesOf (a .log)) k → (Free free (trace (header (length f)) f 0 ++ a .log) k → ⊥) → getD f k 0 ≡ getD g k 0) → Alike free lim f g ns is
+parts-alike free lim f g {h} r l a agree = alike-kept free lim f g l r a (sound-kept free f g (trace (header (length f)) f 0 ++ a .log) (all-sound free lim f h a) agree)
 
-abbrev LiesIn : Item → ℕ → Type 0
-LiesIn r k = T (mayDiffer r) × (r .place ≤ k) × (k < r .place + r .size)
-
-open-free : (es : Events) (end size k : ℕ) → All (Inside Nothing end size .asks) es → (i : ℕ) → i < length (itemsOf es) → LiesIn (itemAt (itemsOf es) i) k → Free hiddenData es k
-unfolding rowsOf
-open-free [] end size k a i l h = absurd (omega arith)
-open-free (seen κ p ∷ es) end size k a i l h = open-free es end size k a i l h
-open-free (passed (nodeRow r) p n ∷ es) end size k a i l h = inr (open-free es end size k (a .1) i l h)
-open-free (passed (itemRow r) p n ∷ es) end size k a zero l h = let x = a .0 .0 in let y = a .0 .1 in inl (h .0, omega arith, omega arith)
-open-free (passed (itemRow r) p n ∷ es) end size k a (suc i) l h = inr (open-free es end size k (a .1) i (omega arith) h)
-open-free (passed (plain x) p n ∷ es) end size k a i l h = inr (open-free es end size k (a .1) i l h)
+-- what may differ of what is passed over: inline data of a file node, and hidden data
+abbrev pub privateData : Part → Bool
+privateData (nodeRow r) = hasInline r
+privateData (itemRow r) = mayDiffer r
+privateData (plain x) = false
 
 -- a free byte of the log is one of all
 free-behind : (free : Part → Bool) (es fs : Events) (k : ℕ) → Free free fs k → Free free (es ++ fs) k
@@ -311,18 +304,60 @@ free-behind free [] fs k x = x
 free-behind free (seen κ p ∷ es) fs k x = free-behind free es fs k x
 free-behind free (passed w p n ∷ es) fs k x = inr (free-behind free es fs k x)
 
-pub hidden-alike : (lim : Limits) (f g : List ℕ) {h : Header} {ns : List Node} {is : List Item} → readFile lim f ≡ rows h ns is → DifferInHidden is f g → Alike hiddenData lim f g ns is
-hidden-alike lim f g {h} {ns} {is} r d =
-    let a = read-back lim f r in
-    alike-kept hiddenData lim f g (d .same-length) r a
-    (sound-kept hiddenData f g (trace (header (length f)) f 0 ++ a .log) (all-sound hiddenData lim f h a) λ k i n.
-    past-end f g (d .same-length) k λ s. d .elsewhere k s λ o.
-    n (free-behind hiddenData (trace (header (length f)) f 0) (a .log) k (open-free (a .log) (length f) (length f) k (log-inside a) (o .0) (subst (λ v. o .0 < length v) (sym (a .items-are)) (o .1))
-    (subst (λ v. LiesIn (itemAt v (o .0)) k) (sym (a .items-are)) (o .2, o .3, o .4)))))
+-- hidden data is free in the log, and so is inline data
+hidden-free : (es : Events) (end size k : ℕ) → All (Inside Nothing end size .asks) es → HiddenData (itemsOf es) k → Free privateData es k
+unfolding rowsOf
+hidden-free [] end size k a (i, l, t, lo, hi) = absurd (omega arith)
+hidden-free (seen κ p ∷ es) end size k a h = hidden-free es end size k a h
+hidden-free (passed (nodeRow r) p n ∷ es) end size k a h = inr (hidden-free es end size k (a .1) h)
+hidden-free (passed (itemRow r) p n ∷ es) end size k a (zero, l, t, lo, hi) = let x = a .0 .0 in let y = a .0 .1 in inl (t, omega arith, omega arith)
+hidden-free (passed (itemRow r) p n ∷ es) end size k a (suc i, l, t, lo, hi) = inr (hidden-free es end size k (a .1) (i, omega arith, t, lo, hi))
+hidden-free (passed (plain x) p n ∷ es) end size k a h = inr (hidden-free es end size k (a .1) h)
 
--- two files that differ only in data bytes of the first's hidden contents: the second is accepted too, and reads the same
-pub demand3 : (lim : Limits) (f g : List ℕ) {h : Header} {ns : List Node} {is : List Item} → readFile lim f ≡ rows h ns is → DifferInHidden is f g → readFile lim g ≡ readFile lim f
-demand3 lim f g r d = hidden-alike lim f g r d .same-reading
+inline-free : (es : Events) (end size k : ℕ) → All (Inside Nothing end size .asks) es → InlineData (nodesOf es) k → Free privateData es k
+unfolding rowsOf
+inline-free [] end size k a (i, l, z, o, lo, hi) = absurd (omega arith)
+inline-free (seen κ p ∷ es) end size k a h = inline-free es end size k a h
+inline-free (passed (nodeRow r) p n ∷ es) end size k a (zero, l, z, o, lo, hi) =
+    let t : T (hasInline r) = simp (eq-eqb _ _ z, eq-eqb _ _ o) tt in
+    let e = a .0 .4 t in
+    let y : n ≡ r .extent = a .0 .3 ∙ inline-is r z o in
+    inl (t, omega arith, omega arith)
+inline-free (passed (nodeRow r) p n ∷ es) end size k a (suc i, l, z, o, lo, hi) = inr (inline-free es end size k (a .1) (i, omega arith, z, o, lo, hi))
+inline-free (passed (itemRow r) p n ∷ es) end size k a h = inr (inline-free es end size k (a .1) h)
+inline-free (passed (plain x) p n ∷ es) end size k a h = inr (inline-free es end size k (a .1) h)
+
+taken-at : (ns : List Node) (k : ℕ) → Taken ns k → InDetached ns k
+taken-at (r ∷ ns) k (inl x) = (0, omega arith, x .0, x .1, x .2)
+taken-at (r ∷ ns) k (inr y) = let z = taken-at ns k y in (suc (z .0), (let l = z .1 in omega arith), z .2, z .3, z .4)
+
+in-parts : (free : Part → Bool) (lim : Limits) (f : List ℕ) (h : Header) (ns : List Node) (k : ℕ) → Parts free lim f h ns k → InParts h ns k
+in-parts free lim f h ns k (inl x) = inl x
+in-parts free lim f h ns k (inr (inl x)) = inr (inl (x .0, (let l = x .1 in omega arith)))
+in-parts free lim f h ns k (inr (inr x)) = inr (inr (taken-at ns k x))
+
+-- a private place of a part that is read is free
+private-free : (lim : Limits) (f : List ℕ) {h : Header} {ns : List Node} {is : List Item} (a : ReadAs lim f h ns is) (k : ℕ)
+    → InParts h ns k → Private h ns is k → Free privateData (trace (header (length f)) f 0 ++ a .log) k
+private-free lim f a k i (inl o) = free-behind privateData (trace (header (length f)) f 0) (a .log) k (hidden-free (a .log) (length f) (length f) k (log-inside a) (subst (λ v. HiddenData v k) (sym (a .items-are)) o))
+private-free lim f a k i (inr (inl o)) = free-behind privateData (trace (header (length f)) f 0) (a .log) k (inline-free (a .log) (length f) (length f) k (log-inside a) (subst (λ v. InlineData v k) (sym (a .nodes-are)) o))
+private-free lim f a k i (inr (inr o)) = absurd (o i)
+
+-- files that differ at private places alone
+pub private-alike : (lim : Limits) (f g : List ℕ) {h : Header} {ns : List Node} {is : List Item} → readFile lim f ≡ rows h ns is → DifferInPrivate h ns is f g → Alike privateData lim f g ns is
+private-alike lim f g {h} {ns} {is} r d =
+    let a = read-back lim f r in
+    parts-alike privateData lim f g r (d .same-length) a λ k i n.
+    let j = in-parts privateData lim f h ns k (subst (λ v. Parts privateData lim f h v k) (a .nodes-are) i) in
+    past-end f g (d .same-length) k λ l. d .elsewhere k l λ o. n (private-free lim f a k j o)
+
+-- the second is accepted too, and reads the same
+pub demand3 : (lim : Limits) (f g : List ℕ) {h : Header} {ns : List Node} {is : List Item} → readFile lim f ≡ rows h ns is → DifferInPrivate h ns is f g → readFile lim g ≡ readFile lim f
+demand3 lim f g r d = private-alike lim f g r d .same-reading
+
+-- files that differ in hidden data alone are among these
+pub hidden-private : {h : Header} {ns : List Node} {is : List Item} {f g : List ℕ} → DifferInHidden is f g → DifferInPrivate h ns is f g
+hidden-private d = record { same-length = d .same-length; elsewhere = λ k l o. d .elsewhere k l λ x. o (inl x) }
 
 -- ---- the frame bytes alone
 
@@ -341,9 +376,3 @@ seen-kept f g (passed w p n ∷ es) h = (λ u. absurd u, seen-kept f g es h)
 pub frames-decide : (lim : Limits) (f g : List ℕ) {h : Header} {ns : List Node} {is : List Item} (r : readFile lim f ≡ rows h ns is) → length f ≡ length g
     → ((k : ℕ) → Seen (trace (header (length f)) f 0 ++ read-back lim f r .log) k → getD f k 0 ≡ getD g k 0) → readFile lim g ≡ readFile lim f
 frames-decide lim f g r l agree = alike-kept (λ _. true) lim f g l r (read-back lim f r) (seen-kept f g (trace (header (length f)) f 0 ++ read-back lim f r .log) agree) .same-reading
-
--- ---- E13: with any choice of what is free, files that agree on the other bytes of header, tree and detached nodes read alike; the bytes outside these are no matter
-
-pub parts-decide : (free : Part → Bool) (lim : Limits) (f g : List ℕ) {h : Header} {ns : List Node} {is : List Item} (r : readFile lim f ≡ rows h ns is) → length f ≡ length g
-    → ((k : ℕ) → Parts free lim f h (nodesOf (read-back lim f r .log)) k → (Free free (trace (header (length f)) f 0 ++ read-back lim f r .log) k → ⊥) → getD f k 0 ≡ getD g k 0) → readFile lim g ≡ readFile lim f
-parts-decide free lim f g {h} r l agree = let a = read-back lim f r in alike-kept free lim f g l r a (sound-kept free f g (trace (header (length f)) f 0 ++ a .log) (all-sound free lim f h a) agree) .same-reading

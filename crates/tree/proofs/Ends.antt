@@ -6,10 +6,9 @@ use mathlib.Core.List.{List}
 use Prim.Native.Nat.{ℕ, zero, suc, _+_, _-_, _≤_, _<_}
 use native.Mathlib.Omega.{arith}
 use borrow.Author.Tests.{leb-true}
-use lib.Dec.{eqb}
-use Rattle.cursor.specs.Machine.{ok, run, trace, _>>_, if_then_else_, skip, times}
-use Rattle.cursor.specs.Rows.{nodeRow, P}
-use Rattle.cursor.proofs.Wp.{Wp, All, at-end, asked, given, wp-after, wp-weaken, wp-ret, wp-refuse, wp-here, wp-if, wp-check, wp-place, wp-skip, wp-times}
+use Rattle.cursor.specs.Machine.{ok, run, trace, _>>_, skip, times}
+use Rattle.cursor.specs.Rows.{nodeRow, inlineSize, P}
+use Rattle.cursor.proofs.Wp.{Wp, All, at-end, asked, given, wp-after, wp-weaken, wp-ret, wp-refuse, wp-here, wp-check, wp-place, wp-skip, wp-times}
 use Rattle.metadata.specs.Tables.{plusNode}
 use Rattle.metadata.specs.Metadata.{Context}
 use Rattle.metadata.specs.declared.Made.{Made}
@@ -17,14 +16,10 @@ use Rattle.metadata.proofs.Ends.{OfNames, Nothing, Given, inside-free, Inside}
 use Rattle.node.specs.Node.{inTree, loose}
 use Rattle.node.specs.declared.Standing.{Standing}
 use Rattle.node.specs.declared.Front.{Front}
-use Rattle.node.proofs.Ends.{FrontIn, front-on}
-use Rattle.tree.specs.Tree.{contents, folder, node, tree, detached}
+use Rattle.node.proofs.Ends.{FrontIn, front-on, inline-at, inline-fits}
+use Rattle.tree.specs.Tree.{folder, node, tree, detached}
 
 module _ (N : OfNames) (top size : ℕ) where
-  pub contents-fill : (reference end : ℕ) (m : Made) (at : ℕ) → end ≤ top → at ≤ end → Wp (Inside N top size) (contents reference end m) (λ _ q. q ≡ end) at
-  unfolding contents
-  contents-fill reference end m at o h = wp-place _ at (wp-check _ _ λ t. wp-skip _ _ (omega arith) (λ _. wp-ret (omega arith)))
-
   pub folder-fills : {children : P Made} {end at : ℕ} → Wp (Inside N top size) children (λ _ q. q ≤ end) at → Wp (Inside N top size) (folder end children) (λ _ q. q ≡ end) at
   unfolding folder
   folder-fills {end = end} w = wp-after w λ m q h. wp-place _ q (wp-check _ _ λ t. wp-ret (omega (arith, leb-true end q t)))
@@ -32,12 +27,10 @@ module _ (N : OfNames) (top size : ℕ) where
 -- a node's row, and what it holds, which fills it
 pub held-fills : (N : OfNames) (top d : ℕ) (x : Context) (s : Standing) (m : Made) (at : ℕ) (w : Front) (q : ℕ) → s .end .0 ≤ top → FrontIn x s m at w q
     → ((t : Made) (p : ℕ) → p ≤ at + w .row .size → Wp (Inside N top (x .size)) (node d x (m .nodes) (inTree 0 (at + w .row .size)) t) (λ _ v. (p ≤ v) × (v ≤ at + w .row .size)) p)
-    → Wp (Inside N top (x .size)) (skip (nodeRow (w .row)) 0 >> if eqb (w .row .held) 0 then contents (w .row .reference) (at + w .row .size) (plusNode (w .made))
-    else folder (at + w .row .size) (times (w .row .held) (node d x (m .nodes) (inTree 0 (at + w .row .size))) (plusNode (w .made)))) (λ _ v. v ≡ at + w .row .size) q
+    → Wp (Inside N top (x .size)) (skip (nodeRow (w .row)) (inlineSize (w .row)) >> folder (at + w .row .size) (times (w .row .held) (node d x (m .nodes) (inTree 0 (at + w .row .size))) (plusNode (w .made)))) (λ _ v. v ≡ at + w .row .size) q
 held-fills N top d x s m at w q o y children =
-    let a = y .within in let b = y .inside in let e = y .start in
-    wp-skip _ _ (y .header, omega arith, y .leads) (λ _.
-    wp-if (λ t. contents-fill N top (x .size) _ (at + w .row .size) _ (q + 0) (omega arith) (omega arith)) λ t.
+    let a = y .within in let b = y .inside in let e = y .start in let c = inline-fits y in
+    wp-skip _ _ (y .header, omega arith, y .leads, refl, inline-at y) (λ _.
     folder-fills N top (x .size)
     (wp-weaken (wp-times (λ _. Unit {0}) (w .row .held) _ (λ t p l j. wp-weaken (children t p l) (λ _ v z. (tt, z .0, z .1))) tt (omega arith)) (λ _ v z. z .2)))
 

@@ -15,7 +15,7 @@ use Rattle.cursor.specs.Rows.{P, Events}
 use Rattle.cursor.specs.declared.Node.{Node}
 use Rattle.cursor.specs.declared.Item.{Item}
 use Rattle.cursor.proofs.Laws.{rows-on}
-use Rattle.cursor.proofs.Wp.{Wp, at-end, wp-after, wp-weaken, wp-ret, wp-refuse, wp-here, wp-if, wp-check, wp-place, wp-skip, wp-times}
+use Rattle.cursor.proofs.Wp.{Wp, at-end, wp-after, wp-weaken, wp-ret, wp-refuse, wp-here, wp-check, wp-place, wp-skip, wp-times}
 use Rattle.cursor.proofs.Order.{in-order}
 use Rattle.header.specs.Header.{Header}
 use Rattle.metadata.specs.Metadata.{Context}
@@ -24,8 +24,8 @@ use Rattle.metadata.specs.declared.Made.{Made}
 use Rattle.metadata.proofs.Ends.{Nothing, inside-free, Inside}
 use Rattle.node.specs.Node.{inTree, loose}
 use Rattle.node.specs.declared.Standing.{Standing}
-use Rattle.node.proofs.Ends.{FrontIn, front-on}
-use Rattle.tree.specs.Tree.{contents, folder, node, tree, detached}
+use Rattle.node.proofs.Ends.{FrontIn, front-on, inline-at, inline-fits}
+use Rattle.tree.specs.Tree.{folder, node, tree, detached}
 use Rattle.tree.specs.Reading.{nodeOf, nodesOf, good, madeBy, startsAt, lost, partEnd, detachedAt, context, rows, readFile}
 use Rattle.tree.specs.Rows.{noNode, nodeAt}
 use Rattle.tree.proofs.Starts.{counted, detached-row}
@@ -36,10 +36,6 @@ use Rattle.tree.proofs.Follow.{treeOf, target, Reached, known, added, f
 -- ---- no more rows than the limit
 
 module _ (top size : ℕ) where
-  contents-keeps : (reference end : ℕ) (m : Made) (at : ℕ) → end ≤ top → at ≤ end → Wp (Inside Nothing top size) (contents reference end m) (λ m′ q. (m′ ≡ m) × (q ≡ end)) at
-  unfolding contents
-  contents-keeps reference end m at o h = wp-place _ at (wp-check _ _ λ t. wp-skip _ _ (omega arith) (λ _. wp-ret (refl, omega arith)))
-
   folder-keeps : (I : Made → Type 0) {children : P Made} {end at : ℕ} → Wp (Inside Nothing top size) children (λ m′ q. I m′ × (q ≤ end)) at → Wp (Inside Nothing top size) (folder end children) (λ m′ q. I m′ × (q ≡ end)) at
   unfolding folder
   folder-keeps I {end = end} w = wp-after w λ m q h. wp-place _ q (wp-check _ _ λ t. wp-ret (h .0, let l = h .1 in omega (arith, leb-true end q t)))
@@ -52,9 +48,8 @@ node-few top (suc d) x parent s m at o i =
     wp-place _ at (wp-check _ _ λ t₁.
     let l = ltb-true (m .nodes) (x .limits .nodes) t₁ in
     wp-after (front-on Nothing top x parent (16 - d) s m at o i) λ w q y.
-    let a = y .within in let b = y .inside in let e = y .start in let g = y .moves in let n = y .nodes in
-    wp-skip _ _ (y .header, omega arith, y .leads) (λ _.
-    wp-if (λ t. wp-weaken (contents-keeps top (x .size) _ (at + w .row .size) _ (q + 0) (omega arith) (omega arith)) (λ m′ v z. (rw (z .0) (omega arith), let k = z .1 in omega arith, let k = z .1 in omega arith))) λ t.
+    let a = y .within in let b = y .inside in let e = y .start in let g = y .moves in let n = y .nodes in let j = inline-fits y in
+    wp-skip _ _ (y .header, omega arith, y .leads, refl, inline-at y) (λ _.
     wp-weaken
     (folder-keeps top (x .size) (λ m′. m′ .nodes ≤ x .limits .nodes)
     (wp-weaken (wp-times (λ m′. m′ .nodes ≤ x .limits .nodes) (w .row .held) _ (λ t p j k. wp-weaken (node-few top d x (m .nodes) (inTree 0 (at + w .row .size)) t p (omega arith) (omega arith)) (λ _ v z. (z .0, z .1, z .2))) (omega arith) (omega arith)) (λ m′ v z. (z .0, z .2))))

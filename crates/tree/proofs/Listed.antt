@@ -10,7 +10,7 @@ use lib.ListN.{length}
 use Rattle.cursor.specs.Machine.{Out, ok, refused, run, trace}
 use Rattle.cursor.specs.Rows.{P, Events}
 use Rattle.cursor.specs.declared.Node.{Node}
-use Rattle.cursor.proofs.Listed.{InList, Listed, refused-listed, after, ends, stops, at-place, either, checks, places, passes, counts}
+use Rattle.cursor.proofs.Listed.{InList, Listed, refused-listed, after, ends, stops, at-place, checks, places, passes, counts}
 use Rattle.header.specs.Header.{Header, header}
 use Rattle.header.proofs.Listed.{header-listed}
 use Rattle.metadata.specs.Metadata.{Context}
@@ -19,15 +19,11 @@ use Rattle.metadata.specs.declared.Made.{Made}
 use Rattle.node.specs.Node.{inTree, loose}
 use Rattle.node.specs.declared.Standing.{Standing}
 use Rattle.node.proofs.Listed.{front-listed}
-use Rattle.tree.specs.Tree.{contents, folder, node, tree, detached}
+use Rattle.tree.specs.Tree.{folder, node, tree, detached}
 use Rattle.tree.specs.Rows.{nodeAt, if_then_else_}
 use Rattle.tree.specs.Reading.{nodesOf, Result, good, bad, Reading, rows, refusal, logged, lost, offsetAt, outside, detachedAt, reach, follow, reading, context, readTree, readFile}
 
 -- ---- the tree
-
-contents-listed : (reference end : ℕ) (m : Made) → Listed (contents reference end m)
-unfolding contents
-contents-listed reference end m = places λ p. checks _ _ _ (omega arith, omega arith) (passes _ _ ends)
 
 folder-listed : (end : ℕ) {children : P Made} → Listed children → Listed (folder end children)
 unfolding folder
@@ -39,8 +35,7 @@ node-listed zero x parent s m = at-place λ p. stops (omega arith, omega arith)
 node-listed (suc d) x parent s m =
     places λ p. checks _ _ _ (omega arith, omega arith)
     (after (front-listed x parent (16 - d) s m) λ w. passes _ _
-    (either _ (contents-listed _ _ _)
-    (folder-listed _ (counts (w .row .held) _ (λ t. node-listed d x (m .nodes) (inTree 0 (p + w .row .size)) t)))))
+    (folder-listed _ (counts (w .row .held) _ (λ t. node-listed d x (m .nodes) (inTree 0 (p + w .row .size)) t))))
 
 pub tree-listed : (x : Context) (end : ℕ) → Listed (tree x end)
 unfolding tree

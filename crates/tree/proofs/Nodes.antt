@@ -3,14 +3,13 @@
 use mathlib.Core.Path.{_≡_, refl, sym, ap, _∙_}
 use mathlib.Core.List.{List}
 use Prim.Native.Nat.{ℕ, zero, suc, _+_, _-_, _*_, _≤_, _<_}
-use native.Mathlib.Nat.{add-zero}
 use native.Mathlib.Omega.{arith}
 use borrow.Author.Tests.{lt-ltb, le-ltb, le-leb, lt-leb, eq-eqb, ne-eqb}
-use lib.Dec.{eqb}
 use lib.ListN.{length}
 use lib.Seq.{sets}
-use Rattle.cursor.specs.Machine.{ok, refused, exec, if_then_else_, times}
-use Rattle.cursor.specs.Rows.{nodeRow}
+use Rattle.cursor.specs.Machine.{ret, ok, refused, exec, times}
+use Rattle.cursor.specs.Rows.{nodeRow, inlineSize}
+use Rattle.cursor.specs.declared.Node.{Node}
 use Rattle.cursor.specs.declared.Cursor.{Cursor}
 use Rattle.cursor.specs.declared.FilePlace.{FilePlace}
 use Rattle.cursor.proofs.Laws.{executing, andThen, ran, exec-times, exec-timed}
@@ -28,23 +27,31 @@ use Rattle.node.specs.Node.{inTree, front}
 use Rattle.node.specs.declared.Standing.{Standing}
 use Rattle.node.specs.declared.Front.{Front}
 use Rattle.node.proofs.Ends.{front-inside}
-use Rattle.tree.specs.Tree.{contents, folder, node, tree}
+use Rattle.tree.specs.Tree.{folder, node, tree}
 use Rattle.tree.proofs.Ends.{node-on}
 
--- ---- contents
+-- ---- inline data
 
-module _ (reference end : ℕ) (m : Made) (s : List ℕ) (at : ℕ) (σ : State) (l : at ≤ end) where
-  pub contents-inline : reference ≡ 1 → ok (m, σ) end ≡ exec put (contents reference end m) s at σ
-  unfolding contents
-  contents-inline e = let k : at + (end - at) ≡ end = omega arith in simp (executing, eq-eqb _ _ e, k)
+module _ (r : Node) where
+  pub inline-is : r .held ≡ 0 → r .reference ≡ 1 → inlineSize r ≡ r .extent
+  inline-is z o = simp (eq-eqb _ _ z, eq-eqb _ _ o)
 
-  pub contents-left : ((reference ≡ 1) → ⊥) → at < end → refused 15 at ≡ exec put (contents reference end m) s at σ
-  unfolding contents
-  contents-left n h = simp (executing, ne-eqb _ _ n, lt-leb _ _ h)
+  pub inline-other : r .held ≡ 0 → ((r .reference ≡ 1) → ⊥) → inlineSize r ≡ 0
+  inline-other z o = simp (eq-eqb _ _ z, ne-eqb _ _ o)
 
-  pub contents-none : ((reference ≡ 1) → ⊥) → end ≤ at → ok (m, σ) end ≡ exec put (contents reference end m) s at σ
-  unfolding contents
-  contents-none n h = let k : at + (end - at) ≡ end = omega arith in simp (executing, ne-eqb _ _ n, le-leb _ _ h, k)
+  pub inline-folder : ((r .held ≡ 0) → ⊥) → inlineSize r ≡ 0
+  inline-folder z = simp (ne-eqb _ _ z)
+
+-- ---- the end of a node
+
+module _ (end : ℕ) (m : Made) (s : List ℕ) (at : ℕ) (σ : State) where
+  pub end-left : at < end → refused 15 at ≡ exec put (folder end (ret m)) s at σ
+  unfolding folder
+  end-left h = simp (executing, lt-leb _ _ h)
+
+  pub end-reached : end ≤ at → ok (m, σ) at ≡ exec put (folder end (ret m)) s at σ
+  unfolding folder
+  end-reached h = simp (executing, le-leb _ _ h)
 
 -- ---- a node
 
@@ -67,48 +74,44 @@ module _ (x : Context) (parent : ℕ) (z : Standing) (m : Made) (s : List ℕ) (
   -- past its front, with its row made
   node-in : (levels : ℕ) (σ : State) → ((levels ≡ 0) → ⊥) → m .nodes < x .limits .nodes → {w : Front} {τ : State} {p : ℕ} → exec put (front x parent (17 - levels) z m) s at σ ≡ ok (w, τ) p
       → exec put (node levels x parent z m) s at σ
-      ≡ exec put (if eqb (w .row .held) 0 then contents (w .row .reference) (at + w .row .size) (plusNode (w .made)) else folder (at + w .row .size) (times (w .row .held) (node (levels - 1) x (m .nodes) (inTree 0 (at + w .row .size))) (plusNode (w .made))))
-      s p (put (nodeRow (w .row)) p 0 τ)
+      ≡ exec put (folder (at + w .row .size) (times (w .row .held) (node (levels - 1) x (m .nodes) (inTree 0 (at + w .row .size))) (plusNode (w .made))))
+      s (p + inlineSize (w .row)) (put (nodeRow (w .row)) p (inlineSize (w .row)) τ)
   unfolding node
   node-in zero σ some l e = absurd (some refl)
   node-in (suc d) σ some l e =
       let a : suc d - 1 ≡ d = omega arith in
       let b : 17 - suc d ≡ 16 - d = omega arith in
       let e′ = rw b at e in
-      simp (executing, lt-ltb _ _ l, e′, a, add-zero)
+      simp (executing, lt-ltb _ _ l, e′, a)
 
   module _ (levels : ℕ) (some : (levels ≡ 0) → ⊥) (l : m .nodes < x .limits .nodes) (i : z .end .0 ≤ x .size) (t u u′ : List ℕ) {w : Front} {p : ℕ}
       (e : exec put (front x parent (17 - levels) z m) s at (state t u m) ≡ ok (w, state t u′ (w .made)) p)
-      (t′ : List ℕ) (row : t′ ≡ sets t (m .nodes * 13) (nodeWords (w .row))) {stop : ℕ} (is : stop ≡ at + w .row .size) where
+      (t′ : List ℕ) (row : t′ ≡ sets t (m .nodes * 13) (nodeWords (w .row))) {stop : ℕ} (is : stop ≡ at + w .row .size) {q : ℕ} (past : q ≡ p + inlineSize (w .row)) where
     row-is : sets t (w .made .nodes * 13) (nodeWords (w .row)) ≡ t′
     row-is = ap (λ k. sets t (k * 13) (nodeWords (w .row))) (front-inside x parent (17 - levels) z m s at (state t u m) i e .nodes) ∙ sym row
 
-    pub node-file : w .row .held ≡ 0 → {r : Walked} → Gives (x .limits) r t′ u′ (exec put (contents (w .row .reference) stop (plusNode (w .made))) s p (state t′ u′ (plusNode (w .made))))
-        → Gives (x .limits) r t′ u′ (exec put (node levels x parent z m) s at (state t u m))
-    node-file none {r} g =
-        let y : exec put (node levels x parent z m) s at (state t u m) ≡ exec put (contents (w .row .reference) stop (plusNode (w .made))) s p (state t′ u′ (plusNode (w .made))) =
-        rw is (node-in levels (state t u m) some l e ∙ simp (eq-eqb _ _ none, executing, row-is)) in
+    -- the node behind its row
+    node-rest : exec put (node levels x parent z m) s at (state t u m)
+        ≡ exec put (folder stop (times (w .row .held) (node (levels - 1) x (m .nodes) (inTree 0 stop)) (plusNode (w .made)))) s q (state t′ u′ (plusNode (w .made)))
+    node-rest = rw (is, past) (node-in levels (state t u m) some l e ∙ simp (executing, row-is))
+
+    pub node-children : {n v : ℕ} → exec put (times (w .row .held) (node (levels - 1) x (m .nodes) (inTree 0 stop)) (plusNode (w .made))) s q (state t′ u′ (plusNode (w .made))) ≡ refused n v
+        → refused n v ≡ exec put (node levels x parent z m) s at (state t u m)
+    unfolding folder
+    node-children h = sym (node-rest ∙ simp (executing, h))
+
+    pub node-held : {m′ : Made} {t″ u″ : List ℕ} {v : ℕ}
+        → exec put (times (w .row .held) (node (levels - 1) x (m .nodes) (inTree 0 stop)) (plusNode (w .made))) s q (state t′ u′ (plusNode (w .made))) ≡ ok (m′, state t″ u″ m′) v
+        → {lim : Limits} {r : Walked} → Gives lim r t″ u″ (exec put (folder stop (ret m′)) s v (state t″ u″ m′)) → Gives lim r t″ u″ (exec put (node levels x parent z m) s at (state t u m))
+    unfolding folder
+    node-held {m′} {t″} {u″} {v} h g =
+        let y : exec put (node levels x parent z m) s at (state t u m) ≡ exec put (folder stop (ret m′)) s v (state t″ u″ m′) = node-rest ∙ simp (executing, h) in
         rw y g
 
-    module _ (some-held : (w .row .held ≡ 0) → ⊥) where
-      node-folder : exec put (node levels x parent z m) s at (state t u m)
-          ≡ exec put (folder stop (times (w .row .held) (node (levels - 1) x (m .nodes) (inTree 0 stop)) (plusNode (w .made)))) s p (state t′ u′ (plusNode (w .made)))
-      node-folder = rw is (node-in levels (state t u m) some l e ∙ simp (ne-eqb _ _ some-held, executing, row-is))
-
-      pub node-children : {n q : ℕ} → exec put (times (w .row .held) (node (levels - 1) x (m .nodes) (inTree 0 stop)) (plusNode (w .made))) s p (state t′ u′ (plusNode (w .made))) ≡ refused n q
-          → refused n q ≡ exec put (node levels x parent z m) s at (state t u m)
-      unfolding folder
-      node-children h = sym (node-folder ∙ simp (executing, h))
-
-      pub node-left : {m′ : Made} {σ : State} {q : ℕ} → exec put (times (w .row .held) (node (levels - 1) x (m .nodes) (inTree 0 stop)) (plusNode (w .made))) s p (state t′ u′ (plusNode (w .made))) ≡ ok (m′, σ) q
-          → q < stop → refused 15 q ≡ exec put (node levels x parent z m) s at (state t u m)
-      unfolding folder
-      node-left h k = sym (node-folder ∙ simp (executing, h, lt-leb _ _ k))
-
-      pub node-all : {m′ : Made} {σ : State} {q : ℕ} → exec put (times (w .row .held) (node (levels - 1) x (m .nodes) (inTree 0 stop)) (plusNode (w .made))) s p (state t′ u′ (plusNode (w .made))) ≡ ok (m′, σ) q
-          → stop ≤ q → ok (m′, σ) q ≡ exec put (node levels x parent z m) s at (state t u m)
-      unfolding folder
-      node-all h k = sym (node-folder ∙ simp (executing, h, le-leb _ _ k))
+    -- a file node has no children
+    pub node-file : w .row .held ≡ 0 → {lim : Limits} {r : Walked} → Gives lim r t′ u′ (exec put (folder stop (ret (plusNode (w .made)))) s q (state t′ u′ (plusNode (w .made))))
+        → Gives lim r t′ u′ (exec put (node levels x parent z m) s at (state t u m))
+    node-file none g = node-held (exec-timed put s (w .row .held) q _ (plusNode (w .made)) (state t′ u′ (plusNode (w .made))) none) g
 
 -- ---- nodes one after the other
 

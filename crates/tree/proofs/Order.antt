@@ -12,7 +12,7 @@ use Rattle.cursor.specs.declared.Node.{Node}
 use Rattle.cursor.specs.declared.Item.{Item}
 use Rattle.cursor.proofs.Wp.{at-end}
 use Rattle.cursor.proofs.Leaves.{any-free}
-use Rattle.cursor.proofs.Order.{Orders, Ordered, Made, ordered-on, in-order, after, weaken, ends, stops, at-place, either, checks, places, passes-node, passes-plain, counts}
+use Rattle.cursor.proofs.Order.{Orders, Ordered, Made, ordered-on, in-order, after, weaken, ends, stops, at-place, checks, places, passes-node, counts}
 use Rattle.header.specs.Header.{Header, header}
 use Rattle.header.proofs.Ends.{header-on}
 use Rattle.metadata.specs.Metadata.{Context}
@@ -21,7 +21,7 @@ use Rattle.metadata.specs.declared.Made as made
 use Rattle.node.specs.Node.{inTree, loose}
 use Rattle.node.specs.declared.Standing.{Standing}
 use Rattle.node.proofs.Order.{front-orders}
-use Rattle.tree.specs.Tree.{contents, folder, node, tree, detached}
+use Rattle.tree.specs.Tree.{folder, node, tree, detached}
 use Rattle.tree.specs.Reading.{nodesOf, itemsOf, good, madeBy, detachedAt, rows, readFile}
 use Rattle.tree.specs.Rows.{nodeAt}
 use Rattle.tree.proofs.Starts.{counted}
@@ -33,10 +33,6 @@ use Rattle.tree.proofs.Follow.{treeOf, Reached, known, added, followed,
 abbrev pub Above : ℕ → made.Made → ℕ → ℕ → Type 0
 Above n m k c = (k ≡ m .nodes) × (c ≡ 0) × (n < m .nodes)
 
-contents-order : (n reference end : ℕ) (m : made.Made) (k c : ℕ) → Above n m k c → Orders (contents reference end m) (Above n) k c
-unfolding contents
-contents-order n reference end m k c i = places λ p. checks _ _ _ (passes-plain _ _ (ends i))
-
 folder-orders : (n end : ℕ) {children : P made.Made} {k c : ℕ} → Orders children (Above n) k c → Orders (folder end children) (Above n) k c
 unfolding folder
 folder-orders n end w = after w λ m k c i. places λ q. checks _ _ _ (ends i)
@@ -47,12 +43,11 @@ node-orders zero x parent s m k c a b before = at-place λ p. stops
 node-orders (suc d) x parent s m k c a b before =
     rw (a, b) (places λ p. checks _ _ _
     (after (front-orders x parent (16 - d) s m) λ w k c i.
-    passes-node (w .row) 0 (i .2) (let a = i .0 in let b = i .3 in omega arith)
-    (either _ (contents-order (m .nodes) _ _ _ (k + 1) 0 (omega arith, refl, omega arith))
+    passes-node (w .row) _ (i .2) (let a = i .0 in let b = i .3 in omega arith)
     (folder-orders (m .nodes) _
     (counts (Above (m .nodes)) (w .row .held) _
     (λ t k′ c′ j. weaken (node-orders d x (m .nodes) (inTree 0 (p + w .row .size)) t k′ c′ (j .0) (j .1) (let z = j .2 in omega arith)) (λ s′ k″ c″ l. (l .0, l .1, omega arith)))
-    (omega arith, refl, omega arith))))))
+    (omega arith, refl, omega arith)))))
 
 pub tree-orders : (x : Context) (end : ℕ) → Orders (tree x end) (Above 0) 0 0
 unfolding tree

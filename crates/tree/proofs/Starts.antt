@@ -6,8 +6,8 @@ use mathlib.Core.List.{List, [], _∷_, _++_, append-assoc}
 use Prim.Native.Nat.{ℕ, zero, suc, _+_, _-_, _≤_, _<_}
 use native.Mathlib.Omega.{arith}
 use lib.ListN.{length, getD}
-use Rattle.cursor.specs.Machine.{ret, refuse, here, byte, pass, ok, seen, passed, run, trace, rowsOf, _>>=_, _>>_, if_then_else_, place, skip, check, times}
-use Rattle.cursor.specs.Rows.{nodeRow, itemRow, plain, P, Events}
+use Rattle.cursor.specs.Machine.{ret, refuse, here, byte, pass, ok, seen, passed, run, trace, rowsOf, _>>=_, _>>_, place, skip, check, times}
+use Rattle.cursor.specs.Rows.{nodeRow, itemRow, plain, inlineSize, P, Events}
 use Rattle.cursor.specs.declared.Node.{Node}
 use Rattle.cursor.proofs.Stable.{ends, at-least}
 use Rattle.cursor.proofs.Wp.{Wp, at-end, wp-weaken}
@@ -22,7 +22,7 @@ use Rattle.node.specs.declared.Standing.{Standing}
 use Rattle.node.specs.declared.Front.{Front}
 use Rattle.node.proofs.Ends.{FrontIn, front-on}
 use Rattle.node.proofs.Order.{front-orders}
-use Rattle.tree.specs.Tree.{contents, folder, node, tree, detached}
+use Rattle.tree.specs.Tree.{folder, node, tree, detached}
 use Rattle.tree.specs.Reading.{nodeOf, nodesOf}
 use Rattle.tree.specs.Rows.{nodeAt, Rising}
 
@@ -116,11 +116,6 @@ module _ (b : ℕ) (f : List ℕ) where
   checks true n p h = h
   checks false n p h = record { rises = λ e. let z : _≡_ {A = ℕ} 0 1 = cc in absurd (omega arith) }
 
-  either : (c : Bool) {A : Type 0} {m n : P A} {at : ℕ} → Rises b f m at → Rises b f n at → Rises b f (if c then m else n) at
-  unfolding if_then_else_
-  either true h k = h
-  either false h k = k
-
   times-rise : {A : Type 0} (n : ℕ) {body : A → P A} (s : A) (at : ℕ) → ((s : A) (p : ℕ) → Rises b f (body s) p) → Rises b f (times n body s) at
   unfolding times
   times-rise zero s at step = rowless _ at λ k c. order.ends (refl, refl)
@@ -128,21 +123,17 @@ module _ (b : ℕ) (f : List ℕ) where
 
   -- ---- the tree
 
-  contents-rises : (reference end : ℕ) (m : Made) (at : ℕ) → Rises b f (contents reference end m) at
-  unfolding contents
-  contents-rises reference end m at = rowless _ at λ k c. order.places λ p. order.checks _ _ _ (order.passes-plain _ _ (order.ends (refl, refl)))
-
   folder-rises : (end : ℕ) {children : P Made} {at : ℕ} → Rises b f children at → Rises b f (folder end children) at
   unfolding folder
   folder-rises end w = after w λ m p. rowless _ p λ k c. order.places λ q. order.checks _ _ _ (order.ends (refl, refl))
 
   -- a node's row, and then the rows of what it holds
-  front-then : (x : Context) (parent depth : ℕ) (s : Standing) (m : Made) (at : ℕ) → s .end .0 ≤ x .size → s .detached ≤ b → {g : Front → P Made} → ((w : Front) (q : ℕ) → FrontIn x s m at w q → Rises b f (g w) (q + 0))
-      → Rises b f (front x parent depth s m >>= λ w. (skip (nodeRow (w .row)) 0 >> g w)) at
+  front-then : (x : Context) (parent depth : ℕ) (s : Standing) (m : Made) (at : ℕ) → s .end .0 ≤ x .size → s .detached ≤ b → {g : Front → P Made} → ((w : Front) (q : ℕ) → FrontIn x s m at w q → Rises b f (g w) (q + inlineSize (w .row)))
+      → Rises b f (front x parent depth s m >>= λ w. (skip (nodeRow (w .row)) (inlineSize (w .row)) >> g w)) at
   unfolding run trace rowsOf _>>=_ _>>_ skip
   front-then x parent depth s m at l v {g} h = record {
     rises = λ e.
-        let y = parts (front x parent depth s m) (λ w. (skip (nodeRow (w .row)) 0 >> g w)) f at e in
+        let y = parts (front x parent depth s m) (λ w. (skip (nodeRow (w .row)) (inlineSize (w .row)) >> g w)) f at e in
         let i = at-end (inside-free (s .end .0) (x .size)) f (front-on Nothing (s .end .0) x parent depth s m at (omega arith) l) (y .first) in
         let z = i .start in
         let n = i .moves in
@@ -158,8 +149,7 @@ module _ (b : ℕ) (f : List ℕ) where
   node-rises (suc d) x parent s m at l v =
       places _ at (checks _ _ _ (front-then x parent (16 - d) s m at l v λ w q i.
       let a = i .within in
-      either _ (contents-rises _ _ _ (q + 0))
-      (folder-rises _ (times-rise (w .row .held) _ (q + 0) λ t p. node-rises d x (m .nodes) (inTree 0 (at + w .row .size)) t p (omega arith) (omega arith)))))
+      folder-rises _ (times-rise (w .row .held) _ (q + inlineSize (w .row)) λ t p. node-rises d x (m .nodes) (inTree 0 (at + w .row .size)) t p (omega arith) (omega arith))))
 
 -- the rows of a tree that was read
 pub tree-rises : (x : Context) (end : ℕ) (f : List ℕ) (at : ℕ) → end ≤ x .size → {m : Made} {p : ℕ} → run (tree x end) f at ≡ ok m p → Rising (nodesOf (trace (tree x end) f at))
@@ -191,19 +181,19 @@ module _ (f : List ℕ) (s : Standing) (start : ℕ) where
   own-check false n p h = record { owns = λ e. let z : _≡_ {A = ℕ} 0 1 = cc in absurd (omega arith) }
 
 own-front : (f : List ℕ) (x : Context) (parent depth : ℕ) (s : Standing) (m : Made) (at : ℕ) → s .end .0 ≤ x .size → (g : Front → P Made)
-    → ((w : Front) (q : ℕ) → FrontIn x s m at w q → Wp (Inside Nothing (s .end .0) (x .size)) (skip (nodeRow (w .row)) 0 >> g w) (λ _ v. v ≡ at + w .row .size) q)
-    → Owns f s at (front x parent depth s m >>= λ w. (skip (nodeRow (w .row)) 0 >> g w)) at
+    → ((w : Front) (q : ℕ) → FrontIn x s m at w q → Wp (Inside Nothing (s .end .0) (x .size)) (skip (nodeRow (w .row)) (inlineSize (w .row)) >> g w) (λ _ v. v ≡ at + w .row .size) q)
+    → Owns f s at (front x parent depth s m >>= λ w. (skip (nodeRow (w .row)) (inlineSize (w .row)) >> g w)) at
 unfolding run trace rowsOf _>>=_ _>>_ skip
 own-front f x parent depth s m at l g h = record {
   owns = λ e.
-      let y = parts (front x parent depth s m) (λ w. (skip (nodeRow (w .row)) 0 >> g w)) f at e in
+      let y = parts (front x parent depth s m) (λ w. (skip (nodeRow (w .row)) (inlineSize (w .row)) >> g w)) f at e in
       let i = at-end (inside-free (s .end .0) (x .size)) f (front-on Nothing (s .end .0) x parent depth s m at (omega arith) l) (y .first) in
       let v = at-end (inside-free (s .end .0) (x .size)) f (h (y .a) (y .p) i) (y .second) in
       let z = i .start in
       record {
         row = y .a .row;
-        others = nodesOf (trace (g (y .a)) f (y .p + 0));
-        rows-are = y .joined ∙ ap (λ v. v ++ (y .a .row ∷ nodesOf (trace (g (y .a)) f (y .p + 0)))) (no-rows f at (front-orders x parent depth s m) (λ a k′ c′ q. q .0) (y .first));
+        others = nodesOf (trace (g (y .a)) f (y .p + inlineSize (y .a .row)));
+        rows-are = y .joined ∙ ap (λ v. v ++ (y .a .row ∷ nodesOf (trace (g (y .a)) f (y .p + inlineSize (y .a .row))))) (no-rows f at (front-orders x parent depth s m) (λ a k′ c′ q. q .0) (y .first));
         start = z;
         stop = omega arith;
         detached-is = i .detached-is;

@@ -4,7 +4,7 @@ ghost use mathlib.Core.List.{List, _∷_, [], _++_};
 ghost use Prim.Native.Nat.{ℕ, _≤_, _<_, _^_, _*_, _+_, _-_, min, max};
 ghost use lib.ListN.{length, replicate, take, drop};
 ghost use lib.Seq.{sets};
-ghost use Rattle.cursor.specs.Machine.{exec, times};
+ghost use Rattle.cursor.specs.Machine.{ret, exec, times};
 ghost use Rattle.cursor.specs.declared.Node.{Node};
 ghost use Rattle.header.specs.Told.{headerOf, extentOf};
 ghost use Rattle.header.specs.Header as spec;
@@ -12,8 +12,8 @@ ghost use Rattle.metadata.specs.Tables.{State, nodeWidth, nodeWords, limits, pu
 ghost use Rattle.metadata.specs.Told.{contextOf, Gives};
 ghost use Rattle.node.specs.Node.{inTree};
 ghost use Rattle.node.specs.declared.Standing.{Standing};
-ghost use Rattle.cursor.specs.Rows.{Events};
-ghost use Rattle.tree.specs.Tree.{contents, node, tree};
+ghost use Rattle.cursor.specs.Rows.{inlineSize, Events};
+ghost use Rattle.tree.specs.Tree.{folder, node, tree};
 ghost use Rattle.tree.specs.Reading.{nodesOf, good, context, offsetAt, outside, partEnd, takenFrom, reach, follow, readFile, readOf, answerOf, nodeTable, itemTable};
 ghost use Rattle.tree.specs.Rows.{nodeAt, nodesIn, rowStarting, Rising};
 ghost use Rattle.tree.specs.Told.{Stands, Leaves};
@@ -105,19 +105,32 @@ fn put_node(nodes: &mut [u64], made: usize, row: Node)
     metadata::store(nodes, made * cursor::NODE_WIDTH, &words);
 }
 
-// What a file node holds, up to its end.
-fn read_contents(c: Cursor, reference: u64, end: FilePlace, lim: Limits, made: Made) -> Walked
-    requires { ⌜ (c .at .0 ≤ end .0) × (made .nodes ≤ lim .nodes) × (made .items ≤ lim .items) ⌝ }
-    ensures { λ r. ⌜ ((s t u : List ℕ) → Gives lim r t u (exec put (contents reference (end .0) made) s (c .at .0) (state t u made))) ⌝ }
+// The cursor behind a node's row, which passes the inline data of a file node.
+fn past_inline(c: Cursor, row: Node) -> Cursor
+    requires { ⌜ c .at .0 + inlineSize row < 2 ^ 28 ⌝ }
+    ensures { λ r. ⌜ r .at .0 ≡ c .at .0 + inlineSize row ⌝ }
+{
+    if row.held == 0 {
+        if row.reference == 1 {
+            let at = c.at;
+            return Cursor {
+                at: FilePlace(at.0 + row.extent as usize),
+            };
+        }
+    }
+    c
+}
+
+// The end of a node whose children were read up to c: nothing remains before `end`.
+fn end_node(c: Cursor, end: FilePlace, lim: Limits, made: Made) -> Walked
+    requires { ⌜ (made .nodes ≤ lim .nodes) × (made .items ≤ lim .items) ⌝ }
+    ensures { λ r. ⌜ ((s t u : List ℕ) → Gives lim r t u (exec put (folder (end .0) (ret made)) s (c .at .0) (state t u made))) ⌝ }
 {
     let place = c.at;
-    if reference == 1 {
-        return Walked::Done(made, Cursor { at: end });
-    }
     if place.0 < end.0 {
         return Walked::Refused(cursor::BYTES_LEFT, place);
     }
-    Walked::Done(made, Cursor { at: end })
+    Walked::Done(made, c)
 }
 
 // The node at c, which stands so, and all that it holds.
@@ -166,11 +179,13 @@ fn read_node(
             };
             put_node(nodes, index, row);
             let stop = start.of(NodePlace(row.size as usize));
+            let next = past_inline(d, row);
+            // A file node has no children. To ask here is faster than a call that reads none.
             if row.held == 0 {
-                return read_contents(d, row.reference, stop, lim, now);
+                return end_node(next, stop, lim, now);
             }
             match read_children(
-                d,
+                next,
                 file,
                 types,
                 nodes,
@@ -183,13 +198,7 @@ fn read_node(
                 now,
             ) {
                 Walked::Refused(n, p) => Walked::Refused(n, p),
-                Walked::Done(m, e) => {
-                    let after = e.at;
-                    if after.0 < stop.0 {
-                        return Walked::Refused(cursor::BYTES_LEFT, after);
-                    }
-                    Walked::Done(m, e)
-                }
+                Walked::Done(m, e) => end_node(e, stop, lim, m),
             }
         }
     }

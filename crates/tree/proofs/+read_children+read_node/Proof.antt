@@ -5,10 +5,10 @@ use mathlib.Core.Path.{_∙_}
 use mathlib.Core.List.{[]}
 use lib.ListN.{length}
 use Rattle.metadata.specs.Told.{contextOf}
-use Rattle.metadata.proofs.Gives.{done, stopped, fitting, no, yes}
-use Rattle.node.proofs.Ends.{front-inside}
+use Rattle.metadata.proofs.Gives.{done, stopped, fitting, no}
+use Rattle.node.proofs.Ends.{front-inside, inline-fits}
 use Rattle.node.proofs.Ways.{front-done, front-stopped, front-fitting}
-use Rattle.tree.proofs.Nodes.{node-none, node-limit, node-front, node-file, node-children, node-left, node-all, Going, children-begun, children-further, children-done, children-no, children-on}
+use Rattle.tree.proofs.Nodes.{node-none, node-limit, node-front, node-children, node-held, node-file, Going, children-begun, children-further, children-done, children-no, children-on}
 use native.Mathlib.Omega.{arith}
 use borrow.Author.Needs.{needs}
 use Prim.Native.Nat.{ℕ, _+_, _*_, _-_, _<_}
@@ -23,7 +23,8 @@ use Rattle.tree.proofs.+read_children+read_node.Lts-read_node as read-n
 use Rattle.cursor.proofs.FilePlace.of.Reads as of-reads
 use Rattle.node.proofs.read_front.Reads as read-front-reads
 use Rattle.tree.proofs.put_node.Reads as put-node-reads
-use Rattle.tree.proofs.read_contents.Reads as read-contents-reads
+use Rattle.tree.proofs.past_inline.Reads as past-inline-reads
+use Rattle.tree.proofs.end_node.Reads as end-node-reads
 use Rattle.tree.proofs.+read_children+read_node.{statement}
 use Rattle.tree.proofs.+read_children+read_node.Tie.{close}
 
@@ -57,7 +58,7 @@ abbrev children-calls : ℕ → read-children-lts.Claims
 children-calls t = (read-node-below t, read-node.Post)
 
 abbrev node-calls : ℕ → read-node-lts.Claims
-node-calls t = (read-front-reads.Asked, read-front-reads.Learnt, put-node-reads.Asked, put-node-reads.Learnt, of-reads.Asked, of-reads.Learnt, read-contents-reads.Asked, read-contents-reads.Learnt, read-children-below t, read-children.Post)
+node-calls t = (read-front-reads.Asked, read-front-reads.Learnt, put-node-reads.Asked, put-node-reads.Learnt, of-reads.Asked, of-reads.Learnt, past-inline-reads.Asked, past-inline-reads.Learnt, end-node-reads.Asked, end-node-reads.Learnt, read-children-below t, read-children.Post)
 
 abbrev Inv-loop : read-children-lts.InvT-loop
 Inv-loop file types nodes₀ items₀ scope levels parent end left next₀ m₀ rest₀ nodes items next m rest = Going (contextOf scope types (length file)) file nodes₀ items₀ levels parent (end .0) (next₀ .at .0) left m₀ nodes items (next .at .0) rest m
@@ -134,23 +135,26 @@ read-node-put-node-requires t c κs = omega (arith, c .before .before .before .b
 read-node-of-requires : (t : ℕ) → read-node-lts.Need-of-requires (node-calls t) (read-node-at t) read-node.Post
 read-node-of-requires t c κs = omega (arith, c .before .before .before .before .before .before .before .before .before .before .before .before .before .before .before .before .before .before .before .before .before .before .before .pre, front-inside _ _ _ _ _ _ _ _ (omega (arith, c .before .before .before .before .before .before .before .before .before .before .before .before .before .before .before .before .before .before .before .before .before .before .before .pre)) (front-done (c .before .before .before .before .before .before .before .before .before .before .before .before .read-front .ensures []) (c .before .before .before .before .before .before .before .before .w .given .1)))
 
-read-node-read-contents-requires : (t : ℕ) → read-node-lts.Need-read-contents-requires (node-calls t) (read-node-at t) read-node.Post
-read-node-read-contents-requires t c κs = omega (arith, front-inside _ _ _ _ _ _ _ _ (omega (arith, c .before .before .before .before .before .before .before .before .before .before .before .before .before .before .before .before .before .before .before .before .before .before .before .before .before .before .pre)) (front-done (c .before .before .before .before .before .before .before .before .before .before .before .before .before .before .before .read-front .ensures []) (c .before .before .before .before .before .before .before .before .before .before .before .w .given .1)), c .before .before .of .ensures, c .before .before .before .before .before .before .before .before .before .before .before .before .before .before .before .before .before .if2 .left, front-fitting (c .before .before .before .before .before .before .before .before .before .before .before .before .before .before .before .read-front .ensures []) (c .before .before .before .before .before .before .before .before .before .before .before .w .given .1))
+read-node-past-inline-requires : (t : ℕ) → read-node-lts.Need-past-inline-requires (node-calls t) (read-node-at t) read-node.Post
+read-node-past-inline-requires t c κs = omega (arith, c .before .before .before .before .before .before .before .before .before .before .before .before .before .before .before .before .before .before .before .before .before .before .before .before .pre, inline-fits (front-inside _ _ _ _ _ _ _ _ (omega (arith, c .before .before .before .before .before .before .before .before .before .before .before .before .before .before .before .before .before .before .before .before .before .before .before .before .pre)) (front-done (c .before .before .before .before .before .before .before .before .before .before .before .before .before .read-front .ensures []) (c .before .before .before .before .before .before .before .before .before .w .given .1))), front-inside _ _ _ _ _ _ _ _ (omega (arith, c .before .before .before .before .before .before .before .before .before .before .before .before .before .before .before .before .before .before .before .before .before .before .before .before .pre)) (front-done (c .before .before .before .before .before .before .before .before .before .before .before .before .before .read-front .ensures []) (c .before .before .before .before .before .before .before .before .before .w .given .1)))
+
+read-node-end-node-requires : (t : ℕ) → read-node-lts.Need-end-node-requires (node-calls t) (read-node-at t) read-node.Post
+read-node-end-node-requires t c κs = omega (arith, front-inside _ _ _ _ _ _ _ _ (omega (arith, c .before .before .before .before .before .before .before .before .before .before .before .before .before .before .before .before .before .before .before .before .before .before .before .before .before .before .before .pre)) (front-done (c .before .before .before .before .before .before .before .before .before .before .before .before .before .before .before .before .read-front .ensures []) (c .before .before .before .before .before .before .before .before .before .before .before .before .w .given .1)), c .before .before .before .before .before .before .before .before .before .before .before .before .before .before .before .before .before .before .if2 .left, front-fitting (c .before .before .before .before .before .before .before .before .before .before .before .before .before .before .before .before .read-front .ensures []) (c .before .before .before .before .before .before .before .before .before .before .before .before .w .given .1))
 
 read-node-same-length : (t : ℕ) → read-node-lts.Need-same-length (node-calls t) (read-node-at t) read-node.Post
-read-node-same-length t c = c .before .before .before .before .before .before .put-node .kept .0
+read-node-same-length t c = c .before .before .before .before .before .before .before .put-node .kept .0
 
 read-node-same-length-2 : (t : ℕ) → read-node-lts.Need-same-length-2 (node-calls t) (read-node-at t) read-node.Post
-read-node-same-length-2 t c = c .before .before .before .before .before .before .before .before .before .before .before .before .before .before .before .before .read-front .kept .1 .1 .1 .0
+read-node-same-length-2 t c = c .before .before .before .before .before .before .before .before .before .before .before .before .before .before .before .before .before .read-front .kept .1 .1 .1 .0
 
 read-node-returns-3 : (t : ℕ) → read-node-lts.Need-returns-3 (node-calls t) (read-node-at t) read-node.Post
-read-node-returns-3 t c = node-file _ _ _ _ _ _ _ (c .before .before .before .before .before .before .before .before .before .before .before .before .before .before .before .before .before .before .before .before .before .if1 .left) (c .before .before .before .before .before .before .before .before .before .before .before .before .before .before .before .before .before .before .if2 .left) (omega (arith, c .before .before .before .before .before .before .before .before .before .before .before .before .before .before .before .before .before .before .before .before .before .before .before .before .before .before .before .pre)) _ _ _ (front-done (c .before .before .before .before .before .before .before .before .before .before .before .before .before .before .before .before .read-front .ensures _) (c .before .before .before .before .before .before .before .before .before .before .before .before .w .given .1)) _ (c .before .before .before .before .before .before .put-node .ensures) (c .before .before .before .of .ensures) (c .before .if3 .taken) (c .read-contents .ensures _ _ _)
+read-node-returns-3 t c = node-file _ _ _ _ _ _ _ (c .before .before .before .before .before .before .before .before .before .before .before .before .before .before .before .before .before .before .before .before .before .before .if1 .left) (c .before .before .before .before .before .before .before .before .before .before .before .before .before .before .before .before .before .before .before .if2 .left) (omega (arith, c .before .before .before .before .before .before .before .before .before .before .before .before .before .before .before .before .before .before .before .before .before .before .before .before .before .before .before .before .pre)) _ _ _ (front-done (c .before .before .before .before .before .before .before .before .before .before .before .before .before .before .before .before .before .read-front .ensures _) (c .before .before .before .before .before .before .before .before .before .before .before .before .before .w .given .1)) _ (c .before .before .before .before .before .before .before .put-node .ensures) (c .before .before .before .before .of .ensures) (c .before .before .before .past-inline .ensures) (c .before .if3 .taken) (c .end-node .ensures _ _ _)
 
 read-node-sub-read-children : (t : ℕ) → read-node-lts.Need-sub-read-children (node-calls t) (read-node-at t) read-node.Post
-read-node-sub-read-children t c = omega (arith, c .before .before .before .before .before .before .before .before .before .before .before .before .before .before .before .before .before .before .before .before .before .before .if1 .left)
+read-node-sub-read-children t c = omega (arith, c .before .before .before .before .before .before .before .before .before .before .before .before .before .before .before .before .before .before .before .before .before .before .before .if1 .left)
 
 read-node-read-children-requires : (t : ℕ) → read-node-lts.Need-read-children-requires (node-calls t) (read-node-at t) read-node.Post
-read-node-read-children-requires t c κs = omega (arith, c .before .before .before .before .before .before .before .before .before .before .before .before .before .before .before .before .before .before .before .before .before .before .before .before .before .before .before .before .pre, c .before .before .before .before .before .before .before .before .before .before .before .before .before .before .before .before .before .before .before .before .before .before .if1 .left, c .before .before .before .before .before .before .before .before .before .before .before .before .before .before .before .before .before .before .before .if2 .left, front-inside _ _ _ _ _ _ _ _ (omega (arith, c .before .before .before .before .before .before .before .before .before .before .before .before .before .before .before .before .before .before .before .before .before .before .before .before .before .before .before .before .pre)) (front-done (c .before .before .before .before .before .before .before .before .before .before .before .before .before .before .before .before .before .read-front .ensures []) (c .before .before .before .before .before .before .before .before .before .before .before .before .before .w .given .1)), c .before .before .before .before .of .ensures, front-fitting (c .before .before .before .before .before .before .before .before .before .before .before .before .before .before .before .before .before .read-front .ensures []) (c .before .before .before .before .before .before .before .before .before .before .before .before .before .w .given .1), c .before .before .before .before .before .before .before .put-node .kept .0, c .before .before .before .before .before .before .before .before .before .before .before .before .before .before .before .before .before .read-front .kept .1 .1 .1 .0)
+read-node-read-children-requires t c κs = omega (arith, c .before .before .before .before .before .before .before .before .before .before .before .before .before .before .before .before .before .before .before .before .before .before .before .before .before .before .before .before .before .pre, c .before .before .before .before .before .before .before .before .before .before .before .before .before .before .before .before .before .before .before .before .before .before .before .if1 .left, c .before .before .before .before .before .before .before .before .before .before .before .before .before .before .before .before .before .before .before .before .if2 .left, front-inside _ _ _ _ _ _ _ _ (omega (arith, c .before .before .before .before .before .before .before .before .before .before .before .before .before .before .before .before .before .before .before .before .before .before .before .before .before .before .before .before .before .pre)) (front-done (c .before .before .before .before .before .before .before .before .before .before .before .before .before .before .before .before .before .before .read-front .ensures []) (c .before .before .before .before .before .before .before .before .before .before .before .before .before .before .w .given .1)), c .before .before .before .before .before .of .ensures, front-fitting (c .before .before .before .before .before .before .before .before .before .before .before .before .before .before .before .before .before .before .read-front .ensures []) (c .before .before .before .before .before .before .before .before .before .before .before .before .before .before .w .given .1), c .before .before .before .before .before .before .before .before .put-node .kept .0, c .before .before .before .before .before .before .before .before .before .before .before .before .before .before .before .before .before .before .read-front .kept .1 .1 .1 .0)
 
 read-node-enum-known-n-2 : (t : ℕ) → read-node-lts.Need-enum-known-n-2 (node-calls t) (read-node-at t) read-node.Post
 read-node-enum-known-n-2 t c = search needs
@@ -158,38 +162,32 @@ read-node-enum-known-n-2 t c = search needs
 read-node-enum-known-m : (t : ℕ) → read-node-lts.Need-enum-known-m (node-calls t) (read-node-at t) read-node.Post
 read-node-enum-known-m t c = search needs
 
-read-node-same-length-3 : (t : ℕ) → read-node-lts.Need-same-length-3 (node-calls t) (read-node-at t) read-node.Post
-read-node-same-length-3 t c = c .before .before .before .before .before .before .before .before .before .before .before .read-children .kept .1 .1 .1 .0 ∙ c .before .before .before .before .before .before .before .before .before .before .before .before .before .before .before .before .before .before .before .put-node .kept .0
+read-node-end-node-requires-2 : (t : ℕ) → read-node-lts.Need-end-node-requires-2 (node-calls t) (read-node-at t) read-node.Post
+read-node-end-node-requires-2 t c κs = fitting (c .before .before .before .before .before .before .before .read-children .ensures) (c .before .m2 .given .1)
 
-read-node-same-length-4 : (t : ℕ) → read-node-lts.Need-same-length-4 (node-calls t) (read-node-at t) read-node.Post
-read-node-same-length-4 t c = c .before .before .before .before .before .before .before .before .before .before .before .read-children .kept .1 .1 .1 .1 .0 ∙ c .before .before .before .before .before .before .before .before .before .before .before .before .before .before .before .before .before .before .before .before .before .before .before .before .before .before .before .before .before .read-front .kept .1 .1 .1 .0
+read-node-same-length-3 : (t : ℕ) → read-node-lts.Need-same-length-3 (node-calls t) (read-node-at t) read-node.Post
+read-node-same-length-3 t c = c .before .before .before .before .before .read-front .kept .1 .1 .1 .0
 
 read-node-returns-4 : (t : ℕ) → read-node-lts.Need-returns-4 (node-calls t) (read-node-at t) read-node.Post
-read-node-returns-4 t c = no (node-left _ _ _ _ _ _ _ (c .before .before .before .before .before .before .before .before .before .before .before .before .before .before .before .before .before .before .before .before .before .before .before .before .before .before .before .before .before .before .before .before .before .before .if1 .left) (c .before .before .before .before .before .before .before .before .before .before .before .before .before .before .before .before .before .before .before .before .before .before .before .before .before .before .before .before .before .before .before .if2 .left) (omega (arith, c .before .before .before .before .before .before .before .before .before .before .before .before .before .before .before .before .before .before .before .before .before .before .before .before .before .before .before .before .before .before .before .before .before .before .before .before .before .before .before .before .pre)) _ _ _ (front-done (c .before .before .before .before .before .before .before .before .before .before .before .before .before .before .before .before .before .before .before .before .before .before .before .before .before .before .before .before .before .read-front .ensures _) (c .before .before .before .before .before .before .before .before .before .before .before .before .before .before .before .before .before .before .before .before .before .before .before .before .before .w .given .1)) _ (c .before .before .before .before .before .before .before .before .before .before .before .before .before .before .before .before .before .before .before .put-node .ensures) (c .before .before .before .before .before .before .before .before .before .before .before .before .before .before .before .before .of .ensures) (c .before .before .before .before .before .before .before .before .before .before .before .before .before .before .if3 .left) (done (c .before .before .before .before .before .before .before .before .before .before .before .read-children .ensures) (c .before .before .before .before .before .m2 .given .1)) (c .if4 .taken))
+read-node-returns-4 t c = no (node-front _ _ _ _ _ _ _ _ (c .before .before .before .before .before .before .before .before .before .before .if1 .left) (c .before .before .before .before .before .before .before .if2 .left) (front-stopped (c .before .before .before .before .before .read-front .ensures _) (c .before .n .given .1)))
+
+read-node-same-length-4 : (t : ℕ) → read-node-lts.Need-same-length-4 (node-calls t) (read-node-at t) read-node.Post
+read-node-same-length-4 t c = c .before .before .before .before .before .before .before .read-children .kept .1 .1 .1 .0 ∙ c .before .before .before .before .before .before .before .before .before .before .before .before .before .before .before .before .put-node .kept .0
 
 read-node-same-length-5 : (t : ℕ) → read-node-lts.Need-same-length-5 (node-calls t) (read-node-at t) read-node.Post
-read-node-same-length-5 t c = c .before .before .before .before .before .read-front .kept .1 .1 .1 .0
+read-node-same-length-5 t c = c .before .before .before .before .before .before .before .read-children .kept .1 .1 .1 .1 .0 ∙ c .before .before .before .before .before .before .before .before .before .before .before .before .before .before .before .before .before .before .before .before .before .before .before .before .before .before .read-front .kept .1 .1 .1 .0
 
 read-node-returns-5 : (t : ℕ) → read-node-lts.Need-returns-5 (node-calls t) (read-node-at t) read-node.Post
-read-node-returns-5 t c = no (node-front _ _ _ _ _ _ _ _ (c .before .before .before .before .before .before .before .before .before .before .if1 .left) (c .before .before .before .before .before .before .before .if2 .left) (front-stopped (c .before .before .before .before .before .read-front .ensures _) (c .before .n .given .1)))
+read-node-returns-5 t c = no (node-children _ _ _ _ _ _ _ (c .before .before .before .before .before .before .before .before .before .before .before .before .before .before .before .before .before .before .before .before .before .before .before .before .before .before .before .before .before .before .before .if1 .left) (c .before .before .before .before .before .before .before .before .before .before .before .before .before .before .before .before .before .before .before .before .before .before .before .before .before .before .before .before .if2 .left) (omega (arith, c .before .before .before .before .before .before .before .before .before .before .before .before .before .before .before .before .before .before .before .before .before .before .before .before .before .before .before .before .before .before .before .before .before .before .before .before .before .pre)) _ _ _ (front-done (c .before .before .before .before .before .before .before .before .before .before .before .before .before .before .before .before .before .before .before .before .before .before .before .before .before .before .read-front .ensures _) (c .before .before .before .before .before .before .before .before .before .before .before .before .before .before .before .before .before .before .before .before .before .before .w .given .1)) _ (c .before .before .before .before .before .before .before .before .before .before .before .before .before .before .before .before .put-node .ensures) (c .before .before .before .before .before .before .before .before .before .before .before .before .before .of .ensures) (c .before .before .before .before .before .before .before .before .before .before .before .before .past-inline .ensures) (stopped (c .before .before .before .before .before .before .before .read-children .ensures) (c .before .n2 .given .1)))
 
 read-node-same-length-6 : (t : ℕ) → read-node-lts.Need-same-length-6 (node-calls t) (read-node-at t) read-node.Post
-read-node-same-length-6 t c = c .before .before .before .before .before .before .before .read-children .kept .1 .1 .1 .0 ∙ c .before .before .before .before .before .before .before .before .before .before .before .before .before .before .before .put-node .kept .0
+read-node-same-length-6 t c = c .before .before .before .before .before .before .before .before .read-children .kept .1 .1 .1 .0 ∙ c .before .before .before .before .before .before .before .before .before .before .before .before .before .before .before .before .before .put-node .kept .0
 
 read-node-same-length-7 : (t : ℕ) → read-node-lts.Need-same-length-7 (node-calls t) (read-node-at t) read-node.Post
-read-node-same-length-7 t c = c .before .before .before .before .before .before .before .read-children .kept .1 .1 .1 .1 .0 ∙ c .before .before .before .before .before .before .before .before .before .before .before .before .before .before .before .before .before .before .before .before .before .before .before .before .before .read-front .kept .1 .1 .1 .0
+read-node-same-length-7 t c = c .before .before .before .before .before .before .before .before .read-children .kept .1 .1 .1 .1 .0 ∙ c .before .before .before .before .before .before .before .before .before .before .before .before .before .before .before .before .before .before .before .before .before .before .before .before .before .before .before .read-front .kept .1 .1 .1 .0
 
 read-node-returns-6 : (t : ℕ) → read-node-lts.Need-returns-6 (node-calls t) (read-node-at t) read-node.Post
-read-node-returns-6 t c = no (node-children _ _ _ _ _ _ _ (c .before .before .before .before .before .before .before .before .before .before .before .before .before .before .before .before .before .before .before .before .before .before .before .before .before .before .before .before .before .before .if1 .left) (c .before .before .before .before .before .before .before .before .before .before .before .before .before .before .before .before .before .before .before .before .before .before .before .before .before .before .before .if2 .left) (omega (arith, c .before .before .before .before .before .before .before .before .before .before .before .before .before .before .before .before .before .before .before .before .before .before .before .before .before .before .before .before .before .before .before .before .before .before .before .before .pre)) _ _ _ (front-done (c .before .before .before .before .before .before .before .before .before .before .before .before .before .before .before .before .before .before .before .before .before .before .before .before .before .read-front .ensures _) (c .before .before .before .before .before .before .before .before .before .before .before .before .before .before .before .before .before .before .before .before .before .w .given .1)) _ (c .before .before .before .before .before .before .before .before .before .before .before .before .before .before .before .put-node .ensures) (c .before .before .before .before .before .before .before .before .before .before .before .before .of .ensures) (c .before .before .before .before .before .before .before .before .before .before .if3 .left) (stopped (c .before .before .before .before .before .before .before .read-children .ensures) (c .before .n2 .given .1)))
-
-read-node-same-length-8 : (t : ℕ) → read-node-lts.Need-same-length-8 (node-calls t) (read-node-at t) read-node.Post
-read-node-same-length-8 t c = c .before .before .before .before .before .before .before .before .before .before .before .read-children .kept .1 .1 .1 .0 ∙ c .before .before .before .before .before .before .before .before .before .before .before .before .before .before .before .before .before .before .before .put-node .kept .0
-
-read-node-same-length-9 : (t : ℕ) → read-node-lts.Need-same-length-9 (node-calls t) (read-node-at t) read-node.Post
-read-node-same-length-9 t c = c .before .before .before .before .before .before .before .before .before .before .before .read-children .kept .1 .1 .1 .1 .0 ∙ c .before .before .before .before .before .before .before .before .before .before .before .before .before .before .before .before .before .before .before .before .before .before .before .before .before .before .before .before .before .read-front .kept .1 .1 .1 .0
-
-read-node-returns-7 : (t : ℕ) → read-node-lts.Need-returns-7 (node-calls t) (read-node-at t) read-node.Post
-read-node-returns-7 t c = yes (node-all _ _ _ _ _ _ _ (c .before .before .before .before .before .before .before .before .before .before .before .before .before .before .before .before .before .before .before .before .before .before .before .before .before .before .before .before .before .before .before .before .before .before .if1 .left) (c .before .before .before .before .before .before .before .before .before .before .before .before .before .before .before .before .before .before .before .before .before .before .before .before .before .before .before .before .before .before .before .if2 .left) (omega (arith, c .before .before .before .before .before .before .before .before .before .before .before .before .before .before .before .before .before .before .before .before .before .before .before .before .before .before .before .before .before .before .before .before .before .before .before .before .before .before .before .before .pre)) _ _ _ (front-done (c .before .before .before .before .before .before .before .before .before .before .before .before .before .before .before .before .before .before .before .before .before .before .before .before .before .before .before .before .before .read-front .ensures _) (c .before .before .before .before .before .before .before .before .before .before .before .before .before .before .before .before .before .before .before .before .before .before .before .before .before .w .given .1)) _ (c .before .before .before .before .before .before .before .before .before .before .before .before .before .before .before .before .before .before .before .put-node .ensures) (c .before .before .before .before .before .before .before .before .before .before .before .before .before .before .before .before .of .ensures) (c .before .before .before .before .before .before .before .before .before .before .before .before .before .before .if3 .left) (done (c .before .before .before .before .before .before .before .before .before .before .before .read-children .ensures) (c .before .before .before .before .before .m2 .given .1)) (c .if4 .left)) (fitting (c .before .before .before .before .before .before .before .before .before .before .before .read-children .ensures) (c .before .before .before .before .before .m2 .given .1))
+read-node-returns-6 t c = node-held _ _ _ _ _ _ _ (c .before .before .before .before .before .before .before .before .before .before .before .before .before .before .before .before .before .before .before .before .before .before .before .before .before .before .before .before .before .before .before .before .if1 .left) (c .before .before .before .before .before .before .before .before .before .before .before .before .before .before .before .before .before .before .before .before .before .before .before .before .before .before .before .before .before .if2 .left) (omega (arith, c .before .before .before .before .before .before .before .before .before .before .before .before .before .before .before .before .before .before .before .before .before .before .before .before .before .before .before .before .before .before .before .before .before .before .before .before .before .before .pre)) _ _ _ (front-done (c .before .before .before .before .before .before .before .before .before .before .before .before .before .before .before .before .before .before .before .before .before .before .before .before .before .before .before .read-front .ensures _) (c .before .before .before .before .before .before .before .before .before .before .before .before .before .before .before .before .before .before .before .before .before .before .before .w .given .1)) _ (c .before .before .before .before .before .before .before .before .before .before .before .before .before .before .before .before .before .put-node .ensures) (c .before .before .before .before .before .before .before .before .before .before .before .before .before .before .of .ensures) (c .before .before .before .before .before .before .before .before .before .before .before .before .before .past-inline .ensures) (done (c .before .before .before .before .before .before .before .before .read-children .ensures) (c .before .before .m2 .given .1)) (c .end-node2 .ensures _ _ _)
 
 pub +read-children+read-node-spec : {M : Type 1} → statement M
 +read-children+read-node-spec = close μ-read-children μ-read-node (λ t. read-children-lts.spec (children-calls t)
@@ -217,8 +215,10 @@ pub +read-children+read-node-spec : {M : Type 1} → statement M
       put-node-reads.Learnt,
       of-reads.Asked,
       of-reads.Learnt,
-      read-contents-reads.Asked,
-      read-contents-reads.Learnt,
+      past-inline-reads.Asked,
+      past-inline-reads.Learnt,
+      end-node-reads.Asked,
+      end-node-reads.Learnt,
       read-children-below t,
       read-children.Post,
     )
@@ -234,7 +234,8 @@ pub +read-children+read-node-spec : {M : Type 1} → statement M
     (read-node-add-read-children t)
     (read-node-put-node-requires t)
     (read-node-of-requires t)
-    (read-node-read-contents-requires t)
+    (read-node-past-inline-requires t)
+    (read-node-end-node-requires t)
     (read-node-same-length t)
     (read-node-same-length-2 t)
     (read-node-returns-3 t)
@@ -242,14 +243,12 @@ pub +read-children+read-node-spec : {M : Type 1} → statement M
     (read-node-read-children-requires t)
     (read-node-enum-known-n-2 t)
     (read-node-enum-known-m t)
+    (read-node-end-node-requires-2 t)
     (read-node-same-length-3 t)
-    (read-node-same-length-4 t)
     (read-node-returns-4 t)
+    (read-node-same-length-4 t)
     (read-node-same-length-5 t)
     (read-node-returns-5 t)
     (read-node-same-length-6 t)
     (read-node-same-length-7 t)
     (read-node-returns-6 t)
-    (read-node-same-length-8 t)
-    (read-node-same-length-9 t)
-    (read-node-returns-7 t)
