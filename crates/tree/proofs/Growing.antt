@@ -10,7 +10,7 @@ use native.Mathlib.Decide.{decLt}
 use borrow.Author.Tests.{lt-ltb, le-ltb, eq-eqb, ne-eqb}
 use lib.Dec.{eqb, ltb}
 use lib.ListN.{length, getD, take, drop, length-append, List·getD-append}
-use Rattle.cursor.specs.Machine.{Out, ok, refused, run, trace, exec, puts}
+use Rattle.cursor.specs.Machine.{Out, ok, refused, run, trace, exec, puts, times}
 use Rattle.cursor.specs.Rows.{P, Events}
 use Rattle.cursor.specs.declared.Cursor.{Cursor}
 use Rattle.cursor.specs.declared.FilePlace.{FilePlace}
@@ -30,6 +30,7 @@ use Rattle.tree.specs.Tree.{node, detached}
 use Rattle.tree.specs.Rows.{noNode, nodeFrom, nodesFrom, nodeAt, nodesIn, rowStarting, Rising, if_then_else_}
 use Rattle.tree.specs.Told.{Stands, said, left, Leaves}
 use Rattle.tree.proofs.Filled.{filled, puts-fills, sets-front, nodes-length}
+use Rattle.tree.proofs.Nodes.{one-node}
 use Rattle.tree.proofs.Follow.{target, Reached, known, added, reached}
 use Rattle.tree.proofs.Ends.{detached-inside}
 use Rattle.tree.proofs.Shown.{part-is}
@@ -185,7 +186,7 @@ module _ (lim : Limits) (f : List ℕ) (h : Header) {σ : State} {log : Events} 
 
     -- a node is read there
     pub reach-node : true ≡ outside h (length f) to → {named end taken : ℕ} → named ≡ offsetAt f (nodeAt (nodesIn (m .nodes) t) i) → end ≡ partEnd h (length f) to → taken ≡ takenFrom (nodesIn (m .nodes) t) to end
-        → {w : Walked} {t′ u′ : List ℕ} → Gives lim w t′ u′ (exec put (node 17 (context lim h (length f)) (m .nodes) (loose end taken named) m) f to (state t u m)) → Leaves lim σ w t′ u′ (reach lim f h log r)
+        → {w : Walked} {t′ u′ : List ℕ} → Gives lim w t′ u′ (exec put (times 1 (node 17 (context lim h (length f)) (m .nodes) (loose end taken named)) m) f to (state t u m)) → Leaves lim σ w t′ u′ (reach lim f h log r)
     unfolding reach if_then_else_ detachedAt detached
     reach-node b {named} {end} {taken} q en ta {w} {t′} {u′} g =
         let o : outside h (length f) (r .target) ≡ true = sym (b ∙ ap (outside h (length f)) to-is) in
@@ -195,7 +196,7 @@ module _ (lim : Limits) (f : List ℕ) (h : Header) {σ : State} {log : Events} 
         let x = context lim h (length f) in
         let n : node 17 x (m .nodes) (loose end taken named) m ≡ node 17 x (madeBy log .nodes) (loose (partEnd h (length f) (r .target)) (takenFrom (nodesOf log) (r .target) (partEnd h (length f) (r .target))) (offsetAt f r)) (madeBy log) =
         ap (λ (v : Made). node 17 x (v .nodes) (loose end taken named) v) (sym (made-is s)) ∙ ap₂ (λ (a : ℕ) (b : ℕ). node 17 x (madeBy log .nodes) (loose a b named) (madeBy log)) en′ ta′ ∙ ap (λ c. node 17 x (madeBy log .nodes) (loose (partEnd h (length f) (r .target)) (takenFrom (nodesOf log) (r .target) (partEnd h (length f) (r .target))) c) (madeBy log)) z in
-        rw (is-lost, o) (subst (λ (v : P Made). Leaves lim σ w t′ u′ (logged log (run v f (r .target)) (trace v f (r .target)))) n (subst (λ v. Leaves lim σ w t′ u′ (logged log (run (node 17 x (m .nodes) (loose end taken named) m) f v) (trace (node 17 x (m .nodes) (loose end taken named) m) f v))) to-is (leaves-more s f to _ g)))
+        rw (is-lost, o) (subst (λ (v : P Made). Leaves lim σ w t′ u′ (logged log (run v f (r .target)) (trace v f (r .target)))) n (subst (λ v. Leaves lim σ w t′ u′ (logged log (run (node 17 x (m .nodes) (loose end taken named) m) f v) (trace (node 17 x (m .nodes) (loose end taken named) m) f v))) to-is (leaves-more s f to _ (one-node (node 17 x (m .nodes) (loose end taken named)) m f to (state t u m) g))))
 
 -- ---- all rows
 

@@ -7,8 +7,8 @@ use native.Mathlib.Omega.{arith}
 use borrow.Author.Tests.{lt-ltb, le-ltb, le-leb, lt-leb, eq-eqb, ne-eqb}
 use lib.ListN.{length}
 use lib.Seq.{sets}
-use Rattle.cursor.specs.Machine.{ret, ok, refused, exec, times}
-use Rattle.cursor.specs.Rows.{nodeRow, inlineSize}
+use Rattle.cursor.specs.Machine.{Out, ret, ok, refused, exec, times}
+use Rattle.cursor.specs.Rows.{P, nodeRow, inlineSize}
 use Rattle.cursor.specs.declared.Node.{Node}
 use Rattle.cursor.specs.declared.Cursor.{Cursor}
 use Rattle.cursor.specs.declared.FilePlace.{FilePlace}
@@ -21,7 +21,7 @@ use Rattle.metadata.specs.declared.Limits.{Limits}
 use Rattle.metadata.specs.declared.Made.{Made}
 use Rattle.metadata.specs.declared.Walked.{Walked}
 use Rattle.metadata.specs.declared.Walked.the-variants.{Done, Refused}
-use Rattle.metadata.proofs.Gives.{done, stopped, fitting, no, yes}
+use Rattle.metadata.proofs.Gives.{done, stopped, fitting, no, yes, along}
 use Rattle.metadata.proofs.Ends.{Nothing, inside-free}
 use Rattle.node.specs.Node.{inTree, front}
 use Rattle.node.specs.declared.Standing.{Standing}
@@ -115,43 +115,53 @@ module _ (x : Context) (parent : ℕ) (z : Standing) (m : Made) (s : List ℕ) (
 
 -- ---- nodes one after the other
 
-module _ (x : Context) (s t₀ u₀ : List ℕ) (levels parent end at left : ℕ) (made : Made) where
+module _ (x : Context) (s t₀ u₀ : List ℕ) (levels parent : ℕ) (z : Standing) (at left : ℕ) (made : Made) where
   -- at i, with `rest` nodes to come, the rows m made and the tables t and u: what is left comes to what the whole comes to
   pub record Going (t u : List ℕ) (i rest : ℕ) (m : Made) : Type 0 where
     pub nodes-long : length t ≡ length t₀
     pub items-long : length u ≡ length u₀
     pub nodes-fit : m .nodes ≤ x .limits .nodes
     pub items-fit : m .items ≤ x .limits .items
-    pub same : exec put (times left (node levels x parent (inTree 0 end)) made) s at (state t₀ u₀ made) ≡ exec put (times rest (node levels x parent (inTree 0 end)) m) s i (state t u m)
+    pub same : exec put (times left (node levels x parent z) made) s at (state t₀ u₀ made) ≡ exec put (times rest (node levels x parent z) m) s i (state t u m)
 
   pub children-begun : made .nodes ≤ x .limits .nodes → made .items ≤ x .limits .items → Going t₀ u₀ at left made
   children-begun h k = record { nodes-long = refl; items-long = refl; nodes-fit = h; items-fit = k; same = refl }
 
   pub children-done : {t u : List ℕ} {c : Cursor} {rest : ℕ} {m : Made} → Going t u (c .at .0) rest m → rest ≤ 0
-      → Gives (x .limits) (Done m c) t u (exec put (times left (node levels x parent (inTree 0 end)) made) s at (state t₀ u₀ made))
+      → Gives (x .limits) (Done m c) t u (exec put (times left (node levels x parent z) made) s at (state t₀ u₀ made))
   children-done {t} {u} {c} {rest} {m} g z = yes (sym (g .same ∙ exec-timed put s rest (c .at .0) _ m (state t u m) (omega arith))) (g .nodes-fit, g .items-fit)
 
   module _ {t u : List ℕ} {i rest : ℕ} {m : Made} (g : Going t u i rest m) (some : 0 < rest) {t′ u′ : List ℕ} {r : Walked}
-      (d : Gives (x .limits) r t′ u′ (exec put (node levels x parent (inTree 0 end) m) s i (state t u m))) where
-    turn : exec put (times left (node levels x parent (inTree 0 end)) made) s at (state t₀ u₀ made)
-        ≡ andThen (exec put (node levels x parent (inTree 0 end) m) s i (state t u m)) (λ y p. exec put (times (rest - 1) (node levels x parent (inTree 0 end)) (y .0)) s p (y .1))
+      (d : Gives (x .limits) r t′ u′ (exec put (node levels x parent z m) s i (state t u m))) where
+    turn : exec put (times left (node levels x parent z) made) s at (state t₀ u₀ made)
+        ≡ andThen (exec put (node levels x parent z m) s i (state t u m)) (λ y p. exec put (times (rest - 1) (node levels x parent z) (y .0)) s p (y .1))
     turn = g .same ∙ exec-times put s rest i _ m (state t u m) (λ z. omega arith)
 
-    pub children-no : {n : ℕ} {p : FilePlace} → r ≡ Refused n p → Gives (x .limits) (Refused n p) t′ u′ (exec put (times left (node levels x parent (inTree 0 end)) made) s at (state t₀ u₀ made))
+    pub children-no : {n : ℕ} {p : FilePlace} → r ≡ Refused n p → Gives (x .limits) (Refused n p) t′ u′ (exec put (times left (node levels x parent z) made) s at (state t₀ u₀ made))
     children-no h = no (sym (turn ∙ rw (stopped d h) refl))
 
     -- a node moves on, and ends where its holder does or before
-    pub children-further : end ≤ x .size → {n : Made} {c : Cursor} → r ≡ Done n c → (i < c .at .0) × (c .at .0 ≤ end)
-    children-further o h = let w = at-end (inside-free end (x .size)) s (node-on Nothing end levels x parent (inTree 0 end) m i (omega arith) o) (ran put _ s i (state t u m) (done d h)) in (w .0, w .1)
+    pub children-further : z .end .0 ≤ x .size → {n : Made} {c : Cursor} → r ≡ Done n c → (i < c .at .0) × (c .at .0 ≤ z .end .0)
+    children-further o h = let w = at-end (inside-free (z .end .0) (x .size)) s (node-on Nothing (z .end .0) levels x parent z m i (omega arith) o) (ran put _ s i (state t u m) (done d h)) in (w .0, w .1)
 
     pub children-on : {n : Made} {c : Cursor} → r ≡ Done n c → length t′ ≡ length t → length u′ ≡ length u → Going t′ u′ (c .at .0) (rest - 1) n
     children-on h j k =
         let b = fitting d h in
         record { nodes-long = j ∙ g .nodes-long; items-long = k ∙ g .items-long; nodes-fit = b .0; items-fit = b .1; same = turn ∙ rw (done d h) refl }
 
--- ---- the root
+-- ---- one node alone
 
+once : (f : Made × State → ℕ → Out (Made × State)) → ((y : Made × State) (p : ℕ) → f y p ≡ ok y p) → (o : Out (Made × State)) → andThen o f ≡ o
+once f h (ok y p) = h y p
+once f h (refused n p) = refl
+
+pub one-node : {lim : Limits} {r : Walked} {t u : List ℕ} (body : Made → P Made) (m : Made) (s : List ℕ) (at : ℕ) (σ : State) → Gives lim r t u (exec put (times 1 body m) s at σ) → Gives lim r t u (exec put (body m) s at σ)
+one-node body m s at σ g =
+    let some : (_≡_ {A = ℕ} 1 0) → ⊥ = λ z. omega arith in
+    along (sym (exec-times put s 1 at body m σ some ∙ once _ (λ y p. exec-timed put s (1 - 1) p body (y .0) (y .1) (omega arith)) (exec put (body m) s at σ))) g
+
+-- the root
 pub root-is : {lim : Limits} {r : Walked} {t u : List ℕ} (x : Context) (end : ℕ) (s : List ℕ) (at : ℕ) (σ : State)
-    → Gives lim r t u (exec put (node 16 x 0 (inTree end end) (record { nodes = 0; items = 0 })) s at σ) → Gives lim r t u (exec put (tree x end) s at σ)
+    → Gives lim r t u (exec put (times 1 (node 16 x 0 (inTree end end)) (record { nodes = 0; items = 0 })) s at σ) → Gives lim r t u (exec put (tree x end) s at σ)
 unfolding tree
-root-is x end s at σ g = g
+root-is x end s at σ g = one-node (node 16 x 0 (inTree end end)) _ s at σ g

@@ -10,7 +10,6 @@ ghost use Rattle.header.specs.Told.{headerOf, extentOf};
 ghost use Rattle.header.specs.Header as spec;
 ghost use Rattle.metadata.specs.Tables.{State, nodeWidth, nodeWords, limits, put, state};
 ghost use Rattle.metadata.specs.Told.{contextOf, Gives};
-ghost use Rattle.node.specs.Node.{inTree};
 ghost use Rattle.node.specs.declared.Standing.{Standing};
 ghost use Rattle.cursor.specs.Rows.{inlineSize, Events};
 ghost use Rattle.tree.specs.Tree.{folder, node, tree};
@@ -184,6 +183,13 @@ fn read_node(
             if row.held == 0 {
                 return end_node(next, stop, lim, now);
             }
+            let inside = Standing {
+                least: FilePlace(0),
+                end: stop,
+                taken: stop,
+                named: FilePlace(0),
+                detached: 0,
+            };
             match read_children(
                 next,
                 file,
@@ -193,7 +199,7 @@ fn read_node(
                 scope,
                 levels - 1,
                 index,
-                stop,
+                inside,
                 row.held,
                 now,
             ) {
@@ -204,7 +210,8 @@ fn read_node(
     }
 }
 
-// `left` nodes, one after the other.
+// `left` nodes, one after the other, each of which stands so: the children of a folder. The root and a detached node are read here too, each as one node: so
+// `read_node` is called at one place, the compiler puts it into this loop, and a file node costs no call.
 fn read_children(
     c: Cursor,
     file: &[u8],
@@ -214,24 +221,17 @@ fn read_children(
     scope: Scope,
     levels: usize,
     parent: usize,
-    end: FilePlace,
+    s: Standing,
     left: u64,
     made: Made,
 ) -> Walked
-    requires { ⌜ (end .0 ≤ length (now file)) × (length (now file) < 2 ^ 28) × (scope .types * 2 ≤ length (now types)) × (scope .limits .nodes * 13 ≤ length (now nodes)) × (scope .limits .items * 10 ≤ length (now items)) × (made .nodes ≤ scope .limits .nodes) × (made .items ≤ scope .limits .items) × (levels ≤ 16) ⌝ }
-    ensures { λ r. ⌜ Gives (scope .limits) r (now (nodes .exit)) (now (items .exit)) (exec put (times left (node levels (contextOf scope (now (types .entry)) (length (now (file .entry)))) parent (inTree 0 (end .0))) made) (now (file .entry)) (c .at .0) (state (now (nodes .entry)) (now (items .entry)) made)) ⌝ }
+    requires { ⌜ (s .end .0 ≤ length (now file)) × (length (now file) < 2 ^ 28) × (scope .types * 2 ≤ length (now types)) × (scope .limits .nodes * 13 ≤ length (now nodes)) × (scope .limits .items * 10 ≤ length (now items)) × (made .nodes ≤ scope .limits .nodes) × (made .items ≤ scope .limits .items) × (levels ≤ 17) ⌝ }
+    ensures { λ r. ⌜ Gives (scope .limits) r (now (nodes .exit)) (now (items .exit)) (exec put (times left (node levels (contextOf scope (now (types .entry)) (length (now (file .entry)))) parent s) made) (now (file .entry)) (c .at .0) (state (now (nodes .entry)) (now (items .entry)) made)) ⌝ }
 {
     let mut next = c;
     let mut m = made;
     let mut rest = left;
     while 0 < rest {
-        let s = Standing {
-            least: FilePlace(0),
-            end,
-            taken: end,
-            named: FilePlace(0),
-            detached: 0,
-        };
         match read_node(next, file, types, nodes, items, scope, levels, parent, s, m) {
             Walked::Refused(n, p) => return Walked::Refused(n, p),
             Walked::Done(n, d) => {
@@ -289,7 +289,7 @@ fn read_root(
         named: FilePlace(0),
         detached: 0,
     };
-    read_node(
+    read_children(
         Cursor { at: start },
         file,
         types,
@@ -299,6 +299,7 @@ fn read_root(
         cursor::MOST_DEPTH,
         0,
         s,
+        1,
         none,
     )
 }
@@ -456,7 +457,7 @@ fn reach_from(
             at: FilePlace(place),
         };
         let levels = cursor::MOST_DEPTH + 1;
-        return read_node(
+        return read_children(
             at,
             file,
             types,
@@ -466,6 +467,7 @@ fn reach_from(
             levels,
             made.nodes,
             s,
+            1,
             made,
         );
     }

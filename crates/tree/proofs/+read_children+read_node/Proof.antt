@@ -61,10 +61,10 @@ abbrev node-calls : ℕ → read-node-lts.Claims
 node-calls t = (read-front-reads.Asked, read-front-reads.Learnt, put-node-reads.Asked, put-node-reads.Learnt, of-reads.Asked, of-reads.Learnt, past-inline-reads.Asked, past-inline-reads.Learnt, end-node-reads.Asked, end-node-reads.Learnt, read-children-below t, read-children.Post)
 
 abbrev Inv-loop : read-children-lts.InvT-loop
-Inv-loop file types nodes₀ items₀ scope levels parent end left next₀ m₀ rest₀ nodes items next m rest = Going (contextOf scope types (length file)) file nodes₀ items₀ levels parent (end .0) (next₀ .at .0) left m₀ nodes items (next .at .0) rest m
+Inv-loop file types nodes₀ items₀ scope levels parent z left next₀ m₀ rest₀ nodes items next m rest = Going (contextOf scope types (length file)) file nodes₀ items₀ levels parent z (next₀ .at .0) left m₀ nodes items (next .at .0) rest m
 
 abbrev μ-loop : read-children-lts.MeasureT-loop
-μ-loop file types nodes₀ items₀ scope levels parent end left next₀ m₀ rest₀ nodes items next m rest = end .0 - next .at .0
+μ-loop file types nodes₀ items₀ scope levels parent z left next₀ m₀ rest₀ nodes items next m rest = z .end .0 - next .at .0
 
 read-children-loop-holds : (t : ℕ) → read-children-lts.Need-loop-holds (children-calls t) (read-children-at t) read-children.Post Inv-loop μ-loop
 read-children-loop-holds t c = children-begun _ _ _ _ _ _ _ _ _ _ (omega (arith, c .before .before .before .before .pre)) (omega (arith, c .before .before .before .before .pre))

@@ -9,8 +9,8 @@ use Rattle.tree.proofs.read_root.Tie as tie
 add-t15 : tie.Need-add-t15
 add-t15 c = search needs
 
-read-node-requires : tie.Need-read-node-requires
-read-node-requires c κs = omega (arith, c .before .before .before .before .before .before .before .before .before .before .before .pre)
+read-children-requires : tie.Need-read-children-requires
+read-children-requires c κs = omega (arith, c .before .before .before .before .before .before .before .before .before .before .before .pre)
 
 same-length : tie.Need-same-length
 same-length c = search needs
@@ -19,7 +19,7 @@ same-length-2 : tie.Need-same-length-2
 same-length-2 c = search needs
 
 returns : tie.Need-returns
-returns c = root-is _ _ _ _ _ (c .before .before .before .before .read-node .ensures)
+returns c = root-is _ _ _ _ _ (c .before .before .before .before .read-children .ensures)
 
 pub read-root-spec : {M : Type 1} → statement M
-read-root-spec = tie.close (tie.spec add-t15 read-node-requires same-length same-length-2 returns)
+read-root-spec = tie.close (tie.spec add-t15 read-children-requires same-length same-length-2 returns)
