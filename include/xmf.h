@@ -1,4 +1,4 @@
-/* Five questions about XMF files (versions 1.00, 1.01 and 2.00).
+/* Five questions about XMF files (versions 1.00, 1.01 and 2.00), and two conversions of a text.
  *
  * The functions are in target/staticlib/libcapi.a, which `rt staticlib capi` proves and writes. The
  * archive is for x86-64 Linux and needs no other library.
@@ -58,9 +58,11 @@
  *   19  resolving ends at a folder
  *   20  resolving ends at a URI
  *   21  a fifth reference would be followed
- *   22  the sheet is longer than its buffer
+ *   22  the sheet, or a converted text, is longer than its buffer
  *   23  no such item
  *   24  a detached node overlaps another one, or is a folder
+ *   26  UTF-16 of odd length or with half of a surrogate pair, or bad UTF-8; the place counts in what
+ *       was to be converted
  */
 #ifndef XMF_H
 #define XMF_H
@@ -186,6 +188,32 @@ void xmf_write_sheet(const uint8_t *file, size_t file_length,
                      uint64_t *items, size_t item_words,
                      uint8_t *sheet, size_t sheet_length,
                      uint64_t *answer, size_t answer_words);
+
+/* Converts UTF-16, high byte first, into UTF-8. It takes lent data and lent room alone, no file and no
+ * tables. One leading FEFF is dropped.
+ *
+ *   answer[2]  the number of bytes written
+ *
+ * Bytes of the text's buffer past what is written are 0; after a refusal all are. Refused with 26,
+ * placed in the data where the first bad character begins; then with 22.
+ *
+ * Hidden text is converted only here, on request: the sheet never shows it, and what this function
+ * gives of it is outside demand 3. Do not put it into a ticket.
+ */
+void xmf_utf16_to_utf8(const uint8_t *data, size_t data_length,
+                       uint8_t *text, size_t text_length,
+                       uint64_t *answer, size_t answer_words);
+
+/* Converts UTF-8 into UTF-16, high byte first. Nothing is dropped.
+ *
+ *   answer[2]  the number of bytes written
+ *
+ * Bytes of the data's buffer past what is written are 0; after a refusal all are. Refused with 26,
+ * placed in the text where the first bad character begins; then with 22.
+ */
+void xmf_utf8_to_utf16(const uint8_t *text, size_t text_length,
+                       uint8_t *data, size_t data_length,
+                       uint64_t *answer, size_t answer_words);
 
 #ifdef __cplusplus
 }

@@ -134,6 +134,15 @@ M	1	S	13	0	6	\00\01\01\00\00\00\04
 END
 try mobile.xmf "$root/samples/mobile.xmf"
 
+cat >"$work/wanted" <<'END'
+XMF	1.00	87	1	4
+N	0	0	1	1	83	4
+M	0	S	8	1	2	Færge 𝄞
+M	0	S	8	2	0	Ferry
+M	0	S	9	0	2	\002\d8\00
+END
+try unicode.xmf "$root/samples/unicode.xmf"
+
 printf 'R\t5\t16\n' >"$work/wanted"
 try cut.xmf "$root/samples/cut.xmf"
 

@@ -6,8 +6,8 @@ use Prim.Native.Nat.{ℕ, zero, suc, _-_, _≤_, _<_}
 use native.Mathlib.Omega.{arith}
 use lib.ListN.{length, take, drop, replicate, length-take, length-replicate}
 use lib.Seq.{sets, take-all, length-take-le}
-use Rattle.tree.proofs.Filled.{sets-zeros}
-use Rattle.tree.specs.Reading.{padded}
+use Rattle.room.specs.Room.{padded}
+use Rattle.room.proofs.Sets.{sets-zeros}
 use Rattle.tree.specs.Reading.{Reading, rows, refusal, readFile, answerOf, nodeTable, itemTable}
 use Rattle.tree.specs.Asking.{Result, good, bad, ask, keptNodes, keptItems}
 use Rattle.tree.specs.declared.Answer.{Answer}
@@ -16,8 +16,8 @@ use Rattle.metadata.specs.declared.Limits.{Limits}
 use Rattle.find.specs.Find.{Wanted, standard, custom, Hit, find}
 use Rattle.resolve.specs.Resolve.{Resource, resolve}
 use Rattle.mobile.specs.Mobile.{mobile}
-use Rattle.sheet.specs.Sheet.{write, counted, keptSheet}
-use Rattle.promises.specs.Promises.{Question, readTree, findItem, resolveRow, judgeMobile, writeSheet, Lent, Outcome, treeAnswer, findAnswer, resolveAnswer, numberAnswer, reads, leaves, outcome}
+use Rattle.sheet.specs.Sheet.{write, counted, kept}
+use Rattle.promises.specs.Promises.{Question, readTree, findItem, resolveRow, judgeMobile, writeSheet, Lent, Outcome, treeAnswer, findAnswer, resolveAnswer, numberAnswer, reads, leaves, outcome, Conversion, convert, converted}
 use Rattle.capi.specs.Fit.{fit, asked, treeTold, findWords, foundTold}
 use Rattle.find.specs.declared.Found.{Found}
 use Rattle.find.specs.declared.Found.the-variants as found
@@ -74,7 +74,7 @@ module _ (l : Lent) (f : List ℕ) (size : ℕ) where
 
   pub sheet-left : {a t u : List ℕ} {r : Result ℕ} → r ≡ counted (ask (readFile (lim l) f) (write (l .sheet) f))
       → t ≡ keptNodes (l .nodes) (readFile (lim l) f) (ask (readFile (lim l) f) (write (l .sheet) f)) → u ≡ keptItems (l .items) (readFile (lim l) f) (ask (readFile (lim l) f) (write (l .sheet) f))
-      → {s : List ℕ} → s ≡ keptSheet (l .sheet) (ask (readFile (lim l) f) (write (l .sheet) f))
+      → {s : List ℕ} → s ≡ kept (l .sheet) (ask (readFile (lim l) f) (write (l .sheet) f))
       → {r′ : Result ℕ} → r ≡ r′ → a ≡ fit size (numberAnswer r′) → (a ≡ fit size (outcome writeSheet l f .answer)) × ((t ≡ outcome writeSheet l f .nodes) × ((u ≡ outcome writeSheet l f .items) × (s ≡ outcome writeSheet l f .sheet)))
   unfolding outcome leaves reads
   sheet-left e n i s h k = (k ∙ ap (λ x. fit size (numberAnswer x)) (sym h ∙ e), (n, (i, s)))
@@ -114,3 +114,13 @@ module _ (size : ℕ) {a : List ℕ} where
   pub number-no : (n p : ℕ) → a ≡ fit size (n ∷ p ∷ []) → a ≡ fit size (numberAnswer (bad n p))
   unfolding numberAnswer
   number-no n p e = e
+
+  pub number-is : {r r′ : Result ℕ} → r ≡ r′ → a ≡ fit size (numberAnswer r′) → a ≡ fit size (numberAnswer r)
+  number-is e k = k ∙ ap (λ x. fit size (numberAnswer x)) (sym e)
+
+-- ---- the two conversions
+
+pub convert-left : (c : Conversion) (room : ℕ) (d : List ℕ) (size : ℕ) {a t : List ℕ} {r : Result ℕ} → r ≡ counted (convert c room d) → t ≡ kept room (convert c room d)
+    → a ≡ fit size (numberAnswer r) → (a ≡ fit size (converted c room d .answer)) × (t ≡ converted c room d .text)
+unfolding converted
+convert-left c room d size e k h = (h ∙ ap (λ x. fit size (numberAnswer x)) e, k)

@@ -3,7 +3,7 @@
 use mathlib.Core.List.{List, [], _∷_}
 use Prim.Native.Nat.{ℕ, zero, suc}
 use lib.ListN.{take}
-use Rattle.tree.specs.Reading.{padded}
+use Rattle.room.specs.Room.{padded}
 use Rattle.tree.specs.Asking.{Result}
 use Rattle.tree.specs.declared.Answer.{Answer}
 use Rattle.tree.specs.declared.Answer.the-variants as answer

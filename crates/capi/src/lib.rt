@@ -1,22 +1,24 @@
-// The five questions for C and Rust. Each slice passes as a pointer and a length. The last one is a lent buffer of words for the answer: refusal
+// The five questions and the two conversions for C and Rust. Each slice passes as a pointer and a length. The last one is a lent buffer of words for the answer: refusal
 // number (0: none), place, then the answer's values, and zeros; a short buffer gets what fits.
 ghost use mathlib.Core.Path.{_≡_};
 ghost use mathlib.Core.List.{_∷_, []};
 ghost use Prim.Native.Nat.{ℕ};
 ghost use lib.ListN.{length};
-ghost use Rattle.promises.specs.Promises.{findAnswer, outcome, readTree, findItem, resolveRow, judgeMobile, writeSheet};
+ghost use Rattle.promises.specs.Promises.{findAnswer, outcome, readTree, findItem, resolveRow, judgeMobile, writeSheet, numberAnswer, utf16ToUtf8, utf8ToUtf16, converted};
+ghost use Rattle.unicode.specs.Told.{told};
 ghost use Rattle.capi.specs.Fit.{fit, asked, foundTold};
 use find::Found;
 use mobile::Judged;
 use resolve::Resolved;
 use sheet::Written;
 use tree::Answer;
+use unicode::Converted;
 
 // Sets the buffer to the words, as many as fit, and zeros.
 fn put_answer(answer: &mut [u64], words: &[u64])
     ensures { λ _. ⌜ now (answer .exit) ≡ fit (length (now (answer .entry))) (now (words .entry)) ⌝ }
 {
-    tree::clear(answer);
+    room::clear(answer);
     let room = answer.len();
     if words.len() <= room {
         metadata::store(answer, 0, words);
@@ -163,4 +165,36 @@ pub extern "C" fn xmf_write_sheet(
             put_answer(answer, &words);
         }
     }
+}
+
+// What was converted: the number of bytes written.
+fn put_converted(answer: &mut [u64], done: Converted)
+    ensures { λ _. ⌜ now (answer .exit) ≡ fit (length (now (answer .entry))) (numberAnswer (told done)) ⌝ }
+{
+    match done {
+        Converted::Refused(n, p) => put_refusal(answer, n, p),
+        Converted::Bytes(n) => {
+            let words = [0, 0, n as u64];
+            put_answer(answer, &words);
+        }
+    }
+}
+
+// Converts UTF-16, high byte first, into UTF-8; one leading mark FEFF is dropped. Answer: bytes written. It converts what it is given, hidden text too, and
+// stands outside demand 3.
+#[no_mangle]
+pub extern "C" fn xmf_utf16_to_utf8(units: &[u8], text: &mut [u8], answer: &mut [u64])
+    ensures answer { λ _. ⌜ now (answer .exit) ≡ fit (length (now (answer .entry))) (converted utf16ToUtf8 (length (now (text .entry))) (now (units .entry)) .answer) ⌝ }
+    ensures text { λ _. ⌜ now (text .exit) ≡ converted utf16ToUtf8 (length (now (text .entry))) (now (units .entry)) .text ⌝ }
+{
+    put_converted(answer, unicode::to_utf8(units, text));
+}
+
+// Converts UTF-8 into UTF-16, high byte first. Answer: bytes written.
+#[no_mangle]
+pub extern "C" fn xmf_utf8_to_utf16(text: &[u8], units: &mut [u8], answer: &mut [u64])
+    ensures answer { λ _. ⌜ now (answer .exit) ≡ fit (length (now (answer .entry))) (converted utf8ToUtf16 (length (now (units .entry))) (now (text .entry)) .answer) ⌝ }
+    ensures units { λ _. ⌜ now (units .exit) ≡ converted utf8ToUtf16 (length (now (units .entry))) (now (text .entry)) .text ⌝ }
+{
+    put_converted(answer, unicode::to_utf16(text, units));
 }

@@ -78,3 +78,7 @@ noSuchItem = 23
 
 abbrev pub badDetached : ℕ
 badDetached = 24
+
+-- odd length, lone surrogate or bad UTF-8
+abbrev pub badText : ℕ
+badText = 26

@@ -56,6 +56,8 @@ pub const NO_SUCH_ITEM: u64 = 23;
 
 pub const BAD_DETACHED: u64 = 24;
 
+pub const BAD_TEXT: u64 = 26;
+
 // The words of a row, and how many rows and levels there may be.
 pub const NODE_WIDTH: usize = 13;
 

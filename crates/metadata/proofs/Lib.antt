@@ -1,4 +1,3 @@
-pub mod Sets
 pub mod Storing
 pub mod Quiet
 pub mod Gives

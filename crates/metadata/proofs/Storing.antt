@@ -6,7 +6,7 @@ use native.Mathlib.Numerals.{add-one}
 use native.Mathlib.Omega.{arith}
 use lib.ListN.{length, take, getD, set, length-set}
 use lib.Seq.{sets, take-suc, take-all, length-take-le}
-use Rattle.metadata.proofs.Sets.{sets-append}
+use Rattle.room.proofs.Sets.{sets-append}
 
 -- the first i words are stored
 pub record Storing (t : List ℕ) (at : ℕ) (ws : List ℕ) (i : ℕ) (t′ : List ℕ) : Type 0 where

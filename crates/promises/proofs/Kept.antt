@@ -10,9 +10,10 @@ use native.Mathlib.Omega.{arith}
 use lib.Dec.{T, eqb, leb}
 use lib.ListN.{length, getD, replicate, take, drop, length-take, length-drop}
 use lib.Seq.{getD-take, getD-drop}
-use borrow.Author.Tests.{eq-eqb, ne-eqb}
+use borrow.Author.Tests.{eq-eqb, ne-eqb, leb-true}
 use Rattle.cursor.specs.declared.Node.{Node}
 use Rattle.cursor.specs.declared.Item.{Item}
+use Rattle.room.specs.Room.{choose, padded, fitting, counted, kept}
 use Rattle.header.specs.Header.{Header}
 use Rattle.metadata.specs.Tables.{limits}
 use Rattle.metadata.specs.declared.Limits.{Limits}
@@ -27,9 +28,11 @@ use Rattle.find.proofs.Depends.{find-same}
 use Rattle.resolve.specs.Resolve as resolve
 use Rattle.mobile.specs.Mobile as mobile
 use Rattle.mobile.proofs.Depends.{verdict-depends}
+use Rattle.unicode.specs.Unicode.{toUtf8, toUtf16}
+use Rattle.unicode.proofs.Back.{placed8, placed16}
 use Rattle.sheet.specs.Sheet as sheet
 use Rattle.sheet.proofs.Depends.{sheet-same}
-use Rattle.promises.specs.Promises.{Question, readTree, findItem, resolveRow, judgeMobile, writeSheet, Lent, Outcome, treeAnswer, findAnswer, resolveAnswer, numberAnswer, reads, leaves, outcome, resource, sheetRoom, OnlyThere, Demand1, Demand3}
+use Rattle.promises.specs.Promises.{Question, readTree, findItem, resolveRow, judgeMobile, writeSheet, Lent, Outcome, treeAnswer, findAnswer, resolveAnswer, numberAnswer, reads, leaves, outcome, resource, sheetRoom, answered, refused, Conversion, utf16ToUtf8, utf8ToUtf16, convert, Converted, converted, OnlyThere, Demand1, Demand1Text, Demand3}
 
 -- ---- which data may not differ
 
@@ -75,7 +78,7 @@ module _ (l : Lent) (f g : List ℕ) (h : Header) (ns : List Node) (is : List It
 
   sheet-alike : (room : ℕ) → sheet.write room g h ns is ≡ sheet.write room f h ns is
   unfolding sheet.write
-  sheet-alike room = ap (sheet.fitting room) (sym (sheet-same f g h ns is (d .same-length) (λ i m. (λ e. row i m .1 (even-kept (itemAt is i) e), λ e. named (itemAt is i) (row i m .0) e))))
+  sheet-alike room = ap (λ (s : List ℕ). sheet.fitting room (good s)) (sym (sheet-same f g h ns is (d .same-length) (λ i m. (λ e. row i m .1 (even-kept (itemAt is i) e), λ e. named (itemAt is i) (row i m .0) e))))
 
   -- a question that answers the same of the rows
   asks-alike : {A : Type 0} (q : List ℕ → Header → List Node → List Item → Result A) → q g h ns is ≡ q f h ns is → ask (reads l g) (q g) ≡ ask (reads l f) (q f)
@@ -180,7 +183,7 @@ sheet-own : (room : ℕ) (f : List ℕ) (h : Header) (ns : List Node) (is : List
 unfolding sheet.write sheet.fitting
 sheet-own room f h ns is = go (leb _ room) _
   where
-    go : (b : Bool) (s : List ℕ) → Own (sheet.choose b (good s) (bad 22 0))
+    go : (b : Bool) (s : List ℕ) → Own (choose b (good s) (bad 22 0))
     go true s = tt
     go false s = omega arith
 
@@ -217,8 +220,8 @@ module _ (l : Lent) (o : Reading) where
   number-tidy (good a) k = (omega arith, λ z. absurd (omega arith))
   number-tidy (bad n p) k = (k .1, λ z. (refl, refl, refl))
 
-  sheet-tidy : (r : Result (List ℕ)) → Own r → Tidy (l .sheet) l (leaves l o r (numberAnswer (sheet.counted r)) (sheet.keptSheet (l .sheet) r))
-  unfolding leaves numberAnswer sheet.counted sheet.keptSheet keptNodes keptItems
+  sheet-tidy : (r : Result (List ℕ)) → Own r → Tidy (l .sheet) l (leaves l o r (numberAnswer (sheet.counted r)) (sheet.kept (l .sheet) r))
+  unfolding leaves numberAnswer sheet.counted sheet.kept keptNodes keptItems
   sheet-tidy (good s) k = (omega arith, λ z. absurd (omega arith))
   sheet-tidy (bad n p) k = (k .1, λ z. (refl, refl, refl))
 
@@ -238,3 +241,30 @@ demand1 (findItem w row) l f = find-tidy l (reads l f) _ (asked-own (reads l f) 
 demand1 (resolveRow row) l f = resolve-tidy l (reads l f) _ (asked-own (reads l f) (resolve.resolve row) (reader-own l f) (resolve-own row))
 demand1 judgeMobile l f = number-tidy l (reads l f) _ (asked-own (reads l f) (mobile.mobile f) (reader-own l f) (mobile-own f))
 demand1 writeSheet l f = sheet-tidy l (reads l f) _ (asked-own (reads l f) (sheet.write (l .sheet) f) (reader-own l f) (sheet-own (l .sheet) f))
+
+-- ---- the conversions
+
+abbrev leftBy : ℕ → Result (List ℕ) → Converted
+leftBy room r = record { answer = numberAnswer (counted r); text = kept room r }
+
+-- what demand 1 says of a conversion that comes to r
+abbrev Left : (room size : ℕ) → Result (List ℕ) → Type 0
+Left room size r =
+    ((p : ℕ) × (p < size) × (leftBy room r ≡ record { answer = refused 26 p; text = replicate room 0 }))
+    ⊎ ((leftBy room r ≡ record { answer = refused 22 0; text = replicate room 0 })
+    ⊎ ((t : List ℕ) × (length t ≤ room) × (leftBy room r ≡ record { answer = answered (length t ∷ []); text = padded room t })))
+
+fits-or : (room size : ℕ) (t : List ℕ) (b : Bool) → leb (length t) room ≡ b → Left room size (choose b (good t) (bad 22 0))
+unfolding numberAnswer counted kept
+fits-or room size t true e = inr (inr (t, leb-true (length t) room e, refl))
+fits-or room size t false e = inr (inl refl)
+
+fitted : (room size : ℕ) (r : Result (List ℕ)) → ((n p : ℕ) → r ≡ bad n p → (n ≡ 26) × (p < size)) → Left room size (fitting room r)
+unfolding fitting numberAnswer counted kept
+fitted room size (good t) h = fits-or room size t (leb (length t) room) refl
+fitted room size (bad n p) h = let w = h n p refl in rw (w .0) (inl (p, w .1, refl))
+
+pub demand1-text : Demand1Text
+unfolding converted convert
+demand1-text utf16ToUtf8 room d = fitted room (length d) (toUtf8 d) (λ n p. placed8 d)
+demand1-text utf8ToUtf16 room d = fitted room (length d) (toUtf16 d) (λ n p. placed16 d)

@@ -1,11 +1,14 @@
--- The page that a user reads: the five questions, what each leaves behind, and what is promised of them. Proofs are in proofs/Kept.antt.
+-- The page that a user reads: the five questions and the two conversions, what each leaves behind, and what is promised of them. Proofs are in proofs/Kept.antt.
 -- Assumes nothing.
 use mathlib.Core.Path.{_≡_}
+use mathlib.Core.Logic.{_⊎_}
 use mathlib.Core.List.{List, [], _∷_}
 use Prim.Native.Nat.{ℕ, _+_, _≤_, _<_}
 use lib.ListN.{length, getD, replicate}
+use Rattle.cursor.specs.Refusals.{noRoom, badText}
 use Rattle.cursor.specs.declared.Node.{Node}
 use Rattle.cursor.specs.declared.Item.{Item}
+use Rattle.room.specs.Room.{padded, fitting, counted, kept}
 use Rattle.header.specs.Header.{Header}
 use Rattle.metadata.specs.Tables.{limits, itemWords}
 use Rattle.tree.specs.Reading.{Reading, rows, refusal, readFile, nodeTable, itemTable}
@@ -14,6 +17,7 @@ use Rattle.tree.specs.Hidden.{DifferInPrivate}
 use Rattle.find.specs.Find as find
 use Rattle.resolve.specs.Resolve as resolve
 use Rattle.mobile.specs.Mobile as mobile
+use Rattle.unicode.specs.Unicode.{toUtf8, toUtf16}
 use Rattle.sheet.specs.Sheet as sheet
 
 -- ---- questions, and what is lent
@@ -80,7 +84,7 @@ outcome (findItem w row) l f = leaves l (reads l f) (ask (reads l f) (find.find 
 outcome (resolveRow row) l f = leaves l (reads l f) (ask (reads l f) (resolve.resolve row)) (resolveAnswer (ask (reads l f) (resolve.resolve row))) []
 outcome judgeMobile l f = leaves l (reads l f) (ask (reads l f) (mobile.mobile f)) (numberAnswer (ask (reads l f) (mobile.mobile f))) []
 outcome writeSheet l f =
-    leaves l (reads l f) (ask (reads l f) (sheet.write (l .sheet) f)) (numberAnswer (sheet.counted (ask (reads l f) (sheet.write (l .sheet) f)))) (sheet.keptSheet (l .sheet) (ask (reads l f) (sheet.write (l .sheet) f)))
+    leaves l (reads l f) (ask (reads l f) (sheet.write (l .sheet) f)) (numberAnswer (sheet.counted (ask (reads l f) (sheet.write (l .sheet) f)))) (sheet.kept (l .sheet) (ask (reads l f) (sheet.write (l .sheet) f)))
 
 -- what the second call of resolve gives: the part of the file itself
 unfoldable pub resource : (row : ℕ) → Lent → List ℕ → List ℕ
@@ -94,6 +98,25 @@ sheetRoom (resolveRow row) l = 0
 sheetRoom judgeMobile l = 0
 sheetRoom writeSheet l = l .sheet
 
+-- ---- the conversions of a text: calls on lent data and lent room alone, with no file and no tables
+
+pub data Conversion : Type 0 where
+  utf16ToUtf8 : Conversion
+  utf8ToUtf16 : Conversion
+
+-- the converted bytes, if `room` bytes hold them
+unfoldable pub convert : Conversion → (room : ℕ) → List ℕ → Result (List ℕ)
+convert utf16ToUtf8 room d = fitting room (toUtf8 d)
+convert utf8ToUtf16 room d = fitting room (toUtf16 d)
+
+-- what a conversion leaves: its answer in words, and the room that it fills
+pub record Converted : Type 0 where
+  pub answer : List ℕ
+  pub text : List ℕ
+
+unfoldable pub converted : Conversion → (room : ℕ) → List ℕ → Converted
+converted c room d = record { answer = numberAnswer (counted (convert c room d)); text = kept room (convert c room d) }
+
 -- ---- the promises
 
 -- Demand 1. Whatever the bytes, the tables and the question: the answer's first word is 0 or a number of the list; and where it is a refusal, every
@@ -102,6 +125,14 @@ abbrev pub Demand1 : Type 0
 Demand1 = (q : Question) (l : Lent) (f : List ℕ)
     → (getD (outcome q l f .answer) 0 0 ≤ 24)
     × ((0 < getD (outcome q l f .answer) 0 0) → (outcome q l f .nodes ≡ replicate (l .nodes) 0) × (outcome q l f .items ≡ replicate (l .items) 0) × (outcome q l f .sheet ≡ replicate (sheetRoom q l) 0))
+
+-- Demand 1 of the conversions. Whatever the data and the room: the call is refused with 26, placed in the data, or with 22, and leaves zeros; or it
+-- answers the number of bytes written, which stand in front with zeros behind them.
+abbrev pub Demand1Text : Type 0
+Demand1Text = (c : Conversion) (room : ℕ) (d : List ℕ)
+    → ((p : ℕ) × (p < length d) × (converted c room d ≡ record { answer = refused badText p; text = replicate room 0 }))
+    ⊎ ((converted c room d ≡ record { answer = refused noRoom 0; text = replicate room 0 })
+    ⊎ ((t : List ℕ) × (length t ≤ room) × (converted c room d ≡ record { answer = answered (length t ∷ []); text = padded room t })))
 
 -- two parts of equal length, which stand in the files f and g at the same place, differ only where the files do
 abbrev pub OnlyThere : (f g : List ℕ) (place : ℕ) (x y : List ℕ) → Type 0

@@ -1,4 +1,4 @@
--- The cases of document 01, 'On both sides', and others of the five questions, computed in one test.
+-- The cases of document 01, 'On both sides', and others of the five questions and of the conversions, computed in one test.
 -- Assumes nothing.
 use mathlib.Core.Path.{_≡_, refl}
 use mathlib.Core.Bool.{not, _&&_, _||_}
@@ -23,6 +23,7 @@ use Rattle.tree.specs.Hidden.{isHidden}
 use Rattle.find.specs.Find as find
 use Rattle.resolve.specs.Resolve as resolve
 use Rattle.mobile.specs.Mobile as mobile
+use Rattle.unicode.specs.Unicode as unicode
 use Rattle.sheet.specs.Sheet as sheet
 
 -- the number that the bytes begin with
@@ -65,6 +66,25 @@ tailSheet = take 10 workedSheet ++ 0x37 ∷ drop 11 workedSheet
 -- the worked file with another reference in its last node: the byte before the inline data
 abbrev pub withReference : ℕ → List ℕ
 withReference b = take 53 worked ++ b ∷ drop 54 worked
+
+-- a file whose title stands in UTF-16, with a mark in front, and in another language; a text of format 2 that does not convert; a hidden text of format 3
+abbrev pub titled : List ℕ
+titled =
+    0x58 ∷ 0x4D ∷ 0x46 ∷ 0x5F ∷ 0x31 ∷ 0x2E ∷ 0x30 ∷ 0x30 ∷ 0x57 ∷ 0x0B ∷ 0x02 ∷ 0x01 ∷ 0x02 ∷ 0x02 ∷ 0x64 ∷ 0x61
+    ∷ 0x02 ∷ 0x00 ∷ 0x02 ∷ 0x65 ∷ 0x6E ∷ 0x17 ∷ 0x56 ∷ 0x40 ∷ 0x00 ∷ 0x3B ∷ 0x36 ∷ 0x00 ∷ 0x08 ∷ 0x02 ∷ 0x01 ∷ 0x12
+    ∷ 0xFE ∷ 0xFF ∷ 0x00 ∷ 0x46 ∷ 0x00 ∷ 0xE6 ∷ 0x00 ∷ 0x72 ∷ 0x00 ∷ 0x67 ∷ 0x00 ∷ 0x65 ∷ 0x00 ∷ 0x20 ∷ 0xD8 ∷ 0x34
+    ∷ 0xDD ∷ 0x1E ∷ 0x02 ∷ 0x05 ∷ 0x46 ∷ 0x65 ∷ 0x72 ∷ 0x72 ∷ 0x79 ∷ 0x00 ∷ 0x09 ∷ 0x00 ∷ 0x05 ∷ 0x02 ∷ 0x00 ∷ 0x32
+    ∷ 0xD8 ∷ 0x00 ∷ 0x03 ∷ 0x6B ∷ 0x65 ∷ 0x79 ∷ 0x00 ∷ 0x09 ∷ 0x03 ∷ 0x00 ∷ 0x6B ∷ 0x00 ∷ 0x6F ∷ 0x00 ∷ 0x64 ∷ 0x00
+    ∷ 0x65 ∷ 0x00 ∷ 0x01 ∷ 0x74 ∷ 0x75 ∷ 0x6E ∷ 0x65 ∷ []
+
+-- its sheet
+abbrev pub titledSheet : List ℕ
+titledSheet =
+    0x58 ∷ 0x4D ∷ 0x46 ∷ 0x09 ∷ 0x31 ∷ 0x2E ∷ 0x30 ∷ 0x30 ∷ 0x09 ∷ 0x38 ∷ 0x37 ∷ 0x09 ∷ 0x31 ∷ 0x09 ∷ 0x34 ∷ 0x0A
+    ∷ 0x4E ∷ 0x09 ∷ 0x30 ∷ 0x09 ∷ 0x30 ∷ 0x09 ∷ 0x31 ∷ 0x09 ∷ 0x31 ∷ 0x09 ∷ 0x38 ∷ 0x33 ∷ 0x09 ∷ 0x34 ∷ 0x0A
+    ∷ 0x4D ∷ 0x09 ∷ 0x30 ∷ 0x09 ∷ 0x53 ∷ 0x09 ∷ 0x38 ∷ 0x09 ∷ 0x31 ∷ 0x09 ∷ 0x32 ∷ 0x09 ∷ 0x46 ∷ 0xC3 ∷ 0xA6 ∷ 0x72 ∷ 0x67 ∷ 0x65 ∷ 0x20 ∷ 0xF0 ∷ 0x9D ∷ 0x84 ∷ 0x9E ∷ 0x0A
+    ∷ 0x4D ∷ 0x09 ∷ 0x30 ∷ 0x09 ∷ 0x53 ∷ 0x09 ∷ 0x38 ∷ 0x09 ∷ 0x32 ∷ 0x09 ∷ 0x30 ∷ 0x09 ∷ 0x46 ∷ 0x65 ∷ 0x72 ∷ 0x72 ∷ 0x79 ∷ 0x0A
+    ∷ 0x4D ∷ 0x09 ∷ 0x30 ∷ 0x09 ∷ 0x53 ∷ 0x09 ∷ 0x39 ∷ 0x09 ∷ 0x30 ∷ 0x09 ∷ 0x32 ∷ 0x09 ∷ 0x5C ∷ 0x30 ∷ 0x30 ∷ 0x32 ∷ 0x5C ∷ 0x64 ∷ 0x38 ∷ 0x5C ∷ 0x30 ∷ 0x30 ∷ 0x0A ∷ []
 
 -- ---- rows that stand alone
 
@@ -195,5 +215,15 @@ cases : (first (0x7F ∷ []) ≡ ok 127 1)
     × (nodesRead (small 28 13 19 (to 28 ++ holding)) ≡ bad 16 19)
     × (nodesRead (small 20 13 19 (to 14)) ≡ bad 16 19)
     × (nodesRead (small 27 20 26 (0x08 ∷ 0x00 ∷ 0x05 ∷ 0x00 ∷ 0x00 ∷ 0x01 ∷ 0xAA ∷ to 13)) ≡ bad 8 13)
-unfolding run trace rowsOf _>>=_ _>>_ if_then_else_ place skip check turns many times next digits number block manufacturer guidBytes guid formatOf either four opening edition fileLength entry typesTable extent header field contents itemFrame universal declaredFormat version rowsFor item nextItem metaItems metadata headerLength head value identifier unpacker entries unpackers resource nodePlace uriPlace target reference rest front folder node tree.tree startsAt offsetAt lost logged outside partEnd takenFrom detachedAt reach follow tree.detached reading readTree readFile first full ask places nodesRead isHidden find.choose find.sameBytes find.matches find.among find.firstRow find.own find.look find.orElse find.climb find.nearest find.find resolve.if_then_else_ resolve.rowStarting resolve.named resolve.reached resolve.chain resolve.part mobile.all mobile.keepIf mobile.those mobile.isEmpty mobile.isField mobile.isBinary mobile.choose mobile.roleOfType mobile.roleOfNumber mobile.roleOfRow mobile.roleOfRows mobile.roleOf mobile.roles mobile.childRoles mobile.count mobile.rowOf mobile.rightEdition mobile.isFile mobile.filesOnly mobile.isPlain mobile.plainReferences mobile.isUnpacked mobile.noUnpackers mobile.childrenTyped mobile.tuneRow mobile.bankRow mobile.oneTune mobile.isNeed mobile.tuneNeeds mobile.isShort mobile.fieldSize mobile.isSmall mobile.smallFields mobile.check mobile.verdict mobile.mobile sheet.digits sheet.decimal sheet.hexDigit sheet.plain sheet.escaped sheet.escapedPart sheet.tabbed sheet.number sheet.versionText sheet.firstLine sheet.nodeLine sheet.label sheet.textOf sheet.itemLine sheet.visibleLine sheet.nodeLines sheet.itemLines sheet.linesOf sheet.sheetOf sheet.fitting sheet.write
-cases = (refl, refl, refl, refl, refl, refl, refl, refl, refl, refl, refl, refl, refl, refl, refl, refl, refl, refl, refl, refl, refl, refl, refl, refl, refl, refl, refl, refl, refl, refl, refl, refl, refl, refl, refl, refl, refl, refl, refl, refl, refl, refl, refl, refl, refl, refl, refl)
+    × (ask (full titled) (sheet.write 100 titled) ≡ good titledSheet)
+    × (unicode.toUtf8 (0xFE ∷ 0xFF ∷ 0x00 ∷ 0x41 ∷ 0x20 ∷ 0xAC ∷ 0xD8 ∷ 0x34 ∷ 0xDD ∷ 0x1E ∷ []) ≡ good (0x41 ∷ 0xE2 ∷ 0x82 ∷ 0xAC ∷ 0xF0 ∷ 0x9D ∷ 0x84 ∷ 0x9E ∷ []))
+    × (unicode.toUtf8 (0xFE ∷ 0xFF ∷ 0xFE ∷ 0xFF ∷ []) ≡ good (0xEF ∷ 0xBB ∷ 0xBF ∷ []))
+    × (unicode.toUtf8 (0x00 ∷ 0x41 ∷ 0x00 ∷ []) ≡ bad 26 2)
+    × (unicode.toUtf8 (0x00 ∷ 0x41 ∷ 0xD8 ∷ 0x00 ∷ 0xDC ∷ []) ≡ bad 26 2)
+    × (unicode.toUtf8 (0xDC ∷ 0x00 ∷ 0xD8 ∷ 0x00 ∷ []) ≡ bad 26 0)
+    × (unicode.toUtf16 (0xEF ∷ 0xBB ∷ 0xBF ∷ 0xF0 ∷ 0x90 ∷ 0x80 ∷ 0x80 ∷ []) ≡ good (0xFE ∷ 0xFF ∷ 0xD8 ∷ 0x00 ∷ 0xDC ∷ 0x00 ∷ []))
+    × (unicode.toUtf16 (0x41 ∷ 0xC1 ∷ 0x81 ∷ []) ≡ bad 26 1)
+    × (unicode.toUtf16 (0xED ∷ 0xA0 ∷ 0x80 ∷ []) ≡ bad 26 0)
+    × (unicode.toUtf16 (0xF4 ∷ 0x90 ∷ 0x80 ∷ 0x80 ∷ []) ≡ bad 26 0)
+unfolding run trace rowsOf _>>=_ _>>_ if_then_else_ place skip check turns many times next digits number block manufacturer guidBytes guid formatOf either four opening edition fileLength entry typesTable extent header field contents itemFrame universal declaredFormat version rowsFor item nextItem metaItems metadata headerLength head value identifier unpacker entries unpackers resource nodePlace uriPlace target reference rest front folder node tree.tree startsAt offsetAt lost logged outside partEnd takenFrom detachedAt reach follow tree.detached reading readTree readFile first full ask places nodesRead isHidden find.choose find.sameBytes find.matches find.among find.firstRow find.own find.look find.orElse find.climb find.nearest find.find resolve.if_then_else_ resolve.rowStarting resolve.named resolve.reached resolve.chain resolve.part mobile.all mobile.keepIf mobile.those mobile.isEmpty mobile.isField mobile.isBinary mobile.choose mobile.roleOfType mobile.roleOfNumber mobile.roleOfRow mobile.roleOfRows mobile.roleOf mobile.roles mobile.childRoles mobile.count mobile.rowOf mobile.rightEdition mobile.isFile mobile.filesOnly mobile.isPlain mobile.plainReferences mobile.isUnpacked mobile.noUnpackers mobile.childrenTyped mobile.tuneRow mobile.bankRow mobile.oneTune mobile.isNeed mobile.tuneNeeds mobile.isShort mobile.fieldSize mobile.isSmall mobile.smallFields mobile.check mobile.verdict mobile.mobile sheet.digits sheet.decimal sheet.hexDigit sheet.plain sheet.escaped sheet.escapedPart sheet.tabbed sheet.number sheet.versionText sheet.firstLine sheet.nodeLine sheet.label sheet.textOf sheet.itemLine sheet.visibleLine sheet.nodeLines sheet.itemLines sheet.linesOf sheet.sheetOf sheet.fitting sheet.write sheet.part sheet.shownByte sheet.shown sheet.shownOr sheet.unicodeText unicode.units unicode.bytesOf unicode.utf16 unicode.bytes16 unicode.utf8 unicode.paired unicode.ofUnits unicode.first16 unicode.tails unicode.first8 unicode.before unicode.next unicode.chars unicode.bytesAll unicode.unmark unicode.written unicode.converted unicode.toUtf8 unicode.toUtf16
+cases = (refl, refl, refl, refl, refl, refl, refl, refl, refl, refl, refl, refl, refl, refl, refl, refl, refl, refl, refl, refl, refl, refl, refl, refl, refl, refl, refl, refl, refl, refl, refl, refl, refl, refl, refl, refl, refl, refl, refl, refl, refl, refl, refl, refl, refl, refl, refl, refl, refl, refl, refl, refl, refl, refl, refl, refl, refl)

@@ -13,7 +13,8 @@ use Rattle.cursor.specs.declared.Item.{Item}
 use Rattle.header.specs.Header.{Header}
 use Rattle.tree.specs.Rows.{itemAt}
 use Rattle.tree.specs.Hidden.{isHidden}
-use Rattle.sheet.specs.Sheet.{choose, escaped, escapedPart, tabbed, number, label, textOf, itemLine, visibleLine, itemLines, linesOf, sheetOf}
+use Rattle.room.specs.Room.{choose}
+use Rattle.sheet.specs.Sheet.{escaped, escapedPart, part, unicodeText, tabbed, number, label, textOf, itemLine, visibleLine, itemLines, linesOf, sheetOf}
 
 -- the files agree on n bytes from `at` on
 abbrev pub Agree : List ℕ → List ℕ → ℕ → ℕ → Type 0
@@ -28,6 +29,11 @@ unfolding escapedPart
 part-same f g at zero h = refl
 part-same f g at (suc n) h = ap₂ (λ (b : ℕ) (t : List ℕ). escaped b ++ t) (h at (omega arith) (omega arith)) (part-same f g (at + 1) n (λ k l m. h k (omega arith) (omega arith)))
 
+bytes-same : (f g : List ℕ) (at n : ℕ) → Agree f g at n → part f at n ≡ part g at n
+unfolding part
+bytes-same f g at zero h = refl
+bytes-same f g at (suc n) h = ap₂ (λ (b : ℕ) (t : List ℕ). b ∷ t) (h at (omega arith) (omega arith)) (bytes-same f g (at + 1) n (λ k l m. h k (omega arith) (omega arith)))
+
 module _ (f g : List ℕ) (r : Item) (h : Shown f g r) where
   label-by : (b : Bool) → eqb (r .kind) 1 ≡ b
       → choose b (tabbed (0x43 ∷ tabbed (escapedPart f (r .field) (r .named)))) (tabbed (0x53 ∷ number (r .field))) ≡ choose b (tabbed (0x43 ∷ tabbed (escapedPart g (r .field) (r .named)))) (tabbed (0x53 ∷ number (r .field)))
@@ -39,8 +45,8 @@ module _ (f g : List ℕ) (r : Item) (h : Shown f g r) where
   label-same = label-by (eqb (r .kind) 1) refl
 
   text-same : r .format % 2 ≡ 0 → textOf f r ≡ textOf g r
-  unfolding textOf
-  text-same e = part-same f g (r .place) (r .size) (h .0 e)
+  unfolding textOf unicodeText
+  text-same e = rw (part-same f g (r .place) (r .size) (h .0 e), bytes-same f g (r .place) (r .size) (h .0 e))
 
   line-same : r .format % 2 ≡ 0 → itemLine f r ≡ itemLine g r
   unfolding itemLine

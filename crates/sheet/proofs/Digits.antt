@@ -10,8 +10,9 @@ use native.Mathlib.Omega.{arith}
 use lib.Dec.{ltb}
 use lib.ListN.{length, length-append, length-set, set}
 use lib.Seq.{sets, set-comm, length-sets}
-use Rattle.sheet.specs.Sheet.{choose, digits, decimal}
-use Rattle.sheet.specs.Puts.{Puts}
+use Rattle.room.specs.Room.{choose}
+use Rattle.sheet.specs.Sheet.{digits, decimal}
+use Rattle.room.specs.Puts.{Puts}
 use Rattle.sheet.proofs.Lines.{decimal-one, decimal-more}
 
 -- the digits before the last one: none where nothing is left

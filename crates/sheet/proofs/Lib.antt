@@ -1,5 +1,5 @@
-pub mod Putting
 pub mod Lines
 pub mod Digits
 pub mod Asked
 pub mod Depends
+pub mod Shown

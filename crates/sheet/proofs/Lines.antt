@@ -15,8 +15,9 @@ use Rattle.cursor.specs.declared.Item.{Item}
 use Rattle.tree.specs.Rows.{nodeFrom, itemFrom, nodesFrom, itemsFrom, nodesIn, itemsIn}
 use Rattle.tree.proofs.Rows.{nodes-in-length, items-in-length}
 use Rattle.tree.specs.Hidden.{isHidden}
-use Rattle.sheet.specs.Sheet.{choose, digits, decimal, hexDigit, plain, escaped, escapedPart, tabbed, number, versionText, firstLine, nodeLine, label, textOf, itemLine, visibleLine, nodeLines, itemLines, linesOf}
-use Rattle.sheet.specs.Puts.{ItemInside}
+use Rattle.room.specs.Room.{choose}
+use Rattle.sheet.specs.Sheet.{digits, decimal, hexDigit, plain, escaped, escapedPart, unicodeText, tabbed, number, versionText, firstLine, nodeLine, label, textOf, itemLine, visibleLine, nodeLines, itemLines, linesOf}
+use Rattle.sheet.specs.Inside.{ItemInside}
 
 -- ---- decimal numbers
 
@@ -94,6 +95,10 @@ pub number-is : (n : ℕ) → (0x09 ∷ []) ++ decimal n ≡ number n
 unfolding number tabbed
 number-is n = refl
 
+pub number-one : (n : ℕ) → n < 10 → (0x09 ∷ []) ++ ((0x30 + n) ∷ []) ≡ number n
+unfolding number tabbed
+number-one n l = let e : n % 10 ≡ n = omega arith in rw (decimal-one n l, e)
+
 pub version-is : (v : ℕ) → decimal (v / 100) ++ (0x2E ∷ []) ++ decimal (v / 10 % 10) ++ decimal (v % 10) ≡ versionText v
 unfolding versionText
 version-is v = simp append-assoc
@@ -113,9 +118,13 @@ pub item-is : (f : List ℕ) (r : Item)
 unfolding itemLine tabbed
 item-is f r = simp append-assoc
 
-pub text-is : (f : List ℕ) (r : Item) → escapedPart f (r .place) (r .size) ≡ textOf f r
+pub text-unicode : (f : List ℕ) (r : Item) → r .format ≡ 2 → unicodeText f (r .place) (r .size) ≡ textOf f r
 unfolding textOf
-text-is f r = refl
+text-unicode f r e = simp (eq-eqb (r .format) 2 e)
+
+pub text-plain : (f : List ℕ) (r : Item) → (r .format ≡ 2 → ⊥) → escapedPart f (r .place) (r .size) ≡ textOf f r
+unfolding textOf
+text-plain f r n = simp (ne-eqb (r .format) 2 n)
 
 pub lines-are : (v n m : ℕ) (f ws us : List ℕ) → firstLine v (length f) n m ++ nodeLines 0 (nodesIn n ws) ++ itemLines f (itemsIn m us) ≡ linesOf v f (nodesIn n ws) (itemsIn m us)
 unfolding linesOf

@@ -1,3 +1,3 @@
 pub mod Sheet
 pub mod Told
-pub mod Puts
+pub mod Inside

@@ -1,22 +1,17 @@
--- The support sheet (01, Support sheet): lines of fields, written with bytes. And what the question answers and leaves in the sheet's buffer.
+-- The support sheet (01, Support sheet; 02, E6): lines of fields, written with bytes. And what the question answers.
 -- Assumes nothing.
-use mathlib.Core.Bool.{Bool, true, false, not, _&&_}
+use mathlib.Core.Bool.{Bool, not, _&&_}
 use mathlib.Core.List.{List, [], _∷_, _++_}
 use Prim.Native.Nat.{ℕ, zero, suc, _+_, _-_, _/_, _%_}
 use lib.Dec.{ltb, leb, eqb}
-use lib.ListN.{length, getD, replicate}
-use Rattle.cursor.specs.Refusals.{noRoom}
+use lib.ListN.{length, getD}
 use Rattle.cursor.specs.declared.Node.{Node}
 use Rattle.cursor.specs.declared.Item.{Item}
+use Rattle.room.specs.Room.{Result, good, bad, choose}
+unfoldable pub use Rattle.room.specs.Room.{fitting, counted, kept}
 use Rattle.header.specs.Header.{Header}
-use Rattle.tree.specs.Reading.{padded}
-use Rattle.tree.specs.Asking.{Result, good, bad}
 use Rattle.tree.specs.Hidden.{isHidden}
-
--- the first where the test holds, else the second
-abbrev pub choose : {A : Type 0} → Bool → A → A → A
-choose true a b = a
-choose false a b = b
+use Rattle.unicode.specs.Unicode.{toUtf8}
 
 -- ---- numbers and bytes
 
@@ -41,10 +36,34 @@ plain b = leb 0x20 b && leb b 0x7E && not (eqb b 0x5C)
 unfoldable pub escaped : ℕ → List ℕ
 escaped b = choose (plain b) (b ∷ []) (0x5C ∷ hexDigit (b / 16) ∷ hexDigit (b % 16) ∷ [])
 
--- n bytes of the file, from `at` on
+-- n bytes of the file, from `at` on, escaped
 unfoldable pub escapedPart : List ℕ → ℕ → ℕ → List ℕ
 escapedPart f at zero = []
 escapedPart f at (suc n) = escaped (getD f at 0) ++ escapedPart f (at + 1) n
+
+-- ---- a text in UTF-16
+
+-- n bytes of the file, from `at` on, as they are
+unfoldable pub part : List ℕ → ℕ → ℕ → List ℕ
+part f at zero = []
+part f at (suc n) = getD f at 0 ∷ part f (at + 1) n
+
+-- a byte of a converted text: from 80h up as itself, else escaped
+unfoldable pub shownByte : ℕ → List ℕ
+shownByte b = choose (ltb b 0x80) (escaped b) (b ∷ [])
+
+unfoldable pub shown : List ℕ → List ℕ
+shown [] = []
+shown (b ∷ t) = shownByte b ++ shown t
+
+-- the converted text, or `old` where there is none
+unfoldable pub shownOr : Result (List ℕ) → List ℕ → List ℕ
+shownOr (good t) old = shown t
+shownOr (bad n p) old = old
+
+-- n bytes of the file: converted into UTF-8, or escaped where they do not convert
+unfoldable pub unicodeText : List ℕ → ℕ → ℕ → List ℕ
+unicodeText f at n = shownOr (toUtf8 (part f at n)) (escapedPart f at n)
 
 -- ---- lines: a field after the first has a tab before it
 
@@ -70,9 +89,9 @@ nodeLine k r = 0x4E ∷ number k ++ number (r .parent) ++ number (r .depth) ++ n
 unfoldable pub label : List ℕ → Item → List ℕ
 label f r = choose (eqb (r .kind) 1) (tabbed (0x43 ∷ tabbed (escapedPart f (r .field) (r .named)))) (tabbed (0x53 ∷ number (r .field)))
 
--- the row's data
+-- the row's data: format 2 is UTF-16, every other format stands as its bytes
 unfoldable pub textOf : List ℕ → Item → List ℕ
-textOf f r = escapedPart f (r .place) (r .size)
+textOf f r = choose (eqb (r .format) 2) (unicodeText f (r .place) (r .size)) (escapedPart f (r .place) (r .size))
 
 -- `M`, node row, `S` or `C`, field, version, format, text
 unfoldable pub itemLine : List ℕ → Item → List ℕ
@@ -103,18 +122,5 @@ sheetOf f h ns is = linesOf (h .version) f ns is
 -- ---- the question
 
 -- the sheet, if a buffer of `room` bytes holds it
-unfoldable pub fitting : ℕ → List ℕ → Result (List ℕ)
-fitting room s = choose (leb (length s) room) (good s) (bad noRoom 0)
-
 unfoldable pub write : ℕ → List ℕ → Header → List Node → List Item → Result (List ℕ)
-write room f h ns is = fitting room (sheetOf f h ns is)
-
--- the answer: the number of bytes
-unfoldable pub counted : Result (List ℕ) → Result ℕ
-counted (good s) = good (length s)
-counted (bad n p) = bad n p
-
--- what the buffer holds: the sheet and zeros to its end; on a refusal zeros
-unfoldable pub keptSheet : ℕ → Result (List ℕ) → List ℕ
-keptSheet room (good s) = padded room s
-keptSheet room (bad n p) = replicate room 0
+write room f h ns is = fitting room (good (sheetOf f h ns is))

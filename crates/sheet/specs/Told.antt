@@ -1,7 +1,7 @@
 -- What the code's answer says.
 -- Assumes nothing.
 use Prim.Native.Nat.{ℕ}
-use Rattle.tree.specs.Asking.{Result, good, bad}
+use Rattle.room.specs.Room.{Result, good, bad}
 use Rattle.sheet.specs.declared.Written.{Written}
 use Rattle.sheet.specs.declared.Written.the-variants as written
 

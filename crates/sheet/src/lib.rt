@@ -1,54 +1,26 @@
 // Writes the support sheet of a file: its nodes and its visible metadata, as lines of text.
 ghost use mathlib.Core.Path.{_≡_};
-ghost use mathlib.Core.List.{_∷_, [], _++_};
+ghost use mathlib.Core.Bool.{true};
+ghost use mathlib.Core.List.{[]};
 ghost use Prim.Native.Nat.{ℕ, _≤_, _<_, _*_, _+_, _-_};
-ghost use lib.ListN.{length, replicate, take};
+ghost use lib.ListN.{length};
 ghost use lib.Seq.{sets};
 ghost use Rattle.metadata.specs.Tables.{limits};
 ghost use Rattle.tree.specs.Reading.{readFile};
 ghost use Rattle.tree.specs.Rows.{nodeFrom, itemFrom, nodesIn, itemsIn};
 ghost use Rattle.tree.specs.Asking.{ask, keptNodes, keptItems};
-ghost use Rattle.sheet.specs.Sheet.{decimal, hexDigit, plain, escaped, escapedPart, number, versionText, firstLine, nodeLine, label, textOf, itemLine, visibleLine, nodeLines, itemLines, linesOf, write, counted, keptSheet};
+ghost use Rattle.sheet.specs.Sheet.{decimal, hexDigit, plain, escaped, escapedPart, shown, shownOr, unicodeText, number, versionText, firstLine, nodeLine, label, textOf, itemLine, visibleLine, nodeLines, itemLines, linesOf, write, counted, kept};
 ghost use Rattle.sheet.specs.Told.{told};
-ghost use Rattle.sheet.specs.Puts.{Puts, ItemInside};
+ghost use Rattle.room.specs.Puts.{Puts};
+ghost use Rattle.unicode.specs.Unicode.{utf8, toUtf8, isGood};
+ghost use Rattle.sheet.specs.Inside.{ItemInside};
 use tree::Read;
+use unicode::Character;
 
 // The answer: the number of the sheet's bytes; or the refusal's number and place.
 pub enum Written {
     Bytes(usize),
     Refused(u64, usize),
-}
-
-// Sets every byte to 0.
-fn clear_bytes(bytes: &mut [u8])
-    ensures { λ _. ⌜ now (bytes .exit) ≡ replicate (length (now (bytes .entry))) 0 ⌝ }
-{
-    let mut i: usize = 0;
-    while i < bytes.len() {
-        bytes[i] = 0;
-        i = i + 1;
-    }
-}
-
-// Sets every byte from `from` on to 0.
-fn clear_from(bytes: &mut [u8], from: usize)
-    ensures { λ _. ⌜ now (bytes .exit) ≡ take from (now (bytes .entry)) ++ replicate (length (now (bytes .entry)) - from) 0 ⌝ }
-{
-    if from < bytes.len() {
-        clear_bytes(&mut bytes[from..]);
-    }
-}
-
-// Puts one byte. A writer is given the place of its first byte and answers the place after its last one; where the buffer has no room for all of
-// its bytes, it answers a place past the buffer's end.
-fn put_byte(out: &mut [u8], to: usize, byte: u8) -> usize
-    ensures { λ r. ⌜ Puts (now (out .entry)) (now (out .exit)) to (byte ∷ []) r ⌝ }
-{
-    if to < out.len() {
-        out[to] = byte;
-        return to + 1;
-    }
-    out.len() + 1
 }
 
 // The number of decimal digits.
@@ -78,19 +50,12 @@ fn store_digits(out: &mut [u8], from: usize, end: usize, n: u64)
     }
 }
 
-// The bytes from a place up to the end of so many.
-fn room_at(size: usize, place: usize) -> usize
-    ensures { λ r. ⌜ r ≡ size - place ⌝ }
-{
-    if place < size { size - place } else { 0 }
-}
-
 // Puts a decimal number.
 fn put_decimal(out: &mut [u8], to: usize, n: u64) -> usize
     ensures { λ r. ⌜ Puts (now (out .entry)) (now (out .exit)) to (decimal n) r ⌝ }
 {
     let size = digit_count(n);
-    if room_at(out.len(), to) < size {
+    if room::room_at(out.len(), to) < size {
         return out.len() + 1;
     }
     let end = to + size;
@@ -102,7 +67,10 @@ fn put_decimal(out: &mut [u8], to: usize, n: u64) -> usize
 fn put_number(out: &mut [u8], to: usize, n: u64) -> usize
     ensures { λ r. ⌜ Puts (now (out .entry)) (now (out .exit)) to (number n) r ⌝ }
 {
-    let next = put_byte(out, to, 0x09);
+    let next = room::put_byte(out, to, 0x09);
+    if n < 10 {
+        return room::put_byte(out, next, 0x30 + n as u8);
+    }
     put_decimal(out, next, n)
 }
 
@@ -135,13 +103,13 @@ fn put_escaped_byte(out: &mut [u8], to: usize, byte: u8) -> usize
     ensures { λ r. ⌜ Puts (now (out .entry)) (now (out .exit)) to (escaped byte) r ⌝ }
 {
     if is_plain(byte) {
-        return put_byte(out, to, byte);
+        return room::put_byte(out, to, byte);
     }
     let high = hex_digit(byte / 16);
     let low = hex_digit(byte % 16);
-    let one = put_byte(out, to, 0x5c);
-    let two = put_byte(out, one, high);
-    put_byte(out, two, low)
+    let one = room::put_byte(out, to, 0x5c);
+    let two = room::put_byte(out, one, high);
+    room::put_byte(out, two, low)
 }
 
 // Puts `size` bytes of the file as text.
@@ -164,7 +132,7 @@ fn put_version(out: &mut [u8], to: usize, version: u64) -> usize
     ensures { λ r. ⌜ Puts (now (out .entry)) (now (out .exit)) to (versionText version) r ⌝ }
 {
     let one = put_decimal(out, to, version / 100);
-    let two = put_byte(out, one, b'.');
+    let two = room::put_byte(out, one, b'.');
     let three = put_decimal(out, two, version / 10 % 10);
     put_decimal(out, three, version % 10)
 }
@@ -180,15 +148,15 @@ fn put_first(
 ) -> usize
     ensures { λ r. ⌜ Puts (now (out .entry)) (now (out .exit)) to (firstLine version size nodes items) r ⌝ }
 {
-    let a = put_byte(out, to, b'X');
-    let b = put_byte(out, a, b'M');
-    let c = put_byte(out, b, b'F');
-    let d = put_byte(out, c, 0x09);
+    let a = room::put_byte(out, to, b'X');
+    let b = room::put_byte(out, a, b'M');
+    let c = room::put_byte(out, b, b'F');
+    let d = room::put_byte(out, c, 0x09);
     let e = put_version(out, d, version);
     let f = put_number(out, e, size as u64);
     let g = put_number(out, f, nodes as u64);
     let h = put_number(out, g, items as u64);
-    put_byte(out, h, 0x0a)
+    room::put_byte(out, h, 0x0a)
 }
 
 // Puts the line of node row i.
@@ -202,14 +170,14 @@ fn put_node_line(out: &mut [u8], to: usize, nodes: &[u64], i: usize) -> usize
     let reference = nodes[k + 6];
     let target = nodes[k + 7];
     let extent = nodes[k + 8];
-    let a = put_byte(out, to, b'N');
+    let a = room::put_byte(out, to, b'N');
     let b = put_number(out, a, i as u64);
     let c = put_number(out, b, parent);
     let d = put_number(out, c, depth);
     let e = put_number(out, d, reference);
     let f = put_number(out, e, target);
     let g = put_number(out, f, extent);
-    put_byte(out, g, 0x0a)
+    room::put_byte(out, g, 0x0a)
 }
 
 // Puts the lines of the node rows.
@@ -231,14 +199,58 @@ fn put_label(out: &mut [u8], to: usize, file: &[u8], items: &[u64], k: usize) ->
     requires { ⌜ (k + 10 ≤ length (now items)) × ItemInside (length (now file)) (itemFrom (now items) k) ⌝ }
     ensures { λ r. ⌜ Puts (now (out .entry)) (now (out .exit)) to (label (now (file .entry)) (itemFrom (now (items .entry)) k)) r ⌝ }
 {
-    let a = put_byte(out, to, 0x09);
+    let a = room::put_byte(out, to, 0x09);
     if items[k + 2] == 1 {
-        let b = put_byte(out, a, b'C');
-        let c = put_byte(out, b, 0x09);
+        let b = room::put_byte(out, a, b'C');
+        let c = room::put_byte(out, b, 0x09);
         return put_escaped(out, c, file, items[k + 3] as usize, items[k + 4] as usize);
     }
-    let d = put_byte(out, a, b'S');
+    let d = room::put_byte(out, a, b'S');
     put_number(out, d, items[k + 3])
+}
+
+// Puts a character of a converted text: a byte below 80h as text, another character as itself.
+fn put_shown_char(out: &mut [u8], to: usize, c: u64) -> usize
+    requires { ⌜ c < 0x110000 ⌝ }
+    ensures { λ r. ⌜ Puts (now (out .entry)) (now (out .exit)) to (shown (utf8 c)) r ⌝ }
+{
+    if c < 0x80 {
+        return put_escaped_byte(out, to, c as u8);
+    }
+    unicode::put8(out, to, c)
+}
+
+// Puts UTF-16 that converts, as it is shown.
+fn put_shown(out: &mut [u8], to: usize, units: &[u8]) -> usize
+    requires { ⌜ isGood (toUtf8 (now units)) ≡ true ⌝ }
+    ensures { λ r. ⌜ Puts (now (out .entry)) (now (out .exit)) to (shownOr (toUtf8 (now (units .entry))) []) r ⌝ }
+{
+    let mut at = unicode::after_mark(units);
+    let mut next = to;
+    while at < units.len() {
+        match unicode::char16(units, at) {
+            Character::Bad => {
+                return next;
+            }
+            Character::Is(value, size) => {
+                next = put_shown_char(out, next, value);
+                at = at + size;
+            }
+        }
+    }
+    next
+}
+
+// Puts `size` bytes of the file, which are UTF-16: converted, or as text where they do not convert.
+fn put_unicode(out: &mut [u8], to: usize, file: &[u8], from: usize, size: usize) -> usize
+    requires { ⌜ from + size ≤ length (now file) ⌝ }
+    ensures { λ r. ⌜ Puts (now (out .entry)) (now (out .exit)) to (unicodeText (now (file .entry)) from size) r ⌝ }
+{
+    let end = from + size;
+    if unicode::converts(&file[from..end]) {
+        return put_shown(out, to, &file[from..end]);
+    }
+    put_escaped(out, to, file, from, size)
 }
 
 // Puts the text of the item row whose words begin at k.
@@ -246,6 +258,9 @@ fn put_text(out: &mut [u8], to: usize, file: &[u8], items: &[u64], k: usize) -> 
     requires { ⌜ (k + 10 ≤ length (now items)) × ItemInside (length (now file)) (itemFrom (now items) k) ⌝ }
     ensures { λ r. ⌜ Puts (now (out .entry)) (now (out .exit)) to (textOf (now (file .entry)) (itemFrom (now (items .entry)) k)) r ⌝ }
 {
+    if items[k + 7] == 2 {
+        return put_unicode(out, to, file, items[k + 8] as usize, items[k + 9] as usize);
+    }
     put_escaped(out, to, file, items[k + 8] as usize, items[k + 9] as usize)
 }
 
@@ -254,14 +269,14 @@ fn put_item_line(out: &mut [u8], to: usize, file: &[u8], items: &[u64], k: usize
     requires { ⌜ (k + 10 ≤ length (now items)) × ItemInside (length (now file)) (itemFrom (now items) k) ⌝ }
     ensures { λ r. ⌜ Puts (now (out .entry)) (now (out .exit)) to (itemLine (now (file .entry)) (itemFrom (now (items .entry)) k)) r ⌝ }
 {
-    let a = put_byte(out, to, b'M');
+    let a = room::put_byte(out, to, b'M');
     let b = put_number(out, a, items[k]);
     let c = put_label(out, b, file, items, k);
     let d = put_number(out, c, items[k + 5]);
     let e = put_number(out, d, items[k + 7]);
-    let f = put_byte(out, e, 0x09);
+    let f = room::put_byte(out, e, 0x09);
     let g = put_text(out, f, file, items, k);
-    put_byte(out, g, 0x0a)
+    room::put_byte(out, g, 0x0a)
 }
 
 // Puts the line of the item row whose words begin at k, if the row is visible.
@@ -312,21 +327,21 @@ pub fn write_sheet(file: &[u8], nodes: &mut [u64], items: &mut [u64], sheet: &mu
     ensures answer { λ r. ⌜ told r ≡ counted (ask (readFile (limits (length (now (nodes .entry))) (length (now (items .entry)))) (now (file .entry))) (write (length (now (sheet .entry))) (now (file .entry)))) ⌝ }
     ensures nodes { λ _. ⌜ now (nodes .exit) ≡ keptNodes (length (now (nodes .entry))) (readFile (limits (length (now (nodes .entry))) (length (now (items .entry)))) (now (file .entry))) (ask (readFile (limits (length (now (nodes .entry))) (length (now (items .entry)))) (now (file .entry))) (write (length (now (sheet .entry))) (now (file .entry)))) ⌝ }
     ensures items { λ _. ⌜ now (items .exit) ≡ keptItems (length (now (items .entry))) (readFile (limits (length (now (nodes .entry))) (length (now (items .entry)))) (now (file .entry))) (ask (readFile (limits (length (now (nodes .entry))) (length (now (items .entry)))) (now (file .entry))) (write (length (now (sheet .entry))) (now (file .entry)))) ⌝ }
-    ensures sheet { λ _. ⌜ now (sheet .exit) ≡ keptSheet (length (now (sheet .entry))) (ask (readFile (limits (length (now (nodes .entry))) (length (now (items .entry)))) (now (file .entry))) (write (length (now (sheet .entry))) (now (file .entry)))) ⌝ }
+    ensures sheet { λ _. ⌜ now (sheet .exit) ≡ kept (length (now (sheet .entry))) (ask (readFile (limits (length (now (nodes .entry))) (length (now (items .entry)))) (now (file .entry))) (write (length (now (sheet .entry))) (now (file .entry)))) ⌝ }
 {
     match tree::read_file(file, nodes, items) {
         Read::Refused(n, p) => {
-            clear_bytes(sheet);
+            room::clear_bytes(sheet);
             Written::Refused(n, p.0)
         }
         Read::Is(s) => {
             let end = put_sheet(sheet, file, nodes, items, s.version, s.nodes, s.items);
             if sheet.len() < end {
                 tree::clear_all(nodes, items);
-                clear_bytes(sheet);
+                room::clear_bytes(sheet);
                 return Written::Refused(cursor::NO_ROOM, 0);
             }
-            clear_from(sheet, end);
+            room::clear_bytes_from(sheet, end);
             Written::Bytes(end)
         }
     }

@@ -1,19 +1,19 @@
--- A run leaves in the tables the rows of its trace, and behind them what was there; cleared, that is rows and zeros.
+-- A run leaves in the tables the rows of its trace, and behind them what was there.
 -- Assumes nothing.
-use mathlib.Core.Path.{_≡_, refl, sym, ap, _∙_}
-use mathlib.Core.List.{List, [], _∷_, _++_}
-use Prim.Native.Nat.{ℕ, zero, suc, _+_, _*_, _-_, _≤_}
-use native.Mathlib.Nat.{zero-add, add-zero, sub-zero, zero-sub, suc-sub-suc}
+use mathlib.Core.Path.{_≡_, refl, ap, _∙_}
+use mathlib.Core.List.{List, [], _∷_}
+use Prim.Native.Nat.{ℕ, suc, _+_, _*_}
+use native.Mathlib.Nat.{add-zero}
 use native.Mathlib.Omega.{arith}
-use lib.ListN.{length, getD, replicate, take, drop, length-replicate}
-use lib.Seq.{sets, sets-eq, take-at}
+use lib.ListN.{length, getD}
+use lib.Seq.{sets}
 use Rattle.cursor.specs.Machine.{Prog, ret, refuse, here, byte, pass, Out, ok, refused, Event, seen, passed, run, trace, exec, puts, rowsOf}
 use Rattle.cursor.specs.Rows.{Part, nodeRow, itemRow, plain, P, Events}
 use Rattle.cursor.specs.declared.Node.{Node}
 use Rattle.cursor.specs.declared.Item.{Item}
 use Rattle.cursor.proofs.Quiet.{still}
 use Rattle.metadata.specs.Tables.{State, state, put}
-use Rattle.tree.specs.Reading.{nodesOf, itemsOf, allNodes, allItems, padded}
+use Rattle.tree.specs.Reading.{nodesOf, itemsOf, allNodes, allItems}
 
 -- the rows of events, behind those that are there
 abbrev pub filled : Events → State → State
@@ -49,24 +49,7 @@ exec-fills (here k) f at σ = exec-fills (k at) f at σ
 exec-fills (byte κ k) f at σ = exec-fills (k (getD f at 0)) f (at + 1) σ
 exec-fills (pass w n m) f at σ = exec-fills m f (at + n) (put w at n σ) ∙ ap (λ τ. still (run m f (at + n)) τ) (filled-more w at n (trace m f (at + n)) σ)
 
--- ---- rows and zeros
-
-drop-replicate : (k size : ℕ) → drop {A = ℕ} k (replicate size 0) ≡ replicate (size - k) 0
-drop-replicate zero size = rw sub-zero
-drop-replicate (suc k) zero = rw zero-sub
-drop-replicate (suc k) (suc size) = rw suc-sub-suc (drop-replicate k size)
-
-pub sets-front : (t ws : List ℕ) → length ws ≤ length t → sets t 0 ws ≡ ws ++ drop (length ws) t
-sets-front t ws l = sets-eq ws t 0 (omega arith) ∙ rw zero-add
-
-pub sets-zeros : (size : ℕ) (ws : List ℕ) → length ws ≤ size → sets (replicate size 0) 0 ws ≡ padded size ws
-unfolding padded
-sets-zeros size ws l = sets-front (replicate size 0) ws (rw length-replicate l) ∙ rw drop-replicate
-
--- words in front, cleared behind
-pub padded-behind : (ws rest : List ℕ) {t : List ℕ} {n : ℕ} → t ≡ ws ++ rest → n ≡ length ws → take n t ++ replicate (length t - n) 0 ≡ padded (length t) ws
-unfolding padded
-padded-behind ws rest {t} {n} e k = let h : take n t ≡ ws = ap (λ (x : List ℕ). take n x) e ∙ take-at ws rest n (sym k) in rw (h, k)
+-- ---- the words of rows
 
 pub nodes-length : (ns : List Node) → length (allNodes ns) ≡ length ns * 13
 nodes-length [] = refl

@@ -29,7 +29,8 @@ use Rattle.node.specs.Node.{loose}
 use Rattle.tree.specs.Tree.{node, detached}
 use Rattle.tree.specs.Rows.{noNode, nodeFrom, nodesFrom, nodeAt, nodesIn, rowStarting, Rising, if_then_else_}
 use Rattle.tree.specs.Told.{Stands, said, left, Leaves}
-use Rattle.tree.proofs.Filled.{filled, puts-fills, sets-front, nodes-length}
+use Rattle.room.proofs.Sets.{sets-front}
+use Rattle.tree.proofs.Filled.{filled, puts-fills, nodes-length}
 use Rattle.tree.proofs.Nodes.{one-node}
 use Rattle.tree.proofs.Follow.{target, Reached, known, added, reached}
 use Rattle.tree.proofs.Ends.{detached-inside}

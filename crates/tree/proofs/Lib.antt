@@ -1,4 +1,3 @@
-pub mod Zeros
 pub mod Ends
 pub mod Starts
 pub mod Follow

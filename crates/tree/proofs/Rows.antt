@@ -21,7 +21,8 @@ use Rattle.metadata.specs.declared.Limits.{Limits}
 use Rattle.metadata.specs.declared.Made.{Made}
 use Rattle.metadata.proofs.Ends.{Nothing, Inside}
 use Rattle.tree.specs.Tree.{tree}
-use Rattle.tree.specs.Reading.{nodesOf, itemsOf, allNodes, allItems, Reading, rows, refusal, readFile, readOf, summary, padded, nodeTable, itemTable}
+use Rattle.tree.specs.Reading.{nodesOf, itemsOf, allNodes, allItems, Reading, rows, refusal, readFile, readOf, summary, nodeTable, itemTable}
+use Rattle.room.specs.Room.{padded}
 use Rattle.tree.specs.Rows.{nodeFrom, itemFrom, nodesFrom, itemsFrom, nodesIn, itemsIn, noNode, noItem, nodeAt, itemAt}
 use Rattle.tree.specs.Asking.{Result, good, bad, ask, keptNodes, keptItems}
 use Rattle.tree.specs.declared.Summary.{Summary}

@@ -32,7 +32,8 @@ use Rattle.metadata.specs.declared.Walked.the-variants.{Done, Refused}
 use Rattle.metadata.proofs.Ends.{Nothing, Inside}
 use Rattle.metadata.proofs.Gives.{done, stopped, fitting}
 use Rattle.tree.specs.Tree.{tree}
-use Rattle.tree.specs.Reading.{nodesOf, itemsOf, allNodes, allItems, Result, good, bad, Reading, rows, refusal, logged, follow, reading, context, readTree, readFile, readOf, answerOf, padded, nodeTable, itemTable}
+use Rattle.tree.specs.Reading.{nodesOf, itemsOf, allNodes, allItems, Result, good, bad, Reading, rows, refusal, logged, follow, reading, context, readTree, readFile, readOf, answerOf, nodeTable, itemTable}
+use Rattle.room.specs.Room.{padded}
 use Rattle.tree.specs.Rows.{treeRows}
 use Rattle.tree.specs.Told.{TreeFirst, Stands, said, left, Leaves}
 use Rattle.tree.specs.declared.Summary.{Summary}
@@ -45,7 +46,8 @@ use Rattle.tree.proofs.TreeRows.{tree-first, tree-followed}
 use Rattle.tree.proofs.Follow.{treeOf}
 use Rattle.tree.proofs.Growing.{bad-is, same-state}
 use Rattle.tree.proofs.Rows.{node-in}
-use Rattle.tree.proofs.Filled.{filled, puts-fills, sets-front, padded-behind, nodes-length, items-length}
+use Rattle.room.proofs.Sets.{sets-front, padded-behind}
+use Rattle.tree.proofs.Filled.{filled, puts-fills, nodes-length, items-length}
 
 -- ---- what is known of the header's answer
 

@@ -2,9 +2,11 @@
 -- Assumes nothing.
 use mathlib.Core.List.{List, [], _∷_, _++_}
 use mathlib.Core.Bool.{Bool, true, false, not, _&&_, _||_}
-use Prim.Native.Nat.{ℕ, zero, suc, _+_, _-_, min, max}
+use Prim.Native.Nat.{ℕ, zero, suc, _+_, min, max}
 use lib.Dec.{eqb, ltb, leb}
 use lib.ListN.{length, replicate}
+pub use Rattle.room.specs.Room.{Result, good, bad}
+use Rattle.room.specs.Room.{padded}
 use Rattle.cursor.specs.Machine.{Out, ok, refused, run, trace, rowsOf}
 use Rattle.cursor.specs.Rows.{Part, nodeRow, itemRow, plain, P, Events, referenceFrame}
 use Rattle.cursor.specs.Refusals.{cutShort, badTarget}
@@ -52,11 +54,6 @@ allItems [] = []
 allItems (r ∷ rs) = itemWords r ++ allItems rs
 
 -- ---- what a file reads as
-
--- an answer, or a refusal's number and place
-pub data Result (A : Type 0) : Type 0 where
-  good : A → Result A
-  bad : ℕ → ℕ → Result A
 
 pub data Reading : Type 0 where
   rows : Header → List Node → List Item → Reading
@@ -160,10 +157,7 @@ unfoldable pub answerOf : Reading → Answer
 answerOf (rows h ns is) = answer.Tree (h .version) (length ns) (length is)
 answerOf (refusal n p) = answer.Refused n p
 
--- words, and then zeros to the table's end
-unfoldable pub padded : ℕ → List ℕ → List ℕ
-padded size ws = ws ++ replicate (size - length ws) 0
-
+-- the rows as words, and then zeros to the table's end; on a refusal zeros
 unfoldable pub nodeTable : ℕ → Reading → List ℕ
 nodeTable size (rows h ns is) = padded size (allNodes ns)
 nodeTable size (refusal n p) = replicate size 0

@@ -1,8 +1,8 @@
 // Reads the tree of a file into two lent tables, one of node rows and one of item rows.
 ghost use mathlib.Core.Path.{_≡_};
-ghost use mathlib.Core.List.{List, _∷_, [], _++_};
-ghost use Prim.Native.Nat.{ℕ, _≤_, _<_, _^_, _*_, _+_, _-_, min, max};
-ghost use lib.ListN.{length, replicate, take, drop};
+ghost use mathlib.Core.List.{List};
+ghost use Prim.Native.Nat.{ℕ, _≤_, _<_, _^_, _*_, _+_, min, max};
+ghost use lib.ListN.{length, replicate};
 ghost use lib.Seq.{sets};
 ghost use Rattle.cursor.specs.Machine.{ret, exec, times};
 ghost use Rattle.cursor.specs.declared.Node.{Node};
@@ -52,33 +52,13 @@ pub enum Answer {
     Refused(u64, usize),
 }
 
-// Sets every word of the table to 0.
-pub fn clear(table: &mut [u64])
-    ensures { λ _. ⌜ now (table .exit) ≡ replicate (length (now (table .entry))) 0 ⌝ }
-{
-    let mut i: usize = 0;
-    while i < table.len() {
-        table[i] = 0;
-        i = i + 1;
-    }
-}
-
-// Sets every word of the table from `from` on to 0.
-fn clear_from(table: &mut [u64], from: usize)
-    ensures { λ _. ⌜ now (table .exit) ≡ take from (now (table .entry)) ++ replicate (length (now (table .entry)) - from) 0 ⌝ }
-{
-    if from < table.len() {
-        clear(&mut table[from..]);
-    }
-}
-
 // Sets every word of both tables to 0.
 pub fn clear_all(nodes: &mut [u64], items: &mut [u64])
     ensures nodes { λ _. ⌜ now (nodes .exit) ≡ replicate (length (now (nodes .entry))) 0 ⌝ }
     ensures items { λ _. ⌜ now (items .exit) ≡ replicate (length (now (items .entry))) 0 ⌝ }
 {
-    clear(nodes);
-    clear(items);
+    room::clear(nodes);
+    room::clear(items);
 }
 
 // Stores a node row behind the `made` rows that are there.
@@ -533,8 +513,8 @@ pub fn read_file(file: &[u8], nodes: &mut [u64], items: &mut [u64]) -> Read
                         Read::Refused(n, p)
                     }
                     Walked::Done(m, _) => {
-                        clear_from(nodes, m.nodes * cursor::NODE_WIDTH);
-                        clear_from(items, m.items * cursor::ITEM_WIDTH);
+                        room::clear_from(nodes, m.nodes * cursor::NODE_WIDTH);
+                        room::clear_from(items, m.items * cursor::ITEM_WIDTH);
                         let edition = h.edition;
                         let is = Summary {
                             version: h.version,

@@ -12,7 +12,8 @@ use Rattle.io.specs.Counts.{Counts}
 use Rattle.io.proofs.Counting.{counts}
 use Rattle.tree.specs.Reading.{Reading, rows, refusal}
 use Rattle.tree.specs.Asking.{Result, good, bad, ask}
-use Rattle.sheet.specs.Sheet.{choose, fitting, write, counted, sheetOf}
+use Rattle.room.specs.Room.{choose}
+use Rattle.sheet.specs.Sheet.{fitting, write, counted, sheetOf}
 use Rattle.sheet.specs.Told.{told}
 use Rattle.sheet.specs.declared.Written.{Written}
 use Rattle.sheet.specs.declared.Written.the-variants as written

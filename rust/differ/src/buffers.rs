@@ -30,6 +30,12 @@ impl Noise {
             bytes: random.bytes(ALL_ROOM + STARTS),
         }
     }
+
+    /// So many bytes that are fixed by a number.
+    pub fn bytes(&self, number: u64, count: usize) -> &[u8] {
+        let start = Random::new(number).below(STARTS);
+        &self.bytes[start..][..count]
+    }
 }
 
 /// The tables and the sheet of one reader. Only a first part of each is lent.

@@ -1,8 +1,10 @@
-//! Comparing two readers on a case, and two files of a pair on one reader.
+//! Comparing two readers on a case or a text, and two files of a pair on one reader.
 
 use crate::buffers::{Buffers, Noise};
 use crate::readers::{ask_plain, ask_proved, ask_words, Answer, Question, Subject, QUESTIONS};
+use crate::readers::{convert_plain, convert_proved, convert_words};
 use generate::cases::KINDS;
+use generate::texts::Text;
 use generate::{Case, Pair};
 use std::fmt::Debug;
 
@@ -10,26 +12,34 @@ use std::fmt::Debug;
 const MOST_ANSWER_WORDS: u64 = 16;
 /// The words after an answer buffer, which must not change.
 const ANSWER_GUARD: usize = 4;
+/// The bytes after the room of a conversion, which must not change.
+const TEXT_GUARD: usize = 16;
+/// What is said when something else than what is lent has changed.
+const NOT_LENT: &str = "a word or byte that was not lent has changed";
+/// What answer buffers and their guards hold before.
+const MARK: u64 = 0x5A5A_5A5A_5A5A_5A5A;
 
 /// Compares, counts what is compared, and holds what that needs.
 pub struct Comparer {
     first: Buffers,
     second: Buffers,
     noise: Noise,
-    /// The number of answers, tables and sheets compared.
+    /// The number of answers, tables, sheets and texts compared.
     pub comparisons: u64,
     /// The number of words and bytes in them.
     pub values: u64,
     /// For each refusal number, how many files of cases are refused so for reading the tree; at 0
     /// how many are read.
     pub outcomes: [u64; 25],
+    /// For each refusal number, how many texts are refused so; at 0 how many are converted.
+    pub texts: [u64; 27],
 }
 
 /// Two values that should be equal.
 #[derive(Clone, Debug)]
 pub struct Difference {
-    /// The question asked.
-    pub question: Question,
+    /// The question asked, or the conversion.
+    pub asked: String,
     /// What differs, and both values.
     pub what: String,
 }
@@ -44,6 +54,7 @@ impl Comparer {
             comparisons: 0,
             values: 0,
             outcomes: [0; 25],
+            texts: [0; 27],
         }
     }
 
@@ -100,7 +111,7 @@ impl Comparer {
             let right = ask_proved(question, second, self.second.lend());
             if question == Question::Tree && left[0] != 0 {
                 return Err(Difference {
-                    question,
+                    asked: format!("{question:?}"),
                     what: format!("the first file is refused: {left:?}"),
                 });
             }
@@ -128,20 +139,44 @@ impl Comparer {
         expected: &Answer,
         room: usize,
     ) -> Result<(), Difference> {
-        const MARK: u64 = 0x5A5A_5A5A_5A5A_5A5A;
         let mut answer = [MARK; MOST_ANSWER_WORDS as usize + ANSWER_GUARD];
         ask_words(question, about, self.first.lend(), &mut answer[..room]);
-        let mut wanted = [MARK; MOST_ANSWER_WORDS as usize + ANSWER_GUARD];
-        wanted[..room].fill(0);
-        let fitting = room.min(expected.len());
-        wanted[..fitting].copy_from_slice(&expected[..fitting]);
-        self.answer(question, &answer, &wanted)?;
+        self.answer(question, &answer, &fitted(expected, room))?;
         self.left(question)
+    }
+
+    /// Converts a text by both readers, with the same bytes in the room before, and once more with an
+    /// answer buffer of 0 to 16 words.
+    pub fn text(&mut self, text: &Text, number: u64) -> Result<(), Difference> {
+        let lent = self.noise.bytes(number, text.room + TEXT_GUARD).to_vec();
+        let mut rooms = [lent.clone(), lent.clone(), lent.clone()];
+        let [first, second, third] = &mut rooms;
+        let proved = convert_proved(text, &mut first[..text.room]);
+        let plain = convert_plain(text, &mut second[..text.room]);
+        let words = (number % (MOST_ANSWER_WORDS + 1)) as usize;
+        let mut answer = [MARK; MOST_ANSWER_WORDS as usize + ANSWER_GUARD];
+        convert_words(text, &mut third[..text.room], &mut answer[..words]);
+
+        self.texts[plain[0] as usize] += 1;
+        self.answer(text.into, &proved, &plain)?;
+        self.answer(text.into, &answer, &fitted(&plain, words))?;
+        let [first, second, third] = &rooms;
+        for other in [second, third] {
+            self.count(other.len());
+            equal(text.into, "text", first, other)?;
+        }
+        if first[text.room..] != lent[text.room..] {
+            return Err(Difference {
+                asked: format!("{:?}", text.into),
+                what: NOT_LENT.to_string(),
+            });
+        }
+        Ok(())
     }
 
     fn answer(
         &mut self,
-        question: Question,
+        question: impl Debug,
         first: &[u64],
         second: &[u64],
     ) -> Result<(), Difference> {
@@ -162,8 +197,8 @@ impl Comparer {
         }
         if !(self.first.are_guards_kept() && self.second.are_guards_kept()) {
             return Err(Difference {
-                question,
-                what: "a word or byte that was not lent has changed".to_string(),
+                asked: format!("{question:?}"),
+                what: NOT_LENT.to_string(),
             });
         }
         Ok(())
@@ -175,9 +210,18 @@ impl Comparer {
     }
 }
 
+/// The words of an answer as a buffer of so many words gets them, with the words after it.
+fn fitted(answer: &Answer, room: usize) -> [u64; MOST_ANSWER_WORDS as usize + ANSWER_GUARD] {
+    let mut wanted = [MARK; MOST_ANSWER_WORDS as usize + ANSWER_GUARD];
+    wanted[..room].fill(0);
+    let fitting = room.min(answer.len());
+    wanted[..fitting].copy_from_slice(&answer[..fitting]);
+    wanted
+}
+
 /// Whether two sequences of the same length are equal; otherwise where they first differ.
 fn equal<T: PartialEq + Debug>(
-    question: Question,
+    asked: impl Debug,
     name: &str,
     first: &[T],
     second: &[T],
@@ -193,5 +237,8 @@ fn equal<T: PartialEq + Debug>(
         let (left, right) = (&first[at], &second[at]);
         format!("{name}, first at {at}: {left:?} and {right:?}")
     };
-    Err(Difference { question, what })
+    Err(Difference {
+        asked: format!("{asked:?}"),
+        what,
+    })
 }

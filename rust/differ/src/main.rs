@@ -6,6 +6,9 @@
 //! and each byte of the sheet. Each case also asks one question through the interface of words, with
 //! an answer buffer of 0 to 16 words.
 //!
+//! Beside each case it converts a generated text, in UTF-16 or UTF-8, good or with a fault, by both
+//! readers, and compares the answers and each byte of the room lent.
+//!
 //! For each tenth case it takes a pair of files that differ in hidden data only, asks the proved
 //! reader all five questions about both, with different contents of tables and buffers before, and
 //! compares in the same way.
@@ -22,6 +25,7 @@ mod readers;
 
 use compare::{Comparer, Difference};
 use generate::model::Field;
+use generate::texts::{self, Text};
 use generate::{Case, Lent, Pair};
 use std::process::ExitCode;
 use std::time::Instant;
@@ -82,6 +86,10 @@ fn compare_cases(comparer: &mut Comparer, cases: u64, seed: u64, first: u64) -> 
         comparer.case(&case, number).map_err(|difference| {
             case_report(&format!("case {number} of seed {seed}"), &case, &difference)
         })?;
+        let text = texts::text(seed, number);
+        comparer.text(&text, number).map_err(|difference| {
+            text_report(&format!("text {number} of seed {seed}"), &text, &difference)
+        })?;
         if number % CASES_FOR_A_PAIR == 0 {
             let pair = generate::pair(seed, number);
             comparer.pair(&pair, number).map_err(|difference| {
@@ -102,7 +110,7 @@ fn compare_cases(comparer: &mut Comparer, cases: u64, seed: u64, first: u64) -> 
 /// Prints what has been compared, the changed samples included.
 fn print_counts(comparer: &Comparer) {
     println!(
-        "comparisons: {} answers, tables and sheets, with {} words and bytes",
+        "comparisons: {} answers, tables, sheets and texts, with {} words and bytes",
         comparer.comparisons, comparer.values
     );
     println!("files read: {}", comparer.outcomes[0]);
@@ -112,6 +120,8 @@ fn print_counts(comparer: &Comparer) {
         .map(|(number, count)| format!("{number}: {count}"))
         .collect();
     println!("files refused, by number: {}", refusals.join(", "));
+    let [converted, .., no_room, _, _, _, bad] = comparer.texts;
+    println!("texts: {converted} converted, {no_room} refused with 22, {bad} with 26");
 }
 
 /// Tells a difference between the readers.
@@ -120,6 +130,16 @@ fn case_report(name: &str, case: &Case, difference: &Difference) -> String {
         "difference in {name}, proved and plain\n{}file: {}\n",
         asked(difference, case.row, &case.field, &case.lent),
         hex(&case.file)
+    )
+}
+
+/// Tells a difference between the readers on a text.
+fn text_report(name: &str, text: &Text, difference: &Difference) -> String {
+    let Difference { asked, what } = difference;
+    format!(
+        "difference in {name}, proved and plain\ninto: {asked}\n{what}\nroom {}\ngiven: {}\n",
+        text.room,
+        hex(&text.given)
     )
 }
 
@@ -135,8 +155,8 @@ fn pair_report(name: &str, pair: &Pair, difference: &Difference) -> String {
 
 /// A difference and what was asked.
 fn asked(difference: &Difference, row: u64, field: &Field, lent: &Lent) -> String {
-    let Difference { question, what } = difference;
-    format!("question: {question:?}\n{what}\nrow {row}, field {field:?}, {lent:?}\n")
+    let Difference { asked, what } = difference;
+    format!("question: {asked}\n{what}\nrow {row}, field {field:?}, {lent:?}\n")
 }
 
 /// Bytes in hexadecimal; of a long file only the first ones.

@@ -1,6 +1,7 @@
 //! The two readers behind one form of questions and answers.
 
 use generate::model::Field;
+use generate::texts::{Into, Text};
 
 /// The words of an answer in the order of the C interface: refusal number (0: none), place, then the
 /// answer's values, and zeros.
@@ -139,4 +140,36 @@ fn refused(number: u64, place: u64) -> Answer {
     let mut answer = [0; xmf::ANSWER_WORDS];
     answer[..2].copy_from_slice(&[number, place]);
     answer
+}
+
+/// Converts by the proved function.
+pub fn convert_proved(text: &Text, room: &mut [u8]) -> Answer {
+    let converted = match text.into {
+        Into::Utf8 => xmf::utf16_to_utf8(&text.given, room),
+        Into::Utf16 => xmf::utf8_to_utf16(&text.given, room),
+    };
+    match converted {
+        Ok(length) => words(&[length as u64]),
+        Err(refusal) => refused(refusal.number, refusal.place),
+    }
+}
+
+/// Converts by the proved function, with the answer as words in a buffer of any size.
+pub fn convert_words(text: &Text, room: &mut [u8], answer: &mut [u64]) {
+    match text.into {
+        Into::Utf8 => xmf::words::utf16_to_utf8(&text.given, room, answer),
+        Into::Utf16 => xmf::words::utf8_to_utf16(&text.given, room, answer),
+    }
+}
+
+/// Converts by the plain function.
+pub fn convert_plain(text: &Text, room: &mut [u8]) -> Answer {
+    let converted = match text.into {
+        Into::Utf8 => plain::utf16_to_utf8(&text.given, room),
+        Into::Utf16 => plain::utf8_to_utf16(&text.given, room),
+    };
+    match converted {
+        Ok(length) => words(&[length as u64]),
+        Err(refusal) => refused(refusal.number, refusal.place),
+    }
 }

@@ -2,8 +2,8 @@
 //!
 //! Everything is fixed by a seed and a case number: [`case`] makes a file with what is lent and
 //! what is asked, [`pair`] makes two files that differ in hidden data only, [`large_file`] and
-//! [`large_resource`] make the largest files, [`folders_file`] makes files of growing size. The
-//! modules hold the parts they are made of.
+//! [`large_resource`] make the largest files, [`folders_file`] makes files of growing size, and
+//! [`texts::text`] makes a text to be converted. The modules hold the parts they are made of.
 
 pub mod cases;
 pub mod damage;
@@ -13,5 +13,6 @@ pub mod model;
 pub mod random;
 pub mod samples;
 pub mod shapes;
+pub mod texts;
 
 pub use cases::{case, folders_file, large_file, large_resource, pair, Case, Lent, Pair};

@@ -33,6 +33,7 @@ fn with_widths(widths: Widths) -> Vec<(&'static str, Vec<u8>)> {
         ("mobile.xmf", encode(&mobile_file(widths)).bytes),
         ("folders.xmf", encode(&folders_file(widths)).bytes),
         ("detached.xmf", encode(&detached_file(widths)).bytes),
+        ("unicode.xmf", encode(&unicode_file(widths)).bytes),
         ("cut.xmf", cut(widths)),
         ("header.xmf", long_header(widths)),
         ("type.xmf", undeclared_type(widths)),
@@ -128,6 +129,26 @@ fn detached_file(widths: Widths) -> File {
         Part::Bytes(b"end".to_vec()),
         Part::Node(titled(Contents::Node(drum), b"Organ")),
     ];
+    file.widths = widths;
+    file
+}
+
+/// A file with texts in UTF-16: a title with a mark in front, one that does not convert, and a hidden
+/// one.
+fn unicode_file(widths: Widths) -> File {
+    let utf16 =
+        |text: &str| -> Vec<u8> { text.encode_utf16().flat_map(u16::to_be_bytes).collect() };
+    let title = Item {
+        field: Field::Standard(8),
+        values: Values::Versions(vec![(1, utf16("\u{FEFF}Færge 𝄞")), (2, b"Ferry".to_vec())]),
+    };
+    let node = Node::inline(b"tune").with_items(vec![
+        title,
+        Item::standard(9, 2, &[0x00, b'2', 0xD8, 0x00]),
+        Item::custom(b"key", 3, &utf16("kode")),
+    ]);
+    let mut file = File::new(Version::V100, node);
+    file.types = vec![type_entry(1, 2, b"da"), type_entry(2, 0, b"en")];
     file.widths = widths;
     file
 }

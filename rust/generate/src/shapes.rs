@@ -3,13 +3,14 @@
 use crate::model::{Contents, Field, File, Item, Node, Part, Place, TypeEntry};
 use crate::model::{Unpacker, UnpackerName, Values, Version, Widths};
 use crate::random::Random;
+use crate::texts;
 
 /// The standard fields that items take, the last two above what Mobile XMF allows or close to it.
 const FIELDS: [usize; 14] = [0, 1, 2, 3, 4, 7, 8, 10, 11, 12, 13, 14, 127, 300];
 /// The names that custom fields take most often.
 const NAMES: [&[u8]; 6] = [b"a", b"n", b"ab", b"name", b"a\\b", b"\x09\xFF"];
 /// The string formats that contents take; the odd ones are hidden.
-const FORMATS: [usize; 12] = [0, 1, 2, 3, 4, 5, 6, 7, 8, 9, 128, 129];
+const FORMATS: [usize; 16] = [0, 1, 2, 2, 2, 3, 3, 4, 5, 6, 7, 8, 9, 10, 129, 130];
 /// The types that the table declares most often.
 const TYPES: [usize; 10] = [0, 1, 2, 3, 4, 5, 127, 128, 200, 20_000];
 /// The languages that the table names.
@@ -447,17 +448,32 @@ fn item(random: &mut Random, types: &[TypeEntry]) -> Item {
         }
     };
     let values = if types.is_empty() || random.once_in(2) {
+        let format = random.pick(&FORMATS);
         Values::Universal {
-            format: random.pick(&FORMATS),
-            data: any_data(random),
+            format,
+            data: data_of_format(random, format),
         }
     } else {
         let count = random.between(1, 3);
-        let version =
-            |random: &mut Random| (types[random.below(types.len())].number, any_data(random));
+        let version = |random: &mut Random| {
+            let TypeEntry { number, format, .. } = types[random.below(types.len())];
+            (number, data_of_format(random, format))
+        };
         Values::Versions((0..count).map(|_| version(random)).collect())
     };
     Item { field, values }
+}
+
+/// Data of a format: mostly UTF-16 where the format is that, otherwise any data, at times UTF-16 too.
+fn data_of_format(random: &mut Random, format: usize) -> Vec<u8> {
+    let is_utf16 = match format {
+        2 | 3 => !random.once_in(5),
+        _ => random.once_in(20),
+    };
+    match is_utf16 {
+        true => texts::any_utf16(random),
+        false => any_data(random),
+    }
 }
 
 /// Data of few bytes: text, any bytes, bytes that a sheet escapes, or none.

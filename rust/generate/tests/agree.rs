@@ -5,9 +5,11 @@ use generate::damage::{every_cut, every_length_changed};
 use generate::encode::{encode, MarkKind};
 use generate::model::{Field as Wanted, Widths};
 use generate::random::Random;
+use generate::texts::{text, Into, Text};
 use generate::{case, large_file, large_resource, pair, samples, shapes, Lent};
 use plain::{find, judge, read_tree, resolve, resource, write_sheet};
 use plain::{item, node, Field, Refusal};
+use plain::{utf16_to_utf8, utf8_to_utf16};
 
 const SEED: u64 = 1;
 const CASES: u64 = 4000;
@@ -153,7 +155,7 @@ fn sheet(file: &[u8]) -> Result<String, Refusal> {
     let lent = Lent::full();
     let mut text = lent.sheet();
     let length = write_sheet(file, &mut lent.nodes(), &mut lent.items(), &mut text)?;
-    Ok(String::from_utf8(text[..length].to_vec()).expect("a sheet is ASCII"))
+    Ok(String::from_utf8(text[..length].to_vec()).expect("a sheet is UTF-8"))
 }
 
 #[test]
@@ -319,6 +321,15 @@ fn samples_have_their_answers() {
     }
     assert!(sheet(&sample(samples::all(), "folders.xmf")).is_ok());
 
+    assert_eq!(
+        sheet(&sample(samples::all(), "unicode.xmf")).as_deref(),
+        Ok("XMF\t1.00\t87\t1\t4\n\
+            N\t0\t0\t1\t1\t83\t4\n\
+            M\t0\tS\t8\t1\t2\tFærge 𝄞\n\
+            M\t0\tS\t8\t2\t0\tFerry\n\
+            M\t0\tS\t9\t0\t2\t\\002\\d8\\00\n")
+    );
+
     let file = sample(samples::all(), "detached.xmf");
     let (mut nodes, mut items) = (lent.nodes(), lent.items());
     let tree = read_tree(&file, &mut nodes, &mut items).expect("a well-formed file");
@@ -361,4 +372,55 @@ fn padding_changes_places_and_lengths_only() {
             assert_eq!(is_four, widths == Widths::Four);
         }
     }
+}
+
+#[test]
+fn texts_are_converted_or_have_their_fault() {
+    let mut answers = [[0; 3]; 2];
+    for number in 0..20_000 {
+        let Text { into, given, room } = text(SEED, number);
+        let mut lent = vec![7; room];
+        let (way, converted) = match into {
+            Into::Utf8 => (0, utf16_to_utf8(&given, &mut lent)),
+            Into::Utf16 => (1, utf8_to_utf16(&given, &mut lent)),
+        };
+        assert!(lent[converted.unwrap_or(0)..].iter().all(|&byte| byte == 0));
+        answers[way][match converted {
+            Ok(_) => 0,
+            Err(Refusal { number: 22, .. }) => 1,
+            Err(Refusal { number, place }) => {
+                assert_eq!(number, 26);
+                assert!((place as usize) < given.len());
+                2
+            }
+        }] += 1;
+    }
+    assert!(
+        answers.iter().flatten().all(|&count| count > 2000),
+        "{answers:?}"
+    );
+}
+
+#[test]
+fn sheets_have_converted_texts() {
+    let (mut converted, mut escaped, mut hidden) = (0, 0, 0);
+    for number in 0..2000 {
+        let random = &mut Random::for_case(SEED, number);
+        let file = encode(&shapes::any_file(random)).bytes;
+        let lent = Lent::full();
+        let (mut nodes, mut items) = (lent.nodes(), lent.items());
+        let tree = read_tree(&file, &mut nodes, &mut items).expect("a well-formed file");
+        for row in items.chunks(item::WORDS).take(tree.items as usize) {
+            let data = &file[row[item::DATA] as usize..][..row[item::DATA_LENGTH] as usize];
+            let is_good = utf16_to_utf8(data, &mut vec![0; 200]).is_ok();
+            match (row[item::FORMAT], is_good) {
+                (2, true) if data.len() > 2 => converted += 1,
+                (2, false) => escaped += 1,
+                (3, true) if data.len() > 2 => hidden += 1,
+                _ => {}
+            }
+        }
+        assert!(sheet(&file).is_ok());
+    }
+    assert!(converted > 100 && escaped > 100 && hidden > 100);
 }

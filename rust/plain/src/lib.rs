@@ -2,7 +2,8 @@
 //!
 //! It answers five questions about a file's bytes: read the tree ([`read_tree`]), find a metadata
 //! item ([`find`]), resolve a resource ([`resolve`], with [`resource`] for its bytes), judge Mobile
-//! XMF ([`judge`]) and write the support sheet ([`write_sheet`]).
+//! XMF ([`judge`]) and write the support sheet ([`write_sheet`]). And it converts texts from UTF-16
+//! into UTF-8 ([`utf16_to_utf8`]) and back ([`utf8_to_utf16`]).
 //!
 //! Each question takes the file and two lent tables of words, one for node rows and one for item
 //! rows, of any size and whatever they hold before. It reads the file afresh. After an answer the
@@ -15,6 +16,7 @@ mod cursor;
 mod questions;
 mod sheet;
 mod tree;
+mod unicode;
 
 /// The columns of a node row.
 pub mod node {
@@ -90,7 +92,7 @@ pub type ItemRow = [u64; item::WORDS];
 /// Why a question is refused.
 #[derive(Clone, Copy, Debug, PartialEq, Eq)]
 pub struct Refusal {
-    /// The number in the refusal list, 1 to 24.
+    /// The number in the refusal list, 1 to 24 or 26.
     pub number: u64,
     /// The place of the refused field's first byte, or 0 where the list names none.
     pub place: u64,
@@ -238,6 +240,30 @@ pub fn write_sheet(
         sheet::write(rows, tree.version, sheet)
     });
     sheet[written.unwrap_or(0)..].fill(0);
+    written
+}
+
+/// Converts UTF-16, high byte first, into UTF-8 in lent room, and answers the number of bytes written.
+/// One leading FEFF is dropped.
+///
+/// Bytes of the room past the text are 0; after a refusal all are. Refused with 26 when the data has an
+/// odd length or a lone surrogate, placed in the data where the first bad character begins; with 22
+/// when the room is too short.
+pub fn utf16_to_utf8(data: &[u8], text: &mut [u8]) -> Result<usize, Refusal> {
+    let written = unicode::from_utf16(data, text);
+    text[written.unwrap_or(0)..].fill(0);
+    written
+}
+
+/// Converts UTF-8 into UTF-16, high byte first, in lent room, and answers the number of bytes
+/// written.
+///
+/// Bytes of the room past the data are 0; after a refusal all are. Refused with 26 when the text is no
+/// UTF-8, placed in the text where the first bad character begins; with 22 when the room is too
+/// short.
+pub fn utf8_to_utf16(text: &[u8], data: &mut [u8]) -> Result<usize, Refusal> {
+    let written = unicode::from_utf8(text, data);
+    data[written.unwrap_or(0)..].fill(0);
     written
 }
 

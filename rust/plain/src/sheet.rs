@@ -1,7 +1,10 @@
 //! The support sheet.
 
 use crate::questions::{data, name};
-use crate::{item, node, Refusal, Rows};
+use crate::{item, node, unicode, Refusal, Rows};
+
+/// The string format of visible UTF-16.
+const UTF16: u64 = 2;
 
 /// The columns of a node row that its line shows, in order.
 const NODE_COLUMNS: [usize; 5] = [
@@ -52,7 +55,12 @@ pub fn write(rows: &Rows, version: u64, room: &mut [u8]) -> Result<usize, Refusa
         sheet.column(words[item::VERSION])?;
         sheet.column(words[item::FORMAT])?;
         sheet.bytes(b"\t")?;
-        sheet.text(data(rows.file, words))?;
+        let text = data(rows.file, words);
+        let is_utf16 = words[item::FORMAT] == UTF16;
+        match is_utf16.then(|| unicode::characters(text)).flatten() {
+            Some(characters) => sheet.converted(characters)?,
+            None => sheet.text(text)?,
+        }
         sheet.bytes(b"\n")?;
     }
     Ok(sheet.used)
@@ -116,9 +124,22 @@ impl Sheet<'_> {
         }
         Ok(())
     }
+
+    /// Adds a converted text: UTF-8 as itself, but what is below 80h as in any text.
+    fn converted(&mut self, characters: impl Iterator<Item = u32>) -> Result<(), Refusal> {
+        for value in characters {
+            let bytes = unicode::utf8(value);
+            if value < 0x80 {
+                self.text(bytes.as_slice())?;
+            } else {
+                self.bytes(bytes.as_slice())?;
+            }
+        }
+        Ok(())
+    }
 }
 
-/// Whether a byte stands for itself in a name or a text.
+/// Whether a byte stands for itself in a name or a text that isn't converted.
 fn is_plain(byte: u8) -> bool {
     (0x20..=0x7E).contains(&byte) && byte != b'\\'
 }

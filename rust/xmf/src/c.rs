@@ -74,4 +74,24 @@ extern "C" {
         answer: *mut u64,
         answer_words: usize,
     );
+
+    /// Converts UTF-16, high byte first, into UTF-8. Answer: bytes written.
+    pub fn xmf_utf16_to_utf8(
+        data: *const u8,
+        data_length: usize,
+        text: *mut u8,
+        text_length: usize,
+        answer: *mut u64,
+        answer_words: usize,
+    );
+
+    /// Converts UTF-8 into UTF-16, high byte first. Answer: bytes written.
+    pub fn xmf_utf8_to_utf16(
+        text: *const u8,
+        text_length: usize,
+        data: *mut u8,
+        data_length: usize,
+        answer: *mut u64,
+        answer_words: usize,
+    );
 }

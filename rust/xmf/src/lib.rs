@@ -8,6 +8,8 @@
 //! | judge Mobile XMF | [`judge`] |
 //! | write the support sheet | [`write_sheet`] |
 //!
+//! Two more functions convert a text and take no file: [`utf16_to_utf8`] and [`utf8_to_utf16`].
+//!
 //! Each question takes the file and two lent tables of words, one for node rows and one for item
 //! rows, of any size and whatever they hold before. It reads the file afresh. After an answer the
 //! tables hold the file's rows, and zeros past the last row. After a refusal they hold zeros only.
@@ -110,9 +112,10 @@ pub mod item {
 /// Why a question is refused.
 #[derive(Clone, Copy, Debug, PartialEq, Eq)]
 pub struct Refusal {
-    /// The number in the refusal list, 1 to 24.
+    /// The number in the refusal list, 1 to 24 or 26.
     pub number: u64,
-    /// The place of the refused field's first byte, or 0 where the list names none.
+    /// The place of the refused field's first byte, or 0 where the list names none. For 26 the place
+    /// of the first bad character in what was to be converted.
     pub place: u64,
 }
 
@@ -144,9 +147,10 @@ impl Refusal {
             19 => "resolving ends at a folder",
             20 => "resolving ends at a URI",
             21 => "a fifth reference would be followed",
-            22 => "the sheet is longer than its buffer",
+            22 => "the sheet, or a converted text, is longer than its buffer",
             23 => "no such item",
             24 => "a detached node overlaps another one, or is a folder",
+            26 => "UTF-16 of odd length or with half of a surrogate pair, or bad UTF-8",
             _ => "not in the list",
         }
     }
@@ -291,6 +295,35 @@ pub fn write_sheet(
 ) -> Result<usize, Refusal> {
     let mut answer = [0; 3];
     words::write_sheet(file, nodes, items, sheet, &mut answer);
+    let [written] = values(answer)?;
+    Ok(written as usize)
+}
+
+/// Converts UTF-16, high byte first, into UTF-8 in a lent buffer, and answers the number of bytes
+/// written. One leading FEFF is dropped.
+///
+/// Bytes of the buffer past the text are 0; after a refusal all are. Refused with 26 when the data has
+/// an odd length or half of a surrogate pair, placed in the data where the first bad character begins,
+/// then with 22 when the text is longer than the buffer.
+///
+/// Hidden text is converted only here, on request: the sheet never shows it, and what this function
+/// gives of it is outside demand 3. Do not put it into a ticket.
+pub fn utf16_to_utf8(data: &[u8], text: &mut [u8]) -> Result<usize, Refusal> {
+    let mut answer = [0; 3];
+    words::utf16_to_utf8(data, text, &mut answer);
+    let [written] = values(answer)?;
+    Ok(written as usize)
+}
+
+/// Converts UTF-8 into UTF-16, high byte first, in a lent buffer, and answers the number of bytes
+/// written. Nothing is dropped.
+///
+/// Bytes of the buffer past the data are 0; after a refusal all are. Refused with 26 when the text is
+/// no UTF-8, placed in the text where the first bad character begins, then with 22 when the data is
+/// longer than the buffer.
+pub fn utf8_to_utf16(text: &[u8], data: &mut [u8]) -> Result<usize, Refusal> {
+    let mut answer = [0; 3];
+    words::utf8_to_utf16(text, data, &mut answer);
     let [written] = values(answer)?;
     Ok(written as usize)
 }

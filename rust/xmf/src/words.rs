@@ -1,5 +1,6 @@
-//! The five questions with the answer as words, in the order of the C interface: refusal number (0:
-//! none), place, then the answer's values, and zeros. A short buffer gets the words that fit.
+//! The five questions and the two conversions with the answer as words, in the order of the C
+//! interface: refusal number (0: none), place, then the answer's values, and zeros. A short buffer
+//! gets the words that fit.
 //!
 //! The functions of the crate's root give the same answers as values.
 
@@ -75,4 +76,31 @@ pub fn write_sheet(
 ) {
     let (text, length) = (sheet.as_mut_ptr(), sheet.len());
     ask!(xmf_write_sheet(file, nodes, items, [text, length], answer))
+}
+
+/// Converts by a function of the C interface: what is given, the room, answer.
+macro_rules! convert {
+    ($conversion:ident($given:ident, $room:ident, $answer:ident)) => {
+        // Safety: as for the questions.
+        unsafe {
+            c::$conversion(
+                $given.as_ptr(),
+                $given.len(),
+                $room.as_mut_ptr(),
+                $room.len(),
+                $answer.as_mut_ptr(),
+                $answer.len(),
+            )
+        }
+    };
+}
+
+/// Converts UTF-16 into UTF-8. Values: bytes written.
+pub fn utf16_to_utf8(data: &[u8], text: &mut [u8], answer: &mut [u64]) {
+    convert!(xmf_utf16_to_utf8(data, text, answer))
+}
+
+/// Converts UTF-8 into UTF-16. Values: bytes written.
+pub fn utf8_to_utf16(text: &[u8], data: &mut [u8], answer: &mut [u64]) {
+    convert!(xmf_utf8_to_utf16(text, data, answer))
 }

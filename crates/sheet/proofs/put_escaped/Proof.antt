@@ -4,7 +4,7 @@ use Prim.Native.Nat.{_-_, _≤_}
 use lib.ListN.{length}
 use mathlib.Core.Path.{refl}
 use Rattle.sheet.specs.Sheet.{escapedPart}
-use Rattle.sheet.proofs.Putting.{Going, going-start, going-on, going-end, going-length}
+use Rattle.room.proofs.Putting.{Going, going-start, going-on, going-end, going-length}
 use Rattle.sheet.proofs.Lines.{part-on, part-end, part-start}
 use native.Mathlib.Omega.{arith}
 use borrow.Author.Needs.{needs}

@@ -1,6 +1,6 @@
 -- `put_escaped_byte` puts a byte as `escaped` writes it.
 -- Assumes nothing.
-use Rattle.sheet.proofs.Putting.{puts-then, puts-as}
+use Rattle.room.proofs.Putting.{puts-then, puts-as}
 use Rattle.sheet.proofs.Lines.{escaped-plain, escaped-hex}
 use borrow.Author.Needs.{needs}
 use Rattle.sheet.proofs.put_escaped_byte.Statement.{statement}

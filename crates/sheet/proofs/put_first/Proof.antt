@@ -1,6 +1,6 @@
 -- `put_first` puts the first line.
 -- Assumes nothing.
-use Rattle.sheet.proofs.Putting.{puts-then, puts-as, puts-length}
+use Rattle.room.proofs.Putting.{puts-then, puts-as, puts-length}
 use Rattle.sheet.proofs.Lines.{first-is}
 use borrow.Author.Needs.{needs}
 use Rattle.sheet.proofs.put_first.Statement.{statement}

@@ -1,6 +1,6 @@
 -- `put_item_line` puts the line of an item row.
 -- Assumes nothing.
-use Rattle.sheet.proofs.Putting.{puts-then, puts-as, puts-length}
+use Rattle.room.proofs.Putting.{puts-then, puts-as, puts-length}
 use Rattle.sheet.proofs.Lines.{item-is}
 use borrow.Author.Needs.{needs}
 use Rattle.sheet.proofs.put_item_line.Statement.{statement}

@@ -4,7 +4,7 @@ use Prim.Native.Nat.{_-_, _≤_}
 use mathlib.Core.Path.{sym}
 use Rattle.tree.specs.Rows.{itemsFrom, itemsIn}
 use Rattle.sheet.specs.Sheet.{itemLines}
-use Rattle.sheet.proofs.Putting.{Going, going-start, going-on, going-end, going-length}
+use Rattle.room.proofs.Putting.{Going, going-start, going-on, going-end, going-length}
 use Rattle.sheet.proofs.Lines.{items-on, items-end, items-start}
 use native.Mathlib.Omega.{arith}
 use Rattle.sheet.proofs.put_item_lines.Statement.{statement}

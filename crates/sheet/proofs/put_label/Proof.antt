@@ -1,6 +1,6 @@
 -- `put_label` puts the field of an item row.
 -- Assumes nothing.
-use Rattle.sheet.proofs.Putting.{puts-then, puts-as}
+use Rattle.room.proofs.Putting.{puts-then, puts-as}
 use Rattle.sheet.proofs.Lines.{label-standard, label-custom, named-inside}
 use Rattle.tree.specs.Rows.{itemFrom}
 use borrow.Author.Needs.{needs}

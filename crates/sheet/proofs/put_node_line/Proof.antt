@@ -1,6 +1,6 @@
 -- `put_node_line` puts the line of a node row.
 -- Assumes nothing.
-use Rattle.sheet.proofs.Putting.{puts-then, puts-as, puts-length}
+use Rattle.room.proofs.Putting.{puts-then, puts-as, puts-length}
 use Rattle.sheet.proofs.Lines.{node-is}
 use borrow.Author.Needs.{needs}
 use Rattle.sheet.proofs.put_node_line.Statement.{statement}

@@ -4,7 +4,7 @@ use Prim.Native.Nat.{_-_, _≤_}
 use mathlib.Core.Path.{sym}
 use Rattle.tree.specs.Rows.{nodesFrom, nodesIn}
 use Rattle.sheet.specs.Sheet.{nodeLines}
-use Rattle.sheet.proofs.Putting.{Going, going-start, going-on, going-end, going-length}
+use Rattle.room.proofs.Putting.{Going, going-start, going-on, going-end, going-length}
 use Rattle.sheet.proofs.Lines.{nodes-on, nodes-end, nodes-start}
 use native.Mathlib.Omega.{arith}
 use Rattle.sheet.proofs.put_node_lines.Statement.{statement}

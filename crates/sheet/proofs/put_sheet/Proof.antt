@@ -1,6 +1,6 @@
 -- `put_sheet` puts all lines.
 -- Assumes nothing.
-use Rattle.sheet.proofs.Putting.{puts-then, puts-as}
+use Rattle.room.proofs.Putting.{puts-then, puts-as}
 use Rattle.sheet.proofs.Lines.{lines-are}
 use borrow.Author.Needs.{needs}
 use Rattle.sheet.proofs.put_sheet.Statement.{statement}

@@ -1,6 +1,6 @@
 -- `put_version` puts what `versionText` says.
 -- Assumes nothing.
-use Rattle.sheet.proofs.Putting.{puts-then, puts-as}
+use Rattle.room.proofs.Putting.{puts-then, puts-as}
 use Rattle.sheet.proofs.Lines.{version-is}
 use borrow.Author.Needs.{needs}
 use Rattle.sheet.proofs.put_version.Statement.{statement}

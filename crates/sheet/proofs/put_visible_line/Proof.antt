@@ -1,6 +1,6 @@
 -- `put_visible_line` puts the line of an item row, or none where it is hidden.
 -- Assumes nothing.
-use Rattle.sheet.proofs.Putting.{puts-none, puts-as}
+use Rattle.room.proofs.Putting.{puts-none, puts-as}
 use Rattle.sheet.proofs.Lines.{line-hidden, line-shown}
 use borrow.Author.Needs.{needs}
 use Rattle.sheet.proofs.put_visible_line.Statement.{statement}

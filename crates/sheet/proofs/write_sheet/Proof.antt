@@ -42,8 +42,8 @@ same-length-3 c = search needs
 returns : tie.Need-returns
 returns c = let w = asked-full (c .before .before .before .before .before .before .before .before .before .before .before .before .before .before .before .before .before .before .before .before .before .before .before .before .before .before .before .before .before .before .before .before .args .file .now) (length (c .before .before .before .before .before .before .before .before .before .before .before .before .before .before .before .before .before .before .before .before .before .before .before .before .before .before .before .before .before .before .before .before .args .nodes .now)) (length (c .before .before .before .before .before .before .before .before .before .before .before .before .before .before .before .before .before .before .before .before .before .before .before .before .before .before .before .before .before .before .before .before .args .items .now)) (c .before .before .before .before .before .before .before .before .before .before .before .before .before .before .before .before .before .before .before .before .before .before .before .before .before .before .before .before .before .before .before .before .args .sheet .now) _ (c .before .before .before .before .before .before .before .before .before .before .before .before .before .before .before .before .before .before .before .before .before .before .before .before .before .read-file .ensures .1 .0) (c .before .before .before .before .before .before .before .before .before .before .before .before .before .before .before .before .before .before .before .before .before .before .before .before .before .read-file .ensures .1 .1) (standing (c .before .before .before .before .before .before .before .before .before .before .before .before .before .before .before .before .before .before .before .before .before .before .before .before .before .before .before .before .before .before .before .before .args .file .now) _ _ _ (c .before .before .before .before .before .before .before .before .before .before .before .before .before .before .before .before .before .before .before .before .before .before .before .before .before .read-file .ensures .0) (c .before .before .before .before .before .before .before .before .before .before .before .before .before .before .before .before .before .before .before .before .before .before .before .before .before .read-file .ensures .1 .0) (c .before .before .before .before .before .before .before .before .before .before .before .before .before .before .before .before .before .before .before .before .before .before .before .before .before .read-file .ensures .1 .1) (c .before .before .before .before .before .before .before .before .before .before .before .before .before .before .before .before .before .before .before .s .given .1)) (c .before .before .before .before .before .before .before .before .before .before .before .before .before .before .put-sheet .ensures) (omega (arith, c .before .before .before .before .before .before .before .before .before .before .before .if1 .taken, c .before .before .before .before .before .before .before .before .before .before .before .before .before .before .put-sheet .kept .0)) (zeros (c .before .before .before .before .before .before .before .before .clear-all .ensures .0) (c .before .before .before .before .before .before .before .before .before .before .before .before .before .before .before .before .before .before .before .before .before .before .before .before .before .read-file .kept .1 .0)) (zeros (c .before .before .before .before .before .before .before .before .clear-all .ensures .1) (c .before .before .before .before .before .before .before .before .before .before .before .before .before .before .before .before .before .before .before .before .before .before .before .before .before .read-file .kept .1 .1 .0)) (zeros (c .before .before .clear-bytes2 .ensures) (c .before .before .before .before .before .before .before .before .before .before .before .before .before .before .put-sheet .kept .0)) in (w .0, (w .1, (w .2, w .3)))
 
-clear-from-requires : tie.Need-clear-from-requires
-clear-from-requires c κs = search needs
+clear-bytes-from-requires : tie.Need-clear-bytes-from-requires
+clear-bytes-from-requires c κs = search needs
 
 same-length-4 : tie.Need-same-length-4
 same-length-4 c = search needs
@@ -67,7 +67,7 @@ same-length-9 : tie.Need-same-length-9
 same-length-9 c = search needs
 
 returns-3 : tie.Need-returns-3
-returns-3 c = let w = asked-good (c .before .before .before .before .before .before .before .before .before .before .before .before .before .before .before .before .before .before .before .before .before .before .before .before .before .args .file .now) (length (c .before .before .before .before .before .before .before .before .before .before .before .before .before .before .before .before .before .before .before .before .before .before .before .before .before .args .nodes .now)) (length (c .before .before .before .before .before .before .before .before .before .before .before .before .before .before .before .before .before .before .before .before .before .before .before .before .before .args .items .now)) (c .before .before .before .before .before .before .before .before .before .before .before .before .before .before .before .before .before .before .before .before .before .before .before .before .before .args .sheet .now) _ (c .before .before .before .before .before .before .before .before .before .before .before .before .before .before .before .before .before .before .read-file .ensures .1 .0) (c .before .before .before .before .before .before .before .before .before .before .before .before .before .before .before .before .before .before .read-file .ensures .1 .1) (standing (c .before .before .before .before .before .before .before .before .before .before .before .before .before .before .before .before .before .before .before .before .before .before .before .before .before .args .file .now) _ _ _ (c .before .before .before .before .before .before .before .before .before .before .before .before .before .before .before .before .before .before .read-file .ensures .0) (c .before .before .before .before .before .before .before .before .before .before .before .before .before .before .before .before .before .before .read-file .ensures .1 .0) (c .before .before .before .before .before .before .before .before .before .before .before .before .before .before .before .before .before .before .read-file .ensures .1 .1) (c .before .before .before .before .before .before .before .before .before .before .before .before .s .given .1)) (c .before .before .before .before .before .before .before .put-sheet .ensures) (omega (arith, c .before .before .before .before .if1 .left, c .before .before .before .before .before .before .before .put-sheet .kept .0)) (c .before .before .clear-from .ensures) in (w .0, (w .1, (w .2, w .3)))
+returns-3 c = let w = asked-good (c .before .before .before .before .before .before .before .before .before .before .before .before .before .before .before .before .before .before .before .before .before .before .before .before .before .args .file .now) (length (c .before .before .before .before .before .before .before .before .before .before .before .before .before .before .before .before .before .before .before .before .before .before .before .before .before .args .nodes .now)) (length (c .before .before .before .before .before .before .before .before .before .before .before .before .before .before .before .before .before .before .before .before .before .before .before .before .before .args .items .now)) (c .before .before .before .before .before .before .before .before .before .before .before .before .before .before .before .before .before .before .before .before .before .before .before .before .before .args .sheet .now) _ (c .before .before .before .before .before .before .before .before .before .before .before .before .before .before .before .before .before .before .read-file .ensures .1 .0) (c .before .before .before .before .before .before .before .before .before .before .before .before .before .before .before .before .before .before .read-file .ensures .1 .1) (standing (c .before .before .before .before .before .before .before .before .before .before .before .before .before .before .before .before .before .before .before .before .before .before .before .before .before .args .file .now) _ _ _ (c .before .before .before .before .before .before .before .before .before .before .before .before .before .before .before .before .before .before .read-file .ensures .0) (c .before .before .before .before .before .before .before .before .before .before .before .before .before .before .before .before .before .before .read-file .ensures .1 .0) (c .before .before .before .before .before .before .before .before .before .before .before .before .before .before .before .before .before .before .read-file .ensures .1 .1) (c .before .before .before .before .before .before .before .before .before .before .before .before .s .given .1)) (c .before .before .before .before .before .before .before .put-sheet .ensures) (omega (arith, c .before .before .before .before .if1 .left, c .before .before .before .before .before .before .before .put-sheet .kept .0)) (c .before .before .clear-bytes-from .ensures) in (w .0, (w .1, (w .2, w .3)))
 
 pub write-sheet-spec : {M : Type 1} → statement M
 write-sheet-spec =
@@ -84,7 +84,7 @@ write-sheet-spec =
     same-length-2
     same-length-3
     returns
-    clear-from-requires
+    clear-bytes-from-requires
     same-length-4
     same-length-5
     same-length-6

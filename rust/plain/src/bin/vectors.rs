@@ -3,7 +3,8 @@
 //! The path of the vectors file is the first argument. The lent tables and the sheet's buffer hold
 //! other values before each call, and what they hold afterwards is checked as well.
 
-use plain::{find, judge, read_tree, resolve, resource, write_sheet, Field, Refusal};
+use plain::{find, judge, read_tree, resolve, resource, utf16_to_utf8, utf8_to_utf16, write_sheet};
+use plain::{Field, Refusal};
 use std::process::ExitCode;
 
 /// What the lent words hold before a call.
@@ -52,6 +53,13 @@ fn run(line: &str) -> Option<String> {
     let mut words = case.split_whitespace();
     let command = words.next()?;
     let file = bytes(words.next()?)?;
+    if command.starts_with("utf") {
+        let room = words.next()?.parse().ok()?;
+        return match words.next() {
+            None => convert(command, &file, room),
+            Some(_) => None,
+        };
+    }
     let mut nodes = vec![STALE; words.next()?.parse().ok()?];
     let mut items = vec![STALE; words.next()?.parse().ok()?];
 
@@ -129,6 +137,23 @@ fn run(line: &str) -> Option<String> {
     })
 }
 
+/// Runs one case of a conversion.
+fn convert(command: &str, given: &[u8], room: usize) -> Option<String> {
+    let mut text = vec![0xEE; room];
+    let written = match command {
+        "utf8" => utf16_to_utf8(given, &mut text),
+        "utf16" => utf8_to_utf16(given, &mut text),
+        _ => return None,
+    };
+    if text[written.unwrap_or(0)..].iter().any(|&byte| byte != 0) {
+        return Some("the room isn't cleared".to_string());
+    }
+    Some(match written {
+        Ok(length) => format!("ok {}", hex(&text[..length])),
+        Err(Refusal { number, place }) => format!("R {number} {place}"),
+    })
+}
+
 /// Whether the tables hold what reading the tree into cleared tables gives.
 fn tables_agree(file: &[u8], nodes: &[u64], items: &[u64]) -> bool {
     let mut fresh_nodes = vec![0; nodes.len()];
@@ -168,7 +193,10 @@ fn bytes(text: &str) -> Option<Vec<u8>> {
         .collect()
 }
 
-/// The pairs of hexadecimal digits that stand for bytes.
+/// The pairs of hexadecimal digits that stand for bytes; `-` stands for no bytes.
 fn hex(bytes: &[u8]) -> String {
+    if bytes.is_empty() {
+        return "-".to_string();
+    }
     bytes.iter().map(|byte| format!("{byte:02x}")).collect()
 }

@@ -1,0 +1,27 @@
+-- `xmf_utf8_to_utf16` leaves what the conversion comes to.
+-- Assumes nothing.
+use Rattle.promises.specs.Promises.{utf8ToUtf16, convert}
+use Rattle.capi.proofs.Words.{convert-left}
+use borrow.Author.Needs.{needs}
+use Rattle.capi.proofs.xmf_utf8_to_utf16.Statement.{statement}
+use Rattle.capi.proofs.xmf_utf8_to_utf16.Tie as tie
+
+to-utf16-requires : tie.Need-to-utf16-requires
+to-utf16-requires c κs = search needs
+
+put-converted-requires : tie.Need-put-converted-requires
+put-converted-requires c κs = search needs
+
+same-length : tie.Need-same-length
+same-length c = search needs
+
+same-length-2 : tie.Need-same-length-2
+same-length-2 c = search needs
+
+returns : tie.Need-returns
+unfolding convert
+returns c = convert-left utf8ToUtf16 _ _ _ (c .before .before .before .before .before .to-utf16 .ensures .0) (c .before .before .before .before .before .to-utf16 .ensures .1) (c .before .before .put-converted .ensures)
+
+pub xmf-utf8-to-utf16-spec : {M : Type 1} → statement M
+xmf-utf8-to-utf16-spec =
+    tie.close (tie.spec to-utf16-requires put-converted-requires same-length same-length-2 returns)

@@ -1,0 +1,31 @@
+-- `after_mark` gives the place after a leading mark.
+-- Assumes nothing.
+use mathlib.Core.Path.{sym, ap, _∙_}
+use Rattle.unicode.specs.Told.{charTold}
+use Rattle.unicode.proofs.Converting.{mark-bad, mark-kept, mark-dropped, mark-in}
+use native.Mathlib.Omega.{arith}
+use borrow.Author.Needs.{needs}
+use Rattle.unicode.proofs.after_mark.Statement.{statement}
+use Rattle.unicode.proofs.after_mark.Tie as tie
+
+char16-requires : tie.Need-char16-requires
+char16-requires c κs = search needs
+
+enum-told : tie.Need-enum-told
+enum-told c = search needs
+
+enum-known-value : tie.Need-enum-known-value
+enum-known-value c = search needs
+
+returns : tie.Need-returns
+returns c = (mark-dropped (c .before .before .before .before .before .before .args .units .now) (sym (ap charTold (c .before .before .value .given .1)) ∙ c .before .before .before .before .char16 .ensures) (λ i. omega (arith, c .before .before .before .before .before .shared-slice-known .given i)) (c .if1 .taken), mark-in (c .before .before .before .before .before .before .args .units .now) (sym (ap charTold (c .before .before .value .given .1)) ∙ c .before .before .before .before .char16 .ensures) (λ i. omega (arith, c .before .before .before .before .before .shared-slice-known .given i)))
+
+returns-2 : tie.Need-returns-2
+returns-2 c = (mark-bad (c .before .before .before .before .args .units .now) (sym (ap charTold (c .enum-told .given .1)) ∙ c .before .before .char16 .ensures), omega arith)
+
+returns-3 : tie.Need-returns-3
+returns-3 c = (mark-kept (c .before .before .before .before .before .before .args .units .now) (sym (ap charTold (c .before .before .value .given .1)) ∙ c .before .before .before .before .char16 .ensures) (λ i. omega (arith, c .before .before .before .before .before .shared-slice-known .given i)) (c .if1 .left), omega arith)
+
+pub after-mark-spec : {M : Type 1} → statement M
+after-mark-spec =
+    tie.close (tie.spec char16-requires enum-told enum-known-value returns returns-2 returns-3)

@@ -1,0 +1,72 @@
+-- `char8` gives what `first8` gives of the bytes from a place on.
+-- Assumes nothing.
+use mathlib.Core.Path.{_∙_}
+use Rattle.unicode.proofs.Tails.{no-byte, one-byte, tail-byte, two-bytes, three-bytes, four-bytes, wrong-byte}
+use borrow.Author.Needs.{needs}
+use Rattle.unicode.proofs.char8.Statement.{statement}
+use Rattle.unicode.proofs.char8.Tie as tie
+
+returns : tie.Need-returns
+returns c = no-byte (c .before .before .args .text .now) (c .before .before .args .at) (c .if1 .taken)
+
+shared-slice-read-wide : tie.Need-shared-slice-read-wide
+shared-slice-read-wide c = search needs
+
+wide-requires : tie.Need-wide-requires
+wide-requires c κs = search needs
+
+returns-2 : tie.Need-returns-2
+returns-2 c = one-byte (c .before .before .before .before .before .args .text .now) (c .before .before .before .before .before .args .at) (c .before .before .before .if1 .left) (c .before .wide .ensures .0) (c .if2 .taken)
+
+returns-3 : tie.Need-returns-3
+returns-3 c = tail-byte (c .before .before .before .before .before .before .args .text .now) (c .before .before .before .before .before .before .args .at) (c .before .before .before .before .if1 .left) (c .before .before .wide .ensures .0) (c .before .if2 .left) (c .if3 .taken)
+
+add-read-tails : tie.Need-add-read-tails
+add-read-tails c = search needs
+
+read-tails-requires : tie.Need-read-tails-requires
+read-tails-requires c κs = search needs
+
+returns-4 : tie.Need-returns-4
+returns-4 c = c .read-tails .ensures ∙ two-bytes (c .before .before .before .before .before .before .before .before .args .text .now) (c .before .before .before .before .before .before .before .before .args .at) (c .before .before .before .before .before .before .if1 .left) (c .before .before .before .before .wide .ensures .0) (c .before .before .if3 .left) (c .before .if4 .taken)
+
+add-read-tails-2 : tie.Need-add-read-tails-2
+add-read-tails-2 c = search needs
+
+read-tails-requires-2 : tie.Need-read-tails-requires-2
+read-tails-requires-2 c κs = search needs
+
+returns-5 : tie.Need-returns-5
+returns-5 c = c .read-tails2 .ensures ∙ three-bytes (c .before .before .before .before .before .before .before .before .before .args .text .now) (c .before .before .before .before .before .before .before .before .before .args .at) (c .before .before .before .before .before .before .before .if1 .left) (c .before .before .before .before .before .wide .ensures .0) (c .before .before .if4 .left) (c .before .if5 .taken)
+
+add-read-tails-3 : tie.Need-add-read-tails-3
+add-read-tails-3 c = search needs
+
+read-tails-requires-3 : tie.Need-read-tails-requires-3
+read-tails-requires-3 c κs = search needs
+
+returns-6 : tie.Need-returns-6
+returns-6 c = c .read-tails3 .ensures ∙ four-bytes (c .before .before .before .before .before .before .before .before .before .before .args .text .now) (c .before .before .before .before .before .before .before .before .before .before .args .at) (c .before .before .before .before .before .before .before .before .if1 .left) (c .before .before .before .before .before .before .wide .ensures .0) (c .before .before .if5 .left) (c .before .if6 .taken)
+
+returns-7 : tie.Need-returns-7
+returns-7 c = wrong-byte (c .before .before .before .before .before .before .before .before .before .args .text .now) (c .before .before .before .before .before .before .before .before .before .args .at) (c .before .before .before .before .before .before .before .if1 .left) (c .before .before .before .before .before .wide .ensures .0) (c .if6 .left)
+
+pub char8-spec : {M : Type 1} → statement M
+char8-spec =
+    tie.close
+    (tie.spec
+    returns
+    shared-slice-read-wide
+    wide-requires
+    returns-2
+    returns-3
+    add-read-tails
+    read-tails-requires
+    returns-4
+    add-read-tails-2
+    read-tails-requires-2
+    returns-5
+    add-read-tails-3
+    read-tails-requires-3
+    returns-6
+    returns-7)

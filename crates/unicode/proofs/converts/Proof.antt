@@ -1,0 +1,61 @@
+-- `converts` says whether data converts.
+-- Assumes nothing.
+use mathlib.Core.Path.{sym, ap, _∙_}
+use Rattle.unicode.specs.Told.{charTold}
+use Prim.Native.Nat.{_-_}
+use lib.ListN.{length}
+use Rattle.unicode.proofs.Sixteen.{form16}
+use Rattle.unicode.proofs.Converting.{Checking, check-start, check-on, check-bad, check-end, char-in}
+use native.Mathlib.Omega.{arith}
+use borrow.Author.Needs.{needs}
+use Rattle.unicode.proofs.converts.Statement.{statement}
+use Rattle.unicode.proofs.converts.Tie as tie
+
+abbrev Inv-loop : tie.InvT-loop
+Inv-loop units at₀ at = Checking units at
+
+abbrev μ-loop : tie.MeasureT-loop
+μ-loop units at₀ at = length units - at
+
+loop-holds : tie.Need-loop-holds Inv-loop μ-loop
+loop-holds c = check-start (c .before .args .units .now)
+
+char16-requires : tie.Need-char16-requires Inv-loop μ-loop
+char16-requires c κs = search needs
+
+enum-told : tie.Need-enum-told Inv-loop μ-loop
+enum-told c = search needs
+
+returns : tie.Need-returns Inv-loop μ-loop
+returns c = check-bad (c .before .before .before .before .before .before .args .units .now) _ (c .before .before .before .loop-test .taken) (c .before .before .before .before .loop .inv) (sym (ap charTold (c .enum-told .given .1)) ∙ c .before .before .char16 .ensures)
+
+enum-known-size : tie.Need-enum-known-size Inv-loop μ-loop
+enum-known-size c = search needs
+
+add-at : tie.Need-add-at Inv-loop μ-loop
+add-at c = (let w = check-on (c .before .before .before .before .before .before .before .args .units .now) _ (c .before .before .before .before .loop-test .taken) (c .before .before .before .before .before .loop .inv) (λ i. omega (arith, c .before .before .before .before .before .before .shared-slice-known .given i)) (sym (ap charTold (c .before .size .given .1)) ∙ c .before .before .before .char16 .ensures) in omega (arith, w .within))
+
+loop-less : tie.Need-loop-less Inv-loop μ-loop
+loop-less c = (let w = char-in form16 (c .before .before .before .before .before .before .before .args .units .now) (λ i. omega (arith, c .before .before .before .before .before .before .shared-slice-known .given i)) _ (sym (ap charTold (c .before .size .given .1)) ∙ c .before .before .before .char16 .ensures) (c .before .before .before .before .before .loop .inv .within) in omega (arith, w .1, w .2))
+
+loop-again : tie.Need-loop-again Inv-loop μ-loop
+loop-again c = check-on (c .before .before .before .before .before .before .before .args .units .now) _ (c .before .before .before .before .loop-test .taken) (c .before .before .before .before .before .loop .inv) (λ i. omega (arith, c .before .before .before .before .before .before .shared-slice-known .given i)) (sym (ap charTold (c .before .size .given .1)) ∙ c .before .before .before .char16 .ensures)
+
+returns-2 : tie.Need-returns-2 Inv-loop μ-loop
+returns-2 c = check-end (c .before .before .before .args .units .now) _ (c .loop-test .left) (c .before .loop .inv)
+
+pub converts-spec : {M : Type 1} → statement M
+converts-spec =
+    tie.close
+    (tie.spec
+    Inv-loop
+    μ-loop
+    loop-holds
+    char16-requires
+    enum-told
+    returns
+    enum-known-size
+    add-at
+    loop-less
+    loop-again
+    returns-2)

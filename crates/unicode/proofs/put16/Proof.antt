@@ -1,0 +1,48 @@
+-- `put16` puts the bytes of the units that `utf16` has.
+-- Assumes nothing.
+use Rattle.room.proofs.Putting.{puts-then, puts-as}
+use Rattle.unicode.proofs.Sixteen.{short-bytes, long-bytes}
+use borrow.Author.Needs.{needs}
+use Rattle.unicode.proofs.put16.Statement.{statement}
+use Rattle.unicode.proofs.put16.Tie as tie
+
+put-unit-requires : tie.Need-put-unit-requires
+put-unit-requires c κs = search needs
+
+same-length : tie.Need-same-length
+same-length c = search needs
+
+returns : tie.Need-returns
+returns c = puts-as (short-bytes _ (c .before .before .before .before .if1 .taken)) (c .before .before .put-unit .ensures)
+
+add-put-unit : tie.Need-add-put-unit
+add-put-unit c = search needs
+
+put-unit-requires-2 : tie.Need-put-unit-requires-2
+put-unit-requires-2 c κs = search needs
+
+add-put-unit-2 : tie.Need-add-put-unit-2
+add-put-unit-2 c = search needs
+
+put-unit-requires-3 : tie.Need-put-unit-requires-3
+put-unit-requires-3 c κs = search needs
+
+same-length-2 : tie.Need-same-length-2
+same-length-2 c = search needs
+
+returns-2 : tie.Need-returns-2
+returns-2 c = puts-as (long-bytes _ (c .before .before .before .before .before .before .before .before .if1 .left)) (puts-then (c .before .before .before .before .before .before .put-unit2 .ensures) (c .before .before .put-unit3 .ensures))
+
+pub put16-spec : {M : Type 1} → statement M
+put16-spec =
+    tie.close
+    (tie.spec
+    put-unit-requires
+    same-length
+    returns
+    add-put-unit
+    put-unit-requires-2
+    add-put-unit-2
+    put-unit-requires-3
+    same-length-2
+    returns-2)

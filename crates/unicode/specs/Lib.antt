@@ -1,0 +1,2 @@
+pub mod Unicode
+pub mod Told
