@@ -1,12 +1,16 @@
-// The five questions and the two conversions for C and Rust. Each slice passes as a pointer and a length. The last one is a lent buffer of words for the answer: refusal
+// The questions and the conversions of text for C and Rust. Each slice passes as a pointer and a length. The last one is a lent buffer of words for the answer: refusal
 // number (0: none), place, then the answer's values, and zeros; a short buffer gets what fits.
 ghost use mathlib.Core.Path.{_≡_};
 ghost use mathlib.Core.List.{_∷_, []};
-ghost use Prim.Native.Nat.{ℕ};
 ghost use lib.ListN.{length};
-ghost use Rattle.promises.specs.Promises.{findAnswer, outcome, readTree, findItem, resolveRow, judgeMobile, writeSheet, numberAnswer, utf16ToUtf8, utf8ToUtf16, converted};
-ghost use Rattle.unicode.specs.Told.{told};
-ghost use Rattle.capi.specs.Fit.{fit, asked, foundTold};
+ghost use Rattle.tree.specs.Told as told_tree;
+ghost use Rattle.find.specs.Told as told_find;
+ghost use Rattle.resolve.specs.Told as told_resolve;
+ghost use Rattle.mobile.specs.Told as told_mobile;
+ghost use Rattle.sheet.specs.Told as told_sheet;
+ghost use Rattle.unicode.specs.Told as told_unicode;
+ghost use Rattle.promises.specs.Promises.{outcome, readTree, findItem, resolveRow, judgeMobile, writeSheet, toUtf8, toUtf16};
+ghost use Rattle.capi.specs.Fit.{fit, asked, Leaves};
 use find::Found;
 use mobile::Judged;
 use resolve::Resolved;
@@ -35,19 +39,11 @@ fn put_refusal(answer: &mut [u64], number: u64, place: usize)
     put_answer(answer, &words);
 }
 
-// Reads the tree. Answer: version (100, 101, 200), nodes, item rows.
-#[no_mangle]
-pub extern "C" fn xmf_read_tree(
-    file: &[u8],
-    nodes: &mut [u64],
-    items: &mut [u64],
-    answer: &mut [u64],
-)
-    ensures answer { λ _. ⌜ now (answer .exit) ≡ fit (length (now (answer .entry))) (outcome readTree (record { nodes = length (now (nodes .entry)); items = length (now (items .entry)); sheet = 0 }) (now (file .entry)) .answer) ⌝ }
-    ensures nodes { λ _. ⌜ now (nodes .exit) ≡ outcome readTree (record { nodes = length (now (nodes .entry)); items = length (now (items .entry)); sheet = 0 }) (now (file .entry)) .nodes ⌝ }
-    ensures items { λ _. ⌜ now (items .exit) ≡ outcome readTree (record { nodes = length (now (nodes .entry)); items = length (now (items .entry)); sheet = 0 }) (now (file .entry)) .items ⌝ }
+// The tree's version, nodes and item rows.
+fn put_tree(answer: &mut [u64], said: Answer)
+    ensures { λ _. ⌜ now (answer .exit) ≡ fit (length (now (answer .entry))) (told_tree.words said) ⌝ }
 {
-    match tree::read_tree(file, nodes, items) {
+    match said {
         Answer::Refused(n, p) => put_refusal(answer, n, p),
         Answer::Tree(version, n, i) => {
             let words = [0, 0, version, n as u64, i as u64];
@@ -56,11 +52,11 @@ pub extern "C" fn xmf_read_tree(
     }
 }
 
-// What was found: the item row and its ten words.
-fn put_found(answer: &mut [u64], found: Found)
-    ensures { λ _. ⌜ now (answer .exit) ≡ fit (length (now (answer .entry))) (findAnswer (foundTold found)) ⌝ }
+// The item row that was found, and its ten words.
+fn put_found(answer: &mut [u64], said: Found)
+    ensures { λ _. ⌜ now (answer .exit) ≡ fit (length (now (answer .entry))) (told_find.words said) ⌝ }
 {
-    match found {
+    match said {
         Found::Refused(n, p) => put_refusal(answer, n, p),
         Found::Item(i, r) => {
             let words = [
@@ -83,6 +79,71 @@ fn put_found(answer: &mut [u64], found: Found)
     }
 }
 
+// The resource's place and length, its row, the references followed.
+fn put_resolved(answer: &mut [u64], said: Resolved)
+    ensures { λ _. ⌜ now (answer .exit) ≡ fit (length (now (answer .entry))) (told_resolve.words said) ⌝ }
+{
+    match said {
+        Resolved::Refused(n, p) => put_refusal(answer, n, p),
+        Resolved::At(place, size, last, hops) => {
+            let words = [0, 0, place as u64, size as u64, last as u64, hops];
+            put_answer(answer, &words);
+        }
+    }
+}
+
+// The verdict.
+fn put_judged(answer: &mut [u64], said: Judged)
+    ensures { λ _. ⌜ now (answer .exit) ≡ fit (length (now (answer .entry))) (told_mobile.words said) ⌝ }
+{
+    match said {
+        Judged::Refused(n, p) => put_refusal(answer, n, p),
+        Judged::Verdict(v) => {
+            let words = [0, 0, v];
+            put_answer(answer, &words);
+        }
+    }
+}
+
+// The number of bytes written.
+fn put_written(answer: &mut [u64], said: Written)
+    ensures { λ _. ⌜ now (answer .exit) ≡ fit (length (now (answer .entry))) (told_sheet.words said) ⌝ }
+{
+    match said {
+        Written::Refused(n, p) => put_refusal(answer, n, p),
+        Written::Bytes(n) => {
+            let words = [0, 0, n as u64];
+            put_answer(answer, &words);
+        }
+    }
+}
+
+// The number of bytes converted to.
+fn put_converted(answer: &mut [u64], said: Converted)
+    ensures { λ _. ⌜ now (answer .exit) ≡ fit (length (now (answer .entry))) (told_unicode.words said) ⌝ }
+{
+    match said {
+        Converted::Refused(n, p) => put_refusal(answer, n, p),
+        Converted::Bytes(count) => {
+            let words = [0, 0, count as u64];
+            put_answer(answer, &words);
+        }
+    }
+}
+
+// Reads the tree. Answer: version (100, 101, 200), nodes, item rows.
+#[no_mangle]
+pub extern "C" fn xmf_read_tree(
+    file: &[u8],
+    nodes: &mut [u64],
+    items: &mut [u64],
+    answer: &mut [u64],
+)
+    ensures { λ _. ⌜ Leaves (outcome readTree (length (now (nodes .entry)) ∷ length (now (items .entry)) ∷ []) (now (file .entry))) (length (now (answer .entry))) (now (answer .exit)) (now (nodes .exit) ∷ now (items .exit) ∷ []) ⌝ }
+{
+    put_tree(answer, tree::read_tree(file, nodes, items));
+}
+
 // Finds the nearest item of a field, from a node row: of the standard number (kind 0), or of the custom name (any other kind).
 #[no_mangle]
 pub extern "C" fn xmf_find(
@@ -95,9 +156,7 @@ pub extern "C" fn xmf_find(
     name: &[u8],
     answer: &mut [u64],
 )
-    ensures answer { λ _. ⌜ now (answer .exit) ≡ fit (length (now (answer .entry))) (outcome (findItem (asked kind number (now (name .entry))) row) (record { nodes = length (now (nodes .entry)); items = length (now (items .entry)); sheet = 0 }) (now (file .entry)) .answer) ⌝ }
-    ensures nodes { λ _. ⌜ now (nodes .exit) ≡ outcome (findItem (asked kind number (now (name .entry))) row) (record { nodes = length (now (nodes .entry)); items = length (now (items .entry)); sheet = 0 }) (now (file .entry)) .nodes ⌝ }
-    ensures items { λ _. ⌜ now (items .exit) ≡ outcome (findItem (asked kind number (now (name .entry))) row) (record { nodes = length (now (nodes .entry)); items = length (now (items .entry)); sheet = 0 }) (now (file .entry)) .items ⌝ }
+    ensures { λ _. ⌜ Leaves (outcome (findItem (asked kind number (now (name .entry))) row) (length (now (nodes .entry)) ∷ length (now (items .entry)) ∷ []) (now (file .entry))) (length (now (answer .entry))) (now (answer .exit)) (now (nodes .exit) ∷ now (items .exit) ∷ []) ⌝ }
 {
     if kind == 0 {
         put_found(answer, find::find_standard(file, nodes, items, row, number));
@@ -115,33 +174,17 @@ pub extern "C" fn xmf_resolve(
     row: usize,
     answer: &mut [u64],
 )
-    ensures answer { λ _. ⌜ now (answer .exit) ≡ fit (length (now (answer .entry))) (outcome (resolveRow row) (record { nodes = length (now (nodes .entry)); items = length (now (items .entry)); sheet = 0 }) (now (file .entry)) .answer) ⌝ }
-    ensures nodes { λ _. ⌜ now (nodes .exit) ≡ outcome (resolveRow row) (record { nodes = length (now (nodes .entry)); items = length (now (items .entry)); sheet = 0 }) (now (file .entry)) .nodes ⌝ }
-    ensures items { λ _. ⌜ now (items .exit) ≡ outcome (resolveRow row) (record { nodes = length (now (nodes .entry)); items = length (now (items .entry)); sheet = 0 }) (now (file .entry)) .items ⌝ }
+    ensures { λ _. ⌜ Leaves (outcome (resolveRow row) (length (now (nodes .entry)) ∷ length (now (items .entry)) ∷ []) (now (file .entry))) (length (now (answer .entry))) (now (answer .exit)) (now (nodes .exit) ∷ now (items .exit) ∷ []) ⌝ }
 {
-    match resolve::resolve(file, nodes, items, row) {
-        Resolved::Refused(n, p) => put_refusal(answer, n, p),
-        Resolved::At(place, size, last, hops) => {
-            let words = [0, 0, place as u64, size as u64, last as u64, hops];
-            put_answer(answer, &words);
-        }
-    }
+    put_resolved(answer, resolve::resolve(file, nodes, items, row));
 }
 
 // Judges Mobile XMF. Answer: the verdict.
 #[no_mangle]
 pub extern "C" fn xmf_judge(file: &[u8], nodes: &mut [u64], items: &mut [u64], answer: &mut [u64])
-    ensures answer { λ _. ⌜ now (answer .exit) ≡ fit (length (now (answer .entry))) (outcome judgeMobile (record { nodes = length (now (nodes .entry)); items = length (now (items .entry)); sheet = 0 }) (now (file .entry)) .answer) ⌝ }
-    ensures nodes { λ _. ⌜ now (nodes .exit) ≡ outcome judgeMobile (record { nodes = length (now (nodes .entry)); items = length (now (items .entry)); sheet = 0 }) (now (file .entry)) .nodes ⌝ }
-    ensures items { λ _. ⌜ now (items .exit) ≡ outcome judgeMobile (record { nodes = length (now (nodes .entry)); items = length (now (items .entry)); sheet = 0 }) (now (file .entry)) .items ⌝ }
+    ensures { λ _. ⌜ Leaves (outcome judgeMobile (length (now (nodes .entry)) ∷ length (now (items .entry)) ∷ []) (now (file .entry))) (length (now (answer .entry))) (now (answer .exit)) (now (nodes .exit) ∷ now (items .exit) ∷ []) ⌝ }
 {
-    match mobile::judge(file, nodes, items) {
-        Judged::Refused(n, p) => put_refusal(answer, n, p),
-        Judged::Verdict(v) => {
-            let words = [0, 0, v];
-            put_answer(answer, &words);
-        }
-    }
+    put_judged(answer, mobile::judge(file, nodes, items));
 }
 
 // Writes the support sheet. Answer: bytes written.
@@ -153,39 +196,16 @@ pub extern "C" fn xmf_write_sheet(
     sheet: &mut [u8],
     answer: &mut [u64],
 )
-    ensures answer { λ _. ⌜ now (answer .exit) ≡ fit (length (now (answer .entry))) (outcome writeSheet (record { nodes = length (now (nodes .entry)); items = length (now (items .entry)); sheet = length (now (sheet .entry)) }) (now (file .entry)) .answer) ⌝ }
-    ensures nodes { λ _. ⌜ now (nodes .exit) ≡ outcome writeSheet (record { nodes = length (now (nodes .entry)); items = length (now (items .entry)); sheet = length (now (sheet .entry)) }) (now (file .entry)) .nodes ⌝ }
-    ensures items { λ _. ⌜ now (items .exit) ≡ outcome writeSheet (record { nodes = length (now (nodes .entry)); items = length (now (items .entry)); sheet = length (now (sheet .entry)) }) (now (file .entry)) .items ⌝ }
-    ensures sheet { λ _. ⌜ now (sheet .exit) ≡ outcome writeSheet (record { nodes = length (now (nodes .entry)); items = length (now (items .entry)); sheet = length (now (sheet .entry)) }) (now (file .entry)) .sheet ⌝ }
+    ensures { λ _. ⌜ Leaves (outcome writeSheet (length (now (nodes .entry)) ∷ length (now (items .entry)) ∷ length (now (sheet .entry)) ∷ []) (now (file .entry))) (length (now (answer .entry))) (now (answer .exit)) (now (nodes .exit) ∷ now (items .exit) ∷ now (sheet .exit) ∷ []) ⌝ }
 {
-    match sheet::write_sheet(file, nodes, items, sheet) {
-        Written::Refused(n, p) => put_refusal(answer, n, p),
-        Written::Bytes(n) => {
-            let words = [0, 0, n as u64];
-            put_answer(answer, &words);
-        }
-    }
-}
-
-// What was converted: the number of bytes written.
-fn put_converted(answer: &mut [u64], done: Converted)
-    ensures { λ _. ⌜ now (answer .exit) ≡ fit (length (now (answer .entry))) (numberAnswer (told done)) ⌝ }
-{
-    match done {
-        Converted::Refused(n, p) => put_refusal(answer, n, p),
-        Converted::Bytes(n) => {
-            let words = [0, 0, n as u64];
-            put_answer(answer, &words);
-        }
-    }
+    put_written(answer, sheet::write_sheet(file, nodes, items, sheet));
 }
 
 // Converts UTF-16, high byte first, into UTF-8; one leading mark FEFF is dropped. Answer: bytes written. It converts what it is given, hidden text too, and
 // stands outside demand 3.
 #[no_mangle]
 pub extern "C" fn xmf_utf16_to_utf8(units: &[u8], text: &mut [u8], answer: &mut [u64])
-    ensures answer { λ _. ⌜ now (answer .exit) ≡ fit (length (now (answer .entry))) (converted utf16ToUtf8 (length (now (text .entry))) (now (units .entry)) .answer) ⌝ }
-    ensures text { λ _. ⌜ now (text .exit) ≡ converted utf16ToUtf8 (length (now (text .entry))) (now (units .entry)) .text ⌝ }
+    ensures { λ _. ⌜ Leaves (outcome (toUtf8 (now (units .entry))) (length (now (text .entry)) ∷ []) []) (length (now (answer .entry))) (now (answer .exit)) (now (text .exit) ∷ []) ⌝ }
 {
     put_converted(answer, unicode::to_utf8(units, text));
 }
@@ -193,8 +213,7 @@ pub extern "C" fn xmf_utf16_to_utf8(units: &[u8], text: &mut [u8], answer: &mut 
 // Converts UTF-8 into UTF-16, high byte first. Answer: bytes written.
 #[no_mangle]
 pub extern "C" fn xmf_utf8_to_utf16(text: &[u8], units: &mut [u8], answer: &mut [u64])
-    ensures answer { λ _. ⌜ now (answer .exit) ≡ fit (length (now (answer .entry))) (converted utf8ToUtf16 (length (now (units .entry))) (now (text .entry)) .answer) ⌝ }
-    ensures units { λ _. ⌜ now (units .exit) ≡ converted utf8ToUtf16 (length (now (units .entry))) (now (text .entry)) .text ⌝ }
+    ensures { λ _. ⌜ Leaves (outcome (toUtf16 (now (text .entry))) (length (now (units .entry)) ∷ []) []) (length (now (answer .entry))) (now (answer .exit)) (now (units .exit) ∷ []) ⌝ }
 {
     put_converted(answer, unicode::to_utf16(text, units));
 }

@@ -6,6 +6,7 @@ use mathlib.Core.Path.{_≡_}
 use Prim.Native.Nat.{ℕ, _+_, _-_, _*_, _^_, _≤_, _<_, min}
 use lib.Dec.{ltb}
 use lib.ListN.{length, take, getD}
+use lib.Seq.{sets}
 
 -- r is where the first mark of text from `from` on is, or the text's length where there is none
 pub record FirstMark (text : List ℕ) (from mark r : ℕ) : Type 0 where
@@ -20,6 +21,12 @@ pub record Ends (out : List ℕ) (at r : ℕ) : Type 0 where
   pub counted : r ≡ length (take r out)
   pub after : min at (length out) ≤ r
 
+-- out became out′ when bytes were put from `at` on, of which those past its end are left out, and r is the place after them
+pub record Puts (out out′ : List ℕ) (at : ℕ) (bytes : List ℕ) (r : ℕ) : Type 0 where
+  pub wrote : out′ ≡ sets out at bytes
+  pub fits : at + length bytes ≤ length out → r ≡ at + length bytes
+  pub over : length out ≤ at + length bytes → r ≡ length out
+
 -- the value of a lower-case hex digit, and 16 for any other byte
 abbrev pub digitOf : ℕ → ℕ
 digitOf b = cond (ltb b 48) 16 (cond (ltb b 58) (b - 48) (cond (ltb b 97) 16 (cond (ltb b 103) (b - 87) 16)))
@@ -29,21 +36,24 @@ abbrev pub valueFrom : ℕ → List ℕ → ℕ
 valueFrom v [] = v
 valueFrom v (d ∷ ds) = valueFrom (v * 10 + digitOf d) ds
 
--- value is the number that digits spell, where right
+-- value is the number that digits spell, where right; and decimal digits of a number below 10 to the power 18 are right
 pub record Spells (digits : List ℕ) (value : ℕ) (right : Bool) : Type 0 where
   pub small : value < 10 ^ 18
   pub meant : right ≡ true → value ≡ valueFrom 0 digits
+  pub taken : 0 < length digits → ((k : ℕ) → k < length digits → digitOf (getD digits k 0) ≤ 9) → valueFrom 0 digits < 10 ^ 18 → right ≡ true
 
 -- byte k of the bytes that field spells, two digits to a byte
 abbrev pub byteAt : List ℕ → ℕ → ℕ
 byteAt field k = digitOf (getD field (2 * k) 0) * 16 + digitOf (getD field (2 * k + 1) 0)
 
--- the first count of bytes are those that digits spell, and all of them where right
+-- the first count of bytes are those that digits spell, and all of them where right; and pairs of hex digits that have room are right, and a single `-`
 pub record SpellsBytes (digits bytes : List ℕ) (count : ℕ) (right : Bool) : Type 0 where
   pub within : count ≤ length bytes
   pub counted : count ≡ length (take count bytes)
   pub each : (k : ℕ) → k < count → getD bytes k 0 ≡ byteAt digits k
   pub whole : right ≡ true → (length digits ≡ count * 2) ⊎ ((length digits ≡ 1) × (getD digits 0 0 ≡ 45))
+  pub taken : (n : ℕ) → length digits ≡ n * 2 → n ≤ length bytes → ((k : ℕ) → k < length digits → digitOf (getD digits k 0) ≤ 15) → right ≡ true
+  pub dash : length digits ≡ 1 → getD digits 0 0 ≡ 45 → right ≡ true
 
 -- a case has its bytes at the start of file, and lends no more words than there is room for
 pub record Lends (file : List ℕ) (nodeRoom itemRoom bytes nodes items : ℕ) : Type 0 where

@@ -1,8 +1,9 @@
 // Answers put into a buffer: each function puts its text from `at` on and answers the place after it; what does not fit is left out.
 ghost use mathlib.Core.Path.{_≡_};
 ghost use Prim.Native.Nat.{_+_, _≤_, _<_, min};
+ghost use mathlib.Core.List.{_∷_, []};
 ghost use lib.ListN.{length, set};
-ghost use Rattle.casetext.specs.Text.{Ends, digitOf};
+ghost use Rattle.casetext.specs.Text.{Ends, Puts, digitOf};
 use libc::STDOUT_FILENO;
 
 // Where text can be put: `at`, or the buffer's length where `at` is past it.
@@ -14,7 +15,8 @@ fn start(out: &[u8], at: usize) -> usize
 
 // Puts one byte.
 pub fn put_byte(out: &mut [u8], at: usize, byte: u8) -> usize
-    ensures { λ r. ⌜ Ends (now (out .exit)) at r ⌝ }
+    ensures ends { λ r. ⌜ Ends (now (out .exit)) at r ⌝ }
+    ensures wrote { λ r. ⌜ Puts (now (out .entry)) (now (out .exit)) at (byte ∷ []) r ⌝ }
 {
     if at < out.len() {
         out[at] = byte;
@@ -25,7 +27,8 @@ pub fn put_byte(out: &mut [u8], at: usize, byte: u8) -> usize
 
 // Puts some bytes.
 pub fn put(out: &mut [u8], at: usize, bytes: &[u8]) -> usize
-    ensures { λ r. ⌜ Ends (now (out .exit)) at r ⌝ }
+    ensures ends { λ r. ⌜ Ends (now (out .exit)) at r ⌝ }
+    ensures wrote { λ r. ⌜ Puts (now (out .entry)) (now (out .exit)) at (now (bytes .entry)) r ⌝ }
 {
     let mut end = start(out, at);
     let mut i = 0;

@@ -23,7 +23,8 @@ pub fn is_all(words: &[u64], value: u64) -> bool
 
 // Whether the words from `used` to `lent` are 0 and those from `lent` on are stale, as they were before the call.
 pub fn is_clean(words: &[u64], used: usize, lent: usize) -> bool
-    ensures { λ r. ⌜ (r ≡ true → Clean (now (words .entry)) used lent) ⌝ }
+    ensures clean { λ r. ⌜ (r ≡ true → Clean (now (words .entry)) used lent) ⌝ }
+    ensures only { λ r. ⌜ (used ≤ lent → lent ≤ length (now (words .entry)) → Clean (now (words .entry)) used lent → r ≡ true) ⌝ }
 {
     if used > lent {
         return false;

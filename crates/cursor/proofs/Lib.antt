@@ -7,4 +7,5 @@ pub mod Quiet
 pub mod Digits
 pub mod Leaves
 pub mod Order
+pub mod Limited
 pub mod Listed

@@ -1,40 +1,47 @@
--- Each refusal of a program has a number of the list that 01 gives the reader, 1 to 17. A rule for each form, proved once; and the leaves.
+-- Each refusal of a program is one of those that 01 gives the reader. A rule for each form, proved once; and the leaves.
 -- Assumes nothing.
 use mathlib.Core.Path.{_≡_, subst}
 use mathlib.Core.Bool.{Bool, true, false}
 use mathlib.Core.List.{List}
-use Prim.Native.Nat.{ℕ, zero, suc, _+_, _-_, _<_, _≤_}
+use Prim.Native.Nat.{ℕ, zero, suc, _+_, _-_}
 use native.Mathlib.Omega.{arith}
+use lib.Dec.{T}
 use lib.ListN.{getD}
 use Rattle.cursor.specs.Machine.{ret, refuse, here, byte, pass, refused, run, _>>=_, _>>_, if_then_else_, place, skip, check, turns, many, times}
 use Rattle.cursor.specs.Rows.{Frame, Part, P}
+use Rattle.cursor.specs.Refusals.{ofReader, isAllowed}
 use Rattle.cursor.specs.Leaves.{next, digits, number, block, manufacturer, guidBytes, guid}
 
-abbrev pub InList : ℕ → Type 0
-InList n = (0 < n) × (n ≤ 24)
+-- refusal n at p is one of the reader's
+abbrev pub InList : (n p : ℕ) → Type 0
+InList n p = T (isAllowed ofReader n p)
+
+-- refusal n is one of them, at whatever place
+abbrev pub Anywhere : ℕ → Type 0
+Anywhere n = (p : ℕ) → InList n p
 
 abbrev ListedOf : {A : Type 0} → P A → Type 0
 ListedOf (ret a) = Unit {0}
-ListedOf (refuse n p) = InList n
+ListedOf (refuse n p) = InList n p
 ListedOf (here k) = (at : ℕ) → ListedOf (k at)
 ListedOf (byte κ k) = (b : ℕ) → ListedOf (k b)
 ListedOf (pass w n m) = ListedOf m
 
--- each refusal of m has a number of the list
+-- each refusal of m is in the list
 pub record Listed {A : Type 0} (m : P A) : Type 0 where
   listed : ListedOf m
 
 module _ {A : Type 0} where
-  of-run : (m : P A) (f : List ℕ) (at : ℕ) → ListedOf m → {n p : ℕ} → run m f at ≡ refused n p → InList n
+  of-run : (m : P A) (f : List ℕ) (at : ℕ) → ListedOf m → {n p : ℕ} → run m f at ≡ refused n p → InList n p
   unfolding run
   of-run (ret a) f at w e = let z : _≡_ {A = ℕ} 0 1 = cc in absurd (omega arith)
-  of-run (refuse k q) f at w {n} e = let z : k ≡ n = cc in subst (λ v. InList v) z w
+  of-run (refuse k q) f at w {n} {p} e = let y : q ≡ p = cc in let z : k ≡ n = cc in subst (λ v. InList v p) z (subst (λ v. InList k v) y w)
   of-run (here g) f at w e = of-run (g at) f at (w at) e
   of-run (byte κ g) f at w e = of-run (g (getD f at 0)) f (at + 1) (w (getD f at 0)) e
   of-run (pass x n m) f at w e = of-run m f (at + n) w e
 
   -- so has each run that refuses
-  pub refused-listed : {m : P A} (f : List ℕ) (at : ℕ) → Listed m → {n p : ℕ} → run m f at ≡ refused n p → InList n
+  pub refused-listed : {m : P A} (f : List ℕ) (at : ℕ) → Listed m → {n p : ℕ} → run m f at ≡ refused n p → InList n p
   refused-listed {m} f at w e = of-run m f at (w .listed) e
 
   chained : {B : Type 0} (m : P A) (g : A → P B) → ListedOf m → ((a : A) → ListedOf (g a)) → ListedOf (m >>= g)
@@ -57,7 +64,7 @@ module _ {A : Type 0} where
   pub ends : {a : A} → Listed (ret a)
   ends = record { listed = tt }
 
-  pub stops : {n p : ℕ} → InList n → Listed {A = A} (refuse n p)
+  pub stops : {n p : ℕ} → InList n p → Listed {A = A} (refuse n p)
   stops i = record { listed = i }
 
   pub at-place : {f : ℕ → P A} → ((at : ℕ) → Listed (f at)) → Listed (here f)
@@ -71,7 +78,7 @@ module _ {A : Type 0} where
   either true h k = h
   either false h k = k
 
-  pub checks : (b : Bool) (n p : ℕ) {m : P A} → InList n → Listed m → Listed (check b n p >> m)
+  pub checks : (b : Bool) (n p : ℕ) {m : P A} → InList n p → Listed m → Listed (check b n p >> m)
   unfolding _>>=_ _>>_ check
   checks true n p i h = record { listed = h .listed }
   checks false n p i h = record { listed = i }
@@ -99,41 +106,41 @@ module _ {A : Type 0} where
   counts (suc n) s step = after (step s) λ r. counts n r step
 
 -- a check with which a program ends
-pub checked : (b : Bool) (n p : ℕ) → InList n → Listed (check b n p)
+pub checked : (b : Bool) (n p : ℕ) → InList n p → Listed (check b n p)
 unfolding check
 checked true n p i = ends
 checked false n p i = stops i
 
 -- ---- the leaves: `past` is to be in the list, and the others are
 
-pub next-listed : (κ : Frame) (past end p : ℕ) → InList past → Listed (next κ past end p)
+pub next-listed : (κ : Frame) (past end p : ℕ) → Anywhere past → Listed (next κ past end p)
 unfolding next
-next-listed κ past end p i = at-place λ at. either _ (reads λ b. ends) (stops i)
+next-listed κ past end p i = at-place λ at. either _ (reads λ b. ends) (stops (i p))
 
-pub digits-listed : (κ : Frame) (past end p left v : ℕ) → InList past → Listed (digits κ past end p left v)
+pub digits-listed : (κ : Frame) (past end p left v : ℕ) → Anywhere past → Listed (digits κ past end p left v)
 unfolding digits
-digits-listed κ past end p zero v i = stops (omega arith, omega arith)
+digits-listed κ past end p zero v i = stops tt
 digits-listed κ past end p (suc left) v i = after (next-listed κ past end p i) λ b. either _ ends (digits-listed κ past end p left _ i)
 
-pub number-listed : (κ : Frame) (past end : ℕ) → InList past → Listed (number κ past end)
+pub number-listed : (κ : Frame) (past end : ℕ) → Anywhere past → Listed (number κ past end)
 unfolding number
 number-listed κ past end i = places λ p. digits-listed κ past end p 4 0 i
 
-pub block-listed : (κ : Frame) (past end : ℕ) → InList past → Listed (block κ past end)
+pub block-listed : (κ : Frame) (past end : ℕ) → Anywhere past → Listed (block κ past end)
 unfolding block
-block-listed κ past end i = places λ p. after (number-listed κ past end i) λ size. places λ q. checks _ _ _ i ends
+block-listed κ past end i = places λ p. after (number-listed κ past end i) λ size. places λ q. checks _ _ _ (i p) ends
 
 pub manufacturer-listed : (κ : Frame) (end : ℕ) → Listed (manufacturer κ end)
 unfolding manufacturer
 manufacturer-listed κ end =
-    let i : InList 3 = (omega arith, omega arith) in
+    let i : Anywhere 3 = λ q. tt in
     places λ p. after (next-listed κ _ end p i) λ b.
     either _ (after (next-listed κ _ end p i) λ c. after (next-listed κ _ end p i) λ d. ends) ends
 
 guid-bytes-listed : (κ : Frame) (end p left : ℕ) → Listed (guidBytes κ end p left)
 unfolding guidBytes
-guid-bytes-listed κ end p zero = stops (omega arith, omega arith)
-guid-bytes-listed κ end p (suc left) = after (next-listed κ _ end p (omega arith, omega arith)) λ b. either _ ends (guid-bytes-listed κ end p left)
+guid-bytes-listed κ end p zero = stops tt
+guid-bytes-listed κ end p (suc left) = after (next-listed κ _ end p (λ q. tt)) λ b. either _ ends (guid-bytes-listed κ end p left)
 
 pub guid-listed : (κ : Frame) (end : ℕ) → Listed (guid κ end)
 unfolding guid

@@ -14,7 +14,7 @@ use Rattle.cursor.specs.declared.Item.{Item}
 use Rattle.cursor.specs.Leaves.{next, digits, number, block, manufacturer, guidBytes, guid}
 
 -- k node rows were made, and c item rows since the last of them: what a thing that is passed asks for, and the counts after it
-abbrev Step : Part → (k c : ℕ) → (ℕ → ℕ → Type 0) → Type 0
+abbrev pub Step : Part → (k c : ℕ) → (ℕ → ℕ → Type 0) → Type 0
 Step (nodeRow r) k c X = (r .rows ≡ c) × (r .parent ≤ k) × X (k + 1) 0
 Step (itemRow r) k c X = (r .node ≡ k) × X k (c + 1)
 Step (plain x) k c X = X k c
@@ -34,7 +34,7 @@ ordered-on k c (passed (nodeRow r) p n ∷ es) fs k′ c′ k″ c″ a b = (a .
 ordered-on k c (passed (itemRow r) p n ∷ es) fs k′ c′ k″ c″ a b = (a .0, ordered-on k (c + 1) es fs k′ c′ k″ c″ (a .1) b)
 ordered-on k c (passed (plain x) p n ∷ es) fs k′ c′ k″ c″ a b = ordered-on k c es fs k′ c′ k″ c″ a b
 
-abbrev OrdersOf : {A : Type 0} → P A → (A → ℕ → ℕ → Type 0) → (k c : ℕ) → Type 0
+abbrev pub OrdersOf : {A : Type 0} → P A → (A → ℕ → ℕ → Type 0) → (k c : ℕ) → Type 0
 OrdersOf (ret a) Q k c = Q a k c
 OrdersOf (refuse n p) Q k c = Unit {0}
 OrdersOf (here f) Q k c = (at : ℕ) → OrdersOf (f at) Q k c
@@ -43,7 +43,7 @@ OrdersOf (pass w n m) Q k c = Step w k c (λ k c. OrdersOf m Q k c)
 
 -- each accepted run of m makes its rows in order, and ends with an answer and counts of which Q holds
 pub record Orders {A : Type 0} (m : P A) (Q : A → ℕ → ℕ → Type 0) (k c : ℕ) : Type 0 where
-  orders : OrdersOf m Q k c
+  pub orders : OrdersOf m Q k c
 
 -- what an accepted run comes to
 pub record Made {A : Type 0} (Q : A → ℕ → ℕ → Type 0) (k c : ℕ) (es : Events) (a : A) : Type 0 where

@@ -1,6 +1,9 @@
--- The refusal list of 01: each number with its name. The code has the same names in capitals.
+-- The refusal list of 01: each number with its name, and which of them each question may give. The code has the same names in capitals.
 -- Assumes nothing.
+use mathlib.Core.Bool.{Bool, true, false, not, _&&_, _||_}
+use mathlib.Core.List.{List, [], _∷_}
 use Prim.Native.Nat.{ℕ}
+use lib.Dec.{eqb}
 
 abbrev pub notXmf : ℕ
 notXmf = 1
@@ -82,3 +85,40 @@ badDetached = 24
 -- odd length, lone surrogate or bad UTF-8
 abbrev pub badText : ℕ
 badText = 26
+
+-- ---- who gives which
+
+-- the reader, and so every question over a file
+abbrev pub ofReader : List ℕ
+ofReader =
+    notXmf ∷ badVersion ∷ cutShort ∷ badNumber ∷ wrongLength ∷ badType ∷ badTree ∷ badNode ∷ tooDeep ∷ noRowLeft
+    ∷ badContents ∷ badUnpacker ∷ badReference ∷ badFolder ∷ bytesLeft ∷ badTarget ∷ tooLarge ∷ badDetached ∷ []
+
+-- a question of its own, after the reader
+abbrev pub ofFind : List ℕ
+ofFind = noSuchRow ∷ noSuchItem ∷ []
+
+abbrev pub ofResolve : List ℕ
+ofResolve = noSuchRow ∷ endsAtFolder ∷ endsAtUri ∷ tooManyHops ∷ []
+
+abbrev pub ofSheet : List ℕ
+ofSheet = noRoom ∷ []
+
+-- a conversion of text, which has no file
+abbrev pub ofConversion : List ℕ
+ofConversion = badText ∷ noRoom ∷ []
+
+-- those that name no field: their place is 0
+abbrev pub placeless : List ℕ
+placeless = tooLarge ∷ noSuchRow ∷ endsAtFolder ∷ endsAtUri ∷ tooManyHops ∷ noRoom ∷ noSuchItem ∷ []
+
+-- ---- membership
+
+-- whether n is one of these
+abbrev pub isOneOf : ℕ → List ℕ → Bool
+isOneOf n [] = false
+isOneOf n (m ∷ ms) = eqb n m || isOneOf n ms
+
+-- whether refusal n at p is one of these: n is, and p is 0 if n names no field
+abbrev pub isAllowed : List ℕ → (n p : ℕ) → Bool
+isAllowed ns n p = isOneOf n ns && (not (isOneOf n placeless) || eqb p 0)

@@ -2,10 +2,11 @@
 -- Assumes nothing.
 use mathlib.Core.Path.{_≡_}
 use mathlib.Core.Logic.{_⊎_}
-use mathlib.Core.List.{List}
+use mathlib.Core.List.{List, [], _∷_}
 use Prim.Native.Nat.{ℕ, _+_, _≤_, _<_}
 use lib.ListN.{length}
 use Rattle.cursor.specs.declared.Item.{Item}
+use Rattle.metadata.specs.Tables.{itemWords}
 use Rattle.tree.specs.Rows.{itemAt}
 use Rattle.tree.specs.Asking.{Result, good, bad}
 use Rattle.find.specs.Find.{Wanted, standard, custom, Hit}
@@ -22,6 +23,15 @@ wantedOf field.Custom name = custom name
 abbrev pub told : Found → Result Hit
 told (found.Item i r) = good (record { row = i; item = r })
 told (found.Refused n p) = bad n p
+
+abbrev pub answerOf : Result Hit → Found
+answerOf (good a) = found.Item (a .row) (a .item)
+answerOf (bad n p) = found.Refused n p
+
+-- the answer in words: refusal number (0: none) and place; then the item row's number and its ten words
+abbrev pub words : Found → List ℕ
+words (found.Item i r) = 0 ∷ 0 ∷ i ∷ itemWords r
+words (found.Refused n p) = n ∷ p ∷ []
 
 -- a custom name lies in a file of `size` bytes
 abbrev pub Named : ℕ → Item → Type 0

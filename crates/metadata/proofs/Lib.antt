@@ -4,4 +4,5 @@ pub mod Gives
 pub mod Ends
 pub mod Ways
 pub mod Order
+pub mod Limited
 pub mod Listed

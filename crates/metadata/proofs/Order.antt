@@ -21,11 +21,11 @@ contents-rowless : (end : ℕ) → Rowless (contents end)
 unfolding contents
 contents-rowless end k c = then-rowless (number-rowless _ _ end) λ n. either _ (ends (refl, refl)) (ends (refl, refl))
 
-frame-rowless : (end : ℕ) → Rowless (itemFrame end)
+pub frame-rowless : (end : ℕ) → Rowless (itemFrame end)
 unfolding itemFrame
 frame-rowless end k c = then-rowless (field-rowless end) λ f. then-rowless (contents-rowless end) λ d. ends (refl, refl)
 
-format-rowless : (p : ℕ) (f : Known) → Rowless (declaredFormat p f)
+pub format-rowless : (p : ℕ) (f : Known) → Rowless (declaredFormat p f)
 unfolding declaredFormat
 format-rowless p (known f) k c = ends (refl, refl)
 format-rowless p unknown k c = stops

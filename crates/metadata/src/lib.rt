@@ -405,7 +405,8 @@ fn read_items(
     Rowed::Done(m, next)
 }
 
-// The metadata of a node whose header ends at `end`: a length, and items end to end.
+// The metadata of a node whose header ends at `end`: a length, and items end to end. After a refusal nothing is said of the item table, which may
+// hold some of the rows: `tree::read_file` clears it then.
 pub fn read_metadata(
     c: Cursor,
     file: &[u8],

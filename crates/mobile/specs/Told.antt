@@ -15,6 +15,15 @@ abbrev pub told : Judged → Result ℕ
 told (judged.Verdict v) = good v
 told (judged.Refused n p) = bad n p
 
+abbrev pub answerOf : Result ℕ → Judged
+answerOf (good v) = judged.Verdict v
+answerOf (bad n p) = judged.Refused n p
+
+-- the answer in words: refusal number (0: none) and place; then the verdict
+abbrev pub words : Judged → List ℕ
+words (judged.Verdict v) = 0 ∷ 0 ∷ v ∷ []
+words (judged.Refused n p) = n ∷ p ∷ []
+
 -- the data of each item row lies in a file of `size` bytes
 abbrev pub DataIn : ℕ → List Item → Type 0
 DataIn size is = (i : ℕ) → i < length is → itemAt is i .place + itemAt is i .size ≤ size

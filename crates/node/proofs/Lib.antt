@@ -2,4 +2,5 @@ pub mod Quiet
 pub mod Ends
 pub mod Ways
 pub mod Order
+pub mod Limited
 pub mod Listed

@@ -15,7 +15,7 @@ header-length-rowless : (p size held : ℕ) → Rowless (headerLength p size hel
 unfolding headerLength
 header-length-rowless p size held k c = places λ h. then-rowless (number-rowless _ _ _) λ header. places λ q. checks _ _ _ (checks _ _ _ (ends (refl, refl)))
 
-head-rowless : (s : Standing) → Rowless (head s)
+pub head-rowless : (s : Standing) → Rowless (head s)
 unfolding head
 head-rowless s k c =
     places λ p. then-rowless (number-rowless _ _ _) λ size. checks _ _ _ (checks _ _ _ (checks _ _ _ (then-rowless (number-rowless _ _ _) λ held. checks _ _ _ (header-length-rowless p size held k c))))
@@ -54,7 +54,7 @@ unfolding reference
 reference-rowless first size held end k c =
     places λ p. then-rowless (number-rowless _ _ _) λ r. checks _ _ _ (checks _ _ _ (checks _ _ _ (target-rowless first size r end k c)))
 
-rest-rowless : (first size held inner stop : ℕ) → Rowless (rest first size held inner stop)
+pub rest-rowless : (first size held inner stop : ℕ) → Rowless (rest first size held inner stop)
 unfolding rest
 rest-rowless first size held inner stop k c =
     then-rowless (unpackers-rowless held inner) λ u. places λ e. checks _ _ _ (then-rowless (reference-rowless first size held stop) λ r. ends (refl, refl))

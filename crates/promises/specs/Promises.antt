@@ -1,149 +1,186 @@
--- The page that a user reads: the five questions and the two conversions, what each leaves behind, and what is promised of them. Proofs are in proofs/Kept.antt.
+-- The page that a user reads: the questions, what each call leaves behind, and what is promised of it. The calls with their contracts are in Calls.antt,
+-- the proofs in proofs/Kept.antt.
 -- Assumes nothing.
 use mathlib.Core.Path.{_≡_}
+use mathlib.Core.Bool.{Bool, true, false}
 use mathlib.Core.Logic.{_⊎_}
-use mathlib.Core.List.{List, [], _∷_}
-use Prim.Native.Nat.{ℕ, _+_, _≤_, _<_}
-use lib.ListN.{length, getD, replicate}
-use Rattle.cursor.specs.Refusals.{noRoom, badText}
+use mathlib.Core.List.{List, [], _∷_, _++_, map}
+use Prim.Native.Nat.{ℕ, _+_, _*_, _≤_, _<_}
+use lib.Dec.{T}
+use lib.ListN.{length, getD, replicate, take}
+use Rattle.cursor.specs.Refusals.{badText, ofReader, ofFind, ofResolve, ofSheet, ofConversion, isAllowed}
 use Rattle.cursor.specs.declared.Node.{Node}
 use Rattle.cursor.specs.declared.Item.{Item}
-use Rattle.room.specs.Room.{padded, fitting, counted, kept}
 use Rattle.header.specs.Header.{Header}
-use Rattle.metadata.specs.Tables.{limits, itemWords}
-use Rattle.tree.specs.Reading.{Reading, rows, refusal, readFile, nodeTable, itemTable}
-use Rattle.tree.specs.Asking.{Result, good, bad, ask, keptNodes, keptItems}
+use Rattle.metadata.specs.Tables.{limits, nodeWidth, itemWidth, mostNodes, mostItems}
+use Rattle.tree.specs.Reading.{Reading, rows, refusal, readFile, answerOf, nodeTable, itemTable}
+use Rattle.tree.specs.Told as tree
+use Rattle.tree.specs.Asking.{Result, ask, keptNodes, keptItems}
 use Rattle.tree.specs.Hidden.{DifferInPrivate}
 use Rattle.find.specs.Find as find
+use Rattle.find.specs.Told as found
 use Rattle.resolve.specs.Resolve as resolve
+use Rattle.resolve.specs.Told as resolved
 use Rattle.mobile.specs.Mobile as mobile
-use Rattle.unicode.specs.Unicode.{toUtf8, toUtf16}
+use Rattle.mobile.specs.Told as judged
 use Rattle.sheet.specs.Sheet as sheet
+use Rattle.sheet.specs.Told as written
+use Rattle.room.specs.Room as room
+use Rattle.unicode.specs.Unicode as unicode
+use Rattle.unicode.specs.Told as converted
 
--- ---- questions, and what is lent
+-- ---- questions
 
+-- what a call is asked, besides the file: every argument that is no table and no buffer. The last two have no file.
 pub data Question : Type 0 where
   readTree : Question
   findItem : find.Wanted → (row : ℕ) → Question
   resolveRow : (row : ℕ) → Question
   judgeMobile : Question
   writeSheet : Question
+  toUtf8 : (units : List ℕ) → Question
+  toUtf16 : (text : List ℕ) → Question
 
--- the words of the two tables and the bytes of the sheet's buffer
-pub record Lent : Type 0 where
-  pub nodes : ℕ
-  pub items : ℕ
-  pub sheet : ℕ
+-- whether it is of a file
+abbrev pub hasFile : Question → Bool
+hasFile readTree = true
+hasFile (findItem w row) = true
+hasFile (resolveRow row) = true
+hasFile judgeMobile = true
+hasFile writeSheet = true
+hasFile (toUtf8 units) = false
+hasFile (toUtf16 text) = false
 
--- ---- what a call leaves: its answer in words (refusal number and place, 0 and 0 if there is none, then the answer's values), both tables, the sheet
+-- the refusals that it may give
+abbrev pub refusals : Question → List ℕ
+refusals readTree = ofReader
+refusals (findItem w row) = ofReader ++ ofFind
+refusals (resolveRow row) = ofReader ++ ofResolve
+refusals judgeMobile = ofReader
+refusals writeSheet = ofReader ++ ofSheet
+refusals (toUtf8 units) = ofConversion
+refusals (toUtf16 text) = ofConversion
 
+-- how many values its answer has
+abbrev pub values : Question → ℕ
+values readTree = 3
+values (findItem w row) = 11
+values (resolveRow row) = 4
+values judgeMobile = 1
+values writeSheet = 1
+values (toUtf8 units) = 1
+values (toUtf16 text) = 1
+
+-- ---- tables and buffers
+
+-- The sizes of what is lent to be filled, in the order of the call: with a file the node table and the item table, in words; then buffers, in bytes.
+abbrev pub Sizes : Type 0
+Sizes = List ℕ
+
+abbrev pub size : Sizes → ℕ → ℕ
+size ls i = getD ls i 0
+
+-- A lent table or buffer: one that the call fills, whatever it held, and that a refusal clears; or one that it changes, and that a refusal keeps.
+pub data Lent : Type 0 where
+  filled : (size : ℕ) → Lent
+  changed : (before : List ℕ) → Lent
+
+abbrev pub onRefusal : Lent → List ℕ
+onRefusal (filled size) = replicate size 0
+onRefusal (changed before) = before
+
+-- what each question is lent: the two tables, or a buffer, or both
+abbrev pub tables : Sizes → List Lent
+tables ls = filled (size ls 0) ∷ filled (size ls 1) ∷ []
+
+abbrev pub lent : Question → Sizes → List Lent
+lent readTree ls = tables ls
+lent (findItem w row) ls = tables ls
+lent (resolveRow row) ls = tables ls
+lent judgeMobile ls = tables ls
+lent writeSheet ls = tables ls ++ (filled (size ls 2) ∷ [])
+lent (toUtf8 units) ls = filled (size ls 0) ∷ []
+lent (toUtf16 text) ls = filled (size ls 0) ∷ []
+
+-- ---- what a call leaves
+
+-- its answer in words (the refusal's number and place, 0 and 0 if there is none; then the values), and what each table and buffer finally holds
 pub record Outcome : Type 0 where
   pub answer : List ℕ
-  pub nodes : List ℕ
-  pub items : List ℕ
-  pub sheet : List ℕ
-
-abbrev pub answered : List ℕ → List ℕ
-answered values = 0 ∷ 0 ∷ values
-
-abbrev pub refused : ℕ → ℕ → List ℕ
-refused n p = n ∷ p ∷ []
-
--- version, number of node rows, number of item rows
-unfoldable pub treeAnswer : Reading → List ℕ
-treeAnswer (rows h ns is) = answered (h .version ∷ length ns ∷ length is ∷ [])
-treeAnswer (refusal n p) = refused n p
-
--- the item row's number and its ten words
-unfoldable pub findAnswer : Result find.Hit → List ℕ
-findAnswer (good a) = answered (a .row ∷ itemWords (a .item))
-findAnswer (bad n p) = refused n p
-
--- place, length, row, references followed
-unfoldable pub resolveAnswer : Result resolve.Resource → List ℕ
-resolveAnswer (good a) = answered (a .place ∷ a .size ∷ a .row ∷ a .hops ∷ [])
-resolveAnswer (bad n p) = refused n p
-
--- the verdict; the number of bytes written
-unfoldable pub numberAnswer : Result ℕ → List ℕ
-numberAnswer (good n) = answered (n ∷ [])
-numberAnswer (bad n p) = refused n p
+  pub holds : List (List ℕ)
 
 -- what a file reads as, with the tables lent
-unfoldable pub reads : Lent → List ℕ → Reading
-reads l f = readFile (limits (l .nodes) (l .items)) f
+unfoldable pub reads : Sizes → List ℕ → Reading
+reads ls f = readFile (limits (size ls 0) (size ls 1)) f
 
--- the tables after a question whose result is r
-unfoldable pub leaves : {A : Type 0} → Lent → Reading → Result A → (answer sheet : List ℕ) → Outcome
-leaves l o r answer sheet = record { answer = answer; nodes = keptNodes (l .nodes) o r; items = keptItems (l .items) o r; sheet = sheet }
+-- of a question over a file, whose result is r: what its answer says, both tables, and its buffers
+unfoldable pub over : {A : Type 0} → Sizes → Reading → (says : Result A → List ℕ) → (buffers : Result A → List (List ℕ)) → (r : Result A) → Outcome
+over ls o says buffers r = record { answer = says r; holds = keptNodes (size ls 0) o r ∷ keptItems (size ls 1) o r ∷ buffers r }
 
--- each question's outcome, in the words of its own contract
-unfoldable pub outcome : Question → Lent → List ℕ → Outcome
-outcome readTree l f = record { answer = treeAnswer (reads l f); nodes = nodeTable (l .nodes) (reads l f); items = itemTable (l .items) (reads l f); sheet = [] }
-outcome (findItem w row) l f = leaves l (reads l f) (ask (reads l f) (find.find f w row)) (findAnswer (ask (reads l f) (find.find f w row))) []
-outcome (resolveRow row) l f = leaves l (reads l f) (ask (reads l f) (resolve.resolve row)) (resolveAnswer (ask (reads l f) (resolve.resolve row))) []
-outcome judgeMobile l f = leaves l (reads l f) (ask (reads l f) (mobile.mobile f)) (numberAnswer (ask (reads l f) (mobile.mobile f))) []
-outcome writeSheet l f =
-    leaves l (reads l f) (ask (reads l f) (sheet.write (l .sheet) f)) (numberAnswer (sheet.counted (ask (reads l f) (sheet.write (l .sheet) f)))) (sheet.kept (l .sheet) (ask (reads l f) (sheet.write (l .sheet) f)))
+-- of a conversion, with a buffer of so many bytes, whose text is r
+unfoldable pub conversion : ℕ → (r : Result (List ℕ)) → Outcome
+conversion n r = record { answer = converted.words (converted.answerOf (room.counted (room.fitting n r))); holds = room.kept n (room.fitting n r) ∷ [] }
 
--- what the second call of resolve gives: the part of the file itself
-unfoldable pub resource : (row : ℕ) → Lent → List ℕ → List ℕ
-resource row l f = resolve.part f (ask (reads l f) (resolve.resolve row))
+-- each question's outcome
+unfoldable pub outcome : Question → Sizes → (file : List ℕ) → Outcome
+outcome readTree ls f = record { answer = tree.words (answerOf (reads ls f)); holds = nodeTable (size ls 0) (reads ls f) ∷ itemTable (size ls 1) (reads ls f) ∷ [] }
+outcome (findItem w row) ls f = over ls (reads ls f) (λ r. found.words (found.answerOf r)) (λ r. []) (ask (reads ls f) (find.find f w row))
+outcome (resolveRow row) ls f = over ls (reads ls f) (λ r. resolved.words (resolved.answerOf r)) (λ r. []) (ask (reads ls f) (resolve.resolve row))
+outcome judgeMobile ls f = over ls (reads ls f) (λ r. judged.words (judged.answerOf r)) (λ r. []) (ask (reads ls f) (mobile.mobile f))
+outcome writeSheet ls f =
+    over ls (reads ls f) (λ r. written.words (written.answerOf (sheet.counted r))) (λ r. sheet.kept (size ls 2) r ∷ []) (ask (reads ls f) (sheet.write (size ls 2) f))
+outcome (toUtf8 units) ls f = conversion (size ls 0) (unicode.toUtf8 units)
+outcome (toUtf16 text) ls f = conversion (size ls 0) (unicode.toUtf16 text)
 
--- the bytes of the sheet's buffer that a question has
-unfoldable pub sheetRoom : Question → Lent → ℕ
-sheetRoom readTree l = 0
-sheetRoom (findItem w row) l = 0
-sheetRoom (resolveRow row) l = 0
-sheetRoom judgeMobile l = 0
-sheetRoom writeSheet l = l .sheet
+-- the second call of resolve gives a part of the file itself; its tables are the first call's
+unfoldable pub resource : (row : ℕ) → Sizes → (file : List ℕ) → List ℕ
+resource row ls f = resolve.part f (ask (reads ls f) (resolve.resolve row))
 
--- ---- the conversions of a text: calls on lent data and lent room alone, with no file and no tables
+-- ---- Demand 1. Whatever the bytes, the sizes and the question, a call's outcome is a refusal or an answer.
 
-pub data Conversion : Type 0 where
-  utf16ToUtf8 : Conversion
-  utf8ToUtf16 : Conversion
+-- a refusal: number and place, of those the question may give, with place 0 where no field is named; every table and buffer is cleared or kept
+abbrev pub IsRefusal : Question → Sizes → Outcome → Type 0
+IsRefusal q ls o = (n : ℕ) × (p : ℕ) × (o .answer ≡ n ∷ p ∷ []) × T (isAllowed (refusals q) n p) × (o .holds ≡ map onRefusal (lent q ls))
 
--- the converted bytes, if `room` bytes hold them
-unfoldable pub convert : Conversion → (room : ℕ) → List ℕ → Result (List ℕ)
-convert utf16ToUtf8 room d = fitting room (toUtf8 d)
-convert utf8ToUtf16 room d = fitting room (toUtf16 d)
+-- the file is accepted, and the two tables hold its rows
+abbrev pub Accepted : Sizes → (file : List ℕ) → Outcome → Type 0
+Accepted ls f o = (h : Header) × (ns : List Node) × (is : List Item) × (reads ls f ≡ rows h ns is) × (take 2 (o .holds) ≡ nodeTable (size ls 0) (rows h ns is) ∷ itemTable (size ls 1) (rows h ns is) ∷ [])
 
--- what a conversion leaves: its answer in words, and the room that it fills
-pub record Converted : Type 0 where
-  pub answer : List ℕ
-  pub text : List ℕ
+-- an answer: no refusal, and the question's values, of an accepted file
+abbrev pub IsAnswer : Question → Sizes → (file : List ℕ) → Outcome → Type 0
+IsAnswer q ls f o = (vs : List ℕ) × (o .answer ≡ 0 ∷ 0 ∷ vs) × (length vs ≡ values q) × (T (hasFile q) → Accepted ls f o)
 
-unfoldable pub converted : Conversion → (room : ℕ) → List ℕ → Converted
-converted c room d = record { answer = numberAnswer (counted (convert c room d)); text = kept room (convert c room d) }
-
--- ---- the promises
-
--- Demand 1. Whatever the bytes, the tables and the question: the answer's first word is 0 or a number of the list; and where it is a refusal, every
--- lent table is zero, and the sheet's buffer too.
+-- Where resolve is refused, its second call gives an empty part. Refusal 26 of a conversion is placed in the text that was given.
 abbrev pub Demand1 : Type 0
-Demand1 = (q : Question) (l : Lent) (f : List ℕ)
-    → (getD (outcome q l f .answer) 0 0 ≤ 24)
-    × ((0 < getD (outcome q l f .answer) 0 0) → (outcome q l f .nodes ≡ replicate (l .nodes) 0) × (outcome q l f .items ≡ replicate (l .items) 0) × (outcome q l f .sheet ≡ replicate (sheetRoom q l) 0))
+Demand1 = ((q : Question) (ls : Sizes) (f : List ℕ) → IsRefusal q ls (outcome q ls f) ⊎ IsAnswer q ls f (outcome q ls f))
+    × ((row : ℕ) (ls : Sizes) (f : List ℕ) → IsRefusal (resolveRow row) ls (outcome (resolveRow row) ls f) → resource row ls f ≡ [])
+    × ((units : List ℕ) (ls : Sizes) (f : List ℕ) (p : ℕ) → outcome (toUtf8 units) ls f .answer ≡ badText ∷ p ∷ [] → p < length units)
+    × ((text : List ℕ) (ls : Sizes) (f : List ℕ) (p : ℕ) → outcome (toUtf16 text) ls f .answer ≡ badText ∷ p ∷ [] → p < length text)
 
--- Demand 1 of the conversions. Whatever the data and the room: the call is refused with 26, placed in the data, or with 22, and leaves zeros; or it
--- answers the number of bytes written, which stand in front with zeros behind them.
-abbrev pub Demand1Text : Type 0
-Demand1Text = (c : Conversion) (room : ℕ) (d : List ℕ)
-    → ((p : ℕ) × (p < length d) × (converted c room d ≡ record { answer = refused badText p; text = replicate room 0 }))
-    ⊎ ((converted c room d ≡ record { answer = refused noRoom 0; text = replicate room 0 })
-    ⊎ ((t : List ℕ) × (length t ≤ room) × (converted c room d ≡ record { answer = answered (length t ∷ []); text = padded room t })))
+-- ---- Demand 2. Each call leaves its question's outcome: `called` in proofs/Kept.antt, of every call in Calls.antt. What a file reads as is `readFile`;
+-- its tables only limit it: a file is accepted exactly when it is accepted with full tables and its rows fit the tables lent, and then it has the same rows.
+
+abbrev pub full : Sizes
+full = mostNodes * nodeWidth ∷ mostItems * itemWidth ∷ []
+
+abbrev pub Fit : Sizes → List Node → List Item → Type 0
+Fit ls ns is = (length ns * nodeWidth ≤ size ls 0) × (length is * itemWidth ≤ size ls 1)
+
+abbrev pub FitsExactly : Type 0
+FitsExactly = (ls : Sizes) (f : List ℕ) (h : Header) (ns : List Node) (is : List Item)
+    → (reads ls f ≡ rows h ns is → (reads full f ≡ rows h ns is) × Fit ls ns is) × (reads full f ≡ rows h ns is → Fit ls ns is → reads ls f ≡ rows h ns is)
+
+-- ---- Demand 3. Two files of equal length, the first accepted with the tables lent, alike but for data bytes of its hidden contents in custom fields or in
+-- standard fields other than 0, 3 and 13, inline data of its file nodes, and bytes outside header, tree and detached nodes: the second is accepted too, every
+-- question leaves the same of both, to the last word and byte, and the part that the second call of resolve gives, whose place is the third word of
+-- resolve's answer, differs only where the files do.
 
 -- two parts of equal length, which stand in the files f and g at the same place, differ only where the files do
 abbrev pub OnlyThere : (f g : List ℕ) (place : ℕ) (x y : List ℕ) → Type 0
 OnlyThere f g place x y = (length x ≡ length y) × ((k : ℕ) → k < length x → getD f (place + k) 0 ≡ getD g (place + k) 0 → getD x k 0 ≡ getD y k 0)
 
--- Demand 3. Two files of equal length, the first accepted with the tables lent, that differ at private places of the first alone. These are: data bytes of
--- hidden contents in custom fields or in standard fields other than 0, 3 and 13; inline data of file nodes; bytes outside header, tree and detached nodes.
--- The second is accepted too, every question leaves the same of both, to the last word and byte, and the part that the second call of resolve gives, whose
--- place is the third word of resolve's answer, differs only where the files do.
 abbrev pub Demand3 : Type 0
-Demand3 = (q : Question) (l : Lent) (f g : List ℕ) (h : Header) (ns : List Node) (is : List Item)
-    → reads l f ≡ rows h ns is → DifferInPrivate h ns is f g
-    → (reads l g ≡ rows h ns is) × (outcome q l g ≡ outcome q l f)
-    × ((row : ℕ) → OnlyThere f g (getD (outcome (resolveRow row) l f .answer) 2 0) (resource row l f) (resource row l g))
+Demand3 = (q : Question) (ls : Sizes) (f g : List ℕ) (h : Header) (ns : List Node) (is : List Item)
+    → reads ls f ≡ rows h ns is → DifferInPrivate h ns is f g
+    → (reads ls g ≡ rows h ns is) × (outcome q ls g ≡ outcome q ls f)
+    × ((row : ℕ) → OnlyThere f g (getD (outcome (resolveRow row) ls f .answer) 2 0) (resource row ls f) (resource row ls g))

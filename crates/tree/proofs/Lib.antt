@@ -11,5 +11,6 @@ pub mod Whole
 pub mod Rows
 pub mod Demand
 pub mod Order
+pub mod Limited
 pub mod Links
 pub mod Listed

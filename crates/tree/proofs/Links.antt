@@ -1,94 +1,30 @@
--- Each reference 3 of an accepted file leads to a row; and there are no more rows than the limit.
+-- Each reference 3 of an accepted file leads to a row.
 -- Assumes nothing.
 use mathlib.Core.Path.{_≡_, refl, sym, ap, _∙_, subst}
 use mathlib.Core.Bool.{Bool, true, false, not, _&&_, _||_}
-use mathlib.Core.Logic.{_⊎_, inl, inr}
+use mathlib.Core.Logic.{inl, inr}
 use mathlib.Core.List.{List, [], _∷_, _++_}
-use Prim.Native.Nat.{ℕ, zero, suc, _+_, _-_, _≤_, _<_}
+use Prim.Native.Nat.{ℕ, _+_, _-_, _≤_, _<_}
 use native.Mathlib.Omega.{arith}
 use native.Mathlib.Decide.{decLt}
-use borrow.Author.Tests.{ltb-true, leb-true, eq-eqb, not-false}
+use borrow.Author.Tests.{eq-eqb, not-false}
 use lib.Dec.{eqb}
 use lib.ListN.{length, List·getD-append}
-use Rattle.cursor.specs.Machine.{ok, run, trace}
-use Rattle.cursor.specs.Rows.{P, Events}
+use Rattle.cursor.specs.Machine.{trace}
+use Rattle.cursor.specs.Rows.{Events}
 use Rattle.cursor.specs.declared.Node.{Node}
 use Rattle.cursor.specs.declared.Item.{Item}
 use Rattle.cursor.proofs.Laws.{rows-on}
-use Rattle.cursor.proofs.Wp.{Wp, at-end, wp-after, wp-weaken, wp-ret, wp-refuse, wp-here, wp-check, wp-place, wp-skip, wp-times}
-use Rattle.cursor.proofs.Order.{in-order}
 use Rattle.header.specs.Header.{Header}
-use Rattle.metadata.specs.Metadata.{Context}
 use Rattle.metadata.specs.declared.Limits.{Limits}
-use Rattle.metadata.specs.declared.Made.{Made}
-use Rattle.metadata.proofs.Ends.{Nothing, inside-free, Inside}
-use Rattle.node.specs.Node.{inTree, loose}
-use Rattle.node.specs.declared.Standing.{Standing}
-use Rattle.node.proofs.Ends.{FrontIn, front-on, inline-at, inline-fits}
-use Rattle.tree.specs.Tree.{folder, node, tree, detached}
-use Rattle.tree.specs.Reading.{nodeOf, nodesOf, good, madeBy, startsAt, lost, partEnd, detachedAt, context, rows, readFile}
+use Rattle.tree.specs.Reading.{nodeOf, nodesOf, good, startsAt, lost, detachedAt, context, rows, readFile}
 use Rattle.tree.specs.Rows.{noNode, nodeAt}
-use Rattle.tree.proofs.Starts.{counted, detached-row}
-use Rattle.tree.proofs.Order.{tree-orders, detached-orders, Above}
+use Rattle.tree.proofs.Starts.{detached-row}
 use Rattle.tree.proofs.Shown.{part-is, header-of}
-use Rattle.tree.proofs.Follow.{treeOf, target, Reached, known, added, followed, ReadAs, read-back}
-
--- ---- no more rows than the limit
-
-module _ (top size : ℕ) where
-  folder-keeps : (I : Made → Type 0) {children : P Made} {end at : ℕ} → Wp (Inside Nothing top size) children (λ m′ q. I m′ × (q ≤ end)) at → Wp (Inside Nothing top size) (folder end children) (λ m′ q. I m′ × (q ≡ end)) at
-  unfolding folder
-  folder-keeps I {end = end} w = wp-after w λ m q h. wp-place _ q (wp-check _ _ λ t. wp-ret (h .0, let l = h .1 in omega (arith, leb-true end q t)))
-
-node-few : (top d : ℕ) (x : Context) (parent : ℕ) (s : Standing) (m : Made) (at : ℕ) → s .end .0 ≤ top → s .end .0 ≤ x .size
-    → Wp (Inside Nothing top (x .size)) (node d x parent s m) (λ m′ q. (m′ .nodes ≤ x .limits .nodes) × (at ≤ q) × (q ≤ s .end .0)) at
-unfolding node
-node-few top zero x parent s m at o i = wp-here wp-refuse
-node-few top (suc d) x parent s m at o i =
-    wp-place _ at (wp-check _ _ λ t₁.
-    let l = ltb-true (m .nodes) (x .limits .nodes) t₁ in
-    wp-after (front-on Nothing top x parent (16 - d) s m at o i) λ w q y.
-    let a = y .within in let b = y .inside in let e = y .start in let g = y .moves in let n = y .nodes in let j = inline-fits y in
-    wp-skip _ _ (y .header, omega arith, y .leads, refl, inline-at y) (λ _.
-    wp-weaken
-    (folder-keeps top (x .size) (λ m′. m′ .nodes ≤ x .limits .nodes)
-    (wp-weaken (wp-times (λ m′. m′ .nodes ≤ x .limits .nodes) (w .row .held) _ (λ t p j k. wp-weaken (node-few top d x (m .nodes) (inTree 0 (at + w .row .size)) t p (omega arith) (omega arith)) (λ _ v z. (z .0, z .1, z .2))) (omega arith) (omega arith)) (λ m′ v z. (z .0, z .2))))
-    (λ m′ v z. (z .0, let k = z .1 in omega arith, let k = z .1 in omega arith))))
+use Rattle.tree.proofs.Follow.{target, Reached, known, added, followed, ReadAs, read-back}
+use Rattle.tree.proofs.Limited.{Fits, tree-fits, more-fits, no-less}
 
 module _ (lim : Limits) (f : List ℕ) (h : Header) where
-  abbrev Few : Events → Type 0
-  Few log = length (nodesOf log) ≤ lim .nodes
-
-  tree-few : {m : Made} {p : ℕ} → run (treeOf lim (length f) h) f (h .extent .start) ≡ ok m p → h .extent .last < length f → Few (trace (treeOf lim (length f) h) f (h .extent .start))
-  unfolding tree
-  tree-few e l =
-      let x = context lim h (length f) in
-      let es = trace (treeOf lim (length f) h) f (h .extent .start) in
-      let w = in-order f (h .extent .start) (tree-orders x (h .extent .last + 1)) e in
-      let c = counted 0 0 es (w .nodes) (w .items) (w .ordered) in
-      let a = w .ends .0 in
-      let b = at-end (inside-free (length f) (length f)) f (node-few (length f) 16 x 0 (inTree (h .extent .last + 1) (h .extent .last + 1)) _ (h .extent .start) (omega arith) (omega arith)) e in
-      omega arith
-
-  more-few : (log log′ : Events) (r : Node) → h .extent .start ≤ length f → Few log → Reached lim f h log r log′ → Few log′
-  unfolding detachedAt detached
-  more-few log log′ r z s (known x y) = rw y s
-  more-few log log′ r z s (added t y) =
-      let x = context lim h (length f) in
-      let es = trace (target lim f h log r) f (r .target) in
-      let w = in-order f (r .target) (detached-orders x _ _ _ (madeBy log)) (t .runs) in
-      let c = counted (length (nodesOf log)) 0 es (w .nodes) (w .items) (w .ordered) in
-      let a = w .ends .0 in
-      let p = part-is h (length f) (r .target) z .0 in
-      let b = at-end (inside-free (length f) (length f)) f (node-few (length f) 17 x _ (loose (partEnd h (length f) (r .target)) _ _) (madeBy log) (r .target) p p) (t .runs) in
-      let n = rows-on nodeOf log es in
-      let k = length-both (nodesOf log) (nodesOf es) in
-      rw (y, n) (omega arith)
-    where
-      length-both : (ns ms : List Node) → length (ns ++ ms) ≡ length ns + length ms
-      length-both [] ms = let e : length ms ≡ 0 + length ms = omega arith in e
-      length-both (r ∷ ns) ms = let e = length-both ns ms in omega arith
-
   -- ---- each reference 3 of the rows before row i leads to a row
 
   abbrev Led : ℕ → Events → Type 0
@@ -135,9 +71,9 @@ module _ (lim : Limits) (f : List ℕ) (h : Header) where
   log-led : {ns : List Node} {is : List Item} (a : ReadAs lim f h ns is) → (j : ℕ) → j < length (nodesOf (a .log)) → nodeAt (nodesOf (a .log)) j .reference ≡ 3 → startsAt (nodesOf (a .log)) (nodeAt (nodesOf (a .log)) j .target) ≡ true
   log-led a j m q =
       let b = header-of a in
-      let t = tree-few (a .tree-is) (b .3) in
-      let w = followed lim f h (λ i log. Led i log × Few log) (λ i log log′ s l r. (one-led i log log′ (omega arith) l (s .0) r, more-few log log′ _ (omega arith) (s .1) r)) (lim .nodes) 0 _
-      (λ log e. ((λ j k. absurd (omega arith)), subst Few (same e) t)) (a .follows) in
+      let t = tree-fits (no-less lim) f h (a .tree-is) in
+      let w = followed lim f h (λ i log. Led i log × Fits lim log) (λ i log log′ s l r. (one-led i log log′ (omega arith) l (s .0) r, more-fits (no-less lim) f h log log′ _ (s .1) r)) (lim .nodes) 0 _
+      (λ log e. ((λ j k. absurd (omega arith)), subst (Fits lim) (same e) t)) (a .follows) in
       let u = w .1 .1 in
       w .1 .0 j (elim (w .2) [ inl k ↦ omega arith | inr k ↦ omega arith ]) m q
     where

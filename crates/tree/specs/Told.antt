@@ -1,4 +1,4 @@
--- Rows that stand in the tables, and what following them leaves there.
+-- What the answer says, rows that stand in the tables, and what following them leaves there.
 -- Assumes nothing.
 use mathlib.Core.Path.{_≡_}
 use mathlib.Core.List.{List, [], _∷_}
@@ -15,6 +15,13 @@ use Rattle.metadata.specs.declared.Walked.the-variants as all
 use Rattle.metadata.specs.Told.{Fits}
 use Rattle.tree.specs.Reading.{nodesOf, Result, good, bad}
 use Rattle.tree.specs.Rows.{nodeAt, treeRows, Rising}
+use Rattle.tree.specs.declared.Answer.{Answer}
+use Rattle.tree.specs.declared.Answer.the-variants as answer
+
+-- the answer in words: refusal number (0: none) and place; then version, number of node rows, number of item rows
+abbrev pub words : Answer → List ℕ
+words (answer.Tree version nodes items) = 0 ∷ 0 ∷ version ∷ nodes ∷ items ∷ []
+words (answer.Refused n p) = n ∷ p ∷ []
 
 -- the log's first `tree` rows are the tree's, and rise
 pub record TreeFirst (tree : ℕ) (log : Events) : Type 0 where

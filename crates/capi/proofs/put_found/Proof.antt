@@ -1,23 +1,19 @@
 -- `put_found` puts the words of what was found.
 -- Assumes nothing.
-use mathlib.Core.Path.{sym, ap, _∙_}
-use lib.ListN.{length}
-use Rattle.promises.specs.Promises.{findAnswer}
-use Rattle.capi.specs.Fit.{fit, foundTold}
-use Rattle.capi.proofs.Words.{found-is}
-use native.Mathlib.Omega.{arith}
+use Rattle.find.specs.Told.{words}
+use Rattle.capi.proofs.Words.{put-as}
 use borrow.Author.Needs.{needs}
 use Rattle.capi.proofs.put_found.Statement.{statement}
 use Rattle.capi.proofs.put_found.Tie as tie
 
-enum-known-found : tie.Need-enum-known-found
-enum-known-found c = search needs
+enum-known-said : tie.Need-enum-known-said
+enum-known-said c = search needs
 
 put-refusal-requires : tie.Need-put-refusal-requires
 put-refusal-requires c κs = search needs
 
-enum-known-found-2 : tie.Need-enum-known-found-2
-enum-known-found-2 c = search needs
+enum-known-said-2 : tie.Need-enum-known-said-2
+enum-known-said-2 c = search needs
 
 slice-aggregate-put-answer : tie.Need-slice-aggregate-put-answer
 slice-aggregate-put-answer c = search needs
@@ -29,21 +25,21 @@ same-length : tie.Need-same-length
 same-length c = search needs
 
 returns : tie.Need-returns
-returns c = found-is _ _ (c .before .before .before .before .before .found .given .1) (c .before .before .put-refusal .ensures)
+returns c = put-as words _ _ (c .before .before .before .before .before .said .given .1) (c .before .before .put-refusal .ensures)
 
 same-length-2 : tie.Need-same-length-2
 same-length-2 c = search needs
 
 returns-2 : tie.Need-returns-2
-returns-2 c = found-is _ _ (c .before .before .before .before .before .before .found2 .given .1) (c .before .before .put-answer .ensures)
+returns-2 c = put-as words _ _ (c .before .before .before .before .before .before .said2 .given .1) (c .before .before .put-answer .ensures)
 
 pub put-found-spec : {M : Type 1} → statement M
 put-found-spec =
     tie.close
     (tie.spec
-    enum-known-found
+    enum-known-said
     put-refusal-requires
-    enum-known-found-2
+    enum-known-said-2
     slice-aggregate-put-answer
     put-answer-requires
     same-length

@@ -5,7 +5,8 @@ use Prim.Native.Nat.{_^_, _≤_, _<_, _-_}
 use native.Mathlib.Omega.{arith}
 use lib.ListN.{length, drop}
 use borrow.Author.Needs.{needs}
-use Rattle.casetext.proofs.Laws.{value-more, value-all}
+use borrow.Author.Tests.{lt-ltb}
+use Rattle.casetext.proofs.Laws.{value-more, value-over, value-all}
 use Rattle.casetext.proofs.input.read_decimal.Statement.{statement}
 use Rattle.casetext.proofs.input.read_decimal.Tie as tie
 use Rattle.casetext.specs.Text.{valueFrom}
@@ -26,10 +27,10 @@ digit-requires : tie.Need-digit-requires Inv-loop μ-loop
 digit-requires c κs = search needs
 
 returns : tie.Need-returns Inv-loop μ-loop
-returns c = record { small = omega arith; meant = λ e. absurd (false≢true e) }
+returns c = record { small = omega arith; meant = λ e. absurd (false≢true e); taken = λ a h l. absurd (omega (arith, h (c .before .before .before .before .loop .i) (c .before .before .before .loop-test .taken), c .before .digit .ensures .0)) }
 
 returns-2 : tie.Need-returns-2 Inv-loop μ-loop
-returns-2 c = record { small = omega arith; meant = λ e. absurd (false≢true e) }
+returns-2 c = record { small = omega arith; meant = λ e. absurd (false≢true e); taken = λ a h l. absurd (omega (arith, value-over _ (c .before .before .before .before .before .loop .value) (c .before .before .before .before .before .loop .i) (c .before .before .before .before .loop-test .taken) (c .before .before .before .before .before .loop .inv .1))) }
 
 mul-value : tie.Need-mul-value Inv-loop μ-loop
 mul-value c = search needs
@@ -50,7 +51,7 @@ loop-again : tie.Need-loop-again Inv-loop μ-loop
 loop-again c = (omega arith, value-more _ _ _ _ _ (c .before .before .before .before .before .loop-test .taken) (c .before .before .before .before .before .before .loop .inv .1) (c .before .before .before .digit .ensures .0) (c .wide .ensures), omega arith)
 
 returns-3 : tie.Need-returns-3 Inv-loop μ-loop
-returns-3 c = record { small = omega arith; meant = λ e. value-all _ _ (c .before .loop .i) (c .loop-test .left) (c .before .loop .inv .1) }
+returns-3 c = record { small = omega arith; meant = λ e. value-all _ _ (c .before .loop .i) (c .loop-test .left) (c .before .loop .inv .1); taken = λ a h l. lt-ltb _ _ a }
 
 pub read-decimal-spec : {M : Type 1} → statement M
 read-decimal-spec =

@@ -1,12 +1,12 @@
 -- `casetext::input::read_hex` meets its contract. Assumes nothing.
 use mathlib.Core.Logic.{inl, inr}
 use mathlib.Core.Path.{refl, sym, _≡_}
-use Prim.Native.Nat.{ℕ, _*_, _≤_, _<_, _-_}
+use Prim.Native.Nat.{ℕ, _+_, _*_, _/_, _≤_, _<_, _-_}
 use native.Mathlib.Omega.{arith}
 use lib.ListN.{length-set, length, getD}
 use lib.Seq.{length-take-le}
 use borrow.Author.Needs.{needs}
-use borrow.Author.Tests.{eqb-true}
+use borrow.Author.Tests.{eqb-true, eq-eqb}
 use Rattle.casetext.proofs.Laws.{no-bytes, byte-more}
 use Rattle.casetext.proofs.input.read_hex.Statement.{statement}
 use Rattle.casetext.proofs.input.read_hex.Tie as tie
@@ -22,10 +22,10 @@ shared-slice-read-t10 : tie.Need-shared-slice-read-t10 Inv-loop μ-loop
 shared-slice-read-t10 c = search needs
 
 returns : tie.Need-returns Inv-loop μ-loop
-returns c = record { within = omega arith; counted = refl; each = λ k l. omega arith; whole = λ e. inr (c .before .if1 .taken, eqb-true _ _ e) }
+returns c = record { within = omega arith; counted = refl; each = λ k l. omega arith; whole = λ e. inr (c .before .if1 .taken, eqb-true _ _ e); taken = λ n e l h. absurd (omega arith); dash = λ e f. eq-eqb _ _ f }
 
 returns-2 : tie.Need-returns-2 Inv-loop μ-loop
-returns-2 c = no-bytes _ _
+returns-2 c = no-bytes _ _ (λ n e l h. absurd (omega arith)) (c .before .if1 .left)
 
 loop-holds : tie.Need-loop-holds Inv-loop μ-loop
 loop-holds c = (refl, λ k l. omega arith, omega arith, omega arith, omega arith)
@@ -55,13 +55,13 @@ same-length : tie.Need-same-length Inv-loop μ-loop
 same-length c = search needs
 
 returns-3 : tie.Need-returns-3 Inv-loop μ-loop
-returns-3 c = no-bytes _ _
+returns-3 c = no-bytes _ _ (λ n e l h. absurd (omega (arith, h (2 * c .before .before .before .before .before .before .loop .n) (omega arith), c .before .before .before .digit .ensures .0))) (c .before .before .before .before .before .before .before .before .if1 .left)
 
 same-length-2 : tie.Need-same-length-2 Inv-loop μ-loop
 same-length-2 c = search needs
 
 returns-4 : tie.Need-returns-4 Inv-loop μ-loop
-returns-4 c = no-bytes _ _
+returns-4 c = no-bytes _ _ (λ n e l h. absurd (omega (arith, h (2 * c .before .before .before .before .before .before .before .loop .n + 1) (omega arith), c .before .before .digit2 .ensures .0))) (c .before .before .before .before .before .before .before .before .before .if1 .left)
 
 mul-bytes : tie.Need-mul-bytes Inv-loop μ-loop
 mul-bytes c = search needs
@@ -88,7 +88,7 @@ same-length-3 : tie.Need-same-length-3 Inv-loop μ-loop
 same-length-3 c = search needs
 
 returns-5 : tie.Need-returns-5 Inv-loop μ-loop
-returns-5 c = record { within = omega arith; counted = sym (length-take-le _ _ (omega arith)); each = λ k l. c .before .loop .inv .1 k (omega arith); whole = λ e. inl (eqb-true _ _ e) }
+returns-5 c = record { within = omega arith; counted = sym (length-take-le _ _ (omega arith)); each = λ k l. c .before .loop .inv .1 k (omega arith); whole = λ e. inl (eqb-true _ _ e); taken = λ n e l h. eq-eqb (length (c .before .before .before .before .before .before .args .digits .now)) (length (c .before .before .before .before .before .before .args .digits .now) / 2 * 2) (omega arith); dash = λ e f. absurd (c .before .before .before .if1 .left e) }
 
 pub read-hex-spec : {M : Type 1} → statement M
 read-hex-spec =

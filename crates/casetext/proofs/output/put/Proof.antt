@@ -1,15 +1,17 @@
 -- `casetext::output::put` meets its contract. Assumes nothing.
-use mathlib.Core.Path.{_≡_}
+use mathlib.Core.Path.{_≡_, refl}
+use mathlib.Core.List.{[]}
 use Prim.Native.Nat.{_≤_, _-_, min}
 use native.Mathlib.Omega.{arith}
-use lib.ListN.{length}
+use lib.ListN.{length, take}
 use borrow.Author.Needs.{needs}
-use Rattle.casetext.proofs.Laws.{ends}
+use Rattle.casetext.proofs.Laws.{ends, put-none, put-more, put-all}
+use Rattle.casetext.specs.Text.{Puts}
 use Rattle.casetext.proofs.output.put.Statement.{statement}
 use Rattle.casetext.proofs.output.put.Tie as tie
 
 abbrev Inv-loop : tie.InvT-loop
-Inv-loop out₀ at bytes end₀ i₀ out end i = (length out ≡ length out₀) × (min at (length out) ≤ end) × (end ≤ length out)
+Inv-loop out₀ at bytes end₀ i₀ out end i = (length out ≡ length out₀) × (i ≤ length bytes) × (min at (length out₀) ≤ end) × (end ≤ length out₀) × Puts out₀ out at (take i bytes) end
 
 abbrev μ-loop : tie.MeasureT-loop
 μ-loop out₀ at bytes end₀ i₀ out end i = length bytes - i
@@ -18,7 +20,7 @@ start-requires : tie.Need-start-requires Inv-loop μ-loop
 start-requires c κs = search needs
 
 loop-holds : tie.Need-loop-holds Inv-loop μ-loop
-loop-holds c = search needs
+loop-holds c = (refl, omega arith, omega arith, omega arith, put-none (c .before .before .before .before .args .out .now) [] (c .before .before .before .before .args .at) (c .start .result) (c .start .ensures))
 
 shared-slice-read-put-byte : tie.Need-shared-slice-read-put-byte Inv-loop μ-loop
 shared-slice-read-put-byte c = search needs
@@ -33,13 +35,13 @@ loop-less : tie.Need-loop-less Inv-loop μ-loop
 loop-less c = search needs
 
 loop-again : tie.Need-loop-again Inv-loop μ-loop
-loop-again c = search needs
+loop-again c = (omega arith, omega arith, omega arith, omega arith, put-more (c .before .before .before .before .before .before .before .before .before .before .before .args .out .now) (c .before .before .before .before .before .before .before .before .before .before .before .args .at) (c .before .before .before .before .before .before .before .before .before .before .before .args .bytes .now) (c .before .before .before .before .before .before .loop .i) (omega arith) (omega arith) (c .before .before .before .before .before .before .loop .inv .4) (c .before .before .put-byte .ensures .1))
 
 same-length : tie.Need-same-length Inv-loop μ-loop
 same-length c = search needs
 
 returns : tie.Need-returns Inv-loop μ-loop
-returns c = ends _ _ _ (omega arith) (omega arith)
+returns c = (ends _ _ _ (omega arith) (omega arith), put-all _ _ _ (c .before .loop .i) (omega arith) (c .before .loop .inv .4))
 
 pub put-spec : {M : Type 1} → statement M
 put-spec =

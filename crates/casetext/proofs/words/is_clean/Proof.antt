@@ -1,16 +1,17 @@
 -- `casetext::words::is_clean` meets its contract. Assumes nothing.
 use mathlib.Core.Bool.{false≢true}
+use native.Mathlib.Omega.{arith}
 use borrow.Author.Needs.{needs}
 use borrow.Author.Tests.{not-false}
-use Rattle.casetext.proofs.Laws.{clean}
+use Rattle.casetext.proofs.Laws.{clean, each-part, not-both}
 use Rattle.casetext.proofs.words.is_clean.Statement.{statement}
 use Rattle.casetext.proofs.words.is_clean.Tie as tie
 
 returns : tie.Need-returns
-returns c = λ e. absurd (false≢true e)
+returns c = (λ e. absurd (false≢true e), λ a b k. absurd (omega arith))
 
 returns-2 : tie.Need-returns-2
-returns-2 c = λ e. absurd (false≢true e)
+returns-2 c = (λ e. absurd (false≢true e), λ a b k. absurd (omega arith))
 
 mul-is-all : tie.Need-mul-is-all
 mul-is-all c = search needs
@@ -25,7 +26,7 @@ is-all-requires : tie.Need-is-all-requires
 is-all-requires c κs = search needs
 
 returns-3 : tie.Need-returns-3
-returns-3 c = λ e. absurd (false≢true e)
+returns-3 c = (λ e. absurd (false≢true e), λ a b k. not-both _ (c .if3 .taken) (c .before .is-all .ensures .1 (each-part _ _ _ 0 a b (k .cleared))))
 
 mul-is-all-2 : tie.Need-mul-is-all-2
 mul-is-all-2 c = search needs
@@ -43,7 +44,7 @@ is-all-requires-2 : tie.Need-is-all-requires-2
 is-all-requires-2 c κs = search needs
 
 returns-4 : tie.Need-returns-4
-returns-4 c = λ e. clean _ _ _ (c .before .before .before .before .before .before .if1 .left) (c .before .before .before .before .before .if2 .left) (c .before .before .before .is-all .ensures .0 (not-false _ (c .before .before .if3 .left))) (c .is-all2 .ensures .0 e)
+returns-4 c = (λ e. clean _ _ _ (c .before .before .before .before .before .before .if1 .left) (c .before .before .before .before .before .if2 .left) (c .before .before .before .is-all .ensures .0 (not-false _ (c .before .before .if3 .left))) (c .is-all2 .ensures .0 e), λ a b k. c .is-all2 .ensures .1 (each-part _ _ _ 7 b (omega arith) (k .kept)))
 
 pub is-clean-spec : {M : Type 1} → statement M
 is-clean-spec =
