@@ -37,6 +37,7 @@ fn with_widths(widths: Widths) -> Vec<(&'static str, Vec<u8>)> {
         ("cut.xmf", cut(widths)),
         ("header.xmf", long_header(widths)),
         ("type.xmf", undeclared_type(widths)),
+        ("versions000.xmf", encode(&listed_file(widths)).bytes),
     ]
 }
 
@@ -177,6 +178,28 @@ fn undeclared_type(widths: Widths) -> Vec<u8> {
     file.types = vec![type_entry(1, 0, b"en")];
     file.widths = widths;
     changed(&file, MarkKind::VersionType, 2)
+}
+
+/// A file with a hidden version that is written as document 000 has it: the count of versions, the
+/// length of their list, then type, length and data of each. A reader of document 01 takes the length
+/// of the list for the type, which is declared and visible, and the type for the data's length.
+fn listed_file(widths: Widths) -> File {
+    const TOKEN: &[u8] = b"token-42";
+    const HIDDEN: usize = 9;
+    let mut version = vec![HIDDEN as u8, TOKEN.len() as u8];
+    version.extend(TOKEN);
+    let data = version[1..].to_vec();
+    assert_eq!(data.len(), HIDDEN);
+    let node = Node::inline(b"tune").with_items(vec![Item {
+        field: Field::Standard(8),
+        values: Values::Versions(vec![(version.len(), data)]),
+    }]);
+    let mut file = File::new(Version::V100, node);
+    file.types = (1..=10)
+        .map(|number| type_entry(number, usize::from(number == HIDDEN), b"en"))
+        .collect();
+    file.widths = widths;
+    file
 }
 
 /// A file in which the last number of a kind has another value and as many bytes.

@@ -351,6 +351,14 @@ fn samples_have_their_answers() {
         refusal("type.xmf").map_err(|refusal| refusal.number),
         Err(11)
     );
+
+    // what document 000 calls hidden here is visible by document 01
+    assert_eq!(
+        sheet(&sample(samples::all(), "versions000.xmf")).as_deref(),
+        Ok("XMF\t1.00\t87\t1\t1\n\
+            N\t0\t0\t1\t1\t83\t4\n\
+            M\t0\tS\t8\t1\t0\t\\08token-42\n")
+    );
 }
 
 #[test]
