@@ -1,6 +1,6 @@
 #!/bin/sh
-# Builds print_sheet, runs it on two samples and compares what it prints.
-# If the archive is not there, `rt staticlib capi` makes it first, which takes some minutes.
+# Builds print_sheet, runs it on two samples and compares what it prints; then builds and runs empty.
+# If the archive is not there, or older than its sources, tools/build.sh makes it first, which takes some minutes.
 set -eu
 
 here=$(CDPATH= cd -- "$(dirname -- "$0")" && pwd -P)
@@ -8,13 +8,16 @@ root=$here/../..
 archive=$root/target/staticlib/libcapi.a
 out=$root/target/examples
 
-if [ ! -f "$archive" ]; then
-    (cd -- "$root" && rt staticlib capi)
-fi
+"$root/tools/build.sh" capi
+
+# compile PROGRAM
+compile() {
+    gcc -std=c11 -O2 -Wall -Wextra -Wpedantic -Werror -I "$root/include" "$here/$1.c" "$archive" -o "$out/$1"
+}
 
 mkdir -p "$out"
-gcc -std=c11 -O2 -Wall -Wextra -Wpedantic -Werror -I "$root/include" \
-    "$here/print_sheet.c" "$archive" -o "$out/print_sheet"
+compile print_sheet
+compile empty
 
 # compare SAMPLE: the sample's lines must be those on standard input.
 compare() {
@@ -37,3 +40,4 @@ compare() {
     printf 'M\t1\tS\t3\t0\t6\t\\00\\00\n'
 } | compare worked.xmf
 printf 'R\t5\t16\n' | compare cut.xmf
+"$out/empty" "$root/samples/worked.xmf"

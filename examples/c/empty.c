@@ -1,0 +1,77 @@
+/* Calls every function with null pointers for 0 elements, which xmf.h allows: empty FILE, an accepted file. */
+#include <inttypes.h>
+#include <stdio.h>
+
+#include "xmf.h"
+
+static uint8_t file[65536];
+static uint64_t nodes[XMF_ALL_NODE_WORDS];
+static uint64_t items[XMF_ALL_ITEM_WORDS];
+static uint8_t sheet[65536];
+static uint64_t answer[XMF_ANSWER_WORDS];
+static int failed;
+
+/* The last answer must be this refusal. */
+static void expect(const char *question, uint64_t refusal) {
+    if (answer[0] != refusal) {
+        printf("%s: %" PRIu64 ", not %" PRIu64 "\n", question, answer[0], refusal);
+        failed = 1;
+    }
+}
+
+int main(int argc, char **argv) {
+    FILE *in = argc == 2 ? fopen(argv[1], "rb") : NULL;
+    if (in == NULL) {
+        fprintf(stderr, "usage: empty FILE\n");
+        return 2;
+    }
+    size_t length = fread(file, 1, sizeof file, in);
+    fclose(in);
+
+    /* no file and no tables: 1, fewer than 8 bytes */
+    xmf_read_tree(NULL, 0, NULL, 0, NULL, 0, answer, XMF_ANSWER_WORDS);
+    expect("read_tree of nothing", 1);
+    xmf_find(NULL, 0, NULL, 0, NULL, 0, 0, XMF_CUSTOM, 0, NULL, 0, answer, XMF_ANSWER_WORDS);
+    expect("find in nothing", 1);
+    xmf_resolve(NULL, 0, NULL, 0, NULL, 0, 0, answer, XMF_ANSWER_WORDS);
+    expect("resolve in nothing", 1);
+    xmf_judge(NULL, 0, NULL, 0, NULL, 0, answer, XMF_ANSWER_WORDS);
+    expect("judge nothing", 1);
+    xmf_write_sheet(NULL, 0, NULL, 0, NULL, 0, NULL, 0, answer, XMF_ANSWER_WORDS);
+    expect("write_sheet of nothing", 1);
+
+    /* no tables: 10, no row left */
+    xmf_read_tree(file, length, NULL, 0, NULL, 0, answer, XMF_ANSWER_WORDS);
+    expect("read_tree without tables", 10);
+    xmf_find(file, length, NULL, 0, NULL, 0, 0, XMF_STANDARD, 3, NULL, 0, answer, XMF_ANSWER_WORDS);
+    expect("find without tables", 10);
+    xmf_resolve(file, length, NULL, 0, NULL, 0, 0, answer, XMF_ANSWER_WORDS);
+    expect("resolve without tables", 10);
+    xmf_judge(file, length, NULL, 0, NULL, 0, answer, XMF_ANSWER_WORDS);
+    expect("judge without tables", 10);
+    xmf_write_sheet(file, length, NULL, 0, NULL, 0, sheet, sizeof sheet, answer, XMF_ANSWER_WORDS);
+    expect("write_sheet without tables", 10);
+
+    /* no name: 23, no such item; no buffer for the sheet: 22 */
+    xmf_find(file, length, nodes, XMF_ALL_NODE_WORDS, items, XMF_ALL_ITEM_WORDS, 0, XMF_CUSTOM, 0, NULL, 0, answer,
+             XMF_ANSWER_WORDS);
+    expect("find without a name", 23);
+    xmf_write_sheet(file, length, nodes, XMF_ALL_NODE_WORDS, items, XMF_ALL_ITEM_WORDS, NULL, 0, answer,
+                    XMF_ANSWER_WORDS);
+    expect("write_sheet without a buffer", 22);
+
+    /* no words for the answer: the tables and the sheet are filled all the same */
+    xmf_read_tree(file, length, nodes, XMF_ALL_NODE_WORDS, items, XMF_ALL_ITEM_WORDS, NULL, 0);
+    xmf_find(file, length, nodes, XMF_ALL_NODE_WORDS, items, XMF_ALL_ITEM_WORDS, 0, XMF_CUSTOM, 0, NULL, 0, NULL, 0);
+    xmf_resolve(file, length, nodes, XMF_ALL_NODE_WORDS, items, XMF_ALL_ITEM_WORDS, 0, NULL, 0);
+    xmf_judge(file, length, nodes, XMF_ALL_NODE_WORDS, items, XMF_ALL_ITEM_WORDS, NULL, 0);
+    xmf_write_sheet(file, length, nodes, XMF_ALL_NODE_WORDS, items, XMF_ALL_ITEM_WORDS, sheet, sizeof sheet, NULL, 0);
+    if (sheet[0] != 'X') {
+        printf("write_sheet without an answer: no sheet\n");
+        failed = 1;
+    }
+    if (!failed) {
+        printf("null pointers for 0 elements: taken\n");
+    }
+    return failed;
+}
