@@ -64,7 +64,7 @@ fn put_decimal(out: &mut [u8], to: usize, n: u64) -> usize
 }
 
 // Puts a tab and a decimal number.
-fn put_number(out: &mut [u8], to: usize, n: u64) -> usize
+pub fn put_number(out: &mut [u8], to: usize, n: u64) -> usize
     ensures { λ r. ⌜ Puts (now (out .entry)) (now (out .exit)) to (number n) r ⌝ }
 {
     let next = room::put_byte(out, to, 0x09);
@@ -113,7 +113,7 @@ fn put_escaped_byte(out: &mut [u8], to: usize, byte: u8) -> usize
 }
 
 // Puts `size` bytes of the file as text.
-fn put_escaped(out: &mut [u8], to: usize, file: &[u8], from: usize, size: usize) -> usize
+pub fn put_escaped(out: &mut [u8], to: usize, file: &[u8], from: usize, size: usize) -> usize
     requires { ⌜ from + size ≤ length (now file) ⌝ }
     ensures { λ r. ⌜ Puts (now (out .entry)) (now (out .exit)) to (escapedPart (now (file .entry)) from size) r ⌝ }
 {

@@ -2,7 +2,10 @@
 //
 // The file is named by the first argument, or read from standard input without one.
 ghost use mathlib.Core.Path.{_≡_};
-ghost use lib.ListN.{length};
+ghost use lib.ListN.{length, take};
+ghost use Rattle.io.specs.Counts.{Counts};
+ghost use Rattle.room.specs.Puts.{Puts};
+ghost use Rattle.xmf_sheet.specs.Answer.{refusalLine, tooLong, answerText};
 ghost use Rattle.xmf_sheet.specs.Inputs.{Inside};
 use libc::STDERR_FILENO;
 use libc::STDIN_FILENO;
@@ -39,38 +42,72 @@ fn item_table() -> [u64; 10240]
     [0; 10240]
 }
 
-// Says on standard error what failed and why.
-fn fail(what: &[u8]) {
+// Room for a name of 4,096 bytes, each as a backslash and two digits.
+fn name_buffer() -> [u8; 12288]
+    ensures { λ r. ⌜ 12288 ≡ length r ⌝ }
+{
+    [0; 12288]
+}
+
+// Says on standard error what failed and why. The name is written as names are on a sheet.
+fn fail(name: &[u8]) {
+    let mut text = name_buffer();
+    let n = sheet::put_escaped(&mut text, 0, name, 0, name.len());
     io::write_all(STDERR_FILENO, b"xmf_sheet: ");
-    os::fail(what);
+    if n > 12288 {
+        os::fail(b"the file");
+        return;
+    }
+    os::fail(&text[..n]);
 }
 
-// Writes the line of a refusal; answers whether all of it was written.
-fn write_refusal(number: u64, place: usize) -> bool {
-    io::write_all(STDOUT_FILENO, b"R\t")
-        && io::print_decimal(STDOUT_FILENO, number)
-        && io::write_all(STDOUT_FILENO, b"\t")
-        && io::print_decimal(STDOUT_FILENO, place as u64)
-        && io::write_all(STDOUT_FILENO, b"\n")
+// Puts the line of a refusal.
+fn put_refusal(out: &mut [u8], number: u64, place: usize) -> usize
+    ensures { λ r. ⌜ Puts (now (out .entry)) (now (out .exit)) 0 (refusalLine number place) r ⌝ }
+{
+    let a = room::put_byte(out, 0, b'R');
+    let b = sheet::put_number(out, a, number);
+    let c = sheet::put_number(out, b, place as u64);
+    room::put_byte(out, c, 0x0a)
 }
 
-// Writes the sheet of a file, or its refusal; answers whether all of it was written.
-fn write_sheet(file: &[u8]) -> bool {
+// Puts the line of a file that is too long.
+fn put_too_long(out: &mut [u8]) -> usize
+    ensures { λ r. ⌜ Puts (now (out .entry)) (now (out .exit)) 0 tooLong r ⌝ }
+{
+    let a = room::put_byte(out, 0, b't');
+    let b = room::put_byte(out, a, b'o');
+    let c = room::put_byte(out, b, b'o');
+    let d = room::put_byte(out, c, b' ');
+    let e = room::put_byte(out, d, b'l');
+    let f = room::put_byte(out, e, b'o');
+    let g = room::put_byte(out, f, b'n');
+    let h = room::put_byte(out, g, b'g');
+    room::put_byte(out, h, 0x0a)
+}
+
+// Makes the answer for the bytes of an input: its sheet or one line. Answers its length.
+fn make_answer(file: &[u8], text: &mut [u8]) -> usize
+    requires { ⌜ 65536 ≡ length (now text) ⌝ }
+    ensures { λ r. ⌜ Counts r (now (text .exit)) ⌝ }
+    ensures { λ r. ⌜ take r (now (text .exit)) ≡ answerText (now (file .entry)) ⌝ }
+{
+    if file.len() > LONGEST {
+        return put_too_long(text);
+    }
     let mut nodes = node_table();
     let mut items = item_table();
-    let mut text = io::large_buffer();
-    match sheet::write_sheet(file, &mut nodes, &mut items, &mut text) {
-        Written::Bytes(n) => io::write_all(STDOUT_FILENO, &text[..n]),
-        Written::Refused(number, place) => write_refusal(number, place),
+    match sheet::write_sheet(file, &mut nodes, &mut items, text) {
+        Written::Bytes(n) => n,
+        Written::Refused(number, place) => put_refusal(text, number, place),
     }
 }
 
-// Writes the answer for the bytes of an input; answers whether all of it was written.
+// Writes the answer for the bytes of an input, by one write; answers whether all of it was written.
 fn write_answer(file: &[u8]) -> bool {
-    if file.len() > LONGEST {
-        return io::write_all(STDOUT_FILENO, b"too long\n");
-    }
-    write_sheet(file)
+    let mut text = io::large_buffer();
+    let n = make_answer(file, &mut text);
+    io::write_all(STDOUT_FILENO, &text[..n])
 }
 
 // Reads until the buffer is full or the input ends.
@@ -117,8 +154,13 @@ fn answer_named(name: &[u8]) {
 }
 
 fn main() {
-    if os::arg_count() < 2 {
+    let count = os::arg_count();
+    if count < 2 {
         answer(STDIN_FILENO, b"standard input");
+        return;
+    }
+    if count > 2 {
+        io::write_all(STDERR_FILENO, b"xmf_sheet: one file at a time\n");
         return;
     }
     let mut name = io::buffer();

@@ -1,0 +1,73 @@
+-- `make_answer` makes the text of the answer: `too long`, the sheet, or a refusal's line.
+-- Assumes nothing.
+use mathlib.Core.Path.{_∙_}
+use native.Mathlib.Omega.{arith}
+use Rattle.xmf_sheet.proofs.Fits.{put-first, line-short, long-short, sheet-made, refusal-made, answer-long, answer-short}
+use borrow.Author.Needs.{needs}
+use Rattle.xmf_sheet.proofs.make_answer.Statement.{statement}
+use Rattle.xmf_sheet.proofs.make_answer.Tie as tie
+
+put-too-long-requires : tie.Need-put-too-long-requires
+put-too-long-requires c κs = search needs
+
+same-length : tie.Need-same-length
+same-length c = search needs
+
+returns : tie.Need-returns
+returns c = let s = put-first (c .before .before .put-too-long .ensures) (omega (arith, long-short, c .before .before .before .before .before .before .before .pre)) in (s .0, s .1 ∙ answer-long _ (c .before .before .before .before .if1 .taken))
+
+node-table-requires : tie.Need-node-table-requires
+node-table-requires c κs = search needs
+
+item-table-requires : tie.Need-item-table-requires
+item-table-requires c κs = search needs
+
+slice-aggregate-write-sheet : tie.Need-slice-aggregate-write-sheet
+slice-aggregate-write-sheet c = search needs
+
+slice-aggregate-write-sheet-2 : tie.Need-slice-aggregate-write-sheet-2
+slice-aggregate-write-sheet-2 c = search needs
+
+write-sheet-requires : tie.Need-write-sheet-requires
+write-sheet-requires c κs = search needs
+
+enum-known-n : tie.Need-enum-known-n
+enum-known-n c = search needs
+
+enum-known-number : tie.Need-enum-known-number
+enum-known-number c = search needs
+
+put-refusal-requires : tie.Need-put-refusal-requires
+put-refusal-requires c κs = search needs
+
+same-length-2 : tie.Need-same-length-2
+same-length-2 c = search needs
+
+returns-2 : tie.Need-returns-2
+returns-2 c = let s = sheet-made _ _ _ (c .before .before .before .before .before .before .before .write-sheet .ensures .0) (c .before .before .before .before .before .before .before .write-sheet .kept .1 .1 .1 .0) (c .before .before .before .before .before .before .before .write-sheet .ensures .1 .1 .1) (c .before .n .given .1) in (s .0, s .1 ∙ answer-short _ (c .before .before .before .before .before .before .before .before .before .before .before .before .node-table .ensures) (c .before .before .before .before .before .before .before .before .before .before .before .item-table .ensures) (c .before .before .before .before .before .before .before .before .before .before .before .before .before .before .before .before .pre) (c .before .before .before .before .before .before .before .before .before .before .before .before .before .if1 .left))
+
+same-length-3 : tie.Need-same-length-3
+same-length-3 c = search needs
+
+returns-3 : tie.Need-returns-3
+returns-3 c = let s = put-first (c .before .before .put-refusal .ensures) (omega (arith, line-short (c .before .before .before .before .before .number .given .0 .0) (c .before .before .before .before .before .number .given .0 .1 .0), c .before .before .before .before .before .before .before .before .before .before .before .write-sheet .kept .1 .1 .1 .0, c .before .before .before .before .before .before .before .before .before .before .before .before .before .before .before .before .before .before .before .before .pre)) in (s .0, s .1 ∙ refusal-made _ (c .before .before .before .before .before .before .before .before .before .before .before .write-sheet .ensures .0) (c .before .before .before .before .before .number .given .1) ∙ answer-short _ (c .before .before .before .before .before .before .before .before .before .before .before .before .before .before .before .before .node-table .ensures) (c .before .before .before .before .before .before .before .before .before .before .before .before .before .before .before .item-table .ensures) (c .before .before .before .before .before .before .before .before .before .before .before .before .before .before .before .before .before .before .before .before .pre) (c .before .before .before .before .before .before .before .before .before .before .before .before .before .before .before .before .before .if1 .left))
+
+pub make-answer-spec : {M : Type 1} → statement M
+make-answer-spec =
+    tie.close
+    (tie.spec
+    put-too-long-requires
+    same-length
+    returns
+    node-table-requires
+    item-table-requires
+    slice-aggregate-write-sheet
+    slice-aggregate-write-sheet-2
+    write-sheet-requires
+    enum-known-n
+    enum-known-number
+    put-refusal-requires
+    same-length-2
+    returns-2
+    same-length-3
+    returns-3)

@@ -1,0 +1,36 @@
+-- `put_refusal` puts the line of a refusal.
+-- Assumes nothing.
+use Rattle.room.proofs.Putting.{puts-then, puts-as}
+use Rattle.xmf_sheet.proofs.Fits.{refusal-is}
+use borrow.Author.Needs.{needs}
+use Rattle.xmf_sheet.proofs.put_refusal.Statement.{statement}
+use Rattle.xmf_sheet.proofs.put_refusal.Tie as tie
+
+put-byte-requires : tie.Need-put-byte-requires
+put-byte-requires c κs = search needs
+
+put-number-requires : tie.Need-put-number-requires
+put-number-requires c κs = search needs
+
+put-number-requires-2 : tie.Need-put-number-requires-2
+put-number-requires-2 c κs = search needs
+
+put-byte-requires-2 : tie.Need-put-byte-requires-2
+put-byte-requires-2 c κs = search needs
+
+same-length : tie.Need-same-length
+same-length c = search needs
+
+returns : tie.Need-returns
+returns c = puts-as (refusal-is _ _) (puts-then (puts-then (puts-then (c .before .before .before .before .before .before .before .before .before .before .before .before .before .before .put-byte .ensures) (c .before .before .before .before .before .before .before .before .before .before .put-number .ensures)) (c .before .before .before .before .before .before .put-number2 .ensures)) (c .before .before .put-byte2 .ensures))
+
+pub put-refusal-spec : {M : Type 1} → statement M
+put-refusal-spec =
+    tie.close
+    (tie.spec
+    put-byte-requires
+    put-number-requires
+    put-number-requires-2
+    put-byte-requires-2
+    same-length
+    returns)
