@@ -13,7 +13,8 @@
  * Each is a pointer and a number of elements. They may have any size and hold anything before the
  * call; smaller tables hold fewer rows. The caller must see to four things:
  *
- *   - each pointer is not null, not even for 0 elements, and is aligned for its type;
+ *   - each pointer is aligned for its type; it may be null only where there are 0 elements, and then
+ *     nothing is read or written there (examples/c/empty.c tries this with every function);
  *   - so many elements can be read there, and but for file and name also written;
  *   - what is written overlaps nothing else that is lent in the same call;
  *   - no other thread writes what is lent, or reads what is written, until the call returns.
