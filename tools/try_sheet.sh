@@ -184,7 +184,7 @@ M	0	S	8	1	2	Færge 𝄞
 M	0	S	8	2	0	Ferry
 M	0	S	9	0	2	\002\d8\00
 END
-try unicode.xmf "$root/samples/unicode.xmf"
+try unicode.xmf "$root/samples/unicode.xmf" 0
 
 printf 'R\t5\t16\n' >"$work/wanted"
 try cut.xmf "$root/samples/cut.xmf" 2
