@@ -1,9 +1,11 @@
 //! Comparing two readers on a case or a text, and two files of a pair on one reader.
 
 use crate::buffers::{Buffers, Noise};
-use crate::readers::{ask_plain, ask_proved, ask_words, Answer, Question, Subject, QUESTIONS};
+use crate::readers::{ask_plain, ask_proved, ask_words, resource_proved};
 use crate::readers::{convert_plain, convert_proved, convert_words};
+use crate::readers::{Answer, Question, Subject, QUESTIONS};
 use generate::cases::KINDS;
+use generate::encode::PRIVATE_KINDS;
 use generate::texts::Text;
 use generate::{Case, Pair};
 use std::fmt::Debug;
@@ -31,6 +33,10 @@ pub struct Comparer {
     /// For each refusal number, how many files of cases are refused so for reading the tree; at 0
     /// how many are read.
     pub outcomes: [u64; 25],
+    /// For each kind of private places, how many pairs differ in it.
+    pub private: [u64; PRIVATE_KINDS.len()],
+    /// How many pairs differ in the resource asked for.
+    pub resources: u64,
     /// For each refusal number, how many texts are refused so; at 0 how many are converted.
     pub texts: [u64; 27],
 }
@@ -54,6 +60,8 @@ impl Comparer {
             comparisons: 0,
             values: 0,
             outcomes: [0; 25],
+            private: [0; PRIVATE_KINDS.len()],
+            resources: 0,
             texts: [0; 27],
         }
     }
@@ -117,8 +125,40 @@ impl Comparer {
             }
             self.answer(question, &left, &right)?;
             self.left(question)?;
+            if question == Question::Resolve {
+                self.fill(question, !number, number);
+                self.resources(first, second, &left)?;
+            }
+        }
+        for (count, kind) in self.private.iter_mut().zip(PRIVATE_KINDS) {
+            *count += u64::from(pair.differs_in(kind));
         }
         Ok(())
+    }
+
+    /// Asks the proved reader for the resources of both files. Each must be the part of its file that
+    /// the answer names, so they differ only where the files do; none after a refusal.
+    fn resources(
+        &mut self,
+        first: Subject,
+        second: Subject,
+        answer: &Answer,
+    ) -> Result<(), Difference> {
+        let left = resource_proved(first, self.first.lend());
+        let right = resource_proved(second, self.second.lend());
+        let [_, _, place, length, ..] = answer.map(|word| word as usize);
+        for (part, about) in [(left, first), (right, second)] {
+            self.count(part.len());
+            let named = about.file.get(place..).and_then(|rest| rest.get(..length));
+            if named != Some(part) {
+                return Err(Difference {
+                    asked: format!("{:?}", Question::Resolve),
+                    what: format!("a resource is not what the answer names: {answer:?}"),
+                });
+            }
+        }
+        self.resources += u64::from(left != right);
+        self.left(Question::Resolve)
     }
 
     /// Sets what a question finds in the first and in the second buffers.

@@ -1,7 +1,7 @@
 //! Compares the proved reader with the plain one on generated cases.
 //!
-//! `differ [CASES [SEED [FIRST]]]` takes the cases from number FIRST on (a million from number 0,
-//! with seed 1, when nothing is said). For each it asks both readers all five questions, with the
+//! `differ [CASES [SEED [FIRST [PAIRS]]]]` takes the cases from number FIRST on (a million from number
+//! 0, with seed 1, when nothing is said). For each it asks both readers all five questions, with the
 //! same contents of tables and buffers before, and compares the answers, each word of both tables
 //! and each byte of the sheet. Each case also asks one question through the interface of words, with
 //! an answer buffer of 0 to 16 words.
@@ -9,12 +9,15 @@
 //! Beside each case it converts a generated text, in UTF-16 or UTF-8, good or with a fault, by both
 //! readers, and compares the answers and each byte of the room lent.
 //!
-//! For each tenth case it takes a pair of files that differ in hidden data only, asks the proved
-//! reader all five questions about both, with different contents of tables and buffers before, and
-//! compares in the same way.
+//! Then it takes PAIRS pairs of files, from number FIRST on (a tenth of the number of cases when
+//! nothing is said). The files of a pair differ at private places only: in hidden data, in inline
+//! data of file nodes, and outside header, tree and detached nodes. It asks the proved reader all
+//! five questions about both, with different contents of tables and buffers before, and compares in
+//! the same way. A resource must be the part of its file that the answer names, and this place and
+//! length are the same for both files.
 //!
-//! Before that it compares the readers on the samples and their padded copies: each of them, each of
-//! its cuts, each file that differs from it in one byte, and two very long files.
+//! Before all that it compares the readers on the samples and their padded copies: each of them, each
+//! of its cuts, each file that differs from it in one byte, and two very long files.
 //!
 //! It stops at the first difference, with exit status 1.
 
@@ -31,28 +34,32 @@ use std::process::ExitCode;
 use std::time::Instant;
 use std::{env, fmt::Write};
 
-/// One pair for so many cases.
+/// One pair for so many cases, when nothing is said.
 const CASES_FOR_A_PAIR: u64 = 10;
 /// The most bytes of a file that a report shows.
 const MOST_SHOWN: usize = 70_000;
 
 fn main() -> ExitCode {
     let arguments: Result<Vec<u64>, _> = env::args().skip(1).map(|word| word.parse()).collect();
-    let (cases, seed, first) = match arguments.as_deref() {
-        Ok([]) => (1_000_000, 1, 0),
-        Ok(&[cases]) => (cases, 1, 0),
-        Ok(&[cases, seed]) => (cases, seed, 0),
-        Ok(&[cases, seed, first]) => (cases, seed, first),
+    let arguments = match arguments {
+        Ok(arguments) if arguments.len() <= 4 => arguments,
         _ => {
-            eprintln!("usage: differ [CASES [SEED [FIRST]]]");
+            eprintln!("usage: differ [CASES [SEED [FIRST [PAIRS]]]]");
             return ExitCode::from(2);
         }
     };
+    let argument = |index: usize, unsaid| arguments.get(index).copied().unwrap_or(unsaid);
+    let cases = argument(0, 1_000_000);
+    let seed = argument(1, 1);
+    let first = argument(2, 0);
+    let pairs = argument(3, cases / CASES_FOR_A_PAIR);
     let mut comparer = Comparer::new(seed);
     let compared = compare_samples(&mut comparer)
-        .and_then(|()| compare_cases(&mut comparer, cases, seed, first));
+        .and_then(|()| compare_cases(&mut comparer, cases, seed, first))
+        .and_then(|()| compare_pairs(&mut comparer, pairs, seed, first));
     match compared {
         Ok(()) => {
+            print_counts(&comparer);
             println!("differences: 0");
             ExitCode::SUCCESS
         }
@@ -77,10 +84,9 @@ fn compare_samples(comparer: &mut Comparer) -> Result<(), String> {
     Ok(())
 }
 
-/// Compares on generated cases and pairs, and prints how many there are, or reports a difference.
+/// Compares on generated cases and texts, and prints how many there are, or reports a difference.
 fn compare_cases(comparer: &mut Comparer, cases: u64, seed: u64, first: u64) -> Result<(), String> {
     let start = Instant::now();
-    let mut pairs = 0;
     for number in first..first.saturating_add(cases) {
         let case = generate::case(seed, number);
         comparer.case(&case, number).map_err(|difference| {
@@ -90,20 +96,36 @@ fn compare_cases(comparer: &mut Comparer, cases: u64, seed: u64, first: u64) -> 
         comparer.text(&text, number).map_err(|difference| {
             text_report(&format!("text {number} of seed {seed}"), &text, &difference)
         })?;
-        if number % CASES_FOR_A_PAIR == 0 {
-            let pair = generate::pair(seed, number);
-            comparer.pair(&pair, number).map_err(|difference| {
-                pair_report(&format!("pair {number} of seed {seed}"), &pair, &difference)
-            })?;
-            pairs += 1;
-        }
     }
     let seconds = start.elapsed().as_secs_f64();
-    println!("cases: {cases} from number {first}, seed {seed}");
-    println!("pairs: {pairs}");
-    print_counts(comparer);
     let rate = cases as f64 / seconds;
-    println!("time: {seconds:.1} s, {rate:.0} cases per second");
+    println!(
+        "cases: {cases} from number {first}, seed {seed}; {seconds:.1} s, {rate:.0} per second"
+    );
+    Ok(())
+}
+
+/// Compares on generated pairs, and prints how many there are and in what kinds of private places
+/// they differ, or reports a difference.
+fn compare_pairs(comparer: &mut Comparer, pairs: u64, seed: u64, first: u64) -> Result<(), String> {
+    let start = Instant::now();
+    for number in first..first.saturating_add(pairs) {
+        let pair = generate::pair(seed, number);
+        comparer.pair(&pair, number).map_err(|difference| {
+            pair_report(&format!("pair {number} of seed {seed}"), &pair, &difference)
+        })?;
+    }
+    let seconds = start.elapsed().as_secs_f64();
+    let rate = pairs as f64 / seconds;
+    println!(
+        "pairs: {pairs} from number {first}, seed {seed}; {seconds:.1} s, {rate:.0} per second"
+    );
+    let [hidden, inline, outside] = comparer.private;
+    println!(
+        "pairs that differ in hidden data: {hidden}, in inline data: {inline}, outside header, tree \
+         and detached nodes: {outside}, in the resource asked for: {}",
+        comparer.resources
+    );
     Ok(())
 }
 

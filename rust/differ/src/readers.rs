@@ -81,6 +81,12 @@ pub fn ask_proved(question: Question, about: Subject, lent: Lent) -> Answer {
     answer.unwrap_or_else(|refusal| refused(refusal.number, refusal.place))
 }
 
+/// Asks the proved reader for the bytes of a resource; a refusal gives none.
+pub fn resource_proved<'a>(about: Subject<'a>, lent: Lent) -> &'a [u8] {
+    let row = about.row as usize;
+    xmf::resource(about.file, lent.nodes, lent.items, row).unwrap_or(&[])
+}
+
 /// Asks the proved reader for the answer as words, in a buffer of any size.
 pub fn ask_words(question: Question, about: Subject, lent: Lent, answer: &mut [u64]) {
     let Subject { file, row, field } = about;

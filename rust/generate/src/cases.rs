@@ -1,12 +1,12 @@
 //! Cases for comparing readers, each made from a seed and a number alone.
 
 use crate::damage::{damage, refused, Damage};
-use crate::encode::{encode, Encoded};
+use crate::encode::{encode, Encoded, PrivateKind, PrivatePart};
 use crate::mobile;
-use crate::model::{Contents, Field, File, Item, Node, Place, Unpacker, UnpackerName, Values};
+use crate::model::{Contents, Field, File, Item, Node, Part, Place};
+use crate::model::{Unpacker, UnpackerName, Values};
 use crate::random::Random;
 use crate::shapes;
-use std::ops::Range;
 
 /// The words of a node row.
 const NODE_WORDS: usize = 13;
@@ -97,21 +97,29 @@ pub struct Lent {
     pub stale: u64,
 }
 
-/// Two files that differ in hidden data only, and one question about both.
+/// Two files that differ at private places of the first only, and one question about both.
 #[derive(Clone, Debug)]
 pub struct Pair {
     /// The first file.
     pub first: Vec<u8>,
-    /// The second file: as long, with other bytes in some of the hidden parts.
+    /// The second file: as long, with other bytes in some of the private parts.
     pub second: Vec<u8>,
-    /// The hidden parts. None is of a standard field 0, 3 or 13.
-    pub hidden: Vec<Range<usize>>,
+    /// The private parts of the first file.
+    pub private: Vec<PrivatePart>,
     /// What is lent; the tables are always large enough.
     pub lent: Lent,
     /// The row to ask about.
     pub row: u64,
     /// The field to be found.
     pub field: Field,
+}
+
+impl Pair {
+    /// Whether the files differ at a private place of this kind.
+    pub fn differs_in(&self, kind: PrivateKind) -> bool {
+        let mut parts = self.private.iter().filter(|part| part.kind == kind);
+        parts.any(|part| self.first[part.places.clone()] != self.second[part.places.clone()])
+    }
 }
 
 impl Lent {
@@ -218,33 +226,30 @@ pub fn case(seed: u64, number: u64) -> Case {
     }
 }
 
-/// Makes a pair of files that differ in hidden data only.
+/// Makes a pair of files that differ at private places of the first only.
 pub fn pair(seed: u64, number: u64) -> Pair {
     let random = &mut Random::for_case(!seed, number);
-    let mut file = match random.below(4) {
-        0 => {
+    let mut file = match random.below(9) {
+        0 | 1 => {
             let verdict = random.pick(&[0, 0, 5, 6, 7]);
             mobile::with_verdict(random, verdict)
         }
-        1 => shapes::chain(random),
-        2 => shapes::detached(random),
+        2 | 3 => shapes::chain(random),
+        4 | 5 => shapes::detached(random),
+        6 => shapes::single_node(random),
         _ => shapes::any_file(random),
     };
     file.widths = shapes::any_widths(random);
     add_hidden_item(random, &mut file);
-    let Encoded { bytes, hidden, .. } = encode(&file);
-    let mut second = bytes.clone();
-    while second == bytes {
-        for part in &hidden {
-            if random.once_in(2) {
-                change_part(random, &mut second[part.clone()]);
-            }
-        }
+    if random.once_in(2) {
+        add_outside(random, &mut file);
     }
+    let Encoded { bytes, private, .. } = encode(&file);
+    let second = with_other_private(random, &bytes, &private);
     Pair {
         first: bytes,
         second,
-        hidden,
+        private,
         lent: any_lent(random, file.nodes().len(), file.item_rows()),
         row: any_row(random, file.nodes().len()),
         field: any_field(random, Some(&file)),
@@ -423,14 +428,61 @@ fn add_hidden_item(random: &mut Random, file: &mut File) {
     });
 }
 
-/// Puts other bytes into a hidden part.
-fn change_part(random: &mut Random, part: &mut [u8]) {
-    match random.below(4) {
+/// Adds a few bytes before the tree or after it, before, between or after what stands there.
+fn add_outside(random: &mut Random, file: &mut File) {
+    let size = random.between(1, 9);
+    let bytes = Part::Bytes(random.bytes(size));
+    let parts = match random.below(2) {
+        0 => &mut file.gap,
+        _ => &mut file.tail,
+    };
+    parts.insert(random.below(parts.len() + 1), bytes);
+}
+
+/// The same file with other bytes at private places: in some parts with hidden data, in some parts of
+/// any kind, at all places of one kind, or at all private places. At least one part has hidden data.
+fn with_other_private(random: &mut Random, file: &[u8], private: &[PrivatePart]) -> Vec<u8> {
+    let mut second = file.to_vec();
+    let choice = random.below(6);
+    let kind = match choice {
+        0 => PrivateKind::Hidden,
+        _ => private[random.below(private.len())].kind,
+    };
+    while second == file {
+        for part in private {
+            let bytes = &mut second[part.places.clone()];
+            let is_of_kind = part.kind == kind;
+            match choice {
+                0 if is_of_kind && random.once_in(2) => change_part(random, file, bytes),
+                1..=3 if random.once_in(2) => change_part(random, file, bytes),
+                4 if is_of_kind => change_all(random, bytes),
+                5 => change_all(random, bytes),
+                _ => {}
+            }
+        }
+    }
+    second
+}
+
+/// Puts bytes into a private part of a file, at times those that stand elsewhere in the file.
+fn change_part(random: &mut Random, file: &[u8], part: &mut [u8]) {
+    match random.below(5) {
         0 => part.fill(random.pick(&[0, 0xFF, 0x80, b'\\', b'\n'])),
         1 => {
             let at = random.below(part.len());
             part[at] ^= 1 << random.below(8);
         }
+        2 => {
+            let start = random.below(file.len() - part.len() + 1);
+            part.copy_from_slice(&file[start..][..part.len()]);
+        }
         _ => part.fill_with(|| random.byte()),
+    }
+}
+
+/// Puts another byte at each place of a private part.
+fn change_all(random: &mut Random, part: &mut [u8]) {
+    for byte in part {
+        *byte ^= random.between(1, 255) as u8;
     }
 }

@@ -109,6 +109,33 @@ pub struct Mark {
     pub index: usize,
 }
 
+/// A kind of places at which two files may differ that are to give the same answers.
+#[derive(Clone, Copy, Debug, PartialEq, Eq)]
+pub enum PrivateKind {
+    /// Hidden data that has a row, of fields other than standard 0, 3 and 13.
+    Hidden,
+    /// Inline data of a file node that has a row.
+    Inline,
+    /// Bytes outside header, tree and detached nodes that have rows.
+    Outside,
+}
+
+/// All kinds of private places.
+pub const PRIVATE_KINDS: [PrivateKind; 3] = [
+    PrivateKind::Hidden,
+    PrivateKind::Inline,
+    PrivateKind::Outside,
+];
+
+/// A part of a file with private places only.
+#[derive(Clone, Debug, PartialEq, Eq)]
+pub struct PrivatePart {
+    /// The kind of its places.
+    pub kind: PrivateKind,
+    /// Its places, at least one.
+    pub places: Range<usize>,
+}
+
 /// A file as bytes.
 #[derive(Clone, Debug, Default)]
 pub struct Encoded {
@@ -116,8 +143,8 @@ pub struct Encoded {
     pub bytes: Vec<u8>,
     /// All numbers, in file order.
     pub marks: Vec<Mark>,
-    /// The parts with hidden data that has a row, of fields other than standard 0, 3 and 13.
-    pub hidden: Vec<Range<usize>>,
+    /// All private parts, in file order. No two share a place.
+    pub private: Vec<PrivatePart>,
     /// Where the parts of a whole file stand.
     pub layout: Layout,
 }
@@ -131,9 +158,21 @@ impl Encoded {
             place: mark.place + shift,
             ..mark
         }));
-        let hidden = other.hidden.into_iter();
-        self.hidden
-            .extend(hidden.map(|part| part.start + shift..part.end + shift));
+        let private = other.private.into_iter().map(|part| PrivatePart {
+            places: part.places.start + shift..part.places.end + shift,
+            ..part
+        });
+        self.private.extend(private);
+    }
+
+    /// Adds bytes at the end, as a private part unless there are none.
+    fn append_private(&mut self, kind: PrivateKind, bytes: &[u8]) {
+        let start = self.bytes.len();
+        self.bytes.extend(bytes);
+        if !bytes.is_empty() {
+            let places = start..self.bytes.len();
+            self.private.push(PrivatePart { kind, places });
+        }
     }
 }
 
@@ -249,13 +288,15 @@ impl Encoder<'_> {
     fn outside(&mut self, out: &mut Encoded, parts: &[Part]) {
         for part in parts {
             match part {
-                Part::Bytes(bytes) => out.bytes.extend(bytes),
+                Part::Bytes(bytes) => out.append_private(PrivateKind::Outside, bytes),
                 Part::Node(node) => {
                     let number = out.layout.detached.len();
                     out.layout.detached.push(out.bytes.len());
                     let mut node = self.node(node);
                     if !self.reached.contains(&number) {
-                        node.hidden.clear();
+                        let places = 0..node.bytes.len();
+                        let kind = PrivateKind::Outside;
+                        node.private = vec![PrivatePart { kind, places }];
                     }
                     out.append(node);
                 }
@@ -385,7 +426,7 @@ impl Encoder<'_> {
             }
             Contents::Inline(bytes) => {
                 self.number(&mut out, MarkKind::Reference, 1);
-                out.bytes.extend(bytes);
+                out.append_private(PrivateKind::Inline, bytes);
             }
             Contents::InFile(place) => {
                 self.number(&mut out, MarkKind::Reference, 2);
@@ -459,9 +500,8 @@ impl Encoder<'_> {
 
 /// Adds the data of an item and remembers where it stands, if it may differ.
 fn data_bytes(out: &mut Encoded, data: &[u8], is_free: bool) {
-    let start = out.bytes.len();
-    out.bytes.extend(data);
-    if is_free && !data.is_empty() {
-        out.hidden.push(start..out.bytes.len());
+    match is_free {
+        true => out.append_private(PrivateKind::Hidden, data),
+        false => out.bytes.extend(data),
     }
 }

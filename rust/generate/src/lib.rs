@@ -1,7 +1,7 @@
 //! Makes XMF files of many shapes, well-formed and damaged.
 //!
 //! Everything is fixed by a seed and a case number: [`case`] makes a file with what is lent and
-//! what is asked, [`pair`] makes two files that differ in hidden data only, [`large_file`] and
+//! what is asked, [`pair`] makes two files that differ at private places only, [`large_file`] and
 //! [`large_resource`] make the largest files, [`folders_file`] makes files of growing size, and
 //! [`texts::text`] makes a text to be converted. The modules hold the parts they are made of.
 

@@ -2,11 +2,11 @@
 
 use generate::cases::Kind;
 use generate::damage::{every_cut, every_length_changed};
-use generate::encode::{encode, MarkKind};
+use generate::encode::{encode, Encoded, MarkKind, PrivateKind, PRIVATE_KINDS};
 use generate::model::{Field as Wanted, Widths};
 use generate::random::Random;
 use generate::texts::{text, Into, Text};
-use generate::{case, large_file, large_resource, pair, samples, shapes, Lent};
+use generate::{case, large_file, large_resource, mobile, pair, samples, shapes, Lent};
 use plain::{find, judge, read_tree, resolve, resource, write_sheet};
 use plain::{item, node, Field, Refusal};
 use plain::{utf16_to_utf8, utf8_to_utf16};
@@ -143,6 +143,35 @@ fn outline(file: &[u8]) -> Result<(u64, Vec<Outline>), u64> {
     Ok((verdict, node_rows.chain(item_rows).collect()))
 }
 
+/// Each place of a file with its kind if it is private, by the header's end and the rows.
+fn private_by_rows(encoded: &Encoded) -> Vec<Option<PrivateKind>> {
+    let lent = Lent::full();
+    let (mut nodes, mut items) = (lent.nodes(), lent.items());
+    let tree = read_tree(&encoded.bytes, &mut nodes, &mut items).expect("a well-formed file");
+    let mut kinds = vec![Some(PrivateKind::Outside); encoded.bytes.len()];
+    let mut set = |place: usize, length: u64, kind| {
+        kinds[place..][..length as usize].fill(kind);
+    };
+    set(0, encoded.layout.header_end as u64, None);
+    // A detached node's place is outside the tree, and a node of the tree is in the root.
+    let nodes = nodes.chunks(node::WORDS).take(tree.nodes as usize);
+    for row in nodes.clone() {
+        set(row[node::START] as usize, row[node::LENGTH], None);
+    }
+    for row in nodes.filter(|row| row[node::CONTAINED] == 0 && row[node::REFERENCE] == 1) {
+        let kind = Some(PrivateKind::Inline);
+        set(row[node::TARGET] as usize, row[node::EXTENT], kind);
+    }
+    for row in items.chunks(item::WORDS).take(tree.items as usize) {
+        let is_free = row[item::KIND] == item::CUSTOM || ![0, 3, 13].contains(&row[item::FIELD]);
+        if is_free && row[item::FORMAT] % 2 == 1 {
+            let kind = Some(PrivateKind::Hidden);
+            set(row[item::DATA] as usize, row[item::DATA_LENGTH], kind);
+        }
+    }
+    kinds
+}
+
 /// A sample by its name.
 fn sample(samples: Vec<(&str, Vec<u8>)>, name: &str) -> Vec<u8> {
     let mut samples = samples.into_iter();
@@ -238,26 +267,85 @@ fn rows_are_those_of_the_model() {
 }
 
 #[test]
-fn pairs_have_the_same_answers() {
-    let mut detached = 0;
+fn private_parts_are_those_of_the_rows() {
+    let mut unreached = 0;
     for number in 0..1000 {
+        let random = &mut Random::for_case(SEED, number);
+        let mut file = match number % 3 {
+            0 => mobile::with_verdict(random, number as usize % 9),
+            _ => shapes::any_file(random),
+        };
+        file.widths = shapes::any_widths(random);
+        let encoded = encode(&file);
+        let mut kinds = vec![None; encoded.bytes.len()];
+        let mut end = 0;
+        for part in &encoded.private {
+            assert!(end <= part.places.start && !part.places.is_empty());
+            end = part.places.end;
+            kinds[part.places.clone()].fill(Some(part.kind));
+        }
+        assert_eq!(kinds, private_by_rows(&encoded), "file {number}");
+        unreached += file.detached().len() - file.reached().len();
+    }
+    assert!(unreached > 0);
+}
+
+#[test]
+fn pairs_have_the_same_answers() {
+    // By kind: how many pairs differ in that kind alone, and how many parts before the tree, in it and
+    // after it differ.
+    let mut alone = [0; 3];
+    let mut parts = [[0; 3]; 3];
+    let (mut in_root, mut resources) = (0, 0);
+    for number in 0..3000 {
         let pair = pair(SEED, number);
         assert_ne!(pair.first, pair.second);
-        let hidden = |place: usize| pair.hidden.iter().any(|part| part.contains(&place));
-        for (place, (first, second)) in pair.first.iter().zip(&pair.second).enumerate() {
-            assert!(first == second || hidden(place));
+        let mut others = pair.second.clone();
+        for part in &pair.private {
+            others[part.places.clone()].copy_from_slice(&pair.first[part.places.clone()]);
         }
+        assert_eq!(pair.first, others, "pair {number}");
+
         let first = ask(&pair.first, &pair.lent, pair.row, &pair.field);
         let second = ask(&pair.second, &pair.lent, pair.row, &pair.field);
         assert!(first.tree.is_ok());
         assert_eq!(first, second, "pair {number}");
-        let rows = first.nodes.chunks_exact(node::WORDS);
-        for row in rows.filter(|row| row[node::DETACHED] == 1) {
-            let part = row[node::START] as usize..(row[node::START] + row[node::LENGTH]) as usize;
-            detached += usize::from(pair.first[part.clone()] != pair.second[part]);
+
+        let differs_in = PRIVATE_KINDS.map(|kind| pair.differs_in(kind));
+        match differs_in {
+            [true, false, false] => alone[0] += 1,
+            [false, true, false] => alone[1] += 1,
+            [false, false, true] => alone[2] += 1,
+            _ => {}
+        }
+        let differs = |place: u64, length: u64| {
+            let part = place as usize..(place + length) as usize;
+            usize::from(pair.first[part.clone()] != pair.second[part])
+        };
+        let root = &first.nodes[..node::WORDS];
+        for part in &pair.private {
+            let place = part.places.start as u64;
+            let is_after_start = place >= root[node::START];
+            let is_after_end = place >= root[node::START] + root[node::LENGTH];
+            let position = usize::from(is_after_start) + usize::from(is_after_end);
+            parts[part.kind as usize][position] += differs(place, part.places.len() as u64);
+        }
+        if root[node::CONTAINED] == 0 && root[node::REFERENCE] == 1 {
+            in_root += differs(root[node::TARGET], root[node::EXTENT]);
+        }
+        if let Ok(resolved) = first.resolved {
+            resources += differs(resolved.place, resolved.length);
         }
     }
-    assert!(detached > 0);
+    assert!(alone.iter().all(|&count| count > 100), "{alone:?}");
+    let [hidden, inline, [before, inside, after]] = parts;
+    let counts = [hidden, inline, [before, after, in_root]];
+    assert!(
+        counts.as_flattened().iter().all(|&count| count > 50),
+        "{counts:?}"
+    );
+    assert_eq!(inside, 0);
+    assert!(resources > 100, "{resources}");
 }
 
 #[test]
