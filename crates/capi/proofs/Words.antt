@@ -13,8 +13,8 @@ use Rattle.room.specs.Room.{padded}
 use Rattle.room.proofs.Sets.{sets-zeros}
 use Rattle.tree.specs.Reading.{rows}
 use Rattle.tree.specs.Hidden.{DifferInPrivate}
-use Rattle.find.specs.Find.{standard, custom}
-use Rattle.promises.specs.Promises.{Question, findItem, Sizes, Outcome, reads, outcome}
+use Rattle.find.specs.Find.{Wanted, standard, custom}
+use Rattle.promises.specs.Promises.{Question, Sizes, Outcome, reads, outcome}
 use Rattle.promises.specs.Calls.{Called}
 use Rattle.promises.proofs.Kept.{called, outcome-alike}
 use Rattle.capi.specs.Fit.{fit, asked, Leaves}
@@ -42,16 +42,16 @@ put-as words size r e k = k ∙ ap (λ v. fit size (words v)) (sym e)
 pub leaves : {q : Question} {ls : Sizes} {f answer : List ℕ} {o : Outcome} (size : ℕ) → Called q ls f o → answer ≡ fit size (o .answer) → Leaves (outcome q ls f) size answer (o .holds)
 leaves size k e = record { answers = e ∙ ap (λ (v : Outcome). fit size (v .answer)) (called k); holding = ap (λ (v : Outcome). v .holds) (called k) }
 
-pub asks-standard : (kind number : ℕ) (name : List ℕ) (row : ℕ) (ls : Sizes) (f : List ℕ) → kind ≡ 0 → {answer : List ℕ} {size : ℕ} {holds : List (List ℕ)}
-    → Leaves (outcome (findItem (standard number) row) ls f) size answer holds → Leaves (outcome (findItem (asked kind number name) row) ls f) size answer holds
+pub asks-standard : (q : Wanted → (row : ℕ) → Question) (kind number : ℕ) (name : List ℕ) (row : ℕ) (ls : Sizes) (f : List ℕ) → kind ≡ 0 → {answer : List ℕ} {size : ℕ} {holds : List (List ℕ)}
+    → Leaves (outcome (q (standard number) row) ls f) size answer holds → Leaves (outcome (q (asked kind number name) row) ls f) size answer holds
 unfolding asked
-asks-standard kind number name row ls f e h = rw e h
+asks-standard q kind number name row ls f e h = rw e h
 
-pub asks-custom : (kind number : ℕ) (name : List ℕ) (row : ℕ) (ls : Sizes) (f : List ℕ) → ((kind ≡ 0) → ⊥) → {answer : List ℕ} {size : ℕ} {holds : List (List ℕ)}
-    → Leaves (outcome (findItem (custom name) row) ls f) size answer holds → Leaves (outcome (findItem (asked kind number name) row) ls f) size answer holds
+pub asks-custom : (q : Wanted → (row : ℕ) → Question) (kind number : ℕ) (name : List ℕ) (row : ℕ) (ls : Sizes) (f : List ℕ) → ((kind ≡ 0) → ⊥) → {answer : List ℕ} {size : ℕ} {holds : List (List ℕ)}
+    → Leaves (outcome (q (custom name) row) ls f) size answer holds → Leaves (outcome (q (asked kind number name) row) ls f) size answer holds
 unfolding asked
-asks-custom zero number name row ls f n h = absurd (n refl)
-asks-custom (suc k) number name row ls f n h = h
+asks-custom q zero number name row ls f n h = absurd (n refl)
+asks-custom q (suc k) number name row ls f n h = h
 
 -- ---- demand 3 of two calls: whatever their buffers held, both leave the same
 

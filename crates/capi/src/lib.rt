@@ -9,7 +9,7 @@ ghost use Rattle.resolve.specs.Told as told_resolve;
 ghost use Rattle.mobile.specs.Told as told_mobile;
 ghost use Rattle.sheet.specs.Told as told_sheet;
 ghost use Rattle.unicode.specs.Told as told_unicode;
-ghost use Rattle.promises.specs.Promises.{outcome, readTree, findItem, resolveRow, judgeMobile, writeSheet, toUtf8, toUtf16};
+ghost use Rattle.promises.specs.Promises.{outcome, readTree, findItem, findOwn, resolveRow, judgeMobile, writeSheet, toUtf8, toUtf16};
 ghost use Rattle.capi.specs.Fit.{fit, asked, Leaves};
 use find::Found;
 use mobile::Judged;
@@ -162,6 +162,30 @@ pub extern "C" fn xmf_find(
         put_found(answer, find::find_standard(file, nodes, items, row, number));
     } else {
         put_found(answer, find::find_custom(file, nodes, items, row, name));
+    }
+}
+
+// Finds a node row's own item of a field: of the standard number (kind 0), or of the custom name (any other kind).
+#[no_mangle]
+pub extern "C" fn xmf_find_own(
+    file: &[u8],
+    nodes: &mut [u64],
+    items: &mut [u64],
+    row: usize,
+    kind: u64,
+    number: u64,
+    name: &[u8],
+    answer: &mut [u64],
+)
+    ensures { λ _. ⌜ Leaves (outcome (findOwn (asked kind number (now (name .entry))) row) (length (now (nodes .entry)) ∷ length (now (items .entry)) ∷ []) (now (file .entry))) (length (now (answer .entry))) (now (answer .exit)) (now (nodes .exit) ∷ now (items .exit) ∷ []) ⌝ }
+{
+    if kind == 0 {
+        put_found(
+            answer,
+            find::find_own_standard(file, nodes, items, row, number),
+        );
+    } else {
+        put_found(answer, find::find_own_custom(file, nodes, items, row, name));
     }
 }
 

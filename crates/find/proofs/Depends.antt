@@ -1,20 +1,20 @@
 -- What is found depends on no bytes of the file but the custom names'.
 -- Assumes nothing.
-use mathlib.Core.Path.{_≡_, refl, ap, ap₂, _∙_}
+use mathlib.Core.Path.{_≡_, refl, ap, ap₂}
 use mathlib.Core.Bool.{Bool, true, false, _&&_}
 use mathlib.Core.List.{List, [], _∷_}
-use Prim.Native.Nat.{ℕ, zero, suc, _+_, _-_, _≤_, _<_}
+use Prim.Native.Nat.{ℕ, zero, suc, _+_, _≤_, _<_}
 use native.Mathlib.Omega.{arith}
 use lib.Dec.{ltb, eqb}
-use lib.ListN.{length, getD, take, drop, length-take, length-drop}
-use lib.Seq.{getD-take, getD-drop}
+use lib.ListN.{length, getD}
 use borrow.Author.Tests.{eqb-true}
 use Rattle.cursor.specs.declared.Node.{Node}
 use Rattle.cursor.specs.declared.Item.{Item}
 use Rattle.header.specs.Header.{Header}
-use Rattle.tree.specs.Rows.{nodeAt, itemAt, noItem}
+use Rattle.tree.specs.Rows.{itemAt, if_then_else_}
 use Rattle.tree.specs.Asking.{Result, good, bad}
-use Rattle.find.specs.Find.{Wanted, standard, custom, Hit, choose, sameBytes, matches, among, firstRow, own, look, orElse, climb, nearest, find}
+use Rattle.find.specs.Own.{Numbered, ownFrom, own}
+use Rattle.find.specs.Find.{Wanted, standard, custom, choose, sameBytes, matches, among, look, path, orElse, firstAnswer, nearest, find, findOwn}
 
 module _ (f g : List ℕ) where
   -- the two files agree at the name of a row
@@ -47,32 +47,32 @@ module _ (f g : List ℕ) where
       bytes-same (r .field) name (λ i l m. a k i l (omega arith))))
 
   module _ (w : Wanted) where
-    among-same : (i : ℕ) (is : List Item) → Agree is → among f w i is ≡ among g w i is
-    unfolding among
-    among-same i [] a = refl
-    among-same i (r ∷ is) a =
-        ap₂ (λ (b : Bool) (o : Result Hit). choose b (good (record { row = i; item = r })) o) (matches-same w r (a 0 (omega arith))) (among-same (i + 1) is (λ j l. a (suc j) (omega arith)))
+    -- of rows from row i on
+    own-same : (k i : ℕ) (is : List Item) → Agree is → among f w (ownFrom i k is) ≡ among g w (ownFrom i k is)
+    unfolding ownFrom if_then_else_ among
+    own-same k i [] a = refl
+    own-same k i (r ∷ is) a = by (eqb (r .node) k) (own-same k (i + 1) is (λ j l. a (suc j) (omega arith)))
+      where
+        by : (b : Bool) → among f w (ownFrom (i + 1) k is) ≡ among g w (ownFrom (i + 1) k is)
+            → among f w (if b then record { row = i; item = r } ∷ ownFrom (i + 1) k is else ownFrom (i + 1) k is)
+            ≡ among g w (if b then record { row = i; item = r } ∷ ownFrom (i + 1) k is else ownFrom (i + 1) k is)
+        by true e = ap₂ (λ (b : Bool) (o : Result Numbered). choose b (good (record { row = i; item = r })) o) (matches-same w r (a 0 (omega arith))) e
+        by false e = e
 
-    module _ (ns : List Node) (is : List Item) (a : Agree is) where
-      own-agree : (k : ℕ) → Agree (own ns is k)
-      unfolding own
-      own-agree k i l =
-          let n = nodeAt ns k .rows in
-          let m = firstRow ns k in
-          let x : length (take n (drop m is)) ≤ n = rw length-take (omega arith) in
-          let y : length (take n (drop m is)) ≤ length is - m = rw (length-take, length-drop) (omega arith) in
-          let e : itemAt (take n (drop m is)) i ≡ itemAt is (m + i) = getD-take n (drop m is) i noItem (omega arith) ∙ getD-drop m is i noItem in
-          rw e (a (m + i) (omega arith))
+    module _ (is : List Item) (a : Agree is) where
+      look-same : (k : ℕ) → look f w is k ≡ look g w is k
+      unfolding look own
+      look-same k = own-same k 0 is a
 
-      look-same : (k : ℕ) → look f w ns is k ≡ look g w ns is k
-      unfolding look
-      look-same k = among-same (firstRow ns k) (own ns is k) (own-agree k)
+      first-same : (ks : List ℕ) → firstAnswer (look f w is) ks ≡ firstAnswer (look g w is) ks
+      unfolding firstAnswer
+      first-same [] = refl
+      first-same (k ∷ ks) = ap₂ orElse (look-same k) (first-same ks)
 
-      climb-same : (left k : ℕ) → climb f w ns is left k ≡ climb g w ns is left k
-      unfolding climb
-      climb-same zero k = refl
-      climb-same (suc left) k = ap₂ (λ (o : Result Hit) (p : Result Hit). orElse o (choose (ltb (nodeAt ns k .parent) k) p (bad 23 0))) (look-same k) (climb-same left (nodeAt ns k .parent))
-
-      pub find-same : (row : ℕ) (h : Header) → find f w row h ns is ≡ find g w row h ns is
+      pub find-same : (row : ℕ) (h : Header) (ns : List Node) → find f w row h ns is ≡ find g w row h ns is
       unfolding find nearest
-      find-same row h = ap (λ (o : Result Hit). choose (ltb row (length ns)) o (bad 18 0)) (climb-same (row + 1) row)
+      find-same row h ns = ap (λ (o : Result Numbered). choose (ltb row (length ns)) o (bad 18 0)) (first-same (path ns row))
+
+      pub find-own-same : (row : ℕ) (h : Header) (ns : List Node) → findOwn f w row h ns is ≡ findOwn g w row h ns is
+      unfolding findOwn
+      find-own-same row h ns = ap (λ (o : Result Numbered). choose (ltb row (length ns)) o (bad 18 0)) (look-same row)

@@ -1,28 +1,24 @@
--- The question Find (01, Questions): the nearest item row of a field, climbing from a node to the root.
+-- The two kinds of find (01, Questions; 02, E1): an item row of a field on a node itself, or the nearest one on its path to the root.
 -- Assumes nothing.
 use mathlib.Core.Bool.{Bool, true, false, _&&_}
 use mathlib.Core.List.{List, [], _∷_}
 use Prim.Native.Nat.{ℕ, zero, suc, _+_}
 use lib.Dec.{ltb, eqb}
-use lib.ListN.{length, getD, take, drop}
+use lib.ListN.{length, getD}
 use Rattle.cursor.specs.Refusals.{noSuchRow, noSuchItem}
 use Rattle.cursor.specs.declared.Node.{Node}
 use Rattle.cursor.specs.declared.Item.{Item}
 use Rattle.header.specs.Header.{Header}
-use Rattle.tree.specs.Rows.{nodeAt}
+use Rattle.tree.specs.Rows.{nodeAt, if_then_else_}
 use Rattle.tree.specs.Asking.{Result, good, bad}
+use Rattle.find.specs.Own.{Numbered, own}
 
 -- the field that is looked for: a standard number, or a custom name's bytes
 pub data Wanted : Type 0 where
   standard : ℕ → Wanted
   custom : List ℕ → Wanted
 
--- an item row that was found: its number in the item table, and its words
-pub record Hit : Type 0 where
-  pub row : ℕ
-  pub item : Item
-
-unfoldable pub choose : Bool → Result Hit → Result Hit → Result Hit
+unfoldable pub choose : Bool → Result Numbered → Result Numbered → Result Numbered
 choose true a b = a
 choose false a b = b
 
@@ -38,41 +34,47 @@ unfoldable pub matches : List ℕ → Wanted → Item → Bool
 matches f (standard n) r = eqb (r .kind) 0 && eqb (r .field) n
 matches f (custom name) r = ltb 0 (length name) && (eqb (r .kind) 1 && (eqb (r .named) (length name) && sameBytes f (r .field) name))
 
--- the first of these rows, in file order, of that field; the first of them is row i
-unfoldable pub among : List ℕ → Wanted → ℕ → List Item → Result Hit
-among f w i [] = bad noSuchItem 0
-among f w i (r ∷ rs) = choose (matches f w r) (good (record { row = i; item = r })) (among f w (i + 1) rs)
+-- the first of these rows, in file order, of that field
+unfoldable pub among : List ℕ → Wanted → List Numbered → Result Numbered
+among f w [] = bad noSuchItem 0
+among f w (r ∷ rs) = choose (matches f w (r .item)) (good r) (among f w rs)
 
--- ---- a node's own rows: the item rows stand in the order of their nodes
+-- ---- the look at one node: the first of its own rows of that field
 
--- the rows of the nodes before node k
-unfoldable pub firstRow : List Node → ℕ → ℕ
-firstRow ns zero = 0
-firstRow ns (suc k) = firstRow ns k + nodeAt ns k .rows
+unfoldable pub look : List ℕ → Wanted → List Item → ℕ → Result Numbered
+look f w is k = among f w (own is k)
 
-unfoldable pub own : List Node → List Item → ℕ → List Item
-own ns is k = take (nodeAt ns k .rows) (drop (firstRow ns k) is)
+-- ---- the path to the root
 
--- the first row of that field on node k itself
-unfoldable pub look : List ℕ → Wanted → List Node → List Item → ℕ → Result Hit
-look f w ns is k = among f w (firstRow ns k) (own ns is k)
+-- Node k, then its parent, and so on to the root, whose parent is itself; at most so many rows. A detached node's parent is itself too: its path is itself alone.
+unfoldable pub rowsUp : List Node → (most k : ℕ) → List ℕ
+rowsUp ns zero k = []
+rowsUp ns (suc most) k = k ∷ (if ltb (nodeAt ns k .parent) k then rowsUp ns most (nodeAt ns k .parent) else [])
 
--- ---- the climb
+-- each parent's row is smaller, so k + 1 rows are enough
+unfoldable pub path : List Node → ℕ → List ℕ
+path ns k = rowsUp ns (k + 1) k
+
+-- ---- the nearest item: the first answer of the look along the path
 
 -- what is found, or else the other
-unfoldable pub orElse : Result Hit → Result Hit → Result Hit
+unfoldable pub orElse : Result Numbered → Result Numbered → Result Numbered
 orElse (good a) o = good a
 orElse (bad n p) o = o
 
--- Node k, then its parent, and so on to the root, whose parent is itself. Each parent's row is smaller, so k + 1 looks are enough.
-unfoldable pub climb : List ℕ → Wanted → List Node → List Item → (left k : ℕ) → Result Hit
-climb f w ns is zero k = bad noSuchItem 0
-climb f w ns is (suc left) k = orElse (look f w ns is k) (choose (ltb (nodeAt ns k .parent) k) (climb f w ns is left (nodeAt ns k .parent)) (bad noSuchItem 0))
+unfoldable pub firstAnswer : (ℕ → Result Numbered) → List ℕ → Result Numbered
+firstAnswer looks [] = bad noSuchItem 0
+firstAnswer looks (k ∷ ks) = orElse (looks k) (firstAnswer looks ks)
 
-unfoldable pub nearest : List ℕ → Wanted → List Node → List Item → ℕ → Result Hit
-nearest f w ns is k = climb f w ns is (k + 1) k
+unfoldable pub nearest : List ℕ → Wanted → List Node → List Item → ℕ → Result Numbered
+nearest f w ns is k = firstAnswer (look f w is) (path ns k)
 
--- ---- the question
+-- ---- the two questions
 
-unfoldable pub find : List ℕ → Wanted → ℕ → Header → List Node → List Item → Result Hit
+-- 01's: the nearest item from a row
+unfoldable pub find : List ℕ → Wanted → ℕ → Header → List Node → List Item → Result Numbered
 find f w row h ns is = choose (ltb row (length ns)) (nearest f w ns is row) (bad noSuchRow 0)
+
+-- the row's own item
+unfoldable pub findOwn : List ℕ → Wanted → ℕ → Header → List Node → List Item → Result Numbered
+findOwn f w row h ns is = choose (ltb row (length ns)) (look f w is row) (bad noSuchRow 0)

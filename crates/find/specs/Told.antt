@@ -1,15 +1,19 @@
 -- What the code's field and answer say, and what it knows of the rows.
 -- Assumes nothing.
 use mathlib.Core.Path.{_≡_}
+use mathlib.Core.Bool.{Bool, true, false}
 use mathlib.Core.Logic.{_⊎_}
 use mathlib.Core.List.{List, [], _∷_}
 use Prim.Native.Nat.{ℕ, _+_, _≤_, _<_}
 use lib.ListN.{length}
+use Rattle.cursor.specs.declared.Node.{Node}
 use Rattle.cursor.specs.declared.Item.{Item}
+use Rattle.header.specs.Header.{Header}
 use Rattle.metadata.specs.Tables.{itemWords}
 use Rattle.tree.specs.Rows.{itemAt}
 use Rattle.tree.specs.Asking.{Result, good, bad}
-use Rattle.find.specs.Find.{Wanted, standard, custom, Hit}
+use Rattle.find.specs.Own.{Numbered}
+use Rattle.find.specs.Find.{Wanted, standard, custom, look, nearest, find, findOwn}
 use Rattle.find.specs.declared.Field.{Field}
 use Rattle.find.specs.declared.Field.the-variants as field
 use Rattle.find.specs.declared.Found.{Found}
@@ -20,11 +24,11 @@ abbrev pub wantedOf : Field → List ℕ → Wanted
 wantedOf (field.Standard n) name = standard n
 wantedOf field.Custom name = custom name
 
-abbrev pub told : Found → Result Hit
+abbrev pub told : Found → Result Numbered
 told (found.Item i r) = good (record { row = i; item = r })
 told (found.Refused n p) = bad n p
 
-abbrev pub answerOf : Result Hit → Found
+abbrev pub answerOf : Result Numbered → Found
 answerOf (good a) = found.Item (a .row) (a .item)
 answerOf (bad n p) = found.Refused n p
 
@@ -32,6 +36,16 @@ answerOf (bad n p) = found.Refused n p
 abbrev pub words : Found → List ℕ
 words (found.Item i r) = 0 ∷ 0 ∷ i ∷ itemWords r
 words (found.Refused n p) = n ∷ p ∷ []
+
+-- what is found from node k: the nearest item, or its own
+abbrev pub foundBy : (climbs : Bool) → List ℕ → Wanted → List Node → List Item → ℕ → Result Numbered
+foundBy true f w ns is k = nearest f w ns is k
+foundBy false f w ns is k = look f w is k
+
+-- the question
+abbrev pub question : (climbs : Bool) → List ℕ → Wanted → ℕ → Header → List Node → List Item → Result Numbered
+question true f w row = find f w row
+question false f w row = findOwn f w row
 
 -- a custom name lies in a file of `size` bytes
 abbrev pub Named : ℕ → Item → Type 0

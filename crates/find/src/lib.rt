@@ -1,14 +1,15 @@
-// The question Find: the nearest item row of a field, climbing from a node to the root.
+// The two kinds of find: an item row of a field on a node itself, or the nearest one, climbing from the node to the root.
 ghost use mathlib.Core.Path.{_≡_};
-ghost use Prim.Native.Nat.{_≤_, _<_, _*_, _+_, min};
+ghost use mathlib.Core.Bool.{_&&_};
+ghost use Prim.Native.Nat.{_≤_, _<_, _*_, _+_};
+ghost use lib.Dec.{eqb};
 ghost use lib.ListN.{length};
-ghost use lib.Seq.{slice};
 ghost use Rattle.metadata.specs.Tables.{limits};
 ghost use Rattle.tree.specs.Reading.{readFile};
 ghost use Rattle.tree.specs.Rows.{nodesIn, itemsIn, itemFrom};
 ghost use Rattle.tree.specs.Asking.{ask, keptNodes, keptItems};
-ghost use Rattle.find.specs.Find.{standard, custom, sameBytes, matches, firstRow, among, look, nearest, find};
-ghost use Rattle.find.specs.Told.{wantedOf, told, Named, AllNamed};
+ghost use Rattle.find.specs.Find.{standard, custom, sameBytes, matches, look, nearest, find, findOwn};
+ghost use Rattle.find.specs.Told.{wantedOf, told, foundBy, question, Named, AllNamed};
 use cursor::Item;
 use tree::Read;
 
@@ -22,12 +23,6 @@ pub enum Field {
 pub enum Found {
     Item(usize, Item),
     Refused(u64, usize),
-}
-
-fn least(a: usize, b: usize) -> usize
-    ensures { λ r. ⌜ r ≡ min a b ⌝ }
-{
-    if a <= b { a } else { b }
 }
 
 // Whether the file's bytes from `at` on are those of the name.
@@ -98,37 +93,26 @@ fn item_at(items: &[u64], i: usize) -> Item
     }
 }
 
-// The rows of the nodes before node k, or `most` if there are more.
-fn first_row(nodes: &[u64], count: usize, k: usize, most: usize) -> usize
-    requires { ⌜ (count * 13 ≤ length (now nodes)) × (k ≤ count) ⌝ }
-    ensures { λ r. ⌜ r ≡ min (firstRow (nodesIn count (now (nodes .entry))) k) most ⌝ }
+// Whether the row is node k's own and of that field.
+fn is_own(file: &[u8], row: Item, k: usize, field: Field, name: &[u8]) -> bool
+    requires { ⌜ Named (length (now file)) row ⌝ }
+    ensures { λ r. ⌜ r ≡ (eqb (row .node) k && matches (now (file .entry)) (wantedOf field (now (name .entry))) row) ⌝ }
 {
-    let mut sum = 0;
-    let mut i = 0;
-    while i < k {
-        sum = sum + least(nodes[i * cursor::NODE_WIDTH + 11] as usize, most - sum);
-        i = i + 1;
+    if row.node != k as u64 {
+        return false;
     }
-    sum
+    is_wanted(file, row, field, name)
 }
 
-// The first row of that field from row `from` on, before row `end`.
-fn search(
-    file: &[u8],
-    items: &[u64],
-    rows: usize,
-    from: usize,
-    end: usize,
-    field: Field,
-    name: &[u8],
-) -> Found
-    requires { ⌜ (rows * 10 ≤ length (now items)) × (from ≤ end) × (end ≤ rows) × AllNamed (length (now file)) (itemsIn rows (now items)) ⌝ }
-    ensures { λ r. ⌜ told r ≡ among (now (file .entry)) (wantedOf field (now (name .entry))) from (slice from end (itemsIn rows (now (items .entry)))) ⌝ }
+// The look at node k: the first of its own rows of that field.
+fn look(file: &[u8], items: &[u64], rows: usize, k: usize, field: Field, name: &[u8]) -> Found
+    requires { ⌜ (rows * 10 ≤ length (now items)) × AllNamed (length (now file)) (itemsIn rows (now items)) ⌝ }
+    ensures { λ r. ⌜ told r ≡ look (now (file .entry)) (wantedOf field (now (name .entry))) (itemsIn rows (now (items .entry))) k ⌝ }
 {
-    let mut i = from;
-    while i < end {
+    let mut i = 0;
+    while i < rows {
         let row = item_at(items, i);
-        if is_wanted(file, row, field, name) {
+        if is_own(file, row, k, field, name) {
             return Found::Item(i, row);
         }
         i = i + 1;
@@ -136,26 +120,7 @@ fn search(
     Found::Refused(cursor::NO_SUCH_ITEM, 0)
 }
 
-// The first row of that field on node k itself.
-fn look(
-    file: &[u8],
-    nodes: &[u64],
-    items: &[u64],
-    count: usize,
-    rows: usize,
-    k: usize,
-    field: Field,
-    name: &[u8],
-) -> Found
-    requires { ⌜ (count * 13 ≤ length (now nodes)) × (rows * 10 ≤ length (now items)) × (k < count) × AllNamed (length (now file)) (itemsIn rows (now items)) ⌝ }
-    ensures { λ r. ⌜ told r ≡ look (now (file .entry)) (wantedOf field (now (name .entry))) (nodesIn count (now (nodes .entry))) (itemsIn rows (now (items .entry))) k ⌝ }
-{
-    let from = first_row(nodes, count, k, rows);
-    let own = least(nodes[k * cursor::NODE_WIDTH + 11] as usize, rows - from);
-    search(file, items, rows, from, from + own, field, name)
-}
-
-// The nearest row of that field: on node k, or else on its parent, whose row is smaller, and so on to the root.
+// The nearest row of that field: the look at node k, or else at its parent, whose row is smaller, and so on to the root.
 fn climb(
     file: &[u8],
     nodes: &[u64],
@@ -169,7 +134,7 @@ fn climb(
     requires { ⌜ (count * 13 ≤ length (now nodes)) × (rows * 10 ≤ length (now items)) × (k < count) × AllNamed (length (now file)) (itemsIn rows (now items)) ⌝ }
     ensures { λ r. ⌜ told r ≡ nearest (now (file .entry)) (wantedOf field (now (name .entry))) (nodesIn count (now (nodes .entry))) (itemsIn rows (now (items .entry))) k ⌝ }
 {
-    match look(file, nodes, items, count, rows, k, field, name) {
+    match look(file, items, rows, k, field, name) {
         Found::Item(i, row) => Found::Item(i, row),
         Found::Refused(_, _) => {
             let parent = nodes[k * cursor::NODE_WIDTH + 4] as usize;
@@ -181,7 +146,28 @@ fn climb(
     }
 }
 
-// Reads the file and climbs from the row.
+// What is found from node k: the nearest row of that field, or its own.
+fn found_by(
+    file: &[u8],
+    nodes: &[u64],
+    items: &[u64],
+    count: usize,
+    rows: usize,
+    k: usize,
+    field: Field,
+    name: &[u8],
+    climbs: bool,
+) -> Found
+    requires { ⌜ (count * 13 ≤ length (now nodes)) × (rows * 10 ≤ length (now items)) × (k < count) × AllNamed (length (now file)) (itemsIn rows (now items)) ⌝ }
+    ensures { λ r. ⌜ told r ≡ foundBy climbs (now (file .entry)) (wantedOf field (now (name .entry))) (nodesIn count (now (nodes .entry))) (itemsIn rows (now (items .entry))) k ⌝ }
+{
+    if climbs {
+        return climb(file, nodes, items, count, rows, k, field, name);
+    }
+    look(file, items, rows, k, field, name)
+}
+
+// Reads the file and finds from the row.
 fn find_field(
     file: &[u8],
     nodes: &mut [u64],
@@ -189,10 +175,11 @@ fn find_field(
     row: usize,
     field: Field,
     name: &[u8],
+    climbs: bool,
 ) -> Found
-    ensures answer { λ r. ⌜ told r ≡ ask (readFile (limits (length (now (nodes .entry))) (length (now (items .entry)))) (now (file .entry))) (find (now (file .entry)) (wantedOf field (now (name .entry))) row) ⌝ }
-    ensures nodes { λ _. ⌜ now (nodes .exit) ≡ keptNodes (length (now (nodes .entry))) (readFile (limits (length (now (nodes .entry))) (length (now (items .entry)))) (now (file .entry))) (ask (readFile (limits (length (now (nodes .entry))) (length (now (items .entry)))) (now (file .entry))) (find (now (file .entry)) (wantedOf field (now (name .entry))) row)) ⌝ }
-    ensures items { λ _. ⌜ now (items .exit) ≡ keptItems (length (now (items .entry))) (readFile (limits (length (now (nodes .entry))) (length (now (items .entry)))) (now (file .entry))) (ask (readFile (limits (length (now (nodes .entry))) (length (now (items .entry)))) (now (file .entry))) (find (now (file .entry)) (wantedOf field (now (name .entry))) row)) ⌝ }
+    ensures answer { λ r. ⌜ told r ≡ ask (readFile (limits (length (now (nodes .entry))) (length (now (items .entry)))) (now (file .entry))) (question climbs (now (file .entry)) (wantedOf field (now (name .entry))) row) ⌝ }
+    ensures nodes { λ _. ⌜ now (nodes .exit) ≡ keptNodes (length (now (nodes .entry))) (readFile (limits (length (now (nodes .entry))) (length (now (items .entry)))) (now (file .entry))) (ask (readFile (limits (length (now (nodes .entry))) (length (now (items .entry)))) (now (file .entry))) (question climbs (now (file .entry)) (wantedOf field (now (name .entry))) row)) ⌝ }
+    ensures items { λ _. ⌜ now (items .exit) ≡ keptItems (length (now (items .entry))) (readFile (limits (length (now (nodes .entry))) (length (now (items .entry)))) (now (file .entry))) (ask (readFile (limits (length (now (nodes .entry))) (length (now (items .entry)))) (now (file .entry))) (question climbs (now (file .entry)) (wantedOf field (now (name .entry))) row)) ⌝ }
 {
     match tree::read_file(file, nodes, items) {
         Read::Refused(n, p) => Found::Refused(n, p.0),
@@ -201,7 +188,17 @@ fn find_field(
                 tree::clear_all(nodes, items);
                 return Found::Refused(cursor::NO_SUCH_ROW, 0);
             }
-            match climb(file, nodes, items, s.nodes, s.items, row, field, name) {
+            match found_by(
+                file,
+                nodes,
+                items,
+                s.nodes,
+                s.items,
+                row,
+                field,
+                name,
+                climbs,
+            ) {
                 Found::Item(i, item) => Found::Item(i, item),
                 Found::Refused(n, p) => {
                     tree::clear_all(nodes, items);
@@ -224,7 +221,7 @@ pub fn find_standard(
     ensures nodes { λ _. ⌜ now (nodes .exit) ≡ keptNodes (length (now (nodes .entry))) (readFile (limits (length (now (nodes .entry))) (length (now (items .entry)))) (now (file .entry))) (ask (readFile (limits (length (now (nodes .entry))) (length (now (items .entry)))) (now (file .entry))) (find (now (file .entry)) (standard number) row)) ⌝ }
     ensures items { λ _. ⌜ now (items .exit) ≡ keptItems (length (now (items .entry))) (readFile (limits (length (now (nodes .entry))) (length (now (items .entry)))) (now (file .entry))) (ask (readFile (limits (length (now (nodes .entry))) (length (now (items .entry)))) (now (file .entry))) (find (now (file .entry)) (standard number) row)) ⌝ }
 {
-    find_field(file, nodes, items, row, Field::Standard(number), b"")
+    find_field(file, nodes, items, row, Field::Standard(number), b"", true)
 }
 
 // The nearest item row of a custom field, whose name is lent.
@@ -239,5 +236,35 @@ pub fn find_custom(
     ensures nodes { λ _. ⌜ now (nodes .exit) ≡ keptNodes (length (now (nodes .entry))) (readFile (limits (length (now (nodes .entry))) (length (now (items .entry)))) (now (file .entry))) (ask (readFile (limits (length (now (nodes .entry))) (length (now (items .entry)))) (now (file .entry))) (find (now (file .entry)) (custom (now (name .entry))) row)) ⌝ }
     ensures items { λ _. ⌜ now (items .exit) ≡ keptItems (length (now (items .entry))) (readFile (limits (length (now (nodes .entry))) (length (now (items .entry)))) (now (file .entry))) (ask (readFile (limits (length (now (nodes .entry))) (length (now (items .entry)))) (now (file .entry))) (find (now (file .entry)) (custom (now (name .entry))) row)) ⌝ }
 {
-    find_field(file, nodes, items, row, Field::Custom, name)
+    find_field(file, nodes, items, row, Field::Custom, name, true)
+}
+
+// A node's own item row of a standard field.
+pub fn find_own_standard(
+    file: &[u8],
+    nodes: &mut [u64],
+    items: &mut [u64],
+    row: usize,
+    number: u64,
+) -> Found
+    ensures answer { λ r. ⌜ told r ≡ ask (readFile (limits (length (now (nodes .entry))) (length (now (items .entry)))) (now (file .entry))) (findOwn (now (file .entry)) (standard number) row) ⌝ }
+    ensures nodes { λ _. ⌜ now (nodes .exit) ≡ keptNodes (length (now (nodes .entry))) (readFile (limits (length (now (nodes .entry))) (length (now (items .entry)))) (now (file .entry))) (ask (readFile (limits (length (now (nodes .entry))) (length (now (items .entry)))) (now (file .entry))) (findOwn (now (file .entry)) (standard number) row)) ⌝ }
+    ensures items { λ _. ⌜ now (items .exit) ≡ keptItems (length (now (items .entry))) (readFile (limits (length (now (nodes .entry))) (length (now (items .entry)))) (now (file .entry))) (ask (readFile (limits (length (now (nodes .entry))) (length (now (items .entry)))) (now (file .entry))) (findOwn (now (file .entry)) (standard number) row)) ⌝ }
+{
+    find_field(file, nodes, items, row, Field::Standard(number), b"", false)
+}
+
+// A node's own item row of a custom field, whose name is lent.
+pub fn find_own_custom(
+    file: &[u8],
+    nodes: &mut [u64],
+    items: &mut [u64],
+    row: usize,
+    name: &[u8],
+) -> Found
+    ensures answer { λ r. ⌜ told r ≡ ask (readFile (limits (length (now (nodes .entry))) (length (now (items .entry)))) (now (file .entry))) (findOwn (now (file .entry)) (custom (now (name .entry))) row) ⌝ }
+    ensures nodes { λ _. ⌜ now (nodes .exit) ≡ keptNodes (length (now (nodes .entry))) (readFile (limits (length (now (nodes .entry))) (length (now (items .entry)))) (now (file .entry))) (ask (readFile (limits (length (now (nodes .entry))) (length (now (items .entry)))) (now (file .entry))) (findOwn (now (file .entry)) (custom (now (name .entry))) row)) ⌝ }
+    ensures items { λ _. ⌜ now (items .exit) ≡ keptItems (length (now (items .entry))) (readFile (limits (length (now (nodes .entry))) (length (now (items .entry)))) (now (file .entry))) (ask (readFile (limits (length (now (nodes .entry))) (length (now (items .entry)))) (now (file .entry))) (findOwn (now (file .entry)) (custom (now (name .entry))) row)) ⌝ }
+{
+    find_field(file, nodes, items, row, Field::Custom, name, false)
 }

@@ -25,11 +25,12 @@ use Rattle.tree.specs.Hidden.{isHidden, mayDiffer, DifferInPrivate}
 use Rattle.tree.proofs.Demand.{Alike, RowAlike, privateData, private-alike, rows-alike}
 use Rattle.tree.proofs.Limited.{to-wider, to-narrower}
 use Rattle.tree.proofs.Listed.{refusal-listed}
+use Rattle.find.specs.Own as own
 use Rattle.find.specs.Find as find
 use Rattle.find.specs.Told as found
 use Rattle.find.specs.declared.Found.{Found}
 use Rattle.find.specs.declared.Found.the-variants as finding
-use Rattle.find.proofs.Depends.{find-same}
+use Rattle.find.proofs.Depends.{find-same, find-own-same}
 use Rattle.resolve.specs.Resolve as resolve
 use Rattle.resolve.specs.Told as resolved
 use Rattle.resolve.specs.declared.Resolved.{Resolved}
@@ -50,8 +51,8 @@ use Rattle.unicode.specs.Told as converted
 use Rattle.unicode.specs.declared.Converted.{Converted}
 use Rattle.unicode.specs.declared.Converted.the-variants as converting
 use Rattle.unicode.proofs.Back.{placed8, placed16}
-use Rattle.promises.specs.Promises.{Question, readTree, findItem, resolveRow, judgeMobile, writeSheet, toUtf8, toUtf16, refusals, Sizes, size, lent, Outcome, reads, over, conversion, outcome, resource, IsRefusal, IsAnswer, Demand1, FitsExactly, OnlyThere, Demand3}
-use Rattle.promises.specs.Calls.{Called, read-tree, find-standard, find-custom, resolve-row, judge, write-sheet, to-utf8, to-utf16, Given}
+use Rattle.promises.specs.Promises.{Question, readTree, findItem, findOwn, resolveRow, judgeMobile, writeSheet, toUtf8, toUtf16, refusals, Sizes, size, lent, Outcome, reads, over, conversion, outcome, resource, IsRefusal, IsAnswer, Demand1, FitsExactly, OnlyThere, Demand3}
+use Rattle.promises.specs.Calls.{Called, read-tree, find-standard, find-custom, find-own-standard, find-own-custom, resolve-row, judge, write-sheet, to-utf8, to-utf16, Given}
 
 -- ---- which data may not differ
 
@@ -89,7 +90,10 @@ module _ (ls : Sizes) (f g : List ℕ) (h : Header) (ns : List Node) (is : List 
   reads-same = alike .same-reading
 
   find-alike : (w : find.Wanted) (k : ℕ) → find.find g w k h ns is ≡ find.find f w k h ns is
-  find-alike w k = sym (find-same f g w ns is (λ i m e. named (itemAt is i) (row i m .0) e) k h)
+  find-alike w k = sym (find-same f g w is (λ i m e. named (itemAt is i) (row i m .0) e) k h ns)
+
+  find-own-alike : (w : find.Wanted) (k : ℕ) → find.findOwn g w k h ns is ≡ find.findOwn f w k h ns is
+  find-own-alike w k = sym (find-own-same f g w is (λ i m e. named (itemAt is i) (row i m .0) e) k h ns)
 
   mobile-alike : mobile.mobile g h ns is ≡ mobile.mobile f h ns is
   unfolding mobile.mobile
@@ -108,6 +112,7 @@ module _ (ls : Sizes) (f g : List ℕ) (h : Header) (ns : List Node) (is : List 
   unfolding outcome
   outcome-alike readTree = rw reads-same
   outcome-alike (findItem w k) = rw (asks-alike (λ x. find.find x w k) (find-alike w k), reads-same)
+  outcome-alike (findOwn w k) = rw (asks-alike (λ x. find.findOwn x w k) (find-own-alike w k), reads-same)
   outcome-alike (resolveRow k) = rw reads-same
   outcome-alike judgeMobile = rw (asks-alike mobile.mobile mobile-alike, reads-same)
   outcome-alike writeSheet = rw (asks-alike (sheet.write (size ls 2)) (sheet-alike (size ls 2)), reads-same)
@@ -138,7 +143,7 @@ demand3 q ls f g h ns is r d = let e = reads-same ls f g h ns is r d in (e ∙ r
 
 -- ---- each call leaves its question's outcome: what its enum says leads to the answer's words
 
-found-says : (r : Found) {a : Result find.Hit} → found.told r ≡ a → found.words r ≡ found.words (found.answerOf a)
+found-says : (r : Found) {a : Result own.Numbered} → found.told r ≡ a → found.words r ≡ found.words (found.answerOf a)
 found-says (finding.Item i x) e = rw (← e)
 found-says (finding.Refused n p) e = rw (← e)
 
@@ -172,6 +177,8 @@ unfolding outcome over conversion reads
 called (read-tree r a t u) = made (ap tree.words a) (two t u refl)
 called (find-standard row number r a t u) = made (found-says r a) (two t u refl)
 called (find-custom row name r a t u) = made (found-says r a) (two t u refl)
+called (find-own-standard row number r a t u) = made (found-says r a) (two t u refl)
+called (find-own-custom row name r a t u) = made (found-says r a) (two t u refl)
 called (resolve-row row r a t u) = made (resolved-says r a) (two t u refl)
 called (judge r a t u) = made (judged-says r a) (two t u refl)
 called (write-sheet r a t u v) = made (written-says r a) (two t u (one v))
@@ -232,32 +239,40 @@ allowed-more ns ms n p t = by (isOneOf n ns) (isOneOf n (ns ++ ms)) _ t (one-mor
     by false b c t h = absurd t
 
 module _ (f : List ℕ) (w : find.Wanted) where
-  abbrev Finds : Result find.Hit → Type 0
+  abbrev Finds : Result own.Numbered → Type 0
   Finds x = Own (ofReader ++ ofFind) x
 
-  choose-own : (b : Bool) (x y : Result find.Hit) → Finds x → Finds y → Finds (find.choose b x y)
+  choose-own : (b : Bool) (x y : Result own.Numbered) → Finds x → Finds y → Finds (find.choose b x y)
   unfolding find.choose
   choose-own true x y a c = a
   choose-own false x y a c = c
 
-  or-own : (x y : Result find.Hit) → Finds x → Finds y → Finds (find.orElse x y)
+  or-own : (x y : Result own.Numbered) → Finds x → Finds y → Finds (find.orElse x y)
   unfolding find.orElse
   or-own (good a) y h k = tt
   or-own (bad n p) y h k = k
 
-  among-own : (i : ℕ) (is : List Item) → Finds (find.among f w i is)
+  among-own : (rs : List own.Numbered) → Finds (find.among f w rs)
   unfolding find.among
-  among-own i [] = tt
-  among-own i (r ∷ is) = choose-own (find.matches f w r) _ _ tt (among-own (i + 1) is)
+  among-own [] = tt
+  among-own (r ∷ rs) = choose-own (find.matches f w (r .item)) _ _ tt (among-own rs)
 
-  climb-own : (ns : List Node) (is : List Item) (left k : ℕ) → Finds (find.climb f w ns is left k)
-  unfolding find.climb find.look
-  climb-own ns is zero k = tt
-  climb-own ns is (suc left) k = or-own _ _ (among-own _ _) (choose-own _ _ _ (climb-own ns is left _) tt)
+  look-own : (is : List Item) (k : ℕ) → Finds (find.look f w is k)
+  unfolding find.look
+  look-own is k = among-own _
 
-  find-own : (row : ℕ) (h : Header) (ns : List Node) (is : List Item) → Finds (find.find f w row h ns is)
+  first-own : (is : List Item) (ks : List ℕ) → Finds (find.firstAnswer (find.look f w is) ks)
+  unfolding find.firstAnswer
+  first-own is [] = tt
+  first-own is (k ∷ ks) = or-own _ _ (look-own is k) (first-own is ks)
+
+  nearest-own : (row : ℕ) (h : Header) (ns : List Node) (is : List Item) → Finds (find.find f w row h ns is)
   unfolding find.find find.nearest
-  find-own row h ns is = choose-own _ _ _ (climb-own ns is (row + 1) row) tt
+  nearest-own row h ns is = choose-own _ _ _ (first-own is (find.path ns row)) tt
+
+  node-own : (row : ℕ) (h : Header) (ns : List Node) (is : List Item) → Finds (find.findOwn f w row h ns is)
+  unfolding find.findOwn
+  node-own row h ns is = choose-own _ _ _ (look-own is row) tt
 
 abbrev Resolves : Result resolve.Resource → Type 0
 Resolves x = Own (ofReader ++ ofResolve) x
@@ -363,11 +378,17 @@ tree-choice ls f (rows h ns is) e = inr (h .version ∷ length ns ∷ length is 
 tree-choice ls f (refusal n p) e = inl (n, p, refl, reader-own ls f n p e, refl)
 
 module _ (ls : Sizes) (f : List ℕ) where
-  find-choice : (w : find.Wanted) (row : ℕ) (r : Result find.Hit) → ask (reads ls f) (find.find f w row) ≡ r → Own (ofReader ++ ofFind) r
+  find-choice : (w : find.Wanted) (row : ℕ) (r : Result own.Numbered) → ask (reads ls f) (find.find f w row) ≡ r → Own (ofReader ++ ofFind) r
       → IsRefusal (findItem w row) ls (over ls (reads ls f) (λ r. found.words (found.answerOf r)) (λ r. []) r) ⊎ IsAnswer (findItem w row) ls f (over ls (reads ls f) (λ r. found.words (found.answerOf r)) (λ r. []) r)
   unfolding over keptNodes keptItems
   find-choice w row (good a) e k = inr (a .row ∷ itemWords (a .item), refl, refl, λ _. accepted ls f (find.find f w row) e)
   find-choice w row (bad n p) e k = inl (n, p, refl, k, refl)
+
+  find-own-choice : (w : find.Wanted) (row : ℕ) (r : Result own.Numbered) → ask (reads ls f) (find.findOwn f w row) ≡ r → Own (ofReader ++ ofFind) r
+      → IsRefusal (findOwn w row) ls (over ls (reads ls f) (λ r. found.words (found.answerOf r)) (λ r. []) r) ⊎ IsAnswer (findOwn w row) ls f (over ls (reads ls f) (λ r. found.words (found.answerOf r)) (λ r. []) r)
+  unfolding over keptNodes keptItems
+  find-own-choice w row (good a) e k = inr (a .row ∷ itemWords (a .item), refl, refl, λ _. accepted ls f (find.findOwn f w row) e)
+  find-own-choice w row (bad n p) e k = inl (n, p, refl, k, refl)
 
   resolve-choice : (row : ℕ) (r : Result resolve.Resource) → ask (reads ls f) (resolve.resolve row) ≡ r → Own (ofReader ++ ofResolve) r
       → IsRefusal (resolveRow row) ls (over ls (reads ls f) (λ r. resolved.words (resolved.answerOf r)) (λ r. []) r) ⊎ IsAnswer (resolveRow row) ls f (over ls (reads ls f) (λ r. resolved.words (resolved.answerOf r)) (λ r. []) r)
@@ -403,7 +424,8 @@ no-file (inr y) = inr (y .0, y .1, y .2, λ z. absurd z)
 choice : (q : Question) (ls : Sizes) (f : List ℕ) → IsRefusal q ls (outcome q ls f) ⊎ IsAnswer q ls f (outcome q ls f)
 unfolding outcome conversion
 choice readTree ls f = tree-choice ls f (reads ls f) refl
-choice (findItem w row) ls f = find-choice ls f w row _ refl (asked-own ofFind (reads ls f) (find.find f w row) (reader-own ls f) (find-own f w row))
+choice (findItem w row) ls f = find-choice ls f w row _ refl (asked-own ofFind (reads ls f) (find.find f w row) (reader-own ls f) (nearest-own f w row))
+choice (findOwn w row) ls f = find-own-choice ls f w row _ refl (asked-own ofFind (reads ls f) (find.findOwn f w row) (reader-own ls f) (node-own f w row))
 choice (resolveRow row) ls f = resolve-choice ls f row _ refl (asked-own ofResolve (reads ls f) (resolve.resolve row) (reader-own ls f) (resolve-own row))
 choice judgeMobile ls f = judge-choice ls f _ refl (asked-own [] (reads ls f) (mobile.mobile f) (reader-own ls f) (mobile-own f))
 choice writeSheet ls f = sheet-choice ls f _ refl (asked-own ofSheet (reads ls f) (sheet.write (size ls 2) f) (reader-own ls f) (sheet-own (size ls 2) f))

@@ -9,7 +9,7 @@ use Rattle.tree.specs.Reading.{readFile, answerOf, nodeTable, itemTable}
 use Rattle.tree.specs.Told as tree
 use Rattle.tree.specs.declared.Answer.{Answer}
 use Rattle.tree.specs.Asking.{ask, keptNodes, keptItems}
-use Rattle.find.specs.Find.{standard, custom, find}
+use Rattle.find.specs.Find.{standard, custom, find, findOwn}
 use Rattle.find.specs.Told as found
 use Rattle.find.specs.declared.Found.{Found}
 use Rattle.resolve.specs.Resolve.{resolve, part}
@@ -25,6 +25,7 @@ use Rattle.room.specs.Room as room
 use Rattle.unicode.specs.Unicode as unicode
 use Rattle.unicode.specs.Told as converted
 use Rattle.unicode.specs.declared.Converted.{Converted}
+use Rattle.promises.specs.Promises as promises
 use Rattle.promises.specs.Promises.{Question, readTree, findItem, resolveRow, judgeMobile, writeSheet, toUtf8, toUtf16, Sizes, Outcome}
 
 -- a call that was made: its question, the sizes lent, the file, and what it left
@@ -45,6 +46,18 @@ pub data Called : Question → Sizes → (file : List ℕ) → Outcome → Type 
       → t ≡ keptNodes n (readFile (limits n i) f) (ask (readFile (limits n i) f) (find f (custom name) row))
       → u ≡ keptItems i (readFile (limits n i) f) (ask (readFile (limits n i) f) (find f (custom name) row))
       → Called (findItem (custom name) row) (n ∷ i ∷ []) f (record { answer = found.words r; holds = t ∷ u ∷ [] })
+  -- find::find_own_standard
+  find-own-standard : {n i : ℕ} {f t u : List ℕ} (row number : ℕ) (r : Found)
+      → found.told r ≡ ask (readFile (limits n i) f) (findOwn f (standard number) row)
+      → t ≡ keptNodes n (readFile (limits n i) f) (ask (readFile (limits n i) f) (findOwn f (standard number) row))
+      → u ≡ keptItems i (readFile (limits n i) f) (ask (readFile (limits n i) f) (findOwn f (standard number) row))
+      → Called (promises.findOwn (standard number) row) (n ∷ i ∷ []) f (record { answer = found.words r; holds = t ∷ u ∷ [] })
+  -- find::find_own_custom
+  find-own-custom : {n i : ℕ} {f t u : List ℕ} (row : ℕ) (name : List ℕ) (r : Found)
+      → found.told r ≡ ask (readFile (limits n i) f) (findOwn f (custom name) row)
+      → t ≡ keptNodes n (readFile (limits n i) f) (ask (readFile (limits n i) f) (findOwn f (custom name) row))
+      → u ≡ keptItems i (readFile (limits n i) f) (ask (readFile (limits n i) f) (findOwn f (custom name) row))
+      → Called (promises.findOwn (custom name) row) (n ∷ i ∷ []) f (record { answer = found.words r; holds = t ∷ u ∷ [] })
   -- resolve::resolve
   resolve-row : {n i : ℕ} {f t u : List ℕ} (row : ℕ) (r : Resolved)
       → resolved.told r ≡ ask (readFile (limits n i) f) (resolve row)

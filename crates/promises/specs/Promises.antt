@@ -35,6 +35,7 @@ use Rattle.unicode.specs.Told as converted
 pub data Question : Type 0 where
   readTree : Question
   findItem : find.Wanted → (row : ℕ) → Question
+  findOwn : find.Wanted → (row : ℕ) → Question
   resolveRow : (row : ℕ) → Question
   judgeMobile : Question
   writeSheet : Question
@@ -45,6 +46,7 @@ pub data Question : Type 0 where
 abbrev pub hasFile : Question → Bool
 hasFile readTree = true
 hasFile (findItem w row) = true
+hasFile (findOwn w row) = true
 hasFile (resolveRow row) = true
 hasFile judgeMobile = true
 hasFile writeSheet = true
@@ -55,6 +57,7 @@ hasFile (toUtf16 text) = false
 abbrev pub refusals : Question → List ℕ
 refusals readTree = ofReader
 refusals (findItem w row) = ofReader ++ ofFind
+refusals (findOwn w row) = ofReader ++ ofFind
 refusals (resolveRow row) = ofReader ++ ofResolve
 refusals judgeMobile = ofReader
 refusals writeSheet = ofReader ++ ofSheet
@@ -65,6 +68,7 @@ refusals (toUtf16 text) = ofConversion
 abbrev pub values : Question → ℕ
 values readTree = 3
 values (findItem w row) = 11
+values (findOwn w row) = 11
 values (resolveRow row) = 4
 values judgeMobile = 1
 values writeSheet = 1
@@ -96,6 +100,7 @@ tables ls = filled (size ls 0) ∷ filled (size ls 1) ∷ []
 abbrev pub lent : Question → Sizes → List Lent
 lent readTree ls = tables ls
 lent (findItem w row) ls = tables ls
+lent (findOwn w row) ls = tables ls
 lent (resolveRow row) ls = tables ls
 lent judgeMobile ls = tables ls
 lent writeSheet ls = tables ls ++ (filled (size ls 2) ∷ [])
@@ -125,6 +130,7 @@ conversion n r = record { answer = converted.words (converted.answerOf (room.cou
 unfoldable pub outcome : Question → Sizes → (file : List ℕ) → Outcome
 outcome readTree ls f = record { answer = tree.words (answerOf (reads ls f)); holds = nodeTable (size ls 0) (reads ls f) ∷ itemTable (size ls 1) (reads ls f) ∷ [] }
 outcome (findItem w row) ls f = over ls (reads ls f) (λ r. found.words (found.answerOf r)) (λ r. []) (ask (reads ls f) (find.find f w row))
+outcome (findOwn w row) ls f = over ls (reads ls f) (λ r. found.words (found.answerOf r)) (λ r. []) (ask (reads ls f) (find.findOwn f w row))
 outcome (resolveRow row) ls f = over ls (reads ls f) (λ r. resolved.words (resolved.answerOf r)) (λ r. []) (ask (reads ls f) (resolve.resolve row))
 outcome judgeMobile ls f = over ls (reads ls f) (λ r. judged.words (judged.answerOf r)) (λ r. []) (ask (reads ls f) (mobile.mobile f))
 outcome writeSheet ls f =

@@ -2,6 +2,7 @@
 -- Assumes nothing.
 use mathlib.Core.List.{[], _∷_}
 use lib.ListN.{length}
+use Rattle.promises.specs.Promises.{findItem}
 use Rattle.promises.specs.Calls.{find-standard, find-custom}
 use Rattle.capi.proofs.Words.{asks-standard, asks-custom, leaves}
 use borrow.Author.Needs.{needs}
@@ -30,7 +31,7 @@ same-length-3 : tie.Need-same-length-3
 same-length-3 c = search needs
 
 returns : tie.Need-returns
-returns c = asks-standard (c .before .before .before .before .before .before .before .before .before .before .before .before .before .before .before .before .before .args .kind) (c .before .before .before .before .before .before .before .before .before .before .before .before .before .before .before .before .before .args .number) (c .before .before .before .before .before .before .before .before .before .before .before .before .before .before .before .before .before .args .name .now) (c .before .before .before .before .before .before .before .before .before .before .before .before .before .before .before .before .before .args .row) (length (c .before .before .before .before .before .before .before .before .before .before .before .before .before .before .before .before .before .args .nodes .now) ∷ length (c .before .before .before .before .before .before .before .before .before .before .before .before .before .before .before .before .before .args .items .now) ∷ []) (c .before .before .before .before .before .before .before .before .before .before .before .before .before .before .before .before .before .args .file .now) (c .before .before .before .before .before .before .before .before .before .before .before .if1 .taken) (leaves (length (c .before .before .before .before .before .before .before .before .before .before .before .before .before .before .before .before .before .args .answer .now)) (find-standard {n = length (c .before .before .before .before .before .before .before .before .before .before .before .before .before .before .before .before .before .args .nodes .now)} {i = length (c .before .before .before .before .before .before .before .before .before .before .before .before .before .before .before .before .before .args .items .now)} {f = c .before .before .before .before .before .before .before .before .before .before .before .before .before .before .before .before .before .args .file .now} (c .before .before .before .before .before .before .before .before .before .before .before .before .before .before .before .before .before .args .row) (c .before .before .before .before .before .before .before .before .before .before .before .before .before .before .before .before .before .args .number) (c .before .before .before .before .before .before .before .find-standard .result) (c .before .before .before .before .before .before .before .find-standard .ensures .0) (c .before .before .before .before .before .before .before .find-standard .ensures .1 .0) (c .before .before .before .before .before .before .before .find-standard .ensures .1 .1)) (c .before .before .put-found .ensures))
+returns c = asks-standard findItem (c .before .before .before .before .before .before .before .before .before .before .before .before .before .before .before .before .before .args .kind) (c .before .before .before .before .before .before .before .before .before .before .before .before .before .before .before .before .before .args .number) (c .before .before .before .before .before .before .before .before .before .before .before .before .before .before .before .before .before .args .name .now) (c .before .before .before .before .before .before .before .before .before .before .before .before .before .before .before .before .before .args .row) (length (c .before .before .before .before .before .before .before .before .before .before .before .before .before .before .before .before .before .args .nodes .now) ∷ length (c .before .before .before .before .before .before .before .before .before .before .before .before .before .before .before .before .before .args .items .now) ∷ []) (c .before .before .before .before .before .before .before .before .before .before .before .before .before .before .before .before .before .args .file .now) (c .before .before .before .before .before .before .before .before .before .before .before .if1 .taken) (leaves (length (c .before .before .before .before .before .before .before .before .before .before .before .before .before .before .before .before .before .args .answer .now)) (find-standard {n = length (c .before .before .before .before .before .before .before .before .before .before .before .before .before .before .before .before .before .args .nodes .now)} {i = length (c .before .before .before .before .before .before .before .before .before .before .before .before .before .before .before .before .before .args .items .now)} {f = c .before .before .before .before .before .before .before .before .before .before .before .before .before .before .before .before .before .args .file .now} (c .before .before .before .before .before .before .before .before .before .before .before .before .before .before .before .before .before .args .row) (c .before .before .before .before .before .before .before .before .before .before .before .before .before .before .before .before .before .args .number) (c .before .before .before .before .before .before .before .find-standard .result) (c .before .before .before .before .before .before .before .find-standard .ensures .0) (c .before .before .before .before .before .before .before .find-standard .ensures .1 .0) (c .before .before .before .before .before .before .before .find-standard .ensures .1 .1)) (c .before .before .put-found .ensures))
 
 same-length-4 : tie.Need-same-length-4
 same-length-4 c = search needs
@@ -42,7 +43,7 @@ same-length-6 : tie.Need-same-length-6
 same-length-6 c = search needs
 
 returns-2 : tie.Need-returns-2
-returns-2 c = asks-custom (c .before .before .before .before .before .before .before .before .before .before .before .before .before .before .before .before .before .args .kind) (c .before .before .before .before .before .before .before .before .before .before .before .before .before .before .before .before .before .args .number) (c .before .before .before .before .before .before .before .before .before .before .before .before .before .before .before .before .before .args .name .now) (c .before .before .before .before .before .before .before .before .before .before .before .before .before .before .before .before .before .args .row) (length (c .before .before .before .before .before .before .before .before .before .before .before .before .before .before .before .before .before .args .nodes .now) ∷ length (c .before .before .before .before .before .before .before .before .before .before .before .before .before .before .before .before .before .args .items .now) ∷ []) (c .before .before .before .before .before .before .before .before .before .before .before .before .before .before .before .before .before .args .file .now) (c .before .before .before .before .before .before .before .before .before .before .before .if1 .left) (leaves (length (c .before .before .before .before .before .before .before .before .before .before .before .before .before .before .before .before .before .args .answer .now)) (find-custom {n = length (c .before .before .before .before .before .before .before .before .before .before .before .before .before .before .before .before .before .args .nodes .now)} {i = length (c .before .before .before .before .before .before .before .before .before .before .before .before .before .before .before .before .before .args .items .now)} {f = c .before .before .before .before .before .before .before .before .before .before .before .before .before .before .before .before .before .args .file .now} (c .before .before .before .before .before .before .before .before .before .before .before .before .before .before .before .before .before .args .row) (c .before .before .before .before .before .before .before .before .before .before .before .before .before .before .before .before .before .args .name .now) (c .before .before .before .before .before .before .before .find-custom .result) (c .before .before .before .before .before .before .before .find-custom .ensures .0) (c .before .before .before .before .before .before .before .find-custom .ensures .1 .0) (c .before .before .before .before .before .before .before .find-custom .ensures .1 .1)) (c .before .before .put-found2 .ensures))
+returns-2 c = asks-custom findItem (c .before .before .before .before .before .before .before .before .before .before .before .before .before .before .before .before .before .args .kind) (c .before .before .before .before .before .before .before .before .before .before .before .before .before .before .before .before .before .args .number) (c .before .before .before .before .before .before .before .before .before .before .before .before .before .before .before .before .before .args .name .now) (c .before .before .before .before .before .before .before .before .before .before .before .before .before .before .before .before .before .args .row) (length (c .before .before .before .before .before .before .before .before .before .before .before .before .before .before .before .before .before .args .nodes .now) ∷ length (c .before .before .before .before .before .before .before .before .before .before .before .before .before .before .before .before .before .args .items .now) ∷ []) (c .before .before .before .before .before .before .before .before .before .before .before .before .before .before .before .before .before .args .file .now) (c .before .before .before .before .before .before .before .before .before .before .before .if1 .left) (leaves (length (c .before .before .before .before .before .before .before .before .before .before .before .before .before .before .before .before .before .args .answer .now)) (find-custom {n = length (c .before .before .before .before .before .before .before .before .before .before .before .before .before .before .before .before .before .args .nodes .now)} {i = length (c .before .before .before .before .before .before .before .before .before .before .before .before .before .before .before .before .before .args .items .now)} {f = c .before .before .before .before .before .before .before .before .before .before .before .before .before .before .before .before .before .args .file .now} (c .before .before .before .before .before .before .before .before .before .before .before .before .before .before .before .before .before .args .row) (c .before .before .before .before .before .before .before .before .before .before .before .before .before .before .before .before .before .args .name .now) (c .before .before .before .before .before .before .before .find-custom .result) (c .before .before .before .before .before .before .before .find-custom .ensures .0) (c .before .before .before .before .before .before .before .find-custom .ensures .1 .0) (c .before .before .before .before .before .before .before .find-custom .ensures .1 .1)) (c .before .before .put-found2 .ensures))
 
 pub xmf-find-spec : {M : Type 1} → statement M
 xmf-find-spec =

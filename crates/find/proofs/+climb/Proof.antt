@@ -28,7 +28,7 @@ climb-look-requires : (t : ℕ) → climb-lts.Need-look-requires (
   climb-below t,
   climb.Post,
 ) (climb-at t) climb.Post
-climb-look-requires t c κs = (c .before .before .before .before .pre .1 .0, c .before .before .before .before .pre .1 .1, c .before .before .before .before .pre .1 .2, c .before .before .before .before .pre .1 .3)
+climb-look-requires t c κs = (c .before .before .before .before .pre .1 .1, c .before .before .before .before .pre .1 .3)
 
 climb-enum-known-i : (t : ℕ) → climb-lts.Need-enum-known-i (
   look-reads.Asked,

@@ -1,52 +1,56 @@
--- `look` gives what `look` gives by definition: the search among the node's own rows, cut to the table.
+-- `look` gives what `look` gives by definition. The invariant: what is left of the look is the whole.
 -- Assumes nothing.
-use Rattle.find.proofs.Looking.{look-is}
+use Prim.Native.Nat.{_-_, _≤_}
+use lib.ListN.{length}
+use Rattle.tree.specs.Rows.{itemsIn}
+use Rattle.find.specs.Told.{wantedOf}
+use Rattle.find.proofs.Looking.{Left, left-begin, row-found, row-other, row-none, row-named}
 use native.Mathlib.Omega.{arith}
 use borrow.Author.Needs.{needs}
 use Rattle.find.proofs.look.Statement.{statement}
 use Rattle.find.proofs.look.Tie as tie
 
-first-row-requires : tie.Need-first-row-requires
-first-row-requires c κs = search needs
+abbrev Inv-loop : tie.InvT-loop
+Inv-loop file items rows k field name i₀ i = (i ≤ rows) × Left file (wantedOf field name) (itemsIn rows items) k i
 
-mul-least : tie.Need-mul-least
-mul-least c = search needs
+abbrev μ-loop : tie.MeasureT-loop
+μ-loop file items rows k field name i₀ i = rows - i
 
-add-least : tie.Need-add-least
-add-least c = search needs
+loop-holds : tie.Need-loop-holds Inv-loop μ-loop
+loop-holds c = (omega arith, left-begin _ _ _ _)
 
-mul-least-2 : tie.Need-mul-least-2
-mul-least-2 c = search needs
+item-at-requires : tie.Need-item-at-requires Inv-loop μ-loop
+item-at-requires c κs = omega arith
 
-shared-slice-read-least : tie.Need-shared-slice-read-least
-shared-slice-read-least c = search needs
+is-own-requires : tie.Need-is-own-requires Inv-loop μ-loop
+is-own-requires c κs = row-named (length (c .before .before .before .before .before .before .args .file .now)) (c .before .before .before .before .before .before .args .items .now) (c .before .before .before .before .before .before .args .rows) (c .before .before .loop .i) (c .before .before .before .before .before .before .pre .1) (omega arith) (c .item-at .ensures)
 
-sub-least : tie.Need-sub-least
-sub-least c = search needs
+returns : tie.Need-returns Inv-loop μ-loop
+returns c = row-found _ _ _ _ _ _ (c .before .before .before .before .loop .inv .1) (c .before .before .before .loop-test .taken) (c .before .before .item-at .ensures) (c .before .is-own .ensures) (c .if1 .taken)
 
-least-requires : tie.Need-least-requires
-least-requires c κs = search needs
+add-i : tie.Need-add-i Inv-loop μ-loop
+add-i c = omega arith
 
-add-search : tie.Need-add-search
-add-search c = search needs
+loop-less : tie.Need-loop-less Inv-loop μ-loop
+loop-less c = omega arith
 
-search-requires : tie.Need-search-requires
-search-requires c κs = search needs
+loop-again : tie.Need-loop-again Inv-loop μ-loop
+loop-again c = (omega arith, row-other _ _ _ _ _ _ (c .before .before .before .before .loop .inv .1) (c .before .before .before .loop-test .taken) (c .before .before .item-at .ensures) (c .before .is-own .ensures) (c .if1 .left))
 
-returns : tie.Need-returns
-returns c = look-is _ _ _ _ _ _ _ (omega (arith, c .before .before .before .before .before .before .before .before .pre)) (c .before .before .before .first-row .ensures) (c .before .least .ensures) (c .search .ensures)
+returns-2 : tie.Need-returns-2 Inv-loop μ-loop
+returns-2 c = row-none _ _ _ _ _ _ (c .before .loop .inv .1) (c .loop-test .left)
 
 pub look-spec : {M : Type 1} → statement M
 look-spec =
     tie.close
     (tie.spec
-    first-row-requires
-    mul-least
-    add-least
-    mul-least-2
-    shared-slice-read-least
-    sub-least
-    least-requires
-    add-search
-    search-requires
-    returns)
+    Inv-loop
+    μ-loop
+    loop-holds
+    item-at-requires
+    is-own-requires
+    returns
+    add-i
+    loop-less
+    loop-again
+    returns-2)
