@@ -55,12 +55,12 @@
  *   16  a reference leads outside the file or into the header, or one to a node leads into the tree
  *       where no node starts
  *   17  more than 268,435,455 bytes
- *   18  the row asked for is not there (find, resolve)
+ *   18  the row asked for is not there (find and find own, resolve)
  *   19  resolving ends at a folder
  *   20  resolving ends at a URI
  *   21  a fifth reference would be followed
  *   22  the sheet, or a converted text, is longer than its buffer
- *   23  no such item
+ *   23  no such item: on the node and above it (find), on the node itself (find own)
  *   24  a detached node overlaps another one, or is a folder
  *   26  UTF-16 of odd length or with half of a surrogate pair, or bad UTF-8; the place counts in what
  *       was to be converted
@@ -83,7 +83,7 @@ extern "C" {
 #define XMF_ALL_NODE_WORDS (256 * XMF_NODE_WORDS)
 #define XMF_ALL_ITEM_WORDS (1024 * XMF_ITEM_WORDS)
 
-/* The words of the longest answer, that of xmf_find. */
+/* The words of the longest answer, that of xmf_find and xmf_find_own. */
 #define XMF_ANSWER_WORDS 13
 
 /* The words of a node row. The rows of the tree's nodes come first, in file order. The rows of the
@@ -152,6 +152,16 @@ void xmf_find(const uint8_t *file, size_t file_length,
               size_t row, uint64_t kind, uint64_t number,
               const uint8_t *name, size_t name_length,
               uint64_t *answer, size_t answer_words);
+
+/* Finds the first item of a field on the node of a row itself; no other node is looked at. The
+ * arguments and the answer are those of xmf_find.
+ */
+void xmf_find_own(const uint8_t *file, size_t file_length,
+                  uint64_t *nodes, size_t node_words,
+                  uint64_t *items, size_t item_words,
+                  size_t row, uint64_t kind, uint64_t number,
+                  const uint8_t *name, size_t name_length,
+                  uint64_t *answer, size_t answer_words);
 
 /* Resolves the resource of a row's node, following at most four references.
  *

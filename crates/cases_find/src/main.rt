@@ -1,9 +1,12 @@
-// Runs the cases of `find` that standard input holds, a line each, and writes an answer line for each.
+// Runs the cases of both kinds of find that standard input holds, a line each, and writes an answer line for each.
 ghost use Prim.Native.Nat.{_≤_};
 ghost use lib.ListN.{length};
 use cursor::Item;
 use find::Found;
 use libc::STDIN_FILENO;
+
+// The length of the first word of a case that asks for a node's own item, `findown`; else it is `find`.
+const OWN: usize = 7;
 
 // Asks for a standard field, and lends the first `n` node words and the first `m` item words.
 fn ask_standard(
@@ -14,9 +17,13 @@ fn ask_standard(
     m: usize,
     row: usize,
     number: u64,
+    own: bool,
 ) -> Found
     requires { ⌜ (n ≤ length (now nodes)) × (m ≤ length (now items)) ⌝ }
 {
+    if own {
+        return find::find_own_standard(file, &mut nodes[0..n], &mut items[0..m], row, number);
+    }
     find::find_standard(file, &mut nodes[0..n], &mut items[0..m], row, number)
 }
 
@@ -29,9 +36,13 @@ fn ask_custom(
     m: usize,
     row: usize,
     name: &[u8],
+    own: bool,
 ) -> Found
     requires { ⌜ (n ≤ length (now nodes)) × (m ≤ length (now items)) ⌝ }
 {
+    if own {
+        return find::find_own_custom(file, &mut nodes[0..n], &mut items[0..m], row, name);
+    }
     find::find_custom(file, &mut nodes[0..n], &mut items[0..m], row, name)
 }
 
@@ -74,6 +85,7 @@ fn run_standard(
     items: &mut [u64],
     m: usize,
     row: usize,
+    own: bool,
     out: &mut [u8],
 ) -> bool
     requires { ⌜ (n ≤ length (now nodes)) × (m ≤ length (now items)) ⌝ }
@@ -82,7 +94,7 @@ fn run_standard(
     if !number.right {
         return false;
     }
-    let answer = ask_standard(file, nodes, n, items, m, row, number.value as u64);
+    let answer = ask_standard(file, nodes, n, items, m, row, number.value as u64, own);
     let end = put_answer(out, answer);
     casetext::write_line(out, end);
     true
@@ -97,6 +109,7 @@ fn run_custom(
     items: &mut [u64],
     m: usize,
     row: usize,
+    own: bool,
     out: &mut [u8],
 ) -> bool
     requires { ⌜ (n ≤ length (now nodes)) × (m ≤ length (now items)) ⌝ }
@@ -107,7 +120,7 @@ fn run_custom(
         return false;
     }
     let count = decoded.count;
-    let answer = ask_custom(file, nodes, n, items, m, row, &name[..count]);
+    let answer = ask_custom(file, nodes, n, items, m, row, &name[..count], own);
     let end = put_answer(out, answer);
     casetext::write_line(out, end);
     true
@@ -130,6 +143,7 @@ fn run_case(
         return false;
     }
     let bytes = case.bytes;
+    let own = casetext::field(line, 0).len() == OWN;
     if casetext::is_letter(casetext::field(line, 5), b'S') {
         return run_standard(
             line,
@@ -139,6 +153,7 @@ fn run_case(
             items,
             case.items,
             row.value,
+            own,
             out,
         );
     }
@@ -151,6 +166,7 @@ fn run_case(
             items,
             case.items,
             row.value,
+            own,
             out,
         );
     }

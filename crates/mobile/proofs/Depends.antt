@@ -2,12 +2,12 @@
 -- Assumes nothing.
 use mathlib.Core.Path.{_≡_, refl, ap, ap₂}
 use mathlib.Core.Bool.{Bool, true, false, _&&_}
-use mathlib.Core.List.{List, [], _∷_}
+use mathlib.Core.List.{List, [], _∷_, map}
 use Prim.Native.Nat.{ℕ, zero, suc, _+_, _≤_, _<_}
 use native.Mathlib.Omega.{arith}
 use native.Mathlib.Decide.{decLt}
 use lib.Dec.{ltb, eqb}
-use lib.ListN.{length, getD, take, drop}
+use lib.ListN.{length, getD, drop}
 use borrow.Author.Tests.{le-ltb, eqb-true}
 use Rattle.cursor.specs.Machine.{Out}
 use Rattle.cursor.specs.Rows.{metaFrame}
@@ -15,8 +15,9 @@ use Rattle.cursor.specs.declared.Node.{Node}
 use Rattle.cursor.specs.declared.Item.{Item}
 use Rattle.cursor.proofs.Leaves.{number-same}
 use Rattle.header.specs.Header.{Header}
-use Rattle.tree.specs.Rows.{nodeAt, itemAt}
-use Rattle.mobile.specs.Mobile.{those, keepIf, isField, isBinary, nothing, choose, roleOfNumber, roleOfRow, roleOfRows, roleOf, roles, childRoles, childrenTyped, tuneRow, bankRow, oneTune, tuneNeeds, verdict}
+use Rattle.tree.specs.Rows.{itemAt, if_then_else_}
+use Rattle.find.specs.Own.{Numbered, ownFrom, own}
+use Rattle.mobile.specs.Mobile.{those, keepIf, isField, isBinary, nothing, choose, roleOfNumber, roleOfRow, roleOfRows, roleOf, roles, childRoles, verdictBy, verdict}
 
 -- what holds of each element
 abbrev Each : {A : Type 0} → (A → Type 0) → List A → Type 0
@@ -28,15 +29,17 @@ module _ {A : Type 0} (Q : A → Type 0) where
   each-at d [] h = tt
   each-at d (x ∷ xs) h = (h 0 (omega arith), each-at d xs (λ i l. h (suc i) (omega arith)))
 
-  each-take : (n : ℕ) (xs : List A) → Each Q xs → Each Q (take n xs)
-  each-take zero xs h = tt
-  each-take (suc n) [] h = tt
-  each-take (suc n) (x ∷ xs) h = (h .0, each-take n xs (h .1))
+-- of a node's own rows
+module _ (Q : Item → Type 0) where
+  kept-each : (b : Bool) (x : Numbered) (xs : List Numbered) → Q (x .item) → Each Q (map (λ (y : Numbered). y .item) xs) → Each Q (map (λ (y : Numbered). y .item) (if b then x ∷ xs else xs))
+  unfolding if_then_else_
+  kept-each true x xs q h = (q, h)
+  kept-each false x xs q h = h
 
-  each-drop : (n : ℕ) (xs : List A) → Each Q xs → Each Q (drop n xs)
-  each-drop zero xs h = h
-  each-drop (suc n) [] h = tt
-  each-drop (suc n) (x ∷ xs) h = each-drop n xs (h .1)
+  each-own : (i k : ℕ) (is : List Item) → Each Q is → Each Q (map (λ (y : Numbered). y .item) (ownFrom i k is))
+  unfolding ownFrom
+  each-own i k [] h = tt
+  each-own i k (r ∷ is) h = kept-each (eqb (r .node) k) (record { row = i; item = r }) (ownFrom (i + 1) k is) (h .0) (each-own (i + 1) k is (h .1))
 
 module _ (f g : List ℕ) where
   -- the two files agree from one place up to another
@@ -81,13 +84,13 @@ module _ (f g : List ℕ) where
   those-each [] h = tt
   those-each (r ∷ rs) h = keep-each (isField 3 r) r (those (isField 3) rs) refl (h .0) (those-each rs (h .1))
 
-  roles-same : (ns : List Node) (is : List Item) → Each Typed is → roles f ns is ≡ roles g ns is
-  unfolding roles roleOf
-  roles-same [] is h = refl
-  roles-same (r ∷ ns) is h =
+  roles-same : (is : List Item) → Each Typed is → (k : ℕ) (ns : List Node) → roles f is k ns ≡ roles g is k ns
+  unfolding roles roleOf own
+  roles-same is h k [] = refl
+  roles-same is h k (r ∷ ns) =
       ap₂ (λ (x : ℕ) (xs : List ℕ). x ∷ xs)
-      (rows-same (those (isField 3) (take (r .rows) is)) (those-each (take (r .rows) is) (each-take Typed (r .rows) is h)))
-      (roles-same ns (drop (r .rows) is) (each-drop Typed (r .rows) is h))
+      (rows-same (those (isField 3) (map (λ (x : Numbered). x .item) (ownFrom 0 k is))) (those-each (map (λ (x : Numbered). x .item) (ownFrom 0 k is)) (each-own Typed 0 k is h)))
+      (roles-same is h (k + 1) ns)
 
   -- ---- the verdict
 
@@ -102,8 +105,7 @@ module _ (f g : List ℕ) where
   pub verdict-depends : (h : Header) (ns : List Node) (is : List Item)
       → ((i : ℕ) → i < length is → itemAt is i .kind ≡ 0 → itemAt is i .field ≡ 3 → (k : ℕ) → itemAt is i .place ≤ k → k < itemAt is i .place + itemAt is i .size → getD f k 0 ≡ getD g k 0)
       → verdict f h ns is ≡ verdict g h ns is
-  unfolding verdict childrenTyped oneTune tuneNeeds tuneRow bankRow childRoles
+  unfolding verdict childRoles
   verdict-depends h ns is a =
       let t : Each Typed is = each-at Typed _ is (λ i l. typed (itemAt is i) (a i l)) in
-      let e : roles f (drop 1 ns) (drop (nodeAt ns 0 .rows) is) ≡ roles g (drop 1 ns) (drop (nodeAt ns 0 .rows) is) = roles-same (drop 1 ns) (drop (nodeAt ns 0 .rows) is) (each-drop Typed (nodeAt ns 0 .rows) is t) in
-      simp e
+      ap (λ (rs : List ℕ). verdictBy rs h ns is) (roles-same is t 1 (drop 1 ns))

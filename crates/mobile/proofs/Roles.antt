@@ -17,8 +17,8 @@ use Rattle.cursor.specs.declared.Node.{Node}
 use Rattle.cursor.specs.declared.Item.{Item}
 use Rattle.tree.specs.Rows.{itemFrom, nodesIn, itemsIn, nodeAt, itemAt, noNode}
 use Rattle.tree.proofs.Rows.{node-at, item-at, nodes-in-length, items-in-length}
-use Rattle.mobile.specs.Mobile.{isBinary, nothing, choose, roleOfType, roleOfNumber, roleOfRow, roleOfRows, roleOf, roles, childRoles, count, rowOf}
-use Rattle.mobile.specs.Told.{DataIn, part, NextRow}
+use Rattle.mobile.specs.Mobile.{isBinary, nothing, choose, roleOfType, roleOfNumber, roleOfRow, roleOfRows, roleOf, count, rowOf}
+use Rattle.mobile.specs.Told.{DataIn, part, NextRow, walked, childrenWalked}
 use Rattle.mobile.proofs.Lists.{drop-next}
 
 -- ---- where a node's own item rows end
@@ -126,23 +126,23 @@ module _ (is : List Item) (at k e m : ℕ) (n : length is ≡ m) (h : at ≤ m) 
 module _ (f ws vs : List ℕ) (n m : ℕ) where
   -- the roles that are left at row i, where the item rows from `at` on are left
   abbrev pub left : ℕ → ℕ → List ℕ
-  left i at = roles f (drop i (nodesIn n ws)) (drop at (itemsIn m vs))
+  left i at = walked f (drop i (nodesIn n ws)) (drop at (itemsIn m vs))
 
-  pub walk-start : (e : ℕ) → e ≡ min (0 + nodeAt (nodesIn n ws) 0 .rows) m → childRoles f (nodesIn n ws) (itemsIn m vs) ≡ left 1 e
-  unfolding childRoles
-  walk-start e q = ap (roles f (drop 1 (nodesIn n ws))) (own-drop (itemsIn m vs) 0 (nodeAt (nodesIn n ws) 0 .rows) e m (items-in-length vs m) (omega arith) q)
+  pub walk-start : (e : ℕ) → e ≡ min (0 + nodeAt (nodesIn n ws) 0 .rows) m → childrenWalked f (nodesIn n ws) (itemsIn m vs) ≡ left 1 e
+  unfolding childrenWalked
+  walk-start e q = ap (walked f (drop 1 (nodesIn n ws))) (own-drop (itemsIn m vs) 0 (nodeAt (nodesIn n ws) 0 .rows) e m (items-in-length vs m) (omega arith) q)
 
   pub walk-end : (i at : ℕ) → n ≤ i → left i at ≡ []
-  unfolding roles
-  walk-end i at l = ap (λ v. roles f v (drop at (itemsIn m vs))) (drop-of-length-le (nodesIn n ws) {i = i} (omega (arith, nodes-in-length ws n)))
+  unfolding walked
+  walk-end i at l = ap (λ v. walked f v (drop at (itemsIn m vs))) (drop-of-length-le (nodesIn n ws) {i = i} (omega (arith, nodes-in-length ws n)))
 
   module _ (at i e : ℕ) (l : i < n) (h : at ≤ m) (q : e ≡ min (at + nodeAt (nodesIn n ws) i .rows) m) {r : ℕ} (g : r ≡ roleOf f (part (itemsIn m vs) at e)) where
     walk-next : left i at ≡ r ∷ left (i + 1) e
-    unfolding roles
+    unfolding walked
     walk-next =
         let k = nodeAt (nodesIn n ws) i .rows in
-        ap (λ v. roles f v (drop at (itemsIn m vs))) (drop-next (nodesIn n ws) i noNode (omega (arith, nodes-in-length ws n)))
-        ∙ ap₂ (λ (x : List Item) (y : List Item). roleOf f x ∷ roles f (drop (i + 1) (nodesIn n ws)) y) (own-take (itemsIn m vs) at k e m (items-in-length vs m) h q) (own-drop (itemsIn m vs) at k e m (items-in-length vs m) h q)
+        ap (λ v. walked f v (drop at (itemsIn m vs))) (drop-next (nodesIn n ws) i noNode (omega (arith, nodes-in-length ws n)))
+        ∙ ap₂ (λ (x : List Item) (y : List Item). roleOf f x ∷ walked f (drop (i + 1) (nodesIn n ws)) y) (own-take (itemsIn m vs) at k e m (items-in-length vs m) h q) (own-drop (itemsIn m vs) at k e m (items-in-length vs m) h q)
         ∙ ap (λ x. x ∷ left (i + 1) e) (sym g)
 
     module _ (role whole : ℕ) where
@@ -176,8 +176,8 @@ module _ (f ws vs : List ℕ) (n m : ℕ) where
     row-end w = sym (w ∙ ap (rowOf role i) (walk-end i at l))
 
   module _ (role e : ℕ) (q : e ≡ min (0 + nodeAt (nodesIn n ws) 0 .rows) m) where
-    pub count-start : count role (childRoles f (nodesIn n ws) (itemsIn m vs)) ≡ 0 + count role (left 1 e)
-    count-start = let z : count role (childRoles f (nodesIn n ws) (itemsIn m vs)) ≡ count role (left 1 e) = ap (count role) (walk-start e q) in omega arith
+    pub count-start : count role (childrenWalked f (nodesIn n ws) (itemsIn m vs)) ≡ 0 + count role (left 1 e)
+    count-start = let z : count role (childrenWalked f (nodesIn n ws) (itemsIn m vs)) ≡ count role (left 1 e) = ap (count role) (walk-start e q) in omega arith
 
-    pub row-start : rowOf role 1 (childRoles f (nodesIn n ws) (itemsIn m vs)) ≡ rowOf role 1 (left 1 e)
+    pub row-start : rowOf role 1 (childrenWalked f (nodesIn n ws) (itemsIn m vs)) ≡ rowOf role 1 (left 1 e)
     row-start = ap (rowOf role 1) (walk-start e q)

@@ -1,10 +1,10 @@
 -- The Mobile verdict (01, Questions): eight checks in order, the number of the first that fails, 0 if none.
--- A node's own item rows are the next of the table, as many as its row counts: item rows stand in node order. Assumes nothing.
+-- A node's own item rows are those of find/specs/Own.antt. Assumes nothing.
 use mathlib.Core.Bool.{Bool, true, false, not, _&&_, _||_}
-use mathlib.Core.List.{List, [], _∷_}
+use mathlib.Core.List.{List, [], _∷_, map}
 use Prim.Native.Nat.{ℕ, suc, _+_}
 use lib.Dec.{ltb, leb, eqb}
-use lib.ListN.{getD, take, drop}
+use lib.ListN.{getD, drop}
 use Rattle.cursor.specs.Machine.{Out, ok, refused, run}
 use Rattle.cursor.specs.Rows.{metaFrame}
 use Rattle.cursor.specs.Refusals.{cutShort}
@@ -14,6 +14,7 @@ use Rattle.cursor.specs.declared.Item.{Item}
 use Rattle.header.specs.Header.{Header}
 use Rattle.tree.specs.Rows.{nodeAt}
 use Rattle.tree.specs.Asking.{Result, good}
+use Rattle.find.specs.Own.{Numbered, own}
 
 -- every one is as p says
 unfoldable pub all : {A : Type 0} → (A → Bool) → List A → Bool
@@ -82,14 +83,14 @@ roleOfRows f (r ∷ s ∷ rs) = nothing
 unfoldable pub roleOf : List ℕ → List Item → ℕ
 roleOf f own = roleOfRows f (those (isField 3) own)
 
--- of each node in turn, whose own item rows are the next ones
-unfoldable pub roles : List ℕ → List Node → List Item → List ℕ
-roles f [] is = []
-roles f (r ∷ ns) is = roleOf f (take (r .rows) is) ∷ roles f ns (drop (r .rows) is)
+-- of each node in turn, the first of which is row k
+unfoldable pub roles : List ℕ → List Item → (k : ℕ) → List Node → List ℕ
+roles f is k [] = []
+roles f is k (r ∷ ns) = roleOf f (map (λ (x : Numbered). x .item) (own is k)) ∷ roles f is (k + 1) ns
 
--- of each child: the root's own item rows come first
+-- of each child: of all nodes but the root
 unfoldable pub childRoles : List ℕ → List Node → List Item → List ℕ
-childRoles f ns is = roles f (drop 1 ns) (drop (nodeAt ns 0 .rows) is)
+childRoles f ns is = roles f is 1 (drop 1 ns)
 
 -- how many have the role
 unfoldable pub count : ℕ → List ℕ → ℕ
@@ -101,7 +102,7 @@ unfoldable pub rowOf : ℕ → ℕ → List ℕ → ℕ
 rowOf role i [] = i
 rowOf role i (x ∷ xs) = choose (eqb x role) i (rowOf role (i + 1) xs)
 
--- ---- the checks
+-- ---- the checks; rs are the children's roles
 
 -- 1: version 2.00, type 2, revision 1
 unfoldable pub rightEdition : Header → Bool
@@ -129,26 +130,26 @@ unfoldable pub noUnpackers : List Node → Bool
 noUnpackers ns = all isUnpacked ns
 
 -- 5: each child has one own field 3, with type 0, 1 or 5
-unfoldable pub childrenTyped : List ℕ → List Node → List Item → Bool
-childrenTyped f ns is = eqb (count nothing (childRoles f ns is)) 0
+unfoldable pub childrenTyped : (rs : List ℕ) → Bool
+childrenTyped rs = eqb (count nothing rs) 0
 
 -- 6: one tune, at most one bank, and that one earlier
-unfoldable pub tuneRow : List ℕ → List Node → List Item → ℕ
-tuneRow f ns is = rowOf tune 1 (childRoles f ns is)
+unfoldable pub tuneRow : (rs : List ℕ) → ℕ
+tuneRow rs = rowOf tune 1 rs
 
-unfoldable pub bankRow : List ℕ → List Node → List Item → ℕ
-bankRow f ns is = rowOf bank 1 (childRoles f ns is)
+unfoldable pub bankRow : (rs : List ℕ) → ℕ
+bankRow rs = rowOf bank 1 rs
 
-unfoldable pub oneTune : List ℕ → List Node → List Item → Bool
-oneTune f ns is =
-    eqb (count tune (childRoles f ns is)) 1 && (eqb (count bank (childRoles f ns is)) 0 || (eqb (count bank (childRoles f ns is)) 1 && ltb (bankRow f ns is) (tuneRow f ns is)))
+unfoldable pub oneTune : (rs : List ℕ) → Bool
+oneTune rs =
+    eqb (count tune rs) 1 && (eqb (count bank rs) 0 || (eqb (count bank rs) 1 && ltb (bankRow rs) (tuneRow rs)))
 
 -- 7: field 13 on the tune only, at least one, universal, format 6 or 7
 unfoldable pub isNeed : ℕ → Item → Bool
 isNeed row r = not (isField 13 r) || (eqb (r .node) row && isBinary r)
 
-unfoldable pub tuneNeeds : List ℕ → List Node → List Item → Bool
-tuneNeeds f ns is = not (isEmpty (those (isField 13) is)) && all (isNeed (tuneRow f ns is)) is
+unfoldable pub tuneNeeds : (rs : List ℕ) → List Item → Bool
+tuneNeeds rs is = not (isEmpty (those (isField 13) is)) && all (isNeed (tuneRow rs)) is
 
 -- 8: header lengths up to 65,535 (metadata and universal lengths are parts of a header), field number and name length up to 256
 unfoldable pub isShort : Node → Bool
@@ -170,16 +171,19 @@ unfoldable pub check : ℕ → Bool → ℕ → ℕ
 check n true later = later
 check n false later = n
 
-unfoldable pub verdict : List ℕ → Header → List Node → List Item → ℕ
-verdict f h ns is =
+unfoldable pub verdictBy : (rs : List ℕ) → Header → List Node → List Item → ℕ
+verdictBy rs h ns is =
     check 1 (rightEdition h)
     (check 2 (filesOnly ns)
     (check 3 (plainReferences ns)
     (check 4 (noUnpackers ns)
-    (check 5 (childrenTyped f ns is)
-    (check 6 (oneTune f ns is)
-    (check 7 (tuneNeeds f ns is)
+    (check 5 (childrenTyped rs)
+    (check 6 (oneTune rs)
+    (check 7 (tuneNeeds rs is)
     (check 8 (smallFields ns is) 0)))))))
+
+unfoldable pub verdict : List ℕ → Header → List Node → List Item → ℕ
+verdict f h ns is = verdictBy (childRoles f ns is) h ns is
 
 -- the question, which refuses nothing of its own
 unfoldable pub mobile : List ℕ → Header → List Node → List Item → Result ℕ

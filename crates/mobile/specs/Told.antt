@@ -4,10 +4,11 @@ use mathlib.Core.Path.{_≡_}
 use mathlib.Core.List.{List, [], _∷_}
 use Prim.Native.Nat.{ℕ, _+_, _-_, _≤_, _<_}
 use lib.ListN.{length, take, drop}
+use Rattle.cursor.specs.declared.Node.{Node}
 use Rattle.cursor.specs.declared.Item.{Item}
-use Rattle.tree.specs.Rows.{itemAt}
+use Rattle.tree.specs.Rows.{nodeAt, itemAt}
 use Rattle.tree.specs.Asking.{Result, good, bad}
-use Rattle.mobile.specs.Mobile.{isField, those}
+use Rattle.mobile.specs.Mobile.{isField, those, roleOf}
 use Rattle.mobile.specs.declared.Judged.{Judged}
 use Rattle.mobile.specs.declared.Judged.the-variants as judged
 
@@ -38,3 +39,12 @@ pub record NextRow (field : ℕ) (is : List Item) (from end r : ℕ) : Type 0 wh
   pub high : r ≤ end
   pub here : r < end → those (isField field) (part is from end) ≡ itemAt is r ∷ those (isField field) (part is (r + 1) end)
   pub none : end ≤ r → those (isField field) (part is from end) ≡ []
+
+-- The roles as the code finds them, where item rows stand in node order: each node's own rows are the next ones, as many as its row counts.
+unfoldable pub walked : List ℕ → List Node → List Item → List ℕ
+walked f [] is = []
+walked f (r ∷ ns) is = roleOf f (take (r .rows) is) ∷ walked f ns (drop (r .rows) is)
+
+-- of each child: the root's own rows come first
+unfoldable pub childrenWalked : List ℕ → List Node → List Item → List ℕ
+childrenWalked f ns is = walked f (drop 1 ns) (drop (nodeAt ns 0 .rows) is)

@@ -9,8 +9,8 @@ ghost use Rattle.metadata.specs.Tables.{limits};
 ghost use Rattle.tree.specs.Reading.{readFile, summary};
 ghost use Rattle.tree.specs.Rows.{itemFrom, nodesIn, itemsIn, nodeAt, itemAt};
 ghost use Rattle.tree.specs.Asking.{ask, keptNodes, keptItems};
-ghost use Rattle.mobile.specs.Mobile.{all, isField, isBinary, roleOfType, roleOfRow, roleOf, childRoles, count, rowOf, filesOnly, plainReferences, noUnpackers, childrenTyped, oneTune, isNeed, tuneNeeds, isShort, fieldSize, isSmall, smallFields, verdict, mobile};
-ghost use Rattle.mobile.specs.Told.{told, DataIn, part, NextRow};
+ghost use Rattle.mobile.specs.Mobile.{all, isField, isBinary, roleOfType, roleOfRow, roleOf, count, rowOf, filesOnly, plainReferences, noUnpackers, childrenTyped, oneTune, isNeed, tuneNeeds, isShort, fieldSize, isSmall, smallFields, verdictBy, mobile};
+ghost use Rattle.mobile.specs.Told.{told, DataIn, part, NextRow, childrenWalked};
 use cursor::Cursor;
 use cursor::FilePlace;
 use cursor::Numbered;
@@ -226,7 +226,7 @@ fn role_of(file: &[u8], items: &[u64], many: usize, at: usize, end: usize) -> u6
 // How many children are this; n node rows and m item rows.
 fn count_of(file: &[u8], nodes: &[u64], items: &[u64], n: usize, m: usize, role: u64) -> usize
     requires { ⌜ (n * 13 ≤ length (now nodes)) × (m * 10 ≤ length (now items)) × DataIn (length (now file)) (itemsIn m (now items)) ⌝ }
-    ensures { λ r. ⌜ r ≡ count role (childRoles (now (file .entry)) (nodesIn n (now (nodes .entry))) (itemsIn m (now (items .entry)))) ⌝ }
+    ensures { λ r. ⌜ r ≡ count role (childrenWalked (now (file .entry)) (nodesIn n (now (nodes .entry))) (itemsIn m (now (items .entry)))) ⌝ }
 {
     let mut found: usize = 0;
     let mut at = own_end(nodes, n, 0, 0, m);
@@ -245,7 +245,7 @@ fn count_of(file: &[u8], nodes: &[u64], items: &[u64], n: usize, m: usize, role:
 // The row of the first child that is this; n node rows and m item rows.
 fn row_of(file: &[u8], nodes: &[u64], items: &[u64], n: usize, m: usize, role: u64) -> usize
     requires { ⌜ (n * 13 ≤ length (now nodes)) × (m * 10 ≤ length (now items)) × DataIn (length (now file)) (itemsIn m (now items)) ⌝ }
-    ensures { λ r. ⌜ r ≡ rowOf role 1 (childRoles (now (file .entry)) (nodesIn n (now (nodes .entry))) (itemsIn m (now (items .entry)))) ⌝ }
+    ensures { λ r. ⌜ r ≡ rowOf role 1 (childrenWalked (now (file .entry)) (nodesIn n (now (nodes .entry))) (itemsIn m (now (items .entry)))) ⌝ }
 {
     let mut at = own_end(nodes, n, 0, 0, m);
     let mut i = 1;
@@ -263,7 +263,7 @@ fn row_of(file: &[u8], nodes: &[u64], items: &[u64], n: usize, m: usize, role: u
 // Whether each child has one type of its own, 0, 1 or 5.
 fn children_typed(file: &[u8], nodes: &[u64], items: &[u64], n: usize, m: usize) -> bool
     requires { ⌜ (n * 13 ≤ length (now nodes)) × (m * 10 ≤ length (now items)) × DataIn (length (now file)) (itemsIn m (now items)) ⌝ }
-    ensures { λ r. ⌜ r ≡ childrenTyped (now (file .entry)) (nodesIn n (now (nodes .entry))) (itemsIn m (now (items .entry))) ⌝ }
+    ensures { λ r. ⌜ r ≡ childrenTyped (childrenWalked (now (file .entry)) (nodesIn n (now (nodes .entry))) (itemsIn m (now (items .entry)))) ⌝ }
 {
     count_of(file, nodes, items, n, m, NOTHING) == 0
 }
@@ -271,7 +271,7 @@ fn children_typed(file: &[u8], nodes: &[u64], items: &[u64], n: usize, m: usize)
 // Whether there is one tune, and at most one bank, which is earlier.
 fn one_tune(file: &[u8], nodes: &[u64], items: &[u64], n: usize, m: usize) -> bool
     requires { ⌜ (n * 13 ≤ length (now nodes)) × (m * 10 ≤ length (now items)) × DataIn (length (now file)) (itemsIn m (now items)) ⌝ }
-    ensures { λ r. ⌜ r ≡ oneTune (now (file .entry)) (nodesIn n (now (nodes .entry))) (itemsIn m (now (items .entry))) ⌝ }
+    ensures { λ r. ⌜ r ≡ oneTune (childrenWalked (now (file .entry)) (nodesIn n (now (nodes .entry))) (itemsIn m (now (items .entry)))) ⌝ }
 {
     let tunes = count_of(file, nodes, items, n, m, TUNE);
     if tunes != 1 {
@@ -321,7 +321,7 @@ fn all_needs(items: &[u64], many: usize, row: u64) -> bool
 // Whether field 13 is on the tune, and there only.
 fn tune_needs(file: &[u8], nodes: &[u64], items: &[u64], n: usize, m: usize) -> bool
     requires { ⌜ (n * 13 ≤ length (now nodes)) × (m * 10 ≤ length (now items)) × DataIn (length (now file)) (itemsIn m (now items)) ⌝ }
-    ensures { λ r. ⌜ r ≡ tuneNeeds (now (file .entry)) (nodesIn n (now (nodes .entry))) (itemsIn m (now (items .entry))) ⌝ }
+    ensures { λ r. ⌜ r ≡ tuneNeeds (childrenWalked (now (file .entry)) (nodesIn n (now (nodes .entry))) (itemsIn m (now (items .entry)))) (itemsIn m (now (items .entry))) ⌝ }
 {
     let first = next_row(items, m, 13, 0, m);
     if m <= first {
@@ -386,7 +386,7 @@ fn small_fields(nodes: &[u64], items: &[u64], n: usize, m: usize) -> bool
 // The number of the first check that fails, 0 if none.
 fn verdict(file: &[u8], nodes: &[u64], items: &[u64], s: Summary) -> u64
     requires { ⌜ (s .nodes * 13 ≤ length (now nodes)) × (s .items * 10 ≤ length (now items)) × DataIn (length (now file)) (itemsIn (s .items) (now items)) ⌝ }
-    ensures { λ r. ⌜ ((h : Header) → s ≡ summary h (nodesIn (s .nodes) (now (nodes .entry))) (itemsIn (s .items) (now (items .entry))) → r ≡ verdict (now (file .entry)) h (nodesIn (s .nodes) (now (nodes .entry))) (itemsIn (s .items) (now (items .entry)))) ⌝ }
+    ensures { λ r. ⌜ ((h : Header) → s ≡ summary h (nodesIn (s .nodes) (now (nodes .entry))) (itemsIn (s .items) (now (items .entry))) → r ≡ verdictBy (childrenWalked (now (file .entry)) (nodesIn (s .nodes) (now (nodes .entry))) (itemsIn (s .items) (now (items .entry)))) h (nodesIn (s .nodes) (now (nodes .entry))) (itemsIn (s .items) (now (items .entry)))) ⌝ }
 {
     let edition = s.edition;
     if !right_edition(s.version, edition.kind, edition.revision) {

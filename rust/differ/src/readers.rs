@@ -12,8 +12,10 @@ pub type Answer = [u64; xmf::ANSWER_WORDS];
 pub enum Question {
     /// Read the tree.
     Tree,
-    /// Find a metadata item.
+    /// Find the nearest metadata item.
     Find,
+    /// Find a node's own metadata item.
+    FindOwn,
     /// Resolve a resource.
     Resolve,
     /// Judge Mobile XMF.
@@ -23,9 +25,10 @@ pub enum Question {
 }
 
 /// All questions.
-pub const QUESTIONS: [Question; 5] = [
+pub const QUESTIONS: [Question; 6] = [
     Question::Tree,
     Question::Find,
+    Question::FindOwn,
     Question::Resolve,
     Question::Judge,
     Question::Sheet,
@@ -60,11 +63,10 @@ pub fn ask_proved(question: Question, about: Subject, lent: Lent) -> Answer {
     let answer = match question {
         Question::Tree => xmf::read_tree(file, nodes, items)
             .map(|tree| words(&[tree.version, tree.nodes as u64, tree.items as u64])),
-        Question::Find => xmf::find(file, nodes, items, row, xmf_field(about.field)).map(|found| {
-            let mut answer = words(&[found.row as u64]);
-            answer[3..].copy_from_slice(&found.words);
-            answer
-        }),
+        Question::Find => xmf::find(file, nodes, items, row, xmf_field(about.field))
+            .map(|found| item_words(found.row as u64, found.words)),
+        Question::FindOwn => xmf::find_own(file, nodes, items, row, xmf_field(about.field))
+            .map(|found| item_words(found.row as u64, found.words)),
         Question::Resolve => xmf::resolve(file, nodes, items, row).map(|found| {
             words(&[
                 found.place as u64,
@@ -95,6 +97,9 @@ pub fn ask_words(question: Question, about: Subject, lent: Lent, answer: &mut [u
     match question {
         Question::Tree => xmf::words::read_tree(file, nodes, items, answer),
         Question::Find => xmf::words::find(file, nodes, items, row, xmf_field(field), answer),
+        Question::FindOwn => {
+            xmf::words::find_own(file, nodes, items, row, xmf_field(field), answer)
+        }
         Question::Resolve => xmf::words::resolve(file, nodes, items, row, answer),
         Question::Judge => xmf::words::judge(file, nodes, items, answer),
         Question::Sheet => xmf::words::write_sheet(file, nodes, items, lent.sheet, answer),
@@ -112,11 +117,10 @@ pub fn ask_plain(question: Question, about: Subject, lent: Lent) -> Answer {
     let answer = match question {
         Question::Tree => plain::read_tree(file, nodes, items)
             .map(|tree| words(&[tree.version, tree.nodes, tree.items])),
-        Question::Find => plain::find(file, nodes, items, row, field).map(|found| {
-            let mut answer = words(&[found.row]);
-            answer[3..].copy_from_slice(&found.words);
-            answer
-        }),
+        Question::Find => plain::find(file, nodes, items, row, field)
+            .map(|found| item_words(found.row, found.words)),
+        Question::FindOwn => plain::find_own(file, nodes, items, row, field)
+            .map(|found| item_words(found.row, found.words)),
         Question::Resolve => plain::resolve(file, nodes, items, row)
             .map(|found| words(&[found.place, found.length, found.row, found.hops])),
         Question::Judge => plain::judge(file, nodes, items).map(|verdict| words(&[verdict])),
@@ -138,6 +142,13 @@ fn xmf_field(field: &Field) -> xmf::Field<'_> {
 fn words(values: &[u64]) -> Answer {
     let mut answer = [0; xmf::ANSWER_WORDS];
     answer[2..][..values.len()].copy_from_slice(values);
+    answer
+}
+
+/// The words of an answer with an item row.
+fn item_words(row: u64, item: [u64; xmf::item::WORDS]) -> Answer {
+    let mut answer = words(&[row]);
+    answer[3..].copy_from_slice(&item);
     answer
 }
 

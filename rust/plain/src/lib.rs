@@ -1,7 +1,7 @@
 //! A reader of XMF files of versions 1.00, 1.01 and 2.00, written from the papers alone.
 //!
 //! It answers five questions about a file's bytes: read the tree ([`read_tree`]), find a metadata
-//! item ([`find`]), resolve a resource ([`resolve`], with [`resource`] for its bytes), judge Mobile
+//! item ([`find`], or [`find_own`] on the node itself), resolve a resource ([`resolve`], with [`resource`] for its bytes), judge Mobile
 //! XMF ([`judge`]) and write the support sheet ([`write_sheet`]). And it converts texts from UTF-16
 //! into UTF-8 ([`utf16_to_utf8`]) and back ([`utf8_to_utf16`]).
 //!
@@ -193,6 +193,21 @@ pub fn find(
 ) -> Result<Found, Refusal> {
     ask(file, nodes, items, |rows, _| {
         questions::find(rows, row, field)
+    })
+}
+
+/// Finds the first item of a field on the node of a row itself.
+///
+/// Refused with 18 when there is no such row, with 23 when the node has no such item.
+pub fn find_own(
+    file: &[u8],
+    nodes: &mut [u64],
+    items: &mut [u64],
+    row: u64,
+    field: Field,
+) -> Result<Found, Refusal> {
+    ask(file, nodes, items, |rows, _| {
+        questions::find_own(rows, row, field)
     })
 }
 

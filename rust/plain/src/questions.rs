@@ -15,23 +15,33 @@ const CONTENT_DESCRIPTION: u64 = 13;
 pub fn find(rows: &Rows, row: u64, field: Field) -> Result<Found, Refusal> {
     let mut row = existing(rows, row)?;
     loop {
-        let count = rows.nodes[row][node::ITEMS] as usize;
-        let first = rows
-            .items
-            .partition_point(|words| words[item::NODE] < row as u64);
-        let own = &rows.items[first..first + count];
-        if let Some(index) = own.iter().position(|words| rows.is_of(words, field)) {
-            return Ok(Found {
-                row: (first + index) as u64,
-                words: own[index],
-            });
-        }
+        let found = own(rows, row, field);
         let parent = rows.nodes[row][node::PARENT] as usize;
-        if parent == row {
-            return Err(Refusal::at(23, 0));
+        if found.is_ok() || parent == row {
+            return found;
         }
         row = parent;
     }
+}
+
+/// Finds an item of a field on the node of a row.
+pub fn find_own(rows: &Rows, row: u64, field: Field) -> Result<Found, Refusal> {
+    own(rows, existing(rows, row)?, field)
+}
+
+/// The first item of a field among the rows of a node.
+fn own(rows: &Rows, row: usize, field: Field) -> Result<Found, Refusal> {
+    let count = rows.nodes[row][node::ITEMS] as usize;
+    let first = rows
+        .items
+        .partition_point(|words| words[item::NODE] < row as u64);
+    let own = &rows.items[first..first + count];
+    let index = own.iter().position(|words| rows.is_of(words, field));
+    let index = index.ok_or(Refusal::at(23, 0))?;
+    Ok(Found {
+        row: (first + index) as u64,
+        words: own[index],
+    })
 }
 
 /// Resolves the resource of a row's node.

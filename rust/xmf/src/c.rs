@@ -18,9 +18,27 @@ extern "C" {
         answer_words: usize,
     );
 
-    /// Finds an item: of the standard number (kind 0), or of the custom name (any other kind).
+    /// Finds the nearest item: of the standard number (kind 0), or of the custom name (any other kind).
     /// Answer: item row, its ten words.
     pub fn xmf_find(
+        file: *const u8,
+        file_length: usize,
+        nodes: *mut u64,
+        node_words: usize,
+        items: *mut u64,
+        item_words: usize,
+        row: usize,
+        kind: u64,
+        number: u64,
+        name: *const u8,
+        name_length: usize,
+        answer: *mut u64,
+        answer_words: usize,
+    );
+
+    /// Finds a node's own item: of the standard number (kind 0), or of the custom name (any other kind).
+    /// Answer: item row, its ten words.
+    pub fn xmf_find_own(
         file: *const u8,
         file_length: usize,
         nodes: *mut u64,

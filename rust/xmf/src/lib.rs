@@ -3,7 +3,7 @@
 //! | Question | Function |
 //! |---|---|
 //! | read the tree | [`read_tree`] |
-//! | find a metadata item | [`find`] |
+//! | find the nearest metadata item, or a node's own | [`find`], [`find_own`] |
 //! | resolve a resource | [`resolve`], and [`resource`] for its bytes |
 //! | judge Mobile XMF | [`judge`] |
 //! | write the support sheet | [`write_sheet`] |
@@ -41,7 +41,7 @@ pub mod words;
 pub const ALL_NODE_WORDS: usize = 256 * node::WORDS;
 /// The words of a table with as many item rows as there may be.
 pub const ALL_ITEM_WORDS: usize = 1024 * item::WORDS;
-/// The words of the longest answer, that of find.
+/// The words of the longest answer, that of [`find`] and [`find_own`].
 pub const ANSWER_WORDS: usize = 3 + item::WORDS;
 
 /// The columns of a node row.
@@ -232,6 +232,26 @@ pub fn find(
 ) -> Result<Found, Refusal> {
     let mut answer = [0; ANSWER_WORDS];
     words::find(file, nodes, items, row, field, &mut answer);
+    found(answer)
+}
+
+/// Finds the first item of a field on the node of a row itself. Hidden items are found too.
+///
+/// Refused with 18 when there is no such row, with 23 when the node has no such item.
+pub fn find_own(
+    file: &[u8],
+    nodes: &mut [u64],
+    items: &mut [u64],
+    row: usize,
+    field: Field,
+) -> Result<Found, Refusal> {
+    let mut answer = [0; ANSWER_WORDS];
+    words::find_own(file, nodes, items, row, field, &mut answer);
+    found(answer)
+}
+
+/// The item row in the words of an answer.
+fn found(answer: [u64; ANSWER_WORDS]) -> Result<Found, Refusal> {
     let [row, words @ ..] = values::<ANSWER_WORDS, { 1 + item::WORDS }>(answer)?;
     Ok(Found {
         row: row as usize,

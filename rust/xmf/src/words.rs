@@ -33,7 +33,7 @@ pub fn read_tree(file: &[u8], nodes: &mut [u64], items: &mut [u64], answer: &mut
     ask!(xmf_read_tree(file, nodes, items, [], answer))
 }
 
-/// Finds an item of a field. Values: item row, its ten words.
+/// Finds the nearest item of a field. Values: item row, its ten words.
 pub fn find(
     file: &[u8],
     nodes: &mut [u64],
@@ -42,10 +42,7 @@ pub fn find(
     field: Field,
     answer: &mut [u64],
 ) {
-    let (kind, number, name) = match field {
-        Field::Standard(number) => (item::STANDARD, number, &[][..]),
-        Field::Custom(name) => (item::CUSTOM, 0, name),
-    };
+    let (kind, number, name) = asked(field);
     let (name, length) = (name.as_ptr(), name.len());
     ask!(xmf_find(
         file,
@@ -54,6 +51,34 @@ pub fn find(
         [row, kind, number, name, length],
         answer
     ))
+}
+
+/// Finds a node's own item of a field. Values: item row, its ten words.
+pub fn find_own(
+    file: &[u8],
+    nodes: &mut [u64],
+    items: &mut [u64],
+    row: usize,
+    field: Field,
+    answer: &mut [u64],
+) {
+    let (kind, number, name) = asked(field);
+    let (name, length) = (name.as_ptr(), name.len());
+    ask!(xmf_find_own(
+        file,
+        nodes,
+        items,
+        [row, kind, number, name, length],
+        answer
+    ))
+}
+
+/// A field as kind, number and name.
+fn asked(field: Field) -> (u64, u64, &[u8]) {
+    match field {
+        Field::Standard(number) => (item::STANDARD, number, &[]),
+        Field::Custom(name) => (item::CUSTOM, 0, name),
+    }
 }
 
 /// Resolves a resource. Values: place, length, row, references followed.

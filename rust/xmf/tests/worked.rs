@@ -81,6 +81,28 @@ fn detached_nodes_have_rows() {
     assert_eq!(found, refusal(23, 0));
 }
 
+/// A root with the standard field 9, and a child with none.
+const FAMILY: &[u8] = b"XMF_1.00\x21\x01\x00\x0d\x20\x14\x01\x0c\x07\x00\x09\x00\x03\x00Hi\x00\x01\x07\x00\x05\x00\x00\x01\xaa";
+
+#[test]
+fn two_kinds_of_find() {
+    let (mut nodes, mut items) = tables();
+    let nine = Field::Standard(9);
+    let own = xmf::find_own(FAMILY, &mut nodes, &mut items, 0, nine).unwrap();
+    let near = xmf::find(FAMILY, &mut nodes, &mut items, 1, nine).unwrap();
+    assert_eq!((own.row, own.words), (near.row, near.words));
+    assert_eq!(own.words[item::NODE], 0);
+    let found = xmf::find_own(FAMILY, &mut nodes, &mut items, 1, nine);
+    assert_eq!(found, refusal(23, 0));
+    assert!(nodes.iter().chain(&items).all(|&word| word == 0));
+    let found = xmf::find_own(FAMILY, &mut nodes, &mut items, 2, nine);
+    assert_eq!(found, refusal(18, 0));
+    // Hidden items are found too.
+    let hidden = Field::Custom(b"t");
+    let found = xmf::find_own(WORKED, &mut nodes, &mut items, 1, hidden).unwrap();
+    assert_eq!((found.row, found.words[item::FORMAT]), (1, 7));
+}
+
 #[test]
 fn refusals_clear_what_is_lent() {
     let (mut nodes, mut items) = tables();

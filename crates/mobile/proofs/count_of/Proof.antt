@@ -5,7 +5,8 @@ use mathlib.Core.Logic.{⊎-elim}
 use Prim.Native.Nat.{_+_, _-_, _≤_, _<_}
 use lib.ListN.{drop}
 use Rattle.tree.specs.Rows.{nodesIn, itemsIn}
-use Rattle.mobile.specs.Mobile.{roles, childRoles, count}
+use Rattle.mobile.specs.Mobile.{count}
+use Rattle.mobile.specs.Told.{walked, childrenWalked}
 use Rattle.mobile.proofs.Roles.{count-start, count-hit, count-miss, count-end}
 use native.Mathlib.Omega.{arith}
 use borrow.Author.Needs.{needs}
@@ -13,7 +14,7 @@ use Rattle.mobile.proofs.count_of.Statement.{statement}
 use Rattle.mobile.proofs.count_of.Tie as tie
 
 abbrev Inv-loop : tie.InvT-loop
-Inv-loop file nodes items n m role found₀ at₀ i₀ found at i = (at ≤ m) × (1 ≤ i) × (found < i) × (count role (childRoles file (nodesIn n nodes) (itemsIn m items)) ≡ found + count role (roles file (drop i (nodesIn n nodes)) (drop at (itemsIn m items))))
+Inv-loop file nodes items n m role found₀ at₀ i₀ found at i = (at ≤ m) × (1 ≤ i) × (found < i) × (count role (childrenWalked file (nodesIn n nodes) (itemsIn m items)) ≡ found + count role (walked file (drop i (nodesIn n nodes)) (drop at (itemsIn m items))))
 
 abbrev μ-loop : tie.MeasureT-loop
 μ-loop file nodes items n m role found₀ at₀ i₀ found at i = n - i

@@ -5,6 +5,7 @@ use Rattle.tree.proofs.Rows.{standing, ask-refused, refused-nodes, refused-item
 use Rattle.mobile.specs.Mobile.{mobile}
 use Rattle.mobile.proofs.Checks.{data-within, judged, judged-nodes, judged-items}
 use native.Mathlib.Omega.{arith}
+use Rattle.tree.proofs.Order.{in-row-order}
 use borrow.Author.Needs.{needs}
 use Rattle.mobile.proofs.judge.Statement.{statement}
 use Rattle.mobile.proofs.judge.Tie as tie
@@ -37,7 +38,7 @@ same-length-4 : tie.Need-same-length-4
 same-length-4 c = search needs
 
 returns-2 : tie.Need-returns-2
-returns-2 c = let st = standing _ _ _ _ (c .before .before .before .before .before .before .before .before .before .before .read-file .ensures .0) (c .before .before .before .before .before .before .before .before .before .before .read-file .ensures .1 .0) (c .before .before .before .before .before .before .before .before .before .before .read-file .ensures .1 .1) (c .before .before .before .before .s .given .1) in (judged st (c .verdict .ensures), (judged-nodes st (c .verdict .ensures) _ (c .before .before .before .before .before .before .before .before .before .before .read-file .ensures .1 .0), judged-items st (c .verdict .ensures) _ (c .before .before .before .before .before .before .before .before .before .before .read-file .ensures .1 .1)))
+returns-2 c = let st = standing _ _ _ _ (c .before .before .before .before .before .before .before .before .before .before .read-file .ensures .0) (c .before .before .before .before .before .before .before .before .before .before .read-file .ensures .1 .0) (c .before .before .before .before .before .before .before .before .before .before .read-file .ensures .1 .1) (c .before .before .before .before .s .given .1) in (judged st (in-row-order _ _ (st .reads)) (c .verdict .ensures), (judged-nodes st (in-row-order _ _ (st .reads)) (c .verdict .ensures) _ (c .before .before .before .before .before .before .before .before .before .before .read-file .ensures .1 .0), judged-items st (in-row-order _ _ (st .reads)) (c .verdict .ensures) _ (c .before .before .before .before .before .before .before .before .before .before .read-file .ensures .1 .1)))
 
 pub judge-spec : {M : Type 1} → statement M
 judge-spec =

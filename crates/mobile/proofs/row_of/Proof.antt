@@ -4,7 +4,8 @@ use mathlib.Core.Path.{_≡_}
 use Prim.Native.Nat.{_-_, _≤_}
 use lib.ListN.{drop}
 use Rattle.tree.specs.Rows.{nodesIn, itemsIn}
-use Rattle.mobile.specs.Mobile.{roles, childRoles, rowOf}
+use Rattle.mobile.specs.Mobile.{rowOf}
+use Rattle.mobile.specs.Told.{walked, childrenWalked}
 use Rattle.mobile.proofs.Roles.{row-start, row-hit, row-miss, row-end}
 use native.Mathlib.Omega.{arith}
 use borrow.Author.Needs.{needs}
@@ -12,7 +13,7 @@ use Rattle.mobile.proofs.row_of.Statement.{statement}
 use Rattle.mobile.proofs.row_of.Tie as tie
 
 abbrev Inv-loop : tie.InvT-loop
-Inv-loop file nodes items n m role at₀ i₀ at i = (at ≤ m) × (rowOf role 1 (childRoles file (nodesIn n nodes) (itemsIn m items)) ≡ rowOf role i (roles file (drop i (nodesIn n nodes)) (drop at (itemsIn m items))))
+Inv-loop file nodes items n m role at₀ i₀ at i = (at ≤ m) × (rowOf role 1 (childrenWalked file (nodesIn n nodes) (itemsIn m items)) ≡ rowOf role i (walked file (drop i (nodesIn n nodes)) (drop at (itemsIn m items))))
 
 abbrev μ-loop : tie.MeasureT-loop
 μ-loop file nodes items n m role at₀ i₀ at i = n - i
