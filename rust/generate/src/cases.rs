@@ -9,9 +9,9 @@ use crate::random::Random;
 use crate::shapes;
 
 /// The words of a node row.
-const NODE_WORDS: usize = 13;
+pub(crate) const NODE_WORDS: usize = 13;
 /// The words of an item row.
-const ITEM_WORDS: usize = 10;
+pub(crate) const ITEM_WORDS: usize = 10;
 /// The words of a table with as many node rows as there may be.
 pub const ALL_NODE_WORDS: usize = 256 * NODE_WORDS;
 /// The words of a table with as many item rows as there may be.
@@ -91,7 +91,7 @@ pub struct Lent {
     pub node_words: usize,
     /// The number of words for item rows.
     pub item_words: usize,
-    /// The number of bytes for a sheet.
+    /// The number of bytes for a sheet or a new file.
     pub room: usize,
     /// The seed of what the words and bytes hold before; with 0 they hold zeros.
     pub stale: u64,
@@ -143,7 +143,7 @@ impl Lent {
         self.words(self.item_words, 2)
     }
 
-    /// New bytes for a sheet.
+    /// New bytes for a sheet or a new file.
     pub fn sheet(&self) -> Vec<u8> {
         let words = self.words(self.room, 3);
         words.into_iter().map(|word| word as u8).collect()
@@ -315,7 +315,7 @@ fn with_guid(random: &mut Random, size: usize) -> File {
 }
 
 /// Tables that hold at least so many rows: exactly these, a few words more, or all that may be.
-fn any_lent(random: &mut Random, nodes: usize, items: usize) -> Lent {
+pub(crate) fn any_lent(random: &mut Random, nodes: usize, items: usize) -> Lent {
     let mut lent = Lent::full();
     match random.below(4) {
         0 => {
@@ -337,7 +337,7 @@ fn any_lent(random: &mut Random, nodes: usize, items: usize) -> Lent {
 }
 
 /// Tables of which at least one is about as large as so many rows, or smaller.
-fn short_tables(random: &mut Random, nodes: usize, items: usize) -> Lent {
+pub(crate) fn short_tables(random: &mut Random, nodes: usize, items: usize) -> Lent {
     let mut lent = Lent::full();
     let which = random.below(3);
     if which != 0 {
@@ -359,7 +359,7 @@ fn short_table(random: &mut Random, needed: usize) -> usize {
     }
 }
 
-/// Chooses the room for the sheet, and whether what is lent holds other values before.
+/// Chooses the room for a sheet, and whether what is lent holds other values before.
 fn any_room(random: &mut Random, lent: &mut Lent) {
     lent.room = match random.below(6) {
         0 => 0,

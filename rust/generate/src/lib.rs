@@ -2,8 +2,9 @@
 //!
 //! Everything is fixed by a seed and a case number: [`case`] makes a file with what is lent and
 //! what is asked, [`pair`] makes two files that differ at private places only, [`large_file`] and
-//! [`large_resource`] make the largest files, [`folders_file`] makes files of growing size, and
-//! [`texts::text`] makes a text to be converted. The modules hold the parts they are made of.
+//! [`large_resource`] make the largest files, [`folders_file`] makes files of growing size,
+//! [`texts::text`] makes a text to be converted, and [`titles::title`] makes a file whose title is to
+//! be corrected. The modules hold the parts they are made of.
 
 pub mod cases;
 pub mod damage;
@@ -14,5 +15,6 @@ pub mod random;
 pub mod samples;
 pub mod shapes;
 pub mod texts;
+pub mod titles;
 
 pub use cases::{case, folders_file, large_file, large_resource, pair, Case, Lent, Pair};

@@ -3,11 +3,12 @@
 use generate::cases::Kind;
 use generate::damage::{every_cut, every_length_changed};
 use generate::encode::{encode, Encoded, MarkKind, PrivateKind, PRIVATE_KINDS};
-use generate::model::{Field as Wanted, Widths};
+use generate::model::{Field as Wanted, File, Item, Node, Version, Widths};
 use generate::random::Random;
 use generate::texts::{text, Into, Text};
+use generate::titles::{title, Title, BORDERS, LENGTHS};
 use generate::{case, large_file, large_resource, mobile, pair, samples, shapes, Lent};
-use plain::{find, judge, read_tree, resolve, resource, write_sheet};
+use plain::{correct_title, find, judge, read_tree, resolve, resource, write_sheet};
 use plain::{item, node, Field, Refusal};
 use plain::{utf16_to_utf8, utf8_to_utf16};
 
@@ -170,6 +171,25 @@ fn private_by_rows(encoded: &Encoded) -> Vec<Option<PrivateKind>> {
         }
     }
     kinds
+}
+
+/// The file with a title corrected, or the refusal. What is lent is checked afterwards.
+fn corrected(file: &[u8], lent: &Lent, row: u64, data: &[u8]) -> Result<Vec<u8>, Refusal> {
+    let (mut nodes, mut items) = (lent.nodes(), lent.items());
+    let mut out = lent.sheet();
+    let written = correct_title(file, &mut nodes, &mut items, row, data, &mut out);
+    let length = written.unwrap_or(0);
+    assert!(out[length..].iter().all(|&byte| byte == 0));
+    match written {
+        Ok(_) => {
+            let (mut new_nodes, mut new_items) = (lent.nodes(), lent.items());
+            let tree = read_tree(&out[..length], &mut new_nodes, &mut new_items);
+            assert!(tree.is_ok());
+            assert_eq!((nodes, items), (new_nodes, new_items));
+        }
+        Err(_) => assert!(nodes.iter().chain(&items).all(|&word| word == 0)),
+    }
+    written.map(|length| out[..length].to_vec())
 }
 
 /// A sample by its name.
@@ -519,4 +539,110 @@ fn sheets_have_converted_texts() {
         assert!(sheet(&file).is_ok());
     }
     assert!(converted > 100 && escaped > 100 && hidden > 100);
+}
+
+#[test]
+fn titles_are_corrected_or_refused() {
+    let mut refusals = [0; 39];
+    let mut borders = [[[0; 2]; BORDERS.len()]; LENGTHS.len()];
+    let mut shorter = 0;
+    for number in 0..CASES {
+        let Title {
+            file,
+            lent,
+            row,
+            data,
+            answer,
+            border,
+        } = title(SEED, number);
+        let new = corrected(&file, &lent, row, &data);
+        let refusal = new.as_ref().err().map(|refusal| refusal.number);
+        refusals[refusal.unwrap_or(0) as usize] += 1;
+        if let Some(answer) = answer {
+            let new = new.as_ref().map_err(|refusal| refusal.number);
+            assert!(
+                new == answer.as_ref().map_err(|&refusal| refusal),
+                "case {number}"
+            );
+        }
+        let Ok(new) = new else {
+            continue;
+        };
+
+        // It says the same but for that data.
+        let (_, mut rows) = outline(&file).expect("a file that is read");
+        let (_, new_rows) = outline(&new).expect("a file that is read");
+        let mut items = rows.iter_mut().filter(|row| row.0.len() == item::WORDS);
+        let (words, _, old_data) = items.nth(row as usize).expect("the item row");
+        words[item::DATA_LENGTH] = data.len() as u64;
+        let is_same = *old_data == data;
+        *old_data = data.clone();
+        assert!(rows == new_rows, "case {number}");
+
+        // The same title again changes nothing; a file with the same title got its numbers shortened.
+        let full = Lent {
+            room: new.len() + 7,
+            ..lent
+        };
+        assert_eq!(corrected(&new, &full, row, &data).as_ref(), Ok(&new));
+        if is_same {
+            assert!(new.len() <= file.len());
+            shorter += usize::from(new.len() < file.len());
+        }
+        if let Some((length, value)) = border {
+            let length = LENGTHS.iter().position(|&own| own == length);
+            let nearest = BORDERS
+                .iter()
+                .position(|&border| value.abs_diff(border) <= 2);
+            if let (Some(length), Some(nearest)) = (length, nearest) {
+                borders[length][nearest][usize::from(value >= BORDERS[nearest])] += 1;
+            }
+        }
+    }
+    for number in [0, 10, 18, 22, 36, 37] {
+        assert!(refusals[number] > 20, "refusal {number}");
+    }
+    assert!(
+        borders.iter().flatten().flatten().all(|&count| count > 5),
+        "{borders:?}"
+    );
+    assert!(shorter > 50);
+}
+
+#[test]
+fn padded_files_become_shortest() {
+    for number in 0..300 {
+        let random = &mut Random::for_case(SEED, number);
+        let mut file = shapes::with_edge_lengths(random);
+        file.root.children_mut().expect("a folder").pop();
+        file.root.items = vec![Item::standard(8, 0, b"old")];
+        let least = encode(&file).bytes;
+        for widths in [Widths::Least, Widths::Mixed(random.word()), Widths::Four] {
+            file.widths = widths;
+            let padded = encode(&file).bytes;
+            let new = corrected(&padded, &Lent::full(), 0, b"old");
+            assert!(new.as_ref() == Ok(&least), "file {number}, {widths:?}");
+        }
+    }
+}
+
+#[test]
+fn the_longest_file_is_written_and_no_longer_one() {
+    const MOST: usize = 268_435_455;
+    let root = Node::inline(b"x").with_items(vec![Item::standard(8, 0, b"old")]);
+    let file = encode(&File::new(Version::V100, root)).bytes;
+    let lent = Lent::full();
+    let (mut nodes, mut items) = (lent.nodes(), lent.items());
+    let mut out = vec![0; MOST + 1];
+    let mut correct = |size: usize| {
+        let title = vec![0; size];
+        correct_title(&file, &mut nodes, &mut items, 0, &title, &mut out)
+            .map_err(|refusal| (refusal.number, refusal.place))
+    };
+    // From here on each length has four bytes.
+    let size = 2_097_152;
+    let around = correct(size).expect("a file that is not too long") - size;
+    assert_eq!(correct(MOST - around), Ok(MOST));
+    assert_eq!(correct(MOST - around + 1), Err((38, 0)));
+    assert_eq!(correct(MOST + 1), Err((38, 0)));
 }

@@ -36,6 +36,11 @@ impl<'a> Cursor<'a> {
         self.end().saturating_sub(self.at)
     }
 
+    /// The bytes from the reading place to the part's end.
+    pub fn rest(&self) -> &'a [u8] {
+        self.bytes.get(self.at..).unwrap_or_default()
+    }
+
     /// The same reading place in a part that ends earlier.
     pub fn ending_at(&self, end: usize) -> Self {
         Cursor {
@@ -60,7 +65,7 @@ impl<'a> Cursor<'a> {
     /// Reads a VLQ that isn't a single byte.
     fn long_number(&mut self) -> Result<u64, Refusal> {
         let start = self.at;
-        let rest = self.bytes.get(start..).unwrap_or_default();
+        let rest = self.rest();
         let mut value = 0;
         for (count, &byte) in rest.iter().take(NUMBER_BYTES).enumerate() {
             value = value << 7 | u64::from(byte & 0x7F);
@@ -101,7 +106,7 @@ impl<'a> Cursor<'a> {
 
     /// Moves past a GUID: 1 to 19 bytes, ended by the first below 80h.
     pub fn guid(&mut self) -> Result<(), Refusal> {
-        let rest = self.bytes.get(self.at..).unwrap_or_default();
+        let rest = self.rest();
         match rest.iter().take(GUID_BYTES).position(|&byte| byte < 0x80) {
             Some(last) => {
                 self.at += last + 1;

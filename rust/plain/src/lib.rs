@@ -1,20 +1,22 @@
 //! A reader of XMF files of versions 1.00, 1.01 and 2.00, written from the papers alone.
 //!
 //! It answers five questions about a file's bytes: read the tree ([`read_tree`]), find a metadata
-//! item ([`find`], or [`find_own`] on the node itself), resolve a resource ([`resolve`], with [`resource`] for its bytes), judge Mobile
-//! XMF ([`judge`]) and write the support sheet ([`write_sheet`]). And it converts texts from UTF-16
-//! into UTF-8 ([`utf16_to_utf8`]) and back ([`utf8_to_utf16`]).
+//! item ([`find`], or [`find_own`] on the node itself), resolve a resource ([`resolve`], with
+//! [`resource`] for its bytes), judge Mobile XMF ([`judge`]) and write the support sheet
+//! ([`write_sheet`]). It writes a file anew with a title corrected ([`correct_title`]). And it converts
+//! texts from UTF-16 into UTF-8 ([`utf16_to_utf8`]) and back ([`utf8_to_utf16`]).
 //!
 //! Each question takes the file and two lent tables of words, one for node rows and one for item
 //! rows, of any size and whatever they hold before. It reads the file afresh. After an answer the
-//! tables hold the file's rows, and zeros past the last row; after a refusal they hold zeros only.
-//! Nothing is allocated.
+//! tables hold the file's rows (those of the new file, where one is written), and zeros past the last
+//! row; after a refusal they hold zeros only. Nothing is allocated but for a corrected title.
 //!
 //! Every place is counted from the file's first byte.
 
 mod cursor;
 mod questions;
 mod sheet;
+mod title;
 mod tree;
 mod unicode;
 
@@ -92,7 +94,7 @@ pub type ItemRow = [u64; item::WORDS];
 /// Why a question is refused.
 #[derive(Clone, Copy, Debug, PartialEq, Eq)]
 pub struct Refusal {
-    /// The number in the refusal list, 1 to 24 or 26.
+    /// The number in the refusal list: 1 to 24, 26, or 36 to 38.
     pub number: u64,
     /// The place of the refused field's first byte, or 0 where the list names none.
     pub place: u64,
@@ -256,6 +258,33 @@ pub fn write_sheet(
     });
     sheet[written.unwrap_or(0)..].fill(0);
     written
+}
+
+/// Replaces the data of an item row, a universal and visible content, by a title, and writes the whole
+/// file anew into lent room. The answer is the number of bytes written.
+///
+/// Every number outside data is written in its shortest form, and lengths and places are the least that
+/// fit each other; all else is copied. The tables hold the new file's rows. Bytes of the room past
+/// the new file are 0; after a refusal all are.
+///
+/// Refused with 18 when there is no such item row, with 36 when a node refers to the file or to a
+/// node, with 37 when the content is hidden or not universal, with 38 when the new file would be
+/// longer than a file may be, with 22 when the room is too short.
+pub fn correct_title(
+    file: &[u8],
+    nodes: &mut [u64],
+    items: &mut [u64],
+    item_row: u64,
+    title: &[u8],
+    out: &mut [u8],
+) -> Result<usize, Refusal> {
+    let written = ask(file, nodes, items, |rows, tree| {
+        title::correct(rows, tree.version, item_row, title, out)
+    });
+    out[written.unwrap_or(0)..].fill(0);
+    let length = written?;
+    read_tree(&out[..length], nodes, items).expect("what has been written can be read");
+    Ok(length)
 }
 
 /// Converts UTF-16, high byte first, into UTF-8 in lent room, and answers the number of bytes written.

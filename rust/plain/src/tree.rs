@@ -5,7 +5,7 @@ use crate::{item, node, ItemRow, NodeRow, Refusal, Tree};
 use std::ops::Range;
 
 /// The largest number of bytes a file may have.
-const FILE_BYTES: usize = 268_435_455;
+pub const FILE_BYTES: usize = 268_435_455;
 /// The largest number of node rows.
 const NODE_LIMIT: usize = 256;
 /// The largest number of item rows.

@@ -1,9 +1,10 @@
 //! Runs every case of a vectors file and reports the lines whose answer differs.
 //!
-//! The path of the vectors file is the first argument. The lent tables and the sheet's buffer hold
-//! other values before each call, and what they hold afterwards is checked as well.
+//! The path of the vectors file is the first argument. The lent tables and buffers hold other values
+//! before each call, and what they hold afterwards is checked as well.
 
-use plain::{find, judge, read_tree, resolve, resource, utf16_to_utf8, utf8_to_utf16, write_sheet};
+use plain::{correct_title, find, find_own, judge, read_tree, resolve, resource, write_sheet};
+use plain::{utf16_to_utf8, utf8_to_utf16};
 use plain::{Field, Refusal};
 use std::process::ExitCode;
 
@@ -52,7 +53,7 @@ fn run(line: &str) -> Option<String> {
     let (case, _) = line.split_once(" => ")?;
     let mut words = case.split_whitespace();
     let command = words.next()?;
-    let file = bytes(words.next()?)?;
+    let mut file = bytes(words.next()?)?;
     if command.starts_with("utf") {
         let room = words.next()?.parse().ok()?;
         return match words.next() {
@@ -75,7 +76,7 @@ fn run(line: &str) -> Option<String> {
                 rows(&items, plain::item::WORDS, tree.items),
             )
         }),
-        "find" => {
+        "find" | "findown" => {
             let row = words.next()?.parse().ok()?;
             let kind = words.next()?;
             let field = words.next()?;
@@ -88,7 +89,8 @@ fn run(line: &str) -> Option<String> {
                 }
                 _ => return None,
             };
-            find(&file, &mut nodes, &mut items, row, field)
+            let asked = if command == "find" { find } else { find_own };
+            asked(&file, &mut nodes, &mut items, row, field)
                 .map(|found| format!("ok {} {}", found.row, joined(&found.words)))
         }
         "resolve" => {
@@ -118,6 +120,20 @@ fn run(line: &str) -> Option<String> {
                 return Some("the buffer isn't cleared".to_string());
             }
             written.map(|length| format!("ok {}", hex(&sheet[..length])))
+        }
+        "title" => {
+            let row = words.next()?.parse().ok()?;
+            let title = bytes(words.next()?)?;
+            let mut out = vec![0xEE; words.next()?.parse().ok()?];
+            let written = correct_title(&file, &mut nodes, &mut items, row, &title, &mut out);
+            if out[written.unwrap_or(0)..].iter().any(|&byte| byte != 0) {
+                return Some("the room isn't cleared".to_string());
+            }
+            written.map(|length| {
+                // the tables hold the new file's rows
+                file = out[..length].to_vec();
+                format!("ok {}", hex(&file))
+            })
         }
         _ => return None,
     };
