@@ -9,3 +9,9 @@ pub mod Leaves
 pub mod Order
 pub mod Limited
 pub mod Listed
+pub mod Least
+pub mod Lies
+pub mod Back
+pub mod Wider
+pub mod Post
+pub mod Runs

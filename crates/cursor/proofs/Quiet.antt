@@ -7,7 +7,7 @@ use Prim.Native.Nat.{ℕ, zero, suc, _+_, _-_, _*_, _%_}
 use lib.Dec.{ltb, leb, eqb}
 use lib.ListN.{getD}
 use Rattle.cursor.specs.Machine.{Prog, ret, refuse, here, byte, pass, Out, ok, refused, run, trace, exec, puts, _>>=_, _>>_, if_then_else_, place, skip, check, turns, many, times}
-use Rattle.cursor.specs.Rows.{Frame, Part, P}
+use Rattle.cursor.specs.Rows.{Frame, Plain, Part, plain, P}
 use Rattle.cursor.specs.Leaves.{next, digits, number, block, manufacturer, guidBytes, guid}
 use Rattle.cursor.proofs.Laws.{andThen, run-bind, exec-bind}
 
@@ -27,6 +27,10 @@ exec-puts put (pass w n m) f at σ = exec-puts put m f (at + n) (put w at n σ)
 
 pub record Quiet {S A : Type 0} (put : Part → ℕ → ℕ → S → S) (m : P A) : Type 0 where
   pub quiet : (f : List ℕ) (at : ℕ) (σ : S) → exec put m f at σ ≡ still (run m f at) σ
+
+-- parts that make no row leave the state as it is
+pub record IgnoresPlain {S : Type 0} (put : Part → ℕ → ℕ → S → S) : Type 0 where
+  pub ignores : (x : Plain) (p n : ℕ) (σ : S) → put (plain x) p n σ ≡ σ
 
 module _ {S : Type 0} {put : Part → ℕ → ℕ → S → S} where
   pub quiet-bind : {A B : Type 0} {m : P A} {g : A → P B} → Quiet put m → ((a : A) → Quiet put (g a)) → Quiet put (m >>= g)

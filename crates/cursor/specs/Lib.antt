@@ -2,4 +2,5 @@ pub mod Machine
 pub mod Rows
 pub mod Refusals
 pub mod Leaves
+pub mod Vlq
 pub mod Told

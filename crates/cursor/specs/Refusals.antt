@@ -86,6 +86,17 @@ badDetached = 24
 abbrev pub badText : ℕ
 badText = 26
 
+-- a node has reference 2 or 3
+abbrev pub refersElsewhere : ℕ
+refersElsewhere = 36
+
+-- the content is hidden, or a version
+abbrev pub notATitle : ℕ
+notATitle = 37
+
+abbrev pub resultTooLarge : ℕ
+resultTooLarge = 38
+
 -- ---- who gives which
 
 -- the reader, and so every question over a file

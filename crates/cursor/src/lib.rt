@@ -58,6 +58,12 @@ pub const BAD_DETACHED: u64 = 24;
 
 pub const BAD_TEXT: u64 = 26;
 
+pub const REFERS_ELSEWHERE: u64 = 36;
+
+pub const NOT_A_TITLE: u64 = 37;
+
+pub const RESULT_TOO_LARGE: u64 = 38;
+
 // The words of a row, and how many rows and levels there may be.
 pub const NODE_WIDTH: usize = 13;
 

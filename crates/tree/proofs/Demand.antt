@@ -101,11 +101,16 @@ module _ (free : Part → Bool) (lim : Limits) (f g : List ℕ) (l : length f �
 
 -- ---- what two files have in common that agree on what was read but for what is free in the one
 
+-- they agree on the header
+abbrev pub HeaderKept : (Part → Bool) → List ℕ → List ℕ → Type 0
+HeaderKept free f g = Kept free f g (trace (header (length f)) f 0)
+
 module _ (free : Part → Bool) where
   pub record Alike (lim : Limits) (f g : List ℕ) (ns : List Node) (is : List Item) : Type 0 where
     pub header : Header
     pub read-as : ReadAs lim f header ns is
     pub same-reading : readFile lim g ≡ readFile lim f
+    pub keeps-header : HeaderKept free f g
     pub keeps : Kept free f g (read-as .log)
 
   alike-kept : (lim : Limits) (f g : List ℕ) → length f ≡ length g → {h : Header} {ns : List Node} {is : List Item} → readFile lim f ≡ rows h ns is
@@ -122,6 +127,7 @@ module _ (free : Part → Bool) where
         header = h;
         read-as = a;
         same-reading = rw (r, ← l, ← b, a .header-is, ← l, ← d, ← e, a .tree-is, z, a .nodes-are, a .items-are) refl;
+        keeps-header = x;
         keeps = y;
       }
 

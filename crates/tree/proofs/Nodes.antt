@@ -8,7 +8,7 @@ use borrow.Author.Tests.{lt-ltb, le-ltb, le-leb, lt-leb, eq-eqb, ne-eqb}
 use lib.ListN.{length}
 use lib.Seq.{sets}
 use Rattle.cursor.specs.Machine.{Out, ret, ok, refused, exec, times}
-use Rattle.cursor.specs.Rows.{P, nodeRow, inlineSize}
+use Rattle.cursor.specs.Rows.{P, Part, nodeRow, inlineSize}
 use Rattle.cursor.specs.declared.Node.{Node}
 use Rattle.cursor.specs.declared.Cursor.{Cursor}
 use Rattle.cursor.specs.declared.FilePlace.{FilePlace}
@@ -71,14 +71,14 @@ module _ (x : Context) (parent : ℕ) (z : Standing) (m : Made) (s : List ℕ) (
   node-front zero σ some l e = absurd (some refl)
   node-front (suc d) σ some l e = let b : 17 - suc d ≡ 16 - d = omega arith in let e′ = rw b at e in simp (executing, lt-ltb _ _ l, e′)
 
-  -- past its front, with its row made
-  node-in : (levels : ℕ) (σ : State) → ((levels ≡ 0) → ⊥) → m .nodes < x .limits .nodes → {w : Front} {τ : State} {p : ℕ} → exec put (front x parent (17 - levels) z m) s at σ ≡ ok (w, τ) p
+  -- past its front, with its row made; for any state
+  pub node-in : {S : Type 0} (put : Part → ℕ → ℕ → S → S) (levels : ℕ) (σ : S) → ((levels ≡ 0) → ⊥) → m .nodes < x .limits .nodes → {w : Front} {τ : S} {p : ℕ} → exec put (front x parent (17 - levels) z m) s at σ ≡ ok (w, τ) p
       → exec put (node levels x parent z m) s at σ
       ≡ exec put (folder (at + w .row .size) (times (w .row .held) (node (levels - 1) x (m .nodes) (inTree 0 (at + w .row .size))) (plusNode (w .made))))
       s (p + inlineSize (w .row)) (put (nodeRow (w .row)) p (inlineSize (w .row)) τ)
   unfolding node
-  node-in zero σ some l e = absurd (some refl)
-  node-in (suc d) σ some l e =
+  node-in put zero σ some l e = absurd (some refl)
+  node-in put (suc d) σ some l e =
       let a : suc d - 1 ≡ d = omega arith in
       let b : 17 - suc d ≡ 16 - d = omega arith in
       let e′ = rw b at e in
@@ -93,7 +93,7 @@ module _ (x : Context) (parent : ℕ) (z : Standing) (m : Made) (s : List ℕ) (
     -- the node behind its row
     node-rest : exec put (node levels x parent z m) s at (state t u m)
         ≡ exec put (folder stop (times (w .row .held) (node (levels - 1) x (m .nodes) (inTree 0 stop)) (plusNode (w .made)))) s q (state t′ u′ (plusNode (w .made)))
-    node-rest = rw (is, past) (node-in levels (state t u m) some l e ∙ simp (executing, row-is))
+    node-rest = rw (is, past) (node-in put levels (state t u m) some l e ∙ simp (executing, row-is))
 
     pub node-children : {n v : ℕ} → exec put (times (w .row .held) (node (levels - 1) x (m .nodes) (inTree 0 stop)) (plusNode (w .made))) s q (state t′ u′ (plusNode (w .made))) ≡ refused n v
         → refused n v ≡ exec put (node levels x parent z m) s at (state t u m)

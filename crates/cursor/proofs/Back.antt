@@ -1,0 +1,142 @@
+-- What was written is read back, wherever it stands: numbers, blocks, manufacturers, GUIDs.
+-- Assumes nothing.
+use mathlib.Core.Path.{_≡_, refl, sym, ap, _∙_}
+use mathlib.Core.List.{List, [], _∷_, _++_}
+use Prim.Native.Nat.{ℕ, zero, suc, _+_, _-_, _*_, _/_, _%_, _^_, _≤_, _<_}
+use native.Mathlib.Omega.{arith}
+use native.Mathlib.Nat.{pow-succ', div-div-eq-div-mul, div-eq-of-lt, mul-comm}
+use native.Mathlib.Decide.{decLe, decLt}
+use lib.ListN.{length, getD}
+use Rattle.cursor.specs.Machine.{Out, ok, refused, run}
+use Rattle.cursor.specs.Rows.{Frame}
+use Rattle.cursor.specs.Leaves.{digits, number, block, manufacturer, guidBytes, guid}
+use Rattle.cursor.specs.Vlq.{mark, inBytes, least, vlq}
+use Rattle.cursor.proofs.Digits.{digits-last, digits-more, Reading, begun, guid-none, guid-missing, guid-last, guid-more, guid-begun}
+use Rattle.cursor.proofs.Leaves.{block-all, manufacturer-none, manufacturer-one, manufacturer-cut, manufacturer-three}
+use Rattle.cursor.proofs.Least.{least-in, least-fits, in-bytes-length}
+use Rattle.cursor.proofs.Lies.{Lies, lies-none, lies-cons, lies-head, lies-tail}
+
+-- one byte further
+one-on : (n k : ℕ) → n / 128 ^ suc k * 128 + n / 128 ^ k % 128 ≡ n / 128 ^ k
+one-on n k =
+    let e : n / 128 ^ suc k ≡ n / 128 ^ k / 128 = rw (pow-succ' 128 k, mul-comm 128 (128 ^ k)) (sym (div-div-eq-div-mul n (128 ^ k) 128)) in
+    rw e (omega arith)
+
+module _ (κ : Frame) (past end p : ℕ) (g : List ℕ) (n : ℕ) where
+  -- the last k + 1 bytes of n, where the earlier ones gave the rest
+  digits-back : (k left at : ℕ) → Lies g at (inBytes (suc k) n) → k < left → at + suc k ≤ end → run (digits κ past end p left (n / 128 ^ suc k)) g at ≡ ok n (at + suc k)
+  unfolding inBytes
+  digits-back zero left at h l i =
+      let b = lies-head h in
+      let e : n / 128 ^ 1 * 128 + getD g at 0 ≡ n = omega (arith, one-on n 0) in
+      digits-last κ past end p g at (n / 128 ^ 1) left (λ z. omega arith) (omega arith) (omega arith) ∙ rw e refl
+  digits-back (suc k) left at h l i =
+      let b = lies-head h in
+      let e : n / 128 ^ suc (suc k) * 128 + getD g at 0 % 128 ≡ n / 128 ^ suc k = omega (arith, one-on n (suc k)) in
+      let q : at + 1 + suc k ≡ at + suc (suc k) = omega arith in
+      digits-more κ past end p g at (n / 128 ^ suc (suc k)) left (λ z. omega arith) (omega arith) (omega arith)
+      ∙ rw (e, ← q) (digits-back k (left - 1) (at + 1) (lies-tail h) (omega arith) (omega arith))
+
+-- n in k bytes is read back
+pub number-in : (κ : Frame) (past end : ℕ) {g : List ℕ} {at : ℕ} (n k : ℕ) → Lies g at (inBytes k n) → 1 ≤ k → k ≤ 4 → n < 128 ^ k → at + k ≤ end → run (number κ past end) g at ≡ ok n (at + k)
+number-in κ past end n zero h l m b i = absurd (omega arith)
+number-in κ past end {g} {at} n (suc k) h l m b i =
+    let z : n / 128 ^ suc k ≡ 0 = div-eq-of-lt b in
+    begun g past end at .same κ ∙ rw z at (digits-back κ past end at g n k 4 at h (omega arith) i)
+
+-- n in its shortest form is read back
+pub number-back : (κ : Frame) (past end : ℕ) {g : List ℕ} {at : ℕ} (n : ℕ) → Lies g at (vlq n) → n < 2 ^ 28 → at + length (vlq n) ≤ end → run (number κ past end) g at ≡ ok n (at + length (vlq n))
+unfolding vlq
+number-back κ past end {g} {at} n h l i =
+    let k : ℕ = least (λ _. n) in
+    let r = least-in (λ _. n) in
+    let e : length (inBytes k n) ≡ k = in-bytes-length k n in
+    rw e (number-in κ past end n k h (r .0) (r .1) (least-fits (λ _. n) l) (omega arith))
+
+-- the length of a block that fits
+pub block-back : (κ : Frame) (past end : ℕ) {g : List ℕ} {at : ℕ} (n : ℕ) → Lies g at (vlq n) → n < 2 ^ 28 → at + length (vlq n) + n ≤ end → run (block κ past end) g at ≡ ok n (at + length (vlq n))
+block-back κ past end {g} {at} n h l i = sym (block-all κ past end g at (number-back κ past end n h l (omega arith)) i)
+
+-- ---- manufacturers and GUIDs: which bytes they are, and that these are read back
+
+-- the bytes of a GUID of at most so many
+pub data Guid : ℕ → List ℕ → Type 0 where
+  last : {left b : ℕ} → b < 128 → Guid (suc left) (b ∷ [])
+  more : {left b : ℕ} {s : List ℕ} → 128 ≤ b → Guid left s → Guid (suc left) (b ∷ s)
+
+-- one byte, or three of which the first is 0
+pub data Maker : List ℕ → Type 0 where
+  one : {b : ℕ} → ((b ≡ 0) → ⊥) → Maker (b ∷ [])
+  three : {c d : ℕ} → Maker (0 ∷ c ∷ d ∷ [])
+
+module _ (κ : Frame) (end : ℕ) (g : List ℕ) where
+  guid-bytes-back : (p : ℕ) {left : ℕ} {s : List ℕ} → Guid left s → (at : ℕ) → Lies g at s → at + length s ≤ end → run (guidBytes κ end p left) g at ≡ ok tt (at + length s)
+  guid-bytes-back p (last {left} {b} l) at h i =
+      let e = lies-head h in
+      guid-last κ end p g at (suc left) (λ z. omega arith) (omega arith) (omega arith)
+  guid-bytes-back p (more {left} {b} {s} l r) at h i =
+      let e = lies-head h in
+      let q : suc left - 1 ≡ left = omega arith in
+      let t : at + 1 + length s ≡ at + suc (length s) = omega arith in
+      guid-more κ end p g at (suc left) (λ z. omega arith) (omega arith) (omega arith) ∙ rw (q, ← t) (guid-bytes-back p r (at + 1) (lies-tail h) (omega arith))
+
+  pub guid-back : {s : List ℕ} → Guid 19 s → (at : ℕ) → Lies g at s → at + length s ≤ end → run (guid κ end) g at ≡ ok tt (at + length s)
+  guid-back r at h i = guid-begun g end at .same κ ∙ guid-bytes-back at r at h i
+
+  pub maker-back : {s : List ℕ} → Maker s → (at : ℕ) → Lies g at s → at + length s ≤ end → run (manufacturer κ end) g at ≡ ok tt (at + length s)
+  maker-back (one n) at h i = sym (manufacturer-one κ end g at (omega arith) (sym (lies-head h)) n)
+  maker-back three at h i = sym (manufacturer-three κ end g at (omega arith) (sym (lies-head h)) refl (omega arith))
+
+-- bytes of which Is holds stand in f from `at` up to q
+pub record Stood (Is : List ℕ → Type 0) (f : List ℕ) (at q : ℕ) : Type 0 where
+  pub bytes : List ℕ
+  pub is : Is bytes
+  pub lies : Lies f at bytes
+  pub ends : q ≡ at + length bytes
+
+never : {A B : Type 0} {a : A} {n p q : ℕ} → refused n p ≡ ok a q → B
+never e = let z : _≡_ {A = ℕ} 0 1 = cc in absurd (omega arith)
+
+place-of : {A : Type 0} {a b : A} {p q : ℕ} → ok a p ≡ ok b q → p ≡ q
+place-of e = cc
+
+lies-one : (f : List ℕ) (at : ℕ) → at < length f → Lies f at (getD f at 0 ∷ [])
+lies-one f at l = lies-cons refl l (lies-none (omega arith))
+
+module _ (κ : Frame) (end : ℕ) (f : List ℕ) (all : end ≤ length f) where
+  guid-bytes-was : (p left at : ℕ) {q : ℕ} → run (guidBytes κ end p left) f at ≡ ok tt q → Stood (Guid left) f at q
+  guid-bytes-was p zero at e = never (sym (guid-none κ end p f at 0 refl) ∙ e)
+  guid-bytes-was p (suc left) at {q} e =
+      let some : (suc left ≡ 0) → ⊥ = λ z. omega arith in
+      let a : suc left - 1 ≡ left = omega arith in
+      let b : ℕ = getD f at 0 in
+      elim (decLt at end) [
+        | no n ↦ never (sym (guid-missing κ end p f at (suc left) some (omega arith)) ∙ e)
+        | yes i ↦ elim (decLt b 128) [
+          | yes s ↦ record { bytes = b ∷ []; is = last s; lies = lies-one f at (omega arith); ends = sym (place-of (sym (guid-last κ end p f at (suc left) some i s) ∙ e)) }
+          | no s ↦
+              let r = guid-bytes-was p left (at + 1) (rw a at (sym (guid-more κ end p f at (suc left) some i (omega arith)) ∙ e)) in
+              record { bytes = b ∷ r .bytes; is = more {b = b} (omega arith) (r .is); lies = lies-cons refl (omega arith) (r .lies); ends = r .ends ∙ (omega arith) }
+        ]
+      ]
+
+  -- what was read as a GUID are its bytes
+  pub guid-was : (at : ℕ) {q : ℕ} → run (guid κ end) f at ≡ ok tt q → Stood (Guid 19) f at q
+  guid-was at e = guid-bytes-was at 19 at (sym (guid-begun f end at .same κ) ∙ e)
+
+  pub maker-was : (at : ℕ) {q : ℕ} → run (manufacturer κ end) f at ≡ ok tt q → Stood Maker f at q
+  maker-was at e = elim (decLt at end) [
+    | no n ↦ never (manufacturer-none κ end f at (omega arith) ∙ e)
+    | yes i ↦ elim (decLe (getD f at 0) 0) [
+      | no z ↦ record { bytes = getD f at 0 ∷ []; is = one (λ (k : getD f at 0 ≡ 0). omega arith); lies = lies-one f at (omega arith); ends = sym (place-of (manufacturer-one κ end f at i refl (λ (k : getD f at 0 ≡ 0). omega arith) ∙ e)) }
+      | yes z ↦ elim (decLt end (at + 3)) [
+        | yes l ↦ never (manufacturer-cut κ end f at i refl (omega arith) l ∙ e)
+        | no l ↦ record {
+          bytes = 0 ∷ getD f (at + 1) 0 ∷ getD f (at + 1 + 1) 0 ∷ [];
+          is = three;
+          lies = lies-cons (omega arith) (omega arith) (lies-cons refl (omega arith) (lies-one f (at + 1 + 1) (omega arith)));
+          ends = sym (place-of (manufacturer-three κ end f at i refl (omega arith) (omega arith) ∙ e));
+        }
+      ]
+    ]
+  ]

@@ -1,0 +1,48 @@
+-- Numbers as they are written: in so many bytes, and in the least that hold them, also where a length counts its own bytes.
+-- Assumes nothing.
+use mathlib.Core.Bool.{Bool, true, false}
+use mathlib.Core.List.{List, [], _∷_, _++_}
+use Prim.Native.Nat.{ℕ, zero, suc, _+_, _*_, _/_, _%_, _^_}
+use lib.Dec.{ltb}
+use lib.ListN.{length, take, drop}
+
+-- n bytes of a file, from `at` on
+abbrev pub part : List ℕ → (at n : ℕ) → List ℕ
+part f at n = take n (drop at f)
+
+-- the first where the test holds, else the second
+abbrev pub choose : {A : Type 0} → Bool → A → A → A
+choose true a b = a
+choose false a b = b
+
+-- what a byte with k bytes after it has added: 80h, and the last nothing
+abbrev pub mark : ℕ → ℕ
+mark zero = 0
+mark (suc k) = 0x80
+
+-- n in k bytes: seven bits a byte, high part first
+unfoldable pub inBytes : ℕ → ℕ → List ℕ
+inBytes zero n = []
+inBytes (suc k) n = (mark k + n / 128 ^ k % 128) ∷ inBytes k n
+
+-- the first count from k on, among so many and one, that holds the number n, which may depend on the count; the last of them if none does
+unfoldable pub from : ℕ → ℕ → (ℕ → ℕ) → ℕ
+from zero k n = k
+from (suc more) k n = choose (ltb (n k) (128 ^ k)) k (from more (suc k) n)
+
+-- the least count of bytes, 1 to 4, that holds the number n, which may depend on that count
+unfoldable pub least : (ℕ → ℕ) → ℕ
+least n = from 3 1 n
+
+-- a number in its shortest form
+unfoldable pub vlq : ℕ → List ℕ
+vlq n = inBytes (least (λ _. n)) n
+
+-- fields one after the other
+abbrev pub joined : List (List ℕ) → List ℕ
+joined [] = []
+joined (s ∷ ss) = s ++ joined ss
+
+-- a block and its length
+unfoldable pub sized : List ℕ → List ℕ
+sized s = joined (vlq (length s) ∷ s ∷ [])
