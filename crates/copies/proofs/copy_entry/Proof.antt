@@ -1,0 +1,110 @@
+-- `copy_entry` puts a type, its string format, and the language's name with its length.
+-- Assumes nothing.
+use Rattle.copies.proofs.Copying.{type-no, format-no, language-no, entry-done, entry-put, number-was, copied-was, copied-answer, copied-puts, copied-in, copied-no}
+use Rattle.writer.proofs.Counting.{counts-as}
+use Rattle.cursor.proofs.Leaves.{block-inside}
+use Rattle.cursor.specs.Rows.{unpackFrame, fileFrame}
+use Rattle.cursor.specs.Told.{numberTold, passTold}
+use Rattle.cursor.proofs.Laws.{was}
+use mathlib.Core.Path.{_≡_, refl, sym, ap, _∙_}
+use Prim.Native.Nat.{ℕ, _+_, _-_, _*_, _≤_, _<_}
+use lib.ListN.{length}
+use native.Mathlib.Omega.{arith}
+use borrow.Author.Needs.{needs}
+use Rattle.copies.proofs.copy_entry.Statement.{statement}
+use Rattle.copies.proofs.copy_entry.Tie as tie
+
+copy-number-requires : tie.Need-copy-number-requires
+copy-number-requires c κs = search needs
+
+enum-known-n : tie.Need-enum-known-n
+enum-known-n c = search needs
+
+enum-known-a : tie.Need-enum-known-a
+enum-known-a c = search needs
+
+copy-number-requires-2 : tie.Need-copy-number-requires-2
+copy-number-requires-2 c κs = copied-in (copied-was (c .before .before .before .before .before .before .copy-number .ensures fileFrame) (c .before .before .a .given .1))
+
+enum-known-n-2 : tie.Need-enum-known-n-2
+enum-known-n-2 c = search needs
+
+enum-known-b : tie.Need-enum-known-b
+enum-known-b c = search needs
+
+block-requires : tie.Need-block-requires
+block-requires c κs = search needs
+
+enum-known-n-3 : tie.Need-enum-known-n-3
+enum-known-n-3 c = search needs
+
+enum-known-size : tie.Need-enum-known-size
+enum-known-size c = search needs
+
+put-number-requires : tie.Need-put-number-requires
+put-number-requires c κs = copied-in (copied-was (c .before .before .before .before .before .before .before .before .before .before .before .copy-number2 .ensures fileFrame) (c .before .before .before .before .before .before .before .b .given .1))
+
+put-part-requires : tie.Need-put-part-requires
+put-part-requires c κs = (omega (arith, block-inside fileFrame 3 _ _ _ (was numberTold (c .before .before .before .before .before .before .before .before .before .block .ensures fileFrame) (c .before .before .before .before .before .before .before .size .given .1))), omega (arith, c .before .before .before .put-number .ensures .after))
+
+on-requires : tie.Need-on-requires
+on-requires c κs = omega (arith, c .before .before .before .before .before .before .before .before .before .before .before .before .before .before .before .before .before .before .before .before .before .before .before .before .before .before .before .before .before .pre .1, block-inside fileFrame 3 _ _ _ (was numberTold (c .before .before .before .before .before .before .before .before .before .before .before .before .block .ensures fileFrame) (c .before .before .before .before .before .before .before .before .before .before .size .given .1)))
+
+same-length : tie.Need-same-length
+same-length c = search needs
+
+returns : tie.Need-returns
+returns c = record { is = type-no _ _ (copied-no (copied-was (c .before .before .before .before .before .copy-number .ensures fileFrame) (c .before .n .given .1))) }
+
+same-length-2 : tie.Need-same-length-2
+same-length-2 c = search needs
+
+returns-2 : tie.Need-returns-2
+returns-2 c =
+    let k = number-was fileFrame _ _ (copied-answer (copied-was (c .before .before .before .before .before .before .before .before .before .before .before .before .copy-number .ensures fileFrame) (c .before .before .before .before .before .before .before .before .a .given .1))) in
+    record { is = format-no _ _ (k .read) (copied-no (copied-was (c .before .before .before .before .before .copy-number2 .ensures fileFrame) (c .before .n2 .given .1))) }
+
+same-length-3 : tie.Need-same-length-3
+same-length-3 c = search needs
+
+returns-3 : tie.Need-returns-3
+returns-3 c =
+    let k = number-was fileFrame _ _ (copied-answer (copied-was (c .before .before .before .before .before .before .before .before .before .before .before .before .before .before .before .before .copy-number .ensures fileFrame) (c .before .before .before .before .before .before .before .before .before .before .before .before .a .given .1))) in
+    let l = number-was fileFrame _ _ (copied-answer (copied-was (c .before .before .before .before .before .before .before .before .before .copy-number2 .ensures fileFrame) (c .before .before .before .before .before .b .given .1))) in
+    record { is = language-no _ _ (k .read) (l .read) (was numberTold (c .before .before .before .block .ensures fileFrame) (c .before .n3 .given .1)) }
+
+same-length-4 : tie.Need-same-length-4
+same-length-4 c = c .before .before .before .put-part .ensures .long ∙ c .before .before .before .before .before .before .before .put-number .ensures .long ∙ copied-puts (copied-was (c .before .before .before .before .before .before .before .before .before .before .before .before .before .before .before .before .before .before .before .copy-number2 .ensures fileFrame) (c .before .before .before .before .before .before .before .before .before .before .before .before .before .before .before .b .given .1)) .long ∙ copied-puts (copied-was (c .before .before .before .before .before .before .before .before .before .before .before .before .before .before .before .before .before .before .before .before .before .before .before .before .before .before .copy-number .ensures fileFrame) (c .before .before .before .before .before .before .before .before .before .before .before .before .before .before .before .before .before .before .before .before .before .before .a .given .1)) .long
+
+returns-4 : tie.Need-returns-4
+returns-4 c =
+    let p = copied-was (c .before .before .before .before .before .before .before .before .before .before .before .before .before .before .before .before .before .before .before .before .before .before .before .before .before .before .copy-number .ensures fileFrame) (c .before .before .before .before .before .before .before .before .before .before .before .before .before .before .before .before .before .before .before .before .before .before .a .given .1) in
+    let q = copied-was (c .before .before .before .before .before .before .before .before .before .before .before .before .before .before .before .before .before .before .before .copy-number2 .ensures fileFrame) (c .before .before .before .before .before .before .before .before .before .before .before .before .before .before .before .b .given .1) in
+    let k = number-was fileFrame _ _ (copied-answer p) in
+    let l = number-was fileFrame _ _ (copied-answer q) in
+    record { is = (_, entry-done _ _ (k .read) (l .read) (was numberTold (c .before .before .before .before .before .before .before .before .before .before .before .before .before .block .ensures fileFrame) (c .before .before .before .before .before .before .before .before .before .before .before .size .given .1)) (c .on .ensures), entry-put _ _ _ _ (counts-as (k .text) (copied-puts p)) (counts-as (l .text) (copied-puts q)) (c .before .before .before .before .before .before .before .put-number .ensures) (c .before .before .before .put-part .ensures)) }
+
+pub copy-entry-spec : {M : Type 1} → statement M
+copy-entry-spec =
+    tie.close
+    (tie.spec
+    copy-number-requires
+    enum-known-n
+    enum-known-a
+    copy-number-requires-2
+    enum-known-n-2
+    enum-known-b
+    block-requires
+    enum-known-n-3
+    enum-known-size
+    put-number-requires
+    put-part-requires
+    on-requires
+    same-length
+    returns
+    same-length-2
+    returns-2
+    same-length-3
+    returns-3
+    same-length-4
+    returns-4)

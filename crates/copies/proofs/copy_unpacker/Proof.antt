@@ -1,0 +1,72 @@
+-- `copy_unpacker` puts kind, name and size.
+-- Assumes nothing.
+use Rattle.copies.proofs.Copying.{kind-no, name-no, unpacker-is, copies-as, copies-after, copied-was, copied-answer, copied-puts, copied-in, copied-no}
+use Rattle.cursor.specs.Rows.{unpackFrame, fileFrame}
+use Rattle.cursor.specs.Told.{numberTold, passTold}
+use Rattle.cursor.proofs.Laws.{was}
+use mathlib.Core.Path.{_≡_, refl, sym, ap, _∙_}
+use Prim.Native.Nat.{ℕ, _+_, _-_, _*_, _≤_, _<_}
+use lib.ListN.{length}
+use native.Mathlib.Omega.{arith}
+use borrow.Author.Needs.{needs}
+use Rattle.copies.proofs.copy_unpacker.Statement.{statement}
+use Rattle.copies.proofs.copy_unpacker.Tie as tie
+
+number-requires : tie.Need-number-requires
+number-requires c κs = search needs
+
+enum-known-n : tie.Need-enum-known-n
+enum-known-n c = search needs
+
+enum-known-kind : tie.Need-enum-known-kind
+enum-known-kind c = search needs
+
+put-number-requires : tie.Need-put-number-requires
+put-number-requires c κs = search needs
+
+copy-identifier-requires : tie.Need-copy-identifier-requires
+copy-identifier-requires c κs = search needs
+
+enum-known-n-2 : tie.Need-enum-known-n-2
+enum-known-n-2 c = search needs
+
+enum-known-b : tie.Need-enum-known-b
+enum-known-b c = search needs
+
+copy-number-requires : tie.Need-copy-number-requires
+copy-number-requires c κs = copied-in (copied-was (c .before .before .before .before .before .before .copy-identifier .ensures) (c .before .before .b .given .1))
+
+returns : tie.Need-returns
+returns c = record { is = kind-no _ _ (was numberTold (c .before .before .before .number .ensures unpackFrame) (c .before .n .given .1)) }
+
+same-length : tie.Need-same-length
+same-length c = search needs
+
+returns-2 : tie.Need-returns-2
+returns-2 c = record { is = name-no _ _ (was numberTold (c .before .before .before .before .before .before .before .before .before .before .before .before .before .before .number .ensures unpackFrame) (c .before .before .before .before .before .before .before .before .before .before .before .before .kind .given .1)) (copied-no (copied-was (c .before .before .before .before .before .copy-identifier .ensures) (c .before .n2 .given .1))) }
+
+same-length-2 : tie.Need-same-length-2
+same-length-2 c = search needs
+
+returns-3 : tie.Need-returns-3
+returns-3 c =
+    let k = copied-was (c .before .before .before .before .before .before .before .before .before .copy-identifier .ensures) (c .before .before .before .before .before .b .given .1) in
+    copies-as (sym (unpacker-is _ _ (was numberTold (c .before .before .before .before .before .before .before .before .before .before .before .before .before .before .before .before .before .before .number .ensures unpackFrame) (c .before .before .before .before .before .before .before .before .before .before .before .before .before .before .before .before .kind .given .1)) (copied-answer k))) (copies-after _ _ (c .before .before .before .before .before .before .before .before .before .before .before .before .before .put-number .ensures) (copies-after _ _ (copied-puts k) (c .before .before .copy-number .ensures unpackFrame)))
+
+pub copy-unpacker-spec : {M : Type 1} → statement M
+copy-unpacker-spec =
+    tie.close
+    (tie.spec
+    number-requires
+    enum-known-n
+    enum-known-kind
+    put-number-requires
+    copy-identifier-requires
+    enum-known-n-2
+    enum-known-b
+    copy-number-requires
+    returns
+    same-length
+    returns-2
+    same-length-2
+    returns-3)

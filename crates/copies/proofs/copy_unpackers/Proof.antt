@@ -1,0 +1,68 @@
+-- `copy_unpackers` puts one after the other. The invariant: what is put and what is left are the whole.
+-- Assumes nothing.
+use Rattle.copies.proofs.Copying.{Copying, copying-start, copying-in, copying-on, copying-no, copying-end, unpacker-behind, copied-was, copied-no}
+use Rattle.title.specs.Description.{unpackerText}
+use mathlib.Core.Path.{_≡_, refl, sym, ap, _∙_}
+use Prim.Native.Nat.{ℕ, _+_, _-_, _*_, _≤_, _<_}
+use lib.ListN.{length}
+use native.Mathlib.Omega.{arith}
+use borrow.Author.Needs.{needs}
+use Rattle.copies.proofs.copy_unpackers.Statement.{statement}
+use Rattle.copies.proofs.copy_unpackers.Tie as tie
+
+abbrev Inv-loop : tie.InvT-loop
+Inv-loop out₀ to file count next₀ at₀ left₀ out next at left = Copying file (unpackerText file) out₀ out to count (at₀ .at .0) next (at .at .0) left
+
+abbrev μ-loop : tie.MeasureT-loop
+μ-loop out₀ to file count next₀ at₀ left₀ out next at left = left
+
+loop-holds : tie.Need-loop-holds Inv-loop μ-loop
+loop-holds c = copying-start _ _ _ _ _ _ (c .before .before .pre .0)
+
+copy-unpacker-requires : tie.Need-copy-unpacker-requires Inv-loop μ-loop
+copy-unpacker-requires c κs = (copying-in (c .before .before .loop .inv), c .before .before .before .before .before .pre .1)
+
+enum-known-n : tie.Need-enum-known-n Inv-loop μ-loop
+enum-known-n c = search needs
+
+same-length : tie.Need-same-length Inv-loop μ-loop
+same-length c = search needs
+
+returns : tie.Need-returns Inv-loop μ-loop
+returns c = record { is = copying-no (unpacker-behind _) (c .before .before .before .before .before .before .before .before .loop .inv) (c .before .before .before .before .before .before .before .loop-test .taken) (copied-no (copied-was (c .before .before .before .before .before .copy-unpacker .ensures) (c .before .n .given .1))) }
+
+enum-known-a : tie.Need-enum-known-a Inv-loop μ-loop
+enum-known-a c = search needs
+
+sub-left : tie.Need-sub-left Inv-loop μ-loop
+sub-left c = search needs
+
+loop-less : tie.Need-loop-less Inv-loop μ-loop
+loop-less c = search needs
+
+loop-again : tie.Need-loop-again Inv-loop μ-loop
+loop-again c = copying-on (unpacker-behind _) (c .before .before .before .before .before .before .before .before .loop .inv) (c .before .before .before .before .before .before .before .loop-test .taken) (copied-was (c .before .before .before .before .before .copy-unpacker .ensures) (c .before .a .given .1))
+
+same-length-2 : tie.Need-same-length-2 Inv-loop μ-loop
+same-length-2 c = c .before .loop .inv .puts .long
+
+returns-2 : tie.Need-returns-2 Inv-loop μ-loop
+returns-2 c = record { is = copying-end (unpacker-behind _) (c .before .loop .inv) (c .loop-test .left) }
+
+pub copy-unpackers-spec : {M : Type 1} → statement M
+copy-unpackers-spec =
+    tie.close
+    (tie.spec
+    Inv-loop
+    μ-loop
+    loop-holds
+    copy-unpacker-requires
+    enum-known-n
+    same-length
+    returns
+    enum-known-a
+    sub-left
+    loop-less
+    loop-again
+    same-length-2
+    returns-2)

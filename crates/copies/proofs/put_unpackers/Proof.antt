@@ -1,0 +1,106 @@
+-- `put_unpackers` measures the unpackers, and puts their length and them.
+-- Assumes nothing.
+use Rattle.copies.proofs.Copying.{block-none, block-copied, block-never, copied-was, copied-no}
+use Rattle.title.specs.Description.{shape}
+use mathlib.Core.Path.{_≡_, refl, sym, ap, _∙_}
+use Prim.Native.Nat.{ℕ, _+_, _-_, _*_, _≤_, _<_}
+use lib.ListN.{length}
+use native.Mathlib.Omega.{arith}
+use borrow.Author.Needs.{needs}
+use Rattle.copies.proofs.put_unpackers.Statement.{statement}
+use Rattle.copies.proofs.put_unpackers.Tie as tie
+
+mul-k : tie.Need-mul-k
+mul-k c = search needs
+
+add-count : tie.Need-add-count
+add-count c = search needs
+
+mul-count : tie.Need-mul-count
+mul-count c = search needs
+
+shared-slice-read-count : tie.Need-shared-slice-read-count
+shared-slice-read-count c = search needs
+
+add-count-2 : tie.Need-add-count-2
+add-count-2 c = search needs
+
+mul-count-2 : tie.Need-mul-count-2
+mul-count-2 c = search needs
+
+shared-slice-read-count-2 : tie.Need-shared-slice-read-count-2
+shared-slice-read-count-2 c = search needs
+
+slice-aggregate-copy-unpackers : tie.Need-slice-aggregate-copy-unpackers
+slice-aggregate-copy-unpackers c = search needs
+
+copy-unpackers-requires : tie.Need-copy-unpackers-requires
+copy-unpackers-requires c κs = search needs
+
+enum-told : tie.Need-enum-told
+enum-told c = search needs
+
+put-number-requires : tie.Need-put-number-requires
+put-number-requires c κs = search needs
+
+enum-known-n : tie.Need-enum-known-n
+enum-known-n c = search needs
+
+put-number-requires-2 : tie.Need-put-number-requires-2
+put-number-requires-2 c κs = search needs
+
+copy-unpackers-requires-2 : tie.Need-copy-unpackers-requires-2
+copy-unpackers-requires-2 c κs = search needs
+
+enum-told-2 : tie.Need-enum-told-2
+enum-told-2 c = search needs
+
+enum-known-b : tie.Need-enum-known-b
+enum-known-b c = search needs
+
+same-length : tie.Need-same-length
+same-length c = search needs
+
+returns : tie.Need-returns
+unfolding shape
+returns c = block-none _ (copied-no (copied-was (c .before .before .before .before .before .before .before .copy-unpackers .ensures) (c .before .before .before .before .enum-told .given .1))) (c .before .before .put-number .ensures)
+
+same-length-2 : tie.Need-same-length-2
+same-length-2 c = search needs
+
+returns-2 : tie.Need-returns-2
+returns-2 c = block-never _ (copied-was (c .before .before .before .before .before .before .before .before .before .before .before .before .before .before .copy-unpackers .ensures) (c .before .before .before .before .before .before .before .before .before .before .before .n .given .1)) (copied-no (copied-was (c .before .before .before .before .copy-unpackers2 .ensures) (c .enum-told2 .given .1)))
+
+same-length-3 : tie.Need-same-length-3
+same-length-3 c = search needs
+
+returns-3 : tie.Need-returns-3
+unfolding shape
+returns-3 c = block-copied _ (copied-was (c .before .before .before .before .before .before .before .before .before .before .before .before .before .before .before .copy-unpackers .ensures) (c .before .before .before .before .before .before .before .before .before .before .before .before .n .given .1)) (c .before .before .before .before .before .before .before .before .before .put-number2 .ensures) (copied-was (c .before .before .before .before .before .copy-unpackers2 .ensures) (c .before .b .given .1))
+
+pub put-unpackers-spec : {M : Type 1} → statement M
+put-unpackers-spec =
+    tie.close
+    (tie.spec
+    mul-k
+    add-count
+    mul-count
+    shared-slice-read-count
+    add-count-2
+    mul-count-2
+    shared-slice-read-count-2
+    slice-aggregate-copy-unpackers
+    copy-unpackers-requires
+    enum-told
+    put-number-requires
+    enum-known-n
+    put-number-requires-2
+    copy-unpackers-requires-2
+    enum-told-2
+    enum-known-b
+    same-length
+    returns
+    same-length-2
+    returns-2
+    same-length-3
+    returns-3)

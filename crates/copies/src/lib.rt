@@ -1,0 +1,208 @@
+// Writes anew what is read again for it, unpackers and the types table: every number in its shortest form, and all else as it is.
+ghost use mathlib.Core.Path.{_≡_};
+ghost use mathlib.Core.List.{List, []};
+ghost use Prim.Native.Nat.{ℕ, _≤_, _<_, _^_, _*_, _+_};
+ghost use lib.ListN.{length};
+ghost use Rattle.cursor.specs.Machine.{run, times};
+ghost use Rattle.cursor.specs.Rows.{Frame};
+ghost use Rattle.cursor.specs.Vlq.{sized};
+ghost use Rattle.tree.specs.Rows.{nodeFrom};
+ghost use Rattle.title.specs.Description.{answer, unpackerText, identifierText, entryText, tableText, shape};
+ghost use Rattle.writer.specs.Counts.{Counts, tooMany};
+ghost use Rattle.copies.specs.Told.{numberText, Copies};
+use cursor::Cursor;
+use cursor::FilePlace;
+use cursor::Numbered;
+use cursor::Passed;
+
+// The place after what was put, and the cursor after what was read for it; or the refusal's number and place.
+pub enum Copied {
+    To(usize, Cursor),
+    Refused(u64, FilePlace),
+}
+
+// Puts the number at c.
+fn copy_number(out: &mut [u8], to: usize, file: &[u8], c: Cursor) -> Copied
+    requires { ⌜ to ≤ tooMany ⌝ }
+    ensures { λ r. ⌜ ((κ : Frame) → Copies (now (out .entry)) (now (out .exit)) to r (run (numberText κ (now (file .entry))) (now (file .entry)) (c .at .0))) ⌝ }
+{
+    match c.number(file, FilePlace(file.len()), cursor::CUT_SHORT) {
+        Numbered::Refused(n, p) => Copied::Refused(n, p),
+        Numbered::Is(v, d) => Copied::To(writer::put_number(out, to, v), d),
+    }
+}
+
+// Puts what names the unpacker at c, which is of that kind.
+fn copy_identifier(out: &mut [u8], to: usize, file: &[u8], c: Cursor, kind: u64) -> Copied
+    requires { ⌜ (to ≤ tooMany) × (length (now file) < 2 ^ 28) ⌝ }
+    ensures { λ r. ⌜ Copies (now (out .entry)) (now (out .exit)) to r (run (identifierText (now (file .entry)) kind) (now (file .entry)) (c .at .0)) ⌝ }
+{
+    let start = c.at;
+    let end = FilePlace(file.len());
+    if kind == 3 {
+        return match c.guid(file, end) {
+            Passed::Refused(n, p) => Copied::Refused(n, p),
+            Passed::To(d) => {
+                let after = d.at;
+                Copied::To(
+                    writer::put_part(out, to, file, start.0, after.0 - start.0),
+                    d,
+                )
+            }
+        };
+    }
+    if kind == 1 {
+        return match c.manufacturer(file, end) {
+            Passed::Refused(n, p) => Copied::Refused(n, p),
+            Passed::To(d) => {
+                let after = d.at;
+                let a = writer::put_part(out, to, file, start.0, after.0 - start.0);
+                copy_number(out, a, file, d)
+            }
+        };
+    }
+    copy_number(out, to, file, c)
+}
+
+// Puts the unpacker at c.
+fn copy_unpacker(out: &mut [u8], to: usize, file: &[u8], c: Cursor) -> Copied
+    requires { ⌜ (to ≤ tooMany) × (length (now file) < 2 ^ 28) ⌝ }
+    ensures { λ r. ⌜ Copies (now (out .entry)) (now (out .exit)) to r (run (unpackerText (now (file .entry)) []) (now (file .entry)) (c .at .0)) ⌝ }
+{
+    match c.number(file, FilePlace(file.len()), cursor::CUT_SHORT) {
+        Numbered::Refused(n, p) => Copied::Refused(n, p),
+        Numbered::Is(kind, d) => {
+            let a = writer::put_number(out, to, kind);
+            match copy_identifier(out, a, file, d, kind) {
+                Copied::Refused(n, p) => Copied::Refused(n, p),
+                Copied::To(b, e) => copy_number(out, b, file, e),
+            }
+        }
+    }
+}
+
+// Puts the unpackers at c, of which there are so many.
+fn copy_unpackers(out: &mut [u8], to: usize, file: &[u8], c: Cursor, count: u64) -> Copied
+    requires { ⌜ (to ≤ tooMany) × (length (now file) < 2 ^ 28) ⌝ }
+    ensures { λ r. ⌜ Copies (now (out .entry)) (now (out .exit)) to r (run (times count (unpackerText (now (file .entry))) []) (now (file .entry)) (c .at .0)) ⌝ }
+{
+    let mut next = to;
+    let mut at = c;
+    let mut left = count;
+    while 0 < left {
+        match copy_unpacker(out, next, file, at) {
+            Copied::Refused(n, p) => return Copied::Refused(n, p),
+            Copied::To(a, d) => {
+                next = a;
+                at = d;
+            }
+        }
+        left = left - 1;
+    }
+    Copied::To(next, at)
+}
+
+// Puts the unpackers of node row i with their length. Those of a file that was read are never refused.
+pub fn put_unpackers(out: &mut [u8], to: usize, file: &[u8], nodes: &[u64], i: usize) -> usize
+    requires { ⌜ (i * 13 + 13 ≤ length (now nodes)) × (to ≤ tooMany) × (length (now file) < 2 ^ 28) ⌝ }
+    ensures { λ r. ⌜ Counts (now (out .entry)) (now (out .exit)) to (sized (shape (now (file .entry)) (nodeFrom (now (nodes .entry)) (i * 13)) .unpackers)) r ⌝ }
+{
+    let k = i * cursor::NODE_WIDTH;
+    let at = FilePlace(nodes[k + 9] as usize);
+    let count = nodes[k + 10];
+    let mut scratch = [0u8; 1];
+    match copy_unpackers(&mut scratch, 0, file, Cursor { at }, count) {
+        Copied::Refused(_, _) => writer::put_number(out, to, 0),
+        Copied::To(n, _) => {
+            let a = writer::put_number(out, to, n as u64);
+            match copy_unpackers(out, a, file, Cursor { at }, count) {
+                Copied::Refused(_, _) => a,
+                Copied::To(b, _) => b,
+            }
+        }
+    }
+}
+
+// Puts the entry of the types table at c.
+fn copy_entry(out: &mut [u8], to: usize, file: &[u8], c: Cursor) -> Copied
+    requires { ⌜ (to ≤ tooMany) × (length (now file) < 2 ^ 28) ⌝ }
+    ensures { λ r. ⌜ Copies (now (out .entry)) (now (out .exit)) to r (run (entryText (now (file .entry)) []) (now (file .entry)) (c .at .0)) ⌝ }
+{
+    let end = FilePlace(file.len());
+    match copy_number(out, to, file, c) {
+        Copied::Refused(n, p) => Copied::Refused(n, p),
+        Copied::To(a, d) => match copy_number(out, a, file, d) {
+            Copied::Refused(n, p) => Copied::Refused(n, p),
+            Copied::To(b, e) => match e.block(file, end, cursor::CUT_SHORT) {
+                Numbered::Refused(n, p) => Copied::Refused(n, p),
+                Numbered::Is(size, name) => {
+                    let first = name.at;
+                    let g = writer::put_number(out, b, size);
+                    let h = writer::put_part(out, g, file, first.0, size as usize);
+                    Copied::To(h, name.on(size))
+                }
+            },
+        },
+    }
+}
+
+// Puts the entries of the types table at c, of which there are so many.
+fn copy_entries(out: &mut [u8], to: usize, file: &[u8], c: Cursor, count: u64) -> Copied
+    requires { ⌜ (to ≤ tooMany) × (length (now file) < 2 ^ 28) ⌝ }
+    ensures { λ r. ⌜ Copies (now (out .entry)) (now (out .exit)) to r (run (times count (entryText (now (file .entry))) []) (now (file .entry)) (c .at .0)) ⌝ }
+{
+    let mut next = to;
+    let mut at = c;
+    let mut left = count;
+    while 0 < left {
+        match copy_entry(out, next, file, at) {
+            Copied::Refused(n, p) => return Copied::Refused(n, p),
+            Copied::To(a, d) => {
+                next = a;
+                at = d;
+            }
+        }
+        left = left - 1;
+    }
+    Copied::To(next, at)
+}
+
+// Puts the types table's count and entries; FileLength, which stands before the table, begins at c.
+fn copy_table(out: &mut [u8], to: usize, file: &[u8], c: Cursor) -> Copied
+    requires { ⌜ (to ≤ tooMany) × (length (now file) < 2 ^ 28) ⌝ }
+    ensures { λ r. ⌜ Copies (now (out .entry)) (now (out .exit)) to r (run (tableText (now (file .entry))) (now (file .entry)) (c .at .0)) ⌝ }
+{
+    let end = FilePlace(file.len());
+    match c.number(file, end, cursor::CUT_SHORT) {
+        Numbered::Refused(n, p) => Copied::Refused(n, p),
+        Numbered::Is(_, d) => match d.block(file, end, cursor::CUT_SHORT) {
+            Numbered::Refused(n, p) => Copied::Refused(n, p),
+            Numbered::Is(_, e) => match e.number(file, end, cursor::CUT_SHORT) {
+                Numbered::Refused(n, p) => Copied::Refused(n, p),
+                Numbered::Is(count, g) => {
+                    let a = writer::put_number(out, to, count);
+                    copy_entries(out, a, file, g, count)
+                }
+            },
+        },
+    }
+}
+
+// Puts the types table with its length. That of a file that was read is never refused.
+pub fn put_types(out: &mut [u8], to: usize, file: &[u8], opening: usize) -> usize
+    requires { ⌜ (to ≤ tooMany) × (length (now file) < 2 ^ 28) ⌝ }
+    ensures { λ r. ⌜ Counts (now (out .entry)) (now (out .exit)) to (sized (answer (run (tableText (now (file .entry))) (now (file .entry)) opening))) r ⌝ }
+{
+    let at = FilePlace(opening);
+    let mut scratch = [0u8; 1];
+    match copy_table(&mut scratch, 0, file, Cursor { at }) {
+        Copied::Refused(_, _) => writer::put_number(out, to, 0),
+        Copied::To(n, _) => {
+            let a = writer::put_number(out, to, n as u64);
+            match copy_table(out, a, file, Cursor { at }) {
+                Copied::Refused(_, _) => a,
+                Copied::To(b, _) => b,
+            }
+        }
+    }
+}

@@ -1,0 +1,38 @@
+-- `power` multiplies k times.
+-- Assumes nothing.
+use mathlib.Core.Path.{_≡_, refl, sym, ap, _∙_}
+use Prim.Native.Nat.{ℕ, suc, _*_, _^_, _≤_, _<_, _+_, _-_}
+use native.Mathlib.Nat.{pow-succ', pow-le-pow-right, mul-comm}
+use native.Mathlib.Omega.{arith}
+use Rattle.writer.proofs.Counting.{power-on, power-most}
+use Rattle.writer.proofs.power.Statement.{statement}
+use Rattle.writer.proofs.power.Tie as tie
+
+abbrev Inv-loop : tie.InvT-loop
+Inv-loop k r₀ i₀ r i = (r ≡ 128 ^ i) × (i ≤ k) × (r ≤ 128 ^ 4)
+
+abbrev μ-loop : tie.MeasureT-loop
+μ-loop k r₀ i₀ r i = k - i
+
+loop-holds : tie.Need-loop-holds Inv-loop μ-loop
+loop-holds c = (refl, omega arith, omega arith)
+
+mul-r : tie.Need-mul-r Inv-loop μ-loop
+mul-r c = omega arith
+
+add-i : tie.Need-add-i Inv-loop μ-loop
+add-i c = omega arith
+
+loop-less : tie.Need-loop-less Inv-loop μ-loop
+loop-less c = omega arith
+
+loop-again : tie.Need-loop-again Inv-loop μ-loop
+loop-again c =
+    let e = power-on (c .before .loop .i) (c .before .loop .inv .0) in
+    (e, omega arith, omega (arith, e, power-most (c .before .loop .i + 1) (omega arith)))
+
+returns : tie.Need-returns Inv-loop μ-loop
+returns c = let e : c .before .loop .i ≡ c .before .before .args .k = omega arith in rw (← e) (c .before .loop .inv .0)
+
+pub power-spec : {M : Type 1} → statement M
+power-spec = tie.close (tie.spec Inv-loop μ-loop loop-holds mul-r add-i loop-less loop-again returns)
