@@ -83,7 +83,7 @@ module _ (s : Shape) (cs : List Content) (n : ℕ) where
       let h : ℕ = headerOf (s .held) (restText s cs) c in
       omega (arith, joined-length (vlq (h + c) ∷ vlq (s .held) ∷ vlq h ∷ restText s cs ∷ ownText s ∷ []))
 
-  texts-within : texts ≤ length (nodeText s cs n)
+  pub texts-within : texts ≤ length (nodeText s cs n)
   texts-within = omega (arith, node-most, rest-length)
 
   header-least : (k a : ℕ) → k ≤ headerSize k a

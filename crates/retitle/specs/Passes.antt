@@ -30,6 +30,10 @@ pub record Framed (s : Shape) (cs : List Content) (n : ℕ) (r : Frame) : Type 0
   pub size : r .size < tooMany → r .size ≡ headerOf (s .held) (restText s cs) (length (ownText s) + n) + (length (ownText s) + n)
   pub header : r .size < tooMany → r .header ≡ headerOf (s .held) (restText s cs) (length (ownText s) + n)
 
+abbrev pub sumOf : List ℕ → ℕ
+sumOf [] = 0
+sumOf (n ∷ ns) = n + sumOf ns
+
 -- ---- the rows of a file, and what is to be written
 
 -- `nodes` and `items` are the words of the tables, `count` and `total` the numbers of their rows; item row `row` gets the title

@@ -10,7 +10,7 @@ ghost use Rattle.title.specs.Description.{Content, shape};
 ghost use Rattle.title.specs.Text.{itemsText, ownText, nodeText, headerSize, lengthBytes, startWith, lastBytes, startAt, fileBytes};
 ghost use Rattle.writer.specs.Counts.{Counts, tooMany};
 ghost use Rattle.contents.specs.Contents.{contentsFrom, ItemsInside};
-ghost use Rattle.retitle.specs.Passes.{bodySize, Framed, task, Sound, Measured, outerFrom};
+ghost use Rattle.retitle.specs.Passes.{bodySize, Framed, sumOf, task, Sound, Measured, outerFrom};
 
 // NodeHeaderLength and NodeLength.
 struct Frame {
@@ -156,4 +156,115 @@ fn put_node(
     let e = contents::put_items(out, d, file, items, first, end, row, title);
     let g = copies::put_unpackers(out, e, file, nodes, i);
     put_own(out, g, file, nodes, i)
+}
+
+// The bytes of the item rows from row `first` on, up to row `end`.
+fn items_size(
+    file: &[u8],
+    items: &[u64],
+    first: usize,
+    end: usize,
+    row: usize,
+    title: &[u8],
+) -> usize
+    requires { ⌜ (first ≤ end) × ItemsInside (length (now file)) end (now items) ⌝ }
+    ensures { λ r. ⌜ r ≡ min (length (itemsText (contentsFrom (now (file .entry)) row (now (title .entry)) (now (items .entry)) first (end - first)))) tooMany ⌝ }
+{
+    let mut scratch = [0u8; 1];
+    contents::put_items(&mut scratch, 0, file, items, first, end, row, title)
+}
+
+// The sum of the words from word `from` on, up to word `end`.
+fn sum(words: &[usize], from: usize, end: usize) -> usize
+    requires { ⌜ (from ≤ end) × (end ≤ length (now words)) ⌝ }
+    ensures { λ r. ⌜ r ≡ min (sumOf (part (now (words .entry)) from (end - from))) tooMany ⌝ }
+{
+    let mut r: usize = 0;
+    let mut k = from;
+    while k < end {
+        r = writer::on(r, words[k]);
+        k = k + 1;
+    }
+    r
+}
+
+// The first pass, from the last row to the first: for each node the bytes of its item rows, into `metadata`, and of the nodes that it holds, into `inner`.
+// The answer: the bytes of the tree. `sizes` is a stack, which grows down from its end: the sizes of the nodes from row i on that no other of these holds.
+fn measure_tree(
+    file: &[u8],
+    nodes: &[u64],
+    items: &[u64],
+    count: usize,
+    total: usize,
+    row: usize,
+    title: &[u8],
+    metadata: &mut [usize],
+    inner: &mut [usize],
+) -> usize
+    requires { ⌜ Sound (task (now file) (now nodes) (now items) count total row (now title)) × (length (now metadata) ≡ 256) × (length (now inner) ≡ 256) ⌝ }
+    ensures measured { λ _. ⌜ Measured (task (now (file .entry)) (now (nodes .entry)) (now (items .entry)) count total row (now (title .entry))) 0 (now (metadata .exit)) (now (inner .exit)) ⌝ }
+    ensures tree { λ r. ⌜ r ≡ min (length (joined (outerFrom (task (now (file .entry)) (now (nodes .entry)) (now (items .entry)) count total row (now (title .entry))) 0))) tooMany ⌝ }
+{
+    let mut sizes = [0usize; 256];
+    let mut top: usize = 256;
+    let mut end = total;
+    let mut i = count;
+    while 0 < i {
+        i = i - 1;
+        let k = i * cursor::NODE_WIDTH;
+        let first = end - nodes[k + 11] as usize;
+        let below = top + nodes[k + 3] as usize;
+        let m = items_size(file, items, first, end, row, title);
+        let n = sum(&sizes, top, below);
+        let f = frame_of(file, nodes, i, m, n);
+        metadata[i] = m;
+        inner[i] = n;
+        top = below - 1;
+        sizes[top] = f.size;
+        end = first;
+    }
+    sum(&sizes, top, 256)
+}
+
+// The second pass, from the first row to the last: puts the nodes.
+fn put_tree(
+    out: &mut [u8],
+    to: usize,
+    file: &[u8],
+    nodes: &[u64],
+    items: &[u64],
+    count: usize,
+    total: usize,
+    row: usize,
+    title: &[u8],
+    metadata: &[usize],
+    inner: &[usize],
+) -> usize
+    requires rows { ⌜ Sound (task (now file) (now nodes) (now items) count total row (now title)) × Measured (task (now file) (now nodes) (now items) count total row (now title)) 0 (now metadata) (now inner) × (length (now metadata) ≡ 256) × (length (now inner) ≡ 256) ⌝ }
+    requires small { ⌜ (length (joined (outerFrom (task (now file) (now nodes) (now items) count total row (now title)) 0)) < tooMany) × (to ≤ tooMany) ⌝ }
+    ensures { λ r. ⌜ Counts (now (out .entry)) (now (out .exit)) to (joined (outerFrom (task (now (file .entry)) (now (nodes .entry)) (now (items .entry)) count total row (now (title .entry))) 0)) r ⌝ }
+{
+    let mut next = to;
+    let mut first: usize = 0;
+    let mut i: usize = 0;
+    while i < count {
+        let end = first + nodes[i * cursor::NODE_WIDTH + 11] as usize;
+        next = put_node(
+            out,
+            next,
+            file,
+            nodes,
+            items,
+            i,
+            first,
+            end,
+            row,
+            title,
+            metadata[i],
+            inner[i],
+        );
+        first = end;
+        i = i + 1;
+    }
+    next
 }
