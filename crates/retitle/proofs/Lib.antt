@@ -2,3 +2,4 @@ pub mod Lengths
 pub mod Nodes
 pub mod Rows
 pub mod Passes
+pub mod Files

@@ -4,10 +4,11 @@ ghost use mathlib.Core.Path.{_≡_};
 ghost use mathlib.Core.List.{List, _∷_, [], map};
 ghost use Prim.Native.Nat.{ℕ, _≤_, _<_, _^_, _*_, _+_, _-_, min};
 ghost use lib.ListN.{length, take, drop};
+ghost use Rattle.cursor.specs.Machine.{run};
 ghost use Rattle.cursor.specs.Vlq.{part, least, joined, sized};
 ghost use Rattle.tree.specs.Rows.{nodeFrom};
-ghost use Rattle.title.specs.Description.{Content, shape};
-ghost use Rattle.title.specs.Text.{itemsText, ownText, nodeText, headerSize, lengthBytes, startWith, lastBytes, startAt, fileBytes};
+ghost use Rattle.title.specs.Description.{Content, answer, tableText, shape};
+ghost use Rattle.title.specs.Text.{itemsText, ownText, nodeText, headerSize, lengthBytes, startWith, lastBytes, startAt, fileBytes, fileOf};
 ghost use Rattle.writer.specs.Counts.{Counts, tooMany};
 ghost use Rattle.contents.specs.Contents.{contentsFrom, ItemsInside};
 ghost use Rattle.retitle.specs.Passes.{bodySize, Framed, sumOf, task, Sound, Measured, outerFrom};
@@ -267,4 +268,69 @@ fn put_tree(
         i = i + 1;
     }
     next
+}
+
+// Puts the file, whose FileLength begins at `opening`, whose header ends at `end` and whose tree lies from `start` to `last`.
+fn put_file(
+    out: &mut [u8],
+    file: &[u8],
+    nodes: &[u64],
+    items: &[u64],
+    opening: usize,
+    end: usize,
+    start: usize,
+    last: usize,
+    count: usize,
+    total: usize,
+    row: usize,
+    title: &[u8],
+) -> usize
+    requires rows { ⌜ Sound (task (now file) (now nodes) (now items) count total row (now title)) ⌝ }
+    requires inside { ⌜ (opening ≤ length (now file)) × (end ≤ start) × (start ≤ last) × (last < length (now file)) ⌝ }
+    ensures { λ r. ⌜ Counts (now (out .entry)) (now (out .exit)) 0 (fileOf (take opening (now (file .entry))) (sized (answer (run (tableText (now (file .entry))) (now (file .entry)) opening))) (part (now (file .entry)) end (start - end)) (joined (outerFrom (task (now (file .entry)) (now (nodes .entry)) (now (items .entry)) count total row (now (title .entry))) 0)) (drop (last + 1) (now (file .entry)))) r ⌝ }
+{
+    let mut metadata = [0usize; 256];
+    let mut inner = [0usize; 256];
+    let tree = measure_tree(
+        file,
+        nodes,
+        items,
+        count,
+        total,
+        row,
+        title,
+        &mut metadata,
+        &mut inner,
+    );
+    if tree == writer::TOO_MANY {
+        return tree;
+    }
+    let mut scratch = [0u8; 1];
+    let types = copies::put_types(&mut scratch, 0, file, opening);
+    let gap = start - end;
+    let rest = last + 1;
+    let after = file.len() - rest;
+    let first = tree_start(opening + types + gap, tree, after);
+    let stop = first + tree;
+    let size = stop + after;
+    let a = writer::put_part(out, 0, file, 0, opening);
+    let b = writer::put_number(out, a, size as u64);
+    let c = copies::put_types(out, b, file, opening);
+    let d = writer::put_number(out, c, first as u64);
+    let e = writer::put_number(out, d, (stop - 1) as u64);
+    let f = writer::put_part(out, e, file, end, gap);
+    let g = put_tree(
+        out,
+        f,
+        file,
+        nodes,
+        items,
+        count,
+        total,
+        row,
+        title,
+        &metadata,
+        &inner,
+    );
+    writer::put_part(out, g, file, rest, after)
 }
