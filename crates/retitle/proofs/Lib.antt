@@ -3,3 +3,7 @@ pub mod Nodes
 pub mod Rows
 pub mod Passes
 pub mod Files
+pub mod Refusals
+pub mod Ready
+pub mod Headed
+pub mod Asked
