@@ -500,7 +500,8 @@ pub fn correct_title(
             }
             Corrected::File(size) => {
                 room::clear_bytes_from(out, size);
-                tree::read_file(&out[..size], nodes, items);
+                let written = &out[..size];
+                tree::read_file(written, nodes, items);
                 Corrected::File(size)
             }
         },
