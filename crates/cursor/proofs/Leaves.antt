@@ -14,7 +14,7 @@ use Rattle.cursor.specs.Machine.{ret, refuse, byte, _>>=_, _>>_, if_then
 use Rattle.cursor.specs.Rows.{Frame, Part, P}
 use Rattle.cursor.specs.Leaves.{next, digits, number, block, manufacturer, guidBytes, guid}
 use Rattle.cursor.proofs.Laws.{running}
-use Rattle.cursor.proofs.Digits.{grown, below}
+use Rattle.cursor.proofs.Digits.{begun, last, grown, below}
 use Rattle.cursor.proofs.Stable.{depends}
 use Rattle.cursor.proofs.Wp.{Wp, Rule, Free, at-end, wp-after, wp-weaken, wp-ret, wp-refuse, wp-here, wp-byte, wp-if, wp-check, wp-place}
 
@@ -92,9 +92,13 @@ module _ (κ : Frame) (past end : ℕ) (f : List ℕ) (at : ℕ) {v q : ℕ} whe
   pub number-depends : run (number κ past end) f at ≡ ok v q → (g : List ℕ) → ((k : ℕ) → at ≤ k → k < q → getD f k 0 ≡ getD g k 0) → run (number κ past end) g at ≡ ok v q
   number-depends e g h = depends (number κ past end) f g at e h
 
--- ---- the ways through a block and a manufacturer
+-- ---- the short way through a number, and the ways through a block and a manufacturer
 
 module _ (κ : Frame) (past end : ℕ) (f : List ℕ) (at : ℕ) where
+  -- a byte below 80h is the whole number
+  pub number-short : at < end → {b : ℕ} → b ≡ getD f at 0 → b < 128 → ok b (at + 1) ≡ run (number κ past end) f at
+  number-short l {b} is h = let m : 0 * 128 + b % 128 ≡ b = omega arith in rw m at (last (begun f past end at) (λ z. omega arith) l is h κ)
+
   pub block-size : {n p : ℕ} → run (number κ past end) f at ≡ refused n p → refused n p ≡ run (block κ past end) f at
   unfolding block
   block-size e = simp (running, e)

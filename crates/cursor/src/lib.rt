@@ -156,7 +156,15 @@ impl Cursor {
     {
         let start = self.at;
         let stop = end.0;
-        let mut at = start.0;
+        let first = start.0;
+        // Almost every number is one byte, and is read straight away. The loop below is the rule for any number.
+        if first < stop {
+            let byte = wide(file[first]);
+            if byte < 128 {
+                return Numbered::Is(byte, self.on(1));
+            }
+        }
+        let mut at = first;
         let mut value: u64 = 0;
         let mut left: usize = 4;
         loop {
