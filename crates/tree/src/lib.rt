@@ -13,8 +13,9 @@ ghost use Rattle.metadata.specs.Told.{contextOf, Gives};
 ghost use Rattle.node.specs.declared.Standing.{Standing};
 ghost use Rattle.cursor.specs.Rows.{inlineSize, Events};
 ghost use Rattle.tree.specs.Tree.{folder, node, tree};
-ghost use Rattle.tree.specs.Reading.{nodesOf, good, context, offsetAt, outside, partEnd, takenFrom, reach, follow, readFile, readOf, answerOf, nodeTable, itemTable};
+ghost use Rattle.tree.specs.Reading.{nodesOf, good, context, offsetAt, outside, partEnd, takenFrom, reach, follow, readOf, answerOf};
 ghost use Rattle.tree.specs.Rows.{nodeAt, nodesIn, rowStarting, Rising};
+ghost use Rattle.tree.specs.Asking.{reads, nodesRead, itemsRead};
 ghost use Rattle.tree.specs.Told.{Stands, Leaves};
 use cursor::Cursor;
 use cursor::FilePlace;
@@ -482,9 +483,9 @@ fn follow_all(
 
 // Reads a file into the two tables: the start of every question.
 pub fn read_file(file: &[u8], nodes: &mut [u64], items: &mut [u64]) -> Read
-    ensures answer { λ r. ⌜ r ≡ readOf (readFile (limits (length (now (nodes .entry))) (length (now (items .entry)))) (now (file .entry))) ⌝ }
-    ensures nodes { λ _. ⌜ now (nodes .exit) ≡ nodeTable (length (now (nodes .entry))) (readFile (limits (length (now (nodes .entry))) (length (now (items .entry)))) (now (file .entry))) ⌝ }
-    ensures items { λ _. ⌜ now (items .exit) ≡ itemTable (length (now (items .entry))) (readFile (limits (length (now (nodes .entry))) (length (now (items .entry)))) (now (file .entry))) ⌝ }
+    ensures answer { λ r. ⌜ r ≡ readOf (reads (now (nodes .entry)) (now (items .entry)) (now (file .entry))) ⌝ }
+    ensures nodes { λ _. ⌜ now (nodes .exit) ≡ nodesRead (now (nodes .entry)) (now (items .entry)) (now (file .entry)) ⌝ }
+    ensures items { λ _. ⌜ now (items .exit) ≡ itemsRead (now (nodes .entry)) (now (items .entry)) (now (file .entry)) ⌝ }
 {
     let mut types = [0u64; header::MOST_TYPES * 2];
     match header::read_header(file, &mut types) {
@@ -533,9 +534,9 @@ pub fn read_file(file: &[u8], nodes: &mut [u64], items: &mut [u64]) -> Read
 
 // The first question: reads the tree into the two tables.
 pub fn read_tree(file: &[u8], nodes: &mut [u64], items: &mut [u64]) -> Answer
-    ensures answer { λ r. ⌜ r ≡ answerOf (readFile (limits (length (now (nodes .entry))) (length (now (items .entry)))) (now (file .entry))) ⌝ }
-    ensures nodes { λ _. ⌜ now (nodes .exit) ≡ nodeTable (length (now (nodes .entry))) (readFile (limits (length (now (nodes .entry))) (length (now (items .entry)))) (now (file .entry))) ⌝ }
-    ensures items { λ _. ⌜ now (items .exit) ≡ itemTable (length (now (items .entry))) (readFile (limits (length (now (nodes .entry))) (length (now (items .entry)))) (now (file .entry))) ⌝ }
+    ensures answer { λ r. ⌜ r ≡ answerOf (reads (now (nodes .entry)) (now (items .entry)) (now (file .entry))) ⌝ }
+    ensures nodes { λ _. ⌜ now (nodes .exit) ≡ nodesRead (now (nodes .entry)) (now (items .entry)) (now (file .entry)) ⌝ }
+    ensures items { λ _. ⌜ now (items .exit) ≡ itemsRead (now (nodes .entry)) (now (items .entry)) (now (file .entry)) ⌝ }
 {
     match read_file(file, nodes, items) {
         Read::Refused(n, p) => Answer::Refused(n, p.0),
