@@ -69,10 +69,10 @@ module _ (f g : List ℕ) where
       first-same [] = refl
       first-same (k ∷ ks) = ap₂ orElse (look-same k) (first-same ks)
 
-      pub find-same : (row : ℕ) (h : Header) (ns : List Node) → find f w row h ns is ≡ find g w row h ns is
+      pub find-same : (row : ℕ) (h : Header) (ns : List Node) → find w row f h ns is ≡ find w row g h ns is
       unfolding find nearest
       find-same row h ns = ap (λ (o : Result Numbered). choose (ltb row (length ns)) o (bad 18 0)) (first-same (path ns row))
 
-      pub find-own-same : (row : ℕ) (h : Header) (ns : List Node) → findOwn f w row h ns is ≡ findOwn g w row h ns is
+      pub find-own-same : (row : ℕ) (h : Header) (ns : List Node) → findOwn w row f h ns is ≡ findOwn w row g h ns is
       unfolding findOwn
       find-own-same row h ns = ap (λ (o : Result Numbered). choose (ltb row (length ns)) o (bad 18 0)) (look-same row)

@@ -5,10 +5,9 @@ ghost use Prim.Native.Nat.{_≤_, _<_, _*_, _+_};
 ghost use lib.Dec.{eqb};
 ghost use lib.ListN.{length};
 ghost use Rattle.header.specs.Header.{Header};
-ghost use Rattle.metadata.specs.Tables.{limits};
-ghost use Rattle.tree.specs.Reading.{readFile, summary};
+ghost use Rattle.tree.specs.Reading.{summary};
 ghost use Rattle.tree.specs.Rows.{nodeFrom, itemFrom, nodesIn, itemsIn};
-ghost use Rattle.tree.specs.Asking.{ask, keptNodes, keptItems};
+ghost use Rattle.tree.specs.Asking.{answered, nodesLeft, itemsLeft};
 ghost use Rattle.find.specs.Own.{those, part};
 ghost use Rattle.mobile.specs.Mobile.{all, isField, isBinary, roleOfType, roleOfRow, roleOf, besides, child, children, filesOnly, isPlain, plainReferences, noUnpackers, oneTune, isNeed, areNeeds, tuneNeeds, isShort, fieldSize, isSmall, smallFields, verdict, mobile};
 ghost use Rattle.mobile.specs.Told.{told, DataIn, Tables, NextRow};
@@ -480,9 +479,9 @@ fn verdict(file: &[u8], nodes: &[u64], items: &[u64], s: Summary) -> u64
 
 // Judges Mobile XMF: reads the file into the two tables and gives the verdict.
 pub fn judge(file: &[u8], nodes: &mut [u64], items: &mut [u64]) -> Judged
-    ensures answer { λ r. ⌜ told r ≡ ask (readFile (limits (length (now (nodes .entry))) (length (now (items .entry)))) (now (file .entry))) (mobile (now (file .entry))) ⌝ }
-    ensures nodes { λ _. ⌜ now (nodes .exit) ≡ keptNodes (length (now (nodes .entry))) (readFile (limits (length (now (nodes .entry))) (length (now (items .entry)))) (now (file .entry))) (ask (readFile (limits (length (now (nodes .entry))) (length (now (items .entry)))) (now (file .entry))) (mobile (now (file .entry)))) ⌝ }
-    ensures items { λ _. ⌜ now (items .exit) ≡ keptItems (length (now (items .entry))) (readFile (limits (length (now (nodes .entry))) (length (now (items .entry)))) (now (file .entry))) (ask (readFile (limits (length (now (nodes .entry))) (length (now (items .entry)))) (now (file .entry))) (mobile (now (file .entry)))) ⌝ }
+    ensures answer { λ r. ⌜ told r ≡ answered (now (nodes .entry)) (now (items .entry)) (now (file .entry)) mobile ⌝ }
+    ensures nodes { λ _. ⌜ now (nodes .exit) ≡ nodesLeft (now (nodes .entry)) (now (items .entry)) (now (file .entry)) mobile ⌝ }
+    ensures items { λ _. ⌜ now (items .exit) ≡ itemsLeft (now (nodes .entry)) (now (items .entry)) (now (file .entry)) mobile ⌝ }
 {
     match tree::read_file(file, nodes, items) {
         Read::Refused(n, p) => Judged::Refused(n, p.0),
