@@ -56,6 +56,8 @@ pub const NO_SUCH_ITEM: u64 = 23;
 
 pub const BAD_DETACHED: u64 = 24;
 
+pub const BAD_DESCRIPTION: u64 = 25;
+
 pub const BAD_TEXT: u64 = 26;
 
 pub const REFERS_ELSEWHERE: u64 = 36;
