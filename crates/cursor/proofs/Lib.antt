@@ -6,6 +6,7 @@ pub mod Wp
 pub mod Uses
 pub mod Quiet
 pub mod Digits
+pub mod Within
 pub mod Leaves
 pub mod Order
 pub mod Limited
