@@ -1,6 +1,6 @@
 -- The laws of the leaves: each moves on, stays inside its part, and is small. Callers use these, never the text of a definition.
 -- Assumes nothing.
-use mathlib.Core.Path.{_≡_}
+use mathlib.Core.Path.{_≡_, sym}
 use mathlib.Core.List.{List}
 use Prim.Native.Nat.{ℕ, zero, suc, _+_, _*_, _%_, _-_, _^_, _≤_, _<_}
 use native.Mathlib.Nat.{lt-of-not-le, mul-assoc, mul-le-mul-left, mul-le-mul-right, pow-succ', pow-le-pow-right}
@@ -82,17 +82,17 @@ module _ (κ : Frame) (past end : ℕ) (f : List ℕ) (at : ℕ) {v q : ℕ} whe
   pub block-inside : run (block κ past end) f at ≡ ok v q → (at < q) × (q ≤ at + 4) × (q + v ≤ end) × (v < 2 ^ 28)
   block-inside e = at-end any-free f (block-on {U = Any} κ past end at) e
 
+  -- a byte below 80h is the whole number
+  pub number-short : at < end → v ≡ getD f at 0 → v < 128 → q ≡ at + 1 → run (number κ past end) f at ≡ ok v q
+  number-short l is h k = let m : 0 * 128 + v % 128 ≡ v = omega arith in rw k (sym (rw m at (last (begun f past end at) (λ z. omega arith) l is h κ)))
+
   -- a number depends on the bytes that it read alone
   pub number-depends : run (number κ past end) f at ≡ ok v q → (g : List ℕ) → ((k : ℕ) → at ≤ k → k < q → getD f k 0 ≡ getD g k 0) → run (number κ past end) g at ≡ ok v q
   number-depends e g h = depends (number κ past end) f g at e h
 
--- ---- the short way through a number, and the ways through a block and a manufacturer
+-- ---- the ways through a block and a manufacturer
 
 module _ (κ : Frame) (past end : ℕ) (f : List ℕ) (at : ℕ) where
-  -- a byte below 80h is the whole number
-  pub number-short : at < end → {b : ℕ} → b ≡ getD f at 0 → b < 128 → ok b (at + 1) ≡ run (number κ past end) f at
-  number-short l {b} is h = let m : 0 * 128 + b % 128 ≡ b = omega arith in rw m at (last (begun f past end at) (λ z. omega arith) l is h κ)
-
   pub block-size : {n p : ℕ} → run (number κ past end) f at ≡ refused n p → refused n p ≡ run (block κ past end) f at
   unfolding block
   block-size e = simp (running, e)

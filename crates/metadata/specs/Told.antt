@@ -2,18 +2,24 @@
 -- Assumes nothing.
 use mathlib.Core.Path.{_≡_}
 use mathlib.Core.List.{List}
-use Prim.Native.Nat.{ℕ, _*_, _≤_}
+use Prim.Native.Nat.{ℕ, _+_, _*_, _≤_}
 use lib.ListN.{length}
-use Rattle.cursor.specs.Machine.{Out, ok, refused}
+use Rattle.cursor.specs.Machine.{Out, ok, refused, run}
+use Rattle.cursor.specs.Rows.{metaFrame}
+use Rattle.cursor.specs.Refusals.{cutShort}
+use Rattle.cursor.specs.Leaves.{block}
+use Rattle.cursor.specs.Leaves as leaves
 use Rattle.cursor.specs.Told.{Readable}
 use Rattle.header.specs.Types.{typesOf}
 use Rattle.metadata.specs.Tables.{State, state, itemWidth}
-use Rattle.metadata.specs.Metadata.{Context}
+use Rattle.metadata.specs.Metadata.{Context, itemFrame}
 use Rattle.metadata.specs.declared.Limits.{Limits}
 use Rattle.metadata.specs.declared.Made.{Made}
 use Rattle.metadata.specs.declared.Scope.{Scope}
 use Rattle.metadata.specs.declared.Field.{Field}
+use Rattle.metadata.specs.declared.Field.the-variants.{Standard}
 use Rattle.metadata.specs.declared.Contents.{Contents}
+use Rattle.metadata.specs.declared.Contents.the-variants.{Universal}
 use Rattle.metadata.specs.declared.MetaItem.{MetaItem}
 use Rattle.metadata.specs.declared.Fielded.{Fielded}
 use Rattle.metadata.specs.declared.Fielded.the-variants as fielded
@@ -21,6 +27,8 @@ use Rattle.metadata.specs.declared.Contained.{Contained}
 use Rattle.metadata.specs.declared.Contained.the-variants as contained
 use Rattle.metadata.specs.declared.Itemed.{Itemed}
 use Rattle.metadata.specs.declared.Itemed.the-variants as itemed
+use Rattle.metadata.specs.declared.Common.{Common}
+use Rattle.metadata.specs.declared.Common.the-variants as common
 use Rattle.metadata.specs.declared.Rowed.{Rowed}
 use Rattle.metadata.specs.declared.Rowed.the-variants as rows
 use Rattle.metadata.specs.declared.Walked.{Walked}
@@ -53,6 +61,17 @@ contentsTold (contained.Refused n p) = refused n (p .0)
 abbrev pub itemTold : Itemed → Out MetaItem
 itemTold (itemed.Is i c) = ok i (c .at .0)
 itemTold (itemed.Refused n p) = refused n (p .0)
+
+-- An item in the common form, from `at` on in metadata that ends at `end`: what the definitions read there, field by field.
+pub record Reads (f : List ℕ) (end at number size format : ℕ) : Type 0 where
+  pub frame : run (itemFrame end) f at ≡ ok (record { field = Standard number; contents = Universal }) (at + 3)
+  pub some : (size ≡ 0) → ⊥
+  pub covers : run (block metaFrame cutShort end) f (at + 3) ≡ ok size (at + 4)
+  pub coded : run (leaves.number metaFrame cutShort (at + 4 + size)) f (at + 4) ≡ ok format (at + 5)
+
+abbrev pub CommonTold : Common → List ℕ → (end at : ℕ) → Type 0
+CommonTold (common.Is number size format) f end at = Reads f end at number size format
+CommonTold common.Other f end at = Unit {0}
 
 -- ---- a call that fills tables: a refusal says nothing of them
 

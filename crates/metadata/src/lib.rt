@@ -8,7 +8,7 @@ ghost use Rattle.cursor.specs.Machine.{run, exec, times};
 ghost use Rattle.cursor.specs.Told.{Readable};
 ghost use Rattle.metadata.specs.Tables.{itemWidth, itemWords, put, state};
 ghost use Rattle.metadata.specs.Metadata.{field, contents, itemFrame, rowOf, universal, version, rowsFor, item, metaItems, metadata};
-ghost use Rattle.metadata.specs.Told.{ItemRoom, Room, contextOf, counts, walked, fieldTold, contentsTold, itemTold, Gives};
+ghost use Rattle.metadata.specs.Told.{ItemRoom, Room, contextOf, counts, walked, fieldTold, contentsTold, itemTold, CommonTold, Gives};
 use cursor::Cursor;
 use cursor::FilePlace;
 use cursor::Item;
@@ -71,6 +71,12 @@ pub enum Contained {
 pub enum Itemed {
     Is(MetaItem, Cursor),
     Refused(u64, FilePlace),
+}
+
+// An item in the common form: its standard number, the length of its content, its string format. Any other item is `Other`.
+pub enum Common {
+    Is(u64, u64, u64),
+    Other,
 }
 
 // The item rows made by now, and the cursor after what was read: metadata makes no other rows. A function that answers this takes, as `rows`, the
@@ -343,6 +349,49 @@ fn read_rows(
     }
 }
 
+// The item here, if it is in the common form: a standard field with a universal content, whose number, length and string format are one byte each.
+fn read_common(c: Cursor, file: &[u8], end: FilePlace) -> Common
+    requires { ⌜ end .0 ≤ length (now file) ⌝ }
+    ensures { λ r. ⌜ CommonTold r (now (file .entry)) (end .0) (c .at .0) ⌝ }
+{
+    let at = c.at.0;
+    let stop = end.0;
+    if stop <= at {
+        return Common::Other;
+    }
+    if stop - at < 5 {
+        return Common::Other;
+    }
+    let name = cursor::wide(file[at]);
+    if name != 0 {
+        return Common::Other;
+    }
+    let number = cursor::wide(file[at + 1]);
+    if 127 < number {
+        return Common::Other;
+    }
+    let versions = cursor::wide(file[at + 2]);
+    if versions != 0 {
+        return Common::Other;
+    }
+    let size = cursor::wide(file[at + 3]);
+    if size == 0 {
+        return Common::Other;
+    }
+    if 127 < size {
+        return Common::Other;
+    }
+    let format = cursor::wide(file[at + 4]);
+    if 127 < format {
+        return Common::Other;
+    }
+    let after = at + 4 + size as usize;
+    if stop < after {
+        return Common::Other;
+    }
+    Common::Is(number, size, format)
+}
+
 // An item: its field, its contents, and their rows.
 fn read_item(
     c: Cursor,
@@ -358,6 +407,26 @@ fn read_item(
     requires { ⌜ Room scope (now file) (now types) (now items) (end .0) (counts node rows) ⌝ }
     ensures { λ r. ⌜ ((t : List ℕ) → Gives (scope .limits) (walked node r) t (now (items .exit)) (exec put (item (contextOf scope (now (types .entry)) (length (now (file .entry)))) node index (end .0) (counts node rows)) (now (file .entry)) (c .at .0) (state t (now (items .entry)) (counts node rows)))) ⌝ }
 {
+    let limits = scope.limits;
+    if rows < limits.items {
+        // Most items are in the common form. Their row is made at once: without this a full file takes a third more time. Below is the way of any item.
+        if let Common::Is(number, size, format) = read_common(c, file, end) {
+            let field = Field::Standard(number);
+            let l = Label {
+                node,
+                item: index,
+                field,
+            };
+            let data = c.on(5);
+            let made = rows + 1;
+            put_item(
+                items,
+                rows,
+                row_of(l, 0, 0, format, data.at, size as usize - 1),
+            );
+            return Rowed::Done(made, c.on(4 + size));
+        }
+    }
     match read_frame(c, file, end) {
         Itemed::Refused(n, p) => Rowed::Refused(n, p),
         Itemed::Is(is, d) => {

@@ -28,7 +28,7 @@ on-requires : tie.Need-on-requires Inv-loop μ-loop
 on-requires c κs = omega arith
 
 returns : tie.Need-returns Inv-loop μ-loop
-returns c κ = rw (c .on .ensures) (number-short κ _ _ _ _ (c .before .before .before .before .if1 .taken) (c .before .before .wide .ensures .0) (c .before .if2 .taken))
+returns c κ = sym (number-short κ _ _ _ _ (c .before .before .before .before .if1 .taken) (c .before .before .wide .ensures .0) (c .before .if2 .taken) (c .on .ensures))
 
 loop-holds : tie.Need-loop-holds Inv-loop μ-loop
 loop-holds c = (begun _ _ _ _, omega arith, omega arith)
