@@ -1,4 +1,4 @@
-/* Five questions about XMF files (versions 1.00, 1.01 and 2.00), and two conversions of a text.
+/* Questions about XMF files (versions 1.00, 1.01 and 2.00), and two conversions of a text.
  *
  * The functions are in target/staticlib/libcapi.a, which `rt staticlib capi` proves and writes. The
  * archive is for x86-64 Linux and needs no other library.
@@ -55,13 +55,16 @@
  *   16  a reference leads outside the file or into the header, or one to a node leads into the tree
  *       where no node starts
  *   17  more than 268,435,455 bytes
- *   18  the row asked for is not there (find and find own, resolve)
+ *   18  the row asked for is not there (find and find own, resolve, voice count)
  *   19  resolving ends at a folder
  *   20  resolving ends at a URI
  *   21  a fifth reference would be followed
  *   22  the sheet, or a converted text, is longer than its buffer
- *   23  no such item: on the node and above it (find), on the node itself (find own)
+ *   23  no such item: on the node and above it (find), on the node itself (find own); the item row is no
+ *       universal field 13 in format 6 or 7, or has no such channel or resource (voice count)
  *   24  a detached node overlaps another one, or is a folder
+ *   25  the content description asked for is not readable: a field is cut short, too long a number or
+ *       of an unknown kind, or bytes are left over
  *   26  UTF-16 of odd length or with half of a surrogate pair, or bad UTF-8; the place counts in what
  *       was to be converted
  */
@@ -178,6 +181,22 @@ void xmf_resolve(const uint8_t *file, size_t file_length,
                  uint64_t *items, size_t item_words,
                  size_t row,
                  uint64_t *answer, size_t answer_words);
+
+/* Gives what an item row, a content description (standard field 13), says that the tune needs: the count
+ * for a channel and a resource, both numbered from 0. Channels stand in the order of the tune's MIP
+ * message, the most important first, and each count includes those of the channels before it.
+ *
+ *   answer[2]  the count
+ *
+ * Refused with 18 when there is no such item row; with 23 when it is no universal field 13 in format 6 or
+ * 7; with 25, placed at the first faulty field, or at the first byte left over; then with 23 when it
+ * describes no such channel or resource.
+ */
+void xmf_voice_count(const uint8_t *file, size_t file_length,
+                     uint64_t *nodes, size_t node_words,
+                     uint64_t *items, size_t item_words,
+                     size_t item_row, uint64_t channel, uint64_t resource,
+                     uint64_t *answer, size_t answer_words);
 
 /* Judges whether the file is a Mobile XMF file.
  *

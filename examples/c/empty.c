@@ -35,6 +35,8 @@ int main(int argc, char **argv) {
     expect("find in nothing", 1);
     xmf_resolve(NULL, 0, NULL, 0, NULL, 0, 0, answer, XMF_ANSWER_WORDS);
     expect("resolve in nothing", 1);
+    xmf_voice_count(NULL, 0, NULL, 0, NULL, 0, 0, 0, 0, answer, XMF_ANSWER_WORDS);
+    expect("voice_count in nothing", 1);
     xmf_judge(NULL, 0, NULL, 0, NULL, 0, answer, XMF_ANSWER_WORDS);
     expect("judge nothing", 1);
     xmf_write_sheet(NULL, 0, NULL, 0, NULL, 0, NULL, 0, answer, XMF_ANSWER_WORDS);
@@ -47,6 +49,8 @@ int main(int argc, char **argv) {
     expect("find without tables", 10);
     xmf_resolve(file, length, NULL, 0, NULL, 0, 0, answer, XMF_ANSWER_WORDS);
     expect("resolve without tables", 10);
+    xmf_voice_count(file, length, NULL, 0, NULL, 0, 0, 0, 0, answer, XMF_ANSWER_WORDS);
+    expect("voice_count without tables", 10);
     xmf_judge(file, length, NULL, 0, NULL, 0, answer, XMF_ANSWER_WORDS);
     expect("judge without tables", 10);
     xmf_write_sheet(file, length, NULL, 0, NULL, 0, sheet, sizeof sheet, answer, XMF_ANSWER_WORDS);
@@ -64,6 +68,7 @@ int main(int argc, char **argv) {
     xmf_read_tree(file, length, nodes, XMF_ALL_NODE_WORDS, items, XMF_ALL_ITEM_WORDS, NULL, 0);
     xmf_find(file, length, nodes, XMF_ALL_NODE_WORDS, items, XMF_ALL_ITEM_WORDS, 0, XMF_CUSTOM, 0, NULL, 0, NULL, 0);
     xmf_resolve(file, length, nodes, XMF_ALL_NODE_WORDS, items, XMF_ALL_ITEM_WORDS, 0, NULL, 0);
+    xmf_voice_count(file, length, nodes, XMF_ALL_NODE_WORDS, items, XMF_ALL_ITEM_WORDS, 0, 0, 0, NULL, 0);
     xmf_judge(file, length, nodes, XMF_ALL_NODE_WORDS, items, XMF_ALL_ITEM_WORDS, NULL, 0);
     xmf_write_sheet(file, length, nodes, XMF_ALL_NODE_WORDS, items, XMF_ALL_ITEM_WORDS, sheet, sizeof sheet, NULL, 0);
     if (sheet[0] != 'X') {

@@ -6,11 +6,13 @@ ghost use lib.ListN.{length};
 ghost use Rattle.tree.specs.Told as told_tree;
 ghost use Rattle.find.specs.Told as told_find;
 ghost use Rattle.resolve.specs.Told as told_resolve;
+ghost use Rattle.description.specs.Told as told_description;
 ghost use Rattle.mobile.specs.Told as told_mobile;
 ghost use Rattle.sheet.specs.Told as told_sheet;
 ghost use Rattle.unicode.specs.Told as told_unicode;
-ghost use Rattle.promises.specs.Promises.{readTree, findItem, findOwn, resolveRow, judgeMobile, writeSheet, toUtf8, toUtf16};
+ghost use Rattle.promises.specs.Promises.{readTree, findItem, findOwn, resolveRow, countFor, judgeMobile, writeSheet, toUtf8, toUtf16};
 ghost use Rattle.capi.specs.Fit.{fit, asked, Leaves};
+use description::Counted;
 use find::Found;
 use mobile::Judged;
 use resolve::Resolved;
@@ -87,6 +89,19 @@ fn put_resolved(answer: &mut [u64], said: Resolved)
         Resolved::Refused(n, p) => put_refusal(answer, n, p),
         Resolved::At(place, size, last, hops) => {
             let words = [0, 0, place as u64, size as u64, last as u64, hops];
+            put_answer(answer, &words);
+        }
+    }
+}
+
+// The count.
+fn put_counted(answer: &mut [u64], said: Counted)
+    ensures { λ _. ⌜ now (answer .exit) ≡ fit (length (now (answer .entry))) (told_description.words said) ⌝ }
+{
+    match said {
+        Counted::Refused(n, p) => put_refusal(answer, n, p),
+        Counted::Count(n) => {
+            let words = [0, 0, n];
             put_answer(answer, &words);
         }
     }
@@ -201,6 +216,25 @@ pub extern "C" fn xmf_resolve(
     ensures { λ _. ⌜ Leaves (resolveRow row) (now (file .entry)) (now (nodes .entry) ∷ now (items .entry) ∷ []) (now (nodes .exit) ∷ now (items .exit) ∷ []) (now (answer .entry)) (now (answer .exit)) ⌝ }
 {
     put_resolved(answer, resolve::resolve(file, nodes, items, row));
+}
+
+// Reads the content description that is the item row. Answer: its count for a channel and a resource, both numbered from 0.
+#[no_mangle]
+pub extern "C" fn xmf_voice_count(
+    file: &[u8],
+    nodes: &mut [u64],
+    items: &mut [u64],
+    item_row: usize,
+    channel: u64,
+    resource: u64,
+    answer: &mut [u64],
+)
+    ensures { λ _. ⌜ Leaves (countFor «item_row» channel resource) (now (file .entry)) (now (nodes .entry) ∷ now (items .entry) ∷ []) (now (nodes .exit) ∷ now (items .exit) ∷ []) (now (answer .entry)) (now (answer .exit)) ⌝ }
+{
+    put_counted(
+        answer,
+        description::count_for(file, nodes, items, item_row, channel, resource),
+    );
 }
 
 // Judges Mobile XMF. Answer: the verdict.

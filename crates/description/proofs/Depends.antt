@@ -1,22 +1,21 @@
 -- The count depends on the rows and on the data of its own row alone: no other byte of the file counts. Nor does any other byte for whether a row is readable.
 -- Assumes nothing.
 use mathlib.Core.Path.{_≡_, refl, ap}
-use mathlib.Core.Bool.{Bool, true, false, _&&_}
+use mathlib.Core.Bool.{Bool, true, false, cond}
 use mathlib.Core.List.{List}
 use Prim.Native.Nat.{ℕ, zero, suc, _+_, _≤_, _<_}
-use native.Mathlib.Omega.{arith}
-use lib.Dec.{ltb, eqb}
+use lib.Dec.{ltb}
 use lib.ListN.{length, getD}
-use borrow.Author.Tests.{eqb-true, ltb-true}
+use borrow.Author.Tests.{ltb-true}
 use Rattle.cursor.specs.declared.Node.{Node}
 use Rattle.cursor.specs.declared.Item.{Item}
 use Rattle.cursor.proofs.Within.{Within, same, after, ends, either, checks, places, counts, next-within, number-within, manufacturer-within}
 use Rattle.header.specs.Header.{Header}
-use Rattle.room.specs.Room.{choose}
 use Rattle.tree.specs.Rows.{itemAt}
-use Rattle.description.specs.Row.{isField, isBinary, isDescription}
+use Rattle.description.specs.Row.{isDescription}
 use Rattle.description.specs.Description.{value, aByte, guid, identifier, resource, numbers, lists, table, description}
 use Rattle.description.specs.Count.{dataRead, isReadable, isRead, countOf, countIn, countRow, countFor}
+use Rattle.description.proofs.Tests.{description-is}
 
 -- ---- a description is read in its part
 
@@ -63,24 +62,17 @@ module _ (f g : List ℕ) where
 
   -- ---- the question
 
-  where-true : {A : Type 0} (b : Bool) {x y : A} (z : A) → (b ≡ true → x ≡ y) → choose b x z ≡ choose b y z
+  where-true : {A : Type 0} (b : Bool) {x y : A} (z : A) → (b ≡ true → x ≡ y) → cond b x z ≡ cond b y z
   where-true true z h = h refl
   where-true false z h = refl
-
-  both : (a b : Bool) → (a && b) ≡ true → (a ≡ true) × (b ≡ true)
-  both true b e = (refl, e)
-  both false b e = let z : _≡_ {A = ℕ} 0 1 = cc in absurd (omega arith)
 
   -- the files agree on a row's data if its field is 13
   abbrev pub Described : Item → Type 0
   Described r = r .kind ≡ 0 → r .field ≡ 13 → Same r
 
   in-same : (channel resource : ℕ) (r : Item) → Described r → countIn f channel resource r ≡ countIn g channel resource r
-  unfolding countIn isDescription isField
-  in-same channel resource r h =
-      where-true (isDescription r) _ λ t.
-      let x = both (eqb (r .kind) 0) (eqb (r .field) 13) (both (isField 13 r) (isBinary r) t .0) in
-      ap (countOf channel resource) (data-same r (h (eqb-true (r .kind) 0 (x .0)) (eqb-true (r .field) 13 (x .1))))
+  unfolding countIn
+  in-same channel resource r h = where-true (isDescription r) _ λ t. let x = description-is r t in ap (countOf channel resource) (data-same r (h (x .0) (x .1)))
 
   pub count-same : (row channel resource : ℕ) (h : Header) (ns : List Node) (is : List Item) → ((i : ℕ) → i < length is → Described (itemAt is i))
       → countFor row channel resource f h ns is ≡ countFor row channel resource g h ns is

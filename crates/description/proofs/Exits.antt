@@ -4,10 +4,12 @@ use mathlib.Core.Path.{_≡_, sym, ap, _∙_}
 use mathlib.Core.Bool.{Bool, true, false, not}
 use mathlib.Core.List.{List}
 use Prim.Native.Nat.{ℕ, _+_, _*_, _≤_, _<_}
-use lib.ListN.{length, getD, replicate}
+use native.Mathlib.Omega.{arith}
+use lib.ListN.{length, replicate}
 use borrow.Author.Tests.{lt-ltb, le-ltb, not-true, not-false}
 use Rattle.cursor.specs.Machine.{run}
 use Rattle.cursor.specs.declared.FilePlace.{FilePlace}
+use Rattle.cursor.specs.declared.Item.{Item}
 use Rattle.metadata.specs.Tables.{limits}
 use Rattle.tree.specs.Reading.{readFile, readOf, nodeTable, itemTable}
 use Rattle.tree.specs.Rows.{itemFrom, itemsIn}
@@ -23,44 +25,38 @@ use Rattle.description.specs.Told.{told, DataIn}
 use Rattle.description.specs.declared.Counted.{Counted}
 use Rattle.description.specs.declared.Counted.the-variants as counted
 
--- ---- a row of the item table
+-- ---- one row
+
+module _ (f : List ℕ) (channel resource : ℕ) (x : Item) where
+  abbrev In : Result ℕ → Type 0
+  In a = a ≡ countIn f channel resource x
+
+  module _ {b : Bool} (e : b ≡ isField 13 x) where
+    pub row-other : not b ≡ true → In (bad 23 0)
+    unfolding countIn isDescription
+    row-other t = let w : isField 13 x ≡ false = sym e ∙ not-true b t in simp w
+
+    module _ (t : not b ≡ false) {c : Bool} (k : c ≡ isBinary x) where
+      pub row-text : not c ≡ true → In (bad 23 0)
+      unfolding countIn isDescription
+      row-text u = let w : isField 13 x ≡ true = sym e ∙ not-false b t in let y : isBinary x ≡ false = sym k ∙ not-true c u in simp (w, y)
+
+      pub row-count : not c ≡ false → {a : Result ℕ} → a ≡ countOf channel resource (run (description (x .place + x .size)) f (x .place)) → In a
+      unfolding countIn isDescription dataRead
+      row-count u h = let w : isField 13 x ≡ true = sym e ∙ not-false b t in let y : isBinary x ≡ true = sym k ∙ not-false c u in simp (w, y) h
+
+-- the data of a row of the table lies in the file
+pub row-in : (size : ℕ) (ws : List ℕ) (n i : ℕ) → DataIn size (itemsIn n ws) → i < n → {r : Item} → r ≡ itemFrom ws (i * 10) → r .place + r .size ≤ size
+row-in size ws n i h l e = rw (item-at ws n i l ∙ sym e) at (h i (omega (arith, items-in-length ws n)))
 
 module _ (f ws : List ℕ) (count row channel resource : ℕ) where
-  abbrev Row : Result ℕ → Type 0
-  Row a = a ≡ countRow f row channel resource (itemsIn count ws)
-
-  pub row-none : count ≤ row → Row (bad 18 0)
+  pub row-none : count ≤ row → bad 18 0 ≡ countRow f row channel resource (itemsIn count ws)
   unfolding countRow
   row-none l = simp (items-in-length, le-ltb _ _ l)
 
-  module _ (l : row < count) where
-    -- what is said of the row at its words is said of the row
-    there : {a : Result ℕ} → a ≡ countIn f channel resource (itemFrom ws (row * 10)) → Row a
-    unfolding countRow
-    there e = simp (items-in-length, lt-ltb _ _ l, item-at ws count row l) e
-
-    pub row-inside : DataIn (length f) (itemsIn count ws) → getD ws (row * 10 + 8) 0 + getD ws (row * 10 + 9) 0 ≤ length f
-    row-inside h = rw (item-at ws count row l) at (h row (rw items-in-length l))
-
-    module _ {b : Bool} (e : b ≡ isField 13 (itemFrom ws (row * 10))) where
-      pub row-other : not b ≡ true → Row (bad 23 0)
-      unfolding countIn isDescription
-      row-other t = let x : isField 13 (itemFrom ws (row * 10)) ≡ false = sym e ∙ not-true b t in there (simp x)
-
-      module _ (t : not b ≡ false) {c : Bool} (k : c ≡ isBinary (itemFrom ws (row * 10))) where
-        pub row-text : not c ≡ true → Row (bad 23 0)
-        unfolding countIn isDescription
-        row-text u =
-            let x : isField 13 (itemFrom ws (row * 10)) ≡ true = sym e ∙ not-false b t in
-            let y : isBinary (itemFrom ws (row * 10)) ≡ false = sym k ∙ not-true c u in
-            there (simp (x, y))
-
-        pub row-count : not c ≡ false → {a : Result ℕ} → a ≡ countOf channel resource (run (description (getD ws (row * 10 + 8) 0 + getD ws (row * 10 + 9) 0)) f (getD ws (row * 10 + 8) 0)) → Row a
-        unfolding countIn isDescription dataRead
-        row-count u h =
-            let x : isField 13 (itemFrom ws (row * 10)) ≡ true = sym e ∙ not-false b t in
-            let y : isBinary (itemFrom ws (row * 10)) ≡ true = sym k ∙ not-false c u in
-            there (simp (x, y) h)
+  pub row-there : row < count → {x : Item} → x ≡ itemFrom ws (row * 10) → {a : Result ℕ} → a ≡ countIn f channel resource x → a ≡ countRow f row channel resource (itemsIn count ws)
+  unfolding countRow
+  row-there l e k = simp (items-in-length, lt-ltb _ _ l, item-at ws count row l) (k ∙ ap (countIn f channel resource) e)
 
 -- ---- the question
 

@@ -1,7 +1,7 @@
 -- The ways through a content description: what each exit of the code comes to.
 -- Assumes nothing.
 use mathlib.Core.Path.{_≡_, refl, sym, ap, _∙_}
-use mathlib.Core.Bool.{Bool, true, false, not, _&&_}
+use mathlib.Core.Bool.{Bool, true, false, cond, not, _&&_}
 use mathlib.Core.Logic.{_⊎_, inl, inr}
 use mathlib.Core.List.{List, [], _∷_}
 use Prim.Native.Nat.{ℕ, zero, suc, _+_, _*_, _-_, _^_, _≤_, _<_}
@@ -14,13 +14,13 @@ use borrow.Author.Tests.{lt-ltb, le-ltb, le-leb, lt-leb, eq-eqb, ne-eqb}
 use Rattle.cursor.specs.Machine.{Out, ok, refused, run, times}
 use Rattle.cursor.specs.Rows.{metaFrame}
 use Rattle.cursor.specs.Leaves.{next, number, manufacturer}
+use Rattle.cursor.specs.declared.Item.{Item}
 use Rattle.cursor.proofs.Laws.{running, andThen, run-times, run-timed}
 use Rattle.cursor.proofs.Wp.{Wp, at-end, wp-after, wp-weaken, wp-ret, wp-if, wp-check, wp-place, wp-times}
 use Rattle.cursor.proofs.Leaves.{Any, any-free, next-on, number-on, manufacturer-on}
-use Rattle.room.specs.Room.{choose}
 use Rattle.tree.specs.Asking.{Result, good, bad}
 use Rattle.description.specs.Description.{value, aByte, guid, identifier, resource, numbers, Description, lists, table, description}
-use Rattle.description.specs.Count.{isRead, countAt, countOf}
+use Rattle.description.specs.Count.{dataRead, isRead, isReadable, countAt, countOf}
 use Rattle.description.specs.Told.{picked}
 
 -- ---- a resource
@@ -148,7 +148,7 @@ resource-further f end at e = at-end any-free f (resource-on end at) e
 
 -- i of them came already, and of these, if it was there, the one at `index` was kept
 abbrev pub pickedFrom : (i kept index : ℕ) → Out (List ℕ) → Out ℕ
-pickedFrom i kept index (ok vs q) = ok (choose (ltb index i) kept (getD vs (index - i) kept)) q
+pickedFrom i kept index (ok vs q) = ok (cond (ltb index i) kept (getD vs (index - i) kept)) q
 pickedFrom i kept index (refused n p) = refused n p
 
 pub record Picking (f : List ℕ) (end count index from i kept at : ℕ) : Type 0 where
@@ -181,7 +181,7 @@ run-numbers f end n at = simp running (by (run (number metaFrame 3 end) f at))
 -- one more of them came: it is kept if it is the one, and otherwise what was kept stays
 module _ (i index kept v : ℕ) where
   later : (vs : List ℕ) {kept′ : ℕ} → ((i ≡ index) × (kept′ ≡ v)) ⊎ (((i ≡ index) → ⊥) × (kept′ ≡ kept))
-      → choose (ltb index i) kept (getD (v ∷ vs) (index - i) kept) ≡ choose (ltb index (i + 1)) kept′ (getD vs (index - (i + 1)) kept′)
+      → cond (ltb index i) kept (getD (v ∷ vs) (index - i) kept) ≡ cond (ltb index (i + 1)) kept′ (getD vs (index - (i + 1)) kept′)
   later vs {kept′} (inl x) =
       let z : index - i ≡ 0 = omega arith in
       let h : ltb index i ≡ false = le-ltb index i (omega arith) in
@@ -211,7 +211,7 @@ module _ {f : List ℕ} {end count index from i kept at : ℕ} (g : Picking f en
       let w : run (numbers (count - i) end) f at ≡ ok [] at = rw e (simp running) in
       sym (g .same ∙ ap (pickedFrom i kept index) w ∙ ap (λ v. ok v at) (either (ltb index i)))
     where
-      either : (b : Bool) → choose b kept kept ≡ kept
+      either : (b : Bool) → cond b kept kept ≡ kept
       either true = refl
       either false = refl
 
@@ -323,17 +323,27 @@ module _ (end : ℕ) (f : List ℕ) (at channel resource : ℕ) where
 
 -- ---- whether it is readable
 
-pub readable-count : (channel resource : ℕ) (o : Out Description) {n : ℕ} → good n ≡ countOf channel resource o → true ≡ isRead o
-unfolding countOf isRead
-readable-count channel resource (ok d q) e = refl
-readable-count channel resource (refused m p) e = let z : _≡_ {A = ℕ} 0 1 = cc in absurd (omega arith)
+module _ (channel resource : ℕ) where
+  count-read : (o : Out Description) {n : ℕ} → good n ≡ countOf channel resource o → true ≡ isRead o
+  unfolding countOf isRead
+  count-read (ok d q) e = refl
+  count-read (refused m p) e = let z : _≡_ {A = ℕ} 0 1 = cc in absurd (omega arith)
 
--- of an item that is readable the refusal is 23
-pub readable-refused : (channel resource : ℕ) (o : Out Description) {n p : ℕ} → bad n p ≡ countOf channel resource o → not (eqb n 25) ≡ isRead o
-unfolding countOf countAt isRead
-readable-refused channel resource (ok d q) {n} {p} e = by (ltb channel (d .channels) && ltb resource (d .resources)) _ e
-  where
-    by : (b : Bool) (v : ℕ) → bad n p ≡ choose b (good v) (bad 23 0) → not (eqb n 25) ≡ true
-    by true v x = let z : _≡_ {A = ℕ} 0 1 = cc in absurd (omega arith)
-    by false v x = let z : n ≡ 23 = cc in rw z refl
-readable-refused channel resource (refused m q) {n} e = let z : n ≡ 25 = cc in rw z refl
+  -- of an item that is readable the refusal is 23
+  refused-read : (o : Out Description) {n p : ℕ} → bad n p ≡ countOf channel resource o → not (eqb n 25) ≡ isRead o
+  unfolding countOf countAt isRead
+  refused-read (ok d q) {n} {p} e = by (ltb channel (d .channels) && ltb resource (d .resources)) _ e
+    where
+      by : (b : Bool) (v : ℕ) → bad n p ≡ cond b (good v) (bad 23 0) → not (eqb n 25) ≡ true
+      by true v x = let z : _≡_ {A = ℕ} 0 1 = cc in absurd (omega arith)
+      by false v x = let z : n ≡ 23 = cc in rw z refl
+  refused-read (refused m q) {n} e = let z : n ≡ 25 = cc in rw z refl
+
+  module _ (f : List ℕ) (r : Item) where
+    pub readable-count : {n : ℕ} → good n ≡ countOf channel resource (run (description (r .place + r .size)) f (r .place)) → true ≡ isReadable f r
+    unfolding isReadable dataRead
+    readable-count e = count-read _ e
+
+    pub readable-refused : {n p : ℕ} → bad n p ≡ countOf channel resource (run (description (r .place + r .size)) f (r .place)) → not (eqb n 25) ≡ isReadable f r
+    unfolding isReadable dataRead
+    readable-refused e = refused-read _ e

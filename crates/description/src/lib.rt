@@ -4,16 +4,15 @@ ghost use Prim.Native.Nat.{_≤_, _<_, _^_, _*_, _+_};
 ghost use lib.ListN.{length};
 ghost use Rattle.cursor.specs.Machine.{run, times};
 ghost use Rattle.cursor.specs.Told.{numberTold, passTold};
-ghost use Rattle.metadata.specs.Tables.{limits};
-ghost use Rattle.tree.specs.Reading.{readFile};
-ghost use Rattle.tree.specs.Rows.{itemFrom, itemsIn};
-ghost use Rattle.tree.specs.Asking.{ask, keptNodes, keptItems};
-ghost use Rattle.description.specs.Row.{isField, isBinary, isDescription};
+ghost use Rattle.tree.specs.Rows.{itemsIn};
+ghost use Rattle.tree.specs.Asking.{answered, nodesLeft, itemsLeft};
+ghost use Rattle.description.specs.Row.{isField, isBinary};
 ghost use Rattle.description.specs.Description.{value, guid, identifier, resource, numbers, lists, table, description};
-ghost use Rattle.description.specs.Count.{isRead, countOf, countIn, countRow, countFor};
+ghost use Rattle.description.specs.Count.{isReadable, countOf, countIn, countRow, countFor};
 ghost use Rattle.description.specs.Told.{told, picked, DataIn};
 use cursor::Cursor;
 use cursor::FilePlace;
+use cursor::Item;
 use cursor::Numbered;
 use cursor::Passed;
 use tree::Read;
@@ -222,41 +221,58 @@ fn count_of(file: &[u8], place: usize, size: usize, channel: u64, resource: u64)
     }
 }
 
-// Whether the item, which is `size` bytes from `place` on, is readable.
-pub fn is_readable(file: &[u8], place: usize, size: usize) -> bool
-    requires { ⌜ place + size ≤ length (now file) ⌝ }
-    ensures { λ r. ⌜ r ≡ isRead (run (description (place + size)) (now (file .entry)) place) ⌝ }
+// Whether the row's data, which lies in the file, is readable.
+pub fn is_readable(file: &[u8], row: Item) -> bool
+    requires { ⌜ row .place + row .size ≤ length (now file) ⌝ }
+    ensures { λ r. ⌜ r ≡ isReadable (now (file .entry)) row ⌝ }
 {
-    match count_of(file, place, size, 0, 0) {
+    match count_of(file, row.place as usize, row.size as usize, 0, 0) {
         Counted::Count(_) => true,
         Counted::Refused(n, _) => n != cursor::BAD_DESCRIPTION,
     }
 }
 
-// Whether the item row at word k is of the standard field.
-pub fn is_field(items: &[u64], k: usize, field: u64) -> bool
-    requires { ⌜ k + 10 ≤ length (now items) ⌝ }
-    ensures { λ r. ⌜ r ≡ isField field (itemFrom (now (items .entry)) k) ⌝ }
+// Whether the row is of the standard field.
+pub fn is_field(row: Item, field: u64) -> bool
+    ensures { λ r. ⌜ r ≡ isField field row ⌝ }
 {
-    if items[k + 2] != 0 {
+    if row.kind != 0 {
         return false;
     }
-    items[k + 3] == field
+    row.field == field
 }
 
-// Whether the item row at word k is universal, of format 6 or 7.
-pub fn is_binary(items: &[u64], k: usize) -> bool
-    requires { ⌜ k + 10 ≤ length (now items) ⌝ }
-    ensures { λ r. ⌜ r ≡ isBinary (itemFrom (now (items .entry)) k) ⌝ }
+// Whether the row is universal, of format 6 or 7.
+pub fn is_binary(row: Item) -> bool
+    ensures { λ r. ⌜ r ≡ isBinary row ⌝ }
 {
-    if items[k + 5] != 0 {
+    if row.version != 0 {
         return false;
     }
-    let format = items[k + 7];
-    if format == 6 {
+    if row.format == 6 {
         return true;
     }
-    format == 7
+    row.format == 7
+}
+
+// The answer for a row whose data lies in the file.
+fn count_in(file: &[u8], row: Item, channel: u64, resource: u64) -> Counted
+    requires { ⌜ row .place + row .size ≤ length (now file) ⌝ }
+    ensures { λ r. ⌜ told r ≡ countIn (now (file .entry)) channel resource row ⌝ }
+{
+    if !is_field(row, 13) {
+        return Counted::Refused(cursor::NO_SUCH_ITEM, 0);
+    }
+    if !is_binary(row) {
+        return Counted::Refused(cursor::NO_SUCH_ITEM, 0);
+    }
+    count_of(
+        file,
+        row.place as usize,
+        row.size as usize,
+        channel,
+        resource,
+    )
 }
 
 // The answer for an item row of an accepted file.
@@ -274,20 +290,7 @@ fn count_row(
     if count <= row {
         return Counted::Refused(cursor::NO_SUCH_ROW, 0);
     }
-    let k = row * cursor::ITEM_WIDTH;
-    if !is_field(items, k, 13) {
-        return Counted::Refused(cursor::NO_SUCH_ITEM, 0);
-    }
-    if !is_binary(items, k) {
-        return Counted::Refused(cursor::NO_SUCH_ITEM, 0);
-    }
-    count_of(
-        file,
-        items[k + 8] as usize,
-        items[k + 9] as usize,
-        channel,
-        resource,
-    )
+    count_in(file, tree::item_at(items, row), channel, resource)
 }
 
 // Reads the file, and the content description that is the item row: its count of a channel and a resource.
@@ -299,9 +302,9 @@ pub fn count_for(
     channel: u64,
     resource: u64,
 ) -> Counted
-    ensures answer { λ r. ⌜ told r ≡ ask (readFile (limits (length (now (nodes .entry))) (length (now (items .entry)))) (now (file .entry))) (countFor «item_row» channel resource (now (file .entry))) ⌝ }
-    ensures nodes { λ _. ⌜ now (nodes .exit) ≡ keptNodes (length (now (nodes .entry))) (readFile (limits (length (now (nodes .entry))) (length (now (items .entry)))) (now (file .entry))) (ask (readFile (limits (length (now (nodes .entry))) (length (now (items .entry)))) (now (file .entry))) (countFor «item_row» channel resource (now (file .entry)))) ⌝ }
-    ensures items { λ _. ⌜ now (items .exit) ≡ keptItems (length (now (items .entry))) (readFile (limits (length (now (nodes .entry))) (length (now (items .entry)))) (now (file .entry))) (ask (readFile (limits (length (now (nodes .entry))) (length (now (items .entry)))) (now (file .entry))) (countFor «item_row» channel resource (now (file .entry)))) ⌝ }
+    ensures answer { λ r. ⌜ told r ≡ answered (now (nodes .entry)) (now (items .entry)) (now (file .entry)) (countFor «item_row» channel resource) ⌝ }
+    ensures nodes { λ _. ⌜ now (nodes .exit) ≡ nodesLeft (now (nodes .entry)) (now (items .entry)) (now (file .entry)) (countFor «item_row» channel resource) ⌝ }
+    ensures items { λ _. ⌜ now (items .exit) ≡ itemsLeft (now (nodes .entry)) (now (items .entry)) (now (file .entry)) (countFor «item_row» channel resource) ⌝ }
 {
     match tree::read_file(file, nodes, items) {
         Read::Refused(n, p) => Counted::Refused(n, p.0),

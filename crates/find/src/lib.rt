@@ -4,7 +4,7 @@ ghost use mathlib.Core.Bool.{_&&_};
 ghost use Prim.Native.Nat.{_≤_, _<_, _*_, _+_};
 ghost use lib.Dec.{eqb};
 ghost use lib.ListN.{length};
-ghost use Rattle.tree.specs.Rows.{nodesIn, itemsIn, itemFrom};
+ghost use Rattle.tree.specs.Rows.{nodesIn, itemsIn};
 ghost use Rattle.tree.specs.Asking.{answered, nodesLeft, itemsLeft};
 ghost use Rattle.find.specs.Find.{standard, custom, sameBytes, matches, look, nearest, find, findOwn};
 ghost use Rattle.find.specs.Told.{wantedOf, told, foundBy, question, Named, AllNamed};
@@ -71,26 +71,6 @@ fn is_wanted(file: &[u8], row: Item, field: Field, name: &[u8]) -> bool
     }
 }
 
-// Row i of the item table.
-fn item_at(items: &[u64], i: usize) -> Item
-    requires { ⌜ i * 10 + 10 ≤ length (now items) ⌝ }
-    ensures { λ r. ⌜ r ≡ itemFrom (now (items .entry)) (i * 10) ⌝ }
-{
-    let k = i * cursor::ITEM_WIDTH;
-    Item {
-        node: items[k],
-        item: items[k + 1],
-        kind: items[k + 2],
-        field: items[k + 3],
-        named: items[k + 4],
-        version: items[k + 5],
-        declared: items[k + 6],
-        format: items[k + 7],
-        place: items[k + 8],
-        size: items[k + 9],
-    }
-}
-
 // Whether the row is node k's own and of that field.
 fn is_own(file: &[u8], row: Item, k: usize, field: Field, name: &[u8]) -> bool
     requires { ⌜ Named (length (now file)) row ⌝ }
@@ -109,7 +89,7 @@ fn look(file: &[u8], items: &[u64], rows: usize, k: usize, field: Field, name: &
 {
     let mut i = 0;
     while i < rows {
-        let row = item_at(items, i);
+        let row = tree::item_at(items, i);
         if is_own(file, row, k, field, name) {
             return Found::Item(i, row);
         }

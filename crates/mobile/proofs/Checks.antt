@@ -16,8 +16,9 @@ use Rattle.tree.specs.Asking.{good, ask, keptNodes, keptItems}
 use Rattle.tree.specs.declared.Summary.{Summary}
 use Rattle.tree.proofs.Rows.{item-at, items-in-length, Standing, ask-is, good-nodes, good-items}
 use Rattle.find.specs.Own.{those, part, Runs}
-use Rattle.mobile.specs.Mobile.{all, isEmpty, isField, children, rightEdition, filesOnly, plainReferences, noUnpackers, oneTune, isNeed, areNeeds, tuneNeeds, isShort, isSmall, smallFields, check, verdictBy, verdict, mobile}
-use Rattle.mobile.specs.Told.{DataIn, Tables, NextRow}
+use Rattle.description.specs.Row.{isField}
+use Rattle.mobile.specs.Mobile.{all, isEmpty, children, rightEdition, filesOnly, plainReferences, noUnpackers, oneTune, isNeed, areNeeds, tuneNeeds, isShort, isSmall, smallFields, check, verdictBy, verdict, mobile}
+use Rattle.mobile.specs.Told.{Tables, NextRow}
 use Rattle.mobile.specs.declared.Few.{Few}
 use Rattle.mobile.specs.declared.Few.the-variants as few
 use Rattle.mobile.proofs.Lists.{part-all}
@@ -48,53 +49,53 @@ module _ (ts ks : Few) where
 
 -- ---- check 7
 
-module _ (tune : ℕ) (ws : List ℕ) (m : ℕ) where
+module _ (f : List ℕ) (tune : ℕ) (ws : List ℕ) (m : ℕ) where
   abbrev needs : ℕ → List Item
   needs from = those (isField 13) (part (itemsIn m ws) from m)
 
   abbrev whole : Bool
-  whole = areNeeds tune (those (isField 13) (itemsIn m ws))
+  whole = areNeeds f tune (those (isField 13) (itemsIn m ws))
 
   all-needs : those (isField 13) (itemsIn m ws) ≡ needs 0
   all-needs = ap (those (isField 13)) (sym (part-all (itemsIn m ws) m (items-in-length ws m)))
 
   -- what is left at row i, of field 13, or at the end
   pub record NeedsLeft (i : ℕ) : Type 0 where
-    pub here : i < m → whole ≡ (isNeed tune (itemAt (itemsIn m ws) i) && all (isNeed tune) (needs (i + 1)))
+    pub here : i < m → whole ≡ (isNeed f tune (itemAt (itemsIn m ws) i) && all (isNeed f tune) (needs (i + 1)))
     pub none : m ≤ i → whole ≡ true
 
   pub needs-none : {i : ℕ} → NextRow 13 (itemsIn m ws) 0 m i → m ≤ i → false ≡ whole
   unfolding areNeeds isEmpty
-  needs-none a l = sym (ap (areNeeds tune) (all-needs ∙ a .none l))
+  needs-none a l = sym (ap (areNeeds f tune) (all-needs ∙ a .none l))
 
-  needs-from : {from i : ℕ} → NextRow 13 (itemsIn m ws) from m i → whole ≡ all (isNeed tune) (needs from) → NeedsLeft i
+  needs-from : {from i : ℕ} → NextRow 13 (itemsIn m ws) from m i → whole ≡ all (isNeed f tune) (needs from) → NeedsLeft i
   unfolding all
-  needs-from a h = record { here = λ l. h ∙ ap (all (isNeed tune)) (a .here l); none = λ l. h ∙ ap (all (isNeed tune)) (a .none l) }
+  needs-from a h = record { here = λ l. h ∙ ap (all (isNeed f tune)) (a .here l); none = λ l. h ∙ ap (all (isNeed f tune)) (a .none l) }
 
   pub needs-begin : {i : ℕ} → NextRow 13 (itemsIn m ws) 0 m i → i < m → NeedsLeft i
   unfolding areNeeds isEmpty
-  needs-begin a l = needs-from a (ap (areNeeds tune) (all-needs ∙ a .here l) ∙ ap (all (isNeed tune)) (sym (a .here l)))
+  needs-begin a l = needs-from a (ap (areNeeds f tune) (all-needs ∙ a .here l) ∙ ap (all (isNeed f tune)) (sym (a .here l)))
 
-  module _ {i : ℕ} (h : NeedsLeft i) (l : i < m) {r : Item} (e : r ≡ itemFrom ws (i * 10)) {b : Bool} (k : b ≡ isNeed tune r) where
-    step : whole ≡ (b && all (isNeed tune) (needs (i + 1)))
-    step = h .here l ∙ ap (λ x. x && all (isNeed tune) (needs (i + 1))) (ap (isNeed tune) (item-at ws m i l ∙ sym e) ∙ sym k)
+  module _ {i : ℕ} (h : NeedsLeft i) (l : i < m) {r : Item} (e : r ≡ itemFrom ws (i * 10)) {b : Bool} (k : b ≡ isNeed f tune r) where
+    step : whole ≡ (b && all (isNeed f tune) (needs (i + 1)))
+    step = h .here l ∙ ap (λ x. x && all (isNeed f tune) (needs (i + 1))) (ap (isNeed f tune) (item-at ws m i l ∙ sym e) ∙ sym k)
 
     pub needs-no : b ≡ false → false ≡ whole
-    needs-no t = sym (step ∙ ap (λ x. x && all (isNeed tune) (needs (i + 1))) t)
+    needs-no t = sym (step ∙ ap (λ x. x && all (isNeed f tune) (needs (i + 1))) t)
 
     pub needs-on : b ≡ true → {j : ℕ} → NextRow 13 (itemsIn m ws) (i + 1) m j → NeedsLeft j
-    needs-on t a = needs-from a (step ∙ ap (λ x. x && all (isNeed tune) (needs (i + 1))) t)
+    needs-on t a = needs-from a (step ∙ ap (λ x. x && all (isNeed f tune) (needs (i + 1))) t)
 
-module _ (ts : Few) (is : List Item) where
-  pub needs-of-none : ts ≡ few.None → false ≡ tuneNeeds ts is
+module _ (f : List ℕ) (ts : Few) (is : List Item) where
+  pub needs-of-none : ts ≡ few.None → false ≡ tuneNeeds f ts is
   unfolding tuneNeeds
   needs-of-none e = rw e
 
-  pub needs-of-more : ts ≡ few.More → false ≡ tuneNeeds ts is
+  pub needs-of-more : ts ≡ few.More → false ≡ tuneNeeds f ts is
   unfolding tuneNeeds
   needs-of-more e = rw e
 
-  pub needs-of-one : {t : ℕ} → ts ≡ few.One t → {b : Bool} → b ≡ areNeeds t (those (isField 13) is) → b ≡ tuneNeeds ts is
+  pub needs-of-one : {t : ℕ} → ts ≡ few.One t → {b : Bool} → b ≡ areNeeds f t (those (isField 13) is) → b ≡ tuneNeeds f ts is
   unfolding tuneNeeds
   needs-of-one e h = rw e h
 
@@ -127,7 +128,7 @@ pub verdict-by : (f : List ℕ) (h : Header) (ns : List Node) (is : List Item) {
     (check 3 (plainReferences ns)
     (check 4 (noUnpackers ns)
     (check 5 (children f ns is .typed)
-    (check 6 (oneTune (children f ns is .tunes) (children f ns is .instruments)) (check 7 (tuneNeeds (children f ns is .tunes) is) (check 8 (smallFields ns is) 0)))))))
+    (check 6 (oneTune (children f ns is .tunes) (children f ns is .instruments)) (check 7 (tuneNeeds f (children f ns is .tunes) is) (check 8 (smallFields ns is) 0)))))))
     → r ≡ verdict f h ns is
 unfolding verdict verdictBy rightEdition
 verdict-by f h ns is e k t =

@@ -13,7 +13,8 @@ use Rattle.cursor.specs.declared.Item.{Item}
 use Rattle.tree.specs.Rows.{nodeFrom, itemFrom, nodesIn, itemsIn, itemAt, noNode, noItem}
 use Rattle.tree.proofs.Rows.{node-at, item-at, nodes-in-length, items-in-length}
 use Rattle.find.specs.Own.{those, part}
-use Rattle.mobile.specs.Mobile.{all, isField}
+use Rattle.description.specs.Row.{isField}
+use Rattle.mobile.specs.Mobile.{all}
 use Rattle.mobile.specs.Told.{NextRow}
 
 -- the list from element i on

@@ -18,18 +18,15 @@ use Rattle.tree.specs.Rows.{nodeFrom, itemFrom, nodesIn, itemsIn, nodeAt, itemA
 use Rattle.tree.proofs.Rows.{node-at, item-at, nodes-in-length, items-in-length}
 use Rattle.find.specs.Own.{itemsOf, own, firstRow, part}
 use Rattle.find.proofs.Own.{first-next, first-most, items-numbered}
-use Rattle.mobile.specs.Mobile.{isBinary, roleOfType, roleOfNumber, roleOfRow, roleOfRows, roleOf, child, noChildren, childrenFrom, children}
-use Rattle.mobile.specs.Told.{DataIn, Tables, NextRow}
+use Rattle.description.specs.Row.{isBinary}
+use Rattle.mobile.specs.Mobile.{roleOfType, roleOfNumber, roleOfRow, roleOfRows, roleOf, child, noChildren, childrenFrom, children}
+use Rattle.mobile.specs.Told.{Tables, NextRow}
 use Rattle.mobile.specs.declared.Role.{Role}
 use Rattle.mobile.specs.declared.Role.the-variants as role
 use Rattle.mobile.specs.declared.Children.{Children}
 use Rattle.mobile.proofs.Lists.{drop-next}
 
 -- ---- one row of field 3
-
--- the data of a row of the table lies in the file
-pub row-in : (size : ℕ) (ws : List ℕ) (n i : ℕ) → DataIn size (itemsIn n ws) → i < n → {r : Item} → r ≡ itemFrom ws (i * 10) → r .place + r .size ≤ size
-row-in size ws n i h l e = rw (item-at ws n i l ∙ sym e) at (h i (omega (arith, items-in-length ws n)))
 
 either-other : (b : Bool) → cond b role.Other role.Other ≡ role.Other
 either-other true = refl

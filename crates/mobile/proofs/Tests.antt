@@ -1,18 +1,20 @@
 -- What is asked of one row, from the tests of its words.
 -- Assumes nothing.
 use mathlib.Core.Path.{_≡_, refl, sym, ap, _∙_}
-use mathlib.Core.Bool.{Bool, true, false, _&&_}
+use mathlib.Core.Bool.{Bool, true, false, not, _&&_}
 use mathlib.Core.List.{List}
 use Prim.Native.Nat.{ℕ, _*_, _≤_, _<_}
 use native.Mathlib.Omega.{arith}
 use lib.Dec.{eqb}
 use lib.ListN.{drop}
-use borrow.Author.Tests.{eq-eqb, ne-eqb, le-leb, lt-leb}
+use borrow.Author.Tests.{eq-eqb, ne-eqb, le-leb, lt-leb, not-true, not-false}
 use Rattle.cursor.specs.declared.Node.{Node}
 use Rattle.cursor.specs.declared.Item.{Item}
 use Rattle.tree.specs.Rows.{nodeFrom, nodesFrom, nodesIn, nodeAt}
 use Rattle.tree.proofs.Rows.{node-at}
-use Rattle.mobile.specs.Mobile.{all, isField, isBinary, roleOfType, isFile, filesOnly, isPlain, plainReferences, isUnpacked, noUnpackers, isNeed, isShort, fieldSize, isSmall}
+use Rattle.description.specs.Row.{isBinary}
+use Rattle.description.specs.Count.{isReadable}
+use Rattle.mobile.specs.Mobile.{all, roleOfType, isFile, filesOnly, isPlain, plainReferences, isUnpacked, noUnpackers, isNeed, isShort, fieldSize, isSmall}
 use Rattle.mobile.specs.declared.Role.the-variants as role
 
 -- ---- node rows
@@ -78,33 +80,19 @@ module _ (ws : List ℕ) (n : ℕ) (l : 0 < n) {r : Node} (e : r ≡ nodeFrom ws
 -- ---- item rows
 
 module _ (r : Item) where
-  pub field-other : (n : ℕ) → ((r .kind ≡ 0) → ⊥) → false ≡ isField n r
-  unfolding isField
-  field-other n e = simp (ne-eqb _ _ e)
+  module _ (f : List ℕ) (tune : ℕ) where
+    pub need-node : ((r .node ≡ tune) → ⊥) → false ≡ isNeed f tune r
+    unfolding isNeed
+    need-node n = simp (ne-eqb _ _ n)
 
-  pub field-by : (n : ℕ) {b : Bool} → r .kind ≡ 0 → b ≡ eqb (r .field) n → b ≡ isField n r
-  unfolding isField
-  field-by n e t = simp (eq-eqb _ _ e) t
+    module _ (e : r .node ≡ tune) {b : Bool} (k : b ≡ isBinary r) where
+      pub need-text : not b ≡ true → false ≡ isNeed f tune r
+      unfolding isNeed
+      need-text t = let x : isBinary r ≡ false = sym k ∙ not-true b t in simp (eq-eqb _ _ e, x)
 
-  pub binary-version : ((r .version ≡ 0) → ⊥) → false ≡ isBinary r
-  unfolding isBinary
-  binary-version e = simp (ne-eqb _ _ e)
-
-  pub binary-six : r .version ≡ 0 → r .format ≡ 6 → true ≡ isBinary r
-  unfolding isBinary
-  binary-six e t = simp (eq-eqb _ _ e, eq-eqb _ _ t)
-
-  pub binary-by : {b : Bool} → r .version ≡ 0 → ((r .format ≡ 6) → ⊥) → b ≡ eqb (r .format) 7 → b ≡ isBinary r
-  unfolding isBinary
-  binary-by e n t = simp (eq-eqb _ _ e, ne-eqb _ _ n) t
-
-  pub need-node : (tune : ℕ) → ((r .node ≡ tune) → ⊥) → false ≡ isNeed tune r
-  unfolding isNeed
-  need-node tune n = simp (ne-eqb _ _ n)
-
-  pub need-by : (tune : ℕ) → r .node ≡ tune → {b : Bool} → b ≡ isBinary r → b ≡ isNeed tune r
-  unfolding isNeed
-  need-by tune e t = simp (eq-eqb _ _ e) t
+      pub need-by : not b ≡ false → {c : Bool} → c ≡ isReadable f r → c ≡ isNeed f tune r
+      unfolding isNeed
+      need-by t h = let x : isBinary r ≡ true = sym k ∙ not-false b t in simp (eq-eqb _ _ e, x) h
 
   pub size-standard : r .kind ≡ 0 → r .field ≡ fieldSize r
   unfolding fieldSize

@@ -1,5 +1,5 @@
 -- The Mobile verdict (01, Questions): eight checks in order, the number of the first that fails, 0 if none.
--- A node's own item rows are those of find/specs/Own.antt. Assumes nothing.
+-- A node's own item rows are those of find/specs/Own.antt, a readable field 13 is that of description/specs/Count.antt. Assumes nothing.
 use mathlib.Core.Bool.{Bool, true, false, cond, not, _&&_, _||_}
 use mathlib.Core.List.{List, [], _∷_}
 use Prim.Native.Nat.{ℕ, _+_}
@@ -15,6 +15,8 @@ use Rattle.header.specs.Header.{Header}
 use Rattle.tree.specs.Rows.{nodeAt}
 use Rattle.tree.specs.Asking.{Result, good}
 use Rattle.find.specs.Own.{itemsOf, those, own}
+use Rattle.description.specs.Row.{isField, isBinary}
+use Rattle.description.specs.Count.{isReadable}
 use Rattle.mobile.specs.declared.Role.{Role}
 use Rattle.mobile.specs.declared.Role.the-variants as role
 use Rattle.mobile.specs.declared.Few.{Few}
@@ -29,16 +31,6 @@ all p (x ∷ xs) = p x && all p xs
 unfoldable pub isEmpty : {A : Type 0} → List A → Bool
 isEmpty [] = true
 isEmpty (x ∷ xs) = false
-
--- ---- what is asked of one row
-
--- a row of the standard field n
-unfoldable pub isField : ℕ → Item → Bool
-isField n r = eqb (r .kind) 0 && eqb (r .field) n
-
--- universal, format 6 or 7
-unfoldable pub isBinary : Item → Bool
-isBinary r = eqb (r .version) 0 && (eqb (r .format) 6 || eqb (r .format) 7)
 
 -- ---- what a child is, by its type: a tune (0 or 1), instruments (5), or something else, which may not stand here
 
@@ -129,17 +121,17 @@ oneTune (few.One t) few.More = false
 oneTune few.None k = false
 oneTune few.More k = false
 
--- 7: field 13 on that tune only, at least one, universal, format 6 or 7
-unfoldable pub isNeed : (tune : ℕ) → Item → Bool
-isNeed tune r = eqb (r .node) tune && isBinary r
+-- 7: field 13 on that tune only, at least one, universal, format 6 or 7, and each of them readable (02, E4)
+unfoldable pub isNeed : List ℕ → (tune : ℕ) → Item → Bool
+isNeed f tune r = eqb (r .node) tune && (isBinary r && isReadable f r)
 
-unfoldable pub areNeeds : (tune : ℕ) → List Item → Bool
-areNeeds tune rs = not (isEmpty rs) && all (isNeed tune) rs
+unfoldable pub areNeeds : List ℕ → (tune : ℕ) → List Item → Bool
+areNeeds f tune rs = not (isEmpty rs) && all (isNeed f tune) rs
 
-unfoldable pub tuneNeeds : (tunes : Few) → List Item → Bool
-tuneNeeds (few.One t) is = areNeeds t (those (isField 13) is)
-tuneNeeds few.None is = false
-tuneNeeds few.More is = false
+unfoldable pub tuneNeeds : List ℕ → (tunes : Few) → List Item → Bool
+tuneNeeds f (few.One t) is = areNeeds f t (those (isField 13) is)
+tuneNeeds f few.None is = false
+tuneNeeds f few.More is = false
 
 -- 8: header lengths up to 65,535 (metadata and universal lengths are parts of a header), field number and name length up to 256
 unfoldable pub isShort : Node → Bool
@@ -161,19 +153,19 @@ unfoldable pub check : ℕ → Bool → ℕ → ℕ
 check n true later = later
 check n false later = n
 
-unfoldable pub verdictBy : Children → Header → List Node → List Item → ℕ
-verdictBy c h ns is =
+unfoldable pub verdictBy : List ℕ → Children → Header → List Node → List Item → ℕ
+verdictBy f c h ns is =
     check 1 (rightEdition h)
     (check 2 (filesOnly ns)
     (check 3 (plainReferences ns)
     (check 4 (noUnpackers ns)
     (check 5 (c .typed)
     (check 6 (oneTune (c .tunes) (c .instruments))
-    (check 7 (tuneNeeds (c .tunes) is)
+    (check 7 (tuneNeeds f (c .tunes) is)
     (check 8 (smallFields ns is) 0)))))))
 
 unfoldable pub verdict : List ℕ → Header → List Node → List Item → ℕ
-verdict f h ns is = verdictBy (children f ns is) h ns is
+verdict f h ns is = verdictBy f (children f ns is) h ns is
 
 -- the question, which refuses nothing of its own
 unfoldable pub mobile : List ℕ → Header → List Node → List Item → Result ℕ

@@ -8,7 +8,8 @@ use Rattle.cursor.specs.declared.Item.{Item}
 use Rattle.tree.specs.Rows.{nodesIn, itemsIn, itemAt}
 use Rattle.tree.specs.Asking.{Result, good, bad}
 use Rattle.find.specs.Own.{those, part, Runs}
-use Rattle.mobile.specs.Mobile.{isField}
+use Rattle.description.specs.Row.{isField}
+use Rattle.description.specs.Told.{DataIn}
 use Rattle.mobile.specs.declared.Judged.{Judged}
 use Rattle.mobile.specs.declared.Judged.the-variants as judged
 
@@ -24,10 +25,6 @@ answerOf (bad n p) = judged.Refused n p
 abbrev pub words : Judged → List ℕ
 words (judged.Verdict v) = 0 ∷ 0 ∷ v ∷ []
 words (judged.Refused n p) = n ∷ p ∷ []
-
--- the data of each item row lies in a file of `size` bytes
-abbrev pub DataIn : ℕ → List Item → Type 0
-DataIn size is = (i : ℕ) → i < length is → itemAt is i .place + itemAt is i .size ≤ size
 
 -- what is known of the tables of an accepted file: they hold n node rows and m item rows, whose data lies in the file, and each node's own item rows are a run of them
 pub record Tables (file nodes items : List ℕ) (n m : ℕ) : Type 0 where

@@ -6,11 +6,13 @@ ghost use lib.Dec.{eqb};
 ghost use lib.ListN.{length};
 ghost use Rattle.header.specs.Header.{Header};
 ghost use Rattle.tree.specs.Reading.{summary};
-ghost use Rattle.tree.specs.Rows.{nodeFrom, itemFrom, nodesIn, itemsIn};
+ghost use Rattle.tree.specs.Rows.{nodeFrom, nodesIn, itemsIn};
 ghost use Rattle.tree.specs.Asking.{answered, nodesLeft, itemsLeft};
 ghost use Rattle.find.specs.Own.{those, part};
-ghost use Rattle.mobile.specs.Mobile.{all, isField, isBinary, roleOfType, roleOfRow, roleOf, besides, child, children, filesOnly, isPlain, plainReferences, noUnpackers, oneTune, isNeed, areNeeds, tuneNeeds, isShort, fieldSize, isSmall, smallFields, verdict, mobile};
-ghost use Rattle.mobile.specs.Told.{told, DataIn, Tables, NextRow};
+ghost use Rattle.description.specs.Row.{isField};
+ghost use Rattle.description.specs.Told.{DataIn};
+ghost use Rattle.mobile.specs.Mobile.{all, roleOfType, roleOfRow, roleOf, besides, child, children, filesOnly, isPlain, plainReferences, noUnpackers, oneTune, isNeed, areNeeds, tuneNeeds, isShort, fieldSize, isSmall, smallFields, verdict, mobile};
+ghost use Rattle.mobile.specs.Told.{told, Tables, NextRow};
 use cursor::Cursor;
 use cursor::FilePlace;
 use cursor::Item;
@@ -66,26 +68,6 @@ fn node_at(nodes: &[u64], i: usize) -> Node
         layers: nodes[k + 10],
         rows: nodes[k + 11],
         detached: nodes[k + 12],
-    }
-}
-
-// Row i of the item table.
-fn item_at(items: &[u64], i: usize) -> Item
-    requires { ⌜ i * 10 + 10 ≤ length (now items) ⌝ }
-    ensures { λ r. ⌜ r ≡ itemFrom (now (items .entry)) (i * 10) ⌝ }
-{
-    let k = i * cursor::ITEM_WIDTH;
-    Item {
-        node: items[k],
-        item: items[k + 1],
-        kind: items[k + 2],
-        field: items[k + 3],
-        named: items[k + 4],
-        version: items[k + 5],
-        declared: items[k + 6],
-        format: items[k + 7],
-        place: items[k + 8],
-        size: items[k + 9],
     }
 }
 
@@ -166,29 +148,6 @@ fn no_unpackers(nodes: &[u64], many: usize) -> bool
     true
 }
 
-// Whether the row is of the standard field.
-fn is_field(row: Item, field: u64) -> bool
-    ensures { λ r. ⌜ r ≡ isField field row ⌝ }
-{
-    if row.kind != 0 {
-        return false;
-    }
-    row.field == field
-}
-
-// Whether the row is universal, of format 6 or 7.
-fn is_binary(row: Item) -> bool
-    ensures { λ r. ⌜ r ≡ isBinary row ⌝ }
-{
-    if row.version != 0 {
-        return false;
-    }
-    if row.format == 6 {
-        return true;
-    }
-    row.format == 7
-}
-
 // The first item row of the standard field from row `from` on, or `end`.
 fn next_row(items: &[u64], many: usize, field: u64, from: usize, end: usize) -> usize
     requires { ⌜ (many * 10 ≤ length (now items)) × (from ≤ end) × (end ≤ many) ⌝ }
@@ -196,7 +155,7 @@ fn next_row(items: &[u64], many: usize, field: u64, from: usize, end: usize) -> 
 {
     let mut i = from;
     while i < end {
-        if is_field(item_at(items, i), field) {
+        if description::is_field(tree::item_at(items, i), field) {
             return i;
         }
         i = i + 1;
@@ -225,7 +184,7 @@ fn role_of_row(file: &[u8], row: Item) -> Role
     requires { ⌜ row .place + row .size ≤ length (now file) ⌝ }
     ensures { λ r. ⌜ r ≡ roleOfRow (now (file .entry)) row ⌝ }
 {
-    if !is_binary(row) {
+    if !description::is_binary(row) {
         return Role::Other;
     }
     let place = row.place as usize;
@@ -264,7 +223,7 @@ fn role_of(file: &[u8], items: &[u64], many: usize, at: usize, end: usize) -> Ro
     if second < end {
         return Role::Other;
     }
-    role_of_row(file, item_at(items, first))
+    role_of_row(file, tree::item_at(items, first))
 }
 
 // The child in the row besides others of its kind.
@@ -347,27 +306,31 @@ fn one_tune(tunes: Few, instruments: Few) -> bool
     }
 }
 
-// Whether the row, of field 13, may stand where it is.
-fn is_need(row: Item, tune: usize) -> bool
-    ensures { λ r. ⌜ r ≡ isNeed tune row ⌝ }
+// Whether the row, of field 13, may stand where it is, and is readable.
+fn is_need(file: &[u8], row: Item, tune: usize) -> bool
+    requires { ⌜ row .place + row .size ≤ length (now file) ⌝ }
+    ensures { λ r. ⌜ r ≡ isNeed (now (file .entry)) tune row ⌝ }
 {
     if row.node != tune as u64 {
         return false;
     }
-    is_binary(row)
+    if !description::is_binary(row) {
+        return false;
+    }
+    description::is_readable(file, row)
 }
 
-// Whether there are rows of field 13, and all may stand where they are.
-fn are_needs(items: &[u64], many: usize, tune: usize) -> bool
-    requires { ⌜ many * 10 ≤ length (now items) ⌝ }
-    ensures { λ r. ⌜ r ≡ areNeeds tune (those (isField 13) (itemsIn many (now (items .entry)))) ⌝ }
+// Whether there are rows of field 13, and all may stand where they are, and are readable.
+fn are_needs(file: &[u8], items: &[u64], many: usize, tune: usize) -> bool
+    requires { ⌜ (many * 10 ≤ length (now items)) × DataIn (length (now file)) (itemsIn many (now items)) ⌝ }
+    ensures { λ r. ⌜ r ≡ areNeeds (now (file .entry)) tune (those (isField 13) (itemsIn many (now (items .entry)))) ⌝ }
 {
     let mut i = next_row(items, many, 13, 0, many);
     if many <= i {
         return false;
     }
     while i < many {
-        if !is_need(item_at(items, i), tune) {
+        if !is_need(file, tree::item_at(items, i), tune) {
             return false;
         }
         i = next_row(items, many, 13, i + 1, many);
@@ -375,13 +338,13 @@ fn are_needs(items: &[u64], many: usize, tune: usize) -> bool
     true
 }
 
-// Whether field 13 is on the tune, and there only.
-fn tune_needs(items: &[u64], many: usize, tunes: Few) -> bool
-    requires { ⌜ many * 10 ≤ length (now items) ⌝ }
-    ensures { λ r. ⌜ r ≡ tuneNeeds tunes (itemsIn many (now (items .entry))) ⌝ }
+// Whether field 13 is on the tune, and there only, and readable.
+fn tune_needs(file: &[u8], items: &[u64], many: usize, tunes: Few) -> bool
+    requires { ⌜ (many * 10 ≤ length (now items)) × DataIn (length (now file)) (itemsIn many (now items)) ⌝ }
+    ensures { λ r. ⌜ r ≡ tuneNeeds (now (file .entry)) tunes (itemsIn many (now (items .entry))) ⌝ }
 {
     match tunes {
-        Few::One(t) => are_needs(items, many, t),
+        Few::One(t) => are_needs(file, items, many, t),
         Few::None => false,
         Few::More => false,
     }
@@ -420,7 +383,7 @@ fn small_items(items: &[u64], many: usize) -> bool
 {
     let mut i = 0;
     while i < many {
-        if 256 < field_size(item_at(items, i)) {
+        if 256 < field_size(tree::item_at(items, i)) {
             return false;
         }
         i = i + 1;
@@ -468,7 +431,7 @@ fn verdict(file: &[u8], nodes: &[u64], items: &[u64], s: Summary) -> u64
     if !one_tune(tunes, instruments) {
         return 6;
     }
-    if !tune_needs(items, m, tunes) {
+    if !tune_needs(file, items, m, tunes) {
         return 7;
     }
     if !small_fields(nodes, items, n, m) {

@@ -2,16 +2,17 @@
 -- limit what a file reads as. Demand 3: what each question reads of the file besides the rows agrees, so that it answers alike.
 -- Assumes nothing.
 use mathlib.Core.Path.{_≡_, refl, sym, ap, _∙_, subst}
-use mathlib.Core.Bool.{Bool, true, false, not, _&&_, _||_}
+use mathlib.Core.Bool.{Bool, true, false, cond, not, _&&_, _||_}
 use mathlib.Core.Logic.{_⊎_, inl, inr}
 use mathlib.Core.List.{List, [], _∷_, _++_, map}
-use Prim.Native.Nat.{ℕ, zero, suc, _+_, _%_, _<_}
+use Prim.Native.Nat.{ℕ, zero, suc, _+_, _*_, _%_, _<_}
 use native.Mathlib.Omega.{arith}
-use lib.Dec.{T, eqb, leb}
+use lib.Dec.{T, eqb, ltb, leb}
 use lib.ListN.{length, getD, replicate, take, drop, length-take, length-drop}
 use lib.Seq.{getD-take, getD-drop}
-use borrow.Author.Tests.{eq-eqb, ne-eqb}
-use Rattle.cursor.specs.Refusals.{ofReader, ofFind, ofResolve, ofSheet, ofConversion, isOneOf, isAllowed}
+use borrow.Author.Tests.{ne-eqb}
+use Rattle.cursor.specs.Machine.{Out, ok, refused}
+use Rattle.cursor.specs.Refusals.{ofReader, ofFind, ofResolve, ofCount, ofSheet, ofConversion, isOneOf, isAllowed}
 use Rattle.cursor.specs.declared.Node.{Node}
 use Rattle.cursor.specs.declared.Item.{Item}
 use Rattle.header.specs.Header.{Header}
@@ -35,11 +36,18 @@ use Rattle.resolve.specs.Resolve as resolve
 use Rattle.resolve.specs.Told as resolved
 use Rattle.resolve.specs.declared.Resolved.{Resolved}
 use Rattle.resolve.specs.declared.Resolved.the-variants as resolving
+use Rattle.description.specs.Row.{isDescription}
+use Rattle.description.specs.Description.{Description}
+use Rattle.description.specs.Count as count
+use Rattle.description.specs.Told as counted
+use Rattle.description.specs.declared.Counted.{Counted}
+use Rattle.description.specs.declared.Counted.the-variants as counting
+use Rattle.description.proofs.Depends.{count-same}
 use Rattle.mobile.specs.Mobile as mobile
 use Rattle.mobile.specs.Told as judged
 use Rattle.mobile.specs.declared.Judged.{Judged}
 use Rattle.mobile.specs.declared.Judged.the-variants as judging
-use Rattle.mobile.proofs.Depends.{verdict-depends}
+use Rattle.mobile.proofs.Depends.{Agreed, verdict-depends}
 use Rattle.sheet.specs.Sheet as sheet
 use Rattle.sheet.specs.Told as written
 use Rattle.sheet.specs.declared.Written.{Written}
@@ -51,8 +59,8 @@ use Rattle.unicode.specs.Told as converted
 use Rattle.unicode.specs.declared.Converted.{Converted}
 use Rattle.unicode.specs.declared.Converted.the-variants as converting
 use Rattle.unicode.proofs.Back.{placed8, placed16}
-use Rattle.promises.specs.Promises.{Question, readTree, findItem, findOwn, resolveRow, judgeMobile, writeSheet, toUtf8, toUtf16, refusals, Sizes, size, lent, Outcome, reads, leaves, over, conversion, outcome, resource, IsRefusal, IsAnswer, Demand1, FitsExactly, OnlyThere, Demand3}
-use Rattle.promises.specs.Calls.{Called, read-tree, find-standard, find-custom, find-own-standard, find-own-custom, resolve-row, judge, write-sheet, to-utf8, to-utf16, Given}
+use Rattle.promises.specs.Promises.{Question, readTree, findItem, findOwn, resolveRow, countFor, judgeMobile, writeSheet, toUtf8, toUtf16, refusals, Sizes, size, lent, Outcome, reads, leaves, over, conversion, outcome, resource, IsRefusal, IsAnswer, Demand1, FitsExactly, OnlyThere, Demand3}
+use Rattle.promises.specs.Calls.{Called, read-tree, find-standard, find-custom, find-own-standard, find-own-custom, resolve-row, count-for, judge, write-sheet, to-utf8, to-utf16, Given}
 
 -- ---- which data may not differ
 
@@ -64,12 +72,14 @@ and-false : (a : Bool) → T (not (a && false))
 and-false true = tt
 and-false false = tt
 
-field-kept : (r : Item) → r .kind ≡ 0 → r .field ≡ 3 → T (not (mayDiffer r))
+-- in the standard fields 0, 3 and 13
+field-kept : (n : ℕ) → T (eqb n 0 || eqb n 3 || eqb n 13) → (r : Item) → r .kind ≡ 0 → r .field ≡ n → T (not (mayDiffer r))
 unfolding mayDiffer
-field-kept r k f =
-    let n₀ : (r .kind ≡ 1) → ⊥ = λ z. omega arith in
-    let n₁ : (r .field ≡ 0) → ⊥ = λ z. omega arith in
-    simp (ne-eqb _ _ n₀, ne-eqb _ _ n₁, eq-eqb _ _ f) (and-false (isHidden r))
+field-kept n t r k f = let n₀ : (r .kind ≡ 1) → ⊥ = λ z. omega arith in simp (ne-eqb _ _ n₀, f) (by (eqb n 0 || eqb n 3 || eqb n 13) t)
+  where
+    by : (b : Bool) → T b → T (not (isHidden r && not b))
+    by true t = and-false (isHidden r)
+    by false t = absurd t
 
 named : (r : Item) {X : Type 0} → (r .kind ≡ 0) ⊎ X → r .kind ≡ 1 → X
 named r (inl z) e = absurd (omega arith)
@@ -99,9 +109,15 @@ module _ (ls : Sizes) (f g : List ℕ) (h : Header) (ns : List Node) (is : List 
   unfolding resolve.resolve
   resolve-alike k = refl
 
+  fields-alike : (n : ℕ) → T (eqb n 0 || eqb n 3 || eqb n 13) → Agreed f g n is
+  fields-alike n t i m a b = row i m .1 (field-kept n t (itemAt is i) a b)
+
+  count-alike : (item channel resource : ℕ) → count.countFor item channel resource g h ns is ≡ count.countFor item channel resource f h ns is
+  count-alike item channel resource = sym (count-same f g item channel resource h ns is (fields-alike 13 tt))
+
   mobile-alike : mobile.mobile g h ns is ≡ mobile.mobile f h ns is
   unfolding mobile.mobile
-  mobile-alike = ap good (sym (verdict-depends f g h ns is (λ i m a b. row i m .1 (field-kept (itemAt is i) a b))))
+  mobile-alike = ap good (sym (verdict-depends f g h ns is (fields-alike 3 tt) (fields-alike 13 tt)))
 
   sheet-alike : (n : ℕ) → sheet.write n g h ns is ≡ sheet.write n f h ns is
   unfolding sheet.write
@@ -122,6 +138,7 @@ module _ (ls : Sizes) (f g : List ℕ) (h : Header) (ns : List Node) (is : List 
   outcome-alike (findItem w k) = over-alike _ _ (find.find w k) (find-alike w k)
   outcome-alike (findOwn w k) = over-alike _ _ (find.findOwn w k) (find-own-alike w k)
   outcome-alike (resolveRow k) = over-alike _ _ (resolve.resolve k) (resolve-alike k)
+  outcome-alike (countFor item channel resource) = over-alike _ _ (count.countFor item channel resource) (count-alike item channel resource)
   outcome-alike judgeMobile = over-alike _ _ mobile.mobile mobile-alike
   outcome-alike writeSheet = over-alike _ _ (sheet.write (size ls 2)) (sheet-alike (size ls 2))
   outcome-alike (toUtf8 units) = refl
@@ -165,6 +182,10 @@ resolved-says : (r : Resolved) {a : Result resolve.Resource} → resolved.told r
 resolved-says (resolving.At place size row hops) e = rw (← e)
 resolved-says (resolving.Refused n p) e = rw (← e)
 
+counted-says : (r : Counted) {a : Result ℕ} → counted.told r ≡ a → counted.words r ≡ counted.words (counted.answerOf a)
+counted-says (counting.Count n) e = rw (← e)
+counted-says (counting.Refused n p) e = rw (← e)
+
 judged-says : (r : Judged) {a : Result ℕ} → judged.told r ≡ a → judged.words r ≡ judged.words (judged.answerOf a)
 judged-says (judging.Verdict v) e = rw (← e)
 judged-says (judging.Refused n p) e = rw (← e)
@@ -194,6 +215,7 @@ called (find-custom row name r a t u) = made (found-says r a) (two t u refl)
 called (find-own-standard row number r a t u) = made (found-says r a) (two t u refl)
 called (find-own-custom row name r a t u) = made (found-says r a) (two t u refl)
 called (resolve-row row r a t u) = made (resolved-says r a) (two t u refl)
+called (count-for item channel resource r a t u) = made (counted-says r a) (two t u refl)
 called (judge r a t u) = made (judged-says r a) (two t u refl)
 called (write-sheet r a t u v) = made (written-says r a) (two t u (one v))
 called (to-utf8 r a v) = made (converted-says r a) (one v)
@@ -322,6 +344,26 @@ sheet-own n f h ns is = go (leb _ n) _
     go true s = tt
     go false s = tt
 
+abbrev Counts : Result ℕ → Type 0
+Counts x = Own (ofReader ++ ofCount) x
+
+where-counts : (b : Bool) (x y : Result ℕ) → Counts x → Counts y → Counts (cond b x y)
+where-counts true x y a c = a
+where-counts false x y a c = c
+
+read-own : (channel resource : ℕ) (o : Out Description) → Counts (count.countOf channel resource o)
+unfolding count.countOf count.countAt
+read-own channel resource (ok d q) = where-counts (ltb channel (d .channels) && ltb resource (d .resources)) (good (getD (d .counts) (channel * d .resources + resource) 0)) (bad 23 0) tt tt
+read-own channel resource (refused n p) = tt
+
+row-own : (f : List ℕ) (channel resource : ℕ) (x : Item) → Counts (count.countIn f channel resource x)
+unfolding count.countIn
+row-own f channel resource x = where-counts (isDescription x) (count.countOf channel resource (count.dataRead f x)) (bad 23 0) (read-own channel resource (count.dataRead f x)) tt
+
+count-own : (f : List ℕ) (item channel resource : ℕ) (h : Header) (ns : List Node) (is : List Item) → Counts (count.countFor item channel resource f h ns is)
+unfolding count.countFor count.countRow
+count-own f item channel resource h ns is = where-counts (ltb item (length is)) (count.countIn f channel resource (itemAt is item)) (bad 18 0) (row-own f channel resource (itemAt is item)) tt
+
 mobile-own : (f : List ℕ) (h : Header) (ns : List Node) (is : List Item) → Own (ofReader ++ []) (mobile.mobile f h ns is)
 unfolding mobile.mobile
 mobile-own f h ns is = tt
@@ -415,6 +457,13 @@ module _ (ls : Sizes) (f : List ℕ) where
   resolve-choice row (good a) e k = inr (a .place ∷ a .size ∷ a .row ∷ a .hops ∷ [], refl, refl, λ _. accepted ls f (resolve.resolve row f) e)
   resolve-choice row (bad n p) e k = inl (n, p, refl, k, refl)
 
+  count-choice : (item channel resource : ℕ) (r : Result ℕ) → ask (reads ls f) (count.countFor item channel resource f) ≡ r → Own (ofReader ++ ofCount) r
+      → IsRefusal (countFor item channel resource) ls (leaves ls (reads ls f) (λ r. counted.words (counted.answerOf r)) (λ r. []) r)
+      ⊎ IsAnswer (countFor item channel resource) ls f (leaves ls (reads ls f) (λ r. counted.words (counted.answerOf r)) (λ r. []) r)
+  unfolding leaves keptNodes keptItems
+  count-choice item channel resource (good n) e k = inr (n ∷ [], refl, refl, λ _. accepted ls f (count.countFor item channel resource f) e)
+  count-choice item channel resource (bad n p) e k = inl (n, p, refl, k, refl)
+
   judge-choice : (r : Result ℕ) → ask (reads ls f) (mobile.mobile f) ≡ r → Own (ofReader ++ []) r
       → IsRefusal judgeMobile ls (leaves ls (reads ls f) (λ r. judged.words (judged.answerOf r)) (λ r. []) r) ⊎ IsAnswer judgeMobile ls f (leaves ls (reads ls f) (λ r. judged.words (judged.answerOf r)) (λ r. []) r)
   unfolding leaves keptNodes keptItems
@@ -446,6 +495,7 @@ choice readTree ls f = tree-choice ls f (reads ls f) refl
 choice (findItem w row) ls f = find-choice ls f w row _ refl (asked-own ofFind (reads ls f) (find.find w row f) (reader-own ls f) (nearest-own f w row))
 choice (findOwn w row) ls f = find-own-choice ls f w row _ refl (asked-own ofFind (reads ls f) (find.findOwn w row f) (reader-own ls f) (node-own f w row))
 choice (resolveRow row) ls f = resolve-choice ls f row _ refl (asked-own ofResolve (reads ls f) (resolve.resolve row f) (reader-own ls f) (resolve-own row f))
+choice (countFor item channel resource) ls f = count-choice ls f item channel resource _ refl (asked-own ofCount (reads ls f) (count.countFor item channel resource f) (reader-own ls f) (count-own f item channel resource))
 choice judgeMobile ls f = judge-choice ls f _ refl (asked-own [] (reads ls f) (mobile.mobile f) (reader-own ls f) (mobile-own f))
 choice writeSheet ls f = sheet-choice ls f _ refl (asked-own ofSheet (reads ls f) (sheet.write (size ls 2) f) (reader-own ls f) (sheet-own (size ls 2) f))
 choice (toUtf8 units) ls f = no-file (conversion-choice (size ls 0) _ (fitting-own (size ls 0) _ (utf8-own units)))

@@ -15,6 +15,9 @@ use Rattle.find.specs.declared.Found.{Found}
 use Rattle.resolve.specs.Resolve.{resolve, part}
 use Rattle.resolve.specs.Told as resolved
 use Rattle.resolve.specs.declared.Resolved.{Resolved}
+use Rattle.description.specs.Count.{countFor}
+use Rattle.description.specs.Told as counted
+use Rattle.description.specs.declared.Counted.{Counted}
 use Rattle.mobile.specs.Mobile.{mobile}
 use Rattle.mobile.specs.Told as judged
 use Rattle.mobile.specs.declared.Judged.{Judged}
@@ -64,6 +67,12 @@ pub data Called : Question → (lent : List (List ℕ)) → (file : List ℕ) �
       → t ≡ nodesLeft nodes items f (resolve row)
       → u ≡ itemsLeft nodes items f (resolve row)
       → Called (resolveRow row) (nodes ∷ items ∷ []) f (record { answer = resolved.words r; holds = t ∷ u ∷ [] })
+  -- description::count_for
+  count-for : {nodes items f t u : List ℕ} (item channel resource : ℕ) (r : Counted)
+      → counted.told r ≡ answered nodes items f (countFor item channel resource)
+      → t ≡ nodesLeft nodes items f (countFor item channel resource)
+      → u ≡ itemsLeft nodes items f (countFor item channel resource)
+      → Called (promises.countFor item channel resource) (nodes ∷ items ∷ []) f (record { answer = counted.words r; holds = t ∷ u ∷ [] })
   -- mobile::judge
   judge : {nodes items f t u : List ℕ} (r : Judged)
       → judged.told r ≡ answered nodes items f mobile

@@ -8,7 +8,7 @@ use mathlib.Core.List.{List, [], _∷_, _++_, map}
 use Prim.Native.Nat.{ℕ, _+_, _*_, _≤_, _<_}
 use lib.Dec.{T}
 use lib.ListN.{length, getD, replicate, take}
-use Rattle.cursor.specs.Refusals.{badText, ofReader, ofFind, ofResolve, ofSheet, ofConversion, isAllowed}
+use Rattle.cursor.specs.Refusals.{badText, ofReader, ofFind, ofResolve, ofCount, ofSheet, ofConversion, isAllowed}
 use Rattle.cursor.specs.declared.Node.{Node}
 use Rattle.cursor.specs.declared.Item.{Item}
 use Rattle.header.specs.Header.{Header}
@@ -21,6 +21,8 @@ use Rattle.find.specs.Find as find
 use Rattle.find.specs.Told as found
 use Rattle.resolve.specs.Resolve as resolve
 use Rattle.resolve.specs.Told as resolved
+use Rattle.description.specs.Count as count
+use Rattle.description.specs.Told as counted
 use Rattle.mobile.specs.Mobile as mobile
 use Rattle.mobile.specs.Told as judged
 use Rattle.sheet.specs.Sheet as sheet
@@ -37,6 +39,7 @@ pub data Question : Type 0 where
   findItem : find.Wanted → (row : ℕ) → Question
   findOwn : find.Wanted → (row : ℕ) → Question
   resolveRow : (row : ℕ) → Question
+  countFor : (item channel resource : ℕ) → Question
   judgeMobile : Question
   writeSheet : Question
   toUtf8 : (units : List ℕ) → Question
@@ -48,6 +51,7 @@ hasFile readTree = true
 hasFile (findItem w row) = true
 hasFile (findOwn w row) = true
 hasFile (resolveRow row) = true
+hasFile (countFor item channel resource) = true
 hasFile judgeMobile = true
 hasFile writeSheet = true
 hasFile (toUtf8 units) = false
@@ -59,6 +63,7 @@ refusals readTree = ofReader
 refusals (findItem w row) = ofReader ++ ofFind
 refusals (findOwn w row) = ofReader ++ ofFind
 refusals (resolveRow row) = ofReader ++ ofResolve
+refusals (countFor item channel resource) = ofReader ++ ofCount
 refusals judgeMobile = ofReader
 refusals writeSheet = ofReader ++ ofSheet
 refusals (toUtf8 units) = ofConversion
@@ -70,6 +75,7 @@ values readTree = 3
 values (findItem w row) = 11
 values (findOwn w row) = 11
 values (resolveRow row) = 4
+values (countFor item channel resource) = 1
 values judgeMobile = 1
 values writeSheet = 1
 values (toUtf8 units) = 1
@@ -102,6 +108,7 @@ lent readTree ls = tables ls
 lent (findItem w row) ls = tables ls
 lent (findOwn w row) ls = tables ls
 lent (resolveRow row) ls = tables ls
+lent (countFor item channel resource) ls = tables ls
 lent judgeMobile ls = tables ls
 lent writeSheet ls = tables ls ++ (filled (size ls 2) ∷ [])
 lent (toUtf8 units) ls = filled (size ls 0) ∷ []
@@ -136,6 +143,7 @@ outcome readTree ls f = record { answer = tree.words (answerOf (reads ls f)); ho
 outcome (findItem w row) ls f = over ls f (λ r. found.words (found.answerOf r)) (λ r. []) (find.find w row)
 outcome (findOwn w row) ls f = over ls f (λ r. found.words (found.answerOf r)) (λ r. []) (find.findOwn w row)
 outcome (resolveRow row) ls f = over ls f (λ r. resolved.words (resolved.answerOf r)) (λ r. []) (resolve.resolve row)
+outcome (countFor item channel resource) ls f = over ls f (λ r. counted.words (counted.answerOf r)) (λ r. []) (count.countFor item channel resource)
 outcome judgeMobile ls f = over ls f (λ r. judged.words (judged.answerOf r)) (λ r. []) mobile.mobile
 outcome writeSheet ls f =
     over ls f (λ r. written.words (written.answerOf (sheet.counted r))) (λ r. sheet.kept (size ls 2) r ∷ []) (sheet.write (size ls 2))

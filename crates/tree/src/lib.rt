@@ -14,11 +14,12 @@ ghost use Rattle.node.specs.declared.Standing.{Standing};
 ghost use Rattle.cursor.specs.Rows.{inlineSize, Events};
 ghost use Rattle.tree.specs.Tree.{mostDepth, folder, node, tree};
 ghost use Rattle.tree.specs.Reading.{nodesOf, good, context, offsetAt, outside, partEnd, takenFrom, reach, follow, readOf, answerOf};
-ghost use Rattle.tree.specs.Rows.{nodeAt, nodesIn, rowStarting, Rising};
+ghost use Rattle.tree.specs.Rows.{itemFrom, nodeAt, nodesIn, rowStarting, Rising};
 ghost use Rattle.tree.specs.Asking.{reads, nodesRead, itemsRead};
 ghost use Rattle.tree.specs.Told.{Lent, Stands, Leaves};
 use cursor::Cursor;
 use cursor::FilePlace;
+use cursor::Item;
 use cursor::Node;
 use cursor::NodePlace;
 use cursor::Numbered;
@@ -51,6 +52,26 @@ pub enum Read {
 pub enum Answer {
     Tree(u64, usize, usize),
     Refused(u64, usize),
+}
+
+// Row i of the item table.
+pub fn item_at(items: &[u64], i: usize) -> Item
+    requires { ⌜ i * 10 + 10 ≤ length (now items) ⌝ }
+    ensures { λ r. ⌜ r ≡ itemFrom (now (items .entry)) (i * 10) ⌝ }
+{
+    let k = i * cursor::ITEM_WIDTH;
+    Item {
+        node: items[k],
+        item: items[k + 1],
+        kind: items[k + 2],
+        field: items[k + 3],
+        named: items[k + 4],
+        version: items[k + 5],
+        declared: items[k + 6],
+        format: items[k + 7],
+        place: items[k + 8],
+        size: items[k + 9],
+    }
 }
 
 // Sets every word of both tables to 0.

@@ -3,9 +3,11 @@
 use crate::buffers::{Buffers, Noise};
 use crate::readers::{ask_plain, ask_proved, ask_words, resource_proved};
 use crate::readers::{convert_plain, convert_proved, convert_words};
-use crate::readers::{Answer, Question, Subject, QUESTIONS};
+use crate::readers::{known, Answer, Question, Subject, QUESTIONS};
 use generate::cases::KINDS;
+use generate::descriptions::Described;
 use generate::encode::PRIVATE_KINDS;
+use generate::model::Field;
 use generate::texts::Text;
 use generate::{Case, Pair};
 use std::fmt::Debug;
@@ -39,6 +41,8 @@ pub struct Comparer {
     pub resources: u64,
     /// For each refusal number, how many texts are refused so; at 0 how many are converted.
     pub texts: [u64; 27],
+    /// For each refusal number, how many counts are refused so; at 0 how many are given.
+    pub counts: [u64; 27],
 }
 
 /// Two values that should be equal.
@@ -63,6 +67,7 @@ impl Comparer {
             private: [0; PRIVATE_KINDS.len()],
             resources: 0,
             texts: [0; 27],
+            counts: [0; 27],
         }
     }
 
@@ -75,6 +80,7 @@ impl Comparer {
             file: &case.file,
             row: case.row,
             field: &case.field,
+            count: counted(number),
         };
         self.first.resize(&case.lent);
         self.second.resize(&case.lent);
@@ -110,6 +116,7 @@ impl Comparer {
             file,
             row: pair.row,
             field: &pair.field,
+            count: counted(number),
         });
         self.first.resize(&pair.lent);
         self.second.resize(&pair.lent);
@@ -185,6 +192,32 @@ impl Comparer {
         self.left(question)
     }
 
+    /// Asks both readers for the count of a content description, and once more with an answer buffer of
+    /// 0 to 16 words. Where the answer is known, it is that.
+    pub fn description(&mut self, case: &Described, number: u64) -> Result<(), Difference> {
+        let question = Question::Count;
+        let about = Subject {
+            file: &case.file,
+            row: case.row,
+            field: &Field::Standard(13),
+            count: [case.channel, case.resource],
+        };
+        self.first.resize(&case.lent);
+        self.second.resize(&case.lent);
+        self.fill(question, number, number);
+        let proved = ask_proved(question, about, self.first.lend());
+        let plain = ask_plain(question, about, self.second.lend());
+        self.counts[plain[0] as usize] += 1;
+        self.answer(question, &proved, &plain)?;
+        self.left(question)?;
+        let room = number % (MOST_ANSWER_WORDS + 1);
+        self.words(question, about, &plain, room as usize)?;
+        match known(case) {
+            Some(answer) => self.answer(question, &answer, &plain),
+            None => Ok(()),
+        }
+    }
+
     /// Converts a text by both readers, with the same bytes in the room before, and once more with an
     /// answer buffer of 0 to 16 words.
     pub fn text(&mut self, text: &Text, number: u64) -> Result<(), Difference> {
@@ -248,6 +281,11 @@ impl Comparer {
         self.comparisons += 1;
         self.values += values as u64;
     }
+}
+
+/// The channel and the resource that a case asks for.
+fn counted(number: u64) -> [u64; 2] {
+    [number % 3, number / 3 % 3]
 }
 
 /// The words of an answer as a buffer of so many words gets them, with the words after it.

@@ -3,11 +3,13 @@
 //! Everything is fixed by a seed and a case number: [`case`] makes a file with what is lent and
 //! what is asked, [`pair`] makes two files that differ at private places only, [`large_file`] and
 //! [`large_resource`] make the largest files, [`folders_file`] makes files of growing size,
-//! [`texts::text`] makes a text to be converted, and [`titles::title`] makes a file whose title is to
-//! be corrected. The modules hold the parts they are made of.
+//! [`texts::text`] makes a text to be converted, [`titles::title`] makes a file whose title is to
+//! be corrected, and [`descriptions::description`] makes a file with a content description. The
+//! modules hold the parts they are made of.
 
 pub mod cases;
 pub mod damage;
+pub mod descriptions;
 pub mod encode;
 pub mod mobile;
 pub mod model;

@@ -67,6 +67,22 @@ extern "C" {
         answer_words: usize,
     );
 
+    /// Reads the content description that is the item row. Answer: its count for a channel and a
+    /// resource.
+    pub fn xmf_voice_count(
+        file: *const u8,
+        file_length: usize,
+        nodes: *mut u64,
+        node_words: usize,
+        items: *mut u64,
+        item_words: usize,
+        item_row: usize,
+        channel: u64,
+        resource: u64,
+        answer: *mut u64,
+        answer_words: usize,
+    );
+
     /// Judges Mobile XMF. Answer: the verdict.
     pub fn xmf_judge(
         file: *const u8,

@@ -5,6 +5,7 @@
 //! | read the tree | [`read_tree`] |
 //! | find the nearest metadata item, or a node's own | [`find`], [`find_own`] |
 //! | resolve a resource | [`resolve`], and [`resource`] for its bytes |
+//! | say what the tune needs | [`voice_count`] |
 //! | judge Mobile XMF | [`judge`] |
 //! | write the support sheet | [`write_sheet`] |
 //!
@@ -112,7 +113,7 @@ pub mod item {
 /// Why a question is refused.
 #[derive(Clone, Copy, Debug, PartialEq, Eq)]
 pub struct Refusal {
-    /// The number in the refusal list, 1 to 24 or 26.
+    /// The number in the refusal list, 1 to 26.
     pub number: u64,
     /// The place of the refused field's first byte, or 0 where the list names none. For 26 the place
     /// of the first bad character in what was to be converted.
@@ -150,6 +151,10 @@ impl Refusal {
             22 => "the sheet, or a converted text, is longer than its buffer",
             23 => "no such item",
             24 => "a detached node overlaps another one, or is a folder",
+            25 => {
+                "a content description has a field that is cut short, too long a number or of an \
+                 unknown kind, or bytes left over"
+            }
             26 => "UTF-16 of odd length or with half of a surrogate pair, or bad UTF-8",
             _ => "not in the list",
         }
@@ -292,6 +297,38 @@ pub fn resource<'a>(
 ) -> Result<&'a [u8], Refusal> {
     let found = resolve(file, nodes, items, row)?;
     Ok(&file[found.place..][..found.length])
+}
+
+/// The count that an item row, a content description, gives for a channel and a resource, both
+/// numbered from 0.
+///
+/// Refused with 18 when there is no such item row, with 23 when it is no universal field 13 in format 6
+/// or 7, with 25 when its data is not readable, placed at the first fault, then with 23 when it describes
+/// no such channel or resource.
+///
+/// ```
+/// use xmf::{item, ALL_ITEM_WORDS, ALL_NODE_WORDS};
+///
+/// let file = std::fs::read("../../samples/mobile.xmf").unwrap();
+/// let mut nodes = vec![0; ALL_NODE_WORDS];
+/// let mut items = vec![0; ALL_ITEM_WORDS];
+/// let tune = xmf::find_own(&file, &mut nodes, &mut items, 1, xmf::Field::Standard(13)).unwrap();
+/// assert_eq!(tune.words[item::FORMAT], 6);
+/// let voices = xmf::voice_count(&file, &mut nodes, &mut items, tune.row, 0, 0);
+/// assert_eq!(voices, Ok(4));
+/// ```
+pub fn voice_count(
+    file: &[u8],
+    nodes: &mut [u64],
+    items: &mut [u64],
+    item_row: usize,
+    channel: u64,
+    resource: u64,
+) -> Result<u64, Refusal> {
+    let mut answer = [0; 3];
+    words::voice_count(file, nodes, items, item_row, channel, resource, &mut answer);
+    let [count] = values(answer)?;
+    Ok(count)
 }
 
 /// Judges whether a file is a Mobile XMF file: 0, or the number 1 to 8 of the first check that

@@ -74,7 +74,7 @@ pub fn find_own(
 }
 
 /// A field as kind, number and name.
-fn asked(field: Field) -> (u64, u64, &[u8]) {
+fn asked(field: Field<'_>) -> (u64, u64, &[u8]) {
     match field {
         Field::Standard(number) => (item::STANDARD, number, &[]),
         Field::Custom(name) => (item::CUSTOM, 0, name),
@@ -84,6 +84,25 @@ fn asked(field: Field) -> (u64, u64, &[u8]) {
 /// Resolves a resource. Values: place, length, row, references followed.
 pub fn resolve(file: &[u8], nodes: &mut [u64], items: &mut [u64], row: usize, answer: &mut [u64]) {
     ask!(xmf_resolve(file, nodes, items, [row], answer))
+}
+
+/// Reads the content description that is the item row. Values: its count for a channel and a resource.
+pub fn voice_count(
+    file: &[u8],
+    nodes: &mut [u64],
+    items: &mut [u64],
+    item_row: usize,
+    channel: u64,
+    resource: u64,
+    answer: &mut [u64],
+) {
+    ask!(xmf_voice_count(
+        file,
+        nodes,
+        items,
+        [item_row, channel, resource],
+        answer
+    ))
 }
 
 /// Judges Mobile XMF. Values: the verdict.

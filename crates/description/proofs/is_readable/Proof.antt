@@ -18,10 +18,10 @@ enum-known-n : tie.Need-enum-known-n
 enum-known-n c = search needs
 
 returns : tie.Need-returns
-returns c = readable-count 0 0 _ (sym (was told (c .before .before .count-of .ensures) (c .enum-told .given .1)))
+returns c = readable-count 0 0 _ _ (sym (was told (c .before .before .count-of .ensures) (c .enum-told .given .1)))
 
 returns-2 : tie.Need-returns-2
-returns-2 c = readable-refused 0 0 _ (sym (was told (c .before .before .before .count-of .ensures) (c .before .n .given .1)))
+returns-2 c = readable-refused 0 0 _ _ (sym (was told (c .before .before .before .count-of .ensures) (c .before .n .given .1)))
 
 pub is-readable-spec : {M : Type 1} → statement M
 is-readable-spec = tie.close (tie.spec count-of-requires enum-told enum-known-n returns returns-2)

@@ -28,13 +28,13 @@ row-of-requires : tie.Need-row-of-requires
 row-of-requires c κs = search needs
 
 put-item-requires : tie.Need-put-item-requires
-put-item-requires c κs = search needs
+put-item-requires c κs = omega (arith, c .before .before .before .before .before .before .before .before .before .before .before .before .before .pre, c .before .before .before .before .before .before .before .if1 .taken)
 
 add-on : tie.Need-add-on
-add-on c = omega (arith, common-inside _ _ _ (common-was _ _ _ (c .before .before .before .before .before .before .before .before .before .read-common .ensures) (c .before .before .before .before .before .before .before .number .given .1)))
+add-on c = omega (arith, c .before .before .before .before .before .before .before .before .before .before .before .before .before .before .before .before .pre, common-inside _ _ _ (common-was _ _ _ (c .before .before .before .before .before .before .before .before .before .read-common .ensures) (c .before .before .before .before .before .before .before .number .given .1)))
 
 on-requires-2 : tie.Need-on-requires-2
-on-requires-2 c κs = omega (arith, common-inside _ _ _ (common-was _ _ _ (c .before .before .before .before .before .before .before .before .before .read-common .ensures) (c .before .before .before .before .before .before .before .number .given .1)))
+on-requires-2 c κs = omega (arith, c .before .before .before .before .before .before .before .before .before .before .before .before .before .before .before .before .pre, common-inside _ _ _ (common-was _ _ _ (c .before .before .before .before .before .before .before .before .before .read-common .ensures) (c .before .before .before .before .before .before .before .number .given .1)))
 
 same-length : tie.Need-same-length
 same-length c = search needs

@@ -1,7 +1,8 @@
 -- `role_of` says what `roleOf` says: the rows of field 3 are looked for twice.
 -- Assumes nothing.
 use lib.ListN.{length}
-use Rattle.mobile.proofs.Roles.{row-in, role-none, role-two, role-one}
+use Rattle.description.proofs.Exits.{row-in}
+use Rattle.mobile.proofs.Roles.{role-none, role-two, role-one}
 use native.Mathlib.Omega.{arith}
 use borrow.Author.Needs.{needs}
 use Rattle.mobile.proofs.role_of.Statement.{statement}
