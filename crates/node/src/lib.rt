@@ -233,10 +233,17 @@ fn read_unpackers(c: Cursor, file: &[u8], held: u64, end: FilePlace) -> Unpacked
     match c.block(file, end, cursor::BAD_NODE) {
         Numbered::Refused(n, p) => Unpacked::Refused(n, p),
         Numbered::Is(size, d) => {
+            // Most nodes have no unpackers. To answer here is faster than a loop that reads none.
+            if size == 0 {
+                let first = d.at;
+                let none = Unpackers {
+                    place: first,
+                    count: 0,
+                };
+                return Unpacked::Is(none, d);
+            }
             if held != 0 {
-                if size != 0 {
-                    return Unpacked::Refused(cursor::BAD_FOLDER, place);
-                }
+                return Unpacked::Refused(cursor::BAD_FOLDER, place);
             }
             let after = d.on(size);
             let stop = after.at;
@@ -308,20 +315,11 @@ fn read_uri(c: Cursor, file: &[u8], end: FilePlace) -> Referred
     }
 }
 
-// What a reference leads to, in a node that ends at `end`.
+// What a reference other than 1 leads to, in a node that ends at `end`.
 fn read_target(c: Cursor, file: &[u8], first: FilePlace, kind: u64, end: FilePlace) -> Referred
-    requires { ⌜ Readable (end .0) (now file) × (c .at .0 ≤ end .0) ⌝ }
+    requires { ⌜ Readable (end .0) (now file) × (1 < kind) ⌝ }
     ensures { λ r. ⌜ referenceTold r ≡ run (target (first .0) (length (now (file .entry))) kind (end .0)) (now (file .entry)) (c .at .0) ⌝ }
 {
-    let place = c.at;
-    if kind == 1 {
-        let is = Reference {
-            kind,
-            target: place.0 as u64,
-            extent: (end.0 - place.0) as u64,
-        };
-        return Referred::Is(is, c);
-    }
     if kind == 2 {
         return read_resource(c, file, first, end);
     }
@@ -340,6 +338,17 @@ fn read_reference(c: Cursor, file: &[u8], first: FilePlace, held: u64, end: File
     match c.number(file, end, cursor::CUT_SHORT) {
         Numbered::Refused(n, p) => Referred::Refused(n, p),
         Numbered::Is(kind, d) => {
+            // Most nodes use reference 1, so it is asked for first: the contents follow, to the node's end.
+            if kind == 1 {
+                let here = d.at;
+                let extent = end.0 - here.0;
+                let is = Reference {
+                    kind,
+                    target: here.0 as u64,
+                    extent: extent as u64,
+                };
+                return Referred::Is(is, d);
+            }
             if kind == 0 {
                 return Referred::Refused(cursor::BAD_REFERENCE, place);
             }
@@ -347,9 +356,7 @@ fn read_reference(c: Cursor, file: &[u8], first: FilePlace, held: u64, end: File
                 return Referred::Refused(cursor::BAD_REFERENCE, place);
             }
             if held != 0 {
-                if kind != 1 {
-                    return Referred::Refused(cursor::BAD_FOLDER, place);
-                }
+                return Referred::Refused(cursor::BAD_FOLDER, place);
             }
             read_target(d, file, first, kind, end)
         }
