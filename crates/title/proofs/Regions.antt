@@ -26,6 +26,8 @@ region A (seen κ p ∷ es) at c o h k l m = elim (decLt at k) [
   | yes i ↦ region A es (at + 1) (c .1) (o .1) (h .1) k (omega arith) m
   | no i ↦ let e : p ≡ k = omega arith in subst A e (h .0)
 ]
+region A (passed (nodeRow r) p n ∷ es) at c o h k l m = absurd (o .0)
+region A (passed (itemRow r) p n ∷ es) at c o h k l m = absurd (o .0)
 region A (passed (plain x) p n ∷ es) at c o h k l m = elim (decLt k (at + n)) [
   | yes i ↦ h .0 tt k (omega arith) (omega arith)
   | no i ↦ region A es (at + n) (c .1) (o .1) (h .1) k (omega arith) m
