@@ -17,12 +17,13 @@ value end = do
   v ← number metaFrame cutShort end
   ret tt
 
--- sixteen plain bytes
+-- a byte of a GUID that began at p
 unfoldable pub aByte : (end p : ℕ) → P (Unit {0})
 aByte end p = do
   b ← next metaFrame cutShort end p
   ret tt
 
+-- sixteen plain bytes
 unfoldable pub guid : ℕ → P (Unit {0})
 guid end = do
   p ← place
