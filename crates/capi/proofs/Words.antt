@@ -1,6 +1,6 @@
 -- How a buffer comes to hold the words of an answer, and what a call leaves.
 -- Assumes nothing.
-use mathlib.Core.Path.{_≡_, refl, sym, ap, _∙_}
+use mathlib.Core.Path.{_≡_, refl, sym, ap, _∙_, subst}
 use mathlib.Core.List.{List}
 use Prim.Native.Nat.{ℕ, zero, suc, _-_, _≤_}
 use native.Mathlib.Omega.{arith}
@@ -14,7 +14,7 @@ use Rattle.room.proofs.Sets.{sets-zeros}
 use Rattle.tree.specs.Reading.{rows}
 use Rattle.tree.specs.Hidden.{DifferInPrivate}
 use Rattle.find.specs.Find.{Wanted, standard, custom}
-use Rattle.promises.specs.Promises.{Question, Sizes, Outcome, reads, outcome}
+use Rattle.promises.specs.Promises.{Question, writes, Sizes, Outcome, reads, outcome, AlikeIn}
 use Rattle.promises.specs.Calls.{Called}
 use Rattle.promises.proofs.Kept.{called, outcome-alike}
 use Rattle.capi.specs.Fit.{fit, asked, Leaves}
@@ -53,10 +53,10 @@ unfolding asked
 asks-custom q zero number name row ls f n h = absurd (n refl)
 asks-custom q (suc k) number name row ls f n h = h
 
--- ---- demand 3 of two calls: whatever their buffers held, both leave the same
+-- ---- demand 3 of two calls, whatever their buffers held
 
 pub calls-alike : (q : Question) (ls : Sizes) (f g : List ℕ) (h : Header) (ns : List Node) (is : List Item) → reads ls f ≡ rows h ns is → DifferInPrivate h ns is f g
-    → {size : ℕ} {a a′ : List ℕ} {x x′ : List (List ℕ)} → Leaves (outcome q ls f) size a x → Leaves (outcome q ls g) size a′ x′ → (a′ ≡ a) × (x′ ≡ x)
-calls-alike q ls f g h ns is r d {size} l k =
-    let e = outcome-alike ls f g h ns is r d q in
-    (k .answers ∙ ap (λ (o : Outcome). fit size (o .answer)) e ∙ sym (l .answers), k .holding ∙ ap (λ (o : Outcome). o .holds) e ∙ sym (l .holding))
+    → {size : ℕ} {a a′ : List ℕ} {x x′ : List (List ℕ)} → Leaves (outcome q ls f) size a x → Leaves (outcome q ls g) size a′ x′ → (a′ ≡ a) × AlikeIn (writes q) f g x x′
+calls-alike q ls f g h ns is r d {size} {x′ = x′} l k =
+    let w = outcome-alike ls f g h ns is r d q in
+    (k .answers ∙ ap (fit size) (w .0) ∙ sym (l .answers), subst (λ v. AlikeIn (writes q) f g v x′) (sym (l .holding)) (subst (AlikeIn (writes q) f g (outcome q ls f .holds)) (sym (k .holding)) (w .1)))

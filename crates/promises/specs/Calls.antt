@@ -21,12 +21,15 @@ use Rattle.mobile.specs.declared.Judged.{Judged}
 use Rattle.sheet.specs.Sheet.{write}
 use Rattle.sheet.specs.Told as written
 use Rattle.sheet.specs.declared.Written.{Written}
+use Rattle.title.specs.Title as title
+use Rattle.retitle.specs.Told as corrected
+use Rattle.retitle.specs.declared.Corrected.{Corrected}
 use Rattle.room.specs.Room as room
 use Rattle.unicode.specs.Unicode as unicode
 use Rattle.unicode.specs.Told as converted
 use Rattle.unicode.specs.declared.Converted.{Converted}
 use Rattle.promises.specs.Promises as promises
-use Rattle.promises.specs.Promises.{Question, readTree, findItem, resolveRow, judgeMobile, writeSheet, toUtf8, toUtf16, Sizes, Outcome}
+use Rattle.promises.specs.Promises.{Question, readTree, findItem, resolveRow, judgeMobile, writeSheet, correctTitle, toUtf8, toUtf16, Sizes, Outcome}
 
 -- a call that was made: its question, the sizes lent, the file, and what it left
 pub data Called : Question → Sizes → (file : List ℕ) → Outcome → Type 0 where
@@ -77,6 +80,13 @@ pub data Called : Question → Sizes → (file : List ℕ) → Outcome → Type 
       → u ≡ keptItems i (readFile (limits n i) f) (ask (readFile (limits n i) f) (write s f))
       → v ≡ room.kept s (ask (readFile (limits n i) f) (write s f))
       → Called writeSheet (n ∷ i ∷ s ∷ []) f (record { answer = written.words r; holds = t ∷ u ∷ v ∷ [] })
+  -- retitle::correct_title
+  correct-title : {n i s : ℕ} {f t u v : List ℕ} (item : ℕ) (text : List ℕ) (r : Corrected)
+      → corrected.told r ≡ room.counted (ask (readFile (limits n i) f) (title.correctTitle item text s f))
+      → t ≡ corrected.titledNodes n (limits n i) (ask (readFile (limits n i) f) (title.correctTitle item text s f))
+      → u ≡ corrected.titledItems i (limits n i) (ask (readFile (limits n i) f) (title.correctTitle item text s f))
+      → v ≡ room.kept s (ask (readFile (limits n i) f) (title.correctTitle item text s f))
+      → Called (correctTitle item text) (n ∷ i ∷ s ∷ []) f (record { answer = corrected.words r; holds = t ∷ u ∷ v ∷ [] })
   -- unicode::to_utf8
   to-utf8 : {s : ℕ} {f units v : List ℕ} (r : Converted)
       → converted.told r ≡ room.counted (room.fitting s (unicode.toUtf8 units)) → v ≡ room.kept s (room.fitting s (unicode.toUtf8 units))
