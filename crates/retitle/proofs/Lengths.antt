@@ -45,3 +45,7 @@ module _ (fixed tree x : ℕ) where
   pub start-few : {r : ℕ} → r ≡ startAt fixed tree x → r ≤ x + 8 + fixed
   unfolding startAt startBytes
   start-few e = omega (arith, e, least-in (λ y. startWith fixed x y (lastBytes fixed tree x y)) .1, last-few (startBytes fixed tree x) refl)
+
+pub tree-few : (fixed tree after : ℕ) {r : ℕ} → r ≡ startAt fixed tree (fileBytes fixed tree after) → (1 ≤ r) × (r ≤ fixed + 12)
+unfolding fileBytes startAt
+tree-few fixed tree after e = let l = least-in (λ x. startAt fixed tree x + tree + after) in (omega arith, omega (arith, start-few fixed tree (fileBytes fixed tree after) refl))

@@ -2,3 +2,8 @@ pub mod Lengths
 pub mod Nodes
 pub mod Rows
 pub mod Passes
+pub mod Files
+pub mod Refusals
+pub mod Ready
+pub mod Headed
+pub mod Asked

@@ -20,13 +20,13 @@ module _ (f : List ℕ) (row : ℕ) (title us : List ℕ) where
   contents-take k (suc n) zero l = absurd (omega arith)
   contents-take k (suc n) (suc m) l = ap (λ v. contentAt f row title us k ∷ v) (contents-take (k + 1) n m (omega arith))
 
-  contents-drop : (k n m : ℕ) → n ≤ m → drop n (contentsFrom f row title us k m) ≡ contentsFrom f row title us (k + n) (m - n)
+  pub contents-drop : (k n m : ℕ) → n ≤ m → drop n (contentsFrom f row title us k m) ≡ contentsFrom f row title us (k + n) (m - n)
   unfolding contentsFrom
   contents-drop k zero m l = let a : k + 0 ≡ k = omega arith in let b : m - 0 ≡ m = omega arith in rw (a, b) refl
   contents-drop k (suc n) zero l = absurd (omega arith)
   contents-drop k (suc n) (suc m) l = let a : k + 1 + n ≡ k + suc n = omega arith in let b : m - n ≡ suc m - suc n = omega arith in contents-drop (k + 1) n m (omega arith) ∙ rw (a, b) refl
 
-nodes-on : (ws : List ℕ) (count i : ℕ) → i < count → nodesFrom i (count - i) ws ≡ nodeFrom ws (i * 13) ∷ nodesFrom (i + 1) (count - (i + 1)) ws
+pub nodes-on : (ws : List ℕ) (count i : ℕ) → i < count → nodesFrom i (count - i) ws ≡ nodeFrom ws (i * 13) ∷ nodesFrom (i + 1) (count - (i + 1)) ws
 unfolding nodesFrom
 nodes-on ws count i l = let e : count - i ≡ suc (count - (i + 1)) = omega arith in rw e refl
 

@@ -1,8 +1,9 @@
 -- What the code's answer says, and what the call leaves in the tables.
 -- Assumes nothing.
+use mathlib.Core.Path.{_≡_}
 use mathlib.Core.List.{List, [], _∷_}
-use Prim.Native.Nat.{ℕ}
-use lib.ListN.{replicate}
+use Prim.Native.Nat.{ℕ, _≤_}
+use lib.ListN.{length, take, replicate}
 use Rattle.room.specs.Room.{Result, good, bad}
 use Rattle.metadata.specs.declared.Limits.{Limits}
 use Rattle.tree.specs.Reading.{readFile, nodeTable, itemTable}
@@ -30,3 +31,11 @@ titledNodes size lim (bad n p) = replicate size 0
 unfoldable pub titledItems : (size : ℕ) → Limits → Result (List ℕ) → List ℕ
 titledItems size lim (good g) = itemTable size (readFile lim g)
 titledItems size lim (bad n p) = replicate size 0
+
+-- by the answer: the file stands at the buffer's front; or there is none, and nothing is said of the buffer
+abbrev pub WroteAs : (out : List ℕ) → Corrected → Result (List ℕ) → Type 0
+WroteAs out (corrected.File n) o = (g : List ℕ) × (o ≡ good g) × (n ≡ length g) × (n ≤ length out) × (take n out ≡ g)
+WroteAs out (corrected.Refused n p) o = o ≡ bad n p
+
+pub record Wrote (out : List ℕ) (r : Corrected) (o : Result (List ℕ)) : Type 0 where
+  pub is : WroteAs out r o

@@ -1,16 +1,29 @@
 // Correct a title: writes a file anew with the data of one content replaced. Two passes over the rows: sizes from the last row to the first, and bytes
 // from the first row to the last.
 ghost use mathlib.Core.Path.{_≡_};
-ghost use mathlib.Core.List.{List, _∷_, [], map};
+ghost use mathlib.Core.Bool.{Bool, true, false};
+ghost use mathlib.Core.List.{List};
 ghost use Prim.Native.Nat.{ℕ, _≤_, _<_, _^_, _*_, _+_, _-_, min};
 ghost use lib.ListN.{length, take, drop};
+ghost use Rattle.cursor.specs.Machine.{run};
 ghost use Rattle.cursor.specs.Vlq.{part, least, joined, sized};
-ghost use Rattle.tree.specs.Rows.{nodeFrom};
-ghost use Rattle.title.specs.Description.{Content, shape};
-ghost use Rattle.title.specs.Text.{itemsText, ownText, nodeText, headerSize, lengthBytes, startWith, lastBytes, startAt, fileBytes};
+ghost use Rattle.header.specs.Header.{Header};
+ghost use Rattle.metadata.specs.Tables.{limits};
+ghost use Rattle.metadata.specs.declared.Limits.{Limits};
+ghost use Rattle.room.specs.Room.{counted, kept};
+ghost use Rattle.tree.specs.Rows.{nodeFrom, itemFrom, nodesIn, itemsIn};
+ghost use Rattle.tree.specs.Reading.{rows, readFile};
+ghost use Rattle.tree.specs.Asking.{ask};
+ghost use Rattle.title.specs.Description.{Content, answer, tableText, openingSize, shape};
+ghost use Rattle.title.specs.Text.{itemsText, ownText, nodeText, headerSize, lengthBytes, startWith, lastBytes, startAt, fileBytes, fileOf};
+ghost use Rattle.title.specs.Title.{elsewhere, isNoTitle, titledFile, correctTitle};
 ghost use Rattle.writer.specs.Counts.{Counts, tooMany};
 ghost use Rattle.contents.specs.Contents.{contentsFrom, ItemsInside};
 ghost use Rattle.retitle.specs.Passes.{bodySize, Framed, sumOf, task, Sound, Measured, outerFrom};
+ghost use Rattle.retitle.specs.Stands.{Stands, refusalOf};
+ghost use Rattle.retitle.specs.Told.{told, titledNodes, titledItems, Wrote};
+use header::Headed;
+use tree::Read;
 
 // NodeHeaderLength and NodeLength.
 struct Frame {
@@ -205,8 +218,8 @@ fn measure_tree(
     ensures measured { λ _. ⌜ Measured (task (now (file .entry)) (now (nodes .entry)) (now (items .entry)) count total row (now (title .entry))) 0 (now (metadata .exit)) (now (inner .exit)) ⌝ }
     ensures tree { λ r. ⌜ r ≡ min (length (joined (outerFrom (task (now (file .entry)) (now (nodes .entry)) (now (items .entry)) count total row (now (title .entry))) 0))) tooMany ⌝ }
 {
-    let mut sizes = [0usize; 256];
-    let mut top: usize = 256;
+    let mut sizes = [0usize; cursor::MOST_NODES];
+    let mut top = cursor::MOST_NODES;
     let mut end = total;
     let mut i = count;
     while 0 < i {
@@ -223,7 +236,7 @@ fn measure_tree(
         sizes[top] = f.size;
         end = first;
     }
-    sum(&sizes, top, 256)
+    sum(&sizes, top, cursor::MOST_NODES)
 }
 
 // The second pass, from the first row to the last: puts the nodes.
@@ -267,4 +280,229 @@ fn put_tree(
         i = i + 1;
     }
     next
+}
+
+// Puts the file, whose FileLength begins at `opening`, whose header ends at `end` and whose tree lies from `start` to `last`.
+fn put_file(
+    out: &mut [u8],
+    file: &[u8],
+    nodes: &[u64],
+    items: &[u64],
+    opening: usize,
+    end: usize,
+    start: usize,
+    last: usize,
+    count: usize,
+    total: usize,
+    row: usize,
+    title: &[u8],
+) -> usize
+    requires rows { ⌜ Sound (task (now file) (now nodes) (now items) count total row (now title)) ⌝ }
+    requires inside { ⌜ (opening ≤ length (now file)) × (end ≤ start) × (start ≤ last) × (last < length (now file)) ⌝ }
+    ensures { λ r. ⌜ Counts (now (out .entry)) (now (out .exit)) 0 (fileOf (take opening (now (file .entry))) (sized (answer (run (tableText (now (file .entry))) (now (file .entry)) opening))) (part (now (file .entry)) end (start - end)) (joined (outerFrom (task (now (file .entry)) (now (nodes .entry)) (now (items .entry)) count total row (now (title .entry))) 0)) (drop (last + 1) (now (file .entry)))) r ⌝ }
+{
+    let mut metadata = [0usize; cursor::MOST_NODES];
+    let mut inner = [0usize; cursor::MOST_NODES];
+    let tree = measure_tree(
+        file,
+        nodes,
+        items,
+        count,
+        total,
+        row,
+        title,
+        &mut metadata,
+        &mut inner,
+    );
+    if tree == writer::TOO_MANY {
+        return tree;
+    }
+    let mut scratch = [0u8; 1];
+    let types = copies::put_types(&mut scratch, 0, file, opening);
+    let gap = start - end;
+    let rest = last + 1;
+    let after = file.len() - rest;
+    let first = tree_start(opening + types + gap, tree, after);
+    let stop = first + tree;
+    let size = stop + after;
+    let a = writer::put_part(out, 0, file, 0, opening);
+    let b = writer::put_number(out, a, size as u64);
+    let c = copies::put_types(out, b, file, opening);
+    let d = writer::put_number(out, c, first as u64);
+    let e = writer::put_number(out, d, (stop - 1) as u64);
+    let f = writer::put_part(out, e, file, end, gap);
+    let g = put_tree(
+        out,
+        f,
+        file,
+        nodes,
+        items,
+        count,
+        total,
+        row,
+        title,
+        &metadata,
+        &inner,
+    );
+    writer::put_part(out, g, file, rest, after)
+}
+
+// Where FileLength begins.
+fn opening_size(version: u64) -> usize
+    ensures { λ r. ⌜ r ≡ openingSize version ⌝ }
+{
+    if version == 200 { 16 } else { 8 }
+}
+
+// Puts the file with that title.
+fn put_titled(
+    out: &mut [u8],
+    file: &[u8],
+    nodes: &[u64],
+    items: &[u64],
+    count: usize,
+    total: usize,
+    row: usize,
+    title: &[u8],
+) -> usize
+    requires { ⌜ Stands (now file) (now nodes) (now items) count total × (elsewhere (nodesIn count (now nodes)) ≡ false) ⌝ }
+    ensures { λ r. ⌜ ((lim : Limits) (h : Header) → readFile lim (now (file .entry)) ≡ rows h (nodesIn count (now (nodes .entry))) (itemsIn total (now (items .entry))) → Counts (now (out .entry)) (now (out .exit)) 0 (titledFile row (now (title .entry)) (now (file .entry)) h (nodesIn count (now (nodes .entry))) (itemsIn total (now (items .entry)))) r) ⌝ }
+{
+    let mut types = [0u64; header::MOST_TYPES * 2];
+    match header::read_header(file, &mut types) {
+        Headed::Refused(_, _) => 0,
+        Headed::Is(h) => {
+            let opening = opening_size(h.version);
+            let extent = h.extent;
+            let end = extent.end;
+            let start = extent.start;
+            let last = extent.last;
+            put_file(
+                out,
+                file,
+                nodes,
+                items,
+                opening,
+                end.0,
+                start.0,
+                last.0,
+                count,
+                total,
+                row,
+                title,
+            )
+        }
+    }
+}
+
+// Whether some node names a place of the file.
+fn refers_elsewhere(nodes: &[u64], count: usize) -> bool
+    requires { ⌜ count * 13 ≤ length (now nodes) ⌝ }
+    ensures { λ r. ⌜ r ≡ elsewhere (nodesIn count (now (nodes .entry))) ⌝ }
+{
+    let mut i: usize = 0;
+    while i < count {
+        let reference = nodes[i * cursor::NODE_WIDTH + 6];
+        if reference == 2 {
+            return true;
+        }
+        if reference == 3 {
+            return true;
+        }
+        i = i + 1;
+    }
+    false
+}
+
+// Whether item row `row` is hidden or a version.
+fn is_no_title(items: &[u64], row: usize) -> bool
+    requires { ⌜ row * 10 + 10 ≤ length (now items) ⌝ }
+    ensures { λ r. ⌜ r ≡ isNoTitle (itemFrom (now (items .entry)) (row * 10)) ⌝ }
+{
+    let k = row * cursor::ITEM_WIDTH;
+    if items[k + 7] % 2 == 1 {
+        return true;
+    }
+    items[k + 5] != 0
+}
+
+// The first refusal that the rows give; 0 for none.
+fn refusal_of(nodes: &[u64], items: &[u64], count: usize, total: usize, row: usize) -> u64
+    requires { ⌜ (count * 13 ≤ length (now nodes)) × (total * 10 ≤ length (now items)) ⌝ }
+    ensures { λ r. ⌜ r ≡ refusalOf row (nodesIn count (now (nodes .entry))) (itemsIn total (now (items .entry))) ⌝ }
+{
+    if total <= row {
+        return cursor::NO_SUCH_ROW;
+    }
+    let refers = refers_elsewhere(nodes, count);
+    let other = is_no_title(items, row);
+    if refers {
+        return cursor::REFERS_ELSEWHERE;
+    }
+    if other {
+        return cursor::NOT_A_TITLE;
+    }
+    0
+}
+
+// Writes the file with that title, where nothing refuses it.
+fn write_titled(
+    out: &mut [u8],
+    file: &[u8],
+    nodes: &[u64],
+    items: &[u64],
+    count: usize,
+    total: usize,
+    row: usize,
+    title: &[u8],
+) -> Corrected
+    requires { ⌜ Stands (now file) (now nodes) (now items) count total ⌝ }
+    ensures { λ r. ⌜ ((lim : Limits) (h : Header) → readFile lim (now (file .entry)) ≡ rows h (nodesIn count (now (nodes .entry))) (itemsIn total (now (items .entry))) → Wrote (now (out .exit)) r (correctTitle row (now (title .entry)) (length (now (out .entry))) (now (file .entry)) h (nodesIn count (now (nodes .entry))) (itemsIn total (now (items .entry))))) ⌝ }
+{
+    let refusal = refusal_of(nodes, items, count, total, row);
+    if refusal != 0 {
+        return Corrected::Refused(refusal, 0);
+    }
+    let size = put_titled(out, file, nodes, items, count, total, row, title);
+    if size == writer::TOO_MANY {
+        return Corrected::Refused(cursor::RESULT_TOO_LARGE, 0);
+    }
+    if out.len() < size {
+        return Corrected::Refused(cursor::NO_ROOM, 0);
+    }
+    Corrected::File(size)
+}
+
+// Writes a file anew with the title as the data of item row `row`, a universal and visible content.
+pub fn correct_title(
+    file: &[u8],
+    nodes: &mut [u64],
+    items: &mut [u64],
+    row: usize,
+    title: &[u8],
+    out: &mut [u8],
+) -> Corrected
+    ensures answer { λ r. ⌜ told r ≡ counted (ask (readFile (limits (length (now (nodes .entry))) (length (now (items .entry)))) (now (file .entry))) (correctTitle row (now (title .entry)) (length (now (out .entry))) (now (file .entry)))) ⌝ }
+    ensures nodes { λ _. ⌜ now (nodes .exit) ≡ titledNodes (length (now (nodes .entry))) (limits (length (now (nodes .entry))) (length (now (items .entry)))) (ask (readFile (limits (length (now (nodes .entry))) (length (now (items .entry)))) (now (file .entry))) (correctTitle row (now (title .entry)) (length (now (out .entry))) (now (file .entry)))) ⌝ }
+    ensures items { λ _. ⌜ now (items .exit) ≡ titledItems (length (now (items .entry))) (limits (length (now (nodes .entry))) (length (now (items .entry)))) (ask (readFile (limits (length (now (nodes .entry))) (length (now (items .entry)))) (now (file .entry))) (correctTitle row (now (title .entry)) (length (now (out .entry))) (now (file .entry)))) ⌝ }
+    ensures out { λ _. ⌜ now (out .exit) ≡ kept (length (now (out .entry))) (ask (readFile (limits (length (now (nodes .entry))) (length (now (items .entry)))) (now (file .entry))) (correctTitle row (now (title .entry)) (length (now (out .entry))) (now (file .entry)))) ⌝ }
+{
+    match tree::read_file(file, nodes, items) {
+        Read::Refused(n, p) => {
+            room::clear_bytes(out);
+            Corrected::Refused(n, p.0)
+        }
+        Read::Is(s) => match write_titled(out, file, nodes, items, s.nodes, s.items, row, title) {
+            Corrected::Refused(n, p) => {
+                tree::clear_all(nodes, items);
+                room::clear_bytes(out);
+                Corrected::Refused(n, p)
+            }
+            Corrected::File(size) => {
+                room::clear_bytes_from(out, size);
+                tree::read_file(&out[..size], nodes, items);
+                Corrected::File(size)
+            }
+        },
+    }
 }

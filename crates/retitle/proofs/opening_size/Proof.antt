@@ -1,0 +1,15 @@
+-- `opening_size` is 16 bytes for version 2.00, and 8 for the others.
+-- Assumes nothing.
+use mathlib.Core.Path.{refl}
+use borrow.Author.Tests.{eq-eqb, ne-eqb}
+use Rattle.retitle.proofs.opening_size.Statement.{statement}
+use Rattle.retitle.proofs.opening_size.Tie as tie
+
+returns : tie.Need-returns
+returns c = rw (eq-eqb _ 200 (c .if1 .taken)) refl
+
+returns-2 : tie.Need-returns-2
+returns-2 c = rw (ne-eqb _ 200 (c .if1 .left)) refl
+
+pub opening-size-spec : {M : Type 1} → statement M
+opening-size-spec = tie.close (tie.spec returns returns-2)

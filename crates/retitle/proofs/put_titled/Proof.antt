@@ -1,0 +1,51 @@
+-- `put_titled` reads the header once more, for the places that the tables do not have, and puts the file.
+-- Assumes nothing.
+use Rattle.header.specs.Header.{Header}
+use Rattle.metadata.specs.declared.Limits.{Limits}
+use Rattle.writer.proofs.Counting.{counts-as}
+use Rattle.retitle.proofs.Ready.{ready, tree-is}
+use Rattle.retitle.proofs.Headed.{never-refused, header-inside, file-same}
+use borrow.Author.Needs.{needs}
+use Rattle.retitle.proofs.put_titled.Statement.{statement}
+use Rattle.retitle.proofs.put_titled.Tie as tie
+
+slice-aggregate-read-header : tie.Need-slice-aggregate-read-header
+slice-aggregate-read-header c = search needs
+
+read-header-requires : tie.Need-read-header-requires
+read-header-requires c κs = search needs
+
+enum-told : tie.Need-enum-told
+enum-told c = search needs
+
+enum-known-h : tie.Need-enum-known-h
+enum-known-h c = search needs
+
+opening-size-requires : tie.Need-opening-size-requires
+opening-size-requires c κs = search needs
+
+put-file-requires : tie.Need-put-file-requires
+put-file-requires c κs = (ready (c .before .before .before .before .before .before .before .before .before .before .before .before .before .before .before .before .before .pre .0) (c .before .before .before .before .before .before .before .before .before .before .before .before .before .before .before .before .before .pre .1) _ _, header-inside _ _ (c .before .before .before .before .before .before .before .before .before .before .before .before .before .before .before .before .before .pre .0 .reads) (c .before .before .before .before .before .before .before .before .before .before .read-header .result) (c .before .before .before .before .before .before .before .before .before .before .read-header .last .1 .0) (c .before .before .before .before .before .before .before .before .before .before .read-header .ensures .0) (c .before .before .before .before .before .before .before .h .given .1) (c .before .before .before .before .before .opening-size .ensures))
+
+returns : tie.Need-returns
+returns c = λ (lim : Limits) (h : Header) reads. never-refused lim _ reads (c .before .before .before .read-header .result) (c .before .before .before .read-header .last .1 .0) (c .before .before .before .read-header .ensures .0) (c .enum-told .given .1)
+
+same-length : tie.Need-same-length
+same-length c = search needs
+
+returns-2 : tie.Need-returns-2
+returns-2 c = λ (lim : Limits) (h : Header) reads. counts-as (file-same lim _ reads (c .before .before .before .before .before .before .before .before .before .before .before .before .before .read-header .result) (c .before .before .before .before .before .before .before .before .before .before .before .before .before .read-header .last .1 .0) (c .before .before .before .before .before .before .before .before .before .before .before .before .before .read-header .ensures .0) (c .before .before .before .before .before .before .before .before .before .before .h .given .1) (c .before .before .before .before .before .before .before .before .opening-size .ensures) _ _ (tree-is (c .before .before .before .before .before .before .before .before .before .before .before .before .before .before .before .before .before .before .before .before .pre .0) (c .before .before .before .before .before .before .before .before .before .before .before .before .before .before .before .before .before .before .before .before .pre .1) _ _)) (c .before .before .put-file .ensures)
+
+pub put-titled-spec : {M : Type 1} → statement M
+put-titled-spec =
+    tie.close
+    (tie.spec
+    slice-aggregate-read-header
+    read-header-requires
+    enum-told
+    enum-known-h
+    opening-size-requires
+    put-file-requires
+    returns
+    same-length
+    returns-2)

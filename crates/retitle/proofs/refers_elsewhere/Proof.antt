@@ -1,0 +1,64 @@
+-- `refers_elsewhere` looks at row after row. The invariant: no row so far has reference 2 or 3.
+-- Assumes nothing.
+use borrow.Author.Needs.{needs}
+use Prim.Native.Nat.{_-_}
+use Rattle.retitle.proofs.Refusals.{Looking, looking-start, looking-two, looking-three, looking-on, looking-end}
+use Rattle.retitle.proofs.refers_elsewhere.Statement.{statement}
+use Rattle.retitle.proofs.refers_elsewhere.Tie as tie
+
+abbrev Inv-loop : tie.InvT-loop
+Inv-loop nodes count i₀ i = Looking nodes count i
+
+abbrev μ-loop : tie.MeasureT-loop
+μ-loop nodes count i₀ i = count - i
+
+loop-holds : tie.Need-loop-holds Inv-loop μ-loop
+loop-holds c = looking-start _ _
+
+mul-reference : tie.Need-mul-reference Inv-loop μ-loop
+mul-reference c = search needs
+
+add-reference : tie.Need-add-reference Inv-loop μ-loop
+add-reference c = search needs
+
+mul-reference-2 : tie.Need-mul-reference-2 Inv-loop μ-loop
+mul-reference-2 c = search needs
+
+shared-slice-read-reference : tie.Need-shared-slice-read-reference Inv-loop μ-loop
+shared-slice-read-reference c = search needs
+
+returns : tie.Need-returns Inv-loop μ-loop
+returns c = looking-two (c .before .before .before .loop .inv) (c .before .before .loop-test .taken) (c .if1 .taken)
+
+returns-2 : tie.Need-returns-2 Inv-loop μ-loop
+returns-2 c = looking-three (c .before .before .before .before .loop .inv) (c .before .before .before .loop-test .taken) (c .before .if1 .left) (c .if2 .taken)
+
+add-i : tie.Need-add-i Inv-loop μ-loop
+add-i c = search needs
+
+loop-less : tie.Need-loop-less Inv-loop μ-loop
+loop-less c = search needs
+
+loop-again : tie.Need-loop-again Inv-loop μ-loop
+loop-again c = looking-on (c .before .before .before .before .loop .inv) (c .before .before .before .loop-test .taken) (c .before .if1 .left) (c .if2 .left)
+
+returns-3 : tie.Need-returns-3 Inv-loop μ-loop
+returns-3 c = looking-end (c .before .loop .inv) (c .loop-test .left)
+
+pub refers-elsewhere-spec : {M : Type 1} → statement M
+refers-elsewhere-spec =
+    tie.close
+    (tie.spec
+    Inv-loop
+    μ-loop
+    loop-holds
+    mul-reference
+    add-reference
+    mul-reference-2
+    shared-slice-read-reference
+    returns
+    returns-2
+    add-i
+    loop-less
+    loop-again
+    returns-3)

@@ -1,0 +1,51 @@
+-- `write_titled` asks the rows, then puts the file, and asks whether it is too large or has no room.
+-- Assumes nothing.
+use native.Mathlib.Omega.{arith}
+use mathlib.Core.Path.{refl}
+use Rattle.header.specs.Header.{Header}
+use Rattle.metadata.specs.declared.Limits.{Limits}
+use Rattle.retitle.proofs.Asked.{rows-refuse, rows-stay, too-large, no-room, wrote}
+use borrow.Author.Needs.{needs}
+use Rattle.retitle.proofs.write_titled.Statement.{statement}
+use Rattle.retitle.proofs.write_titled.Tie as tie
+
+refusal-of-requires : tie.Need-refusal-of-requires
+refusal-of-requires c κs = search needs
+
+returns : tie.Need-returns
+returns c = λ (lim : Limits) (h : Header) reads. record { is = rows-refuse _ _ _ _ _ _ _ (c .before .refusal-of .ensures) (c .if1 .taken) }
+
+put-titled-requires : tie.Need-put-titled-requires
+put-titled-requires c κs = (c .before .before .before .before .before .before .before .before .pre, rows-stay _ _ _ (c .before .before .refusal-of .ensures) (c .before .if1 .left))
+
+same-length : tie.Need-same-length
+same-length c = search needs
+
+returns-2 : tie.Need-returns-2
+returns-2 c = λ (lim : Limits) (h : Header) reads. record { is = too-large _ _ _ _ _ _ _ (c .before .before .before .before .before .before .refusal-of .ensures) (c .before .before .before .before .before .if1 .left) refl (c .before .before .before .put-titled .ensures lim h reads) (c .if2 .taken) }
+
+same-length-2 : tie.Need-same-length-2
+same-length-2 c = search needs
+
+returns-3 : tie.Need-returns-3
+returns-3 c = λ (lim : Limits) (h : Header) reads. record { is = no-room _ _ _ _ _ _ _ (c .before .before .before .before .before .before .before .refusal-of .ensures) (c .before .before .before .before .before .before .if1 .left) refl (c .before .before .before .before .put-titled .ensures lim h reads) (c .before .if2 .left) (omega (arith, c .if3 .taken, c .before .before .before .before .put-titled .kept)) }
+
+same-length-3 : tie.Need-same-length-3
+same-length-3 c = search needs
+
+returns-4 : tie.Need-returns-4
+returns-4 c = λ (lim : Limits) (h : Header) reads. wrote _ _ _ _ _ _ _ (c .before .before .before .before .before .before .before .refusal-of .ensures) (c .before .before .before .before .before .before .if1 .left) refl (c .before .before .before .before .put-titled .ensures lim h reads) (c .before .if2 .left) (omega (arith, c .if3 .left, c .before .before .before .before .put-titled .kept))
+
+pub write-titled-spec : {M : Type 1} → statement M
+write-titled-spec =
+    tie.close
+    (tie.spec
+    refusal-of-requires
+    returns
+    put-titled-requires
+    same-length
+    returns-2
+    same-length-2
+    returns-3
+    same-length-3
+    returns-4)
