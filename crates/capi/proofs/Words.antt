@@ -1,6 +1,6 @@
 -- How a buffer comes to hold the words of an answer, and what a call leaves.
 -- Assumes nothing.
-use mathlib.Core.Path.{_≡_, refl, sym, ap, ap₂, _∙_}
+use mathlib.Core.Path.{_≡_, refl, sym, ap, ap₂, _∙_, subst}
 use mathlib.Core.List.{List, map}
 use Prim.Native.Nat.{ℕ, zero, suc, _-_, _≤_}
 use native.Mathlib.Omega.{arith}
@@ -14,7 +14,7 @@ use Rattle.room.proofs.Sets.{sets-zeros}
 use Rattle.tree.specs.Reading.{rows}
 use Rattle.tree.specs.Hidden.{DifferInPrivate}
 use Rattle.find.specs.Find.{Wanted, standard, custom}
-use Rattle.promises.specs.Promises.{Question, Outcome, reads, outcome}
+use Rattle.promises.specs.Promises.{Question, writes, Outcome, reads, outcome, AlikeIn}
 use Rattle.promises.specs.Calls.{Called}
 use Rattle.promises.proofs.Kept.{called, outcome-alike}
 use Rattle.capi.specs.Fit.{fit, asked, Leaves}
@@ -55,11 +55,14 @@ module _ (q : Wanted → (row : ℕ) → Question) (kind number : ℕ) (name : L
       by zero n h = absurd (n refl)
       by (suc k) n h = h
 
--- ---- demand 3 of two calls: whatever their tables and buffers held, both leave the same
+-- ---- demand 3 of two calls, whatever their tables and buffers held
 
 pub calls-alike : (q : Question) (lent lent′ : List (List ℕ)) → map length lent′ ≡ map length lent → (f g : List ℕ) (h : Header) (ns : List Node) (is : List Item)
     → reads (map length lent) f ≡ rows h ns is → DifferInPrivate h ns is f g → {a a′ b b′ : List ℕ} → length b ≡ length a → {left left′ : List (List ℕ)}
-    → Leaves q f lent left a a′ → Leaves q g lent′ left′ b b′ → (b′ ≡ a′) × (left′ ≡ left)
-calls-alike q lent lent′ e f g h ns is r d {a} z l k =
-    let w : outcome q (map length lent′) g ≡ outcome q (map length lent) f = ap (λ ls. outcome q ls g) e ∙ outcome-alike (map length lent) f g h ns is r d q in
-    (k .answers ∙ ap₂ (λ n (o : Outcome). fit n (o .answer)) z w ∙ sym (l .answers), k .holding ∙ ap (λ (o : Outcome). o .holds) w ∙ sym (l .holding))
+    → Leaves q f lent left a a′ → Leaves q g lent′ left′ b b′ → (b′ ≡ a′) × AlikeIn (writes q) f g left left′
+calls-alike q lent lent′ e f g h ns is r d {a} z {left} {left′} l k =
+    let w = outcome-alike (map length lent) f g h ns is r d q in
+    let o : outcome q (map length lent′) g ≡ outcome q (map length lent) g = ap (λ ls. outcome q ls g) e in (
+      k .answers ∙ ap₂ (λ n (v : Outcome). fit n (v .answer)) z o ∙ ap (fit (length a)) (w .0) ∙ sym (l .answers),
+      subst (λ v. AlikeIn (writes q) f g v left′) (sym (l .holding)) (subst (AlikeIn (writes q) f g (outcome q (map length lent) f .holds)) (sym (k .holding ∙ ap (λ (v : Outcome). v .holds) o)) (w .1)),
+    )

@@ -122,13 +122,19 @@ ofCount = noSuchRow ∷ noSuchItem ∷ badDescription ∷ []
 abbrev pub ofSheet : List ℕ
 ofSheet = noRoom ∷ []
 
+-- the correction of a title
+abbrev pub ofTitle : List ℕ
+ofTitle = noSuchRow ∷ refersElsewhere ∷ notATitle ∷ resultTooLarge ∷ noRoom ∷ []
+
 -- a conversion of text, which has no file
 abbrev pub ofConversion : List ℕ
 ofConversion = badText ∷ noRoom ∷ []
 
 -- those that name no field: their place is 0
 abbrev pub placeless : List ℕ
-placeless = tooLarge ∷ noSuchRow ∷ endsAtFolder ∷ endsAtUri ∷ tooManyHops ∷ noRoom ∷ noSuchItem ∷ []
+placeless =
+    tooLarge ∷ noSuchRow ∷ endsAtFolder ∷ endsAtUri ∷ tooManyHops ∷ noRoom ∷ noSuchItem
+    ∷ refersElsewhere ∷ notATitle ∷ resultTooLarge ∷ []
 
 -- ---- membership
 

@@ -5,20 +5,22 @@ use mathlib.Core.Path.{_≡_, refl, sym, ap, _∙_, subst}
 use mathlib.Core.Bool.{Bool, true, false, cond, not, _&&_, _||_}
 use mathlib.Core.Logic.{_⊎_, inl, inr}
 use mathlib.Core.List.{List, [], _∷_, _++_, map}
-use Prim.Native.Nat.{ℕ, zero, suc, _+_, _*_, _%_, _<_}
+use Prim.Native.Nat.{ℕ, zero, suc, _+_, _*_, _%_, _<_, _-_, _^_}
 use native.Mathlib.Omega.{arith}
 use lib.Dec.{T, eqb, ltb, leb}
 use lib.ListN.{length, getD, replicate, take, drop, length-take, length-drop}
-use lib.Seq.{getD-take, getD-drop}
-use borrow.Author.Tests.{ne-eqb}
+use lib.Seq.{getD-take, getD-drop, take-append-seam}
+use borrow.Author.Tests.{ne-eqb, eq-eqb, leb-false}
 use Rattle.cursor.specs.Machine.{Out, ok, refused}
-use Rattle.cursor.specs.Refusals.{ofReader, ofFind, ofResolve, ofCount, ofSheet, ofConversion, isOneOf, isAllowed}
+use Rattle.cursor.specs.Refusals.{ofReader, ofFind, ofResolve, ofCount, ofSheet, ofConversion, isOneOf, isAllowed, ofTitle}
+use Rattle.cursor.specs.Vlq.{choose}
 use Rattle.cursor.specs.declared.Node.{Node}
 use Rattle.cursor.specs.declared.Item.{Item}
 use Rattle.header.specs.Header.{Header}
 use Rattle.metadata.specs.Tables.{limits, itemWords}
+use Rattle.metadata.specs.declared.Limits.{Limits}
 use Rattle.metadata.proofs.Limited.{Less}
-use Rattle.tree.specs.Reading.{Reading, rows, refusal, answerOf, nodeTable, itemTable}
+use Rattle.tree.specs.Reading.{Reading, rows, refusal, readFile, answerOf, nodeTable, itemTable}
 use Rattle.tree.specs.Rows.{itemAt}
 use Rattle.tree.specs.Told as tree
 use Rattle.tree.specs.Asking.{Result, good, bad, ask, keptNodes, keptItems, Asks}
@@ -53,14 +55,23 @@ use Rattle.sheet.specs.Told as written
 use Rattle.sheet.specs.declared.Written.{Written}
 use Rattle.sheet.specs.declared.Written.the-variants as writing
 use Rattle.sheet.proofs.Depends.{sheet-same}
+use Rattle.title.specs.Title as title
+use Rattle.title.specs.Title.{Copied}
+use Rattle.title.proofs.Pairs.{Each, each-length, each-on, each-at, each-same}
+use Rattle.title.proofs.Sizes.{number-least, node-least, file-least}
+use Rattle.title.proofs.Again.{corrected, correct-says, correct-again}
+use Rattle.title.proofs.Demand as titles
+use Rattle.retitle.specs.Told as corrections
+use Rattle.retitle.specs.declared.Corrected.{Corrected}
+use Rattle.retitle.specs.declared.Corrected.the-variants as correcting
 use Rattle.room.specs.Room as room
 use Rattle.unicode.specs.Unicode as unicode
 use Rattle.unicode.specs.Told as converted
 use Rattle.unicode.specs.declared.Converted.{Converted}
 use Rattle.unicode.specs.declared.Converted.the-variants as converting
 use Rattle.unicode.proofs.Back.{placed8, placed16}
-use Rattle.promises.specs.Promises.{Question, readTree, findItem, findOwn, resolveRow, countFor, judgeMobile, writeSheet, toUtf8, toUtf16, refusals, Sizes, size, lent, Outcome, reads, leaves, over, conversion, outcome, resource, IsRefusal, IsAnswer, Demand1, FitsExactly, OnlyThere, Demand3}
-use Rattle.promises.specs.Calls.{Called, read-tree, find-standard, find-custom, find-own-standard, find-own-custom, resolve-row, count-for, judge, write-sheet, to-utf8, to-utf16, Given}
+use Rattle.promises.specs.Promises.{Question, readTree, findItem, findOwn, resolveRow, countFor, judgeMobile, writeSheet, toUtf8, toUtf16, refusals, Sizes, size, lent, Outcome, reads, leaves, over, conversion, outcome, resource, IsRefusal, IsAnswer, Demand1, FitsExactly, OnlyThere, Demand3, correctTitle, writes, writing, Accepted, InTables, newFile, AlikeIn, Correction, Corrects, EachLeast}
+use Rattle.promises.specs.Calls.{Called, read-tree, find-standard, find-custom, find-own-standard, find-own-custom, resolve-row, count-for, judge, write-sheet, to-utf8, to-utf16, Given, correct-title}
 
 -- ---- which data may not differ
 
@@ -84,6 +95,40 @@ field-kept n t r k f = let n₀ : (r .kind ≡ 1) → ⊥ = λ z. omega arith in
 named : (r : Item) {X : Type 0} → (r .kind ≡ 0) ⊎ X → r .kind ≡ 1 → X
 named r (inl z) e = absurd (omega arith)
 named r (inr x) e = x
+
+-- ---- two results of the correction of a title
+
+-- both are refused alike; or both are files that differ only where the copied bytes do, and that read the same
+data Twins (lim : Limits) (f g : List ℕ) : (x y : Result (List ℕ)) → Type 0 where
+  refusals-same : (n p : ℕ) → Twins lim f g (bad n p) (bad n p)
+  files-alike : {x y : List ℕ} → Each (Copied f g) x y → readFile lim y ≡ readFile lim x → Twins lim f g (good x) (good y)
+
+module _ {lim : Limits} {f g : List ℕ} where
+  unless : (b : Bool) (n p : ℕ) {x y : Result (List ℕ)} → (b ≡ false → Twins lim f g x y) → Twins lim f g (choose b (bad n p) x) (choose b (bad n p) y)
+  unless true n p t = refusals-same n p
+  unless false n p t = t refl
+
+  fitting-twins : (n : ℕ) {x y : List ℕ} → Each (Copied f g) x y → (length x < 2 ^ 28 → readFile lim y ≡ readFile lim x) → Twins lim f g (title.fitting n x) (title.fitting n y)
+  unfolding title.fitting
+  fitting-twins n {x} {y} c t = rw (← each-length c) (unless (leb (2 ^ 28) (length x)) 38 0 (λ s. unless (ltb n (length x)) 22 0 (λ _. files-alike c (t (leb-false (2 ^ 28) (length x) s)))))
+
+title-twins : (lim : Limits) (f g : List ℕ) {h : Header} {ns : List Node} {is : List Item} → readFile lim f ≡ rows h ns is → DifferInPrivate h ns is f g → (i : ℕ) (text : List ℕ) (n : ℕ)
+    → Twins lim f g (title.correctTitle i text n f h ns is) (title.correctTitle i text n g h ns is)
+unfolding title.correctTitle
+title-twins lim f g {h} {ns} {is} r d i text n =
+    unless (leb (length is) i) 18 0 (λ _. unless (title.elsewhere ns) 36 0 (λ here. unless (title.isNoTitle (itemAt is i)) 37 0
+    (λ _. fitting-twins n (titles.titles-copied lim f g r d here i text) (titles.titles-read lim f g r d here i text))))
+
+-- what they leave
+writing-alike : (ls : Sizes) (f g : List ℕ) {x y : Result (List ℕ)} → Twins (limits (size ls 0) (size ls 1)) f g x y
+    → (writing ls y .answer ≡ writing ls x .answer) × AlikeIn true f g (writing ls x .holds) (writing ls y .holds)
+unfolding writing room.counted room.kept room.padded corrections.titledNodes corrections.titledItems
+writing-alike ls f g (refusals-same n p) = (refl, (refl, (refl, λ k l. inl refl)))
+writing-alike ls f g (files-alike {x} {y} c r) =
+    let e = each-length c in
+    let w : Each (Copied f g) (room.padded (size ls 2) x) (room.padded (size ls 2) y) =
+    subst (λ n. Each (Copied f g) (x ++ replicate (size ls 2 - length x) 0) (y ++ replicate (size ls 2 - n) 0)) e (each-on c (each-same (λ a. inl refl) _)) in
+    (rw e, (rw r, (each-length w, λ k l. each-at w k 0 l)))
 
 -- ---- the questions of two files that differ in what is private
 
@@ -128,21 +173,27 @@ module _ (ls : Sizes) (f g : List ℕ) (h : Header) (ns : List Node) (is : List 
   unfolding ask
   asks-alike q e = rw (reads-same, r) e
 
-  over-alike : {A : Type 0} (says : Result A → List ℕ) (buffers : Result A → List (List ℕ)) (q : Asks A) → q g h ns is ≡ q f h ns is → over ls g says buffers q ≡ over ls f says buffers q
+  over-alike : {A : Type 0} (says : Result A → List ℕ) (buffers : Result A → List (List ℕ)) (q : Asks A) → q g h ns is ≡ q f h ns is
+      → (over ls g says buffers q .answer ≡ over ls f says buffers q .answer) × (over ls g says buffers q .holds ≡ over ls f says buffers q .holds)
   unfolding over
-  over-alike says buffers q e = rw (asks-alike q e, reads-same)
+  over-alike says buffers q e = rw (asks-alike q e, reads-same) (refl, refl)
 
-  pub outcome-alike : (q : Question) → outcome q ls g ≡ outcome q ls f
+  title-alike : (i : ℕ) (text : List ℕ) → Twins (limits (size ls 0) (size ls 1)) f g (ask (reads ls f) (title.correctTitle i text (size ls 2) f)) (ask (reads ls g) (title.correctTitle i text (size ls 2) g))
+  unfolding ask reads
+  title-alike i text = rw (reads-same, r) (title-twins (limits (size ls 0) (size ls 1)) f g r d i text (size ls 2))
+
+  pub outcome-alike : (q : Question) → (outcome q ls g .answer ≡ outcome q ls f .answer) × AlikeIn (writes q) f g (outcome q ls f .holds) (outcome q ls g .holds)
   unfolding outcome
-  outcome-alike readTree = rw reads-same
+  outcome-alike readTree = rw reads-same (refl, refl)
   outcome-alike (findItem w k) = over-alike _ _ (find.find w k) (find-alike w k)
   outcome-alike (findOwn w k) = over-alike _ _ (find.findOwn w k) (find-own-alike w k)
   outcome-alike (resolveRow k) = over-alike _ _ (resolve.resolve k) (resolve-alike k)
   outcome-alike (countFor item channel resource) = over-alike _ _ (count.countFor item channel resource) (count-alike item channel resource)
   outcome-alike judgeMobile = over-alike _ _ mobile.mobile mobile-alike
   outcome-alike writeSheet = over-alike _ _ (sheet.write (size ls 2)) (sheet-alike (size ls 2))
-  outcome-alike (toUtf8 units) = refl
-  outcome-alike (toUtf16 text) = refl
+  outcome-alike (correctTitle i text) = writing-alike ls f g (title-alike i text)
+  outcome-alike (toUtf8 units) = (refl, refl)
+  outcome-alike (toUtf16 text) = (refl, refl)
 
 -- ---- the resource itself
 
@@ -170,7 +221,7 @@ unfolding outcome over leaves resource
 resource-there ls f g n e row = rw (e, resolve-reads-none row g f (reads ls f)) (part-there f g n (ask (reads ls f) (resolve.resolve row f)))
 
 pub demand3 : Demand3
-demand3 q ls f g h ns is r d = let e = reads-same ls f g h ns is r d in (e ∙ r, outcome-alike ls f g h ns is r d q, resource-there ls f g (d .same-length) e)
+demand3 q ls f g h ns is r d = let e = reads-same ls f g h ns is r d in let w = outcome-alike ls f g h ns is r d q in (e ∙ r, w .0, w .1, resource-there ls f g (d .same-length) e)
 
 -- ---- each call leaves its question's outcome: what its enum says leads to the answer's words
 
@@ -194,6 +245,10 @@ written-says : (r : Written) {a : Result ℕ} → written.told r ≡ a → writt
 written-says (writing.Bytes n) e = rw (← e)
 written-says (writing.Refused n p) e = rw (← e)
 
+corrected-says : (r : Corrected) {a : Result ℕ} → corrections.told r ≡ a → corrections.words r ≡ corrections.words (corrections.answerOf a)
+corrected-says (correcting.File n) e = rw (← e)
+corrected-says (correcting.Refused n p) e = rw (← e)
+
 converted-says : (r : Converted) {a : Result ℕ} → converted.told r ≡ a → converted.words r ≡ converted.words (converted.answerOf a)
 converted-says (converting.Bytes n) e = rw (← e)
 converted-says (converting.Refused n p) e = rw (← e)
@@ -208,7 +263,7 @@ one : {t u : List ℕ} → t ≡ u → (t ∷ []) ≡ (u ∷ [])
 one e = rw e
 
 pub called : {q : Question} {lent : List (List ℕ)} {f : List ℕ} {o : Outcome} → Called q lent f o → o ≡ outcome q (map length lent) f
-unfolding outcome over leaves conversion reads
+unfolding outcome over writing leaves conversion reads
 called (read-tree r a t u) = made (ap tree.words a) (two t u refl)
 called (find-standard row number r a t u) = made (found-says r a) (two t u refl)
 called (find-custom row name r a t u) = made (found-says r a) (two t u refl)
@@ -218,13 +273,17 @@ called (resolve-row row r a t u) = made (resolved-says r a) (two t u refl)
 called (count-for item channel resource r a t u) = made (counted-says r a) (two t u refl)
 called (judge r a t u) = made (judged-says r a) (two t u refl)
 called (write-sheet r a t u v) = made (written-says r a) (two t u (one v))
+called (correct-title item text r a t u v) = made (corrected-says r a) (two t u (one v))
 called (to-utf8 r a v) = made (converted-says r a) (one v)
 called (to-utf16 r a v) = made (converted-says r a) (one v)
 
--- Demand 3 of two calls: whatever their tables and buffers held, both leave the same.
+-- Demand 3 of two calls, whatever their tables and buffers held.
 pub calls-alike : {q : Question} (lent lent′ : List (List ℕ)) → map length lent′ ≡ map length lent → {f g : List ℕ} {o o′ : Outcome} (h : Header) (ns : List Node) (is : List Item)
-    → reads (map length lent) f ≡ rows h ns is → DifferInPrivate h ns is f g → Called q lent f o → Called q lent′ g o′ → o′ ≡ o
-calls-alike {q} lent lent′ e {f} {g} h ns is r d a b = called b ∙ ap (λ ls. outcome q ls g) e ∙ outcome-alike (map length lent) f g h ns is r d q ∙ sym (called a)
+    → reads (map length lent) f ≡ rows h ns is → DifferInPrivate h ns is f g → Called q lent f o → Called q lent′ g o′ → (o′ .answer ≡ o .answer) × AlikeIn (writes q) f g (o .holds) (o′ .holds)
+calls-alike {q} lent lent′ e {f} {g} {o} {o′} h ns is r d a b =
+    subst (λ v. (o′ .answer ≡ v .answer) × AlikeIn (writes q) f g (v .holds) (o′ .holds)) (sym (called a))
+    (subst (λ v. (v .answer ≡ outcome q (map length lent) f .answer) × AlikeIn (writes q) f g (outcome q (map length lent) f .holds) (v .holds)) (sym (called b ∙ ap (λ ls. outcome q ls g) e))
+    (outcome-alike (map length lent) f g h ns is r d q))
 
 -- And of two second calls of resolve: the tables are the same, and the parts differ only where the files do.
 given-part : {row : ℕ} {nodes items f bytes t u : List ℕ} → Given row nodes items f bytes t u → bytes ≡ resource row (length nodes ∷ length items ∷ []) f
@@ -241,7 +300,7 @@ pub parts-alike : {row : ℕ} (nodes items nodes′ items′ : List ℕ) → len
     → (_≡_ {A = List (List ℕ)} (t′ ∷ u′ ∷ []) (t ∷ u ∷ [])) × OnlyThere f g (getD (outcome (resolveRow row) (length nodes ∷ length items ∷ []) f .answer) 2 0) x y
 parts-alike {row} nodes items nodes′ items′ en ei {f} {g} h ns is r d a b =
     let ls = length nodes ∷ length items ∷ [] in
-    (rw (en, ei) at (given-tables b) ∙ ap (λ (o : Outcome). o .holds) (outcome-alike ls f g h ns is r d (resolveRow row)) ∙ sym (given-tables a), rw (given-part a, given-part b, en, ei) (resource-there ls f g (d .same-length) (reads-same ls f g h ns is r d) row))
+    (rw (en, ei) at (given-tables b) ∙ outcome-alike ls f g h ns is r d (resolveRow row) .1 ∙ sym (given-tables a), rw (given-part a, given-part b, en, ei) (resource-there ls f g (d .same-length) (reads-same ls f g h ns is r d) row))
 
 -- ---- tables only limit what a file reads as
 
@@ -364,6 +423,19 @@ count-own : (f : List ℕ) (item channel resource : ℕ) (h : Header) (ns : List
 unfolding count.countFor count.countRow
 count-own f item channel resource h ns is = where-counts (ltb item (length is)) (count.countIn f channel resource (itemAt is item)) (bad 18 0) (row-own f channel resource (itemAt is item)) tt
 
+title-own : (i : ℕ) (text : List ℕ) (n : ℕ) (f : List ℕ) (h : Header) (ns : List Node) (is : List Item) → Own (ofReader ++ ofTitle) (title.correctTitle i text n f h ns is)
+unfolding title.correctTitle title.fitting
+title-own i text n f h ns is =
+    let g : List ℕ = title.titledFile i text f h ns is in go (leb (length is) i) (title.elsewhere ns) (title.isNoTitle (itemAt is i)) (leb (2 ^ 28) (length g)) (ltb n (length g)) g
+  where
+    go : (a b c d e : Bool) (g : List ℕ) → Own (ofReader ++ ofTitle) (choose a (bad 18 0) (choose b (bad 36 0) (choose c (bad 37 0) (choose d (bad 38 0) (choose e (bad 22 0) (good g))))))
+    go true b c d e g = tt
+    go false true c d e g = tt
+    go false false true d e g = tt
+    go false false false true e g = tt
+    go false false false false true g = tt
+    go false false false false false g = tt
+
 mobile-own : (f : List ℕ) (h : Header) (ns : List Node) (is : List Item) → Own (ofReader ++ []) (mobile.mobile f h ns is)
 unfolding mobile.mobile
 mobile-own f h ns is = tt
@@ -427,15 +499,14 @@ answered (refusal n p) q e = let z : _≡_ {A = ℕ} 0 1 = cc in absurd (omega a
 
 -- and they stand in the tables
 accepted : (ls : Sizes) (f : List ℕ) {A : Type 0} (q : Header → List Node → List Item → Result A) {a : A} → ask (reads ls f) q ≡ good a
-    → (h : Header) × (ns : List Node) × (is : List Item) × (reads ls f ≡ rows h ns is)
-    × (_≡_ {A = List (List ℕ)} (nodeTable (size ls 0) (reads ls f) ∷ itemTable (size ls 1) (reads ls f) ∷ []) (nodeTable (size ls 0) (rows h ns is) ∷ itemTable (size ls 1) (rows h ns is) ∷ []))
-accepted ls f q e = let (h, ns, is, z) = answered (reads ls f) q e in (h, ns, is, z, ap (λ o. nodeTable (size ls 0) o ∷ itemTable (size ls 1) o ∷ []) z)
+    → Accepted ls f × (Accepted ls f × (_≡_ {A = List (List ℕ)} (nodeTable (size ls 0) (reads ls f) ∷ itemTable (size ls 1) (reads ls f) ∷ []) (nodeTable (size ls 0) (reads ls f) ∷ itemTable (size ls 1) (reads ls f) ∷ [])))
+accepted ls f q e = let w = answered (reads ls f) q e in (w, (w, refl))
 
 tree-choice : (ls : Sizes) (f : List ℕ) (o : Reading) → reads ls f ≡ o
     → IsRefusal readTree ls (record { answer = tree.words (answerOf o); holds = nodeTable (size ls 0) o ∷ itemTable (size ls 1) o ∷ [] })
     ⊎ IsAnswer readTree ls f (record { answer = tree.words (answerOf o); holds = nodeTable (size ls 0) o ∷ itemTable (size ls 1) o ∷ [] })
 unfolding answerOf nodeTable itemTable
-tree-choice ls f (rows h ns is) e = inr (h .version ∷ length ns ∷ length is ∷ [], refl, refl, λ _. (h, ns, is, e, refl))
+tree-choice ls f (rows h ns is) e = inr (h .version ∷ length ns ∷ length is ∷ [], refl, refl, λ _. ((h, ns, is, e), ((h, ns, is, e), ap (λ v. nodeTable (size ls 0) v ∷ itemTable (size ls 1) v ∷ []) (sym e))))
 tree-choice ls f (refusal n p) e = inl (n, p, refl, reader-own ls f n p e, refl)
 
 module _ (ls : Sizes) (f : List ℕ) where
@@ -477,6 +548,49 @@ module _ (ls : Sizes) (f : List ℕ) where
   sheet-choice (good s) e k = inr (length s ∷ [], refl, refl, λ _. accepted ls f (sheet.write (size ls 2) f) e)
   sheet-choice (bad n p) e k = inl (n, p, refl, k, refl)
 
+-- ---- the correction of a title
+
+-- the file that was written
+new-is : (ls : Sizes) (g : List ℕ) → newFile (writing ls (good g)) ≡ g
+unfolding writing room.counted room.kept room.padded
+new-is ls g = take-append-seam g (replicate (size ls 2 - length g) 0)
+
+-- where it is answered
+title-answered : (ls : Sizes) (f : List ℕ) (i : ℕ) (text : List ℕ) {g : List ℕ} → ask (reads ls f) (title.correctTitle i text (size ls 2) f) ≡ good g
+    → (h : Header) × (ns : List Node) × (is : List Item) × (reads ls f ≡ rows h ns is) × (title.correctTitle i text (size ls 2) f h ns is ≡ good g)
+unfolding ask
+title-answered ls f i text e = let (h, ns, is, z) = answered (reads ls f) (title.correctTitle i text (size ls 2) f) e in (h, ns, is, z, rw z at e)
+
+module _ (ls : Sizes) (f : List ℕ) (i : ℕ) (text : List ℕ) where
+  title-corrects : (r : Result (List ℕ)) → ask (reads ls f) (title.correctTitle i text (size ls 2) f) ≡ r → {n : ℕ} → writing ls r .answer ≡ 0 ∷ 0 ∷ n ∷ [] → Correction i text ls f (newFile (writing ls r))
+  unfolding outcome writing room.counted reads
+  title-corrects (good g) e a =
+      let (h, ns, is, z, c) = title-answered ls f i text e in
+      let lim : Limits = limits (size ls 0) (size ls 1) in
+      let fits = corrected i text (size ls 2) f h ns is c .fits in
+      subst (Correction i text ls f) (sym (new-is ls g)) (record {
+        header = h;
+        nodes = ns;
+        items = is;
+        accepted = z;
+        says = correct-says lim f z i text (size ls 2) c;
+        again = ap (writing ls) (correct-again lim f z i text (size ls 2) c (size ls 2) fits ∙ sym e);
+      })
+  title-corrects (bad n p) e a = let z : _≡_ {A = ℕ} 0 1 = cc (ap length a) in absurd (omega arith)
+
+  title-tables : (g : List ℕ) → ask (reads ls f) (title.correctTitle i text (size ls 2) f) ≡ good g → Accepted ls f × InTables ls (newFile (writing ls (good g))) (writing ls (good g))
+  unfolding writing corrections.titledNodes corrections.titledItems reads
+  title-tables g e =
+      let (h, ns, is, z, c) = title-answered ls f i text e in
+      let s = correct-says (limits (size ls 0) (size ls 1)) f z i text (size ls 2) c in
+      ((h, ns, is, z), subst (λ v. InTables ls v (writing ls (good g))) (sym (new-is ls g)) ((s .header, s .nodes, s .items, s .reads), refl))
+
+  title-choice : (r : Result (List ℕ)) → ask (reads ls f) (title.correctTitle i text (size ls 2) f) ≡ r → Own (ofReader ++ ofTitle) r
+      → IsRefusal (correctTitle i text) ls (writing ls r) ⊎ IsAnswer (correctTitle i text) ls f (writing ls r)
+  unfolding writing room.counted room.kept corrections.titledNodes corrections.titledItems
+  title-choice (good g) e k = inr (length g ∷ [], refl, refl, λ _. title-tables g e)
+  title-choice (bad n p) e k = inl (n, p, refl, k, refl)
+
 conversion-choice : (n : ℕ) (r : Result (List ℕ)) → Own ofConversion r
     → ((m : ℕ) × (p : ℕ) × (converted.words (converted.answerOf (room.counted r)) ≡ m ∷ p ∷ []) × T (isAllowed ofConversion m p) × (_≡_ {A = List (List ℕ)} (room.kept n r ∷ []) (replicate n 0 ∷ [])))
     ⊎ ((vs : List ℕ) × (converted.words (converted.answerOf (room.counted r)) ≡ 0 ∷ 0 ∷ vs) × (length vs ≡ 1))
@@ -498,6 +612,7 @@ choice (resolveRow row) ls f = resolve-choice ls f row _ refl (asked-own ofResol
 choice (countFor item channel resource) ls f = count-choice ls f item channel resource _ refl (asked-own ofCount (reads ls f) (count.countFor item channel resource f) (reader-own ls f) (count-own f item channel resource))
 choice judgeMobile ls f = judge-choice ls f _ refl (asked-own [] (reads ls f) (mobile.mobile f) (reader-own ls f) (mobile-own f))
 choice writeSheet ls f = sheet-choice ls f _ refl (asked-own ofSheet (reads ls f) (sheet.write (size ls 2) f) (reader-own ls f) (sheet-own (size ls 2) f))
+choice (correctTitle i text) ls f = title-choice ls f i text _ refl (asked-own ofTitle (reads ls f) (title.correctTitle i text (size ls 2) f) (reader-own ls f) (title-own i text (size ls 2) f))
 choice (toUtf8 units) ls f = no-file (conversion-choice (size ls 0) _ (fitting-own (size ls 0) _ (utf8-own units)))
 choice (toUtf16 text) ls f = no-file (conversion-choice (size ls 0) _ (fitting-own (size ls 0) _ (utf16-own text)))
 
@@ -525,3 +640,10 @@ demand1 = (
   λ units ls f p e. placed (size ls 0) (length units) p (unicode.toUtf8 units) (λ m q. placed8 units) e,
   λ text ls f p e. placed (size ls 0) (length text) p (unicode.toUtf16 text) (λ m q. placed16 text) e,
 )
+
+pub corrects : Corrects
+unfolding outcome
+corrects i text ls f n a = title-corrects ls f i text _ refl a
+
+pub each-least : EachLeast
+each-least = (number-least, node-least, file-least)

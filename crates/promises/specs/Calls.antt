@@ -5,6 +5,7 @@ use mathlib.Core.Path.{_≡_}
 use mathlib.Core.List.{List, [], _∷_}
 use Prim.Native.Nat.{ℕ}
 use lib.ListN.{length}
+use Rattle.metadata.specs.Tables.{limits}
 use Rattle.tree.specs.Reading.{answerOf}
 use Rattle.tree.specs.Told as tree
 use Rattle.tree.specs.declared.Answer.{Answer}
@@ -24,12 +25,15 @@ use Rattle.mobile.specs.declared.Judged.{Judged}
 use Rattle.sheet.specs.Sheet.{write}
 use Rattle.sheet.specs.Told as written
 use Rattle.sheet.specs.declared.Written.{Written}
+use Rattle.title.specs.Title as title
+use Rattle.retitle.specs.Told as corrected
+use Rattle.retitle.specs.declared.Corrected.{Corrected}
 use Rattle.room.specs.Room as room
 use Rattle.unicode.specs.Unicode as unicode
 use Rattle.unicode.specs.Told as converted
 use Rattle.unicode.specs.declared.Converted.{Converted}
 use Rattle.promises.specs.Promises as promises
-use Rattle.promises.specs.Promises.{Question, readTree, findItem, resolveRow, judgeMobile, writeSheet, toUtf8, toUtf16, Outcome}
+use Rattle.promises.specs.Promises.{Question, readTree, findItem, resolveRow, judgeMobile, writeSheet, correctTitle, toUtf8, toUtf16, Outcome}
 
 -- a call that was made: its question, the tables and buffers lent, as they were, the file, and what it left
 pub data Called : Question → (lent : List (List ℕ)) → (file : List ℕ) → Outcome → Type 0 where
@@ -86,6 +90,13 @@ pub data Called : Question → (lent : List (List ℕ)) → (file : List ℕ) �
       → u ≡ itemsLeft nodes items f (write (length sheet))
       → v ≡ room.kept (length sheet) (answered nodes items f (write (length sheet)))
       → Called writeSheet (nodes ∷ items ∷ sheet ∷ []) f (record { answer = written.words r; holds = t ∷ u ∷ v ∷ [] })
+  -- retitle::correct_title
+  correct-title : {nodes items out f t u v : List ℕ} (item : ℕ) (text : List ℕ) (r : Corrected)
+      → corrected.told r ≡ room.counted (answered nodes items f (title.correctTitle item text (length out)))
+      → t ≡ corrected.titledNodes (length nodes) (limits (length nodes) (length items)) (answered nodes items f (title.correctTitle item text (length out)))
+      → u ≡ corrected.titledItems (length items) (limits (length nodes) (length items)) (answered nodes items f (title.correctTitle item text (length out)))
+      → v ≡ room.kept (length out) (answered nodes items f (title.correctTitle item text (length out)))
+      → Called (correctTitle item text) (nodes ∷ items ∷ out ∷ []) f (record { answer = corrected.words r; holds = t ∷ u ∷ v ∷ [] })
   -- unicode::to_utf8
   to-utf8 : {buffer f units v : List ℕ} (r : Converted)
       → converted.told r ≡ room.counted (room.fitting (length buffer) (unicode.toUtf8 units)) → v ≡ room.kept (length buffer) (room.fitting (length buffer) (unicode.toUtf8 units))

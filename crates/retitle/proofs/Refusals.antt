@@ -59,26 +59,27 @@ module _ (ts us : List ℕ) (count total row : ℕ) where
   refuses-row l = rw (rows-there, le-leb total row l) refl
 
   module _ (l : row < total) where
-    pub refuses-reference : {b : Bool} → b ≡ elsewhere (nodesIn count ts) → b ≡ true → 36 ≡ refusalOf row (nodesIn count ts) (itemsIn total us)
+    by-tests : refusalOf row (nodesIn count ts) (itemsIn total us) ≡ choose (elsewhere (nodesIn count ts)) 36 (choose (isNoTitle (itemFrom us (row * 10))) 37 0)
     unfolding refusalOf
-    refuses-reference e h = rw (rows-there, lt-leb total row l, sym e ∙ h) refl
+    by-tests = rw (rows-there, lt-leb total row l, item-at us total row l) refl
 
-    module _ {b : Bool} (e : b ≡ elsewhere (nodesIn count ts)) (h : b ≡ false) where
-      -- the content's own test is left
-      pub by-content : {n : Bool} → isNoTitle (itemFrom us (row * 10)) ≡ n → choose n 37 0 ≡ refusalOf row (nodesIn count ts) (itemsIn total us)
-      unfolding refusalOf
-      by-content k = rw (rows-there, lt-leb total row l, sym e ∙ h, item-at us total row l, k) refl
+    module _ {a b : Bool} (p : a ≡ elsewhere (nodesIn count ts)) (q : b ≡ isNoTitle (itemFrom us (row * 10))) where
+      pub refuses-reference : a ≡ true → 36 ≡ refusalOf row (nodesIn count ts) (itemsIn total us)
+      refuses-reference e = sym (by-tests ∙ rw (sym p ∙ e) refl)
+
+      pub refuses-content : a ≡ false → b ≡ true → 37 ≡ refusalOf row (nodesIn count ts) (itemsIn total us)
+      refuses-content e h = sym (by-tests ∙ rw (sym p ∙ e, sym q ∙ h) refl)
+
+      pub refuses-none : a ≡ false → b ≡ false → 0 ≡ refusalOf row (nodesIn count ts) (itemsIn total us)
+      refuses-none e h = sym (by-tests ∙ rw (sym p ∙ e, sym q ∙ h) refl)
+
+-- ---- a content that is no title
 
 module _ (r : Item) where
-  pub hidden : r .format % 2 ≡ 1 → isNoTitle r ≡ true
+  pub hidden : r .format % 2 ≡ 1 → true ≡ isNoTitle r
   unfolding isNoTitle isHidden
   hidden e = rw (eq-eqb (r .format % 2) 1 e) refl
 
-  module _ (a : r .format % 2 ≡ 1 → ⊥) where
-    pub universal : r .version ≡ 0 → isNoTitle r ≡ false
-    unfolding isNoTitle isHidden
-    universal e = rw (ne-eqb (r .format % 2) 1 a, eq-eqb (r .version) 0 e) refl
-
-    pub versioned : (r .version ≡ 0 → ⊥) → isNoTitle r ≡ true
-    unfolding isNoTitle isHidden
-    versioned e = rw (ne-eqb (r .format % 2) 1 a, ne-eqb (r .version) 0 e) refl
+  pub unhidden : (r .format % 2 ≡ 1 → ⊥) → not (eqb (r .version) 0) ≡ isNoTitle r
+  unfolding isNoTitle isHidden
+  unhidden e = rw (ne-eqb (r .format % 2) 1 e) refl

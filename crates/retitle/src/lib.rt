@@ -11,12 +11,12 @@ ghost use Rattle.header.specs.Header.{Header};
 ghost use Rattle.metadata.specs.Tables.{limits};
 ghost use Rattle.metadata.specs.declared.Limits.{Limits};
 ghost use Rattle.room.specs.Room.{counted, kept};
-ghost use Rattle.tree.specs.Rows.{nodeFrom, nodesIn, itemsIn};
+ghost use Rattle.tree.specs.Rows.{nodeFrom, itemFrom, nodesIn, itemsIn};
 ghost use Rattle.tree.specs.Reading.{rows, readFile};
 ghost use Rattle.tree.specs.Asking.{ask};
 ghost use Rattle.title.specs.Description.{Content, answer, tableText, openingSize, shape};
 ghost use Rattle.title.specs.Text.{itemsText, ownText, nodeText, headerSize, lengthBytes, startWith, lastBytes, startAt, fileBytes, fileOf};
-ghost use Rattle.title.specs.Title.{elsewhere, titledFile, correctTitle};
+ghost use Rattle.title.specs.Title.{elsewhere, isNoTitle, titledFile, correctTitle};
 ghost use Rattle.writer.specs.Counts.{Counts, tooMany};
 ghost use Rattle.contents.specs.Contents.{contentsFrom, ItemsInside};
 ghost use Rattle.retitle.specs.Passes.{bodySize, Framed, sumOf, task, Sound, Measured, outerFrom};
@@ -218,8 +218,8 @@ fn measure_tree(
     ensures measured { λ _. ⌜ Measured (task (now (file .entry)) (now (nodes .entry)) (now (items .entry)) count total row (now (title .entry))) 0 (now (metadata .exit)) (now (inner .exit)) ⌝ }
     ensures tree { λ r. ⌜ r ≡ min (length (joined (outerFrom (task (now (file .entry)) (now (nodes .entry)) (now (items .entry)) count total row (now (title .entry))) 0))) tooMany ⌝ }
 {
-    let mut sizes = [0usize; 256];
-    let mut top: usize = 256;
+    let mut sizes = [0usize; cursor::MOST_NODES];
+    let mut top = cursor::MOST_NODES;
     let mut end = total;
     let mut i = count;
     while 0 < i {
@@ -236,7 +236,7 @@ fn measure_tree(
         sizes[top] = f.size;
         end = first;
     }
-    sum(&sizes, top, 256)
+    sum(&sizes, top, cursor::MOST_NODES)
 }
 
 // The second pass, from the first row to the last: puts the nodes.
@@ -301,8 +301,8 @@ fn put_file(
     requires inside { ⌜ (opening ≤ length (now file)) × (end ≤ start) × (start ≤ last) × (last < length (now file)) ⌝ }
     ensures { λ r. ⌜ Counts (now (out .entry)) (now (out .exit)) 0 (fileOf (take opening (now (file .entry))) (sized (answer (run (tableText (now (file .entry))) (now (file .entry)) opening))) (part (now (file .entry)) end (start - end)) (joined (outerFrom (task (now (file .entry)) (now (nodes .entry)) (now (items .entry)) count total row (now (title .entry))) 0)) (drop (last + 1) (now (file .entry)))) r ⌝ }
 {
-    let mut metadata = [0usize; 256];
-    let mut inner = [0usize; 256];
+    let mut metadata = [0usize; cursor::MOST_NODES];
+    let mut inner = [0usize; cursor::MOST_NODES];
     let tree = measure_tree(
         file,
         nodes,
@@ -414,6 +414,18 @@ fn refers_elsewhere(nodes: &[u64], count: usize) -> bool
     false
 }
 
+// Whether item row `row` is hidden or a version.
+fn is_no_title(items: &[u64], row: usize) -> bool
+    requires { ⌜ row * 10 + 10 ≤ length (now items) ⌝ }
+    ensures { λ r. ⌜ r ≡ isNoTitle (itemFrom (now (items .entry)) (row * 10)) ⌝ }
+{
+    let k = row * cursor::ITEM_WIDTH;
+    if items[k + 7] % 2 == 1 {
+        return true;
+    }
+    items[k + 5] != 0
+}
+
 // The first refusal that the rows give; 0 for none.
 fn refusal_of(nodes: &[u64], items: &[u64], count: usize, total: usize, row: usize) -> u64
     requires { ⌜ (count * 13 ≤ length (now nodes)) × (total * 10 ≤ length (now items)) ⌝ }
@@ -422,17 +434,15 @@ fn refusal_of(nodes: &[u64], items: &[u64], count: usize, total: usize, row: usi
     if total <= row {
         return cursor::NO_SUCH_ROW;
     }
-    if refers_elsewhere(nodes, count) {
+    let refers = refers_elsewhere(nodes, count);
+    let other = is_no_title(items, row);
+    if refers {
         return cursor::REFERS_ELSEWHERE;
     }
-    let k = row * cursor::ITEM_WIDTH;
-    if items[k + 7] % 2 == 1 {
+    if other {
         return cursor::NOT_A_TITLE;
     }
-    if items[k + 5] == 0 {
-        return 0;
-    }
-    cursor::NOT_A_TITLE
+    0
 }
 
 // Writes the file with that title, where nothing refuses it.
