@@ -3,8 +3,8 @@
 //! Everything is fixed by a seed and a case number: [`case`] makes a file with what is lent and
 //! what is asked, [`pair`] makes two files that differ at private places only, [`large_file`] and
 //! [`large_resource`] make the largest files, [`folders_file`] makes files of growing size,
-//! [`texts::text`] makes a text to be converted, and [`titles::title`] makes a file whose title is to
-//! be corrected. The modules hold the parts they are made of.
+//! [`texts::text`] makes a text to be converted, and [`titles::title`] and [`titles::folders_title`]
+//! make files whose title is to be corrected. The modules hold the parts they are made of.
 
 pub mod cases;
 pub mod damage;
