@@ -9,13 +9,15 @@ ghost use Rattle.resolve.specs.Told as told_resolve;
 ghost use Rattle.description.specs.Told as told_description;
 ghost use Rattle.mobile.specs.Told as told_mobile;
 ghost use Rattle.sheet.specs.Told as told_sheet;
+ghost use Rattle.retitle.specs.Told as told_retitle;
 ghost use Rattle.unicode.specs.Told as told_unicode;
-ghost use Rattle.promises.specs.Promises.{readTree, findItem, findOwn, resolveRow, countFor, judgeMobile, writeSheet, toUtf8, toUtf16};
+ghost use Rattle.promises.specs.Promises.{readTree, findItem, findOwn, resolveRow, countFor, judgeMobile, writeSheet, correctTitle, toUtf8, toUtf16};
 ghost use Rattle.capi.specs.Fit.{fit, asked, Leaves};
 use description::Counted;
 use find::Found;
 use mobile::Judged;
 use resolve::Resolved;
+use retitle::Corrected;
 use sheet::Written;
 use tree::Answer;
 use unicode::Converted;
@@ -127,6 +129,19 @@ fn put_written(answer: &mut [u64], said: Written)
     match said {
         Written::Refused(n, p) => put_refusal(answer, n, p),
         Written::Bytes(n) => {
+            let words = [0, 0, n as u64];
+            put_answer(answer, &words);
+        }
+    }
+}
+
+// The number of bytes of the new file.
+fn put_corrected(answer: &mut [u64], said: Corrected)
+    ensures { λ _. ⌜ now (answer .exit) ≡ fit (length (now (answer .entry))) (told_retitle.words said) ⌝ }
+{
+    match said {
+        Corrected::Refused(n, p) => put_refusal(answer, n, p),
+        Corrected::File(n) => {
             let words = [0, 0, n as u64];
             put_answer(answer, &words);
         }
@@ -257,6 +272,25 @@ pub extern "C" fn xmf_write_sheet(
     ensures { λ _. ⌜ Leaves writeSheet (now (file .entry)) (now (nodes .entry) ∷ now (items .entry) ∷ now (sheet .entry) ∷ []) (now (nodes .exit) ∷ now (items .exit) ∷ now (sheet .exit) ∷ []) (now (answer .entry)) (now (answer .exit)) ⌝ }
 {
     put_written(answer, sheet::write_sheet(file, nodes, items, sheet));
+}
+
+// Writes the file anew with a title as the data of an item row. Answer: bytes written. The new file holds the hidden bytes of the old one.
+#[no_mangle]
+pub extern "C" fn xmf_correct_title(
+    file: &[u8],
+    nodes: &mut [u64],
+    items: &mut [u64],
+    row: usize,
+    title: &[u8],
+    out: &mut [u8],
+    answer: &mut [u64],
+)
+    ensures { λ _. ⌜ Leaves (correctTitle row (now (title .entry))) (now (file .entry)) (now (nodes .entry) ∷ now (items .entry) ∷ now (out .entry) ∷ []) (now (nodes .exit) ∷ now (items .exit) ∷ now (out .exit) ∷ []) (now (answer .entry)) (now (answer .exit)) ⌝ }
+{
+    put_corrected(
+        answer,
+        retitle::correct_title(file, nodes, items, row, title, out),
+    );
 }
 
 // Converts UTF-16, high byte first, into UTF-8; one leading mark FEFF is dropped. Answer: bytes written. It converts what it is given, hidden text too, and

@@ -6,10 +6,13 @@
 //!
 //! The tables and the room for the sheet are full. Each call fills or clears all of them.
 //!
+//! The correction of a title is timed in the same way. The first file has no reference 2 or 3 there.
+//!
 //! Then it times the proved reader on files of growing size, with tables and room of just the size
 //! that each file needs, and prints the nanoseconds per byte of the file.
 
 use generate::cases::{ALL_ITEM_WORDS, ALL_NODE_WORDS, ALL_ROOM};
+use generate::titles::folders_title;
 use generate::{folders_file, large_file, large_resource, samples};
 use std::hint::black_box;
 use std::process::ExitCode;
@@ -29,6 +32,8 @@ struct Subject {
     find: (u64, u64),
     /// The row that is resolved.
     resolve: u64,
+    /// The item row whose title is corrected.
+    title: u64,
 }
 
 /// What is lent to a reader.
@@ -107,6 +112,31 @@ const QUESTIONS: [(&str, Ask, Ask); 5] = [
     ),
 ];
 
+/// The new title.
+const TITLE: &[u8] = b"The same tune with another title";
+
+/// The correction of a title.
+const CORRECTION: (&str, Ask, Ask) = (
+    "title",
+    |about, lent| {
+        let row = about.title as usize;
+        let (nodes, items) = (&mut lent.nodes, &mut lent.items);
+        xmf::correct_title(&about.file, nodes, items, row, TITLE, &mut lent.sheet).is_ok()
+    },
+    |about, lent| {
+        let (nodes, items) = (&mut lent.nodes, &mut lent.items);
+        plain::correct_title(
+            &about.file,
+            nodes,
+            items,
+            about.title,
+            TITLE,
+            &mut lent.sheet,
+        )
+        .is_ok()
+    },
+);
+
 fn main() -> ExitCode {
     let arguments: Vec<String> = env::args().skip(1).collect();
     let repetitions = match arguments.as_slice() {
@@ -125,20 +155,31 @@ fn main() -> ExitCode {
             // The item is on the root, two levels above. The resource is two references away.
             find: (255, 1),
             resolve: 250,
+            title: 0,
         },
         Subject {
             name: "worked",
             file: samples::worked(),
             find: (1, 3),
             resolve: 1,
+            title: 0,
         },
         Subject {
             name: "resource",
             file: large_resource(SEED),
             find: (1, 8),
             resolve: 1,
+            title: 0,
         },
     ];
+    let (file, title) = folders_title(SEED, 15);
+    let full = Subject {
+        name: "titles",
+        file,
+        find: (0, 0),
+        resolve: 0,
+        title,
+    };
     let mut lent = Lent {
         nodes: vec![0; ALL_NODE_WORDS],
         items: vec![0; ALL_ITEM_WORDS],
@@ -153,30 +194,47 @@ fn main() -> ExitCode {
         "file", "bytes", "question", "proved", "plain", "ratio"
     );
     for about in &subjects {
-        for (question, proved, plain) in QUESTIONS {
-            for ask in [proved, plain] {
-                assert!(ask(about, &mut lent), "{question} is refused");
-            }
-            let [proved, plain] = times(about, &mut lent, [proved, plain], repetitions);
-            println!(
-                "{:10}{:>8}  {:10}{:>12.0}{:>12.0}{:>8.2}",
-                about.name,
-                about.file.len(),
-                question,
-                proved,
-                plain,
-                proved / plain
-            );
+        for question in QUESTIONS {
+            print_times(about, &mut lent, question, repetitions);
         }
+    }
+    let [_, worked, resource] = &subjects;
+    for about in [&full, worked, resource] {
+        print_times(about, &mut lent, CORRECTION, repetitions);
     }
     growth(repetitions);
     ExitCode::SUCCESS
 }
 
+/// Times a question by both readers.
+fn print_times(
+    about: &Subject,
+    lent: &mut Lent,
+    (question, proved, plain): (&str, Ask, Ask),
+    repetitions: usize,
+) {
+    for ask in [proved, plain] {
+        assert!(ask(about, lent), "{question} is refused");
+    }
+    let [proved, plain] = times(about, lent, [proved, plain], repetitions);
+    println!(
+        "{:10}{:>8}  {:10}{:>12.0}{:>12.0}{:>8.2}",
+        about.name,
+        about.file.len(),
+        question,
+        proved,
+        plain,
+        proved / plain
+    );
+}
+
 /// Times the proved reader on files of growing size.
 fn growth(repetitions: usize) {
     println!("\nthe proved reader on files of growing size, nanoseconds per byte of the file");
-    println!("{:>8}{:>8}{:>8}{:>8}", "nodes", "bytes", "tree", "sheet");
+    println!(
+        "{:>8}{:>8}{:>8}{:>8}{:>8}",
+        "nodes", "bytes", "tree", "sheet", "title"
+    );
     for folders in [1, 3, 7, 15] {
         let nodes = 1 + folders * 17;
         let about = Subject {
@@ -184,6 +242,7 @@ fn growth(repetitions: usize) {
             file: folders_file(SEED, folders),
             find: (0, 0),
             resolve: 0,
+            title: 0,
         };
         let mut lent = Lent {
             nodes: vec![0; nodes * xmf::node::WORDS],
@@ -201,7 +260,19 @@ fn growth(repetitions: usize) {
         let [(_, tree, _), .., (_, sheet, _)] = QUESTIONS;
         let taken = times(&about, &mut lent, [tree, sheet], repetitions);
         let [tree, sheet] = taken.map(|time| time / bytes as f64);
-        println!("{nodes:>8}{bytes:>8}{tree:>8.2}{sheet:>8.2}");
+
+        let (file, title) = folders_title(SEED, folders);
+        lent.sheet.resize(file.len() + TITLE.len() + 40, 0);
+        let about = Subject {
+            file,
+            title,
+            ..about
+        };
+        let (_, correct, _) = CORRECTION;
+        assert!(correct(&about, &mut lent), "a title is refused");
+        let [title] = times(&about, &mut lent, [correct], repetitions);
+        let title = title / about.file.len() as f64;
+        println!("{nodes:>8}{bytes:>8}{tree:>8.2}{sheet:>8.2}{title:>8.2}");
     }
 }
 

@@ -10,12 +10,18 @@
 //! readers, and compares the answers and each byte of the room lent. And it asks both for the count of
 //! a generated content description, good or with a fault, whose answer is mostly known.
 //!
+//! It also corrects the title of a generated file by both readers and compares the answers, both tables
+//! and each byte of the room. Where the right result is known, it must be that one. The result is read
+//! back: its rows must be those in the tables, and it must say what the file says but for that data. The
+//! same title is written into it once more, which must change nothing.
+//!
 //! Then it takes PAIRS pairs of files, from number FIRST on (a tenth of the number of cases when
 //! nothing is said). The files of a pair differ at private places only: in hidden data, in inline
 //! data of file nodes, and outside header, tree and detached nodes. It asks the proved reader all
 //! questions about both, with different contents of tables and buffers before, and compares in
 //! the same way. A resource must be the part of its file that the answer names, and this place and
-//! length are the same for both files.
+//! length are the same for both files. It corrects a title of both, with equal answers and tables; the
+//! results may differ at private places of the first only.
 //!
 //! Before all that it compares the readers on the samples and their padded copies: each of them, each
 //! of its cuts, each file that differs from it in one byte, and two very long files. Then on some
@@ -27,11 +33,13 @@ mod buffers;
 mod changed;
 mod compare;
 mod readers;
+mod titles;
 
 use compare::{Comparer, Difference};
 use generate::descriptions::{self, Described};
 use generate::model::Field;
 use generate::texts::{self, Text};
+use generate::titles::{title, Title};
 use generate::{Case, Lent, Pair};
 use std::process::ExitCode;
 use std::time::Instant;
@@ -126,6 +134,14 @@ fn compare_cases(comparer: &mut Comparer, cases: u64, seed: u64, first: u64) -> 
                 let name = format!("description {number} of seed {seed}");
                 description_report(&name, &described, &difference)
             })?;
+        let title = title(seed, number);
+        comparer.title(&title, number).map_err(|difference| {
+            title_report(
+                &format!("title {number} of seed {seed}"),
+                &title,
+                &difference,
+            )
+        })?;
     }
     let seconds = start.elapsed().as_secs_f64();
     let rate = cases as f64 / seconds;
@@ -144,6 +160,9 @@ fn compare_pairs(comparer: &mut Comparer, pairs: u64, seed: u64, first: u64) -> 
         comparer.pair(&pair, number).map_err(|difference| {
             pair_report(&format!("pair {number} of seed {seed}"), &pair, &difference)
         })?;
+        comparer.title_pair(&pair, number).map_err(|difference| {
+            pair_report(&format!("pair {number} of seed {seed}"), &pair, &difference)
+        })?;
     }
     let seconds = start.elapsed().as_secs_f64();
     let rate = pairs as f64 / seconds;
@@ -156,6 +175,8 @@ fn compare_pairs(comparer: &mut Comparer, pairs: u64, seed: u64, first: u64) -> 
          and detached nodes: {outside}, in the resource asked for: {}",
         comparer.resources
     );
+    let [corrected, differ] = comparer.title_pairs;
+    println!("pairs with a title corrected: {corrected}, with results that differ: {differ}");
     Ok(())
 }
 
@@ -166,19 +187,32 @@ fn print_counts(comparer: &Comparer) {
         comparer.comparisons, comparer.values
     );
     println!("files read: {}", comparer.outcomes[0]);
-    let refusals = comparer.outcomes.iter().enumerate().skip(1);
+    println!(
+        "files refused, by number: {}",
+        by_number(&comparer.outcomes)
+    );
+    let [converted, .., no_room, _, _, _, bad] = comparer.texts;
+    println!("texts: {converted} converted, {no_room} refused with 22, {bad} with 26");
+    println!(
+        "counts: {} given; refused, by number: {}",
+        comparer.counts[0],
+        by_number(&comparer.counts)
+    );
+    println!(
+        "titles: {} corrected; refused, by number: {}",
+        comparer.titles[0],
+        by_number(&comparer.titles)
+    );
+}
+
+/// The refusals that occur, each with its count.
+fn by_number(counts: &[u64]) -> String {
+    let refusals = counts.iter().enumerate().skip(1);
     let refusals: Vec<String> = refusals
         .filter(|(_, count)| **count > 0)
         .map(|(number, count)| format!("{number}: {count}"))
         .collect();
-    println!("files refused, by number: {}", refusals.join(", "));
-    let [converted, .., no_room, _, _, _, bad] = comparer.texts;
-    println!("texts: {converted} converted, {no_room} refused with 22, {bad} with 26");
-    let counts = comparer.counts;
-    println!(
-        "counts: {} given, {} refused with 18, {} with 23, {} with 25",
-        counts[0], counts[18], counts[23], counts[25]
-    );
+    refusals.join(", ")
 }
 
 /// Tells a difference between the readers.
@@ -211,6 +245,18 @@ fn description_report(name: &str, case: &Described, difference: &Difference) -> 
         case.resource,
         case.lent,
         hex(&case.file)
+    )
+}
+
+/// Tells a difference between the readers on a title.
+fn title_report(name: &str, title: &Title, difference: &Difference) -> String {
+    let Difference { what, .. } = difference;
+    format!(
+        "difference in {name}, proved and plain\n{what}\nitem row {}, {:?}\nfile: {}\ndata: {}\n",
+        title.row,
+        title.lent,
+        hex(&title.file),
+        hex(&title.data)
     )
 }
 

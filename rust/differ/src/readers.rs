@@ -199,16 +199,21 @@ pub fn known(case: &Described) -> Option<Answer> {
     })
 }
 
+/// The words of a number of bytes written, or of a refusal's number and place.
+pub fn counted(written: Result<usize, (u64, u64)>) -> Answer {
+    match written {
+        Ok(length) => words(&[length as u64]),
+        Err((number, place)) => refused(number, place),
+    }
+}
+
 /// Converts by the proved function.
 pub fn convert_proved(text: &Text, room: &mut [u8]) -> Answer {
     let converted = match text.into {
         Into::Utf8 => xmf::utf16_to_utf8(&text.given, room),
         Into::Utf16 => xmf::utf8_to_utf16(&text.given, room),
     };
-    match converted {
-        Ok(length) => words(&[length as u64]),
-        Err(refusal) => refused(refusal.number, refusal.place),
-    }
+    counted(converted.map_err(|refusal| (refusal.number, refusal.place)))
 }
 
 /// Converts by the proved function, with the answer as words in a buffer of any size.
@@ -225,8 +230,5 @@ pub fn convert_plain(text: &Text, room: &mut [u8]) -> Answer {
         Into::Utf8 => plain::utf16_to_utf8(&text.given, room),
         Into::Utf16 => plain::utf8_to_utf16(&text.given, room),
     };
-    match converted {
-        Ok(length) => words(&[length as u64]),
-        Err(refusal) => refused(refusal.number, refusal.place),
-    }
+    counted(converted.map_err(|refusal| (refusal.number, refusal.place)))
 }

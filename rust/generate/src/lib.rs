@@ -3,9 +3,9 @@
 //! Everything is fixed by a seed and a case number: [`case`] makes a file with what is lent and
 //! what is asked, [`pair`] makes two files that differ at private places only, [`large_file`] and
 //! [`large_resource`] make the largest files, [`folders_file`] makes files of growing size,
-//! [`texts::text`] makes a text to be converted, [`titles::title`] makes a file whose title is to
-//! be corrected, and [`descriptions::description`] makes a file with a content description. The
-//! modules hold the parts they are made of.
+//! [`texts::text`] makes a text to be converted, [`titles::title`] and [`titles::folders_title`] make
+//! files whose title is to be corrected, and [`descriptions::description`] makes a file with a content
+//! description. The modules hold the parts they are made of.
 
 pub mod cases;
 pub mod damage;

@@ -109,6 +109,23 @@ extern "C" {
         answer_words: usize,
     );
 
+    /// Writes the file anew with other data in an item row. Answer: bytes written.
+    pub fn xmf_correct_title(
+        file: *const u8,
+        file_length: usize,
+        nodes: *mut u64,
+        node_words: usize,
+        items: *mut u64,
+        item_words: usize,
+        item_row: usize,
+        title: *const u8,
+        title_length: usize,
+        out: *mut u8,
+        out_length: usize,
+        answer: *mut u64,
+        answer_words: usize,
+    );
+
     /// Converts UTF-16, high byte first, into UTF-8. Answer: bytes written.
     pub fn xmf_utf16_to_utf8(
         data: *const u8,

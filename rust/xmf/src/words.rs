@@ -1,4 +1,4 @@
-//! The five questions and the two conversions with the answer as words, in the order of the C
+//! The questions and the conversions with the answer as words, in the order of the C
 //! interface: refusal number (0: none), place, then the answer's values, and zeros. A short buffer
 //! gets the words that fit.
 //!
@@ -120,6 +120,27 @@ pub fn write_sheet(
 ) {
     let (text, length) = (sheet.as_mut_ptr(), sheet.len());
     ask!(xmf_write_sheet(file, nodes, items, [text, length], answer))
+}
+
+/// Writes the file anew with a title as the data of an item row. Values: bytes written.
+pub fn correct_title(
+    file: &[u8],
+    nodes: &mut [u64],
+    items: &mut [u64],
+    item_row: usize,
+    title: &[u8],
+    out: &mut [u8],
+    answer: &mut [u64],
+) {
+    let (title, title_length) = (title.as_ptr(), title.len());
+    let (room, length) = (out.as_mut_ptr(), out.len());
+    ask!(xmf_correct_title(
+        file,
+        nodes,
+        items,
+        [item_row, title, title_length, room, length],
+        answer
+    ))
 }
 
 /// Converts by a function of the C interface: what is given, the room, answer.
