@@ -141,8 +141,8 @@ fn put_corrected(answer: &mut [u64], said: Corrected)
 {
     match said {
         Corrected::Refused(n, p) => put_refusal(answer, n, p),
-        Corrected::File(n) => {
-            let words = [0, 0, n as u64];
+        Corrected::File(size) => {
+            let words = [0, 0, size as u64];
             put_answer(answer, &words);
         }
     }
