@@ -1,4 +1,3 @@
-pub mod Storing
 pub mod Quiet
 pub mod Gives
 pub mod Ends
