@@ -9,7 +9,7 @@ ghost use Rattle.resolve.specs.Told as told_resolve;
 ghost use Rattle.mobile.specs.Told as told_mobile;
 ghost use Rattle.sheet.specs.Told as told_sheet;
 ghost use Rattle.unicode.specs.Told as told_unicode;
-ghost use Rattle.promises.specs.Promises.{outcome, readTree, findItem, findOwn, resolveRow, judgeMobile, writeSheet, toUtf8, toUtf16};
+ghost use Rattle.promises.specs.Promises.{readTree, findItem, findOwn, resolveRow, judgeMobile, writeSheet, toUtf8, toUtf16};
 ghost use Rattle.capi.specs.Fit.{fit, asked, Leaves};
 use find::Found;
 use mobile::Judged;
@@ -139,7 +139,7 @@ pub extern "C" fn xmf_read_tree(
     items: &mut [u64],
     answer: &mut [u64],
 )
-    ensures { λ _. ⌜ Leaves (outcome readTree (length (now (nodes .entry)) ∷ length (now (items .entry)) ∷ []) (now (file .entry))) (length (now (answer .entry))) (now (answer .exit)) (now (nodes .exit) ∷ now (items .exit) ∷ []) ⌝ }
+    ensures { λ _. ⌜ Leaves readTree (now (file .entry)) (now (nodes .entry) ∷ now (items .entry) ∷ []) (now (nodes .exit) ∷ now (items .exit) ∷ []) (now (answer .entry)) (now (answer .exit)) ⌝ }
 {
     put_tree(answer, tree::read_tree(file, nodes, items));
 }
@@ -156,7 +156,7 @@ pub extern "C" fn xmf_find(
     name: &[u8],
     answer: &mut [u64],
 )
-    ensures { λ _. ⌜ Leaves (outcome (findItem (asked kind number (now (name .entry))) row) (length (now (nodes .entry)) ∷ length (now (items .entry)) ∷ []) (now (file .entry))) (length (now (answer .entry))) (now (answer .exit)) (now (nodes .exit) ∷ now (items .exit) ∷ []) ⌝ }
+    ensures { λ _. ⌜ Leaves (findItem (asked kind number (now (name .entry))) row) (now (file .entry)) (now (nodes .entry) ∷ now (items .entry) ∷ []) (now (nodes .exit) ∷ now (items .exit) ∷ []) (now (answer .entry)) (now (answer .exit)) ⌝ }
 {
     if kind == 0 {
         put_found(answer, find::find_standard(file, nodes, items, row, number));
@@ -177,7 +177,7 @@ pub extern "C" fn xmf_find_own(
     name: &[u8],
     answer: &mut [u64],
 )
-    ensures { λ _. ⌜ Leaves (outcome (findOwn (asked kind number (now (name .entry))) row) (length (now (nodes .entry)) ∷ length (now (items .entry)) ∷ []) (now (file .entry))) (length (now (answer .entry))) (now (answer .exit)) (now (nodes .exit) ∷ now (items .exit) ∷ []) ⌝ }
+    ensures { λ _. ⌜ Leaves (findOwn (asked kind number (now (name .entry))) row) (now (file .entry)) (now (nodes .entry) ∷ now (items .entry) ∷ []) (now (nodes .exit) ∷ now (items .exit) ∷ []) (now (answer .entry)) (now (answer .exit)) ⌝ }
 {
     if kind == 0 {
         put_found(
@@ -198,7 +198,7 @@ pub extern "C" fn xmf_resolve(
     row: usize,
     answer: &mut [u64],
 )
-    ensures { λ _. ⌜ Leaves (outcome (resolveRow row) (length (now (nodes .entry)) ∷ length (now (items .entry)) ∷ []) (now (file .entry))) (length (now (answer .entry))) (now (answer .exit)) (now (nodes .exit) ∷ now (items .exit) ∷ []) ⌝ }
+    ensures { λ _. ⌜ Leaves (resolveRow row) (now (file .entry)) (now (nodes .entry) ∷ now (items .entry) ∷ []) (now (nodes .exit) ∷ now (items .exit) ∷ []) (now (answer .entry)) (now (answer .exit)) ⌝ }
 {
     put_resolved(answer, resolve::resolve(file, nodes, items, row));
 }
@@ -206,7 +206,7 @@ pub extern "C" fn xmf_resolve(
 // Judges Mobile XMF. Answer: the verdict.
 #[no_mangle]
 pub extern "C" fn xmf_judge(file: &[u8], nodes: &mut [u64], items: &mut [u64], answer: &mut [u64])
-    ensures { λ _. ⌜ Leaves (outcome judgeMobile (length (now (nodes .entry)) ∷ length (now (items .entry)) ∷ []) (now (file .entry))) (length (now (answer .entry))) (now (answer .exit)) (now (nodes .exit) ∷ now (items .exit) ∷ []) ⌝ }
+    ensures { λ _. ⌜ Leaves judgeMobile (now (file .entry)) (now (nodes .entry) ∷ now (items .entry) ∷ []) (now (nodes .exit) ∷ now (items .exit) ∷ []) (now (answer .entry)) (now (answer .exit)) ⌝ }
 {
     put_judged(answer, mobile::judge(file, nodes, items));
 }
@@ -220,7 +220,7 @@ pub extern "C" fn xmf_write_sheet(
     sheet: &mut [u8],
     answer: &mut [u64],
 )
-    ensures { λ _. ⌜ Leaves (outcome writeSheet (length (now (nodes .entry)) ∷ length (now (items .entry)) ∷ length (now (sheet .entry)) ∷ []) (now (file .entry))) (length (now (answer .entry))) (now (answer .exit)) (now (nodes .exit) ∷ now (items .exit) ∷ now (sheet .exit) ∷ []) ⌝ }
+    ensures { λ _. ⌜ Leaves writeSheet (now (file .entry)) (now (nodes .entry) ∷ now (items .entry) ∷ now (sheet .entry) ∷ []) (now (nodes .exit) ∷ now (items .exit) ∷ now (sheet .exit) ∷ []) (now (answer .entry)) (now (answer .exit)) ⌝ }
 {
     put_written(answer, sheet::write_sheet(file, nodes, items, sheet));
 }
@@ -229,7 +229,7 @@ pub extern "C" fn xmf_write_sheet(
 // stands outside demand 3.
 #[no_mangle]
 pub extern "C" fn xmf_utf16_to_utf8(units: &[u8], text: &mut [u8], answer: &mut [u64])
-    ensures { λ _. ⌜ Leaves (outcome (toUtf8 (now (units .entry))) (length (now (text .entry)) ∷ []) []) (length (now (answer .entry))) (now (answer .exit)) (now (text .exit) ∷ []) ⌝ }
+    ensures { λ _. ⌜ Leaves (toUtf8 (now (units .entry))) [] (now (text .entry) ∷ []) (now (text .exit) ∷ []) (now (answer .entry)) (now (answer .exit)) ⌝ }
 {
     put_converted(answer, unicode::to_utf8(units, text));
 }
@@ -237,7 +237,7 @@ pub extern "C" fn xmf_utf16_to_utf8(units: &[u8], text: &mut [u8], answer: &mut 
 // Converts UTF-8 into UTF-16, high byte first. Answer: bytes written.
 #[no_mangle]
 pub extern "C" fn xmf_utf8_to_utf16(text: &[u8], units: &mut [u8], answer: &mut [u64])
-    ensures { λ _. ⌜ Leaves (outcome (toUtf16 (now (text .entry))) (length (now (units .entry)) ∷ []) []) (length (now (answer .entry))) (now (answer .exit)) (now (units .exit) ∷ []) ⌝ }
+    ensures { λ _. ⌜ Leaves (toUtf16 (now (text .entry))) [] (now (units .entry) ∷ []) (now (units .exit) ∷ []) (now (answer .entry)) (now (answer .exit)) ⌝ }
 {
     put_converted(answer, unicode::to_utf16(text, units));
 }

@@ -16,26 +16,8 @@ use Rattle.tree.specs.Rows.{itemFrom}
 use Rattle.title.specs.Description.{Content, content, titled}
 use Rattle.title.specs.Text.{further, fieldText, itemText, universalText, versionText, contentText, itemsText}
 use Rattle.writer.specs.Counts.{Counts, tooMany}
-use Rattle.writer.proofs.Counting.{counts-then, counts-as, block-put, part-length}
+use Rattle.writer.proofs.Counting.{counts-as, put-two, put-sized, put-block, part-length}
 use Rattle.contents.specs.Contents.{contentAt, contentsFrom, rowOf, rowText, ItemInside}
-
--- ---- writers one after the other
-
--- two fields
-pub put-two : {o o₁ o₂ : List ℕ} {s s₁ s₂ : ℕ} (a b : List ℕ) → Counts o o₁ s a s₁ → Counts o₁ o₂ s₁ b s₂ → Counts o o₂ s (joined (a ∷ b ∷ [])) s₂
-put-two a b p q = counts-as (ap (λ v. a ++ v) (sym (append-nil b))) (counts-then p q)
-
--- a block that was measured
-pub put-sized : {z z′ o o₁ o₂ : List ℕ} {n s s₁ s₂ : ℕ} (body : List ℕ) → Counts z z′ 0 body n → Counts o o₁ s (vlq n) s₁ → Counts o₁ o₂ s₁ body s₂ → Counts o o₂ s (sized body) s₂
-put-sized {n = n} body m p q = let e = m .after in block-put body n (omega arith) p q
-
--- a block of known length
-pub put-block : {o o₁ o₂ : List ℕ} {s s₁ s₂ : ℕ} (body : List ℕ) (n : ℕ) → length body ≡ n → Counts o o₁ s (vlq n) s₁ → Counts o₁ o₂ s₁ body s₂ → Counts o o₂ s (sized body) s₂
-unfolding sized
-put-block body n e p q = put-two (vlq (length body)) body (counts-as (ap vlq (sym e)) p) q
-
-pub counts-in : {o o′ : List ℕ} {s r : ℕ} {a : List ℕ} → Counts o o′ s a r → r ≤ tooMany
-counts-in p = let e = p .after in omega arith
 
 -- ---- a content
 

@@ -3,7 +3,7 @@ ghost use mathlib.Core.Path.{_≡_};
 ghost use mathlib.Core.List.{List, _∷_, []};
 ghost use Prim.Native.Nat.{ℕ, suc, _≤_, _<_, _*_, _+_, _-_};
 ghost use lib.ListN.{length};
-ghost use Rattle.cursor.specs.Vlq.{vlq, joined, sized};
+ghost use Rattle.cursor.specs.Vlq.{vlq, joined};
 ghost use Rattle.tree.specs.Rows.{itemFrom};
 ghost use Rattle.title.specs.Description.{content};
 ghost use Rattle.title.specs.Text as text;
@@ -172,7 +172,7 @@ fn put_item(
 }
 
 // Puts the item rows from row `first` on, up to row `end`.
-fn put_items(
+pub fn put_items(
     out: &mut [u8],
     to: usize,
     file: &[u8],
@@ -192,24 +192,4 @@ fn put_items(
         k = k + 1;
     }
     next
-}
-
-// Puts a node's metadata: the item rows with their length.
-pub fn put_metadata(
-    out: &mut [u8],
-    to: usize,
-    file: &[u8],
-    items: &[u64],
-    first: usize,
-    end: usize,
-    row: usize,
-    title: &[u8],
-) -> usize
-    requires { ⌜ (first ≤ end) × ItemsInside (length (now file)) end (now items) × (to ≤ tooMany) ⌝ }
-    ensures { λ r. ⌜ Counts (now (out .entry)) (now (out .exit)) to (sized (itemsText (contentsFrom (now (file .entry)) row (now (title .entry)) (now (items .entry)) first (end - first)))) r ⌝ }
-{
-    let mut scratch = [0u8; 1];
-    let n = put_items(&mut scratch, 0, file, items, first, end, row, title);
-    let a = writer::put_number(out, to, n as u64);
-    put_items(out, a, file, items, first, end, row, title)
 }

@@ -1,21 +1,20 @@
 -- The laws of the leaves: each moves on, stays inside its part, and is small. Callers use these, never the text of a definition.
 -- Assumes nothing.
-use mathlib.Core.Path.{_≡_, refl, ap, _∙_}
-use mathlib.Core.Bool.{Bool, true, false}
+use mathlib.Core.Path.{_≡_}
 use mathlib.Core.List.{List}
 use Prim.Native.Nat.{ℕ, zero, suc, _+_, _*_, _%_, _-_, _^_, _≤_, _<_}
 use native.Mathlib.Nat.{lt-of-not-le}
 use native.Mathlib.Decide.{decLe}
 use native.Mathlib.Omega.{arith}
-use lib.Dec.{ltb}
 use lib.ListN.{getD}
-use borrow.Author.Tests.{ltb-true, ltb-false, leb-true, le-leb, lt-leb, eq-eqb, ne-eqb, lt-ltb, le-ltb}
-use Rattle.cursor.specs.Machine.{ret, refuse, byte, _>>=_, _>>_, if_then_else_, place, check, Out, ok, refused, run}
-use Rattle.cursor.specs.Rows.{Frame, Part, P}
+use borrow.Author.Tests.{ltb-true, leb-true, le-leb, lt-leb, eq-eqb, ne-eqb, lt-ltb, le-ltb}
+use Rattle.cursor.specs.Machine.{ok, refused, run}
+use Rattle.cursor.specs.Rows.{Frame, Part}
 use Rattle.cursor.specs.Leaves.{next, digits, number, block, manufacturer, guidBytes, guid}
 use Rattle.cursor.proofs.Laws.{running}
-use Rattle.cursor.proofs.Digits.{grown, below}
+use Rattle.cursor.proofs.Digits.{begun, last, grown, below}
 use Rattle.cursor.proofs.Stable.{depends}
+use Rattle.cursor.proofs.Within.{same, number-within}
 use Rattle.cursor.proofs.Wp.{Wp, Rule, Free, at-end, wp-after, wp-weaken, wp-ret, wp-refuse, wp-here, wp-byte, wp-if, wp-check, wp-place}
 
 module _ {U : Rule Part} where
@@ -92,9 +91,13 @@ module _ (κ : Frame) (past end : ℕ) (f : List ℕ) (at : ℕ) {v q : ℕ} whe
   pub number-depends : run (number κ past end) f at ≡ ok v q → (g : List ℕ) → ((k : ℕ) → at ≤ k → k < q → getD f k 0 ≡ getD g k 0) → run (number κ past end) g at ≡ ok v q
   number-depends e g h = depends (number κ past end) f g at e h
 
--- ---- the ways through a block and a manufacturer
+-- ---- the short way through a number, and the ways through a block and a manufacturer
 
 module _ (κ : Frame) (past end : ℕ) (f : List ℕ) (at : ℕ) where
+  -- a byte below 80h is the whole number
+  pub number-short : at < end → {b : ℕ} → b ≡ getD f at 0 → b < 128 → ok b (at + 1) ≡ run (number κ past end) f at
+  number-short l {b} is h = let m : 0 * 128 + b % 128 ≡ b = omega arith in rw m at (last (begun f past end at) (λ z. omega arith) l is h κ)
+
   pub block-size : {n p : ℕ} → run (number κ past end) f at ≡ refused n p → refused n p ≡ run (block κ past end) f at
   unfolding block
   block-size e = simp (running, e)
@@ -139,29 +142,5 @@ module _ (κ : Frame) (end : ℕ) (f : List ℕ) (at : ℕ) where
 
 -- ---- a number, given or refused, depends on the bytes of its part alone
 
-module _ (f g : List ℕ) where
-  after-byte : (c : Bool) (x at : ℕ) (m : P ℕ) → run m f at ≡ run m g at → run (if c then ret x else m) f at ≡ run (if c then ret x else m) g at
-  unfolding run if_then_else_
-  after-byte true x at m h = refl
-  after-byte false x at m h = h
-
-  a-byte : (c : Bool) (κ : Frame) (past p at : ℕ) (m : ℕ → P ℕ) → (c ≡ true → run (m (getD f at 0)) f (at + 1) ≡ run (m (getD g at 0)) g (at + 1))
-      → run ((if c then byte κ ret else refuse past p) >>= m) f at ≡ run ((if c then byte κ ret else refuse past p) >>= m) g at
-  unfolding run _>>=_ if_then_else_
-  a-byte true κ past p at m h = h refl
-  a-byte false κ past p at m h = refl
-
-  digits-same : (κ : Frame) (past end p left v at : ℕ) → ((k : ℕ) → at ≤ k → k < end → getD f k 0 ≡ getD g k 0) → run (digits κ past end p left v) f at ≡ run (digits κ past end p left v) g at
-  unfolding run _>>=_ next digits
-  digits-same κ past end p zero v at h = refl
-  digits-same κ past end p (suc left) v at h =
-      let rest : ℕ → P ℕ = λ b. if ltb b 0x80 then ret (v * 128 + b) else digits κ past end p left (v * 128 + b % 0x80) in
-      a-byte (ltb at end) κ past p at rest λ t.
-      let l : at < end = ltb-true at end t in
-      let b = getD g at 0 in
-      ap (λ x. run (rest x) f (at + 1)) (h at (omega arith) l)
-      ∙ after-byte (ltb b 0x80) (v * 128 + b) (at + 1) (digits κ past end p left (v * 128 + b % 0x80)) (digits-same κ past end p left (v * 128 + b % 0x80) (at + 1) (λ k lo hi. h k (omega arith) hi))
-
-  pub number-same : (κ : Frame) (past end at : ℕ) → ((k : ℕ) → at ≤ k → k < end → getD f k 0 ≡ getD g k 0) → run (number κ past end) f at ≡ run (number κ past end) g at
-  unfolding run _>>=_ number place
-  number-same κ past end at h = digits-same κ past end at 4 0 at h
+pub number-same : (f g : List ℕ) (κ : Frame) (past end at : ℕ) → ((k : ℕ) → at ≤ k → k < end → getD f k 0 ≡ getD g k 0) → run (number κ past end) f at ≡ run (number κ past end) g at
+number-same f g κ past end at h = same (number-within κ past end) f g at h

@@ -5,6 +5,7 @@ pub mod Near
 pub mod Wp
 pub mod Quiet
 pub mod Digits
+pub mod Within
 pub mod Leaves
 pub mod Order
 pub mod Limited

@@ -82,6 +82,10 @@ noSuchItem = 23
 abbrev pub badDetached : ℕ
 badDetached = 24
 
+-- a field of a content description is cut short, too long a number or of no such kind; or bytes are left over
+abbrev pub badDescription : ℕ
+badDescription = 25
+
 -- odd length, lone surrogate or bad UTF-8
 abbrev pub badText : ℕ
 badText = 26
@@ -111,6 +115,9 @@ ofFind = noSuchRow ∷ noSuchItem ∷ []
 
 abbrev pub ofResolve : List ℕ
 ofResolve = noSuchRow ∷ endsAtFolder ∷ endsAtUri ∷ tooManyHops ∷ []
+
+abbrev pub ofCount : List ℕ
+ofCount = noSuchRow ∷ noSuchItem ∷ badDescription ∷ []
 
 abbrev pub ofSheet : List ℕ
 ofSheet = noRoom ∷ []

@@ -1,11 +1,13 @@
--- What the code's answers say, with the tables that the call left.
+-- What a call is given, and what the code's answers say, with the tables that the call left.
 -- Assumes nothing.
 use mathlib.Core.Path.{_≡_}
 use mathlib.Core.List.{List}
-use Prim.Native.Nat.{ℕ, _≤_}
+use Prim.Native.Nat.{ℕ, _*_, _≤_}
+use lib.ListN.{length}
 use Rattle.cursor.specs.Machine.{Out, ok, refused}
+use Rattle.cursor.specs.Told.{Readable}
 use Rattle.header.specs.Types.{typesOf}
-use Rattle.metadata.specs.Tables.{State, state}
+use Rattle.metadata.specs.Tables.{State, state, itemWidth}
 use Rattle.metadata.specs.Metadata.{Context}
 use Rattle.metadata.specs.declared.Limits.{Limits}
 use Rattle.metadata.specs.declared.Made.{Made}
@@ -27,6 +29,18 @@ use Rattle.metadata.specs.declared.Walked.the-variants as all
 -- the context of a scope, with the types as their table has them, in a file of `size` bytes
 abbrev pub contextOf : Scope → List ℕ → ℕ → Context
 contextOf s ws size = record { limits = s .limits; types = typesOf (s .types) ws; first = s .first .0; size = size }
+
+-- ---- a call that fills tables
+
+-- the item table holds as many rows as there may be, and no more rows are made
+abbrev pub ItemRoom : Scope → (items : List ℕ) → Made → Type 0
+ItemRoom scope items m = (scope .limits .items * itemWidth ≤ length items) × (m .nodes ≤ scope .limits .nodes) × (m .items ≤ scope .limits .items)
+
+-- besides, the part that ends at `end` lies in the file, and the declared types stand in their table
+abbrev pub Room : Scope → (file types items : List ℕ) → (end : ℕ) → Made → Type 0
+Room scope file types items end m = Readable end file × (scope .types * 2 ≤ length types) × ItemRoom scope items m
+
+-- ---- answers
 
 abbrev pub fieldTold : Fielded → Out Field
 fieldTold (fielded.Is f c) = ok f (c .at .0)

@@ -1,13 +1,14 @@
 // Metadata: the items of a node, and their rows in the item table.
 ghost use mathlib.Core.Path.{_≡_};
 ghost use mathlib.Core.List.{List};
-ghost use Prim.Native.Nat.{ℕ, _≤_, _<_, _+_, _*_, _^_};
+ghost use Prim.Native.Nat.{ℕ, _≤_, _<_, _+_, _*_};
 ghost use lib.ListN.{length};
 ghost use lib.Seq.{sets};
 ghost use Rattle.cursor.specs.Machine.{run, exec, times};
+ghost use Rattle.cursor.specs.Told.{Readable};
 ghost use Rattle.metadata.specs.Tables.{itemWidth, itemWords, put, state};
 ghost use Rattle.metadata.specs.Metadata.{field, contents, itemFrame, rowOf, universal, version, rowsFor, item, metaItems, metadata};
-ghost use Rattle.metadata.specs.Told.{contextOf, counts, walked, fieldTold, contentsTold, itemTold, Gives};
+ghost use Rattle.metadata.specs.Told.{ItemRoom, Room, contextOf, counts, walked, fieldTold, contentsTold, itemTold, Gives};
 use cursor::Cursor;
 use cursor::FilePlace;
 use cursor::Item;
@@ -87,7 +88,7 @@ pub enum Walked {
 
 // Stores an item row behind the `made` rows that are there.
 fn put_item(items: &mut [u64], made: usize, row: Item)
-    requires { ⌜ made * 10 + 10 ≤ length (now items) ⌝ }
+    requires { ⌜ made * itemWidth + itemWidth ≤ length (now items) ⌝ }
     ensures { λ _. ⌜ now (items .exit) ≡ sets (now (items .entry)) (made * itemWidth) (itemWords row) ⌝ }
 {
     let words = [
@@ -107,7 +108,7 @@ fn put_item(items: &mut [u64], made: usize, row: Item)
 
 // The field here: 0 and a standard number, or an XString, which is a custom name.
 fn read_field(c: Cursor, file: &[u8], end: FilePlace) -> Fielded
-    requires { ⌜ (end .0 ≤ length (now file)) × (length (now file) < 2 ^ 28) ⌝ }
+    requires { ⌜ Readable (end .0) (now file) ⌝ }
     ensures { λ r. ⌜ fieldTold r ≡ run (field (end .0)) (now (file .entry)) (c .at .0) ⌝ }
 {
     match c.block(file, end, cursor::CUT_SHORT) {
@@ -143,7 +144,7 @@ fn read_contents(c: Cursor, file: &[u8], end: FilePlace) -> Contained
 
 // An item's field and contents.
 fn read_frame(c: Cursor, file: &[u8], end: FilePlace) -> Itemed
-    requires { ⌜ (end .0 ≤ length (now file)) × (length (now file) < 2 ^ 28) ⌝ }
+    requires { ⌜ Readable (end .0) (now file) ⌝ }
     ensures { λ r. ⌜ itemTold r ≡ run (itemFrame (end .0)) (now (file .entry)) (c .at .0) ⌝ }
 {
     match read_field(c, file, end) {
@@ -206,7 +207,7 @@ fn read_universal(
     end: FilePlace,
     rows: usize,
 ) -> Rowed
-    requires { ⌜ (end .0 ≤ length (now file)) × (length (now file) < 2 ^ 28) × (scope .limits .items * 10 ≤ length (now items)) × (l .node ≤ scope .limits .nodes) ⌝ }
+    requires { ⌜ Readable (end .0) (now file) × ItemRoom scope (now items) (counts (l .node) rows) ⌝ }
     ensures { λ r. ⌜ ((t ws : List ℕ) → Gives (scope .limits) (walked (l .node) r) t (now (items .exit)) (exec put (universal (contextOf scope ws (length (now (file .entry)))) l (end .0) (counts (l .node) rows)) (now (file .entry)) (c .at .0) (state t (now (items .entry)) (counts (l .node) rows)))) ⌝ }
 {
     let place = c.at;
@@ -247,7 +248,7 @@ fn read_version(
     before: usize,
     rows: usize,
 ) -> Rowed
-    requires { ⌜ (end .0 ≤ length (now file)) × (length (now file) < 2 ^ 28) × (scope .types * 2 ≤ length (now types)) × (scope .limits .items * 10 ≤ length (now items)) × (l .node ≤ scope .limits .nodes) × (before ≤ rows) ⌝ }
+    requires { ⌜ Room scope (now file) (now types) (now items) (end .0) (counts (l .node) rows) × (before ≤ rows) ⌝ }
     ensures { λ r. ⌜ ((t : List ℕ) → Gives (scope .limits) (walked (l .node) r) t (now (items .exit)) (exec put (version (contextOf scope (now (types .entry)) (length (now (file .entry)))) l (end .0) before (counts (l .node) rows)) (now (file .entry)) (c .at .0) (state t (now (items .entry)) (counts (l .node) rows)))) ⌝ }
 {
     let place = c.at;
@@ -289,7 +290,7 @@ fn read_versions(
     count: u64,
     rows: usize,
 ) -> Rowed
-    requires { ⌜ (end .0 ≤ length (now file)) × (length (now file) < 2 ^ 28) × (scope .types * 2 ≤ length (now types)) × (scope .limits .items * 10 ≤ length (now items)) × (l .node ≤ scope .limits .nodes) × (rows ≤ scope .limits .items) ⌝ }
+    requires { ⌜ Room scope (now file) (now types) (now items) (end .0) (counts (l .node) rows) ⌝ }
     ensures { λ r. ⌜ ((t : List ℕ) → Gives (scope .limits) (walked (l .node) r) t (now (items .exit)) (exec put (times count (version (contextOf scope (now (types .entry)) (length (now (file .entry)))) l (end .0) rows) (counts (l .node) rows)) (now (file .entry)) (c .at .0) (state t (now (items .entry)) (counts (l .node) rows)))) ⌝ }
 {
     let before = rows;
@@ -321,7 +322,7 @@ fn read_rows(
     contents: Contents,
     rows: usize,
 ) -> Rowed
-    requires { ⌜ (end .0 ≤ length (now file)) × (length (now file) < 2 ^ 28) × (scope .types * 2 ≤ length (now types)) × (scope .limits .items * 10 ≤ length (now items)) × (l .node ≤ scope .limits .nodes) × (rows ≤ scope .limits .items) ⌝ }
+    requires { ⌜ Room scope (now file) (now types) (now items) (end .0) (counts (l .node) rows) ⌝ }
     ensures { λ r. ⌜ ((t : List ℕ) → Gives (scope .limits) (walked (l .node) r) t (now (items .exit)) (exec put (rowsFor (contextOf scope (now (types .entry)) (length (now (file .entry)))) l (end .0) contents (counts (l .node) rows)) (now (file .entry)) (c .at .0) (state t (now (items .entry)) (counts (l .node) rows)))) ⌝ }
 {
     match contents {
@@ -342,7 +343,7 @@ fn read_item(
     end: FilePlace,
     rows: usize,
 ) -> Rowed
-    requires { ⌜ (end .0 ≤ length (now file)) × (length (now file) < 2 ^ 28) × (scope .types * 2 ≤ length (now types)) × (scope .limits .items * 10 ≤ length (now items)) × (node ≤ scope .limits .nodes) × (rows ≤ scope .limits .items) ⌝ }
+    requires { ⌜ Room scope (now file) (now types) (now items) (end .0) (counts node rows) ⌝ }
     ensures { λ r. ⌜ ((t : List ℕ) → Gives (scope .limits) (walked node r) t (now (items .exit)) (exec put (item (contextOf scope (now (types .entry)) (length (now (file .entry)))) node index (end .0) (counts node rows)) (now (file .entry)) (c .at .0) (state t (now (items .entry)) (counts node rows)))) ⌝ }
 {
     match read_frame(c, file, end) {
@@ -371,7 +372,7 @@ fn read_items(
     end: FilePlace,
     rows: usize,
 ) -> Rowed
-    requires { ⌜ (end .0 ≤ length (now file)) × (length (now file) < 2 ^ 28) × (scope .types * 2 ≤ length (now types)) × (scope .limits .items * 10 ≤ length (now items)) × (node ≤ scope .limits .nodes) × (rows ≤ scope .limits .items) ⌝ }
+    requires { ⌜ Room scope (now file) (now types) (now items) (end .0) (counts node rows) ⌝ }
     ensures { λ r. ⌜ ((t : List ℕ) → Gives (scope .limits) (walked node r) t (now (items .exit)) (exec put (metaItems (contextOf scope (now (types .entry)) (length (now (file .entry)))) node (end .0) (counts node rows)) (now (file .entry)) (c .at .0) (state t (now (items .entry)) (counts node rows)))) ⌝ }
 {
     let stop = end.0;
@@ -405,7 +406,7 @@ pub fn read_metadata(
     end: FilePlace,
     rows: usize,
 ) -> Rowed
-    requires { ⌜ (end .0 ≤ length (now file)) × (length (now file) < 2 ^ 28) × (scope .types * 2 ≤ length (now types)) × (scope .limits .items * 10 ≤ length (now items)) × (node ≤ scope .limits .nodes) × (rows ≤ scope .limits .items) ⌝ }
+    requires { ⌜ Room scope (now file) (now types) (now items) (end .0) (counts node rows) ⌝ }
     ensures { λ r. ⌜ ((t : List ℕ) → Gives (scope .limits) (walked node r) t (now (items .exit)) (exec put (metadata (contextOf scope (now (types .entry)) (length (now (file .entry)))) node (end .0) (counts node rows)) (now (file .entry)) (c .at .0) (state t (now (items .entry)) (counts node rows)))) ⌝ }
 {
     match c.block(file, end, cursor::BAD_NODE) {

@@ -1,8 +1,8 @@
 -- The verdict depends on the rows and on the data of the rows of field 3 alone: no other byte of the file counts.
 -- Assumes nothing.
 use mathlib.Core.Path.{_≡_, refl, ap, ap₂}
-use mathlib.Core.Bool.{Bool, true, false, _&&_}
-use mathlib.Core.List.{List, [], _∷_, map}
+use mathlib.Core.Bool.{Bool, true, false, cond, _&&_}
+use mathlib.Core.List.{List, [], _∷_}
 use Prim.Native.Nat.{ℕ, zero, suc, _+_, _≤_, _<_}
 use native.Mathlib.Omega.{arith}
 use native.Mathlib.Decide.{decLt}
@@ -15,9 +15,12 @@ use Rattle.cursor.specs.declared.Node.{Node}
 use Rattle.cursor.specs.declared.Item.{Item}
 use Rattle.cursor.proofs.Leaves.{number-same}
 use Rattle.header.specs.Header.{Header}
-use Rattle.tree.specs.Rows.{itemAt, if_then_else_}
-use Rattle.find.specs.Own.{Numbered, ownFrom, own}
-use Rattle.mobile.specs.Mobile.{those, keepIf, isField, isBinary, nothing, choose, roleOfNumber, roleOfRow, roleOfRows, roleOf, roles, childRoles, verdictBy, verdict}
+use Rattle.tree.specs.Rows.{itemAt}
+use Rattle.find.specs.Own.{Numbered, itemsOf, numbered, those, isOwn, own}
+use Rattle.mobile.specs.Mobile.{isField, isBinary, roleOfNumber, roleOfRow, roleOfRows, roleOf, child, childrenFrom, children, verdictBy, verdict}
+use Rattle.mobile.specs.declared.Role.{Role}
+use Rattle.mobile.specs.declared.Role.the-variants as role
+use Rattle.mobile.specs.declared.Children.{Children}
 
 -- what holds of each element
 abbrev Each : {A : Type 0} → (A → Type 0) → List A → Type 0
@@ -29,17 +32,27 @@ module _ {A : Type 0} (Q : A → Type 0) where
   each-at d [] h = tt
   each-at d (x ∷ xs) h = (h 0 (omega arith), each-at d xs (λ i l. h (suc i) (omega arith)))
 
--- of a node's own rows
-module _ (Q : Item → Type 0) where
-  kept-each : (b : Bool) (x : Numbered) (xs : List Numbered) → Q (x .item) → Each Q (map (λ (y : Numbered). y .item) xs) → Each Q (map (λ (y : Numbered). y .item) (if b then x ∷ xs else xs))
-  unfolding if_then_else_
-  kept-each true x xs q h = (q, h)
-  kept-each false x xs q h = h
+-- of those that are kept
+module _ {A : Type 0} (p : A → Bool) (Q R : A → Type 0) (h : (x : A) → Q x → p x ≡ true → R x) where
+  those-each : (xs : List A) → Each Q xs → Each R (those p xs)
+  unfolding those
+  those-each [] a = tt
+  those-each (x ∷ xs) a = by (p x) refl (those-each xs (a .1))
+    where
+      by : (b : Bool) → p x ≡ b → Each R (those p xs) → Each R (cond b (x ∷ those p xs) (those p xs))
+      by true e rest = (h x (a .0) e, rest)
+      by false e rest = rest
 
-  each-own : (i k : ℕ) (is : List Item) → Each Q is → Each Q (map (λ (y : Numbered). y .item) (ownFrom i k is))
-  unfolding ownFrom
-  each-own i k [] h = tt
-  each-own i k (r ∷ is) h = kept-each (eqb (r .node) k) (record { row = i; item = r }) (ownFrom (i + 1) k is) (h .0) (each-own (i + 1) k is (h .1))
+-- of rows with their numbers, and without
+module _ (Q : Item → Type 0) where
+  each-numbered : (i : ℕ) (is : List Item) → Each Q is → Each (λ (x : Numbered). Q (x .item)) (numbered i is)
+  unfolding numbered
+  each-numbered i [] h = tt
+  each-numbered i (r ∷ is) h = (h .0, each-numbered (i + 1) is (h .1))
+
+  each-items : (xs : List Numbered) → Each (λ (x : Numbered). Q (x .item)) xs → Each Q (itemsOf xs)
+  each-items [] h = tt
+  each-items (x ∷ xs) h = (h .0, each-items xs (h .1))
 
 module _ (f g : List ℕ) where
   -- the two files agree from one place up to another
@@ -56,12 +69,12 @@ module _ (f g : List ℕ) where
   unfolding roleOfRow
   row-same r h = elim (decLt 0 (r .size)) [
     | yes l ↦ (
-        ap₂ (λ (x : ℕ) (o : Out ℕ). choose (isBinary r && (ltb 0 (r .size) && eqb x 0)) (roleOfNumber (r .place + r .size) o) nothing)
+        ap₂ (λ (x : ℕ) (o : Out ℕ). cond (isBinary r && (ltb 0 (r .size) && eqb x 0)) (roleOfNumber (r .place + r .size) o) role.Other)
         (h (r .place) (omega arith) (omega arith))
         (number-same f g metaFrame 3 (r .place + r .size) (r .place + 1) (λ k lo hi. h k (omega arith) hi))
         )
     | no n ↦ simp (le-ltb 0 (r .size) (omega arith))
-        (ap (λ (o : Out ℕ). choose (isBinary r && false) (roleOfNumber (r .place + r .size) o) nothing) (number-same f g metaFrame 3 (r .place + r .size) (r .place + 1) (λ k lo hi. absurd (omega arith))))
+        (ap (λ (o : Out ℕ). cond (isBinary r && false) (roleOfNumber (r .place + r .size) o) role.Other) (number-same f g metaFrame 3 (r .place + r .size) (r .place + 1) (λ k lo hi. absurd (omega arith))))
   ]
 
   rows-same : (rs : List Item) → Each Same rs → roleOfRows f rs ≡ roleOfRows g rs
@@ -74,23 +87,13 @@ module _ (f g : List ℕ) where
   abbrev Typed : Item → Type 0
   Typed r = isField 3 r ≡ true → Same r
 
-  keep-each : (b : Bool) (r : Item) (rs : List Item) → isField 3 r ≡ b → Typed r → Each Same rs → Each Same (keepIf b r rs)
-  unfolding keepIf
-  keep-each true r rs e t h = (t e, h)
-  keep-each false r rs e t h = h
-
-  those-each : (rs : List Item) → Each Typed rs → Each Same (those (isField 3) rs)
-  unfolding those
-  those-each [] h = tt
-  those-each (r ∷ rs) h = keep-each (isField 3 r) r (those (isField 3) rs) refl (h .0) (those-each rs (h .1))
-
-  roles-same : (is : List Item) → Each Typed is → (k : ℕ) (ns : List Node) → roles f is k ns ≡ roles g is k ns
-  unfolding roles roleOf own
-  roles-same is h k [] = refl
-  roles-same is h k (r ∷ ns) =
-      ap₂ (λ (x : ℕ) (xs : List ℕ). x ∷ xs)
-      (rows-same (those (isField 3) (map (λ (x : Numbered). x .item) (ownFrom 0 k is))) (those-each (map (λ (x : Numbered). x .item) (ownFrom 0 k is)) (each-own Typed 0 k is h)))
-      (roles-same is h (k + 1) ns)
+  children-same : (is : List Item) → Each Typed is → (k : ℕ) (ns : List Node) → childrenFrom f is k ns ≡ childrenFrom g is k ns
+  unfolding childrenFrom roleOf own
+  children-same is h k [] = refl
+  children-same is h k (r ∷ ns) =
+      let a : Each (λ (x : Numbered). Typed (x .item)) (own is k) = those-each (isOwn k) (λ (x : Numbered). Typed (x .item)) (λ (x : Numbered). Typed (x .item)) (λ x t e. t) (numbered 0 is) (each-numbered Typed 0 is h) in
+      let b : Each Same (those (isField 3) (itemsOf (own is k))) = those-each (isField 3) Typed Same (λ r t e. t e) (itemsOf (own is k)) (each-items Typed (own is k) a) in
+      ap₂ (λ (x : Role) (c : Children). child x k c) (rows-same (those (isField 3) (itemsOf (own is k))) b) (children-same is h (k + 1) ns)
 
   -- ---- the verdict
 
@@ -105,7 +108,7 @@ module _ (f g : List ℕ) where
   pub verdict-depends : (h : Header) (ns : List Node) (is : List Item)
       → ((i : ℕ) → i < length is → itemAt is i .kind ≡ 0 → itemAt is i .field ≡ 3 → (k : ℕ) → itemAt is i .place ≤ k → k < itemAt is i .place + itemAt is i .size → getD f k 0 ≡ getD g k 0)
       → verdict f h ns is ≡ verdict g h ns is
-  unfolding verdict childRoles
+  unfolding verdict children
   verdict-depends h ns is a =
       let t : Each Typed is = each-at Typed _ is (λ i l. typed (itemAt is i) (a i l)) in
-      ap (λ (rs : List ℕ). verdictBy rs h ns is) (roles-same is t 1 (drop 1 ns))
+      ap (λ (c : Children). verdictBy c h ns is) (children-same is t 1 (drop 1 ns))

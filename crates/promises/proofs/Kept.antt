@@ -4,7 +4,7 @@
 use mathlib.Core.Path.{_≡_, refl, sym, ap, _∙_, subst}
 use mathlib.Core.Bool.{Bool, true, false, not, _&&_, _||_}
 use mathlib.Core.Logic.{_⊎_, inl, inr}
-use mathlib.Core.List.{List, [], _∷_, _++_}
+use mathlib.Core.List.{List, [], _∷_, _++_, map}
 use Prim.Native.Nat.{ℕ, zero, suc, _+_, _%_, _<_}
 use native.Mathlib.Omega.{arith}
 use lib.Dec.{T, eqb, leb}
@@ -20,7 +20,7 @@ use Rattle.metadata.proofs.Limited.{Less}
 use Rattle.tree.specs.Reading.{Reading, rows, refusal, answerOf, nodeTable, itemTable}
 use Rattle.tree.specs.Rows.{itemAt}
 use Rattle.tree.specs.Told as tree
-use Rattle.tree.specs.Asking.{Result, good, bad, ask, keptNodes, keptItems}
+use Rattle.tree.specs.Asking.{Result, good, bad, ask, keptNodes, keptItems, Asks}
 use Rattle.tree.specs.Hidden.{isHidden, mayDiffer, DifferInPrivate}
 use Rattle.tree.proofs.Demand.{Alike, RowAlike, privateData, private-alike, rows-alike}
 use Rattle.tree.proofs.Limited.{to-wider, to-narrower}
@@ -51,7 +51,7 @@ use Rattle.unicode.specs.Told as converted
 use Rattle.unicode.specs.declared.Converted.{Converted}
 use Rattle.unicode.specs.declared.Converted.the-variants as converting
 use Rattle.unicode.proofs.Back.{placed8, placed16}
-use Rattle.promises.specs.Promises.{Question, readTree, findItem, findOwn, resolveRow, judgeMobile, writeSheet, toUtf8, toUtf16, refusals, Sizes, size, lent, Outcome, reads, over, conversion, outcome, resource, IsRefusal, IsAnswer, Demand1, FitsExactly, OnlyThere, Demand3}
+use Rattle.promises.specs.Promises.{Question, readTree, findItem, findOwn, resolveRow, judgeMobile, writeSheet, toUtf8, toUtf16, refusals, Sizes, size, lent, Outcome, reads, leaves, over, conversion, outcome, resource, IsRefusal, IsAnswer, Demand1, FitsExactly, OnlyThere, Demand3}
 use Rattle.promises.specs.Calls.{Called, read-tree, find-standard, find-custom, find-own-standard, find-own-custom, resolve-row, judge, write-sheet, to-utf8, to-utf16, Given}
 
 -- ---- which data may not differ
@@ -89,11 +89,15 @@ module _ (ls : Sizes) (f g : List ℕ) (h : Header) (ns : List Node) (is : List 
   unfolding reads
   reads-same = alike .same-reading
 
-  find-alike : (w : find.Wanted) (k : ℕ) → find.find g w k h ns is ≡ find.find f w k h ns is
+  find-alike : (w : find.Wanted) (k : ℕ) → find.find w k g h ns is ≡ find.find w k f h ns is
   find-alike w k = sym (find-same f g w is (λ i m e. named (itemAt is i) (row i m .0) e) k h ns)
 
-  find-own-alike : (w : find.Wanted) (k : ℕ) → find.findOwn g w k h ns is ≡ find.findOwn f w k h ns is
+  find-own-alike : (w : find.Wanted) (k : ℕ) → find.findOwn w k g h ns is ≡ find.findOwn w k f h ns is
   find-own-alike w k = sym (find-own-same f g w is (λ i m e. named (itemAt is i) (row i m .0) e) k h ns)
+
+  resolve-alike : (k : ℕ) → resolve.resolve k g h ns is ≡ resolve.resolve k f h ns is
+  unfolding resolve.resolve
+  resolve-alike k = refl
 
   mobile-alike : mobile.mobile g h ns is ≡ mobile.mobile f h ns is
   unfolding mobile.mobile
@@ -104,18 +108,22 @@ module _ (ls : Sizes) (f g : List ℕ) (h : Header) (ns : List Node) (is : List 
   sheet-alike n = ap (λ (s : List ℕ). sheet.fitting n (good s)) (sym (sheet-same f g h ns is (d .same-length) (λ i m. (λ e. row i m .1 (even-kept (itemAt is i) e), λ e. named (itemAt is i) (row i m .0) e))))
 
   -- a question that answers the same of the rows
-  asks-alike : {A : Type 0} (q : List ℕ → Header → List Node → List Item → Result A) → q g h ns is ≡ q f h ns is → ask (reads ls g) (q g) ≡ ask (reads ls f) (q f)
+  asks-alike : {A : Type 0} (q : Asks A) → q g h ns is ≡ q f h ns is → ask (reads ls g) (q g) ≡ ask (reads ls f) (q f)
   unfolding ask
   asks-alike q e = rw (reads-same, r) e
+
+  over-alike : {A : Type 0} (says : Result A → List ℕ) (buffers : Result A → List (List ℕ)) (q : Asks A) → q g h ns is ≡ q f h ns is → over ls g says buffers q ≡ over ls f says buffers q
+  unfolding over
+  over-alike says buffers q e = rw (asks-alike q e, reads-same)
 
   pub outcome-alike : (q : Question) → outcome q ls g ≡ outcome q ls f
   unfolding outcome
   outcome-alike readTree = rw reads-same
-  outcome-alike (findItem w k) = rw (asks-alike (λ x. find.find x w k) (find-alike w k), reads-same)
-  outcome-alike (findOwn w k) = rw (asks-alike (λ x. find.findOwn x w k) (find-own-alike w k), reads-same)
-  outcome-alike (resolveRow k) = rw reads-same
-  outcome-alike judgeMobile = rw (asks-alike mobile.mobile mobile-alike, reads-same)
-  outcome-alike writeSheet = rw (asks-alike (sheet.write (size ls 2)) (sheet-alike (size ls 2)), reads-same)
+  outcome-alike (findItem w k) = over-alike _ _ (find.find w k) (find-alike w k)
+  outcome-alike (findOwn w k) = over-alike _ _ (find.findOwn w k) (find-own-alike w k)
+  outcome-alike (resolveRow k) = over-alike _ _ (resolve.resolve k) (resolve-alike k)
+  outcome-alike judgeMobile = over-alike _ _ mobile.mobile mobile-alike
+  outcome-alike writeSheet = over-alike _ _ (sheet.write (size ls 2)) (sheet-alike (size ls 2))
   outcome-alike (toUtf8 units) = refl
   outcome-alike (toUtf16 text) = refl
 
@@ -133,10 +141,16 @@ part-there f g e (good a) =
     (omega arith, λ k l s. let b : k < a .size = omega arith in one f k b ∙ s ∙ sym (one g k b))
 part-there f g e (bad n p) = (refl, λ k l s. refl)
 
+-- resolve is answered of the rows alone
+resolve-reads-none : (row : ℕ) (f g : List ℕ) (o : Reading) → ask o (resolve.resolve row f) ≡ ask o (resolve.resolve row g)
+unfolding ask resolve.resolve
+resolve-reads-none row f g (rows h ns is) = refl
+resolve-reads-none row f g (refusal n p) = refl
+
 resource-there : (ls : Sizes) (f g : List ℕ) → length f ≡ length g → reads ls g ≡ reads ls f → (row : ℕ)
     → OnlyThere f g (getD (outcome (resolveRow row) ls f .answer) 2 0) (resource row ls f) (resource row ls g)
-unfolding outcome over resource
-resource-there ls f g n e row = rw e (part-there f g n (ask (reads ls f) (resolve.resolve row)))
+unfolding outcome over leaves resource
+resource-there ls f g n e row = rw (e, resolve-reads-none row g f (reads ls f)) (part-there f g n (ask (reads ls f) (resolve.resolve row f)))
 
 pub demand3 : Demand3
 demand3 q ls f g h ns is r d = let e = reads-same ls f g h ns is r d in (e ∙ r, outcome-alike ls f g h ns is r d q, resource-there ls f g (d .same-length) e)
@@ -172,8 +186,8 @@ two e h k = rw (e, h, k)
 one : {t u : List ℕ} → t ≡ u → (t ∷ []) ≡ (u ∷ [])
 one e = rw e
 
-pub called : {q : Question} {ls : Sizes} {f : List ℕ} {o : Outcome} → Called q ls f o → o ≡ outcome q ls f
-unfolding outcome over conversion reads
+pub called : {q : Question} {lent : List (List ℕ)} {f : List ℕ} {o : Outcome} → Called q lent f o → o ≡ outcome q (map length lent) f
+unfolding outcome over leaves conversion reads
 called (read-tree r a t u) = made (ap tree.words a) (two t u refl)
 called (find-standard row number r a t u) = made (found-says r a) (two t u refl)
 called (find-custom row name r a t u) = made (found-says r a) (two t u refl)
@@ -186,21 +200,26 @@ called (to-utf8 r a v) = made (converted-says r a) (one v)
 called (to-utf16 r a v) = made (converted-says r a) (one v)
 
 -- Demand 3 of two calls: whatever their tables and buffers held, both leave the same.
-pub calls-alike : {q : Question} {ls : Sizes} {f g : List ℕ} {o o′ : Outcome} (h : Header) (ns : List Node) (is : List Item) → reads ls f ≡ rows h ns is → DifferInPrivate h ns is f g
-    → Called q ls f o → Called q ls g o′ → o′ ≡ o
-calls-alike {q} {ls} {f} {g} h ns is r d a b = called b ∙ outcome-alike ls f g h ns is r d q ∙ sym (called a)
+pub calls-alike : {q : Question} (lent lent′ : List (List ℕ)) → map length lent′ ≡ map length lent → {f g : List ℕ} {o o′ : Outcome} (h : Header) (ns : List Node) (is : List Item)
+    → reads (map length lent) f ≡ rows h ns is → DifferInPrivate h ns is f g → Called q lent f o → Called q lent′ g o′ → o′ ≡ o
+calls-alike {q} lent lent′ e {f} {g} h ns is r d a b = called b ∙ ap (λ ls. outcome q ls g) e ∙ outcome-alike (map length lent) f g h ns is r d q ∙ sym (called a)
 
 -- And of two second calls of resolve: the tables are the same, and the parts differ only where the files do.
-pub parts-alike : {row n i : ℕ} {f g x y t t′ u u′ : List ℕ} (h : Header) (ns : List Node) (is : List Item) → reads (n ∷ i ∷ []) f ≡ rows h ns is → DifferInPrivate h ns is f g
-    → Given row n i f x t u → Given row n i g y t′ u′ → (t′ ≡ t) × (u′ ≡ u) × OnlyThere f g (getD (outcome (resolveRow row) (n ∷ i ∷ []) f .answer) 2 0) x y
+given-part : {row : ℕ} {nodes items f bytes t u : List ℕ} → Given row nodes items f bytes t u → bytes ≡ resource row (length nodes ∷ length items ∷ []) f
 unfolding reads resource
-parts-alike {row} {n} {i} {f} {g} {x} {y} h ns is r d a b =
-    let e = reads-same (n ∷ i ∷ []) f g h ns is r d in
-    let w = resource-there (n ∷ i ∷ []) f g (d .same-length) e row in (
-      b .nodes ∙ ap (λ o. keptNodes n o (ask o (resolve.resolve row))) e ∙ sym (a .nodes),
-      b .items ∙ ap (λ o. keptItems i o (ask o (resolve.resolve row))) e ∙ sym (a .items),
-      subst (λ v. OnlyThere f g (getD (outcome (resolveRow row) (n ∷ i ∷ []) f .answer) 2 0) v y) (sym (a .gives)) (subst (λ v. OnlyThere f g (getD (outcome (resolveRow row) (n ∷ i ∷ []) f .answer) 2 0) (resource row (n ∷ i ∷ []) f) v) (sym (b .gives)) w),
-    )
+given-part k = k .gives
+
+given-tables : {row : ℕ} {nodes items f bytes t u : List ℕ} → Given row nodes items f bytes t u → (t ∷ u ∷ []) ≡ outcome (resolveRow row) (length nodes ∷ length items ∷ []) f .holds
+unfolding outcome over leaves reads
+given-tables k = two (k .in-nodes) (k .in-items) refl
+
+pub parts-alike : {row : ℕ} (nodes items nodes′ items′ : List ℕ) → length nodes′ ≡ length nodes → length items′ ≡ length items → {f g x y t t′ u u′ : List ℕ}
+    (h : Header) (ns : List Node) (is : List Item) → reads (length nodes ∷ length items ∷ []) f ≡ rows h ns is → DifferInPrivate h ns is f g
+    → Given row nodes items f x t u → Given row nodes′ items′ g y t′ u′
+    → (_≡_ {A = List (List ℕ)} (t′ ∷ u′ ∷ []) (t ∷ u ∷ [])) × OnlyThere f g (getD (outcome (resolveRow row) (length nodes ∷ length items ∷ []) f .answer) 2 0) x y
+parts-alike {row} nodes items nodes′ items′ en ei {f} {g} h ns is r d a b =
+    let ls = length nodes ∷ length items ∷ [] in
+    (rw (en, ei) at (given-tables b) ∙ ap (λ (o : Outcome). o .holds) (outcome-alike ls f g h ns is r d (resolveRow row)) ∙ sym (given-tables a), rw (given-part a, given-part b, en, ei) (resource-there ls f g (d .same-length) (reads-same ls f g h ns is r d) row))
 
 -- ---- tables only limit what a file reads as
 
@@ -266,11 +285,11 @@ module _ (f : List ℕ) (w : find.Wanted) where
   first-own is [] = tt
   first-own is (k ∷ ks) = or-own _ _ (look-own is k) (first-own is ks)
 
-  nearest-own : (row : ℕ) (h : Header) (ns : List Node) (is : List Item) → Finds (find.find f w row h ns is)
+  nearest-own : (row : ℕ) (h : Header) (ns : List Node) (is : List Item) → Finds (find.find w row f h ns is)
   unfolding find.find find.nearest
   nearest-own row h ns is = choose-own _ _ _ (first-own is (find.path ns row)) tt
 
-  node-own : (row : ℕ) (h : Header) (ns : List Node) (is : List Item) → Finds (find.findOwn f w row h ns is)
+  node-own : (row : ℕ) (h : Header) (ns : List Node) (is : List Item) → Finds (find.findOwn w row f h ns is)
   unfolding find.findOwn
   node-own row h ns is = choose-own _ _ _ (look-own is row) tt
 
@@ -291,9 +310,9 @@ unfolding resolve.chain resolve.named
 chain-own zero ns k hops = reached-own _ k hops _ _ tt tt
 chain-own (suc left) ns k hops = reached-own _ k hops _ _ tt (chain-own left ns _ (hops + 1))
 
-resolve-own : (row : ℕ) (h : Header) (ns : List Node) (is : List Item) → Resolves (resolve.resolve row h ns is)
+resolve-own : (row : ℕ) (f : List ℕ) (h : Header) (ns : List Node) (is : List Item) → Resolves (resolve.resolve row f h ns is)
 unfolding resolve.resolve resolve.resolveRow
-resolve-own row h ns is = if-own _ _ _ (chain-own 4 ns row 0) tt
+resolve-own row f h ns is = if-own _ _ _ (chain-own 4 ns row 0) tt
 
 sheet-own : (n : ℕ) (f : List ℕ) (h : Header) (ns : List Node) (is : List Item) → Own (ofReader ++ ofSheet) (sheet.write n f h ns is)
 unfolding sheet.write sheet.fitting
@@ -378,34 +397,34 @@ tree-choice ls f (rows h ns is) e = inr (h .version ∷ length ns ∷ length is 
 tree-choice ls f (refusal n p) e = inl (n, p, refl, reader-own ls f n p e, refl)
 
 module _ (ls : Sizes) (f : List ℕ) where
-  find-choice : (w : find.Wanted) (row : ℕ) (r : Result own.Numbered) → ask (reads ls f) (find.find f w row) ≡ r → Own (ofReader ++ ofFind) r
-      → IsRefusal (findItem w row) ls (over ls (reads ls f) (λ r. found.words (found.answerOf r)) (λ r. []) r) ⊎ IsAnswer (findItem w row) ls f (over ls (reads ls f) (λ r. found.words (found.answerOf r)) (λ r. []) r)
-  unfolding over keptNodes keptItems
-  find-choice w row (good a) e k = inr (a .row ∷ itemWords (a .item), refl, refl, λ _. accepted ls f (find.find f w row) e)
+  find-choice : (w : find.Wanted) (row : ℕ) (r : Result own.Numbered) → ask (reads ls f) (find.find w row f) ≡ r → Own (ofReader ++ ofFind) r
+      → IsRefusal (findItem w row) ls (leaves ls (reads ls f) (λ r. found.words (found.answerOf r)) (λ r. []) r) ⊎ IsAnswer (findItem w row) ls f (leaves ls (reads ls f) (λ r. found.words (found.answerOf r)) (λ r. []) r)
+  unfolding leaves keptNodes keptItems
+  find-choice w row (good a) e k = inr (a .row ∷ itemWords (a .item), refl, refl, λ _. accepted ls f (find.find w row f) e)
   find-choice w row (bad n p) e k = inl (n, p, refl, k, refl)
 
-  find-own-choice : (w : find.Wanted) (row : ℕ) (r : Result own.Numbered) → ask (reads ls f) (find.findOwn f w row) ≡ r → Own (ofReader ++ ofFind) r
-      → IsRefusal (findOwn w row) ls (over ls (reads ls f) (λ r. found.words (found.answerOf r)) (λ r. []) r) ⊎ IsAnswer (findOwn w row) ls f (over ls (reads ls f) (λ r. found.words (found.answerOf r)) (λ r. []) r)
-  unfolding over keptNodes keptItems
-  find-own-choice w row (good a) e k = inr (a .row ∷ itemWords (a .item), refl, refl, λ _. accepted ls f (find.findOwn f w row) e)
+  find-own-choice : (w : find.Wanted) (row : ℕ) (r : Result own.Numbered) → ask (reads ls f) (find.findOwn w row f) ≡ r → Own (ofReader ++ ofFind) r
+      → IsRefusal (findOwn w row) ls (leaves ls (reads ls f) (λ r. found.words (found.answerOf r)) (λ r. []) r) ⊎ IsAnswer (findOwn w row) ls f (leaves ls (reads ls f) (λ r. found.words (found.answerOf r)) (λ r. []) r)
+  unfolding leaves keptNodes keptItems
+  find-own-choice w row (good a) e k = inr (a .row ∷ itemWords (a .item), refl, refl, λ _. accepted ls f (find.findOwn w row f) e)
   find-own-choice w row (bad n p) e k = inl (n, p, refl, k, refl)
 
-  resolve-choice : (row : ℕ) (r : Result resolve.Resource) → ask (reads ls f) (resolve.resolve row) ≡ r → Own (ofReader ++ ofResolve) r
-      → IsRefusal (resolveRow row) ls (over ls (reads ls f) (λ r. resolved.words (resolved.answerOf r)) (λ r. []) r) ⊎ IsAnswer (resolveRow row) ls f (over ls (reads ls f) (λ r. resolved.words (resolved.answerOf r)) (λ r. []) r)
-  unfolding over keptNodes keptItems
-  resolve-choice row (good a) e k = inr (a .place ∷ a .size ∷ a .row ∷ a .hops ∷ [], refl, refl, λ _. accepted ls f (resolve.resolve row) e)
+  resolve-choice : (row : ℕ) (r : Result resolve.Resource) → ask (reads ls f) (resolve.resolve row f) ≡ r → Own (ofReader ++ ofResolve) r
+      → IsRefusal (resolveRow row) ls (leaves ls (reads ls f) (λ r. resolved.words (resolved.answerOf r)) (λ r. []) r) ⊎ IsAnswer (resolveRow row) ls f (leaves ls (reads ls f) (λ r. resolved.words (resolved.answerOf r)) (λ r. []) r)
+  unfolding leaves keptNodes keptItems
+  resolve-choice row (good a) e k = inr (a .place ∷ a .size ∷ a .row ∷ a .hops ∷ [], refl, refl, λ _. accepted ls f (resolve.resolve row f) e)
   resolve-choice row (bad n p) e k = inl (n, p, refl, k, refl)
 
   judge-choice : (r : Result ℕ) → ask (reads ls f) (mobile.mobile f) ≡ r → Own (ofReader ++ []) r
-      → IsRefusal judgeMobile ls (over ls (reads ls f) (λ r. judged.words (judged.answerOf r)) (λ r. []) r) ⊎ IsAnswer judgeMobile ls f (over ls (reads ls f) (λ r. judged.words (judged.answerOf r)) (λ r. []) r)
-  unfolding over keptNodes keptItems
+      → IsRefusal judgeMobile ls (leaves ls (reads ls f) (λ r. judged.words (judged.answerOf r)) (λ r. []) r) ⊎ IsAnswer judgeMobile ls f (leaves ls (reads ls f) (λ r. judged.words (judged.answerOf r)) (λ r. []) r)
+  unfolding leaves keptNodes keptItems
   judge-choice (good v) e k = inr (v ∷ [], refl, refl, λ _. accepted ls f (mobile.mobile f) e)
   judge-choice (bad n p) e k = inl (n, p, refl, k, refl)
 
   sheet-choice : (r : Result (List ℕ)) → ask (reads ls f) (sheet.write (size ls 2) f) ≡ r → Own (ofReader ++ ofSheet) r
-      → IsRefusal writeSheet ls (over ls (reads ls f) (λ r. written.words (written.answerOf (sheet.counted r))) (λ r. sheet.kept (size ls 2) r ∷ []) r)
-      ⊎ IsAnswer writeSheet ls f (over ls (reads ls f) (λ r. written.words (written.answerOf (sheet.counted r))) (λ r. sheet.kept (size ls 2) r ∷ []) r)
-  unfolding over sheet.counted sheet.kept keptNodes keptItems
+      → IsRefusal writeSheet ls (leaves ls (reads ls f) (λ r. written.words (written.answerOf (sheet.counted r))) (λ r. sheet.kept (size ls 2) r ∷ []) r)
+      ⊎ IsAnswer writeSheet ls f (leaves ls (reads ls f) (λ r. written.words (written.answerOf (sheet.counted r))) (λ r. sheet.kept (size ls 2) r ∷ []) r)
+  unfolding leaves sheet.counted sheet.kept keptNodes keptItems
   sheet-choice (good s) e k = inr (length s ∷ [], refl, refl, λ _. accepted ls f (sheet.write (size ls 2) f) e)
   sheet-choice (bad n p) e k = inl (n, p, refl, k, refl)
 
@@ -422,19 +441,19 @@ no-file (inl x) = inl x
 no-file (inr y) = inr (y .0, y .1, y .2, λ z. absurd z)
 
 choice : (q : Question) (ls : Sizes) (f : List ℕ) → IsRefusal q ls (outcome q ls f) ⊎ IsAnswer q ls f (outcome q ls f)
-unfolding outcome conversion
+unfolding outcome over conversion
 choice readTree ls f = tree-choice ls f (reads ls f) refl
-choice (findItem w row) ls f = find-choice ls f w row _ refl (asked-own ofFind (reads ls f) (find.find f w row) (reader-own ls f) (nearest-own f w row))
-choice (findOwn w row) ls f = find-own-choice ls f w row _ refl (asked-own ofFind (reads ls f) (find.findOwn f w row) (reader-own ls f) (node-own f w row))
-choice (resolveRow row) ls f = resolve-choice ls f row _ refl (asked-own ofResolve (reads ls f) (resolve.resolve row) (reader-own ls f) (resolve-own row))
+choice (findItem w row) ls f = find-choice ls f w row _ refl (asked-own ofFind (reads ls f) (find.find w row f) (reader-own ls f) (nearest-own f w row))
+choice (findOwn w row) ls f = find-own-choice ls f w row _ refl (asked-own ofFind (reads ls f) (find.findOwn w row f) (reader-own ls f) (node-own f w row))
+choice (resolveRow row) ls f = resolve-choice ls f row _ refl (asked-own ofResolve (reads ls f) (resolve.resolve row f) (reader-own ls f) (resolve-own row f))
 choice judgeMobile ls f = judge-choice ls f _ refl (asked-own [] (reads ls f) (mobile.mobile f) (reader-own ls f) (mobile-own f))
 choice writeSheet ls f = sheet-choice ls f _ refl (asked-own ofSheet (reads ls f) (sheet.write (size ls 2) f) (reader-own ls f) (sheet-own (size ls 2) f))
 choice (toUtf8 units) ls f = no-file (conversion-choice (size ls 0) _ (fitting-own (size ls 0) _ (utf8-own units)))
 choice (toUtf16 text) ls f = no-file (conversion-choice (size ls 0) _ (fitting-own (size ls 0) _ (utf16-own text)))
 
 -- where resolve is refused, there is no part
-no-part : (ls : Sizes) (o : Reading) (f : List ℕ) (row : ℕ) (r : Result resolve.Resource) → IsRefusal (resolveRow row) ls (over ls o (λ r. resolved.words (resolved.answerOf r)) (λ r. []) r) → resolve.part f r ≡ []
-unfolding over resolve.part
+no-part : (ls : Sizes) (o : Reading) (f : List ℕ) (row : ℕ) (r : Result resolve.Resource) → IsRefusal (resolveRow row) ls (leaves ls o (λ r. resolved.words (resolved.answerOf r)) (λ r. []) r) → resolve.part f r ≡ []
+unfolding leaves resolve.part
 no-part ls o f row (good a) w = let z : _≡_ {A = ℕ} 0 1 = cc in absurd (omega arith)
 no-part ls o f row (bad n p) w = refl
 
@@ -449,10 +468,10 @@ placed n size p (good s) h e = by (leb (length s) n) e
 placed n size p (bad m q) h e = let y : q ≡ p = cc in let z = h m q refl .1 in omega arith
 
 pub demand1 : Demand1
-unfolding outcome resource conversion
+unfolding outcome over resource conversion
 demand1 = (
   choice,
-  λ row ls f w. no-part ls (reads ls f) f row (ask (reads ls f) (resolve.resolve row)) w,
+  λ row ls f w. no-part ls (reads ls f) f row (ask (reads ls f) (resolve.resolve row f)) w,
   λ units ls f p e. placed (size ls 0) (length units) p (unicode.toUtf8 units) (λ m q. placed8 units) e,
   λ text ls f p e. placed (size ls 0) (length text) p (unicode.toUtf16 text) (λ m q. placed16 text) e,
 )

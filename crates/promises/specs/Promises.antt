@@ -15,7 +15,7 @@ use Rattle.header.specs.Header.{Header}
 use Rattle.metadata.specs.Tables.{limits, nodeWidth, itemWidth, mostNodes, mostItems}
 use Rattle.tree.specs.Reading.{Reading, rows, refusal, readFile, answerOf, nodeTable, itemTable}
 use Rattle.tree.specs.Told as tree
-use Rattle.tree.specs.Asking.{Result, ask, keptNodes, keptItems}
+use Rattle.tree.specs.Asking.{Asks, Result, ask, keptNodes, keptItems}
 use Rattle.tree.specs.Hidden.{DifferInPrivate}
 use Rattle.find.specs.Find as find
 use Rattle.find.specs.Told as found
@@ -118,9 +118,13 @@ pub record Outcome : Type 0 where
 unfoldable pub reads : Sizes → List ℕ → Reading
 reads ls f = readFile (limits (size ls 0) (size ls 1)) f
 
--- of a question over a file, whose result is r: what its answer says, both tables, and its buffers
-unfoldable pub over : {A : Type 0} → Sizes → Reading → (says : Result A → List ℕ) → (buffers : Result A → List (List ℕ)) → (r : Result A) → Outcome
-over ls o says buffers r = record { answer = says r; holds = keptNodes (size ls 0) o r ∷ keptItems (size ls 1) o r ∷ buffers r }
+-- of a question over what a file reads as, whose result is r: what its answer says, both tables, and its buffers
+unfoldable pub leaves : {A : Type 0} → Sizes → Reading → (says : Result A → List ℕ) → (buffers : Result A → List (List ℕ)) → (r : Result A) → Outcome
+leaves ls o says buffers r = record { answer = says r; holds = keptNodes (size ls 0) o r ∷ keptItems (size ls 1) o r ∷ buffers r }
+
+-- of a question over a file
+unfoldable pub over : {A : Type 0} → Sizes → (file : List ℕ) → (says : Result A → List ℕ) → (buffers : Result A → List (List ℕ)) → Asks A → Outcome
+over ls f says buffers question = leaves ls (reads ls f) says buffers (ask (reads ls f) (question f))
 
 -- of a conversion, with a buffer of so many bytes, whose text is r
 unfoldable pub conversion : ℕ → (r : Result (List ℕ)) → Outcome
@@ -129,18 +133,18 @@ conversion n r = record { answer = converted.words (converted.answerOf (room.cou
 -- each question's outcome
 unfoldable pub outcome : Question → Sizes → (file : List ℕ) → Outcome
 outcome readTree ls f = record { answer = tree.words (answerOf (reads ls f)); holds = nodeTable (size ls 0) (reads ls f) ∷ itemTable (size ls 1) (reads ls f) ∷ [] }
-outcome (findItem w row) ls f = over ls (reads ls f) (λ r. found.words (found.answerOf r)) (λ r. []) (ask (reads ls f) (find.find f w row))
-outcome (findOwn w row) ls f = over ls (reads ls f) (λ r. found.words (found.answerOf r)) (λ r. []) (ask (reads ls f) (find.findOwn f w row))
-outcome (resolveRow row) ls f = over ls (reads ls f) (λ r. resolved.words (resolved.answerOf r)) (λ r. []) (ask (reads ls f) (resolve.resolve row))
-outcome judgeMobile ls f = over ls (reads ls f) (λ r. judged.words (judged.answerOf r)) (λ r. []) (ask (reads ls f) (mobile.mobile f))
+outcome (findItem w row) ls f = over ls f (λ r. found.words (found.answerOf r)) (λ r. []) (find.find w row)
+outcome (findOwn w row) ls f = over ls f (λ r. found.words (found.answerOf r)) (λ r. []) (find.findOwn w row)
+outcome (resolveRow row) ls f = over ls f (λ r. resolved.words (resolved.answerOf r)) (λ r. []) (resolve.resolve row)
+outcome judgeMobile ls f = over ls f (λ r. judged.words (judged.answerOf r)) (λ r. []) mobile.mobile
 outcome writeSheet ls f =
-    over ls (reads ls f) (λ r. written.words (written.answerOf (sheet.counted r))) (λ r. sheet.kept (size ls 2) r ∷ []) (ask (reads ls f) (sheet.write (size ls 2) f))
+    over ls f (λ r. written.words (written.answerOf (sheet.counted r))) (λ r. sheet.kept (size ls 2) r ∷ []) (sheet.write (size ls 2))
 outcome (toUtf8 units) ls f = conversion (size ls 0) (unicode.toUtf8 units)
 outcome (toUtf16 text) ls f = conversion (size ls 0) (unicode.toUtf16 text)
 
 -- the second call of resolve gives a part of the file itself; its tables are the first call's
 unfoldable pub resource : (row : ℕ) → Sizes → (file : List ℕ) → List ℕ
-resource row ls f = resolve.part f (ask (reads ls f) (resolve.resolve row))
+resource row ls f = resolve.part f (ask (reads ls f) (resolve.resolve row f))
 
 -- ---- Demand 1. Whatever the bytes, the sizes and the question, a call's outcome is a refusal or an answer.
 

@@ -12,6 +12,7 @@ use Rattle.room.specs.Room.{Result, good, bad, choose}
 unfoldable pub use Rattle.room.specs.Room.{fitting, counted, kept}
 use Rattle.room.specs.Decimal.{decimal}
 use Rattle.header.specs.Header.{Header}
+use Rattle.tree.specs.Asking.{Asks}
 use Rattle.tree.specs.Hidden.{isHidden}
 use Rattle.unicode.specs.Unicode.{bytesAll, toUtf8}
 
@@ -115,5 +116,5 @@ sheetOf f h ns is = linesOf (h .version) f ns is
 -- ---- the question
 
 -- the sheet, if a buffer of `room` bytes holds it
-unfoldable pub write : ℕ → List ℕ → Header → List Node → List Item → Result (List ℕ)
+unfoldable pub write : (room : ℕ) → Asks (List ℕ)
 write room f h ns is = fitting room (good (sheetOf f h ns is))

@@ -3,11 +3,9 @@ ghost use mathlib.Core.Path.{_≡_};
 ghost use mathlib.Core.Bool.{true};
 ghost use mathlib.Core.List.{[]};
 ghost use Prim.Native.Nat.{ℕ, _≤_, _<_, _*_, _+_, _-_};
-ghost use lib.ListN.{length, getD};
-ghost use Rattle.metadata.specs.Tables.{limits};
-ghost use Rattle.tree.specs.Reading.{readFile};
+ghost use lib.ListN.{length};
 ghost use Rattle.tree.specs.Rows.{nodeFrom, itemFrom, nodesIn, itemsIn};
-ghost use Rattle.tree.specs.Asking.{ask, keptNodes, keptItems};
+ghost use Rattle.tree.specs.Asking.{answered, nodesLeft, itemsLeft};
 ghost use Rattle.sheet.specs.Sheet.{hexDigits, plain, hexed, escaped, escapedPart, shown, shownOr, unicodeText, number, versionText, firstLine, nodeLine, label, textOf, itemLine, visibleLine, nodeLines, itemLines, linesOf, write, counted, kept};
 ghost use Rattle.sheet.specs.Told.{told};
 ghost use Rattle.room.specs.Counts.{Counts};
@@ -310,10 +308,10 @@ fn put_sheet(
 
 // Reads a file and writes its support sheet.
 pub fn write_sheet(file: &[u8], nodes: &mut [u64], items: &mut [u64], sheet: &mut [u8]) -> Written
-    ensures answer { λ r. ⌜ told r ≡ counted (ask (readFile (limits (length (now (nodes .entry))) (length (now (items .entry)))) (now (file .entry))) (write (length (now (sheet .entry))) (now (file .entry)))) ⌝ }
-    ensures nodes { λ _. ⌜ now (nodes .exit) ≡ keptNodes (length (now (nodes .entry))) (readFile (limits (length (now (nodes .entry))) (length (now (items .entry)))) (now (file .entry))) (ask (readFile (limits (length (now (nodes .entry))) (length (now (items .entry)))) (now (file .entry))) (write (length (now (sheet .entry))) (now (file .entry)))) ⌝ }
-    ensures items { λ _. ⌜ now (items .exit) ≡ keptItems (length (now (items .entry))) (readFile (limits (length (now (nodes .entry))) (length (now (items .entry)))) (now (file .entry))) (ask (readFile (limits (length (now (nodes .entry))) (length (now (items .entry)))) (now (file .entry))) (write (length (now (sheet .entry))) (now (file .entry)))) ⌝ }
-    ensures sheet { λ _. ⌜ now (sheet .exit) ≡ kept (length (now (sheet .entry))) (ask (readFile (limits (length (now (nodes .entry))) (length (now (items .entry)))) (now (file .entry))) (write (length (now (sheet .entry))) (now (file .entry)))) ⌝ }
+    ensures answer { λ r. ⌜ told r ≡ counted (answered (now (nodes .entry)) (now (items .entry)) (now (file .entry)) (write (length (now (sheet .entry))))) ⌝ }
+    ensures nodes { λ _. ⌜ now (nodes .exit) ≡ nodesLeft (now (nodes .entry)) (now (items .entry)) (now (file .entry)) (write (length (now (sheet .entry)))) ⌝ }
+    ensures items { λ _. ⌜ now (items .exit) ≡ itemsLeft (now (nodes .entry)) (now (items .entry)) (now (file .entry)) (write (length (now (sheet .entry)))) ⌝ }
+    ensures sheet { λ _. ⌜ now (sheet .exit) ≡ kept (length (now (sheet .entry))) (answered (now (nodes .entry)) (now (items .entry)) (now (file .entry)) (write (length (now (sheet .entry))))) ⌝ }
 {
     match tree::read_file(file, nodes, items) {
         Read::Refused(n, p) => {

@@ -55,6 +55,13 @@ going-on {x = x} {rest′ = rest′} e g p = record {
 pub counts-as : {o o′ : List ℕ} {s r : ℕ} {a b : List ℕ} → a ≡ b → Counts o o′ s a r → Counts o o′ s b r
 counts-as e p = rw e at p
 
+pub counts-in : {o o′ : List ℕ} {s r : ℕ} {a : List ℕ} → Counts o o′ s a r → r ≤ tooMany
+counts-in p = let e = p .after in omega arith
+
+-- two fields
+pub put-two : {o o₁ o₂ : List ℕ} {s s₁ s₂ : ℕ} (a b : List ℕ) → Counts o o₁ s a s₁ → Counts o₁ o₂ s₁ b s₂ → Counts o o₂ s (joined (a ∷ b ∷ [])) s₂
+put-two a b p q = counts-as (ap (λ v. a ++ v) (sym (append-nil b))) (counts-then p q)
+
 pub going-end : {o o′ : List ℕ} {s r : ℕ} {whole rest : List ℕ} → rest ≡ [] → Going o o′ s r whole rest → Counts o o′ s whole r
 going-end e g = counts-as (sym (append-nil (g .done)) ∙ ap (λ v. g .done ++ v) (sym e) ∙ g .left) (g .puts)
 
@@ -75,39 +82,28 @@ digit-last zero n e l m h = absurd (omega arith)
 digit-last (suc zero) n {left} e l m h = let q : left ≡ 0 = omega arith in rw (h, q) (let z : 0 + n / 1 % 128 ≡ n / 1 % 128 = omega arith in rw z refl)
 digit-last (suc (suc k)) n e l m h = absurd (omega arith)
 
--- ---- the least count, by trying
+-- ---- the least count, one count after the other
 
-pub record Trying (n k : ℕ) : Type 0 where
-  pub some : (1 ≤ k) × (k ≤ 4)
-  pub same : least (λ _. n) ≡ from (4 - k) k (λ _. n)
+module _ (n : ℕ → ℕ) where
+  pub one-byte : n 1 < 128 → 1 ≡ least n
+  unfolding least from
+  one-byte a = simp (lt-ltb (n 1) (128 ^ 1) a)
 
-pub trying-start : (n : ℕ) → Trying n 1
-unfolding least
-trying-start n = record { some = (omega arith, omega arith); same = refl }
+  pub two-bytes : 128 ≤ n 1 → n 2 < 16384 → 2 ≡ least n
+  unfolding least from
+  two-bytes a b = simp (le-ltb (n 1) (128 ^ 1) a, lt-ltb (n 2) (128 ^ 2) b)
 
-from-on : (n k more : ℕ) → 0 < more → 128 ^ k ≤ n → from more k (λ _. n) ≡ from (more - 1) (k + 1) (λ _. n)
-unfolding from
-from-on n k zero l h = absurd (omega arith)
-from-on n k (suc more) l h = let e : suc more - 1 ≡ more = omega arith in let q : k + 1 ≡ suc k = omega arith in rw (e, q) (simp (le-ltb _ _ h))
+  pub three-bytes : 128 ≤ n 1 → 16384 ≤ n 2 → n 3 < 2097152 → 3 ≡ least n
+  unfolding least from
+  three-bytes a b c = simp (le-ltb (n 1) (128 ^ 1) a, le-ltb (n 2) (128 ^ 2) b, lt-ltb (n 3) (128 ^ 3) c)
 
-from-here : (n k more : ℕ) → n < 128 ^ k → from more k (λ _. n) ≡ k
-unfolding from
-from-here n k zero h = refl
-from-here n k (suc more) h = simp (lt-ltb _ _ h)
+  pub four-bytes : 128 ≤ n 1 → 16384 ≤ n 2 → 2097152 ≤ n 3 → 4 ≡ least n
+  unfolding least from
+  four-bytes a b c = simp (le-ltb (n 1) (128 ^ 1) a, le-ltb (n 2) (128 ^ 2) b, le-ltb (n 3) (128 ^ 3) c)
 
-pub trying-on : {n k : ℕ} (p : ℕ) → k < 4 → p ≡ 128 ^ k → p ≤ n → Trying n k → Trying n (k + 1)
-trying-on {n} {k} p l e h t =
-    let h′ : 128 ^ k ≤ n = rw e at h in
-    let q : 4 - k - 1 ≡ 4 - (k + 1) = omega arith in
-    let s = t .some in
-    record { some = (omega arith, omega arith); same = t .same ∙ from-on n k (4 - k) (omega arith) h′ ∙ rw q refl }
-
-pub trying-found : {n k p : ℕ} → p ≡ 128 ^ k → n < p → Trying n k → k ≡ least (λ _. n)
-trying-found {n} {k} e h t = sym (t .same ∙ from-here n k (4 - k) (rw e at h))
-
-pub trying-end : {n k : ℕ} → 4 ≤ k → Trying n k → k ≡ least (λ _. n)
-unfolding from
-trying-end {n} {k} h t = let s = t .some in let e : k ≡ 4 = omega arith in let z : 4 - k ≡ 0 = omega arith in sym (t .same ∙ rw (z, e) refl)
+pub short-number : (n : ℕ) → n < 128 → n ∷ [] ≡ vlq n
+unfolding vlq inBytes
+short-number n l = let e : 0 + n / 1 % 128 ≡ n = omega arith in rw (← one-byte (λ _. n) l, e) refl
 
 -- ---- powers
 
@@ -144,6 +140,15 @@ block-put {o} {o₁} {o₂} {s} {s₁} {s₂} body n e p q = elim (decLt (length
       let b = p .after in
       record { after = omega arith; fits = λ m w. absurd (omega arith); long = q .long ∙ p .long }
 ]
+
+-- a block that was measured
+pub put-sized : {z z′ o o₁ o₂ : List ℕ} {n s s₁ s₂ : ℕ} (body : List ℕ) → Counts z z′ 0 body n → Counts o o₁ s (vlq n) s₁ → Counts o₁ o₂ s₁ body s₂ → Counts o o₂ s (sized body) s₂
+put-sized {n = n} body m p q = let e = m .after in block-put body n (omega arith) p q
+
+-- a block of known length
+pub put-block : {o o₁ o₂ : List ℕ} {s s₁ s₂ : ℕ} (body : List ℕ) (n : ℕ) → length body ≡ n → Counts o o₁ s (vlq n) s₁ → Counts o₁ o₂ s₁ body s₂ → Counts o o₂ s (sized body) s₂
+unfolding sized
+put-block body n e p q = put-two (vlq (length body)) body (counts-as (ap vlq (sym e)) p) q
 
 -- ---- a part that is copied byte by byte
 

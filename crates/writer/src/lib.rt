@@ -48,18 +48,27 @@ fn power(k: usize) -> u64
     r
 }
 
+// The least count of bytes that holds a number, which may depend on that count: it is `one` where it has one byte, and so on; 4 where no less will do.
+pub fn least_bytes(one: usize, two: usize, three: usize) -> usize
+    ensures { λ r. ⌜ ((n : ℕ → ℕ) → one ≡ n 1 → two ≡ n 2 → three ≡ n 3 → r ≡ least n) ⌝ }
+{
+    if one < 128 {
+        return 1;
+    }
+    if two < 16384 {
+        return 2;
+    }
+    if three < 2097152 {
+        return 3;
+    }
+    4
+}
+
 // The number of bytes of n in its shortest form; 4 where it has none.
 pub fn vlq_size(n: u64) -> usize
     ensures { λ r. ⌜ r ≡ least (λ _. n) ⌝ }
 {
-    let mut k: usize = 1;
-    while k < 4 {
-        if n < power(k) {
-            return k;
-        }
-        k = k + 1;
-    }
-    k
+    least_bytes(n as usize, n as usize, n as usize)
 }
 
 // Puts n in k bytes.
@@ -86,6 +95,9 @@ pub fn put_number(out: &mut [u8], to: usize, n: u64) -> usize
     requires { ⌜ to ≤ tooMany ⌝ }
     ensures { λ r. ⌜ Counts (now (out .entry)) (now (out .exit)) to (vlq n) r ⌝ }
 {
+    if n < 128 {
+        return put_byte(out, to, n as u8);
+    }
     put_in_bytes(out, to, n, vlq_size(n))
 }
 

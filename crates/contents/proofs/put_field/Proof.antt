@@ -1,7 +1,8 @@
 -- `put_field` puts a custom name with its length, or 0 and a standard number.
 -- Assumes nothing.
+use Rattle.writer.proofs.Counting.{counts-in}
 use Rattle.tree.specs.Rows.{itemFrom}
-use Rattle.contents.proofs.Putting.{counts-in, field-custom, field-standard, custom-inside}
+use Rattle.contents.proofs.Putting.{field-custom, field-standard, custom-inside}
 use mathlib.Core.Path.{_≡_, refl, sym, ap, _∙_}
 use Prim.Native.Nat.{ℕ, _+_, _-_, _*_, _≤_, _<_}
 use lib.ListN.{length}

@@ -1,6 +1,6 @@
 -- `put_item` puts a row, with what its item has before it where it is the first of the item.
 -- Assumes nothing.
-use Rattle.contents.proofs.Putting.{counts-in}
+use Rattle.writer.proofs.Counting.{counts-in}
 use mathlib.Core.List.{[]}
 use Rattle.contents.proofs.Putting.{row-first, row-further}
 use mathlib.Core.Path.{_≡_, refl, sym, ap, _∙_}

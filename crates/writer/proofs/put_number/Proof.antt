@@ -1,23 +1,45 @@
 -- `put_number` puts n in its shortest form.
 -- Assumes nothing.
 use native.Mathlib.Omega.{arith}
-use borrow.Author.Needs.{needs}
-use Rattle.writer.proofs.Counting.{number-put}
+use Rattle.writer.proofs.Counting.{counts-as, short-number, number-put}
 use Rattle.cursor.proofs.Least.{least-in}
+use borrow.Author.Needs.{needs}
 use Rattle.writer.proofs.put_number.Statement.{statement}
 use Rattle.writer.proofs.put_number.Tie as tie
 
-vlq-size-requires : tie.Need-vlq-size-requires
-vlq-size-requires c κs = search needs
+cast-put-byte : tie.Need-cast-put-byte
+cast-put-byte c = search needs
 
-put-in-bytes-requires : tie.Need-put-in-bytes-requires
-put-in-bytes-requires c κs = (omega (arith, c .vlq-size .ensures, least-in (λ _. c .before .before .before .args .n) .1), omega arith)
+put-byte-requires : tie.Need-put-byte-requires
+put-byte-requires c κs = search needs
 
 same-length : tie.Need-same-length
 same-length c = search needs
 
 returns : tie.Need-returns
-returns c = number-put (c .before .before .before .before .before .before .args .n) (c .before .before .before .vlq-size .result) (c .before .before .before .vlq-size .ensures) (c .before .before .put-in-bytes .ensures)
+returns c = counts-as (short-number (c .before .before .before .before .before .before .args .n) (c .before .before .before .before .if1 .taken)) (c .before .before .put-byte .ensures)
+
+vlq-size-requires : tie.Need-vlq-size-requires
+vlq-size-requires c κs = search needs
+
+put-in-bytes-requires : tie.Need-put-in-bytes-requires
+put-in-bytes-requires c κs = (omega (arith, c .vlq-size .ensures, least-in (λ _. c .before .before .before .before .args .n) .1), omega arith)
+
+same-length-2 : tie.Need-same-length-2
+same-length-2 c = search needs
+
+returns-2 : tie.Need-returns-2
+returns-2 c = number-put (c .before .before .before .before .before .before .before .args .n) (c .before .before .before .vlq-size .result) (c .before .before .before .vlq-size .ensures) (c .before .before .put-in-bytes .ensures)
 
 pub put-number-spec : {M : Type 1} → statement M
-put-number-spec = tie.close (tie.spec vlq-size-requires put-in-bytes-requires same-length returns)
+put-number-spec =
+    tie.close
+    (tie.spec
+    cast-put-byte
+    put-byte-requires
+    same-length
+    returns
+    vlq-size-requires
+    put-in-bytes-requires
+    same-length-2
+    returns-2)

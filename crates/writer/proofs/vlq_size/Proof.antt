@@ -1,37 +1,15 @@
--- `vlq_size` tries one count after the other.
+-- `vlq_size` gives the least count for a number that does not depend on it.
 -- Assumes nothing.
-use Prim.Native.Nat.{_-_}
-use native.Mathlib.Omega.{arith}
-use Rattle.writer.proofs.Counting.{Trying, trying-start, trying-on, trying-found, trying-end}
+use mathlib.Core.Path.{refl}
+use borrow.Author.Needs.{needs}
 use Rattle.writer.proofs.vlq_size.Statement.{statement}
 use Rattle.writer.proofs.vlq_size.Tie as tie
 
-abbrev Inv-loop : tie.InvT-loop
-Inv-loop n k₀ k = Trying n k
+least-bytes-requires : tie.Need-least-bytes-requires
+least-bytes-requires c κs = search needs
 
-abbrev μ-loop : tie.MeasureT-loop
-μ-loop n k₀ k = 4 - k
-
-loop-holds : tie.Need-loop-holds Inv-loop μ-loop
-loop-holds c = trying-start _
-
-power-requires : tie.Need-power-requires Inv-loop μ-loop
-power-requires c κs = omega arith
-
-returns : tie.Need-returns Inv-loop μ-loop
-returns c = trying-found (c .before .power .ensures) (c .if1 .taken) (c .before .before .before .loop .inv)
-
-add-k : tie.Need-add-k Inv-loop μ-loop
-add-k c = omega arith
-
-loop-less : tie.Need-loop-less Inv-loop μ-loop
-loop-less c = omega arith
-
-loop-again : tie.Need-loop-again Inv-loop μ-loop
-loop-again c = trying-on _ (omega arith) (c .before .power .ensures) (c .if1 .left) (c .before .before .before .loop .inv)
-
-returns-2 : tie.Need-returns-2 Inv-loop μ-loop
-returns-2 c = trying-end (c .loop-test .left) (c .before .loop .inv)
+returns : tie.Need-returns
+returns c = c .least-bytes .ensures (λ _. c .before .args .n) refl refl refl
 
 pub vlq-size-spec : {M : Type 1} → statement M
-vlq-size-spec = tie.close (tie.spec Inv-loop μ-loop loop-holds power-requires returns add-k loop-less loop-again returns-2)
+vlq-size-spec = tie.close (tie.spec least-bytes-requires returns)

@@ -1,0 +1,4 @@
+pub mod Lengths
+pub mod Nodes
+pub mod Rows
+pub mod Passes

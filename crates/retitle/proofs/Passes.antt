@@ -1,0 +1,270 @@
+-- The two passes, row by row.
+-- Assumes nothing.
+use mathlib.Core.Path.{_≡_, refl, sym, ap, ap₂, _∙_, subst}
+use mathlib.Core.List.{List, [], _∷_, _++_}
+use Prim.Native.Nat.{ℕ, zero, suc, _+_, _-_, _*_, _≤_, _<_, min}
+use native.Mathlib.Decide.{decLe, decLt}
+use native.Mathlib.Omega.{arith}
+use lib.ListN.{length, getD, take, drop, set, length-append, length-drop, length-set}
+use lib.Seq.{drop-cons, drop-length, drop-drop, take-all, getD-set-same, getD-set-other}
+use Rattle.cursor.specs.Vlq.{part, joined}
+use Rattle.title.specs.Description.{Content}
+use Rattle.title.specs.Text.{itemsText, nodeText, wholeText}
+use Rattle.title.proofs.Nodes.{whole-length}
+use Rattle.writer.specs.Counts.{Counts, tooMany}
+use Rattle.writer.proofs.Counting.{Going, going-start, going-on, going-end, counts-as}
+use Rattle.contents.specs.Contents.{contentsFrom, ItemsInside}
+use Rattle.retitle.specs.Passes.{sumOf, Task, firstItem, nodeOf, shapeOf, contentsOf, outerFrom, innerOf, Sound, Measured, Framed}
+use Rattle.retitle.specs.declared.Frame.{Frame}
+use Rattle.retitle.proofs.Rows.{first-on, first-start, rows-fit, outer-end, outer-on, text-on, inner-within}
+use Rattle.retitle.proofs.Nodes.{texts-within}
+
+-- ---- a sum that stops
+
+-- what was added, and what is left
+pub record Adding (ws : List ℕ) (from end r k : ℕ) : Type 0 where
+  pub within : (from ≤ k) × (k ≤ end)
+  pub few : r ≤ tooMany
+  pub same : min (r + sumOf (part ws k (end - k))) tooMany ≡ min (sumOf (part ws from (end - from))) tooMany
+
+pub adding-start : (ws : List ℕ) (from end : ℕ) → from ≤ end → Adding ws from end 0 from
+adding-start ws from end l = record { within = (omega arith, l); few = omega arith; same = omega arith }
+
+pub adding-on : {ws : List ℕ} {from end r k : ℕ} → Adding ws from end r k → k < end → end ≤ length ws → {q : ℕ} → q ≡ min (r + getD ws k 0) tooMany → Adding ws from end q (k + 1)
+adding-on {ws} {from} {end} {r} {k} a l m {q} e =
+    let w = a .within in
+    let i : end - k ≡ suc (end - (k + 1)) = omega arith in
+    let j : suc k ≡ k + 1 = omega arith in
+    let p : part ws k (end - k) ≡ getD ws k 0 ∷ part ws (k + 1) (end - (k + 1)) = rw (i, drop-cons ws k 0 (omega arith), j) refl in
+    let t = ap sumOf p in
+    let u = a .same in
+    record { within = (omega arith, omega arith); few = omega arith; same = omega arith }
+
+pub adding-end : {ws : List ℕ} {from end r k : ℕ} → Adding ws from end r k → end ≤ k → r ≡ min (sumOf (part ws from (end - from))) tooMany
+adding-end {ws} {from} {end} {r} {k} a l =
+    let z : end - k ≡ 0 = omega arith in
+    let t : sumOf (part ws k (end - k)) ≡ 0 = rw z refl in
+    let u = a .same in
+    let v = a .few in
+    omega arith
+
+-- ---- lengths that stop
+
+abbrev pub stops : List (List ℕ) → List ℕ
+stops [] = []
+stops (s ∷ ss) = min (length s) tooMany ∷ stops ss
+
+stops-length : (ss : List (List ℕ)) → length (stops ss) ≡ length ss
+stops-length [] = refl
+stops-length (s ∷ ss) = ap suc (stops-length ss)
+
+take-stops : (n : ℕ) (ss : List (List ℕ)) → take n (stops ss) ≡ stops (take n ss)
+take-stops zero ss = refl
+take-stops (suc n) [] = refl
+take-stops (suc n) (s ∷ ss) = ap (λ v. min (length s) tooMany ∷ v) (take-stops n ss)
+
+drop-stops : (n : ℕ) (ss : List (List ℕ)) → drop n (stops ss) ≡ stops (drop n ss)
+drop-stops zero ss = refl
+drop-stops (suc n) [] = refl
+drop-stops (suc n) (s ∷ ss) = drop-stops n ss
+
+sum-stops : (ss : List (List ℕ)) → min (sumOf (stops ss)) tooMany ≡ min (length (joined ss)) tooMany
+sum-stops [] = refl
+sum-stops (s ∷ ss) = let e = sum-stops ss in omega (arith, length-append s (joined ss))
+
+drop-set : (l : List ℕ) (k a : ℕ) → k < length l → drop k (set l k a) ≡ a ∷ drop (k + 1) l
+drop-set [] k a h = absurd (omega arith)
+drop-set (x ∷ l) zero a h = refl
+drop-set (x ∷ l) (suc k) a h = let e : suc k + 1 ≡ suc (k + 1) = omega arith in rw e (drop-set l k a (omega arith))
+
+-- ---- the first pass
+
+-- the rows from row i on are measured; `end` is the first item row of row i, and the stack's words from `top` on are the sizes of the nodes that no other of these holds
+pub record Measuring (x : Task) (i end top : ℕ) (sizes metadata inner : List ℕ) : Type 0 where
+  pub within : i ≤ x .count
+  pub first : end ≡ firstItem (x .nodes) i
+  pub room : (top ≤ 256) × (256 ≤ top + (x .count - i))
+  pub long : (length sizes ≡ 256) × (length metadata ≡ 256) × (length inner ≡ 256)
+  pub stack : drop top sizes ≡ stops (outerFrom x i)
+  pub measured : Measured x i metadata inner
+
+gone : (l : List ℕ) {n : ℕ} → length l ≡ n → drop n l ≡ []
+gone l e = rw e at (drop-length l)
+
+pub measuring-start : {x : Task} → Sound x → {sizes metadata inner : List ℕ} → length sizes ≡ 256 → length metadata ≡ 256 → length inner ≡ 256 → Measuring x (x .count) (x .total) 256 sizes metadata inner
+measuring-start s {sizes} a b c = record {
+  within = omega arith;
+  first = sym (s .all-items);
+  room = (omega arith, omega arith);
+  long = (a, b, c);
+  stack = gone sizes a ∙ sym (ap stops (outer-end s));
+  measured = record { texts = λ j l m. absurd (omega arith); inners = λ j l m. absurd (omega arith) };
+}
+
+module _ {x : Task} (s : Sound x) {i end top : ℕ} {sizes metadata inner : List ℕ} (w : Measuring x i end top sizes metadata inner) (some : 0 < i) where
+  -- the row before row i
+  abbrev j : ℕ
+  j = i - 1
+
+  abbrev held : ℕ
+  held = nodeOf x j .held
+
+  abbrev below : List (List ℕ)
+  below = outerFrom x (j + 1)
+
+  back : i ≡ j + 1
+  back = omega arith
+
+  pub here : j < x .count
+  here = omega (arith, w .within)
+
+  pub first-is : end ≡ firstItem (x .nodes) j + nodeOf x j .rows
+  first-is = w .first ∙ ap (firstItem (x .nodes)) back ∙ first-on (x .nodes) j
+
+  stack-is : drop top sizes ≡ stops below
+  stack-is = w .stack ∙ ap (λ v. stops (outerFrom x v)) back
+
+  -- the stack has the nodes that this one holds, and room for one more
+  pub stack-has : top + held ≤ 256
+  stack-has =
+      let l = w .long .0 in
+      let r = w .room .0 in
+      omega (arith, length-drop top sizes, ap length stack-is, stops-length below, s .nodes-follow j here)
+
+  pub stack-room : 1 ≤ top
+  stack-room = let r = w .room .1 in omega (arith, here, s .few)
+
+  pub items-here : ItemsInside (length (x .file)) end (x .items)
+  items-here =
+      let e = rows-fit s j here in
+      let f = first-is in
+      (omega (arith, s .items-inside .0), λ k l. s .items-inside .1 k (omega arith))
+
+  -- what is known of the row
+  module _ {m n : ℕ} {f : Frame} (em : m ≡ min (length (itemsText (contentsFrom (x .file) (x .row) (x .title) (x .items) (end - nodeOf x j .rows) (end - (end - nodeOf x j .rows))))) tooMany)
+      (en : n ≡ min (sumOf (part sizes top (top + held - top))) tooMany) (ef : (cs : List Content) → m ≡ min (length (itemsText cs)) tooMany → Framed (shapeOf x j) cs n f) where
+    texts-are : m ≡ min (length (itemsText (contentsOf x j))) tooMany
+    texts-are =
+        let e = first-is in
+        let a : end - nodeOf x j .rows ≡ firstItem (x .nodes) j = omega arith in
+        let b : end - (end - nodeOf x j .rows) ≡ nodeOf x j .rows = omega arith in
+        em ∙ ap₂ (λ (k c : ℕ). min (length (itemsText (contentsFrom (x .file) (x .row) (x .title) (x .items) k c))) tooMany) a b
+
+    inner-is : n ≡ min (innerOf x j) tooMany
+    inner-is =
+        let a : top + held - top ≡ held = omega arith in
+        let b : part sizes top (top + held - top) ≡ stops (take held below) = rw a (ap (take held) stack-is ∙ take-stops held below) in
+        en ∙ ap (λ v. min (sumOf v) tooMany) b ∙ sum-stops (take held below)
+
+    size-is : f .size ≡ min (length (wholeText (shapeOf x j) (contentsOf x j) (joined (take held below)))) tooMany
+    size-is =
+        let a = ef (contentsOf x j) texts-are .stops in
+        let b = whole-length (shapeOf x j) (contentsOf x j) (joined (take held below)) in
+        let c = inner-is in
+        elim (decLt (innerOf x j) tooMany) [
+          | yes l ↦ let d : n ≡ innerOf x j = omega arith in rw d at a ∙ sym (ap (λ v. min v tooMany) b)
+          | no l ↦ omega arith
+        ]
+
+    pub measuring-on : Measuring x j (end - nodeOf x j .rows) (top + held - 1) (set sizes (top + held - 1) (f .size)) (set metadata j m) (set inner j n)
+    measuring-on =
+        let e = first-is in
+        let l = w .long in
+        let h = stack-has in
+        let o = stack-room in
+        let r = w .room .1 in
+        let p : top + held - 1 + 1 ≡ top + held = omega arith in
+        record {
+          within = omega (arith, here);
+          first = omega arith;
+          room = (omega arith, omega arith);
+          long = (length-set sizes (top + held - 1) (f .size) ∙ l .0, length-set metadata j m ∙ l .1, length-set inner j n ∙ l .2);
+          stack =
+              drop-set sizes (top + held - 1) (f .size) (omega arith)
+              ∙ ap₂ (λ (v : ℕ) (vs : List ℕ). v ∷ vs) size-is (ap (λ k. drop k sizes) p ∙ sym (drop-drop held top sizes) ∙ ap (drop held) stack-is ∙ drop-stops held below)
+              ∙ sym (ap stops (outer-on s j here));
+          measured = record {
+            texts = λ k a b. elim (decLe i k) [
+              | yes c ↦ getD-set-other metadata j k m 0 (λ z. omega arith) ∙ w .measured .texts k c b
+              | no c ↦ let z : k ≡ j = omega arith in rw z (getD-set-same metadata j m 0 (omega (arith, here, s .few)) ∙ texts-are)
+            ];
+            inners = λ k a b. elim (decLe i k) [
+              | yes c ↦ getD-set-other inner j k n 0 (λ z. omega arith) ∙ w .measured .inners k c b
+              | no c ↦ let z : k ≡ j = omega arith in rw z (getD-set-same inner j n 0 (omega (arith, here, s .few)) ∙ inner-is)
+            ];
+          };
+        }
+
+-- all rows are measured
+module _ {x : Task} {i end top : ℕ} {sizes metadata inner : List ℕ} (w : Measuring x i end top sizes metadata inner) (none : i ≤ 0) where
+  at-first : i ≡ 0
+  at-first = omega arith
+
+  pub measured-all : Measured x 0 metadata inner
+  measured-all = subst (λ k. Measured x k metadata inner) at-first (w .measured)
+
+  pub tree-size : {r : ℕ} → r ≡ min (sumOf (part sizes top (256 - top))) tooMany → r ≡ min (length (joined (outerFrom x 0))) tooMany
+  tree-size e =
+      let l = w .long .0 in
+      let a : part sizes top (256 - top) ≡ stops (outerFrom x 0) = take-all (256 - top) (drop top sizes) (omega (arith, length-drop top sizes)) ∙ w .stack ∙ ap (λ k. stops (outerFrom x k)) at-first in
+      e ∙ ap (λ v. min (sumOf v) tooMany) a ∙ sum-stops (outerFrom x 0)
+
+-- ---- the second pass
+
+-- the rows before row i are put, and `first` is the first item row of row i
+pub record Putting (x : Task) (o o′ : List ℕ) (to next first i : ℕ) : Type 0 where
+  pub within : i ≤ x .count
+  pub first-is : first ≡ firstItem (x .nodes) i
+  pub going : Going o o′ to next (joined (outerFrom x 0)) (joined (outerFrom x i))
+
+pub putting-start : {x : Task} (o : List ℕ) {to : ℕ} → to ≤ tooMany → Putting x o o to to 0 0
+putting-start {x} o l = record { within = omega arith; first-is = sym (first-start (x .nodes)); going = going-start o l }
+
+module _ {x : Task} (s : Sound x) {o o′ : List ℕ} {to next first i : ℕ} (w : Putting x o o′ to next first i) (l : i < x .count) {metadata inner : List ℕ} (measured : Measured x 0 metadata inner) (small : length (joined (outerFrom x 0)) < tooMany) where
+  -- the contents by the code's numbers
+  abbrev contents : List Content
+  contents = contentsFrom (x .file) (x .row) (x .title) (x .items) first (first + nodeOf x i .rows - first)
+
+  contents-are : contents ≡ contentsOf x i
+  contents-are =
+      let e : first + nodeOf x i .rows - first ≡ nodeOf x i .rows = omega arith in
+      ap₂ (λ (k n : ℕ). contentsFrom (x .file) (x .row) (x .title) (x .items) k n) (w .first-is) e
+
+  -- a node and all after it have fewer bytes than the whole
+  node-small : length (nodeText (shapeOf x i) (contentsOf x i) (innerOf x i)) + innerOf x i < tooMany
+  node-small =
+      let g = w .going in
+      let t : List ℕ = nodeText (shapeOf x i) (contentsOf x i) (innerOf x i) in
+      omega (arith, length-append (g .done) (joined (outerFrom x i)), ap length (g .left), ap length (text-on s i l), length-append t (joined (outerFrom x (i + 1))), inner-within s i l)
+
+  inner-are : getD inner i 0 ≡ innerOf x i
+  inner-are = let e = measured .inners i (omega arith) l in let k = node-small in omega arith
+
+  pub items-room : ItemsInside (length (x .file)) (first + nodeOf x i .rows) (x .items)
+  items-room =
+      let e = rows-fit s i l in
+      let f = w .first-is in
+      (omega (arith, s .items-inside .0), λ k m. s .items-inside .1 k (omega arith))
+
+  pub texts-here : getD metadata i 0 ≡ length (itemsText contents)
+  texts-here =
+      let e = measured .texts i (omega arith) l in
+      let k = node-small in
+      let m = texts-within (shapeOf x i) (contentsOf x i) (innerOf x i) in
+      rw contents-are (omega arith)
+
+  pub small-here : length (nodeText (shapeOf x i) contents (getD inner i 0)) + getD inner i 0 < tooMany
+  small-here = rw (contents-are, inner-are) node-small
+
+  pub putting-on : {o″ : List ℕ} {r : ℕ} → Counts o′ o″ next (nodeText (shapeOf x i) contents (getD inner i 0)) r → Putting x o o″ to r (first + nodeOf x i .rows) (i + 1)
+  putting-on p = record {
+    within = omega arith;
+    first-is = ap (λ n. n + nodeOf x i .rows) (w .first-is) ∙ sym (first-on (x .nodes) i);
+    going = going-on (text-on s i l) (w .going) (counts-as (ap₂ (nodeText (shapeOf x i)) contents-are inner-are) p);
+  }
+
+pub putting-end : {x : Task} (s : Sound x) {o o′ : List ℕ} {to next first i : ℕ} → Putting x o o′ to next first i → x .count ≤ i → Counts o o′ to (joined (outerFrom x 0)) next
+putting-end {x} s {i = i} w l =
+    let k = w .within in
+    let e : i ≡ x .count = omega arith in
+    going-end (ap (λ v. joined (outerFrom x v)) e ∙ ap joined (outer-end s)) (w .going)

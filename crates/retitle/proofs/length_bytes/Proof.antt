@@ -1,0 +1,48 @@
+-- `length_bytes` gives the least count for NodeLength, by NodeHeaderLength at each count.
+-- Assumes nothing.
+use native.Mathlib.Omega.{arith}
+use Prim.Native.Nat.{_+_}
+use mathlib.Core.Path.{ap}
+use Rattle.title.specs.Text.{headerSize, lengthBytes}
+use Rattle.retitle.proofs.Lengths.{header-few}
+use borrow.Author.Needs.{needs}
+use Rattle.retitle.proofs.length_bytes.Statement.{statement}
+use Rattle.retitle.proofs.length_bytes.Tie as tie
+
+header-size-requires : tie.Need-header-size-requires
+header-size-requires c κs = search needs
+
+add-one : tie.Need-add-one
+add-one c = omega (arith, header-few _ _ (c .header-size .ensures))
+
+header-size-requires-2 : tie.Need-header-size-requires-2
+header-size-requires-2 c κs = search needs
+
+add-two : tie.Need-add-two
+add-two c = omega (arith, header-few _ _ (c .header-size2 .ensures))
+
+header-size-requires-3 : tie.Need-header-size-requires-3
+header-size-requires-3 c κs = search needs
+
+add-three : tie.Need-add-three
+add-three c = omega (arith, header-few _ _ (c .header-size3 .ensures))
+
+least-bytes-requires : tie.Need-least-bytes-requires
+least-bytes-requires c κs = search needs
+
+returns : tie.Need-returns
+unfolding lengthBytes
+returns c = c .least-bytes .ensures (λ k. headerSize (c .before .before .before .before .args .fixed) k + c .before .before .before .before .args .contents) (ap (λ n. n + c .before .before .before .before .args .contents) (c .before .before .before .header-size .ensures)) (ap (λ n. n + c .before .before .before .before .args .contents) (c .before .before .header-size2 .ensures)) (ap (λ n. n + c .before .before .before .before .args .contents) (c .before .header-size3 .ensures))
+
+pub length-bytes-spec : {M : Type 1} → statement M
+length-bytes-spec =
+    tie.close
+    (tie.spec
+    header-size-requires
+    add-one
+    header-size-requires-2
+    add-two
+    header-size-requires-3
+    add-three
+    least-bytes-requires
+    returns)

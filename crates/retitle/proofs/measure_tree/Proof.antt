@@ -1,0 +1,140 @@
+-- `measure_tree` goes from the last row to the first. The invariant: the rows from row i on are measured, and the stack has the sizes of the nodes that no other of these holds.
+-- Assumes nothing.
+use native.Mathlib.Omega.{arith}
+use borrow.Author.Needs.{needs}
+use mathlib.Core.Path.{refl}
+use Prim.Native.Nat.{_-_, _*_, _+_, _≤_}
+use Rattle.retitle.specs.Passes.{task}
+use Rattle.retitle.proofs.Passes.{Measuring, measuring-start, here, first-is, stack-has, stack-room, items-here, measuring-on, measured-all, tree-size}
+use Rattle.retitle.proofs.measure_tree.Statement.{statement}
+use Rattle.retitle.proofs.measure_tree.Tie as tie
+
+abbrev Inv-loop : tie.InvT-loop
+Inv-loop file nodes items count total row title metadata₀ inner₀ sizes₀ top₀ end₀ i₀ metadata inner sizes top end i =
+    Measuring (task file nodes items count total row title) i end top sizes metadata inner
+
+abbrev μ-loop : tie.MeasureT-loop
+μ-loop file nodes items count total row title metadata₀ inner₀ sizes₀ top₀ end₀ i₀ metadata inner sizes top end i = i
+
+loop-holds : tie.Need-loop-holds Inv-loop μ-loop
+loop-holds c = measuring-start (c .before .before .before .before .before .before .pre .0) refl (c .before .before .before .before .before .before .pre .1) (c .before .before .before .before .before .before .pre .2)
+
+sub-i : tie.Need-sub-i Inv-loop μ-loop
+sub-i c = omega arith
+
+mul-k : tie.Need-mul-k Inv-loop μ-loop
+mul-k c = omega (arith, here (c .before .before .before .before .before .before .before .before .pre .0) (c .before .loop .inv) (c .loop-test .taken), c .before .before .before .before .before .before .before .before .pre .0 .node-room, c .before .before .before .before .before .before .before .before .pre .0 .few)
+
+add-first : tie.Need-add-first Inv-loop μ-loop
+add-first c = omega (arith, here (c .before .before .before .before .before .before .before .before .pre .0) (c .before .loop .inv) (c .loop-test .taken), c .before .before .before .before .before .before .before .before .pre .0 .node-room, c .before .before .before .before .before .before .before .before .pre .0 .few)
+
+mul-first : tie.Need-mul-first Inv-loop μ-loop
+mul-first c = omega (arith, here (c .before .before .before .before .before .before .before .before .pre .0) (c .before .loop .inv) (c .loop-test .taken), c .before .before .before .before .before .before .before .before .pre .0 .node-room, c .before .before .before .before .before .before .before .before .pre .0 .few)
+
+shared-slice-read-first : tie.Need-shared-slice-read-first Inv-loop μ-loop
+shared-slice-read-first c = omega (arith, here (c .before .before .before .before .before .before .before .before .before .pre .0) (c .before .before .loop .inv) (c .before .loop-test .taken), c .before .before .before .before .before .before .before .before .before .pre .0 .node-room, c .before .before .before .before .before .before .before .before .before .pre .0 .few)
+
+sub-first : tie.Need-sub-first Inv-loop μ-loop
+sub-first c = omega (arith, first-is (c .before .before .before .before .before .before .before .before .before .pre .0) (c .before .before .loop .inv) (c .before .loop-test .taken))
+
+add-below : tie.Need-add-below Inv-loop μ-loop
+add-below c = omega (arith, here (c .before .before .before .before .before .before .before .before .before .pre .0) (c .before .before .loop .inv) (c .before .loop-test .taken), c .before .before .before .before .before .before .before .before .before .pre .0 .node-room, c .before .before .before .before .before .before .before .before .before .pre .0 .few)
+
+mul-below : tie.Need-mul-below Inv-loop μ-loop
+mul-below c = omega (arith, here (c .before .before .before .before .before .before .before .before .before .pre .0) (c .before .before .loop .inv) (c .before .loop-test .taken), c .before .before .before .before .before .before .before .before .before .pre .0 .node-room, c .before .before .before .before .before .before .before .before .before .pre .0 .few)
+
+shared-slice-read-below : tie.Need-shared-slice-read-below Inv-loop μ-loop
+shared-slice-read-below c = omega (arith, here (c .before .before .before .before .before .before .before .before .before .before .pre .0) (c .before .before .before .loop .inv) (c .before .before .loop-test .taken), c .before .before .before .before .before .before .before .before .before .before .pre .0 .node-room, c .before .before .before .before .before .before .before .before .before .before .pre .0 .few)
+
+add-below-2 : tie.Need-add-below-2 Inv-loop μ-loop
+add-below-2 c = omega (arith, stack-has (c .before .before .before .before .before .before .before .before .before .before .pre .0) (c .before .before .before .loop .inv) (c .before .before .loop-test .taken))
+
+items-size-requires : tie.Need-items-size-requires Inv-loop μ-loop
+items-size-requires c κs = (omega (arith, first-is (c .before .before .before .before .before .before .before .before .before .before .pre .0) (c .before .before .before .loop .inv) (c .before .before .loop-test .taken)), items-here (c .before .before .before .before .before .before .before .before .before .before .pre .0) (c .before .before .before .loop .inv) (c .before .before .loop-test .taken))
+
+slice-aggregate-sum : tie.Need-slice-aggregate-sum Inv-loop μ-loop
+slice-aggregate-sum c = search needs
+
+sum-requires : tie.Need-sum-requires Inv-loop μ-loop
+sum-requires c κs = (omega arith, omega (arith, stack-has (c .before .before .before .before .before .before .before .before .before .before .before .before .pre .0) (c .before .before .before .before .before .loop .inv) (c .before .before .before .before .loop-test .taken), c .before .before .before .before .before .loop .inv .long .0))
+
+frame-of-requires : tie.Need-frame-of-requires Inv-loop μ-loop
+frame-of-requires c κs = (omega (arith, here (c .before .before .before .before .before .before .before .before .before .before .before .before .before .pre .0) (c .before .before .before .before .before .before .loop .inv) (c .before .before .before .before .before .loop-test .taken), c .before .before .before .before .before .before .before .before .before .before .before .before .before .pre .0 .node-room), c .before .before .before .before .before .before .before .before .before .before .before .before .before .pre .0 .bodies-inside _ (here (c .before .before .before .before .before .before .before .before .before .before .before .before .before .pre .0) (c .before .before .before .before .before .before .loop .inv) (c .before .before .before .before .before .loop-test .taken)), c .before .before .before .before .before .before .before .before .before .before .before .before .before .pre .0 .small, omega (arith, c .before .before .items-size .ensures), omega (arith, c .sum .ensures))
+
+mul-metadata : tie.Need-mul-metadata Inv-loop μ-loop
+mul-metadata c = omega (arith, here (c .before .before .before .before .before .before .before .before .before .before .before .before .before .before .pre .0) (c .before .before .before .before .before .before .before .loop .inv) (c .before .before .before .before .before .before .loop-test .taken), c .before .before .before .before .before .before .before .before .before .before .before .before .before .before .pre .0 .few)
+
+slice-write-metadata : tie.Need-slice-write-metadata Inv-loop μ-loop
+slice-write-metadata c = omega (arith, here (c .before .before .before .before .before .before .before .before .before .before .before .before .before .before .pre .0) (c .before .before .before .before .before .before .before .loop .inv) (c .before .before .before .before .before .before .loop-test .taken), c .before .before .before .before .before .before .before .before .before .before .before .before .before .before .pre .0 .few, c .before .before .before .before .before .before .before .loop .inv .long .1)
+
+mul-inner : tie.Need-mul-inner Inv-loop μ-loop
+mul-inner c = omega (arith, here (c .before .before .before .before .before .before .before .before .before .before .before .before .before .before .pre .0) (c .before .before .before .before .before .before .before .loop .inv) (c .before .before .before .before .before .before .loop-test .taken), c .before .before .before .before .before .before .before .before .before .before .before .before .before .before .pre .0 .few)
+
+slice-write-inner : tie.Need-slice-write-inner Inv-loop μ-loop
+slice-write-inner c = omega (arith, here (c .before .before .before .before .before .before .before .before .before .before .before .before .before .before .pre .0) (c .before .before .before .before .before .before .before .loop .inv) (c .before .before .before .before .before .before .loop-test .taken), c .before .before .before .before .before .before .before .before .before .before .before .before .before .before .pre .0 .few, c .before .before .before .before .before .before .before .loop .inv .long .2)
+
+sub-top : tie.Need-sub-top Inv-loop μ-loop
+sub-top c = omega (arith, stack-room (c .before .before .before .before .before .before .before .before .before .before .before .before .before .before .pre .0) (c .before .before .before .before .before .before .before .loop .inv) (c .before .before .before .before .before .before .loop-test .taken))
+
+mul-sizes : tie.Need-mul-sizes Inv-loop μ-loop
+mul-sizes c = omega (arith, stack-has (c .before .before .before .before .before .before .before .before .before .before .before .before .before .before .pre .0) (c .before .before .before .before .before .before .before .loop .inv) (c .before .before .before .before .before .before .loop-test .taken))
+
+array-write-sizes : tie.Need-array-write-sizes Inv-loop μ-loop
+array-write-sizes c = omega (arith, stack-has (c .before .before .before .before .before .before .before .before .before .before .before .before .before .before .pre .0) (c .before .before .before .before .before .before .before .loop .inv) (c .before .before .before .before .before .before .loop-test .taken), stack-room (c .before .before .before .before .before .before .before .before .before .before .before .before .before .before .pre .0) (c .before .before .before .before .before .before .before .loop .inv) (c .before .before .before .before .before .before .loop-test .taken), c .before .before .before .before .before .before .before .loop .inv .long .0)
+
+loop-less : tie.Need-loop-less Inv-loop μ-loop
+loop-less c = omega arith
+
+loop-again : tie.Need-loop-again Inv-loop μ-loop
+loop-again c = measuring-on (c .before .before .before .before .before .before .before .before .before .before .before .before .before .before .pre .0) (c .before .before .before .before .before .before .before .loop .inv) (c .before .before .before .before .before .before .loop-test .taken) (c .before .before .before .items-size .ensures) (c .before .sum .ensures) (c .frame-of .ensures)
+
+slice-aggregate-sum-2 : tie.Need-slice-aggregate-sum-2 Inv-loop μ-loop
+slice-aggregate-sum-2 c = search needs
+
+sum-requires-2 : tie.Need-sum-requires-2 Inv-loop μ-loop
+sum-requires-2 c κs = (c .before .before .loop .inv .room .0, omega (arith, c .before .before .loop .inv .long .0))
+
+same-length : tie.Need-same-length Inv-loop μ-loop
+same-length c = omega (arith, c .before .before .before .loop .inv .long .1, c .before .before .before .before .before .before .before .before .before .before .pre .1)
+
+same-length-2 : tie.Need-same-length-2 Inv-loop μ-loop
+same-length-2 c = omega (arith, c .before .before .before .loop .inv .long .2, c .before .before .before .before .before .before .before .before .before .before .pre .2)
+
+returns : tie.Need-returns Inv-loop μ-loop
+returns c = (measured-all (c .before .before .before .loop .inv) (c .before .before .loop-test .left), tree-size (c .before .before .before .loop .inv) (c .before .before .loop-test .left) (c .sum2 .ensures))
+
+pub measure-tree-spec : {M : Type 1} → statement M
+measure-tree-spec =
+    tie.close
+    (tie.spec
+    Inv-loop
+    μ-loop
+    loop-holds
+    sub-i
+    mul-k
+    add-first
+    mul-first
+    shared-slice-read-first
+    sub-first
+    add-below
+    mul-below
+    shared-slice-read-below
+    add-below-2
+    items-size-requires
+    slice-aggregate-sum
+    sum-requires
+    frame-of-requires
+    mul-metadata
+    slice-write-metadata
+    mul-inner
+    slice-write-inner
+    sub-top
+    mul-sizes
+    array-write-sizes
+    loop-less
+    loop-again
+    slice-aggregate-sum-2
+    sum-requires-2
+    same-length
+    same-length-2
+    returns)

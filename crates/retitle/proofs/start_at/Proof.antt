@@ -1,0 +1,41 @@
+-- `start_at` gives TreeStart with the least count for it.
+-- Assumes nothing.
+use native.Mathlib.Omega.{arith}
+use mathlib.Core.Path.{_≡_, ap, _∙_}
+use Prim.Native.Nat.{ℕ}
+use Rattle.cursor.proofs.Least.{least-in}
+use Rattle.title.specs.Text.{startWith, lastBytes, startBytes, startAt}
+use borrow.Author.Needs.{needs}
+use Rattle.retitle.proofs.start_at.Statement.{statement}
+use Rattle.retitle.proofs.start_at.Tie as tie
+
+start-with-requires : tie.Need-start-with-requires
+start-with-requires c κs = search needs
+
+start-with-requires-2 : tie.Need-start-with-requires-2
+start-with-requires-2 c κs = search needs
+
+start-with-requires-3 : tie.Need-start-with-requires-3
+start-with-requires-3 c κs = search needs
+
+least-bytes-requires : tie.Need-least-bytes-requires
+least-bytes-requires c κs = search needs
+
+start-with-requires-4 : tie.Need-start-with-requires-4
+unfolding startBytes
+start-with-requires-4 c κs = let e : c .least-bytes .result ≡ startBytes (c .before .before .before .before .args .fixed) (c .before .before .before .before .args .tree) (c .before .before .before .before .args .x) = c .least-bytes .ensures (λ y. startWith (c .before .before .before .before .args .fixed) (c .before .before .before .before .args .x) y (lastBytes (c .before .before .before .before .args .fixed) (c .before .before .before .before .args .tree) (c .before .before .before .before .args .x) y)) (c .before .before .before .start-with .ensures) (c .before .before .start-with2 .ensures) (c .before .start-with3 .ensures) in omega (arith, least-in (λ y. startWith (c .before .before .before .before .args .fixed) (c .before .before .before .before .args .x) y (lastBytes (c .before .before .before .before .args .fixed) (c .before .before .before .before .args .tree) (c .before .before .before .before .args .x) y)) .1)
+
+returns : tie.Need-returns
+unfolding startAt startBytes
+returns c = c .start-with4 .ensures ∙ ap (λ (y : ℕ). startWith (c .before .before .before .before .before .args .fixed) (c .before .before .before .before .before .args .x) y (lastBytes (c .before .before .before .before .before .args .fixed) (c .before .before .before .before .before .args .tree) (c .before .before .before .before .before .args .x) y)) (c .before .least-bytes .ensures (λ y. startWith (c .before .before .before .before .before .args .fixed) (c .before .before .before .before .before .args .x) y (lastBytes (c .before .before .before .before .before .args .fixed) (c .before .before .before .before .before .args .tree) (c .before .before .before .before .before .args .x) y)) (c .before .before .before .before .start-with .ensures) (c .before .before .before .start-with2 .ensures) (c .before .before .start-with3 .ensures))
+
+pub start-at-spec : {M : Type 1} → statement M
+start-at-spec =
+    tie.close
+    (tie.spec
+    start-with-requires
+    start-with-requires-2
+    start-with-requires-3
+    least-bytes-requires
+    start-with-requires-4
+    returns)

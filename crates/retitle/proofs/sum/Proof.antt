@@ -1,0 +1,52 @@
+-- `sum` adds word by word. The invariant: the sum so far and the words that are left.
+-- Assumes nothing.
+use borrow.Author.Needs.{needs}
+use Prim.Native.Nat.{_-_}
+use Rattle.retitle.proofs.Passes.{Adding, adding-start, adding-on, adding-end}
+use Rattle.retitle.proofs.sum.Statement.{statement}
+use Rattle.retitle.proofs.sum.Tie as tie
+
+abbrev Inv-loop : tie.InvT-loop
+Inv-loop words from end r₀ k₀ r k = Adding words from end r k
+
+abbrev μ-loop : tie.MeasureT-loop
+μ-loop words from end r₀ k₀ r k = end - k
+
+loop-holds : tie.Need-loop-holds Inv-loop μ-loop
+loop-holds c = adding-start _ _ _ (c .before .pre .0)
+
+mul-on : tie.Need-mul-on Inv-loop μ-loop
+mul-on c = search needs
+
+shared-slice-read-on : tie.Need-shared-slice-read-on Inv-loop μ-loop
+shared-slice-read-on c = search needs
+
+on-requires : tie.Need-on-requires Inv-loop μ-loop
+on-requires c κs = c .before .before .loop .inv .few
+
+add-k : tie.Need-add-k Inv-loop μ-loop
+add-k c = search needs
+
+loop-less : tie.Need-loop-less Inv-loop μ-loop
+loop-less c = search needs
+
+loop-again : tie.Need-loop-again Inv-loop μ-loop
+loop-again c = adding-on (c .before .before .before .loop .inv) (c .before .before .loop-test .taken) (c .before .before .before .before .before .pre .1) (c .on .ensures)
+
+returns : tie.Need-returns Inv-loop μ-loop
+returns c = adding-end (c .before .loop .inv) (c .loop-test .left)
+
+pub sum-spec : {M : Type 1} → statement M
+sum-spec =
+    tie.close
+    (tie.spec
+    Inv-loop
+    μ-loop
+    loop-holds
+    mul-on
+    shared-slice-read-on
+    on-requires
+    add-k
+    loop-less
+    loop-again
+    returns)

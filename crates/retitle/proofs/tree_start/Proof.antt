@@ -1,0 +1,65 @@
+-- `tree_start` gives TreeStart with the least count for FileLength.
+-- Assumes nothing.
+use native.Mathlib.Omega.{arith}
+use mathlib.Core.Path.{_≡_, ap, _∙_}
+use Prim.Native.Nat.{ℕ, _+_}
+use Rattle.cursor.proofs.Least.{least-in}
+use Rattle.title.specs.Text.{startAt, fileBytes}
+use Rattle.retitle.proofs.Lengths.{start-few}
+use borrow.Author.Needs.{needs}
+use Rattle.retitle.proofs.tree_start.Statement.{statement}
+use Rattle.retitle.proofs.tree_start.Tie as tie
+
+start-at-requires : tie.Need-start-at-requires
+start-at-requires c κs = search needs
+
+add-one : tie.Need-add-one
+add-one c = omega (arith, start-few _ _ _ (c .start-at .ensures))
+
+add-one-2 : tie.Need-add-one-2
+add-one-2 c = omega (arith, start-few _ _ _ (c .start-at .ensures))
+
+start-at-requires-2 : tie.Need-start-at-requires-2
+start-at-requires-2 c κs = search needs
+
+add-two : tie.Need-add-two
+add-two c = omega (arith, start-few _ _ _ (c .start-at2 .ensures))
+
+add-two-2 : tie.Need-add-two-2
+add-two-2 c = omega (arith, start-few _ _ _ (c .start-at2 .ensures))
+
+start-at-requires-3 : tie.Need-start-at-requires-3
+start-at-requires-3 c κs = search needs
+
+add-three : tie.Need-add-three
+add-three c = omega (arith, start-few _ _ _ (c .start-at3 .ensures))
+
+add-three-2 : tie.Need-add-three-2
+add-three-2 c = omega (arith, start-few _ _ _ (c .start-at3 .ensures))
+
+least-bytes-requires : tie.Need-least-bytes-requires
+least-bytes-requires c κs = search needs
+
+start-at-requires-4 : tie.Need-start-at-requires-4
+start-at-requires-4 c κs = let n : ℕ → ℕ = λ x. startAt (c .before .before .before .before .args .fixed) (c .before .before .before .before .args .tree) x + c .before .before .before .before .args .tree + c .before .before .before .before .args .after in let e = c .least-bytes .ensures n (ap (λ s. s + c .before .before .before .before .args .tree + c .before .before .before .before .args .after) (c .before .before .before .start-at .ensures)) (ap (λ s. s + c .before .before .before .before .args .tree + c .before .before .before .before .args .after) (c .before .before .start-at2 .ensures)) (ap (λ s. s + c .before .before .before .before .args .tree + c .before .before .before .before .args .after) (c .before .start-at3 .ensures)) in omega (arith, e, least-in n .0, least-in n .1)
+
+returns : tie.Need-returns
+unfolding fileBytes
+returns c = c .start-at4 .ensures ∙ ap (startAt (c .before .before .before .before .before .args .fixed) (c .before .before .before .before .before .args .tree)) (c .before .least-bytes .ensures (λ x. startAt (c .before .before .before .before .before .args .fixed) (c .before .before .before .before .before .args .tree) x + c .before .before .before .before .before .args .tree + c .before .before .before .before .before .args .after) (ap (λ s. s + c .before .before .before .before .before .args .tree + c .before .before .before .before .before .args .after) (c .before .before .before .before .start-at .ensures)) (ap (λ s. s + c .before .before .before .before .before .args .tree + c .before .before .before .before .before .args .after) (c .before .before .before .start-at2 .ensures)) (ap (λ s. s + c .before .before .before .before .before .args .tree + c .before .before .before .before .before .args .after) (c .before .before .start-at3 .ensures)))
+
+pub tree-start-spec : {M : Type 1} → statement M
+tree-start-spec =
+    tie.close
+    (tie.spec
+    start-at-requires
+    add-one
+    add-one-2
+    start-at-requires-2
+    add-two
+    add-two-2
+    start-at-requires-3
+    add-three
+    add-three-2
+    least-bytes-requires
+    start-at-requires-4
+    returns)

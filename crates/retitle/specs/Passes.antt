@@ -1,0 +1,91 @@
+-- What the code works on: a file, its tables, and the title; nodes and contents by their rows, and the bytes of the nodes from a row on.
+-- Assumes nothing.
+use mathlib.Core.Path.{_≡_}
+use mathlib.Core.List.{List, [], _∷_, map}
+use Prim.Native.Nat.{ℕ, zero, suc, _+_, _-_, _*_, _^_, _≤_, _<_, min}
+use lib.Dec.{eqb}
+use lib.ListN.{length, getD, take}
+use Rattle.cursor.specs.Vlq.{choose, joined, sized}
+use Rattle.cursor.specs.declared.Node.{Node}
+use Rattle.tree.specs.Rows.{nodeFrom, nodesFrom}
+use Rattle.title.specs.Description.{Content, Shape, shape}
+use Rattle.title.specs.Text.{itemsText, headerOf, ownText, nodeText, outer}
+use Rattle.writer.specs.Counts.{tooMany}
+use Rattle.contents.specs.Contents.{contentsFrom, ItemsInside}
+use Rattle.retitle.specs.declared.Frame.{Frame}
+
+-- ---- a node
+
+-- the bytes of a URI or of inline data; a folder has none of its own
+abbrev pub bodySize : Node → ℕ
+bodySize r = choose (eqb (r .held) 0) (r .extent) 0
+
+-- what a node's header has behind its three numbers
+abbrev pub restText : Shape → List Content → List ℕ
+restText s cs = joined (sized (itemsText cs) ∷ sized (s .unpackers) ∷ [])
+
+-- NodeLength and NodeHeaderLength of a node with these contents, whose nodes have n bytes; where NodeLength is too large it stops, and nothing is said of the other
+pub record Framed (s : Shape) (cs : List Content) (n : ℕ) (r : Frame) : Type 0 where
+  pub stops : r .size ≡ min (length (nodeText s cs n) + n) tooMany
+  pub size : r .size < tooMany → r .size ≡ headerOf (s .held) (restText s cs) (length (ownText s) + n) + (length (ownText s) + n)
+  pub header : r .size < tooMany → r .header ≡ headerOf (s .held) (restText s cs) (length (ownText s) + n)
+
+abbrev pub sumOf : List ℕ → ℕ
+sumOf [] = 0
+sumOf (n ∷ ns) = n + sumOf ns
+
+-- ---- the rows of a file, and what is to be written
+
+-- `nodes` and `items` are the words of the tables, `count` and `total` the numbers of their rows; item row `row` gets the title
+pub record Task : Type 0 where
+  pub file : List ℕ
+  pub nodes : List ℕ
+  pub items : List ℕ
+  pub count : ℕ
+  pub total : ℕ
+  pub row : ℕ
+  pub title : List ℕ
+
+abbrev pub task : (file nodes items : List ℕ) → (count total row : ℕ) → List ℕ → Task
+task file nodes items count total row title = record { file = file; nodes = nodes; items = items; count = count; total = total; row = row; title = title }
+
+-- how many item rows the node rows before row i have
+unfoldable pub firstItem : List ℕ → ℕ → ℕ
+firstItem ws zero = 0
+firstItem ws (suc i) = firstItem ws i + nodeFrom ws (i * 13) .rows
+
+module _ (x : Task) where
+  abbrev pub nodeOf : ℕ → Node
+  nodeOf i = nodeFrom (x .nodes) (i * 13)
+
+  abbrev pub shapeOf : ℕ → Shape
+  shapeOf i = shape (x .file) (nodeOf i)
+
+  -- the contents of node row i
+  abbrev pub contentsOf : ℕ → List Content
+  contentsOf i = contentsFrom (x .file) (x .row) (x .title) (x .items) (firstItem (x .nodes) i) (nodeOf i .rows)
+
+  -- of the nodes from row i on those that no other of these holds, each with all that it holds
+  unfoldable pub outerFrom : ℕ → List (List ℕ)
+  outerFrom i =
+      outer (map (shape (x .file)) (nodesFrom i (x .count - i) (x .nodes)))
+      (contentsFrom (x .file) (x .row) (x .title) (x .items) (firstItem (x .nodes) i) (x .total - firstItem (x .nodes) i))
+
+  -- the bytes of the nodes that node row i holds
+  abbrev pub innerOf : ℕ → ℕ
+  innerOf i = length (joined (take (nodeOf i .held) (outerFrom (i + 1))))
+
+-- what is known of the rows: they and what they name lie in the tables and in the file, item rows belong to node rows, and a node's nodes follow it
+pub record Sound (x : Task) : Type 0 where
+  pub small : length (x .file) < 2 ^ 28
+  pub few : x .count ≤ 256
+  pub node-room : x .count * 13 ≤ length (x .nodes)
+  pub items-inside : ItemsInside (length (x .file)) (x .total) (x .items)
+  pub bodies-inside : (i : ℕ) → i < x .count → nodeOf x i .target + nodeOf x i .extent ≤ length (x .file)
+  pub all-items : firstItem (x .nodes) (x .count) ≡ x .total
+  pub nodes-follow : (i : ℕ) → i < x .count → nodeOf x i .held ≤ length (outerFrom x (i + 1))
+
+-- the first pass was at the rows from row i on: the bytes of a node's contents, and of the nodes that it holds, each stopped
+pub record Measured (x : Task) (i : ℕ) (metadata inner : List ℕ) : Type 0 where
+  pub texts : (j : ℕ) → i ≤ j → j < x .count → getD metadata j 0 ≡ min (length (itemsText (contentsOf x j))) tooMany
+  pub inners : (j : ℕ) → i ≤ j → j < x .count → getD inner j 0 ≡ min (innerOf x j) tooMany
