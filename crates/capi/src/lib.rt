@@ -29,9 +29,9 @@ fn put_answer(answer: &mut [u64], words: &[u64])
     room::clear(answer);
     let room = answer.len();
     if words.len() <= room {
-        metadata::store(answer, 0, words);
+        room::store(answer, 0, words);
     } else {
-        metadata::store(answer, 0, &words[0..room]);
+        room::store(answer, 0, &words[0..room]);
     }
 }
 

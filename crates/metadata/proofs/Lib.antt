@@ -1,4 +1,3 @@
-pub mod Storing
 pub mod Uses
 pub mod Quiet
 pub mod Gives

@@ -92,18 +92,6 @@ pub enum Walked {
     Refused(u64, FilePlace),
 }
 
-// Stores the words from `at` on.
-pub fn store(table: &mut [u64], at: usize, words: &[u64])
-    requires { ⌜ at + length (now words) ≤ length (now table) ⌝ }
-    ensures { λ _. ⌜ now (table .exit) ≡ sets (now (table .entry)) at (now (words .entry)) ⌝ }
-{
-    let mut i = 0;
-    while i < words.len() {
-        table[at + i] = words[i];
-        i = i + 1;
-    }
-}
-
 // Stores an item row behind the `made` rows that are there.
 fn put_item(items: &mut [u64], made: usize, row: Item)
     requires { ⌜ made * itemWidth + itemWidth ≤ length (now items) ⌝ }
@@ -121,7 +109,7 @@ fn put_item(items: &mut [u64], made: usize, row: Item)
         row.place,
         row.size,
     ];
-    store(items, made * cursor::ITEM_WIDTH, &words);
+    room::store(items, made * cursor::ITEM_WIDTH, &words);
 }
 
 // The field here: 0 and a standard number, or an XString, which is a custom name.

@@ -103,7 +103,7 @@ fn put_node(nodes: &mut [u64], made: usize, row: Node)
         row.rows,
         row.detached,
     ];
-    metadata::store(nodes, made * cursor::NODE_WIDTH, &words);
+    room::store(nodes, made * cursor::NODE_WIDTH, &words);
 }
 
 // The cursor behind a node's row, which passes the inline data of a file node.

@@ -1,9 +1,11 @@
+-- `store` stores the words. The invariant: the first i words are stored.
+-- Assumes nothing.
 use Prim.Native.Nat.{_-_}
 use native.Mathlib.Omega.{arith}
 use lib.ListN.{length}
-use Rattle.metadata.proofs.Storing.{Storing, none, more, all}
-use Rattle.metadata.proofs.store.Statement.{statement}
-use Rattle.metadata.proofs.store.Tie as tie
+use Rattle.room.proofs.Storing.{Storing, none, more, all}
+use Rattle.room.proofs.store.Statement.{statement}
+use Rattle.room.proofs.store.Tie as tie
 
 abbrev Inv-loop : tie.InvT-loop
 Inv-loop table₀ at words i₀ table i = Storing table₀ at words i table
