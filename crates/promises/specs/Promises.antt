@@ -71,6 +71,7 @@ writes readTree = false
 writes (findItem w row) = false
 writes (findOwn w row) = false
 writes (resolveRow row) = false
+writes (countFor item channel resource) = false
 writes judgeMobile = false
 writes writeSheet = false
 writes (correctTitle i text) = true
