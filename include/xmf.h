@@ -1,4 +1,5 @@
-/* Five questions about XMF files (versions 1.00, 1.01 and 2.00), and two conversions of a text.
+/* Questions about XMF files (versions 1.00, 1.01 and 2.00), the correction of a title, and two
+ * conversions of a text.
  *
  * The functions are in target/staticlib/libcapi.a, which `rt staticlib capi` proves and writes. The
  * archive is for x86-64 Linux and needs no other library.
@@ -15,7 +16,7 @@
  *
  *   - each pointer is aligned for its type; it may be null only where there are 0 elements, and then
  *     nothing is read or written there (examples/c/empty.c tries this with every function);
- *   - so many elements can be read there, and but for file and name also written;
+ *   - so many elements can be read there, and but for file, name and title also written;
  *   - what is written overlaps nothing else that is lent in the same call;
  *   - no other thread writes what is lent, or reads what is written, until the call returns.
  *
@@ -30,8 +31,9 @@
  * Words past the last value are 0. After a refusal all words from answer[2] on are 0. A shorter
  * buffer gets the words that fit.
  *
- * After an answer the tables hold the file's rows, and zeros past the last row. After a refusal both
- * tables, and the buffer for a sheet, hold zeros only. Each call reads the file afresh. Nothing is
+ * After an answer the tables hold the file's rows, and zeros past the last row; a call that writes a
+ * file leaves the rows of that one. After a refusal both tables, and the buffer for a sheet or a file,
+ * hold zeros only. Each call reads the file afresh. Nothing is
  * allocated and nothing is kept between calls. Places count from 0 at the file's first byte.
  *
  * Refusals
@@ -55,15 +57,22 @@
  *   16  a reference leads outside the file or into the header, or one to a node leads into the tree
  *       where no node starts
  *   17  more than 268,435,455 bytes
- *   18  the row asked for is not there (find and find own, resolve)
+ *   18  the row asked for is not there: a node row (find and find own, resolve), an item row (voice count,
+ *       correct title)
  *   19  resolving ends at a folder
  *   20  resolving ends at a URI
  *   21  a fifth reference would be followed
- *   22  the sheet, or a converted text, is longer than its buffer
- *   23  no such item: on the node and above it (find), on the node itself (find own)
+ *   22  the sheet, a converted text or the new file is longer than its buffer
+ *   23  no such item: on the node and above it (find), on the node itself (find own); the item row is no
+ *       universal field 13 in format 6 or 7, or has no such channel or resource (voice count)
  *   24  a detached node overlaps another one, or is a folder
+ *   25  the content description asked for is not readable: a field is cut short, too long a number or
+ *       of an unknown kind, or bytes are left over
  *   26  UTF-16 of odd length or with half of a surrogate pair, or bad UTF-8; the place counts in what
  *       was to be converted
+ *   36  a node has reference 2 or 3, so no title is corrected
+ *   37  the content to be corrected is hidden, or one of several versions
+ *   38  the new file would have more than 268,435,455 bytes
  */
 #ifndef XMF_H
 #define XMF_H
@@ -179,6 +188,22 @@ void xmf_resolve(const uint8_t *file, size_t file_length,
                  size_t row,
                  uint64_t *answer, size_t answer_words);
 
+/* Gives what an item row, a content description (standard field 13), says that the tune needs: the count
+ * for a channel and a resource, both numbered from 0. Channels stand in the order of the tune's MIP
+ * message, the most important first, and each count includes those of the channels before it.
+ *
+ *   answer[2]  the count
+ *
+ * Refused with 18 when there is no such item row; with 23 when it is no universal field 13 in format 6 or
+ * 7; with 25, placed at the first faulty field, or at the first byte left over; then with 23 when it
+ * describes no such channel or resource.
+ */
+void xmf_voice_count(const uint8_t *file, size_t file_length,
+                     uint64_t *nodes, size_t node_words,
+                     uint64_t *items, size_t item_words,
+                     size_t item_row, uint64_t channel, uint64_t resource,
+                     uint64_t *answer, size_t answer_words);
+
 /* Judges whether the file is a Mobile XMF file.
  *
  *   answer[2]  0, or the number 1 to 8 of the first check that fails
@@ -199,6 +224,24 @@ void xmf_write_sheet(const uint8_t *file, size_t file_length,
                      uint64_t *items, size_t item_words,
                      uint8_t *sheet, size_t sheet_length,
                      uint64_t *answer, size_t answer_words);
+
+/* Replaces the data of an item row, which must be visible and universal, by a title, and writes the
+ * whole file anew into a lent buffer. Every number outside data is written in its shortest form, each
+ * length and place the least that fits the others; all else is copied. The tables hold the new file's
+ * rows. The same title again gives the same file.
+ *
+ *   answer[2]  the number of bytes written
+ *
+ * Bytes of the buffer past the new file are 0. Refused, after the reader's refusals, with 18, 36, 37,
+ * 38 and 22, in that order. The new file holds the hidden bytes of the old one.
+ */
+void xmf_correct_title(const uint8_t *file, size_t file_length,
+                       uint64_t *nodes, size_t node_words,
+                       uint64_t *items, size_t item_words,
+                       size_t item_row,
+                       const uint8_t *title, size_t title_length,
+                       uint8_t *out, size_t out_length,
+                       uint64_t *answer, size_t answer_words);
 
 /* Converts UTF-16, high byte first, into UTF-8. It takes lent data and lent room alone, no file and no
  * tables. One leading FEFF is dropped.

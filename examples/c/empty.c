@@ -35,10 +35,14 @@ int main(int argc, char **argv) {
     expect("find in nothing", 1);
     xmf_resolve(NULL, 0, NULL, 0, NULL, 0, 0, answer, XMF_ANSWER_WORDS);
     expect("resolve in nothing", 1);
+    xmf_voice_count(NULL, 0, NULL, 0, NULL, 0, 0, 0, 0, answer, XMF_ANSWER_WORDS);
+    expect("voice_count in nothing", 1);
     xmf_judge(NULL, 0, NULL, 0, NULL, 0, answer, XMF_ANSWER_WORDS);
     expect("judge nothing", 1);
     xmf_write_sheet(NULL, 0, NULL, 0, NULL, 0, NULL, 0, answer, XMF_ANSWER_WORDS);
     expect("write_sheet of nothing", 1);
+    xmf_correct_title(NULL, 0, NULL, 0, NULL, 0, 0, NULL, 0, NULL, 0, answer, XMF_ANSWER_WORDS);
+    expect("correct_title of nothing", 1);
 
     /* no tables: 10, no row left */
     xmf_read_tree(file, length, NULL, 0, NULL, 0, answer, XMF_ANSWER_WORDS);
@@ -47,24 +51,37 @@ int main(int argc, char **argv) {
     expect("find without tables", 10);
     xmf_resolve(file, length, NULL, 0, NULL, 0, 0, answer, XMF_ANSWER_WORDS);
     expect("resolve without tables", 10);
+    xmf_voice_count(file, length, NULL, 0, NULL, 0, 0, 0, 0, answer, XMF_ANSWER_WORDS);
+    expect("voice_count without tables", 10);
     xmf_judge(file, length, NULL, 0, NULL, 0, answer, XMF_ANSWER_WORDS);
     expect("judge without tables", 10);
     xmf_write_sheet(file, length, NULL, 0, NULL, 0, sheet, sizeof sheet, answer, XMF_ANSWER_WORDS);
     expect("write_sheet without tables", 10);
+    xmf_correct_title(file, length, NULL, 0, NULL, 0, 0, NULL, 0, sheet, sizeof sheet, answer, XMF_ANSWER_WORDS);
+    expect("correct_title without tables", 10);
 
-    /* no name: 23, no such item; no buffer for the sheet: 22 */
+    /* no name: 23, no such item; no buffer for the sheet or the new file: 22; no title: taken */
     xmf_find(file, length, nodes, XMF_ALL_NODE_WORDS, items, XMF_ALL_ITEM_WORDS, 0, XMF_CUSTOM, 0, NULL, 0, answer,
              XMF_ANSWER_WORDS);
     expect("find without a name", 23);
     xmf_write_sheet(file, length, nodes, XMF_ALL_NODE_WORDS, items, XMF_ALL_ITEM_WORDS, NULL, 0, answer,
                     XMF_ANSWER_WORDS);
     expect("write_sheet without a buffer", 22);
+    xmf_correct_title(file, length, nodes, XMF_ALL_NODE_WORDS, items, XMF_ALL_ITEM_WORDS, 0, NULL, 0, NULL, 0, answer,
+                      XMF_ANSWER_WORDS);
+    expect("correct_title without a buffer", 22);
+    xmf_correct_title(file, length, nodes, XMF_ALL_NODE_WORDS, items, XMF_ALL_ITEM_WORDS, 0, NULL, 0, sheet, sizeof sheet,
+                      answer, XMF_ANSWER_WORDS);
+    expect("correct_title without a title", 0);
 
     /* no words for the answer: the tables and the sheet are filled all the same */
     xmf_read_tree(file, length, nodes, XMF_ALL_NODE_WORDS, items, XMF_ALL_ITEM_WORDS, NULL, 0);
     xmf_find(file, length, nodes, XMF_ALL_NODE_WORDS, items, XMF_ALL_ITEM_WORDS, 0, XMF_CUSTOM, 0, NULL, 0, NULL, 0);
     xmf_resolve(file, length, nodes, XMF_ALL_NODE_WORDS, items, XMF_ALL_ITEM_WORDS, 0, NULL, 0);
+    xmf_voice_count(file, length, nodes, XMF_ALL_NODE_WORDS, items, XMF_ALL_ITEM_WORDS, 0, 0, 0, NULL, 0);
     xmf_judge(file, length, nodes, XMF_ALL_NODE_WORDS, items, XMF_ALL_ITEM_WORDS, NULL, 0);
+    xmf_correct_title(file, length, nodes, XMF_ALL_NODE_WORDS, items, XMF_ALL_ITEM_WORDS, 0, NULL, 0, sheet, sizeof sheet,
+                      NULL, 0);
     xmf_write_sheet(file, length, nodes, XMF_ALL_NODE_WORDS, items, XMF_ALL_ITEM_WORDS, sheet, sizeof sheet, NULL, 0);
     if (sheet[0] != 'X') {
         printf("write_sheet without an answer: no sheet\n");

@@ -1,7 +1,7 @@
 -- How a buffer comes to hold the words of an answer, and what a call leaves.
 -- Assumes nothing.
-use mathlib.Core.Path.{_≡_, refl, sym, ap, _∙_}
-use mathlib.Core.List.{List}
+use mathlib.Core.Path.{_≡_, refl, sym, ap, ap₂, _∙_, subst}
+use mathlib.Core.List.{List, map}
 use Prim.Native.Nat.{ℕ, zero, suc, _-_, _≤_}
 use native.Mathlib.Omega.{arith}
 use lib.ListN.{length, take, replicate}
@@ -14,7 +14,7 @@ use Rattle.room.proofs.Sets.{sets-zeros}
 use Rattle.tree.specs.Reading.{rows}
 use Rattle.tree.specs.Hidden.{DifferInPrivate}
 use Rattle.find.specs.Find.{Wanted, standard, custom}
-use Rattle.promises.specs.Promises.{Question, Sizes, Outcome, reads, outcome}
+use Rattle.promises.specs.Promises.{Question, writes, Outcome, reads, outcome, AlikeIn}
 use Rattle.promises.specs.Calls.{Called}
 use Rattle.promises.proofs.Kept.{called, outcome-alike}
 use Rattle.capi.specs.Fit.{fit, asked, Leaves}
@@ -39,24 +39,30 @@ put-as words size r e k = k ∙ ap (λ v. fit size (words v)) (sym e)
 
 -- ---- what a call leaves
 
-pub leaves : {q : Question} {ls : Sizes} {f answer : List ℕ} {o : Outcome} (size : ℕ) → Called q ls f o → answer ≡ fit size (o .answer) → Leaves (outcome q ls f) size answer (o .holds)
-leaves size k e = record { answers = e ∙ ap (λ (v : Outcome). fit size (v .answer)) (called k); holding = ap (λ (v : Outcome). v .holds) (called k) }
+pub leaves : {q : Question} {lent : List (List ℕ)} {f answer′ : List ℕ} {o : Outcome} (answer : List ℕ) → Called q lent f o → answer′ ≡ fit (length answer) (o .answer) → Leaves q f lent (o .holds) answer answer′
+leaves answer k e = record { answers = e ∙ ap (λ (v : Outcome). fit (length answer) (v .answer)) (called k); holding = ap (λ (v : Outcome). v .holds) (called k) }
 
-pub asks-standard : (q : Wanted → (row : ℕ) → Question) (kind number : ℕ) (name : List ℕ) (row : ℕ) (ls : Sizes) (f : List ℕ) → kind ≡ 0 → {answer : List ℕ} {size : ℕ} {holds : List (List ℕ)}
-    → Leaves (outcome (q (standard number) row) ls f) size answer holds → Leaves (outcome (q (asked kind number name) row) ls f) size answer holds
-unfolding asked
-asks-standard q kind number name row ls f e h = rw e h
+module _ (q : Wanted → (row : ℕ) → Question) (kind number : ℕ) (name : List ℕ) (row : ℕ) {f a a′ : List ℕ} {lent left : List (List ℕ)} where
+  pub asks-standard : kind ≡ 0 → Leaves (q (standard number) row) f lent left a a′ → Leaves (q (asked kind number name) row) f lent left a a′
+  unfolding asked
+  asks-standard e h = rw e h
 
-pub asks-custom : (q : Wanted → (row : ℕ) → Question) (kind number : ℕ) (name : List ℕ) (row : ℕ) (ls : Sizes) (f : List ℕ) → ((kind ≡ 0) → ⊥) → {answer : List ℕ} {size : ℕ} {holds : List (List ℕ)}
-    → Leaves (outcome (q (custom name) row) ls f) size answer holds → Leaves (outcome (q (asked kind number name) row) ls f) size answer holds
-unfolding asked
-asks-custom q zero number name row ls f n h = absurd (n refl)
-asks-custom q (suc k) number name row ls f n h = h
+  pub asks-custom : ((kind ≡ 0) → ⊥) → Leaves (q (custom name) row) f lent left a a′ → Leaves (q (asked kind number name) row) f lent left a a′
+  unfolding asked
+  asks-custom n h = by kind n h
+    where
+      by : (k : ℕ) → ((k ≡ 0) → ⊥) → Leaves (q (custom name) row) f lent left a a′ → Leaves (q (asked k number name) row) f lent left a a′
+      by zero n h = absurd (n refl)
+      by (suc k) n h = h
 
--- ---- demand 3 of two calls: whatever their buffers held, both leave the same
+-- ---- demand 3 of two calls, whatever their tables and buffers held
 
-pub calls-alike : (q : Question) (ls : Sizes) (f g : List ℕ) (h : Header) (ns : List Node) (is : List Item) → reads ls f ≡ rows h ns is → DifferInPrivate h ns is f g
-    → {size : ℕ} {a a′ : List ℕ} {x x′ : List (List ℕ)} → Leaves (outcome q ls f) size a x → Leaves (outcome q ls g) size a′ x′ → (a′ ≡ a) × (x′ ≡ x)
-calls-alike q ls f g h ns is r d {size} l k =
-    let e = outcome-alike ls f g h ns is r d q in
-    (k .answers ∙ ap (λ (o : Outcome). fit size (o .answer)) e ∙ sym (l .answers), k .holding ∙ ap (λ (o : Outcome). o .holds) e ∙ sym (l .holding))
+pub calls-alike : (q : Question) (lent lent′ : List (List ℕ)) → map length lent′ ≡ map length lent → (f g : List ℕ) (h : Header) (ns : List Node) (is : List Item)
+    → reads (map length lent) f ≡ rows h ns is → DifferInPrivate h ns is f g → {a a′ b b′ : List ℕ} → length b ≡ length a → {left left′ : List (List ℕ)}
+    → Leaves q f lent left a a′ → Leaves q g lent′ left′ b b′ → (b′ ≡ a′) × AlikeIn (writes q) f g left left′
+calls-alike q lent lent′ e f g h ns is r d {a} z {left} {left′} l k =
+    let w = outcome-alike (map length lent) f g h ns is r d q in
+    let o : outcome q (map length lent′) g ≡ outcome q (map length lent) g = ap (λ ls. outcome q ls g) e in (
+      k .answers ∙ ap₂ (λ n (v : Outcome). fit n (v .answer)) z o ∙ ap (fit (length a)) (w .0) ∙ sym (l .answers),
+      subst (λ v. AlikeIn (writes q) f g v left′) (sym (l .holding)) (subst (AlikeIn (writes q) f g (outcome q (map length lent) f .holds)) (sym (k .holding ∙ ap (λ (v : Outcome). v .holds) o)) (w .1)),
+    )

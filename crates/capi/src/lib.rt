@@ -6,14 +6,18 @@ ghost use lib.ListN.{length};
 ghost use Rattle.tree.specs.Told as told_tree;
 ghost use Rattle.find.specs.Told as told_find;
 ghost use Rattle.resolve.specs.Told as told_resolve;
+ghost use Rattle.description.specs.Told as told_description;
 ghost use Rattle.mobile.specs.Told as told_mobile;
 ghost use Rattle.sheet.specs.Told as told_sheet;
+ghost use Rattle.retitle.specs.Told as told_retitle;
 ghost use Rattle.unicode.specs.Told as told_unicode;
-ghost use Rattle.promises.specs.Promises.{outcome, readTree, findItem, findOwn, resolveRow, judgeMobile, writeSheet, toUtf8, toUtf16};
+ghost use Rattle.promises.specs.Promises.{readTree, findItem, findOwn, resolveRow, countFor, judgeMobile, writeSheet, correctTitle, toUtf8, toUtf16};
 ghost use Rattle.capi.specs.Fit.{fit, asked, Leaves};
+use description::Counted;
 use find::Found;
 use mobile::Judged;
 use resolve::Resolved;
+use retitle::Corrected;
 use sheet::Written;
 use tree::Answer;
 use unicode::Converted;
@@ -25,9 +29,9 @@ fn put_answer(answer: &mut [u64], words: &[u64])
     room::clear(answer);
     let room = answer.len();
     if words.len() <= room {
-        metadata::store(answer, 0, words);
+        room::store(answer, 0, words);
     } else {
-        metadata::store(answer, 0, &words[0..room]);
+        room::store(answer, 0, &words[0..room]);
     }
 }
 
@@ -92,6 +96,19 @@ fn put_resolved(answer: &mut [u64], said: Resolved)
     }
 }
 
+// The count.
+fn put_counted(answer: &mut [u64], said: Counted)
+    ensures { λ _. ⌜ now (answer .exit) ≡ fit (length (now (answer .entry))) (told_description.words said) ⌝ }
+{
+    match said {
+        Counted::Refused(n, p) => put_refusal(answer, n, p),
+        Counted::Count(n) => {
+            let words = [0, 0, n];
+            put_answer(answer, &words);
+        }
+    }
+}
+
 // The verdict.
 fn put_judged(answer: &mut [u64], said: Judged)
     ensures { λ _. ⌜ now (answer .exit) ≡ fit (length (now (answer .entry))) (told_mobile.words said) ⌝ }
@@ -118,6 +135,19 @@ fn put_written(answer: &mut [u64], said: Written)
     }
 }
 
+// The number of bytes of the new file.
+fn put_corrected(answer: &mut [u64], said: Corrected)
+    ensures { λ _. ⌜ now (answer .exit) ≡ fit (length (now (answer .entry))) (told_retitle.words said) ⌝ }
+{
+    match said {
+        Corrected::Refused(n, p) => put_refusal(answer, n, p),
+        Corrected::File(size) => {
+            let words = [0, 0, size as u64];
+            put_answer(answer, &words);
+        }
+    }
+}
+
 // The number of bytes converted to.
 fn put_converted(answer: &mut [u64], said: Converted)
     ensures { λ _. ⌜ now (answer .exit) ≡ fit (length (now (answer .entry))) (told_unicode.words said) ⌝ }
@@ -139,7 +169,7 @@ pub extern "C" fn xmf_read_tree(
     items: &mut [u64],
     answer: &mut [u64],
 )
-    ensures { λ _. ⌜ Leaves (outcome readTree (length (now (nodes .entry)) ∷ length (now (items .entry)) ∷ []) (now (file .entry))) (length (now (answer .entry))) (now (answer .exit)) (now (nodes .exit) ∷ now (items .exit) ∷ []) ⌝ }
+    ensures { λ _. ⌜ Leaves readTree (now (file .entry)) (now (nodes .entry) ∷ now (items .entry) ∷ []) (now (nodes .exit) ∷ now (items .exit) ∷ []) (now (answer .entry)) (now (answer .exit)) ⌝ }
 {
     put_tree(answer, tree::read_tree(file, nodes, items));
 }
@@ -156,7 +186,7 @@ pub extern "C" fn xmf_find(
     name: &[u8],
     answer: &mut [u64],
 )
-    ensures { λ _. ⌜ Leaves (outcome (findItem (asked kind number (now (name .entry))) row) (length (now (nodes .entry)) ∷ length (now (items .entry)) ∷ []) (now (file .entry))) (length (now (answer .entry))) (now (answer .exit)) (now (nodes .exit) ∷ now (items .exit) ∷ []) ⌝ }
+    ensures { λ _. ⌜ Leaves (findItem (asked kind number (now (name .entry))) row) (now (file .entry)) (now (nodes .entry) ∷ now (items .entry) ∷ []) (now (nodes .exit) ∷ now (items .exit) ∷ []) (now (answer .entry)) (now (answer .exit)) ⌝ }
 {
     if kind == 0 {
         put_found(answer, find::find_standard(file, nodes, items, row, number));
@@ -177,7 +207,7 @@ pub extern "C" fn xmf_find_own(
     name: &[u8],
     answer: &mut [u64],
 )
-    ensures { λ _. ⌜ Leaves (outcome (findOwn (asked kind number (now (name .entry))) row) (length (now (nodes .entry)) ∷ length (now (items .entry)) ∷ []) (now (file .entry))) (length (now (answer .entry))) (now (answer .exit)) (now (nodes .exit) ∷ now (items .exit) ∷ []) ⌝ }
+    ensures { λ _. ⌜ Leaves (findOwn (asked kind number (now (name .entry))) row) (now (file .entry)) (now (nodes .entry) ∷ now (items .entry) ∷ []) (now (nodes .exit) ∷ now (items .exit) ∷ []) (now (answer .entry)) (now (answer .exit)) ⌝ }
 {
     if kind == 0 {
         put_found(
@@ -198,15 +228,34 @@ pub extern "C" fn xmf_resolve(
     row: usize,
     answer: &mut [u64],
 )
-    ensures { λ _. ⌜ Leaves (outcome (resolveRow row) (length (now (nodes .entry)) ∷ length (now (items .entry)) ∷ []) (now (file .entry))) (length (now (answer .entry))) (now (answer .exit)) (now (nodes .exit) ∷ now (items .exit) ∷ []) ⌝ }
+    ensures { λ _. ⌜ Leaves (resolveRow row) (now (file .entry)) (now (nodes .entry) ∷ now (items .entry) ∷ []) (now (nodes .exit) ∷ now (items .exit) ∷ []) (now (answer .entry)) (now (answer .exit)) ⌝ }
 {
     put_resolved(answer, resolve::resolve(file, nodes, items, row));
+}
+
+// Reads the content description that is the item row. Answer: its count for a channel and a resource, both numbered from 0.
+#[no_mangle]
+pub extern "C" fn xmf_voice_count(
+    file: &[u8],
+    nodes: &mut [u64],
+    items: &mut [u64],
+    item_row: usize,
+    channel: u64,
+    resource: u64,
+    answer: &mut [u64],
+)
+    ensures { λ _. ⌜ Leaves (countFor «item_row» channel resource) (now (file .entry)) (now (nodes .entry) ∷ now (items .entry) ∷ []) (now (nodes .exit) ∷ now (items .exit) ∷ []) (now (answer .entry)) (now (answer .exit)) ⌝ }
+{
+    put_counted(
+        answer,
+        description::count_for(file, nodes, items, item_row, channel, resource),
+    );
 }
 
 // Judges Mobile XMF. Answer: the verdict.
 #[no_mangle]
 pub extern "C" fn xmf_judge(file: &[u8], nodes: &mut [u64], items: &mut [u64], answer: &mut [u64])
-    ensures { λ _. ⌜ Leaves (outcome judgeMobile (length (now (nodes .entry)) ∷ length (now (items .entry)) ∷ []) (now (file .entry))) (length (now (answer .entry))) (now (answer .exit)) (now (nodes .exit) ∷ now (items .exit) ∷ []) ⌝ }
+    ensures { λ _. ⌜ Leaves judgeMobile (now (file .entry)) (now (nodes .entry) ∷ now (items .entry) ∷ []) (now (nodes .exit) ∷ now (items .exit) ∷ []) (now (answer .entry)) (now (answer .exit)) ⌝ }
 {
     put_judged(answer, mobile::judge(file, nodes, items));
 }
@@ -220,16 +269,35 @@ pub extern "C" fn xmf_write_sheet(
     sheet: &mut [u8],
     answer: &mut [u64],
 )
-    ensures { λ _. ⌜ Leaves (outcome writeSheet (length (now (nodes .entry)) ∷ length (now (items .entry)) ∷ length (now (sheet .entry)) ∷ []) (now (file .entry))) (length (now (answer .entry))) (now (answer .exit)) (now (nodes .exit) ∷ now (items .exit) ∷ now (sheet .exit) ∷ []) ⌝ }
+    ensures { λ _. ⌜ Leaves writeSheet (now (file .entry)) (now (nodes .entry) ∷ now (items .entry) ∷ now (sheet .entry) ∷ []) (now (nodes .exit) ∷ now (items .exit) ∷ now (sheet .exit) ∷ []) (now (answer .entry)) (now (answer .exit)) ⌝ }
 {
     put_written(answer, sheet::write_sheet(file, nodes, items, sheet));
+}
+
+// Writes the file anew with a title as the data of an item row. Answer: bytes written. The new file holds the hidden bytes of the old one.
+#[no_mangle]
+pub extern "C" fn xmf_correct_title(
+    file: &[u8],
+    nodes: &mut [u64],
+    items: &mut [u64],
+    row: usize,
+    title: &[u8],
+    out: &mut [u8],
+    answer: &mut [u64],
+)
+    ensures { λ _. ⌜ Leaves (correctTitle row (now (title .entry))) (now (file .entry)) (now (nodes .entry) ∷ now (items .entry) ∷ now (out .entry) ∷ []) (now (nodes .exit) ∷ now (items .exit) ∷ now (out .exit) ∷ []) (now (answer .entry)) (now (answer .exit)) ⌝ }
+{
+    put_corrected(
+        answer,
+        retitle::correct_title(file, nodes, items, row, title, out),
+    );
 }
 
 // Converts UTF-16, high byte first, into UTF-8; one leading mark FEFF is dropped. Answer: bytes written. It converts what it is given, hidden text too, and
 // stands outside demand 3.
 #[no_mangle]
 pub extern "C" fn xmf_utf16_to_utf8(units: &[u8], text: &mut [u8], answer: &mut [u64])
-    ensures { λ _. ⌜ Leaves (outcome (toUtf8 (now (units .entry))) (length (now (text .entry)) ∷ []) []) (length (now (answer .entry))) (now (answer .exit)) (now (text .exit) ∷ []) ⌝ }
+    ensures { λ _. ⌜ Leaves (toUtf8 (now (units .entry))) [] (now (text .entry) ∷ []) (now (text .exit) ∷ []) (now (answer .entry)) (now (answer .exit)) ⌝ }
 {
     put_converted(answer, unicode::to_utf8(units, text));
 }
@@ -237,7 +305,7 @@ pub extern "C" fn xmf_utf16_to_utf8(units: &[u8], text: &mut [u8], answer: &mut 
 // Converts UTF-8 into UTF-16, high byte first. Answer: bytes written.
 #[no_mangle]
 pub extern "C" fn xmf_utf8_to_utf16(text: &[u8], units: &mut [u8], answer: &mut [u64])
-    ensures { λ _. ⌜ Leaves (outcome (toUtf16 (now (text .entry))) (length (now (units .entry)) ∷ []) []) (length (now (answer .entry))) (now (answer .exit)) (now (units .exit) ∷ []) ⌝ }
+    ensures { λ _. ⌜ Leaves (toUtf16 (now (text .entry))) [] (now (units .entry) ∷ []) (now (units .exit) ∷ []) (now (answer .entry)) (now (answer .exit)) ⌝ }
 {
     put_converted(answer, unicode::to_utf16(text, units));
 }

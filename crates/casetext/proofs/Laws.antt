@@ -98,7 +98,7 @@ value-least : (v : ℕ) (ds : List ℕ) → v ≤ valueFrom v ds
 value-least v [] = omega arith
 value-least v (d ∷ ds) = let e = value-least (v * 10 + digitOf d) ds in omega arith
 
-pub value-over : (ds : List ℕ) (v i : ℕ) → i < length ds → valueFrom 0 ds ≡ valueFrom v (drop i ds) → v * 10 ≤ valueFrom 0 ds
+pub value-over : (ds : List ℕ) (v i : ℕ) → i < length ds → valueFrom 0 ds ≡ valueFrom v (drop i ds) → v * 10 + digitOf (getD ds i 0) ≤ valueFrom 0 ds
 value-over ds v i h e =
     let next = value-more ds v i (digitOf (getD ds i 0)) (digitOf (getD ds i 0)) h e refl refl in
     let l = value-least (v * 10 + digitOf (getD ds i 0)) (drop (i + 1) ds) in omega arith

@@ -36,11 +36,10 @@ abbrev pub valueFrom : ℕ → List ℕ → ℕ
 valueFrom v [] = v
 valueFrom v (d ∷ ds) = valueFrom (v * 10 + digitOf d) ds
 
--- value is the number that digits spell, where right; and decimal digits of a number below 10 to the power 18 are right
+-- value is the number that digits spell, where right; and decimal digits of a number that a word holds are right
 pub record Spells (digits : List ℕ) (value : ℕ) (right : Bool) : Type 0 where
-  pub small : value < 10 ^ 18
   pub meant : right ≡ true → value ≡ valueFrom 0 digits
-  pub taken : 0 < length digits → ((k : ℕ) → k < length digits → digitOf (getD digits k 0) ≤ 9) → valueFrom 0 digits < 10 ^ 18 → right ≡ true
+  pub taken : 0 < length digits → ((k : ℕ) → k < length digits → digitOf (getD digits k 0) ≤ 9) → valueFrom 0 digits < 2 ^ 64 → right ≡ true
 
 -- byte k of the bytes that field spells, two digits to a byte
 abbrev pub byteAt : List ℕ → ℕ → ℕ

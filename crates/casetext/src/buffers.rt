@@ -5,11 +5,11 @@ ghost use lib.ListN.{length, replicate};
 // What every lent word holds before a call.
 pub const STALE: u64 = 7;
 
-// 1,048,576 zeros, for all of the text that standard input holds.
-pub fn text_buffer() -> [u8; 1048576]
-    ensures { λ r. ⌜ 1048576 ≡ length r ⌝ }
+// 2,097,152 zeros, for all of the text that standard input holds.
+pub fn text_buffer() -> [u8; 2097152]
+    ensures { λ r. ⌜ 2097152 ≡ length r ⌝ }
 {
-    [0; 1048576]
+    [0; 2097152]
 }
 
 // 262,144 zeros, for the text of one answer.

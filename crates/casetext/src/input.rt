@@ -24,7 +24,7 @@ pub struct Case {
     pub right: bool,
 }
 
-// Reads a decimal number below 10 to the power 18.
+// Reads a decimal number that a word holds.
 pub fn read_decimal(digits: &[u8]) -> Number
     ensures { λ r. ⌜ Spells (now (digits .entry)) (r .value) (r .right) ⌝ }
 {
@@ -38,13 +38,14 @@ pub fn read_decimal(digits: &[u8]) -> Number
                 right: false,
             };
         }
-        if value >= 100000000000000000 {
+        let more = wide(d);
+        if value > (usize::MAX - more) / 10 {
             return Number {
                 value: 0,
                 right: false,
             };
         }
-        value = value * 10 + wide(d);
+        value = value * 10 + more;
         i += 1;
     }
     Number {

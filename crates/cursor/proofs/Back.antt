@@ -1,6 +1,6 @@
 -- What was written is read back, wherever it stands: numbers, blocks, manufacturers, GUIDs.
 -- Assumes nothing.
-use mathlib.Core.Path.{_≡_, refl, sym, ap, _∙_}
+use mathlib.Core.Path.{_≡_, refl, sym, ap, _∙_, subst}
 use mathlib.Core.List.{List, [], _∷_, _++_}
 use Prim.Native.Nat.{ℕ, zero, suc, _+_, _-_, _*_, _/_, _%_, _^_, _≤_, _<_}
 use native.Mathlib.Omega.{arith}
@@ -9,9 +9,10 @@ use native.Mathlib.Decide.{decLe, decLt}
 use lib.ListN.{length, getD}
 use Rattle.cursor.specs.Machine.{Out, ok, refused, run}
 use Rattle.cursor.specs.Rows.{Frame}
-use Rattle.cursor.specs.Leaves.{digits, number, block, manufacturer, guidBytes, guid}
+use Rattle.cursor.specs.Leaves.{digits, number, block, manufacturer, guid}
 use Rattle.cursor.specs.Vlq.{mark, inBytes, least, vlq}
-use Rattle.cursor.proofs.Digits.{digits-last, digits-more, Reading, begun, guid-none, guid-missing, guid-last, guid-more, guid-begun}
+use Rattle.cursor.proofs.Digits.{Digits, final, further, digits-read, digits-were, begun, dropped, guid-is}
+use Rattle.cursor.proofs.Laws.{never}
 use Rattle.cursor.proofs.Leaves.{block-all, manufacturer-none, manufacturer-one, manufacturer-cut, manufacturer-three}
 use Rattle.cursor.proofs.Least.{least-in, least-fits, in-bytes-length}
 use Rattle.cursor.proofs.Lies.{Lies, lies-none, lies-cons, lies-head, lies-tail}
@@ -22,27 +23,26 @@ one-on n k =
     let e : n / 128 ^ suc k ≡ n / 128 ^ k / 128 = rw (pow-succ' 128 k, mul-comm 128 (128 ^ k)) (sym (div-div-eq-div-mul n (128 ^ k) 128)) in
     rw e (omega arith)
 
-module _ (κ : Frame) (past end p : ℕ) (g : List ℕ) (n : ℕ) where
-  -- the last k + 1 bytes of n, where the earlier ones gave the rest
-  digits-back : (k left at : ℕ) → Lies g at (inBytes (suc k) n) → k < left → at + suc k ≤ end → run (digits κ past end p left (n / 128 ^ suc k)) g at ≡ ok n (at + suc k)
-  unfolding inBytes
-  digits-back zero left at h l i =
-      let b = lies-head h in
-      let e : n / 128 ^ 1 * 128 + getD g at 0 ≡ n = omega (arith, one-on n 0) in
-      digits-last κ past end p g at (n / 128 ^ 1) left (λ z. omega arith) (omega arith) (omega arith) ∙ rw e refl
-  digits-back (suc k) left at h l i =
-      let b = lies-head h in
-      let e : n / 128 ^ suc (suc k) * 128 + getD g at 0 % 128 ≡ n / 128 ^ suc k = omega (arith, one-on n (suc k)) in
-      let q : at + 1 + suc k ≡ at + suc (suc k) = omega arith in
-      digits-more κ past end p g at (n / 128 ^ suc (suc k)) left (λ z. omega arith) (omega arith) (omega arith)
-      ∙ rw (e, ← q) (digits-back k (left - 1) (at + 1) (lies-tail h) (omega arith) (omega arith))
+-- the last k + 1 bytes of n, where the earlier ones gave the rest
+digits-in : {g : List ℕ} (n k left at : ℕ) → Lies g at (inBytes (suc k) n) → k < left → Digits g left (n / 128 ^ suc k) at n (at + suc k)
+unfolding inBytes
+digits-in n k zero at h l = absurd (omega arith)
+digits-in {g} n zero (suc left) at h l =
+    let b = lies-head h in
+    let e : n / 128 ^ 1 * 128 + getD g at 0 ≡ n = omega (arith, one-on n 0) in
+    subst (λ w. Digits g (suc left) (n / 128 ^ 1) at w (at + 1)) e (final {at = at} (omega arith))
+digits-in {g} n (suc k) (suc left) at h l =
+    let b = lies-head h in
+    let e : n / 128 ^ suc (suc k) * 128 + getD g at 0 % 128 ≡ n / 128 ^ suc k = omega (arith, one-on n (suc k)) in
+    let q : at + 1 + suc k ≡ at + suc (suc k) = omega arith in
+    further {at = at} (omega arith) (rw (← e, q) at (digits-in n k left (at + 1) (lies-tail h) (omega arith)))
 
 -- n in k bytes is read back
 pub number-in : (κ : Frame) (past end : ℕ) {g : List ℕ} {at : ℕ} (n k : ℕ) → Lies g at (inBytes k n) → 1 ≤ k → k ≤ 4 → n < 128 ^ k → at + k ≤ end → run (number κ past end) g at ≡ ok n (at + k)
 number-in κ past end n zero h l m b i = absurd (omega arith)
 number-in κ past end {g} {at} n (suc k) h l m b i =
     let z : n / 128 ^ suc k ≡ 0 = div-eq-of-lt b in
-    begun g past end at .same κ ∙ rw z at (digits-back κ past end at g n k 4 at h (omega arith) i)
+    begun g past end at .same κ ∙ digits-read κ past end at (rw z at (digits-in n k 4 at h (omega arith))) i
 
 -- n in its shortest form is read back
 pub number-back : (κ : Frame) (past end : ℕ) {g : List ℕ} {at : ℕ} (n : ℕ) → Lies g at (vlq n) → n < 2 ^ 28 → at + length (vlq n) ≤ end → run (number κ past end) g at ≡ ok n (at + length (vlq n))
@@ -69,19 +69,18 @@ pub data Maker : List ℕ → Type 0 where
   one : {b : ℕ} → ((b ≡ 0) → ⊥) → Maker (b ∷ [])
   three : {c d : ℕ} → Maker (0 ∷ c ∷ d ∷ [])
 
-module _ (κ : Frame) (end : ℕ) (g : List ℕ) where
-  guid-bytes-back : (p : ℕ) {left : ℕ} {s : List ℕ} → Guid left s → (at : ℕ) → Lies g at s → at + length s ≤ end → run (guidBytes κ end p left) g at ≡ ok tt (at + length s)
-  guid-bytes-back p (last {left} {b} l) at h i =
-      let e = lies-head h in
-      guid-last κ end p g at (suc left) (λ z. omega arith) (omega arith) (omega arith)
-  guid-bytes-back p (more {left} {b} {s} l r) at h i =
-      let e = lies-head h in
-      let q : suc left - 1 ≡ left = omega arith in
-      let t : at + 1 + length s ≡ at + suc (length s) = omega arith in
-      guid-more κ end p g at (suc left) (λ z. omega arith) (omega arith) (omega arith) ∙ rw (q, ← t) (guid-bytes-back p r (at + 1) (lies-tail h) (omega arith))
+-- they stand as a number does, of some value
+guid-in : {g : List ℕ} {left : ℕ} {s : List ℕ} → Guid left s → (v at : ℕ) → Lies g at s → (w : ℕ) × Digits g left v at w (at + length s)
+guid-in (last l) v at h = let e = lies-head h in (_, final {at = at} (omega arith))
+guid-in {g} (more {s = s} l r) v at h =
+    let e = lies-head h in
+    let q : at + 1 + length s ≡ at + suc (length s) = omega arith in
+    let (w, d) = guid-in r (v * 128 + getD g at 0 % 128) (at + 1) (lies-tail h) in
+    (w, further {at = at} (omega arith) (rw q at d))
 
+module _ (κ : Frame) (end : ℕ) (g : List ℕ) where
   pub guid-back : {s : List ℕ} → Guid 19 s → (at : ℕ) → Lies g at s → at + length s ≤ end → run (guid κ end) g at ≡ ok tt (at + length s)
-  guid-back r at h i = guid-begun g end at .same κ ∙ guid-bytes-back at r at h i
+  guid-back r at h i = guid-is κ g end at ∙ ap dropped (digits-read κ 3 end at (guid-in r 0 at h .1) i)
 
   pub maker-back : {s : List ℕ} → Maker s → (at : ℕ) → Lies g at s → at + length s ≤ end → run (manufacturer κ end) g at ≡ ok tt (at + length s)
   maker-back (one n) at h i = sym (manufacturer-one κ end g at (omega arith) (sym (lies-head h)) n)
@@ -94,35 +93,27 @@ pub record Stood (Is : List ℕ → Type 0) (f : List ℕ) (at q : ℕ) : Type 0
   pub lies : Lies f at bytes
   pub ends : q ≡ at + length bytes
 
-never : {A B : Type 0} {a : A} {n p q : ℕ} → refused n p ≡ ok a q → B
-never e = let z : _≡_ {A = ℕ} 0 1 = cc in absurd (omega arith)
-
 place-of : {A : Type 0} {a b : A} {p q : ℕ} → ok a p ≡ ok b q → p ≡ q
 place-of e = cc
 
 lies-one : (f : List ℕ) (at : ℕ) → at < length f → Lies f at (getD f at 0 ∷ [])
 lies-one f at l = lies-cons refl l (lies-none (omega arith))
 
-module _ (κ : Frame) (end : ℕ) (f : List ℕ) (all : end ≤ length f) where
-  guid-bytes-was : (p left at : ℕ) {q : ℕ} → run (guidBytes κ end p left) f at ≡ ok tt q → Stood (Guid left) f at q
-  guid-bytes-was p zero at e = never (sym (guid-none κ end p f at 0 refl) ∙ e)
-  guid-bytes-was p (suc left) at {q} e =
-      let some : (suc left ≡ 0) → ⊥ = λ z. omega arith in
-      let a : suc left - 1 ≡ left = omega arith in
-      let b : ℕ = getD f at 0 in
-      elim (decLt at end) [
-        | no n ↦ never (sym (guid-missing κ end p f at (suc left) some (omega arith)) ∙ e)
-        | yes i ↦ elim (decLt b 128) [
-          | yes s ↦ record { bytes = b ∷ []; is = last s; lies = lies-one f at (omega arith); ends = sym (place-of (sym (guid-last κ end p f at (suc left) some i s) ∙ e)) }
-          | no s ↦
-              let r = guid-bytes-was p left (at + 1) (rw a at (sym (guid-more κ end p f at (suc left) some i (omega arith)) ∙ e)) in
-              record { bytes = b ∷ r .bytes; is = more {b = b} (omega arith) (r .is); lies = lies-cons refl (omega arith) (r .lies); ends = r .ends ∙ (omega arith) }
-        ]
-      ]
+guid-stood : {f : List ℕ} {left v at w q : ℕ} → Digits f left v at w q → q ≤ length f → Stood (Guid left) f at q
+guid-stood {f} (final {at = at} s) l = record { bytes = getD f at 0 ∷ []; is = last s; lies = lies-one f at (omega arith); ends = refl }
+guid-stood {f} (further {at = at} s d) l =
+    let r = guid-stood d l in
+    let i = r .ends in
+    record { bytes = getD f at 0 ∷ r .bytes; is = more s (r .is); lies = lies-cons refl (omega arith) (r .lies); ends = omega arith }
 
+module _ (κ : Frame) (end : ℕ) (f : List ℕ) (all : end ≤ length f) where
   -- what was read as a GUID are its bytes
   pub guid-was : (at : ℕ) {q : ℕ} → run (guid κ end) f at ≡ ok tt q → Stood (Guid 19) f at q
-  guid-was at e = guid-bytes-was at 19 at (sym (guid-begun f end at .same κ) ∙ e)
+  guid-was at {q} e = by (run (digits κ 3 end at 19 0) f at) refl (sym (guid-is κ f end at) ∙ e)
+    where
+      by : (o : Out ℕ) → run (digits κ 3 end at 19 0) f at ≡ o → dropped o ≡ ok tt q → Stood (Guid 19) f at q
+      by (ok w r) x y = let (d, l) = digits-were κ 3 end at 19 0 at x in let z : r ≡ q = place-of y in rw (← z) (guid-stood d (omega arith))
+      by (refused n r) x y = never y
 
   pub maker-was : (at : ℕ) {q : ℕ} → run (manufacturer κ end) f at ≡ ok tt q → Stood Maker f at q
   maker-was at e = elim (decLt at end) [

@@ -14,6 +14,10 @@ use Rattle.cursor.specs.Machine.{Prog, ret, refuse, here, byte, pass, Ou
 pub was : {E O : Type 0} (told : E → O) {r r′ : E} {o : O} → told r ≡ o → r ≡ r′ → o ≡ told r′
 was told e q = sym e ∙ ap told q
 
+-- a run is not both refused and accepted
+pub never : {A B : Type 0} {a : A} {n p q : ℕ} → refused n p ≡ ok a q → B
+never e = let z : _≡_ {A = ℕ} 0 1 = cc in absurd (omega arith)
+
 module _ {A B : Type 0} where
   abbrev pub andThen : Out A → (A → ℕ → Out B) → Out B
   andThen (ok a p) k = k a p
@@ -148,6 +152,37 @@ unfolding rowsOf
 rows-on pick [] fs = refl
 rows-on pick (seen κ p ∷ es) fs = rows-on pick es fs
 rows-on pick (passed w p n ∷ es) fs = ap (λ v. pick w p n ++ v) (rows-on pick es fs) ∙ sym (append-assoc (pick w p n) _ _)
+
+-- ---- a run in two parts
+
+-- what follows m reads and passes
+unfoldable pub afterwards : {K W A B : Type 0} → (A → Prog K W B) → List ℕ → Out A → List (Event K W)
+afterwards g f (ok a p) = trace (g a) f p
+afterwards g f (refused n p) = []
+
+pub trace-bind : {K W A B : Type 0} (m : Prog K W A) (g : A → Prog K W B) (f : List ℕ) (at : ℕ) → trace (m >>= g) f at ≡ trace m f at ++ afterwards g f (run m f at)
+unfolding trace run _>>=_ afterwards
+trace-bind (ret a) g f at = refl
+trace-bind (refuse n p) g f at = refl
+trace-bind (here k) g f at = trace-bind (k at) g f at
+trace-bind (byte κ k) g f at = ap (λ es. seen κ at ∷ es) (trace-bind (k (getD f at 0)) g f (at + 1))
+trace-bind (pass w n m) g f at = ap (λ es. passed w at n ∷ es) (trace-bind m g f (at + n))
+
+-- an accepted run: of m, and of what follows it
+pub record Split {K W A B : Type 0} (m : Prog K W A) (g : A → Prog K W B) (f : List ℕ) (at : ℕ) (b : B) (q : ℕ) : Type 0 where
+  pub a : A
+  pub p : ℕ
+  pub first : run m f at ≡ ok a p
+  pub second : run (g a) f p ≡ ok b q
+  pub joined : trace (m >>= g) f at ≡ trace m f at ++ trace (g a) f p
+
+pub split : {K W A B : Type 0} (m : Prog K W A) (g : A → Prog K W B) (f : List ℕ) (at : ℕ) {b : B} {q : ℕ} → run (m >>= g) f at ≡ ok b q → Split m g f at b q
+unfolding afterwards
+split {A = A} m g f at {b} {q} e = by (run m f at) refl (sym (run-bind m g f at) ∙ e)
+  where
+    by : (o : Out A) → run m f at ≡ o → andThen o (λ a p. run (g a) f p) ≡ ok b q → Split m g f at b q
+    by (ok a p) x y = record { a = a; p = p; first = x; second = y; joined = trace-bind m g f at ∙ ap (λ o. trace m f at ++ afterwards g f o) x }
+    by (refused n p) x y = never y
 
 -- ---- repetitions, one turn at a time
 

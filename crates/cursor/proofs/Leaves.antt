@@ -1,21 +1,20 @@
 -- The laws of the leaves: each moves on, stays inside its part, and is small. Callers use these, never the text of a definition.
 -- Assumes nothing.
-use mathlib.Core.Path.{_≡_, refl, ap, _∙_}
-use mathlib.Core.Bool.{Bool, true, false}
+use mathlib.Core.Path.{_≡_, sym}
 use mathlib.Core.List.{List}
 use Prim.Native.Nat.{ℕ, zero, suc, _+_, _*_, _%_, _-_, _^_, _≤_, _<_}
-use native.Mathlib.Nat.{lt-of-not-le}
+use native.Mathlib.Nat.{lt-of-not-le, mul-assoc, mul-le-mul-left, mul-le-mul-right, pow-succ', pow-le-pow-right}
 use native.Mathlib.Decide.{decLe}
 use native.Mathlib.Omega.{arith}
-use lib.Dec.{ltb}
 use lib.ListN.{getD}
-use borrow.Author.Tests.{ltb-true, ltb-false, leb-true, le-leb, lt-leb, eq-eqb, ne-eqb, lt-ltb, le-ltb}
-use Rattle.cursor.specs.Machine.{ret, refuse, byte, _>>=_, _>>_, if_then_else_, place, check, Out, ok, refused, run}
-use Rattle.cursor.specs.Rows.{Frame, Part, P}
-use Rattle.cursor.specs.Leaves.{next, digits, number, block, manufacturer, guidBytes, guid}
+use borrow.Author.Tests.{ltb-true, leb-true, le-leb, lt-leb, eq-eqb, ne-eqb, lt-ltb, le-ltb}
+use Rattle.cursor.specs.Machine.{ok, refused, run}
+use Rattle.cursor.specs.Rows.{Frame, Part}
+use Rattle.cursor.specs.Leaves.{next, digits, number, block, manufacturer, guid}
 use Rattle.cursor.proofs.Laws.{running}
-use Rattle.cursor.proofs.Digits.{grown, below}
+use Rattle.cursor.proofs.Digits.{begun, last}
 use Rattle.cursor.proofs.Stable.{depends}
+use Rattle.cursor.proofs.Within.{same, number-within}
 use Rattle.cursor.proofs.Wp.{Wp, Rule, Free, at-end, wp-after, wp-weaken, wp-ret, wp-refuse, wp-here, wp-byte, wp-if, wp-check, wp-place}
 
 module _ {U : Rule Part} where
@@ -24,26 +23,27 @@ module _ {U : Rule Part} where
   unfolding next
   next-on κ past end p at = wp-here (wp-if (λ t. wp-byte λ b. wp-ret (omega arith, omega (arith, ltb-true at end t))) (λ t. wp-refuse))
 
-  digits-on : (κ : Frame) (past end p left v at : ℕ) → left ≤ 4 → v < 128 ^ (4 - left)
-      → Wp U (digits κ past end p left v) (λ w q. (at < q) × (q ≤ at + left) × (q ≤ end) × (w < 128 ^ 4)) at
+  -- the rest of a number, when the earlier bytes gave v
+  digits-on : (κ : Frame) (past end p left v at : ℕ) → Wp U (digits κ past end p left v) (λ w q. (at < q) × (q ≤ at + left) × (q ≤ end) × (w < suc v * 128 ^ left)) at
   unfolding digits
-  digits-on κ past end p zero v at l h = wp-refuse
-  digits-on κ past end p (suc left) v at l h =
-      let e : suc left - 1 ≡ left = omega arith in
+  digits-on κ past end p zero v at = wp-refuse
+  digits-on κ past end p (suc left) v at =
       wp-after (next-on κ past end p at) λ b q x.
       wp-if
-      (λ t. wp-ret (omega arith, omega arith, omega arith, omega (arith, last v b (suc left) (λ z. omega arith) l h (ltb-true b 128 t))))
-      (λ t. wp-weaken (digits-on κ past end p left (v * 128 + b % 128) q (omega arith) (rw e at (grown v b (suc left) (λ z. omega arith) l h))) (λ w r y. (omega arith, omega arith, omega arith, omega arith)))
+      (λ t. wp-ret (omega arith, omega arith, omega arith, let l = ltb-true b 128 t in omega (arith, some (v * 128 + b) left, longer v (v * 128 + b) left (omega arith))))
+      (λ t. wp-weaken (digits-on κ past end p left (v * 128 + b % 128) q) (λ w r y. (omega arith, omega arith, omega arith, omega (arith, longer v (v * 128 + b % 128) left (omega arith)))))
     where
-      last : (v b left : ℕ) → ((left ≡ 0) → ⊥) → left ≤ 4 → v < 128 ^ (4 - left) → b < 128 → v * 128 + b < 128 ^ 4
-      last v b left some l h k =
-          let m : b % 128 ≡ b = omega arith in
-          below (v * 128 + b) (left - 1) (rw m at (grown v b left some l h))
+      -- a byte more, and bytes that are left over
+      longer : (v u left : ℕ) → u < suc v * 128 → suc u * 128 ^ left ≤ suc v * 128 ^ suc left
+      longer v u left l = rw (pow-succ' 128 left, ← mul-assoc (suc v) 128 (128 ^ left)) (mul-le-mul-right (128 ^ left) l)
+
+      some : (u left : ℕ) → suc u * 1 ≤ suc u * 128 ^ left
+      some u left = mul-le-mul-left (suc u) (pow-le-pow-right {n = 128} (omega arith) {i = 0} {j = left} (omega arith))
 
   -- a number moves on by 1 to 4 bytes, stays inside its part, and is below 2 ^ 28
   pub number-on : (κ : Frame) (past end at : ℕ) → Wp U (number κ past end) (λ v q. (at < q) × (q ≤ at + 4) × (q ≤ end) × (v < 2 ^ 28)) at
   unfolding number
-  number-on κ past end at = wp-place _ at (wp-weaken (digits-on κ past end at 4 0 at (omega arith) (omega arith)) (λ v q x. (omega arith, omega arith, omega arith, omega arith)))
+  number-on κ past end at = wp-place _ at (wp-weaken (digits-on κ past end at 4 0 at) (λ v q x. (omega arith, omega arith, omega arith, omega arith)))
 
   -- a block lies inside the part
   pub block-on : (κ : Frame) (past end at : ℕ) → Wp U (block κ past end) (λ v q. (at < q) × (q ≤ at + 4) × (q + v ≤ end) × (v < 2 ^ 28)) at
@@ -62,15 +62,9 @@ module _ {U : Rule Part} where
       (λ t. wp-after (next-on κ _ end at q) λ c r y. wp-after (next-on κ _ end at r) λ d s z. wp-ret (omega arith))
       (λ t. wp-ret (omega arith)))
 
-  guid-bytes-on : (κ : Frame) (end p left at : ℕ) → Wp U (guidBytes κ end p left) (λ _ q. (at < q) × (q ≤ at + left) × (q ≤ end)) at
-  unfolding guidBytes
-  guid-bytes-on κ end p zero at = wp-refuse
-  guid-bytes-on κ end p (suc left) at =
-      wp-after (next-on κ _ end p at) λ b q x. wp-if (λ t. wp-ret (omega arith)) (λ t. wp-weaken (guid-bytes-on κ end p left q) (λ _ r y. omega arith))
-
   pub guid-on : (κ : Frame) (end at : ℕ) → Wp U (guid κ end) (λ _ q. (at < q) × (q ≤ at + 19) × (q ≤ end)) at
   unfolding guid
-  guid-on κ end at = wp-place _ at (guid-bytes-on κ end at 19 at)
+  guid-on κ end at = wp-place _ at (wp-after (digits-on κ _ end at 19 0 at) λ v q x. wp-ret (omega arith))
 
 -- ---- the same of a run that is known
 
@@ -87,6 +81,10 @@ module _ (κ : Frame) (past end : ℕ) (f : List ℕ) (at : ℕ) {v q : ℕ} whe
 
   pub block-inside : run (block κ past end) f at ≡ ok v q → (at < q) × (q ≤ at + 4) × (q + v ≤ end) × (v < 2 ^ 28)
   block-inside e = at-end any-free f (block-on {U = Any} κ past end at) e
+
+  -- a byte below 80h is the whole number
+  pub number-short : at < end → v ≡ getD f at 0 → v < 128 → q ≡ at + 1 → run (number κ past end) f at ≡ ok v q
+  number-short l is h k = let m : 0 * 128 + v % 128 ≡ v = omega arith in rw k (sym (rw m at (last (begun f past end at) (λ z. omega arith) l is h κ)))
 
   -- a number depends on the bytes that it read alone
   pub number-depends : run (number κ past end) f at ≡ ok v q → (g : List ℕ) → ((k : ℕ) → at ≤ k → k < q → getD f k 0 ≡ getD g k 0) → run (number κ past end) g at ≡ ok v q
@@ -139,29 +137,5 @@ module _ (κ : Frame) (end : ℕ) (f : List ℕ) (at : ℕ) where
 
 -- ---- a number, given or refused, depends on the bytes of its part alone
 
-module _ (f g : List ℕ) where
-  after-byte : (c : Bool) (x at : ℕ) (m : P ℕ) → run m f at ≡ run m g at → run (if c then ret x else m) f at ≡ run (if c then ret x else m) g at
-  unfolding run if_then_else_
-  after-byte true x at m h = refl
-  after-byte false x at m h = h
-
-  a-byte : (c : Bool) (κ : Frame) (past p at : ℕ) (m : ℕ → P ℕ) → (c ≡ true → run (m (getD f at 0)) f (at + 1) ≡ run (m (getD g at 0)) g (at + 1))
-      → run ((if c then byte κ ret else refuse past p) >>= m) f at ≡ run ((if c then byte κ ret else refuse past p) >>= m) g at
-  unfolding run _>>=_ if_then_else_
-  a-byte true κ past p at m h = h refl
-  a-byte false κ past p at m h = refl
-
-  digits-same : (κ : Frame) (past end p left v at : ℕ) → ((k : ℕ) → at ≤ k → k < end → getD f k 0 ≡ getD g k 0) → run (digits κ past end p left v) f at ≡ run (digits κ past end p left v) g at
-  unfolding run _>>=_ next digits
-  digits-same κ past end p zero v at h = refl
-  digits-same κ past end p (suc left) v at h =
-      let rest : ℕ → P ℕ = λ b. if ltb b 0x80 then ret (v * 128 + b) else digits κ past end p left (v * 128 + b % 0x80) in
-      a-byte (ltb at end) κ past p at rest λ t.
-      let l : at < end = ltb-true at end t in
-      let b = getD g at 0 in
-      ap (λ x. run (rest x) f (at + 1)) (h at (omega arith) l)
-      ∙ after-byte (ltb b 0x80) (v * 128 + b) (at + 1) (digits κ past end p left (v * 128 + b % 0x80)) (digits-same κ past end p left (v * 128 + b % 0x80) (at + 1) (λ k lo hi. h k (omega arith) hi))
-
-  pub number-same : (κ : Frame) (past end at : ℕ) → ((k : ℕ) → at ≤ k → k < end → getD f k 0 ≡ getD g k 0) → run (number κ past end) f at ≡ run (number κ past end) g at
-  unfolding run _>>=_ number place
-  number-same κ past end at h = digits-same κ past end at 4 0 at h
+pub number-same : (f g : List ℕ) (κ : Frame) (past end at : ℕ) → ((k : ℕ) → at ≤ k → k < end → getD f k 0 ≡ getD g k 0) → run (number κ past end) f at ≡ run (number κ past end) g at
+number-same f g κ past end at h = same (number-within κ past end) f g at h

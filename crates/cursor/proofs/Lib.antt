@@ -3,12 +3,13 @@ pub mod Stable
 pub mod Log
 pub mod Near
 pub mod Wp
+pub mod Uses
 pub mod Quiet
 pub mod Digits
+pub mod Within
 pub mod Leaves
 pub mod Order
 pub mod Limited
-pub mod Listed
 pub mod Least
 pub mod Lies
 pub mod Back

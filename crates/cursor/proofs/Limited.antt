@@ -13,7 +13,7 @@ use lib.ListN.{getD}
 use Rattle.cursor.specs.Machine.{ret, refuse, here, byte, pass, ok, seen, passed, run, trace, _>>=_, _>>_, if_then_else_, place, skip, check, turns, many, times}
 use Rattle.cursor.specs.Rows.{Frame, Part, nodeRow, itemRow, plain, P, Events}
 use Rattle.cursor.specs.Refusals.{noRowLeft}
-use Rattle.cursor.proofs.Order.{OrdersOf, Same, Rowless}
+use Rattle.cursor.proofs.Uses.{UsesOf, passing, NoRow, Rowless}
 
 -- ---- rows, by their kind
 
@@ -174,29 +174,19 @@ module _ {lim : Rows} where
 
   module _ {A : Type 0} where
     -- a program that makes no row is the same under all limits
-    late : {Q : A → Rows → Type 0} (m : P A) (k e k₁ e₁ : ℕ) (c : Rows) → k < k₁ → OrdersOf m (Same k e) k₁ e₁ → Limited lim Q c m m
-    late (ret a) k e k₁ e₁ c l w = let z = w .0 in absurd (omega arith)
-    late (refuse n p) k e k₁ e₁ c l w = same
-    late (here f) k e k₁ e₁ c l w = asked (λ at. late (f at) k e k₁ e₁ c l (w at))
-    late (byte φ f) k e k₁ e₁ c l w = read (λ b. late (f b) k e k₁ e₁ c l (w b))
-    late (pass (nodeRow r) n m) k e k₁ e₁ c l w = moved (late m k e (k₁ + 1) 0 _ (omega arith) (w .2))
-    late (pass (itemRow r) n m) k e k₁ e₁ c l w = moved (late m k e k₁ (e₁ + 1) _ l (w .1))
-    late (pass (plain x) n m) k e k₁ e₁ c l w = moved (late m k e k₁ e₁ _ l w)
-
-    still : (m : P A) (k e e₁ : ℕ) (c d : Rows) → OrdersOf m (Same k e) k e₁ → d node ≡ c node → d item + e ≡ c item + e₁
-        → Limited lim (λ a d. (d node ≡ c node) × (d item ≡ c item)) d m m
-    still (ret a) k e e₁ c d w x y = let z = w .1 in let v : d item ≡ c item = omega arith in answer (x, v)
-    still (refuse n p) k e e₁ c d w x y = same
-    still (here f) k e e₁ c d w x y = asked (λ at. still (f at) k e e₁ c d (w at) x y)
-    still (byte φ f) k e e₁ c d w x y = read (λ b. still (f b) k e e₁ c d (w b) x y)
-    still (pass (nodeRow r) n m) k e e₁ c d w x y = moved (late m k e (k + 1) 0 _ (omega arith) (w .2))
-    still (pass (itemRow r) n m) k e e₁ c d w x y = let z : d item + 1 + e ≡ c item + (e₁ + 1) = omega arith in moved (still m k e (e₁ + 1) c (more (itemRow r) d) (w .1) x z)
-    still (pass (plain v) n m) k e e₁ c d w x y = moved (still m k e e₁ c _ w x y)
+    still : (m : P A) (c d : Rows) → UsesOf (passing NoRow) m → d node ≡ c node → d item ≡ c item → Limited lim (λ a d. (d node ≡ c node) × (d item ≡ c item)) d m m
+    still (ret a) c d u x y = answer (x, y)
+    still (refuse n p) c d u x y = same
+    still (here f) c d u x y = asked (λ at. still (f at) c d (u at) x y)
+    still (byte φ f) c d u x y = read (λ b. still (f b) c d (u .1 b) x y)
+    still (pass (nodeRow r) n m) c d u x y = absurd (u .0)
+    still (pass (itemRow r) n m) c d u x y = absurd (u .0)
+    still (pass (plain v) n m) c d u x y = moved (still m c _ (u .1) x y)
 
     -- such a program, and then another; Q is kept by the numbers of rows alone
     pub then-rowless : {B : Type 0} {R : B → Rows → Type 0} {c : Rows} {m : P A} {g h : A → P B} → Rowless m
         → ((a : A) (d : Rows) → d node ≡ c node → d item ≡ c item → Limited lim R d (g a) (h a)) → Limited lim R c (m >>= g) (m >>= h)
-    then-rowless {c = c} {m} w k = after (still m 0 0 0 c c (w 0 0 .orders) refl refl) λ a d q. k a d (q .0) (q .1)
+    then-rowless {c = c} {m} u k = after (still m c c (u .uses) refl refl) λ a d q. k a d (q .0) (q .1)
 
     pub ends : {Q : A → Rows → Type 0} {c : Rows} {a : A} → Q a c → Limited lim Q c (ret a) (ret a)
     ends q = answer q

@@ -1,5 +1,5 @@
 -- The order in which a run makes rows: each item row names the node whose row comes next, each node row counts the item rows since the last one
--- and names a parent whose row is not later. A rule for each form, proved once; the leaves make no row.
+-- and names a parent whose row is not later. A rule for each form, proved once, and one for programs that make no row.
 -- Assumes nothing.
 use mathlib.Core.Path.{_≡_, refl, sym, subst}
 use mathlib.Core.Bool.{Bool, true, false}
@@ -8,10 +8,10 @@ use Prim.Native.Nat.{ℕ, zero, suc, _+_, _-_, _≤_}
 use native.Mathlib.Omega.{arith}
 use lib.ListN.{getD}
 use Rattle.cursor.specs.Machine.{ret, refuse, here, byte, pass, Out, ok, refused, seen, passed, run, trace, _>>=_, _>>_, if_then_else_, place, skip, check, turns, many, times}
-use Rattle.cursor.specs.Rows.{Frame, Part, nodeRow, itemRow, Plain, plain, P, Events}
+use Rattle.cursor.specs.Rows.{Part, nodeRow, itemRow, plain, P, Events}
 use Rattle.cursor.specs.declared.Node.{Node}
 use Rattle.cursor.specs.declared.Item.{Item}
-use Rattle.cursor.specs.Leaves.{next, digits, number, block, manufacturer, guidBytes, guid}
+use Rattle.cursor.proofs.Uses.{UsesOf, passing, NoRow, Rowless}
 
 -- k node rows were made, and c item rows since the last of them: what a thing that is passed asks for, and the counts after it
 abbrev pub Step : Part → (k c : ℕ) → (ℕ → ℕ → Type 0) → Type 0
@@ -104,9 +104,6 @@ module _ {A : Type 0} where
   pub at-place : {f : ℕ → P A} {R : A → ℕ → ℕ → Type 0} {k c : ℕ} → ((at : ℕ) → Orders (f at) R k c) → Orders (here f) R k c
   at-place w = record { orders = λ at. w at .orders }
 
-  pub reads : {κ : Frame} {f : ℕ → P A} {R : A → ℕ → ℕ → Type 0} {k c : ℕ} → ((b : ℕ) → Orders (f b) R k c) → Orders (byte κ f) R k c
-  reads w = record { orders = λ b. w b .orders }
-
   pub either : (b : Bool) {m n : P A} {R : A → ℕ → ℕ → Type 0} {k c : ℕ} → Orders m R k c → Orders n R k c → Orders (if b then m else n) R k c
   unfolding if_then_else_
   either true h k = h
@@ -129,10 +126,6 @@ module _ {A : Type 0} where
   unfolding _>>=_ _>>_ skip
   passes-item r n a h = record { orders = (a, h .orders) }
 
-  pub passes-plain : (x : Plain) (n : ℕ) {m : P A} {R : A → ℕ → ℕ → Type 0} {k c : ℕ} → Orders m R k c → Orders (skip (plain x) n >> m) R k c
-  unfolding _>>=_ _>>_ skip
-  passes-plain x n h = record { orders = h .orders }
-
   -- an invariant of answer and counts
   turned : (I : A → ℕ → ℕ → Type 0) (t end : ℕ) {body : A → P A} (s : A) {k c : ℕ} → ((s : A) (k c : ℕ) → I s k c → Orders (body s) I k c) → I s k c → Orders (turns t end body s) I k c
   unfolding turns
@@ -148,47 +141,16 @@ module _ {A : Type 0} where
   counts I zero s step i = ends i
   counts I (suc n) s {k} {c} step i = after (step s k c i) λ r k c q. counts I n r step q
 
--- ---- the leaves make no row
+  -- a program that makes no row, and then another
+  rowless : {B : Type 0} (m : P A) (g : A → P B) (R : B → ℕ → ℕ → Type 0) (k c : ℕ) → UsesOf (passing NoRow) m → ((a : A) → OrdersOf (g a) R k c) → OrdersOf (m >>= g) R k c
+  unfolding _>>=_
+  rowless (ret a) g R k c u h = h a
+  rowless (refuse n p) g R k c u h = tt
+  rowless (here f) g R k c u h = λ at. rowless (f at) g R k c (u at) h
+  rowless (byte κ f) g R k c u h = λ b. rowless (f b) g R k c (u .1 b) h
+  rowless (pass (nodeRow r) n m) g R k c u h = absurd (u .0)
+  rowless (pass (itemRow r) n m) g R k c u h = absurd (u .0)
+  rowless (pass (plain x) n m) g R k c u h = rowless m g R k c (u .1) h
 
-abbrev pub Same : {A : Type 0} → (k c : ℕ) → A → ℕ → ℕ → Type 0
-Same k c a k′ c′ = (k′ ≡ k) × (c′ ≡ c)
-
--- m makes no row
-abbrev pub Rowless : {A : Type 0} → P A → Type 0
-Rowless m = (k c : ℕ) → Orders m (Same k c) k c
-
-pub next-rowless : (κ : Frame) (past end p : ℕ) → Rowless (next κ past end p)
-unfolding next
-next-rowless κ past end p k c = at-place λ at. either _ (reads λ b. ends (refl, refl)) stops
-
--- a program that makes no row, and then another
-pub then-rowless : {A B : Type 0} {m : P A} {g : A → P B} {R : B → ℕ → ℕ → Type 0} {k c : ℕ} → Rowless m → ((a : A) → Orders (g a) R k c) → Orders (m >>= g) R k c
-then-rowless {R = R} {k} {c} w h = after (w k c) λ a k′ c′ q. rw (q .0, q .1) (h a)
-
-digits-rowless : (κ : Frame) (past end p left v : ℕ) → Rowless (digits κ past end p left v)
-unfolding digits
-digits-rowless κ past end p zero v k c = stops
-digits-rowless κ past end p (suc left) v k c = then-rowless (next-rowless κ past end p) λ b. either _ (ends (refl, refl)) (digits-rowless κ past end p left _ k c)
-
-pub number-rowless : (κ : Frame) (past end : ℕ) → Rowless (number κ past end)
-unfolding number
-number-rowless κ past end k c = places λ p. digits-rowless κ past end p 4 0 k c
-
-pub block-rowless : (κ : Frame) (past end : ℕ) → Rowless (block κ past end)
-unfolding block
-block-rowless κ past end k c = places λ p. then-rowless (number-rowless κ past end) λ size. places λ q. checks _ _ _ (ends (refl, refl))
-
-pub manufacturer-rowless : (κ : Frame) (end : ℕ) → Rowless (manufacturer κ end)
-unfolding manufacturer
-manufacturer-rowless κ end k c =
-    places λ p. then-rowless (next-rowless κ _ end p) λ b.
-    either _ (then-rowless (next-rowless κ _ end p) λ d. then-rowless (next-rowless κ _ end p) λ e. ends (refl, refl)) (ends (refl, refl))
-
-guid-bytes-rowless : (κ : Frame) (end p left : ℕ) → Rowless (guidBytes κ end p left)
-unfolding guidBytes
-guid-bytes-rowless κ end p zero k c = stops
-guid-bytes-rowless κ end p (suc left) k c = then-rowless (next-rowless κ _ end p) λ b. either _ (ends (refl, refl)) (guid-bytes-rowless κ end p left k c)
-
-pub guid-rowless : (κ : Frame) (end : ℕ) → Rowless (guid κ end)
-unfolding guid
-guid-rowless κ end k c = places λ p. guid-bytes-rowless κ end p 19 k c
+  pub then-rowless : {B : Type 0} {m : P A} {g : A → P B} {R : B → ℕ → ℕ → Type 0} {k c : ℕ} → Rowless m → ((a : A) → Orders (g a) R k c) → Orders (m >>= g) R k c
+  then-rowless {m = m} {g} {R} {k} {c} u h = record { orders = rowless m g R k c (u .uses) (λ a. h a .orders) }

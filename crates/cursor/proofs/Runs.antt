@@ -6,7 +6,7 @@ use Prim.Native.Nat.{ℕ, zero, suc, _+_}
 use native.Mathlib.Omega.{arith}
 use Rattle.cursor.specs.Machine.{Out, ok, refused, run, exec, times}
 use Rattle.cursor.specs.Rows.{Part, P}
-use Rattle.cursor.proofs.Laws.{running, andThen}
+use Rattle.cursor.proofs.Laws.{running, never}
 use Rattle.cursor.proofs.Quiet.{Quiet, IgnoresPlain, still, exec-puts}
 use Rattle.cursor.proofs.Post.{Meets, Post}
 
@@ -28,9 +28,6 @@ pub post-ran : {A : Type 0} {f : List ℕ} {m : P A} {Q : A → ℕ → Type 0} 
 post-ran {f = f} {m = m} {Q = Q} {at = at} w e = subst (λ o. Meets (Holds Q) (still o tt)) e (subst (Meets (Holds Q)) (exec-puts nothing m f at tt) (w .post))
 
 -- ---- one more turn
-
-never : {A B : Type 0} {a : A} {n p q : ℕ} → refused n p ≡ ok a q → B
-never e = let z : _≡_ {A = ℕ} 0 1 = cc in absurd (omega arith)
 
 module _ {A : Type 0} (f : List ℕ) (body : A → P A) where
   pub times-more : (k : ℕ) (s : A) (p : ℕ) {t u : A} {q r : ℕ} → run (times k body s) f p ≡ ok t q → run (body t) f q ≡ ok u r → run (times (suc k) body s) f p ≡ ok u r

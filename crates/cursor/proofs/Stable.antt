@@ -10,17 +10,24 @@ use lib.Dec.{T, T-not}
 use lib.ListN.{getD}
 use Rattle.cursor.specs.Machine.{Prog, ret, refuse, here, byte, pass, Out, ok, refused, Event, seen, passed, run, trace}
 
+-- its first byte, and how many bytes it has
+abbrev pub startOf : {K W : Type 0} → Event K W → ℕ
+startOf (seen κ p) = p
+startOf (passed w p n) = p
+
+abbrev pub sizeOf : {K W : Type 0} → Event K W → ℕ
+sizeOf (seen κ p) = 1
+sizeOf (passed w p n) = n
+
 -- the events lie end to end from `at` on
 abbrev pub Chain : {K W : Type 0} → ℕ → List (Event K W) → Type 0
 Chain at [] = Unit {0}
-Chain at (seen κ p ∷ es) = (p ≡ at) × Chain (at + 1) es
-Chain at (passed w p n ∷ es) = (p ≡ at) × Chain (at + n) es
+Chain at (e ∷ es) = (startOf e ≡ at) × Chain (at + sizeOf e) es
 
 -- where they end
 abbrev pub endOf : {K W : Type 0} → ℕ → List (Event K W) → ℕ
 endOf at [] = at
-endOf at (seen κ p ∷ es) = endOf (at + 1) es
-endOf at (passed w p n ∷ es) = endOf (at + n) es
+endOf at (e ∷ es) = endOf (at + sizeOf e) es
 
 pub chain : {K W A : Type 0} (m : Prog K W A) (f : List ℕ) (at : ℕ) → Chain at (trace m f at)
 unfolding trace
@@ -40,8 +47,31 @@ ends (pass w n m) f at e = ends m f (at + n) e
 
 pub at-least : {K W : Type 0} (es : List (Event K W)) (at : ℕ) → at ≤ endOf at es
 at-least [] at = omega arith
-at-least (seen κ p ∷ es) at = omega (arith, at-least es (at + 1))
-at-least (passed w p n ∷ es) at = omega (arith, at-least es (at + n))
+at-least (e ∷ es) at = omega (arith, at-least es (at + sizeOf e))
+
+-- ---- events that lie end to end share no byte
+
+module _ {K W : Type 0} where
+  -- k is a byte of the event; of one of them
+  abbrev pub Has : Event K W → ℕ → Type 0
+  Has e k = (startOf e ≤ k) × (k < startOf e + sizeOf e)
+
+  abbrev pub Covers : List (Event K W) → ℕ → Type 0
+  Covers [] k = ⊥
+  Covers (e ∷ es) k = Has e k ⊎ Covers es k
+
+  -- no byte is in two of them
+  abbrev pub Separate : List (Event K W) → Type 0
+  Separate [] = Unit {0}
+  Separate (e ∷ es) = ((k : ℕ) → Has e k → Covers es k → ⊥) × Separate es
+
+  pub covered : (es : List (Event K W)) (at k : ℕ) → Chain at es → Covers es k → (at ≤ k) × (k < endOf at es)
+  covered (e ∷ es) at k c (inl x) = omega (arith, at-least es (at + sizeOf e))
+  covered (e ∷ es) at k c (inr y) = let (l, h) = covered es (at + sizeOf e) k (c .1) y in (omega arith, h)
+
+  pub separate : (es : List (Event K W)) (at : ℕ) → Chain at es → Separate es
+  separate [] at c = tt
+  separate (e ∷ es) at c = (λ k x y. let l = covered es (at + sizeOf e) k (c .1) y .0 in omega arith, separate es (at + sizeOf e) (c .1))
 
 -- ---- bytes that may differ: those of events that are free
 
@@ -62,32 +92,27 @@ module _ {K W : Type 0} (free : W → Bool) where
   abbrev pub Kept : List ℕ → List ℕ → List (Event K W) → Type 0
   Kept f g es = Held (λ k. getD f k 0 ≡ getD g k 0) es
 
-  pub held-by : (P Q : ℕ → Type 0) (es : List (Event K W)) → ((k : ℕ) → P k → Q k) → Held P es → Held Q es
-  held-by P Q [] h x = tt
-  held-by P Q (seen κ p ∷ es) h x = (h p (x .0), held-by P Q es h (x .1))
-  held-by P Q (passed w p n ∷ es) h x = (λ u k lo hi. h k (x .0 u k lo hi), held-by P Q es h (x .1))
+  free-covers : (es : List (Event K W)) (k : ℕ) → Free es k → Covers es k
+  free-covers (seen κ p ∷ es) k y = inr (free-covers es k y)
+  free-covers (passed w p n ∷ es) k (inl x) = inl (x .1, x .2)
+  free-covers (passed w p n ∷ es) k (inr y) = inr (free-covers es k y)
 
-  before : (es : List (Event K W)) (at k : ℕ) → Chain at es → k < at → Free es k → ⊥
-  before (seen κ p ∷ es) at k c h y = before es (at + 1) k (c .1) (omega arith) y
-  before (passed w p n ∷ es) at k c h (inl x) = omega arith
-  before (passed w p n ∷ es) at k c h (inr y) = before es (at + n) k (c .1) (omega arith) y
-
-  -- events that lie end to end: no byte of those that are not free is a free one
-  pub unmixed : (es : List (Event K W)) (at : ℕ) → Chain at es → Held (λ k. (at ≤ k) × (k < endOf at es) × (Free es k → ⊥)) es
-  unmixed [] at c = tt
-  unmixed (seen κ p ∷ es) at c = (
-    (omega arith, omega (arith, at-least es (at + 1)), before es (at + 1) p (c .1) (omega arith)),
-    held-by _ _ es (λ k x. let l = x .0 in (omega arith, x .1, x .2)) (unmixed es (at + 1) (c .1)),
+  -- what holds of each byte that is not free, where the events share none
+  pub held : (P : ℕ → Type 0) (es : List (Event K W)) → Separate es → ((k : ℕ) → Covers es k → (Free es k → ⊥) → P k) → Held P es
+  held P [] s h = tt
+  held P (seen κ p ∷ es) s h = (
+    h p (inl (omega arith)) (λ y. s .0 p (omega arith) (free-covers es p y)),
+    held P es (s .1) (λ k x u. h k (inr x) u),
   )
-  unmixed (passed w p n ∷ es) at c = (
-    λ u k lo hi. (omega arith, omega (arith, at-least es (at + n)), elim [ inl x ↦ T-not (free w) u (x .0) | inr y ↦ before es (at + n) k (c .1) (omega arith) y ]),
-    held-by _ _ es (λ k x. let l = x .0 in (omega arith, x .1, elim [ inl y ↦ omega arith | inr y ↦ x .2 y ])) (unmixed es (at + n) (c .1)),
+  held P (passed w p n ∷ es) s h = (
+    λ u k lo hi. h k (inl (lo, hi)) (elim [ inl x ↦ T-not (free w) u (x .0) | inr y ↦ s .0 k (lo, hi) (free-covers es k y) ]),
+    held P es (s .1) (λ k x u. h k (inr x) (elim [ inl y ↦ s .0 k (y .1, y .2) x | inr y ↦ u y ])),
   )
 
   -- files that agree outside the free events agree on the others
   pub kept : (f g : List ℕ) (es : List (Event K W)) (at : ℕ) → Chain at es
       → ((k : ℕ) → at ≤ k → k < endOf at es → (Free es k → ⊥) → getD f k 0 ≡ getD g k 0) → Kept f g es
-  kept f g es at c h = held-by _ _ es (λ k x. h k (x .0) (x .1) (x .2)) (unmixed es at c)
+  kept f g es at c h = held _ es (separate es at c) (λ k x u. let i = covered es at k c x in h k (i .0) (i .1) u)
 
   -- the run is the same: a byte that was read is in no free event
   pub stable : {A : Type 0} (m : Prog K W A) (f g : List ℕ) (at : ℕ) → Kept f g (trace m f at)
@@ -103,14 +128,8 @@ module _ {K W : Type 0} (free : W → Bool) where
 
 -- ---- a run that was accepted depends on the bytes between its two places alone
 
-module _ {K W : Type 0} where
-  none : (es : List (Event K W)) (k : ℕ) → Free (λ _. false) es k → ⊥
-  none (seen κ p ∷ es) k y = none es k y
-  none (passed w p n ∷ es) k (inl x) = x .0
-  none (passed w p n ∷ es) k (inr y) = none es k y
-
-  pub depends : {A : Type 0} (m : Prog K W A) (f g : List ℕ) (at : ℕ) {a : A} {q : ℕ} → run m f at ≡ ok a q
-      → ((k : ℕ) → at ≤ k → k < q → getD f k 0 ≡ getD g k 0) → run m g at ≡ ok a q
-  depends m f g at e h =
-      let z = ends m f at e in
-      sym (stable (λ _. false) m f g at (kept (λ _. false) f g (trace m f at) at (chain m f at) (λ k lo hi n. h k lo (omega arith))) .0) ∙ e
+pub depends : {K W A : Type 0} (m : Prog K W A) (f g : List ℕ) (at : ℕ) {a : A} {q : ℕ} → run m f at ≡ ok a q
+    → ((k : ℕ) → at ≤ k → k < q → getD f k 0 ≡ getD g k 0) → run m g at ≡ ok a q
+depends m f g at e h =
+    let z = ends m f at e in
+    sym (stable (λ _. false) m f g at (kept (λ _. false) f g (trace m f at) at (chain m f at) (λ k lo hi n. h k lo (omega arith))) .0) ∙ e

@@ -46,15 +46,9 @@ manufacturer κ end = do
         ret tt)
       else ret tt
 
--- the rest of a GUID that began at p: `left` bytes may still come
-unfoldable pub guidBytes : Frame → (end p left : ℕ) → P (Unit {0})
-guidBytes κ end p zero = refuse badNumber p
-guidBytes κ end p (suc left) = do
-  b ← next κ cutShort end p
-  if ltb b 0x80 then ret tt else guidBytes κ end p left
-
--- 1 to 19 bytes, ended by the first below 80h
+-- a GUID: 1 to 19 bytes, ended by the first below 80h as a number is; its value is not kept
 unfoldable pub guid : Frame → (end : ℕ) → P (Unit {0})
 guid κ end = do
   p ← place
-  guidBytes κ end p 19
+  v ← digits κ cutShort end p 19 0
+  ret tt

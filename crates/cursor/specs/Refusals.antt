@@ -82,6 +82,10 @@ noSuchItem = 23
 abbrev pub badDetached : ℕ
 badDetached = 24
 
+-- a field of a content description is cut short, too long a number or of no such kind; or bytes are left over
+abbrev pub badDescription : ℕ
+badDescription = 25
+
 -- odd length, lone surrogate or bad UTF-8
 abbrev pub badText : ℕ
 badText = 26
@@ -112,8 +116,15 @@ ofFind = noSuchRow ∷ noSuchItem ∷ []
 abbrev pub ofResolve : List ℕ
 ofResolve = noSuchRow ∷ endsAtFolder ∷ endsAtUri ∷ tooManyHops ∷ []
 
+abbrev pub ofCount : List ℕ
+ofCount = noSuchRow ∷ noSuchItem ∷ badDescription ∷ []
+
 abbrev pub ofSheet : List ℕ
 ofSheet = noRoom ∷ []
+
+-- the correction of a title
+abbrev pub ofTitle : List ℕ
+ofTitle = noSuchRow ∷ refersElsewhere ∷ notATitle ∷ resultTooLarge ∷ noRoom ∷ []
 
 -- a conversion of text, which has no file
 abbrev pub ofConversion : List ℕ
@@ -121,7 +132,9 @@ ofConversion = badText ∷ noRoom ∷ []
 
 -- those that name no field: their place is 0
 abbrev pub placeless : List ℕ
-placeless = tooLarge ∷ noSuchRow ∷ endsAtFolder ∷ endsAtUri ∷ tooManyHops ∷ noRoom ∷ noSuchItem ∷ []
+placeless =
+    tooLarge ∷ noSuchRow ∷ endsAtFolder ∷ endsAtUri ∷ tooManyHops ∷ noRoom ∷ noSuchItem
+    ∷ refersElsewhere ∷ notATitle ∷ resultTooLarge ∷ []
 
 -- ---- membership
 

@@ -1,11 +1,17 @@
--- What the code's answers say. Contracts read `told answer ≡ run program`.
+-- What a reading call is given, and what the code's answers say. Contracts read `told answer ≡ run program`.
 -- Assumes nothing.
-use Prim.Native.Nat.{ℕ}
+use mathlib.Core.List.{List}
+use Prim.Native.Nat.{ℕ, _^_, _≤_, _<_}
+use lib.ListN.{length}
 use Rattle.cursor.specs.Machine.{Out, ok, refused}
 use Rattle.cursor.specs.declared.Numbered.{Numbered}
 use Rattle.cursor.specs.declared.Numbered.the-variants as number
 use Rattle.cursor.specs.declared.Passed.{Passed}
 use Rattle.cursor.specs.declared.Passed.the-variants as passing
+
+-- a part that ends at `end` lies in the file, and the file is no longer than an accepted one may be
+abbrev pub Readable : (end : ℕ) → (file : List ℕ) → Type 0
+Readable end file = (end ≤ length file) × (length file < 2 ^ 28)
 
 abbrev pub numberTold : Numbered → Out ℕ
 numberTold (number.Is v c) = ok v (c .at .0)

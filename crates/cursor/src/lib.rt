@@ -56,6 +56,8 @@ pub const NO_SUCH_ITEM: u64 = 23;
 
 pub const BAD_DETACHED: u64 = 24;
 
+pub const BAD_DESCRIPTION: u64 = 25;
+
 pub const BAD_TEXT: u64 = 26;
 
 pub const REFERS_ELSEWHERE: u64 = 36;
@@ -156,7 +158,15 @@ impl Cursor {
     {
         let start = self.at;
         let stop = end.0;
-        let mut at = start.0;
+        let first = start.0;
+        // Almost every number is one byte, and is read straight away. The loop below is the rule for any number.
+        if first < stop {
+            let byte = wide(file[first]);
+            if byte < 128 {
+                return Numbered::Is(byte, self.on(1));
+            }
+        }
+        let mut at = first;
         let mut value: u64 = 0;
         let mut left: usize = 4;
         loop {

@@ -96,9 +96,9 @@ module _ (f : List ℕ) (w : Wanted) (ns : List Node) (is : List Item) (k : ℕ)
 -- ---- the question over a file that the reader refuses
 
 pub says-refused : (climbs : Bool) (f : List ℕ) (w : Wanted) (row nsize isize : ℕ) (o : Reading) {r : Read} → r ≡ readOf o → {n : ℕ} {p : FilePlace} → r ≡ read.Refused n p → {t u : List ℕ} → t ≡ nodeTable nsize o → u ≡ itemTable isize o
-    → (bad n (p .0) ≡ ask o (question climbs f w row)) × (t ≡ keptNodes nsize o (ask o (question climbs f w row))) × (u ≡ keptItems isize o (ask o (question climbs f w row)))
+    → (bad n (p .0) ≡ ask o (question climbs w row f)) × (t ≡ keptNodes nsize o (ask o (question climbs w row f))) × (u ≡ keptItems isize o (ask o (question climbs w row f)))
 says-refused climbs f w row nsize isize o e k a b =
-    (sym (ask-refused o e k (question climbs f w row)), refused-nodes o (question climbs f w row) e k nsize a, refused-items o (question climbs f w row) e k isize b)
+    (sym (ask-refused o e k (question climbs w row f)), refused-nodes o (question climbs w row f) e k nsize a, refused-items o (question climbs w row f) e k isize b)
 
 -- ---- the question over an accepted file
 
@@ -109,20 +109,20 @@ names-in {f} {o} {s} {t} {u} d = rw (d .items-are) (λ i l. d .sound .items-insi
 module _ (climbs : Bool) (f : List ℕ) (w : Wanted) (row nsize isize : ℕ) {o : Reading} {s : Summary} {t u : List ℕ} (d : Standing f o s t u) where
   -- what the call says of its answer and of the tables that it leaves
   abbrev pub Says : Result Numbered → List ℕ → List ℕ → Type 0
-  Says a t′ u′ = (a ≡ ask o (question climbs f w row)) × (t′ ≡ keptNodes nsize o (ask o (question climbs f w row))) × (u′ ≡ keptItems isize o (ask o (question climbs f w row)))
+  Says a t′ u′ = (a ≡ ask o (question climbs w row f)) × (t′ ≡ keptNodes nsize o (ask o (question climbs w row f))) × (u′ ≡ keptItems isize o (ask o (question climbs w row f)))
 
   count-is : length (d .ns) ≡ s .nodes
   count-is = ap length (sym (d .nodes-are)) ∙ nodes-in-length t (s .nodes)
 
-  says-bad : {n p : ℕ} → question climbs f w row (d .h) (d .ns) (d .is) ≡ bad n p → {t′ u′ : List ℕ} → t′ ≡ replicate nsize 0 → u′ ≡ replicate isize 0 → Says (bad n p) t′ u′
-  says-bad e a b = (sym (ask-is (d .reads) (question climbs f w row) ∙ e), bad-nodes (d .reads) (question climbs f w row) nsize e a, bad-items (d .reads) (question climbs f w row) isize e b)
+  says-bad : {n p : ℕ} → question climbs w row f (d .h) (d .ns) (d .is) ≡ bad n p → {t′ u′ : List ℕ} → t′ ≡ replicate nsize 0 → u′ ≡ replicate isize 0 → Says (bad n p) t′ u′
+  says-bad e a b = (sym (ask-is (d .reads) (question climbs w row f) ∙ e), bad-nodes (d .reads) (question climbs w row f) nsize e a, bad-items (d .reads) (question climbs w row f) isize e b)
 
   -- both kinds of question: what is found from the row, if there is such a row
-  as-found : question climbs f w row (d .h) (d .ns) (d .is) ≡ choose (ltb row (length (d .ns))) (foundBy climbs f w (d .ns) (d .is) row) (bad 18 0)
+  as-found : question climbs w row f (d .h) (d .ns) (d .is) ≡ choose (ltb row (length (d .ns))) (foundBy climbs f w (d .ns) (d .is) row) (bad 18 0)
   unfolding find findOwn
   as-found = by climbs
     where
-      by : (b : Bool) → question b f w row (d .h) (d .ns) (d .is) ≡ choose (ltb row (length (d .ns))) (foundBy b f w (d .ns) (d .is) row) (bad 18 0)
+      by : (b : Bool) → question b w row f (d .h) (d .ns) (d .is) ≡ choose (ltb row (length (d .ns))) (foundBy b f w (d .ns) (d .is) row) (bad 18 0)
       by true = refl
       by false = refl
 
@@ -131,7 +131,7 @@ module _ (climbs : Bool) (f : List ℕ) (w : Wanted) (row nsize isize : ℕ) {o 
   says-no-row l a b = let c = count-is in let e : ltb row (length (d .ns)) ≡ false = le-ltb row (length (d .ns)) (omega arith) in says-bad (as-found ∙ simp e) a b
 
   module _ (l : row < s .nodes) (r : Found) (g : told r ≡ foundBy climbs f w (nodesIn (s .nodes) t) (itemsIn (s .items) u) row) where
-    found-is : question climbs f w row (d .h) (d .ns) (d .is) ≡ told r
+    found-is : question climbs w row f (d .h) (d .ns) (d .is) ≡ told r
     unfolding choose
     found-is =
         let c = count-is in
@@ -144,4 +144,4 @@ module _ (climbs : Bool) (f : List ℕ) (w : Wanted) (row nsize isize : ℕ) {o 
     pub says-item : {i : ℕ} {item : Item} → r ≡ found.Item i item → t ≡ nodeTable nsize o → u ≡ itemTable isize o → Says (good (record { row = i; item = item })) t u
     says-item e a b =
         let z = found-is ∙ ap told e in
-        (sym (ask-is (d .reads) (question climbs f w row) ∙ z), good-nodes (d .reads) (question climbs f w row) nsize z a, good-items (d .reads) (question climbs f w row) isize z b)
+        (sym (ask-is (d .reads) (question climbs w row f) ∙ z), good-nodes (d .reads) (question climbs w row f) nsize z a, good-items (d .reads) (question climbs w row f) isize z b)

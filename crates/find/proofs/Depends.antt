@@ -1,7 +1,7 @@
 -- What is found depends on no bytes of the file but the custom names'.
 -- Assumes nothing.
 use mathlib.Core.Path.{_≡_, refl, ap, ap₂}
-use mathlib.Core.Bool.{Bool, true, false, _&&_}
+use mathlib.Core.Bool.{Bool, true, false, cond, _&&_}
 use mathlib.Core.List.{List, [], _∷_}
 use Prim.Native.Nat.{ℕ, zero, suc, _+_, _≤_, _<_}
 use native.Mathlib.Omega.{arith}
@@ -11,9 +11,9 @@ use borrow.Author.Tests.{eqb-true}
 use Rattle.cursor.specs.declared.Node.{Node}
 use Rattle.cursor.specs.declared.Item.{Item}
 use Rattle.header.specs.Header.{Header}
-use Rattle.tree.specs.Rows.{itemAt, if_then_else_}
+use Rattle.tree.specs.Rows.{itemAt}
 use Rattle.tree.specs.Asking.{Result, good, bad}
-use Rattle.find.specs.Own.{Numbered, ownFrom, own}
+use Rattle.find.specs.Own.{Numbered, numbered, those, isOwn, own}
 use Rattle.find.specs.Find.{Wanted, standard, custom, choose, sameBytes, matches, among, look, path, orElse, firstAnswer, nearest, find, findOwn}
 
 module _ (f g : List ℕ) where
@@ -48,14 +48,14 @@ module _ (f g : List ℕ) where
 
   module _ (w : Wanted) where
     -- of rows from row i on
-    own-same : (k i : ℕ) (is : List Item) → Agree is → among f w (ownFrom i k is) ≡ among g w (ownFrom i k is)
-    unfolding ownFrom if_then_else_ among
+    own-same : (k i : ℕ) (is : List Item) → Agree is → among f w (those (isOwn k) (numbered i is)) ≡ among g w (those (isOwn k) (numbered i is))
+    unfolding those numbered among
     own-same k i [] a = refl
     own-same k i (r ∷ is) a = by (eqb (r .node) k) (own-same k (i + 1) is (λ j l. a (suc j) (omega arith)))
       where
-        by : (b : Bool) → among f w (ownFrom (i + 1) k is) ≡ among g w (ownFrom (i + 1) k is)
-            → among f w (if b then record { row = i; item = r } ∷ ownFrom (i + 1) k is else ownFrom (i + 1) k is)
-            ≡ among g w (if b then record { row = i; item = r } ∷ ownFrom (i + 1) k is else ownFrom (i + 1) k is)
+        by : (b : Bool) → among f w (those (isOwn k) (numbered (i + 1) is)) ≡ among g w (those (isOwn k) (numbered (i + 1) is))
+            → among f w (cond b (record { row = i; item = r } ∷ those (isOwn k) (numbered (i + 1) is)) (those (isOwn k) (numbered (i + 1) is)))
+            ≡ among g w (cond b (record { row = i; item = r } ∷ those (isOwn k) (numbered (i + 1) is)) (those (isOwn k) (numbered (i + 1) is)))
         by true e = ap₂ (λ (b : Bool) (o : Result Numbered). choose b (good (record { row = i; item = r })) o) (matches-same w r (a 0 (omega arith))) e
         by false e = e
 
@@ -69,10 +69,10 @@ module _ (f g : List ℕ) where
       first-same [] = refl
       first-same (k ∷ ks) = ap₂ orElse (look-same k) (first-same ks)
 
-      pub find-same : (row : ℕ) (h : Header) (ns : List Node) → find f w row h ns is ≡ find g w row h ns is
+      pub find-same : (row : ℕ) (h : Header) (ns : List Node) → find w row f h ns is ≡ find w row g h ns is
       unfolding find nearest
       find-same row h ns = ap (λ (o : Result Numbered). choose (ltb row (length ns)) o (bad 18 0)) (first-same (path ns row))
 
-      pub find-own-same : (row : ℕ) (h : Header) (ns : List Node) → findOwn f w row h ns is ≡ findOwn g w row h ns is
+      pub find-own-same : (row : ℕ) (h : Header) (ns : List Node) → findOwn w row f h ns is ≡ findOwn w row g h ns is
       unfolding findOwn
       find-own-same row h ns = ap (λ (o : Result Numbered). choose (ltb row (length ns)) o (bad 18 0)) (look-same row)

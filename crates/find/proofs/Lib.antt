@@ -1,3 +1,4 @@
+pub mod Own
 pub mod Matching
 pub mod Looking
 pub mod Climbing

@@ -1,7 +1,7 @@
 -- The look at a node's own rows, row by row.
 -- Assumes nothing.
 use mathlib.Core.Path.{_≡_, refl, sym, ap, ap₂, subst, _∙_}
-use mathlib.Core.Bool.{Bool, true, false, _&&_}
+use mathlib.Core.Bool.{Bool, true, false, cond, _&&_}
 use mathlib.Core.List.{List, [], _∷_}
 use Prim.Native.Nat.{ℕ, suc, _+_, _*_, _≤_, _<_}
 use native.Mathlib.Omega.{arith}
@@ -10,10 +10,10 @@ use lib.ListN.{length, drop, drop-of-length-le}
 use lib.Seq.{drop-cons}
 use borrow.Author.Tests.{eq-eqb, ne-eqb}
 use Rattle.cursor.specs.declared.Item.{Item}
-use Rattle.tree.specs.Rows.{itemsIn, itemFrom, itemAt, noItem, if_then_else_}
+use Rattle.tree.specs.Rows.{itemsIn, itemFrom, itemAt, noItem}
 use Rattle.tree.specs.Asking.{Result, good, bad}
 use Rattle.tree.proofs.Rows.{item-at, items-in-length}
-use Rattle.find.specs.Own.{Numbered, ownFrom, own}
+use Rattle.find.specs.Own.{Numbered, numbered, those, isOwn, own}
 use Rattle.find.specs.Find.{Wanted, choose, matches, among, look}
 use Rattle.find.specs.Told.{Named, AllNamed}
 
@@ -29,12 +29,12 @@ own-row k e h = h ∙ simp (eq-eqb _ _ e)
 
 module _ (f : List ℕ) (w : Wanted) (k : ℕ) where
   -- the first row, if it is node k's own and of that field, or else the others
-  first-own : (i : ℕ) (r : Item) (rs : List Item) → among f w (ownFrom i k (r ∷ rs)) ≡ choose (eqb (r .node) k && matches f w r) (good (record { row = i; item = r })) (among f w (ownFrom (i + 1) k rs))
-  unfolding ownFrom if_then_else_ among choose
+  first-own : (i : ℕ) (r : Item) (rs : List Item) → among f w (those (isOwn k) (numbered i (r ∷ rs))) ≡ choose (eqb (r .node) k && matches f w r) (good (record { row = i; item = r })) (among f w (those (isOwn k) (numbered (i + 1) rs)))
+  unfolding those numbered among choose
   first-own i r rs = by (eqb (r .node) k)
     where
       by : (b : Bool)
-          → among f w (if b then record { row = i; item = r } ∷ ownFrom (i + 1) k rs else ownFrom (i + 1) k rs) ≡ choose (b && matches f w r) (good (record { row = i; item = r })) (among f w (ownFrom (i + 1) k rs))
+          → among f w (cond b (record { row = i; item = r } ∷ those (isOwn k) (numbered (i + 1) rs)) (those (isOwn k) (numbered (i + 1) rs))) ≡ choose (b && matches f w r) (good (record { row = i; item = r })) (among f w (those (isOwn k) (numbered (i + 1) rs)))
       by true = refl
       by false = refl
 
@@ -42,7 +42,7 @@ module _ (f : List ℕ) (w : Wanted) (k : ℕ) where
 
 -- what is left of the look from row i on
 abbrev pub Left : List ℕ → Wanted → List Item → (k i : ℕ) → Type 0
-Left f w is k i = look f w is k ≡ among f w (ownFrom i k (drop i is))
+Left f w is k i = look f w is k ≡ among f w (those (isOwn k) (numbered i (drop i is)))
 
 pub left-begin : (f : List ℕ) (w : Wanted) (is : List Item) (k : ℕ) → Left f w is k 0
 unfolding look own
@@ -59,8 +59,8 @@ module _ (f : List ℕ) (w : Wanted) (ws : List ℕ) (rows k i : ℕ) (h : Left 
         let s : suc i ≡ i + 1 = omega arith in
         drop-cons (itemsIn rows ws) i noItem (omega arith) ∙ ap₂ (λ (x : Item) (j : ℕ). x ∷ drop j (itemsIn rows ws)) row-is s
 
-    step : look f w (itemsIn rows ws) k ≡ choose b (good (record { row = i; item = r })) (among f w (ownFrom (i + 1) k (drop (i + 1) (itemsIn rows ws))))
-    step = h ∙ ap (λ (v : List Item). among f w (ownFrom i k v)) rest ∙ first-own f w k i r _ ∙ ap (λ (x : Bool). choose x (good (record { row = i; item = r })) (among f w (ownFrom (i + 1) k (drop (i + 1) (itemsIn rows ws))))) (sym m)
+    step : look f w (itemsIn rows ws) k ≡ choose b (good (record { row = i; item = r })) (among f w (those (isOwn k) (numbered (i + 1) (drop (i + 1) (itemsIn rows ws)))))
+    step = h ∙ ap (λ (v : List Item). among f w (those (isOwn k) (numbered i v))) rest ∙ first-own f w k i r _ ∙ ap (λ (x : Bool). choose x (good (record { row = i; item = r })) (among f w (those (isOwn k) (numbered (i + 1) (drop (i + 1) (itemsIn rows ws)))))) (sym m)
 
     pub row-found : b ≡ true → good (record { row = i; item = r }) ≡ look f w (itemsIn rows ws) k
     unfolding choose
@@ -71,10 +71,10 @@ module _ (f : List ℕ) (w : Wanted) (ws : List ℕ) (rows k i : ℕ) (h : Left 
     row-other t = step ∙ simp t
 
   pub row-none : rows ≤ i → bad 23 0 ≡ look f w (itemsIn rows ws) k
-  unfolding among ownFrom
+  unfolding among those numbered
   row-none l =
       let n = items-in-length ws rows in
-      sym (h ∙ ap (λ (v : List Item). among f w (ownFrom i k v)) (drop-of-length-le (itemsIn rows ws) {i = i} (omega arith)))
+      sym (h ∙ ap (λ (v : List Item). among f w (those (isOwn k) (numbered i v))) (drop-of-length-le (itemsIn rows ws) {i = i} (omega arith)))
 
 -- the name of a row of the table lies in the file
 pub row-named : (size : ℕ) (ws : List ℕ) (rows i : ℕ) → AllNamed size (itemsIn rows ws) → i < rows → {r : Item} → r ≡ itemFrom ws (i * 10) → Named size r

@@ -8,9 +8,8 @@ use lib.ListN.{length, getD}
 use Rattle.cursor.specs.Refusals.{noSuchRow, noSuchItem}
 use Rattle.cursor.specs.declared.Node.{Node}
 use Rattle.cursor.specs.declared.Item.{Item}
-use Rattle.header.specs.Header.{Header}
 use Rattle.tree.specs.Rows.{nodeAt, if_then_else_}
-use Rattle.tree.specs.Asking.{Result, good, bad}
+use Rattle.tree.specs.Asking.{Asks, Result, good, bad}
 use Rattle.find.specs.Own.{Numbered, own}
 
 -- the field that is looked for: a standard number, or a custom name's bytes
@@ -72,9 +71,9 @@ nearest f w ns is k = firstAnswer (look f w is) (path ns k)
 -- ---- the two questions
 
 -- 01's: the nearest item from a row
-unfoldable pub find : List ℕ → Wanted → ℕ → Header → List Node → List Item → Result Numbered
-find f w row h ns is = choose (ltb row (length ns)) (nearest f w ns is row) (bad noSuchRow 0)
+unfoldable pub find : Wanted → (row : ℕ) → Asks Numbered
+find w row f h ns is = choose (ltb row (length ns)) (nearest f w ns is row) (bad noSuchRow 0)
 
 -- the row's own item
-unfoldable pub findOwn : List ℕ → Wanted → ℕ → Header → List Node → List Item → Result Numbered
-findOwn f w row h ns is = choose (ltb row (length ns)) (look f w is row) (bad noSuchRow 0)
+unfoldable pub findOwn : Wanted → (row : ℕ) → Asks Numbered
+findOwn w row f h ns is = choose (ltb row (length ns)) (look f w is row) (bad noSuchRow 0)

@@ -1,21 +1,51 @@
 -- A node's own rows: the item rows whose node word is its row, with their numbers in the item table.
 -- Assumes nothing.
-use mathlib.Core.List.{List, [], _∷_}
-use Prim.Native.Nat.{ℕ, _+_}
+use mathlib.Core.Path.{_≡_}
+use mathlib.Core.Bool.{Bool, cond}
+use mathlib.Core.List.{List, [], _∷_, map}
+use Prim.Native.Nat.{ℕ, zero, suc, _+_, _-_, _<_}
 use lib.Dec.{eqb}
+use lib.ListN.{length, take, drop}
+use Rattle.cursor.specs.declared.Node.{Node}
 use Rattle.cursor.specs.declared.Item.{Item}
-use Rattle.tree.specs.Rows.{if_then_else_}
 
 -- an item row with its number in the item table
 pub record Numbered : Type 0 where
   pub row : ℕ
   pub item : Item
 
--- of these rows, the first of which is row i: those of node k
-unfoldable pub ownFrom : (i k : ℕ) → List Item → List Numbered
-ownFrom i k [] = []
-ownFrom i k (r ∷ rs) = if eqb (r .node) k then record { row = i; item = r } ∷ ownFrom (i + 1) k rs else ownFrom (i + 1) k rs
+abbrev pub itemsOf : List Numbered → List Item
+itemsOf xs = map (λ (x : Numbered). x .item) xs
+
+-- these rows, the first of which is row i
+unfoldable pub numbered : (i : ℕ) → List Item → List Numbered
+numbered i [] = []
+numbered i (r ∷ rs) = record { row = i; item = r } ∷ numbered (i + 1) rs
+
+-- those that are as p says
+unfoldable pub those : {A : Type 0} → (A → Bool) → List A → List A
+those p [] = []
+those p (x ∷ xs) = cond (p x) (x ∷ those p xs) (those p xs)
 
 -- node k's own rows, of all item rows
+abbrev pub isOwn : ℕ → Numbered → Bool
+isOwn k x = eqb (x .item .node) k
+
 unfoldable pub own : List Item → ℕ → List Numbered
-own is k = ownFrom 0 k is
+own is k = those (isOwn k) (numbered 0 is)
+
+-- ---- where they stand, for the code: as many as the node's row counts, behind those of the nodes before it
+
+-- the first row of node k: as many rows as the nodes before it count
+unfoldable pub firstRow : List Node → ℕ → ℕ
+firstRow ns zero = 0
+firstRow [] (suc k) = 0
+firstRow (r ∷ ns) (suc k) = r .rows + firstRow ns k
+
+-- the item rows from one row on and before another
+abbrev pub part : List Item → (from end : ℕ) → List Item
+part is from end = take (end - from) (drop from is)
+
+pub record Runs (ns : List Node) (is : List Item) : Type 0 where
+  pub run : (k : ℕ) → k < length ns → own is k ≡ numbered (firstRow ns k) (part is (firstRow ns k) (firstRow ns (k + 1)))
+  pub whole : firstRow ns (length ns) ≡ length is

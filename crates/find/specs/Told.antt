@@ -8,10 +8,9 @@ use Prim.Native.Nat.{ℕ, _+_, _≤_, _<_}
 use lib.ListN.{length}
 use Rattle.cursor.specs.declared.Node.{Node}
 use Rattle.cursor.specs.declared.Item.{Item}
-use Rattle.header.specs.Header.{Header}
 use Rattle.metadata.specs.Tables.{itemWords}
 use Rattle.tree.specs.Rows.{itemAt}
-use Rattle.tree.specs.Asking.{Result, good, bad}
+use Rattle.tree.specs.Asking.{Asks, Result, good, bad}
 use Rattle.find.specs.Own.{Numbered}
 use Rattle.find.specs.Find.{Wanted, standard, custom, look, nearest, find, findOwn}
 use Rattle.find.specs.declared.Field.{Field}
@@ -43,9 +42,9 @@ foundBy true f w ns is k = nearest f w ns is k
 foundBy false f w ns is k = look f w is k
 
 -- the question
-abbrev pub question : (climbs : Bool) → List ℕ → Wanted → ℕ → Header → List Node → List Item → Result Numbered
-question true f w row = find f w row
-question false f w row = findOwn f w row
+abbrev pub question : (climbs : Bool) → Wanted → (row : ℕ) → Asks Numbered
+question true w row = find w row
+question false w row = findOwn w row
 
 -- a custom name lies in a file of `size` bytes
 abbrev pub Named : ℕ → Item → Type 0

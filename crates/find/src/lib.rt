@@ -4,10 +4,8 @@ ghost use mathlib.Core.Bool.{_&&_};
 ghost use Prim.Native.Nat.{_≤_, _<_, _*_, _+_};
 ghost use lib.Dec.{eqb};
 ghost use lib.ListN.{length};
-ghost use Rattle.metadata.specs.Tables.{limits};
-ghost use Rattle.tree.specs.Reading.{readFile};
-ghost use Rattle.tree.specs.Rows.{nodesIn, itemsIn, itemFrom};
-ghost use Rattle.tree.specs.Asking.{ask, keptNodes, keptItems};
+ghost use Rattle.tree.specs.Rows.{nodesIn, itemsIn};
+ghost use Rattle.tree.specs.Asking.{answered, nodesLeft, itemsLeft};
 ghost use Rattle.find.specs.Find.{standard, custom, sameBytes, matches, look, nearest, find, findOwn};
 ghost use Rattle.find.specs.Told.{wantedOf, told, foundBy, question, Named, AllNamed};
 use cursor::Item;
@@ -73,26 +71,6 @@ fn is_wanted(file: &[u8], row: Item, field: Field, name: &[u8]) -> bool
     }
 }
 
-// Row i of the item table.
-fn item_at(items: &[u64], i: usize) -> Item
-    requires { ⌜ i * 10 + 10 ≤ length (now items) ⌝ }
-    ensures { λ r. ⌜ r ≡ itemFrom (now (items .entry)) (i * 10) ⌝ }
-{
-    let k = i * cursor::ITEM_WIDTH;
-    Item {
-        node: items[k],
-        item: items[k + 1],
-        kind: items[k + 2],
-        field: items[k + 3],
-        named: items[k + 4],
-        version: items[k + 5],
-        declared: items[k + 6],
-        format: items[k + 7],
-        place: items[k + 8],
-        size: items[k + 9],
-    }
-}
-
 // Whether the row is node k's own and of that field.
 fn is_own(file: &[u8], row: Item, k: usize, field: Field, name: &[u8]) -> bool
     requires { ⌜ Named (length (now file)) row ⌝ }
@@ -111,7 +89,7 @@ fn look(file: &[u8], items: &[u64], rows: usize, k: usize, field: Field, name: &
 {
     let mut i = 0;
     while i < rows {
-        let row = item_at(items, i);
+        let row = tree::item_at(items, i);
         if is_own(file, row, k, field, name) {
             return Found::Item(i, row);
         }
@@ -177,9 +155,9 @@ fn find_field(
     name: &[u8],
     climbs: bool,
 ) -> Found
-    ensures answer { λ r. ⌜ told r ≡ ask (readFile (limits (length (now (nodes .entry))) (length (now (items .entry)))) (now (file .entry))) (question climbs (now (file .entry)) (wantedOf field (now (name .entry))) row) ⌝ }
-    ensures nodes { λ _. ⌜ now (nodes .exit) ≡ keptNodes (length (now (nodes .entry))) (readFile (limits (length (now (nodes .entry))) (length (now (items .entry)))) (now (file .entry))) (ask (readFile (limits (length (now (nodes .entry))) (length (now (items .entry)))) (now (file .entry))) (question climbs (now (file .entry)) (wantedOf field (now (name .entry))) row)) ⌝ }
-    ensures items { λ _. ⌜ now (items .exit) ≡ keptItems (length (now (items .entry))) (readFile (limits (length (now (nodes .entry))) (length (now (items .entry)))) (now (file .entry))) (ask (readFile (limits (length (now (nodes .entry))) (length (now (items .entry)))) (now (file .entry))) (question climbs (now (file .entry)) (wantedOf field (now (name .entry))) row)) ⌝ }
+    ensures answer { λ r. ⌜ told r ≡ answered (now (nodes .entry)) (now (items .entry)) (now (file .entry)) (question climbs (wantedOf field (now (name .entry))) row) ⌝ }
+    ensures nodes { λ _. ⌜ now (nodes .exit) ≡ nodesLeft (now (nodes .entry)) (now (items .entry)) (now (file .entry)) (question climbs (wantedOf field (now (name .entry))) row) ⌝ }
+    ensures items { λ _. ⌜ now (items .exit) ≡ itemsLeft (now (nodes .entry)) (now (items .entry)) (now (file .entry)) (question climbs (wantedOf field (now (name .entry))) row) ⌝ }
 {
     match tree::read_file(file, nodes, items) {
         Read::Refused(n, p) => Found::Refused(n, p.0),
@@ -217,9 +195,9 @@ pub fn find_standard(
     row: usize,
     number: u64,
 ) -> Found
-    ensures answer { λ r. ⌜ told r ≡ ask (readFile (limits (length (now (nodes .entry))) (length (now (items .entry)))) (now (file .entry))) (find (now (file .entry)) (standard number) row) ⌝ }
-    ensures nodes { λ _. ⌜ now (nodes .exit) ≡ keptNodes (length (now (nodes .entry))) (readFile (limits (length (now (nodes .entry))) (length (now (items .entry)))) (now (file .entry))) (ask (readFile (limits (length (now (nodes .entry))) (length (now (items .entry)))) (now (file .entry))) (find (now (file .entry)) (standard number) row)) ⌝ }
-    ensures items { λ _. ⌜ now (items .exit) ≡ keptItems (length (now (items .entry))) (readFile (limits (length (now (nodes .entry))) (length (now (items .entry)))) (now (file .entry))) (ask (readFile (limits (length (now (nodes .entry))) (length (now (items .entry)))) (now (file .entry))) (find (now (file .entry)) (standard number) row)) ⌝ }
+    ensures answer { λ r. ⌜ told r ≡ answered (now (nodes .entry)) (now (items .entry)) (now (file .entry)) (find (standard number) row) ⌝ }
+    ensures nodes { λ _. ⌜ now (nodes .exit) ≡ nodesLeft (now (nodes .entry)) (now (items .entry)) (now (file .entry)) (find (standard number) row) ⌝ }
+    ensures items { λ _. ⌜ now (items .exit) ≡ itemsLeft (now (nodes .entry)) (now (items .entry)) (now (file .entry)) (find (standard number) row) ⌝ }
 {
     find_field(file, nodes, items, row, Field::Standard(number), b"", true)
 }
@@ -232,9 +210,9 @@ pub fn find_custom(
     row: usize,
     name: &[u8],
 ) -> Found
-    ensures answer { λ r. ⌜ told r ≡ ask (readFile (limits (length (now (nodes .entry))) (length (now (items .entry)))) (now (file .entry))) (find (now (file .entry)) (custom (now (name .entry))) row) ⌝ }
-    ensures nodes { λ _. ⌜ now (nodes .exit) ≡ keptNodes (length (now (nodes .entry))) (readFile (limits (length (now (nodes .entry))) (length (now (items .entry)))) (now (file .entry))) (ask (readFile (limits (length (now (nodes .entry))) (length (now (items .entry)))) (now (file .entry))) (find (now (file .entry)) (custom (now (name .entry))) row)) ⌝ }
-    ensures items { λ _. ⌜ now (items .exit) ≡ keptItems (length (now (items .entry))) (readFile (limits (length (now (nodes .entry))) (length (now (items .entry)))) (now (file .entry))) (ask (readFile (limits (length (now (nodes .entry))) (length (now (items .entry)))) (now (file .entry))) (find (now (file .entry)) (custom (now (name .entry))) row)) ⌝ }
+    ensures answer { λ r. ⌜ told r ≡ answered (now (nodes .entry)) (now (items .entry)) (now (file .entry)) (find (custom (now (name .entry))) row) ⌝ }
+    ensures nodes { λ _. ⌜ now (nodes .exit) ≡ nodesLeft (now (nodes .entry)) (now (items .entry)) (now (file .entry)) (find (custom (now (name .entry))) row) ⌝ }
+    ensures items { λ _. ⌜ now (items .exit) ≡ itemsLeft (now (nodes .entry)) (now (items .entry)) (now (file .entry)) (find (custom (now (name .entry))) row) ⌝ }
 {
     find_field(file, nodes, items, row, Field::Custom, name, true)
 }
@@ -247,9 +225,9 @@ pub fn find_own_standard(
     row: usize,
     number: u64,
 ) -> Found
-    ensures answer { λ r. ⌜ told r ≡ ask (readFile (limits (length (now (nodes .entry))) (length (now (items .entry)))) (now (file .entry))) (findOwn (now (file .entry)) (standard number) row) ⌝ }
-    ensures nodes { λ _. ⌜ now (nodes .exit) ≡ keptNodes (length (now (nodes .entry))) (readFile (limits (length (now (nodes .entry))) (length (now (items .entry)))) (now (file .entry))) (ask (readFile (limits (length (now (nodes .entry))) (length (now (items .entry)))) (now (file .entry))) (findOwn (now (file .entry)) (standard number) row)) ⌝ }
-    ensures items { λ _. ⌜ now (items .exit) ≡ keptItems (length (now (items .entry))) (readFile (limits (length (now (nodes .entry))) (length (now (items .entry)))) (now (file .entry))) (ask (readFile (limits (length (now (nodes .entry))) (length (now (items .entry)))) (now (file .entry))) (findOwn (now (file .entry)) (standard number) row)) ⌝ }
+    ensures answer { λ r. ⌜ told r ≡ answered (now (nodes .entry)) (now (items .entry)) (now (file .entry)) (findOwn (standard number) row) ⌝ }
+    ensures nodes { λ _. ⌜ now (nodes .exit) ≡ nodesLeft (now (nodes .entry)) (now (items .entry)) (now (file .entry)) (findOwn (standard number) row) ⌝ }
+    ensures items { λ _. ⌜ now (items .exit) ≡ itemsLeft (now (nodes .entry)) (now (items .entry)) (now (file .entry)) (findOwn (standard number) row) ⌝ }
 {
     find_field(file, nodes, items, row, Field::Standard(number), b"", false)
 }
@@ -262,9 +240,9 @@ pub fn find_own_custom(
     row: usize,
     name: &[u8],
 ) -> Found
-    ensures answer { λ r. ⌜ told r ≡ ask (readFile (limits (length (now (nodes .entry))) (length (now (items .entry)))) (now (file .entry))) (findOwn (now (file .entry)) (custom (now (name .entry))) row) ⌝ }
-    ensures nodes { λ _. ⌜ now (nodes .exit) ≡ keptNodes (length (now (nodes .entry))) (readFile (limits (length (now (nodes .entry))) (length (now (items .entry)))) (now (file .entry))) (ask (readFile (limits (length (now (nodes .entry))) (length (now (items .entry)))) (now (file .entry))) (findOwn (now (file .entry)) (custom (now (name .entry))) row)) ⌝ }
-    ensures items { λ _. ⌜ now (items .exit) ≡ keptItems (length (now (items .entry))) (readFile (limits (length (now (nodes .entry))) (length (now (items .entry)))) (now (file .entry))) (ask (readFile (limits (length (now (nodes .entry))) (length (now (items .entry)))) (now (file .entry))) (findOwn (now (file .entry)) (custom (now (name .entry))) row)) ⌝ }
+    ensures answer { λ r. ⌜ told r ≡ answered (now (nodes .entry)) (now (items .entry)) (now (file .entry)) (findOwn (custom (now (name .entry))) row) ⌝ }
+    ensures nodes { λ _. ⌜ now (nodes .exit) ≡ nodesLeft (now (nodes .entry)) (now (items .entry)) (now (file .entry)) (findOwn (custom (now (name .entry))) row) ⌝ }
+    ensures items { λ _. ⌜ now (items .exit) ≡ itemsLeft (now (nodes .entry)) (now (items .entry)) (now (file .entry)) (findOwn (custom (now (name .entry))) row) ⌝ }
 {
     find_field(file, nodes, items, row, Field::Custom, name, false)
 }

@@ -1,4 +1,4 @@
 pub mod Types
 pub mod Ends
 pub mod Ways
-pub mod Listed
+pub mod Uses

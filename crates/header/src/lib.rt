@@ -5,7 +5,7 @@ ghost use mathlib.Core.Bool.{Bool, true, false};
 ghost use Prim.Native.Nat.{ℕ, _≤_, _<_, _+_, _*_, _^_};
 ghost use lib.ListN.{length};
 ghost use Rattle.cursor.specs.Machine.{run, times};
-ghost use Rattle.cursor.specs.Told.{numberTold, passTold};
+ghost use Rattle.cursor.specs.Told.{Readable, numberTold, passTold};
 ghost use Rattle.header.specs.Types.{typesOf, formatOf, foundTold};
 ghost use Rattle.header.specs.Header.{four, opening, edition, fileLength, entry, typesTable, extent, header};
 ghost use Rattle.header.specs.Told.{editionTold, entryTold, typesTold, Listed, extentTold, headerTold, Few};
@@ -185,7 +185,7 @@ fn read_length(c: Cursor, file: &[u8]) -> Passed
 
 // An entry of the types table, which ends at `end`, behind `count` others.
 fn read_entry(c: Cursor, file: &[u8], types: &mut [u64], count: usize, end: FilePlace) -> Passed
-    requires { ⌜ (end .0 ≤ length (now file)) × (length (now file) < 2 ^ 28) × (64 ≤ length (now types)) × (count ≤ 32) ⌝ }
+    requires { ⌜ Readable (end .0) (now file) × (64 ≤ length (now types)) × (count ≤ 32) ⌝ }
     ensures { λ r. ⌜ entryTold r (typesOf (count + 1) (now (types .exit))) ≡ run (entry (end .0) (typesOf count (now (types .entry)))) (now (file .entry)) (c .at .0) ⌝ }
 {
     let place = c.at;
@@ -214,7 +214,7 @@ fn read_entry(c: Cursor, file: &[u8], types: &mut [u64], count: usize, end: File
 
 // The entries of the types table, which ends at `end`.
 fn read_entries(c: Cursor, file: &[u8], types: &mut [u64], count: u64, end: FilePlace) -> Typed
-    requires { ⌜ (end .0 ≤ length (now file)) × (length (now file) < 2 ^ 28) × (64 ≤ length (now types)) ⌝ }
+    requires { ⌜ Readable (end .0) (now file) × (64 ≤ length (now types)) ⌝ }
     ensures { λ r. ⌜ typesTold r (now (types .exit)) ≡ run (times count (entry (end .0)) []) (now (file .entry)) (c .at .0) ⌝ }
     ensures { λ r. ⌜ Listed r ⌝ }
 {

@@ -1,8 +1,7 @@
-pub mod Storing
+pub mod Uses
 pub mod Quiet
 pub mod Gives
 pub mod Ends
 pub mod Ways
 pub mod Order
 pub mod Limited
-pub mod Listed

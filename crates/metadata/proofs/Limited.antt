@@ -4,7 +4,7 @@ use mathlib.Core.Path.{_≡_}
 use Prim.Native.Nat.{ℕ, _+_, _-_, _≤_}
 use native.Mathlib.Omega.{arith}
 use Rattle.cursor.specs.Machine.{place}
-use Rattle.cursor.proofs.Order.{number-rowless, block-rowless}
+use Rattle.cursor.proofs.Uses.{number-uses, block-uses, block-with}
 use Rattle.cursor.proofs.Limited.{node, item, Rows, makes-then, makes-check, makes-row, Limited, after, then-rowless, ends, places, checks, row-checks, passes, repeats, counts}
 use Rattle.header.specs.Types.{formatOf}
 use Rattle.metadata.specs.Metadata as spec
@@ -14,7 +14,7 @@ use Rattle.metadata.specs.declared.Made.{Made}
 use Rattle.metadata.specs.declared.Label.{Label}
 use Rattle.metadata.specs.declared.Contents.{Contents}
 use Rattle.metadata.specs.declared.Contents.the-variants.{Universal, Versions}
-use Rattle.metadata.proofs.Order.{frame-rowless, format-rowless}
+use Rattle.metadata.proofs.Uses.{frame-uses, format-uses}
 
 -- the limits by the kind of row
 abbrev pub room : Limits → Rows
@@ -41,7 +41,7 @@ module _ {lim most : Limits} (less : Less lim most) (x : Context) (k : ℕ) wher
     universal-limited m c i =
         places λ p. row-checks item (m .items) (most .items) p (i .2) (less .items)
         (makes-then _ λ n. makes-check _ _ _ (makes-then place λ q. makes-then _ λ format. makes-then place λ r. makes-row _ _ _ tt)) λ left.
-        (then-rowless (block-rowless _ _ end) λ n d a b. checks _ _ _ (places λ q. then-rowless (number-rowless _ _ (q + n)) λ format e a′ b′. places λ r.
+        (then-rowless (block-uses _ tt end) λ n d a b. checks _ _ _ (places λ q. then-rowless (number-uses _ tt (q + n)) λ format e a′ b′. places λ r.
         passes _ _ (ends (omega arith, omega arith, omega arith, omega arith))))
 
     version-limited : (before : ℕ) (m : Made) (c : Rows) → Items lim k m c → Limited (room lim) (Items lim k) c (version (under x lim) l end before m) (version (under x most) l end before m)
@@ -49,7 +49,7 @@ module _ {lim most : Limits} (less : Less lim most) (x : Context) (k : ℕ) wher
     version-limited before m c i =
         places λ p. row-checks item (m .items) (most .items) p (i .2) (less .items)
         (makes-then _ λ t. makes-then _ λ format. makes-then _ λ n. makes-then place λ q. makes-row _ _ _ tt) λ left.
-        (then-rowless (number-rowless _ _ end) λ t d a b. then-rowless (format-rowless p (formatOf (x .types) t)) λ format d₁ a₁ b₁. then-rowless (block-rowless _ _ end) λ n d₂ a₂ b₂. places λ q.
+        (then-rowless (number-uses _ tt end) λ t d a b. then-rowless (format-uses p (formatOf (x .types) t)) λ format d₁ a₁ b₁. then-rowless (block-uses _ tt end) λ n d₂ a₂ b₂. places λ q.
         passes _ _ (ends (omega arith, omega arith, omega arith, omega arith)))
 
     rows-limited : (d : Contents) (m : Made) (c : Rows) → Items lim k m c → Limited (room lim) (Items lim k) c (rowsFor (under x lim) l end d m) (rowsFor (under x most) l end d m)
@@ -60,7 +60,7 @@ module _ {lim most : Limits} (less : Less lim most) (x : Context) (k : ℕ) wher
   item-limited : (row index end : ℕ) (m : Made) (c : Rows) → Items lim k m c → Limited (room lim) (Items lim k) c (spec.item (under x lim) row index end m) (spec.item (under x most) row index end m)
   unfolding spec.item
   item-limited row index end m c i =
-      then-rowless (frame-rowless end) λ j d a b. rows-limited (record { node = row; item = index; field = j .field }) end (j .contents) m d (omega arith, omega arith, omega arith, omega arith)
+      then-rowless (frame-uses tt tt end) λ j d a b. rows-limited (record { node = row; item = index; field = j .field }) end (j .contents) m d (omega arith, omega arith, omega arith, omega arith)
 
   items-limited : (row end : ℕ) (m : Made) (c : Rows) → Items lim k m c → Limited (room lim) (Items lim k) c (metaItems (under x lim) row end m) (metaItems (under x most) row end m)
   unfolding metaItems nextItem
@@ -69,4 +69,4 @@ module _ {lim most : Limits} (less : Less lim most) (x : Context) (k : ℕ) wher
 
   pub metadata-limited : (row end : ℕ) (m : Made) (c : Rows) → Items lim k m c → Limited (room lim) (Items lim k) c (metadata (under x lim) row end m) (metadata (under x most) row end m)
   unfolding metadata
-  metadata-limited row end m c i = then-rowless (block-rowless _ _ end) λ n d a b. places λ q. items-limited row (q + n) m d (omega arith, omega arith, omega arith, omega arith)
+  metadata-limited row end m c i = then-rowless (block-with _ tt _ end (λ p. tt)) λ n d a b. places λ q. items-limited row (q + n) m d (omega arith, omega arith, omega arith, omega arith)

@@ -3,32 +3,15 @@
 use mathlib.Core.Path.{_≡_, refl, _∙_}
 use Prim.Native.Nat.{ℕ, _+_}
 use native.Mathlib.Omega.{arith}
-use Rattle.cursor.specs.Rows.{P}
-use Rattle.cursor.proofs.Order.{Orders, Rowless, Same, after, weaken, ends, stops, either, checks, places, passes-item, passes-plain, repeats, counts, then-rowless, number-rowless, block-rowless}
-use Rattle.header.specs.Types.{Known, known, unknown, formatOf}
-use Rattle.metadata.specs.Metadata.{Context, field, contents, itemFrame, rowOf, universal, declaredFormat, version, rowsFor, item, Count, nextItem, metaItems, metadata}
+use Rattle.cursor.proofs.Uses.{number-uses, block-uses, block-with}
+use Rattle.cursor.proofs.Order.{Orders, after, weaken, ends, checks, places, passes-item, repeats, counts, then-rowless}
+use Rattle.header.specs.Types.{formatOf}
+use Rattle.metadata.specs.Metadata.{Context, universal, version, rowsFor, item, nextItem, metaItems, metadata}
 use Rattle.metadata.specs.declared.Made.{Made}
 use Rattle.metadata.specs.declared.Label.{Label}
 use Rattle.metadata.specs.declared.Contents.{Contents}
 use Rattle.metadata.specs.declared.Contents.the-variants.{Universal, Versions}
-
-field-rowless : (end : ℕ) → Rowless (field end)
-unfolding field
-field-rowless end k c =
-    then-rowless (block-rowless _ _ end) λ n. either _ (then-rowless (number-rowless _ _ end) λ v. ends (refl, refl)) (places λ p. passes-plain _ _ (ends (refl, refl)))
-
-contents-rowless : (end : ℕ) → Rowless (contents end)
-unfolding contents
-contents-rowless end k c = then-rowless (number-rowless _ _ end) λ n. either _ (ends (refl, refl)) (ends (refl, refl))
-
-pub frame-rowless : (end : ℕ) → Rowless (itemFrame end)
-unfolding itemFrame
-frame-rowless end k c = then-rowless (field-rowless end) λ f. then-rowless (contents-rowless end) λ d. ends (refl, refl)
-
-pub format-rowless : (p : ℕ) (f : Known) → Rowless (declaredFormat p f)
-unfolding declaredFormat
-format-rowless p (known f) k c = ends (refl, refl)
-format-rowless p unknown k c = stops
+use Rattle.metadata.proofs.Uses.{format-uses, frame-uses}
 
 -- no node's row is made, and the item rows made are counted: k node rows, and m .items item rows when there were c since the last of them
 abbrev pub Counted : (k c : ℕ) → Made → Made → ℕ → ℕ → Type 0
@@ -38,13 +21,13 @@ module _ (x : Context) (l : Label) (end : ℕ) where
   universal-orders : (m : Made) (k c : ℕ) → l .node ≡ k → Orders (universal x l end m) (Counted k c m) k c
   unfolding universal
   universal-orders m k c e =
-      places λ p. checks _ _ _ (then-rowless (block-rowless _ _ end) λ n. checks _ _ _ (places λ q. then-rowless (number-rowless _ _ (q + n)) λ format. places λ r.
+      places λ p. checks _ _ _ (then-rowless (block-uses _ tt end) λ n. checks _ _ _ (places λ q. then-rowless (number-uses _ tt (q + n)) λ format. places λ r.
       passes-item _ _ e (ends (refl, refl, omega arith))))
 
   version-orders : (before : ℕ) (m : Made) (k c : ℕ) → l .node ≡ k → Orders (version x l end before m) (Counted k c m) k c
   unfolding version
   version-orders before m k c e =
-      places λ p. checks _ _ _ (then-rowless (number-rowless _ _ end) λ t. then-rowless (format-rowless p (formatOf (x .types) t)) λ format. then-rowless (block-rowless _ _ end) λ n. places λ q.
+      places λ p. checks _ _ _ (then-rowless (number-uses _ tt end) λ t. then-rowless (format-uses p (formatOf (x .types) t)) λ format. then-rowless (block-uses _ tt end) λ n. places λ q.
       passes-item _ _ e (ends (refl, refl, omega arith)))
 
   rows-order : (d : Contents) (m : Made) (k c : ℕ) → l .node ≡ k → Orders (rowsFor x l end d m) (Counted k c m) k c
@@ -55,7 +38,7 @@ module _ (x : Context) (l : Label) (end : ℕ) where
 
 item-orders : (x : Context) (node index end : ℕ) (m : Made) (k c : ℕ) → node ≡ k → Orders (item x node index end m) (Counted k c m) k c
 unfolding item
-item-orders x node index end m k c e = then-rowless (frame-rowless end) λ i. rows-order x (record { node = node; item = index; field = i .field }) end (i .contents) m k c e
+item-orders x node index end m k c e = then-rowless (frame-uses tt tt end) λ i. rows-order x (record { node = node; item = index; field = i .field }) end (i .contents) m k c e
 
 items-order : (x : Context) (node end : ℕ) (m : Made) (k c : ℕ) → node ≡ k → Orders (metaItems x node end m) (Counted k c m) k c
 unfolding metaItems nextItem
@@ -66,4 +49,4 @@ items-order x node end m k c e =
 
 pub metadata-orders : (x : Context) (node end : ℕ) (m : Made) (k c : ℕ) → node ≡ k → Orders (metadata x node end m) (Counted k c m) k c
 unfolding metadata
-metadata-orders x node end m k c e = then-rowless (block-rowless _ _ end) λ n. places λ q. items-order x node (q + n) m k c e
+metadata-orders x node end m k c e = then-rowless (block-with _ tt _ end (λ p. tt)) λ n. places λ q. items-order x node (q + n) m k c e

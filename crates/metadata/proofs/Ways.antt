@@ -1,10 +1,10 @@
 -- The ways through an item, through versions, and through items end to end: what each exit of the code comes to.
 -- Assumes nothing.
-use mathlib.Core.Path.{_≡_, refl, sym, ap, _∙_}
+use mathlib.Core.Path.{_≡_, refl, sym, ap, _∙_, subst}
 use mathlib.Core.List.{List, [], _∷_}
 use Prim.Native.Nat.{ℕ, zero, suc, _+_, _-_, _*_, _≤_, _<_}
 use native.Mathlib.Omega.{arith}
-use lib.ListN.{length}
+use lib.ListN.{length, getD}
 use lib.Seq.{sets}
 use borrow.Author.Tests.{lt-ltb, le-ltb, eq-eqb, ne-eqb}
 use Rattle.cursor.specs.Machine.{Out, ok, refused, run, exec, turns, many, times}
@@ -15,12 +15,12 @@ use Rattle.cursor.specs.declared.FilePlace.{FilePlace}
 use Rattle.cursor.specs.declared.Item.{Item}
 use Rattle.cursor.proofs.Laws.{running, executing, andThen, ran, exec-turn, exec-turned, exec-many, exec-times, exec-timed}
 use Rattle.cursor.proofs.Wp.{at-end}
-use Rattle.cursor.proofs.Leaves.{Any, any-free, number-inside, block-inside}
+use Rattle.cursor.proofs.Leaves.{Any, any-free, number-inside, block-inside, number-short, block-all}
 use Rattle.cursor.proofs.Quiet.{exec-number, exec-block}
 use Rattle.header.specs.Types.{Known, known, unknown, formatOf}
 use Rattle.metadata.specs.Tables.{State, state, put, itemWords, plusItem}
 use Rattle.metadata.specs.Metadata.{Context, field, contents, itemFrame, rowOf, universal, declaredFormat, version, rowsFor, item, Count, nextItem, metaItems, metadata}
-use Rattle.metadata.specs.Told.{Gives}
+use Rattle.metadata.specs.Told.{Reads, CommonTold, Gives}
 use Rattle.metadata.specs.declared.Limits.{Limits}
 use Rattle.metadata.specs.declared.Made.{Made}
 use Rattle.metadata.specs.declared.Label.{Label}
@@ -29,6 +29,8 @@ use Rattle.metadata.specs.declared.Field.the-variants.{Standard, Name}
 use Rattle.metadata.specs.declared.Contents.{Contents}
 use Rattle.metadata.specs.declared.Contents.the-variants.{Universal, Versions}
 use Rattle.metadata.specs.declared.MetaItem.{MetaItem}
+use Rattle.metadata.specs.declared.Common.{Common}
+use Rattle.metadata.specs.declared.Common.the-variants.{Is}
 use Rattle.metadata.specs.declared.Walked.{Walked}
 use Rattle.metadata.specs.declared.Walked.the-variants.{Done, Refused}
 use Rattle.metadata.proofs.Quiet.{exec-frame, exec-format}
@@ -209,6 +211,42 @@ module _ (x : Context) (node index end : ℕ) (m : Made) (s : List ℕ) (at : �
       → exec put (item x node index end m) s at σ ≡ exec put (rowsFor x (record { node = node; item = index; field = i .field }) end (i .contents) m) s q σ
   unfolding item
   item-rows e = simp (executing, exec-frame, e)
+
+-- ---- an item in the common form
+
+-- five bytes that are such an item
+pub common-read : (end : ℕ) (f : List ℕ) (at : ℕ) {name k versions size format : ℕ}
+    → name ≡ getD f at 0 → k ≡ getD f (at + 1) 0 → versions ≡ getD f (at + 2) 0 → size ≡ getD f (at + 3) 0 → format ≡ getD f (at + 4) 0
+    → name ≡ 0 → k ≤ 127 → versions ≡ 0 → ((size ≡ 0) → ⊥) → size ≤ 127 → format ≤ 127 → at + 4 + size ≤ end → Reads f end at k size format
+common-read end f at {name} {k} {versions} {size} {format} i₀ i₁ i₂ i₃ i₄ none l₁ universally some l₃ l₄ inside =
+    let e₀ : run (block metaFrame 3 end) f at ≡ ok name (at + 1) = sym (block-all metaFrame 3 end f at (number-short metaFrame 3 end f at (omega arith) i₀ (omega arith) refl) (omega arith)) in
+    let e₁ : run (number metaFrame 3 end) f (at + 1) ≡ ok k (at + 2) = number-short metaFrame 3 end f (at + 1) (omega arith) i₁ (omega arith) (omega arith) in
+    let e₂ : run (number metaFrame 3 end) f (at + 2) ≡ ok versions (at + 3) = number-short metaFrame 3 end f (at + 2) (omega arith) i₂ (omega arith) (omega arith) in
+    record {
+      frame = sym (frame-all end f at (sym (field-standard end f at e₀ none e₁)) (sym (contents-universal end f (at + 2) e₂ universally)));
+      some = some;
+      covers = sym (block-all metaFrame 3 end f (at + 3) (number-short metaFrame 3 end f (at + 3) (omega arith) i₃ (omega arith) (omega arith)) (omega arith));
+      coded = number-short metaFrame 3 (at + 4 + size) f (at + 4) (omega arith) i₄ (omega arith) (omega arith);
+    }
+
+pub common-was : (end : ℕ) (f : List ℕ) (at : ℕ) {r : Common} → CommonTold r f end at → {k size format : ℕ} → r ≡ Is k size format → Reads f end at k size format
+common-was end f at told e = subst (λ r. CommonTold r f end at) e told
+
+pub common-inside : (end : ℕ) (f : List ℕ) (at : ℕ) {k size format : ℕ} → Reads f end at k size format → (0 < size) × (at + 4 + size ≤ end)
+common-inside end f at r = (omega (arith, r .some), omega (arith, block-inside metaFrame 3 end f (at + 3) (r .covers)))
+
+-- the row that is made of it at once is the one that `item` makes
+pub common-row : (x : Context) (node index end : ℕ) (m : Made) (s : List ℕ) (at : ℕ) (σ : State) {k size format : ℕ} → Reads s end at k size format → m .items < x .limits .items
+    → {place : ℕ} → place ≡ at + 5 → {row : Item} → row ≡ rowOf (record { node = node; item = index; field = Standard k }) 0 0 format place (size - 1)
+    → {u′ : List ℕ} → u′ ≡ sets (σ .items) (σ .made .items * 10) (itemWords row) → {p : ℕ} → p ≡ at + (4 + size)
+    → ok (plusItem m, state (σ .nodes) u′ (plusItem (σ .made))) p ≡ exec put (item x node index end m) s at σ
+common-row x node index end m s at σ {k} {size} {format} r l {place} e₁ {row} w h {p} e₂ =
+    let label : Label = record { node = node; item = index; field = Standard k } in
+    let e₃ : p ≡ at + 4 + size = omega arith in
+    let e₄ : size - 1 ≡ at + 4 + size - (at + 5) = omega arith in
+    let w′ : row ≡ rowOf label 0 0 format (at + 5) (at + 4 + size - (at + 5)) = rw (← e₄, ← e₁) w in
+    rw e₃ (universal-row x label end m s (at + 3) σ l (r .covers) (r .some) refl (r .coded) w′ h)
+    ∙ sym (item-rows x node index end m s at σ (r .frame) ∙ rows-universal x label end m s (at + 3) σ refl)
 
 -- ---- items end to end
 

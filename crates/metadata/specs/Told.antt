@@ -1,17 +1,25 @@
--- What the code's answers say, with the tables that the call left.
+-- What a call is given, and what the code's answers say, with the tables that the call left.
 -- Assumes nothing.
 use mathlib.Core.Path.{_≡_}
 use mathlib.Core.List.{List}
-use Prim.Native.Nat.{ℕ, _≤_}
-use Rattle.cursor.specs.Machine.{Out, ok, refused}
+use Prim.Native.Nat.{ℕ, _+_, _*_, _≤_}
+use lib.ListN.{length}
+use Rattle.cursor.specs.Machine.{Out, ok, refused, run}
+use Rattle.cursor.specs.Rows.{metaFrame}
+use Rattle.cursor.specs.Refusals.{cutShort}
+use Rattle.cursor.specs.Leaves.{block}
+use Rattle.cursor.specs.Leaves as leaves
+use Rattle.cursor.specs.Told.{Readable}
 use Rattle.header.specs.Types.{typesOf}
-use Rattle.metadata.specs.Tables.{State, state}
-use Rattle.metadata.specs.Metadata.{Context}
+use Rattle.metadata.specs.Tables.{State, state, itemWidth}
+use Rattle.metadata.specs.Metadata.{Context, itemFrame}
 use Rattle.metadata.specs.declared.Limits.{Limits}
 use Rattle.metadata.specs.declared.Made.{Made}
 use Rattle.metadata.specs.declared.Scope.{Scope}
 use Rattle.metadata.specs.declared.Field.{Field}
+use Rattle.metadata.specs.declared.Field.the-variants.{Standard}
 use Rattle.metadata.specs.declared.Contents.{Contents}
+use Rattle.metadata.specs.declared.Contents.the-variants.{Universal}
 use Rattle.metadata.specs.declared.MetaItem.{MetaItem}
 use Rattle.metadata.specs.declared.Fielded.{Fielded}
 use Rattle.metadata.specs.declared.Fielded.the-variants as fielded
@@ -19,6 +27,8 @@ use Rattle.metadata.specs.declared.Contained.{Contained}
 use Rattle.metadata.specs.declared.Contained.the-variants as contained
 use Rattle.metadata.specs.declared.Itemed.{Itemed}
 use Rattle.metadata.specs.declared.Itemed.the-variants as itemed
+use Rattle.metadata.specs.declared.Common.{Common}
+use Rattle.metadata.specs.declared.Common.the-variants as common
 use Rattle.metadata.specs.declared.Rowed.{Rowed}
 use Rattle.metadata.specs.declared.Rowed.the-variants as rows
 use Rattle.metadata.specs.declared.Walked.{Walked}
@@ -27,6 +37,18 @@ use Rattle.metadata.specs.declared.Walked.the-variants as all
 -- the context of a scope, with the types as their table has them, in a file of `size` bytes
 abbrev pub contextOf : Scope → List ℕ → ℕ → Context
 contextOf s ws size = record { limits = s .limits; types = typesOf (s .types) ws; first = s .first .0; size = size }
+
+-- ---- a call that fills tables
+
+-- the item table holds as many rows as there may be, and no more rows are made
+abbrev pub ItemRoom : Scope → (items : List ℕ) → Made → Type 0
+ItemRoom scope items m = (scope .limits .items * itemWidth ≤ length items) × (m .nodes ≤ scope .limits .nodes) × (m .items ≤ scope .limits .items)
+
+-- besides, the part that ends at `end` lies in the file, and the declared types stand in their table
+abbrev pub Room : Scope → (file types items : List ℕ) → (end : ℕ) → Made → Type 0
+Room scope file types items end m = Readable end file × (scope .types * 2 ≤ length types) × ItemRoom scope items m
+
+-- ---- answers
 
 abbrev pub fieldTold : Fielded → Out Field
 fieldTold (fielded.Is f c) = ok f (c .at .0)
@@ -39,6 +61,17 @@ contentsTold (contained.Refused n p) = refused n (p .0)
 abbrev pub itemTold : Itemed → Out MetaItem
 itemTold (itemed.Is i c) = ok i (c .at .0)
 itemTold (itemed.Refused n p) = refused n (p .0)
+
+-- An item in the common form, from `at` on in metadata that ends at `end`: what the definitions read there, field by field.
+pub record Reads (f : List ℕ) (end at number size format : ℕ) : Type 0 where
+  pub frame : run (itemFrame end) f at ≡ ok (record { field = Standard number; contents = Universal }) (at + 3)
+  pub some : (size ≡ 0) → ⊥
+  pub covers : run (block metaFrame cutShort end) f (at + 3) ≡ ok size (at + 4)
+  pub coded : run (leaves.number metaFrame cutShort (at + 4 + size)) f (at + 4) ≡ ok format (at + 5)
+
+abbrev pub CommonTold : Common → List ℕ → (end at : ℕ) → Type 0
+CommonTold (common.Is number size format) f end at = Reads f end at number size format
+CommonTold common.Other f end at = Unit {0}
 
 -- ---- a call that fills tables: a refusal says nothing of them
 

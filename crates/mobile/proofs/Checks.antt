@@ -3,66 +3,101 @@
 use mathlib.Core.Path.{_≡_, sym, ap, ap₂, _∙_}
 use mathlib.Core.Bool.{Bool, true, false, not, _&&_}
 use mathlib.Core.List.{List, []}
-use Prim.Native.Nat.{ℕ, _≤_, _<_}
+use Prim.Native.Nat.{ℕ, _+_, _*_, _≤_, _<_}
 use lib.Dec.{ltb, eqb}
 use lib.ListN.{length}
-use borrow.Author.Tests.{eq-eqb, ne-eqb, not-true, not-false}
+use borrow.Author.Tests.{not-true, not-false}
 use Rattle.cursor.specs.declared.Node.{Node}
 use Rattle.cursor.specs.declared.Item.{Item}
 use Rattle.header.specs.Header.{Header}
 use Rattle.tree.specs.Reading.{Reading, summary, nodeTable, itemTable}
-use Rattle.tree.specs.Rows.{nodesIn, itemsIn}
+use Rattle.tree.specs.Rows.{nodesIn, itemsIn, itemFrom, itemAt}
 use Rattle.tree.specs.Asking.{good, ask, keptNodes, keptItems}
 use Rattle.tree.specs.declared.Summary.{Summary}
-use Rattle.tree.proofs.Order.{InOrder}
-use Rattle.tree.proofs.Rows.{Standing, ask-is, good-nodes, good-items}
-use Rattle.mobile.specs.Mobile.{all, those, isEmpty, isField, nothing, tune, bank, count, rowOf, rightEdition, filesOnly, plainReferences, noUnpackers, childrenTyped, tuneRow, bankRow, oneTune, isNeed, tuneNeeds, isShort, isSmall, smallFields, check, verdictBy, verdict, mobile}
-use Rattle.mobile.specs.Told.{DataIn, NextRow, childrenWalked}
+use Rattle.tree.proofs.Rows.{item-at, items-in-length, Standing, ask-is, good-nodes, good-items}
+use Rattle.find.specs.Own.{those, part, Runs}
+use Rattle.description.specs.Row.{isField}
+use Rattle.mobile.specs.Mobile.{all, isEmpty, children, rightEdition, filesOnly, plainReferences, noUnpackers, oneTune, isNeed, areNeeds, tuneNeeds, isShort, isSmall, smallFields, check, verdictBy, verdict, mobile}
+use Rattle.mobile.specs.Told.{Tables, NextRow}
+use Rattle.mobile.specs.declared.Few.{Few}
+use Rattle.mobile.specs.declared.Few.the-variants as few
 use Rattle.mobile.proofs.Lists.{part-all}
-use Rattle.mobile.proofs.Walk.{children-walked}
 
--- ---- check 1
+-- ---- check 6
 
-pub edition-is : (h : Header) {s : Summary} (ns : List Node) (is : List Item) → s ≡ summary h ns is
-    → {b : Bool} → b ≡ (eqb (s .version) 200 && (eqb (s .edition .kind) 2 && eqb (s .edition .revision) 1)) → b ≡ rightEdition h
-unfolding rightEdition
-edition-is h ns is e k = k ∙ ap (λ (x : Summary). eqb (x .version) 200 && (eqb (x .edition .kind) 2 && eqb (x .edition .revision) 1)) e
+module _ (ts ks : Few) where
+  pub tunes-none : ts ≡ few.None → false ≡ oneTune ts ks
+  unfolding oneTune
+  tunes-none e = rw e
 
--- ---- checks 5, 6, 7
+  pub tunes-more : ts ≡ few.More → false ≡ oneTune ts ks
+  unfolding oneTune
+  tunes-more e = rw e
 
-module _ (f : List ℕ) (ns : List Node) (is : List Item) where
-  pub typed-by : {k : ℕ} → k ≡ count nothing (childrenWalked f ns is) → {r : Bool} → r ≡ eqb k 0 → r ≡ childrenTyped (childrenWalked f ns is)
-  unfolding childrenTyped
-  typed-by e t = t ∙ ap (λ x. eqb x 0) e
-
-  module _ {t : ℕ} (tunes : t ≡ count tune (childrenWalked f ns is)) where
-    pub tune-other : ((t ≡ 1) → ⊥) → false ≡ oneTune (childrenWalked f ns is)
+  module _ {t : ℕ} (e : ts ≡ few.One t) where
+    pub tune-alone : ks ≡ few.None → true ≡ oneTune ts ks
     unfolding oneTune
-    tune-other n = simp (← tunes, ne-eqb _ _ n)
+    tune-alone h = rw (e, h)
 
-    module _ (one : t ≡ 1) {b : ℕ} (banks : b ≡ count bank (childrenWalked f ns is)) where
-      pub bank-none : b ≡ 0 → true ≡ oneTune (childrenWalked f ns is)
-      unfolding oneTune
-      bank-none e = simp (← tunes, ← banks, eq-eqb _ _ one, eq-eqb _ _ e)
+    pub tune-after : {k : ℕ} → ks ≡ few.One k → ltb k t ≡ oneTune ts ks
+    unfolding oneTune
+    tune-after h = rw (e, h)
 
-      pub bank-more : ((b ≡ 0) → ⊥) → ((b ≡ 1) → ⊥) → false ≡ oneTune (childrenWalked f ns is)
-      unfolding oneTune
-      bank-more z n = simp (← tunes, ← banks, eq-eqb _ _ one, ne-eqb _ _ z, ne-eqb _ _ n)
+    pub tune-beside : ks ≡ few.More → false ≡ oneTune ts ks
+    unfolding oneTune
+    tune-beside h = rw (e, h)
 
-      pub bank-by : ((b ≡ 0) → ⊥) → b ≡ 1 → {p q : ℕ} → p ≡ rowOf bank 1 (childrenWalked f ns is) → q ≡ rowOf tune 1 (childrenWalked f ns is) → {r : Bool} → r ≡ ltb p q → r ≡ oneTune (childrenWalked f ns is)
-      unfolding oneTune bankRow tuneRow
-      bank-by z e x y k = simp (← tunes, ← banks, eq-eqb _ _ one, ne-eqb _ _ z, eq-eqb _ _ e) (k ∙ ap₂ ltb x y)
+-- ---- check 7
 
-  module _ {m first : ℕ} (n : length is ≡ m) (a : NextRow 13 is 0 m first) where
-    pub needs-none : m ≤ first → false ≡ tuneNeeds (childrenWalked f ns is) is
-    unfolding tuneNeeds isEmpty
-    needs-none l = let z : those (isField 13) is ≡ [] = ap (those (isField 13)) (sym (part-all is m n)) ∙ a .none l in simp z
+module _ (f : List ℕ) (tune : ℕ) (ws : List ℕ) (m : ℕ) where
+  abbrev needs : ℕ → List Item
+  needs from = those (isField 13) (part (itemsIn m ws) from m)
 
-    pub needs-by : first < m → {row : ℕ} → row ≡ rowOf tune 1 (childrenWalked f ns is) → {r : Bool} → r ≡ all (isNeed row) is → r ≡ tuneNeeds (childrenWalked f ns is) is
-    unfolding tuneNeeds isEmpty tuneRow
-    needs-by l w t =
-        let z = ap (those (isField 13)) (sym (part-all is m n)) ∙ a .here l in
-        simp z (t ∙ ap (λ x. all (isNeed x) is) w)
+  abbrev whole : Bool
+  whole = areNeeds f tune (those (isField 13) (itemsIn m ws))
+
+  all-needs : those (isField 13) (itemsIn m ws) ≡ needs 0
+  all-needs = ap (those (isField 13)) (sym (part-all (itemsIn m ws) m (items-in-length ws m)))
+
+  -- what is left at row i, of field 13, or at the end
+  pub record NeedsLeft (i : ℕ) : Type 0 where
+    pub here : i < m → whole ≡ (isNeed f tune (itemAt (itemsIn m ws) i) && all (isNeed f tune) (needs (i + 1)))
+    pub none : m ≤ i → whole ≡ true
+
+  pub needs-none : {i : ℕ} → NextRow 13 (itemsIn m ws) 0 m i → m ≤ i → false ≡ whole
+  unfolding areNeeds isEmpty
+  needs-none a l = sym (ap (areNeeds f tune) (all-needs ∙ a .none l))
+
+  needs-from : {from i : ℕ} → NextRow 13 (itemsIn m ws) from m i → whole ≡ all (isNeed f tune) (needs from) → NeedsLeft i
+  unfolding all
+  needs-from a h = record { here = λ l. h ∙ ap (all (isNeed f tune)) (a .here l); none = λ l. h ∙ ap (all (isNeed f tune)) (a .none l) }
+
+  pub needs-begin : {i : ℕ} → NextRow 13 (itemsIn m ws) 0 m i → i < m → NeedsLeft i
+  unfolding areNeeds isEmpty
+  needs-begin a l = needs-from a (ap (areNeeds f tune) (all-needs ∙ a .here l) ∙ ap (all (isNeed f tune)) (sym (a .here l)))
+
+  module _ {i : ℕ} (h : NeedsLeft i) (l : i < m) {r : Item} (e : r ≡ itemFrom ws (i * 10)) {b : Bool} (k : b ≡ isNeed f tune r) where
+    step : whole ≡ (b && all (isNeed f tune) (needs (i + 1)))
+    step = h .here l ∙ ap (λ x. x && all (isNeed f tune) (needs (i + 1))) (ap (isNeed f tune) (item-at ws m i l ∙ sym e) ∙ sym k)
+
+    pub needs-no : b ≡ false → false ≡ whole
+    needs-no t = sym (step ∙ ap (λ x. x && all (isNeed f tune) (needs (i + 1))) t)
+
+    pub needs-on : b ≡ true → {j : ℕ} → NextRow 13 (itemsIn m ws) (i + 1) m j → NeedsLeft j
+    needs-on t a = needs-from a (step ∙ ap (λ x. x && all (isNeed f tune) (needs (i + 1))) t)
+
+module _ (f : List ℕ) (ts : Few) (is : List Item) where
+  pub needs-of-none : ts ≡ few.None → false ≡ tuneNeeds f ts is
+  unfolding tuneNeeds
+  needs-of-none e = rw e
+
+  pub needs-of-more : ts ≡ few.More → false ≡ tuneNeeds f ts is
+  unfolding tuneNeeds
+  needs-of-more e = rw e
+
+  pub needs-of-one : {t : ℕ} → ts ≡ few.One t → {b : Bool} → b ≡ areNeeds f t (those (isField 13) is) → b ≡ tuneNeeds f ts is
+  unfolding tuneNeeds
+  needs-of-one e h = rw e h
 
 -- ---- check 8
 
@@ -85,27 +120,38 @@ pub skip : (n : ℕ) {later r : ℕ} {b d : Bool} → b ≡ d → not b ≡ fals
 unfolding check
 skip n {later} {r} {b} e t k = k ∙ sym (ap (λ x. check n x later) (sym e ∙ not-false b t))
 
-pub verdict-by : (f : List ℕ) (h : Header) (ns : List Node) (is : List Item) {r : ℕ}
-    → r ≡ check 1 (rightEdition h)
+-- b is what the code says of the header
+pub verdict-by : (f : List ℕ) (h : Header) (ns : List Node) (is : List Item) {s : Summary} → s ≡ summary h ns is
+    → {b : Bool} → b ≡ (eqb (s .version) 200 && (eqb (s .edition .kind) 2 && eqb (s .edition .revision) 1))
+    → {r : ℕ} → r ≡ check 1 b
     (check 2 (filesOnly ns)
     (check 3 (plainReferences ns)
-    (check 4 (noUnpackers ns) (check 5 (childrenTyped (childrenWalked f ns is)) (check 6 (oneTune (childrenWalked f ns is)) (check 7 (tuneNeeds (childrenWalked f ns is) is) (check 8 (smallFields ns is) 0)))))))
-    → r ≡ verdictBy (childrenWalked f ns is) h ns is
-unfolding verdictBy
-verdict-by f h ns is e = e
+    (check 4 (noUnpackers ns)
+    (check 5 (children f ns is .typed)
+    (check 6 (oneTune (children f ns is .tunes) (children f ns is .instruments)) (check 7 (tuneNeeds f (children f ns is .tunes) is) (check 8 (smallFields ns is) 0)))))))
+    → r ≡ verdict f h ns is
+unfolding verdict verdictBy rightEdition
+verdict-by f h ns is e k t =
+    let d = k ∙ ap (λ (x : Summary). eqb (x .version) 200 && (eqb (x .edition .kind) 2 && eqb (x .edition .revision) 1)) e in
+    rw d at t
 
 -- ---- the answer
 
 module _ {f : List ℕ} {o : Reading} {s : Summary} {t u : List ℕ} (st : Standing f o s t u) where
-  pub data-within : DataIn (length f) (itemsIn (s .items) u)
-  data-within = rw (st .items-are) (λ i l. st .sound .items-inside i l .0)
+  pub tables : Runs (st .ns) (st .is) → Tables f t u (s .nodes) (s .items)
+  tables r = record {
+    node-room = st .node-room;
+    item-room = st .item-room;
+    data-in = rw (st .items-are) (λ i l. st .sound .items-inside i l .0);
+    runs = rw (st .nodes-are, st .items-are) r;
+  }
 
-  module _ (order : InOrder (st .ns) (st .is)) {v : ℕ} (h : (h : Header) → s ≡ summary h (nodesIn (s .nodes) t) (itemsIn (s .items) u) → v ≡ verdictBy (childrenWalked f (nodesIn (s .nodes) t) (itemsIn (s .items) u)) h (nodesIn (s .nodes) t) (itemsIn (s .items) u)) where
+  module _ {v : ℕ} (h : (h : Header) → s ≡ summary h (nodesIn (s .nodes) t) (itemsIn (s .items) u) → v ≡ verdict f h (nodesIn (s .nodes) t) (itemsIn (s .items) u)) where
     answer : mobile f (st .h) (st .ns) (st .is) ≡ good v
-    unfolding mobile verdict
+    unfolding mobile
     answer =
         let e : s ≡ summary (st .h) (nodesIn (s .nodes) t) (itemsIn (s .items) u) = st .summed ∙ sym (ap₂ (summary (st .h)) (st .nodes-are) (st .items-are)) in
-        sym (ap (λ x. good x) (h (st .h) e ∙ ap₂ (λ (x : List Node) (y : List Item). verdictBy (childrenWalked f x y) (st .h) x y) (st .nodes-are) (st .items-are) ∙ ap (λ (v : List ℕ). verdictBy v (st .h) (st .ns) (st .is)) (sym (children-walked f (st .ns) (st .is) (order .items-follow)))))
+        sym (ap (λ x. good x) (h (st .h) e ∙ ap₂ (verdict f (st .h)) (st .nodes-are) (st .items-are)))
 
     pub judged : good v ≡ ask o (mobile f)
     judged = sym (ask-is (st .reads) (mobile f) ∙ answer)

@@ -1,6 +1,5 @@
-pub mod Lists
 pub mod Tests
+pub mod Lists
 pub mod Roles
-pub mod Walk
 pub mod Checks
 pub mod Depends

@@ -1,8 +1,8 @@
 -- The Mobile verdict (01, Questions): eight checks in order, the number of the first that fails, 0 if none.
--- A node's own item rows are those of find/specs/Own.antt. Assumes nothing.
-use mathlib.Core.Bool.{Bool, true, false, not, _&&_, _||_}
-use mathlib.Core.List.{List, [], _∷_, map}
-use Prim.Native.Nat.{ℕ, suc, _+_}
+-- A node's own item rows are those of find/specs/Own.antt, a readable field 13 is that of description/specs/Count.antt. Assumes nothing.
+use mathlib.Core.Bool.{Bool, true, false, cond, not, _&&_, _||_}
+use mathlib.Core.List.{List, [], _∷_}
+use Prim.Native.Nat.{ℕ, _+_}
 use lib.Dec.{ltb, leb, eqb}
 use lib.ListN.{getD, drop}
 use Rattle.cursor.specs.Machine.{Out, ok, refused, run}
@@ -14,95 +14,77 @@ use Rattle.cursor.specs.declared.Item.{Item}
 use Rattle.header.specs.Header.{Header}
 use Rattle.tree.specs.Rows.{nodeAt}
 use Rattle.tree.specs.Asking.{Result, good}
-use Rattle.find.specs.Own.{Numbered, own}
+use Rattle.find.specs.Own.{itemsOf, those, own}
+use Rattle.description.specs.Row.{isField, isBinary}
+use Rattle.description.specs.Count.{isReadable}
+use Rattle.mobile.specs.declared.Role.{Role}
+use Rattle.mobile.specs.declared.Role.the-variants as role
+use Rattle.mobile.specs.declared.Few.{Few}
+use Rattle.mobile.specs.declared.Few.the-variants as few
+use Rattle.mobile.specs.declared.Children.{Children}
 
 -- every one is as p says
 unfoldable pub all : {A : Type 0} → (A → Bool) → List A → Bool
 all p [] = true
 all p (x ∷ xs) = p x && all p xs
 
--- those that are as p says
-unfoldable pub keepIf : {A : Type 0} → Bool → A → List A → List A
-keepIf true x xs = x ∷ xs
-keepIf false x xs = xs
-
-unfoldable pub those : {A : Type 0} → (A → Bool) → List A → List A
-those p [] = []
-those p (x ∷ xs) = keepIf (p x) x (those p xs)
-
 unfoldable pub isEmpty : {A : Type 0} → List A → Bool
 isEmpty [] = true
 isEmpty (x ∷ xs) = false
 
--- ---- what is asked of one row
-
--- a row of the standard field n
-unfoldable pub isField : ℕ → Item → Bool
-isField n r = eqb (r .kind) 0 && eqb (r .field) n
-
--- universal, format 6 or 7
-unfoldable pub isBinary : Item → Bool
-isBinary r = eqb (r .version) 0 && (eqb (r .format) 6 || eqb (r .format) 7)
-
--- ---- what a child is: a tune (type 0 or 1), a bank (type 5), or nothing that may stand here
-
-abbrev pub nothing : ℕ
-nothing = 0
-
-abbrev pub tune : ℕ
-tune = 1
-
-abbrev pub bank : ℕ
-bank = 2
-
-unfoldable pub choose : Bool → ℕ → ℕ → ℕ
-choose true a b = a
-choose false a b = b
+-- ---- what a child is, by its type: a tune (0 or 1), instruments (5), or something else, which may not stand here
 
 -- by the type's number
-unfoldable pub roleOfType : ℕ → ℕ
-roleOfType v = choose (eqb v 0 || eqb v 1) tune (choose (eqb v 5) bank nothing)
+unfoldable pub roleOfType : ℕ → Role
+roleOfType v = cond (eqb v 0 || eqb v 1) role.Tune (cond (eqb v 5) role.Instruments role.Other)
 
 -- by a number that has to end at `end`
-unfoldable pub roleOfNumber : ℕ → Out ℕ → ℕ
-roleOfNumber end (ok v q) = choose (eqb q end) (roleOfType v) nothing
-roleOfNumber end (refused n p) = nothing
+unfoldable pub roleOfNumber : ℕ → Out ℕ → Role
+roleOfNumber end (ok v q) = cond (eqb q end) (roleOfType v) role.Other
+roleOfNumber end (refused n p) = role.Other
 
 -- by a row of field 3: universal, format 6 or 7, data 00 and then one number that fills the rest
-unfoldable pub roleOfRow : List ℕ → Item → ℕ
+unfoldable pub roleOfRow : List ℕ → Item → Role
 roleOfRow f r =
-    choose (isBinary r && (ltb 0 (r .size) && eqb (getD f (r .place) 0) 0)) (roleOfNumber (r .place + r .size) (run (number metaFrame cutShort (r .place + r .size)) f (r .place + 1))) nothing
+    cond (isBinary r && (ltb 0 (r .size) && eqb (getD f (r .place) 0) 0)) (roleOfNumber (r .place + r .size) (run (number metaFrame cutShort (r .place + r .size)) f (r .place + 1))) role.Other
 
 -- by the rows of field 3: there has to be one
-unfoldable pub roleOfRows : List ℕ → List Item → ℕ
-roleOfRows f [] = nothing
+unfoldable pub roleOfRows : List ℕ → List Item → Role
+roleOfRows f [] = role.Other
 roleOfRows f (r ∷ []) = roleOfRow f r
-roleOfRows f (r ∷ s ∷ rs) = nothing
+roleOfRows f (r ∷ s ∷ rs) = role.Other
 
 -- by a child's own item rows
-unfoldable pub roleOf : List ℕ → List Item → ℕ
-roleOf f own = roleOfRows f (those (isField 3) own)
+unfoldable pub roleOf : List ℕ → List Item → Role
+roleOf f rs = roleOfRows f (those (isField 3) rs)
 
--- of each node in turn, the first of which is row k
-unfoldable pub roles : List ℕ → List Item → (k : ℕ) → List Node → List ℕ
-roles f is k [] = []
-roles f is k (r ∷ ns) = roleOf f (map (λ (x : Numbered). x .item) (own is k)) ∷ roles f is (k + 1) ns
+-- ---- the children: whether each may stand here, the tunes and the instruments
 
--- of each child: of all nodes but the root
-unfoldable pub childRoles : List ℕ → List Node → List Item → List ℕ
-childRoles f ns is = roles f is 1 (drop 1 ns)
+-- of one kind there are none, one, in a row, or more; row k besides them
+unfoldable pub besides : ℕ → Few → Few
+besides k few.None = few.One k
+besides k (few.One j) = few.More
+besides k few.More = few.More
 
--- how many have the role
-unfoldable pub count : ℕ → List ℕ → ℕ
-count role [] = 0
-count role (x ∷ xs) = choose (eqb x role) (suc (count role xs)) (count role xs)
+-- the child in row k, which is that, besides the others
+unfoldable pub child : Role → ℕ → Children → Children
+child role.Tune k c = record { typed = c .typed; tunes = besides k (c .tunes); instruments = c .instruments }
+child role.Instruments k c = record { typed = c .typed; tunes = c .tunes; instruments = besides k (c .instruments) }
+child role.Other k c = record { typed = false; tunes = c .tunes; instruments = c .instruments }
 
--- the row of the first that has the role, where the first of all is row i
-unfoldable pub rowOf : ℕ → ℕ → List ℕ → ℕ
-rowOf role i [] = i
-rowOf role i (x ∷ xs) = choose (eqb x role) i (rowOf role (i + 1) xs)
+abbrev pub noChildren : Children
+noChildren = record { typed = true; tunes = few.None; instruments = few.None }
 
--- ---- the checks; rs are the children's roles
+-- of these nodes, the first of which is row k
+unfoldable pub childrenFrom : List ℕ → List Item → (k : ℕ) → List Node → Children
+childrenFrom f is k [] = noChildren
+childrenFrom f is k (r ∷ ns) = child (roleOf f (itemsOf (own is k))) k (childrenFrom f is (k + 1) ns)
+
+-- all nodes but the root
+unfoldable pub children : List ℕ → List Node → List Item → Children
+children f ns is = childrenFrom f is 1 (drop 1 ns)
+
+-- ---- the checks
 
 -- 1: version 2.00, type 2, revision 1
 unfoldable pub rightEdition : Header → Bool
@@ -129,34 +111,34 @@ isUnpacked r = eqb (r .layers) 0
 unfoldable pub noUnpackers : List Node → Bool
 noUnpackers ns = all isUnpacked ns
 
--- 5: each child has one own field 3, with type 0, 1 or 5
-unfoldable pub childrenTyped : (rs : List ℕ) → Bool
-childrenTyped rs = eqb (count nothing rs) 0
+-- 5: each child has one own field 3, with type 0, 1 or 5 (`typed` of the children)
 
--- 6: one tune, at most one bank, and that one earlier
-unfoldable pub tuneRow : (rs : List ℕ) → ℕ
-tuneRow rs = rowOf tune 1 rs
+-- 6: one tune, at most one of instruments, and that one earlier
+unfoldable pub oneTune : (tunes instruments : Few) → Bool
+oneTune (few.One t) few.None = true
+oneTune (few.One t) (few.One k) = ltb k t
+oneTune (few.One t) few.More = false
+oneTune few.None k = false
+oneTune few.More k = false
 
-unfoldable pub bankRow : (rs : List ℕ) → ℕ
-bankRow rs = rowOf bank 1 rs
+-- 7: field 13 on that tune only, at least one, universal, format 6 or 7, and each of them readable (02, E4)
+unfoldable pub isNeed : List ℕ → (tune : ℕ) → Item → Bool
+isNeed f tune r = eqb (r .node) tune && (isBinary r && isReadable f r)
 
-unfoldable pub oneTune : (rs : List ℕ) → Bool
-oneTune rs =
-    eqb (count tune rs) 1 && (eqb (count bank rs) 0 || (eqb (count bank rs) 1 && ltb (bankRow rs) (tuneRow rs)))
+unfoldable pub areNeeds : List ℕ → (tune : ℕ) → List Item → Bool
+areNeeds f tune rs = not (isEmpty rs) && all (isNeed f tune) rs
 
--- 7: field 13 on the tune only, at least one, universal, format 6 or 7
-unfoldable pub isNeed : ℕ → Item → Bool
-isNeed row r = not (isField 13 r) || (eqb (r .node) row && isBinary r)
-
-unfoldable pub tuneNeeds : (rs : List ℕ) → List Item → Bool
-tuneNeeds rs is = not (isEmpty (those (isField 13) is)) && all (isNeed (tuneRow rs)) is
+unfoldable pub tuneNeeds : List ℕ → (tunes : Few) → List Item → Bool
+tuneNeeds f (few.One t) is = areNeeds f t (those (isField 13) is)
+tuneNeeds f few.None is = false
+tuneNeeds f few.More is = false
 
 -- 8: header lengths up to 65,535 (metadata and universal lengths are parts of a header), field number and name length up to 256
 unfoldable pub isShort : Node → Bool
 isShort r = leb (r .header) 65535
 
 unfoldable pub fieldSize : Item → ℕ
-fieldSize r = choose (eqb (r .kind) 0) (r .field) (r .named)
+fieldSize r = cond (eqb (r .kind) 0) (r .field) (r .named)
 
 unfoldable pub isSmall : Item → Bool
 isSmall r = leb (fieldSize r) 256
@@ -171,19 +153,19 @@ unfoldable pub check : ℕ → Bool → ℕ → ℕ
 check n true later = later
 check n false later = n
 
-unfoldable pub verdictBy : (rs : List ℕ) → Header → List Node → List Item → ℕ
-verdictBy rs h ns is =
+unfoldable pub verdictBy : List ℕ → Children → Header → List Node → List Item → ℕ
+verdictBy f c h ns is =
     check 1 (rightEdition h)
     (check 2 (filesOnly ns)
     (check 3 (plainReferences ns)
     (check 4 (noUnpackers ns)
-    (check 5 (childrenTyped rs)
-    (check 6 (oneTune rs)
-    (check 7 (tuneNeeds rs is)
+    (check 5 (c .typed)
+    (check 6 (oneTune (c .tunes) (c .instruments))
+    (check 7 (tuneNeeds f (c .tunes) is)
     (check 8 (smallFields ns is) 0)))))))
 
 unfoldable pub verdict : List ℕ → Header → List Node → List Item → ℕ
-verdict f h ns is = verdictBy (childRoles f ns is) h ns is
+verdict f h ns is = verdictBy f (children f ns is) h ns is
 
 -- the question, which refuses nothing of its own
 unfoldable pub mobile : List ℕ → Header → List Node → List Item → Result ℕ

@@ -2,13 +2,14 @@
 -- Assumes nothing.
 use mathlib.Core.Path.{_≡_}
 use mathlib.Core.List.{List, [], _∷_}
-use Prim.Native.Nat.{ℕ, _+_, _-_, _≤_, _<_}
-use lib.ListN.{length, take, drop}
-use Rattle.cursor.specs.declared.Node.{Node}
+use Prim.Native.Nat.{ℕ, _+_, _*_, _≤_, _<_}
+use lib.ListN.{length}
 use Rattle.cursor.specs.declared.Item.{Item}
-use Rattle.tree.specs.Rows.{nodeAt, itemAt}
+use Rattle.tree.specs.Rows.{nodesIn, itemsIn, itemAt}
 use Rattle.tree.specs.Asking.{Result, good, bad}
-use Rattle.mobile.specs.Mobile.{isField, those, roleOf}
+use Rattle.find.specs.Own.{those, part, Runs}
+use Rattle.description.specs.Row.{isField}
+use Rattle.description.specs.Told.{DataIn}
 use Rattle.mobile.specs.declared.Judged.{Judged}
 use Rattle.mobile.specs.declared.Judged.the-variants as judged
 
@@ -25,13 +26,12 @@ abbrev pub words : Judged → List ℕ
 words (judged.Verdict v) = 0 ∷ 0 ∷ v ∷ []
 words (judged.Refused n p) = n ∷ p ∷ []
 
--- the data of each item row lies in a file of `size` bytes
-abbrev pub DataIn : ℕ → List Item → Type 0
-DataIn size is = (i : ℕ) → i < length is → itemAt is i .place + itemAt is i .size ≤ size
-
--- the item rows from one row on and before another
-abbrev pub part : List Item → ℕ → ℕ → List Item
-part is from end = take (end - from) (drop from is)
+-- what is known of the tables of an accepted file: they hold n node rows and m item rows, whose data lies in the file, and each node's own item rows are a run of them
+pub record Tables (file nodes items : List ℕ) (n m : ℕ) : Type 0 where
+  pub node-room : n * 13 ≤ length nodes
+  pub item-room : m * 10 ≤ length items
+  pub data-in : DataIn (length file) (itemsIn m items)
+  pub runs : Runs (nodesIn n nodes) (itemsIn m items)
 
 -- r is the first row of the field in a part, or its end
 pub record NextRow (field : ℕ) (is : List Item) (from end r : ℕ) : Type 0 where
@@ -39,12 +39,3 @@ pub record NextRow (field : ℕ) (is : List Item) (from end r : ℕ) : Type 0 wh
   pub high : r ≤ end
   pub here : r < end → those (isField field) (part is from end) ≡ itemAt is r ∷ those (isField field) (part is (r + 1) end)
   pub none : end ≤ r → those (isField field) (part is from end) ≡ []
-
--- The roles as the code finds them, where item rows stand in node order: each node's own rows are the next ones, as many as its row counts.
-unfoldable pub walked : List ℕ → List Node → List Item → List ℕ
-walked f [] is = []
-walked f (r ∷ ns) is = roleOf f (take (r .rows) is) ∷ walked f ns (drop (r .rows) is)
-
--- of each child: the root's own rows come first
-unfoldable pub childrenWalked : List ℕ → List Node → List Item → List ℕ
-childrenWalked f ns is = walked f (drop 1 ns) (drop (nodeAt ns 0 .rows) is)

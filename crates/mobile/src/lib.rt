@@ -1,33 +1,74 @@
 // Judges Mobile XMF: eight checks in order over a file's rows.
 ghost use mathlib.Core.Path.{_≡_};
-ghost use mathlib.Core.Bool.{_&&_, _||_};
-ghost use Prim.Native.Nat.{_≤_, _<_, _*_, _+_, min};
+ghost use mathlib.Core.Bool.{_&&_};
+ghost use Prim.Native.Nat.{_≤_, _<_, _*_, _+_};
 ghost use lib.Dec.{eqb};
 ghost use lib.ListN.{length};
 ghost use Rattle.header.specs.Header.{Header};
-ghost use Rattle.metadata.specs.Tables.{limits};
-ghost use Rattle.tree.specs.Reading.{readFile, summary};
-ghost use Rattle.tree.specs.Rows.{itemFrom, nodesIn, itemsIn, nodeAt, itemAt};
-ghost use Rattle.tree.specs.Asking.{ask, keptNodes, keptItems};
-ghost use Rattle.mobile.specs.Mobile.{all, isField, isBinary, roleOfType, roleOfRow, roleOf, count, rowOf, filesOnly, plainReferences, noUnpackers, childrenTyped, oneTune, isNeed, tuneNeeds, isShort, fieldSize, isSmall, smallFields, verdictBy, mobile};
-ghost use Rattle.mobile.specs.Told.{told, DataIn, part, NextRow, childrenWalked};
+ghost use Rattle.tree.specs.Reading.{summary};
+ghost use Rattle.tree.specs.Rows.{nodeFrom, nodesIn, itemsIn};
+ghost use Rattle.tree.specs.Asking.{answered, nodesLeft, itemsLeft};
+ghost use Rattle.find.specs.Own.{those, part};
+ghost use Rattle.description.specs.Row.{isField};
+ghost use Rattle.description.specs.Told.{DataIn};
+ghost use Rattle.mobile.specs.Mobile.{all, roleOfType, roleOfRow, roleOf, besides, child, children, filesOnly, isPlain, plainReferences, noUnpackers, oneTune, isNeed, areNeeds, tuneNeeds, isShort, fieldSize, isSmall, smallFields, verdict, mobile};
+ghost use Rattle.mobile.specs.Told.{told, Tables, NextRow};
 use cursor::Cursor;
 use cursor::FilePlace;
+use cursor::Item;
+use cursor::Node;
 use cursor::Numbered;
 use tree::Read;
 use tree::Summary;
 
-// What a child is.
-const NOTHING: u64 = 0;
+// What a child is, by its type: a tune (0 or 1), instruments (5), or something else, which may not stand here.
+enum Role {
+    Tune,
+    Instruments,
+    Other,
+}
 
-const TUNE: u64 = 1;
+// Children of one kind: none, one, in that row, or more.
+enum Few {
+    None,
+    One(usize),
+    More,
+}
 
-const BANK: u64 = 2;
+// What the children are: whether each may stand here, the tunes and the instruments.
+struct Children {
+    typed: bool,
+    tunes: Few,
+    instruments: Few,
+}
 
 // The number of the first check that fails, 0 if none; or the refusal's number and place.
 pub enum Judged {
     Verdict(u64),
     Refused(u64, usize),
+}
+
+// Row i of the node table.
+fn node_at(nodes: &[u64], i: usize) -> Node
+    requires { ⌜ i * 13 + 13 ≤ length (now nodes) ⌝ }
+    ensures { λ r. ⌜ r ≡ nodeFrom (now (nodes .entry)) (i * 13) ⌝ }
+{
+    let k = i * cursor::NODE_WIDTH;
+    Node {
+        start: nodes[k],
+        size: nodes[k + 1],
+        header: nodes[k + 2],
+        held: nodes[k + 3],
+        parent: nodes[k + 4],
+        depth: nodes[k + 5],
+        reference: nodes[k + 6],
+        target: nodes[k + 7],
+        extent: nodes[k + 8],
+        unpackers: nodes[k + 9],
+        layers: nodes[k + 10],
+        rows: nodes[k + 11],
+        detached: nodes[k + 12],
+    }
 }
 
 // Version 2.00, type 2, revision 1.
@@ -51,12 +92,14 @@ fn files_only(nodes: &[u64], many: usize) -> bool
     if many == 0 {
         return false;
     }
-    if nodes[3] == 0 {
+    let root = node_at(nodes, 0);
+    if root.held == 0 {
         return false;
     }
     let mut i = 1;
     while i < many {
-        if nodes[i * cursor::NODE_WIDTH + 3] != 0 {
+        let row = node_at(nodes, i);
+        if row.held != 0 {
             return false;
         }
         i = i + 1;
@@ -64,13 +107,13 @@ fn files_only(nodes: &[u64], many: usize) -> bool
     true
 }
 
-fn is_plain(reference: u64) -> bool
-    ensures { λ r. ⌜ r ≡ (eqb reference 1 || eqb reference 2) ⌝ }
+fn is_plain(row: Node) -> bool
+    ensures { λ r. ⌜ r ≡ isPlain row ⌝ }
 {
-    if reference == 1 {
+    if row.reference == 1 {
         return true;
     }
-    reference == 2
+    row.reference == 2
 }
 
 // Whether every node uses reference 1 or 2.
@@ -80,7 +123,8 @@ fn plain_references(nodes: &[u64], many: usize) -> bool
 {
     let mut i = 0;
     while i < many {
-        if !is_plain(nodes[i * cursor::NODE_WIDTH + 6]) {
+        let row = node_at(nodes, i);
+        if !is_plain(row) {
             return false;
         }
         i = i + 1;
@@ -95,53 +139,13 @@ fn no_unpackers(nodes: &[u64], many: usize) -> bool
 {
     let mut i = 0;
     while i < many {
-        if nodes[i * cursor::NODE_WIDTH + 10] != 0 {
+        let row = node_at(nodes, i);
+        if row.layers != 0 {
             return false;
         }
         i = i + 1;
     }
     true
-}
-
-// Where the own item rows of node row i end, which begin at `at`; the item table has `most` rows.
-fn own_end(nodes: &[u64], many: usize, i: usize, at: usize, most: usize) -> usize
-    requires { ⌜ (many * 13 ≤ length (now nodes)) × (at ≤ most) ⌝ }
-    ensures { λ r. ⌜ r ≡ min (at + nodeAt (nodesIn many (now (nodes .entry))) i .rows) most ⌝ }
-{
-    if many <= i {
-        return at;
-    }
-    let rows = nodes[i * cursor::NODE_WIDTH + 11] as usize;
-    if most - at <= rows {
-        return most;
-    }
-    at + rows
-}
-
-// Whether the item row at word k is of the standard field.
-fn is_field(items: &[u64], k: usize, field: u64) -> bool
-    requires { ⌜ k + 10 ≤ length (now items) ⌝ }
-    ensures { λ r. ⌜ r ≡ isField field (itemFrom (now (items .entry)) k) ⌝ }
-{
-    if items[k + 2] != 0 {
-        return false;
-    }
-    items[k + 3] == field
-}
-
-// Whether the item row at word k is universal, of format 6 or 7.
-fn is_binary(items: &[u64], k: usize) -> bool
-    requires { ⌜ k + 10 ≤ length (now items) ⌝ }
-    ensures { λ r. ⌜ r ≡ isBinary (itemFrom (now (items .entry)) k) ⌝ }
-{
-    if items[k + 5] != 0 {
-        return false;
-    }
-    let format = items[k + 7];
-    if format == 6 {
-        return true;
-    }
-    format == 7
 }
 
 // The first item row of the standard field from row `from` on, or `end`.
@@ -151,7 +155,7 @@ fn next_row(items: &[u64], many: usize, field: u64, from: usize, end: usize) -> 
 {
     let mut i = from;
     while i < end {
-        if is_field(items, i * cursor::ITEM_WIDTH, field) {
+        if description::is_field(tree::item_at(items, i), field) {
             return i;
         }
         i = i + 1;
@@ -160,47 +164,46 @@ fn next_row(items: &[u64], many: usize, field: u64, from: usize, end: usize) -> 
 }
 
 // What a child of the type is.
-fn role_of_type(v: u64) -> u64
+fn role_of_type(v: u64) -> Role
     ensures { λ r. ⌜ r ≡ roleOfType v ⌝ }
 {
     if v == 0 {
-        return TUNE;
+        return Role::Tune;
     }
     if v == 1 {
-        return TUNE;
+        return Role::Tune;
     }
     if v == 5 {
-        return BANK;
+        return Role::Instruments;
     }
-    NOTHING
+    Role::Other
 }
 
-// What a child is whose one row of field 3 is item row i.
-fn role_of_row(file: &[u8], items: &[u64], many: usize, i: usize) -> u64
-    requires { ⌜ (many * 10 ≤ length (now items)) × (i < many) × DataIn (length (now file)) (itemsIn many (now items)) ⌝ }
-    ensures { λ r. ⌜ r ≡ roleOfRow (now (file .entry)) (itemAt (itemsIn many (now (items .entry))) i) ⌝ }
+// What a child is whose one row of field 3 is this.
+fn role_of_row(file: &[u8], row: Item) -> Role
+    requires { ⌜ row .place + row .size ≤ length (now file) ⌝ }
+    ensures { λ r. ⌜ r ≡ roleOfRow (now (file .entry)) row ⌝ }
 {
-    let k = i * cursor::ITEM_WIDTH;
-    if !is_binary(items, k) {
-        return NOTHING;
+    if !description::is_binary(row) {
+        return Role::Other;
     }
-    let place = items[k + 8] as usize;
-    let size = items[k + 9] as usize;
+    let place = row.place as usize;
+    let size = row.size as usize;
     if size == 0 {
-        return NOTHING;
+        return Role::Other;
     }
     if file[place] != 0 {
-        return NOTHING;
+        return Role::Other;
     }
     let end = place + size;
     match (Cursor {
         at: FilePlace(place + 1),
     }).number(file, FilePlace(end), cursor::CUT_SHORT) {
-        Numbered::Refused(_, _) => NOTHING,
+        Numbered::Refused(_, _) => Role::Other,
         Numbered::Is(v, next) => {
             let at = next.at;
             if at.0 != end {
-                return NOTHING;
+                return Role::Other;
             }
             role_of_type(v)
         }
@@ -208,127 +211,143 @@ fn role_of_row(file: &[u8], items: &[u64], many: usize, i: usize) -> u64
 }
 
 // What a child is whose own item rows begin at `at` and end at `end`.
-fn role_of(file: &[u8], items: &[u64], many: usize, at: usize, end: usize) -> u64
+fn role_of(file: &[u8], items: &[u64], many: usize, at: usize, end: usize) -> Role
     requires { ⌜ (many * 10 ≤ length (now items)) × (at ≤ end) × (end ≤ many) × DataIn (length (now file)) (itemsIn many (now items)) ⌝ }
     ensures { λ r. ⌜ r ≡ roleOf (now (file .entry)) (part (itemsIn many (now (items .entry))) at end) ⌝ }
 {
     let first = next_row(items, many, 3, at, end);
     if end <= first {
-        return NOTHING;
+        return Role::Other;
     }
     let second = next_row(items, many, 3, first + 1, end);
     if second < end {
-        return NOTHING;
+        return Role::Other;
     }
-    role_of_row(file, items, many, first)
+    role_of_row(file, tree::item_at(items, first))
 }
 
-// How many children are this; n node rows and m item rows.
-fn count_of(file: &[u8], nodes: &[u64], items: &[u64], n: usize, m: usize, role: u64) -> usize
-    requires { ⌜ (n * 13 ≤ length (now nodes)) × (m * 10 ≤ length (now items)) × DataIn (length (now file)) (itemsIn m (now items)) ⌝ }
-    ensures { λ r. ⌜ r ≡ count role (childrenWalked (now (file .entry)) (nodesIn n (now (nodes .entry))) (itemsIn m (now (items .entry)))) ⌝ }
+// The child in the row besides others of its kind.
+fn besides(row: usize, others: Few) -> Few
+    ensures { λ r. ⌜ r ≡ besides row others ⌝ }
 {
-    let mut found: usize = 0;
-    let mut at = own_end(nodes, n, 0, 0, m);
-    let mut i = 1;
-    while i < n {
-        let end = own_end(nodes, n, i, at, m);
-        if role_of(file, items, m, at, end) == role {
-            found = found + 1;
+    match others {
+        Few::None => Few::One(row),
+        Few::One(_) => Few::More,
+        Few::More => Few::More,
+    }
+}
+
+// The child in the row, which is that, besides the others.
+fn child(role: Role, row: usize, c: Children) -> Children
+    ensures { λ r. ⌜ r ≡ child role row c ⌝ }
+{
+    let typed = c.typed;
+    let tunes = c.tunes;
+    let instruments = c.instruments;
+    match role {
+        Role::Tune => {
+            let tunes = besides(row, tunes);
+            Children {
+                typed,
+                tunes,
+                instruments,
+            }
         }
-        at = end;
-        i = i + 1;
-    }
-    found
-}
-
-// The row of the first child that is this; n node rows and m item rows.
-fn row_of(file: &[u8], nodes: &[u64], items: &[u64], n: usize, m: usize, role: u64) -> usize
-    requires { ⌜ (n * 13 ≤ length (now nodes)) × (m * 10 ≤ length (now items)) × DataIn (length (now file)) (itemsIn m (now items)) ⌝ }
-    ensures { λ r. ⌜ r ≡ rowOf role 1 (childrenWalked (now (file .entry)) (nodesIn n (now (nodes .entry))) (itemsIn m (now (items .entry)))) ⌝ }
-{
-    let mut at = own_end(nodes, n, 0, 0, m);
-    let mut i = 1;
-    while i < n {
-        let end = own_end(nodes, n, i, at, m);
-        if role_of(file, items, m, at, end) == role {
-            return i;
+        Role::Instruments => {
+            let instruments = besides(row, instruments);
+            Children {
+                typed,
+                tunes,
+                instruments,
+            }
         }
-        at = end;
-        i = i + 1;
+        Role::Other => Children {
+            typed: false,
+            tunes,
+            instruments,
+        },
     }
-    i
 }
 
-// Whether each child has one type of its own, 0, 1 or 5.
-fn children_typed(file: &[u8], nodes: &[u64], items: &[u64], n: usize, m: usize) -> bool
-    requires { ⌜ (n * 13 ≤ length (now nodes)) × (m * 10 ≤ length (now items)) × DataIn (length (now file)) (itemsIn m (now items)) ⌝ }
-    ensures { λ r. ⌜ r ≡ childrenTyped (childrenWalked (now (file .entry)) (nodesIn n (now (nodes .entry))) (itemsIn m (now (items .entry)))) ⌝ }
+// What the children are, from the last to the first: each node's own item rows end where those of the next begin.
+fn children_of(file: &[u8], nodes: &[u64], items: &[u64], n: usize, m: usize) -> Children
+    requires { ⌜ Tables (now file) (now nodes) (now items) n m ⌝ }
+    ensures { λ r. ⌜ r ≡ children (now (file .entry)) (nodesIn n (now (nodes .entry))) (itemsIn m (now (items .entry))) ⌝ }
 {
-    count_of(file, nodes, items, n, m, NOTHING) == 0
+    let mut c = Children {
+        typed: true,
+        tunes: Few::None,
+        instruments: Few::None,
+    };
+    let mut end = m;
+    let mut i = n;
+    while 1 < i {
+        i = i - 1;
+        let row = node_at(nodes, i);
+        let at = end - row.rows as usize;
+        c = child(role_of(file, items, m, at, end), i, c);
+        end = at;
+    }
+    c
 }
 
-// Whether there is one tune, and at most one bank, which is earlier.
-fn one_tune(file: &[u8], nodes: &[u64], items: &[u64], n: usize, m: usize) -> bool
-    requires { ⌜ (n * 13 ≤ length (now nodes)) × (m * 10 ≤ length (now items)) × DataIn (length (now file)) (itemsIn m (now items)) ⌝ }
-    ensures { λ r. ⌜ r ≡ oneTune (childrenWalked (now (file .entry)) (nodesIn n (now (nodes .entry))) (itemsIn m (now (items .entry)))) ⌝ }
+// Whether there is one tune, and at most one of instruments, which is earlier.
+fn one_tune(tunes: Few, instruments: Few) -> bool
+    ensures { λ r. ⌜ r ≡ oneTune tunes instruments ⌝ }
 {
-    let tunes = count_of(file, nodes, items, n, m, TUNE);
-    if tunes != 1 {
+    match tunes {
+        Few::One(t) => match instruments {
+            Few::None => true,
+            Few::One(k) => k < t,
+            Few::More => false,
+        },
+        Few::None => false,
+        Few::More => false,
+    }
+}
+
+// Whether the row, of field 13, may stand where it is, and is readable.
+fn is_need(file: &[u8], row: Item, tune: usize) -> bool
+    requires { ⌜ row .place + row .size ≤ length (now file) ⌝ }
+    ensures { λ r. ⌜ r ≡ isNeed (now (file .entry)) tune row ⌝ }
+{
+    if row.node != tune as u64 {
         return false;
     }
-    let banks = count_of(file, nodes, items, n, m, BANK);
-    if banks == 0 {
-        return true;
-    }
-    if banks != 1 {
+    if !description::is_binary(row) {
         return false;
     }
-    let bank = row_of(file, nodes, items, n, m, BANK);
-    let tune = row_of(file, nodes, items, n, m, TUNE);
-    bank < tune
+    description::is_readable(file, row)
 }
 
-// Whether the item row at word k is of field 13 only where it may be.
-fn is_need(items: &[u64], k: usize, row: u64) -> bool
-    requires { ⌜ k + 10 ≤ length (now items) ⌝ }
-    ensures { λ r. ⌜ r ≡ isNeed row (itemFrom (now (items .entry)) k) ⌝ }
+// Whether there are rows of field 13, and all may stand where they are, and are readable.
+fn are_needs(file: &[u8], items: &[u64], many: usize, tune: usize) -> bool
+    requires { ⌜ (many * 10 ≤ length (now items)) × DataIn (length (now file)) (itemsIn many (now items)) ⌝ }
+    ensures { λ r. ⌜ r ≡ areNeeds (now (file .entry)) tune (those (isField 13) (itemsIn many (now (items .entry)))) ⌝ }
 {
-    if !is_field(items, k, 13) {
-        return true;
-    }
-    if items[k] != row {
+    let mut i = next_row(items, many, 13, 0, many);
+    if many <= i {
         return false;
     }
-    is_binary(items, k)
-}
-
-// Whether every row of field 13 is on the tune, universal, of format 6 or 7.
-fn all_needs(items: &[u64], many: usize, row: u64) -> bool
-    requires { ⌜ many * 10 ≤ length (now items) ⌝ }
-    ensures { λ r. ⌜ r ≡ all (isNeed row) (itemsIn many (now (items .entry))) ⌝ }
-{
-    let mut i = 0;
     while i < many {
-        if !is_need(items, i * cursor::ITEM_WIDTH, row) {
+        if !is_need(file, tree::item_at(items, i), tune) {
             return false;
         }
-        i = i + 1;
+        i = next_row(items, many, 13, i + 1, many);
     }
     true
 }
 
-// Whether field 13 is on the tune, and there only.
-fn tune_needs(file: &[u8], nodes: &[u64], items: &[u64], n: usize, m: usize) -> bool
-    requires { ⌜ (n * 13 ≤ length (now nodes)) × (m * 10 ≤ length (now items)) × DataIn (length (now file)) (itemsIn m (now items)) ⌝ }
-    ensures { λ r. ⌜ r ≡ tuneNeeds (childrenWalked (now (file .entry)) (nodesIn n (now (nodes .entry))) (itemsIn m (now (items .entry)))) (itemsIn m (now (items .entry))) ⌝ }
+// Whether field 13 is on the tune, and there only, and readable.
+fn tune_needs(file: &[u8], items: &[u64], many: usize, tunes: Few) -> bool
+    requires { ⌜ (many * 10 ≤ length (now items)) × DataIn (length (now file)) (itemsIn many (now items)) ⌝ }
+    ensures { λ r. ⌜ r ≡ tuneNeeds (now (file .entry)) tunes (itemsIn many (now (items .entry))) ⌝ }
 {
-    let first = next_row(items, m, 13, 0, m);
-    if m <= first {
-        return false;
+    match tunes {
+        Few::One(t) => are_needs(file, items, many, t),
+        Few::None => false,
+        Few::More => false,
     }
-    let row = row_of(file, nodes, items, n, m, TUNE);
-    all_needs(items, m, row as u64)
 }
 
 // Whether every header length is at most 65,535.
@@ -338,7 +357,8 @@ fn short_headers(nodes: &[u64], many: usize) -> bool
 {
     let mut i = 0;
     while i < many {
-        if 65535 < nodes[i * cursor::NODE_WIDTH + 2] {
+        let row = node_at(nodes, i);
+        if 65535 < row.header {
             return false;
         }
         i = i + 1;
@@ -346,15 +366,14 @@ fn short_headers(nodes: &[u64], many: usize) -> bool
     true
 }
 
-// The field number of the item row at word k, or its name's length.
-fn field_size(items: &[u64], k: usize) -> u64
-    requires { ⌜ k + 10 ≤ length (now items) ⌝ }
-    ensures { λ r. ⌜ r ≡ fieldSize (itemFrom (now (items .entry)) k) ⌝ }
+// The field number of the row, or its name's length.
+fn field_size(row: Item) -> u64
+    ensures { λ r. ⌜ r ≡ fieldSize row ⌝ }
 {
-    if items[k + 2] == 0 {
-        return items[k + 3];
+    if row.kind == 0 {
+        return row.field;
     }
-    items[k + 4]
+    row.named
 }
 
 // Whether every field number and name length is at most 256.
@@ -364,7 +383,7 @@ fn small_items(items: &[u64], many: usize) -> bool
 {
     let mut i = 0;
     while i < many {
-        if 256 < field_size(items, i * cursor::ITEM_WIDTH) {
+        if 256 < field_size(tree::item_at(items, i)) {
             return false;
         }
         i = i + 1;
@@ -385,8 +404,8 @@ fn small_fields(nodes: &[u64], items: &[u64], n: usize, m: usize) -> bool
 
 // The number of the first check that fails, 0 if none.
 fn verdict(file: &[u8], nodes: &[u64], items: &[u64], s: Summary) -> u64
-    requires { ⌜ (s .nodes * 13 ≤ length (now nodes)) × (s .items * 10 ≤ length (now items)) × DataIn (length (now file)) (itemsIn (s .items) (now items)) ⌝ }
-    ensures { λ r. ⌜ ((h : Header) → s ≡ summary h (nodesIn (s .nodes) (now (nodes .entry))) (itemsIn (s .items) (now (items .entry))) → r ≡ verdictBy (childrenWalked (now (file .entry)) (nodesIn (s .nodes) (now (nodes .entry))) (itemsIn (s .items) (now (items .entry)))) h (nodesIn (s .nodes) (now (nodes .entry))) (itemsIn (s .items) (now (items .entry)))) ⌝ }
+    requires { ⌜ Tables (now file) (now nodes) (now items) (s .nodes) (s .items) ⌝ }
+    ensures { λ r. ⌜ ((h : Header) → s ≡ summary h (nodesIn (s .nodes) (now (nodes .entry))) (itemsIn (s .items) (now (items .entry))) → r ≡ verdict (now (file .entry)) h (nodesIn (s .nodes) (now (nodes .entry))) (itemsIn (s .items) (now (items .entry)))) ⌝ }
 {
     let edition = s.edition;
     if !right_edition(s.version, edition.kind, edition.revision) {
@@ -403,13 +422,16 @@ fn verdict(file: &[u8], nodes: &[u64], items: &[u64], s: Summary) -> u64
     if !no_unpackers(nodes, n) {
         return 4;
     }
-    if !children_typed(file, nodes, items, n, m) {
+    let c = children_of(file, nodes, items, n, m);
+    if !c.typed {
         return 5;
     }
-    if !one_tune(file, nodes, items, n, m) {
+    let tunes = c.tunes;
+    let instruments = c.instruments;
+    if !one_tune(tunes, instruments) {
         return 6;
     }
-    if !tune_needs(file, nodes, items, n, m) {
+    if !tune_needs(file, items, m, tunes) {
         return 7;
     }
     if !small_fields(nodes, items, n, m) {
@@ -420,9 +442,9 @@ fn verdict(file: &[u8], nodes: &[u64], items: &[u64], s: Summary) -> u64
 
 // Judges Mobile XMF: reads the file into the two tables and gives the verdict.
 pub fn judge(file: &[u8], nodes: &mut [u64], items: &mut [u64]) -> Judged
-    ensures answer { λ r. ⌜ told r ≡ ask (readFile (limits (length (now (nodes .entry))) (length (now (items .entry)))) (now (file .entry))) (mobile (now (file .entry))) ⌝ }
-    ensures nodes { λ _. ⌜ now (nodes .exit) ≡ keptNodes (length (now (nodes .entry))) (readFile (limits (length (now (nodes .entry))) (length (now (items .entry)))) (now (file .entry))) (ask (readFile (limits (length (now (nodes .entry))) (length (now (items .entry)))) (now (file .entry))) (mobile (now (file .entry)))) ⌝ }
-    ensures items { λ _. ⌜ now (items .exit) ≡ keptItems (length (now (items .entry))) (readFile (limits (length (now (nodes .entry))) (length (now (items .entry)))) (now (file .entry))) (ask (readFile (limits (length (now (nodes .entry))) (length (now (items .entry)))) (now (file .entry))) (mobile (now (file .entry)))) ⌝ }
+    ensures answer { λ r. ⌜ told r ≡ answered (now (nodes .entry)) (now (items .entry)) (now (file .entry)) mobile ⌝ }
+    ensures nodes { λ _. ⌜ now (nodes .exit) ≡ nodesLeft (now (nodes .entry)) (now (items .entry)) (now (file .entry)) mobile ⌝ }
+    ensures items { λ _. ⌜ now (items .exit) ≡ itemsLeft (now (nodes .entry)) (now (items .entry)) (now (file .entry)) mobile ⌝ }
 {
     match tree::read_file(file, nodes, items) {
         Read::Refused(n, p) => Judged::Refused(n, p.0),

@@ -1,6 +1,6 @@
+pub mod Uses
 pub mod Quiet
 pub mod Ends
 pub mod Ways
 pub mod Order
 pub mod Limited
-pub mod Listed

@@ -9,12 +9,12 @@ use Rattle.metadata.specs.declared.Made.{Made}
 use Rattle.metadata.proofs.Limited.{room, Items, Less, under, metadata-limited}
 use Rattle.node.specs.declared.Standing.{Standing}
 use Rattle.node.specs.Node.{front}
-use Rattle.node.proofs.Order.{head-rowless, rest-rowless}
+use Rattle.node.proofs.Uses.{head-uses, rest-uses}
 
 pub front-limited : {lim most : Limits} (less : Less lim most) (x : Context) (parent depth : ℕ) (s : Standing) (m : Made) (c : Rows) → Items lim (m .nodes) m c
     → Limited (room lim) (λ w d. Items lim (m .nodes) (w .made) d) c (front (under x lim) parent depth s m) (front (under x most) parent depth s m)
 unfolding front
 front-limited less x parent depth s m c i =
-    places λ p. then-rowless (head-rowless s) λ h d a b.
+    places λ p. then-rowless (head-uses tt s) λ h d a b.
     after (metadata-limited less x (m .nodes) (m .nodes) (p + h .header) m d (omega arith, omega arith, omega arith, omega arith)) λ m′ e j.
-    then-rowless (rest-rowless (x .first) (x .size) (h .held) (p + h .header) (p + h .size)) λ o g a′ b′. ends (omega arith, omega arith, omega arith, omega arith)
+    then-rowless (rest-uses tt tt tt (x .first) (x .size) (h .held) (p + h .header) (p + h .size)) λ o g a′ b′. ends (omega arith, omega arith, omega arith, omega arith)

@@ -1,7 +1,7 @@
 -- The ways through a node up to its contents: what each exit of the code comes to.
 -- Assumes nothing.
 use mathlib.Core.Path.{_≡_, refl, sym, ap, _∙_, subst}
-use mathlib.Core.Bool.{Bool, true, false, not, _||_}
+use mathlib.Core.Bool.{Bool, true, false, not, _||_, or-true}
 use lib.Dec.{eqb}
 use mathlib.Core.Logic.{_⊎_, inl, inr}
 use mathlib.Core.List.{List, [], _∷_}
@@ -192,9 +192,9 @@ module _ (held end : ℕ) (s : List ℕ) (at : ℕ) where
     unfolding unpackers
     unpackers-file z is h = let h′ = rw is at h in h′ ∙ simp (running, e₁, eq-eqb _ _ z)
 
-    pub unpackers-none : ((held ≡ 0) → ⊥) → n ≡ 0 → {stop : ℕ} → stop ≡ q + n → {o : Out Unpackers} → o ≡ run (entries stop) s q → o ≡ run (unpackers held end) s at
+    pub unpackers-none : n ≡ 0 → ok (record { place = record { 0 = q }; count = 0 }) q ≡ run (unpackers held end) s at
     unfolding unpackers
-    unpackers-none k z is h = let h′ = rw is at h in h′ ∙ simp (running, e₁, ne-eqb _ _ k, eq-eqb _ _ z)
+    unpackers-none z = entries-done (entries-begun s (q + n) q) (omega arith) ∙ simp (running, e₁, eq-eqb _ _ z, or-true)
 
 -- ---- references
 
@@ -259,6 +259,13 @@ module _ (first size held end : ℕ) (s : List ℕ) (at : ℕ) where
   reference-cut e = simp (running, e)
 
   module _ {r q : ℕ} (e₁ : run (number referenceFrame 3 end) s at ≡ ok r q) where
+    pub reference-inline : r ≡ 1 → ok (record { kind = r; target = q; extent = end - q }) q ≡ run (reference first size held end) s at
+    unfolding reference
+    reference-inline z =
+        let l₁ : 0 < r = omega arith in
+        let l₂ : r ≤ 4 = omega arith in
+        target-inline first size r end s q z ∙ simp (running, e₁, lt-ltb _ _ l₁, le-leb _ _ l₂, eq-eqb _ _ z, or-true)
+
     pub reference-zero : r ≡ 0 → refused 13 at ≡ run (reference first size held end) s at
     unfolding reference
     reference-zero z = let z′ : r ≤ 0 = omega arith in simp (running, e₁, le-ltb _ _ z′)
@@ -276,10 +283,6 @@ module _ (first size held end : ℕ) (s : List ℕ) (at : ℕ) where
         pub reference-file : held ≡ 0 → {o : Out Reference} → o ≡ run (target first size r end) s q → o ≡ run (reference first size held end) s at
         unfolding reference
         reference-file z h = let l₁ : 0 < r = omega arith in h ∙ simp (running, e₁, lt-ltb _ _ l₁, le-leb _ _ l₂, eq-eqb _ _ z)
-
-        pub reference-one : ((held ≡ 0) → ⊥) → r ≡ 1 → {o : Out Reference} → o ≡ run (target first size r end) s q → o ≡ run (reference first size held end) s at
-        unfolding reference
-        reference-one k z h = let l₁ : 0 < r = omega arith in h ∙ simp (running, e₁, lt-ltb _ _ l₁, le-leb _ _ l₂, ne-eqb _ _ k, eq-eqb _ _ z)
 
 -- ---- what follows the metadata
 

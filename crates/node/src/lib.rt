@@ -3,12 +3,12 @@ ghost use mathlib.Core.Path.{_≡_};
 ghost use mathlib.Core.Bool.{not, _||_};
 ghost use mathlib.Core.List.{List};
 ghost use lib.Dec.{eqb};
-ghost use Prim.Native.Nat.{ℕ, _≤_, _<_, _+_, _*_, _^_};
+ghost use Prim.Native.Nat.{ℕ, _≤_, _<_, _+_, _*_};
 ghost use lib.ListN.{length};
 ghost use Rattle.cursor.specs.Machine.{run, exec, many};
-ghost use Rattle.cursor.specs.Told.{passTold};
+ghost use Rattle.cursor.specs.Told.{Readable, passTold};
 ghost use Rattle.metadata.specs.Tables.{put, state};
-ghost use Rattle.metadata.specs.Told.{contextOf};
+ghost use Rattle.metadata.specs.Told.{Room, contextOf};
 ghost use Rattle.node.specs.Node.{headerLength, head, value, identifier, unpacker, entries, unpackers, resource, nodePlace, uriPlace, target, reference, rest, rowOf, front};
 ghost use Rattle.node.specs.Told.{headTold, unpackerTold, unpackersTold, referenceTold, restTold, Fronts};
 use cursor::Cursor;
@@ -95,7 +95,7 @@ fn is_loose_folder(held: u64, detached: u64) -> bool
 
 // NodeLength, NodeContainedItems and NodeHeaderLength of a node that stands so.
 fn read_head(c: Cursor, file: &[u8], s: Standing) -> Headed
-    requires { ⌜ (s .end .0 ≤ length (now file)) × (length (now file) < 2 ^ 28) ⌝ }
+    requires { ⌜ Readable (s .end .0) (now file) ⌝ }
     ensures { λ r. ⌜ headTold r ≡ run (head s) (now (file .entry)) (c .at .0) ⌝ }
 {
     let start = c.at;
@@ -131,7 +131,7 @@ fn read_head(c: Cursor, file: &[u8], s: Standing) -> Headed
 
 // NodeHeaderLength of a node that starts at `start`.
 fn read_header_length(c: Cursor, file: &[u8], start: FilePlace, size: u64, held: u64) -> Headed
-    requires { ⌜ (start .0 + size ≤ length (now file)) × (length (now file) < 2 ^ 28) ⌝ }
+    requires { ⌜ Readable (start .0 + size) (now file) ⌝ }
     ensures { λ r. ⌜ headTold r ≡ run (headerLength (start .0) size held) (now (file .entry)) (c .at .0) ⌝ }
 {
     let place = c.at;
@@ -226,17 +226,24 @@ fn read_entries(c: Cursor, file: &[u8], end: FilePlace) -> Unpacked
 
 // The unpackers of a node whose header ends at `end`.
 fn read_unpackers(c: Cursor, file: &[u8], held: u64, end: FilePlace) -> Unpacked
-    requires { ⌜ (end .0 ≤ length (now file)) × (length (now file) < 2 ^ 28) ⌝ }
+    requires { ⌜ Readable (end .0) (now file) ⌝ }
     ensures { λ r. ⌜ unpackersTold r ≡ run (unpackers held (end .0)) (now (file .entry)) (c .at .0) ⌝ }
 {
     let place = c.at;
     match c.block(file, end, cursor::BAD_NODE) {
         Numbered::Refused(n, p) => Unpacked::Refused(n, p),
         Numbered::Is(size, d) => {
+            // Most nodes have no unpackers. To answer here is faster than a loop that reads none.
+            if size == 0 {
+                let first = d.at;
+                let none = Unpackers {
+                    place: first,
+                    count: 0,
+                };
+                return Unpacked::Is(none, d);
+            }
             if held != 0 {
-                if size != 0 {
-                    return Unpacked::Refused(cursor::BAD_FOLDER, place);
-                }
+                return Unpacked::Refused(cursor::BAD_FOLDER, place);
             }
             let after = d.on(size);
             let stop = after.at;
@@ -291,7 +298,7 @@ fn read_node_place(c: Cursor, file: &[u8], end: FilePlace) -> Referred
 
 // Reference 4: an XString with a URI.
 fn read_uri(c: Cursor, file: &[u8], end: FilePlace) -> Referred
-    requires { ⌜ (end .0 ≤ length (now file)) × (length (now file) < 2 ^ 28) ⌝ }
+    requires { ⌜ Readable (end .0) (now file) ⌝ }
     ensures { λ r. ⌜ referenceTold r ≡ run (uriPlace (end .0)) (now (file .entry)) (c .at .0) ⌝ }
 {
     match c.block(file, end, cursor::CUT_SHORT) {
@@ -308,20 +315,11 @@ fn read_uri(c: Cursor, file: &[u8], end: FilePlace) -> Referred
     }
 }
 
-// What a reference leads to, in a node that ends at `end`.
+// What a reference other than 1 leads to, in a node that ends at `end`.
 fn read_target(c: Cursor, file: &[u8], first: FilePlace, kind: u64, end: FilePlace) -> Referred
-    requires { ⌜ (end .0 ≤ length (now file)) × (length (now file) < 2 ^ 28) × (c .at .0 ≤ end .0) ⌝ }
+    requires { ⌜ Readable (end .0) (now file) × (1 < kind) ⌝ }
     ensures { λ r. ⌜ referenceTold r ≡ run (target (first .0) (length (now (file .entry))) kind (end .0)) (now (file .entry)) (c .at .0) ⌝ }
 {
-    let place = c.at;
-    if kind == 1 {
-        let is = Reference {
-            kind,
-            target: place.0 as u64,
-            extent: (end.0 - place.0) as u64,
-        };
-        return Referred::Is(is, c);
-    }
     if kind == 2 {
         return read_resource(c, file, first, end);
     }
@@ -333,13 +331,24 @@ fn read_target(c: Cursor, file: &[u8], first: FilePlace, kind: u64, end: FilePla
 
 // ReferenceTypeID and what it leads to; a folder uses reference 1.
 fn read_reference(c: Cursor, file: &[u8], first: FilePlace, held: u64, end: FilePlace) -> Referred
-    requires { ⌜ (end .0 ≤ length (now file)) × (length (now file) < 2 ^ 28) ⌝ }
+    requires { ⌜ Readable (end .0) (now file) ⌝ }
     ensures { λ r. ⌜ referenceTold r ≡ run (reference (first .0) (length (now (file .entry))) held (end .0)) (now (file .entry)) (c .at .0) ⌝ }
 {
     let place = c.at;
     match c.number(file, end, cursor::CUT_SHORT) {
         Numbered::Refused(n, p) => Referred::Refused(n, p),
         Numbered::Is(kind, d) => {
+            // Most nodes use reference 1, so it is asked for first: the contents follow, to the node's end.
+            if kind == 1 {
+                let here = d.at;
+                let extent = end.0 - here.0;
+                let is = Reference {
+                    kind,
+                    target: here.0 as u64,
+                    extent: extent as u64,
+                };
+                return Referred::Is(is, d);
+            }
             if kind == 0 {
                 return Referred::Refused(cursor::BAD_REFERENCE, place);
             }
@@ -347,9 +356,7 @@ fn read_reference(c: Cursor, file: &[u8], first: FilePlace, held: u64, end: File
                 return Referred::Refused(cursor::BAD_REFERENCE, place);
             }
             if held != 0 {
-                if kind != 1 {
-                    return Referred::Refused(cursor::BAD_FOLDER, place);
-                }
+                return Referred::Refused(cursor::BAD_FOLDER, place);
             }
             read_target(d, file, first, kind, end)
         }
@@ -365,7 +372,7 @@ fn read_rest(
     inner: FilePlace,
     stop: FilePlace,
 ) -> Rested
-    requires { ⌜ (inner .0 ≤ length (now file)) × (stop .0 ≤ length (now file)) × (length (now file) < 2 ^ 28) ⌝ }
+    requires { ⌜ Readable (inner .0) (now file) × Readable (stop .0) (now file) ⌝ }
     ensures { λ r. ⌜ restTold r ≡ run (rest (first .0) (length (now (file .entry))) held (inner .0) (stop .0)) (now (file .entry)) (c .at .0) ⌝ }
 {
     match read_unpackers(c, file, held, inner) {
@@ -426,7 +433,7 @@ pub fn read_front(
     s: Standing,
     made: Made,
 ) -> Fronted
-    requires { ⌜ (s .end .0 ≤ length (now file)) × (length (now file) < 2 ^ 28) × (scope .types * 2 ≤ length (now types)) × (scope .limits .items * 10 ≤ length (now items)) × (made .nodes ≤ scope .limits .nodes) × (made .items ≤ scope .limits .items) ⌝ }
+    requires { ⌜ Room scope (now file) (now types) (now items) (s .end .0) made ⌝ }
     ensures { λ r. ⌜ ((t : List ℕ) → Fronts (scope .limits) r t (now (items .exit)) (exec put (front (contextOf scope (now (types .entry)) (length (now (file .entry)))) parent depth s made) (now (file .entry)) (c .at .0) (state t (now (items .entry)) made))) ⌝ }
 {
     let start = c.at;

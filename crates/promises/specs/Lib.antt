@@ -1,3 +1,4 @@
 pub mod Promises
 pub mod Calls
 pub mod Worked
+pub mod Corrected

@@ -6,7 +6,7 @@ use Prim.Native.Nat.{ℕ}
 use lib.ListN.{length, take, drop}
 use Rattle.cursor.specs.Machine.{Out, ok, refused, run, trace, rowsOf, _>>=_, _>>_, if_then_else_, place, skip, check, turns, many, times}
 use Rattle.cursor.specs.Rows.{fileFrame}
-use Rattle.cursor.specs.Leaves.{next, digits, number, block, manufacturer, guidBytes, guid}
+use Rattle.cursor.specs.Leaves.{next, digits, number, block, manufacturer, guid}
 use Rattle.header.specs.Types.{formatOf, either}
 use Rattle.header.specs.Header.{four, opening, edition, fileLength, entry, typesTable, extent, header}
 use Rattle.metadata.specs.Metadata.{field, contents, itemFrame, universal, declaredFormat, version, rowsFor, item, nextItem, metaItems, metadata}
@@ -20,12 +20,17 @@ use Rattle.tree.specs.Hidden.{isHidden}
 use Rattle.find.specs.Own as own
 use Rattle.find.specs.Find as find
 use Rattle.resolve.specs.Resolve as resolve
+use Rattle.description.specs.Row as row
+use Rattle.description.specs.Description as description
+use Rattle.description.specs.Count as count
+use Rattle.description.specs.Worked.{example}
 use Rattle.mobile.specs.Mobile as mobile
 use Rattle.sheet.specs.Sheet as sheet
 use Rattle.room.specs.Room as room
+use Rattle.room.specs.Decimal as decimal
 use Rattle.unicode.specs.Unicode as unicode
 use Rattle.promises.specs.Promises as promises
-use Rattle.promises.specs.Promises.{Question, findItem, findOwn, resolveRow, judgeMobile, writeSheet, Sizes, full, reads, over, outcome}
+use Rattle.promises.specs.Promises.{Question, findItem, findOwn, resolveRow, countFor, judgeMobile, writeSheet, Sizes, full, reads, leaves, over, outcome}
 
 -- the number that the bytes begin with
 unfoldable pub first : List ℕ → Out ℕ
@@ -119,6 +124,12 @@ titledSheet =
 abbrev pub small : (size start last : ℕ) → List ℕ → List ℕ
 small size start last rest = 0x58 ∷ 0x4D ∷ 0x46 ∷ 0x5F ∷ 0x31 ∷ 0x2E ∷ 0x30 ∷ 0x30 ∷ size ∷ 0x01 ∷ 0x00 ∷ start ∷ last ∷ rest
 
+-- a file whose one node has a content description: the example of document 002, with this kind in place of the second resource's
+abbrev pub needing : (kind : ℕ) → List ℕ
+needing kind =
+    small 49 13 48
+    (0x24 ∷ 0x00 ∷ 0x22 ∷ 0x1D ∷ 0x00 ∷ 0x0D ∷ 0x00 ∷ 0x19 ∷ 0x06 ∷ take 5 example ++ kind ∷ drop 6 example ++ 0x00 ∷ 0x01 ∷ 0xAA ∷ [])
+
 -- a file node that refers to the node at p; one that holds AA BB; what a folder of two nodes that refer to p and q begins with, and these
 abbrev pub to : ℕ → List ℕ
 to p = 0x07 ∷ 0x00 ∷ 0x05 ∷ 0x00 ∷ 0x00 ∷ 0x03 ∷ p ∷ []
@@ -188,6 +199,11 @@ cases : (first (0x7F ∷ []) ≡ ok 127 1)
     × (answer (resolveRow 6) full chained ≡ 0 ∷ 0 ∷ 60 ∷ 1 ∷ 6 ∷ 0 ∷ [])
     × (answer (resolveRow 7) full chained ≡ 21 ∷ 0 ∷ [])
     × (answer (resolveRow 8) full chained ≡ 18 ∷ 0 ∷ [])
+    × (answer (countFor 0 3 1) full (needing 0) ≡ 0 ∷ 0 ∷ 2 ∷ [])
+    × (answer (countFor 1 3 1) full (needing 0) ≡ 18 ∷ 0 ∷ [])
+    × (answer (countFor 0 4 0) full (needing 0) ≡ 23 ∷ 0 ∷ [])
+    × (answer (countFor 0 4 0) full (needing 6) ≡ 25 ∷ 27 ∷ [])
+    × (answer (countFor 2 0 0) full worked ≡ 23 ∷ 0 ∷ [])
     × (promises.resource 2 full chained ≡ 0xAA ∷ [])
     × (promises.resource 1 full chained ≡ [])
     × (reads full (withInline 0x00 0xFF) ≡ reads full worked)
@@ -220,5 +236,5 @@ cases : (first (0x7F ∷ []) ≡ ok 127 1)
     × (unicode.toUtf16 (0x41 ∷ 0xC1 ∷ 0x81 ∷ []) ≡ bad 26 1)
     × (unicode.toUtf16 (0xED ∷ 0xA0 ∷ 0x80 ∷ []) ≡ bad 26 0)
     × (unicode.toUtf16 (0xF4 ∷ 0x90 ∷ 0x80 ∷ 0x80 ∷ []) ≡ bad 26 0)
-unfolding run trace rowsOf _>>=_ _>>_ if_then_else_ place skip check turns many times next digits number block manufacturer guidBytes guid formatOf either four opening edition fileLength entry typesTable extent header field contents itemFrame universal declaredFormat version rowsFor item nextItem metaItems metadata headerLength head value identifier unpacker entries unpackers resource nodePlace uriPlace target reference rest front folder node tree.tree startsAt offsetAt lost logged outside partEnd takenFrom detachedAt reach follow tree.detached reading readTree readFile first answer reads over outcome answerOf nodeTable itemTable ask keptNodes keptItems promises.resource isHidden find.choose find.sameBytes find.matches find.among own.ownFrom own.own find.look find.rowsUp find.path find.orElse find.firstAnswer find.nearest find.find find.findOwn resolve.if_then_else_ resolve.rowStarting resolve.named resolve.reached resolve.chain resolve.resolveRow resolve.resolve resolve.part mobile.all mobile.keepIf mobile.those mobile.isEmpty mobile.isField mobile.isBinary mobile.choose mobile.roleOfType mobile.roleOfNumber mobile.roleOfRow mobile.roleOfRows mobile.roleOf mobile.roles mobile.childRoles mobile.count mobile.rowOf mobile.rightEdition mobile.isFile mobile.filesOnly mobile.isPlain mobile.plainReferences mobile.isUnpacked mobile.noUnpackers mobile.childrenTyped mobile.tuneRow mobile.bankRow mobile.oneTune mobile.isNeed mobile.tuneNeeds mobile.isShort mobile.fieldSize mobile.isSmall mobile.smallFields mobile.check mobile.verdictBy mobile.verdict mobile.mobile sheet.digits sheet.decimal sheet.hexDigit sheet.plain sheet.escaped sheet.escapedPart sheet.tabbed sheet.number sheet.versionText sheet.firstLine sheet.nodeLine sheet.label sheet.textOf sheet.itemLine sheet.visibleLine sheet.nodeLines sheet.itemLines sheet.linesOf sheet.sheetOf sheet.fitting sheet.write sheet.counted sheet.kept room.padded sheet.part sheet.shownByte sheet.shown sheet.shownOr sheet.unicodeText unicode.units unicode.bytesOf unicode.utf16 unicode.bytes16 unicode.utf8 unicode.paired unicode.ofUnits unicode.first16 unicode.tails unicode.first8 unicode.before unicode.next unicode.chars unicode.bytesAll unicode.unmark unicode.written unicode.converted unicode.toUtf8 unicode.toUtf16 places nodesRead
-cases = (refl, refl, refl, refl, refl, refl, refl, refl, refl, refl, refl, refl, refl, refl, refl, refl, refl, refl, refl, refl, refl, refl, refl, refl, refl, refl, refl, refl, refl, refl, refl, refl, refl, refl, refl, refl, refl, refl, refl, refl, refl, refl, refl, refl, refl, refl, refl, refl, refl, refl, refl, refl, refl, refl, refl, refl, refl, refl, refl, refl, refl, refl, refl, refl, refl, refl)
+unfolding run trace rowsOf _>>=_ _>>_ if_then_else_ place skip check turns many times next digits number block manufacturer guid formatOf either four opening edition fileLength entry typesTable extent header field contents itemFrame universal declaredFormat version rowsFor item nextItem metaItems metadata headerLength head value identifier unpacker entries unpackers resource nodePlace uriPlace target reference rest front folder node tree.tree startsAt offsetAt lost logged outside partEnd takenFrom detachedAt reach follow tree.detached reading readTree readFile first answer reads leaves over outcome answerOf nodeTable itemTable ask keptNodes keptItems promises.resource isHidden find.choose find.sameBytes find.matches find.among own.numbered own.those own.own find.look find.rowsUp find.path find.orElse find.firstAnswer find.nearest find.find find.findOwn resolve.if_then_else_ resolve.rowStarting resolve.named resolve.reached resolve.chain resolve.resolveRow resolve.resolve resolve.part row.isField row.isBinary row.isDescription description.value description.aByte description.guid description.identifier description.resource description.numbers description.lists description.table description.description count.dataRead count.isRead count.isReadable count.countAt count.countOf count.countIn count.countRow count.countFor mobile.all mobile.isEmpty mobile.roleOfType mobile.roleOfNumber mobile.roleOfRow mobile.roleOfRows mobile.roleOf mobile.besides mobile.child mobile.childrenFrom mobile.children mobile.rightEdition mobile.isFile mobile.filesOnly mobile.isPlain mobile.plainReferences mobile.isUnpacked mobile.noUnpackers mobile.oneTune mobile.isNeed mobile.areNeeds mobile.tuneNeeds mobile.isShort mobile.fieldSize mobile.isSmall mobile.smallFields mobile.check mobile.verdictBy mobile.verdict mobile.mobile sheet.hexDigit sheet.plain sheet.escaped sheet.escapedPart sheet.tabbed sheet.number sheet.versionText sheet.firstLine sheet.nodeLine sheet.label sheet.textOf sheet.itemLine sheet.visibleLine sheet.nodeLines sheet.itemLines sheet.linesOf sheet.sheetOf sheet.fitting sheet.write sheet.counted sheet.kept room.padded sheet.shownByte sheet.shown sheet.shownOr sheet.unicodeText unicode.units unicode.bytesOf unicode.utf16 unicode.bytes16 unicode.utf8 unicode.paired unicode.ofUnits unicode.first16 unicode.tails unicode.first8 unicode.before unicode.next unicode.chars unicode.bytesAll unicode.unmark unicode.written unicode.converted unicode.toUtf8 unicode.toUtf16 places nodesRead decimal.digits decimal.decimal sheet.hexDigits sheet.hexed
+cases = (refl, refl, refl, refl, refl, refl, refl, refl, refl, refl, refl, refl, refl, refl, refl, refl, refl, refl, refl, refl, refl, refl, refl, refl, refl, refl, refl, refl, refl, refl, refl, refl, refl, refl, refl, refl, refl, refl, refl, refl, refl, refl, refl, refl, refl, refl, refl, refl, refl, refl, refl, refl, refl, refl, refl, refl, refl, refl, refl, refl, refl, refl, refl, refl, refl, refl, refl, refl, refl, refl, refl)

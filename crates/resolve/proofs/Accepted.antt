@@ -87,10 +87,10 @@ module _ (size : ℕ) (ns : List Node) (h : Linked ns) (inside : (i : ℕ) → i
     | no n ↦ rw (le-ltb row (length ns) (omega arith)) tt
   ]
 
-in-ask : (lim : Limits) (f : List ℕ) (row : ℕ) (o : Reading) → readFile lim f ≡ o → InPart (length f) (ask o (resolve row))
+in-ask : (lim : Limits) (f : List ℕ) (row : ℕ) (o : Reading) → readFile lim f ≡ o → InPart (length f) (ask o (resolve row f))
 unfolding ask resolve
 in-ask lim f row (rows h ns is) e = in-row (length f) ns (linked lim f e) (accepted lim f e .nodes-inside) row
 in-ask lim f row (refusal n p) e = tt
 
-pub resolved-in : (lim : Limits) (f : List ℕ) (row : ℕ) {r : Resource} → good r ≡ ask (readFile lim f) (resolve row) → r .place + r .size ≤ length f
+pub resolved-in : (lim : Limits) (f : List ℕ) (row : ℕ) {r : Resource} → good r ≡ ask (readFile lim f) (resolve row f) → r .place + r .size ≤ length f
 resolved-in lim f row {r} e = subst (InPart (length f)) (sym e) (in-ask lim f row (readFile lim f) refl)

@@ -24,14 +24,14 @@ use Rattle.resolve.proofs.Accepted.{linked, resolved-in}
 -- the answer, and both tables
 abbrev pub Ends : List ℕ → ℕ → ℕ → ℕ → Result Resource → List ℕ → List ℕ → Type 0
 Ends f nsize isize row a t u =
-    (a ≡ ask (readFile (limits nsize isize) f) (resolve row))
-    × (t ≡ keptNodes nsize (readFile (limits nsize isize) f) (ask (readFile (limits nsize isize) f) (resolve row)))
-    × (u ≡ keptItems isize (readFile (limits nsize isize) f) (ask (readFile (limits nsize isize) f) (resolve row)))
+    (a ≡ ask (readFile (limits nsize isize) f) (resolve row f))
+    × (t ≡ keptNodes nsize (readFile (limits nsize isize) f) (ask (readFile (limits nsize isize) f) (resolve row f)))
+    × (u ≡ keptItems isize (readFile (limits nsize isize) f) (ask (readFile (limits nsize isize) f) (resolve row f)))
 
 module _ (f : List ℕ) (nsize isize row : ℕ) {r : Read} {t u : List ℕ} (e : r ≡ readOf (readFile (limits nsize isize) f))
     (a : t ≡ nodeTable nsize (readFile (limits nsize isize) f)) (b : u ≡ itemTable isize (readFile (limits nsize isize) f)) where
   pub ends-unread : {n : ℕ} {p : FilePlace} → r ≡ read.Refused n p → Ends f nsize isize row (bad n (p .0)) t u
-  ends-unread k = (sym (ask-refused _ e k (resolve row)), refused-nodes _ (resolve row) e k nsize a, refused-items _ (resolve row) e k isize b)
+  ends-unread k = (sym (ask-refused _ e k (resolve row f)), refused-nodes _ (resolve row f) e k nsize a, refused-items _ (resolve row f) e k isize b)
 
   module _ {s : Summary} (k : r ≡ read.Is s) where
     stands : Standing f (readFile (limits nsize isize) f) s t u
@@ -53,22 +53,22 @@ module _ (f : List ℕ) (nsize isize row : ℕ) {r : Read} {t u : List ℕ} (e :
         subst Rising (sym (in-front t (s .tree) (s .nodes) tree-among ∙ ap₂ take e (w .nodes-are))) (rows-rise (limits nsize isize) f (w .reads))
 
     module _ (x : Resolved) (y : told x ≡ resolveRow row (nodesIn (s .nodes) t)) where
-      answered : told x ≡ resolve row (stands .h) (stands .ns) (stands .is)
+      answered : told x ≡ resolve row f (stands .h) (stands .ns) (stands .is)
       unfolding resolve
       answered = y ∙ ap (resolveRow row) (stands .nodes-are)
 
       pub ends-refused : {n p : ℕ} → x ≡ resolved.Refused n p → {t' u' : List ℕ} → t' ≡ replicate nsize 0 → u' ≡ replicate isize 0 → Ends f nsize isize row (bad n p) t' u'
       ends-refused {n} {p} z c d =
           let w = stands in
-          let q : resolve row (w .h) (w .ns) (w .is) ≡ bad n p = sym answered ∙ ap told z in
-          (sym (ask-is (w .reads) (resolve row) ∙ q), bad-nodes (w .reads) (resolve row) nsize q c, bad-items (w .reads) (resolve row) isize q d)
+          let q : resolve row f (w .h) (w .ns) (w .is) ≡ bad n p = sym answered ∙ ap told z in
+          (sym (ask-is (w .reads) (resolve row f) ∙ q), bad-nodes (w .reads) (resolve row f) nsize q c, bad-items (w .reads) (resolve row f) isize q d)
 
       pub ends-at : {place size last hops : ℕ} → x ≡ resolved.At place size last hops
           → Ends f nsize isize row (good (record { place = place; size = size; row = last; hops = hops })) t u
       ends-at {place} {size} {last} {hops} z =
           let w = stands in
-          let q : resolve row (w .h) (w .ns) (w .is) ≡ good (record { place = place; size = size; row = last; hops = hops }) = sym answered ∙ ap told z in
-          (sym (ask-is (w .reads) (resolve row) ∙ q), good-nodes (w .reads) (resolve row) nsize q a, good-items (w .reads) (resolve row) isize q b)
+          let q : resolve row f (w .h) (w .ns) (w .is) ≡ good (record { place = place; size = size; row = last; hops = hops }) = sym answered ∙ ap told z in
+          (sym (ask-is (w .reads) (resolve row f) ∙ q), good-nodes (w .reads) (resolve row f) nsize q a, good-items (w .reads) (resolve row f) isize q b)
 
 -- ---- the part of the file
 
@@ -82,6 +82,6 @@ module _ (f : List ℕ) (x : Resolved) {o : Result Resource} (y : told x ≡ o) 
   part-at {place} {size} z = let e : place + size - place ≡ size = omega arith in ap (λ n. take n (drop place f)) e ∙ ap (part f) (ap told (sym z) ∙ y)
 
 -- it lies in the file
-pub part-inside : (f : List ℕ) (nsize isize row : ℕ) (x : Resolved) → told x ≡ ask (readFile (limits nsize isize) f) (resolve row) → {place size last hops : ℕ}
+pub part-inside : (f : List ℕ) (nsize isize row : ℕ) (x : Resolved) → told x ≡ ask (readFile (limits nsize isize) f) (resolve row f) → {place size last hops : ℕ}
     → x ≡ resolved.At place size last hops → place + size ≤ length f
 part-inside f nsize isize row x y z = resolved-in (limits nsize isize) f row (ap told (sym z) ∙ y)

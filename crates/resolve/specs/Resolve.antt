@@ -1,4 +1,4 @@
--- The question Resolve (01, Questions): where a row's resource is. It is answered of the node rows alone: no definition up to `resolve` takes the file.
+-- The question Resolve (01, Questions): where a row's resource is. It is answered of the node rows alone: no definition before `resolve` takes the file.
 -- Assumes nothing.
 use mathlib.Core.Bool.{not}
 use mathlib.Core.List.{List, []}
@@ -7,11 +7,9 @@ use lib.Dec.{ltb, eqb}
 use lib.ListN.{length, take, drop}
 use Rattle.cursor.specs.Refusals.{noSuchRow, endsAtFolder, endsAtUri, tooManyHops}
 use Rattle.cursor.specs.declared.Node.{Node}
-use Rattle.cursor.specs.declared.Item.{Item}
-use Rattle.header.specs.Header.{Header}
 use Rattle.tree.specs.Rows.{nodeAt}
 unfoldable pub use Rattle.tree.specs.Rows.{if_then_else_, rowStarting}
-use Rattle.tree.specs.Asking.{Result, good, bad}
+use Rattle.tree.specs.Asking.{Asks, Result, good, bad}
 
 -- place and length of the resource, the row whose unpackers apply, the number of references followed
 pub record Resource : Type 0 where
@@ -48,8 +46,8 @@ unfoldable pub resolveRow : (row : ℕ) → List Node → Result Resource
 resolveRow row ns = if ltb row (length ns) then chain mostHops ns row 0 else bad noSuchRow 0
 
 -- the question
-unfoldable pub resolve : (row : ℕ) → Header → List Node → List Item → Result Resource
-resolve row h ns is = resolveRow row ns
+unfoldable pub resolve : (row : ℕ) → Asks Resource
+resolve row f h ns is = resolveRow row ns
 
 -- the resource itself: that part of the file; empty on a refusal
 unfoldable pub part : List ℕ → Result Resource → List ℕ

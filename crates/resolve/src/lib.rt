@@ -2,10 +2,9 @@
 ghost use mathlib.Core.Path.{_≡_};
 ghost use Prim.Native.Nat.{_≤_, _<_, _*_, _+_};
 ghost use lib.ListN.{length};
-ghost use Rattle.metadata.specs.Tables.{limits, nodeWidth};
-ghost use Rattle.tree.specs.Reading.{readFile};
+ghost use Rattle.metadata.specs.Tables.{nodeWidth};
 ghost use Rattle.tree.specs.Rows.{nodesIn, Rising};
-ghost use Rattle.tree.specs.Asking.{ask, keptNodes, keptItems};
+ghost use Rattle.tree.specs.Asking.{answered, nodesLeft, itemsLeft};
 ghost use Rattle.resolve.specs.Resolve.{chain, resolveRow, resolve, part};
 ghost use Rattle.resolve.specs.Told.{told, Linked};
 use tree::Read;
@@ -63,9 +62,9 @@ fn resolve_row(nodes: &[u64], tree: usize, count: usize, row: usize) -> Resolved
 
 // The third question: where the resource of a row is.
 pub fn resolve(file: &[u8], nodes: &mut [u64], items: &mut [u64], row: usize) -> Resolved
-    ensures answer { λ r. ⌜ told r ≡ ask (readFile (limits (length (now (nodes .entry))) (length (now (items .entry)))) (now (file .entry))) (resolve row) ⌝ }
-    ensures nodes { λ _. ⌜ now (nodes .exit) ≡ keptNodes (length (now (nodes .entry))) (readFile (limits (length (now (nodes .entry))) (length (now (items .entry)))) (now (file .entry))) (ask (readFile (limits (length (now (nodes .entry))) (length (now (items .entry)))) (now (file .entry))) (resolve row)) ⌝ }
-    ensures items { λ _. ⌜ now (items .exit) ≡ keptItems (length (now (items .entry))) (readFile (limits (length (now (nodes .entry))) (length (now (items .entry)))) (now (file .entry))) (ask (readFile (limits (length (now (nodes .entry))) (length (now (items .entry)))) (now (file .entry))) (resolve row)) ⌝ }
+    ensures answer { λ r. ⌜ told r ≡ answered (now (nodes .entry)) (now (items .entry)) (now (file .entry)) (resolve row) ⌝ }
+    ensures nodes { λ _. ⌜ now (nodes .exit) ≡ nodesLeft (now (nodes .entry)) (now (items .entry)) (now (file .entry)) (resolve row) ⌝ }
+    ensures items { λ _. ⌜ now (items .exit) ≡ itemsLeft (now (nodes .entry)) (now (items .entry)) (now (file .entry)) (resolve row) ⌝ }
 {
     match tree::read_file(file, nodes, items) {
         Read::Refused(n, p) => Resolved::Refused(n, p.0),
@@ -81,9 +80,9 @@ pub fn resolve(file: &[u8], nodes: &mut [u64], items: &mut [u64], row: usize) ->
 
 // The resource of a row itself, as that part of the file; an empty part on a refusal.
 pub fn resource<'a>(file: &'a [u8], nodes: &mut [u64], items: &mut [u64], row: usize) -> &'a [u8]
-    ensures bytes { λ r. ⌜ now r ≡ part (now (file .entry)) (ask (readFile (limits (length (now (nodes .entry))) (length (now (items .entry)))) (now (file .entry))) (resolve row)) ⌝ }
-    ensures nodes { λ _. ⌜ now (nodes .exit) ≡ keptNodes (length (now (nodes .entry))) (readFile (limits (length (now (nodes .entry))) (length (now (items .entry)))) (now (file .entry))) (ask (readFile (limits (length (now (nodes .entry))) (length (now (items .entry)))) (now (file .entry))) (resolve row)) ⌝ }
-    ensures items { λ _. ⌜ now (items .exit) ≡ keptItems (length (now (items .entry))) (readFile (limits (length (now (nodes .entry))) (length (now (items .entry)))) (now (file .entry))) (ask (readFile (limits (length (now (nodes .entry))) (length (now (items .entry)))) (now (file .entry))) (resolve row)) ⌝ }
+    ensures bytes { λ r. ⌜ now r ≡ part (now (file .entry)) (answered (now (nodes .entry)) (now (items .entry)) (now (file .entry)) (resolve row)) ⌝ }
+    ensures nodes { λ _. ⌜ now (nodes .exit) ≡ nodesLeft (now (nodes .entry)) (now (items .entry)) (now (file .entry)) (resolve row) ⌝ }
+    ensures items { λ _. ⌜ now (items .exit) ≡ itemsLeft (now (nodes .entry)) (now (items .entry)) (now (file .entry)) (resolve row) ⌝ }
 {
     match resolve(file, nodes, items, row) {
         Resolved::Refused(_, _) => &file[0..0],

@@ -1,3 +1,5 @@
 pub mod Sets
+pub mod Storing
 pub mod Zeros
-pub mod Putting
+pub mod Counting
+pub mod Decimal

@@ -1,2 +1,3 @@
-pub mod Puts
+pub mod Counts
 pub mod Room
+pub mod Decimal

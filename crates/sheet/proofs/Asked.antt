@@ -19,11 +19,11 @@ use Rattle.tree.specs.declared.Read.the-variants as read
 use Rattle.tree.proofs.Rows.{Standing, item-at, items-in-length, ask-refused, refused-nodes, refused-items, ask-is, good-nodes, good-items, bad-nodes, bad-items}
 use Rattle.sheet.specs.Sheet.{linesOf, sheetOf, fitting, write, counted, kept}
 use Rattle.sheet.specs.Told.{told}
-use Rattle.room.specs.Puts.{Puts}
+use Rattle.room.specs.Counts.{Counts, tooMany}
 use Rattle.sheet.specs.Inside.{ItemInside}
 use Rattle.sheet.specs.declared.Written.{Written}
 use Rattle.sheet.specs.declared.Written.the-variants as written
-use Rattle.room.proofs.Putting.{puts-as, wrote-all, wrote-past}
+use Rattle.room.proofs.Counting.{counts-as, wrote-all, wrote-past}
 
 -- the rows that stand in the table lie in the file
 pub items-inside : {f : List ℕ} {o : Reading} {s : Summary} {t u : List ℕ} → Standing f o s t u → (i : ℕ) → i < s .items → ItemInside (length f) (itemFrom u (i * 10))
@@ -61,14 +61,14 @@ module _ (file : List ℕ) (nsize isize : ℕ) (lent : List ℕ) where
         let q = ask-refused o e k (write room file) in
         (sym (ap counted q), refused-nodes o (write room file) e k nsize tn, refused-items o (write room file) e k isize tu, z ∙ sym (ap (kept room) q))
 
-    module _ {s : Summary} (st : Standing file o s t u) {sheet′ : List ℕ} {r : ℕ} (p : Puts lent sheet′ 0 (linesOf (s .version) file (nodesIn (s .nodes) t) (itemsIn (s .items) u)) r) where
-      puts : Puts lent sheet′ 0 (sheetOf file (st .h) (st .ns) (st .is)) r
-      puts = puts-as (sheet-is st) p
+    module _ {s : Summary} (st : Standing file o s t u) {sheet′ : List ℕ} {r : ℕ} (p : Counts lent sheet′ 0 (linesOf (s .version) file (nodesIn (s .nodes) t) (itemsIn (s .items) u)) r) where
+      puts : Counts lent sheet′ 0 (sheetOf file (st .h) (st .ns) (st .is)) r
+      puts = counts-as (sheet-is st) p
 
-      pub asked-good : r ≤ room → {sheet″ : List ℕ} → sheet″ ≡ take r sheet′ ++ replicate (length sheet′ - r) 0 → Says o (written.Bytes r) t u sheet″
+      pub asked-good : r ≤ room → room < tooMany → {sheet″ : List ℕ} → sheet″ ≡ take r sheet′ ++ replicate (length sheet′ - r) 0 → Says o (written.Bytes r) t u sheet″
       unfolding counted kept write
-      asked-good e c =
-          let w = wrote-all puts e c in
+      asked-good e m c =
+          let w = wrote-all puts e m c in
           let g : write room file (st .h) (st .ns) (st .is) ≡ good (sheetOf file (st .h) (st .ns) (st .is)) = fitting-good room _ (w .0) in
           let q : ask o (write room file) ≡ good (sheetOf file (st .h) (st .ns) (st .is)) = ask-is (st .reads) (write room file) ∙ g in
           (ap good (w .1) ∙ sym (ap counted q), good-nodes (st .reads) (write room file) nsize g tn, good-items (st .reads) (write room file) isize g tu, w .2 ∙ sym (ap (kept room) q))

@@ -1,12 +1,13 @@
 -- The sheet depends on few bytes of the file: those of the visible rows' data and of the custom names.
 -- Assumes nothing.
-use mathlib.Core.Path.{_≡_, refl, ap, ap₂}
+use mathlib.Core.Path.{_≡_, refl, sym, ap, ap₂, _∙_}
 use mathlib.Core.Bool.{Bool, true, false}
 use mathlib.Core.List.{List, [], _∷_, _++_}
-use Prim.Native.Nat.{ℕ, zero, suc, _+_, _%_, _≤_, _<_}
+use Prim.Native.Nat.{ℕ, suc, _+_, _%_, _≤_, _<_}
 use native.Mathlib.Omega.{arith}
 use lib.Dec.{eqb}
-use lib.ListN.{length, getD}
+use lib.ListN.{length, getD, drop, length-take, length-drop}
+use lib.Seq.{ext-getD, getD-take, getD-drop}
 use borrow.Author.Tests.{eqb-true, eqb-false}
 use Rattle.cursor.specs.declared.Node.{Node}
 use Rattle.cursor.specs.declared.Item.{Item}
@@ -14,7 +15,9 @@ use Rattle.header.specs.Header.{Header}
 use Rattle.tree.specs.Rows.{itemAt}
 use Rattle.tree.specs.Hidden.{isHidden}
 use Rattle.room.specs.Room.{choose}
-use Rattle.sheet.specs.Sheet.{escaped, escapedPart, part, unicodeText, tabbed, number, label, textOf, itemLine, visibleLine, itemLines, linesOf, sheetOf}
+use Rattle.cursor.specs.Vlq.{part}
+use Rattle.unicode.specs.Unicode.{bytesAll}
+use Rattle.sheet.specs.Sheet.{escaped, escapedPart, unicodeText, tabbed, number, label, textOf, itemLine, visibleLine, itemLines, linesOf, sheetOf}
 
 -- the files agree on n bytes from `at` on
 abbrev pub Agree : List ℕ → List ℕ → ℕ → ℕ → Type 0
@@ -24,20 +27,18 @@ Agree f g at n = (k : ℕ) → at ≤ k → k < at + n → getD f k 0 ≡ getD g
 abbrev pub Shown : List ℕ → List ℕ → Item → Type 0
 Shown f g r = (r .format % 2 ≡ 0 → Agree f g (r .place) (r .size)) × (r .kind ≡ 1 → Agree f g (r .field) (r .named))
 
-part-same : (f g : List ℕ) (at n : ℕ) → Agree f g at n → escapedPart f at n ≡ escapedPart g at n
-unfolding escapedPart
-part-same f g at zero h = refl
-part-same f g at (suc n) h = ap₂ (λ (b : ℕ) (t : List ℕ). escaped b ++ t) (h at (omega arith) (omega arith)) (part-same f g (at + 1) n (λ k l m. h k (omega arith) (omega arith)))
+part-same : (f g : List ℕ) → length f ≡ length g → (at n : ℕ) → Agree f g at n → part f at n ≡ part g at n
+part-same f g e at n h =
+    ext-getD 0 (part f at n) (part g at n) (simp (length-take, length-drop, e))
+    (λ i l.
+    let k : i < n = omega (arith, l, length-take n (drop at f)) in
+    getD-take n (drop at f) i 0 k ∙ getD-drop at f i 0 ∙ h (at + i) (omega arith) (omega arith) ∙ sym (getD-drop at g i 0) ∙ sym (getD-take n (drop at g) i 0 k))
 
-bytes-same : (f g : List ℕ) (at n : ℕ) → Agree f g at n → part f at n ≡ part g at n
-unfolding part
-bytes-same f g at zero h = refl
-bytes-same f g at (suc n) h = ap₂ (λ (b : ℕ) (t : List ℕ). b ∷ t) (h at (omega arith) (omega arith)) (bytes-same f g (at + 1) n (λ k l m. h k (omega arith) (omega arith)))
-
-module _ (f g : List ℕ) (r : Item) (h : Shown f g r) where
+module _ (f g : List ℕ) (same : length f ≡ length g) (r : Item) (h : Shown f g r) where
   label-by : (b : Bool) → eqb (r .kind) 1 ≡ b
       → choose b (tabbed (0x43 ∷ tabbed (escapedPart f (r .field) (r .named)))) (tabbed (0x53 ∷ number (r .field))) ≡ choose b (tabbed (0x43 ∷ tabbed (escapedPart g (r .field) (r .named)))) (tabbed (0x53 ∷ number (r .field)))
-  label-by true e = ap (λ (t : List ℕ). tabbed (0x43 ∷ tabbed t)) (part-same f g (r .field) (r .named) (h .1 (eqb-true (r .kind) 1 e)))
+  unfolding escapedPart
+  label-by true e = ap (λ (t : List ℕ). tabbed (0x43 ∷ tabbed t)) (ap (bytesAll escaped) (part-same f g same (r .field) (r .named) (h .1 (eqb-true (r .kind) 1 e))))
   label-by false e = refl
 
   label-same : label f r ≡ label g r
@@ -45,8 +46,8 @@ module _ (f g : List ℕ) (r : Item) (h : Shown f g r) where
   label-same = label-by (eqb (r .kind) 1) refl
 
   text-same : r .format % 2 ≡ 0 → textOf f r ≡ textOf g r
-  unfolding textOf unicodeText
-  text-same e = rw (part-same f g (r .place) (r .size) (h .0 e), bytes-same f g (r .place) (r .size) (h .0 e))
+  unfolding textOf unicodeText escapedPart
+  text-same e = rw (part-same f g same (r .place) (r .size) (h .0 e))
 
   line-same : r .format % 2 ≡ 0 → itemLine f r ≡ itemLine g r
   unfolding itemLine
@@ -61,12 +62,12 @@ module _ (f g : List ℕ) (r : Item) (h : Shown f g r) where
   unfolding visibleLine isHidden
   visible-same = line-by (eqb (r .format % 2) 1) refl
 
-items-same : (f g : List ℕ) (is : List Item) → ((i : ℕ) → i < length is → Shown f g (itemAt is i)) → itemLines f is ≡ itemLines g is
+items-same : (f g : List ℕ) → length f ≡ length g → (is : List Item) → ((i : ℕ) → i < length is → Shown f g (itemAt is i)) → itemLines f is ≡ itemLines g is
 unfolding itemLines
-items-same f g [] h = refl
-items-same f g (r ∷ is) h = ap₂ (λ (a : List ℕ) (b : List ℕ). a ++ b) (visible-same f g r (h 0 (omega arith))) (items-same f g is (λ i l. h (suc i) (omega arith)))
+items-same f g e [] h = refl
+items-same f g e (r ∷ is) h = ap₂ (λ (a : List ℕ) (b : List ℕ). a ++ b) (visible-same f g e r (h 0 (omega arith))) (items-same f g e is (λ i l. h (suc i) (omega arith)))
 
 -- files of equal length that agree so on every row have the same sheet
 pub sheet-same : (f g : List ℕ) (h : Header) (ns : List Node) (is : List Item) → length f ≡ length g → ((i : ℕ) → i < length is → Shown f g (itemAt is i)) → sheetOf f h ns is ≡ sheetOf g h ns is
 unfolding sheetOf linesOf
-sheet-same f g h ns is e s = rw (e, items-same f g is s)
+sheet-same f g h ns is e s = rw (e, items-same f g e is s)

@@ -1,5 +1,5 @@
 pub mod Lines
-pub mod Digits
+pub mod Escapes
 pub mod Asked
 pub mod Depends
 pub mod Shown

@@ -2,92 +2,19 @@
 -- Assumes nothing.
 use mathlib.Core.Path.{_≡_, refl, sym, ap, _∙_}
 use mathlib.Core.Logic.{inl, inr}
-use mathlib.Core.Bool.{Bool, true, false}
 use mathlib.Core.List.{List, [], _∷_, _++_, append-assoc}
 use Prim.Native.Nat.{ℕ, zero, suc, _+_, _*_, _-_, _/_, _%_, _^_, _≤_, _<_}
-use native.Mathlib.Decide.{decLt}
 use native.Mathlib.Omega.{arith}
-use lib.Dec.{ltb}
-use lib.ListN.{length, getD}
-use borrow.Author.Tests.{lt-ltb, le-ltb, le-leb, lt-leb, eq-eqb, ne-eqb}
+use lib.ListN.{length}
+use borrow.Author.Tests.{eq-eqb, ne-eqb}
 use Rattle.cursor.specs.declared.Node.{Node}
 use Rattle.cursor.specs.declared.Item.{Item}
 use Rattle.tree.specs.Rows.{nodeFrom, itemFrom, nodesFrom, itemsFrom, nodesIn, itemsIn}
 use Rattle.tree.proofs.Rows.{nodes-in-length, items-in-length}
 use Rattle.tree.specs.Hidden.{isHidden}
-use Rattle.room.specs.Room.{choose}
-use Rattle.sheet.specs.Sheet.{digits, decimal, hexDigit, plain, escaped, escapedPart, unicodeText, tabbed, number, versionText, firstLine, nodeLine, label, textOf, itemLine, visibleLine, nodeLines, itemLines, linesOf}
+use Rattle.room.specs.Decimal.{decimal}
+use Rattle.sheet.specs.Sheet.{escapedPart, unicodeText, tabbed, number, versionText, firstLine, nodeLine, label, textOf, itemLine, visibleLine, nodeLines, itemLines, linesOf}
 use Rattle.sheet.specs.Inside.{ItemInside}
-
--- ---- decimal numbers
-
--- one digit more is not needed
-enough : (k n : ℕ) → n < 10 ^ suc k → digits (suc k) n ≡ digits (suc (suc k)) n
-unfolding digits
-enough zero n l = simp (lt-ltb n 10 (omega arith))
-enough (suc k) n l = elim (decLt n 10) [
-  | yes h ↦ simp (lt-ltb n 10 h)
-  | no h ↦ ap (λ v. choose (ltb n 10) [] v ++ (0x30 + n % 10) ∷ []) (enough k (n / 10) (omega arith))
-]
-
-pub decimal-one : (n : ℕ) → n < 10 → decimal n ≡ (0x30 + n % 10) ∷ []
-unfolding decimal digits
-decimal-one n l = simp (lt-ltb n 10 l)
-
-digits-more : (k n : ℕ) → 10 ≤ n → digits (suc k) n ≡ digits k (n / 10) ++ (0x30 + n % 10) ∷ []
-unfolding digits
-digits-more k n l = simp (le-ltb n 10 l)
-
-pub decimal-more : (n : ℕ) → 10 ≤ n → n < 2 ^ 64 → decimal n ≡ decimal (n / 10) ++ (0x30 + n % 10) ∷ []
-unfolding decimal
-decimal-more n l h = digits-more 19 n l ∙ ap (λ v. v ++ (0x30 + n % 10) ∷ []) (enough 18 (n / 10) (omega arith))
-
--- ---- bytes as text
-
-pub hex-low : (d : ℕ) → d < 10 → 0x30 + d ≡ hexDigit d
-unfolding hexDigit
-hex-low d l = simp (lt-ltb d 10 l)
-
-pub hex-high : (d : ℕ) → 10 ≤ d → 0x61 + d - 10 ≡ hexDigit d
-unfolding hexDigit
-hex-high d l = simp (le-ltb d 10 l)
-
-module _ (b : ℕ) where
-  pub plain-low : b < 0x20 → false ≡ plain b
-  unfolding plain
-  plain-low l = simp (lt-leb 0x20 b l)
-
-  pub plain-high : 0x20 ≤ b → 0x7E < b → false ≡ plain b
-  unfolding plain
-  plain-high l h = simp (le-leb 0x20 b l, lt-leb b 0x7E h)
-
-  pub plain-slash : 0x20 ≤ b → b ≤ 0x7E → b ≡ 0x5C → false ≡ plain b
-  unfolding plain
-  plain-slash l h e = simp (le-leb 0x20 b l, le-leb b 0x7E h, eq-eqb b 0x5C e)
-
-  pub plain-is : 0x20 ≤ b → b ≤ 0x7E → (b ≡ 0x5C → ⊥) → true ≡ plain b
-  unfolding plain
-  plain-is l h n = simp (le-leb 0x20 b l, le-leb b 0x7E h, ne-eqb b 0x5C n)
-
-  pub escaped-plain : {t : Bool} → t ≡ plain b → t ≡ true → b ∷ [] ≡ escaped b
-  unfolding escaped
-  escaped-plain e k = simp (sym e ∙ k)
-
-  pub escaped-hex : {t : Bool} → t ≡ plain b → t ≡ false → {x y : ℕ} → x ≡ hexDigit (b / 16) → y ≡ hexDigit (b % 16) → 0x5C ∷ x ∷ y ∷ [] ≡ escaped b
-  unfolding escaped
-  escaped-hex e k p q = simp (sym e ∙ k, p, q)
-
-module _ (f : List ℕ) where
-  pub part-on : (at end : ℕ) → at < end → escapedPart f at (end - at) ≡ escaped (getD f at 0) ++ escapedPart f (at + 1) (end - (at + 1))
-  unfolding escapedPart
-  part-on at end l = let e : end - at ≡ suc (end - (at + 1)) = omega arith in rw e
-
-  pub part-end : (at end : ℕ) → end ≤ at → escapedPart f at (end - at) ≡ []
-  unfolding escapedPart
-  part-end at end l = let e : end - at ≡ 0 = omega arith in rw e
-
-  pub part-start : (from size : ℕ) {end : ℕ} → end ≡ from + size → escapedPart f from (end - from) ≡ escapedPart f from size
-  part-start from size {end} e = let d : end - from ≡ size = omega arith in ap (escapedPart f from) d
 
 -- ---- lines, as the bytes that are put one after the other
 
@@ -95,16 +22,12 @@ pub number-is : (n : ℕ) → (0x09 ∷ []) ++ decimal n ≡ number n
 unfolding number tabbed
 number-is n = refl
 
-pub number-one : (n : ℕ) → n < 10 → (0x09 ∷ []) ++ ((0x30 + n) ∷ []) ≡ number n
-unfolding number tabbed
-number-one n l = let e : n % 10 ≡ n = omega arith in rw (decimal-one n l, e)
-
 pub version-is : (v : ℕ) → decimal (v / 100) ++ (0x2E ∷ []) ++ decimal (v / 10 % 10) ++ decimal (v % 10) ≡ versionText v
 unfolding versionText
 version-is v = simp append-assoc
 
 pub first-is : (v size n m : ℕ)
-    → (0x58 ∷ []) ++ (0x4D ∷ []) ++ (0x46 ∷ []) ++ (0x09 ∷ []) ++ versionText v ++ number size ++ number n ++ number m ++ (0x0A ∷ []) ≡ firstLine v size n m
+    → (0x58 ∷ 0x4D ∷ 0x46 ∷ 0x09 ∷ []) ++ versionText v ++ number size ++ number n ++ number m ++ (0x0A ∷ []) ≡ firstLine v size n m
 unfolding firstLine tabbed
 first-is v size n m = refl
 

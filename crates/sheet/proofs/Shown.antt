@@ -2,21 +2,21 @@
 -- Assumes nothing.
 use mathlib.Core.Path.{_≡_, refl, sym, ap, _∙_}
 use mathlib.Core.Bool.{Bool, true, false}
-use mathlib.Core.List.{List, [], _∷_, _++_, append-assoc, append-nil}
-use Prim.Native.Nat.{ℕ, zero, suc, _+_, _-_, _/_, _≤_, _<_}
-use native.Mathlib.Numerals.{add-one}
+use mathlib.Core.List.{List, [], _∷_, _++_, append-nil}
+use Prim.Native.Nat.{ℕ, _+_, _/_, _≤_, _<_}
 use native.Mathlib.Decide.{decLt}
 use native.Mathlib.Omega.{arith}
-use lib.ListN.{length, getD, drop, take}
-use lib.Seq.{drop-cons}
+use lib.ListN.{length, drop}
 use borrow.Author.Tests.{lt-ltb, le-ltb}
+use Rattle.cursor.specs.Vlq.{part}
 use Rattle.room.specs.Room.{Result, good, bad}
-use Rattle.room.specs.Puts.{Puts}
-use Rattle.room.proofs.Putting.{puts-as}
+use Rattle.room.specs.Counts.{Counts}
+use Rattle.room.proofs.Counting.{counts-as}
 use Rattle.unicode.specs.Unicode.{tail, chars, bytesAll, written, converted, utf8, first16, toUtf8, isGood}
 use Rattle.unicode.proofs.Eight.{one8, two8, three8, four8}
 use Rattle.unicode.proofs.Converting.{Converting, conv-end}
-use Rattle.sheet.specs.Sheet.{escaped, escapedPart, part, shownByte, shown, shownOr, unicodeText}
+use Rattle.sheet.proofs.Escapes.{all-append}
+use Rattle.sheet.specs.Sheet.{escaped, escapedPart, shownByte, shown, shownOr, unicodeText}
 
 -- ---- a character
 
@@ -29,11 +29,11 @@ unfolding shownByte
 high-shown b l = simp (le-ltb b 0x80 l)
 
 pub shown-low : (c : ℕ) → c < 0x80 → escaped c ≡ shown (utf8 c)
-unfolding shown
+unfolding shown bytesAll
 shown-low c l = rw (one8 c l, low-shown c l) (sym (append-nil _))
 
 pub shown-high : (c : ℕ) → 0x80 ≤ c → utf8 c ≡ shown (utf8 c)
-unfolding shown
+unfolding shown bytesAll
 shown-high c l = elim (decLt c 0x800) [
   | yes h ↦ rw (two8 c l h, high-shown (0xC0 + c / 64) (omega arith), high-shown (tail c) (omega arith))
   | no h ↦ elim (decLt c 0x10000) [
@@ -44,11 +44,6 @@ shown-high c l = elim (decLt c 0x800) [
 
 -- ---- all characters
 
-shown-append : (a b : List ℕ) → shown (a ++ b) ≡ shown a ++ shown b
-unfolding shown
-shown-append [] b = refl
-shown-append (x ∷ a) b = ap (λ (t : List ℕ). shownByte x ++ t) (shown-append a b) ∙ sym (append-assoc (shownByte x) (shown a) (shown b))
-
 -- how a character is shown
 abbrev pub shown8 : ℕ → List ℕ
 shown8 c = shown (utf8 c)
@@ -56,7 +51,7 @@ shown8 c = shown (utf8 c)
 shown-all : (cs : List ℕ) → shown (bytesAll utf8 cs) ≡ bytesAll shown8 cs
 unfolding bytesAll shown
 shown-all [] = refl
-shown-all (c ∷ cs) = shown-append (utf8 c) (bytesAll utf8 cs) ∙ ap (λ (t : List ℕ). shown (utf8 c) ++ t) (shown-all cs)
+shown-all (c ∷ cs) = all-append shownByte (utf8 c) (bytesAll utf8 cs) ∙ ap (λ (t : List ℕ). shown (utf8 c) ++ t) (shown-all cs)
 
 -- the text as it is shown, where there is one
 unfoldable pub asShown : Result (List ℕ) → Result (List ℕ)
@@ -77,8 +72,8 @@ unfolding asShown shownOr
 is-shown (good t) e = cc
 is-shown (bad n p) e = absurd (let z : _≡_ {A = ℕ} 0 1 = cc in omega arith)
 
-pub shown-end : {d o o′ : List ℕ} {base at to : ℕ} (r : Result (List ℕ)) → length d ≤ at → Converting first16 shown8 d o o′ base at to (asShown r) → Puts o o′ base (shownOr r []) to
-shown-end r l k = puts-as (is-shown r (conv-end k l)) (k .puts)
+pub shown-end : {d o o′ : List ℕ} {base at to : ℕ} (r : Result (List ℕ)) → length d ≤ at → Converting first16 shown8 d o o′ base at to (asShown r) → Counts o o′ base (shownOr r []) to
+shown-end r l k = counts-as (is-shown r (conv-end k l)) (k .puts)
 
 pub shown-never : (r : Result (List ℕ)) {n p : ℕ} → isGood r ≡ true → asShown r ≡ bad n p → {P : Type 0} → P
 unfolding asShown isGood
@@ -86,11 +81,6 @@ shown-never (good t) g e = absurd (let z : _≡_ {A = ℕ} 0 1 = cc in omega ari
 shown-never (bad n p) g e = absurd (let z : _≡_ {A = ℕ} 0 1 = cc in omega arith)
 
 -- ---- a part of the file
-
-pub part-is : (f : List ℕ) (n at : ℕ) → at + n ≤ length f → take n (drop at f) ≡ part f at n
-unfolding part
-part-is f zero at l = refl
-part-is f (suc n) at l = rw (drop-cons f at 0 (omega arith)) (ap (λ (t : List ℕ). getD f at 0 ∷ t) (rw (sym (add-one at)) (part-is f n (at + 1) (omega arith))))
 
 good-shown : (r : Result (List ℕ)) (old : List ℕ) → isGood r ≡ true → shownOr r [] ≡ shownOr r old
 unfolding shownOr isGood
@@ -110,7 +100,3 @@ module _ (f : List ℕ) (at n : ℕ) {d : List ℕ} (e : d ≡ part f at n) {b :
   pub unicode-bad : b ≡ false → escapedPart f at n ≡ unicodeText f at n
   unfolding unicodeText
   unicode-bad t = bad-shown (toUtf8 d) (escapedPart f at n) (sym g ∙ t) ∙ ap (λ (x : List ℕ). shownOr (toUtf8 x) (escapedPart f at n)) e
-
--- the part that the code lends
-pub part-of : (f : List ℕ) (from n : ℕ) {end : ℕ} → end ≡ from + n → from + n ≤ length f → take (end - from) (drop from f) ≡ part f from n
-part-of f from n e l = let k : from + n - from ≡ n = omega arith in rw (e, k) (part-is f n from l)

@@ -2,59 +2,53 @@
 -- Assumes nothing.
 use mathlib.Core.Bool.{Bool, not, _&&_}
 use mathlib.Core.List.{List, [], _∷_, _++_}
-use Prim.Native.Nat.{ℕ, zero, suc, _+_, _-_, _/_, _%_}
+use Prim.Native.Nat.{ℕ, _+_, _/_, _%_}
 use lib.Dec.{ltb, leb, eqb}
 use lib.ListN.{length, getD}
+use Rattle.cursor.specs.Vlq.{part}
 use Rattle.cursor.specs.declared.Node.{Node}
 use Rattle.cursor.specs.declared.Item.{Item}
 use Rattle.room.specs.Room.{Result, good, bad, choose}
 unfoldable pub use Rattle.room.specs.Room.{fitting, counted, kept}
+use Rattle.room.specs.Decimal.{decimal}
 use Rattle.header.specs.Header.{Header}
+use Rattle.tree.specs.Asking.{Asks}
 use Rattle.tree.specs.Hidden.{isHidden}
-use Rattle.unicode.specs.Unicode.{toUtf8}
+use Rattle.unicode.specs.Unicode.{bytesAll, toUtf8}
 
 -- ---- numbers and bytes
 
--- the decimal digits of n, of which there are at most k: those of a tenth of it where it has more than one, and the last one
-unfoldable pub digits : ℕ → ℕ → List ℕ
-digits zero n = []
-digits (suc k) n = choose (ltb n 10) [] (digits k (n / 10)) ++ (0x30 + n % 10) ∷ []
+-- the lower-case hex digits
+unfoldable pub hexDigits : List ℕ
+hexDigits = 0x30 ∷ 0x31 ∷ 0x32 ∷ 0x33 ∷ 0x34 ∷ 0x35 ∷ 0x36 ∷ 0x37 ∷ 0x38 ∷ 0x39 ∷ 0x61 ∷ 0x62 ∷ 0x63 ∷ 0x64 ∷ 0x65 ∷ 0x66 ∷ []
 
--- a decimal number: a word has at most 20 digits
-unfoldable pub decimal : ℕ → List ℕ
-decimal n = digits 20 n
-
--- a lower-case hex digit
 unfoldable pub hexDigit : ℕ → ℕ
-hexDigit d = choose (ltb d 10) (0x30 + d) (0x61 + d - 10)
+hexDigit d = getD hexDigits d 0
 
 -- bytes 20h to 7Eh but the backslash
 unfoldable pub plain : ℕ → Bool
 plain b = leb 0x20 b && leb b 0x7E && not (eqb b 0x5C)
 
--- a plain byte as itself, another as a backslash and two hex digits
+-- a backslash and two hex digits
+unfoldable pub hexed : ℕ → List ℕ
+hexed b = 0x5C ∷ hexDigit (b / 16) ∷ hexDigit (b % 16) ∷ []
+
+-- a plain byte as itself, another in hex
 unfoldable pub escaped : ℕ → List ℕ
-escaped b = choose (plain b) (b ∷ []) (0x5C ∷ hexDigit (b / 16) ∷ hexDigit (b % 16) ∷ [])
+escaped b = choose (plain b) (b ∷ []) (hexed b)
 
 -- n bytes of the file, from `at` on, escaped
 unfoldable pub escapedPart : List ℕ → ℕ → ℕ → List ℕ
-escapedPart f at zero = []
-escapedPart f at (suc n) = escaped (getD f at 0) ++ escapedPart f (at + 1) n
+escapedPart f at n = bytesAll escaped (part f at n)
 
 -- ---- a text in UTF-16
-
--- n bytes of the file, from `at` on, as they are
-unfoldable pub part : List ℕ → ℕ → ℕ → List ℕ
-part f at zero = []
-part f at (suc n) = getD f at 0 ∷ part f (at + 1) n
 
 -- a byte of a converted text: from 80h up as itself, else escaped
 unfoldable pub shownByte : ℕ → List ℕ
 shownByte b = choose (ltb b 0x80) (escaped b) (b ∷ [])
 
 unfoldable pub shown : List ℕ → List ℕ
-shown [] = []
-shown (b ∷ t) = shownByte b ++ shown t
+shown t = bytesAll shownByte t
 
 -- the converted text, or `old` where there is none
 unfoldable pub shownOr : Result (List ℕ) → List ℕ → List ℕ
@@ -122,5 +116,5 @@ sheetOf f h ns is = linesOf (h .version) f ns is
 -- ---- the question
 
 -- the sheet, if a buffer of `room` bytes holds it
-unfoldable pub write : ℕ → List ℕ → Header → List Node → List Item → Result (List ℕ)
+unfoldable pub write : (room : ℕ) → Asks (List ℕ)
 write room f h ns is = fitting room (good (sheetOf f h ns is))

@@ -4,16 +4,13 @@ ghost use mathlib.Core.Bool.{true};
 ghost use mathlib.Core.List.{[]};
 ghost use Prim.Native.Nat.{ℕ, _≤_, _<_, _*_, _+_, _-_};
 ghost use lib.ListN.{length};
-ghost use lib.Seq.{sets};
-ghost use Rattle.metadata.specs.Tables.{limits};
-ghost use Rattle.tree.specs.Reading.{readFile};
 ghost use Rattle.tree.specs.Rows.{nodeFrom, itemFrom, nodesIn, itemsIn};
-ghost use Rattle.tree.specs.Asking.{ask, keptNodes, keptItems};
-ghost use Rattle.sheet.specs.Sheet.{decimal, hexDigit, plain, escaped, escapedPart, shown, shownOr, unicodeText, number, versionText, firstLine, nodeLine, label, textOf, itemLine, visibleLine, nodeLines, itemLines, linesOf, write, counted, kept};
+ghost use Rattle.tree.specs.Asking.{answered, nodesLeft, itemsLeft};
+ghost use Rattle.sheet.specs.Sheet.{hexDigits, plain, hexed, escaped, escapedPart, shown, shownOr, unicodeText, number, versionText, firstLine, nodeLine, label, textOf, itemLine, visibleLine, nodeLines, itemLines, linesOf, write, counted, kept};
 ghost use Rattle.sheet.specs.Told.{told};
-ghost use Rattle.room.specs.Puts.{Puts};
+ghost use Rattle.room.specs.Counts.{Counts};
 ghost use Rattle.unicode.specs.Unicode.{utf8, toUtf8, isGood};
-ghost use Rattle.sheet.specs.Inside.{ItemInside};
+ghost use Rattle.sheet.specs.Inside.{PlainUpTo, ItemInside};
 use tree::Read;
 use unicode::Character;
 
@@ -23,63 +20,12 @@ pub enum Written {
     Refused(u64, usize),
 }
 
-// The number of decimal digits.
-fn digit_count(n: u64) -> usize
-    ensures { λ r. ⌜ r ≡ length (decimal n) ⌝ }
-{
-    let mut size: usize = 1;
-    let mut rest = n / 10;
-    while 0 < rest {
-        size = size + 1;
-        rest = rest / 10;
-    }
-    size
-}
-
-// Stores the decimal digits from `from` up to `end`, the last one first.
-fn store_digits(out: &mut [u8], from: usize, end: usize, n: u64)
-    requires { ⌜ (end ≡ from + length (decimal n)) × (end ≤ length (now out)) ⌝ }
-    ensures { λ _. ⌜ now (out .exit) ≡ sets (now (out .entry)) from (decimal n) ⌝ }
-{
-    let mut at = end;
-    let mut rest = n;
-    while from < at {
-        at = at - 1;
-        out[at] = 0x30 + (rest % 10) as u8;
-        rest = rest / 10;
-    }
-}
-
-// Puts a decimal number.
-fn put_decimal(out: &mut [u8], to: usize, n: u64) -> usize
-    ensures { λ r. ⌜ Puts (now (out .entry)) (now (out .exit)) to (decimal n) r ⌝ }
-{
-    let size = digit_count(n);
-    if room::room_at(out.len(), to) < size {
-        return out.len() + 1;
-    }
-    let end = to + size;
-    store_digits(out, to, end, n);
-    end
-}
-
 // Puts a tab and a decimal number.
 pub fn put_number(out: &mut [u8], to: usize, n: u64) -> usize
-    ensures { λ r. ⌜ Puts (now (out .entry)) (now (out .exit)) to (number n) r ⌝ }
+    ensures { λ r. ⌜ Counts (now (out .entry)) (now (out .exit)) to (number n) r ⌝ }
 {
     let next = room::put_byte(out, to, 0x09);
-    if n < 10 {
-        return room::put_byte(out, next, 0x30 + n as u8);
-    }
-    put_decimal(out, next, n)
-}
-
-// A lower-case hex digit.
-fn hex_digit(d: u8) -> u8
-    requires { ⌜ d < 16 ⌝ }
-    ensures { λ r. ⌜ r ≡ hexDigit d ⌝ }
-{
-    if d < 10 { 0x30 + d } else { 0x61 + d - 10 }
+    room::put_decimal(out, next, n)
 }
 
 // Whether a byte stands for itself.
@@ -98,43 +44,84 @@ fn is_plain(byte: u8) -> bool
     true
 }
 
+// The lower-case hex digits.
+fn hex_digits() -> [u8; 16]
+    ensures { λ r. ⌜ r ≡ hexDigits ⌝ }
+{
+    *b"0123456789abcdef"
+}
+
+// Puts a byte as a backslash and two hex digits.
+fn put_hex(out: &mut [u8], to: usize, byte: u8, hex: &[u8; 16]) -> usize
+    requires { ⌜ now hex ≡ hexDigits ⌝ }
+    ensures { λ r. ⌜ Counts (now (out .entry)) (now (out .exit)) to (hexed byte) r ⌝ }
+{
+    if room::room_at(out.len(), 2) <= to {
+        return room::on(to, 3);
+    }
+    out[to] = 0x5c;
+    out[to + 1] = hex[(byte / 16) as usize];
+    out[to + 2] = hex[(byte % 16) as usize];
+    to + 3
+}
+
 // Puts one byte as text.
 fn put_escaped_byte(out: &mut [u8], to: usize, byte: u8) -> usize
-    ensures { λ r. ⌜ Puts (now (out .entry)) (now (out .exit)) to (escaped byte) r ⌝ }
+    ensures { λ r. ⌜ Counts (now (out .entry)) (now (out .exit)) to (escaped byte) r ⌝ }
 {
     if is_plain(byte) {
         return room::put_byte(out, to, byte);
     }
-    let high = hex_digit(byte / 16);
-    let low = hex_digit(byte % 16);
-    let one = room::put_byte(out, to, 0x5c);
-    let two = room::put_byte(out, one, high);
-    room::put_byte(out, two, low)
+    let hex = hex_digits();
+    put_hex(out, to, byte, &hex)
 }
 
-// Puts `size` bytes of the file as text.
+// Where the bytes from `from` on that stand for themselves end.
+fn plain_end(file: &[u8], from: usize, end: usize) -> usize
+    requires { ⌜ (from ≤ end) × (end ≤ length (now file)) ⌝ }
+    ensures { λ r. ⌜ PlainUpTo (now (file .entry)) from r × (r ≤ end) ⌝ }
+{
+    let mut at = from;
+    while at < end {
+        if !is_plain(file[at]) {
+            return at;
+        }
+        at = at + 1;
+    }
+    at
+}
+
+// Puts `size` bytes of the file as text. Bytes that stand for themselves are put together.
 pub fn put_escaped(out: &mut [u8], to: usize, file: &[u8], from: usize, size: usize) -> usize
     requires { ⌜ from + size ≤ length (now file) ⌝ }
-    ensures { λ r. ⌜ Puts (now (out .entry)) (now (out .exit)) to (escapedPart (now (file .entry)) from size) r ⌝ }
+    ensures { λ r. ⌜ Counts (now (out .entry)) (now (out .exit)) to (escapedPart (now (file .entry)) from size) r ⌝ }
 {
     let end = from + size;
+    let hex = hex_digits();
     let mut next = to;
     let mut at = from;
     while at < end {
-        next = put_escaped_byte(out, next, file[at]);
-        at = at + 1;
+        let byte = file[at];
+        if is_plain(byte) {
+            let stop = plain_end(file, at + 1, end);
+            next = room::put_part(out, next, file, at, stop - at);
+            at = stop;
+        } else {
+            next = put_hex(out, next, byte, &hex);
+            at = at + 1;
+        }
     }
     next
 }
 
 // Puts the version: 100 is `1.00`.
 fn put_version(out: &mut [u8], to: usize, version: u64) -> usize
-    ensures { λ r. ⌜ Puts (now (out .entry)) (now (out .exit)) to (versionText version) r ⌝ }
+    ensures { λ r. ⌜ Counts (now (out .entry)) (now (out .exit)) to (versionText version) r ⌝ }
 {
-    let one = put_decimal(out, to, version / 100);
+    let one = room::put_decimal(out, to, version / 100);
     let two = room::put_byte(out, one, b'.');
-    let three = put_decimal(out, two, version / 10 % 10);
-    put_decimal(out, three, version % 10)
+    let three = room::put_decimal(out, two, version / 10 % 10);
+    room::put_decimal(out, three, version % 10)
 }
 
 // Puts the first line.
@@ -146,23 +133,20 @@ fn put_first(
     nodes: usize,
     items: usize,
 ) -> usize
-    ensures { λ r. ⌜ Puts (now (out .entry)) (now (out .exit)) to (firstLine version size nodes items) r ⌝ }
+    ensures { λ r. ⌜ Counts (now (out .entry)) (now (out .exit)) to (firstLine version size nodes items) r ⌝ }
 {
-    let a = room::put_byte(out, to, b'X');
-    let b = room::put_byte(out, a, b'M');
-    let c = room::put_byte(out, b, b'F');
-    let d = room::put_byte(out, c, 0x09);
-    let e = put_version(out, d, version);
-    let f = put_number(out, e, size as u64);
-    let g = put_number(out, f, nodes as u64);
-    let h = put_number(out, g, items as u64);
-    room::put_byte(out, h, 0x0a)
+    let a = room::put_bytes(out, to, b"XMF\t");
+    let b = put_version(out, a, version);
+    let c = put_number(out, b, size as u64);
+    let d = put_number(out, c, nodes as u64);
+    let e = put_number(out, d, items as u64);
+    room::put_byte(out, e, 0x0a)
 }
 
 // Puts the line of node row i.
 fn put_node_line(out: &mut [u8], to: usize, nodes: &[u64], i: usize) -> usize
     requires { ⌜ i * 13 + 13 ≤ length (now nodes) ⌝ }
-    ensures { λ r. ⌜ Puts (now (out .entry)) (now (out .exit)) to (nodeLine i (nodeFrom (now (nodes .entry)) (i * 13))) r ⌝ }
+    ensures { λ r. ⌜ Counts (now (out .entry)) (now (out .exit)) to (nodeLine i (nodeFrom (now (nodes .entry)) (i * 13))) r ⌝ }
 {
     let k = i * cursor::NODE_WIDTH;
     let parent = nodes[k + 4];
@@ -183,7 +167,7 @@ fn put_node_line(out: &mut [u8], to: usize, nodes: &[u64], i: usize) -> usize
 // Puts the lines of the node rows.
 fn put_node_lines(out: &mut [u8], to: usize, nodes: &[u64], count: usize) -> usize
     requires { ⌜ count * 13 ≤ length (now nodes) ⌝ }
-    ensures { λ r. ⌜ Puts (now (out .entry)) (now (out .exit)) to (nodeLines 0 (nodesIn count (now (nodes .entry)))) r ⌝ }
+    ensures { λ r. ⌜ Counts (now (out .entry)) (now (out .exit)) to (nodeLines 0 (nodesIn count (now (nodes .entry)))) r ⌝ }
 {
     let mut next = to;
     let mut i = 0;
@@ -197,7 +181,7 @@ fn put_node_lines(out: &mut [u8], to: usize, nodes: &[u64], count: usize) -> usi
 // Puts the field of the item row whose words begin at k: `C` and its name, or `S` and its number.
 fn put_label(out: &mut [u8], to: usize, file: &[u8], items: &[u64], k: usize) -> usize
     requires { ⌜ (k + 10 ≤ length (now items)) × ItemInside (length (now file)) (itemFrom (now items) k) ⌝ }
-    ensures { λ r. ⌜ Puts (now (out .entry)) (now (out .exit)) to (label (now (file .entry)) (itemFrom (now (items .entry)) k)) r ⌝ }
+    ensures { λ r. ⌜ Counts (now (out .entry)) (now (out .exit)) to (label (now (file .entry)) (itemFrom (now (items .entry)) k)) r ⌝ }
 {
     let a = room::put_byte(out, to, 0x09);
     if items[k + 2] == 1 {
@@ -212,7 +196,7 @@ fn put_label(out: &mut [u8], to: usize, file: &[u8], items: &[u64], k: usize) ->
 // Puts a character of a converted text: a byte below 80h as text, another character as itself.
 fn put_shown_char(out: &mut [u8], to: usize, c: u64) -> usize
     requires { ⌜ c < 0x110000 ⌝ }
-    ensures { λ r. ⌜ Puts (now (out .entry)) (now (out .exit)) to (shown (utf8 c)) r ⌝ }
+    ensures { λ r. ⌜ Counts (now (out .entry)) (now (out .exit)) to (shown (utf8 c)) r ⌝ }
 {
     if c < 0x80 {
         return put_escaped_byte(out, to, c as u8);
@@ -223,7 +207,7 @@ fn put_shown_char(out: &mut [u8], to: usize, c: u64) -> usize
 // Puts UTF-16 that converts, as it is shown.
 fn put_shown(out: &mut [u8], to: usize, units: &[u8]) -> usize
     requires { ⌜ isGood (toUtf8 (now units)) ≡ true ⌝ }
-    ensures { λ r. ⌜ Puts (now (out .entry)) (now (out .exit)) to (shownOr (toUtf8 (now (units .entry))) []) r ⌝ }
+    ensures { λ r. ⌜ Counts (now (out .entry)) (now (out .exit)) to (shownOr (toUtf8 (now (units .entry))) []) r ⌝ }
 {
     let mut at = unicode::after_mark(units);
     let mut next = to;
@@ -244,7 +228,7 @@ fn put_shown(out: &mut [u8], to: usize, units: &[u8]) -> usize
 // Puts `size` bytes of the file, which are UTF-16: converted, or as text where they do not convert.
 fn put_unicode(out: &mut [u8], to: usize, file: &[u8], from: usize, size: usize) -> usize
     requires { ⌜ from + size ≤ length (now file) ⌝ }
-    ensures { λ r. ⌜ Puts (now (out .entry)) (now (out .exit)) to (unicodeText (now (file .entry)) from size) r ⌝ }
+    ensures { λ r. ⌜ Counts (now (out .entry)) (now (out .exit)) to (unicodeText (now (file .entry)) from size) r ⌝ }
 {
     let end = from + size;
     if unicode::converts(&file[from..end]) {
@@ -256,7 +240,7 @@ fn put_unicode(out: &mut [u8], to: usize, file: &[u8], from: usize, size: usize)
 // Puts the text of the item row whose words begin at k.
 fn put_text(out: &mut [u8], to: usize, file: &[u8], items: &[u64], k: usize) -> usize
     requires { ⌜ (k + 10 ≤ length (now items)) × ItemInside (length (now file)) (itemFrom (now items) k) ⌝ }
-    ensures { λ r. ⌜ Puts (now (out .entry)) (now (out .exit)) to (textOf (now (file .entry)) (itemFrom (now (items .entry)) k)) r ⌝ }
+    ensures { λ r. ⌜ Counts (now (out .entry)) (now (out .exit)) to (textOf (now (file .entry)) (itemFrom (now (items .entry)) k)) r ⌝ }
 {
     if items[k + 7] == 2 {
         return put_unicode(out, to, file, items[k + 8] as usize, items[k + 9] as usize);
@@ -267,7 +251,7 @@ fn put_text(out: &mut [u8], to: usize, file: &[u8], items: &[u64], k: usize) -> 
 // Puts the line of the item row whose words begin at k.
 fn put_item_line(out: &mut [u8], to: usize, file: &[u8], items: &[u64], k: usize) -> usize
     requires { ⌜ (k + 10 ≤ length (now items)) × ItemInside (length (now file)) (itemFrom (now items) k) ⌝ }
-    ensures { λ r. ⌜ Puts (now (out .entry)) (now (out .exit)) to (itemLine (now (file .entry)) (itemFrom (now (items .entry)) k)) r ⌝ }
+    ensures { λ r. ⌜ Counts (now (out .entry)) (now (out .exit)) to (itemLine (now (file .entry)) (itemFrom (now (items .entry)) k)) r ⌝ }
 {
     let a = room::put_byte(out, to, b'M');
     let b = put_number(out, a, items[k]);
@@ -282,7 +266,7 @@ fn put_item_line(out: &mut [u8], to: usize, file: &[u8], items: &[u64], k: usize
 // Puts the line of the item row whose words begin at k, if the row is visible.
 fn put_visible_line(out: &mut [u8], to: usize, file: &[u8], items: &[u64], k: usize) -> usize
     requires { ⌜ (k + 10 ≤ length (now items)) × ItemInside (length (now file)) (itemFrom (now items) k) ⌝ }
-    ensures { λ r. ⌜ Puts (now (out .entry)) (now (out .exit)) to (visibleLine (now (file .entry)) (itemFrom (now (items .entry)) k)) r ⌝ }
+    ensures { λ r. ⌜ Counts (now (out .entry)) (now (out .exit)) to (visibleLine (now (file .entry)) (itemFrom (now (items .entry)) k)) r ⌝ }
 {
     if items[k + 7] % 2 == 1 {
         return to;
@@ -293,7 +277,7 @@ fn put_visible_line(out: &mut [u8], to: usize, file: &[u8], items: &[u64], k: us
 // Puts the lines of the visible item rows.
 fn put_item_lines(out: &mut [u8], to: usize, file: &[u8], items: &[u64], count: usize) -> usize
     requires { ⌜ (count * 10 ≤ length (now items)) × ((i : ℕ) → i < count → ItemInside (length (now file)) (itemFrom (now items) (i * 10))) ⌝ }
-    ensures { λ r. ⌜ Puts (now (out .entry)) (now (out .exit)) to (itemLines (now (file .entry)) (itemsIn count (now (items .entry)))) r ⌝ }
+    ensures { λ r. ⌜ Counts (now (out .entry)) (now (out .exit)) to (itemLines (now (file .entry)) (itemsIn count (now (items .entry)))) r ⌝ }
 {
     let mut next = to;
     let mut i = 0;
@@ -315,7 +299,7 @@ fn put_sheet(
     contents: usize,
 ) -> usize
     requires { ⌜ (rows * 13 ≤ length (now nodes)) × (contents * 10 ≤ length (now items)) × ((i : ℕ) → i < contents → ItemInside (length (now file)) (itemFrom (now items) (i * 10))) ⌝ }
-    ensures { λ r. ⌜ Puts (now (out .entry)) (now (out .exit)) 0 (linesOf version (now (file .entry)) (nodesIn rows (now (nodes .entry))) (itemsIn contents (now (items .entry)))) r ⌝ }
+    ensures { λ r. ⌜ Counts (now (out .entry)) (now (out .exit)) 0 (linesOf version (now (file .entry)) (nodesIn rows (now (nodes .entry))) (itemsIn contents (now (items .entry)))) r ⌝ }
 {
     let one = put_first(out, 0, version, file.len(), rows, contents);
     let two = put_node_lines(out, one, nodes, rows);
@@ -324,10 +308,10 @@ fn put_sheet(
 
 // Reads a file and writes its support sheet.
 pub fn write_sheet(file: &[u8], nodes: &mut [u64], items: &mut [u64], sheet: &mut [u8]) -> Written
-    ensures answer { λ r. ⌜ told r ≡ counted (ask (readFile (limits (length (now (nodes .entry))) (length (now (items .entry)))) (now (file .entry))) (write (length (now (sheet .entry))) (now (file .entry)))) ⌝ }
-    ensures nodes { λ _. ⌜ now (nodes .exit) ≡ keptNodes (length (now (nodes .entry))) (readFile (limits (length (now (nodes .entry))) (length (now (items .entry)))) (now (file .entry))) (ask (readFile (limits (length (now (nodes .entry))) (length (now (items .entry)))) (now (file .entry))) (write (length (now (sheet .entry))) (now (file .entry)))) ⌝ }
-    ensures items { λ _. ⌜ now (items .exit) ≡ keptItems (length (now (items .entry))) (readFile (limits (length (now (nodes .entry))) (length (now (items .entry)))) (now (file .entry))) (ask (readFile (limits (length (now (nodes .entry))) (length (now (items .entry)))) (now (file .entry))) (write (length (now (sheet .entry))) (now (file .entry)))) ⌝ }
-    ensures sheet { λ _. ⌜ now (sheet .exit) ≡ kept (length (now (sheet .entry))) (ask (readFile (limits (length (now (nodes .entry))) (length (now (items .entry)))) (now (file .entry))) (write (length (now (sheet .entry))) (now (file .entry)))) ⌝ }
+    ensures answer { λ r. ⌜ told r ≡ counted (answered (now (nodes .entry)) (now (items .entry)) (now (file .entry)) (write (length (now (sheet .entry))))) ⌝ }
+    ensures nodes { λ _. ⌜ now (nodes .exit) ≡ nodesLeft (now (nodes .entry)) (now (items .entry)) (now (file .entry)) (write (length (now (sheet .entry)))) ⌝ }
+    ensures items { λ _. ⌜ now (items .exit) ≡ itemsLeft (now (nodes .entry)) (now (items .entry)) (now (file .entry)) (write (length (now (sheet .entry)))) ⌝ }
+    ensures sheet { λ _. ⌜ now (sheet .exit) ≡ kept (length (now (sheet .entry))) (answered (now (nodes .entry)) (now (items .entry)) (now (file .entry)) (write (length (now (sheet .entry))))) ⌝ }
 {
     match tree::read_file(file, nodes, items) {
         Read::Refused(n, p) => {

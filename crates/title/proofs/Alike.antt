@@ -15,7 +15,7 @@ use Rattle.cursor.specs.Machine.{Prog, ret, refuse, here, byte, pass, Out, ok, 
 use Rattle.cursor.specs.Rows.{Frame, Part, P, Events, inlineSize, metaFrame, unpackFrame, referenceFrame, nodeFrame}
 use Rattle.cursor.specs.Leaves as leaves
 use Rattle.cursor.specs.Vlq.{choose, vlq, joined, sized}
-use Rattle.cursor.proofs.Laws.{running, andThen, run-bind, ran, run-many, run-turn, run-turned}
+use Rattle.cursor.proofs.Laws.{running, andThen, run-bind, ran, run-many, run-turn, run-turned, afterwards, trace-bind}
 use Rattle.cursor.proofs.Stable.{chain, ends, kept, stable}
 use Rattle.cursor.proofs.Lies.{Lies, lies-left, lies-right, lies-at, lies-as, Stand, stand, stand-sized, sum, joined-length, sized-length}
 use Rattle.cursor.proofs.Back.{number-back, block-back}
@@ -41,7 +41,6 @@ use Rattle.title.proofs.Fronts.{own-inline, own-uri, Stays, Front, Fron
 use Rattle.title.proofs.Items as entries
 use Rattle.title.proofs.Items.{Labels, same-label, SameItem, Versions, versionTexts, universal-back, version-back, FieldOk, FieldBack, field-back, Entry, one, several, Opens, further-none, entry-some, entryText, Entries, entryTexts, flat, plusItems, items-text, item-back, metadata-back}
 use Rattle.title.proofs.Pairs.{Each, none, more, each-length, each-take, outer-pair, each-on, fields, number, chosen, block, own-pair, items-pair, header-pair, node-pair, ContentPair, ShapePair, version-pair, universal-pair, field-pair}
-use Rattle.title.proofs.Regions.{afterwards, trace-bind}
 
 -- m runs alike on g and k from `at` on
 pub record Runs {A : Type 0} (g k : List ℕ) (m : P A) (at : ℕ) : Type 0 where

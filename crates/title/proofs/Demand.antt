@@ -2,7 +2,7 @@
 -- read the same, so that the tables agree.
 -- Assumes nothing.
 use mathlib.Core.Path.{_≡_, refl, sym, ap, _∙_, subst}
-use mathlib.Core.Logic.{_⊎_, inl, inr}
+use mathlib.Core.Logic.{inl, inr}
 use mathlib.Core.Bool.{Bool, true, false}
 use mathlib.Core.List.{List, [], _∷_, _++_, map}
 use Prim.Native.Nat.{ℕ, zero, suc, _+_, _-_, _^_, _≤_, _<_}
@@ -26,9 +26,9 @@ use Rattle.tree.proofs.Follow.{treeOf, ReadAs, read-back}
 use Rattle.tree.proofs.Demand.{privateData, Alike, private-alike}
 use Rattle.title.specs.Description.{Content, content, Shape, shape, Description, described, titledAt, retitled, openingSize, tableText, answer}
 use Rattle.title.specs.Text.{outer, fileOf, fileText}
-use Rattle.title.specs.Title.{elsewhere, titledFile}
+use Rattle.title.specs.Title.{elsewhere, titledFile, Copied}
 use Rattle.title.proofs.Pairs as pairs
-use Rattle.title.proofs.Pairs.{Each, none, more, each-length, each-take, each-drop, each-at, each-same, ContentPair, ShapePair, DescriptionPair, text-pair, titled-pair, retitled-pair}
+use Rattle.title.proofs.Pairs.{Each, none, more, each-length, each-take, each-drop, each-same, ContentPair, ShapePair, DescriptionPair, text-pair, titled-pair, retitled-pair}
 use Rattle.title.proofs.Alike.{Pair, Shapes, each-by}
 use Rattle.title.proofs.Twins.{read-alike}
 use Rattle.title.proofs.Theorem.{Grammar, grammar, same-file}
@@ -37,12 +37,8 @@ use Rattle.title.proofs.Headers.{HeaderSays, header-says}
 use Rattle.title.proofs.Transfer.{Agree, onward, part-same, tables-alike}
 use Rattle.title.proofs.Kept.{Same, AllSame, tree-kept, header-kept}
 
--- two bytes that are equal, or copied from the same place of f and k
-abbrev pub Copied : List ℕ → List ℕ → ℕ → ℕ → Type 0
-Copied f k a b = (a ≡ b) ⊎ ((j : ℕ) × (j < length f) × (a ≡ getD f j 0) × (b ≡ getD k j 0))
-
 module _ (f k : List ℕ) (long : length f ≡ length k) where
-  same : (a : ℕ) → Copied f k a a
+  pub same : (a : ℕ) → Copied f k a a
   same a = inl refl
 
   -- the files themselves
@@ -106,9 +102,10 @@ module _ (lim : Limits) (f k : List ℕ) {h : Header} {ns : List Node} {is : Lis
       let keeps : Kept privateData f k log = subst (Kept privateData f k) q (a .keeps) in
       subst (AllSame f k (differ .same-length)) (sym (ap nodesOf q) ∙ r .nodes-are) (tree-kept f k (differ .same-length) (context lim g (length f)) (g .extent .last + 1) (g .extent .start) (omega arith) (r .tree-is) keeps)
 
-  results : Each (Copied f k) (titledFile i text f h ns is) (titledFile i text k h ns is)
+  -- the results differ only where the copied bytes do
+  pub titles-copied : Each (Copied f k) (titledFile i text f h ns is) (titledFile i text k h ns is)
   unfolding titledFile
-  results =
+  titles-copied =
       let long = differ .same-length in
       let a = private-alike lim f k reads differ in
       let r = read-back lim f reads in
@@ -120,13 +117,9 @@ module _ (lim : Limits) (f k : List ℕ) {h : Header} {ns : List Node} {is : Lis
       let rows-same : AllSame f k long ns = all-same a in
       text-pair (same f k long) (retitled-pair (same f k long) i text (described-pair f k long h ns is rows-same (ap answer (says .ran) ∙ sym (ap answer table))))
 
-  -- the results are as long
+  -- they are as long
   pub titles-length : length (titledFile i text f h ns is) ≡ length (titledFile i text k h ns is)
-  titles-length = each-length results
-
-  -- and differ only where the copied bytes do
-  pub titles-bytes : (j : ℕ) → j < length (titledFile i text f h ns is) → Copied f k (getD (titledFile i text f h ns is) j 0) (getD (titledFile i text k h ns is) j 0)
-  titles-bytes j l = each-at results j 0 l
+  titles-length = each-length titles-copied
 
   -- the copied side in the grammar of the first
   loosely : {s t : List ℕ} → Each (Copied f k) s t → Each (λ _ _. Unit {0}) s t

@@ -1,34 +1,27 @@
 -- What two files say that differ at private places alone: the same, but for copied bytes, each from the same place of both.
 -- Assumes nothing.
 use mathlib.Core.Path.{_≡_, refl, sym, ap, _∙_, subst}
-use mathlib.Core.Logic.{_⊎_, inl, inr}
-use mathlib.Core.Bool.{Bool, true, false, not}
 use mathlib.Core.List.{List, [], _∷_, _++_, append-assoc, append-nil, map}
 use Prim.Native.Nat.{ℕ, zero, suc, _+_, _-_, _≤_, _<_}
 use native.Mathlib.Omega.{arith}
 use lib.ListN.{length, getD, take, drop}
-use Rattle.cursor.specs.Machine.{Out, ok, refused, run, trace, exec, puts, rowsOf, times, seen, passed, _>>=_, _>>_, check}
-use Rattle.cursor.specs.Rows.{Part, nodeRow, itemRow, plain, P, Events, fileFrame}
+use Rattle.cursor.specs.Machine.{ok, run, trace, exec, puts, rowsOf, times, seen, passed, _>>=_}
+use Rattle.cursor.specs.Rows.{Part, nodeRow, itemRow, plain, P, Events}
 use Rattle.cursor.specs.declared.Node.{Node}
 use Rattle.cursor.specs.declared.Item.{Item}
-use Rattle.cursor.proofs.Quiet.{Quiet, IgnoresPlain, still, exec-puts, quiet-bind, quiet-if, quiet-ret, quiet-refuse, quiet-place, quiet-check, quiet-skip, quiet-many, next-quiet, number-quiet, block-quiet}
+use Rattle.cursor.proofs.Quiet.{still, exec-puts, quiet-of}
 use Rattle.cursor.proofs.Stable.{Held, Kept}
-use Rattle.cursor.proofs.Runs.{nothing, nothing-ignores, nothing-quiet, Holds}
+use Rattle.cursor.proofs.Runs.{nothing, nothing-quiet, Holds}
 use Rattle.cursor.proofs.Post.{Meets}
-use Rattle.header.specs.Types.{Declared}
-use Rattle.header.specs.Header.{four, opening, edition, fileLength, entry, typesTable, extent, Header, header}
+use Rattle.header.specs.Header.{Header, header}
+use Rattle.header.proofs.Uses.{header-uses}
 use Rattle.metadata.specs.Tables.{plusNode}
-use Rattle.metadata.specs.Metadata.{Context, universal, version, rowsFor, item, Count, nextItem, metaItems, metadata}
+use Rattle.metadata.specs.Metadata.{Context}
 use Rattle.metadata.specs.declared.Made.{Made}
-use Rattle.metadata.specs.declared.Label.{Label}
-use Rattle.metadata.specs.declared.Contents.{Contents}
-use Rattle.metadata.specs.declared.Contents.the-variants as contents
-use Rattle.metadata.proofs.Quiet.{frame-quiet, format-quiet}
-use Rattle.node.specs.Node.{inTree, head, unpackers, rest, front}
-use Rattle.node.specs.declared.Standing.{Standing}
+use Rattle.node.specs.Node.{inTree, unpackers, rest, front}
 use Rattle.node.specs.declared.Unpackers as unpackers
 use Rattle.node.specs.declared.Front as front
-use Rattle.node.proofs.Quiet.{head-quiet, unpackers-quiet, rest-quiet}
+use Rattle.node.proofs.Uses.{unpackers-use, front-uses}
 use Rattle.node.proofs.Ends.{head-inside}
 use Rattle.tree.specs.Tree as tree
 use Rattle.tree.specs.Tree.{folder}
@@ -36,86 +29,8 @@ use Rattle.tree.specs.Reading.{nodeOf, nodesOf}
 use Rattle.tree.proofs.Demand.{privateData}
 use Rattle.title.specs.Description.{Shape, shape, answer, unpackerText}
 use Rattle.title.proofs.UnpackersSay.{Reread, unpackers-reread}
-use Rattle.title.proofs.Regions.{counting, counting-ignores, all-bytes, Keeping, keep-step, keep-ret, keep-check, keep-place, keep-skip, keep-after}
+use Rattle.title.proofs.Regions.{all-bytes, Keeping, keep-step, keep-ret, keep-check, keep-place, keep-skip, keep-after}
 use Rattle.title.proofs.Transfer.{Agree, unpackers-alike}
-
--- ---- what makes no node row
-
-module _ {S : Type 0} {put : Part → ℕ → ℕ → S → S} where
-  quiet-times : {A : Type 0} (n : ℕ) {body : A → P A} (s : A) → ((t : A) → Quiet put (body t)) → Quiet put (times n body s)
-  unfolding times
-  quiet-times zero s h = quiet-ret
-  quiet-times (suc n) s h = quiet-bind (h s) (λ t. quiet-times n t h)
-
-  module _ (i : IgnoresPlain put) (j : (r : Item) (p n : ℕ) (σ : S) → put (itemRow r) p n σ ≡ σ) where
-    universal-quiet : (x : Context) (l : Label) (end : ℕ) (m : Made) → Quiet put (universal x l end m)
-    unfolding universal
-    universal-quiet x l end m =
-        quiet-bind quiet-place λ p. quiet-check _ _ _ (quiet-bind (block-quiet _ _ end) λ n. quiet-check _ _ _ (quiet-bind quiet-place λ q. quiet-bind (number-quiet _ _ _) λ fm. quiet-bind quiet-place λ r. quiet-skip _ _ (λ p σ. j _ p _ σ) quiet-ret))
-
-    version-quiet : (x : Context) (l : Label) (end before : ℕ) (m : Made) → Quiet put (version x l end before m)
-    unfolding version
-    version-quiet x l end before m =
-        quiet-bind quiet-place λ p. quiet-check _ _ _ (quiet-bind (number-quiet _ _ end) λ t. quiet-bind (format-quiet i p _) λ fm. quiet-bind (block-quiet _ _ end) λ n. quiet-bind quiet-place λ q. quiet-skip _ _ (λ p σ. j _ p _ σ) quiet-ret)
-
-    rows-quiet : (x : Context) (l : Label) (end : ℕ) (c : Contents) (m : Made) → Quiet put (rowsFor x l end c m)
-    unfolding rowsFor
-    rows-quiet x l end contents.Universal m = universal-quiet x l end m
-    rows-quiet x l end (contents.Versions n) m = quiet-times n m (version-quiet x l end (m .items))
-
-    metadata-quiet : (x : Context) (node end : ℕ) (m : Made) → Quiet put (metadata x node end m)
-    unfolding metadata metaItems nextItem item
-    metadata-quiet x node end m =
-        quiet-bind (block-quiet _ _ end) λ n. quiet-bind quiet-place λ q.
-        quiet-bind (quiet-many (q + n) (record { made = m; index = 0 }) λ k. quiet-bind (quiet-bind (frame-quiet i (q + n)) λ f. rows-quiet x _ (q + n) _ (k .made)) λ m′. quiet-ret) λ k. quiet-ret
-
-    front-quiet : (x : Context) (parent depth : ℕ) (s : Standing) (m : Made) → Quiet put (front x parent depth s m)
-    unfolding front
-    front-quiet x parent depth s m = quiet-bind quiet-place λ p. quiet-bind (head-quiet i s) λ h. quiet-bind (metadata-quiet x _ _ m) λ m′. quiet-bind (rest-quiet i _ _ _ _ _) λ o. quiet-ret
-
-  -- the file header makes no row at all
-  module _ (i : IgnoresPlain put) where
-    four-quiet : (past end : ℕ) → Quiet put (four past end)
-    unfolding four
-    four-quiet past end = quiet-bind quiet-place λ p. quiet-bind (next-quiet _ _ _ _) λ a. quiet-bind (next-quiet _ _ _ _) λ b. quiet-bind (next-quiet _ _ _ _) λ c. quiet-bind (next-quiet _ _ _ _) λ d. quiet-ret
-
-    check-quiet : (b : Bool) (n p : ℕ) → Quiet put (check b n p)
-    unfolding check
-    check-quiet true n p = quiet-ret
-    check-quiet false n p = quiet-refuse
-
-    opening-quiet : (size : ℕ) → Quiet put (opening size)
-    unfolding opening
-    opening-quiet size =
-        quiet-check _ _ _ (quiet-check _ _ _ (quiet-bind (four-quiet _ _) λ m. quiet-check _ _ _ (quiet-bind (four-quiet _ _) λ v. quiet-if _ quiet-ret (quiet-if _ quiet-ret (quiet-if _ quiet-ret quiet-refuse)))))
-
-    edition-quiet : (size version : ℕ) → Quiet put (edition size version)
-    unfolding edition
-    edition-quiet size version = quiet-if _ (quiet-bind (four-quiet _ _) λ t. quiet-bind (four-quiet _ _) λ r. quiet-ret) quiet-ret
-
-    length-quiet : (size : ℕ) → Quiet put (fileLength size)
-    unfolding fileLength
-    length-quiet size = quiet-bind quiet-place λ p. quiet-bind (number-quiet _ _ _) λ n. check-quiet _ _ _
-
-    entry-quiet : (end : ℕ) (ds : List Declared) → Quiet put (entry end ds)
-    unfolding entry
-    entry-quiet end ds =
-        quiet-bind quiet-place λ p. quiet-bind (number-quiet _ _ _) λ t. quiet-check _ _ _ (quiet-check _ _ _ (quiet-bind (number-quiet _ _ _) λ fm. quiet-bind (block-quiet _ _ _) λ n. quiet-skip _ _ (λ p σ. i .ignores _ p _ σ) quiet-ret))
-
-    table-quiet : (size : ℕ) → Quiet put (typesTable size)
-    unfolding typesTable
-    table-quiet size =
-        quiet-bind (block-quiet _ _ _) λ n. quiet-bind quiet-place λ q. quiet-bind (number-quiet _ _ _) λ count. quiet-bind (quiet-times count [] (entry-quiet (q + n))) λ ds. quiet-bind quiet-place λ e. quiet-check _ _ _ quiet-ret
-
-    extent-quiet : (size : ℕ) → Quiet put (extent size)
-    unfolding extent
-    extent-quiet size =
-        quiet-bind quiet-place λ p. quiet-bind (number-quiet _ _ _) λ s. quiet-bind quiet-place λ q. quiet-bind (number-quiet _ _ _) λ l. quiet-bind quiet-place λ r. quiet-check _ _ _ (quiet-check _ _ _ (quiet-check _ _ _ quiet-ret))
-
-    header-quiet : (size : ℕ) → Quiet put (header size)
-    unfolding header _>>_
-    header-quiet size =
-        quiet-bind (opening-quiet size) λ v. quiet-bind (edition-quiet size v) λ e. quiet-bind (length-quiet size) λ u. quiet-bind (table-quiet size) λ ds. quiet-bind (extent-quiet size) λ x. quiet-ret
 
 -- ---- unpackers of each row
 
@@ -135,7 +50,7 @@ module _ (f k : List ℕ) (long : length f ≡ length k) where
       let r = unpackers-reread f held inner at o e in
       let a = r .after in
       let b = r .before in
-      let g : Agree f k (u .place .0) (r .stop) = λ j lo hi. all-bytes B (unpackers held inner) (unpackers-quiet counting-ignores held inner) f at e h j (omega arith) (omega arith) in
+      let g : Agree f k (u .place .0) (r .stop) = λ j lo hi. all-bytes B (unpackers held inner) (unpackers-use tt held inner) f at e h j (omega arith) (omega arith) in
       ap answer (r .ran) ∙ sym (ap answer (unpackers-alike f k long (u .count) (u .place .0) (r .ran) g))
 
   rest-kept : (first size held inner stop at : ℕ) → inner ≤ length f → Keeping B nothing f (rest first size held inner stop) (Holds (λ o q. UnpackersSame (o .unpackers))) at tt
@@ -166,9 +81,6 @@ nodeRows (nodeRow r) p n σ = σ ++ r ∷ []
 nodeRows (itemRow r) p n σ = σ
 nodeRows (plain x) p n σ = σ
 
-rows-ignore : IgnoresPlain nodeRows
-rows-ignore = record { ignores = λ x p n σ. refl }
-
 rows-are : (es : Events) (σ : List Node) → puts nodeRows es σ ≡ σ ++ nodesOf es
 unfolding puts rowsOf
 rows-are [] σ = sym (append-nil σ)
@@ -190,7 +102,7 @@ module _ (f k : List ℕ) (long : length f ≡ length k) (x : Context) where
   unfolding tree.node folder
   node-kept d children parent least end m at σ o s =
       keep-place _ at (keep-check _ _ λ room.
-      keep-step (front-quiet rows-ignore (λ r p n σ. refl) x parent (16 - d) (inTree least end) m) λ w q e h.
+      keep-step (quiet-of (front-uses (λ κ. tt) (λ v p n σ. refl) (λ r p n σ. refl) x parent (16 - d) (inTree least end) m)) λ w q e h.
       let y = meets-run f (front x parent (16 - d) (inTree least end) m) at (λ w q. Same f k long (w .row) × (at + w .row .size ≤ end)) (front-kept f k long x parent (16 - d) least end m at o .meets h) e in
       let i = y .1 in
       keep-skip _ _
@@ -223,4 +135,4 @@ module _ (f k : List ℕ) (long : length f ≡ length k) (x : Context) where
 -- ---- the header
 
 pub header-kept : (f k : List ℕ) {h : Header} {q : ℕ} → run (header (length f)) f 0 ≡ ok h q → Kept privateData f k (trace (header (length f)) f 0) → Agree f k 0 q
-header-kept f k e h j lo hi = all-bytes (λ j. getD f j 0 ≡ getD k j 0) (header (length f)) (header-quiet counting-ignores (length f)) f 0 e h j lo hi
+header-kept f k e h j lo hi = all-bytes (λ j. getD f j 0 ≡ getD k j 0) (header (length f)) (header-uses tt tt (length f)) f 0 e h j lo hi

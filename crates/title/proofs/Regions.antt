@@ -8,88 +8,36 @@ use native.Mathlib.Omega.{arith}
 use native.Mathlib.Decide.{decLt}
 use lib.Dec.{T}
 use lib.ListN.{length, getD}
-use Rattle.cursor.specs.Machine.{Prog, ret, refuse, here, byte, pass, Out, ok, refused, Event, seen, passed, run, trace, exec, puts, _>>=_, _>>_, if_then_else_, place, skip, check, times}
+use Rattle.cursor.specs.Machine.{ret, Out, ok, refused, seen, passed, run, trace, exec, puts, _>>=_, _>>_, place, skip, check}
 use Rattle.cursor.specs.Rows.{Part, nodeRow, itemRow, plain, P, Events}
-use Rattle.cursor.proofs.Laws.{andThen, exec-bind}
-use Rattle.cursor.proofs.Quiet.{Quiet, IgnoresPlain, still, exec-puts}
-use Rattle.cursor.proofs.Stable.{Chain, endOf, chain, ends, Held, Kept}
+use Rattle.cursor.proofs.Laws.{andThen, exec-bind, afterwards, trace-bind}
+use Rattle.cursor.proofs.Uses.{passing, Only, NoRow, Rowless, used}
+use Rattle.cursor.proofs.Quiet.{Quiet, still, exec-puts}
+use Rattle.cursor.proofs.Stable.{Chain, endOf, chain, ends, Held}
 use Rattle.cursor.proofs.Log.{held-parts}
 use Rattle.cursor.proofs.Post.{Meets}
 use Rattle.tree.proofs.Demand.{privateData}
 
--- ---- the rows that a run makes, counted
+-- ---- all bytes of a part that makes no row
 
-abbrev pub counting : Part → ℕ → ℕ → ℕ → ℕ
-counting (nodeRow r) p n k = suc k
-counting (itemRow r) p n k = suc k
-counting (plain x) p n k = k
-
-pub counting-ignores : IgnoresPlain counting
-counting-ignores = record { ignores = λ x p n k. refl }
-
-abbrev OnlyPlain : Events → Type 0
-OnlyPlain [] = Unit {0}
-OnlyPlain (seen κ p ∷ es) = OnlyPlain es
-OnlyPlain (passed (nodeRow r) p n ∷ es) = ⊥
-OnlyPlain (passed (itemRow r) p n ∷ es) = ⊥
-OnlyPlain (passed (plain x) p n ∷ es) = OnlyPlain es
-
-grows : (es : Events) (k : ℕ) → k ≤ puts counting es k
-unfolding puts
-grows [] k = omega arith
-grows (seen κ p ∷ es) k = grows es k
-grows (passed (nodeRow r) p n ∷ es) k = omega (arith, grows es (suc k))
-grows (passed (itemRow r) p n ∷ es) k = omega (arith, grows es (suc k))
-grows (passed (plain x) p n ∷ es) k = grows es k
-
-none-counted : (es : Events) (k : ℕ) → puts counting es k ≡ k → OnlyPlain es
-unfolding puts
-none-counted [] k e = tt
-none-counted (seen κ p ∷ es) k e = none-counted es k e
-none-counted (passed (nodeRow r) p n ∷ es) k e = let l = grows es (suc k) in absurd (omega arith)
-none-counted (passed (itemRow r) p n ∷ es) k e = let l = grows es (suc k) in absurd (omega arith)
-none-counted (passed (plain x) p n ∷ es) k e = none-counted es k e
-
--- ---- all bytes of such a part
-
-region : (A : ℕ → Type 0) (es : Events) (at : ℕ) → Chain at es → OnlyPlain es → Held privateData A es → (k : ℕ) → at ≤ k → k < endOf at es → A k
+region : (A : ℕ → Type 0) (es : Events) (at : ℕ) → Chain at es → Only (passing NoRow) es → Held privateData A es → (k : ℕ) → at ≤ k → k < endOf at es → A k
 region A [] at c o h k l m = absurd (omega arith)
 region A (seen κ p ∷ es) at c o h k l m = elim (decLt at k) [
-  | yes i ↦ region A es (at + 1) (c .1) o (h .1) k (omega arith) m
+  | yes i ↦ region A es (at + 1) (c .1) (o .1) (h .1) k (omega arith) m
   | no i ↦ let e : p ≡ k = omega arith in subst A e (h .0)
 ]
+region A (passed (nodeRow r) p n ∷ es) at c o h k l m = absurd (o .0)
+region A (passed (itemRow r) p n ∷ es) at c o h k l m = absurd (o .0)
 region A (passed (plain x) p n ∷ es) at c o h k l m = elim (decLt k (at + n)) [
   | yes i ↦ h .0 tt k (omega arith) (omega arith)
-  | no i ↦ region A es (at + n) (c .1) o (h .1) k (omega arith) m
+  | no i ↦ region A es (at + n) (c .1) (o .1) (h .1) k (omega arith) m
 ]
 
-still-same : {A : Type 0} (o : Out A) (σ τ : ℕ) {a : A} {q : ℕ} → still o σ ≡ still o τ → o ≡ ok a q → σ ≡ τ
-still-same {A} (ok b r) σ τ e x = ap (λ (v : A × ℕ). v .1) (inside e)
-  where
-    inside : {A : Type 0} {u v : A} {m n : ℕ} → ok u m ≡ ok v n → u ≡ v
-    inside z = cc
-still-same (refused n p) σ τ e x = let z : _≡_ {A = ℕ} 0 1 = cc in absurd (omega arith)
-
--- of a run that makes no row: what holds of what was kept holds of each byte
-pub all-bytes : {A : Type 0} (B : ℕ → Type 0) (m : P A) → Quiet counting m → (f : List ℕ) (at : ℕ) {a : A} {q : ℕ} → run m f at ≡ ok a q → Held privateData B (trace m f at) → (k : ℕ) → at ≤ k → k < q → B k
-all-bytes B m w f at e h k l i =
-    let z = ends m f at e in
-    let s : puts counting (trace m f at) 0 ≡ 0 = still-same (run m f at) (puts counting (trace m f at) 0) 0 (sym (exec-puts counting m f at 0) ∙ w .quiet f at 0) e in
-    region B (trace m f at) at (chain m f at) (none-counted (trace m f at) 0 s) h k l (omega arith)
+-- what holds of what was kept holds of each byte
+pub all-bytes : {A : Type 0} (B : ℕ → Type 0) (m : P A) → Rowless m → (f : List ℕ) (at : ℕ) {a : A} {q : ℕ} → run m f at ≡ ok a q → Held privateData B (trace m f at) → (k : ℕ) → at ≤ k → k < q → B k
+all-bytes B m u f at e h k l i = let z = ends m f at e in region B (trace m f at) at (chain m f at) (used f at u) h k l (omega arith)
 
 -- ---- Post, for a file of which what a run read and passed has B: a rule for each form
-
-unfoldable pub afterwards : {A C : Type 0} → (A → P C) → List ℕ → Out A → Events
-afterwards k f (ok a q) = trace (k a) f q
-afterwards k f (refused n p) = []
-
-pub trace-bind : {A C : Type 0} (m : P A) (k : A → P C) (f : List ℕ) (at : ℕ) → trace (m >>= k) f at ≡ trace m f at ++ afterwards k f (run m f at)
-unfolding trace run _>>=_ afterwards
-trace-bind (ret a) k f at = refl
-trace-bind (refuse n p) k f at = refl
-trace-bind (here j) k f at = trace-bind (j at) k f at
-trace-bind (byte κ j) k f at = ap (λ es. seen κ at ∷ es) (trace-bind (j (getD f at 0)) k f (at + 1))
-trace-bind (pass w n m) k f at = ap (λ es. passed w at n ∷ es) (trace-bind m k f (at + n))
 
 pub record Keeping {A S : Type 0} (B : ℕ → Type 0) (put : Part → ℕ → ℕ → S → S) (f : List ℕ) (m : P A) (Q : A → ℕ → S → Type 0) (at : ℕ) (σ : S) : Type 0 where
   pub meets : Held privateData B (trace m f at) → Meets Q (exec put m f at σ)

@@ -2,10 +2,11 @@
 -- Assumes nothing.
 use mathlib.Core.Bool.{Bool, true, false, not, _||_}
 use mathlib.Core.List.{List, [], _∷_}
+use mathlib.Core.Logic.{_⊎_}
 use mathlib.Core.Path.{_≡_}
-use Prim.Native.Nat.{ℕ, _^_}
+use Prim.Native.Nat.{ℕ, _^_, _<_}
 use lib.Dec.{ltb, leb, eqb}
-use lib.ListN.{length}
+use lib.ListN.{length, getD}
 use Rattle.cursor.specs.Refusals.{noSuchRow, refersElsewhere, notATitle, resultTooLarge, noRoom}
 use Rattle.cursor.specs.Vlq.{choose}
 use Rattle.cursor.specs.declared.Node.{Node}
@@ -28,6 +29,10 @@ pub record Says (lim : Limits) (g : List ℕ) (d : Description) : Type 0 where
   pub items : List Item
   pub reads : readFile lim g ≡ rows header nodes items
   pub says : described g header nodes items ≡ d
+
+-- two bytes that are equal, or copied from the same place of f and g
+abbrev pub Copied : (f g : List ℕ) → ℕ → ℕ → Type 0
+Copied f g a b = (a ≡ b) ⊎ ((j : ℕ) × (j < length f) × (a ≡ getD f j 0) × (b ≡ getD g j 0))
 
 -- ---- the question
 

@@ -6,7 +6,7 @@ use mathlib.Core.List.{List, [], _∷_, _++_, map}
 use Prim.Native.Nat.{ℕ}
 use lib.ListN.{length, take, drop, replicate}
 use Rattle.cursor.specs.Machine.{Out, ok, refused, run, trace, rowsOf, _>>=_, _>>_, if_then_else_, place, skip, check, turns, many, times}
-use Rattle.cursor.specs.Leaves.{next, digits, number, block, manufacturer, guidBytes, guid}
+use Rattle.cursor.specs.Leaves.{next, digits, number, block, manufacturer, guid}
 use Rattle.cursor.specs.Vlq as vlq
 use Rattle.header.specs.Types.{formatOf, either}
 use Rattle.header.specs.Header.{Header, four, edition, fileLength, entry, typesTable, extent, header}
@@ -81,5 +81,5 @@ cases : (corrected 59 0 hello worked ≡ good greeting)
     × (corrected 0 1 hello elsewhere ≡ bad 36 0)
     × (corrected 0 1 hello worked ≡ bad 37 0)
     × (corrected 58 0 hello worked ≡ bad 22 0)
-unfolding corrected run trace rowsOf _>>=_ _>>_ if_then_else_ place skip check turns many times next digits number block manufacturer guidBytes guid formatOf either four edition fileLength entry typesTable extent header head.opening field contents itemFrame universal declaredFormat version rowsFor item nextItem metaItems metadata headerLength node.head value identifier unpacker entries unpackers resource nodePlace uriPlace target reference node.rest node.front folder tree.node tree.tree tree.detached logged startsAt offsetAt lost outside partEnd takenFrom detachedAt reach follow rows.if_then_else_ reading readTree readFile ask isHidden vlq.inBytes vlq.from vlq.least vlq.vlq vlq.sized described.content described.copied described.identifierText described.unpackerText described.entryText described.tableText described.shape described.described described.titled described.titledAt described.retitled text.further text.fieldText text.itemText text.universalText text.versionText text.contentText text.itemsText text.headerBytes text.headerSize text.lengthBytes text.headerOf text.framed text.ownText text.nodeText text.wholeText text.outer text.lastBytes text.startBytes text.startAt text.fileBytes text.treeStart text.assembled text.fileOf text.fileText title.elsewhere title.isNoTitle title.titledFile title.fitting title.correctTitle
+unfolding corrected run trace rowsOf _>>=_ _>>_ if_then_else_ place skip check turns many times next digits number block manufacturer guid formatOf either four edition fileLength entry typesTable extent header head.opening field contents itemFrame universal declaredFormat version rowsFor item nextItem metaItems metadata headerLength node.head value identifier unpacker entries unpackers resource nodePlace uriPlace target reference node.rest node.front folder tree.node tree.tree tree.detached logged startsAt offsetAt lost outside partEnd takenFrom detachedAt reach follow rows.if_then_else_ reading readTree readFile ask isHidden vlq.inBytes vlq.from vlq.least vlq.vlq vlq.sized described.content described.copied described.identifierText described.unpackerText described.entryText described.tableText described.shape described.described described.titled described.titledAt described.retitled text.further text.fieldText text.itemText text.universalText text.versionText text.contentText text.itemsText text.headerBytes text.headerSize text.lengthBytes text.headerOf text.framed text.ownText text.nodeText text.wholeText text.outer text.lastBytes text.startBytes text.startAt text.fileBytes text.treeStart text.assembled text.fileOf text.fileText title.elsewhere title.isNoTitle title.titledFile title.fitting title.correctTitle
 cases = (refl, refl, refl, refl, refl, refl, refl, refl, refl, refl, refl)

@@ -20,8 +20,8 @@ use Rattle.cursor.specs.declared.Item.{Item}
 use Rattle.cursor.proofs.Laws.{rows-on}
 use Rattle.cursor.proofs.Leaves.{any-free}
 use Rattle.cursor.proofs.Wp.{All, all-on, at-end}
-use Rattle.cursor.proofs.Stable.{Chain, Free, Held, Kept, held-by, chain, ends, endOf, stable}
-use Rattle.cursor.proofs.Log.{held-on, held-parts, Sound, sound-run, sound-on, sound-in, sound-kept}
+use Rattle.cursor.proofs.Stable.{Free, Kept, chain, ends, stable}
+use Rattle.cursor.proofs.Log.{held-parts, Sound, sound-run, sound-on, sound-in, sound-kept}
 use Rattle.cursor.proofs.Near.{Near, near-run, near-same, near-then, near-on, near-check}
 use Rattle.header.specs.Header.{Header, header}
 use Rattle.header.proofs.Ends.{header-on}
@@ -207,14 +207,14 @@ from-taken (r ∷ ns) p end k l (inr y) = let z = from-taken ns p end k l y in b
     by true z = omega arith
     by false z = z
 
-module _ (free : Part → Bool) (lim : Limits) (f : List ℕ) (h : Header) where
+module _ (lim : Limits) (f : List ℕ) (h : Header) where
   -- k lies in the tree or in a detached node; and where these lie
   abbrev pub Within : List Node → ℕ → Type 0
   Within ns k = ((h .extent .start ≤ k) × (k < h .extent .last + 1)) ⊎ Taken ns k
 
   -- what was read lies there, behind the header
   record Lies (log : Events) : Type 0 where
-    sound : Sound free (Within (nodesOf log)) log
+    sound : Sound (Within (nodesOf log)) log
     behind : (k : ℕ) → Taken (nodesOf log) k → h .extent .end ≤ k
 
   tree-lies : {m : Made} {q : ℕ} → run (treeOf lim (length f) h) f (h .extent .start) ≡ ok m q → h .extent .last < length f → h .extent .end ≤ h .extent .start
@@ -225,7 +225,7 @@ module _ (free : Part → Bool) (lim : Limits) (f : List ℕ) (h : Header) where
       let v = ends m f (h .extent .start) e in
       let u = tree-ends x f (h .extent .start) (h .extent .last + 1) (omega arith) e in
       record {
-        sound = sound-in free (λ k a. inl (a .0, omega arith)) (sound-run free (trace m f (h .extent .start)) (h .extent .start) (chain m f (h .extent .start)));
+        sound = sound-in (λ k a. inl (a .0, omega arith)) (sound-run (trace m f (h .extent .start)) (h .extent .start) (chain m f (h .extent .start)));
         behind = λ k a. let b = taken-after (nodesOf (trace m f (h .extent .start))) (h .extent .start) k (tree-from f x (h .extent .last + 1) (h .extent .start) (omega arith) e) a in omega arith;
       }
 
@@ -255,10 +255,10 @@ module _ (free : Part → Bool) (lim : Limits) (f : List ℕ) (h : Header) where
       let from = detached-from f x _ _ _ _ (r .target) (p .0) (t .runs) in
       let n : nodesOf (log ++ es) ≡ nodesOf log ++ nodesOf es = rows-on nodeOf log es in
       rw y (record {
-        sound = rw n (sound-in free (λ k. elim [
+        sound = rw n (sound-in (λ k. elim [
           | inl a ↦ wider (nodesOf log) (nodesOf es) k a
           | inr a ↦ inr (taken-own (nodesOf log) (nodesOf es) k (rw (w .rows-are) (inl (w .detached-is, (let b = w .start in omega arith), (let b = w .stop in omega arith)))))
-        ]) (sound-on free (s .sound) (sound-run free es (r .target) (chain m f (r .target))) (λ k a b. meets-none (nodesOf log) (r .target) (t .after) k (o .2) (p .1) (u .1) (u .2) a (b .0) (let c = b .1 in omega arith))));
+        ]) (sound-on (s .sound) (sound-run es (r .target) (chain m f (r .target))) (λ k a b. meets-none (nodesOf log) (r .target) (t .after) k (o .2) (p .1) (u .1) (u .2) a (b .0) (let c = b .1 in omega arith))));
         behind = λ k a. elim (taken-parts (nodesOf log) (nodesOf es) k (rw n at a)) [ inl b ↦ s .behind k b | inr b ↦ (let c = taken-after (nodesOf es) (r .target) k from b in omega arith) ];
       })
 
@@ -275,12 +275,12 @@ module _ (free : Part → Bool) (lim : Limits) (f : List ℕ) (h : Header) where
   abbrev pub Parts : List Node → ℕ → Type 0
   Parts ns k = (k < h .extent .end) ⊎ Within ns k
 
-  pub all-sound : {ns : List Node} {is : List Item} (a : ReadAs lim f h ns is) → Sound free (Parts (nodesOf (a .log))) (trace (header (length f)) f 0 ++ a .log)
+  pub all-sound : {ns : List Node} {is : List Item} (a : ReadAs lim f h ns is) → Sound (Parts (nodesOf (a .log))) (trace (header (length f)) f 0 ++ a .log)
   all-sound a =
       let w = header-of a in
       let z = ends (header (length f)) f 0 (a .header-is) in
       let l = log-lies a in
-      sound-on free (sound-in free (λ k b. let c = b .1 in omega arith) (sound-run free (trace (header (length f)) f 0) 0 (chain (header (length f)) f 0))) (l .sound)
+      sound-on (sound-in (λ k b. let c = b .1 in omega arith) (sound-run (trace (header (length f)) f 0) 0 (chain (header (length f)) f 0))) (l .sound)
       (λ k b. elim [ inl c ↦ omega arith | inr c ↦ (let d = l .behind k c in omega arith) ])
 
 -- ---- demand 3 for the first question
@@ -295,8 +295,8 @@ past-end f g e k h =
 
 -- with any choice of what is free, files that agree on the other bytes of header, tree and detached nodes read alike; other bytes are no matter
 parts-alike : (free : Part → Bool) (lim : Limits) (f g : List ℕ) {h : Header} {ns : List Node} {is : List Item} → readFile lim f ≡ rows h ns is → length f ≡ length g → (a : ReadAs lim f h ns is)
-    → ((k : ℕ) → Parts free lim f h (nodesOf (a .log)) k → (Free free (trace (header (length f)) f 0 ++ a .log) k → ⊥) → getD f k 0 ≡ getD g k 0) → Alike free lim f g ns is
-parts-alike free lim f g {h} r l a agree = alike-kept free lim f g l r a (sound-kept free f g (trace (header (length f)) f 0 ++ a .log) (all-sound free lim f h a) agree)
+    → ((k : ℕ) → Parts lim f h (nodesOf (a .log)) k → (Free free (trace (header (length f)) f 0 ++ a .log) k → ⊥) → getD f k 0 ≡ getD g k 0) → Alike free lim f g ns is
+parts-alike free lim f g {h} r l a agree = alike-kept free lim f g l r a (sound-kept free f g (trace (header (length f)) f 0 ++ a .log) (all-sound lim f h a) agree)
 
 -- what may differ of what is passed over: inline data of a file node, and hidden data
 abbrev pub privateData : Part → Bool
@@ -337,10 +337,10 @@ taken-at : (ns : List Node) (k : ℕ) → Taken ns k → InDetached ns k
 taken-at (r ∷ ns) k (inl x) = (0, omega arith, x .0, x .1, x .2)
 taken-at (r ∷ ns) k (inr y) = let z = taken-at ns k y in (suc (z .0), (let l = z .1 in omega arith), z .2, z .3, z .4)
 
-in-parts : (free : Part → Bool) (lim : Limits) (f : List ℕ) (h : Header) (ns : List Node) (k : ℕ) → Parts free lim f h ns k → InParts h ns k
-in-parts free lim f h ns k (inl x) = inl x
-in-parts free lim f h ns k (inr (inl x)) = inr (inl (x .0, (let l = x .1 in omega arith)))
-in-parts free lim f h ns k (inr (inr x)) = inr (inr (taken-at ns k x))
+in-parts : (lim : Limits) (f : List ℕ) (h : Header) (ns : List Node) (k : ℕ) → Parts lim f h ns k → InParts h ns k
+in-parts lim f h ns k (inl x) = inl x
+in-parts lim f h ns k (inr (inl x)) = inr (inl (x .0, (let l = x .1 in omega arith)))
+in-parts lim f h ns k (inr (inr x)) = inr (inr (taken-at ns k x))
 
 -- a private place of a part that is read is free
 private-free : (lim : Limits) (f : List ℕ) {h : Header} {ns : List Node} {is : List Item} (a : ReadAs lim f h ns is) (k : ℕ)
@@ -354,7 +354,7 @@ pub private-alike : (lim : Limits) (f g : List ℕ) {h : Header} {ns : List Node
 private-alike lim f g {h} {ns} {is} r d =
     let a = read-back lim f r in
     parts-alike privateData lim f g r (d .same-length) a λ k i n.
-    let j = in-parts privateData lim f h ns k (subst (λ v. Parts privateData lim f h v k) (a .nodes-are) i) in
+    let j = in-parts lim f h ns k (subst (λ v. Parts lim f h v k) (a .nodes-are) i) in
     past-end f g (d .same-length) k λ l. d .elsewhere k l λ o. n (private-free lim f a k j o)
 
 -- the second is accepted too, and reads the same

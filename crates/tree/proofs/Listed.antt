@@ -10,15 +10,15 @@ use lib.ListN.{length}
 use Rattle.cursor.specs.Machine.{Out, ok, refused, run, trace}
 use Rattle.cursor.specs.Rows.{P, Events}
 use Rattle.cursor.specs.declared.Node.{Node}
-use Rattle.cursor.proofs.Listed.{InList, Listed, refused-listed, after, ends, stops, at-place, checks, places, passes, counts}
+use Rattle.cursor.proofs.Uses.{InList, Listed, refusing, refused-as, after, ends, stops, at-place, checks, places, passes, counts}
 use Rattle.header.specs.Header.{Header, header}
-use Rattle.header.proofs.Listed.{header-listed}
+use Rattle.header.proofs.Uses.{header-uses}
 use Rattle.metadata.specs.Metadata.{Context}
 use Rattle.metadata.specs.declared.Limits.{Limits}
 use Rattle.metadata.specs.declared.Made.{Made}
 use Rattle.node.specs.Node.{inTree, loose}
 use Rattle.node.specs.declared.Standing.{Standing}
-use Rattle.node.proofs.Listed.{front-listed}
+use Rattle.node.proofs.Uses.{front-uses}
 use Rattle.tree.specs.Tree.{folder, node, tree, detached}
 use Rattle.tree.specs.Rows.{nodeAt, if_then_else_}
 use Rattle.tree.specs.Reading.{nodesOf, Result, good, bad, refusal, logged, lost, offsetAt, outside, detachedAt, reach, follow, reading, context, readTree, readFile}
@@ -34,7 +34,7 @@ unfolding node
 node-listed zero x parent s m = at-place λ p. stops tt
 node-listed (suc d) x parent s m =
     places λ p. checks _ _ _ tt
-    (after (front-listed x parent (16 - d) s m) λ w. passes _ _
+    (after (front-uses (λ κ. tt) (λ v. tt) (λ i. tt) x parent (16 - d) s m) λ w. passes _ _ tt
     (folder-listed _ (counts (w .row .held) _ (λ t. node-listed d x (m .nodes) (inTree 0 (p + w .row .size)) t))))
 
 pub tree-listed : (x : Context) (end : ℕ) → Listed (tree x end)
@@ -56,7 +56,7 @@ not-good e = let z : _≡_ {A = ℕ} 0 1 = cc in absurd (omega arith)
 logged-listed : {m : P Made} (f : List ℕ) (at : ℕ) → Listed m → (log : Events) (o : Out Made) → run m f at ≡ o → {n p : ℕ} → logged log o (trace m f at) ≡ bad n p → InList n p
 unfolding logged
 logged-listed f at l log (ok v q) e z = not-good z
-logged-listed f at l log (refused k q) e z = same-bad (refused-listed f at l e) z
+logged-listed f at l log (refused k q) e z = same-bad (refused-as f at l e) z
 
 module _ (lim : Limits) (f : List ℕ) (h : Header) {n p : ℕ} where
   reach-listed : (log : Events) (r : Node) → reach lim f h log r ≡ bad n p → InList n p
@@ -93,7 +93,7 @@ module _ (lim : Limits) (f : List ℕ) {n p : ℕ} where
   unfolding readTree
   of-header (ok g q) e r =
       of-log g _ (follow-listed lim f g (lim .nodes) 0 _ (logged-listed f (g .extent .start) (tree-listed (context lim g (length f)) (g .extent .last + 1)) [] (run (tree (context lim g (length f)) (g .extent .last + 1)) f (g .extent .start)) refl)) r
-  of-header (refused k q) e r = let y : q ≡ p = cc in let z : k ≡ n = cc in subst (λ v. InList v p) z (subst (λ v. InList k v) y (refused-listed f 0 (header-listed (length f)) e))
+  of-header (refused k q) e r = let y : q ≡ p = cc in let z : k ≡ n = cc in subst (λ v. InList v p) z (subst (λ v. InList k v) y (refused-as {S = refusing} f 0 (header-uses tt tt (length f)) e))
 
 pub refusal-listed : (lim : Limits) (f : List ℕ) {n p : ℕ} → readFile lim f ≡ refusal n p → InList n p
 unfolding readFile

@@ -1,18 +1,20 @@
 -- Node rows stand in the order of their starts: where a node begins, each row made so far is of a node that began before.
 -- Assumes nothing.
-use mathlib.Core.Path.{_≡_, refl, sym, ap, _∙_}
+use mathlib.Core.Path.{_≡_, refl, ap, _∙_}
 use mathlib.Core.Bool.{Bool, true, false}
-use mathlib.Core.List.{List, [], _∷_, _++_, append-assoc}
+use mathlib.Core.List.{List, [], _∷_, _++_}
 use Prim.Native.Nat.{ℕ, zero, suc, _+_, _-_, _≤_, _<_}
 use native.Mathlib.Omega.{arith}
-use lib.ListN.{length, getD}
-use Rattle.cursor.specs.Machine.{ret, refuse, here, byte, pass, ok, seen, passed, run, trace, rowsOf, _>>=_, _>>_, place, skip, check, times}
-use Rattle.cursor.specs.Rows.{nodeRow, itemRow, plain, inlineSize, P, Events}
+use lib.ListN.{length}
+use Rattle.cursor.specs.Machine.{ok, seen, passed, run, trace, rowsOf, _>>=_, _>>_, place, skip, check, times}
+use Rattle.cursor.specs.Rows.{Part, nodeRow, itemRow, plain, inlineSize, P, Events}
 use Rattle.cursor.specs.declared.Node.{Node}
+use Rattle.cursor.proofs.Laws.{rows-on, Split, split}
 use Rattle.cursor.proofs.Stable.{ends, at-least}
 use Rattle.cursor.proofs.Wp.{Wp, at-end, wp-weaken}
-use Rattle.cursor.proofs.Order.{Orders, Ordered, Rowless, in-order}
-use Rattle.cursor.proofs.Order as order
+use Rattle.cursor.proofs.Order.{Ordered}
+use Rattle.cursor.proofs.Uses.{Uses, Only, used, passing}
+use Rattle.cursor.proofs.Uses as uses
 use Rattle.metadata.specs.Metadata.{Context}
 use Rattle.metadata.specs.declared.Made.{Made}
 use Rattle.metadata.proofs.Ends.{Nothing, Inside, inside-free}
@@ -21,7 +23,7 @@ use Rattle.node.specs.Node.{inTree, loose, front}
 use Rattle.node.specs.declared.Standing.{Standing}
 use Rattle.node.specs.declared.Front.{Front}
 use Rattle.node.proofs.Ends.{FrontIn, front-on}
-use Rattle.node.proofs.Order.{front-orders}
+use Rattle.node.proofs.Uses.{front-uses}
 use Rattle.tree.specs.Tree.{folder, node, tree, detached}
 use Rattle.tree.specs.Reading.{nodeOf, nodesOf}
 use Rattle.tree.specs.Rows.{nodeAt, Rising}
@@ -54,23 +56,8 @@ rising (more a x h) (suc i) (suc j) l m = rising h i j (omega arith) (omega arit
 
 -- ---- an accepted run, part by part
 
--- a run of m, and of what follows it
-record Parts {A B : Type 0} (m : P A) (g : A → P B) (f : List ℕ) (at : ℕ) (b : B) (q : ℕ) : Type 0 where
-  a : A
-  p : ℕ
-  first : run m f at ≡ ok a p
-  second : run (g a) f p ≡ ok b q
-  joined : nodesOf (trace (m >>= g) f at) ≡ nodesOf (trace m f at) ++ nodesOf (trace (g a) f p)
-
-parts : {A B : Type 0} (m : P A) (g : A → P B) (f : List ℕ) (at : ℕ) {b : B} {q : ℕ} → run (m >>= g) f at ≡ ok b q → Parts m g f at b q
-unfolding run trace rowsOf _>>=_
-parts (ret a) g f at e = record { a = a; p = at; first = refl; second = e; joined = refl }
-parts (refuse n p) g f at e = let z : _≡_ {A = ℕ} 0 1 = cc in absurd (omega arith)
-parts (here k) g f at e = let x = parts (k at) g f at e in record { a = x .a; p = x .p; first = x .first; second = x .second; joined = x .joined }
-parts (byte κ k) g f at e = let x = parts (k (getD f at 0)) g f (at + 1) e in record { a = x .a; p = x .p; first = x .first; second = x .second; joined = x .joined }
-parts (pass w n m) g f at e =
-    let x = parts m g f (at + n) e in
-    record { a = x .a; p = x .p; first = x .first; second = x .second; joined = ap (λ v. nodeOf w at n ++ v) (x .joined) ∙ sym (append-assoc (nodeOf w at n) _ _) }
+nodes-joined : {A B : Type 0} {m : P A} {g : A → P B} {f : List ℕ} {at : ℕ} {b : B} {q : ℕ} (y : Split m g f at b q) → nodesOf (trace (m >>= g) f at) ≡ nodesOf (trace m f at) ++ nodesOf (trace (g (y .a)) f (y .p))
+nodes-joined {m = m} {g} {f} {at} y = ap nodesOf (y .joined) ∙ rows-on nodeOf (trace m f at) (trace (g (y .a)) f (y .p))
 
 -- each accepted run of m from `at` makes rows that rise, from `at` on and before where it ends
 record Rises {A : Type 0} (d : ℕ) (f : List ℕ) (m : P A) (at : ℕ) : Type 0 where
@@ -86,26 +73,31 @@ counted k c (passed (nodeRow r) p n ∷ es) k′ c′ o = let e = counted (k + 1
 counted k c (passed (itemRow r) p n ∷ es) k′ c′ o = counted k (c + 1) es k′ c′ (o .1)
 counted k c (passed (plain x) p n ∷ es) k′ c′ o = counted k c es k′ c′ o
 
-none : (ns : List Node) → length ns ≡ 0 → ns ≡ []
-none [] e = refl
-none (r ∷ ns) e = absurd (omega arith)
+-- what makes no node row
+abbrev NoNode : Part → Type 0
+NoNode (nodeRow r) = ⊥
+NoNode (itemRow r) = Unit {0}
+NoNode (plain x) = Unit {0}
 
-no-rows : {A : Type 0} {m : P A} {Q : A → ℕ → ℕ → Type 0} {k c : ℕ} (f : List ℕ) (at : ℕ) → Orders m Q k c → ((a : A) (k′ c′ : ℕ) → Q a k′ c′ → k′ ≡ k) → {a : A} {p : ℕ} → run m f at ≡ ok a p
-    → nodesOf (trace m f at) ≡ []
-no-rows {m = m} {k = k} {c} f at o h {a} e =
-    let w = in-order f at o e in
-    let x : k + length (nodesOf (trace m f at)) ≡ w .nodes = counted k c (trace m f at) (w .nodes) (w .items) (w .ordered) in
-    let y : w .nodes ≡ k = h a (w .nodes) (w .items) (w .ends) in
-    none _ (omega arith)
+none : (es : Events) → Only (passing NoNode) es → nodesOf es ≡ []
+unfolding rowsOf
+none [] o = refl
+none (seen κ p ∷ es) o = none es (o .1)
+none (passed (nodeRow r) p n ∷ es) o = absurd (o .0)
+none (passed (itemRow r) p n ∷ es) o = none es (o .1)
+none (passed (plain x) p n ∷ es) o = none es (o .1)
+
+front-none : (f : List ℕ) (x : Context) (parent depth : ℕ) (s : Standing) (m : Made) (at : ℕ) → nodesOf (trace (front x parent depth s m) f at) ≡ []
+front-none f x parent depth s m at = none _ (used f at (front-uses (λ κ. tt) (λ v. tt) (λ i. tt) x parent depth s m))
 
 -- ---- the rules
 
 module _ (b : ℕ) (f : List ℕ) where
   after : {A B : Type 0} {m : P A} {g : A → P B} {at : ℕ} → Rises b f m at → ((a : A) (p : ℕ) → Rises b f (g a) p) → Rises b f (m >>= g) at
-  after {m = m} {g} {at} w h = record { rises = λ e. let x = parts m g f at e in rw (x .joined) (rise-on (w .rises (x .first)) (h (x .a) (x .p) .rises (x .second))) }
+  after {m = m} {g} {at} w h = record { rises = λ e. let x = split m g f at e in rw (nodes-joined x) (rise-on (w .rises (x .first)) (h (x .a) (x .p) .rises (x .second))) }
 
-  rowless : {A : Type 0} (m : P A) (at : ℕ) → Rowless m → Rises b f m at
-  rowless m at o = record { rises = λ {a} {p} e. let z = ends m f at e in let l = at-least (trace m f at) at in let c : at ≤ p = omega arith in rw (no-rows f at (o 0 0) (λ a k′ c′ q. q .0) e) (done c) }
+  rowless : {A : Type 0} (m : P A) (at : ℕ) → Uses (passing NoNode) m → Rises b f m at
+  rowless m at u = record { rises = λ {a} {p} e. let z = ends m f at e in let l = at-least (trace m f at) at in let c : at ≤ p = omega arith in rw (none _ (used f at u)) (done c) }
 
   places : {A : Type 0} (g : ℕ → P A) (at : ℕ) → Rises b f (g at) at → Rises b f (place >>= g) at
   unfolding run trace _>>=_ place
@@ -118,14 +110,14 @@ module _ (b : ℕ) (f : List ℕ) where
 
   times-rise : {A : Type 0} (n : ℕ) {body : A → P A} (s : A) (at : ℕ) → ((s : A) (p : ℕ) → Rises b f (body s) p) → Rises b f (times n body s) at
   unfolding times
-  times-rise zero s at step = rowless _ at λ k c. order.ends (refl, refl)
+  times-rise zero s at step = rowless _ at uses.ends
   times-rise (suc n) s at step = after (step s at) λ r p. times-rise n r p step
 
   -- ---- the tree
 
   folder-rises : (end : ℕ) {children : P Made} {at : ℕ} → Rises b f children at → Rises b f (folder end children) at
   unfolding folder
-  folder-rises end w = after w λ m p. rowless _ p λ k c. order.places λ q. order.checks _ _ _ (order.ends (refl, refl))
+  folder-rises end w = after w λ m p. rowless _ p (uses.places λ q. uses.checks _ _ _ tt uses.ends)
 
   -- a node's row, and then the rows of what it holds
   front-then : (x : Context) (parent depth : ℕ) (s : Standing) (m : Made) (at : ℕ) → s .end .0 ≤ x .size → s .detached ≤ b → {g : Front → P Made} → ((w : Front) (q : ℕ) → FrontIn x s m at w q → Rises b f (g w) (q + inlineSize (w .row)))
@@ -133,19 +125,19 @@ module _ (b : ℕ) (f : List ℕ) where
   unfolding run trace rowsOf _>>=_ _>>_ skip
   front-then x parent depth s m at l v {g} h = record {
     rises = λ e.
-        let y = parts (front x parent depth s m) (λ w. (skip (nodeRow (w .row)) (inlineSize (w .row)) >> g w)) f at e in
+        let y = split (front x parent depth s m) (λ w. (skip (nodeRow (w .row)) (inlineSize (w .row)) >> g w)) f at e in
         let i = at-end (inside-free (s .end .0) (x .size)) f (front-on Nothing (s .end .0) x parent depth s m at (omega arith) l) (y .first) in
         let z = i .start in
         let n = i .moves in
         let c : at ≤ y .a .row .start = omega arith in
         let j = i .detached-is in
         let k : y .a .row .detached ≤ b = omega arith in
-        rw (y .joined, no-rows f at (front-orders x parent depth s m) (λ a k′ c′ q. q .0) (y .first)) (more c k (rise-sooner (omega arith) (h (y .a) (y .p) i .rises (y .second))));
+        rw (nodes-joined y, front-none f x parent depth s m at) (more c k (rise-sooner (omega arith) (h (y .a) (y .p) i .rises (y .second))));
   }
 
   node-rises : (d : ℕ) (x : Context) (parent : ℕ) (s : Standing) (m : Made) (at : ℕ) → s .end .0 ≤ x .size → s .detached ≤ b → Rises b f (node d x parent s m) at
   unfolding node
-  node-rises zero x parent s m at l v = rowless _ at λ k c. order.at-place λ p. order.stops
+  node-rises zero x parent s m at l v = rowless _ at (uses.at-place λ p. uses.stops tt)
   node-rises (suc d) x parent s m at l v =
       places _ at (checks _ _ _ (front-then x parent (16 - d) s m at l v λ w q i.
       let a = i .within in
@@ -186,14 +178,14 @@ own-front : (f : List ℕ) (x : Context) (parent depth : ℕ) (s : Standing) (m 
 unfolding run trace rowsOf _>>=_ _>>_ skip
 own-front f x parent depth s m at l g h = record {
   owns = λ e.
-      let y = parts (front x parent depth s m) (λ w. (skip (nodeRow (w .row)) (inlineSize (w .row)) >> g w)) f at e in
+      let y = split (front x parent depth s m) (λ w. (skip (nodeRow (w .row)) (inlineSize (w .row)) >> g w)) f at e in
       let i = at-end (inside-free (s .end .0) (x .size)) f (front-on Nothing (s .end .0) x parent depth s m at (omega arith) l) (y .first) in
       let v = at-end (inside-free (s .end .0) (x .size)) f (h (y .a) (y .p) i) (y .second) in
       let z = i .start in
       record {
         row = y .a .row;
         others = nodesOf (trace (g (y .a)) f (y .p + inlineSize (y .a .row)));
-        rows-are = y .joined ∙ ap (λ v. v ++ (y .a .row ∷ nodesOf (trace (g (y .a)) f (y .p + inlineSize (y .a .row))))) (no-rows f at (front-orders x parent depth s m) (λ a k′ c′ q. q .0) (y .first));
+        rows-are = nodes-joined y ∙ ap (λ v. v ++ (y .a .row ∷ nodesOf (trace (g (y .a)) f (y .p + inlineSize (y .a .row))))) (front-none f x parent depth s m at);
         start = z;
         stop = omega arith;
         detached-is = i .detached-is;

@@ -2,12 +2,13 @@
 -- Assumes nothing.
 use mathlib.Core.List.{List}
 use Prim.Native.Nat.{ℕ}
-use lib.ListN.{replicate}
+use lib.ListN.{length, replicate}
 use Rattle.cursor.specs.declared.Node.{Node}
 use Rattle.cursor.specs.declared.Item.{Item}
 use Rattle.header.specs.Header.{Header}
+use Rattle.metadata.specs.Tables.{limits}
 pub use Rattle.tree.specs.Reading.{Result, good, bad}
-use Rattle.tree.specs.Reading.{Reading, rows, refusal, nodeTable, itemTable}
+use Rattle.tree.specs.Reading.{Reading, rows, refusal, readFile, nodeTable, itemTable}
 
 -- what a question answers, of what a file reads as
 unfoldable pub ask : {A : Type 0} → Reading → (Header → List Node → List Item → Result A) → Result A
@@ -22,3 +23,30 @@ keptNodes size o (bad n p) = replicate size 0
 unfoldable pub keptItems : {A : Type 0} → ℕ → Reading → Result A → List ℕ
 keptItems size o (good a) = itemTable size o
 keptItems size o (bad n p) = replicate size 0
+
+-- ---- what a call answers and leaves, of the two tables and the file that are lent to it: each is one line of its contract
+
+-- a question: what is asked of a file's bytes, its header and its rows
+abbrev pub Asks : Type 0 → Type 0
+Asks A = List ℕ → Header → List Node → List Item → Result A
+
+-- what the file reads as, with these tables
+abbrev pub reads : (nodes items file : List ℕ) → Reading
+reads nodes items file = readFile (limits (length nodes) (length items)) file
+
+-- the tables after it was read
+abbrev pub nodesRead : (nodes items file : List ℕ) → List ℕ
+nodesRead nodes items file = nodeTable (length nodes) (reads nodes items file)
+
+abbrev pub itemsRead : (nodes items file : List ℕ) → List ℕ
+itemsRead nodes items file = itemTable (length items) (reads nodes items file)
+
+-- a question's answer, and the tables after it
+abbrev pub answered : {A : Type 0} → (nodes items file : List ℕ) → Asks A → Result A
+answered nodes items file question = ask (reads nodes items file) (question file)
+
+abbrev pub nodesLeft : {A : Type 0} → (nodes items file : List ℕ) → Asks A → List ℕ
+nodesLeft nodes items file question = keptNodes (length nodes) (reads nodes items file) (answered nodes items file question)
+
+abbrev pub itemsLeft : {A : Type 0} → (nodes items file : List ℕ) → Asks A → List ℕ
+itemsLeft nodes items file question = keptItems (length items) (reads nodes items file) (answered nodes items file question)

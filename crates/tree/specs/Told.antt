@@ -1,13 +1,14 @@
--- What the answer says, rows that stand in the tables, and what following them leaves there.
+-- What a call is lent, what the answer says, rows that stand in the tables, and what following them leaves there.
 -- Assumes nothing.
 use mathlib.Core.Path.{_≡_}
 use mathlib.Core.List.{List, [], _∷_}
-use Prim.Native.Nat.{ℕ, _+_, _≤_, _<_}
+use Prim.Native.Nat.{ℕ, _+_, _*_, _^_, _≤_, _<_}
 use lib.ListN.{length, take}
 use Rattle.cursor.specs.Machine.{puts}
 use Rattle.cursor.specs.Rows.{Events}
 use Rattle.cursor.specs.declared.Node.{Node}
-use Rattle.metadata.specs.Tables.{State, state, put}
+use Rattle.header.specs.declared.Header.{Header}
+use Rattle.metadata.specs.Tables.{State, state, put, nodeWidth, itemWidth}
 use Rattle.metadata.specs.declared.Limits.{Limits}
 use Rattle.metadata.specs.declared.Made.{Made}
 use Rattle.metadata.specs.declared.Walked.{Walked}
@@ -22,6 +23,15 @@ use Rattle.tree.specs.declared.Answer.the-variants as answer
 abbrev pub words : Answer → List ℕ
 words (answer.Tree version nodes items) = 0 ∷ 0 ∷ version ∷ nodes ∷ items ∷ []
 words (answer.Refused n p) = n ∷ p ∷ []
+
+-- what is lent to a call that reads by the header h: the tree lies in the file, the declared types stand in their table, and both tables hold as many rows as there may be
+pub record Lent (h : Header) (lim : Limits) (file types nodes items : List ℕ) : Type 0 where
+  pub last-in : h .extent .last .0 < length file
+  pub start-in : h .extent .start .0 ≤ length file
+  pub short : length file < 2 ^ 28
+  pub types-in : h .types * 2 ≤ length types
+  pub nodes-in : lim .nodes * nodeWidth ≤ length nodes
+  pub items-in : lim .items * itemWidth ≤ length items
 
 -- the log's first `tree` rows are the tree's, and rise
 pub record TreeFirst (tree : ℕ) (log : Events) : Type 0 where

@@ -9,15 +9,17 @@ ghost use Rattle.cursor.specs.declared.Node.{Node};
 ghost use Rattle.header.specs.Told.{headerOf, extentOf};
 ghost use Rattle.header.specs.Header as spec;
 ghost use Rattle.metadata.specs.Tables.{State, nodeWidth, nodeWords, limits, put, state};
-ghost use Rattle.metadata.specs.Told.{contextOf, Gives};
+ghost use Rattle.metadata.specs.Told.{Room, contextOf, Gives};
 ghost use Rattle.node.specs.declared.Standing.{Standing};
 ghost use Rattle.cursor.specs.Rows.{inlineSize, Events};
-ghost use Rattle.tree.specs.Tree.{folder, node, tree};
-ghost use Rattle.tree.specs.Reading.{nodesOf, good, context, offsetAt, outside, partEnd, takenFrom, reach, follow, readFile, readOf, answerOf, nodeTable, itemTable};
-ghost use Rattle.tree.specs.Rows.{nodeAt, nodesIn, rowStarting, Rising};
-ghost use Rattle.tree.specs.Told.{Stands, Leaves};
+ghost use Rattle.tree.specs.Tree.{mostDepth, folder, node, tree};
+ghost use Rattle.tree.specs.Reading.{nodesOf, good, context, offsetAt, outside, partEnd, takenFrom, reach, follow, readOf, answerOf};
+ghost use Rattle.tree.specs.Rows.{itemFrom, nodeAt, nodesIn, rowStarting, Rising};
+ghost use Rattle.tree.specs.Asking.{reads, nodesRead, itemsRead};
+ghost use Rattle.tree.specs.Told.{Lent, Stands, Leaves};
 use cursor::Cursor;
 use cursor::FilePlace;
+use cursor::Item;
 use cursor::Node;
 use cursor::NodePlace;
 use cursor::Numbered;
@@ -52,6 +54,26 @@ pub enum Answer {
     Refused(u64, usize),
 }
 
+// Row i of the item table.
+pub fn item_at(items: &[u64], i: usize) -> Item
+    requires { ⌜ i * 10 + 10 ≤ length (now items) ⌝ }
+    ensures { λ r. ⌜ r ≡ itemFrom (now (items .entry)) (i * 10) ⌝ }
+{
+    let k = i * cursor::ITEM_WIDTH;
+    Item {
+        node: items[k],
+        item: items[k + 1],
+        kind: items[k + 2],
+        field: items[k + 3],
+        named: items[k + 4],
+        version: items[k + 5],
+        declared: items[k + 6],
+        format: items[k + 7],
+        place: items[k + 8],
+        size: items[k + 9],
+    }
+}
+
 // Sets every word of both tables to 0.
 pub fn clear_all(nodes: &mut [u64], items: &mut [u64])
     ensures nodes { λ _. ⌜ now (nodes .exit) ≡ replicate (length (now (nodes .entry))) 0 ⌝ }
@@ -63,7 +85,7 @@ pub fn clear_all(nodes: &mut [u64], items: &mut [u64])
 
 // Stores a node row behind the `made` rows that are there.
 fn put_node(nodes: &mut [u64], made: usize, row: Node)
-    requires { ⌜ made * 13 + 13 ≤ length (now nodes) ⌝ }
+    requires { ⌜ made * nodeWidth + nodeWidth ≤ length (now nodes) ⌝ }
     ensures { λ _. ⌜ now (nodes .exit) ≡ sets (now (nodes .entry)) (made * nodeWidth) (nodeWords row) ⌝ }
 {
     let words = [
@@ -81,7 +103,7 @@ fn put_node(nodes: &mut [u64], made: usize, row: Node)
         row.rows,
         row.detached,
     ];
-    metadata::store(nodes, made * cursor::NODE_WIDTH, &words);
+    room::store(nodes, made * cursor::NODE_WIDTH, &words);
 }
 
 // The cursor behind a node's row, which passes the inline data of a file node.
@@ -125,7 +147,7 @@ fn read_node(
     s: Standing,
     made: Made,
 ) -> Walked
-    requires { ⌜ (s .end .0 ≤ length (now file)) × (length (now file) < 2 ^ 28) × (scope .types * 2 ≤ length (now types)) × (scope .limits .nodes * 13 ≤ length (now nodes)) × (scope .limits .items * 10 ≤ length (now items)) × (made .nodes ≤ scope .limits .nodes) × (made .items ≤ scope .limits .items) × (levels ≤ 17) ⌝ }
+    requires { ⌜ Room scope (now file) (now types) (now items) (s .end .0) made × (scope .limits .nodes * nodeWidth ≤ length (now nodes)) × (levels ≤ mostDepth + 1) ⌝ }
     ensures { λ r. ⌜ Gives (scope .limits) r (now (nodes .exit)) (now (items .exit)) (exec put (node levels (contextOf scope (now (types .entry)) (length (now (file .entry)))) parent s made) (now (file .entry)) (c .at .0) (state (now (nodes .entry)) (now (items .entry)) made)) ⌝ }
 {
     let start = c.at;
@@ -205,7 +227,7 @@ fn read_children(
     left: u64,
     made: Made,
 ) -> Walked
-    requires { ⌜ (s .end .0 ≤ length (now file)) × (length (now file) < 2 ^ 28) × (scope .types * 2 ≤ length (now types)) × (scope .limits .nodes * 13 ≤ length (now nodes)) × (scope .limits .items * 10 ≤ length (now items)) × (made .nodes ≤ scope .limits .nodes) × (made .items ≤ scope .limits .items) × (levels ≤ 17) ⌝ }
+    requires { ⌜ Room scope (now file) (now types) (now items) (s .end .0) made × (scope .limits .nodes * nodeWidth ≤ length (now nodes)) × (levels ≤ mostDepth + 1) ⌝ }
     ensures { λ r. ⌜ Gives (scope .limits) r (now (nodes .exit)) (now (items .exit)) (exec put (times left (node levels (contextOf scope (now (types .entry)) (length (now (file .entry)))) parent s) made) (now (file .entry)) (c .at .0) (state (now (nodes .entry)) (now (items .entry)) made)) ⌝ }
 {
     let mut next = c;
@@ -248,7 +270,7 @@ fn read_root(
     h: Header,
     lim: Limits,
 ) -> Walked
-    requires { ⌜ (h .extent .last .0 < length (now file)) × (length (now file) < 2 ^ 28) × (h .types * 2 ≤ length (now types)) × (lim .nodes * 13 ≤ length (now nodes)) × (lim .items * 10 ≤ length (now items)) ⌝ }
+    requires { ⌜ Lent h lim (now file) (now types) (now nodes) (now items) ⌝ }
     ensures { λ r. ⌜ Gives lim r (now (nodes .exit)) (now (items .exit)) (exec put (tree (context lim (headerOf h (now (types .entry))) (length (now (file .entry)))) (h .extent .last .0 + 1)) (now (file .entry)) (h .extent .start .0) (state (now (nodes .entry)) (now (items .entry)) (record { nodes = 0; items = 0 }))) ⌝ }
 {
     let extent = h.extent;
@@ -401,7 +423,7 @@ fn reach_from(
     i: usize,
     made: Made,
 ) -> Walked
-    requires { ⌜ (h .extent .last .0 < length (now file)) × (length (now file) < 2 ^ 28) × (h .types * 2 ≤ length (now types)) × (lim .nodes * nodeWidth ≤ length (now nodes)) × (lim .items * 10 ≤ length (now items)) × (h .extent .start .0 ≤ length (now file)) × (i < made .nodes) × ((σ : State) × (log : Events) × Stands lim (length (now file)) σ log tree (now nodes) (now items) made) ⌝ }
+    requires { ⌜ Lent h lim (now file) (now types) (now nodes) (now items) × (i < made .nodes) × ((σ : State) × (log : Events) × Stands lim (length (now file)) σ log tree (now nodes) (now items) made) ⌝ }
     ensures { λ r. ⌜ ((σ : State) (log : Events) → Stands lim (length (now (file .entry))) σ log tree (now (nodes .entry)) (now (items .entry)) made
         → Leaves lim σ r (now (nodes .exit)) (now (items .exit)) (reach lim (now (file .entry)) (headerOf h (now (types .entry))) log (nodeAt (nodesOf log) i))) ⌝ }
 {
@@ -464,7 +486,7 @@ fn follow_all(
     lim: Limits,
     made: Made,
 ) -> Walked
-    requires { ⌜ (h .extent .last .0 < length (now file)) × (length (now file) < 2 ^ 28) × (h .types * 2 ≤ length (now types)) × (lim .nodes * nodeWidth ≤ length (now nodes)) × (lim .items * 10 ≤ length (now items)) × (h .extent .start .0 ≤ length (now file)) × ((σ : State) × (log : Events) × Stands lim (length (now file)) σ log (made .nodes) (now nodes) (now items) made) ⌝ }
+    requires { ⌜ Lent h lim (now file) (now types) (now nodes) (now items) × ((σ : State) × (log : Events) × Stands lim (length (now file)) σ log (made .nodes) (now nodes) (now items) made) ⌝ }
     ensures { λ r. ⌜ ((σ : State) (log : Events) → Stands lim (length (now (file .entry))) σ log (made .nodes) (now (nodes .entry)) (now (items .entry)) made
         → Leaves lim σ r (now (nodes .exit)) (now (items .exit)) (follow (lim .nodes) lim (now (file .entry)) (headerOf h (now (types .entry))) 0 (good log))) ⌝ }
 {
@@ -482,9 +504,9 @@ fn follow_all(
 
 // Reads a file into the two tables: the start of every question.
 pub fn read_file(file: &[u8], nodes: &mut [u64], items: &mut [u64]) -> Read
-    ensures answer { λ r. ⌜ r ≡ readOf (readFile (limits (length (now (nodes .entry))) (length (now (items .entry)))) (now (file .entry))) ⌝ }
-    ensures nodes { λ _. ⌜ now (nodes .exit) ≡ nodeTable (length (now (nodes .entry))) (readFile (limits (length (now (nodes .entry))) (length (now (items .entry)))) (now (file .entry))) ⌝ }
-    ensures items { λ _. ⌜ now (items .exit) ≡ itemTable (length (now (items .entry))) (readFile (limits (length (now (nodes .entry))) (length (now (items .entry)))) (now (file .entry))) ⌝ }
+    ensures answer { λ r. ⌜ r ≡ readOf (reads (now (nodes .entry)) (now (items .entry)) (now (file .entry))) ⌝ }
+    ensures nodes { λ _. ⌜ now (nodes .exit) ≡ nodesRead (now (nodes .entry)) (now (items .entry)) (now (file .entry)) ⌝ }
+    ensures items { λ _. ⌜ now (items .exit) ≡ itemsRead (now (nodes .entry)) (now (items .entry)) (now (file .entry)) ⌝ }
 {
     let mut types = [0u64; header::MOST_TYPES * 2];
     match header::read_header(file, &mut types) {
@@ -533,9 +555,9 @@ pub fn read_file(file: &[u8], nodes: &mut [u64], items: &mut [u64]) -> Read
 
 // The first question: reads the tree into the two tables.
 pub fn read_tree(file: &[u8], nodes: &mut [u64], items: &mut [u64]) -> Answer
-    ensures answer { λ r. ⌜ r ≡ answerOf (readFile (limits (length (now (nodes .entry))) (length (now (items .entry)))) (now (file .entry))) ⌝ }
-    ensures nodes { λ _. ⌜ now (nodes .exit) ≡ nodeTable (length (now (nodes .entry))) (readFile (limits (length (now (nodes .entry))) (length (now (items .entry)))) (now (file .entry))) ⌝ }
-    ensures items { λ _. ⌜ now (items .exit) ≡ itemTable (length (now (items .entry))) (readFile (limits (length (now (nodes .entry))) (length (now (items .entry)))) (now (file .entry))) ⌝ }
+    ensures answer { λ r. ⌜ r ≡ answerOf (reads (now (nodes .entry)) (now (items .entry)) (now (file .entry))) ⌝ }
+    ensures nodes { λ _. ⌜ now (nodes .exit) ≡ nodesRead (now (nodes .entry)) (now (items .entry)) (now (file .entry)) ⌝ }
+    ensures items { λ _. ⌜ now (items .exit) ≡ itemsRead (now (nodes .entry)) (now (items .entry)) (now (file .entry)) ⌝ }
 {
     match read_file(file, nodes, items) {
         Read::Refused(n, p) => Answer::Refused(n, p.0),

@@ -9,8 +9,8 @@ use lib.ListN.{length, drop, take, replicate, length-drop}
 use lib.Seq.{drop-drop}
 use borrow.Author.Tests.{le-leb, lt-leb}
 use Rattle.room.specs.Room.{Result, good, bad, fitting, counted, kept}
-use Rattle.room.specs.Puts.{Puts}
-use Rattle.room.proofs.Putting.{puts-none, puts-then, puts-length, wrote-all, wrote-past}
+use Rattle.room.specs.Counts.{Counts, tooMany}
+use Rattle.room.proofs.Counting.{counts-none, counts-then, wrote-all, wrote-past}
 use Rattle.unicode.specs.Unicode.{Char, char, none, before, chars, bytesAll, unmark, written, converted, utf8, bytes16, units, ofUnits, first16, first8, toUtf8, toUtf16, isGood}
 use Rattle.unicode.proofs.Walk.{Bytes, Form, fine-from, chars-step, chars-bad, chars-end}
 use native.Mathlib.Nat.{zero-add}
@@ -60,22 +60,22 @@ step {first = first} put form d h at {c} {n} e l =
 pub record Converting (first : List ℕ → Char) (put : ℕ → List ℕ) (d o o′ : List ℕ) (base at to : ℕ) (whole : Result (List ℕ)) : Type 0 where
   pub within : at ≤ length d
   pub done : List ℕ
-  pub puts : Puts o o′ base done to
+  pub puts : Counts o o′ base done to
   pub left : whole ≡ after done (converted first put at (drop at d))
 
 module _ {first : List ℕ → Char} {put : ℕ → List ℕ} where
-  pub conv-start : (d o : List ℕ) (base at : ℕ) {whole : Result (List ℕ)} → at ≤ length d → whole ≡ converted first put at (drop at d) → Converting first put d o o base at base whole
-  conv-start d o base at l e = record { within = l; done = []; puts = puts-none o base; left = e ∙ after-none _ }
+  pub conv-start : (d o : List ℕ) {base : ℕ} (at : ℕ) {whole : Result (List ℕ)} → base ≤ tooMany → at ≤ length d → whole ≡ converted first put at (drop at d) → Converting first put d o o base at base whole
+  conv-start d o at m l e = record { within = l; done = []; puts = counts-none o m; left = e ∙ after-none _ }
 
   pub conv-length : {d o o′ : List ℕ} {base at to : ℕ} {whole : Result (List ℕ)} → Converting first put d o o′ base at to whole → length o′ ≡ length o
-  conv-length k = puts-length (k .puts)
+  conv-length k = k .puts .long
 
   pub conv-on : {Fine : List ℕ → Type 0} {own : ℕ → List ℕ} → Form Scalar Fine first own → (d : List ℕ) → Fine d → (at : ℕ) {c n : ℕ} → char c n ≡ first (drop at d) → {o o₁ o₂ : List ℕ} {base to to′ : ℕ} {whole : Result (List ℕ)}
-      → at < length d → Converting first put d o o₁ base at to whole → Puts o₁ o₂ to (put c) to′ → Converting first put d o o₂ base (at + n) to′ whole
+      → at < length d → Converting first put d o o₁ base at to whole → Counts o₁ o₂ to (put c) to′ → Converting first put d o o₂ base (at + n) to′ whole
   conv-on form d h at {c} {n} e l k p = record {
     within = let w = char-in form d h at e (omega arith) in w .2;
     done = k .done ++ put c;
-    puts = puts-then (k .puts) p;
+    puts = counts-then (k .puts) p;
     left = k .left ∙ ap (after (k .done)) (step put form d h at e l) ∙ after-after (k .done) (put c) _;
   }
 
@@ -97,12 +97,12 @@ module _ {first : List ℕ → Char} {put : ℕ → List ℕ} where
     unfolding fitting
     fit-is w l = rw (conv-end k l) (simp (le-leb (length (k .done)) (length o) w))
 
-    pub conv-good : length d ≤ at → to ≤ length o′ → {o″ : List ℕ} → o″ ≡ take to o′ ++ replicate (length o′ - to) 0
+    pub conv-good : length d ≤ at → to ≤ length o′ → length o′ < tooMany → {o″ : List ℕ} → o″ ≡ take to o′ ++ replicate (length o′ - to) 0
         → (good to ≡ counted (fitting (length o) whole)) × (o″ ≡ kept (length o) (fitting (length o) whole))
     unfolding counted kept
-    conv-good l m e =
+    conv-good l m n e =
         let z = conv-length k in
-        let w = wrote-all (k .puts) (omega arith) e in
+        let w = wrote-all (k .puts) (omega arith) (omega arith) e in
         let f = fit-is (w .0) l in
         rw f (ap good (w .1), w .2)
 

@@ -3,7 +3,7 @@ ghost use mathlib.Core.Path.{_≡_};
 ghost use mathlib.Core.List.{_∷_, []};
 ghost use Prim.Native.Nat.{_≤_, _<_, _*_, _+_, _-_, _/_, _%_};
 ghost use lib.ListN.{length, getD, drop};
-ghost use Rattle.room.specs.Puts.{Puts};
+ghost use Rattle.room.specs.Counts.{Counts};
 ghost use Rattle.room.specs.Room.{fitting, counted, kept};
 ghost use Rattle.unicode.specs.Unicode.{bytesOf, utf8, bytes16, first16, tails, first8, converted, toUtf8, toUtf16, isGood};
 ghost use Rattle.unicode.specs.Told.{told, charTold};
@@ -79,7 +79,7 @@ fn tail(c: u64) -> u8
 // Puts a scalar value as UTF-8.
 pub fn put8(out: &mut [u8], to: usize, c: u64) -> usize
     requires { ⌜ c < 0x110000 ⌝ }
-    ensures { λ r. ⌜ Puts (now (out .entry)) (now (out .exit)) to (utf8 c) r ⌝ }
+    ensures { λ r. ⌜ Counts (now (out .entry)) (now (out .exit)) to (utf8 c) r ⌝ }
 {
     if c < 0x80 {
         return room::put_byte(out, to, c as u8);
@@ -167,7 +167,7 @@ pub fn char8(text: &[u8], at: usize) -> Character
 // Puts a unit, the high byte first.
 fn put_unit(out: &mut [u8], to: usize, u: u64) -> usize
     requires { ⌜ u < 65536 ⌝ }
-    ensures { λ r. ⌜ Puts (now (out .entry)) (now (out .exit)) to (bytesOf (u ∷ [])) r ⌝ }
+    ensures { λ r. ⌜ Counts (now (out .entry)) (now (out .exit)) to (bytesOf (u ∷ [])) r ⌝ }
 {
     let one = room::put_byte(out, to, (u / 256) as u8);
     room::put_byte(out, one, (u % 256) as u8)
@@ -176,7 +176,7 @@ fn put_unit(out: &mut [u8], to: usize, u: u64) -> usize
 // Puts a scalar value as UTF-16.
 pub fn put16(out: &mut [u8], to: usize, c: u64) -> usize
     requires { ⌜ c < 0x110000 ⌝ }
-    ensures { λ r. ⌜ Puts (now (out .entry)) (now (out .exit)) to (bytes16 c) r ⌝ }
+    ensures { λ r. ⌜ Counts (now (out .entry)) (now (out .exit)) to (bytes16 c) r ⌝ }
 {
     if c < 0x10000 {
         return put_unit(out, to, c);

@@ -3,9 +3,9 @@
 use mathlib.Core.Path.{_≡_, refl, sym, ap, subst, _∙_}
 use mathlib.Core.Bool.{Bool, true, false}
 use mathlib.Core.List.{List, [], _∷_, _++_}
-use Prim.Native.Nat.{ℕ, zero, suc, _+_, _-_, _/_, _%_, _≤_, _<_}
+use Prim.Native.Nat.{ℕ, _-_, _≤_, _<_}
 use native.Mathlib.Omega.{arith}
-use lib.Dec.{ltb, leb}
+use lib.Dec.{leb}
 use lib.ListN.{length, length-append, take, drop, replicate}
 use lib.Seq.{take-at}
 use borrow.Author.Tests.{leb-true, lt-ltb, le-ltb}
@@ -13,11 +13,12 @@ use Rattle.io.specs.Counts.{Counts}
 use Rattle.io.proofs.Counting.{counts}
 use Rattle.metadata.specs.Tables.{limits}
 use Rattle.room.specs.Room.{choose, padded}
-use Rattle.room.specs.Puts.{Puts}
-use Rattle.room.proofs.Sets.{sets-front}
+use Rattle.room.specs.Counts as room
+use Rattle.room.proofs.Counting.{wrote-front}
+use Rattle.room.proofs.Decimal.{few-digits}
 use Rattle.tree.specs.Reading.{readFile, Reading, rows, refusal}
 use Rattle.tree.specs.Asking.{Result, good, bad, ask}
-use Rattle.sheet.specs.Sheet.{digits, decimal, tabbed, number, fitting, write, counted, kept, sheetOf}
+use Rattle.sheet.specs.Sheet.{tabbed, number, fitting, write, counted, kept, sheetOf}
 use Rattle.sheet.specs.Told.{told}
 use Rattle.sheet.specs.declared.Written.{Written}
 use Rattle.sheet.specs.declared.Written.the-variants as written
@@ -32,26 +33,16 @@ Starts n text w = Counts n text × (take n text ≡ w)
 
 -- ---- a line that was put at the start
 
-pub put-first : {o o′ w : List ℕ} {r : ℕ} → Puts o o′ 0 w r → length w ≤ length o → Starts r o′ w
-put-first {o} {o′} {w} {r} p l =
-    let x = p .fits (omega arith) in
-    let k : r ≡ length w = omega (arith, x .0) in
+pub put-first : {o o′ w : List ℕ} {r : ℕ} → room.Counts o o′ 0 w r → length w ≤ length o → length o < room.tooMany → Starts r o′ w
+put-first {o} {o′} {w} {r} p l m =
+    let a = p .after in
     let z = p .long in
-    (counts r o′ (omega arith), ap (λ (v : List ℕ). take r v) (x .1 ∙ sets-front o w l) ∙ take-at w (drop (length w) o) r (sym k))
-
--- a number of at most k digits
-tens-short : (k d : ℕ) (ds : List ℕ) (b : Bool) → length ds ≤ k → length (choose b [] ds ++ d ∷ []) ≤ suc k
-tens-short k d ds true l = omega arith
-tens-short k d ds false l = let e = length-append ds (d ∷ []) in omega arith
-
-digits-short : (k n : ℕ) → length (digits k n) ≤ k
-unfolding digits
-digits-short zero n = omega arith
-digits-short (suc k) n = tens-short k (0x30 + n % 10) (digits k (n / 10)) (ltb n 10) (digits-short k (n / 10))
+    let x = wrote-front p (omega arith) m in
+    (counts r o′ (omega arith), ap (λ (v : List ℕ). take r v) (x .2) ∙ take-at w (drop (length w) o) r (sym (x .0)))
 
 number-short : (n : ℕ) → length (number n) ≤ 21
-unfolding number tabbed decimal
-number-short n = let h = digits-short 20 n in omega arith
+unfolding number tabbed
+number-short n = let h = few-digits n in omega arith
 
 pub refusal-is : (n p : ℕ) → (0x52 ∷ []) ++ number n ++ number p ++ (0x0A ∷ []) ≡ refusalLine n p
 unfolding refusalLine
@@ -66,7 +57,7 @@ line-short n p =
     let f = length-append (number n ++ number p) (0x0A ∷ []) in
     omega arith
 
-pub long-is : (0x74 ∷ []) ++ (0x6F ∷ []) ++ (0x6F ∷ []) ++ (0x20 ∷ []) ++ (0x6C ∷ []) ++ (0x6F ∷ []) ++ (0x6E ∷ []) ++ (0x67 ∷ []) ++ (0x0A ∷ []) ≡ tooLong
+pub long-is : 0x74 ∷ 0x6F ∷ 0x6F ∷ 0x20 ∷ 0x6C ∷ 0x6F ∷ 0x6E ∷ 0x67 ∷ 0x0A ∷ [] ≡ tooLong
 unfolding tooLong
 long-is = refl
 

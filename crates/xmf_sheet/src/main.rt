@@ -4,7 +4,7 @@
 ghost use mathlib.Core.Path.{_≡_};
 ghost use lib.ListN.{length, take};
 ghost use Rattle.io.specs.Counts.{Counts};
-ghost use Rattle.room.specs.Puts.{Puts};
+ghost use Rattle.room.specs.Counts as room;
 ghost use Rattle.xmf_sheet.specs.Answer.{refusalLine, tooLong, answerText};
 ghost use Rattle.xmf_sheet.specs.Inputs.{Inside};
 use libc::STDERR_FILENO;
@@ -63,7 +63,7 @@ fn fail(name: &[u8]) {
 
 // Puts the line of a refusal.
 fn put_refusal(out: &mut [u8], number: u64, place: usize) -> usize
-    ensures { λ r. ⌜ Puts (now (out .entry)) (now (out .exit)) 0 (refusalLine number place) r ⌝ }
+    ensures { λ r. ⌜ room.Counts (now (out .entry)) (now (out .exit)) 0 (refusalLine number place) r ⌝ }
 {
     let a = room::put_byte(out, 0, b'R');
     let b = sheet::put_number(out, a, number);
@@ -73,17 +73,9 @@ fn put_refusal(out: &mut [u8], number: u64, place: usize) -> usize
 
 // Puts the line of a file that is too long.
 fn put_too_long(out: &mut [u8]) -> usize
-    ensures { λ r. ⌜ Puts (now (out .entry)) (now (out .exit)) 0 tooLong r ⌝ }
+    ensures { λ r. ⌜ room.Counts (now (out .entry)) (now (out .exit)) 0 tooLong r ⌝ }
 {
-    let a = room::put_byte(out, 0, b't');
-    let b = room::put_byte(out, a, b'o');
-    let c = room::put_byte(out, b, b'o');
-    let d = room::put_byte(out, c, b' ');
-    let e = room::put_byte(out, d, b'l');
-    let f = room::put_byte(out, e, b'o');
-    let g = room::put_byte(out, f, b'n');
-    let h = room::put_byte(out, g, b'g');
-    room::put_byte(out, h, 0x0a)
+    room::put_bytes(out, 0, b"too long\n")
 }
 
 // Makes the answer for the bytes of an input: its sheet or one line. Answers its length.

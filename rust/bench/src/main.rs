@@ -1,16 +1,19 @@
 //! Times the proved reader beside the plain one.
 //!
-//! `bench [REPETITIONS]` asks both readers each question about three files. A repetition calls one
-//! reader many times and takes the mean; the readers take turns, and the median of the repetitions
-//! (21 when nothing is said) is printed, in nanoseconds per call, with the ratio proved to plain.
+//! `bench [REPETITIONS]` asks both readers about the files of [`generate::timed`]; `ASKED` says what. A
+//! repetition calls one reader many times and takes the mean; the readers take turns, and the median
+//! of the repetitions (101 when nothing is said) is printed, in nanoseconds per call, with the ratio
+//! proved to plain.
 //!
-//! The tables and the room for the sheet are full. Each call fills or clears all of them.
+//! The tables and the room for the sheet are full. Each call fills or clears all of them. The correction
+//! of a title is timed on files without reference 2 and 3.
 //!
 //! Then it times the proved reader on files of growing size, with tables and room of just the size
 //! that each file needs, and prints the nanoseconds per byte of the file.
 
 use generate::cases::{ALL_ITEM_WORDS, ALL_NODE_WORDS, ALL_ROOM};
-use generate::{folders_file, large_file, large_resource, samples};
+use generate::titles::folders_title;
+use generate::{folders_file, timed};
 use std::hint::black_box;
 use std::process::ExitCode;
 use std::time::{Duration, Instant};
@@ -18,17 +21,57 @@ use std::{env, fs};
 
 /// The seed of the files.
 const SEED: u64 = 1;
-/// The least time that one repetition takes.
-const LEAST: Duration = Duration::from_millis(10);
+/// The least time that one repetition takes: so short a time is seldom broken off by another program.
+const LEAST: Duration = Duration::from_micros(200);
+
+/// What is asked about each file. The verdict is asked where the file is judged to its end, or
+/// nearly so; a file that fails the first check tells nothing of it.
+const ASKED: [(&str, &[&str]); 13] = [
+    ("large", &["tree", "find", "resolve", "sheet"]),
+    ("padded", &["tree", "sheet"]),
+    ("common", &["tree", "sheet"]),
+    ("bare", &["tree", "sheet"]),
+    ("late", &["tree"]),
+    ("unpackers", &["tree"]),
+    ("types", &["tree", "sheet"]),
+    ("text", &["sheet"]),
+    ("escapes", &["sheet"]),
+    ("children", &["tree", "verdict", "sheet"]),
+    ("contents", &["tree", "verdict", "sheet"]),
+    (
+        "worked",
+        &["tree", "find", "resolve", "verdict", "sheet", "title"],
+    ),
+    ("resource", &["tree", "find", "resolve", "sheet", "title"]),
+];
 
 /// A file and what is asked about it.
 struct Subject {
-    name: &'static str,
     file: Vec<u8>,
     /// The row from which an item is looked for, and its standard field.
     find: (u64, u64),
     /// The row that is resolved.
     resolve: u64,
+    /// The item row whose title is corrected.
+    title: u64,
+}
+
+impl Subject {
+    fn new(name: &str, file: Vec<u8>) -> Self {
+        let (find, resolve) = match name {
+            // The item is on the root, two levels above. The resource is two references away.
+            "large" => ((255, 1), 250),
+            "worked" => ((1, 3), 1),
+            "resource" => ((1, 8), 1),
+            _ => ((0, 0), 0),
+        };
+        Subject {
+            file,
+            find,
+            resolve,
+            title: 0,
+        }
+    }
 }
 
 /// What is lent to a reader.
@@ -38,71 +81,108 @@ struct Lent {
     sheet: Vec<u8>,
 }
 
-/// A question to one reader.
-type Ask = fn(&Subject, &mut Lent) -> bool;
+/// The new title.
+const TITLE: &[u8] = b"The same tune with another title";
+
+/// A question to one reader. It answers one number, or the number of the refusal.
+type Ask = fn(&Subject, &mut Lent) -> Result<u64, u64>;
 
 /// The questions, each to the proved and to the plain reader.
-const QUESTIONS: [(&str, Ask, Ask); 5] = [
+const QUESTIONS: [(&str, Ask, Ask); 6] = [
     (
         "tree",
-        |about, lent| xmf::read_tree(&about.file, &mut lent.nodes, &mut lent.items).is_ok(),
-        |about, lent| plain::read_tree(&about.file, &mut lent.nodes, &mut lent.items).is_ok(),
+        |about, lent| match xmf::read_tree(&about.file, &mut lent.nodes, &mut lent.items) {
+            Ok(tree) => Ok(tree.items as u64),
+            Err(refusal) => Err(refusal.number),
+        },
+        |about, lent| match plain::read_tree(&about.file, &mut lent.nodes, &mut lent.items) {
+            Ok(tree) => Ok(tree.items),
+            Err(refusal) => Err(refusal.number),
+        },
     ),
     (
         "find",
         |about, lent| {
             let (row, number) = about.find;
             let field = xmf::Field::Standard(number);
-            xmf::find(
-                &about.file,
-                &mut lent.nodes,
-                &mut lent.items,
-                row as usize,
-                field,
-            )
-            .is_ok()
+            let (nodes, items) = (&mut lent.nodes, &mut lent.items);
+            match xmf::find(&about.file, nodes, items, row as usize, field) {
+                Ok(found) => Ok(found.row as u64),
+                Err(refusal) => Err(refusal.number),
+            }
         },
         |about, lent| {
             let (row, number) = about.find;
             let field = plain::Field::Standard(number);
-            plain::find(&about.file, &mut lent.nodes, &mut lent.items, row, field).is_ok()
+            let (nodes, items) = (&mut lent.nodes, &mut lent.items);
+            match plain::find(&about.file, nodes, items, row, field) {
+                Ok(found) => Ok(found.row),
+                Err(refusal) => Err(refusal.number),
+            }
         },
     ),
     (
         "resolve",
         |about, lent| {
             let row = about.resolve as usize;
-            xmf::resolve(&about.file, &mut lent.nodes, &mut lent.items, row).is_ok()
+            match xmf::resolve(&about.file, &mut lent.nodes, &mut lent.items, row) {
+                Ok(resource) => Ok(resource.place as u64),
+                Err(refusal) => Err(refusal.number),
+            }
         },
         |about, lent| {
             let row = about.resolve;
-            plain::resolve(&about.file, &mut lent.nodes, &mut lent.items, row).is_ok()
+            match plain::resolve(&about.file, &mut lent.nodes, &mut lent.items, row) {
+                Ok(resource) => Ok(resource.place),
+                Err(refusal) => Err(refusal.number),
+            }
         },
     ),
     (
         "verdict",
-        |about, lent| xmf::judge(&about.file, &mut lent.nodes, &mut lent.items).is_ok(),
-        |about, lent| plain::judge(&about.file, &mut lent.nodes, &mut lent.items).is_ok(),
+        |about, lent| {
+            xmf::judge(&about.file, &mut lent.nodes, &mut lent.items)
+                .map_err(|refusal| refusal.number)
+        },
+        |about, lent| {
+            plain::judge(&about.file, &mut lent.nodes, &mut lent.items)
+                .map_err(|refusal| refusal.number)
+        },
     ),
     (
         "sheet",
         |about, lent| {
-            xmf::write_sheet(
-                &about.file,
-                &mut lent.nodes,
-                &mut lent.items,
-                &mut lent.sheet,
-            )
-            .is_ok()
+            let (nodes, items) = (&mut lent.nodes, &mut lent.items);
+            match xmf::write_sheet(&about.file, nodes, items, &mut lent.sheet) {
+                Ok(size) => Ok(size as u64),
+                Err(refusal) => Err(refusal.number),
+            }
         },
         |about, lent| {
-            plain::write_sheet(
-                &about.file,
-                &mut lent.nodes,
-                &mut lent.items,
-                &mut lent.sheet,
-            )
-            .is_ok()
+            let (nodes, items) = (&mut lent.nodes, &mut lent.items);
+            match plain::write_sheet(&about.file, nodes, items, &mut lent.sheet) {
+                Ok(size) => Ok(size as u64),
+                Err(refusal) => Err(refusal.number),
+            }
+        },
+    ),
+    (
+        "title",
+        |about, lent| {
+            let row = about.title as usize;
+            let (nodes, items) = (&mut lent.nodes, &mut lent.items);
+            match xmf::correct_title(&about.file, nodes, items, row, TITLE, &mut lent.sheet) {
+                Ok(size) => Ok(size as u64),
+                Err(refusal) => Err(refusal.number),
+            }
+        },
+        |about, lent| {
+            let row = about.title;
+            let (nodes, items) = (&mut lent.nodes, &mut lent.items);
+            match plain::correct_title(&about.file, nodes, items, row, TITLE, &mut lent.sheet) {
+                Ok(size) => Ok(size as u64),
+                Err(refusal) => Err(refusal.number),
+            }
         },
     ),
 ];
@@ -110,7 +190,7 @@ const QUESTIONS: [(&str, Ask, Ask); 5] = [
 fn main() -> ExitCode {
     let arguments: Vec<String> = env::args().skip(1).collect();
     let repetitions = match arguments.as_slice() {
-        [] => Some(21),
+        [] => Some(101),
         [word] => word.parse().ok().filter(|&count: &usize| count > 0),
         _ => None,
     };
@@ -118,27 +198,6 @@ fn main() -> ExitCode {
         eprintln!("usage: bench [REPETITIONS]");
         return ExitCode::from(2);
     };
-    let subjects = [
-        Subject {
-            name: "large",
-            file: large_file(SEED),
-            // The item is on the root, two levels above. The resource is two references away.
-            find: (255, 1),
-            resolve: 250,
-        },
-        Subject {
-            name: "worked",
-            file: samples::worked(),
-            find: (1, 3),
-            resolve: 1,
-        },
-        Subject {
-            name: "resource",
-            file: large_resource(SEED),
-            find: (1, 8),
-            resolve: 1,
-        },
-    ];
     let mut lent = Lent {
         nodes: vec![0; ALL_NODE_WORDS],
         items: vec![0; ALL_ITEM_WORDS],
@@ -149,42 +208,66 @@ fn main() -> ExitCode {
     }
     println!("nanoseconds per call, median of {repetitions} repetitions, seed {SEED}");
     println!(
-        "{:10}{:>8}  {:10}{:>12}{:>12}{:>8}",
-        "file", "bytes", "question", "proved", "plain", "ratio"
+        "{:10}{:>8}  {:10}{:>10}{:>12}{:>12}{:>8}",
+        "file", "bytes", "question", "answer", "proved", "plain", "ratio"
     );
-    for about in &subjects {
-        for (question, proved, plain) in QUESTIONS {
-            for ask in [proved, plain] {
-                assert!(ask(about, &mut lent), "{question} is refused");
+    for (name, file) in timed::all(SEED) {
+        let about = Subject::new(name, file);
+        let asked = ASKED.iter().find(|(known, _)| *known == name);
+        let (_, asked) = asked.expect("a file that something is asked about");
+        for question in QUESTIONS {
+            if asked.contains(&question.0) {
+                print_times(name, &about, &mut lent, question, repetitions);
             }
-            let [proved, plain] = times(about, &mut lent, [proved, plain], repetitions);
-            println!(
-                "{:10}{:>8}  {:10}{:>12.0}{:>12.0}{:>8.2}",
-                about.name,
-                about.file.len(),
-                question,
-                proved,
-                plain,
-                proved / plain
-            );
         }
     }
+    let (file, title) = folders_title(SEED, 15);
+    let about = Subject {
+        title,
+        ..Subject::new("folders", file)
+    };
+    let [.., question] = QUESTIONS;
+    print_times("folders", &about, &mut lent, question, repetitions);
     growth(repetitions);
     ExitCode::SUCCESS
+}
+
+/// Times a question by both readers.
+fn print_times(
+    name: &str,
+    about: &Subject,
+    lent: &mut Lent,
+    (question, proved, plain): (&str, Ask, Ask),
+    repetitions: usize,
+) {
+    let answer = plain(about, lent);
+    assert_eq!(proved(about, lent), answer, "{name}: {question}");
+    let [proved, plain] = times(about, lent, [proved, plain], repetitions);
+    println!(
+        "{:10}{:>8}  {:10}{:>10}{:>12.0}{:>12.0}{:>8.2}",
+        name,
+        about.file.len(),
+        question,
+        match answer {
+            Ok(number) => number.to_string(),
+            Err(number) => format!("refused {number}"),
+        },
+        proved,
+        plain,
+        proved / plain
+    );
 }
 
 /// Times the proved reader on files of growing size.
 fn growth(repetitions: usize) {
     println!("\nthe proved reader on files of growing size, nanoseconds per byte of the file");
-    println!("{:>8}{:>8}{:>8}{:>8}", "nodes", "bytes", "tree", "sheet");
+    println!(
+        "{:>8}{:>8}{:>8}{:>8}{:>8}",
+        "nodes", "bytes", "tree", "sheet", "title"
+    );
     for folders in [1, 3, 7, 15] {
         let nodes = 1 + folders * 17;
-        let about = Subject {
-            name: "folders",
-            file: folders_file(SEED, folders),
-            find: (0, 0),
-            resolve: 0,
-        };
+        let about = Subject::new("folders", folders_file(SEED, folders));
         let mut lent = Lent {
             nodes: vec![0; nodes * xmf::node::WORDS],
             items: vec![0; nodes * 4 * xmf::item::WORDS],
@@ -198,10 +281,21 @@ fn growth(repetitions: usize) {
         );
         lent.sheet.truncate(sheet.expect("a well-formed file"));
         let bytes = about.file.len();
-        let [(_, tree, _), .., (_, sheet, _)] = QUESTIONS;
+        let [(_, tree, _), .., (_, sheet, _), (_, correct, _)] = QUESTIONS;
         let taken = times(&about, &mut lent, [tree, sheet], repetitions);
         let [tree, sheet] = taken.map(|time| time / bytes as f64);
-        println!("{nodes:>8}{bytes:>8}{tree:>8.2}{sheet:>8.2}");
+
+        let (file, title) = folders_title(SEED, folders);
+        lent.sheet.resize(file.len() + TITLE.len() + 40, 0);
+        let about = Subject {
+            file,
+            title,
+            ..about
+        };
+        correct(&about, &mut lent).expect("a title that is corrected");
+        let [title] = times(&about, &mut lent, [correct], repetitions);
+        let title = title / about.file.len() as f64;
+        println!("{nodes:>8}{bytes:>8}{tree:>8.2}{sheet:>8.2}{title:>8.2}");
     }
 }
 
@@ -245,7 +339,7 @@ fn nanoseconds(about: &Subject, lent: &mut Lent, ask: Ask, calls: u32) -> f64 {
 
 fn repeat(about: &Subject, lent: &mut Lent, ask: Ask, calls: u32) {
     for _ in 0..calls {
-        black_box(ask(black_box(about), black_box(&mut *lent)));
+        let _ = black_box(ask(black_box(about), black_box(&mut *lent)));
     }
 }
 

@@ -1,13 +1,17 @@
-//! Comparing two readers on a case or a text, and two files of a pair on one reader.
+//! Comparing two readers on a case, a text or a title, and two files of a pair on one reader.
 
 use crate::buffers::{Buffers, Noise};
 use crate::readers::{ask_plain, ask_proved, ask_words, resource_proved};
 use crate::readers::{convert_plain, convert_proved, convert_words};
-use crate::readers::{Answer, Question, Subject, QUESTIONS};
+use crate::readers::{known, Answer, Question, Subject, QUESTIONS};
+use crate::titles::{private, says, Desk};
 use generate::cases::KINDS;
+use generate::descriptions::Described;
 use generate::encode::PRIVATE_KINDS;
+use generate::model::Field;
 use generate::texts::Text;
-use generate::{Case, Pair};
+use generate::titles::Title;
+use generate::{Case, Lent, Pair};
 use std::fmt::Debug;
 
 /// The largest answer buffer that is lent as words.
@@ -18,6 +22,8 @@ const ANSWER_GUARD: usize = 4;
 const TEXT_GUARD: usize = 16;
 /// What is said when something else than what is lent has changed.
 const NOT_LENT: &str = "a word or byte that was not lent has changed";
+/// The correction of a title, in reports.
+const TITLE: &str = "Title";
 /// What answer buffers and their guards hold before.
 const MARK: u64 = 0x5A5A_5A5A_5A5A_5A5A;
 
@@ -39,6 +45,12 @@ pub struct Comparer {
     pub resources: u64,
     /// For each refusal number, how many texts are refused so; at 0 how many are converted.
     pub texts: [u64; 27],
+    /// For each refusal number, how many counts are refused so; at 0 how many are given.
+    pub counts: [u64; 27],
+    /// For each refusal number, how many titles are refused so; at 0 how many are corrected.
+    pub titles: [u64; 39],
+    /// How many pairs have a title corrected, and how many of those results differ.
+    pub title_pairs: [u64; 2],
 }
 
 /// Two values that should be equal.
@@ -63,6 +75,9 @@ impl Comparer {
             private: [0; PRIVATE_KINDS.len()],
             resources: 0,
             texts: [0; 27],
+            counts: [0; 27],
+            titles: [0; 39],
+            title_pairs: [0; 2],
         }
     }
 
@@ -75,6 +90,7 @@ impl Comparer {
             file: &case.file,
             row: case.row,
             field: &case.field,
+            count: counted(number),
         };
         self.first.resize(&case.lent);
         self.second.resize(&case.lent);
@@ -110,6 +126,7 @@ impl Comparer {
             file,
             row: pair.row,
             field: &pair.field,
+            count: counted(number),
         });
         self.first.resize(&pair.lent);
         self.second.resize(&pair.lent);
@@ -185,6 +202,32 @@ impl Comparer {
         self.left(question)
     }
 
+    /// Asks both readers for the count of a content description, and once more with an answer buffer of
+    /// 0 to 16 words. Where the answer is known, it is that.
+    pub fn description(&mut self, case: &Described, number: u64) -> Result<(), Difference> {
+        let question = Question::Count;
+        let about = Subject {
+            file: &case.file,
+            row: case.row,
+            field: &Field::Standard(13),
+            count: [case.channel, case.resource],
+        };
+        self.first.resize(&case.lent);
+        self.second.resize(&case.lent);
+        self.fill(question, number, number);
+        let proved = ask_proved(question, about, self.first.lend());
+        let plain = ask_plain(question, about, self.second.lend());
+        self.counts[plain[0] as usize] += 1;
+        self.answer(question, &proved, &plain)?;
+        self.left(question)?;
+        let room = number % (MOST_ANSWER_WORDS + 1);
+        self.words(question, about, &plain, room as usize)?;
+        match known(case) {
+            Some(answer) => self.answer(question, &answer, &plain),
+            None => Ok(()),
+        }
+    }
+
     /// Converts a text by both readers, with the same bytes in the room before, and once more with an
     /// answer buffer of 0 to 16 words.
     pub fn text(&mut self, text: &Text, number: u64) -> Result<(), Difference> {
@@ -212,6 +255,125 @@ impl Comparer {
             });
         }
         Ok(())
+    }
+
+    /// Corrects a title by both readers, with the same values lent, and once more with an answer buffer
+    /// of 0 to 16 words. The result must be the known one, if it is known; its rows must be those in the
+    /// tables; it must say what the file says but for that data; and the same title again must give it
+    /// again.
+    pub fn title(&mut self, title: &Title, number: u64) -> Result<(), Difference> {
+        let desk = Desk::new(&title.lent);
+        let mut desks = [desk.clone(), desk.clone(), desk];
+        let [first, second, third] = &mut desks;
+        let proved = first.proved(&title.file, title.row, &title.data);
+        let plain = second.plain(title);
+        let words = (number % (MOST_ANSWER_WORDS + 1)) as usize;
+        let mut answer = [MARK; MOST_ANSWER_WORDS as usize + ANSWER_GUARD];
+        third.words(title, &mut answer[..words]);
+
+        self.titles[plain[0] as usize] += 1;
+        self.answer(TITLE, &proved, &plain)?;
+        self.answer(TITLE, &answer, &fitted(&plain, words))?;
+        let [first, second, third] = &desks;
+        self.desks(first, second)?;
+        self.desks(first, third)?;
+        if !first.are_guards_kept(title.lent.stale) {
+            return Err(title_difference(NOT_LENT.to_string()));
+        }
+        let length = proved[2] as usize;
+        match &title.answer {
+            Some(Ok(bytes)) if proved[0] == 0 => {
+                equal(TITLE, "known file", first.file(length), bytes)?
+            }
+            Some(Err(refusal)) => equal(TITLE, "known refusal", &proved[..1], &[*refusal])?,
+            Some(Ok(_)) => return Err(title_difference(format!("refused: {proved:?}"))),
+            None => {}
+        }
+        match proved[0] {
+            0 => self.corrected(title, first, length),
+            _ => Ok(()),
+        }
+    }
+
+    /// Looks at a file of so many bytes that was written.
+    fn corrected(&mut self, title: &Title, desk: &Desk, length: usize) -> Result<(), Difference> {
+        let new = desk.file(length);
+        let [mut old_rows, mut new_rows] = [Desk::new(&title.lent), Desk::new(&title.lent)];
+        let (Some(old_tree), Some(new_tree)) = (old_rows.read(&title.file), new_rows.read(new))
+        else {
+            return Err(title_difference("a file is not read".to_string()));
+        };
+        for (left, right) in desk.tables().iter().zip(new_rows.tables()) {
+            self.count(left.len());
+            equal(TITLE, "table of the new file", left, right)?;
+        }
+        let mut said = says(&title.file, &old_rows, old_tree);
+        said[title.row as usize].2.clone_from(&title.data);
+        self.count(said.len());
+        equal(
+            TITLE,
+            "what is said",
+            &said,
+            &says(new, &new_rows, new_tree),
+        )?;
+
+        let mut again = Desk::new(&Lent {
+            room: length + title.lent.room % 7,
+            ..title.lent
+        });
+        let answer = again.proved(new, title.row, &title.data);
+        self.count(length);
+        equal(TITLE, "answer", &answer[..3], &[0, 0, length as u64])?;
+        equal(TITLE, "file written again", new, again.file(length))
+    }
+
+    /// Corrects a title of both files of a pair by the proved reader: the answers and tables must be
+    /// equal, and the results differ only at private places of the first.
+    pub fn title_pair(&mut self, pair: &Pair, number: u64) -> Result<(), Difference> {
+        let lent = Lent {
+            room: pair.first.len() + 40,
+            ..pair.lent
+        };
+        let data = self.noise.bytes(number, number as usize % 9).to_vec();
+        let mut desks = [Desk::new(&lent), Desk::new(&lent)];
+        let tree = desks[0].read(&pair.first).expect("a file that is read");
+        let row = number % tree.items.max(1) as u64;
+        let [left, right] = &mut desks;
+        let answer = left.proved(&pair.first, row, &data);
+        let second = right.proved(&pair.second, row, &data);
+        self.answer(TITLE, &answer, &second)?;
+        let [left, right] = &desks;
+        for (left, right) in left.tables().iter().zip(right.tables()) {
+            self.count(left.len());
+            equal(TITLE, "table", left, right)?;
+        }
+        if answer[0] != 0 {
+            self.count(left.room().len());
+            return equal(TITLE, "room", left.room(), right.room());
+        }
+        let length = answer[2] as usize;
+        let [first, second] = [left.file(length), right.file(length)];
+        self.count(length);
+        let mut rows = Desk::new(&lent);
+        let tree = rows.read(first).expect("a file that was written is read");
+        let private = private(first, &rows, tree);
+        let place = (0..length).find(|&at| first[at] != second[at] && !private[at]);
+        if let Some(place) = place {
+            return Err(title_difference(format!("the results differ at {place}")));
+        }
+        self.title_pairs[0] += 1;
+        self.title_pairs[1] += u64::from(first != second);
+        Ok(())
+    }
+
+    /// Compares the tables and the room that two calls leave.
+    fn desks(&mut self, first: &Desk, second: &Desk) -> Result<(), Difference> {
+        for (left, right) in first.tables().iter().zip(second.tables()) {
+            self.count(left.len());
+            equal(TITLE, "table", left, right)?;
+        }
+        self.count(first.room().len());
+        equal(TITLE, "room", first.room(), second.room())
     }
 
     fn answer(
@@ -247,6 +409,19 @@ impl Comparer {
     fn count(&mut self, values: usize) {
         self.comparisons += 1;
         self.values += values as u64;
+    }
+}
+
+/// The channel and the resource that a case asks for.
+fn counted(number: u64) -> [u64; 2] {
+    [number % 3, number / 3 % 3]
+}
+
+/// A difference in the correction of a title.
+fn title_difference(what: String) -> Difference {
+    Difference {
+        asked: TITLE.to_string(),
+        what,
     }
 }
 

@@ -1,23 +1,31 @@
 //! Compares the proved reader with the plain one on generated cases.
 //!
 //! `differ [CASES [SEED [FIRST [PAIRS]]]]` takes the cases from number FIRST on (a million from number
-//! 0, with seed 1, when nothing is said). For each it asks both readers all five questions, with the
+//! 0, with seed 1, when nothing is said). For each it asks both readers all questions, with the
 //! same contents of tables and buffers before, and compares the answers, each word of both tables
 //! and each byte of the sheet. Each case also asks one question through the interface of words, with
 //! an answer buffer of 0 to 16 words.
 //!
 //! Beside each case it converts a generated text, in UTF-16 or UTF-8, good or with a fault, by both
-//! readers, and compares the answers and each byte of the room lent.
+//! readers, and compares the answers and each byte of the room lent. And it asks both for the count of
+//! a generated content description, good or with a fault, whose answer is mostly known.
+//!
+//! It also corrects the title of a generated file by both readers and compares the answers, both tables
+//! and each byte of the room. Where the right result is known, it must be that one. The result is read
+//! back: its rows must be those in the tables, and it must say what the file says but for that data. The
+//! same title is written into it once more, which must change nothing.
 //!
 //! Then it takes PAIRS pairs of files, from number FIRST on (a tenth of the number of cases when
 //! nothing is said). The files of a pair differ at private places only: in hidden data, in inline
 //! data of file nodes, and outside header, tree and detached nodes. It asks the proved reader all
-//! five questions about both, with different contents of tables and buffers before, and compares in
+//! questions about both, with different contents of tables and buffers before, and compares in
 //! the same way. A resource must be the part of its file that the answer names, and this place and
-//! length are the same for both files.
+//! length are the same for both files. It corrects a title of both, with equal answers and tables; the
+//! results may differ at private places of the first only.
 //!
 //! Before all that it compares the readers on the samples and their padded copies: each of them, each
-//! of its cuts, each file that differs from it in one byte, and two very long files.
+//! of its cuts, each file that differs from it in one byte, and two very long files. Then on some
+//! content descriptions, each cut at every byte and changed at every byte to every other value.
 //!
 //! It stops at the first difference, with exit status 1.
 
@@ -25,10 +33,13 @@ mod buffers;
 mod changed;
 mod compare;
 mod readers;
+mod titles;
 
 use compare::{Comparer, Difference};
+use generate::descriptions::{self, Described};
 use generate::model::Field;
 use generate::texts::{self, Text};
+use generate::titles::{title, Title};
 use generate::{Case, Lent, Pair};
 use std::process::ExitCode;
 use std::time::Instant;
@@ -36,6 +47,8 @@ use std::{env, fmt::Write};
 
 /// One pair for so many cases, when nothing is said.
 const CASES_FOR_A_PAIR: u64 = 10;
+/// So many content descriptions are changed at every byte.
+const CHANGED_DESCRIPTIONS: u64 = 24;
 /// The most bytes of a file that a report shows.
 const MOST_SHOWN: usize = 70_000;
 
@@ -55,6 +68,7 @@ fn main() -> ExitCode {
     let pairs = argument(3, cases / CASES_FOR_A_PAIR);
     let mut comparer = Comparer::new(seed);
     let compared = compare_samples(&mut comparer)
+        .and_then(|()| compare_descriptions(&mut comparer, seed))
         .and_then(|()| compare_cases(&mut comparer, cases, seed, first))
         .and_then(|()| compare_pairs(&mut comparer, pairs, seed, first));
     match compared {
@@ -84,6 +98,23 @@ fn compare_samples(comparer: &mut Comparer) -> Result<(), String> {
     Ok(())
 }
 
+/// Compares on all changes of some content descriptions, and prints how many there are, or reports a
+/// difference.
+fn compare_descriptions(comparer: &mut Comparer, seed: u64) -> Result<(), String> {
+    let mut count = 0;
+    for number in 0..CHANGED_DESCRIPTIONS {
+        for case in descriptions::every_change(seed, number) {
+            comparer.description(&case, count).map_err(|difference| {
+                let name = format!("changed description {count} of seed {seed}");
+                description_report(&name, &case, &difference)
+            })?;
+            count += 1;
+        }
+    }
+    println!("changed descriptions: {count}");
+    Ok(())
+}
+
 /// Compares on generated cases and texts, and prints how many there are, or reports a difference.
 fn compare_cases(comparer: &mut Comparer, cases: u64, seed: u64, first: u64) -> Result<(), String> {
     let start = Instant::now();
@@ -95,6 +126,21 @@ fn compare_cases(comparer: &mut Comparer, cases: u64, seed: u64, first: u64) -> 
         let text = texts::text(seed, number);
         comparer.text(&text, number).map_err(|difference| {
             text_report(&format!("text {number} of seed {seed}"), &text, &difference)
+        })?;
+        let described = descriptions::description(seed, number);
+        comparer
+            .description(&described, number)
+            .map_err(|difference| {
+                let name = format!("description {number} of seed {seed}");
+                description_report(&name, &described, &difference)
+            })?;
+        let title = title(seed, number);
+        comparer.title(&title, number).map_err(|difference| {
+            title_report(
+                &format!("title {number} of seed {seed}"),
+                &title,
+                &difference,
+            )
         })?;
     }
     let seconds = start.elapsed().as_secs_f64();
@@ -114,6 +160,9 @@ fn compare_pairs(comparer: &mut Comparer, pairs: u64, seed: u64, first: u64) -> 
         comparer.pair(&pair, number).map_err(|difference| {
             pair_report(&format!("pair {number} of seed {seed}"), &pair, &difference)
         })?;
+        comparer.title_pair(&pair, number).map_err(|difference| {
+            pair_report(&format!("pair {number} of seed {seed}"), &pair, &difference)
+        })?;
     }
     let seconds = start.elapsed().as_secs_f64();
     let rate = pairs as f64 / seconds;
@@ -126,6 +175,8 @@ fn compare_pairs(comparer: &mut Comparer, pairs: u64, seed: u64, first: u64) -> 
          and detached nodes: {outside}, in the resource asked for: {}",
         comparer.resources
     );
+    let [corrected, differ] = comparer.title_pairs;
+    println!("pairs with a title corrected: {corrected}, with results that differ: {differ}");
     Ok(())
 }
 
@@ -136,14 +187,32 @@ fn print_counts(comparer: &Comparer) {
         comparer.comparisons, comparer.values
     );
     println!("files read: {}", comparer.outcomes[0]);
-    let refusals = comparer.outcomes.iter().enumerate().skip(1);
+    println!(
+        "files refused, by number: {}",
+        by_number(&comparer.outcomes)
+    );
+    let [converted, .., no_room, _, _, _, bad] = comparer.texts;
+    println!("texts: {converted} converted, {no_room} refused with 22, {bad} with 26");
+    println!(
+        "counts: {} given; refused, by number: {}",
+        comparer.counts[0],
+        by_number(&comparer.counts)
+    );
+    println!(
+        "titles: {} corrected; refused, by number: {}",
+        comparer.titles[0],
+        by_number(&comparer.titles)
+    );
+}
+
+/// The refusals that occur, each with its count.
+fn by_number(counts: &[u64]) -> String {
+    let refusals = counts.iter().enumerate().skip(1);
     let refusals: Vec<String> = refusals
         .filter(|(_, count)| **count > 0)
         .map(|(number, count)| format!("{number}: {count}"))
         .collect();
-    println!("files refused, by number: {}", refusals.join(", "));
-    let [converted, .., no_room, _, _, _, bad] = comparer.texts;
-    println!("texts: {converted} converted, {no_room} refused with 22, {bad} with 26");
+    refusals.join(", ")
 }
 
 /// Tells a difference between the readers.
@@ -162,6 +231,32 @@ fn text_report(name: &str, text: &Text, difference: &Difference) -> String {
         "difference in {name}, proved and plain\ninto: {asked}\n{what}\nroom {}\ngiven: {}\n",
         text.room,
         hex(&text.given)
+    )
+}
+
+/// Tells a difference between the readers on a content description.
+fn description_report(name: &str, case: &Described, difference: &Difference) -> String {
+    let Difference { asked, what } = difference;
+    format!(
+        "difference in {name}, proved and plain\nquestion: {asked}\n{what}\nitem row {}, channel {}, \
+         resource {}, {:?}\nfile: {}\n",
+        case.row,
+        case.channel,
+        case.resource,
+        case.lent,
+        hex(&case.file)
+    )
+}
+
+/// Tells a difference between the readers on a title.
+fn title_report(name: &str, title: &Title, difference: &Difference) -> String {
+    let Difference { what, .. } = difference;
+    format!(
+        "difference in {name}, proved and plain\n{what}\nitem row {}, {:?}\nfile: {}\ndata: {}\n",
+        title.row,
+        title.lent,
+        hex(&title.file),
+        hex(&title.data)
     )
 }
 

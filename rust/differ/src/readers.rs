@@ -1,5 +1,6 @@
 //! The two readers behind one form of questions and answers.
 
+use generate::descriptions::{Counted, Described};
 use generate::model::Field;
 use generate::texts::{Into, Text};
 
@@ -18,6 +19,8 @@ pub enum Question {
     FindOwn,
     /// Resolve a resource.
     Resolve,
+    /// Give a content description's count.
+    Count,
     /// Judge Mobile XMF.
     Judge,
     /// Write the support sheet.
@@ -25,11 +28,12 @@ pub enum Question {
 }
 
 /// All questions.
-pub const QUESTIONS: [Question; 6] = [
+pub const QUESTIONS: [Question; 7] = [
     Question::Tree,
     Question::Find,
     Question::FindOwn,
     Question::Resolve,
+    Question::Count,
     Question::Judge,
     Question::Sheet,
 ];
@@ -39,10 +43,12 @@ pub const QUESTIONS: [Question; 6] = [
 pub struct Subject<'a> {
     /// The bytes of the file.
     pub file: &'a [u8],
-    /// The row to ask about.
+    /// The row to ask about: a node row, or an item row for the count.
     pub row: u64,
     /// The field to be found.
     pub field: &'a Field,
+    /// The channel and the resource of the count.
+    pub count: [u64; 2],
 }
 
 /// What is lent to a reader.
@@ -75,6 +81,11 @@ pub fn ask_proved(question: Question, about: Subject, lent: Lent) -> Answer {
                 found.hops,
             ])
         }),
+        Question::Count => {
+            let [channel, resource] = about.count;
+            xmf::voice_count(file, nodes, items, row, channel, resource)
+                .map(|count| words(&[count]))
+        }
         Question::Judge => xmf::judge(file, nodes, items).map(|verdict| words(&[verdict])),
         Question::Sheet => {
             xmf::write_sheet(file, nodes, items, lent.sheet).map(|length| words(&[length as u64]))
@@ -91,7 +102,12 @@ pub fn resource_proved<'a>(about: Subject<'a>, lent: Lent) -> &'a [u8] {
 
 /// Asks the proved reader for the answer as words, in a buffer of any size.
 pub fn ask_words(question: Question, about: Subject, lent: Lent, answer: &mut [u64]) {
-    let Subject { file, row, field } = about;
+    let Subject {
+        file,
+        row,
+        field,
+        count: [channel, resource],
+    } = about;
     let (nodes, items) = (lent.nodes, lent.items);
     let row = row as usize;
     match question {
@@ -101,6 +117,9 @@ pub fn ask_words(question: Question, about: Subject, lent: Lent, answer: &mut [u
             xmf::words::find_own(file, nodes, items, row, xmf_field(field), answer)
         }
         Question::Resolve => xmf::words::resolve(file, nodes, items, row, answer),
+        Question::Count => {
+            xmf::words::voice_count(file, nodes, items, row, channel, resource, answer)
+        }
         Question::Judge => xmf::words::judge(file, nodes, items, answer),
         Question::Sheet => xmf::words::write_sheet(file, nodes, items, lent.sheet, answer),
     }
@@ -123,6 +142,11 @@ pub fn ask_plain(question: Question, about: Subject, lent: Lent) -> Answer {
             .map(|found| item_words(found.row, found.words)),
         Question::Resolve => plain::resolve(file, nodes, items, row)
             .map(|found| words(&[found.place, found.length, found.row, found.hops])),
+        Question::Count => {
+            let [channel, resource] = about.count;
+            plain::voice_count(file, nodes, items, row, channel, resource)
+                .map(|count| words(&[count]))
+        }
         Question::Judge => plain::judge(file, nodes, items).map(|verdict| words(&[verdict])),
         Question::Sheet => {
             plain::write_sheet(file, nodes, items, lent.sheet).map(|length| words(&[length as u64]))
@@ -159,16 +183,37 @@ fn refused(number: u64, place: u64) -> Answer {
     answer
 }
 
+/// The answer that is known of a description, if one is. The place of its data is found by reading the
+/// file.
+pub fn known(case: &Described) -> Option<Answer> {
+    Some(match case.answer? {
+        Counted::Count(count) => words(&[count]),
+        Counted::Refused(number) => refused(number, 0),
+        Counted::Faulty(place) => {
+            let mut nodes = vec![0; case.lent.node_words];
+            let mut items = vec![0; case.lent.item_words];
+            plain::read_tree(&case.file, &mut nodes, &mut items).ok()?;
+            let data = items[case.row as usize * plain::item::WORDS + plain::item::DATA];
+            refused(25, data + place as u64)
+        }
+    })
+}
+
+/// The words of a number of bytes written, or of a refusal's number and place.
+pub fn counted(written: Result<usize, (u64, u64)>) -> Answer {
+    match written {
+        Ok(length) => words(&[length as u64]),
+        Err((number, place)) => refused(number, place),
+    }
+}
+
 /// Converts by the proved function.
 pub fn convert_proved(text: &Text, room: &mut [u8]) -> Answer {
     let converted = match text.into {
         Into::Utf8 => xmf::utf16_to_utf8(&text.given, room),
         Into::Utf16 => xmf::utf8_to_utf16(&text.given, room),
     };
-    match converted {
-        Ok(length) => words(&[length as u64]),
-        Err(refusal) => refused(refusal.number, refusal.place),
-    }
+    counted(converted.map_err(|refusal| (refusal.number, refusal.place)))
 }
 
 /// Converts by the proved function, with the answer as words in a buffer of any size.
@@ -185,8 +230,5 @@ pub fn convert_plain(text: &Text, room: &mut [u8]) -> Answer {
         Into::Utf8 => plain::utf16_to_utf8(&text.given, room),
         Into::Utf16 => plain::utf8_to_utf16(&text.given, room),
     };
-    match converted {
-        Ok(length) => words(&[length as u64]),
-        Err(refusal) => refused(refusal.number, refusal.place),
-    }
+    counted(converted.map_err(|refusal| (refusal.number, refusal.place)))
 }

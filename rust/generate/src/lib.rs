@@ -3,11 +3,14 @@
 //! Everything is fixed by a seed and a case number: [`case`] makes a file with what is lent and
 //! what is asked, [`pair`] makes two files that differ at private places only, [`large_file`] and
 //! [`large_resource`] make the largest files, [`folders_file`] makes files of growing size,
-//! [`texts::text`] makes a text to be converted, and [`titles::title`] makes a file whose title is to
-//! be corrected. The modules hold the parts they are made of.
+//! [`texts::text`] makes a text to be converted, [`titles::title`] and [`titles::folders_title`] make
+//! files whose title is to be corrected, [`descriptions::description`] makes a file with a content
+//! description, and [`timed::all`] makes the files that are timed. The modules hold the parts they are
+//! made of.
 
 pub mod cases;
 pub mod damage;
+pub mod descriptions;
 pub mod encode;
 pub mod mobile;
 pub mod model;
@@ -15,6 +18,7 @@ pub mod random;
 pub mod samples;
 pub mod shapes;
 pub mod texts;
+pub mod timed;
 pub mod titles;
 
 pub use cases::{case, folders_file, large_file, large_resource, pair, Case, Lent, Pair};

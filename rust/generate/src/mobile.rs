@@ -1,5 +1,6 @@
 //! Mobile XMF files, with every verdict.
 
+use crate::descriptions::{Description, CONTENT_DESCRIPTION};
 use crate::encode::{number_bytes, padded_bytes};
 use crate::model::{Contents, Field, File, Item, Node, Part, Place};
 use crate::model::{TypeEntry, Values, Version};
@@ -8,8 +9,6 @@ use crate::shapes::unpackers;
 
 /// The standard field that names a resource's format.
 const RESOURCE_FORMAT: usize = 3;
-/// The standard field that describes a tune's content.
-const CONTENT_DESCRIPTION: usize = 13;
 
 /// A file with this verdict, 0 to 8. Checks after the first one that fails may fail as well.
 pub fn with_verdict(random: &mut Random, verdict: usize) -> File {
@@ -97,8 +96,7 @@ fn resource_format(random: &mut Random, data: &[u8]) -> Item {
 }
 
 fn description(random: &mut Random) -> Item {
-    let size = random.below(6);
-    let data = random.bytes(size);
+    let data = Description::any(random).bytes();
     Item::standard(CONTENT_DESCRIPTION, random.between(6, 7), &data)
 }
 
@@ -237,7 +235,8 @@ fn fail_description(random: &mut Random, file: &mut File) {
         random.pick(&[0, 1, 2, 5, 8, 9, 135]),
         &[0],
     );
-    let choice = random.below(5);
+    let unreadable = unreadable(random);
+    let choice = random.below(6);
     if file.types.is_empty() {
         file.types.push(TypeEntry {
             number: 1,
@@ -266,8 +265,19 @@ fn fail_description(random: &mut Random, file: &mut File) {
             field: Field::Standard(CONTENT_DESCRIPTION),
             values: Values::Versions(vec![(1, vec![0])]),
         }),
+        4 => tune.items.push(unreadable),
         _ => tune.items.retain(|item| !is_description(item)),
     }
+}
+
+/// A content description that is cut, or has a byte left over.
+fn unreadable(random: &mut Random) -> Item {
+    let mut data = Description::any(random).bytes();
+    match random.below(2) {
+        0 => data.truncate(random.below(data.len())),
+        _ => data.push(random.byte()),
+    }
+    Item::standard(CONTENT_DESCRIPTION, random.between(6, 7), &data)
 }
 
 fn fail_limits(random: &mut Random, file: &mut File) {

@@ -138,6 +138,19 @@ pub fn title(seed: u64, number: u64) -> Title {
     }
 }
 
+/// A file whose root holds so many folders of 16 nodes each, four item rows for each node, and no
+/// reference 2 or 3; and its first item row whose title can be corrected.
+pub fn folders_title(seed: u64, folders: usize) -> (Vec<u8>, u64) {
+    let random = &mut Random::new(seed);
+    let mut file = shapes::large(random, folders);
+    remove_references(random, &mut file);
+    let row = contents(&file).iter().position(Option::is_some);
+    (
+        encode(&file).bytes,
+        row.expect("a title that can be corrected") as u64,
+    )
+}
+
 /// A case with a file of any shape.
 fn any_title(random: &mut Random, kind: Kind) -> Title {
     let mut file = shapes::any_file(random);

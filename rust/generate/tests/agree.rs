@@ -2,13 +2,14 @@
 
 use generate::cases::Kind;
 use generate::damage::{every_cut, every_length_changed};
+use generate::descriptions::{description, Counted};
 use generate::encode::{encode, Encoded, MarkKind, PrivateKind, PRIVATE_KINDS};
 use generate::model::{Field as Wanted, File, Item, Node, Version, Widths};
 use generate::random::Random;
 use generate::texts::{text, Into, Text};
 use generate::titles::{title, Title, BORDERS, LENGTHS};
 use generate::{case, large_file, large_resource, mobile, pair, samples, shapes, Lent};
-use plain::{correct_title, find, judge, read_tree, resolve, resource, write_sheet};
+use plain::{correct_title, find, judge, read_tree, resolve, resource, voice_count, write_sheet};
 use plain::{item, node, Field, Refusal};
 use plain::{utf16_to_utf8, utf8_to_utf16};
 
@@ -539,6 +540,37 @@ fn sheets_have_converted_texts() {
         assert!(sheet(&file).is_ok());
     }
     assert!(converted > 100 && escaped > 100 && hidden > 100);
+}
+
+#[test]
+fn descriptions_have_their_counts() {
+    let mut refusals = [0; 26];
+    for number in 0..CASES {
+        let case = description(SEED, number);
+        let (mut nodes, mut items) = (case.lent.nodes(), case.lent.items());
+        read_tree(&case.file, &mut nodes, &mut items).expect("a file that is read");
+        let rows: Vec<&[u64]> = items.chunks_exact(item::WORDS).collect();
+        let expected = case.answer.map(|answer| match answer {
+            Counted::Count(count) => Ok(count),
+            Counted::Refused(number) => Err(Refusal { number, place: 0 }),
+            Counted::Faulty(place) => Err(Refusal {
+                number: 25,
+                place: rows[case.row as usize][item::DATA] + place as u64,
+            }),
+        });
+        let (channel, resource) = (case.channel, case.resource);
+        let (mut nodes, mut items) = (case.lent.nodes(), case.lent.items());
+        let count = voice_count(
+            &case.file, &mut nodes, &mut items, case.row, channel, resource,
+        );
+        if let Some(expected) = expected {
+            assert_eq!(count, expected, "case {number}");
+        }
+        refusals[count.err().map_or(0, |refusal| refusal.number as usize)] += 1;
+    }
+    for number in [0, 18, 23, 25] {
+        assert!(refusals[number] > 0, "no refusal {number}");
+    }
 }
 
 #[test]

@@ -83,6 +83,11 @@ impl<'a> Cursor<'a> {
         self.skip(4)
     }
 
+    /// Moves past a plain GUID of sixteen bytes: refusal 3 when it is cut.
+    pub fn sixteen_bytes(&mut self) -> Result<(), Refusal> {
+        self.skip(16)
+    }
+
     /// Reads a length and the block it counts, which are one field: refusal 3 or 4 at the length.
     ///
     /// The answer reads the block; the reading place moves past it.

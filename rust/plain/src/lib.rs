@@ -3,7 +3,7 @@
 //! It answers five questions about a file's bytes: read the tree ([`read_tree`]), find a metadata
 //! item ([`find`], or [`find_own`] on the node itself), resolve a resource ([`resolve`], with
 //! [`resource`] for its bytes), judge Mobile XMF ([`judge`]) and write the support sheet
-//! ([`write_sheet`]). It writes a file anew with a title corrected ([`correct_title`]). And it converts
+//! ([`write_sheet`]). It gives what a tune needs, as a content description says ([`voice_count`]). It writes a file anew with a title corrected ([`correct_title`]). And it converts
 //! texts from UTF-16 into UTF-8 ([`utf16_to_utf8`]) and back ([`utf8_to_utf16`]).
 //!
 //! Each question takes the file and two lent tables of words, one for node rows and one for item
@@ -14,6 +14,7 @@
 //! Every place is counted from the file's first byte.
 
 mod cursor;
+mod description;
 mod questions;
 mod sheet;
 mod title;
@@ -94,7 +95,7 @@ pub type ItemRow = [u64; item::WORDS];
 /// Why a question is refused.
 #[derive(Clone, Copy, Debug, PartialEq, Eq)]
 pub struct Refusal {
-    /// The number in the refusal list: 1 to 24, 26, or 36 to 38.
+    /// The number in the refusal list: 1 to 26, or 36 to 38.
     pub number: u64,
     /// The place of the refused field's first byte, or 0 where the list names none.
     pub place: u64,
@@ -233,6 +234,25 @@ pub fn resource<'a>(file: &'a [u8], nodes: &mut [u64], items: &mut [u64], row: u
         Ok(found) => questions::part(file, found.place, found.length),
         Err(_) => &[],
     }
+}
+
+/// The count that an item row, a content description, gives for a channel and a resource, both
+/// numbered from 0.
+///
+/// Refused with 18 when there is no such item row, with 23 when it is no universal field 13 in format 6
+/// or 7, with 25 when its data is not readable, placed at the first fault, then with 23 when it describes
+/// no such channel or resource.
+pub fn voice_count(
+    file: &[u8],
+    nodes: &mut [u64],
+    items: &mut [u64],
+    item_row: u64,
+    channel: u64,
+    resource: u64,
+) -> Result<u64, Refusal> {
+    ask(file, nodes, items, |rows, _| {
+        questions::voice_count(rows, item_row, channel, resource)
+    })
 }
 
 /// Judges whether a file is a Mobile XMF file: 0, or the number 1 to 8 of the first check that

@@ -1,6 +1,8 @@
-//! The questions about a file that has been read: find, resolve and the Mobile XMF verdict.
+//! The questions about a file that has been read: find, resolve, the count of a content description
+//! and the Mobile XMF verdict.
 
 use crate::cursor::Cursor;
+use crate::description;
 use crate::tree::row_at;
 use crate::{item, node, Field, Found, ItemRow, NodeRow, Refusal, Resource, Rows};
 
@@ -100,13 +102,30 @@ pub fn judge(rows: &Rows, version: u64) -> u64 {
     let Some(tune) = contents.tune() else {
         return 6;
     };
-    if !is_described(rows.items, tune) {
+    if !is_described(rows, tune) {
         return 7;
     }
     if !is_within_limits(rows) {
         return 8;
     }
     0
+}
+
+/// The count of an item row, a universal and binary content description, for a channel and a resource.
+pub fn voice_count(
+    rows: &Rows,
+    item_row: u64,
+    channel: u64,
+    resource: u64,
+) -> Result<u64, Refusal> {
+    if item_row >= rows.items.len() as u64 {
+        return Err(Refusal::at(18, 0));
+    }
+    let words = &rows.items[item_row as usize];
+    if !is_standard(words, CONTENT_DESCRIPTION) || !is_universal_binary(words) {
+        return Err(Refusal::at(23, 0));
+    }
+    description::count(rows.file, words, channel, resource)
 }
 
 /// The row asked for, if there is one.
@@ -173,12 +192,15 @@ fn resource_format(file: &[u8], own: &[ItemRow]) -> Option<u64> {
 }
 
 /// Whether content descriptions stand on the tune, at least one, and nowhere else, all of them
-/// universal and binary.
-fn is_described(items: &[ItemRow], tune: u64) -> bool {
+/// universal, binary and readable.
+fn is_described(rows: &Rows, tune: u64) -> bool {
     let mut count = 0;
-    for words in items {
+    for words in rows.items {
         if is_standard(words, CONTENT_DESCRIPTION) {
-            if words[item::NODE] != tune || !is_universal_binary(words) {
+            if words[item::NODE] != tune
+                || !is_universal_binary(words)
+                || !description::is_readable(rows.file, words)
+            {
                 return false;
             }
             count += 1;

@@ -67,6 +67,22 @@ extern "C" {
         answer_words: usize,
     );
 
+    /// Reads the content description that is the item row. Answer: its count for a channel and a
+    /// resource.
+    pub fn xmf_voice_count(
+        file: *const u8,
+        file_length: usize,
+        nodes: *mut u64,
+        node_words: usize,
+        items: *mut u64,
+        item_words: usize,
+        item_row: usize,
+        channel: u64,
+        resource: u64,
+        answer: *mut u64,
+        answer_words: usize,
+    );
+
     /// Judges Mobile XMF. Answer: the verdict.
     pub fn xmf_judge(
         file: *const u8,
@@ -89,6 +105,23 @@ extern "C" {
         item_words: usize,
         sheet: *mut u8,
         sheet_length: usize,
+        answer: *mut u64,
+        answer_words: usize,
+    );
+
+    /// Writes the file anew with other data in an item row. Answer: bytes written.
+    pub fn xmf_correct_title(
+        file: *const u8,
+        file_length: usize,
+        nodes: *mut u64,
+        node_words: usize,
+        items: *mut u64,
+        item_words: usize,
+        item_row: usize,
+        title: *const u8,
+        title_length: usize,
+        out: *mut u8,
+        out_length: usize,
         answer: *mut u64,
         answer_words: usize,
     );

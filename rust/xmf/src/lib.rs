@@ -1,18 +1,21 @@
-//! Five questions about XMF files of versions 1.00, 1.01 and 2.00, answered by the proved reader.
+//! Questions about XMF files of versions 1.00, 1.01 and 2.00, answered by the proved reader.
 //!
 //! | Question | Function |
 //! |---|---|
 //! | read the tree | [`read_tree`] |
 //! | find the nearest metadata item, or a node's own | [`find`], [`find_own`] |
 //! | resolve a resource | [`resolve`], and [`resource`] for its bytes |
+//! | say what the tune needs | [`voice_count`] |
 //! | judge Mobile XMF | [`judge`] |
 //! | write the support sheet | [`write_sheet`] |
+//! | correct a title | [`correct_title`] |
 //!
 //! Two more functions convert a text and take no file: [`utf16_to_utf8`] and [`utf8_to_utf16`].
 //!
 //! Each question takes the file and two lent tables of words, one for node rows and one for item
 //! rows, of any size and whatever they hold before. It reads the file afresh. After an answer the
 //! tables hold the file's rows, and zeros past the last row. After a refusal they hold zeros only.
+//! [`correct_title`] writes a file, and the tables then hold the rows of that one.
 //! Nothing is allocated and nothing panics.
 //!
 //! Every place is counted from the file's first byte.
@@ -112,7 +115,7 @@ pub mod item {
 /// Why a question is refused.
 #[derive(Clone, Copy, Debug, PartialEq, Eq)]
 pub struct Refusal {
-    /// The number in the refusal list, 1 to 24 or 26.
+    /// The number in the refusal list: 1 to 26, or 36 to 38.
     pub number: u64,
     /// The place of the refused field's first byte, or 0 where the list names none. For 26 the place
     /// of the first bad character in what was to be converted.
@@ -147,10 +150,17 @@ impl Refusal {
             19 => "resolving ends at a folder",
             20 => "resolving ends at a URI",
             21 => "a fifth reference would be followed",
-            22 => "the sheet, or a converted text, is longer than its buffer",
+            22 => "the sheet, a converted text or the new file is longer than its buffer",
             23 => "no such item",
             24 => "a detached node overlaps another one, or is a folder",
+            25 => {
+                "a content description has a field that is cut short, too long a number or of an \
+                 unknown kind, or bytes left over"
+            }
             26 => "UTF-16 of odd length or with half of a surrogate pair, or bad UTF-8",
+            36 => "a node has reference 2 or 3, so no title is corrected",
+            37 => "the content to be corrected is hidden, or one of several versions",
+            38 => "the new file would have more than 268,435,455 bytes",
             _ => "not in the list",
         }
     }
@@ -294,6 +304,38 @@ pub fn resource<'a>(
     Ok(&file[found.place..][..found.length])
 }
 
+/// The count that an item row, a content description, gives for a channel and a resource, both
+/// numbered from 0.
+///
+/// Refused with 18 when there is no such item row, with 23 when it is no universal field 13 in format 6
+/// or 7, with 25 when its data is not readable, placed at the first fault, then with 23 when it describes
+/// no such channel or resource.
+///
+/// ```
+/// use xmf::{item, ALL_ITEM_WORDS, ALL_NODE_WORDS};
+///
+/// let file = std::fs::read("../../samples/mobile.xmf").unwrap();
+/// let mut nodes = vec![0; ALL_NODE_WORDS];
+/// let mut items = vec![0; ALL_ITEM_WORDS];
+/// let tune = xmf::find_own(&file, &mut nodes, &mut items, 1, xmf::Field::Standard(13)).unwrap();
+/// assert_eq!(tune.words[item::FORMAT], 6);
+/// let voices = xmf::voice_count(&file, &mut nodes, &mut items, tune.row, 0, 0);
+/// assert_eq!(voices, Ok(4));
+/// ```
+pub fn voice_count(
+    file: &[u8],
+    nodes: &mut [u64],
+    items: &mut [u64],
+    item_row: usize,
+    channel: u64,
+    resource: u64,
+) -> Result<u64, Refusal> {
+    let mut answer = [0; 3];
+    words::voice_count(file, nodes, items, item_row, channel, resource, &mut answer);
+    let [count] = values(answer)?;
+    Ok(count)
+}
+
 /// Judges whether a file is a Mobile XMF file: 0, or the number 1 to 8 of the first check that
 /// fails.
 pub fn judge(file: &[u8], nodes: &mut [u64], items: &mut [u64]) -> Result<u64, Refusal> {
@@ -315,6 +357,32 @@ pub fn write_sheet(
 ) -> Result<usize, Refusal> {
     let mut answer = [0; 3];
     words::write_sheet(file, nodes, items, sheet, &mut answer);
+    let [written] = values(answer)?;
+    Ok(written as usize)
+}
+
+/// Replaces the data of an item row, which must be visible and universal, by a title, writes the whole
+/// file anew into a lent buffer, and answers the number of bytes written.
+///
+/// Every number outside data is written in its shortest form, each length and place the least that fits
+/// the others; all else is copied. The tables hold the new file's rows. Bytes of the buffer past the
+/// new file are 0; after a refusal all are. The same title again gives the same file.
+///
+/// Refused with 18 when there is no such item row, with 36 when a node has reference 2 or 3, with 37
+/// when the content is hidden or not universal, with 38 when the new file would be longer than a file
+/// may be, with 22 when it is longer than the buffer.
+///
+/// The new file holds the hidden bytes of the old one.
+pub fn correct_title(
+    file: &[u8],
+    nodes: &mut [u64],
+    items: &mut [u64],
+    item_row: usize,
+    title: &[u8],
+    out: &mut [u8],
+) -> Result<usize, Refusal> {
+    let mut answer = [0; 3];
+    words::correct_title(file, nodes, items, item_row, title, out, &mut answer);
     let [written] = values(answer)?;
     Ok(written as usize)
 }

@@ -1,4 +1,4 @@
-//! The five questions and the two conversions with the answer as words, in the order of the C
+//! The questions and the conversions with the answer as words, in the order of the C
 //! interface: refusal number (0: none), place, then the answer's values, and zeros. A short buffer
 //! gets the words that fit.
 //!
@@ -74,7 +74,7 @@ pub fn find_own(
 }
 
 /// A field as kind, number and name.
-fn asked(field: Field) -> (u64, u64, &[u8]) {
+fn asked(field: Field<'_>) -> (u64, u64, &[u8]) {
     match field {
         Field::Standard(number) => (item::STANDARD, number, &[]),
         Field::Custom(name) => (item::CUSTOM, 0, name),
@@ -84,6 +84,25 @@ fn asked(field: Field) -> (u64, u64, &[u8]) {
 /// Resolves a resource. Values: place, length, row, references followed.
 pub fn resolve(file: &[u8], nodes: &mut [u64], items: &mut [u64], row: usize, answer: &mut [u64]) {
     ask!(xmf_resolve(file, nodes, items, [row], answer))
+}
+
+/// Reads the content description that is the item row. Values: its count for a channel and a resource.
+pub fn voice_count(
+    file: &[u8],
+    nodes: &mut [u64],
+    items: &mut [u64],
+    item_row: usize,
+    channel: u64,
+    resource: u64,
+    answer: &mut [u64],
+) {
+    ask!(xmf_voice_count(
+        file,
+        nodes,
+        items,
+        [item_row, channel, resource],
+        answer
+    ))
 }
 
 /// Judges Mobile XMF. Values: the verdict.
@@ -101,6 +120,27 @@ pub fn write_sheet(
 ) {
     let (text, length) = (sheet.as_mut_ptr(), sheet.len());
     ask!(xmf_write_sheet(file, nodes, items, [text, length], answer))
+}
+
+/// Writes the file anew with a title as the data of an item row. Values: bytes written.
+pub fn correct_title(
+    file: &[u8],
+    nodes: &mut [u64],
+    items: &mut [u64],
+    item_row: usize,
+    title: &[u8],
+    out: &mut [u8],
+    answer: &mut [u64],
+) {
+    let (title, title_length) = (title.as_ptr(), title.len());
+    let (room, length) = (out.as_mut_ptr(), out.len());
+    ask!(xmf_correct_title(
+        file,
+        nodes,
+        items,
+        [item_row, title, title_length, room, length],
+        answer
+    ))
 }
 
 /// Converts by a function of the C interface: what is given, the room, answer.

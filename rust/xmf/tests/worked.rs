@@ -127,6 +127,41 @@ fn refusals_clear_what_is_lent() {
     assert!(short.iter().all(|&byte| byte == 0));
 }
 
+/// The worked file with the title `Hello` in item row 0.
+const GREETING: &[u8] = b"XMF_2.00\0\0\0\x02\0\0\0\x01\x3b\x01\0\x15\x3a\x26\x01\x05\0\0\x01\x20\0\x1d\x18\x01a\0\x06\0Hello\x01t\0\x03\x07\x11\x22\0\x03\0\x03\x06\0\0\0\x01\xaa\xbb";
+
+#[test]
+fn a_title_is_corrected() {
+    let (mut nodes, mut items) = tables();
+    let mut out = [7; 80];
+    let length = xmf::correct_title(WORKED, &mut nodes, &mut items, 0, b"Hello", &mut out).unwrap();
+    assert_eq!(&out[..length], GREETING);
+    assert!(out[length..].iter().all(|&byte| byte == 0));
+    // The tables hold the new file's rows.
+    let (mut new_nodes, mut new_items) = tables();
+    xmf::read_tree(GREETING, &mut new_nodes, &mut new_items).unwrap();
+    assert_eq!((&nodes, &items), (&new_nodes, &new_items));
+    // The same title again changes nothing, and the old one gives the old file back.
+    let again = xmf::correct_title(GREETING, &mut nodes, &mut items, 0, b"Hello", &mut out);
+    assert_eq!(&out[..again.unwrap()], GREETING);
+    let back = xmf::correct_title(GREETING, &mut nodes, &mut items, 0, b"Hi", &mut out);
+    assert_eq!(&out[..back.unwrap()], WORKED);
+
+    for (file, row, room, number) in [
+        (WORKED, 3, 80, 18),
+        (DETACHED, 0, 80, 36),
+        (WORKED, 1, 80, 37),
+        (WORKED, 0, GREETING.len() - 1, 22),
+    ] {
+        let (mut nodes, mut items) = tables();
+        let mut out = vec![7; room];
+        let written = xmf::correct_title(file, &mut nodes, &mut items, row, b"Hello", &mut out);
+        assert_eq!(written, refusal(number, 0));
+        assert!(nodes.iter().chain(&items).all(|&word| word == 0));
+        assert!(out.iter().all(|&byte| byte == 0));
+    }
+}
+
 #[test]
 fn nothing_need_be_lent() {
     assert_eq!(xmf::read_tree(&[], &mut [], &mut []), refusal(1, 0));

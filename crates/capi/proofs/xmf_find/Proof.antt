@@ -1,7 +1,5 @@
 -- `xmf_find` leaves the outcome of Find.
 -- Assumes nothing.
-use mathlib.Core.List.{[], _∷_}
-use lib.ListN.{length}
 use Rattle.promises.specs.Promises.{findItem}
 use Rattle.promises.specs.Calls.{find-standard, find-custom}
 use Rattle.capi.proofs.Words.{asks-standard, asks-custom, leaves}
@@ -31,7 +29,7 @@ same-length-3 : tie.Need-same-length-3
 same-length-3 c = search needs
 
 returns : tie.Need-returns
-returns c = asks-standard findItem (c .before .before .before .before .before .before .before .before .before .before .before .before .before .before .before .before .before .args .kind) (c .before .before .before .before .before .before .before .before .before .before .before .before .before .before .before .before .before .args .number) (c .before .before .before .before .before .before .before .before .before .before .before .before .before .before .before .before .before .args .name .now) (c .before .before .before .before .before .before .before .before .before .before .before .before .before .before .before .before .before .args .row) (length (c .before .before .before .before .before .before .before .before .before .before .before .before .before .before .before .before .before .args .nodes .now) ∷ length (c .before .before .before .before .before .before .before .before .before .before .before .before .before .before .before .before .before .args .items .now) ∷ []) (c .before .before .before .before .before .before .before .before .before .before .before .before .before .before .before .before .before .args .file .now) (c .before .before .before .before .before .before .before .before .before .before .before .if1 .taken) (leaves (length (c .before .before .before .before .before .before .before .before .before .before .before .before .before .before .before .before .before .args .answer .now)) (find-standard {n = length (c .before .before .before .before .before .before .before .before .before .before .before .before .before .before .before .before .before .args .nodes .now)} {i = length (c .before .before .before .before .before .before .before .before .before .before .before .before .before .before .before .before .before .args .items .now)} {f = c .before .before .before .before .before .before .before .before .before .before .before .before .before .before .before .before .before .args .file .now} (c .before .before .before .before .before .before .before .before .before .before .before .before .before .before .before .before .before .args .row) (c .before .before .before .before .before .before .before .before .before .before .before .before .before .before .before .before .before .args .number) (c .before .before .before .before .before .before .before .find-standard .result) (c .before .before .before .before .before .before .before .find-standard .ensures .0) (c .before .before .before .before .before .before .before .find-standard .ensures .1 .0) (c .before .before .before .before .before .before .before .find-standard .ensures .1 .1)) (c .before .before .put-found .ensures))
+returns c = asks-standard findItem (c .before .before .before .before .before .before .before .before .before .before .before .before .before .before .before .before .before .args .kind) (c .before .before .before .before .before .before .before .before .before .before .before .before .before .before .before .before .before .args .number) (c .before .before .before .before .before .before .before .before .before .before .before .before .before .before .before .before .before .args .name .now) (c .before .before .before .before .before .before .before .before .before .before .before .before .before .before .before .before .before .args .row) (c .before .before .before .before .before .before .before .before .before .before .before .if1 .taken) (leaves (c .before .before .before .before .before .before .before .before .before .before .before .before .before .before .before .before .before .args .answer .now) (find-standard {nodes = c .before .before .before .before .before .before .before .before .before .before .before .before .before .before .before .before .before .args .nodes .now} {items = c .before .before .before .before .before .before .before .before .before .before .before .before .before .before .before .before .before .args .items .now} {f = c .before .before .before .before .before .before .before .before .before .before .before .before .before .before .before .before .before .args .file .now} (c .before .before .before .before .before .before .before .before .before .before .before .before .before .before .before .before .before .args .row) (c .before .before .before .before .before .before .before .before .before .before .before .before .before .before .before .before .before .args .number) (c .before .before .before .before .before .before .before .find-standard .result) (c .before .before .before .before .before .before .before .find-standard .ensures .0) (c .before .before .before .before .before .before .before .find-standard .ensures .1 .0) (c .before .before .before .before .before .before .before .find-standard .ensures .1 .1)) (c .before .before .put-found .ensures))
 
 same-length-4 : tie.Need-same-length-4
 same-length-4 c = search needs
@@ -43,7 +41,7 @@ same-length-6 : tie.Need-same-length-6
 same-length-6 c = search needs
 
 returns-2 : tie.Need-returns-2
-returns-2 c = asks-custom findItem (c .before .before .before .before .before .before .before .before .before .before .before .before .before .before .before .before .before .args .kind) (c .before .before .before .before .before .before .before .before .before .before .before .before .before .before .before .before .before .args .number) (c .before .before .before .before .before .before .before .before .before .before .before .before .before .before .before .before .before .args .name .now) (c .before .before .before .before .before .before .before .before .before .before .before .before .before .before .before .before .before .args .row) (length (c .before .before .before .before .before .before .before .before .before .before .before .before .before .before .before .before .before .args .nodes .now) ∷ length (c .before .before .before .before .before .before .before .before .before .before .before .before .before .before .before .before .before .args .items .now) ∷ []) (c .before .before .before .before .before .before .before .before .before .before .before .before .before .before .before .before .before .args .file .now) (c .before .before .before .before .before .before .before .before .before .before .before .if1 .left) (leaves (length (c .before .before .before .before .before .before .before .before .before .before .before .before .before .before .before .before .before .args .answer .now)) (find-custom {n = length (c .before .before .before .before .before .before .before .before .before .before .before .before .before .before .before .before .before .args .nodes .now)} {i = length (c .before .before .before .before .before .before .before .before .before .before .before .before .before .before .before .before .before .args .items .now)} {f = c .before .before .before .before .before .before .before .before .before .before .before .before .before .before .before .before .before .args .file .now} (c .before .before .before .before .before .before .before .before .before .before .before .before .before .before .before .before .before .args .row) (c .before .before .before .before .before .before .before .before .before .before .before .before .before .before .before .before .before .args .name .now) (c .before .before .before .before .before .before .before .find-custom .result) (c .before .before .before .before .before .before .before .find-custom .ensures .0) (c .before .before .before .before .before .before .before .find-custom .ensures .1 .0) (c .before .before .before .before .before .before .before .find-custom .ensures .1 .1)) (c .before .before .put-found2 .ensures))
+returns-2 c = asks-custom findItem (c .before .before .before .before .before .before .before .before .before .before .before .before .before .before .before .before .before .args .kind) (c .before .before .before .before .before .before .before .before .before .before .before .before .before .before .before .before .before .args .number) (c .before .before .before .before .before .before .before .before .before .before .before .before .before .before .before .before .before .args .name .now) (c .before .before .before .before .before .before .before .before .before .before .before .before .before .before .before .before .before .args .row) (c .before .before .before .before .before .before .before .before .before .before .before .if1 .left) (leaves (c .before .before .before .before .before .before .before .before .before .before .before .before .before .before .before .before .before .args .answer .now) (find-custom {nodes = c .before .before .before .before .before .before .before .before .before .before .before .before .before .before .before .before .before .args .nodes .now} {items = c .before .before .before .before .before .before .before .before .before .before .before .before .before .before .before .before .before .args .items .now} {f = c .before .before .before .before .before .before .before .before .before .before .before .before .before .before .before .before .before .args .file .now} (c .before .before .before .before .before .before .before .before .before .before .before .before .before .before .before .before .before .args .row) (c .before .before .before .before .before .before .before .before .before .before .before .before .before .before .before .before .before .args .name .now) (c .before .before .before .before .before .before .before .find-custom .result) (c .before .before .before .before .before .before .before .find-custom .ensures .0) (c .before .before .before .before .before .before .before .find-custom .ensures .1 .0) (c .before .before .before .before .before .before .before .find-custom .ensures .1 .1)) (c .before .before .put-found2 .ensures))
 
 pub xmf-find-spec : {M : Type 1} → statement M
 xmf-find-spec =

@@ -1,6 +1,5 @@
 -- `xmf_judge` leaves the outcome of the verdict.
 -- Assumes nothing.
-use lib.ListN.{length}
 use Rattle.promises.specs.Calls.{judge}
 use Rattle.capi.proofs.Words.{leaves}
 use borrow.Author.Needs.{needs}
@@ -23,7 +22,7 @@ same-length-3 : tie.Need-same-length-3
 same-length-3 c = search needs
 
 returns : tie.Need-returns
-returns c = leaves (length (c .before .before .before .before .before .before .before .before .before .before .before .before .before .before .before .args .answer .now)) (judge {n = length (c .before .before .before .before .before .before .before .before .before .before .before .before .before .before .before .args .nodes .now)} {i = length (c .before .before .before .before .before .before .before .before .before .before .before .before .before .before .before .args .items .now)} {f = c .before .before .before .before .before .before .before .before .before .before .before .before .before .before .before .args .file .now} (c .before .before .before .before .before .before .before .judge .result) (c .before .before .before .before .before .before .before .judge .ensures .0) (c .before .before .before .before .before .before .before .judge .ensures .1 .0) (c .before .before .before .before .before .before .before .judge .ensures .1 .1)) (c .before .before .put-judged .ensures)
+returns c = leaves (c .before .before .before .before .before .before .before .before .before .before .before .before .before .before .before .args .answer .now) (judge {nodes = c .before .before .before .before .before .before .before .before .before .before .before .before .before .before .before .args .nodes .now} {items = c .before .before .before .before .before .before .before .before .before .before .before .before .before .before .before .args .items .now} {f = c .before .before .before .before .before .before .before .before .before .before .before .before .before .before .before .args .file .now} (c .before .before .before .before .before .before .before .judge .result) (c .before .before .before .before .before .before .before .judge .ensures .0) (c .before .before .before .before .before .before .before .judge .ensures .1 .0) (c .before .before .before .before .before .before .before .judge .ensures .1 .1)) (c .before .before .put-judged .ensures)
 
 pub xmf-judge-spec : {M : Type 1} → statement M
 xmf-judge-spec =

@@ -1,6 +1,5 @@
 -- `xmf_resolve` leaves the outcome of Resolve.
 -- Assumes nothing.
-use lib.ListN.{length}
 use Rattle.promises.specs.Calls.{resolve-row}
 use Rattle.capi.proofs.Words.{leaves}
 use borrow.Author.Needs.{needs}
@@ -23,7 +22,7 @@ same-length-3 : tie.Need-same-length-3
 same-length-3 c = search needs
 
 returns : tie.Need-returns
-returns c = leaves (length (c .before .before .before .before .before .before .before .before .before .before .before .before .before .before .before .args .answer .now)) (resolve-row {n = length (c .before .before .before .before .before .before .before .before .before .before .before .before .before .before .before .args .nodes .now)} {i = length (c .before .before .before .before .before .before .before .before .before .before .before .before .before .before .before .args .items .now)} {f = c .before .before .before .before .before .before .before .before .before .before .before .before .before .before .before .args .file .now} (c .before .before .before .before .before .before .before .before .before .before .before .before .before .before .before .args .row) (c .before .before .before .before .before .before .before .resolve .result) (c .before .before .before .before .before .before .before .resolve .ensures .0) (c .before .before .before .before .before .before .before .resolve .ensures .1 .0) (c .before .before .before .before .before .before .before .resolve .ensures .1 .1)) (c .before .before .put-resolved .ensures)
+returns c = leaves (c .before .before .before .before .before .before .before .before .before .before .before .before .before .before .before .args .answer .now) (resolve-row {nodes = c .before .before .before .before .before .before .before .before .before .before .before .before .before .before .before .args .nodes .now} {items = c .before .before .before .before .before .before .before .before .before .before .before .before .before .before .before .args .items .now} {f = c .before .before .before .before .before .before .before .before .before .before .before .before .before .before .before .args .file .now} (c .before .before .before .before .before .before .before .before .before .before .before .before .before .before .before .args .row) (c .before .before .before .before .before .before .before .resolve .result) (c .before .before .before .before .before .before .before .resolve .ensures .0) (c .before .before .before .before .before .before .before .resolve .ensures .1 .0) (c .before .before .before .before .before .before .before .resolve .ensures .1 .1)) (c .before .before .put-resolved .ensures)
 
 pub xmf-resolve-spec : {M : Type 1} → statement M
 xmf-resolve-spec =

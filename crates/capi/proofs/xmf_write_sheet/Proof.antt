@@ -1,6 +1,5 @@
 -- `xmf_write_sheet` leaves the outcome of the sheet.
 -- Assumes nothing.
-use lib.ListN.{length}
 use Rattle.promises.specs.Calls.{write-sheet}
 use Rattle.capi.proofs.Words.{leaves}
 use borrow.Author.Needs.{needs}
@@ -26,7 +25,7 @@ same-length-4 : tie.Need-same-length-4
 same-length-4 c = search needs
 
 returns : tie.Need-returns
-returns c = leaves (length (c .before .before .before .before .before .before .before .before .before .before .before .before .before .before .before .before .before .before .before .args .answer .now)) (write-sheet {n = length (c .before .before .before .before .before .before .before .before .before .before .before .before .before .before .before .before .before .before .before .args .nodes .now)} {i = length (c .before .before .before .before .before .before .before .before .before .before .before .before .before .before .before .before .before .before .before .args .items .now)} {s = length (c .before .before .before .before .before .before .before .before .before .before .before .before .before .before .before .before .before .before .before .args .sheet .now)} {f = c .before .before .before .before .before .before .before .before .before .before .before .before .before .before .before .before .before .before .before .args .file .now} (c .before .before .before .before .before .before .before .before .before .write-sheet .result) (c .before .before .before .before .before .before .before .before .before .write-sheet .ensures .0) (c .before .before .before .before .before .before .before .before .before .write-sheet .ensures .1 .0) (c .before .before .before .before .before .before .before .before .before .write-sheet .ensures .1 .1 .0) (c .before .before .before .before .before .before .before .before .before .write-sheet .ensures .1 .1 .1)) (c .before .before .put-written .ensures)
+returns c = leaves (c .before .before .before .before .before .before .before .before .before .before .before .before .before .before .before .before .before .before .before .args .answer .now) (write-sheet {nodes = c .before .before .before .before .before .before .before .before .before .before .before .before .before .before .before .before .before .before .before .args .nodes .now} {items = c .before .before .before .before .before .before .before .before .before .before .before .before .before .before .before .before .before .before .before .args .items .now} {sheet = c .before .before .before .before .before .before .before .before .before .before .before .before .before .before .before .before .before .before .before .args .sheet .now} {f = c .before .before .before .before .before .before .before .before .before .before .before .before .before .before .before .before .before .before .before .args .file .now} (c .before .before .before .before .before .before .before .before .before .write-sheet .result) (c .before .before .before .before .before .before .before .before .before .write-sheet .ensures .0) (c .before .before .before .before .before .before .before .before .before .write-sheet .ensures .1 .0) (c .before .before .before .before .before .before .before .before .before .write-sheet .ensures .1 .1 .0) (c .before .before .before .before .before .before .before .before .before .write-sheet .ensures .1 .1 .1)) (c .before .before .put-written .ensures)
 
 pub xmf-write-sheet-spec : {M : Type 1} → statement M
 xmf-write-sheet-spec =

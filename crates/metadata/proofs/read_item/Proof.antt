@@ -1,13 +1,49 @@
 -- `read_item` gives what `item` gives, and leaves its rows in the table.
 -- Assumes nothing.
 use Rattle.cursor.proofs.Laws.{was}
-use Rattle.metadata.specs.Told.{itemTold}
-use Rattle.metadata.proofs.Gives.{no, along}
-use Rattle.metadata.proofs.Ways.{item-frame, item-rows}
+use Rattle.metadata.specs.Told.{itemTold, CommonTold}
+use Rattle.metadata.proofs.Gives.{no, yes, along}
+use Rattle.metadata.proofs.Ways.{item-frame, item-rows, common-was, common-inside, common-row}
 use native.Mathlib.Omega.{arith}
 use borrow.Author.Needs.{needs}
 use Rattle.metadata.proofs.read_item.Statement.{statement}
 use Rattle.metadata.proofs.read_item.Tie as tie
+
+read-common-requires : tie.Need-read-common-requires
+read-common-requires c κs = search needs
+
+enum-known-number : tie.Need-enum-known-number
+enum-known-number c = search needs
+
+on-requires : tie.Need-on-requires
+on-requires c κs = omega (arith, common-inside _ _ _ (common-was _ _ _ (c .before .before .before .read-common .ensures) (c .before .number .given .1)))
+
+add-made : tie.Need-add-made
+add-made c = omega arith
+
+sub-row-of : tie.Need-sub-row-of
+sub-row-of c = omega (arith, common-inside _ _ _ (common-was _ _ _ (c .before .before .before .before .before .read-common .ensures) (c .before .before .before .number .given .1)))
+
+row-of-requires : tie.Need-row-of-requires
+row-of-requires c κs = search needs
+
+put-item-requires : tie.Need-put-item-requires
+put-item-requires c κs = omega (arith, c .before .before .before .before .before .before .before .before .before .before .before .before .before .pre, c .before .before .before .before .before .before .before .if1 .taken)
+
+add-on : tie.Need-add-on
+add-on c = omega (arith, c .before .before .before .before .before .before .before .before .before .before .before .before .before .before .before .before .pre, common-inside _ _ _ (common-was _ _ _ (c .before .before .before .before .before .before .before .before .before .read-common .ensures) (c .before .before .before .before .before .before .before .number .given .1)))
+
+on-requires-2 : tie.Need-on-requires-2
+on-requires-2 c κs = omega (arith, c .before .before .before .before .before .before .before .before .before .before .before .before .before .before .before .before .pre, common-inside _ _ _ (common-was _ _ _ (c .before .before .before .before .before .before .before .before .before .read-common .ensures) (c .before .before .before .before .before .before .before .number .given .1)))
+
+same-length : tie.Need-same-length
+same-length c = search needs
+
+returns : tie.Need-returns
+returns c = λ t. yes (common-row _ _ _ _ _ _ _ _ (common-was _ _ _ (c .before .before .before .before .before .before .before .before .before .before .read-common .ensures) (c .before .before .before .before .before .before .before .before .number .given .1)) (c .before .before .before .before .before .before .before .before .before .before .before .if1 .taken) (c .before .before .before .before .before .before .on .ensures) (c .before .before .before .before .row-of .ensures) (c .before .before .before .put-item .ensures) (c .on2 .ensures)) (omega (arith, c .before .before .before .before .before .before .before .before .before .before .before .before .before .before .before .before .before .pre, c .before .before .before .before .before .before .before .before .before .before .before .if1 .taken))
+
+enum-told : tie.Need-enum-told
+enum-told c = search needs
 
 read-frame-requires : tie.Need-read-frame-requires
 read-frame-requires c κs = search needs
@@ -21,23 +57,14 @@ enum-known-is c = search needs
 read-rows-requires : tie.Need-read-rows-requires
 read-rows-requires c κs = search needs
 
-returns : tie.Need-returns
-returns c = λ t. no (item-frame _ _ _ _ _ _ _ _ (was itemTold (c .before .before .before .read-frame .ensures) (c .before .n .given .1)))
-
-same-length : tie.Need-same-length
-same-length c = search needs
-
 returns-2 : tie.Need-returns-2
-returns-2 c = λ t. along (item-rows _ _ _ _ _ _ _ _ (was itemTold (c .before .before .before .before .before .before .before .read-frame .ensures) (c .before .before .before .before .before .is .given .1))) (c .before .before .read-rows .ensures t)
+returns-2 c = λ t. no (item-frame _ _ _ _ _ _ _ _ (was itemTold (c .before .before .before .read-frame .ensures) (c .before .n .given .1)))
+
+same-length-2 : tie.Need-same-length-2
+same-length-2 c = search needs
+
+returns-3 : tie.Need-returns-3
+returns-3 c = λ t. along (item-rows _ _ _ _ _ _ _ _ (was itemTold (c .before .before .before .before .before .before .before .read-frame .ensures) (c .before .before .before .before .before .is .given .1))) (c .before .before .read-rows .ensures t)
 
 pub read-item-spec : {M : Type 1} → statement M
-read-item-spec =
-    tie.close
-    (tie.spec
-    read-frame-requires
-    enum-known-n
-    enum-known-is
-    read-rows-requires
-    returns
-    same-length
-    returns-2)
+read-item-spec = tie.close (tie.spec read-common-requires enum-known-number on-requires add-made sub-row-of row-of-requires put-item-requires add-on on-requires-2 same-length returns enum-told read-frame-requires enum-known-n enum-known-is read-rows-requires returns-2 same-length-2 returns-3)

@@ -1,14 +1,13 @@
 -- `files_only` says what `filesOnly` says. The invariant: what is left of the rows decides.
 -- Assumes nothing.
 use mathlib.Core.Path.{_≡_}
-use Prim.Native.Nat.{_-_, _≤_, _*_}
+use Prim.Native.Nat.{_-_, _≤_}
 use lib.ListN.{drop}
 use Rattle.tree.specs.Rows.{nodesIn}
 use Rattle.mobile.specs.Mobile.{all, isFile, filesOnly}
 use Rattle.mobile.proofs.Lists.{nodes-no, nodes-on, nodes-yes}
 use Rattle.mobile.proofs.Tests.{file-no, file-yes, root-none, root-file, root-folder}
 use native.Mathlib.Omega.{arith}
-use borrow.Author.Needs.{needs}
 use Rattle.mobile.proofs.files_only.Statement.{statement}
 use Rattle.mobile.proofs.files_only.Tie as tie
 
@@ -19,31 +18,22 @@ abbrev μ-loop : tie.MeasureT-loop
 μ-loop nodes many i₀ i = many - i
 
 returns : tie.Need-returns Inv-loop μ-loop
-returns c = root-none (c .before .args .nodes .now) (c .before .args .many) (c .if1 .taken)
+returns c = root-none _ _ (c .if1 .taken)
 
-shared-slice-read-if2 : tie.Need-shared-slice-read-if2 Inv-loop μ-loop
-shared-slice-read-if2 c = omega arith
+node-at-requires : tie.Need-node-at-requires Inv-loop μ-loop
+node-at-requires c κs = omega arith
 
 returns-2 : tie.Need-returns-2 Inv-loop μ-loop
-returns-2 c = root-file (c .before .before .before .args .nodes .now) (c .before .before .before .args .many) (omega arith) (c .if2 .taken)
+returns-2 c = root-file _ _ (omega arith) (c .before .before .node-at .ensures) (c .if2 .taken)
 
 loop-holds : tie.Need-loop-holds Inv-loop μ-loop
-loop-holds c = (omega arith, root-folder (c .before .before .before .args .nodes .now) (c .before .before .before .args .many) (omega arith) (c .if2 .left))
+loop-holds c = (omega arith, root-folder _ _ (omega arith) (c .before .before .node-at .ensures) (c .if2 .left))
 
-mul-if3 : tie.Need-mul-if3 Inv-loop μ-loop
-mul-if3 c = omega arith
-
-add-if3 : tie.Need-add-if3 Inv-loop μ-loop
-add-if3 c = omega arith
-
-mul-if3-2 : tie.Need-mul-if3-2 Inv-loop μ-loop
-mul-if3-2 c = omega arith
-
-shared-slice-read-if3 : tie.Need-shared-slice-read-if3 Inv-loop μ-loop
-shared-slice-read-if3 c = omega arith
+node-at-requires-2 : tie.Need-node-at-requires-2 Inv-loop μ-loop
+node-at-requires-2 c κs = omega arith
 
 returns-3 : tie.Need-returns-3 Inv-loop μ-loop
-returns-3 c = nodes-no _ _ _ _ (c .before .before .before .loop .inv .1) (c .before .before .loop-test .taken) (file-no (c .before .before .before .before .before .before .before .args .nodes .now) (c .before .before .before .loop .i * 13) (c .if3 .taken))
+returns-3 c = nodes-no _ _ _ _ (c .before .before .before .before .loop .inv .1) (c .before .before .before .loop-test .taken) (c .before .before .node-at2 .ensures) (file-no _ (c .if3 .taken))
 
 add-i : tie.Need-add-i Inv-loop μ-loop
 add-i c = omega arith
@@ -52,27 +42,10 @@ loop-less : tie.Need-loop-less Inv-loop μ-loop
 loop-less c = omega arith
 
 loop-again : tie.Need-loop-again Inv-loop μ-loop
-loop-again c = (omega arith, nodes-on _ _ _ _ (c .before .before .before .loop .inv .1) (c .before .before .loop-test .taken) (file-yes (c .before .before .before .before .before .before .before .args .nodes .now) (c .before .before .before .loop .i * 13) (c .if3 .left)))
+loop-again c = (omega arith, nodes-on _ _ _ _ (c .before .before .before .before .loop .inv .1) (c .before .before .before .loop-test .taken) (c .before .before .node-at2 .ensures) (file-yes _ (c .if3 .left)))
 
 returns-4 : tie.Need-returns-4 Inv-loop μ-loop
 returns-4 c = nodes-yes _ _ _ _ (c .before .loop .inv .1) (c .loop-test .left)
 
 pub files-only-spec : {M : Type 1} → statement M
-files-only-spec =
-    tie.close
-    (tie.spec
-    Inv-loop
-    μ-loop
-    returns
-    shared-slice-read-if2
-    returns-2
-    loop-holds
-    mul-if3
-    add-if3
-    mul-if3-2
-    shared-slice-read-if3
-    returns-3
-    add-i
-    loop-less
-    loop-again
-    returns-4)
+files-only-spec = tie.close (tie.spec Inv-loop μ-loop returns node-at-requires returns-2 loop-holds node-at-requires-2 returns-3 add-i loop-less loop-again returns-4)

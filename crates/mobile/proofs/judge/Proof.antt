@@ -1,11 +1,11 @@
 -- `judge` gives the verdict of the file's reading, or its refusal, and leaves the tables as the reader does.
 -- Assumes nothing.
 use mathlib.Core.Path.{sym}
-use Rattle.tree.proofs.Rows.{standing, ask-refused, refused-nodes, refused-items}
-use Rattle.mobile.specs.Mobile.{mobile}
-use Rattle.mobile.proofs.Checks.{data-within, judged, judged-nodes, judged-items}
-use native.Mathlib.Omega.{arith}
 use Rattle.tree.proofs.Order.{in-row-order}
+use Rattle.tree.proofs.Rows.{standing, ask-refused, refused-nodes, refused-items}
+use Rattle.find.proofs.Own.{runs}
+use Rattle.mobile.specs.Mobile.{mobile}
+use Rattle.mobile.proofs.Checks.{tables, judged, judged-nodes, judged-items}
 use borrow.Author.Needs.{needs}
 use Rattle.mobile.proofs.judge.Statement.{statement}
 use Rattle.mobile.proofs.judge.Tie as tie
@@ -20,7 +20,7 @@ enum-known-s : tie.Need-enum-known-s
 enum-known-s c = search needs
 
 verdict-requires : tie.Need-verdict-requires
-verdict-requires c κs = let st = standing _ _ _ _ (c .before .before .before .before .before .before .before .before .before .read-file .ensures .0) (c .before .before .before .before .before .before .before .before .before .read-file .ensures .1 .0) (c .before .before .before .before .before .before .before .before .before .read-file .ensures .1 .1) (c .before .before .before .s .given .1) in (st .node-room, st .item-room, data-within st)
+verdict-requires c κs = let st = standing _ _ _ _ (c .before .before .before .before .before .before .before .before .before .read-file .ensures .0) (c .before .before .before .before .before .before .before .before .before .read-file .ensures .1 .0) (c .before .before .before .before .before .before .before .before .before .read-file .ensures .1 .1) (c .before .before .before .s .given .1) in tables st (runs _ _ (in-row-order _ _ (st .reads) .items-follow))
 
 same-length : tie.Need-same-length
 same-length c = search needs
@@ -38,19 +38,7 @@ same-length-4 : tie.Need-same-length-4
 same-length-4 c = search needs
 
 returns-2 : tie.Need-returns-2
-returns-2 c = let st = standing _ _ _ _ (c .before .before .before .before .before .before .before .before .before .before .read-file .ensures .0) (c .before .before .before .before .before .before .before .before .before .before .read-file .ensures .1 .0) (c .before .before .before .before .before .before .before .before .before .before .read-file .ensures .1 .1) (c .before .before .before .before .s .given .1) in (judged st (in-row-order _ _ (st .reads)) (c .verdict .ensures), (judged-nodes st (in-row-order _ _ (st .reads)) (c .verdict .ensures) _ (c .before .before .before .before .before .before .before .before .before .before .read-file .ensures .1 .0), judged-items st (in-row-order _ _ (st .reads)) (c .verdict .ensures) _ (c .before .before .before .before .before .before .before .before .before .before .read-file .ensures .1 .1)))
+returns-2 c = let st = standing _ _ _ _ (c .before .before .before .before .before .before .before .before .before .before .read-file .ensures .0) (c .before .before .before .before .before .before .before .before .before .before .read-file .ensures .1 .0) (c .before .before .before .before .before .before .before .before .before .before .read-file .ensures .1 .1) (c .before .before .before .before .s .given .1) in (judged st (c .verdict .ensures), (judged-nodes st (c .verdict .ensures) _ (c .before .before .before .before .before .before .before .before .before .before .read-file .ensures .1 .0), judged-items st (c .verdict .ensures) _ (c .before .before .before .before .before .before .before .before .before .before .read-file .ensures .1 .1)))
 
 pub judge-spec : {M : Type 1} → statement M
-judge-spec =
-    tie.close
-    (tie.spec
-    read-file-requires
-    enum-known-n
-    enum-known-s
-    verdict-requires
-    same-length
-    same-length-2
-    returns
-    same-length-3
-    same-length-4
-    returns-2)
+judge-spec = tie.close (tie.spec read-file-requires enum-known-n enum-known-s verdict-requires same-length same-length-2 returns same-length-3 same-length-4 returns-2)

@@ -1,10 +1,10 @@
 -- `next_row` finds the next row of a field. The invariant: the rows of the field that are left are all.
 -- Assumes nothing.
-use mathlib.Core.Path.{_≡_, refl, sym, _∙_}
+use mathlib.Core.Path.{_≡_, refl}
 use Prim.Native.Nat.{_-_, _≤_}
 use Rattle.tree.specs.Rows.{itemsIn}
-use Rattle.mobile.specs.Mobile.{those, isField}
-use Rattle.mobile.specs.Told.{part}
+use Rattle.find.specs.Own.{those, part}
+use Rattle.description.specs.Row.{isField}
 use Rattle.mobile.proofs.Lists.{next-here, next-on, next-none}
 use native.Mathlib.Omega.{arith}
 use borrow.Author.Needs.{needs}
@@ -20,14 +20,14 @@ abbrev μ-loop : tie.MeasureT-loop
 loop-holds : tie.Need-loop-holds Inv-loop μ-loop
 loop-holds c = (omega arith, omega arith, refl)
 
-mul-is-field : tie.Need-mul-is-field Inv-loop μ-loop
-mul-is-field c = omega arith
+item-at-requires : tie.Need-item-at-requires Inv-loop μ-loop
+item-at-requires c κs = omega arith
 
 is-field-requires : tie.Need-is-field-requires Inv-loop μ-loop
-is-field-requires c κs = omega arith
+is-field-requires c κs = search needs
 
 returns : tie.Need-returns Inv-loop μ-loop
-returns c = next-here (c .before .before .before .before .before .args .items .now) (c .before .before .before .before .before .args .many) (c .before .before .before .before .before .args .field) (c .before .before .before .before .before .args .from) (c .before .before .before .before .before .args .end) (c .before .before .before .loop .i) (c .before .before .before .loop .inv .2) (omega arith) (omega arith) (c .before .before .loop-test .taken) (sym (c .before .is-field .ensures) ∙ c .if1 .taken)
+returns c = next-here (c .before .before .before .before .before .before .args .items .now) (c .before .before .before .before .before .before .args .many) (c .before .before .before .before .before .before .args .field) (c .before .before .before .before .before .before .args .from) (c .before .before .before .before .before .before .args .end) (c .before .before .before .before .loop .i) (c .before .before .before .before .loop .inv .2) (omega arith) (omega arith) (c .before .before .before .loop-test .taken) (c .before .before .item-at .ensures) (c .before .is-field .ensures) (c .if1 .taken)
 
 add-i : tie.Need-add-i Inv-loop μ-loop
 add-i c = omega arith
@@ -36,22 +36,10 @@ loop-less : tie.Need-loop-less Inv-loop μ-loop
 loop-less c = omega arith
 
 loop-again : tie.Need-loop-again Inv-loop μ-loop
-loop-again c = (omega arith, omega arith, next-on (c .before .before .before .before .before .args .items .now) (c .before .before .before .before .before .args .many) (c .before .before .before .before .before .args .field) (c .before .before .before .before .before .args .from) (c .before .before .before .before .before .args .end) (c .before .before .before .loop .i) (c .before .before .before .loop .inv .2) (omega arith) (omega arith) (c .before .before .loop-test .taken) (sym (c .before .is-field .ensures) ∙ c .if1 .left))
+loop-again c = (omega arith, omega arith, next-on (c .before .before .before .before .before .before .args .items .now) (c .before .before .before .before .before .before .args .many) (c .before .before .before .before .before .before .args .field) (c .before .before .before .before .before .before .args .from) (c .before .before .before .before .before .before .args .end) (c .before .before .before .before .loop .i) (c .before .before .before .before .loop .inv .2) (omega arith) (omega arith) (c .before .before .before .loop-test .taken) (c .before .before .item-at .ensures) (c .before .is-field .ensures) (c .if1 .left))
 
 returns-2 : tie.Need-returns-2 Inv-loop μ-loop
 returns-2 c = next-none (c .before .before .before .args .items .now) (c .before .before .before .args .many) (c .before .before .before .args .field) (c .before .before .before .args .from) (c .before .before .before .args .end) (c .before .loop .i) (c .before .loop .inv .2) (omega arith) (omega arith) (omega arith) (c .loop-test .left)
 
 pub next-row-spec : {M : Type 1} → statement M
-next-row-spec =
-    tie.close
-    (tie.spec
-    Inv-loop
-    μ-loop
-    loop-holds
-    mul-is-field
-    is-field-requires
-    returns
-    add-i
-    loop-less
-    loop-again
-    returns-2)
+next-row-spec = tie.close (tie.spec Inv-loop μ-loop loop-holds item-at-requires is-field-requires returns add-i loop-less loop-again returns-2)

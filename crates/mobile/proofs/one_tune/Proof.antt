@@ -1,45 +1,42 @@
 -- `one_tune` says what `oneTune` says.
 -- Assumes nothing.
-use mathlib.Core.Path.{refl}
-use Rattle.mobile.proofs.Checks.{tune-other, bank-none, bank-more, bank-by}
-use native.Mathlib.Omega.{arith}
+use Rattle.mobile.proofs.Checks.{tunes-none, tunes-more, tune-alone, tune-after, tune-beside}
 use borrow.Author.Needs.{needs}
 use Rattle.mobile.proofs.one_tune.Statement.{statement}
 use Rattle.mobile.proofs.one_tune.Tie as tie
 
-count-of-requires : tie.Need-count-of-requires
-count-of-requires c κs = c .before .before .before .pre
+enum-known-tunes : tie.Need-enum-known-tunes
+enum-known-tunes c = search needs
+
+enum-told : tie.Need-enum-told
+enum-told c = search needs
+
+enum-known-instruments : tie.Need-enum-known-instruments
+enum-known-instruments c = search needs
+
+enum-told-2 : tie.Need-enum-told-2
+enum-told-2 c = search needs
+
+enum-told-3 : tie.Need-enum-told-3
+enum-told-3 c = search needs
+
+enum-told-4 : tie.Need-enum-told-4
+enum-told-4 c = search needs
 
 returns : tie.Need-returns
-returns c = tune-other (c .before .before .before .before .before .args .file .now) _ _ (c .before .count-of .ensures) (c .if1 .taken)
-
-count-of-requires-2 : tie.Need-count-of-requires-2
-count-of-requires-2 c κs = c .before .before .before .before .before .pre
+returns c = tune-alone _ _ (c .before .before .before .tunes .given .1) (c .enum-told .given .1)
 
 returns-2 : tie.Need-returns-2
-returns-2 c = bank-none (c .before .before .before .before .before .before .before .args .file .now) _ _ (c .before .before .before .count-of .ensures) (c .before .before .if1 .left) (c .before .count-of2 .ensures) (c .if2 .taken)
+returns-2 c = tune-after _ _ (c .before .before .before .before .tunes .given .1) (c .before .instruments .given .1)
 
 returns-3 : tie.Need-returns-3
-returns-3 c = bank-more (c .before .before .before .before .before .before .before .before .args .file .now) _ _ (c .before .before .before .before .count-of .ensures) (c .before .before .before .if1 .left) (c .before .before .count-of2 .ensures) (c .before .if2 .left) (c .if3 .taken)
-
-row-of-requires : tie.Need-row-of-requires
-row-of-requires c κs = c .before .before .before .before .before .before .before .before .pre
-
-row-of-requires-2 : tie.Need-row-of-requires-2
-row-of-requires-2 c κs = c .before .before .before .before .before .before .before .before .before .pre
+returns-3 c = tune-beside _ _ (c .before .before .before .tunes .given .1) (c .enum-told2 .given .1)
 
 returns-4 : tie.Need-returns-4
-returns-4 c = bank-by (c .before .before .before .before .before .before .before .before .before .before .args .file .now) _ _ (c .before .before .before .before .before .before .count-of .ensures) (c .before .before .before .before .before .if1 .left) (c .before .before .before .before .count-of2 .ensures) (c .before .before .before .if2 .left) (c .before .before .if3 .left) (c .before .row-of .ensures) (c .row-of2 .ensures) refl
+returns-4 c = tunes-none _ _ (c .enum-told3 .given .1)
+
+returns-5 : tie.Need-returns-5
+returns-5 c = tunes-more _ _ (c .enum-told4 .given .1)
 
 pub one-tune-spec : {M : Type 1} → statement M
-one-tune-spec =
-    tie.close
-    (tie.spec
-    count-of-requires
-    returns
-    count-of-requires-2
-    returns-2
-    returns-3
-    row-of-requires
-    row-of-requires-2
-    returns-4)
+one-tune-spec = tie.close (tie.spec enum-known-tunes enum-told enum-known-instruments enum-told-2 enum-told-3 enum-told-4 returns returns-2 returns-3 returns-4 returns-5)

@@ -1,13 +1,13 @@
 -- `plain_references` says what `plainReferences` says. The invariant: what is left of the rows decides.
 -- Assumes nothing.
-use borrow.Author.Tests.{not-true, not-false}
-use mathlib.Core.Path.{_≡_, refl}
-use Prim.Native.Nat.{_-_, _≤_, _*_}
+use mathlib.Core.Path.{_≡_, refl, sym, _∙_}
+use Prim.Native.Nat.{_-_, _≤_}
 use lib.ListN.{drop}
 use Rattle.tree.specs.Rows.{nodesIn}
+use borrow.Author.Tests.{not-true, not-false}
 use Rattle.mobile.specs.Mobile.{all, isPlain, plainReferences}
 use Rattle.mobile.proofs.Lists.{nodes-no, nodes-on, nodes-yes}
-use Rattle.mobile.proofs.Tests.{plain-is, plain-are}
+use Rattle.mobile.proofs.Tests.{plain-are}
 use native.Mathlib.Omega.{arith}
 use borrow.Author.Needs.{needs}
 use Rattle.mobile.proofs.plain_references.Statement.{statement}
@@ -22,23 +22,14 @@ abbrev μ-loop : tie.MeasureT-loop
 loop-holds : tie.Need-loop-holds Inv-loop μ-loop
 loop-holds c = (omega arith, plain-are _)
 
-mul-is-plain : tie.Need-mul-is-plain Inv-loop μ-loop
-mul-is-plain c = omega arith
-
-add-is-plain : tie.Need-add-is-plain Inv-loop μ-loop
-add-is-plain c = omega arith
-
-mul-is-plain-2 : tie.Need-mul-is-plain-2 Inv-loop μ-loop
-mul-is-plain-2 c = omega arith
-
-shared-slice-read-is-plain : tie.Need-shared-slice-read-is-plain Inv-loop μ-loop
-shared-slice-read-is-plain c = omega arith
+node-at-requires : tie.Need-node-at-requires Inv-loop μ-loop
+node-at-requires c κs = omega arith
 
 is-plain-requires : tie.Need-is-plain-requires Inv-loop μ-loop
-is-plain-requires c κs = omega arith
+is-plain-requires c κs = search needs
 
 returns : tie.Need-returns Inv-loop μ-loop
-returns c = nodes-no _ _ _ _ (c .before .before .before .before .loop .inv .1) (c .before .before .before .loop-test .taken) (plain-is (c .before .before .before .before .before .before .args .nodes .now) (c .before .before .before .before .loop .i * 13) (c .before .is-plain .ensures) (not-true (c .before .is-plain .result) (c .if1 .taken)))
+returns c = nodes-no _ _ _ _ (c .before .before .before .before .loop .inv .1) (c .before .before .before .loop-test .taken) (c .before .before .node-at .ensures) (sym (c .before .is-plain .ensures) ∙ not-true (c .before .is-plain .result) (c .if1 .taken))
 
 add-i : tie.Need-add-i Inv-loop μ-loop
 add-i c = omega arith
@@ -47,25 +38,10 @@ loop-less : tie.Need-loop-less Inv-loop μ-loop
 loop-less c = omega arith
 
 loop-again : tie.Need-loop-again Inv-loop μ-loop
-loop-again c = (omega arith, nodes-on _ _ _ _ (c .before .before .before .before .loop .inv .1) (c .before .before .before .loop-test .taken) (plain-is (c .before .before .before .before .before .before .args .nodes .now) (c .before .before .before .before .loop .i * 13) (c .before .is-plain .ensures) (not-false (c .before .is-plain .result) (c .if1 .left))))
+loop-again c = (omega arith, nodes-on _ _ _ _ (c .before .before .before .before .loop .inv .1) (c .before .before .before .loop-test .taken) (c .before .before .node-at .ensures) (sym (c .before .is-plain .ensures) ∙ not-false (c .before .is-plain .result) (c .if1 .left)))
 
 returns-2 : tie.Need-returns-2 Inv-loop μ-loop
 returns-2 c = nodes-yes _ _ _ _ (c .before .loop .inv .1) (c .loop-test .left)
 
 pub plain-references-spec : {M : Type 1} → statement M
-plain-references-spec =
-    tie.close
-    (tie.spec
-    Inv-loop
-    μ-loop
-    loop-holds
-    mul-is-plain
-    add-is-plain
-    mul-is-plain-2
-    shared-slice-read-is-plain
-    is-plain-requires
-    returns
-    add-i
-    loop-less
-    loop-again
-    returns-2)
+plain-references-spec = tie.close (tie.spec Inv-loop μ-loop loop-holds node-at-requires is-plain-requires returns add-i loop-less loop-again returns-2)

@@ -1,8 +1,6 @@
 -- `role_of_type` says what `roleOfType` says.
 -- Assumes nothing.
 use Rattle.mobile.proofs.Tests.{type-zero, type-one, type-five, type-other}
-use native.Mathlib.Omega.{arith}
-use borrow.Author.Needs.{needs}
 use Rattle.mobile.proofs.role_of_type.Statement.{statement}
 use Rattle.mobile.proofs.role_of_type.Tie as tie
 

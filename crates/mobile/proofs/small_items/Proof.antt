@@ -1,7 +1,7 @@
 -- `small_items` says what `all isSmall` says. The invariant: what is left of the rows decides.
 -- Assumes nothing.
-use mathlib.Core.Path.{_≡_, refl}
-use Prim.Native.Nat.{_-_, _≤_, _*_}
+use mathlib.Core.Path.{_≡_, refl, sym, _∙_}
+use Prim.Native.Nat.{_-_, _≤_}
 use lib.ListN.{drop}
 use Rattle.tree.specs.Rows.{itemsIn}
 use Rattle.mobile.specs.Mobile.{all, isSmall}
@@ -21,14 +21,14 @@ abbrev μ-loop : tie.MeasureT-loop
 loop-holds : tie.Need-loop-holds Inv-loop μ-loop
 loop-holds c = (omega arith, refl)
 
-mul-field-size : tie.Need-mul-field-size Inv-loop μ-loop
-mul-field-size c = omega arith
+item-at-requires : tie.Need-item-at-requires Inv-loop μ-loop
+item-at-requires c κs = omega arith
 
 field-size-requires : tie.Need-field-size-requires Inv-loop μ-loop
-field-size-requires c κs = omega arith
+field-size-requires c κs = search needs
 
 returns : tie.Need-returns Inv-loop μ-loop
-returns c = items-no _ _ _ _ (c .before .before .before .loop .inv .1) (c .before .before .loop-test .taken) (small-no (c .before .before .before .before .before .args .items .now) (c .before .before .before .loop .i * 10) (c .before .field-size .ensures) (c .if1 .taken))
+returns c = items-no _ _ _ _ (c .before .before .before .before .loop .inv .1) (c .before .before .before .loop-test .taken) (c .before .before .item-at .ensures) (small-no _ (c .before .field-size .ensures) (c .if1 .taken))
 
 add-i : tie.Need-add-i Inv-loop μ-loop
 add-i c = omega arith
@@ -37,22 +37,10 @@ loop-less : tie.Need-loop-less Inv-loop μ-loop
 loop-less c = omega arith
 
 loop-again : tie.Need-loop-again Inv-loop μ-loop
-loop-again c = (omega arith, items-on _ _ _ _ (c .before .before .before .loop .inv .1) (c .before .before .loop-test .taken) (small-yes (c .before .before .before .before .before .args .items .now) (c .before .before .before .loop .i * 10) (c .before .field-size .ensures) (c .if1 .left)))
+loop-again c = (omega arith, items-on _ _ _ _ (c .before .before .before .before .loop .inv .1) (c .before .before .before .loop-test .taken) (c .before .before .item-at .ensures) (small-yes _ (c .before .field-size .ensures) (c .if1 .left)))
 
 returns-2 : tie.Need-returns-2 Inv-loop μ-loop
 returns-2 c = items-yes _ _ _ _ (c .before .loop .inv .1) (c .loop-test .left)
 
 pub small-items-spec : {M : Type 1} → statement M
-small-items-spec =
-    tie.close
-    (tie.spec
-    Inv-loop
-    μ-loop
-    loop-holds
-    mul-field-size
-    field-size-requires
-    returns
-    add-i
-    loop-less
-    loop-again
-    returns-2)
+small-items-spec = tie.close (tie.spec Inv-loop μ-loop loop-holds item-at-requires field-size-requires returns add-i loop-less loop-again returns-2)

@@ -5,45 +5,29 @@ use Rattle.cursor.specs.Rows.{nodeFrame, unpackFrame, referenceFrame}
 use Rattle.cursor.specs.Told.{numberTold, passTold}
 use Rattle.cursor.proofs.Laws.{was}
 use Rattle.cursor.proofs.Leaves.{number-inside, block-inside}
-use Rattle.node.proofs.Ways.{target-inline, target-resource, target-node, target-uri}
+use Rattle.node.proofs.Ways.{target-resource, target-node, target-uri}
 use native.Mathlib.Omega.{arith}
 use borrow.Author.Needs.{needs}
 use Rattle.node.proofs.read_target.Statement.{statement}
 use Rattle.node.proofs.read_target.Tie as tie
 
-sub-t10 : tie.Need-sub-t10
-sub-t10 c = search needs
-
-returns : tie.Need-returns
-returns c = target-inline _ _ _ _ _ _ (c .before .before .if1 .taken)
-
 read-resource-requires : tie.Need-read-resource-requires
 read-resource-requires c κs = search needs
 
-returns-2 : tie.Need-returns-2
-returns-2 c = target-resource _ _ _ _ _ _ (c .before .before .if1 .left) (c .before .if2 .taken) (c .read-resource .ensures)
+returns : tie.Need-returns
+returns c = target-resource _ _ _ _ _ _ (omega (arith, c .before .before .before .pre)) (c .before .if1 .taken) (c .read-resource .ensures)
 
 read-node-place-requires : tie.Need-read-node-place-requires
 read-node-place-requires c κs = search needs
 
-returns-3 : tie.Need-returns-3
-returns-3 c = target-node _ _ _ _ _ _ (c .before .before .before .if1 .left) (c .before .before .if2 .left) (c .before .if3 .taken) (c .read-node-place .ensures)
+returns-2 : tie.Need-returns-2
+returns-2 c = target-node _ _ _ _ _ _ (omega (arith, c .before .before .before .before .pre)) (c .before .before .if1 .left) (c .before .if2 .taken) (c .read-node-place .ensures)
 
 read-uri-requires : tie.Need-read-uri-requires
 read-uri-requires c κs = search needs
 
-returns-4 : tie.Need-returns-4
-returns-4 c = target-uri _ _ _ _ _ _ (c .before .before .before .if1 .left) (c .before .before .if2 .left) (c .before .if3 .left) (c .read-uri .ensures)
+returns-3 : tie.Need-returns-3
+returns-3 c = target-uri _ _ _ _ _ _ (omega (arith, c .before .before .before .before .pre)) (c .before .before .if1 .left) (c .before .if2 .left) (c .read-uri .ensures)
 
 pub read-target-spec : {M : Type 1} → statement M
-read-target-spec =
-    tie.close
-    (tie.spec
-    sub-t10
-    returns
-    read-resource-requires
-    returns-2
-    read-node-place-requires
-    returns-3
-    read-uri-requires
-    returns-4)
+read-target-spec = tie.close (tie.spec read-resource-requires returns read-node-place-requires returns-2 read-uri-requires returns-3)

@@ -5,8 +5,7 @@ use Rattle.cursor.specs.Rows.{nodeFrame, unpackFrame, referenceFrame}
 use Rattle.cursor.specs.Told.{numberTold, passTold}
 use Rattle.cursor.proofs.Laws.{was}
 use Rattle.cursor.proofs.Leaves.{number-inside, block-inside}
-use mathlib.Core.Logic.{⊎-elim}
-use Rattle.node.proofs.Ways.{unpackers-cut, unpackers-folder, unpackers-file, unpackers-none}
+use Rattle.node.proofs.Ways.{unpackers-cut, unpackers-none, unpackers-folder, unpackers-file}
 use native.Mathlib.Omega.{arith}
 use borrow.Author.Needs.{needs}
 use Rattle.node.proofs.read_unpackers.Statement.{statement}
@@ -22,29 +21,22 @@ enum-known-size : tie.Need-enum-known-size
 enum-known-size c = search needs
 
 returns : tie.Need-returns
-returns c = unpackers-folder _ _ _ _ (was numberTold (c .before .before .before .before .before .block .ensures unpackFrame) (c .before .before .before .size .given .1)) (c .before .if1 .taken) (c .if2 .taken)
-
-on-requires : tie.Need-on-requires
-on-requires c κs = omega (arith, c .before .before .before .before .before .before .before .pre, block-inside unpackFrame _ _ _ _ (was numberTold (c .before .before .before .before .block .ensures unpackFrame) (c .before .before .size .given .1)))
-
-read-entries-requires : tie.Need-read-entries-requires
-read-entries-requires c κs = omega (arith, c .before .before .before .before .before .before .before .before .before .pre, c .before .on .ensures, block-inside unpackFrame _ _ _ _ (was numberTold (c .before .before .before .before .before .before .block .ensures unpackFrame) (c .before .before .before .before .size .given .1)))
+returns c = unpackers-none _ _ _ _ (was numberTold (c .before .before .before .before .before .block .ensures unpackFrame) (c .before .before .before .size .given .1)) (c .before .if1 .taken)
 
 returns-2 : tie.Need-returns-2
-returns-2 c = unpackers-cut _ _ _ _ (was numberTold (c .before .before .before .block .ensures unpackFrame) (c .before .n .given .1))
+returns-2 c = unpackers-folder _ _ _ _ (was numberTold (c .before .before .before .before .before .block .ensures unpackFrame) (c .before .before .before .size .given .1)) (c .if2 .taken) (c .before .if1 .left)
+
+on-requires : tie.Need-on-requires
+on-requires c κs = omega (arith, c .before .before .before .before .before .before .before .before .pre, block-inside unpackFrame _ _ _ _ (was numberTold (c .before .before .before .before .before .block .ensures unpackFrame) (c .before .before .before .size .given .1)))
+
+read-entries-requires : tie.Need-read-entries-requires
+read-entries-requires c κs = omega (arith, c .before .before .before .before .before .before .before .before .before .before .pre, c .before .on .ensures, block-inside unpackFrame _ _ _ _ (was numberTold (c .before .before .before .before .before .before .before .block .ensures unpackFrame) (c .before .before .before .before .before .size .given .1)))
 
 returns-3 : tie.Need-returns-3
-returns-3 c = ⊎-elim (λ w. unpackers-none _ _ _ _ (was numberTold (c .before .before .before .before .before .before .before .block .ensures unpackFrame) (c .before .before .before .before .before .size .given .1)) (w .0 .taken) (w .1 .left) (c .before .before .on .ensures) (c .read-entries .ensures)) (λ w. unpackers-file _ _ _ _ (was numberTold (c .before .before .before .before .before .before .before .block .ensures unpackFrame) (c .before .before .before .before .before .size .given .1)) (w .left) (c .before .before .on .ensures) (c .read-entries .ensures)) (c .before .before .before .if1 .came)
+returns-3 c = unpackers-cut _ _ _ _ (was numberTold (c .before .before .before .block .ensures unpackFrame) (c .before .n .given .1))
+
+returns-4 : tie.Need-returns-4
+returns-4 c = unpackers-file _ _ _ _ (was numberTold (c .before .before .before .before .before .before .before .before .block .ensures unpackFrame) (c .before .before .before .before .before .before .size .given .1)) (c .before .before .before .if2 .left) (c .before .before .on .ensures) (c .read-entries .ensures)
 
 pub read-unpackers-spec : {M : Type 1} → statement M
-read-unpackers-spec =
-    tie.close
-    (tie.spec
-    block-requires
-    enum-known-n
-    enum-known-size
-    returns
-    on-requires
-    read-entries-requires
-    returns-2
-    returns-3)
+read-unpackers-spec = tie.close (tie.spec block-requires enum-known-n enum-known-size returns returns-2 on-requires read-entries-requires returns-3 returns-4)

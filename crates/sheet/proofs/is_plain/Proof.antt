@@ -1,6 +1,6 @@
 -- `is_plain` says what `plain` says.
 -- Assumes nothing.
-use Rattle.sheet.proofs.Lines.{plain-low, plain-high, plain-slash, plain-is}
+use Rattle.sheet.proofs.Escapes.{plain-low, plain-high, plain-slash, plain-is}
 use Rattle.sheet.proofs.is_plain.Statement.{statement}
 use Rattle.sheet.proofs.is_plain.Tie as tie
 

@@ -1,48 +1,72 @@
 -- `put_escaped` puts the escaped bytes of a part. The invariant: of the whole, the bytes from `at` on are still to be put.
 -- Assumes nothing.
+use mathlib.Core.Path.{refl, sym, _∙_}
 use Prim.Native.Nat.{_-_, _≤_}
 use lib.ListN.{length}
-use mathlib.Core.Path.{refl}
 use Rattle.sheet.specs.Sheet.{escapedPart}
-use Rattle.room.proofs.Putting.{Going, going-start, going-on, going-end, going-length}
-use Rattle.sheet.proofs.Lines.{part-on, part-end, part-start}
-use native.Mathlib.Omega.{arith}
+use Rattle.room.proofs.Counting.{Going, going-start, going-on, going-end, going-length}
+use Rattle.sheet.proofs.Escapes.{plain-one, plain-join, put-plain, put-hexed, put-none, put-start}
 use borrow.Author.Needs.{needs}
+use native.Mathlib.Omega.{arith}
 use Rattle.sheet.proofs.put_escaped.Statement.{statement}
 use Rattle.sheet.proofs.put_escaped.Tie as tie
 
 abbrev Inv-loop : tie.InvT-loop
-Inv-loop out₀ to file from size end next₀ at₀ out next at = (at ≤ end) × (end ≤ length file) × Going out₀ out next₀ next (escapedPart file from size) (escapedPart file at (end - at))
+Inv-loop out₀ to file from size end hex next₀ at₀ out next at = (at ≤ end) × (end ≤ length file) × Going out₀ out to next (escapedPart file from size) (escapedPart file at (end - at))
 
 abbrev μ-loop : tie.MeasureT-loop
-μ-loop out₀ to file from size end next₀ at₀ out next at = end - at
+μ-loop out₀ to file from size end hex next₀ at₀ out next at = end - at
 
 add-end : tie.Need-add-end Inv-loop μ-loop
 add-end c = omega arith
 
+hex-digits-requires : tie.Need-hex-digits-requires Inv-loop μ-loop
+hex-digits-requires c κs = search needs
+
 loop-holds : tie.Need-loop-holds Inv-loop μ-loop
-loop-holds c = (omega arith, omega arith, going-start _ _ (part-start _ _ _ refl))
+loop-holds c = (omega arith, omega arith, going-start _ (omega arith) (put-start _ _ _ refl))
 
-shared-slice-read-put-escaped-byte : tie.Need-shared-slice-read-put-escaped-byte Inv-loop μ-loop
-shared-slice-read-put-escaped-byte c = omega arith
+shared-slice-read-byte : tie.Need-shared-slice-read-byte Inv-loop μ-loop
+shared-slice-read-byte c = omega arith
 
-put-escaped-byte-requires : tie.Need-put-escaped-byte-requires Inv-loop μ-loop
-put-escaped-byte-requires c κs = search needs
+is-plain-requires : tie.Need-is-plain-requires Inv-loop μ-loop
+is-plain-requires c κs = search needs
+
+plain-end-requires : tie.Need-plain-end-requires Inv-loop μ-loop
+plain-end-requires c κs = omega arith
+
+add-plain-end : tie.Need-add-plain-end Inv-loop μ-loop
+add-plain-end c = omega arith
+
+sub-put-part : tie.Need-sub-put-part Inv-loop μ-loop
+sub-put-part c = omega (arith, c .before .plain-end .ensures .0 .within)
+
+put-part-requires : tie.Need-put-part-requires Inv-loop μ-loop
+put-part-requires c κs = omega (arith, c .before .plain-end .ensures .0 .within, c .before .plain-end .ensures .1)
+
+loop-less : tie.Need-loop-less Inv-loop μ-loop
+loop-less c = omega (arith, c .before .before .before .before .plain-end .ensures .0 .within, c .before .before .before .before .plain-end .ensures .1)
+
+loop-again : tie.Need-loop-again Inv-loop μ-loop
+loop-again c = (c .before .before .before .before .plain-end .ensures .1, omega arith, going-on (put-plain _ _ _ _ (c .before .before .before .before .plain-end .ensures .1) (plain-join _ (plain-one _ _ (omega arith) (sym (c .before .before .before .before .before .before .is-plain .ensures) ∙ c .before .before .before .before .before .if1 .taken)) (c .before .before .before .before .plain-end .ensures .0))) (c .before .before .before .before .before .before .before .before .before .loop .inv .2) (c .before .before .put-part .ensures))
+
+put-hex-requires : tie.Need-put-hex-requires Inv-loop μ-loop
+put-hex-requires c κs = c .before .before .before .before .before .before .before .hex-digits .ensures
 
 add-at : tie.Need-add-at Inv-loop μ-loop
 add-at c = omega arith
 
-loop-less : tie.Need-loop-less Inv-loop μ-loop
-loop-less c = omega arith
+loop-less-2 : tie.Need-loop-less-2 Inv-loop μ-loop
+loop-less-2 c = omega arith
 
-loop-again : tie.Need-loop-again Inv-loop μ-loop
-loop-again c = (omega arith, omega arith, going-on (part-on _ _ _ (c .before .before .before .before .before .loop-test .taken)) (c .before .before .before .before .before .before .loop .inv .2) (c .before .before .put-escaped-byte .ensures))
+loop-again-2 : tie.Need-loop-again-2 Inv-loop μ-loop
+loop-again-2 c = (omega arith, omega arith, going-on (put-hexed _ _ _ (c .before .before .before .before .before .before .before .before .loop-test .taken) (omega arith) (sym (c .before .before .before .before .before .before .is-plain .ensures) ∙ c .before .before .before .before .before .if1 .left)) (c .before .before .before .before .before .before .before .before .before .loop .inv .2) (c .before .before .put-hex .ensures))
 
 same-length : tie.Need-same-length Inv-loop μ-loop
 same-length c = going-length (c .before .loop .inv .2)
 
 returns : tie.Need-returns Inv-loop μ-loop
-returns c = going-end (part-end _ _ _ (c .loop-test .left)) (c .before .loop .inv .2)
+returns c = going-end (put-none _ _ _ (c .loop-test .left)) (c .before .loop .inv .2)
 
 pub put-escaped-spec : {M : Type 1} → statement M
 put-escaped-spec =
@@ -51,11 +75,19 @@ put-escaped-spec =
     Inv-loop
     μ-loop
     add-end
+    hex-digits-requires
     loop-holds
-    shared-slice-read-put-escaped-byte
-    put-escaped-byte-requires
-    add-at
+    shared-slice-read-byte
+    is-plain-requires
+    add-plain-end
+    plain-end-requires
+    sub-put-part
+    put-part-requires
     loop-less
     loop-again
+    put-hex-requires
+    add-at
+    loop-less-2
+    loop-again-2
     same-length
     returns)

@@ -4,7 +4,7 @@ use Prim.Native.Nat.{_-_, _≤_}
 use mathlib.Core.Path.{sym}
 use Rattle.tree.specs.Rows.{itemsFrom, itemsIn}
 use Rattle.sheet.specs.Sheet.{itemLines}
-use Rattle.room.proofs.Putting.{Going, going-start, going-on, going-end, going-length}
+use Rattle.room.proofs.Counting.{Going, going-start, going-on, going-end, going-length}
 use Rattle.sheet.proofs.Lines.{items-on, items-end, items-start}
 use native.Mathlib.Omega.{arith}
 use Rattle.sheet.proofs.put_item_lines.Statement.{statement}
@@ -17,7 +17,7 @@ abbrev μ-loop : tie.MeasureT-loop
 μ-loop out₀ to file items count next₀ i₀ out next i = count - i
 
 loop-holds : tie.Need-loop-holds Inv-loop μ-loop
-loop-holds c = (omega arith, going-start _ _ (sym (items-start _ _ _)))
+loop-holds c = (omega arith, going-start _ (omega arith) (sym (items-start _ _ _)))
 
 mul-put-visible-line : tie.Need-mul-put-visible-line Inv-loop μ-loop
 mul-put-visible-line c = omega arith

@@ -1,6 +1,6 @@
 -- `put_label` puts the field of an item row.
 -- Assumes nothing.
-use Rattle.room.proofs.Putting.{puts-then, puts-as}
+use Rattle.room.proofs.Counting.{counts-then, counts-as}
 use Rattle.sheet.proofs.Lines.{label-standard, label-custom, named-inside}
 use Rattle.tree.specs.Rows.{itemFrom}
 use borrow.Author.Needs.{needs}
@@ -50,7 +50,7 @@ same-length : tie.Need-same-length
 same-length c = search needs
 
 returns : tie.Need-returns
-returns c = puts-as (label-custom _ _ (c .before .before .before .before .before .before .before .before .before .before .before .before .before .before .if1 .taken)) (puts-then (puts-then (puts-then (c .before .before .before .before .before .before .before .before .before .before .before .before .before .before .before .before .before .before .put-byte .ensures) (c .before .before .before .before .before .before .before .before .before .before .before .before .put-byte2 .ensures)) (c .before .before .before .before .before .before .before .before .put-byte3 .ensures)) (c .before .before .put-escaped .ensures))
+returns c = counts-as (label-custom _ _ (c .before .before .before .before .before .before .before .before .before .before .before .before .before .before .if1 .taken)) (counts-then (counts-then (counts-then (c .before .before .before .before .before .before .before .before .before .before .before .before .before .before .before .before .before .before .put-byte .ensures) (c .before .before .before .before .before .before .before .before .before .before .before .before .put-byte2 .ensures)) (c .before .before .before .before .before .before .before .before .put-byte3 .ensures)) (c .before .before .put-escaped .ensures))
 
 put-byte-requires-4 : tie.Need-put-byte-requires-4
 put-byte-requires-4 c κs = search needs
@@ -71,7 +71,7 @@ same-length-2 : tie.Need-same-length-2
 same-length-2 c = search needs
 
 returns-2 : tie.Need-returns-2
-returns-2 c = puts-as (label-standard _ _ (c .before .before .before .before .before .before .before .before .before .if1 .left)) (puts-then (puts-then (c .before .before .before .before .before .before .before .before .before .before .before .before .before .put-byte .ensures) (c .before .before .before .before .before .before .before .put-byte4 .ensures)) (c .before .before .put-number .ensures))
+returns-2 c = counts-as (label-standard _ _ (c .before .before .before .before .before .before .before .before .before .if1 .left)) (counts-then (counts-then (c .before .before .before .before .before .before .before .before .before .before .before .before .before .put-byte .ensures) (c .before .before .before .before .before .before .before .put-byte4 .ensures)) (c .before .before .put-number .ensures))
 
 pub put-label-spec : {M : Type 1} → statement M
 put-label-spec =

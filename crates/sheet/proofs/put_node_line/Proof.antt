@@ -1,6 +1,6 @@
 -- `put_node_line` puts the line of a node row.
 -- Assumes nothing.
-use Rattle.room.proofs.Putting.{puts-then, puts-as, puts-length}
+use Rattle.room.proofs.Counting.{counts-then, counts-as}
 use Rattle.sheet.proofs.Lines.{node-is}
 use borrow.Author.Needs.{needs}
 use Rattle.sheet.proofs.put_node_line.Statement.{statement}
@@ -78,11 +78,11 @@ put-number-requires-6 c κs = search needs
 put-byte-requires-2 : tie.Need-put-byte-requires-2
 put-byte-requires-2 c κs = search needs
 
-same-length : tie.Need-same-length
-same-length c = puts-length (puts-then (puts-then (puts-then (puts-then (puts-then (puts-then (puts-then (c .before .before .before .before .before .before .before .before .before .before .before .before .before .before .before .before .before .before .before .before .before .before .before .before .before .before .before .before .before .before .put-byte .ensures) (c .before .before .before .before .before .before .before .before .before .before .before .before .before .before .before .before .before .before .before .before .before .before .before .before .before .before .put-number .ensures)) (c .before .before .before .before .before .before .before .before .before .before .before .before .before .before .before .before .before .before .before .before .before .before .put-number2 .ensures)) (c .before .before .before .before .before .before .before .before .before .before .before .before .before .before .before .before .before .before .put-number3 .ensures)) (c .before .before .before .before .before .before .before .before .before .before .before .before .before .before .put-number4 .ensures)) (c .before .before .before .before .before .before .before .before .before .before .put-number5 .ensures)) (c .before .before .before .before .before .before .put-number6 .ensures)) (c .before .before .put-byte2 .ensures))
-
 returns : tie.Need-returns
-returns c = puts-as (node-is _ _) (puts-then (puts-then (puts-then (puts-then (puts-then (puts-then (puts-then (c .before .before .before .before .before .before .before .before .before .before .before .before .before .before .before .before .before .before .before .before .before .before .before .before .before .before .before .before .before .before .put-byte .ensures) (c .before .before .before .before .before .before .before .before .before .before .before .before .before .before .before .before .before .before .before .before .before .before .before .before .before .before .put-number .ensures)) (c .before .before .before .before .before .before .before .before .before .before .before .before .before .before .before .before .before .before .before .before .before .before .put-number2 .ensures)) (c .before .before .before .before .before .before .before .before .before .before .before .before .before .before .before .before .before .before .put-number3 .ensures)) (c .before .before .before .before .before .before .before .before .before .before .before .before .before .before .put-number4 .ensures)) (c .before .before .before .before .before .before .before .before .before .before .put-number5 .ensures)) (c .before .before .before .before .before .before .put-number6 .ensures)) (c .before .before .put-byte2 .ensures))
+returns c = counts-as (node-is _ _) (counts-then (counts-then (counts-then (counts-then (counts-then (counts-then (counts-then (c .before .before .before .before .before .before .before .before .before .before .before .before .before .before .before .before .before .before .before .before .before .before .before .before .before .before .before .before .before .before .put-byte .ensures) (c .before .before .before .before .before .before .before .before .before .before .before .before .before .before .before .before .before .before .before .before .before .before .before .before .before .before .put-number .ensures)) (c .before .before .before .before .before .before .before .before .before .before .before .before .before .before .before .before .before .before .before .before .before .before .put-number2 .ensures)) (c .before .before .before .before .before .before .before .before .before .before .before .before .before .before .before .before .before .before .put-number3 .ensures)) (c .before .before .before .before .before .before .before .before .before .before .before .before .before .before .put-number4 .ensures)) (c .before .before .before .before .before .before .before .before .before .before .put-number5 .ensures)) (c .before .before .before .before .before .before .put-number6 .ensures)) (c .before .before .put-byte2 .ensures))
+
+same-length : tie.Need-same-length
+same-length c = returns c .long
 
 pub put-node-line-spec : {M : Type 1} → statement M
 put-node-line-spec =

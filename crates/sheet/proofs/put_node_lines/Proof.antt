@@ -4,7 +4,7 @@ use Prim.Native.Nat.{_-_, _≤_}
 use mathlib.Core.Path.{sym}
 use Rattle.tree.specs.Rows.{nodesFrom, nodesIn}
 use Rattle.sheet.specs.Sheet.{nodeLines}
-use Rattle.room.proofs.Putting.{Going, going-start, going-on, going-end, going-length}
+use Rattle.room.proofs.Counting.{Going, going-start, going-on, going-end, going-length}
 use Rattle.sheet.proofs.Lines.{nodes-on, nodes-end, nodes-start}
 use native.Mathlib.Omega.{arith}
 use Rattle.sheet.proofs.put_node_lines.Statement.{statement}
@@ -17,7 +17,7 @@ abbrev μ-loop : tie.MeasureT-loop
 μ-loop out₀ to nodes count next₀ i₀ out next i = count - i
 
 loop-holds : tie.Need-loop-holds Inv-loop μ-loop
-loop-holds c = (omega arith, going-start _ _ (sym (nodes-start _ _)))
+loop-holds c = (omega arith, going-start _ (omega arith) (sym (nodes-start _ _)))
 
 put-node-line-requires : tie.Need-put-node-line-requires Inv-loop μ-loop
 put-node-line-requires c κs = omega arith

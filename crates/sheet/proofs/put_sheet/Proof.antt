@@ -1,6 +1,6 @@
 -- `put_sheet` puts all lines.
 -- Assumes nothing.
-use Rattle.room.proofs.Putting.{puts-then, puts-as}
+use Rattle.room.proofs.Counting.{counts-then, counts-as}
 use Rattle.sheet.proofs.Lines.{lines-are}
 use borrow.Author.Needs.{needs}
 use Rattle.sheet.proofs.put_sheet.Statement.{statement}
@@ -19,7 +19,7 @@ same-length : tie.Need-same-length
 same-length c = search needs
 
 returns : tie.Need-returns
-returns c = puts-as (lines-are _ _ _ _ _ _) (puts-then (puts-then (c .before .before .before .before .before .before .before .before .before .before .put-first .ensures) (c .before .before .before .before .before .before .put-node-lines .ensures)) (c .before .before .put-item-lines .ensures))
+returns c = counts-as (lines-are _ _ _ _ _ _) (counts-then (counts-then (c .before .before .before .before .before .before .before .before .before .before .put-first .ensures) (c .before .before .before .before .before .before .put-node-lines .ensures)) (c .before .before .put-item-lines .ensures))
 
 pub put-sheet-spec : {M : Type 1} → statement M
 put-sheet-spec =

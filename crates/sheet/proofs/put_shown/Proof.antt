@@ -23,7 +23,7 @@ after-mark-requires : tie.Need-after-mark-requires Inv-loop μ-loop
 after-mark-requires c κs = search needs
 
 loop-holds : tie.Need-loop-holds Inv-loop μ-loop
-loop-holds c = conv-start (c .before .before .before .args .units .now) _ _ _ (c .after-mark .ensures .1) (shown-start (c .before .before .before .args .units .now) _ (c .after-mark .ensures .0))
+loop-holds c = conv-start (c .before .before .before .args .units .now) _ _ (omega arith) (c .after-mark .ensures .1) (shown-start (c .before .before .before .args .units .now) _ (c .after-mark .ensures .0))
 
 char16-requires : tie.Need-char16-requires Inv-loop μ-loop
 char16-requires c κs = search needs

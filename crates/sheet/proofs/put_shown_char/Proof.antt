@@ -1,6 +1,6 @@
 -- `put_shown_char` puts a character of a converted text.
 -- Assumes nothing.
-use Rattle.room.proofs.Putting.{puts-as}
+use Rattle.room.proofs.Counting.{counts-as}
 use Rattle.sheet.proofs.Shown.{shown-low, shown-high}
 use borrow.Author.Needs.{needs}
 use Rattle.sheet.proofs.put_shown_char.Statement.{statement}
@@ -16,7 +16,7 @@ same-length : tie.Need-same-length
 same-length c = search needs
 
 returns : tie.Need-returns
-returns c = puts-as (shown-low _ (c .before .before .before .before .if1 .taken)) (c .before .before .put-escaped-byte .ensures)
+returns c = counts-as (shown-low _ (c .before .before .before .before .if1 .taken)) (c .before .before .put-escaped-byte .ensures)
 
 put8-requires : tie.Need-put8-requires
 put8-requires c κs = search needs
@@ -25,7 +25,7 @@ same-length-2 : tie.Need-same-length-2
 same-length-2 c = search needs
 
 returns-2 : tie.Need-returns-2
-returns-2 c = puts-as (shown-high _ (c .before .before .before .before .if1 .left)) (c .before .before .put8 .ensures)
+returns-2 c = counts-as (shown-high _ (c .before .before .before .before .if1 .left)) (c .before .before .put8 .ensures)
 
 pub put-shown-char-spec : {M : Type 1} → statement M
 put-shown-char-spec =

@@ -1,6 +1,6 @@
 -- `put_text` puts the data of an item row.
 -- Assumes nothing.
-use Rattle.room.proofs.Putting.{puts-as}
+use Rattle.room.proofs.Counting.{counts-as}
 use Rattle.sheet.proofs.Lines.{text-unicode, text-plain}
 use borrow.Author.Needs.{needs}
 use Rattle.sheet.proofs.put_text.Statement.{statement}
@@ -40,7 +40,7 @@ same-length : tie.Need-same-length
 same-length c = search needs
 
 returns : tie.Need-returns
-returns c = puts-as (text-unicode _ _ (c .before .before .before .before .before .before .if1 .taken)) (c .before .before .put-unicode .ensures)
+returns c = counts-as (text-unicode _ _ (c .before .before .before .before .before .before .if1 .taken)) (c .before .before .put-unicode .ensures)
 
 add-put-escaped : tie.Need-add-put-escaped
 add-put-escaped c = search needs
@@ -67,7 +67,7 @@ same-length-2 : tie.Need-same-length-2
 same-length-2 c = search needs
 
 returns-2 : tie.Need-returns-2
-returns-2 c = puts-as (text-plain _ _ (c .before .before .before .before .before .before .if1 .left)) (c .before .before .put-escaped .ensures)
+returns-2 c = counts-as (text-plain _ _ (c .before .before .before .before .before .before .if1 .left)) (c .before .before .put-escaped .ensures)
 
 pub put-text-spec : {M : Type 1} → statement M
 put-text-spec =

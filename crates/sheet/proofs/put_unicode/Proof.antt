@@ -1,8 +1,8 @@
 -- `put_unicode` puts UTF-16 converted where it converts, and escaped where not.
 -- Assumes nothing.
 use mathlib.Core.Path.{refl, sym, ap, _∙_}
-use Rattle.room.proofs.Putting.{puts-as}
-use Rattle.sheet.proofs.Shown.{part-of, unicode-good, unicode-bad}
+use Rattle.room.proofs.Counting.{counts-as, lent-part}
+use Rattle.sheet.proofs.Shown.{unicode-good, unicode-bad}
 use borrow.Author.Needs.{needs}
 use Rattle.sheet.proofs.put_unicode.Statement.{statement}
 use Rattle.sheet.proofs.put_unicode.Tie as tie
@@ -38,7 +38,7 @@ same-length : tie.Need-same-length
 same-length c = search needs
 
 returns : tie.Need-returns
-returns c = puts-as (unicode-good (c .before .before .before .before .before .before .before .before .before .before .args .file .now) (c .before .before .before .before .before .before .before .before .before .before .args .from) (c .before .before .before .before .before .before .before .before .before .before .args .size) (part-of (c .before .before .before .before .before .before .before .before .before .before .args .file .now) (c .before .before .before .before .before .before .before .before .before .before .args .from) (c .before .before .before .before .before .before .before .before .before .before .args .size) refl (c .before .before .before .before .before .before .before .before .before .before .pre)) (c .before .before .before .before .before .before .converts .ensures) (c .before .before .before .before .before .if1 .taken)) (c .before .before .put-shown .ensures)
+returns c = counts-as (unicode-good (c .before .before .before .before .before .before .before .before .before .before .args .file .now) (c .before .before .before .before .before .before .before .before .before .before .args .from) (c .before .before .before .before .before .before .before .before .before .before .args .size) (lent-part (c .before .before .before .before .before .before .before .before .before .before .args .file .now) (c .before .before .before .before .before .before .before .before .before .before .args .from) (c .before .before .before .before .before .before .before .before .before .before .args .size) refl) (c .before .before .before .before .before .before .converts .ensures) (c .before .before .before .before .before .if1 .taken)) (c .before .before .put-shown .ensures)
 
 put-escaped-requires : tie.Need-put-escaped-requires
 put-escaped-requires c κs = search needs
@@ -47,7 +47,7 @@ same-length-2 : tie.Need-same-length-2
 same-length-2 c = search needs
 
 returns-2 : tie.Need-returns-2
-returns-2 c = puts-as (unicode-bad (c .before .before .before .before .before .before .before .before .before .args .file .now) (c .before .before .before .before .before .before .before .before .before .args .from) (c .before .before .before .before .before .before .before .before .before .args .size) (part-of (c .before .before .before .before .before .before .before .before .before .args .file .now) (c .before .before .before .before .before .before .before .before .before .args .from) (c .before .before .before .before .before .before .before .before .before .args .size) refl (c .before .before .before .before .before .before .before .before .before .pre)) (c .before .before .before .before .before .converts .ensures) (c .before .before .before .before .if1 .left)) (c .before .before .put-escaped .ensures)
+returns-2 c = counts-as (unicode-bad (c .before .before .before .before .before .before .before .before .before .args .file .now) (c .before .before .before .before .before .before .before .before .before .args .from) (c .before .before .before .before .before .before .before .before .before .args .size) (lent-part (c .before .before .before .before .before .before .before .before .before .args .file .now) (c .before .before .before .before .before .before .before .before .before .args .from) (c .before .before .before .before .before .before .before .before .before .args .size) refl) (c .before .before .before .before .before .converts .ensures) (c .before .before .before .before .if1 .left)) (c .before .before .put-escaped .ensures)
 
 pub put-unicode-spec : {M : Type 1} → statement M
 put-unicode-spec =

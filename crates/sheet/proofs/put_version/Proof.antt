@@ -1,6 +1,6 @@
 -- `put_version` puts what `versionText` says.
 -- Assumes nothing.
-use Rattle.room.proofs.Putting.{puts-then, puts-as}
+use Rattle.room.proofs.Counting.{counts-then, counts-as}
 use Rattle.sheet.proofs.Lines.{version-is}
 use borrow.Author.Needs.{needs}
 use Rattle.sheet.proofs.put_version.Statement.{statement}
@@ -22,7 +22,7 @@ same-length : tie.Need-same-length
 same-length c = search needs
 
 returns : tie.Need-returns
-returns c = puts-as (version-is _) (puts-then (puts-then (puts-then (c .before .before .before .before .before .before .before .before .before .before .before .before .before .before .put-decimal .ensures) (c .before .before .before .before .before .before .before .before .before .before .put-byte .ensures)) (c .before .before .before .before .before .before .put-decimal2 .ensures)) (c .before .before .put-decimal3 .ensures))
+returns c = counts-as (version-is _) (counts-then (counts-then (counts-then (c .before .before .before .before .before .before .before .before .before .before .before .before .before .before .put-decimal .ensures) (c .before .before .before .before .before .before .before .before .before .before .put-byte .ensures)) (c .before .before .before .before .before .before .put-decimal2 .ensures)) (c .before .before .put-decimal3 .ensures))
 
 pub put-version-spec : {M : Type 1} → statement M
 put-version-spec =

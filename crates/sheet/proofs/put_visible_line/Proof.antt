@@ -1,7 +1,8 @@
 -- `put_visible_line` puts the line of an item row, or none where it is hidden.
 -- Assumes nothing.
-use Rattle.room.proofs.Putting.{puts-none, puts-as}
+use Rattle.room.proofs.Counting.{counts-none, counts-as}
 use Rattle.sheet.proofs.Lines.{line-hidden, line-shown}
+use native.Mathlib.Omega.{arith}
 use borrow.Author.Needs.{needs}
 use Rattle.sheet.proofs.put_visible_line.Statement.{statement}
 use Rattle.sheet.proofs.put_visible_line.Tie as tie
@@ -16,7 +17,7 @@ shared-slice-read-if1 : tie.Need-shared-slice-read-if1
 shared-slice-read-if1 c = search needs
 
 returns : tie.Need-returns
-returns c = puts-as (line-hidden _ _ (c .if1 .taken)) (puts-none _ _)
+returns c = counts-as (line-hidden _ _ (c .if1 .taken)) (counts-none _ (omega arith))
 
 put-item-line-requires : tie.Need-put-item-line-requires
 put-item-line-requires c κs = search needs
@@ -25,7 +26,7 @@ same-length : tie.Need-same-length
 same-length c = search needs
 
 returns-2 : tie.Need-returns-2
-returns-2 c = puts-as (line-shown _ _ (c .before .before .before .before .if1 .left)) (c .before .before .put-item-line .ensures)
+returns-2 c = counts-as (line-shown _ _ (c .before .before .before .before .if1 .left)) (c .before .before .put-item-line .ensures)
 
 pub put-visible-line-spec : {M : Type 1} → statement M
 put-visible-line-spec =

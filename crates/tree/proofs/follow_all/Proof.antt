@@ -21,7 +21,7 @@ loop-holds : tie.Need-loop-holds Inv-loop μ-loop
 loop-holds c = (follows-begun _ _ _ _ _ _ _, refl, refl)
 
 reach-from-requires : tie.Need-reach-from-requires Inv-loop μ-loop
-reach-from-requires c κs = let w = c .before .before .before .before .before .before .before .before .before .pre .6 in let x = c .before .before .before .before .loop .inv .0 (w .0) (w .1) (w .2) in let p = c .before .before .before .before .before .before .before .before .before .pre in let a = c .before .before .before .before .loop .inv .1 in let b = c .before .before .before .before .loop .inv .2 in (p .0, p .1, p .2, omega (arith, p .3), omega (arith, p .4), p .5, c .before .before .if1 .taken, (w .0, x .log, x .stands))
+reach-from-requires c κs = let w = c .before .before .before .before .before .before .before .before .before .pre .1 in let x = c .before .before .before .before .loop .inv .0 (w .0) (w .1) (w .2) in let p = c .before .before .before .before .before .before .before .before .before .pre .0 in let a = c .before .before .before .before .loop .inv .1 in let b = c .before .before .before .before .loop .inv .2 in (omega (arith, p), c .before .before .if1 .taken, (w .0, x .log, x .stands))
 
 enum-known-n : tie.Need-enum-known-n Inv-loop μ-loop
 enum-known-n c = search needs
@@ -42,10 +42,10 @@ add-i : tie.Need-add-i Inv-loop μ-loop
 add-i c = omega arith
 
 loop-less : tie.Need-loop-less Inv-loop μ-loop
-loop-less c = let w = c .before .before .before .before .before .before .before .before .before .before .before .before .before .before .before .before .before .pre .6 in let x = c .before .before .before .before .before .before .before .before .before .before .before .before .loop .inv .0 (w .0) (w .1) (w .2) in omega (arith, c .before .before .before .before .before .before .before .before .before .before .if1 .taken, x .stands .fits)
+loop-less c = let w = c .before .before .before .before .before .before .before .before .before .before .before .before .before .before .before .before .before .pre .1 in let x = c .before .before .before .before .before .before .before .before .before .before .before .before .loop .inv .0 (w .0) (w .1) (w .2) in omega (arith, c .before .before .before .before .before .before .before .before .before .before .if1 .taken, x .stands .fits)
 
 loop-again : tie.Need-loop-again Inv-loop μ-loop
-loop-again c = (follows-on _ _ _ _ _ _ _ (c .before .before .before .before .before .before .before .before .before .before .before .before .loop .inv .0) (c .before .before .before .before .before .before .before .before .before .before .if1 .taken) (c .before .before .before .before .before .before .before .reach-from .ensures) (c .before .before .before .before .before .before .before .before .before .before .before .before .before .before .before .before .before .pre .5) (c .before .n2 .given .1) (c .before .before .before .before .before .before .before .reach-from .kept .1 .1 .0) (c .before .before .before .before .before .before .before .reach-from .kept .1 .1 .1 .0), c .before .before .before .before .before .before .before .reach-from .kept .1 .1 .0 ∙ c .before .before .before .before .before .before .before .before .before .before .before .before .loop .inv .1, c .before .before .before .before .before .before .before .reach-from .kept .1 .1 .1 .0 ∙ c .before .before .before .before .before .before .before .before .before .before .before .before .loop .inv .2)
+loop-again c = (follows-on _ _ _ _ _ _ _ (c .before .before .before .before .before .before .before .before .before .before .before .before .loop .inv .0) (c .before .before .before .before .before .before .before .before .before .before .if1 .taken) (c .before .before .before .before .before .before .before .reach-from .ensures) (c .before .before .before .before .before .before .before .before .before .before .before .before .before .before .before .before .before .pre .0 .start-in) (c .before .n2 .given .1) (c .before .before .before .before .before .before .before .reach-from .kept .1 .1 .0) (c .before .before .before .before .before .before .before .reach-from .kept .1 .1 .1 .0), c .before .before .before .before .before .before .before .reach-from .kept .1 .1 .0 ∙ c .before .before .before .before .before .before .before .before .before .before .before .before .loop .inv .1, c .before .before .before .before .before .before .before .reach-from .kept .1 .1 .1 .0 ∙ c .before .before .before .before .before .before .before .before .before .before .before .before .loop .inv .2)
 
 same-length-3 : tie.Need-same-length-3 Inv-loop μ-loop
 same-length-3 c = c .before .before .loop .inv .1

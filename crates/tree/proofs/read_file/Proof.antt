@@ -44,7 +44,7 @@ slice-aggregate-follow-all : tie.Need-slice-aggregate-follow-all
 slice-aggregate-follow-all c = search needs
 
 follow-all-requires : tie.Need-follow-all-requires
-follow-all-requires c κs = let w = whole-stands (c .before .before .before .before .before .before .before .before .before .before .before .before .before .before .before .before .before .before .before .before .before .before .before .before .args .file .now) (c .before .before .before .before .before .before .before .before .before .before .before .before .before .before .before .before .before .before .before .before .before .before .before .before .args .nodes .now) (c .before .before .before .before .before .before .before .before .before .before .before .before .before .before .before .before .before .before .before .before .before .before .before .before .args .items .now) (header-is _ _ (c .before .before .before .before .before .before .before .before .before .before .before .before .before .before .before .before .before .before .before .read-header .ensures .0) (c .before .before .before .before .before .before .before .before .before .before .before .before .before .before .before .before .h .given .1)) (c .before .before .before .before .before .before .before .before .before .before .before .before .before .before .room-of .ensures) (c .before .before .before .before .before .before .before .before .before .before .read-root .ensures) (c .before .before .before .before .before .before .before .before .before .before .read-root .kept .1 .1 .0) (c .before .before .before .before .before .before .before .before .before .before .read-root .kept .1 .1 .1 .0) (c .before .before .before .before .tree .given .1) in let x = whole-within (c .before .before .before .before .before .before .before .before .before .before .before .before .before .before .before .before .before .before .before .before .before .before .before .before .args .file .now) (header-is _ _ (c .before .before .before .before .before .before .before .before .before .before .before .before .before .before .before .before .before .before .before .read-header .ensures .0) (c .before .before .before .before .before .before .before .before .before .before .before .before .before .before .before .before .h .given .1)) in let y = few (c .before .before .before .before .before .before .before .before .before .before .before .before .before .before .before .before .before .before .before .read-header .ensures .1) (c .before .before .before .before .before .before .before .before .before .before .before .before .before .before .before .before .h .given .1) in let z = whole-room (c .before .before .before .before .before .before .before .before .before .before .before .before .before .before .room-of .ensures) in let a = c .before .before .before .before .before .before .before .before .before .before .read-root .kept .1 .1 .0 in let b = c .before .before .before .before .before .before .before .before .before .before .read-root .kept .1 .1 .1 .0 in (x .0, x .1, omega arith, omega arith, omega arith, x .2, w)
+follow-all-requires c κs = let w = whole-stands (c .before .before .before .before .before .before .before .before .before .before .before .before .before .before .before .before .before .before .before .before .before .before .before .before .args .file .now) (c .before .before .before .before .before .before .before .before .before .before .before .before .before .before .before .before .before .before .before .before .before .before .before .before .args .nodes .now) (c .before .before .before .before .before .before .before .before .before .before .before .before .before .before .before .before .before .before .before .before .before .before .before .before .args .items .now) (header-is _ _ (c .before .before .before .before .before .before .before .before .before .before .before .before .before .before .before .before .before .before .before .read-header .ensures .0) (c .before .before .before .before .before .before .before .before .before .before .before .before .before .before .before .before .h .given .1)) (c .before .before .before .before .before .before .before .before .before .before .before .before .before .before .room-of .ensures) (c .before .before .before .before .before .before .before .before .before .before .read-root .ensures) (c .before .before .before .before .before .before .before .before .before .before .read-root .kept .1 .1 .0) (c .before .before .before .before .before .before .before .before .before .before .read-root .kept .1 .1 .1 .0) (c .before .before .before .before .tree .given .1) in let x = whole-within (c .before .before .before .before .before .before .before .before .before .before .before .before .before .before .before .before .before .before .before .before .before .before .before .before .args .file .now) (header-is _ _ (c .before .before .before .before .before .before .before .before .before .before .before .before .before .before .before .before .before .before .before .read-header .ensures .0) (c .before .before .before .before .before .before .before .before .before .before .before .before .before .before .before .before .h .given .1)) in let y = few (c .before .before .before .before .before .before .before .before .before .before .before .before .before .before .before .before .before .before .before .read-header .ensures .1) (c .before .before .before .before .before .before .before .before .before .before .before .before .before .before .before .before .h .given .1) in let z = whole-room (c .before .before .before .before .before .before .before .before .before .before .before .before .before .before .room-of .ensures) in let a = c .before .before .before .before .before .before .before .before .before .before .read-root .kept .1 .1 .0 in let b = c .before .before .before .before .before .before .before .before .before .before .read-root .kept .1 .1 .1 .0 in (omega arith, w)
 
 enum-known-n-3 : tie.Need-enum-known-n-3
 enum-known-n-3 c = search needs

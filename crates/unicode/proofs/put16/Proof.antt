@@ -1,6 +1,6 @@
 -- `put16` puts the bytes of the units that `utf16` has.
 -- Assumes nothing.
-use Rattle.room.proofs.Putting.{puts-then, puts-as}
+use Rattle.room.proofs.Counting.{counts-then, counts-as}
 use Rattle.unicode.proofs.Sixteen.{short-bytes, long-bytes}
 use borrow.Author.Needs.{needs}
 use Rattle.unicode.proofs.put16.Statement.{statement}
@@ -13,7 +13,7 @@ same-length : tie.Need-same-length
 same-length c = search needs
 
 returns : tie.Need-returns
-returns c = puts-as (short-bytes _ (c .before .before .before .before .if1 .taken)) (c .before .before .put-unit .ensures)
+returns c = counts-as (short-bytes _ (c .before .before .before .before .if1 .taken)) (c .before .before .put-unit .ensures)
 
 add-put-unit : tie.Need-add-put-unit
 add-put-unit c = search needs
@@ -31,7 +31,7 @@ same-length-2 : tie.Need-same-length-2
 same-length-2 c = search needs
 
 returns-2 : tie.Need-returns-2
-returns-2 c = puts-as (long-bytes _ (c .before .before .before .before .before .before .before .before .if1 .left)) (puts-then (c .before .before .before .before .before .before .put-unit2 .ensures) (c .before .before .put-unit3 .ensures))
+returns-2 c = counts-as (long-bytes _ (c .before .before .before .before .before .before .before .before .if1 .left)) (counts-then (c .before .before .before .before .before .before .put-unit2 .ensures) (c .before .before .put-unit3 .ensures))
 
 pub put16-spec : {M : Type 1} → statement M
 put16-spec =

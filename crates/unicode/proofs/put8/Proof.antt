@@ -1,7 +1,7 @@
 -- `put8` puts the bytes that `utf8` has.
 -- Assumes nothing.
 use mathlib.Core.Path.{sym, _∙_}
-use Rattle.room.proofs.Putting.{puts-then, puts-as}
+use Rattle.room.proofs.Counting.{counts-then, counts-as}
 use Rattle.unicode.proofs.Eight.{one8, two8, three8, four8, one-tail, two-tails, three-tails}
 use borrow.Author.Needs.{needs}
 use Rattle.unicode.proofs.put8.Statement.{statement}
@@ -17,7 +17,7 @@ same-length : tie.Need-same-length
 same-length c = search needs
 
 returns : tie.Need-returns
-returns c = puts-as (sym (one8 _ (c .before .before .before .before .if1 .taken))) (c .before .before .put-byte .ensures)
+returns c = counts-as (sym (one8 _ (c .before .before .before .before .if1 .taken))) (c .before .before .put-byte .ensures)
 
 add-put-byte : tie.Need-add-put-byte
 add-put-byte c = search needs
@@ -38,7 +38,7 @@ same-length-2 : tie.Need-same-length-2
 same-length-2 c = search needs
 
 returns-2 : tie.Need-returns-2
-returns-2 c = puts-as (one-tail (c .before .before .before .tail .ensures) ∙ sym (two8 _ (c .before .before .before .before .before .before .before .before .before .before .if1 .left) (c .before .before .before .before .before .before .before .before .before .if2 .taken))) (puts-then (c .before .before .before .before .before .before .before .put-byte2 .ensures) (c .before .before .put-byte3 .ensures))
+returns-2 c = counts-as (one-tail (c .before .before .before .tail .ensures) ∙ sym (two8 _ (c .before .before .before .before .before .before .before .before .before .before .if1 .left) (c .before .before .before .before .before .before .before .before .before .if2 .taken))) (counts-then (c .before .before .before .before .before .before .before .put-byte2 .ensures) (c .before .before .put-byte3 .ensures))
 
 add-put-byte-2 : tie.Need-add-put-byte-2
 add-put-byte-2 c = search needs
@@ -65,7 +65,7 @@ same-length-3 : tie.Need-same-length-3
 same-length-3 c = search needs
 
 returns-3 : tie.Need-returns-3
-returns-3 c = puts-as (two-tails (c .before .before .before .before .before .before .before .before .tail2 .ensures) (c .before .before .before .tail3 .ensures) ∙ sym (three8 _ (c .before .before .before .before .before .before .before .before .before .before .before .before .before .before .before .if2 .left) (c .before .before .before .before .before .before .before .before .before .before .before .before .before .before .if3 .taken))) (puts-then (c .before .before .before .before .before .before .before .before .before .before .before .before .put-byte4 .ensures) (puts-then (c .before .before .before .before .before .before .before .put-byte5 .ensures) (c .before .before .put-byte6 .ensures)))
+returns-3 c = counts-as (two-tails (c .before .before .before .before .before .before .before .before .tail2 .ensures) (c .before .before .before .tail3 .ensures) ∙ sym (three8 _ (c .before .before .before .before .before .before .before .before .before .before .before .before .before .before .before .if2 .left) (c .before .before .before .before .before .before .before .before .before .before .before .before .before .before .if3 .taken))) (counts-then (c .before .before .before .before .before .before .before .before .before .before .before .before .put-byte4 .ensures) (counts-then (c .before .before .before .before .before .before .before .put-byte5 .ensures) (c .before .before .put-byte6 .ensures)))
 
 add-put-byte-3 : tie.Need-add-put-byte-3
 add-put-byte-3 c = search needs
@@ -98,7 +98,7 @@ same-length-4 : tie.Need-same-length-4
 same-length-4 c = search needs
 
 returns-4 : tie.Need-returns-4
-returns-4 c = puts-as (three-tails (c .before .before .before .before .before .before .before .before .before .before .before .before .before .tail4 .ensures) (c .before .before .before .before .before .before .before .before .tail5 .ensures) (c .before .before .before .tail6 .ensures) ∙ sym (four8 _ (c .before .before .before .before .before .before .before .before .before .before .before .before .before .before .before .before .before .before .before .if3 .left))) (puts-then (c .before .before .before .before .before .before .before .before .before .before .before .before .before .before .before .before .before .put-byte7 .ensures) (puts-then (c .before .before .before .before .before .before .before .before .before .before .before .before .put-byte8 .ensures) (puts-then (c .before .before .before .before .before .before .before .put-byte9 .ensures) (c .before .before .put-byte10 .ensures))))
+returns-4 c = counts-as (three-tails (c .before .before .before .before .before .before .before .before .before .before .before .before .before .tail4 .ensures) (c .before .before .before .before .before .before .before .before .tail5 .ensures) (c .before .before .before .tail6 .ensures) ∙ sym (four8 _ (c .before .before .before .before .before .before .before .before .before .before .before .before .before .before .before .before .before .before .before .if3 .left))) (counts-then (c .before .before .before .before .before .before .before .before .before .before .before .before .before .before .before .before .before .put-byte7 .ensures) (counts-then (c .before .before .before .before .before .before .before .before .before .before .before .before .put-byte8 .ensures) (counts-then (c .before .before .before .before .before .before .before .put-byte9 .ensures) (c .before .before .put-byte10 .ensures))))
 
 pub put8-spec : {M : Type 1} → statement M
 put8-spec =

@@ -1,6 +1,6 @@
 -- `put_unit` puts the two bytes of a unit.
 -- Assumes nothing.
-use Rattle.room.proofs.Putting.{puts-then, puts-as}
+use Rattle.room.proofs.Counting.{counts-then, counts-as}
 use Rattle.unicode.proofs.Sixteen.{unit-is}
 use borrow.Author.Needs.{needs}
 use Rattle.unicode.proofs.put_unit.Statement.{statement}
@@ -22,7 +22,7 @@ same-length : tie.Need-same-length
 same-length c = search needs
 
 returns : tie.Need-returns
-returns c = puts-as (unit-is _) (puts-then (c .before .before .before .before .before .before .put-byte .ensures) (c .before .before .put-byte2 .ensures))
+returns c = counts-as (unit-is _) (counts-then (c .before .before .before .before .before .before .put-byte .ensures) (c .before .before .put-byte2 .ensures))
 
 pub put-unit-spec : {M : Type 1} → statement M
 put-unit-spec =

@@ -19,7 +19,7 @@ abbrev μ-loop : tie.MeasureT-loop
 μ-loop text units₀ at₀ next₀ units at next = length text - at
 
 loop-holds : tie.Need-loop-holds Inv-loop μ-loop
-loop-holds c = conv-start (c .before .before .args .text .now) _ 0 _ (omega arith) (utf16-start _)
+loop-holds c = conv-start (c .before .before .args .text .now) _ _ (omega arith) (omega arith) (utf16-start _)
 
 char8-requires : tie.Need-char8-requires Inv-loop μ-loop
 char8-requires c κs = search needs
@@ -67,7 +67,7 @@ same-length-3 : tie.Need-same-length-3 Inv-loop μ-loop
 same-length-3 c = search needs
 
 returns-3 : tie.Need-returns-3 Inv-loop μ-loop
-returns-3 c = conv-good (c .before .before .before .before .before .before .loop .inv) (c .before .before .before .before .before .loop-test .left) (c .before .before .before .before .if1 .left) (c .before .before .clear-bytes-from .ensures)
+returns-3 c = conv-good (c .before .before .before .before .before .before .loop .inv) (c .before .before .before .before .before .loop-test .left) (c .before .before .before .before .if1 .left) (omega arith) (c .before .before .clear-bytes-from .ensures)
 
 pub to-utf16-spec : {M : Type 1} → statement M
 to-utf16-spec =

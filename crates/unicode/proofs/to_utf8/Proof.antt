@@ -22,7 +22,7 @@ after-mark-requires : tie.Need-after-mark-requires Inv-loop μ-loop
 after-mark-requires c κs = search needs
 
 loop-holds : tie.Need-loop-holds Inv-loop μ-loop
-loop-holds c = conv-start (c .before .before .before .args .units .now) _ 0 _ (c .after-mark .ensures .1) (c .after-mark .ensures .0)
+loop-holds c = conv-start (c .before .before .before .args .units .now) _ _ (omega arith) (c .after-mark .ensures .1) (c .after-mark .ensures .0)
 
 char16-requires : tie.Need-char16-requires Inv-loop μ-loop
 char16-requires c κs = search needs
@@ -70,7 +70,7 @@ same-length-3 : tie.Need-same-length-3 Inv-loop μ-loop
 same-length-3 c = search needs
 
 returns-3 : tie.Need-returns-3 Inv-loop μ-loop
-returns-3 c = conv-good (c .before .before .before .before .before .before .loop .inv) (c .before .before .before .before .before .loop-test .left) (c .before .before .before .before .if1 .left) (c .before .before .clear-bytes-from .ensures)
+returns-3 c = conv-good (c .before .before .before .before .before .before .loop .inv) (c .before .before .before .before .before .loop-test .left) (c .before .before .before .before .if1 .left) (omega arith) (c .before .before .clear-bytes-from .ensures)
 
 pub to-utf8-spec : {M : Type 1} → statement M
 to-utf8-spec =

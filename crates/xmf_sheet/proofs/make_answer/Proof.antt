@@ -14,7 +14,7 @@ same-length : tie.Need-same-length
 same-length c = search needs
 
 returns : tie.Need-returns
-returns c = let s = put-first (c .before .before .put-too-long .ensures) (omega (arith, long-short, c .before .before .before .before .before .before .before .pre)) in (s .0, s .1 ∙ answer-long _ (c .before .before .before .before .if1 .taken))
+returns c = let s = put-first (c .before .before .put-too-long .ensures) (omega (arith, long-short, c .before .before .before .before .before .before .before .pre)) (omega (arith, c .before .before .before .before .before .before .before .pre)) in (s .0, s .1 ∙ answer-long _ (c .before .before .before .before .if1 .taken))
 
 node-table-requires : tie.Need-node-table-requires
 node-table-requires c κs = search needs
@@ -50,7 +50,7 @@ same-length-3 : tie.Need-same-length-3
 same-length-3 c = search needs
 
 returns-3 : tie.Need-returns-3
-returns-3 c = let s = put-first (c .before .before .put-refusal .ensures) (omega (arith, line-short (c .before .before .before .before .before .number .given .0 .0) (c .before .before .before .before .before .number .given .0 .1 .0), c .before .before .before .before .before .before .before .before .before .before .before .write-sheet .kept .1 .1 .1 .0, c .before .before .before .before .before .before .before .before .before .before .before .before .before .before .before .before .before .before .before .before .pre)) in (s .0, s .1 ∙ refusal-made _ (c .before .before .before .before .before .before .before .before .before .before .before .write-sheet .ensures .0) (c .before .before .before .before .before .number .given .1) ∙ answer-short _ (c .before .before .before .before .before .before .before .before .before .before .before .before .before .before .before .before .node-table .ensures) (c .before .before .before .before .before .before .before .before .before .before .before .before .before .before .before .item-table .ensures) (c .before .before .before .before .before .before .before .before .before .before .before .before .before .before .before .before .before .before .before .before .pre) (c .before .before .before .before .before .before .before .before .before .before .before .before .before .before .before .before .before .if1 .left))
+returns-3 c = let s = put-first (c .before .before .put-refusal .ensures) (omega (arith, line-short (c .before .before .before .before .before .number .given .0 .0) (c .before .before .before .before .before .number .given .0 .1 .0), c .before .before .before .before .before .before .before .before .before .before .before .write-sheet .kept .1 .1 .1 .0, c .before .before .before .before .before .before .before .before .before .before .before .before .before .before .before .before .before .before .before .before .pre)) (omega (arith, c .before .before .before .before .before .before .before .before .before .before .before .write-sheet .kept .1 .1 .1 .0, c .before .before .before .before .before .before .before .before .before .before .before .before .before .before .before .before .before .before .before .before .pre)) in (s .0, s .1 ∙ refusal-made _ (c .before .before .before .before .before .before .before .before .before .before .before .write-sheet .ensures .0) (c .before .before .before .before .before .number .given .1) ∙ answer-short _ (c .before .before .before .before .before .before .before .before .before .before .before .before .before .before .before .before .node-table .ensures) (c .before .before .before .before .before .before .before .before .before .before .before .before .before .before .before .item-table .ensures) (c .before .before .before .before .before .before .before .before .before .before .before .before .before .before .before .before .before .before .before .before .pre) (c .before .before .before .before .before .before .before .before .before .before .before .before .before .before .before .before .before .if1 .left))
 
 pub make-answer-spec : {M : Type 1} → statement M
 make-answer-spec =

@@ -1,6 +1,6 @@
 -- `put_refusal` puts the line of a refusal.
 -- Assumes nothing.
-use Rattle.room.proofs.Putting.{puts-then, puts-as}
+use Rattle.room.proofs.Counting.{counts-then, counts-as}
 use Rattle.xmf_sheet.proofs.Fits.{refusal-is}
 use borrow.Author.Needs.{needs}
 use Rattle.xmf_sheet.proofs.put_refusal.Statement.{statement}
@@ -22,7 +22,7 @@ same-length : tie.Need-same-length
 same-length c = search needs
 
 returns : tie.Need-returns
-returns c = puts-as (refusal-is _ _) (puts-then (puts-then (puts-then (c .before .before .before .before .before .before .before .before .before .before .before .before .before .before .put-byte .ensures) (c .before .before .before .before .before .before .before .before .before .before .put-number .ensures)) (c .before .before .before .before .before .before .put-number2 .ensures)) (c .before .before .put-byte2 .ensures))
+returns c = counts-as (refusal-is _ _) (counts-then (counts-then (counts-then (c .before .before .before .before .before .before .before .before .before .before .before .before .before .before .put-byte .ensures) (c .before .before .before .before .before .before .before .before .before .before .put-number .ensures)) (c .before .before .before .before .before .before .put-number2 .ensures)) (c .before .before .put-byte2 .ensures))
 
 pub put-refusal-spec : {M : Type 1} → statement M
 put-refusal-spec =

@@ -3,7 +3,8 @@
 //! The path of the vectors file is the first argument. The lent tables and buffers hold other values
 //! before each call, and what they hold afterwards is checked as well.
 
-use plain::{correct_title, find, find_own, judge, read_tree, resolve, resource, write_sheet};
+use plain::write_sheet;
+use plain::{correct_title, find, find_own, judge, read_tree, resolve, resource, voice_count};
 use plain::{utf16_to_utf8, utf8_to_utf16};
 use plain::{Field, Refusal};
 use std::process::ExitCode;
@@ -111,6 +112,13 @@ fn run(line: &str) -> Option<String> {
                     found.place, found.length, found.row, found.hops
                 )
             })
+        }
+        "count" => {
+            let item_row = words.next()?.parse().ok()?;
+            let channel = words.next()?.parse().ok()?;
+            let resource = words.next()?.parse().ok()?;
+            voice_count(&file, &mut nodes, &mut items, item_row, channel, resource)
+                .map(|count| format!("ok {count}"))
         }
         "verdict" => judge(&file, &mut nodes, &mut items).map(|verdict| format!("ok {verdict}")),
         "sheet" => {

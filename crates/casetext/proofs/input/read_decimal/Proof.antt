@@ -1,7 +1,7 @@
 -- `casetext::input::read_decimal` meets its contract. Assumes nothing.
 use mathlib.Core.Bool.{false≢true}
 use mathlib.Core.Path.{refl, _≡_}
-use Prim.Native.Nat.{_^_, _≤_, _<_, _-_}
+use Prim.Native.Nat.{_≤_, _-_}
 use native.Mathlib.Omega.{arith}
 use lib.ListN.{length, drop}
 use borrow.Author.Needs.{needs}
@@ -12,13 +12,13 @@ use Rattle.casetext.proofs.input.read_decimal.Tie as tie
 use Rattle.casetext.specs.Text.{valueFrom}
 
 abbrev Inv-loop : tie.InvT-loop
-Inv-loop digits value₀ i₀ value i = (value < 10 ^ 18) × (valueFrom 0 digits ≡ valueFrom value (drop i digits)) × (i ≤ length digits)
+Inv-loop digits value₀ i₀ value i = (valueFrom 0 digits ≡ valueFrom value (drop i digits)) × (i ≤ length digits)
 
 abbrev μ-loop : tie.MeasureT-loop
 μ-loop digits value₀ i₀ value i = length digits - i
 
 loop-holds : tie.Need-loop-holds Inv-loop μ-loop
-loop-holds c = (omega arith, refl, omega arith)
+loop-holds c = (refl, omega arith)
 
 shared-slice-read-digit : tie.Need-shared-slice-read-digit Inv-loop μ-loop
 shared-slice-read-digit c = search needs
@@ -27,19 +27,22 @@ digit-requires : tie.Need-digit-requires Inv-loop μ-loop
 digit-requires c κs = search needs
 
 returns : tie.Need-returns Inv-loop μ-loop
-returns c = record { small = omega arith; meant = λ e. absurd (false≢true e); taken = λ a h l. absurd (omega (arith, h (c .before .before .before .before .loop .i) (c .before .before .before .loop-test .taken), c .before .digit .ensures .0)) }
-
-returns-2 : tie.Need-returns-2 Inv-loop μ-loop
-returns-2 c = record { small = omega arith; meant = λ e. absurd (false≢true e); taken = λ a h l. absurd (omega (arith, value-over _ (c .before .before .before .before .before .loop .value) (c .before .before .before .before .before .loop .i) (c .before .before .before .before .loop-test .taken) (c .before .before .before .before .before .loop .inv .1))) }
-
-mul-value : tie.Need-mul-value Inv-loop μ-loop
-mul-value c = search needs
+returns c = record { meant = λ e. absurd (false≢true e); taken = λ a h l. absurd (omega (arith, h (c .before .before .before .before .loop .i) (c .before .before .before .loop-test .taken), c .before .digit .ensures .0)) }
 
 wide-requires : tie.Need-wide-requires Inv-loop μ-loop
 wide-requires c κs = search needs
 
+sub-if2 : tie.Need-sub-if2 Inv-loop μ-loop
+sub-if2 c = omega (arith, c .wide .ensures)
+
+returns-2 : tie.Need-returns-2 Inv-loop μ-loop
+returns-2 c = record { meant = λ e. absurd (false≢true e); taken = λ a h l. absurd (omega (arith, c .before .wide .ensures, c .before .before .before .digit .ensures .0, value-over _ (c .before .before .before .before .before .before .loop .value) (c .before .before .before .before .before .before .loop .i) (c .before .before .before .before .before .loop-test .taken) (c .before .before .before .before .before .before .loop .inv .0))) }
+
+mul-value : tie.Need-mul-value Inv-loop μ-loop
+mul-value c = omega (arith, c .before .wide .ensures)
+
 add-value : tie.Need-add-value Inv-loop μ-loop
-add-value c = search needs
+add-value c = omega (arith, c .before .wide .ensures)
 
 add-i : tie.Need-add-i Inv-loop μ-loop
 add-i c = search needs
@@ -48,10 +51,10 @@ loop-less : tie.Need-loop-less Inv-loop μ-loop
 loop-less c = search needs
 
 loop-again : tie.Need-loop-again Inv-loop μ-loop
-loop-again c = (omega arith, value-more _ _ _ _ _ (c .before .before .before .before .before .loop-test .taken) (c .before .before .before .before .before .before .loop .inv .1) (c .before .before .before .digit .ensures .0) (c .wide .ensures), omega arith)
+loop-again c = (value-more _ _ _ _ _ (c .before .before .before .before .before .loop-test .taken) (c .before .before .before .before .before .before .loop .inv .0) (c .before .before .before .digit .ensures .0) (c .before .wide .ensures), omega arith)
 
 returns-3 : tie.Need-returns-3 Inv-loop μ-loop
-returns-3 c = record { small = omega arith; meant = λ e. value-all _ _ (c .before .loop .i) (c .loop-test .left) (c .before .loop .inv .1); taken = λ a h l. lt-ltb _ _ a }
+returns-3 c = record { meant = λ e. value-all _ _ (c .before .loop .i) (c .loop-test .left) (c .before .loop .inv .0); taken = λ a h l. lt-ltb _ _ a }
 
 pub read-decimal-spec : {M : Type 1} → statement M
 read-decimal-spec =
@@ -63,9 +66,10 @@ read-decimal-spec =
     shared-slice-read-digit
     digit-requires
     returns
+    wide-requires
+    sub-if2
     returns-2
     mul-value
-    wide-requires
     add-value
     add-i
     loop-less

@@ -1,4 +1,4 @@
-use Rattle.cursor.proofs.Digits.{GuidReading, guid-begun, guid-out, guid-cut, guid-end, guid-on}
+use Rattle.cursor.proofs.Digits.{GuidReading, guid-begun, out, missing, last, more}
 use borrow.Author.Needs.{needs}
 use Prim.Native.Nat.{_≤_}
 use native.Mathlib.Omega.{arith}
@@ -31,16 +31,16 @@ loop-less : tie.Need-loop-less Inv-loop μ-loop
 loop-less c = omega arith
 
 loop-again : tie.Need-loop-again Inv-loop μ-loop
-loop-again c = (guid-on (c .before .before .before .before .before .loop .inv .0) (c .before .before .before .before .if1 .left) (c .before .before .before .if2 .left) (c .before .wide .ensures .0) (c .if3 .left), omega arith)
+loop-again c = ((_, more (c .before .before .before .before .before .loop .inv .0 .1) (c .before .before .before .before .if1 .left) (c .before .before .before .if2 .left) (c .before .wide .ensures .0) (c .if3 .left)), omega arith)
 
 returns : tie.Need-returns Inv-loop μ-loop
-returns c = guid-out (c .before .loop .inv .0) (c .if1 .taken)
+returns c = out (c .before .loop .inv .0 .1) (c .if1 .taken)
 
 returns-2 : tie.Need-returns-2 Inv-loop μ-loop
-returns-2 c = guid-cut (c .before .before .loop .inv .0) (c .before .if1 .left) (c .if2 .taken)
+returns-2 c = missing (c .before .before .loop .inv .0 .1) (c .before .if1 .left) (c .if2 .taken)
 
 returns-3 : tie.Need-returns-3 Inv-loop μ-loop
-returns-3 c = guid-end (c .before .before .before .before .before .loop .inv .0) (c .before .before .before .before .if1 .left) (c .before .before .before .if2 .left) (c .before .wide .ensures .0) (c .if3 .taken)
+returns-3 c = last (c .before .before .before .before .before .loop .inv .0 .1) (c .before .before .before .before .if1 .left) (c .before .before .before .if2 .left) (c .before .wide .ensures .0) (c .if3 .taken)
 
 pub guid-spec : {M : Type 1} → statement M
 guid-spec =

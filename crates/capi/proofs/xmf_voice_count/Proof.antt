@@ -1,0 +1,36 @@
+-- `xmf_voice_count` leaves the outcome of the count.
+-- Assumes nothing.
+use Rattle.promises.specs.Calls.{count-for}
+use Rattle.capi.proofs.Words.{leaves}
+use borrow.Author.Needs.{needs}
+use Rattle.capi.proofs.xmf_voice_count.Statement.{statement}
+use Rattle.capi.proofs.xmf_voice_count.Tie as tie
+
+count-for-requires : tie.Need-count-for-requires
+count-for-requires c κs = search needs
+
+put-counted-requires : tie.Need-put-counted-requires
+put-counted-requires c κs = search needs
+
+same-length : tie.Need-same-length
+same-length c = search needs
+
+same-length-2 : tie.Need-same-length-2
+same-length-2 c = search needs
+
+same-length-3 : tie.Need-same-length-3
+same-length-3 c = search needs
+
+returns : tie.Need-returns
+returns c = leaves (c .before .before .before .before .before .before .before .before .before .before .before .before .before .before .before .args .answer .now) (count-for {nodes = c .before .before .before .before .before .before .before .before .before .before .before .before .before .before .before .args .nodes .now} {items = c .before .before .before .before .before .before .before .before .before .before .before .before .before .before .before .args .items .now} {f = c .before .before .before .before .before .before .before .before .before .before .before .before .before .before .before .args .file .now} (c .before .before .before .before .before .before .before .before .before .before .before .before .before .before .before .args .item-row) (c .before .before .before .before .before .before .before .before .before .before .before .before .before .before .before .args .channel) (c .before .before .before .before .before .before .before .before .before .before .before .before .before .before .before .args .resource) (c .before .before .before .before .before .before .before .count-for .result) (c .before .before .before .before .before .before .before .count-for .ensures .0) (c .before .before .before .before .before .before .before .count-for .ensures .1 .0) (c .before .before .before .before .before .before .before .count-for .ensures .1 .1)) (c .before .before .put-counted .ensures)
+
+pub xmf-voice-count-spec : {M : Type 1} → statement M
+xmf-voice-count-spec =
+    tie.close
+    (tie.spec
+    count-for-requires
+    put-counted-requires
+    same-length
+    same-length-2
+    same-length-3
+    returns)

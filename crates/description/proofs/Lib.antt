@@ -1,0 +1,4 @@
+pub mod Tests
+pub mod Ways
+pub mod Exits
+pub mod Depends

@@ -1,0 +1,27 @@
+-- `count_in` gives what `countIn` gives.
+-- Assumes nothing.
+use Rattle.description.proofs.Exits.{row-other, row-text, row-count}
+use borrow.Author.Needs.{needs}
+use Rattle.description.proofs.count_in.Statement.{statement}
+use Rattle.description.proofs.count_in.Tie as tie
+
+is-field-requires : tie.Need-is-field-requires
+is-field-requires c κs = search needs
+
+returns : tie.Need-returns
+returns c = row-other _ _ _ _ (c .before .is-field .ensures) (c .if1 .taken)
+
+is-binary-requires : tie.Need-is-binary-requires
+is-binary-requires c κs = search needs
+
+returns-2 : tie.Need-returns-2
+returns-2 c = row-text _ _ _ _ (c .before .before .before .is-field .ensures) (c .before .before .if1 .left) (c .before .is-binary .ensures) (c .if2 .taken)
+
+count-of-requires : tie.Need-count-of-requires
+count-of-requires c κs = search needs
+
+returns-3 : tie.Need-returns-3
+returns-3 c = row-count _ _ _ _ (c .before .before .before .before .is-field .ensures) (c .before .before .before .if1 .left) (c .before .before .is-binary .ensures) (c .before .if2 .left) (c .count-of .ensures)
+
+pub count-in-spec : {M : Type 1} → statement M
+count-in-spec = tie.close (tie.spec is-field-requires returns is-binary-requires returns-2 count-of-requires returns-3)

@@ -1,0 +1,92 @@
+-- `count_of` reads the whole item, and gives the count in it.
+-- Assumes nothing.
+use native.Mathlib.Omega.{arith}
+use Rattle.cursor.specs.Rows.{metaFrame}
+use Rattle.cursor.specs.Told.{numberTold, passTold}
+use Rattle.cursor.proofs.Laws.{was}
+use Rattle.cursor.proofs.Leaves.{number-inside}
+use Rattle.description.proofs.Ways.{whole-message, whole-channels, whole-resources, whole-lists, whole-table}
+use borrow.Author.Needs.{needs}
+use Rattle.description.proofs.count_of.Statement.{statement}
+use Rattle.description.proofs.count_of.Tie as tie
+
+add-t18 : tie.Need-add-t18
+add-t18 c = search needs
+
+number-requires : tie.Need-number-requires
+number-requires c κs = search needs
+
+enum-known-p : tie.Need-enum-known-p
+enum-known-p c = search needs
+
+enum-known-d : tie.Need-enum-known-d
+enum-known-d c = search needs
+
+number-requires-2 : tie.Need-number-requires-2
+number-requires-2 c κs = search needs
+
+enum-known-p-2 : tie.Need-enum-known-p-2
+enum-known-p-2 c = search needs
+
+enum-known-channels : tie.Need-enum-known-channels
+enum-known-channels c = search needs
+
+number-requires-3 : tie.Need-number-requires-3
+number-requires-3 c κs = search needs
+
+enum-known-p-3 : tie.Need-enum-known-p-3
+enum-known-p-3 c = search needs
+
+enum-known-resources : tie.Need-enum-known-resources
+enum-known-resources c = search needs
+
+read-lists-requires : tie.Need-read-lists-requires
+read-lists-requires c κs = search needs
+
+enum-known-p-4 : tie.Need-enum-known-p-4
+enum-known-p-4 c = search needs
+
+enum-known-h : tie.Need-enum-known-h
+enum-known-h c = search needs
+
+read-table-requires : tie.Need-read-table-requires
+read-table-requires c κs = (omega arith, number-inside _ _ _ _ _ (was numberTold (c .before .before .before .before .before .before .before .before .before .before .before .number2 .ensures metaFrame) (c .before .before .before .before .before .before .before .before .before .channels .given .1)) .3, number-inside _ _ _ _ _ (was numberTold (c .before .before .before .before .before .before .before .number3 .ensures metaFrame) (c .before .before .before .before .before .resources .given .1)) .3)
+
+returns : tie.Need-returns
+returns c = whole-message _ _ _ _ _ (was numberTold (c .before .before .before .number .ensures metaFrame) (c .before .p .given .1))
+
+returns-2 : tie.Need-returns-2
+returns-2 c = whole-channels _ _ _ _ _ (was numberTold (c .before .before .before .before .before .before .before .number .ensures metaFrame) (c .before .before .before .before .before .d .given .1)) (was numberTold (c .before .before .before .number2 .ensures metaFrame) (c .before .p2 .given .1))
+
+returns-3 : tie.Need-returns-3
+returns-3 c = whole-resources _ _ _ _ _ (was numberTold (c .before .before .before .before .before .before .before .before .before .before .before .number .ensures metaFrame) (c .before .before .before .before .before .before .before .before .before .d .given .1)) (was numberTold (c .before .before .before .before .before .before .before .number2 .ensures metaFrame) (c .before .before .before .before .before .channels .given .1)) (was numberTold (c .before .before .before .number3 .ensures metaFrame) (c .before .p3 .given .1))
+
+returns-4 : tie.Need-returns-4
+returns-4 c = whole-lists _ _ _ _ _ (was numberTold (c .before .before .before .before .before .before .before .before .before .before .before .before .before .before .before .number .ensures metaFrame) (c .before .before .before .before .before .before .before .before .before .before .before .before .before .d .given .1)) (was numberTold (c .before .before .before .before .before .before .before .before .before .before .before .number2 .ensures metaFrame) (c .before .before .before .before .before .before .before .before .before .channels .given .1)) (was numberTold (c .before .before .before .before .before .before .before .number3 .ensures metaFrame) (c .before .before .before .before .before .resources .given .1)) (was passTold (c .before .before .before .read-lists .ensures) (c .before .p4 .given .1))
+
+returns-5 : tie.Need-returns-5
+returns-5 c = whole-table _ _ _ _ _ (was numberTold (c .before .before .before .before .before .before .before .before .before .before .before .before .before .before .before .before .number .ensures metaFrame) (c .before .before .before .before .before .before .before .before .before .before .before .before .before .before .d .given .1)) (was numberTold (c .before .before .before .before .before .before .before .before .before .before .before .before .number2 .ensures metaFrame) (c .before .before .before .before .before .before .before .before .before .before .channels .given .1)) (was numberTold (c .before .before .before .before .before .before .before .before .number3 .ensures metaFrame) (c .before .before .before .before .before .before .resources .given .1)) (was passTold (c .before .before .before .before .read-lists .ensures) (c .before .before .h .given .1)) (c .read-table .ensures)
+
+pub count-of-spec : {M : Type 1} → statement M
+count-of-spec =
+    tie.close
+    (tie.spec
+    add-t18
+    number-requires
+    enum-known-p
+    enum-known-d
+    number-requires-2
+    enum-known-p-2
+    enum-known-channels
+    number-requires-3
+    enum-known-p-3
+    enum-known-resources
+    read-lists-requires
+    enum-known-p-4
+    enum-known-h
+    read-table-requires
+    returns
+    returns-2
+    returns-3
+    returns-4
+    returns-5)

@@ -1,0 +1,62 @@
+-- `read_identifier` gives what `identifier` gives.
+-- Assumes nothing.
+use Rattle.cursor.specs.Rows.{metaFrame}
+use Rattle.cursor.specs.Told.{passTold}
+use Rattle.cursor.proofs.Laws.{was}
+use Rattle.description.proofs.Ways.{identifier-three, identifier-five, identifier-cut, identifier-two, identifier-one}
+use borrow.Author.Needs.{needs}
+use Rattle.description.proofs.read_identifier.Statement.{statement}
+use Rattle.description.proofs.read_identifier.Tie as tie
+
+read-guid-requires : tie.Need-read-guid-requires
+read-guid-requires c κs = search needs
+
+returns : tie.Need-returns
+returns c = identifier-three _ _ _ _ (c .before .if1 .taken) (c .read-guid .ensures)
+
+read-guid-requires-2 : tie.Need-read-guid-requires-2
+read-guid-requires-2 c κs = search needs
+
+returns-2 : tie.Need-returns-2
+returns-2 c = identifier-five _ _ _ _ (c .before .before .if1 .left) (c .before .if2 .taken) (c .read-guid2 .ensures)
+
+manufacturer-requires : tie.Need-manufacturer-requires
+manufacturer-requires c κs = search needs
+
+enum-known-n : tie.Need-enum-known-n
+enum-known-n c = search needs
+
+enum-known-d : tie.Need-enum-known-d
+enum-known-d c = search needs
+
+read-value-requires : tie.Need-read-value-requires
+read-value-requires c κs = search needs
+
+returns-3 : tie.Need-returns-3
+returns-3 c = identifier-cut _ _ _ _ (c .before .before .before .before .before .before .if1 .left) (c .before .before .before .before .before .if2 .left) (c .before .before .before .before .if3 .taken) (was passTold (c .before .before .before .manufacturer .ensures metaFrame) (c .before .n .given .1))
+
+returns-4 : tie.Need-returns-4
+returns-4 c = identifier-two _ _ _ _ (c .before .before .before .before .before .before .before .if1 .left) (c .before .before .before .before .before .before .if2 .left) (c .before .before .before .before .before .if3 .taken) (was passTold (c .before .before .before .before .manufacturer .ensures metaFrame) (c .before .before .d .given .1)) (c .read-value .ensures)
+
+read-value-requires-2 : tie.Need-read-value-requires-2
+read-value-requires-2 c κs = search needs
+
+returns-5 : tie.Need-returns-5
+returns-5 c = identifier-one _ _ _ _ (c .before .before .before .if1 .left) (c .before .before .if2 .left) (c .before .if3 .left) (c .read-value2 .ensures)
+
+pub read-identifier-spec : {M : Type 1} → statement M
+read-identifier-spec =
+    tie.close
+    (tie.spec
+    read-guid-requires
+    returns
+    read-guid-requires-2
+    returns-2
+    manufacturer-requires
+    enum-known-n
+    enum-known-d
+    read-value-requires
+    returns-3
+    returns-4
+    read-value-requires-2
+    returns-5)

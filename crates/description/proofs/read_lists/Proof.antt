@@ -1,0 +1,49 @@
+-- `read_lists` gives what `lists` gives.
+-- Assumes nothing.
+use Rattle.cursor.specs.Told.{numberTold, passTold}
+use Rattle.cursor.proofs.Laws.{was}
+use Rattle.description.proofs.Ways.{lists-resource, lists-group, lists-all}
+use borrow.Author.Needs.{needs}
+use Rattle.description.proofs.read_lists.Statement.{statement}
+use Rattle.description.proofs.read_lists.Tie as tie
+
+read-resources-requires : tie.Need-read-resources-requires
+read-resources-requires c κs = search needs
+
+enum-known-n : tie.Need-enum-known-n
+enum-known-n c = search needs
+
+enum-known-d : tie.Need-enum-known-d
+enum-known-d c = search needs
+
+read-numbers-requires : tie.Need-read-numbers-requires
+read-numbers-requires c κs = search needs
+
+enum-known-n-2 : tie.Need-enum-known-n-2
+enum-known-n-2 c = search needs
+
+enum-known-e : tie.Need-enum-known-e
+enum-known-e c = search needs
+
+returns : tie.Need-returns
+returns c = lists-resource _ _ _ _ (was passTold (c .before .before .before .read-resources .ensures) (c .before .n .given .1))
+
+returns-2 : tie.Need-returns-2
+returns-2 c = lists-group _ _ _ _ (was passTold (c .before .before .before .before .before .before .before .read-resources .ensures) (c .before .before .before .before .before .d .given .1)) 0 (was numberTold (c .before .before .before .read-numbers .ensures) (c .before .n2 .given .1))
+
+returns-3 : tie.Need-returns-3
+returns-3 c = lists-all _ _ _ _ (was passTold (c .before .before .before .before .before .before .before .read-resources .ensures) (c .before .before .before .before .before .d .given .1)) 0 (was numberTold (c .before .before .before .read-numbers .ensures) (c .before .e .given .1))
+
+pub read-lists-spec : {M : Type 1} → statement M
+read-lists-spec =
+    tie.close
+    (tie.spec
+    read-resources-requires
+    enum-known-n
+    enum-known-d
+    read-numbers-requires
+    enum-known-n-2
+    enum-known-e
+    returns
+    returns-2
+    returns-3)

@@ -1,0 +1,63 @@
+-- `read_numbers` reads so many numbers and keeps one. The invariant: what is picked of all of them is picked of those that are left, or was kept. The measure is what is
+-- left of the item: there are no more turns than it has bytes, whatever the count.
+-- Assumes nothing.
+use mathlib.Core.Logic.{inl, inr}
+use Prim.Native.Nat.{_-_}
+use native.Mathlib.Omega.{arith}
+use Rattle.cursor.specs.Rows.{metaFrame}
+use Rattle.cursor.specs.Told.{numberTold}
+use Rattle.cursor.proofs.Laws.{was}
+use Rattle.cursor.proofs.Leaves.{number-inside}
+use Rattle.description.proofs.Ways.{Picking, numbers-begun, numbers-done, numbers-no, numbers-on}
+use borrow.Author.Needs.{needs}
+use Rattle.description.proofs.read_numbers.Statement.{statement}
+use Rattle.description.proofs.read_numbers.Tie as tie
+
+abbrev Inv-loop : tie.InvT-loop
+Inv-loop file end count index next₀ i₀ kept₀ next i kept = Picking file (end .0) count index (next₀ .at .0) i kept (next .at .0)
+
+abbrev μ-loop : tie.MeasureT-loop
+μ-loop file end count index next₀ i₀ kept₀ next i kept = end .0 - next .at .0
+
+loop-holds : tie.Need-loop-holds Inv-loop μ-loop
+loop-holds c = numbers-begun _ _ _ _ _
+
+number-requires : tie.Need-number-requires Inv-loop μ-loop
+number-requires c κs = search needs
+
+enum-known-n : tie.Need-enum-known-n Inv-loop μ-loop
+enum-known-n c = search needs
+
+returns : tie.Need-returns Inv-loop μ-loop
+returns c = numbers-no (c .before .before .before .before .before .loop .inv) (c .before .before .before .before .loop-test .taken) (was numberTold (c .before .before .before .number .ensures metaFrame) (c .before .n .given .1))
+
+enum-known-v : tie.Need-enum-known-v Inv-loop μ-loop
+enum-known-v c = search needs
+
+add-i : tie.Need-add-i Inv-loop μ-loop
+add-i c = search needs
+
+loop-less : tie.Need-loop-less Inv-loop μ-loop
+loop-less c = omega (arith, number-inside _ _ _ _ _ (was numberTold (c .before .before .before .before .number .ensures metaFrame) (c .before .before .v .given .1)))
+
+loop-again : tie.Need-loop-again Inv-loop μ-loop
+loop-again c = numbers-on (c .before .before .before .before .before .before .loop .inv) (c .before .before .before .before .before .loop-test .taken) (was numberTold (c .before .before .before .before .number .ensures metaFrame) (c .before .before .v .given .1)) (elim (c .if1 .came) [ inl w ↦ inl (w .0 .taken, w .1) | inr w ↦ inr (w .0 .left, w .1) ])
+
+returns-2 : tie.Need-returns-2 Inv-loop μ-loop
+returns-2 c = numbers-done (c .before .loop .inv) (c .loop-test .left)
+
+pub read-numbers-spec : {M : Type 1} → statement M
+read-numbers-spec =
+    tie.close
+    (tie.spec
+    Inv-loop
+    μ-loop
+    loop-holds
+    number-requires
+    enum-known-n
+    returns
+    enum-known-v
+    add-i
+    loop-less
+    loop-again
+    returns-2)

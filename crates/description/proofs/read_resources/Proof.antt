@@ -1,0 +1,61 @@
+-- `read_resources` reads so many resources. The invariant: what is left of them is the whole. Each turn reads a byte of the item or more, so the measure is what is left
+-- of the item: there are no more turns than it has bytes, whatever the count.
+-- Assumes nothing.
+use mathlib.Core.Path.{refl}
+use Prim.Native.Nat.{_-_}
+use native.Mathlib.Omega.{arith}
+use Rattle.cursor.specs.Told.{passTold}
+use Rattle.cursor.proofs.Laws.{was}
+use Rattle.description.proofs.Ways.{Going, resources-done, resources-no, resources-on, resource-further}
+use borrow.Author.Needs.{needs}
+use Rattle.description.proofs.read_resources.Statement.{statement}
+use Rattle.description.proofs.read_resources.Tie as tie
+
+abbrev Inv-loop : tie.InvT-loop
+Inv-loop file end count next₀ left₀ next left = Going file (end .0) count (next₀ .at .0) left (next .at .0)
+
+abbrev μ-loop : tie.MeasureT-loop
+μ-loop file end count next₀ left₀ next left = end .0 - next .at .0
+
+loop-holds : tie.Need-loop-holds Inv-loop μ-loop
+loop-holds c = record { same = refl }
+
+read-resource-requires : tie.Need-read-resource-requires Inv-loop μ-loop
+read-resource-requires c κs = search needs
+
+enum-known-n : tie.Need-enum-known-n Inv-loop μ-loop
+enum-known-n c = search needs
+
+returns : tie.Need-returns Inv-loop μ-loop
+returns c = resources-no (c .before .before .before .before .before .loop .inv) (c .before .before .before .before .loop-test .taken) (was passTold (c .before .before .before .read-resource .ensures) (c .before .n .given .1))
+
+enum-known-d : tie.Need-enum-known-d Inv-loop μ-loop
+enum-known-d c = search needs
+
+sub-left : tie.Need-sub-left Inv-loop μ-loop
+sub-left c = search needs
+
+loop-less : tie.Need-loop-less Inv-loop μ-loop
+loop-less c = omega (arith, resource-further _ _ _ (was passTold (c .before .before .before .read-resource .ensures) (c .before .d .given .1)))
+
+loop-again : tie.Need-loop-again Inv-loop μ-loop
+loop-again c = resources-on (c .before .before .before .before .before .loop .inv) (c .before .before .before .before .loop-test .taken) (was passTold (c .before .before .before .read-resource .ensures) (c .before .d .given .1))
+
+returns-2 : tie.Need-returns-2 Inv-loop μ-loop
+returns-2 c = resources-done (c .before .loop .inv) (c .loop-test .left)
+
+pub read-resources-spec : {M : Type 1} → statement M
+read-resources-spec =
+    tie.close
+    (tie.spec
+    Inv-loop
+    μ-loop
+    loop-holds
+    read-resource-requires
+    enum-known-n
+    returns
+    enum-known-d
+    sub-left
+    loop-less
+    loop-again
+    returns-2)

@@ -1,0 +1,54 @@
+-- `read_table` gives what `table` gives, and the count in it.
+-- Assumes nothing.
+use native.Mathlib.Omega.{arith}
+use Rattle.cursor.specs.Told.{numberTold}
+use Rattle.cursor.proofs.Laws.{was}
+use Rattle.description.proofs.Ways.{product, table-cut, table-left, table-channel, table-resource, table-count}
+use borrow.Author.Needs.{needs}
+use Rattle.description.proofs.read_table.Statement.{statement}
+use Rattle.description.proofs.read_table.Tie as tie
+
+index-of-requires : tie.Need-index-of-requires
+index-of-requires c κs = search needs
+
+mul-read-numbers : tie.Need-mul-read-numbers
+mul-read-numbers c = omega (arith, product (c .before .before .args .channels) (c .before .before .args .resources) (omega arith) (omega arith))
+
+read-numbers-requires : tie.Need-read-numbers-requires
+read-numbers-requires c κs = search needs
+
+enum-known-p : tie.Need-enum-known-p
+enum-known-p c = search needs
+
+enum-known-count : tie.Need-enum-known-count
+enum-known-count c = search needs
+
+returns : tie.Need-returns
+returns c = table-left _ _ _ _ _ _ _ _ (was numberTold (c .before .before .before .before .before .before .before .read-numbers .ensures) (c .before .before .before .before .before .count .given .1)) (c .if1 .taken)
+
+returns-2 : tie.Need-returns-2
+returns-2 c = table-channel _ _ _ _ _ _ _ _ (was numberTold (c .before .before .before .before .before .before .before .before .read-numbers .ensures) (c .before .before .before .before .before .before .count .given .1)) (c .before .if1 .left) (c .if2 .taken)
+
+returns-3 : tie.Need-returns-3
+returns-3 c = table-resource _ _ _ _ _ _ _ _ (was numberTold (c .before .before .before .before .before .before .before .before .before .read-numbers .ensures) (c .before .before .before .before .before .before .before .count .given .1)) (c .before .before .if1 .left) (c .before .if2 .left) (c .if3 .taken)
+
+returns-4 : tie.Need-returns-4
+returns-4 c = table-cut _ _ _ _ _ _ _ _ (was numberTold (c .before .before .before .read-numbers .ensures) (c .before .p .given .1))
+
+returns-5 : tie.Need-returns-5
+returns-5 c = table-count _ _ _ _ _ _ _ _ (was numberTold (c .before .before .before .before .before .before .before .before .before .read-numbers .ensures) (c .before .before .before .before .before .before .before .count .given .1)) (c .before .before .if1 .left) (c .before .if2 .left) (c .if3 .left) (c .before .before .before .before .before .before .before .before .before .before .index-of .ensures)
+
+pub read-table-spec : {M : Type 1} → statement M
+read-table-spec =
+    tie.close
+    (tie.spec
+    index-of-requires
+    mul-read-numbers
+    read-numbers-requires
+    enum-known-p
+    enum-known-count
+    returns
+    returns-2
+    returns-3
+    returns-4
+    returns-5)

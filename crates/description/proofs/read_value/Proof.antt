@@ -1,0 +1,27 @@
+-- `read_value` gives what `value` gives.
+-- Assumes nothing.
+use Rattle.cursor.specs.Rows.{metaFrame}
+use Rattle.cursor.specs.Told.{numberTold}
+use Rattle.cursor.proofs.Laws.{was}
+use Rattle.description.proofs.Ways.{value-cut, value-all}
+use borrow.Author.Needs.{needs}
+use Rattle.description.proofs.read_value.Statement.{statement}
+use Rattle.description.proofs.read_value.Tie as tie
+
+number-requires : tie.Need-number-requires
+number-requires c κs = search needs
+
+enum-known-n : tie.Need-enum-known-n
+enum-known-n c = search needs
+
+enum-known-d : tie.Need-enum-known-d
+enum-known-d c = search needs
+
+returns : tie.Need-returns
+returns c = value-cut _ _ _ (was numberTold (c .before .before .before .number .ensures metaFrame) (c .before .n .given .1))
+
+returns-2 : tie.Need-returns-2
+returns-2 c = value-all _ _ _ (was numberTold (c .before .before .before .number .ensures metaFrame) (c .before .d .given .1))
+
+pub read-value-spec : {M : Type 1} → statement M
+read-value-spec = tie.close (tie.spec number-requires enum-known-n enum-known-d returns returns-2)

@@ -1,0 +1,33 @@
+-- What the code's answers say.
+-- Assumes nothing.
+use mathlib.Core.List.{List, [], _∷_}
+use Prim.Native.Nat.{ℕ, _+_, _≤_, _<_}
+use lib.ListN.{length, getD}
+use Rattle.cursor.specs.Machine.{Out, ok, refused}
+use Rattle.cursor.specs.declared.Item.{Item}
+use Rattle.tree.specs.Rows.{itemAt}
+use Rattle.tree.specs.Asking.{Result, good, bad}
+use Rattle.description.specs.declared.Counted.{Counted}
+use Rattle.description.specs.declared.Counted.the-variants as counted
+
+abbrev pub told : Counted → Result ℕ
+told (counted.Count n) = good n
+told (counted.Refused n p) = bad n p
+
+abbrev pub answerOf : Result ℕ → Counted
+answerOf (good n) = counted.Count n
+answerOf (bad n p) = counted.Refused n p
+
+-- the answer in words: refusal number (0: none) and place; then the count
+abbrev pub words : Counted → List ℕ
+words (counted.Count n) = 0 ∷ 0 ∷ n ∷ []
+words (counted.Refused n p) = n ∷ p ∷ []
+
+-- of numbers that were read, the one at i
+abbrev pub picked : ℕ → Out (List ℕ) → Out ℕ
+picked i (ok vs q) = ok (getD vs i 0) q
+picked i (refused n p) = refused n p
+
+-- the data of each item row lies in a file of `size` bytes
+abbrev pub DataIn : ℕ → List Item → Type 0
+DataIn size is = (i : ℕ) → i < length is → itemAt is i .place + itemAt is i .size ≤ size

@@ -1,0 +1,53 @@
+-- `are_needs` says what `areNeeds` says. The invariant: what is left of the rows of field 13 decides.
+-- Assumes nothing.
+use borrow.Author.Tests.{not-true, not-false}
+use mathlib.Core.Path.{sym}
+use Prim.Native.Nat.{_-_, _≤_}
+use lib.ListN.{length}
+use Rattle.description.proofs.Exits.{row-in}
+use Rattle.mobile.proofs.Checks.{NeedsLeft, needs-none, needs-begin, needs-no, needs-on}
+use native.Mathlib.Omega.{arith}
+use Rattle.mobile.proofs.are_needs.Statement.{statement}
+use Rattle.mobile.proofs.are_needs.Tie as tie
+
+abbrev Inv-loop : tie.InvT-loop
+Inv-loop file items many tune i₀ i = (i ≤ many) × NeedsLeft file tune items many i
+
+abbrev μ-loop : tie.MeasureT-loop
+μ-loop file items many tune i₀ i = many - i
+
+next-row-requires : tie.Need-next-row-requires Inv-loop μ-loop
+next-row-requires c κs = omega arith
+
+returns : tie.Need-returns Inv-loop μ-loop
+returns c = needs-none (c .before .before .before .before .args .file .now) (c .before .before .before .before .args .tune) (c .before .before .before .before .args .items .now) (c .before .before .before .before .args .many) (c .before .next-row .ensures) (c .if1 .taken)
+
+loop-holds : tie.Need-loop-holds Inv-loop μ-loop
+loop-holds c = (c .before .next-row .ensures .high, needs-begin (c .before .before .before .before .args .file .now) (c .before .before .before .before .args .tune) (c .before .before .before .before .args .items .now) (c .before .before .before .before .args .many) (c .before .next-row .ensures) (c .if1 .left))
+
+item-at-requires : tie.Need-item-at-requires Inv-loop μ-loop
+item-at-requires c κs = omega arith
+
+is-need-requires : tie.Need-is-need-requires Inv-loop μ-loop
+is-need-requires c κs = row-in (length (c .before .before .before .before .before .before .before .args .file .now)) (c .before .before .before .before .before .before .before .args .items .now) (c .before .before .before .before .before .before .before .args .many) (c .before .before .loop .i) (c .before .before .before .before .before .before .before .pre .1) (c .before .loop-test .taken) (c .item-at .ensures)
+
+returns-2 : tie.Need-returns-2 Inv-loop μ-loop
+returns-2 c = needs-no (c .before .before .before .before .before .before .before .before .before .args .file .now) (c .before .before .before .before .before .before .before .before .before .args .tune) (c .before .before .before .before .before .before .before .before .before .args .items .now) (c .before .before .before .before .before .before .before .before .before .args .many) (c .before .before .before .before .loop .inv .1) (c .before .before .before .loop-test .taken) (c .before .before .item-at .ensures) (c .before .is-need .ensures) (not-true (c .before .is-need .result) (c .if2 .taken))
+
+add-next-row : tie.Need-add-next-row Inv-loop μ-loop
+add-next-row c = omega arith
+
+next-row-requires-2 : tie.Need-next-row-requires-2 Inv-loop μ-loop
+next-row-requires-2 c κs = omega arith
+
+loop-less : tie.Need-loop-less Inv-loop μ-loop
+loop-less c = omega (arith, c .next-row2 .ensures .low)
+
+loop-again : tie.Need-loop-again Inv-loop μ-loop
+loop-again c = (c .next-row2 .ensures .high, needs-on (c .before .before .before .before .before .before .before .before .before .before .args .file .now) (c .before .before .before .before .before .before .before .before .before .before .args .tune) (c .before .before .before .before .before .before .before .before .before .before .args .items .now) (c .before .before .before .before .before .before .before .before .before .before .args .many) (c .before .before .before .before .before .loop .inv .1) (c .before .before .before .before .loop-test .taken) (c .before .before .before .item-at .ensures) (c .before .before .is-need .ensures) (not-false (c .before .before .is-need .result) (c .before .if2 .left)) (c .next-row2 .ensures))
+
+returns-3 : tie.Need-returns-3 Inv-loop μ-loop
+returns-3 c = sym (c .before .loop .inv .1 .none (c .loop-test .left))
+
+pub are-needs-spec : {M : Type 1} → statement M
+are-needs-spec = tie.close (tie.spec Inv-loop μ-loop next-row-requires returns loop-holds item-at-requires is-need-requires returns-2 add-next-row next-row-requires-2 loop-less loop-again returns-3)

@@ -1,0 +1,120 @@
+//! Files for timing. In each, a reader spends its time in another place.
+
+use crate::encode::{encode, encode_changed, MarkKind};
+use crate::mobile::{tune, tune_items};
+use crate::model::{Contents, Field, File, Item, Node, TypeEntry};
+use crate::model::{Unpacker, UnpackerName, Values, Version, Widths};
+use crate::random::Random;
+use crate::{cases, samples, shapes};
+
+/// Version 2.00, with type and revision of Mobile XMF.
+const MOBILE: Version = Version::V200 {
+    kind: 2,
+    revision: 1,
+};
+
+/// All of them, each with its name.
+pub fn all(seed: u64) -> Vec<(&'static str, Vec<u8>)> {
+    let mut padded = shapes::large(&mut Random::new(seed), 15);
+    padded.widths = Widths::Four;
+    vec![
+        ("large", cases::large_file(seed)),
+        ("padded", encode(&padded).bytes),
+        ("common", encode(&levels(common_items())).bytes),
+        ("bare", encode(&levels([const { Vec::new() }; 2])).bytes),
+        ("late", refused_late()),
+        ("unpackers", encode(&unpackers()).bytes),
+        ("types", encode(&types()).bytes),
+        ("text", encode(&titled(b'a')).bytes),
+        ("escapes", encode(&titled(0x90)).bytes),
+        ("children", encode(&children()).bytes),
+        ("contents", encode(&contents()).bytes),
+        ("worked", samples::worked()),
+        ("resource", cases::large_resource(seed)),
+    ]
+}
+
+/// 256 nodes: a root, 15 folders in it, 16 file nodes in each. The first items are those of a folder,
+/// the second those of a file node.
+fn levels([folder, leaf]: [Vec<Item>; 2]) -> File {
+    let leaf = Node::inline(&[7; 24]).with_items(leaf);
+    let inner = Node::folder(vec![leaf; 16]).with_items(folder.clone());
+    let root = Node::folder(vec![inner; 15]).with_items(folder);
+    File::new(MOBILE, root)
+}
+
+/// Four universal contents: of a folder, and of a file node, which has one custom field.
+fn common_items() -> [Vec<Item>; 2] {
+    let leaf = vec![
+        Item::standard(8, 0, b"Boarding call"),
+        Item::custom(b"token", 7, &[0x11; 16]),
+        Item::standard(3, 6, &[0, 1]),
+        Item::standard(10, 0, b"Studio"),
+    ];
+    [vec![Item::standard(8, 0, b"Folder"); 4], leaf]
+}
+
+/// The same nodes and items, with the last reference a wrong one.
+fn refused_late() -> Vec<u8> {
+    let file = levels(common_items());
+    let marks = encode(&file).marks;
+    let last = marks.iter().rfind(|mark| mark.kind == MarkKind::Reference);
+    encode_changed(&file, last.expect("a reference").index, &[9]).bytes
+}
+
+/// A node with 20,000 unpackers: 60,000 numbers of one byte.
+fn unpackers() -> File {
+    let unpacker = Unpacker {
+        name: UnpackerName::Standard(1),
+        size: 2,
+    };
+    let mut root = Node::inline(&[]);
+    root.unpackers = vec![unpacker; 20_000];
+    File::new(MOBILE, root)
+}
+
+/// 32 declared types, and 1,024 versions of the last one.
+fn types() -> File {
+    let versions = Item {
+        field: Field::Standard(8),
+        values: Values::Versions(vec![(31, b"A".to_vec()); 1024]),
+    };
+    let mut file = File::new(MOBILE, Node::inline(&[]).with_items(vec![versions]));
+    file.types = (0..32)
+        .map(|number| TypeEntry {
+            number,
+            format: 0,
+            language: Vec::new(),
+        })
+        .collect();
+    file
+}
+
+/// One visible text of 20,000 bytes, all the same.
+fn titled(byte: u8) -> File {
+    let title = Item::standard(8, 0, &[byte; 20_000]);
+    File::new(MOBILE, Node::inline(&[]).with_items(vec![title]))
+}
+
+/// A root with 255 children, of which the last is a tune. It meets the checks of Mobile XMF up to
+/// the fifth.
+fn children() -> File {
+    let bank = Node::inline(&[2]).with_items(vec![
+        Item::standard(3, 6, &[0, 5]),
+        Item::standard(8, 0, b"x"),
+        Item::standard(9, 0, b"y"),
+        Item::standard(10, 7, b"z"),
+    ]);
+    let mut children = vec![bank; 254];
+    children.push(Node::inline(&tune()).with_items(tune_items()));
+    File::new(MOBILE, Node::folder(children))
+}
+
+/// A tune with 1,000 contents. It meets every check of Mobile XMF.
+fn contents() -> File {
+    let [format, description]: [Item; 2] = tune_items().try_into().expect("two items");
+    let mut items = vec![format];
+    items.extend(vec![description; 999]);
+    let child = Node::new(Contents::Inline(tune())).with_items(items);
+    File::new(MOBILE, Node::folder(vec![child]))
+}
