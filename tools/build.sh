@@ -1,6 +1,7 @@
 #!/bin/sh
 # Builds what is not there, or older than its sources: tools/build.sh xmf_sheet makes target/bin/xmf_sheet, which ./sheet runs;
-# tools/build.sh capi makes target/staticlib/libcapi.a, which examples/c and rust/xmf link. Nothing is done if all is up to date.
+# tools/build.sh xmf_title makes target/bin/xmf_title, which ./title runs; tools/build.sh capi makes target/staticlib/libcapi.a,
+# which examples/c and rust/xmf link. Nothing is done if all is up to date.
 # Messages, and the crate that is being proved, go to standard error. target/built/NAME.log has what `rt` prints.
 set -u
 
@@ -9,10 +10,10 @@ say() { printf 'build: %s\n' "$1" >&2; }
 root=$(CDPATH= cd -- "$(dirname -- "$0")/.." && pwd -P) && cd -- "$root" || exit 1
 name=${1-}
 case $name in
-xmf_sheet) result=target/bin/xmf_sheet command=check ;;
+xmf_sheet | xmf_title) result=target/bin/$name command=check ;;
 capi) result=target/staticlib/libcapi.a command=staticlib ;;
 *)
-    say 'usage: tools/build.sh xmf_sheet, or tools/build.sh capi'
+    say 'usage: tools/build.sh xmf_sheet, xmf_title or capi'
     exit 1
     ;;
 esac

@@ -396,7 +396,7 @@ fn put_titled(
 }
 
 // Whether some node names a place of the file.
-fn refers_elsewhere(nodes: &[u64], count: usize) -> bool
+pub fn refers_elsewhere(nodes: &[u64], count: usize) -> bool
     requires { ⌜ count * 13 ≤ length (now nodes) ⌝ }
     ensures { λ r. ⌜ r ≡ elsewhere (nodesIn count (now (nodes .entry))) ⌝ }
 {
@@ -415,7 +415,7 @@ fn refers_elsewhere(nodes: &[u64], count: usize) -> bool
 }
 
 // Whether item row `row` is hidden or a version.
-fn is_no_title(items: &[u64], row: usize) -> bool
+pub fn is_no_title(items: &[u64], row: usize) -> bool
     requires { ⌜ row * 10 + 10 ≤ length (now items) ⌝ }
     ensures { λ r. ⌜ r ≡ isNoTitle (itemFrom (now (items .entry)) (row * 10)) ⌝ }
 {

@@ -238,7 +238,7 @@ fn put_unicode(out: &mut [u8], to: usize, file: &[u8], from: usize, size: usize)
 }
 
 // Puts the text of the item row whose words begin at k.
-fn put_text(out: &mut [u8], to: usize, file: &[u8], items: &[u64], k: usize) -> usize
+pub fn put_text(out: &mut [u8], to: usize, file: &[u8], items: &[u64], k: usize) -> usize
     requires { ⌜ (k + 10 ≤ length (now items)) × ItemInside (length (now file)) (itemFrom (now items) k) ⌝ }
     ensures { λ r. ⌜ Counts (now (out .entry)) (now (out .exit)) to (textOf (now (file .entry)) (itemFrom (now (items .entry)) k)) r ⌝ }
 {
@@ -249,7 +249,7 @@ fn put_text(out: &mut [u8], to: usize, file: &[u8], items: &[u64], k: usize) -> 
 }
 
 // Puts the line of the item row whose words begin at k.
-fn put_item_line(out: &mut [u8], to: usize, file: &[u8], items: &[u64], k: usize) -> usize
+pub fn put_item_line(out: &mut [u8], to: usize, file: &[u8], items: &[u64], k: usize) -> usize
     requires { ⌜ (k + 10 ≤ length (now items)) × ItemInside (length (now file)) (itemFrom (now items) k) ⌝ }
     ensures { λ r. ⌜ Counts (now (out .entry)) (now (out .exit)) to (itemLine (now (file .entry)) (itemFrom (now (items .entry)) k)) r ⌝ }
 {

@@ -1,4 +1,4 @@
--- What a writer put stands at the start of its buffer, and is the answer's text; and what an input's count says of its buffer.
+-- What a writer put stands at the start of its buffer, and is the answer's text.
 -- Assumes nothing.
 use mathlib.Core.Path.{_≡_, refl, sym, ap, subst, _∙_}
 use mathlib.Core.Bool.{Bool, true, false}
@@ -14,7 +14,7 @@ use Rattle.io.proofs.Counting.{counts}
 use Rattle.metadata.specs.Tables.{limits}
 use Rattle.room.specs.Room.{choose, padded}
 use Rattle.room.specs.Counts as room
-use Rattle.room.proofs.Counting.{wrote-front}
+use Rattle.program.proofs.Starts.{starts}
 use Rattle.room.proofs.Decimal.{few-digits}
 use Rattle.tree.specs.Reading.{readFile, Reading, rows, refusal}
 use Rattle.tree.specs.Asking.{Result, good, bad, ask}
@@ -22,10 +22,7 @@ use Rattle.sheet.specs.Sheet.{tabbed, number, fitting, write, counted, kept, sh
 use Rattle.sheet.specs.Told.{told}
 use Rattle.sheet.specs.declared.Written.{Written}
 use Rattle.sheet.specs.declared.Written.the-variants as written
-use Rattle.xmf_sheet.specs.Inputs.{Inside}
 use Rattle.xmf_sheet.specs.Answer.{refusalLine, tooLong, lines, answerText}
-use Rattle.xmf_sheet.specs.declared.Input.{Input}
-use Rattle.xmf_sheet.specs.declared.Input.the-variants as input
 
 -- `n` bytes at the start of a buffer, which are these
 abbrev pub Starts : ℕ → List ℕ → List ℕ → Type 0
@@ -34,11 +31,7 @@ Starts n text w = Counts n text × (take n text ≡ w)
 -- ---- a line that was put at the start
 
 pub put-first : {o o′ w : List ℕ} {r : ℕ} → room.Counts o o′ 0 w r → length w ≤ length o → length o < room.tooMany → Starts r o′ w
-put-first {o} {o′} {w} {r} p l m =
-    let a = p .after in
-    let z = p .long in
-    let x = wrote-front p (omega arith) m in
-    (counts r o′ (omega arith), ap (λ (v : List ℕ). take r v) (x .2) ∙ take-at w (drop (length w) o) r (sym (x .0)))
+put-first p l m = let a = p .after in let x = starts p (omega arith) m in (x .1, x .2)
 
 number-short : (n : ℕ) → length (number n) ≤ 21
 unfolding number tabbed
@@ -125,9 +118,3 @@ answer-long f l = simp (lt-ltb 65536 (length f) l)
 pub answer-short : (f : List ℕ) {n i room : ℕ} → 3328 ≡ n → 10240 ≡ i → 65536 ≡ room → length f ≤ 65536 → lines (ask (readFile (limits n i) f) (write room f)) ≡ answerText f
 unfolding answerText
 answer-short f a b c l = simp (sym a, sym b, sym c, le-ltb 65536 (length f) l)
-
--- ---- an input
-
--- an input's bytes stand at the start of its buffer
-pub input-counted : (buf : List ℕ) {r : Input} {n : ℕ} → Inside r buf → r ≡ input.Bytes n → Counts n buf
-input-counted buf h k = subst (λ (r : Input). Inside r buf) k h

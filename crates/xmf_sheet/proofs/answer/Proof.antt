@@ -1,6 +1,6 @@
 -- `answer` is safe and ends: the input's bytes stand in the buffer.
 -- Assumes nothing.
-use Rattle.xmf_sheet.proofs.Fits.{input-counted}
+use Rattle.program.proofs.Inputs.{input-counted}
 use borrow.Author.Needs.{needs}
 use Rattle.xmf_sheet.proofs.answer.Statement.{statement}
 use Rattle.xmf_sheet.proofs.answer.Tie as tie
@@ -17,6 +17,9 @@ read-input-requires c κs = search needs
 enum-told : tie.Need-enum-told
 enum-told c = search needs
 
+slice-aggregate-fail : tie.Need-slice-aggregate-fail
+slice-aggregate-fail c = search needs
+
 fail-requires : tie.Need-fail-requires
 fail-requires c κs = search needs
 
@@ -32,8 +35,11 @@ slice-aggregate-write-answer c = input-counted (c .before .before .before .befor
 write-answer-requires : tie.Need-write-answer-requires
 write-answer-requires c κs = search needs
 
-slice-aggregate-fail : tie.Need-slice-aggregate-fail
-slice-aggregate-fail c = search needs
+slice-aggregate-fail-2 : tie.Need-slice-aggregate-fail-2
+slice-aggregate-fail-2 c = search needs
+
+slice-aggregate-fail-3 : tie.Need-slice-aggregate-fail-3
+slice-aggregate-fail-3 c = search needs
 
 fail-requires-2 : tie.Need-fail-requires-2
 fail-requires-2 c κs = search needs
@@ -55,12 +61,14 @@ answer-spec =
     slice-aggregate-read-input
     read-input-requires
     enum-told
+    slice-aggregate-fail
     fail-requires
     enum-known-n
     array-share-prefix-file
     slice-aggregate-write-answer
     write-answer-requires
-    slice-aggregate-fail
+    slice-aggregate-fail-2
+    slice-aggregate-fail-3
     fail-requires-2
     returns
     returns-2

@@ -3,8 +3,8 @@
 use mathlib.Core.List.{List}
 use Prim.Native.Nat.{ℕ}
 use Rattle.io.specs.Counts.{Counts}
-use Rattle.xmf_sheet.specs.declared.Input.{Input}
-use Rattle.xmf_sheet.specs.declared.Input.the-variants as input
+use Rattle.program.specs.declared.Input.{Input}
+use Rattle.program.specs.declared.Input.the-variants as input
 
 -- the bytes of an input stand at the start of the buffer
 abbrev pub Inside : Input → List ℕ → Type 0

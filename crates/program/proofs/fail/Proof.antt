@@ -3,8 +3,8 @@
 use native.Mathlib.Omega.{arith}
 use Rattle.io.proofs.Counting.{counts}
 use borrow.Author.Needs.{needs}
-use Rattle.xmf_sheet.proofs.fail.Statement.{statement}
-use Rattle.xmf_sheet.proofs.fail.Tie as tie
+use Rattle.program.proofs.fail.Statement.{statement}
+use Rattle.program.proofs.fail.Tie as tie
 
 name-buffer-requires : tie.Need-name-buffer-requires
 name-buffer-requires c κs = search needs
@@ -15,11 +15,14 @@ slice-aggregate-put-escaped c = search needs
 put-escaped-requires : tie.Need-put-escaped-requires
 put-escaped-requires c κs = search needs
 
+write-all-requires : tie.Need-write-all-requires
+write-all-requires c κs = search needs
+
 slice-aggregate-write-all : tie.Need-slice-aggregate-write-all
 slice-aggregate-write-all c = search needs
 
-write-all-requires : tie.Need-write-all-requires
-write-all-requires c κs = search needs
+write-all-requires-2 : tie.Need-write-all-requires-2
+write-all-requires-2 c κs = search needs
 
 slice-aggregate-fail : tie.Need-slice-aggregate-fail
 slice-aggregate-fail c = search needs
@@ -34,7 +37,7 @@ array-share-prefix-text : tie.Need-array-share-prefix-text
 array-share-prefix-text c = search needs
 
 slice-aggregate-fail-2 : tie.Need-slice-aggregate-fail-2
-slice-aggregate-fail-2 c = counts (c .before .before .before .before .before .put-escaped .result) (c .before .before .before .before .before .put-escaped .last .0) (omega (arith, c .before .if1 .left, c .before .before .before .before .before .put-escaped .kept .0, c .before .before .before .before .before .before .before .name-buffer .ensures)) .1
+slice-aggregate-fail-2 c = counts (c .before .before .before .before .before .before .put-escaped .result) (c .before .before .before .before .before .before .put-escaped .last .0) (omega (arith, c .before .if1 .left, c .before .before .before .before .before .before .put-escaped .kept .0, c .before .before .before .before .before .before .before .before .name-buffer .ensures)) .1
 
 fail-requires-2 : tie.Need-fail-requires-2
 fail-requires-2 c κs = search needs
@@ -49,8 +52,9 @@ fail-spec =
     name-buffer-requires
     slice-aggregate-put-escaped
     put-escaped-requires
-    slice-aggregate-write-all
     write-all-requires
+    slice-aggregate-write-all
+    write-all-requires-2
     slice-aggregate-fail
     fail-requires
     returns

@@ -7,8 +7,8 @@ use mathlib.Core.Path.{_≡_}
 use lib.ListN.{length}
 use borrow.Author.Needs.{needs}
 use native.Mathlib.Omega.{arith}
-use Rattle.xmf_sheet.proofs.read_input.Statement.{statement}
-use Rattle.xmf_sheet.proofs.read_input.Tie as tie
+use Rattle.program.proofs.read_input.Statement.{statement}
+use Rattle.program.proofs.read_input.Tie as tie
 
 abbrev Inv-loop : tie.InvT-loop
 Inv-loop fd buf₀ n₀ buf n = (n ≤ length buf) × (length buf ≡ length buf₀)

@@ -1,0 +1,71 @@
+-- `list` is safe and ends: what was made stands in the buffer.
+-- Assumes nothing.
+use Rattle.xmf_title.proofs.Fits.{made-counted}
+use borrow.Author.Needs.{needs}
+use Rattle.xmf_title.proofs.list.Statement.{statement}
+use Rattle.xmf_title.proofs.list.Tie as tie
+
+large-buffer-requires : tie.Need-large-buffer-requires
+large-buffer-requires c κs = search needs
+
+slice-aggregate-make-list : tie.Need-slice-aggregate-make-list
+slice-aggregate-make-list c = search needs
+
+make-list-requires : tie.Need-make-list-requires
+make-list-requires c κs = search needs
+
+enum-known-n : tie.Need-enum-known-n
+enum-known-n c = search needs
+
+say-refusal-requires : tie.Need-say-refusal-requires
+say-refusal-requires c κs = search needs
+
+enum-known-n-2 : tie.Need-enum-known-n-2
+enum-known-n-2 c = search needs
+
+array-share-prefix-text : tie.Need-array-share-prefix-text
+array-share-prefix-text c = made-counted (c .before .before .before .before .make-list .last .1 .0) _ (c .before .before .before .before .make-list .ensures) (c .before .n2 .given .1) .0
+
+slice-aggregate-write-all : tie.Need-slice-aggregate-write-all
+slice-aggregate-write-all c = made-counted (c .before .before .before .before .before .make-list .last .1 .0) _ (c .before .before .before .before .before .make-list .ensures) (c .before .before .n2 .given .1) .1
+
+write-all-requires : tie.Need-write-all-requires
+write-all-requires c κs = search needs
+
+slice-aggregate-fail : tie.Need-slice-aggregate-fail
+slice-aggregate-fail c = search needs
+
+slice-aggregate-fail-2 : tie.Need-slice-aggregate-fail-2
+slice-aggregate-fail-2 c = search needs
+
+fail-requires : tie.Need-fail-requires
+fail-requires c κs = search needs
+
+returns : tie.Need-returns
+returns c = search needs
+
+returns-2 : tie.Need-returns-2
+returns-2 c = search needs
+
+returns-3 : tie.Need-returns-3
+returns-3 c = search needs
+
+pub list-spec : {M : Type 1} → statement M
+list-spec =
+    tie.close
+    (tie.spec
+    large-buffer-requires
+    slice-aggregate-make-list
+    make-list-requires
+    enum-known-n
+    say-refusal-requires
+    enum-known-n-2
+    array-share-prefix-text
+    slice-aggregate-write-all
+    write-all-requires
+    slice-aggregate-fail
+    slice-aggregate-fail-2
+    fail-requires
+    returns
+    returns-2
+    returns-3)

@@ -1,0 +1,52 @@
+-- `put_title_lines` puts the lines of all titles. The invariant: of the whole, the lines from row i on are still to be put.
+-- Assumes nothing.
+use Prim.Native.Nat.{_-_, _≤_}
+use mathlib.Core.Path.{sym}
+use native.Mathlib.Omega.{arith}
+use Rattle.room.proofs.Counting.{Going, going-start, going-on, going-end, going-length}
+use Rattle.tree.specs.Rows.{itemsFrom, itemsIn}
+use Rattle.xmf_title.specs.Answer.{titleLines}
+use Rattle.xmf_title.proofs.Fits.{lines-on, lines-end, lines-start}
+use Rattle.xmf_title.proofs.put_title_lines.Statement.{statement}
+use Rattle.xmf_title.proofs.put_title_lines.Tie as tie
+
+abbrev Inv-loop : tie.InvT-loop
+Inv-loop out₀ file items count next₀ i₀ out next i = (i ≤ count) × Going out₀ out next₀ next (titleLines file 0 (itemsIn count items)) (titleLines file i (itemsFrom i (count - i) items))
+
+abbrev μ-loop : tie.MeasureT-loop
+μ-loop out₀ file items count next₀ i₀ out next i = count - i
+
+loop-holds : tie.Need-loop-holds Inv-loop μ-loop
+loop-holds c = (omega arith, going-start _ (omega arith) (sym (lines-start _ _ _)))
+
+put-title-line-requires : tie.Need-put-title-line-requires Inv-loop μ-loop
+put-title-line-requires c κs = (omega (arith, c .before .before .before .before .before .before .pre .0), c .before .before .before .before .before .before .pre .1 _ (c .before .loop-test .taken))
+
+add-i : tie.Need-add-i Inv-loop μ-loop
+add-i c = omega arith
+
+loop-less : tie.Need-loop-less Inv-loop μ-loop
+loop-less c = omega arith
+
+loop-again : tie.Need-loop-again Inv-loop μ-loop
+loop-again c = (omega arith, going-on (lines-on _ _ _ _ (c .before .before .before .before .loop-test .taken)) (c .before .before .before .before .before .loop .inv .1) (c .before .before .put-title-line .ensures))
+
+same-length : tie.Need-same-length Inv-loop μ-loop
+same-length c = going-length (c .before .loop .inv .1)
+
+returns : tie.Need-returns Inv-loop μ-loop
+returns c = going-end (lines-end _ _ _ _ (c .loop-test .left)) (c .before .loop .inv .1)
+
+pub put-title-lines-spec : {M : Type 1} → statement M
+put-title-lines-spec =
+    tie.close
+    (tie.spec
+    Inv-loop
+    μ-loop
+    loop-holds
+    put-title-line-requires
+    add-i
+    loop-less
+    loop-again
+    same-length
+    returns)
