@@ -71,7 +71,7 @@ fn put_found(answer: &mut [u64], said: Found)
                 r.item,
                 r.kind,
                 r.field,
-                r.named,
+                r.nameLength,
                 r.version,
                 r.declared,
                 r.format,

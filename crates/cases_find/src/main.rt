@@ -54,7 +54,7 @@ fn put_item(out: &mut [u8], at: usize, row: Item) -> usize {
         row.item,
         row.kind,
         row.field,
-        row.named,
+        row.nameLength,
         row.version,
         row.declared,
         row.format,

@@ -12,6 +12,7 @@ use lib.Seq.{take-length}
 use borrow.Author.Tests.{eq-eqb, ne-eqb, le-leb, lt-leb, lt-ltb, le-ltb}
 use Rattle.cursor.specs.Vlq.{part, choose, vlq, joined, sized}
 use Rattle.cursor.specs.declared.Item.{Item}
+use Rattle.metadata.specs.Tables.{itemWidth}
 use Rattle.tree.specs.Rows.{itemFrom}
 use Rattle.title.specs.Description.{Content, content, titled}
 use Rattle.title.specs.Text.{further, fieldText, itemText, universalText, versionText, contentText, itemsText}
@@ -56,17 +57,17 @@ module _ (f : List ℕ) (row : ℕ) (title us : List ℕ) (k : ℕ) where
   c = contentAt f row title us k
 
   abbrev r : Item
-  r = itemFrom us (k * 10)
+  r = itemFrom us (k * itemWidth)
 
-  pub at-version : c .version ≡ getD us (k * 10 + 5) 0
+  pub at-version : c .version ≡ getD us (k * itemWidth + 5) 0
   unfolding contentAt content
   at-version = same-version (eqb k row) title (content f r)
 
-  at-declared : c .declared ≡ getD us (k * 10 + 6) 0
+  at-declared : c .declared ≡ getD us (k * itemWidth + 6) 0
   unfolding contentAt content
   at-declared = same-declared (eqb k row) title (content f r)
 
-  at-format : c .format ≡ getD us (k * 10 + 7) 0
+  at-format : c .format ≡ getD us (k * itemWidth + 7) 0
   unfolding contentAt content
   at-format = same-format (eqb k row) title (content f r)
 
@@ -76,12 +77,12 @@ module _ (f : List ℕ) (row : ℕ) (title us : List ℕ) (k : ℕ) where
   data-title e p = rw (eq-eqb k row e) (rw (take-length title) at p)
 
   -- the file's data
-  pub data-file : (k ≡ row → ⊥) → {o o′ : List ℕ} {s n : ℕ} → Counts o o′ s (part f (getD us (k * 10 + 8) 0) (getD us (k * 10 + 9) 0)) n → Counts o o′ s (c .bytes) n
+  pub data-file : (k ≡ row → ⊥) → {o o′ : List ℕ} {s n : ℕ} → Counts o o′ s (part f (getD us (k * itemWidth + 8) 0) (getD us (k * itemWidth + 9) 0)) n → Counts o o′ s (c .bytes) n
   unfolding contentAt content
   data-file e p = rw (ne-eqb k row e) p
 
   module _ {o o₁ o₂ : List ℕ} {s s₁ s₂ : ℕ} where
-    pub text-put : Counts o o₁ s (vlq (getD us (k * 10 + 7) 0)) s₁ → Counts o₁ o₂ s₁ (c .bytes) s₂ → Counts o o₂ s (joined (vlq (c .format) ∷ c .bytes ∷ [])) s₂
+    pub text-put : Counts o o₁ s (vlq (getD us (k * itemWidth + 7) 0)) s₁ → Counts o₁ o₂ s₁ (c .bytes) s₂ → Counts o o₂ s (joined (vlq (c .format) ∷ c .bytes ∷ [])) s₂
     text-put p q = put-two (vlq (c .format)) (c .bytes) (counts-as (ap vlq (sym at-format)) p) q
 
     pub universal-put : {z z′ : List ℕ} {n : ℕ} → Counts z z′ 0 (joined (vlq (c .format) ∷ c .bytes ∷ [])) n → Counts o o₁ s (vlq n) s₁ → Counts o₁ o₂ s₁ (joined (vlq (c .format) ∷ c .bytes ∷ [])) s₂
@@ -89,17 +90,17 @@ module _ (f : List ℕ) (row : ℕ) (title us : List ℕ) (k : ℕ) where
     unfolding universalText
     universal-put m p q = put-sized (joined (vlq (c .format) ∷ c .bytes ∷ [])) m p q
 
-    pub version-put : {z z′ o₀ : List ℕ} {n s₀ : ℕ} → Counts z z′ 0 (c .bytes) n → Counts o₀ o s₀ (vlq (getD us (k * 10 + 6) 0)) s → Counts o o₁ s (vlq n) s₁ → Counts o₁ o₂ s₁ (c .bytes) s₂
+    pub version-put : {z z′ o₀ : List ℕ} {n s₀ : ℕ} → Counts z z′ 0 (c .bytes) n → Counts o₀ o s₀ (vlq (getD us (k * itemWidth + 6) 0)) s → Counts o o₁ s (vlq n) s₁ → Counts o₁ o₂ s₁ (c .bytes) s₂
         → Counts o₀ o₂ s₀ (versionText c) s₂
     unfolding versionText
     version-put m d p q = put-two (vlq (c .declared)) (sized (c .bytes)) (counts-as (ap vlq (sym at-declared)) d) (put-sized (c .bytes) m p q)
 
   module _ {o o′ : List ℕ} {s n : ℕ} where
-    pub content-universal : getD us (k * 10 + 5) 0 ≡ 0 → Counts o o′ s (universalText c) n → Counts o o′ s (contentText c) n
+    pub content-universal : getD us (k * itemWidth + 5) 0 ≡ 0 → Counts o o′ s (universalText c) n → Counts o o′ s (contentText c) n
     unfolding contentText
     content-universal e p = rw (eq-eqb (c .version) 0 (at-version ∙ e)) p
 
-    pub content-version : (getD us (k * 10 + 5) 0 ≡ 0 → ⊥) → Counts o o′ s (versionText c) n → Counts o o′ s (contentText c) n
+    pub content-version : (getD us (k * itemWidth + 5) 0 ≡ 0 → ⊥) → Counts o o′ s (versionText c) n → Counts o o′ s (contentText c) n
     unfolding contentText
     content-version e p = rw (ne-eqb (c .version) 0 (λ q. e (sym at-version ∙ q))) p
 
@@ -111,16 +112,16 @@ module _ (f : List ℕ) (row : ℕ) (title us : List ℕ) (k : ℕ) where
 -- ---- the field
 
 module _ (f : List ℕ) (r : Item) {o o₁ o₂ : List ℕ} {s s₁ s₂ : ℕ} where
-  pub field-custom : ItemInside (length f) r → r .kind ≡ 1 → Counts o o₁ s (vlq (r .named)) s₁ → Counts o₁ o₂ s₁ (part f (r .field) (r .named)) s₂ → Counts o o₂ s (fieldText (content f r)) s₂
+  pub field-custom : ItemInside (length f) r → r .kind ≡ 1 → Counts o o₁ s (vlq (r .nameLength)) s₁ → Counts o₁ o₂ s₁ (part f (r .field) (r .nameLength)) s₂ → Counts o o₂ s (fieldText (content f r)) s₂
   unfolding fieldText content
   field-custom (a, inl z) e p q = absurd (omega arith)
-  field-custom (a, inr l) e p q = rw (eq-eqb (r .kind) 1 e) (put-block (part f (r .field) (r .named)) (r .named) (part-length f (r .field) (r .named) l) p q)
+  field-custom (a, inr l) e p q = rw (eq-eqb (r .kind) 1 e) (put-block (part f (r .field) (r .nameLength)) (r .nameLength) (part-length f (r .field) (r .nameLength) l) p q)
 
   pub field-standard : (r .kind ≡ 1 → ⊥) → Counts o o₁ s (vlq 0) s₁ → Counts o₁ o₂ s₁ (vlq (r .field)) s₂ → Counts o o₂ s (fieldText (content f r)) s₂
   unfolding fieldText content
   field-standard e p q = rw (ne-eqb (r .kind) 1 e) (put-two (vlq 0) (vlq (r .field)) p q)
 
-pub custom-inside : (f : List ℕ) (r : Item) → ItemInside (length f) r → r .kind ≡ 1 → r .field + r .named ≤ length f
+pub custom-inside : (f : List ℕ) (r : Item) → ItemInside (length f) r → r .kind ≡ 1 → r .field + r .nameLength ≤ length f
 custom-inside f r (a, inl z) e = absurd (omega arith)
 custom-inside f r (a, inr l) e = l
 
@@ -135,11 +136,11 @@ module _ (f : List ℕ) (row : ℕ) (title us : List ℕ) where
   unfolding contentsFrom
   contents-end k end l = let e : end - k ≡ 0 = omega arith in rw e refl
 
-  further-cons : (k : ℕ) (cs : List Content) → 1 < getD us (k * 10 + 5) 0 → further (contentAt f row title us k ∷ cs) ≡ suc (further cs)
+  further-cons : (k : ℕ) (cs : List Content) → 1 < getD us (k * itemWidth + 5) 0 → further (contentAt f row title us k ∷ cs) ≡ suc (further cs)
   unfolding further
   further-cons k cs l = rw (lt-ltb 1 (contentAt f row title us k .version) (rw (at-version f row title us k) l)) refl
 
-  further-no : (k : ℕ) (cs : List Content) → getD us (k * 10 + 5) 0 ≤ 1 → further (contentAt f row title us k ∷ cs) ≡ 0
+  further-no : (k : ℕ) (cs : List Content) → getD us (k * itemWidth + 5) 0 ≤ 1 → further (contentAt f row title us k ∷ cs) ≡ 0
   unfolding further
   further-no k cs l = rw (le-ltb 1 (contentAt f row title us k .version) (rw (at-version f row title us k) l)) refl
 
@@ -155,7 +156,7 @@ pub record Counting (us : List ℕ) (first end k : ℕ) : Type 0 where
 pub counting-start : (us : List ℕ) (first end : ℕ) → first ≤ end → Counting us first end first
 counting-start us first end l = record { within = (omega arith, l); same = λ f row title. omega arith }
 
-pub counting-on : {us : List ℕ} {first end k : ℕ} → k < end → 1 < getD us (k * 10 + 5) 0 → Counting us first end k → Counting us first end (k + 1)
+pub counting-on : {us : List ℕ} {first end k : ℕ} → k < end → 1 < getD us (k * itemWidth + 5) 0 → Counting us first end k → Counting us first end (k + 1)
 counting-on {us} {first} {end} {k} l v c =
     let w = c .within in
     record {
@@ -163,7 +164,7 @@ counting-on {us} {first} {end} {k} l v c =
       same = λ f row title. omega (arith, c .same f row title, ap further (contents-on f row title us k end l), further-cons f row title us k (contentsFrom f row title us (k + 1) (end - (k + 1))) v);
     }
 
-pub counting-stop : {us : List ℕ} {first end k : ℕ} → k < end → getD us (k * 10 + 5) 0 ≤ 1 → Counting us first end k → (f : List ℕ) (row : ℕ) (title : List ℕ) → k - first ≡ further (contentsFrom f row title us first (end - first))
+pub counting-stop : {us : List ℕ} {first end k : ℕ} → k < end → getD us (k * itemWidth + 5) 0 ≤ 1 → Counting us first end k → (f : List ℕ) (row : ℕ) (title : List ℕ) → k - first ≡ further (contentsFrom f row title us first (end - first))
 counting-stop {us} {first} {end} {k} l v c f row title = omega (arith, c .same f row title, ap further (contents-on f row title us k end l), further-no f row title us k (contentsFrom f row title us (k + 1) (end - (k + 1))) v)
 
 pub counting-end : {us : List ℕ} {first end k : ℕ} → end ≤ k → Counting us first end k → (f : List ℕ) (row : ℕ) (title : List ℕ) → k - first ≡ further (contentsFrom f row title us first (end - first))
@@ -175,25 +176,25 @@ module _ (f : List ℕ) (row : ℕ) (title us : List ℕ) (k : ℕ) (cs : List C
   abbrev d : Content
   d = contentAt f row title us k
 
-  pub start-universal : {o o₁ o₂ : List ℕ} {s s₁ s₂ : ℕ} → Counts o o₁ s (fieldText (content f (itemFrom us (k * 10)))) s₁ → getD us (k * 10 + 5) 0 ≡ 0 → Counts o₁ o₂ s₁ (vlq 0) s₂ → Counts o o₂ s (itemText d (suc (further cs))) s₂
+  pub start-universal : {o o₁ o₂ : List ℕ} {s s₁ s₂ : ℕ} → Counts o o₁ s (fieldText (content f (itemFrom us (k * itemWidth)))) s₁ → getD us (k * itemWidth + 5) 0 ≡ 0 → Counts o₁ o₂ s₁ (vlq 0) s₂ → Counts o o₂ s (itemText d (suc (further cs))) s₂
   unfolding itemText
-  start-universal p e q = rw (eq-eqb (d .version) 0 (at-version f row title us k ∙ e), field-same f row title us k) (put-two (fieldText (content f (itemFrom us (k * 10)))) (vlq 0) p q)
+  start-universal p e q = rw (eq-eqb (d .version) 0 (at-version f row title us k ∙ e), field-same f row title us k) (put-two (fieldText (content f (itemFrom us (k * itemWidth)))) (vlq 0) p q)
 
-  pub start-versions : {o o₁ o₂ : List ℕ} {s s₁ s₂ : ℕ} → Counts o o₁ s (fieldText (content f (itemFrom us (k * 10)))) s₁ → (getD us (k * 10 + 5) 0 ≡ 0 → ⊥) → {n : ℕ} → n ≡ further cs → Counts o₁ o₂ s₁ (vlq (1 + n)) s₂ → Counts o o₂ s (itemText d (suc (further cs))) s₂
+  pub start-versions : {o o₁ o₂ : List ℕ} {s s₁ s₂ : ℕ} → Counts o o₁ s (fieldText (content f (itemFrom us (k * itemWidth)))) s₁ → (getD us (k * itemWidth + 5) 0 ≡ 0 → ⊥) → {n : ℕ} → n ≡ further cs → Counts o₁ o₂ s₁ (vlq (1 + n)) s₂ → Counts o o₂ s (itemText d (suc (further cs))) s₂
   unfolding itemText
   start-versions p e {n} h q =
       let z : 1 + n ≡ suc (further cs) = omega arith in
-      rw (ne-eqb (d .version) 0 (λ w. e (sym (at-version f row title us k) ∙ w)), field-same f row title us k) (put-two (fieldText (content f (itemFrom us (k * 10)))) (vlq (suc (further cs))) p (counts-as (ap vlq z) q))
+      rw (ne-eqb (d .version) 0 (λ w. e (sym (at-version f row title us k) ∙ w)), field-same f row title us k) (put-two (fieldText (content f (itemFrom us (k * itemWidth)))) (vlq (suc (further cs))) p (counts-as (ap vlq z) q))
 
 module _ (f : List ℕ) (row : ℕ) (title us : List ℕ) (k end : ℕ) {o o₂ : List ℕ} {s s₂ : ℕ} where
-  pub row-first : getD us (k * 10 + 5) 0 ≤ 1 → {o₁ : List ℕ} {s₁ : ℕ} → Counts o o₁ s (itemText (contentAt f row title us k) (suc (further (contentsFrom f row title us (k + 1) (end - (k + 1)))))) s₁ → Counts o₁ o₂ s₁ (contentText (contentAt f row title us k)) s₂
+  pub row-first : getD us (k * itemWidth + 5) 0 ≤ 1 → {o₁ : List ℕ} {s₁ : ℕ} → Counts o o₁ s (itemText (contentAt f row title us k) (suc (further (contentsFrom f row title us (k + 1) (end - (k + 1)))))) s₁ → Counts o₁ o₂ s₁ (contentText (contentAt f row title us k)) s₂
       → Counts o o₂ s (rowText f row title us k end) s₂
   unfolding rowText rowOf
   row-first l p q =
       rw (le-leb (contentAt f row title us k .version) 1 (rw (at-version f row title us k) l))
       (put-two (itemText (contentAt f row title us k) (suc (further (contentsFrom f row title us (k + 1) (end - (k + 1)))))) (contentText (contentAt f row title us k)) p q)
 
-  pub row-further : 1 < getD us (k * 10 + 5) 0 → Counts o o₂ s (contentText (contentAt f row title us k)) s₂ → Counts o o₂ s (rowText f row title us k end) s₂
+  pub row-further : 1 < getD us (k * itemWidth + 5) 0 → Counts o o₂ s (contentText (contentAt f row title us k)) s₂ → Counts o o₂ s (rowText f row title us k end) s₂
   unfolding rowText rowOf
   row-further l p = rw (lt-leb (contentAt f row title us k .version) 1 (rw (at-version f row title us k) l)) (counts-as (sym (append-nil (contentText (contentAt f row title us k)))) p)
 

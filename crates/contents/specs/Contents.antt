@@ -8,13 +8,14 @@ use lib.Dec.{eqb, leb}
 use lib.ListN.{length}
 use Rattle.cursor.specs.Vlq.{choose, joined}
 use Rattle.cursor.specs.declared.Item.{Item}
+use Rattle.metadata.specs.Tables.{itemWidth}
 use Rattle.tree.specs.Rows.{itemFrom}
 use Rattle.title.specs.Description.{Content, content, titled}
 use Rattle.title.specs.Text.{further, itemText, contentText}
 
 -- the content of item row k; row `row` has that title
 unfoldable pub contentAt : (f : List ℕ) → (row : ℕ) → (title us : List ℕ) → ℕ → Content
-contentAt f row title us k = choose (eqb k row) (titled title (content f (itemFrom us (k * 10)))) (content f (itemFrom us (k * 10)))
+contentAt f row title us k = choose (eqb k row) (titled title (content f (itemFrom us (k * itemWidth)))) (content f (itemFrom us (k * itemWidth)))
 
 -- n contents, from row k on
 unfoldable pub contentsFrom : (f : List ℕ) → (row : ℕ) → (title us : List ℕ) → (k n : ℕ) → List Content
@@ -23,11 +24,11 @@ contentsFrom f row title us k (suc n) = contentAt f row title us k ∷ contentsF
 
 -- an item's data and custom name lie in a file of `size` bytes
 abbrev pub ItemInside : ℕ → Item → Type 0
-ItemInside size r = (r .place + r .size ≤ size) × ((r .kind ≡ 0) ⊎ (r .field + r .named ≤ size))
+ItemInside size r = (r .place + r .size ≤ size) × ((r .kind ≡ 0) ⊎ (r .field + r .nameLength ≤ size))
 
 -- so do those of all rows of a table
 abbrev pub ItemsInside : ℕ → (count : ℕ) → List ℕ → Type 0
-ItemsInside size count us = (count * 10 ≤ length us) × ((k : ℕ) → k < count → ItemInside size (itemFrom us (k * 10)))
+ItemsInside size count us = (count * itemWidth ≤ length us) × ((k : ℕ) → k < count → ItemInside size (itemFrom us (k * itemWidth)))
 
 -- a content with what its item has before it where it is the first of the item, and the contents `cs` follow it
 unfoldable pub rowOf : Content → List Content → List ℕ

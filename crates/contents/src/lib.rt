@@ -4,6 +4,7 @@ ghost use mathlib.Core.List.{List, _∷_, []};
 ghost use Prim.Native.Nat.{ℕ, suc, _≤_, _<_, _*_, _+_, _-_};
 ghost use lib.ListN.{length};
 ghost use Rattle.cursor.specs.Vlq.{vlq, joined};
+ghost use Rattle.metadata.specs.Tables.{itemWidth};
 ghost use Rattle.tree.specs.Rows.{itemFrom};
 ghost use Rattle.title.specs.Description.{content};
 ghost use Rattle.title.specs.Text as text;
@@ -21,7 +22,7 @@ fn put_data(
     row: usize,
     title: &[u8],
 ) -> usize
-    requires { ⌜ (k * 10 + 10 ≤ length (now items)) × ItemInside (length (now file)) (itemFrom (now items) (k * 10)) × (to ≤ tooMany) ⌝ }
+    requires { ⌜ (k * itemWidth + itemWidth ≤ length (now items)) × ItemInside (length (now file)) (itemFrom (now items) (k * itemWidth)) × (to ≤ tooMany) ⌝ }
     ensures { λ r. ⌜ Counts (now (out .entry)) (now (out .exit)) to (contentAt (now (file .entry)) row (now (title .entry)) (now (items .entry)) k .bytes) r ⌝ }
 {
     if k == row {
@@ -41,7 +42,7 @@ fn put_text(
     row: usize,
     title: &[u8],
 ) -> usize
-    requires { ⌜ (k * 10 + 10 ≤ length (now items)) × ItemInside (length (now file)) (itemFrom (now items) (k * 10)) × (to ≤ tooMany) ⌝ }
+    requires { ⌜ (k * itemWidth + itemWidth ≤ length (now items)) × ItemInside (length (now file)) (itemFrom (now items) (k * itemWidth)) × (to ≤ tooMany) ⌝ }
     ensures { λ r. ⌜ Counts (now (out .entry)) (now (out .exit)) to (joined (vlq (contentAt (now (file .entry)) row (now (title .entry)) (now (items .entry)) k .format) ∷ contentAt (now (file .entry)) row (now (title .entry)) (now (items .entry)) k .bytes ∷ [])) r ⌝ }
 {
     let a = writer::put_number(out, to, items[k * cursor::ITEM_WIDTH + 7]);
@@ -58,7 +59,7 @@ fn put_universal(
     row: usize,
     title: &[u8],
 ) -> usize
-    requires { ⌜ (k * 10 + 10 ≤ length (now items)) × ItemInside (length (now file)) (itemFrom (now items) (k * 10)) × (to ≤ tooMany) ⌝ }
+    requires { ⌜ (k * itemWidth + itemWidth ≤ length (now items)) × ItemInside (length (now file)) (itemFrom (now items) (k * itemWidth)) × (to ≤ tooMany) ⌝ }
     ensures { λ r. ⌜ Counts (now (out .entry)) (now (out .exit)) to (universalText (contentAt (now (file .entry)) row (now (title .entry)) (now (items .entry)) k)) r ⌝ }
 {
     let mut scratch = [0u8; 1];
@@ -77,7 +78,7 @@ fn put_version(
     row: usize,
     title: &[u8],
 ) -> usize
-    requires { ⌜ (k * 10 + 10 ≤ length (now items)) × ItemInside (length (now file)) (itemFrom (now items) (k * 10)) × (to ≤ tooMany) ⌝ }
+    requires { ⌜ (k * itemWidth + itemWidth ≤ length (now items)) × ItemInside (length (now file)) (itemFrom (now items) (k * itemWidth)) × (to ≤ tooMany) ⌝ }
     ensures { λ r. ⌜ Counts (now (out .entry)) (now (out .exit)) to (versionText (contentAt (now (file .entry)) row (now (title .entry)) (now (items .entry)) k)) r ⌝ }
 {
     let mut scratch = [0u8; 1];
@@ -97,7 +98,7 @@ fn put_content(
     row: usize,
     title: &[u8],
 ) -> usize
-    requires { ⌜ (k * 10 + 10 ≤ length (now items)) × ItemInside (length (now file)) (itemFrom (now items) (k * 10)) × (to ≤ tooMany) ⌝ }
+    requires { ⌜ (k * itemWidth + itemWidth ≤ length (now items)) × ItemInside (length (now file)) (itemFrom (now items) (k * itemWidth)) × (to ≤ tooMany) ⌝ }
     ensures { λ r. ⌜ Counts (now (out .entry)) (now (out .exit)) to (contentText (contentAt (now (file .entry)) row (now (title .entry)) (now (items .entry)) k)) r ⌝ }
 {
     if items[k * cursor::ITEM_WIDTH + 5] == 0 {
@@ -108,8 +109,8 @@ fn put_content(
 
 // Puts the field of item row k: a custom name with its length, or 0 and a standard number.
 fn put_field(out: &mut [u8], to: usize, file: &[u8], items: &[u64], k: usize) -> usize
-    requires { ⌜ (k * 10 + 10 ≤ length (now items)) × ItemInside (length (now file)) (itemFrom (now items) (k * 10)) × (to ≤ tooMany) ⌝ }
-    ensures { λ r. ⌜ Counts (now (out .entry)) (now (out .exit)) to (fieldText (content (now (file .entry)) (itemFrom (now (items .entry)) (k * 10)))) r ⌝ }
+    requires { ⌜ (k * itemWidth + itemWidth ≤ length (now items)) × ItemInside (length (now file)) (itemFrom (now items) (k * itemWidth)) × (to ≤ tooMany) ⌝ }
+    ensures { λ r. ⌜ Counts (now (out .entry)) (now (out .exit)) to (fieldText (content (now (file .entry)) (itemFrom (now (items .entry)) (k * itemWidth)))) r ⌝ }
 {
     let w = k * cursor::ITEM_WIDTH;
     let field = items[w + 3];
@@ -124,7 +125,7 @@ fn put_field(out: &mut [u8], to: usize, file: &[u8], items: &[u64], k: usize) ->
 
 // How many item rows from row `first` on, and before row `end`, are further versions of the item before them.
 fn further(items: &[u64], first: usize, end: usize) -> u64
-    requires { ⌜ (first ≤ end) × (end * 10 ≤ length (now items)) ⌝ }
+    requires { ⌜ (first ≤ end) × (end * itemWidth ≤ length (now items)) ⌝ }
     ensures count { λ r. ⌜ ((f : List ℕ) (row : ℕ) (title : List ℕ) → r ≡ text.further (contentsFrom f row title (now (items .entry)) first (end - first))) ⌝ }
     ensures few { λ r. ⌜ r ≤ end - first ⌝ }
 {
@@ -140,7 +141,7 @@ fn further(items: &[u64], first: usize, end: usize) -> u64
 
 // Puts what the item of row k has before its contents, the rows before row `end`: its field and the number of versions.
 fn put_start(out: &mut [u8], to: usize, file: &[u8], items: &[u64], k: usize, end: usize) -> usize
-    requires { ⌜ (k < end) × (end * 10 ≤ length (now items)) × ItemInside (length (now file)) (itemFrom (now items) (k * 10)) × (to ≤ tooMany) ⌝ }
+    requires { ⌜ (k < end) × (end * itemWidth ≤ length (now items)) × ItemInside (length (now file)) (itemFrom (now items) (k * itemWidth)) × (to ≤ tooMany) ⌝ }
     ensures { λ r. ⌜ ((row : ℕ) (title : List ℕ) → Counts (now (out .entry)) (now (out .exit)) to (itemText (contentAt (now (file .entry)) row title (now (items .entry)) k) (suc (text.further (contentsFrom (now (file .entry)) row title (now (items .entry)) (k + 1) (end - (k + 1)))))) r) ⌝ }
 {
     let a = put_field(out, to, file, items, k);
@@ -161,7 +162,7 @@ fn put_item(
     row: usize,
     title: &[u8],
 ) -> usize
-    requires { ⌜ (k < end) × (end * 10 ≤ length (now items)) × ItemInside (length (now file)) (itemFrom (now items) (k * 10)) × (to ≤ tooMany) ⌝ }
+    requires { ⌜ (k < end) × (end * itemWidth ≤ length (now items)) × ItemInside (length (now file)) (itemFrom (now items) (k * itemWidth)) × (to ≤ tooMany) ⌝ }
     ensures { λ r. ⌜ Counts (now (out .entry)) (now (out .exit)) to (rowText (now (file .entry)) row (now (title .entry)) (now (items .entry)) k end) r ⌝ }
 {
     if items[k * cursor::ITEM_WIDTH + 5] <= 1 {

@@ -6,6 +6,7 @@ ghost use lib.ListN.{length};
 ghost use Rattle.cursor.specs.Machine.{run, times};
 ghost use Rattle.cursor.specs.Rows.{Frame};
 ghost use Rattle.cursor.specs.Vlq.{sized};
+ghost use Rattle.metadata.specs.Tables.{nodeWidth};
 ghost use Rattle.tree.specs.Rows.{nodeFrom};
 ghost use Rattle.title.specs.Description.{answer, unpackerText, identifierText, entryText, tableText, shape};
 ghost use Rattle.writer.specs.Counts.{Counts, tooMany};
@@ -104,8 +105,8 @@ fn copy_unpackers(out: &mut [u8], to: usize, file: &[u8], c: Cursor, count: u64)
 
 // Puts the unpackers of node row i with their length. Those of a file that was read are never refused.
 pub fn put_unpackers(out: &mut [u8], to: usize, file: &[u8], nodes: &[u64], i: usize) -> usize
-    requires { ⌜ (i * 13 + 13 ≤ length (now nodes)) × (to ≤ tooMany) × (length (now file) < 2 ^ 28) ⌝ }
-    ensures { λ r. ⌜ Counts (now (out .entry)) (now (out .exit)) to (sized (shape (now (file .entry)) (nodeFrom (now (nodes .entry)) (i * 13)) .unpackers)) r ⌝ }
+    requires { ⌜ (i * nodeWidth + nodeWidth ≤ length (now nodes)) × (to ≤ tooMany) × (length (now file) < 2 ^ 28) ⌝ }
+    ensures { λ r. ⌜ Counts (now (out .entry)) (now (out .exit)) to (sized (shape (now (file .entry)) (nodeFrom (now (nodes .entry)) (i * nodeWidth)) .unpackers)) r ⌝ }
 {
     let k = i * cursor::NODE_WIDTH;
     let at = FilePlace(nodes[k + 9] as usize);

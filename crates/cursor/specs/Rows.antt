@@ -24,7 +24,7 @@ pub data Part : Type 0 where
 
 -- a file node with reference 1, whose contents follow it to its end
 abbrev pub hasInline : Node → Bool
-hasInline r = eqb (r .held) 0 && eqb (r .reference) 1
+hasInline r = eqb (r .contained) 0 && eqb (r .reference) 1
 
 -- n, or 0
 abbrev pub sizeIf : Bool → ℕ → ℕ

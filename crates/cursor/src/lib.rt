@@ -100,32 +100,32 @@ pub enum Passed {
     Refused(u64, FilePlace),
 }
 
-// A row of the node table (01, Rows), in the order of its twelve words. `held` is 01's contained items, `unpackers` the unpackers' place,
-// `layers` their count, `rows` the item row count.
+// A row of the node table (01, Rows; 02, E3), in the order of its words. `contained` is the number of contained items, `unpackers` the unpackers' place,
+// `rows` the item row count.
 pub struct Node {
     pub start: u64,
     pub size: u64,
     pub header: u64,
-    pub held: u64,
+    pub contained: u64,
     pub parent: u64,
     pub depth: u64,
     pub reference: u64,
     pub target: u64,
     pub extent: u64,
     pub unpackers: u64,
-    pub layers: u64,
+    pub unpackerCount: u64,
     pub rows: u64,
     pub detached: u64,
 }
 
 // A row of the item table (01, Rows), in the order of its ten words: one for each universal content or version. `declared` is
-// 01's type, `named` the name's length.
+// 01's type, `nameLength` the name's length.
 pub struct Item {
     pub node: u64,
     pub item: u64,
     pub kind: u64,
     pub field: u64,
-    pub named: u64,
+    pub nameLength: u64,
     pub version: u64,
     pub declared: u64,
     pub format: u64,

@@ -10,7 +10,7 @@ use borrow.Author.Tests.{lt-ltb, le-ltb, not-true, not-false}
 use Rattle.cursor.specs.Machine.{run}
 use Rattle.cursor.specs.declared.FilePlace.{FilePlace}
 use Rattle.cursor.specs.declared.Item.{Item}
-use Rattle.metadata.specs.Tables.{limits}
+use Rattle.metadata.specs.Tables.{itemWidth, limits}
 use Rattle.tree.specs.Reading.{readFile, readOf, nodeTable, itemTable}
 use Rattle.tree.specs.Rows.{itemFrom, itemsIn}
 use Rattle.tree.specs.Asking.{Result, good, bad, ask, keptNodes, keptItems}
@@ -46,7 +46,7 @@ module _ (f : List ℕ) (channel resource : ℕ) (x : Item) where
       row-count u h = let w : isField 13 x ≡ true = sym e ∙ not-false b t in let y : isBinary x ≡ true = sym k ∙ not-false c u in simp (w, y) h
 
 -- the data of a row of the table lies in the file
-pub row-in : (size : ℕ) (ws : List ℕ) (n i : ℕ) → DataIn size (itemsIn n ws) → i < n → {r : Item} → r ≡ itemFrom ws (i * 10) → r .place + r .size ≤ size
+pub row-in : (size : ℕ) (ws : List ℕ) (n i : ℕ) → DataIn size (itemsIn n ws) → i < n → {r : Item} → r ≡ itemFrom ws (i * itemWidth) → r .place + r .size ≤ size
 row-in size ws n i h l e = rw (item-at ws n i l ∙ sym e) at (h i (omega (arith, items-in-length ws n)))
 
 module _ (f ws : List ℕ) (count row channel resource : ℕ) where
@@ -54,7 +54,7 @@ module _ (f ws : List ℕ) (count row channel resource : ℕ) where
   unfolding countRow
   row-none l = simp (items-in-length, le-ltb _ _ l)
 
-  pub row-there : row < count → {x : Item} → x ≡ itemFrom ws (row * 10) → {a : Result ℕ} → a ≡ countIn f channel resource x → a ≡ countRow f row channel resource (itemsIn count ws)
+  pub row-there : row < count → {x : Item} → x ≡ itemFrom ws (row * itemWidth) → {a : Result ℕ} → a ≡ countIn f channel resource x → a ≡ countRow f row channel resource (itemsIn count ws)
   unfolding countRow
   row-there l e k = simp (items-in-length, lt-ltb _ _ l, item-at ws count row l) (k ∙ ap (countIn f channel resource) e)
 
@@ -76,7 +76,7 @@ module _ (f : List ℕ) (nsize isize row channel resource : ℕ) {r : Read} {t u
     stands : Standing f (readFile (limits nsize isize) f) s t u
     stands = standing f (limits nsize isize) nsize isize e a b k
 
-    pub rows-room : s .items * 10 ≤ length u
+    pub rows-room : s .items * itemWidth ≤ length u
     rows-room = stands .item-room
 
     pub rows-inside : DataIn (length f) (itemsIn (s .items) u)

@@ -4,6 +4,7 @@ ghost use Prim.Native.Nat.{_≤_, _<_, _^_, _*_, _+_};
 ghost use lib.ListN.{length};
 ghost use Rattle.cursor.specs.Machine.{run, times};
 ghost use Rattle.cursor.specs.Told.{numberTold, passTold};
+ghost use Rattle.metadata.specs.Tables.{itemWidth};
 ghost use Rattle.tree.specs.Rows.{itemsIn};
 ghost use Rattle.tree.specs.Asking.{answered, nodesLeft, itemsLeft};
 ghost use Rattle.description.specs.Row.{isField, isBinary};
@@ -284,7 +285,7 @@ fn count_row(
     channel: u64,
     resource: u64,
 ) -> Counted
-    requires { ⌜ (count * 10 ≤ length (now items)) × DataIn (length (now file)) (itemsIn count (now items)) ⌝ }
+    requires { ⌜ (count * itemWidth ≤ length (now items)) × DataIn (length (now file)) (itemsIn count (now items)) ⌝ }
     ensures { λ r. ⌜ told r ≡ countRow (now (file .entry)) row channel resource (itemsIn count (now (items .entry))) ⌝ }
 {
     if count <= row {

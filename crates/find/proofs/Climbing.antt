@@ -12,6 +12,7 @@ use borrow.Author.Tests.{lt-ltb, le-ltb}
 use Rattle.cursor.specs.declared.Node.{Node}
 use Rattle.cursor.specs.declared.Item.{Item}
 use Rattle.cursor.specs.declared.FilePlace.{FilePlace}
+use Rattle.metadata.specs.Tables.{nodeWidth}
 use Rattle.tree.specs.Reading.{Reading, readOf, nodeTable, itemTable}
 use Rattle.tree.specs.declared.Read.{Read}
 use Rattle.tree.specs.declared.Read.the-variants as read
@@ -38,11 +39,11 @@ enough ns (suc m) (suc n) k a b = elim (decLt (nodeAt ns k .parent) k) [
 ]
 
 module _ (ws : List ℕ) (count k : ℕ) (l : k < count) where
-  parent-is : nodeAt (nodesIn count ws) k .parent ≡ getD ws (k * 13 + 4) 0
+  parent-is : nodeAt (nodesIn count ws) k .parent ≡ getD ws (k * nodeWidth + 4) 0
   parent-is = ap (λ (x : Node). x .parent) (node-at ws count k l)
 
   -- the path of a row whose parent is itself
-  path-top : k ≤ getD ws (k * 13 + 4) 0 → path (nodesIn count ws) k ≡ k ∷ []
+  path-top : k ≤ getD ws (k * nodeWidth + 4) 0 → path (nodesIn count ws) k ≡ k ∷ []
   unfolding path rowsUp if_then_else_
   path-top h =
       let s : k + 1 ≡ suc k = omega arith in
@@ -50,10 +51,10 @@ module _ (ws : List ℕ) (count k : ℕ) (l : k < count) where
       ap (λ (n : ℕ). rowsUp (nodesIn count ws) n k) s ∙ simp e
 
   -- the path of any other: the row, and its parent's path
-  path-up : getD ws (k * 13 + 4) 0 < k → path (nodesIn count ws) k ≡ k ∷ path (nodesIn count ws) (getD ws (k * 13 + 4) 0)
+  path-up : getD ws (k * nodeWidth + 4) 0 < k → path (nodesIn count ws) k ≡ k ∷ path (nodesIn count ws) (getD ws (k * nodeWidth + 4) 0)
   unfolding path rowsUp if_then_else_
   path-up h =
-      let q = getD ws (k * 13 + 4) 0 in
+      let q = getD ws (k * nodeWidth + 4) 0 in
       let s : k + 1 ≡ suc k = omega arith in
       let e : ltb (nodeAt (nodesIn count ws) k .parent) k ≡ true = ap (λ (x : ℕ). ltb x k) parent-is ∙ lt-ltb _ _ h in
       ap (λ (n : ℕ). rowsUp (nodesIn count ws) n k) s ∙ simp e (ap (λ (x : ℕ). k ∷ rowsUp (nodesIn count ws) k x) parent-is ∙ ap (λ (v : List ℕ). k ∷ v) (enough (nodesIn count ws) k (q + 1) q h (omega arith)))
@@ -66,8 +67,8 @@ module _ (f : List ℕ) (w : Wanted) (ws : List ℕ) (count : ℕ) (is : List It
 
   pub climb-here : {i : ℕ} {item : Item} → r ≡ found.Item i item → good (record { row = i; item = item }) ≡ nearest f w (nodesIn count ws) is k
   unfolding orElse
-  climb-here {i} {item} e = elim (decLt (getD ws (k * 13 + 4) 0) k) [
-    | yes h ↦ sym (step _ (path-up ws count k l h) ∙ ap (λ (x : Found). orElse (told x) (firstAnswer (look f w is) (path (nodesIn count ws) (getD ws (k * 13 + 4) 0)))) e)
+  climb-here {i} {item} e = elim (decLt (getD ws (k * nodeWidth + 4) 0) k) [
+    | yes h ↦ sym (step _ (path-up ws count k l h) ∙ ap (λ (x : Found). orElse (told x) (firstAnswer (look f w is) (path (nodesIn count ws) (getD ws (k * nodeWidth + 4) 0)))) e)
     | no h ↦ sym (step _ (path-top ws count k l (omega arith)) ∙ ap (λ (x : Found). orElse (told x) (firstAnswer (look f w is) [])) e)
   ]
 
@@ -76,11 +77,11 @@ module _ (f : List ℕ) (w : Wanted) (ws : List ℕ) (count : ℕ) (is : List It
     unfolding orElse
     on ks h = step ks h ∙ ap (λ (x : Found). orElse (told x) (firstAnswer (look f w is) ks)) e
 
-    pub climb-top : k ≤ getD ws (k * 13 + 4) 0 → bad 23 0 ≡ nearest f w (nodesIn count ws) is k
+    pub climb-top : k ≤ getD ws (k * nodeWidth + 4) 0 → bad 23 0 ≡ nearest f w (nodesIn count ws) is k
     unfolding firstAnswer
     climb-top h = sym (on [] (path-top ws count k l h))
 
-    pub climb-up : getD ws (k * 13 + 4) 0 < k → {o : Result Numbered} → o ≡ nearest f w (nodesIn count ws) is (getD ws (k * 13 + 4) 0) → o ≡ nearest f w (nodesIn count ws) is k
+    pub climb-up : getD ws (k * nodeWidth + 4) 0 < k → {o : Result Numbered} → o ≡ nearest f w (nodesIn count ws) is (getD ws (k * nodeWidth + 4) 0) → o ≡ nearest f w (nodesIn count ws) is k
     unfolding nearest
     climb-up h z = z ∙ sym (on _ (path-up ws count k l h))
 

@@ -19,7 +19,7 @@ use Rattle.find.specs.Find.{Wanted, standard, custom, choose, sameBytes,
 module _ (f g : List ℕ) where
   -- the two files agree at the name of a row
   abbrev pub AgreeAt : Item → Type 0
-  AgreeAt r = r .kind ≡ 1 → (k : ℕ) → r .field ≤ k → k < r .field + r .named → getD f k 0 ≡ getD g k 0
+  AgreeAt r = r .kind ≡ 1 → (k : ℕ) → r .field ≤ k → k < r .field + r .nameLength → getD f k 0 ≡ getD g k 0
 
   -- they agree at the names of all rows
   abbrev pub Agree : List Item → Type 0
@@ -41,9 +41,9 @@ module _ (f g : List ℕ) where
   unfolding matches
   matches-same (standard n) r a = refl
   matches-same (custom name) r a =
-      ap (λ (x : Bool). ltb 0 (length name) && x) (guarded (eqb (r .kind) 1) (eqb (r .named) (length name)) (λ p q.
+      ap (λ (x : Bool). ltb 0 (length name) && x) (guarded (eqb (r .kind) 1) (eqb (r .nameLength) (length name)) (λ p q.
       let k : r .kind ≡ 1 = eqb-true (r .kind) 1 p in
-      let n : r .named ≡ length name = eqb-true (r .named) (length name) q in
+      let n : r .nameLength ≡ length name = eqb-true (r .nameLength) (length name) q in
       bytes-same (r .field) name (λ i l m. a k i l (omega arith))))
 
   module _ (w : Wanted) where

@@ -10,6 +10,7 @@ use lib.ListN.{length, drop, drop-of-length-le}
 use lib.Seq.{drop-cons}
 use borrow.Author.Tests.{eq-eqb, ne-eqb}
 use Rattle.cursor.specs.declared.Item.{Item}
+use Rattle.metadata.specs.Tables.{itemWidth}
 use Rattle.tree.specs.Rows.{itemsIn, itemFrom, itemAt, noItem}
 use Rattle.tree.specs.Asking.{Result, good, bad}
 use Rattle.tree.proofs.Rows.{item-at, items-in-length}
@@ -49,7 +50,7 @@ unfolding look own
 left-begin f w is k = refl
 
 module _ (f : List ℕ) (w : Wanted) (ws : List ℕ) (rows k i : ℕ) (h : Left f w (itemsIn rows ws) k i) where
-  module _ (l : i < rows) {r : Item} (e : r ≡ itemFrom ws (i * 10)) {b : Bool} (m : b ≡ (eqb (r .node) k && matches f w r)) where
+  module _ (l : i < rows) {r : Item} (e : r ≡ itemFrom ws (i * itemWidth)) {b : Bool} (m : b ≡ (eqb (r .node) k && matches f w r)) where
     row-is : itemAt (itemsIn rows ws) i ≡ r
     row-is = item-at ws rows i l ∙ sym e
 
@@ -77,9 +78,9 @@ module _ (f : List ℕ) (w : Wanted) (ws : List ℕ) (rows k i : ℕ) (h : Left 
       sym (h ∙ ap (λ (v : List Item). among f w (those (isOwn k) (numbered i v))) (drop-of-length-le (itemsIn rows ws) {i = i} (omega arith)))
 
 -- the name of a row of the table lies in the file
-pub row-named : (size : ℕ) (ws : List ℕ) (rows i : ℕ) → AllNamed size (itemsIn rows ws) → i < rows → {r : Item} → r ≡ itemFrom ws (i * 10) → Named size r
+pub row-named : (size : ℕ) (ws : List ℕ) (rows i : ℕ) → AllNamed size (itemsIn rows ws) → i < rows → {r : Item} → r ≡ itemFrom ws (i * itemWidth) → Named size r
 row-named size ws rows i a l e =
     let n = items-in-length ws rows in
     let b = a i (omega arith) in
-    let q : itemAt (itemsIn rows ws) i ≡ itemFrom ws (i * 10) = item-at ws rows i l in
+    let q : itemAt (itemsIn rows ws) i ≡ itemFrom ws (i * itemWidth) = item-at ws rows i l in
     subst (λ (x : Item). Named size x) (q ∙ sym e) b

@@ -50,11 +50,11 @@ module _ (f name : List ℕ) (r : Item) where
   unfolding matches
   named-kind n z = let l : 0 < length name = omega arith in simp (lt-ltb _ _ l, ne-eqb _ _ n)
 
-  pub named-size : ((r .named ≡ length name) → ⊥) → r .kind ≡ 1 → (length name ≡ 0 → ⊥) → false ≡ matches f (custom name) r
+  pub named-size : ((r .nameLength ≡ length name) → ⊥) → r .kind ≡ 1 → (length name ≡ 0 → ⊥) → false ≡ matches f (custom name) r
   unfolding matches
   named-size n k z = let l : 0 < length name = omega arith in simp (lt-ltb _ _ l, eq-eqb _ _ k, ne-eqb _ _ n)
 
-  pub named-bytes : {b : Bool} → b ≡ sameBytes f (r .field) name → r .named ≡ length name → r .kind ≡ 1 → (length name ≡ 0 → ⊥) → b ≡ matches f (custom name) r
+  pub named-bytes : {b : Bool} → b ≡ sameBytes f (r .field) name → r .nameLength ≡ length name → r .kind ≡ 1 → (length name ≡ 0 → ⊥) → b ≡ matches f (custom name) r
   unfolding matches
   named-bytes e n k z = let l : 0 < length name = omega arith in e ∙ simp (lt-ltb _ _ l, eq-eqb _ _ k, eq-eqb _ _ n)
 
@@ -79,6 +79,6 @@ module _ (f name : List ℕ) (r : Item) (x : Field) where
   wanted-name e z = z ∙ ap (λ (y : Field). matches f (wantedOf y name) r) (sym e)
 
 -- the name of a row of kind 1 lies in the file
-pub name-inside : {size n : ℕ} (r : Item) → Named size r → r .kind ≡ 1 → r .named ≡ n → r .field + n ≤ size
+pub name-inside : {size n : ℕ} (r : Item) → Named size r → r .kind ≡ 1 → r .nameLength ≡ n → r .field + n ≤ size
 name-inside r (inl z) k e = absurd (omega arith)
 name-inside r (inr l) k e = omega arith

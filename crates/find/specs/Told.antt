@@ -48,7 +48,7 @@ question false w row = findOwn w row
 
 -- a custom name lies in a file of `size` bytes
 abbrev pub Named : ℕ → Item → Type 0
-Named size r = (r .kind ≡ 0) ⊎ (r .field + r .named ≤ size)
+Named size r = (r .kind ≡ 0) ⊎ (r .field + r .nameLength ≤ size)
 
 -- all of them do
 abbrev pub AllNamed : ℕ → List Item → Type 0

@@ -4,6 +4,7 @@ ghost use mathlib.Core.Bool.{_&&_};
 ghost use Prim.Native.Nat.{_≤_, _<_, _*_, _+_};
 ghost use lib.Dec.{eqb};
 ghost use lib.ListN.{length};
+ghost use Rattle.metadata.specs.Tables.{nodeWidth, itemWidth};
 ghost use Rattle.tree.specs.Rows.{nodesIn, itemsIn};
 ghost use Rattle.tree.specs.Asking.{answered, nodesLeft, itemsLeft};
 ghost use Rattle.find.specs.Find.{standard, custom, sameBytes, matches, look, nearest, find, findOwn};
@@ -49,7 +50,7 @@ fn is_named(file: &[u8], row: Item, name: &[u8]) -> bool
     if row.kind != 1 {
         return false;
     }
-    if row.named != name.len() as u64 {
+    if row.nameLength != name.len() as u64 {
         return false;
     }
     same_bytes(file, row.field as usize, name)
@@ -84,7 +85,7 @@ fn is_own(file: &[u8], row: Item, k: usize, field: Field, name: &[u8]) -> bool
 
 // The look at node k: the first of its own rows of that field.
 fn look(file: &[u8], items: &[u64], rows: usize, k: usize, field: Field, name: &[u8]) -> Found
-    requires { ⌜ (rows * 10 ≤ length (now items)) × AllNamed (length (now file)) (itemsIn rows (now items)) ⌝ }
+    requires { ⌜ (rows * itemWidth ≤ length (now items)) × AllNamed (length (now file)) (itemsIn rows (now items)) ⌝ }
     ensures { λ r. ⌜ told r ≡ look (now (file .entry)) (wantedOf field (now (name .entry))) (itemsIn rows (now (items .entry))) k ⌝ }
 {
     let mut i = 0;
@@ -109,7 +110,7 @@ fn climb(
     field: Field,
     name: &[u8],
 ) -> Found
-    requires { ⌜ (count * 13 ≤ length (now nodes)) × (rows * 10 ≤ length (now items)) × (k < count) × AllNamed (length (now file)) (itemsIn rows (now items)) ⌝ }
+    requires { ⌜ (count * nodeWidth ≤ length (now nodes)) × (rows * itemWidth ≤ length (now items)) × (k < count) × AllNamed (length (now file)) (itemsIn rows (now items)) ⌝ }
     ensures { λ r. ⌜ told r ≡ nearest (now (file .entry)) (wantedOf field (now (name .entry))) (nodesIn count (now (nodes .entry))) (itemsIn rows (now (items .entry))) k ⌝ }
 {
     match look(file, items, rows, k, field, name) {
@@ -136,7 +137,7 @@ fn found_by(
     name: &[u8],
     climbs: bool,
 ) -> Found
-    requires { ⌜ (count * 13 ≤ length (now nodes)) × (rows * 10 ≤ length (now items)) × (k < count) × AllNamed (length (now file)) (itemsIn rows (now items)) ⌝ }
+    requires { ⌜ (count * nodeWidth ≤ length (now nodes)) × (rows * itemWidth ≤ length (now items)) × (k < count) × AllNamed (length (now file)) (itemsIn rows (now items)) ⌝ }
     ensures { λ r. ⌜ told r ≡ foundBy climbs (now (file .entry)) (wantedOf field (now (name .entry))) (nodesIn count (now (nodes .entry))) (itemsIn rows (now (items .entry))) k ⌝ }
 {
     if climbs {

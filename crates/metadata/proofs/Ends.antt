@@ -14,7 +14,7 @@ use Rattle.cursor.specs.declared.Item.{Item}
 use Rattle.cursor.proofs.Wp.{Wp, Rule, Free, wp-after, wp-weaken, wp-ret, wp-refuse, wp-if, wp-check, wp-place, wp-skip, wp-many, wp-times}
 use Rattle.cursor.proofs.Leaves.{number-on, block-on}
 use Rattle.header.specs.Types.{Known, known, unknown, formatOf}
-use Rattle.metadata.specs.Metadata.{Context, field, contents, itemFrame, kindOf, fieldOf, nameSizeOf, rowOf, universal, declaredFormat, version, rowsFor, item, Count, nextItem, metaItems, metadata}
+use Rattle.metadata.specs.Metadata.{Context, field, contents, itemFrame, kindOf, fieldOf, nameLengthOf, rowOf, universal, declaredFormat, version, rowsFor, item, Count, nextItem, metaItems, metadata}
 use Rattle.metadata.specs.declared.Made.{Made}
 use Rattle.metadata.specs.declared.Label.{Label}
 use Rattle.metadata.specs.declared.Field.{Field}
@@ -30,7 +30,7 @@ OfNames = ℕ → ℕ → Type 0
 -- data are where their rows say, and an item's custom name was passed, so that what N gives of a name that is passed holds of it.
 abbrev Shown : OfNames → (top size : ℕ) → Part → ℕ → ℕ → Type 0
 Shown N top size (nodeRow r) p n = (r .header ≤ r .size) × (r .start + r .size ≤ top) × ((r .reference ≡ 3) ⊎ (r .target + r .extent ≤ size)) × (n ≡ inlineSize r) × (T (hasInline r) → r .target ≡ p)
-Shown N top size (itemRow r) p n = (r .place ≡ p) × (r .size ≡ n) × (p + n ≤ top) × ((r .kind ≡ 0) ⊎ ((r .field + r .named ≤ top) × N (r .field) (r .named)))
+Shown N top size (itemRow r) p n = (r .place ≡ p) × (r .size ≡ n) × (p + n ≤ top) × ((r .kind ≡ 0) ⊎ ((r .field + r .nameLength ≤ top) × N (r .field) (r .nameLength)))
 Shown N top size (plain x) p n = p + n ≤ top
 
 abbrev OfPlain : OfNames → Plain → ℕ → ℕ → Type 0
@@ -66,7 +66,7 @@ abbrev pub FieldIn : OfNames → ℕ → Field → Type 0
 FieldIn N end (Standard k) = Unit {0}
 FieldIn N end (Name p n) = (p .0 + n ≤ end) × N (p .0) n
 
-named-in : (N : OfNames) (end top : ℕ) (f : Field) → end ≤ top → FieldIn N end f → (kindOf f ≡ 0) ⊎ ((fieldOf f + nameSizeOf f ≤ top) × N (fieldOf f) (nameSizeOf f))
+named-in : (N : OfNames) (end top : ℕ) (f : Field) → end ≤ top → FieldIn N end f → (kindOf f ≡ 0) ⊎ ((fieldOf f + nameLengthOf f ≤ top) × N (fieldOf f) (nameLengthOf f))
 named-in N end top (Standard k) o h = inl refl
 named-in N end top (Name p n) o h = let l = h .0 in inr (omega arith, h .1)
 

@@ -32,7 +32,7 @@ pub record Less (lim most : Limits) : Type 0 where
 
 -- a context but for its limits
 abbrev pub under : Context → Limits → Context
-under x lim = record { limits = lim; types = x .types; first = x .first; size = x .size }
+under x lim = record { limits = lim; types = x .types; headerEnd = x .headerEnd; size = x .size }
 
 module _ {lim most : Limits} (less : Less lim most) (x : Context) (k : ℕ) where
   module _ (l : Label) (end : ℕ) where

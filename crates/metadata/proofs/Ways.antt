@@ -18,7 +18,7 @@ use Rattle.cursor.proofs.Wp.{at-end}
 use Rattle.cursor.proofs.Leaves.{Any, any-free, number-inside, block-inside, number-short, block-all}
 use Rattle.cursor.proofs.Quiet.{exec-number, exec-block}
 use Rattle.header.specs.Types.{Known, known, unknown, formatOf}
-use Rattle.metadata.specs.Tables.{State, state, put, itemWords, plusItem}
+use Rattle.metadata.specs.Tables.{itemWidth, State, state, put, itemWords, plusItem}
 use Rattle.metadata.specs.Metadata.{Context, field, contents, itemFrame, rowOf, universal, declaredFormat, version, rowsFor, item, Count, nextItem, metaItems, metadata}
 use Rattle.metadata.specs.Told.{Reads, CommonTold, Gives}
 use Rattle.metadata.specs.declared.Limits.{Limits}
@@ -88,11 +88,11 @@ module _ (end : ℕ) (f : List ℕ) (at : ℕ) where
 
 module _ (l : Label) (version declared format place size : ℕ) where
   pub row-standard : {k : ℕ} → l .field ≡ Standard k
-      → record { node = l .node; item = l .item; kind = 0; field = k; named = 0; version = version; declared = declared; format = format; place = place; size = size } ≡ rowOf l version declared format place size
+      → record { node = l .node; item = l .item; kind = 0; field = k; nameLength = 0; version = version; declared = declared; format = format; place = place; size = size } ≡ rowOf l version declared format place size
   row-standard e = rw e
 
   pub row-name : {p : FilePlace} {n : ℕ} → l .field ≡ Name p n
-      → record { node = l .node; item = l .item; kind = 1; field = p .0; named = n; version = version; declared = declared; format = format; place = place; size = size } ≡ rowOf l version declared format place size
+      → record { node = l .node; item = l .item; kind = 1; field = p .0; nameLength = n; version = version; declared = declared; format = format; place = place; size = size } ≡ rowOf l version declared format place size
   row-name e = rw e
 
 -- ---- a universal content
@@ -118,7 +118,7 @@ module _ (x : Context) (l : Label) (end : ℕ) (m : Made) (s : List ℕ) (at : �
         universal-format e = let e′ = rw is at e in let z′ : 0 < n = omega arith in simp (executing, exec-block, exec-number, lt-ltb _ _ l₁, e₁, lt-ltb _ _ z′, e′)
 
         pub universal-row : {format r : ℕ} → run (number metaFrame 3 stop) s q ≡ ok format r → {row : Item} → row ≡ rowOf l 0 0 format r (stop - r) → {u′ : List ℕ}
-            → u′ ≡ sets (σ .items) (σ .made .items * 10) (itemWords row)
+            → u′ ≡ sets (σ .items) (σ .made .items * itemWidth) (itemWords row)
             → ok (plusItem m, state (σ .nodes) u′ (plusItem (σ .made))) stop ≡ exec put (universal x l end m) s at σ
         unfolding universal
         universal-row {format} {r} e₂ w h =
@@ -150,7 +150,7 @@ module _ (x : Context) (l : Label) (end before : ℕ) (m : Made) (s : List ℕ) 
         version-length e = simp (executing, exec-number, exec-block, lt-ltb _ _ l₁, e₁, e₂, e)
 
         pub version-row : {n r : ℕ} → run (block metaFrame 3 end) s q ≡ ok n r → {row : Item} → row ≡ rowOf l (m .items + 1 - before) t format r n → {u′ : List ℕ}
-            → u′ ≡ sets (σ .items) (σ .made .items * 10) (itemWords row) → {p : ℕ} → p ≡ r + n
+            → u′ ≡ sets (σ .items) (σ .made .items * itemWidth) (itemWords row) → {p : ℕ} → p ≡ r + n
             → ok (plusItem m, state (σ .nodes) u′ (plusItem (σ .made))) p ≡ exec put (version x l end before m) s at σ
         unfolding version declaredFormat
         version-row e₃ w h k = rw (h, w, k) (simp (executing, exec-number, exec-block, lt-ltb _ _ l₁, e₁, e₂, e₃))
@@ -238,7 +238,7 @@ common-inside end f at r = (omega (arith, r .some), omega (arith, block-inside m
 -- the row that is made of it at once is the one that `item` makes
 pub common-row : (x : Context) (node index end : ℕ) (m : Made) (s : List ℕ) (at : ℕ) (σ : State) {k size format : ℕ} → Reads s end at k size format → m .items < x .limits .items
     → {place : ℕ} → place ≡ at + 5 → {row : Item} → row ≡ rowOf (record { node = node; item = index; field = Standard k }) 0 0 format place (size - 1)
-    → {u′ : List ℕ} → u′ ≡ sets (σ .items) (σ .made .items * 10) (itemWords row) → {p : ℕ} → p ≡ at + (4 + size)
+    → {u′ : List ℕ} → u′ ≡ sets (σ .items) (σ .made .items * itemWidth) (itemWords row) → {p : ℕ} → p ≡ at + (4 + size)
     → ok (plusItem m, state (σ .nodes) u′ (plusItem (σ .made))) p ≡ exec put (item x node index end m) s at σ
 common-row x node index end m s at σ {k} {size} {format} r l {place} e₁ {row} w h {p} e₂ =
     let label : Label = record { node = node; item = index; field = Standard k } in

@@ -25,7 +25,7 @@ use Rattle.metadata.specs.declared.Label.{Label}
 pub record Context : Type 0 where
   pub limits : Limits
   pub types : List Declared
-  pub first : ℕ
+  pub headerEnd : ℕ
   pub size : ℕ
 
 -- ---- an item's field and contents
@@ -65,9 +65,9 @@ abbrev pub fieldOf : Field → ℕ
 fieldOf (Standard k) = k
 fieldOf (Name p n) = p .0
 
-abbrev pub nameSizeOf : Field → ℕ
-nameSizeOf (Standard k) = 0
-nameSizeOf (Name p n) = n
+abbrev pub nameLengthOf : Field → ℕ
+nameLengthOf (Standard k) = 0
+nameLengthOf (Name p n) = n
 
 -- the row of a content of the labelled item
 abbrev pub rowOf : Label → (version declared format place size : ℕ) → Item
@@ -76,7 +76,7 @@ rowOf l version declared format place size = record {
   item = l .item;
   kind = kindOf (l .field);
   field = fieldOf (l .field);
-  named = nameSizeOf (l .field);
+  nameLength = nameLengthOf (l .field);
   version = version;
   declared = declared;
   format = format;

@@ -19,10 +19,10 @@ itemWidth = 10
 
 abbrev pub nodeWords : Node → List ℕ
 nodeWords r =
-    r .start ∷ r .size ∷ r .header ∷ r .held ∷ r .parent ∷ r .depth ∷ r .reference ∷ r .target ∷ r .extent ∷ r .unpackers ∷ r .layers ∷ r .rows ∷ r .detached ∷ []
+    r .start ∷ r .size ∷ r .header ∷ r .contained ∷ r .parent ∷ r .depth ∷ r .reference ∷ r .target ∷ r .extent ∷ r .unpackers ∷ r .unpackerCount ∷ r .rows ∷ r .detached ∷ []
 
 abbrev pub itemWords : Item → List ℕ
-itemWords r = r .node ∷ r .item ∷ r .kind ∷ r .field ∷ r .named ∷ r .version ∷ r .declared ∷ r .format ∷ r .place ∷ r .size ∷ []
+itemWords r = r .node ∷ r .item ∷ r .kind ∷ r .field ∷ r .nameLength ∷ r .version ∷ r .declared ∷ r .format ∷ r .place ∷ r .size ∷ []
 
 -- ---- how many
 

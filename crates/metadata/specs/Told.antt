@@ -36,7 +36,7 @@ use Rattle.metadata.specs.declared.Walked.the-variants as all
 
 -- the context of a scope, with the types as their table has them, in a file of `size` bytes
 abbrev pub contextOf : Scope → List ℕ → ℕ → Context
-contextOf s ws size = record { limits = s .limits; types = typesOf (s .types) ws; first = s .first .0; size = size }
+contextOf s ws size = record { limits = s .limits; types = typesOf (s .types) ws; headerEnd = s .headerEnd .0; size = size }
 
 -- ---- a call that fills tables
 

@@ -31,7 +31,7 @@ pub struct Made {
 pub struct Scope {
     pub limits: Limits,
     pub types: usize,
-    pub first: FilePlace,
+    pub headerEnd: FilePlace,
 }
 
 // An item's field: a standard number, or where its custom name stands and how long that is.
@@ -102,7 +102,7 @@ fn put_item(items: &mut [u64], made: usize, row: Item)
         row.item,
         row.kind,
         row.field,
-        row.named,
+        row.nameLength,
         row.version,
         row.declared,
         row.format,
@@ -182,7 +182,7 @@ fn row_of(
         item: l.item as u64,
         kind: 0,
         field: 0,
-        named: 0,
+        nameLength: 0,
         version: version as u64,
         declared,
         format,
@@ -197,7 +197,7 @@ fn row_of(
         Field::Name(at, n) => {
             row.kind = 1;
             row.field = at.0 as u64;
-            row.named = n;
+            row.nameLength = n;
             row
         }
     }

@@ -10,6 +10,7 @@ use borrow.Author.Tests.{not-true, not-false}
 use Rattle.cursor.specs.declared.Node.{Node}
 use Rattle.cursor.specs.declared.Item.{Item}
 use Rattle.header.specs.Header.{Header}
+use Rattle.metadata.specs.Tables.{itemWidth}
 use Rattle.tree.specs.Reading.{Reading, summary, nodeTable, itemTable}
 use Rattle.tree.specs.Rows.{nodesIn, itemsIn, itemFrom, itemAt}
 use Rattle.tree.specs.Asking.{good, ask, keptNodes, keptItems}
@@ -76,7 +77,7 @@ module _ (f : List ℕ) (tune : ℕ) (ws : List ℕ) (m : ℕ) where
   unfolding areNeeds isEmpty
   needs-begin a l = needs-from a (ap (areNeeds f tune) (all-needs ∙ a .here l) ∙ ap (all (isNeed f tune)) (sym (a .here l)))
 
-  module _ {i : ℕ} (h : NeedsLeft i) (l : i < m) {r : Item} (e : r ≡ itemFrom ws (i * 10)) {b : Bool} (k : b ≡ isNeed f tune r) where
+  module _ {i : ℕ} (h : NeedsLeft i) (l : i < m) {r : Item} (e : r ≡ itemFrom ws (i * itemWidth)) {b : Bool} (k : b ≡ isNeed f tune r) where
     step : whole ≡ (b && all (isNeed f tune) (needs (i + 1)))
     step = h .here l ∙ ap (λ x. x && all (isNeed f tune) (needs (i + 1))) (ap (isNeed f tune) (item-at ws m i l ∙ sym e) ∙ sym k)
 

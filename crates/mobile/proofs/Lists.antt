@@ -10,6 +10,7 @@ use lib.ListN.{length, getD, take, drop, drop-of-length-le}
 use lib.Seq.{drop-cons, take-length}
 use Rattle.cursor.specs.declared.Node.{Node}
 use Rattle.cursor.specs.declared.Item.{Item}
+use Rattle.metadata.specs.Tables.{nodeWidth, itemWidth}
 use Rattle.tree.specs.Rows.{nodeFrom, itemFrom, nodesIn, itemsIn, itemAt, noNode, noItem}
 use Rattle.tree.proofs.Rows.{node-at, item-at, nodes-in-length, items-in-length}
 use Rattle.find.specs.Own.{those, part}
@@ -41,7 +42,7 @@ module _ {A : Type 0} (p : A → Bool) (xs : List A) (i : ℕ) {whole : Bool} (h
 
 -- the same over the rows of a table
 module _ (p : Node → Bool) (ws : List ℕ) (n i : ℕ) {whole : Bool} (h : whole ≡ all p (drop i (nodesIn n ws))) where
-  module _ (l : i < n) {r : Node} (e : r ≡ nodeFrom ws (i * 13)) where
+  module _ (l : i < n) {r : Node} (e : r ≡ nodeFrom ws (i * nodeWidth)) where
     pub nodes-no : p r ≡ false → false ≡ whole
     nodes-no = all-no p _ i h noNode (omega (arith, nodes-in-length ws n)) (node-at ws n i l ∙ sym e)
 
@@ -52,7 +53,7 @@ module _ (p : Node → Bool) (ws : List ℕ) (n i : ℕ) {whole : Bool} (h : who
   nodes-yes l = all-yes p _ i h (omega (arith, nodes-in-length ws n))
 
 module _ (p : Item → Bool) (ws : List ℕ) (n i : ℕ) {whole : Bool} (h : whole ≡ all p (drop i (itemsIn n ws))) where
-  module _ (l : i < n) {r : Item} (e : r ≡ itemFrom ws (i * 10)) where
+  module _ (l : i < n) {r : Item} (e : r ≡ itemFrom ws (i * itemWidth)) where
     pub items-no : p r ≡ false → false ≡ whole
     items-no = all-no p _ i h noItem (omega (arith, items-in-length ws n)) (item-at ws n i l ∙ sym e)
 
@@ -77,7 +78,7 @@ pub part-all : (is : List Item) (m : ℕ) → length is ≡ m → part is 0 m �
 part-all is m e = let z : m - 0 ≡ length is = omega arith in ap (λ (k : ℕ). take k is) z ∙ take-length is
 
 module _ (ws : List ℕ) (n field from end i : ℕ) (h : those (isField field) (part (itemsIn n ws) from end) ≡ those (isField field) (part (itemsIn n ws) i end)) (low : from ≤ i) (fits : end ≤ n) where
-  module _ (l : i < end) {r : Item} (e : r ≡ itemFrom ws (i * 10)) {b : Bool} (t : b ≡ isField field r) where
+  module _ (l : i < end) {r : Item} (e : r ≡ itemFrom ws (i * itemWidth)) {b : Bool} (t : b ≡ isField field r) where
     -- the row that is looked at, and the rest
     step : those (isField field) (part (itemsIn n ws) from end)
         ≡ cond b (itemAt (itemsIn n ws) i ∷ those (isField field) (part (itemsIn n ws) (i + 1) end)) (those (isField field) (part (itemsIn n ws) (i + 1) end))

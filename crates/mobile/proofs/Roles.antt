@@ -14,6 +14,7 @@ use Rattle.cursor.specs.Rows.{metaFrame}
 use Rattle.cursor.specs.Leaves.{number}
 use Rattle.cursor.specs.declared.Node.{Node}
 use Rattle.cursor.specs.declared.Item.{Item}
+use Rattle.metadata.specs.Tables.{nodeWidth, itemWidth}
 use Rattle.tree.specs.Rows.{nodeFrom, itemFrom, nodesIn, itemsIn, nodeAt, itemAt, noNode}
 use Rattle.tree.proofs.Rows.{node-at, item-at, nodes-in-length, items-in-length}
 use Rattle.find.specs.Own.{itemsOf, own, firstRow, part}
@@ -77,7 +78,7 @@ module _ (f ws : List ℕ) (n : ℕ) {at end i : ℕ} (a : NextRow 3 (itemsIn n 
     unfolding roleOf roleOfRows
     role-two k = sym (ap (roleOfRows f) (a .here l ∙ ap (λ v. itemAt (itemsIn n ws) i ∷ v) (b .here k)))
 
-    pub role-one : end ≤ j → i < n → {r : Item} → r ≡ itemFrom ws (i * 10) → {x : Role} → x ≡ roleOfRow f r → x ≡ roleOf f (part (itemsIn n ws) at end)
+    pub role-one : end ≤ j → i < n → {r : Item} → r ≡ itemFrom ws (i * itemWidth) → {x : Role} → x ≡ roleOfRow f r → x ≡ roleOf f (part (itemsIn n ws) at end)
     unfolding roleOf roleOfRows
     role-one k h e g = g ∙ sym (ap (roleOfRows f) (a .here l ∙ ap (λ v. itemAt (itemsIn n ws) i ∷ v) (b .none k)) ∙ ap (roleOfRow f) (item-at ws n i h ∙ sym e))
 
@@ -111,7 +112,7 @@ module _ {f ws vs : List ℕ} {n m : ℕ} (t : Tables f ws vs n m) where
   ]
 
   -- node j, whose own rows end before row `end`
-  module _ (i j : ℕ) (q : i ≡ j + 1) (l : j < n) {r : Node} (e : r ≡ nodeFrom ws (j * 13)) {end : ℕ} (a : end ≡ firstRow (nodesIn n ws) i) where
+  module _ (i j : ℕ) (q : i ≡ j + 1) (l : j < n) {r : Node} (e : r ≡ nodeFrom ws (j * nodeWidth)) {end : ℕ} (a : end ≡ firstRow (nodesIn n ws) i) where
     in-list : j < length (nodesIn n ws)
     in-list = omega (arith, nodes-in-length ws n)
 

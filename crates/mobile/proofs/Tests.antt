@@ -10,6 +10,7 @@ use lib.ListN.{drop}
 use borrow.Author.Tests.{eq-eqb, ne-eqb, le-leb, lt-leb, not-true, not-false}
 use Rattle.cursor.specs.declared.Node.{Node}
 use Rattle.cursor.specs.declared.Item.{Item}
+use Rattle.metadata.specs.Tables.{nodeWidth}
 use Rattle.tree.specs.Rows.{nodeFrom, nodesFrom, nodesIn, nodeAt}
 use Rattle.tree.proofs.Rows.{node-at}
 use Rattle.description.specs.Row.{isBinary}
@@ -20,11 +21,11 @@ use Rattle.mobile.specs.declared.Role.the-variants as role
 -- ---- node rows
 
 module _ (r : Node) where
-  pub file-no : ((r .held ≡ 0) → ⊥) → isFile r ≡ false
+  pub file-no : ((r .contained ≡ 0) → ⊥) → isFile r ≡ false
   unfolding isFile
   file-no n = ne-eqb _ _ n
 
-  pub file-yes : r .held ≡ 0 → isFile r ≡ true
+  pub file-yes : r .contained ≡ 0 → isFile r ≡ true
   unfolding isFile
   file-yes e = eq-eqb _ _ e
 
@@ -36,11 +37,11 @@ module _ (r : Node) where
   unfolding isPlain
   plain-by e t = simp (ne-eqb _ _ e) t
 
-  pub unpacked-no : ((r .layers ≡ 0) → ⊥) → isUnpacked r ≡ false
+  pub unpacked-no : ((r .unpackerCount ≡ 0) → ⊥) → isUnpacked r ≡ false
   unfolding isUnpacked
   unpacked-no n = ne-eqb _ _ n
 
-  pub unpacked-yes : r .layers ≡ 0 → isUnpacked r ≡ true
+  pub unpacked-yes : r .unpackerCount ≡ 0 → isUnpacked r ≡ true
   unfolding isUnpacked
   unpacked-yes e = eq-eqb _ _ e
 
@@ -65,15 +66,15 @@ pub root-none : (ws : List ℕ) (n : ℕ) → n ≡ 0 → false ≡ filesOnly (n
 unfolding filesOnly isFile nodesIn nodesFrom
 root-none ws n e = rw e
 
-module _ (ws : List ℕ) (n : ℕ) (l : 0 < n) {r : Node} (e : r ≡ nodeFrom ws (0 * 13)) where
+module _ (ws : List ℕ) (n : ℕ) (l : 0 < n) {r : Node} (e : r ≡ nodeFrom ws (0 * nodeWidth)) where
   root-is : nodeAt (nodesIn n ws) 0 ≡ r
   root-is = node-at ws n 0 l ∙ sym e
 
-  pub root-file : r .held ≡ 0 → false ≡ filesOnly (nodesIn n ws)
+  pub root-file : r .contained ≡ 0 → false ≡ filesOnly (nodesIn n ws)
   unfolding filesOnly
   root-file h = let x : isFile (nodeAt (nodesIn n ws) 0) ≡ true = ap isFile root-is ∙ file-yes r h in simp x
 
-  pub root-folder : ((r .held ≡ 0) → ⊥) → filesOnly (nodesIn n ws) ≡ all isFile (drop 1 (nodesIn n ws))
+  pub root-folder : ((r .contained ≡ 0) → ⊥) → filesOnly (nodesIn n ws) ≡ all isFile (drop 1 (nodesIn n ws))
   unfolding filesOnly
   root-folder h = let x : isFile (nodeAt (nodesIn n ws) 0) ≡ false = ap isFile root-is ∙ file-no r h in simp x
 
@@ -98,7 +99,7 @@ module _ (r : Item) where
   unfolding fieldSize
   size-standard e = simp (eq-eqb _ _ e)
 
-  pub size-custom : ((r .kind ≡ 0) → ⊥) → r .named ≡ fieldSize r
+  pub size-custom : ((r .kind ≡ 0) → ⊥) → r .nameLength ≡ fieldSize r
   unfolding fieldSize
   size-custom e = simp (ne-eqb _ _ e)
 

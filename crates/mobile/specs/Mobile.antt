@@ -92,7 +92,7 @@ rightEdition h = eqb (h .version) 200 && (eqb (h .edition .type) 2 && eqb (h .ed
 
 -- 2: the root is a folder, all others are file nodes
 unfoldable pub isFile : Node → Bool
-isFile r = eqb (r .held) 0
+isFile r = eqb (r .contained) 0
 
 unfoldable pub filesOnly : List Node → Bool
 filesOnly ns = not (isFile (nodeAt ns 0)) && all isFile (drop 1 ns)
@@ -106,7 +106,7 @@ plainReferences ns = all isPlain ns
 
 -- 4: no unpackers at any node
 unfoldable pub isUnpacked : Node → Bool
-isUnpacked r = eqb (r .layers) 0
+isUnpacked r = eqb (r .unpackerCount) 0
 
 unfoldable pub noUnpackers : List Node → Bool
 noUnpackers ns = all isUnpacked ns
@@ -138,7 +138,7 @@ unfoldable pub isShort : Node → Bool
 isShort r = leb (r .header) 65535
 
 unfoldable pub fieldSize : Item → ℕ
-fieldSize r = cond (eqb (r .kind) 0) (r .field) (r .named)
+fieldSize r = cond (eqb (r .kind) 0) (r .field) (r .nameLength)
 
 unfoldable pub isSmall : Item → Bool
 isSmall r = leb (fieldSize r) 256

@@ -5,6 +5,7 @@ use mathlib.Core.List.{List, [], _∷_}
 use Prim.Native.Nat.{ℕ, _+_, _*_, _≤_, _<_}
 use lib.ListN.{length}
 use Rattle.cursor.specs.declared.Item.{Item}
+use Rattle.metadata.specs.Tables.{nodeWidth, itemWidth}
 use Rattle.tree.specs.Rows.{nodesIn, itemsIn, itemAt}
 use Rattle.tree.specs.Asking.{Result, good, bad}
 use Rattle.find.specs.Own.{those, part, Runs}
@@ -28,8 +29,8 @@ words (judged.Refused n p) = n ∷ p ∷ []
 
 -- what is known of the tables of an accepted file: they hold n node rows and m item rows, whose data lies in the file, and each node's own item rows are a run of them
 pub record Tables (file nodes items : List ℕ) (n m : ℕ) : Type 0 where
-  pub node-room : n * 13 ≤ length nodes
-  pub item-room : m * 10 ≤ length items
+  pub node-room : n * nodeWidth ≤ length nodes
+  pub item-room : m * itemWidth ≤ length items
   pub data-in : DataIn (length file) (itemsIn m items)
   pub runs : Runs (nodesIn n nodes) (itemsIn m items)
 

@@ -5,8 +5,9 @@ ghost use Prim.Native.Nat.{_≤_, _<_, _*_, _+_};
 ghost use lib.Dec.{eqb};
 ghost use lib.ListN.{length};
 ghost use Rattle.header.specs.Header.{Header};
+ghost use Rattle.metadata.specs.Tables.{nodeWidth, itemWidth};
 ghost use Rattle.tree.specs.Reading.{summary};
-ghost use Rattle.tree.specs.Rows.{nodeFrom, nodesIn, itemsIn};
+ghost use Rattle.tree.specs.Rows.{nodesIn, itemsIn};
 ghost use Rattle.tree.specs.Asking.{answered, nodesLeft, itemsLeft};
 ghost use Rattle.find.specs.Own.{those, part};
 ghost use Rattle.description.specs.Row.{isField};
@@ -48,29 +49,6 @@ pub enum Judged {
     Refused(u64, usize),
 }
 
-// Row i of the node table.
-fn node_at(nodes: &[u64], i: usize) -> Node
-    requires { ⌜ i * 13 + 13 ≤ length (now nodes) ⌝ }
-    ensures { λ r. ⌜ r ≡ nodeFrom (now (nodes .entry)) (i * 13) ⌝ }
-{
-    let k = i * cursor::NODE_WIDTH;
-    Node {
-        start: nodes[k],
-        size: nodes[k + 1],
-        header: nodes[k + 2],
-        held: nodes[k + 3],
-        parent: nodes[k + 4],
-        depth: nodes[k + 5],
-        reference: nodes[k + 6],
-        target: nodes[k + 7],
-        extent: nodes[k + 8],
-        unpackers: nodes[k + 9],
-        layers: nodes[k + 10],
-        rows: nodes[k + 11],
-        detached: nodes[k + 12],
-    }
-}
-
 // Version 2.00, type 2, revision 1.
 fn right_edition(version: u64, kind: u64, revision: u64) -> bool
     ensures { λ r. ⌜ r ≡ (eqb version 200 && (eqb kind 2 && eqb revision 1)) ⌝ }
@@ -86,20 +64,20 @@ fn right_edition(version: u64, kind: u64, revision: u64) -> bool
 
 // Whether the root is a folder and all others are file nodes.
 fn files_only(nodes: &[u64], many: usize) -> bool
-    requires { ⌜ many * 13 ≤ length (now nodes) ⌝ }
+    requires { ⌜ many * nodeWidth ≤ length (now nodes) ⌝ }
     ensures { λ r. ⌜ r ≡ filesOnly (nodesIn many (now (nodes .entry))) ⌝ }
 {
     if many == 0 {
         return false;
     }
-    let root = node_at(nodes, 0);
-    if root.held == 0 {
+    let root = tree::node_at(nodes, 0);
+    if root.contained == 0 {
         return false;
     }
     let mut i = 1;
     while i < many {
-        let row = node_at(nodes, i);
-        if row.held != 0 {
+        let row = tree::node_at(nodes, i);
+        if row.contained != 0 {
             return false;
         }
         i = i + 1;
@@ -118,12 +96,12 @@ fn is_plain(row: Node) -> bool
 
 // Whether every node uses reference 1 or 2.
 fn plain_references(nodes: &[u64], many: usize) -> bool
-    requires { ⌜ many * 13 ≤ length (now nodes) ⌝ }
+    requires { ⌜ many * nodeWidth ≤ length (now nodes) ⌝ }
     ensures { λ r. ⌜ r ≡ plainReferences (nodesIn many (now (nodes .entry))) ⌝ }
 {
     let mut i = 0;
     while i < many {
-        let row = node_at(nodes, i);
+        let row = tree::node_at(nodes, i);
         if !is_plain(row) {
             return false;
         }
@@ -134,13 +112,13 @@ fn plain_references(nodes: &[u64], many: usize) -> bool
 
 // Whether no node has unpackers.
 fn no_unpackers(nodes: &[u64], many: usize) -> bool
-    requires { ⌜ many * 13 ≤ length (now nodes) ⌝ }
+    requires { ⌜ many * nodeWidth ≤ length (now nodes) ⌝ }
     ensures { λ r. ⌜ r ≡ noUnpackers (nodesIn many (now (nodes .entry))) ⌝ }
 {
     let mut i = 0;
     while i < many {
-        let row = node_at(nodes, i);
-        if row.layers != 0 {
+        let row = tree::node_at(nodes, i);
+        if row.unpackerCount != 0 {
             return false;
         }
         i = i + 1;
@@ -150,7 +128,7 @@ fn no_unpackers(nodes: &[u64], many: usize) -> bool
 
 // The first item row of the standard field from row `from` on, or `end`.
 fn next_row(items: &[u64], many: usize, field: u64, from: usize, end: usize) -> usize
-    requires { ⌜ (many * 10 ≤ length (now items)) × (from ≤ end) × (end ≤ many) ⌝ }
+    requires { ⌜ (many * itemWidth ≤ length (now items)) × (from ≤ end) × (end ≤ many) ⌝ }
     ensures { λ r. ⌜ NextRow field (itemsIn many (now (items .entry))) from end r ⌝ }
 {
     let mut i = from;
@@ -212,7 +190,7 @@ fn role_of_row(file: &[u8], row: Item) -> Role
 
 // What a child is whose own item rows begin at `at` and end at `end`.
 fn role_of(file: &[u8], items: &[u64], many: usize, at: usize, end: usize) -> Role
-    requires { ⌜ (many * 10 ≤ length (now items)) × (at ≤ end) × (end ≤ many) × DataIn (length (now file)) (itemsIn many (now items)) ⌝ }
+    requires { ⌜ (many * itemWidth ≤ length (now items)) × (at ≤ end) × (end ≤ many) × DataIn (length (now file)) (itemsIn many (now items)) ⌝ }
     ensures { λ r. ⌜ r ≡ roleOf (now (file .entry)) (part (itemsIn many (now (items .entry))) at end) ⌝ }
 {
     let first = next_row(items, many, 3, at, end);
@@ -283,7 +261,7 @@ fn children_of(file: &[u8], nodes: &[u64], items: &[u64], n: usize, m: usize) ->
     let mut i = n;
     while 1 < i {
         i = i - 1;
-        let row = node_at(nodes, i);
+        let row = tree::node_at(nodes, i);
         let at = end - row.rows as usize;
         c = child(role_of(file, items, m, at, end), i, c);
         end = at;
@@ -322,7 +300,7 @@ fn is_need(file: &[u8], row: Item, tune: usize) -> bool
 
 // Whether there are rows of field 13, and all may stand where they are, and are readable.
 fn are_needs(file: &[u8], items: &[u64], many: usize, tune: usize) -> bool
-    requires { ⌜ (many * 10 ≤ length (now items)) × DataIn (length (now file)) (itemsIn many (now items)) ⌝ }
+    requires { ⌜ (many * itemWidth ≤ length (now items)) × DataIn (length (now file)) (itemsIn many (now items)) ⌝ }
     ensures { λ r. ⌜ r ≡ areNeeds (now (file .entry)) tune (those (isField 13) (itemsIn many (now (items .entry)))) ⌝ }
 {
     let mut i = next_row(items, many, 13, 0, many);
@@ -340,7 +318,7 @@ fn are_needs(file: &[u8], items: &[u64], many: usize, tune: usize) -> bool
 
 // Whether field 13 is on the tune, and there only, and readable.
 fn tune_needs(file: &[u8], items: &[u64], many: usize, tunes: Few) -> bool
-    requires { ⌜ (many * 10 ≤ length (now items)) × DataIn (length (now file)) (itemsIn many (now items)) ⌝ }
+    requires { ⌜ (many * itemWidth ≤ length (now items)) × DataIn (length (now file)) (itemsIn many (now items)) ⌝ }
     ensures { λ r. ⌜ r ≡ tuneNeeds (now (file .entry)) tunes (itemsIn many (now (items .entry))) ⌝ }
 {
     match tunes {
@@ -352,12 +330,12 @@ fn tune_needs(file: &[u8], items: &[u64], many: usize, tunes: Few) -> bool
 
 // Whether every header length is at most 65,535.
 fn short_headers(nodes: &[u64], many: usize) -> bool
-    requires { ⌜ many * 13 ≤ length (now nodes) ⌝ }
+    requires { ⌜ many * nodeWidth ≤ length (now nodes) ⌝ }
     ensures { λ r. ⌜ r ≡ all isShort (nodesIn many (now (nodes .entry))) ⌝ }
 {
     let mut i = 0;
     while i < many {
-        let row = node_at(nodes, i);
+        let row = tree::node_at(nodes, i);
         if 65535 < row.header {
             return false;
         }
@@ -373,12 +351,12 @@ fn field_size(row: Item) -> u64
     if row.kind == 0 {
         return row.field;
     }
-    row.named
+    row.nameLength
 }
 
 // Whether every field number and name length is at most 256.
 fn small_items(items: &[u64], many: usize) -> bool
-    requires { ⌜ many * 10 ≤ length (now items) ⌝ }
+    requires { ⌜ many * itemWidth ≤ length (now items) ⌝ }
     ensures { λ r. ⌜ r ≡ all isSmall (itemsIn many (now (items .entry))) ⌝ }
 {
     let mut i = 0;
@@ -393,7 +371,7 @@ fn small_items(items: &[u64], many: usize) -> bool
 
 // Whether header lengths, field numbers and name lengths are small enough.
 fn small_fields(nodes: &[u64], items: &[u64], n: usize, m: usize) -> bool
-    requires { ⌜ (n * 13 ≤ length (now nodes)) × (m * 10 ≤ length (now items)) ⌝ }
+    requires { ⌜ (n * nodeWidth ≤ length (now nodes)) × (m * itemWidth ≤ length (now items)) ⌝ }
     ensures { λ r. ⌜ r ≡ smallFields (nodesIn n (now (nodes .entry))) (itemsIn m (now (items .entry))) ⌝ }
 {
     if !short_headers(nodes, n) {

@@ -35,9 +35,9 @@ abbrev pub Follows : (end q : ℕ) → Reference → Type 0
 Follows end q r = (r .kind ≡ 1) → (r .target ≡ q) × (r .extent ≡ end - q)
 
 module _ (N : OfNames) (top size : ℕ) where
-  pub header-length-on : (p n held at : ℕ) → Wp (Inside N top size) (headerLength p n held) (λ h q. (at < q) × (q ≤ p + h .header) × (h .header ≤ h .size) × (h .size ≡ n) × (h .held ≡ held)) at
+  pub header-length-on : (p n contained at : ℕ) → Wp (Inside N top size) (headerLength p n contained) (λ h q. (at < q) × (q ≤ p + h .header) × (h .header ≤ h .size) × (h .size ≡ n) × (h .contained ≡ contained)) at
   unfolding headerLength
-  header-length-on p n held at =
+  header-length-on p n contained at =
       wp-place _ at
       (wp-after (number-on _ _ (p + n) at) λ header q x.
       wp-place _ q (wp-check _ _ λ t. wp-check _ _ λ u. wp-ret (omega arith, leb-true q (p + header) u, leb-true header n t, refl, refl)))
@@ -47,8 +47,8 @@ module _ (N : OfNames) (top size : ℕ) where
   head-on s at =
       wp-place _ at
       (wp-after (number-on _ _ (s .end .0) at) λ n p x. wp-check _ _ λ t. wp-check _ _ λ u. wp-check _ _ λ v.
-      wp-after (number-on _ _ (at + n) p) λ held q y. wp-check _ _ λ w.
-      wp-weaken (header-length-on at n held q) (λ h r z. (omega arith, omega arith, omega arith, omega (arith, leb-true (at + n) (s .end .0) t), omega (arith, leb-true (s .least .0) (at + n) u), omega (arith, leb-true (at + n) (s .taken .0) v))))
+      wp-after (number-on _ _ (at + n) p) λ contained q y. wp-check _ _ λ w.
+      wp-weaken (header-length-on at n contained q) (λ h r z. (omega arith, omega arith, omega arith, omega (arith, leb-true (at + n) (s .end .0) t), omega (arith, leb-true (s .least .0) (at + n) u), omega (arith, leb-true (at + n) (s .taken .0) v))))
 
   value-on : (end at : ℕ) → Wp (Inside N top size) (value end) (λ _ q. (at < q) × (q ≤ end)) at
   unfolding value
@@ -75,35 +75,35 @@ module _ (N : OfNames) (top size : ℕ) where
       (wp-after (wp-many (λ _. Unit {0}) 0 (λ n p l i. wp-weaken (unpacker-on end n p) (λ k q x. (tt, omega arith, omega arith))) tt l) λ k q x.
       wp-ret (refl, x .1))
 
-  unpackers-on : (held end at : ℕ) → Wp (Inside N top size) (unpackers held end) (λ _ q. (at < q) × (q ≤ end)) at
+  unpackers-on : (contained end at : ℕ) → Wp (Inside N top size) (unpackers contained end) (λ _ q. (at < q) × (q ≤ end)) at
   unfolding unpackers
-  unpackers-on held end at =
+  unpackers-on contained end at =
       wp-place _ at
       (wp-after (block-on _ _ end at) λ n q x. wp-check _ _ λ t.
       wp-place _ q (wp-weaken (entries-on (q + n) q (omega arith)) (λ u r y. omega arith)))
 
-  target-on : (first r end at : ℕ) → end ≤ top → end ≤ size → at ≤ end → Wp (Inside N top size) (target first size r end) (λ r q. (at ≤ q) × (q ≤ end) × Leads size r × Follows end q r) at
+  target-on : (headerEnd r end at : ℕ) → end ≤ top → end ≤ size → at ≤ end → Wp (Inside N top size) (target headerEnd size r end) (λ r q. (at ≤ q) × (q ≤ end) × Leads size r × Follows end q r) at
   unfolding target resource nodePlace uriPlace
-  target-on first r end at o i l =
+  target-on headerEnd r end at o i l =
       wp-if (λ t. wp-place _ at (wp-ret (omega arith, l, inr (omega arith), λ k. (refl, refl))))
       λ t. wp-if
       (λ u. wp-place _ at (wp-after (number-on _ _ end at) λ v q x. wp-check _ _ λ c. wp-check _ _ λ d. wp-ret (omega arith, omega arith, inr (omega (arith, leb-true v size d)), λ k. absurd (omega arith))))
       λ u. wp-if (λ w. wp-after (number-on _ _ end at) λ v q x. wp-ret (omega arith, omega arith, inl refl, λ k. absurd (omega arith)))
       (λ w. wp-after (block-on _ _ end at) λ n q x. wp-place _ q (wp-skip _ _ (omega arith) (λ _. wp-ret (omega arith, omega arith, inr (omega arith), λ k. absurd (omega arith)))))
 
-  reference-on : (first held end at : ℕ) → end ≤ top → end ≤ size → Wp (Inside N top size) (reference first size held end) (λ r q. (at < q) × (q ≤ end) × Leads size r × Follows end q r) at
+  reference-on : (headerEnd contained end at : ℕ) → end ≤ top → end ≤ size → Wp (Inside N top size) (reference headerEnd size contained end) (λ r q. (at < q) × (q ≤ end) × Leads size r × Follows end q r) at
   unfolding reference
-  reference-on first held end at o i =
+  reference-on headerEnd contained end at o i =
       wp-place _ at
       (wp-after (number-on _ _ end at) λ r q x. wp-check _ _ λ t. wp-check _ _ λ u. wp-check _ _ λ v.
-      wp-weaken (target-on first r end q o i (omega arith)) (λ r p y. (omega arith, omega arith, y .2, y .3)))
+      wp-weaken (target-on headerEnd r end q o i (omega arith)) (λ r p y. (omega arith, omega arith, y .2, y .3)))
 
-  rest-on : (first held inner stop at : ℕ) → stop ≤ top → stop ≤ size → Wp (Inside N top size) (rest first size held inner stop) (λ r q. (inner < q) × (q ≤ stop) × Leads size (r .reference) × Follows stop q (r .reference)) at
+  rest-on : (headerEnd contained inner stop at : ℕ) → stop ≤ top → stop ≤ size → Wp (Inside N top size) (rest headerEnd size contained inner stop) (λ r q. (inner < q) × (q ≤ stop) × Leads size (r .reference) × Follows stop q (r .reference)) at
   unfolding rest
-  rest-on first held inner stop at o i =
-      wp-after (unpackers-on held inner at) λ u q x.
+  rest-on headerEnd contained inner stop at o i =
+      wp-after (unpackers-on contained inner at) λ u q x.
       wp-place _ q (wp-check _ _ λ t.
-      wp-after (reference-on first held stop q o i) λ r p y. wp-ret (omega (arith, leb-true inner q t), omega arith, y .2, y .3))
+      wp-after (reference-on headerEnd contained stop q o i) λ r p y. wp-ret (omega (arith, leb-true inner q t), omega arith, y .2, y .3))
 
 -- ---- the whole
 
@@ -130,7 +130,7 @@ front-on N top x parent depth s m at o i =
     wp-place _ at
     (wp-after (head-on N top size s at) λ h p y.
     wp-after (metadata-on N top size x (m .nodes) (at + h .header) (omega arith) m p) λ m′ q z.
-    wp-after (rest-on N top size (x .first) (h .held) (at + h .header) (at + h .size) q (omega arith) (omega arith)) λ r v w.
+    wp-after (rest-on N top size (x .headerEnd) (h .contained) (at + h .header) (at + h .size) q (omega arith) (omega arith)) λ r v w.
     wp-ret (record {
       nodes = z .0 .0;
       items = z .0 .1;
@@ -148,7 +148,7 @@ front-on N top x parent depth s m at o i =
 
 -- what its row passes lies in the node, at its target
 has-inline : (r : Node) → T (hasInline r) → r .reference ≡ 1
-has-inline r t = eqb→eq (r .reference) 1 (second (eqb (r .held) 0) (eqb (r .reference) 1) t)
+has-inline r t = eqb→eq (r .reference) 1 (second (eqb (r .contained) 0) (eqb (r .reference) 1) t)
   where
     second : (a b : Bool) → T (a && b) → T b
     second true b t = t

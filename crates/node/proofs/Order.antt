@@ -17,5 +17,5 @@ unfolding front
 front-orders x parent depth s m =
     places λ p. then-rowless (head-uses tt s) λ h.
     after (metadata-orders x (m .nodes) (p + h .header) m (m .nodes) 0 refl) λ m′ k c i.
-    then-rowless (rest-uses tt tt tt (x .first) (x .size) (h .held) (p + h .header) (p + h .size)) λ o.
+    then-rowless (rest-uses tt tt tt (x .headerEnd) (x .size) (h .contained) (p + h .header) (p + h .size)) λ o.
     ends (i .0, i .1, omega arith, refl)

@@ -16,19 +16,19 @@ module _ {S : Type 0} {put : Part → ℕ → ℕ → S → S} (i : IgnoresPlain
   pub head-quiet : (s : Standing) → Quiet put (head s)
   head-quiet s = quiet-of (head-uses tt s)
 
-  pub unpackers-quiet : (held end : ℕ) → Quiet put (unpackers held end)
-  unpackers-quiet held end = quiet-of (unpackers-use tt held end)
+  pub unpackers-quiet : (contained end : ℕ) → Quiet put (unpackers contained end)
+  unpackers-quiet contained end = quiet-of (unpackers-use tt contained end)
 
-  pub reference-quiet : (first size held end : ℕ) → Quiet put (reference first size held end)
-  reference-quiet first size held end = quiet-of (reference-uses tt (i .ignores uri) first size held end)
+  pub reference-quiet : (headerEnd size contained end : ℕ) → Quiet put (reference headerEnd size contained end)
+  reference-quiet headerEnd size contained end = quiet-of (reference-uses tt (i .ignores uri) headerEnd size contained end)
 
-  pub rest-quiet : (first size held inner stop : ℕ) → Quiet put (rest first size held inner stop)
-  rest-quiet first size held inner stop = quiet-of (rest-uses tt tt (i .ignores uri) first size held inner stop)
+  pub rest-quiet : (headerEnd size contained inner stop : ℕ) → Quiet put (rest headerEnd size contained inner stop)
+  rest-quiet headerEnd size contained inner stop = quiet-of (rest-uses tt tt (i .ignores uri) headerEnd size contained inner stop)
 
 -- ---- the tables
 
 pub exec-head : (s : Standing) (f : List ℕ) (at : ℕ) (σ : State) → exec put (head s) f at σ ≡ still (run (head s) f at) σ
 exec-head s = head-quiet put-ignores s .quiet
 
-pub exec-rest : (first size held inner stop : ℕ) (f : List ℕ) (at : ℕ) (σ : State) → exec put (rest first size held inner stop) f at σ ≡ still (run (rest first size held inner stop) f at) σ
-exec-rest first size held inner stop = rest-quiet put-ignores first size held inner stop .quiet
+pub exec-rest : (headerEnd size contained inner stop : ℕ) (f : List ℕ) (at : ℕ) (σ : State) → exec put (rest headerEnd size contained inner stop) f at σ ≡ still (run (rest headerEnd size contained inner stop) f at) σ
+exec-rest headerEnd size contained inner stop = rest-quiet put-ignores headerEnd size contained inner stop .quiet

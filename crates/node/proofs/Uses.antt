@@ -15,7 +15,7 @@ pub head-uses : {S : Allowed} → S .frame nodeFrame → (s : Standing) → Uses
 unfolding head headerLength
 head-uses r s =
     places λ p. after (number-uses _ r _) λ size.
-    checks _ _ _ tt (checks _ _ _ tt (checks _ _ _ tt (after (number-uses _ r _) λ held.
+    checks _ _ _ tt (checks _ _ _ tt (checks _ _ _ tt (after (number-uses _ r _) λ contained.
     checks _ _ _ tt (places λ h. after (number-uses _ r _) λ header. places λ q. checks _ _ _ tt (checks _ _ _ tt ends)))))
 
 module _ {S : Allowed} (r : S .frame unpackFrame) where
@@ -31,23 +31,23 @@ module _ {S : Allowed} (r : S .frame unpackFrame) where
   unfolding unpacker
   unpacker-uses end n = places λ p. after (number-uses _ r _) λ kind. checks _ _ _ tt (after (identifier-uses kind end) λ i. after (value-uses end) λ size. ends)
 
-  pub unpackers-use : (held end : ℕ) → Uses S (unpackers held end)
+  pub unpackers-use : (contained end : ℕ) → Uses S (unpackers contained end)
   unfolding unpackers entries
-  unpackers-use held end =
+  unpackers-use contained end =
       places λ p. after (block-with _ r badNode end (λ p. S .listed badNode p tt)) λ n. checks _ _ _ tt (places λ q. places λ o. after (repeats (q + n) 0 (unpacker-uses (q + n))) λ k. ends)
 
-pub reference-uses : {S : Allowed} → S .frame referenceFrame → S .part (plain uri) → (first size held end : ℕ) → Uses S (reference first size held end)
+pub reference-uses : {S : Allowed} → S .frame referenceFrame → S .part (plain uri) → (headerEnd size contained end : ℕ) → Uses S (reference headerEnd size contained end)
 unfolding reference target resource nodePlace uriPlace
-reference-uses r w first size held end =
+reference-uses r w headerEnd size contained end =
     places λ p. after (number-uses _ r _) λ k. checks _ _ _ tt (checks _ _ _ tt (checks _ _ _ tt
     (either _ (places λ q. ends)
     (either _ (places λ q. after (number-uses _ r _) λ o. checks _ _ _ tt (checks _ _ _ tt ends))
     (either _ (after (number-uses _ r _) λ o. ends)
     (after (block-uses _ r _) λ n. places λ q. passes _ _ w ends))))))
 
-pub rest-uses : {S : Allowed} → S .frame unpackFrame → S .frame referenceFrame → S .part (plain uri) → (first size held inner stop : ℕ) → Uses S (rest first size held inner stop)
+pub rest-uses : {S : Allowed} → S .frame unpackFrame → S .frame referenceFrame → S .part (plain uri) → (headerEnd size contained inner stop : ℕ) → Uses S (rest headerEnd size contained inner stop)
 unfolding rest
-rest-uses u r w first size held inner stop = after (unpackers-use u held inner) λ o. places λ e. checks _ _ _ tt (after (reference-uses r w first size held stop) λ v. ends)
+rest-uses u r w headerEnd size contained inner stop = after (unpackers-use u contained inner) λ o. places λ e. checks _ _ _ tt (after (reference-uses r w headerEnd size contained stop) λ v. ends)
 
 pub front-uses : {S : Allowed} → ((κ : Frame) → S .frame κ) → ((x : Plain) → S .part (plain x)) → ((i : Item) → S .part (itemRow i)) → (x : Context) (parent depth : ℕ) (s : Standing) (m : Made)
     → Uses S (front x parent depth s m)

@@ -39,22 +39,22 @@ use Rattle.node.proofs.Ends.{unpacker-on}
 
 -- ---- the three numbers
 
-module _ (p size held : ℕ) (s : List ℕ) (at : ℕ) {stop : ℕ} (is : stop ≡ p + size) where
-  pub header-cut : {n r : ℕ} → run (number nodeFrame 3 stop) s at ≡ refused n r → refused n r ≡ run (headerLength p size held) s at
+module _ (p size contained : ℕ) (s : List ℕ) (at : ℕ) {stop : ℕ} (is : stop ≡ p + size) where
+  pub header-cut : {n r : ℕ} → run (number nodeFrame 3 stop) s at ≡ refused n r → refused n r ≡ run (headerLength p size contained) s at
   unfolding headerLength
   header-cut e = let e′ = rw is at e in simp (running, e′)
 
   module _ {header q : ℕ} (e₁ : run (number nodeFrame 3 stop) s at ≡ ok header q) where
-    pub header-past : size < header → refused 8 at ≡ run (headerLength p size held) s at
+    pub header-past : size < header → refused 8 at ≡ run (headerLength p size contained) s at
     unfolding headerLength
     header-past l = let e₁′ = rw is at e₁ in simp (running, e₁′, lt-leb _ _ l)
 
     module _ (l₁ : header ≤ size) where
-      pub header-short : p + header < q → refused 8 at ≡ run (headerLength p size held) s at
+      pub header-short : p + header < q → refused 8 at ≡ run (headerLength p size contained) s at
       unfolding headerLength
       header-short l = let e₁′ = rw is at e₁ in simp (running, e₁′, le-leb _ _ l₁, lt-leb _ _ l)
 
-      pub header-all : q ≤ p + header → ok (record { size = size; held = held; header = header }) q ≡ run (headerLength p size held) s at
+      pub header-all : q ≤ p + header → ok (record { size = size; contained = contained; header = header }) q ≡ run (headerLength p size contained) s at
       unfolding headerLength
       header-all l = let e₁′ = rw is at e₁ in simp (running, e₁′, le-leb _ _ l₁, le-leb _ _ l)
 
@@ -74,7 +74,7 @@ module _ (z : Standing) (s : List ℕ) (at : ℕ) where
       head-short l = let l₁′ = rw is at l₁ in let l′ = rw is at l in simp (running, e₁, le-leb _ _ l₁′, lt-leb _ _ l′)
 
       module _ (l₂ : z .least .0 ≤ stop) where
-        pub head-meets : z .taken .0 < stop → refused 24 (z .named .0) ≡ run (head z) s at
+        pub head-meets : z .taken .0 < stop → refused 24 (z .offset .0) ≡ run (head z) s at
         unfolding head
         head-meets l = let l₁′ = rw is at l₁ in let l₂′ = rw is at l₂ in let l′ = rw is at l in simp (running, e₁, le-leb _ _ l₁′, le-leb _ _ l₂′, lt-leb _ _ l′)
 
@@ -83,19 +83,19 @@ module _ (z : Standing) (s : List ℕ) (at : ℕ) where
           unfolding head
           head-held e = let l₁′ = rw is at l₁ in let l₂′ = rw is at l₂ in let l₃′ = rw is at l₃ in let e′ = rw is at e in simp (running, e₁, le-leb _ _ l₁′, le-leb _ _ l₂′, le-leb _ _ l₃′, e′)
 
-          module _ {held q : ℕ} (e₂ : run (number nodeFrame 3 stop) s p ≡ ok held q) where
-            pub head-folder : true ≡ not (eqb held 0 || eqb (z .detached) 0) → refused 24 (z .named .0) ≡ run (head z) s at
+          module _ {contained q : ℕ} (e₂ : run (number nodeFrame 3 stop) s p ≡ ok contained q) where
+            pub head-folder : true ≡ not (eqb contained 0 || eqb (z .detached) 0) → refused 24 (z .offset .0) ≡ run (head z) s at
             unfolding head
             head-folder b =
                 let l₁′ = rw is at l₁ in let l₂′ = rw is at l₂ in let l₃′ = rw is at l₃ in let e₂′ = rw is at e₂ in
-                let c : (eqb held 0 || eqb (z .detached) 0) ≡ false = not-true _ (sym b) in
+                let c : (eqb contained 0 || eqb (z .detached) 0) ≡ false = not-true _ (sym b) in
                 simp (running, e₁, le-leb _ _ l₁′, le-leb _ _ l₂′, le-leb _ _ l₃′, e₂′, c)
 
-            pub head-header : false ≡ not (eqb held 0 || eqb (z .detached) 0) → {o : Out Head} → o ≡ run (headerLength at size held) s q → o ≡ run (head z) s at
+            pub head-header : false ≡ not (eqb contained 0 || eqb (z .detached) 0) → {o : Out Head} → o ≡ run (headerLength at size contained) s q → o ≡ run (head z) s at
             unfolding head
             head-header b h =
                 let l₁′ = rw is at l₁ in let l₂′ = rw is at l₂ in let l₃′ = rw is at l₃ in let e₂′ = rw is at e₂ in
-                let c : (eqb held 0 || eqb (z .detached) 0) ≡ true = not-false _ (sym b) in
+                let c : (eqb contained 0 || eqb (z .detached) 0) ≡ true = not-false _ (sym b) in
                 h ∙ simp (running, e₁, le-leb _ _ l₁′, le-leb _ _ l₂′, le-leb _ _ l₃′, e₂′, c)
 
 -- ---- unpackers
@@ -178,42 +178,42 @@ module _ {s : List ℕ} {end at i k : ℕ} (g : Going s end at i k) where
         let w = entries-further e in
         record { left = g .left - 1; enough = let y = g .enough in omega arith; few = let y = g .few in omega arith; same = turn l ∙ rw x refl }
 
-module _ (held end : ℕ) (s : List ℕ) (at : ℕ) where
-  pub unpackers-cut : {n p : ℕ} → run (block unpackFrame 8 end) s at ≡ refused n p → refused n p ≡ run (unpackers held end) s at
+module _ (contained end : ℕ) (s : List ℕ) (at : ℕ) where
+  pub unpackers-cut : {n p : ℕ} → run (block unpackFrame 8 end) s at ≡ refused n p → refused n p ≡ run (unpackers contained end) s at
   unfolding unpackers
   unpackers-cut e = simp (running, e)
 
   module _ {n q : ℕ} (e₁ : run (block unpackFrame 8 end) s at ≡ ok n q) where
-    pub unpackers-folder : ((held ≡ 0) → ⊥) → ((n ≡ 0) → ⊥) → refused 14 at ≡ run (unpackers held end) s at
+    pub unpackers-folder : ((contained ≡ 0) → ⊥) → ((n ≡ 0) → ⊥) → refused 14 at ≡ run (unpackers contained end) s at
     unfolding unpackers
     unpackers-folder h k = simp (running, e₁, ne-eqb _ _ h, ne-eqb _ _ k)
 
-    pub unpackers-file : held ≡ 0 → {stop : ℕ} → stop ≡ q + n → {o : Out Unpackers} → o ≡ run (entries stop) s q → o ≡ run (unpackers held end) s at
+    pub unpackers-file : contained ≡ 0 → {stop : ℕ} → stop ≡ q + n → {o : Out Unpackers} → o ≡ run (entries stop) s q → o ≡ run (unpackers contained end) s at
     unfolding unpackers
     unpackers-file z is h = let h′ = rw is at h in h′ ∙ simp (running, e₁, eq-eqb _ _ z)
 
-    pub unpackers-none : n ≡ 0 → ok (record { place = record { 0 = q }; count = 0 }) q ≡ run (unpackers held end) s at
+    pub unpackers-none : n ≡ 0 → ok (record { place = record { 0 = q }; count = 0 }) q ≡ run (unpackers contained end) s at
     unfolding unpackers
     unpackers-none z = entries-done (entries-begun s (q + n) q) (omega arith) ∙ simp (running, e₁, eq-eqb _ _ z, or-true)
 
 -- ---- references
 
-module _ (first size end : ℕ) (s : List ℕ) (at : ℕ) where
-  pub resource-cut : {n p : ℕ} → run (number referenceFrame 3 end) s at ≡ refused n p → refused n p ≡ run (resource first size end) s at
+module _ (headerEnd size end : ℕ) (s : List ℕ) (at : ℕ) where
+  pub resource-cut : {n p : ℕ} → run (number referenceFrame 3 end) s at ≡ refused n p → refused n p ≡ run (resource headerEnd size end) s at
   unfolding resource
   resource-cut e = simp (running, e)
 
   module _ {o q : ℕ} (e₁ : run (number referenceFrame 3 end) s at ≡ ok o q) where
-    pub resource-before : o < first → refused 16 at ≡ run (resource first size end) s at
+    pub resource-before : o < headerEnd → refused 16 at ≡ run (resource headerEnd size end) s at
     unfolding resource
     resource-before l = simp (running, e₁, lt-leb _ _ l)
 
-    module _ (l₁ : first ≤ o) where
-      pub resource-past : size < o → refused 16 at ≡ run (resource first size end) s at
+    module _ (l₁ : headerEnd ≤ o) where
+      pub resource-past : size < o → refused 16 at ≡ run (resource headerEnd size end) s at
       unfolding resource
       resource-past l = simp (running, e₁, le-leb _ _ l₁, lt-leb _ _ l)
 
-      pub resource-all : o ≤ size → ok (record { kind = 2; target = o; extent = size - o }) q ≡ run (resource first size end) s at
+      pub resource-all : o ≤ size → ok (record { kind = 2; target = o; extent = size - o }) q ≡ run (resource headerEnd size end) s at
       unfolding resource
       resource-all l = simp (running, e₁, le-leb _ _ l₁, le-leb _ _ l)
 
@@ -234,74 +234,74 @@ module _ (end : ℕ) (s : List ℕ) (at : ℕ) where
   unfolding uriPlace
   uri-all e h = rw h (simp (running, e))
 
-module _ (first size r end : ℕ) (s : List ℕ) (at : ℕ) where
-  pub target-inline : r ≡ 1 → ok (record { kind = r; target = at; extent = end - at }) at ≡ run (target first size r end) s at
+module _ (headerEnd size r end : ℕ) (s : List ℕ) (at : ℕ) where
+  pub target-inline : r ≡ 1 → ok (record { kind = r; target = at; extent = end - at }) at ≡ run (target headerEnd size r end) s at
   unfolding target
   target-inline e = simp (running, eq-eqb _ _ e)
 
   module _ (n₁ : (r ≡ 1) → ⊥) where
-    pub target-resource : r ≡ 2 → {o : Out Reference} → o ≡ run (resource first size end) s at → o ≡ run (target first size r end) s at
+    pub target-resource : r ≡ 2 → {o : Out Reference} → o ≡ run (resource headerEnd size end) s at → o ≡ run (target headerEnd size r end) s at
     unfolding target
     target-resource e h = h ∙ simp (running, ne-eqb _ _ n₁, eq-eqb _ _ e)
 
     module _ (n₂ : (r ≡ 2) → ⊥) where
-      pub target-node : r ≡ 3 → {o : Out Reference} → o ≡ run (nodePlace end) s at → o ≡ run (target first size r end) s at
+      pub target-node : r ≡ 3 → {o : Out Reference} → o ≡ run (nodePlace end) s at → o ≡ run (target headerEnd size r end) s at
       unfolding target
       target-node e h = h ∙ simp (running, ne-eqb _ _ n₁, ne-eqb _ _ n₂, eq-eqb _ _ e)
 
-      pub target-uri : ((r ≡ 3) → ⊥) → {o : Out Reference} → o ≡ run (uriPlace end) s at → o ≡ run (target first size r end) s at
+      pub target-uri : ((r ≡ 3) → ⊥) → {o : Out Reference} → o ≡ run (uriPlace end) s at → o ≡ run (target headerEnd size r end) s at
       unfolding target
       target-uri n₃ h = h ∙ simp (running, ne-eqb _ _ n₁, ne-eqb _ _ n₂, ne-eqb _ _ n₃)
 
-module _ (first size held end : ℕ) (s : List ℕ) (at : ℕ) where
-  pub reference-cut : {n p : ℕ} → run (number referenceFrame 3 end) s at ≡ refused n p → refused n p ≡ run (reference first size held end) s at
+module _ (headerEnd size contained end : ℕ) (s : List ℕ) (at : ℕ) where
+  pub reference-cut : {n p : ℕ} → run (number referenceFrame 3 end) s at ≡ refused n p → refused n p ≡ run (reference headerEnd size contained end) s at
   unfolding reference
   reference-cut e = simp (running, e)
 
   module _ {r q : ℕ} (e₁ : run (number referenceFrame 3 end) s at ≡ ok r q) where
-    pub reference-inline : r ≡ 1 → ok (record { kind = r; target = q; extent = end - q }) q ≡ run (reference first size held end) s at
+    pub reference-inline : r ≡ 1 → ok (record { kind = r; target = q; extent = end - q }) q ≡ run (reference headerEnd size contained end) s at
     unfolding reference
     reference-inline z =
         let l₁ : 0 < r = omega arith in
         let l₂ : r ≤ 4 = omega arith in
-        target-inline first size r end s q z ∙ simp (running, e₁, lt-ltb _ _ l₁, le-leb _ _ l₂, eq-eqb _ _ z, or-true)
+        target-inline headerEnd size r end s q z ∙ simp (running, e₁, lt-ltb _ _ l₁, le-leb _ _ l₂, eq-eqb _ _ z, or-true)
 
-    pub reference-zero : r ≡ 0 → refused 13 at ≡ run (reference first size held end) s at
+    pub reference-zero : r ≡ 0 → refused 13 at ≡ run (reference headerEnd size contained end) s at
     unfolding reference
     reference-zero z = let z′ : r ≤ 0 = omega arith in simp (running, e₁, le-ltb _ _ z′)
 
     module _ (some : (r ≡ 0) → ⊥) where
-      pub reference-above : 4 < r → refused 13 at ≡ run (reference first size held end) s at
+      pub reference-above : 4 < r → refused 13 at ≡ run (reference headerEnd size contained end) s at
       unfolding reference
       reference-above l = let l₁ : 0 < r = omega arith in simp (running, e₁, lt-ltb _ _ l₁, lt-leb _ _ l)
 
       module _ (l₂ : r ≤ 4) where
-        pub reference-folder : ((held ≡ 0) → ⊥) → ((r ≡ 1) → ⊥) → refused 14 at ≡ run (reference first size held end) s at
+        pub reference-folder : ((contained ≡ 0) → ⊥) → ((r ≡ 1) → ⊥) → refused 14 at ≡ run (reference headerEnd size contained end) s at
         unfolding reference
         reference-folder h k = let l₁ : 0 < r = omega arith in simp (running, e₁, lt-ltb _ _ l₁, le-leb _ _ l₂, ne-eqb _ _ h, ne-eqb _ _ k)
 
-        pub reference-file : held ≡ 0 → {o : Out Reference} → o ≡ run (target first size r end) s q → o ≡ run (reference first size held end) s at
+        pub reference-file : contained ≡ 0 → {o : Out Reference} → o ≡ run (target headerEnd size r end) s q → o ≡ run (reference headerEnd size contained end) s at
         unfolding reference
         reference-file z h = let l₁ : 0 < r = omega arith in h ∙ simp (running, e₁, lt-ltb _ _ l₁, le-leb _ _ l₂, eq-eqb _ _ z)
 
 -- ---- what follows the metadata
 
-module _ (first size held inner stop : ℕ) (s : List ℕ) (at : ℕ) where
-  pub rest-unpackers : {n p : ℕ} → run (unpackers held inner) s at ≡ refused n p → refused n p ≡ run (rest first size held inner stop) s at
+module _ (headerEnd size contained inner stop : ℕ) (s : List ℕ) (at : ℕ) where
+  pub rest-unpackers : {n p : ℕ} → run (unpackers contained inner) s at ≡ refused n p → refused n p ≡ run (rest headerEnd size contained inner stop) s at
   unfolding rest
   rest-unpackers e = simp (running, e)
 
-  module _ {u : Unpackers} {q : ℕ} (e₁ : run (unpackers held inner) s at ≡ ok u q) where
-    pub rest-left : q < inner → refused 15 q ≡ run (rest first size held inner stop) s at
+  module _ {u : Unpackers} {q : ℕ} (e₁ : run (unpackers contained inner) s at ≡ ok u q) where
+    pub rest-left : q < inner → refused 15 q ≡ run (rest headerEnd size contained inner stop) s at
     unfolding rest
     rest-left l = simp (running, e₁, lt-leb _ _ l)
 
     module _ (l₁ : inner ≤ q) where
-      pub rest-reference : {n p : ℕ} → run (reference first size held stop) s q ≡ refused n p → refused n p ≡ run (rest first size held inner stop) s at
+      pub rest-reference : {n p : ℕ} → run (reference headerEnd size contained stop) s q ≡ refused n p → refused n p ≡ run (rest headerEnd size contained inner stop) s at
       unfolding rest
       rest-reference e = simp (running, e₁, le-leb _ _ l₁, e)
 
-      pub rest-all : {r : Reference} {p : ℕ} → run (reference first size held stop) s q ≡ ok r p → ok (record { unpackers = u; reference = r }) p ≡ run (rest first size held inner stop) s at
+      pub rest-all : {r : Reference} {p : ℕ} → run (reference headerEnd size contained stop) s q ≡ ok r p → ok (record { unpackers = u; reference = r }) p ≡ run (rest headerEnd size contained inner stop) s at
       unfolding rest
       rest-all e = simp (running, e₁, le-leb _ _ l₁, e)
 
@@ -335,11 +335,11 @@ module _ (x : Context) (parent depth : ℕ) (z : Standing) (m : Made) (s : List 
     front-metadata e = let e′ = rw is at e in simp (executing, exec-head, e₁, e′)
 
     module _ {m′ : Made} {σ′ : State} {q : ℕ} (e₂ : exec put (metadata x (m .nodes) inner m) s p σ ≡ ok (m′, σ′) q) {stop : ℕ} (is₂ : stop ≡ at + h .size) where
-      pub front-rest : {n r : ℕ} → run (rest (x .first) (x .size) (h .held) inner stop) s q ≡ refused n r → refused n r ≡ exec put (front x parent depth z m) s at σ
+      pub front-rest : {n r : ℕ} → run (rest (x .headerEnd) (x .size) (h .contained) inner stop) s q ≡ refused n r → refused n r ≡ exec put (front x parent depth z m) s at σ
       unfolding front
       front-rest e = let e₂′ = rw is at e₂ in let e′ = rw (is, is₂) at e in simp (executing, exec-head, exec-rest, e₁, e₂′, e′)
 
-      pub front-all : {o : Rest} {r : ℕ} → run (rest (x .first) (x .size) (h .held) inner stop) s q ≡ ok o r
+      pub front-all : {o : Rest} {r : ℕ} → run (rest (x .headerEnd) (x .size) (h .contained) inner stop) s q ≡ ok o r
           → {row : Node} → row ≡ rowOf at h parent depth (z .detached) (o .reference) (o .unpackers) (m′ .items - m .items)
           → ok (record { row = row; made = m′ }, σ′) r ≡ exec put (front x parent depth z m) s at σ
       unfolding front

@@ -19,14 +19,14 @@ use Rattle.node.specs.declared.Front.{Front}
 -- ---- NodeLength, NodeContainedItems, NodeHeaderLength
 
 -- NodeHeaderLength of a node that starts at p. It counts from the node's first byte to its ReferenceTypeID.
-unfoldable pub headerLength : (p size held : ℕ) → P Head
-headerLength p size held = do
+unfoldable pub headerLength : (p size contained : ℕ) → P Head
+headerLength p size contained = do
   h ← place
   header ← number nodeFrame cutShort (p + size)
   q ← place
   check (leb header size) badNode h
   check (leb q (p + header)) badNode h
-  ret (record { size = size; held = held; header = header })
+  ret (record { size = size; contained = contained; header = header })
 
 -- The node may not end past `end`, nor before `least`. A detached one may not end past `taken`, the first byte of another, and is no folder: both are
 -- refused at the number that names it.
@@ -36,17 +36,17 @@ head s = do
   size ← number nodeFrame cutShort (s .end .0)
   check (leb (p + size) (s .end .0)) badNode p
   check (leb (s .least .0) (p + size)) badNode p
-  check (leb (p + size) (s .taken .0)) badDetached (s .named .0)
-  held ← number nodeFrame cutShort (p + size)
-  check (eqb held 0 || eqb (s .detached) 0) badDetached (s .named .0)
-  headerLength p size held
+  check (leb (p + size) (s .taken .0)) badDetached (s .offset .0)
+  contained ← number nodeFrame cutShort (p + size)
+  check (eqb contained 0 || eqb (s .detached) 0) badDetached (s .offset .0)
+  headerLength p size contained
 
 -- how a node of the tree stands in its holder; how a detached one stands
 abbrev pub inTree : (least end : ℕ) → Standing
-inTree least end = record { least = record { 0 = least }; end = record { 0 = end }; taken = record { 0 = end }; named = record { 0 = 0 }; detached = 0 }
+inTree least end = record { least = record { 0 = least }; end = record { 0 = end }; taken = record { 0 = end }; offset = record { 0 = 0 }; detached = 0 }
 
-abbrev pub loose : (end taken named : ℕ) → Standing
-loose end taken named = record { least = record { 0 = 0 }; end = record { 0 = end }; taken = record { 0 = taken }; named = record { 0 = named }; detached = 1 }
+abbrev pub outsideTree : (end taken offset : ℕ) → Standing
+outsideTree end taken offset = record { least = record { 0 = 0 }; end = record { 0 = end }; taken = record { 0 = taken }; offset = record { 0 = offset }; detached = 1 }
 
 -- ---- unpackers
 
@@ -84,22 +84,22 @@ entries end = do
   ret (record { place = record { 0 = q }; count = k })
 
 -- the length is a field of the node's header, which ends at `end`; a folder has no unpackers
-unfoldable pub unpackers : (held end : ℕ) → P Unpackers
-unpackers held end = do
+unfoldable pub unpackers : (contained end : ℕ) → P Unpackers
+unpackers contained end = do
   p ← place
   n ← block unpackFrame badNode end
-  check (eqb held 0 || eqb n 0) badFolder p
+  check (eqb contained 0 || eqb n 0) badFolder p
   q ← place
   entries (q + n)
 
--- ---- reference: `first` is the file header's end, `size` the file's length; the node ends at `end`
+-- ---- reference: `headerEnd` is the file header's end, `size` the file's length; the node ends at `end`
 
 -- 2: a place of the file at or after the header's end; it has no length, so its extent runs to the file's end
-unfoldable pub resource : (first size end : ℕ) → P Reference
-resource first size end = do
+unfoldable pub resource : (headerEnd size end : ℕ) → P Reference
+resource headerEnd size end = do
   q ← place
   o ← number referenceFrame cutShort end
-  check (leb first o) badTarget q
+  check (leb headerEnd o) badTarget q
   check (leb o size) badTarget q
   ret (record { kind = 2; target = o; extent = size - o })
 
@@ -118,23 +118,23 @@ uriPlace end = do
   ret (record { kind = 4; target = q; extent = n })
 
 -- 1: the contents follow, to the node's end
-unfoldable pub target : (first size reference end : ℕ) → P Reference
-target first size r end =
+unfoldable pub target : (headerEnd size reference end : ℕ) → P Reference
+target headerEnd size r end =
     if eqb r 1
     then (do
       q ← place
       ret (record { kind = r; target = q; extent = end - q }))
-    else if eqb r 2 then resource first size end else if eqb r 3 then nodePlace end else uriPlace end
+    else if eqb r 2 then resource headerEnd size end else if eqb r 3 then nodePlace end else uriPlace end
 
 -- ReferenceTypeID and its target; a folder uses reference 1
-unfoldable pub reference : (first size held end : ℕ) → P Reference
-reference first size held end = do
+unfoldable pub reference : (headerEnd size contained end : ℕ) → P Reference
+reference headerEnd size contained end = do
   p ← place
   r ← number referenceFrame cutShort end
   check (ltb 0 r) badReference p
   check (leb r 4) badReference p
-  check (eqb held 0 || eqb r 1) badFolder p
-  target first size r end
+  check (eqb contained 0 || eqb r 1) badFolder p
+  target headerEnd size r end
 
 -- ---- the whole
 
@@ -143,12 +143,12 @@ pub record Rest : Type 0 where
   pub reference : Reference
 
 -- what follows the metadata: unpackers, which end where the header does, and the reference
-unfoldable pub rest : (first size held inner stop : ℕ) → P Rest
-rest first size held inner stop = do
-  u ← unpackers held inner
+unfoldable pub rest : (headerEnd size contained inner stop : ℕ) → P Rest
+rest headerEnd size contained inner stop = do
+  u ← unpackers contained inner
   e ← place
   check (leb inner e) bytesLeft e
-  r ← reference first size held stop
+  r ← reference headerEnd size contained stop
   ret (record { unpackers = u; reference = r })
 
 abbrev pub rowOf : ℕ → Head → (parent depth detached : ℕ) → Reference → Unpackers → ℕ → Node
@@ -156,14 +156,14 @@ rowOf start h parent depth detached r u rows = record {
   start = start;
   size = h .size;
   header = h .header;
-  held = h .held;
+  contained = h .contained;
   parent = parent;
   depth = depth;
   reference = r .kind;
   target = r .target;
   extent = r .extent;
   unpackers = u .place .0;
-  layers = u .count;
+  unpackerCount = u .count;
   rows = rows;
   detached = detached;
 }
@@ -174,5 +174,5 @@ front x parent depth s m = do
   p ← place
   h ← head s
   m′ ← metadata x (m .nodes) (p + h .header) m
-  o ← rest (x .first) (x .size) (h .held) (p + h .header) (p + h .size)
+  o ← rest (x .headerEnd) (x .size) (h .contained) (p + h .header) (p + h .size)
   ret (record { row = rowOf p h parent depth (s .detached) (o .reference) (o .unpackers) (m′ .items - m .items); made = m′ })

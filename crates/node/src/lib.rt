@@ -27,14 +27,14 @@ pub struct Standing {
     pub least: FilePlace,
     pub end: FilePlace,
     pub taken: FilePlace,
-    pub named: FilePlace,
+    pub offset: FilePlace,
     pub detached: u64,
 }
 
 // What a node starts with: its length, the number of nodes that it holds, its header's length.
 pub struct Head {
     pub size: u64,
-    pub held: u64,
+    pub contained: u64,
     pub header: u64,
 }
 
@@ -84,10 +84,10 @@ pub enum Fronted {
 }
 
 // Whether a node that holds so many is a folder and detached.
-fn is_loose_folder(held: u64, detached: u64) -> bool
-    ensures { λ r. ⌜ r ≡ not (eqb held 0 || eqb detached 0) ⌝ }
+fn is_detached_folder(contained: u64, detached: u64) -> bool
+    ensures { λ r. ⌜ r ≡ not (eqb contained 0 || eqb detached 0) ⌝ }
 {
-    if held == 0 {
+    if contained == 0 {
         return false;
     }
     detached != 0
@@ -102,7 +102,7 @@ fn read_head(c: Cursor, file: &[u8], s: Standing) -> Headed
     let end = s.end;
     let least = s.least;
     let taken = s.taken;
-    let named = s.named;
+    let offset = s.offset;
     match c.number(file, end, cursor::CUT_SHORT) {
         Numbered::Refused(n, p) => Headed::Refused(n, p),
         Numbered::Is(size, d) => {
@@ -114,15 +114,15 @@ fn read_head(c: Cursor, file: &[u8], s: Standing) -> Headed
                 return Headed::Refused(cursor::BAD_NODE, start);
             }
             if taken.0 < stop.0 {
-                return Headed::Refused(cursor::BAD_DETACHED, named);
+                return Headed::Refused(cursor::BAD_DETACHED, offset);
             }
             match d.number(file, stop, cursor::CUT_SHORT) {
                 Numbered::Refused(n, p) => Headed::Refused(n, p),
-                Numbered::Is(held, e) => {
-                    if is_loose_folder(held, s.detached) {
-                        return Headed::Refused(cursor::BAD_DETACHED, named);
+                Numbered::Is(contained, e) => {
+                    if is_detached_folder(contained, s.detached) {
+                        return Headed::Refused(cursor::BAD_DETACHED, offset);
                     }
-                    read_header_length(e, file, start, size, held)
+                    read_header_length(e, file, start, size, contained)
                 }
             }
         }
@@ -130,9 +130,9 @@ fn read_head(c: Cursor, file: &[u8], s: Standing) -> Headed
 }
 
 // NodeHeaderLength of a node that starts at `start`.
-fn read_header_length(c: Cursor, file: &[u8], start: FilePlace, size: u64, held: u64) -> Headed
+fn read_header_length(c: Cursor, file: &[u8], start: FilePlace, size: u64, contained: u64) -> Headed
     requires { ⌜ Readable (start .0 + size) (now file) ⌝ }
-    ensures { λ r. ⌜ headTold r ≡ run (headerLength (start .0) size held) (now (file .entry)) (c .at .0) ⌝ }
+    ensures { λ r. ⌜ headTold r ≡ run (headerLength (start .0) size contained) (now (file .entry)) (c .at .0) ⌝ }
 {
     let place = c.at;
     match c.number(file, start.of(NodePlace(size as usize)), cursor::CUT_SHORT) {
@@ -146,7 +146,11 @@ fn read_header_length(c: Cursor, file: &[u8], start: FilePlace, size: u64, held:
             if inner.0 < first.0 {
                 return Headed::Refused(cursor::BAD_NODE, place);
             }
-            let is = Head { size, held, header };
+            let is = Head {
+                size,
+                contained,
+                header,
+            };
             Headed::Is(is, d)
         }
     }
@@ -225,9 +229,9 @@ fn read_entries(c: Cursor, file: &[u8], end: FilePlace) -> Unpacked
 }
 
 // The unpackers of a node whose header ends at `end`.
-fn read_unpackers(c: Cursor, file: &[u8], held: u64, end: FilePlace) -> Unpacked
+fn read_unpackers(c: Cursor, file: &[u8], contained: u64, end: FilePlace) -> Unpacked
     requires { ⌜ Readable (end .0) (now file) ⌝ }
-    ensures { λ r. ⌜ unpackersTold r ≡ run (unpackers held (end .0)) (now (file .entry)) (c .at .0) ⌝ }
+    ensures { λ r. ⌜ unpackersTold r ≡ run (unpackers contained (end .0)) (now (file .entry)) (c .at .0) ⌝ }
 {
     let place = c.at;
     match c.block(file, end, cursor::BAD_NODE) {
@@ -242,7 +246,7 @@ fn read_unpackers(c: Cursor, file: &[u8], held: u64, end: FilePlace) -> Unpacked
                 };
                 return Unpacked::Is(none, d);
             }
-            if held != 0 {
+            if contained != 0 {
                 return Unpacked::Refused(cursor::BAD_FOLDER, place);
             }
             let after = d.on(size);
@@ -253,16 +257,16 @@ fn read_unpackers(c: Cursor, file: &[u8], held: u64, end: FilePlace) -> Unpacked
 }
 
 // Reference 2: a place of the file at or after the header's end; its extent runs to the file's end.
-fn read_resource(c: Cursor, file: &[u8], first: FilePlace, end: FilePlace) -> Referred
+fn read_resource(c: Cursor, file: &[u8], headerEnd: FilePlace, end: FilePlace) -> Referred
     requires { ⌜ end .0 ≤ length (now file) ⌝ }
-    ensures { λ r. ⌜ referenceTold r ≡ run (resource (first .0) (length (now (file .entry))) (end .0)) (now (file .entry)) (c .at .0) ⌝ }
+    ensures { λ r. ⌜ referenceTold r ≡ run (resource (headerEnd .0) (length (now (file .entry))) (end .0)) (now (file .entry)) (c .at .0) ⌝ }
 {
     let place = c.at;
     match c.number(file, end, cursor::CUT_SHORT) {
         Numbered::Refused(n, p) => Referred::Refused(n, p),
         Numbered::Is(offset, d) => {
             let size = file.len();
-            if (offset as usize) < first.0 {
+            if (offset as usize) < headerEnd.0 {
                 return Referred::Refused(cursor::BAD_TARGET, place);
             }
             if size < offset as usize {
@@ -316,12 +320,12 @@ fn read_uri(c: Cursor, file: &[u8], end: FilePlace) -> Referred
 }
 
 // What a reference other than 1 leads to, in a node that ends at `end`.
-fn read_target(c: Cursor, file: &[u8], first: FilePlace, kind: u64, end: FilePlace) -> Referred
+fn read_target(c: Cursor, file: &[u8], headerEnd: FilePlace, kind: u64, end: FilePlace) -> Referred
     requires { ⌜ Readable (end .0) (now file) × (1 < kind) ⌝ }
-    ensures { λ r. ⌜ referenceTold r ≡ run (target (first .0) (length (now (file .entry))) kind (end .0)) (now (file .entry)) (c .at .0) ⌝ }
+    ensures { λ r. ⌜ referenceTold r ≡ run (target (headerEnd .0) (length (now (file .entry))) kind (end .0)) (now (file .entry)) (c .at .0) ⌝ }
 {
     if kind == 2 {
-        return read_resource(c, file, first, end);
+        return read_resource(c, file, headerEnd, end);
     }
     if kind == 3 {
         return read_node_place(c, file, end);
@@ -330,9 +334,15 @@ fn read_target(c: Cursor, file: &[u8], first: FilePlace, kind: u64, end: FilePla
 }
 
 // ReferenceTypeID and what it leads to; a folder uses reference 1.
-fn read_reference(c: Cursor, file: &[u8], first: FilePlace, held: u64, end: FilePlace) -> Referred
+fn read_reference(
+    c: Cursor,
+    file: &[u8],
+    headerEnd: FilePlace,
+    contained: u64,
+    end: FilePlace,
+) -> Referred
     requires { ⌜ Readable (end .0) (now file) ⌝ }
-    ensures { λ r. ⌜ referenceTold r ≡ run (reference (first .0) (length (now (file .entry))) held (end .0)) (now (file .entry)) (c .at .0) ⌝ }
+    ensures { λ r. ⌜ referenceTold r ≡ run (reference (headerEnd .0) (length (now (file .entry))) contained (end .0)) (now (file .entry)) (c .at .0) ⌝ }
 {
     let place = c.at;
     match c.number(file, end, cursor::CUT_SHORT) {
@@ -355,10 +365,10 @@ fn read_reference(c: Cursor, file: &[u8], first: FilePlace, held: u64, end: File
             if 4 < kind {
                 return Referred::Refused(cursor::BAD_REFERENCE, place);
             }
-            if held != 0 {
+            if contained != 0 {
                 return Referred::Refused(cursor::BAD_FOLDER, place);
             }
-            read_target(d, file, first, kind, end)
+            read_target(d, file, headerEnd, kind, end)
         }
     }
 }
@@ -367,22 +377,22 @@ fn read_reference(c: Cursor, file: &[u8], first: FilePlace, held: u64, end: File
 fn read_rest(
     c: Cursor,
     file: &[u8],
-    first: FilePlace,
-    held: u64,
+    headerEnd: FilePlace,
+    contained: u64,
     inner: FilePlace,
     stop: FilePlace,
 ) -> Rested
     requires { ⌜ Readable (inner .0) (now file) × Readable (stop .0) (now file) ⌝ }
-    ensures { λ r. ⌜ restTold r ≡ run (rest (first .0) (length (now (file .entry))) held (inner .0) (stop .0)) (now (file .entry)) (c .at .0) ⌝ }
+    ensures { λ r. ⌜ restTold r ≡ run (rest (headerEnd .0) (length (now (file .entry))) contained (inner .0) (stop .0)) (now (file .entry)) (c .at .0) ⌝ }
 {
-    match read_unpackers(c, file, held, inner) {
+    match read_unpackers(c, file, contained, inner) {
         Unpacked::Refused(n, p) => Rested::Refused(n, p),
         Unpacked::Is(u, d) => {
             let place = d.at;
             if place.0 < inner.0 {
                 return Rested::Refused(cursor::BYTES_LEFT, place);
             }
-            match read_reference(d, file, first, held, stop) {
+            match read_reference(d, file, headerEnd, contained, stop) {
                 Referred::Refused(n, p) => Rested::Refused(n, p),
                 Referred::Is(r, e) => Rested::Is(u, r, e),
             }
@@ -408,14 +418,14 @@ fn row_of(
         start: start.0 as u64,
         size: h.size,
         header: h.header,
-        held: h.held,
+        contained: h.contained,
         parent: parent as u64,
         depth: depth as u64,
         reference: r.kind,
         target: r.target,
         extent: r.extent,
         unpackers: place.0 as u64,
-        layers: u.count as u64,
+        unpackerCount: u.count as u64,
         rows: rows as u64,
         detached,
     }
@@ -454,8 +464,8 @@ pub fn read_front(
                 Rowed::Refused(n, p) => Fronted::Refused(n, p),
                 Rowed::Done(rows, e) => {
                     let stop = start.of(NodePlace(h.size as usize));
-                    let first = scope.first;
-                    match read_rest(e, file, first, h.held, inner, stop) {
+                    let headerEnd = scope.headerEnd;
+                    match read_rest(e, file, headerEnd, h.contained, inner, stop) {
                         Rested::Refused(n, p) => Fronted::Refused(n, p),
                         Rested::Is(u, r, g) => {
                             let row = row_of(

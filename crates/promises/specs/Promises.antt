@@ -281,9 +281,9 @@ Corrects = (i : ℕ) (text : List ℕ) (ls : Sizes) (f : List ℕ) (n : ℕ) →
 -- FileLength, TreeStart and TreeEnd (`fileOf`) no more than any x, y and z bytes of three that fit each other.
 abbrev pub EachLeast : Type 0
 EachLeast = ((n k : ℕ) → 1 ≤ k → n < 128 ^ k → length (vlq n) ≤ k)
-    × ((held : ℕ) (rest : List ℕ) (contents : ℕ) → headerOf held rest contents + contents < 2 ^ 28
-    → (a b : ℕ) → 1 ≤ a → 1 ≤ b → a + length (vlq held) + b + length rest < 128 ^ b → a + length (vlq held) + b + length rest + contents < 128 ^ a
-    → (length (vlq (headerOf held rest contents + contents)) ≤ a) × (length (vlq (headerOf held rest contents)) ≤ b))
+    × ((contained : ℕ) (rest : List ℕ) (contents : ℕ) → headerOf contained rest contents + contents < 2 ^ 28
+    → (a b : ℕ) → 1 ≤ a → 1 ≤ b → a + length (vlq contained) + b + length rest < 128 ^ b → a + length (vlq contained) + b + length rest + contents < 128 ^ a
+    → (length (vlq (headerOf contained rest contents + contents)) ≤ a) × (length (vlq (headerOf contained rest contents)) ≤ b))
     × ((opening types gap tree after : List ℕ) → treeStart opening types gap tree after + length tree + length after < 2 ^ 28
     → (x y z : ℕ) → 1 ≤ x → 1 ≤ y → 1 ≤ z → length opening + x + length types + y + z + length gap < 128 ^ y
     → length opening + x + length types + y + z + length gap + length tree - 1 < 128 ^ z → length opening + x + length types + y + z + length gap + length tree + length after < 128 ^ x

@@ -166,11 +166,11 @@ cases : (first (0x7F ∷ []) ≡ ok 127 1)
     × (reads full worked
     ≡ rows
     (record { version = 200; edition = record { type = 2; revision = 1 }; types = []; extent = record { start = 21; last = 55; end = 21 } })
-    (record { start = 21; size = 35; header = 5; held = 1; parent = 0; depth = 1; reference = 1; target = 27; extent = 29; unpackers = 26; layers = 0; rows = 0; detached = 0 }
-    ∷ record { start = 27; size = 29; header = 26; held = 0; parent = 0; depth = 2; reference = 1; target = 54; extent = 2; unpackers = 53; layers = 0; rows = 3; detached = 0 } ∷ [])
-    (record { node = 1; item = 0; kind = 1; field = 32; named = 1; version = 0; declared = 0; format = 0; place = 36; size = 2 }
-    ∷ record { node = 1; item = 1; kind = 1; field = 39; named = 1; version = 0; declared = 0; format = 7; place = 43; size = 2 }
-    ∷ record { node = 1; item = 2; kind = 0; field = 3; named = 0; version = 0; declared = 0; format = 6; place = 50; size = 2 } ∷ []))
+    (record { start = 21; size = 35; header = 5; contained = 1; parent = 0; depth = 1; reference = 1; target = 27; extent = 29; unpackers = 26; unpackerCount = 0; rows = 0; detached = 0 }
+    ∷ record { start = 27; size = 29; header = 26; contained = 0; parent = 0; depth = 2; reference = 1; target = 54; extent = 2; unpackers = 53; unpackerCount = 0; rows = 3; detached = 0 } ∷ [])
+    (record { node = 1; item = 0; kind = 1; field = 32; nameLength = 1; version = 0; declared = 0; format = 0; place = 36; size = 2 }
+    ∷ record { node = 1; item = 1; kind = 1; field = 39; nameLength = 1; version = 0; declared = 0; format = 7; place = 43; size = 2 }
+    ∷ record { node = 1; item = 2; kind = 0; field = 3; nameLength = 0; version = 0; declared = 0; format = 6; place = 50; size = 2 } ∷ []))
     × (outcome promises.readTree (28 ∷ 33 ∷ []) worked
     ≡ record {
       answer = 0 ∷ 0 ∷ 200 ∷ 2 ∷ 3 ∷ [];

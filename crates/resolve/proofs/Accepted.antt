@@ -58,7 +58,7 @@ in-named size r k hops w n = by (w .2)
 in-reached : (size : ℕ) (r : Node) (k hops : ℕ) (two three : Result Resource) → NodeIn size r → (r .reference ≡ 2 → InPart size two) → (r .reference ≡ 3 → InPart size three)
     → InPart size (reached r k hops two three)
 in-reached size r k hops two three w a b =
-    elim (ℕ-discrete (r .held) 0) [
+    elim (ℕ-discrete (r .contained) 0) [
       | no n ↦ rw (reached-folder r k hops two three n) tt
       | yes z ↦ elim (ℕ-discrete (r .reference) 1) [
         | yes e ↦ rw (reached-one r k hops two three z e) (in-named size r k hops w (λ t. omega arith))

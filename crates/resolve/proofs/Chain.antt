@@ -7,6 +7,7 @@ use native.Mathlib.Omega.{arith}
 use lib.ListN.{length, getD}
 use borrow.Author.Tests.{eq-eqb, ne-eqb, lt-ltb, le-ltb}
 use Rattle.cursor.specs.declared.Node.{Node}
+use Rattle.metadata.specs.Tables.{nodeWidth}
 use Rattle.tree.specs.Rows.{nodeFrom, nodesIn, nodeAt}
 use Rattle.tree.specs.Asking.{Result, good, bad}
 use Rattle.tree.proofs.Rows.{node-at, nodes-in-length}
@@ -16,11 +17,11 @@ use Rattle.resolve.specs.Told.{Linked}
 -- ---- the answer at a node
 
 module _ (r : Node) (k hops : ℕ) (two three : Result Resource) where
-  pub reached-folder : (r .held ≡ 0 → ⊥) → reached r k hops two three ≡ bad 19 0
+  pub reached-folder : (r .contained ≡ 0 → ⊥) → reached r k hops two three ≡ bad 19 0
   unfolding reached if_then_else_
   reached-folder n = simp (ne-eqb _ _ n)
 
-  module _ (file : r .held ≡ 0) where
+  module _ (file : r .contained ≡ 0) where
     pub reached-one : r .reference ≡ 1 → reached r k hops two three ≡ named r k hops
     unfolding reached if_then_else_
     reached-one e = simp (eq-eqb _ _ file, eq-eqb _ _ e)
@@ -58,54 +59,54 @@ chain-is (suc left) ns k hops = refl
 
 module _ (ws : List ℕ) (count left k hops : ℕ) (l : k < count) where
   on-words : chain left (nodesIn count ws) k hops
-      ≡ reached (nodeFrom ws (k * 13)) k hops (afterTwo left (nodesIn count ws) k hops) (afterThree left (nodesIn count ws) k hops)
+      ≡ reached (nodeFrom ws (k * nodeWidth)) k hops (afterTwo left (nodesIn count ws) k hops) (afterThree left (nodesIn count ws) k hops)
   on-words = chain-is left (nodesIn count ws) k hops ∙ ap (λ r. reached r k hops (afterTwo left (nodesIn count ws) k hops) (afterThree left (nodesIn count ws) k hops)) (node-at ws count k l)
 
-  pub at-folder : (getD ws (k * 13 + 3) 0 ≡ 0 → ⊥) → bad 19 0 ≡ chain left (nodesIn count ws) k hops
+  pub at-folder : (getD ws (k * nodeWidth + 3) 0 ≡ 0 → ⊥) → bad 19 0 ≡ chain left (nodesIn count ws) k hops
   at-folder n = sym (on-words ∙ reached-folder _ k hops _ _ n)
 
-  module _ (file : getD ws (k * 13 + 3) 0 ≡ 0) where
-    pub at-one : getD ws (k * 13 + 6) 0 ≡ 1 → good (record { place = getD ws (k * 13 + 7) 0; size = getD ws (k * 13 + 8) 0; row = k; hops = hops }) ≡ chain left (nodesIn count ws) k hops
+  module _ (file : getD ws (k * nodeWidth + 3) 0 ≡ 0) where
+    pub at-one : getD ws (k * nodeWidth + 6) 0 ≡ 1 → good (record { place = getD ws (k * nodeWidth + 7) 0; size = getD ws (k * nodeWidth + 8) 0; row = k; hops = hops }) ≡ chain left (nodesIn count ws) k hops
     unfolding named
     at-one e = sym (on-words ∙ reached-one _ k hops _ _ file e)
 
-    pub at-uri : (getD ws (k * 13 + 6) 0 ≡ 1 → ⊥) → (getD ws (k * 13 + 6) 0 ≡ 2 → ⊥) → (getD ws (k * 13 + 6) 0 ≡ 3 → ⊥) → bad 20 0 ≡ chain left (nodesIn count ws) k hops
+    pub at-uri : (getD ws (k * nodeWidth + 6) 0 ≡ 1 → ⊥) → (getD ws (k * nodeWidth + 6) 0 ≡ 2 → ⊥) → (getD ws (k * nodeWidth + 6) 0 ≡ 3 → ⊥) → bad 20 0 ≡ chain left (nodesIn count ws) k hops
     at-uri n m o = sym (on-words ∙ reached-uri _ k hops _ _ file n m o)
 
-    pub two-many : getD ws (k * 13 + 6) 0 ≡ 2 → left ≡ 0 → bad 21 0 ≡ chain left (nodesIn count ws) k hops
+    pub two-many : getD ws (k * nodeWidth + 6) 0 ≡ 2 → left ≡ 0 → bad 21 0 ≡ chain left (nodesIn count ws) k hops
     two-many e z = sym (on-words ∙ reached-two _ k hops _ _ file e ∙ ap (λ n. afterTwo n (nodesIn count ws) k hops) z)
 
-    pub three-many : getD ws (k * 13 + 6) 0 ≡ 3 → left ≡ 0 → bad 21 0 ≡ chain left (nodesIn count ws) k hops
+    pub three-many : getD ws (k * nodeWidth + 6) 0 ≡ 3 → left ≡ 0 → bad 21 0 ≡ chain left (nodesIn count ws) k hops
     three-many e z = sym (on-words ∙ reached-three _ k hops _ _ file e ∙ ap (λ n. afterThree n (nodesIn count ws) k hops) z)
 
     module _ (more : left ≡ 0 → ⊥) where
       less : left ≡ suc (left - 1)
       less = omega arith
 
-      pub two-on : getD ws (k * 13 + 6) 0 ≡ 2
-          → good (record { place = getD ws (k * 13 + 7) 0; size = getD ws (k * 13 + 8) 0; row = k; hops = hops + 1 }) ≡ chain left (nodesIn count ws) k hops
+      pub two-on : getD ws (k * nodeWidth + 6) 0 ≡ 2
+          → good (record { place = getD ws (k * nodeWidth + 7) 0; size = getD ws (k * nodeWidth + 8) 0; row = k; hops = hops + 1 }) ≡ chain left (nodesIn count ws) k hops
       unfolding named
       two-on e =
           sym
           (on-words ∙ reached-two _ k hops _ _ file e ∙ ap (λ n. afterTwo n (nodesIn count ws) k hops) less
           ∙ ap (λ r. named r k (hops + 1)) (node-at ws count k l))
 
-      target-is : nodeAt (nodesIn count ws) k .target ≡ getD ws (k * 13 + 7) 0
+      target-is : nodeAt (nodesIn count ws) k .target ≡ getD ws (k * nodeWidth + 7) 0
       target-is = ap (λ (r : Node). r .target) (node-at ws count k l)
 
-      pub three-on : getD ws (k * 13 + 6) 0 ≡ 3 → {next : ℕ} → next ≡ rowStarting (nodesIn count ws) (getD ws (k * 13 + 7) 0) → {a : Result Resource}
+      pub three-on : getD ws (k * nodeWidth + 6) 0 ≡ 3 → {next : ℕ} → next ≡ rowStarting (nodesIn count ws) (getD ws (k * nodeWidth + 7) 0) → {a : Result Resource}
           → a ≡ chain (left - 1) (nodesIn count ws) next (hops + 1) → a ≡ chain left (nodesIn count ws) k hops
       three-on e {next} s {a} t =
           t ∙ ap (λ n. chain (left - 1) (nodesIn count ws) n (hops + 1)) (s ∙ ap (rowStarting (nodesIn count ws)) (sym target-is))
           ∙ sym (on-words ∙ reached-three _ k hops _ _ file e ∙ ap (λ n. afterThree n (nodesIn count ws) k hops) less)
 
 -- the row that a reference 3 leads to is there
-pub next-there : (ws : List ℕ) (count k : ℕ) → k < count → Linked (nodesIn count ws) → getD ws (k * 13 + 6) 0 ≡ 3 → {next : ℕ} → next ≡ rowStarting (nodesIn count ws) (getD ws (k * 13 + 7) 0)
+pub next-there : (ws : List ℕ) (count k : ℕ) → k < count → Linked (nodesIn count ws) → getD ws (k * nodeWidth + 6) 0 ≡ 3 → {next : ℕ} → next ≡ rowStarting (nodesIn count ws) (getD ws (k * nodeWidth + 7) 0)
     → next < count
 next-there ws count k l h e {next} s =
     let c = nodes-in-length ws count in
     let q : nodeAt (nodesIn count ws) k .reference ≡ 3 = ap (λ (r : Node). r .reference) (node-at ws count k l) ∙ e in
-    let t : nodeAt (nodesIn count ws) k .target ≡ getD ws (k * 13 + 7) 0 = ap (λ (r : Node). r .target) (node-at ws count k l) in
+    let t : nodeAt (nodesIn count ws) k .target ≡ getD ws (k * nodeWidth + 7) 0 = ap (λ (r : Node). r .target) (node-at ws count k l) in
     let w : rowStarting (nodesIn count ws) (nodeAt (nodesIn count ws) k .target) < length (nodesIn count ws) = h k (omega arith) q in
     let g : next ≡ rowStarting (nodesIn count ws) (nodeAt (nodesIn count ws) k .target) = s ∙ ap (rowStarting (nodesIn count ws)) (sym t) in
     omega arith

@@ -6,7 +6,7 @@ use Prim.Native.Nat.{ℕ, _+_, _*_, _-_, _≤_}
 use native.Mathlib.Omega.{arith}
 use lib.ListN.{length, replicate, take, drop}
 use Rattle.cursor.specs.declared.FilePlace.{FilePlace}
-use Rattle.metadata.specs.Tables.{limits}
+use Rattle.metadata.specs.Tables.{nodeWidth, limits}
 use Rattle.tree.specs.Reading.{readFile, readOf, nodeTable, itemTable}
 use Rattle.tree.specs.Rows.{nodesIn, treeRows, Rising}
 use Rattle.tree.specs.Asking.{Result, good, bad, ask, keptNodes, keptItems}
@@ -40,7 +40,7 @@ module _ (f : List ℕ) (nsize isize row : ℕ) {r : Read} {t u : List ℕ} (e :
     pub rows-linked : Linked (nodesIn (s .nodes) t)
     rows-linked = let w = stands in rw (w .nodes-are) (linked (limits nsize isize) f (w .reads))
 
-    pub rows-room : s .nodes * 13 ≤ length t
+    pub rows-room : s .nodes * nodeWidth ≤ length t
     rows-room = stands .node-room
 
     pub tree-among : s .tree ≤ s .nodes

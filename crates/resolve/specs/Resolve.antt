@@ -29,7 +29,7 @@ named r k hops = good (record { place = r .target; size = r .extent; row = k; ho
 -- The answer at node r of row k, after so many references: `two` is the answer if its reference 2 is followed, `three` if its reference 3 is.
 unfoldable pub reached : Node → (k hops : ℕ) → (two three : Result Resource) → Result Resource
 reached r k hops two three =
-    if not (eqb (r .held) 0) then bad endsAtFolder 0
+    if not (eqb (r .contained) 0) then bad endsAtFolder 0
     else if eqb (r .reference) 1 then named r k hops
     else if eqb (r .reference) 2 then two
     else if eqb (r .reference) 3 then three

@@ -24,7 +24,7 @@ use Rattle.retitle.specs.declared.Frame.{Frame}
 -- ---- what follows the header
 
 pub body-most : (r : Node) → bodySize r ≤ r .extent
-body-most r = by (eqb (r .held) 0)
+body-most r = by (eqb (r .contained) 0)
   where
     by : (b : Bool) → choose b (r .extent) 0 ≤ r .extent
     by true = omega arith
@@ -32,7 +32,7 @@ body-most r = by (eqb (r .held) 0)
 
 body-is : (f : List ℕ) (r : Node) → part f (r .target) (bodySize r) ≡ shape f r .body
 unfolding shape
-body-is f r = by (eqb (r .held) 0)
+body-is f r = by (eqb (r .contained) 0)
   where
     by : (b : Bool) → part f (r .target) (choose b (r .extent) 0) ≡ choose b (part f (r .target) (r .extent)) []
     by true = refl
@@ -71,7 +71,7 @@ module _ (s : Shape) (cs : List Content) (n : ℕ) where
 
   -- what a node's header has but for the two lengths
   abbrev fixed : ℕ
-  fixed = length (vlq (s .held)) + length (restText s cs)
+  fixed = length (vlq (s .contained)) + length (restText s cs)
 
   rest-length : length (restText s cs) ≡ least (λ _. texts) + texts + packed
   rest-length = omega (arith, joined-length (sized (itemsText cs) ∷ sized (s .unpackers) ∷ []), sized-length (itemsText cs))
@@ -80,8 +80,8 @@ module _ (s : Shape) (cs : List Content) (n : ℕ) where
   unfolding nodeText framed
   node-most =
       let c : ℕ = own + n in
-      let h : ℕ = headerOf (s .held) (restText s cs) c in
-      omega (arith, joined-length (vlq (h + c) ∷ vlq (s .held) ∷ vlq h ∷ restText s cs ∷ ownText s ∷ []))
+      let h : ℕ = headerOf (s .contained) (restText s cs) c in
+      omega (arith, joined-length (vlq (h + c) ∷ vlq (s .contained) ∷ vlq h ∷ restText s cs ∷ ownText s ∷ []))
 
   pub texts-within : texts ≤ length (nodeText s cs n)
   texts-within = omega (arith, node-most, rest-length)
@@ -91,7 +91,7 @@ module _ (s : Shape) (cs : List Content) (n : ℕ) where
   header-least k a = omega arith
 
   -- each of the three measured, and stopped where it is too large
-  module _ {m : ℕ} (em : m ≡ min texts tooMany) {z z₁ z₂ z₃ : List ℕ} {u w : ℕ} (pu : Counts z z₁ 0 (sized (s .unpackers)) u) (pw : Counts z₂ z₃ 0 (ownText s) w) {a b : ℕ} (ea : a ≡ least (λ _. s .held)) (eb : b ≡ least (λ _. m)) {h : ℕ}
+  module _ {m : ℕ} (em : m ≡ min texts tooMany) {z z₁ z₂ z₃ : List ℕ} {u w : ℕ} (pu : Counts z z₁ 0 (sized (s .unpackers)) u) (pw : Counts z₂ z₃ 0 (ownText s) w) {a b : ℕ} (ea : a ≡ least (λ _. s .contained)) (eb : b ≡ least (λ _. m)) {h : ℕ}
       (eh : h ≡ headerSize (a + b + m + u) (lengthBytes (a + b + m + u) (w + n))) {size : ℕ} (es : size ≡ min (0 + (h + (w + n))) tooMany) where
     abbrev k : ℕ
     k = a + b + m + u
@@ -108,12 +108,12 @@ module _ (s : Shape) (cs : List Content) (n : ℕ) where
         let i : m ≡ texts = omega arith in
         let b : least (λ _. m) ≡ least (λ _. texts) = ap (λ v. least (λ _. v)) i in
         let c : w + n ≡ own + n = omega (arith, ew) in
-        let d : k ≡ fixed = omega (arith, eu, vlq-length (s .held), rest-length) in
-        let e : h ≡ headerOf (s .held) (restText s cs) (own + n) = eh ∙ rw (d, c) refl in
-        let t : headerOf (s .held) (restText s cs) (own + n) + (own + n) ≤ length (nodeText s cs n) + n = framed-most (s .held) (restText s cs) (ownText s) n in
-        let g : headerOf (s .held) (restText s cs) (own + n) + (own + n) < tooMany → length (nodeText s cs n) + n ≡ headerOf (s .held) (restText s cs) (own + n) + (own + n) = framed-length (s .held) (restText s cs) (ownText s) n in
+        let d : k ≡ fixed = omega (arith, eu, vlq-length (s .contained), rest-length) in
+        let e : h ≡ headerOf (s .contained) (restText s cs) (own + n) = eh ∙ rw (d, c) refl in
+        let t : headerOf (s .contained) (restText s cs) (own + n) + (own + n) ≤ length (nodeText s cs n) + n = framed-most (s .contained) (restText s cs) (ownText s) n in
+        let g : headerOf (s .contained) (restText s cs) (own + n) + (own + n) < tooMany → length (nodeText s cs n) + n ≡ headerOf (s .contained) (restText s cs) (own + n) + (own + n) = framed-length (s .contained) (restText s cs) (ownText s) n in
         record {
-          stops = elim (decLt (headerOf (s .held) (restText s cs) (own + n) + (own + n)) tooMany) [
+          stops = elim (decLt (headerOf (s .contained) (restText s cs) (own + n) + (own + n)) tooMany) [
             | yes l ↦ let i = g l in omega arith
             | no l ↦ omega arith
           ];
@@ -151,7 +151,7 @@ module _ (s : Shape) (cs : List Content) (n : ℕ) {r : Frame} (w : Framed s cs 
   within : r .size < tooMany
   within = omega (arith, w .stops)
 
-  pub node-put : {m : ℕ} → m ≡ length (itemsText cs) → {o o₁ o₂ o₃ o₄ o₅ o₆ o₇ : List ℕ} {t t₁ t₂ t₃ t₄ t₅ t₆ t₇ : ℕ} → Counts o o₁ t (vlq (r .size)) t₁ → Counts o₁ o₂ t₁ (vlq (s .held)) t₂ → Counts o₂ o₃ t₂ (vlq (r .header)) t₃
+  pub node-put : {m : ℕ} → m ≡ length (itemsText cs) → {o o₁ o₂ o₃ o₄ o₅ o₆ o₇ : List ℕ} {t t₁ t₂ t₃ t₄ t₅ t₆ t₇ : ℕ} → Counts o o₁ t (vlq (r .size)) t₁ → Counts o₁ o₂ t₁ (vlq (s .contained)) t₂ → Counts o₂ o₃ t₂ (vlq (r .header)) t₃
       → Counts o₃ o₄ t₃ (vlq m) t₄ → Counts o₄ o₅ t₄ (itemsText cs) t₅ → Counts o₅ o₆ t₅ (sized (s .unpackers)) t₆ → Counts o₆ o₇ t₆ (ownText s) t₇ → Counts o o₇ t (nodeText s cs n) t₇
   unfolding nodeText framed
   node-put {m} e p₁ p₂ p₃ p₄ p₅ p₆ p₇ =

@@ -106,8 +106,8 @@ module _ {x : Task} (s : Sound x) {i end top : ℕ} {sizes metadata inner : List
   abbrev j : ℕ
   j = i - 1
 
-  abbrev held : ℕ
-  held = nodeOf x j .held
+  abbrev contained : ℕ
+  contained = nodeOf x j .contained
 
   abbrev below : List (List ℕ)
   below = outerFrom x (j + 1)
@@ -125,7 +125,7 @@ module _ {x : Task} (s : Sound x) {i end top : ℕ} {sizes metadata inner : List
   stack-is = w .stack ∙ ap (λ v. stops (outerFrom x v)) back
 
   -- the stack has the nodes that this one holds, and room for one more
-  pub stack-has : top + held ≤ 256
+  pub stack-has : top + contained ≤ 256
   stack-has =
       let l = w .long .0 in
       let r = w .room .0 in
@@ -142,7 +142,7 @@ module _ {x : Task} (s : Sound x) {i end top : ℕ} {sizes metadata inner : List
 
   -- what is known of the row
   module _ {m n : ℕ} {f : Frame} (em : m ≡ min (length (itemsText (contentsFrom (x .file) (x .row) (x .title) (x .items) (end - nodeOf x j .rows) (end - (end - nodeOf x j .rows))))) tooMany)
-      (en : n ≡ min (sumOf (part sizes top (top + held - top))) tooMany) (ef : (cs : List Content) → m ≡ min (length (itemsText cs)) tooMany → Framed (shapeOf x j) cs n f) where
+      (en : n ≡ min (sumOf (part sizes top (top + contained - top))) tooMany) (ef : (cs : List Content) → m ≡ min (length (itemsText cs)) tooMany → Framed (shapeOf x j) cs n f) where
     texts-are : m ≡ min (length (itemsText (contentsOf x j))) tooMany
     texts-are =
         let e = first-is in
@@ -152,36 +152,36 @@ module _ {x : Task} (s : Sound x) {i end top : ℕ} {sizes metadata inner : List
 
     inner-is : n ≡ min (innerOf x j) tooMany
     inner-is =
-        let a : top + held - top ≡ held = omega arith in
-        let b : part sizes top (top + held - top) ≡ stops (take held below) = rw a (ap (take held) stack-is ∙ take-stops held below) in
-        en ∙ ap (λ v. min (sumOf v) tooMany) b ∙ sum-stops (take held below)
+        let a : top + contained - top ≡ contained = omega arith in
+        let b : part sizes top (top + contained - top) ≡ stops (take contained below) = rw a (ap (take contained) stack-is ∙ take-stops contained below) in
+        en ∙ ap (λ v. min (sumOf v) tooMany) b ∙ sum-stops (take contained below)
 
-    size-is : f .size ≡ min (length (wholeText (shapeOf x j) (contentsOf x j) (joined (take held below)))) tooMany
+    size-is : f .size ≡ min (length (wholeText (shapeOf x j) (contentsOf x j) (joined (take contained below)))) tooMany
     size-is =
         let a = ef (contentsOf x j) texts-are .stops in
-        let b = whole-length (shapeOf x j) (contentsOf x j) (joined (take held below)) in
+        let b = whole-length (shapeOf x j) (contentsOf x j) (joined (take contained below)) in
         let c = inner-is in
         elim (decLt (innerOf x j) tooMany) [
           | yes l ↦ let d : n ≡ innerOf x j = omega arith in rw d at a ∙ sym (ap (λ v. min v tooMany) b)
           | no l ↦ omega arith
         ]
 
-    pub measuring-on : Measuring x j (end - nodeOf x j .rows) (top + held - 1) (set sizes (top + held - 1) (f .size)) (set metadata j m) (set inner j n)
+    pub measuring-on : Measuring x j (end - nodeOf x j .rows) (top + contained - 1) (set sizes (top + contained - 1) (f .size)) (set metadata j m) (set inner j n)
     measuring-on =
         let e = first-is in
         let l = w .long in
         let h = stack-has in
         let o = stack-room in
         let r = w .room .1 in
-        let p : top + held - 1 + 1 ≡ top + held = omega arith in
+        let p : top + contained - 1 + 1 ≡ top + contained = omega arith in
         record {
           within = omega (arith, here);
           first = omega arith;
           room = (omega arith, omega arith);
-          long = (length-set sizes (top + held - 1) (f .size) ∙ l .0, length-set metadata j m ∙ l .1, length-set inner j n ∙ l .2);
+          long = (length-set sizes (top + contained - 1) (f .size) ∙ l .0, length-set metadata j m ∙ l .1, length-set inner j n ∙ l .2);
           stack =
-              drop-set sizes (top + held - 1) (f .size) (omega arith)
-              ∙ ap₂ (λ (v : ℕ) (vs : List ℕ). v ∷ vs) size-is (ap (λ k. drop k sizes) p ∙ sym (drop-drop held top sizes) ∙ ap (drop held) stack-is ∙ drop-stops held below)
+              drop-set sizes (top + contained - 1) (f .size) (omega arith)
+              ∙ ap₂ (λ (v : ℕ) (vs : List ℕ). v ∷ vs) size-is (ap (λ k. drop k sizes) p ∙ sym (drop-drop contained top sizes) ∙ ap (drop contained) stack-is ∙ drop-stops contained below)
               ∙ sym (ap stops (outer-on s j here));
           measured = record {
             texts = λ k a b. elim (decLe i k) [

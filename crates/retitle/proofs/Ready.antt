@@ -15,6 +15,7 @@ use Rattle.cursor.specs.declared.Node.{Node}
 use Rattle.header.specs.Types.{Declared}
 use Rattle.metadata.specs.declared.Limits.{Limits}
 use Rattle.metadata.specs.declared.Made.{Made}
+use Rattle.metadata.specs.Tables.{itemWidth}
 use Rattle.tree.specs.Rows.{nodeFrom, nodesFrom, itemFrom, itemsFrom, nodesIn, itemsIn, nodeAt, itemAt}
 use Rattle.tree.proofs.Rows.{Accepted, accepted, node-at, item-at, nodes-in-length, items-in-length}
 use Rattle.title.specs.Description.{Content, content, Shape, shape, titled, titledAt}
@@ -33,7 +34,7 @@ use Rattle.retitle.proofs.Rows.{contents-drop, nodes-on, first-on, firs
 -- each node has its contents and its nodes among those that follow
 abbrev Follows : List Shape → List Content → Type 0
 Follows [] cs = length cs ≡ 0
-Follows (r ∷ rs) cs = (r .rows ≤ length cs) × (r .held ≤ length (outer rs (drop (r .rows) cs))) × Follows rs (drop (r .rows) cs)
+Follows (r ∷ rs) cs = (r .rows ≤ length cs) × (r .contained ≤ length (outer rs (drop (r .rows) cs))) × Follows rs (drop (r .rows) cs)
 
 module _ {lim : Limits} {types : List Declared} where
   nodes-follow : {d parent n : ℕ} {m : Made} {rs : List Shape} {cs : List Content} {bs : List (List ℕ)} → Nodes lim types d parent m n rs cs bs → (ss : List Shape) (ds : List Content) → Follows ss ds → Follows (rs ++ ss) (cs ++ ds)
@@ -84,7 +85,7 @@ module _ (x : Task) where
         let e : x .total - a - n ≡ x .total - (a + n) = omega arith in
         contents-drop (x .file) (x .row) (x .title) (x .items) a n (x .total - a) rows-within ∙ rw (first-on (x .nodes) i, e) refl
 
-    nodes-there : nodeOf x i .held ≤ length (outerFrom x (i + 1))
+    nodes-there : nodeOf x i .contained ≤ length (outerFrom x (i + 1))
     unfolding outerFrom shape
     nodes-there = let a = first-row .1 in rw contents-on at a
 
@@ -113,13 +114,13 @@ module _ (f : List ℕ) (row : ℕ) (title us : List ℕ) where
   other-contents : (k n : ℕ) → row < k → contentsFrom f row title us k n ≡ map (content f) (itemsFrom k n us)
   unfolding contentsFrom contentAt itemsFrom
   other-contents k zero l = refl
-  other-contents k (suc n) l = rw (ne-eqb k row (λ e. omega arith)) (ap (λ v. content f (itemFrom us (k * 10)) ∷ v) (other-contents (k + 1) n (omega arith)))
+  other-contents k (suc n) l = rw (ne-eqb k row (λ e. omega arith)) (ap (λ v. content f (itemFrom us (k * itemWidth)) ∷ v) (other-contents (k + 1) n (omega arith)))
 
   titled-contents : (k n i : ℕ) → row ≡ k + i → contentsFrom f row title us k n ≡ titledAt i title (map (content f) (itemsFrom k n us))
   unfolding contentsFrom contentAt itemsFrom titledAt
   titled-contents k zero i e = refl
-  titled-contents k (suc n) zero e = rw (eq-eqb k row (omega arith)) (ap (λ v. titled title (content f (itemFrom us (k * 10))) ∷ v) (other-contents (k + 1) n (omega arith)))
-  titled-contents k (suc n) (suc i) e = rw (ne-eqb k row (λ z. omega arith)) (ap (λ v. content f (itemFrom us (k * 10)) ∷ v) (titled-contents (k + 1) n i (omega arith)))
+  titled-contents k (suc n) zero e = rw (eq-eqb k row (omega arith)) (ap (λ v. titled title (content f (itemFrom us (k * itemWidth))) ∷ v) (other-contents (k + 1) n (omega arith)))
+  titled-contents k (suc n) (suc i) e = rw (ne-eqb k row (λ z. omega arith)) (ap (λ v. content f (itemFrom us (k * itemWidth)) ∷ v) (titled-contents (k + 1) n i (omega arith)))
 
   pub contents-titled : (n : ℕ) → contentsFrom f row title us 0 n ≡ titledAt row title (map (content f) (itemsIn n us))
   unfolding itemsIn

@@ -10,6 +10,7 @@ use lib.ListN.{length}
 use borrow.Author.Tests.{eq-eqb, ne-eqb, le-leb, lt-leb}
 use Rattle.cursor.specs.Vlq.{choose}
 use Rattle.cursor.specs.declared.Item.{Item}
+use Rattle.metadata.specs.Tables.{nodeWidth, itemWidth}
 use Rattle.tree.specs.Rows.{nodeFrom, nodesFrom, nodesIn, itemFrom, itemsIn}
 use Rattle.tree.specs.Hidden.{isHidden}
 use Rattle.tree.proofs.Rows.{item-at, items-in-length}
@@ -30,18 +31,18 @@ looking-start ws count = record { within = omega arith; same = ap (λ n. elsewhe
 
 module _ {ws : List ℕ} {count i : ℕ} (w : Looking ws count i) where
   module _ (l : i < count) where
-    turn : elsewhere (nodesIn count ws) ≡ (eqb (nodeFrom ws (i * 13) .reference) 2 || eqb (nodeFrom ws (i * 13) .reference) 3 || elsewhere (nodesFrom (i + 1) (count - (i + 1)) ws))
+    turn : elsewhere (nodesIn count ws) ≡ (eqb (nodeFrom ws (i * nodeWidth) .reference) 2 || eqb (nodeFrom ws (i * nodeWidth) .reference) 3 || elsewhere (nodesFrom (i + 1) (count - (i + 1)) ws))
     unfolding elsewhere
     turn = w .same ∙ ap elsewhere (nodes-on ws count i l)
 
-    pub looking-two : nodeFrom ws (i * 13) .reference ≡ 2 → true ≡ elsewhere (nodesIn count ws)
+    pub looking-two : nodeFrom ws (i * nodeWidth) .reference ≡ 2 → true ≡ elsewhere (nodesIn count ws)
     looking-two e = sym (turn ∙ rw (eq-eqb _ 2 e) refl)
 
-    module _ (a : nodeFrom ws (i * 13) .reference ≡ 2 → ⊥) where
-      pub looking-three : nodeFrom ws (i * 13) .reference ≡ 3 → true ≡ elsewhere (nodesIn count ws)
+    module _ (a : nodeFrom ws (i * nodeWidth) .reference ≡ 2 → ⊥) where
+      pub looking-three : nodeFrom ws (i * nodeWidth) .reference ≡ 3 → true ≡ elsewhere (nodesIn count ws)
       looking-three e = sym (turn ∙ rw (ne-eqb _ 2 a, eq-eqb _ 3 e) refl)
 
-      pub looking-on : (nodeFrom ws (i * 13) .reference ≡ 3 → ⊥) → Looking ws count (i + 1)
+      pub looking-on : (nodeFrom ws (i * nodeWidth) .reference ≡ 3 → ⊥) → Looking ws count (i + 1)
       looking-on b = record { within = omega arith; same = turn ∙ rw (ne-eqb _ 2 a, ne-eqb _ 3 b) refl }
 
   pub looking-end : count ≤ i → false ≡ elsewhere (nodesIn count ws)
@@ -59,11 +60,11 @@ module _ (ts us : List ℕ) (count total row : ℕ) where
   refuses-row l = rw (rows-there, le-leb total row l) refl
 
   module _ (l : row < total) where
-    by-tests : refusalOf row (nodesIn count ts) (itemsIn total us) ≡ choose (elsewhere (nodesIn count ts)) 36 (choose (isNoTitle (itemFrom us (row * 10))) 37 0)
+    by-tests : refusalOf row (nodesIn count ts) (itemsIn total us) ≡ choose (elsewhere (nodesIn count ts)) 36 (choose (isNoTitle (itemFrom us (row * itemWidth))) 37 0)
     unfolding refusalOf
     by-tests = rw (rows-there, lt-leb total row l, item-at us total row l) refl
 
-    module _ {a b : Bool} (p : a ≡ elsewhere (nodesIn count ts)) (q : b ≡ isNoTitle (itemFrom us (row * 10))) where
+    module _ {a b : Bool} (p : a ≡ elsewhere (nodesIn count ts)) (q : b ≡ isNoTitle (itemFrom us (row * itemWidth))) where
       pub refuses-reference : a ≡ true → 36 ≡ refusalOf row (nodesIn count ts) (itemsIn total us)
       refuses-reference e = sym (by-tests ∙ rw (sym p ∙ e) refl)
 

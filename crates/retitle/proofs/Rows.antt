@@ -7,6 +7,7 @@ use native.Mathlib.Omega.{arith}
 use lib.ListN.{length, take, drop, length-append, take-append-drop}
 use Rattle.cursor.specs.Vlq.{joined}
 use Rattle.cursor.specs.declared.Node.{Node}
+use Rattle.metadata.specs.Tables.{nodeWidth}
 use Rattle.tree.specs.Rows.{nodeFrom, nodesFrom}
 use Rattle.title.specs.Description.{Content, Shape, shape}
 use Rattle.title.specs.Text.{nodeText, wholeText, outer}
@@ -26,14 +27,14 @@ module _ (f : List ℕ) (row : ℕ) (title us : List ℕ) where
   contents-drop k (suc n) zero l = absurd (omega arith)
   contents-drop k (suc n) (suc m) l = let a : k + 1 + n ≡ k + suc n = omega arith in let b : m - n ≡ suc m - suc n = omega arith in contents-drop (k + 1) n m (omega arith) ∙ rw (a, b) refl
 
-pub nodes-on : (ws : List ℕ) (count i : ℕ) → i < count → nodesFrom i (count - i) ws ≡ nodeFrom ws (i * 13) ∷ nodesFrom (i + 1) (count - (i + 1)) ws
+pub nodes-on : (ws : List ℕ) (count i : ℕ) → i < count → nodesFrom i (count - i) ws ≡ nodeFrom ws (i * nodeWidth) ∷ nodesFrom (i + 1) (count - (i + 1)) ws
 unfolding nodesFrom
 nodes-on ws count i l = let e : count - i ≡ suc (count - (i + 1)) = omega arith in rw e refl
 
 -- ---- the first item row of a node row
 
 module _ (ws : List ℕ) where
-  pub first-on : (i : ℕ) → firstItem ws (i + 1) ≡ firstItem ws i + nodeFrom ws (i * 13) .rows
+  pub first-on : (i : ℕ) → firstItem ws (i + 1) ≡ firstItem ws i + nodeFrom ws (i * nodeWidth) .rows
   unfolding firstItem
   first-on i = let e : i + 1 ≡ suc i = omega arith in rw e refl
 
@@ -71,7 +72,7 @@ module _ {x : Task} (s : Sound x) where
   outer-end = let e : x .count - x .count ≡ 0 = omega arith in rw e refl
 
   module _ (i : ℕ) (l : i < x .count) where
-    pub outer-on : outerFrom x i ≡ wholeText (shapeOf x i) (contentsOf x i) (joined (take (nodeOf x i .held) (outerFrom x (i + 1)))) ∷ drop (nodeOf x i .held) (outerFrom x (i + 1))
+    pub outer-on : outerFrom x i ≡ wholeText (shapeOf x i) (contentsOf x i) (joined (take (nodeOf x i .contained) (outerFrom x (i + 1)))) ∷ drop (nodeOf x i .contained) (outerFrom x (i + 1))
     unfolding outerFrom outer shape
     outer-on =
         let a : ℕ = firstItem (x .nodes) i in
@@ -82,11 +83,11 @@ module _ {x : Task} (s : Sound x) where
 
     -- a node's own bytes, and then those of the rows after it
     pub text-on : joined (outerFrom x i) ≡ nodeText (shapeOf x i) (contentsOf x i) (innerOf x i) ++ joined (outerFrom x (i + 1))
-    text-on = ap joined outer-on ∙ whole-on (shapeOf x i) (contentsOf x i) (nodeOf x i .held) (outerFrom x (i + 1))
+    text-on = ap joined outer-on ∙ whole-on (shapeOf x i) (contentsOf x i) (nodeOf x i .contained) (outerFrom x (i + 1))
 
     -- the bytes of the nodes that a node holds are among those
     pub inner-within : innerOf x i ≤ length (joined (outerFrom x (i + 1)))
     inner-within =
-        let n : ℕ = nodeOf x i .held in
+        let n : ℕ = nodeOf x i .contained in
         let os : List (List ℕ) = outerFrom x (i + 1) in
         omega (arith, length-append (joined (take n os)) (joined (drop n os)), ap length (sym (joined-append (take n os) (drop n os)) ∙ ap joined (take-append-drop n os)))

@@ -7,6 +7,7 @@ use lib.Dec.{eqb}
 use lib.ListN.{length, getD, take}
 use Rattle.cursor.specs.Vlq.{choose, joined, sized}
 use Rattle.cursor.specs.declared.Node.{Node}
+use Rattle.metadata.specs.Tables.{nodeWidth}
 use Rattle.tree.specs.Rows.{nodeFrom, nodesFrom}
 use Rattle.title.specs.Description.{Content, Shape, shape}
 use Rattle.title.specs.Text.{itemsText, headerOf, ownText, nodeText, outer}
@@ -18,7 +19,7 @@ use Rattle.retitle.specs.declared.Frame.{Frame}
 
 -- the bytes of a URI or of inline data; a folder has none of its own
 abbrev pub bodySize : Node → ℕ
-bodySize r = choose (eqb (r .held) 0) (r .extent) 0
+bodySize r = choose (eqb (r .contained) 0) (r .extent) 0
 
 -- what a node's header has behind its three numbers
 abbrev pub restText : Shape → List Content → List ℕ
@@ -27,8 +28,8 @@ restText s cs = joined (sized (itemsText cs) ∷ sized (s .unpackers) ∷ [])
 -- NodeLength and NodeHeaderLength of a node with these contents, whose nodes have n bytes; where NodeLength is too large it stops, and nothing is said of the other
 pub record Framed (s : Shape) (cs : List Content) (n : ℕ) (r : Frame) : Type 0 where
   pub stops : r .size ≡ min (length (nodeText s cs n) + n) tooMany
-  pub size : r .size < tooMany → r .size ≡ headerOf (s .held) (restText s cs) (length (ownText s) + n) + (length (ownText s) + n)
-  pub header : r .size < tooMany → r .header ≡ headerOf (s .held) (restText s cs) (length (ownText s) + n)
+  pub size : r .size < tooMany → r .size ≡ headerOf (s .contained) (restText s cs) (length (ownText s) + n) + (length (ownText s) + n)
+  pub header : r .size < tooMany → r .header ≡ headerOf (s .contained) (restText s cs) (length (ownText s) + n)
 
 abbrev pub sumOf : List ℕ → ℕ
 sumOf [] = 0
@@ -52,11 +53,11 @@ task file nodes items count total row title = record { file = file; nodes = node
 -- how many item rows the node rows before row i have
 unfoldable pub firstItem : List ℕ → ℕ → ℕ
 firstItem ws zero = 0
-firstItem ws (suc i) = firstItem ws i + nodeFrom ws (i * 13) .rows
+firstItem ws (suc i) = firstItem ws i + nodeFrom ws (i * nodeWidth) .rows
 
 module _ (x : Task) where
   abbrev pub nodeOf : ℕ → Node
-  nodeOf i = nodeFrom (x .nodes) (i * 13)
+  nodeOf i = nodeFrom (x .nodes) (i * nodeWidth)
 
   abbrev pub shapeOf : ℕ → Shape
   shapeOf i = shape (x .file) (nodeOf i)
@@ -73,17 +74,17 @@ module _ (x : Task) where
 
   -- the bytes of the nodes that node row i holds
   abbrev pub innerOf : ℕ → ℕ
-  innerOf i = length (joined (take (nodeOf i .held) (outerFrom (i + 1))))
+  innerOf i = length (joined (take (nodeOf i .contained) (outerFrom (i + 1))))
 
 -- what is known of the rows: they and what they name lie in the tables and in the file, item rows belong to node rows, and a node's nodes follow it
 pub record Sound (x : Task) : Type 0 where
   pub small : length (x .file) < 2 ^ 28
   pub few : x .count ≤ 256
-  pub node-room : x .count * 13 ≤ length (x .nodes)
+  pub node-room : x .count * nodeWidth ≤ length (x .nodes)
   pub items-inside : ItemsInside (length (x .file)) (x .total) (x .items)
   pub bodies-inside : (i : ℕ) → i < x .count → nodeOf x i .target + nodeOf x i .extent ≤ length (x .file)
   pub all-items : firstItem (x .nodes) (x .count) ≡ x .total
-  pub nodes-follow : (i : ℕ) → i < x .count → nodeOf x i .held ≤ length (outerFrom x (i + 1))
+  pub nodes-follow : (i : ℕ) → i < x .count → nodeOf x i .contained ≤ length (outerFrom x (i + 1))
 
 -- the first pass was at the rows from row i on: the bytes of a node's contents, and of the nodes that it holds, each stopped
 pub record Measured (x : Task) (i : ℕ) (metadata inner : List ℕ) : Type 0 where

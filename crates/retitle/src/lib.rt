@@ -8,7 +8,7 @@ ghost use lib.ListN.{length, take, drop};
 ghost use Rattle.cursor.specs.Machine.{run};
 ghost use Rattle.cursor.specs.Vlq.{part, least, joined, sized};
 ghost use Rattle.header.specs.Header.{Header};
-ghost use Rattle.metadata.specs.Tables.{limits};
+ghost use Rattle.metadata.specs.Tables.{nodeWidth, itemWidth, limits};
 ghost use Rattle.metadata.specs.declared.Limits.{Limits};
 ghost use Rattle.room.specs.Room.{counted, kept};
 ghost use Rattle.tree.specs.Rows.{nodeFrom, itemFrom, nodesIn, itemsIn};
@@ -104,8 +104,8 @@ fn tree_start(fixed: usize, tree: usize, after: usize) -> usize
 
 // The bytes of the URI or inline data of node row i; a folder has none.
 fn body_size(nodes: &[u64], i: usize) -> u64
-    requires { ⌜ i * 13 + 13 ≤ length (now nodes) ⌝ }
-    ensures { λ r. ⌜ r ≡ bodySize (nodeFrom (now (nodes .entry)) (i * 13)) ⌝ }
+    requires { ⌜ i * nodeWidth + nodeWidth ≤ length (now nodes) ⌝ }
+    ensures { λ r. ⌜ r ≡ bodySize (nodeFrom (now (nodes .entry)) (i * nodeWidth)) ⌝ }
 {
     let k = i * cursor::NODE_WIDTH;
     if nodes[k + 3] == 0 { nodes[k + 8] } else { 0 }
@@ -113,8 +113,8 @@ fn body_size(nodes: &[u64], i: usize) -> u64
 
 // Puts what follows the header of node row i, but for the nodes that it holds: ReferenceTypeID; a URI with its length, or inline data.
 fn put_own(out: &mut [u8], to: usize, file: &[u8], nodes: &[u64], i: usize) -> usize
-    requires { ⌜ (i * 13 + 13 ≤ length (now nodes)) × (nodeFrom (now nodes) (i * 13) .target + nodeFrom (now nodes) (i * 13) .extent ≤ length (now file)) × (to ≤ tooMany) ⌝ }
-    ensures { λ r. ⌜ Counts (now (out .entry)) (now (out .exit)) to (ownText (shape (now (file .entry)) (nodeFrom (now (nodes .entry)) (i * 13)))) r ⌝ }
+    requires { ⌜ (i * nodeWidth + nodeWidth ≤ length (now nodes)) × (nodeFrom (now nodes) (i * nodeWidth) .target + nodeFrom (now nodes) (i * nodeWidth) .extent ≤ length (now file)) × (to ≤ tooMany) ⌝ }
+    ensures { λ r. ⌜ Counts (now (out .entry)) (now (out .exit)) to (ownText (shape (now (file .entry)) (nodeFrom (now (nodes .entry)) (i * nodeWidth)))) r ⌝ }
 {
     let k = i * cursor::NODE_WIDTH;
     let size = body_size(nodes, i);
@@ -128,14 +128,17 @@ fn put_own(out: &mut [u8], to: usize, file: &[u8], nodes: &[u64], i: usize) -> u
 
 // NodeHeaderLength and NodeLength of node row i, whose item rows have `metadata` bytes, and whose nodes have `inner`.
 fn frame_of(file: &[u8], nodes: &[u64], i: usize, metadata: usize, inner: usize) -> Frame
-    requires { ⌜ (i * 13 + 13 ≤ length (now nodes)) × (nodeFrom (now nodes) (i * 13) .target + nodeFrom (now nodes) (i * 13) .extent ≤ length (now file)) × (length (now file) < 2 ^ 28) × (metadata ≤ tooMany) × (inner ≤ tooMany) ⌝ }
-    ensures { λ r. ⌜ ((cs : List Content) → metadata ≡ min (length (itemsText cs)) tooMany → Framed (shape (now (file .entry)) (nodeFrom (now (nodes .entry)) (i * 13))) cs inner r) ⌝ }
+    requires { ⌜ (i * nodeWidth + nodeWidth ≤ length (now nodes)) × (nodeFrom (now nodes) (i * nodeWidth) .target + nodeFrom (now nodes) (i * nodeWidth) .extent ≤ length (now file)) × (length (now file) < 2 ^ 28) × (metadata ≤ tooMany) × (inner ≤ tooMany) ⌝ }
+    ensures { λ r. ⌜ ((cs : List Content) → metadata ≡ min (length (itemsText cs)) tooMany → Framed (shape (now (file .entry)) (nodeFrom (now (nodes .entry)) (i * nodeWidth))) cs inner r) ⌝ }
 {
-    let held = nodes[i * cursor::NODE_WIDTH + 3];
+    let contained = nodes[i * cursor::NODE_WIDTH + 3];
     let mut scratch = [0u8; 1];
     let unpackers = copies::put_unpackers(&mut scratch, 0, file, nodes, i);
     let own = put_own(&mut scratch, 0, file, nodes, i);
-    let fixed = writer::vlq_size(held) + writer::vlq_size(metadata as u64) + metadata + unpackers;
+    let fixed = writer::vlq_size(contained)
+        + writer::vlq_size(metadata as u64)
+        + metadata
+        + unpackers;
     let contents = own + inner;
     let header = header_size(fixed, length_bytes(fixed, contents));
     let size = writer::on(0, header + contents);
@@ -157,9 +160,9 @@ fn put_node(
     metadata: usize,
     inner: usize,
 ) -> usize
-    requires rows { ⌜ (i * 13 + 13 ≤ length (now nodes)) × (nodeFrom (now nodes) (i * 13) .target + nodeFrom (now nodes) (i * 13) .extent ≤ length (now file)) × (length (now file) < 2 ^ 28) × (first ≤ end) × ItemsInside (length (now file)) end (now items) × (to ≤ tooMany) ⌝ }
-    requires sizes { ⌜ (metadata ≡ length (itemsText (contentsFrom (now file) row (now title) (now items) first (end - first)))) × (length (nodeText (shape (now file) (nodeFrom (now nodes) (i * 13))) (contentsFrom (now file) row (now title) (now items) first (end - first)) inner) + inner < tooMany) ⌝ }
-    ensures { λ r. ⌜ Counts (now (out .entry)) (now (out .exit)) to (nodeText (shape (now (file .entry)) (nodeFrom (now (nodes .entry)) (i * 13))) (contentsFrom (now (file .entry)) row (now (title .entry)) (now (items .entry)) first (end - first)) inner) r ⌝ }
+    requires rows { ⌜ (i * nodeWidth + nodeWidth ≤ length (now nodes)) × (nodeFrom (now nodes) (i * nodeWidth) .target + nodeFrom (now nodes) (i * nodeWidth) .extent ≤ length (now file)) × (length (now file) < 2 ^ 28) × (first ≤ end) × ItemsInside (length (now file)) end (now items) × (to ≤ tooMany) ⌝ }
+    requires sizes { ⌜ (metadata ≡ length (itemsText (contentsFrom (now file) row (now title) (now items) first (end - first)))) × (length (nodeText (shape (now file) (nodeFrom (now nodes) (i * nodeWidth))) (contentsFrom (now file) row (now title) (now items) first (end - first)) inner) + inner < tooMany) ⌝ }
+    ensures { λ r. ⌜ Counts (now (out .entry)) (now (out .exit)) to (nodeText (shape (now (file .entry)) (nodeFrom (now (nodes .entry)) (i * nodeWidth))) (contentsFrom (now (file .entry)) row (now (title .entry)) (now (items .entry)) first (end - first)) inner) r ⌝ }
 {
     let f = frame_of(file, nodes, i, metadata, inner);
     let a = writer::put_number(out, to, f.size as u64);
@@ -397,7 +400,7 @@ fn put_titled(
 
 // Whether some node names a place of the file.
 pub fn refers_elsewhere(nodes: &[u64], count: usize) -> bool
-    requires { ⌜ count * 13 ≤ length (now nodes) ⌝ }
+    requires { ⌜ count * nodeWidth ≤ length (now nodes) ⌝ }
     ensures { λ r. ⌜ r ≡ elsewhere (nodesIn count (now (nodes .entry))) ⌝ }
 {
     let mut i: usize = 0;
@@ -416,8 +419,8 @@ pub fn refers_elsewhere(nodes: &[u64], count: usize) -> bool
 
 // Whether item row `row` is hidden or a version.
 pub fn is_no_title(items: &[u64], row: usize) -> bool
-    requires { ⌜ row * 10 + 10 ≤ length (now items) ⌝ }
-    ensures { λ r. ⌜ r ≡ isNoTitle (itemFrom (now (items .entry)) (row * 10)) ⌝ }
+    requires { ⌜ row * itemWidth + itemWidth ≤ length (now items) ⌝ }
+    ensures { λ r. ⌜ r ≡ isNoTitle (itemFrom (now (items .entry)) (row * itemWidth)) ⌝ }
 {
     let k = row * cursor::ITEM_WIDTH;
     if items[k + 7] % 2 == 1 {
@@ -428,7 +431,7 @@ pub fn is_no_title(items: &[u64], row: usize) -> bool
 
 // The first refusal that the rows give; 0 for none.
 fn refusal_of(nodes: &[u64], items: &[u64], count: usize, total: usize, row: usize) -> u64
-    requires { ⌜ (count * 13 ≤ length (now nodes)) × (total * 10 ≤ length (now items)) ⌝ }
+    requires { ⌜ (count * nodeWidth ≤ length (now nodes)) × (total * itemWidth ≤ length (now items)) ⌝ }
     ensures { λ r. ⌜ r ≡ refusalOf row (nodesIn count (now (nodes .entry))) (itemsIn total (now (items .entry))) ⌝ }
 {
     if total <= row {

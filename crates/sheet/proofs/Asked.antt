@@ -9,6 +9,7 @@ use borrow.Author.Tests.{le-leb, lt-leb}
 use Rattle.cursor.specs.declared.FilePlace.{FilePlace}
 use Rattle.cursor.specs.declared.Node.{Node}
 use Rattle.cursor.specs.declared.Item.{Item}
+use Rattle.metadata.specs.Tables.{itemWidth}
 use Rattle.tree.specs.Reading.{Reading, readOf, nodeTable, itemTable}
 use Rattle.tree.specs.Rows.{itemFrom, nodesIn, itemsIn, itemAt}
 use Rattle.room.specs.Room.{good, bad}
@@ -26,9 +27,9 @@ use Rattle.sheet.specs.declared.Written.the-variants as written
 use Rattle.room.proofs.Counting.{counts-as, wrote-all, wrote-past}
 
 -- the rows that stand in the table lie in the file
-pub items-inside : {f : List ℕ} {o : Reading} {s : Summary} {t u : List ℕ} → Standing f o s t u → (i : ℕ) → i < s .items → ItemInside (length f) (itemFrom u (i * 10))
+pub items-inside : {f : List ℕ} {o : Reading} {s : Summary} {t u : List ℕ} → Standing f o s t u → (i : ℕ) → i < s .items → ItemInside (length f) (itemFrom u (i * itemWidth))
 items-inside {f} {o} {s} {t} {u} st i l =
-    let e : itemAt (st .is) i ≡ itemFrom u (i * 10) = ap (λ (v : List Item). itemAt v i) (sym (st .items-are)) ∙ item-at u (s .items) i l in
+    let e : itemAt (st .is) i ≡ itemFrom u (i * itemWidth) = ap (λ (v : List Item). itemAt v i) (sym (st .items-are)) ∙ item-at u (s .items) i l in
     let n : length (st .is) ≡ s .items = sym (ap length (st .items-are)) ∙ items-in-length u (s .items) in
     subst (λ (r : Item). ItemInside (length f) r) e (st .sound .items-inside i (omega arith))
 

@@ -25,7 +25,7 @@ Agree f g at n = (k : ℕ) → at ≤ k → k < at + n → getD f k 0 ≡ getD g
 
 -- the files agree on a row's data where its format is even, and on its custom name
 abbrev pub Shown : List ℕ → List ℕ → Item → Type 0
-Shown f g r = (r .format % 2 ≡ 0 → Agree f g (r .place) (r .size)) × (r .kind ≡ 1 → Agree f g (r .field) (r .named))
+Shown f g r = (r .format % 2 ≡ 0 → Agree f g (r .place) (r .size)) × (r .kind ≡ 1 → Agree f g (r .field) (r .nameLength))
 
 part-same : (f g : List ℕ) → length f ≡ length g → (at n : ℕ) → Agree f g at n → part f at n ≡ part g at n
 part-same f g e at n h =
@@ -36,9 +36,9 @@ part-same f g e at n h =
 
 module _ (f g : List ℕ) (same : length f ≡ length g) (r : Item) (h : Shown f g r) where
   label-by : (b : Bool) → eqb (r .kind) 1 ≡ b
-      → choose b (tabbed (0x43 ∷ tabbed (escapedPart f (r .field) (r .named)))) (tabbed (0x53 ∷ number (r .field))) ≡ choose b (tabbed (0x43 ∷ tabbed (escapedPart g (r .field) (r .named)))) (tabbed (0x53 ∷ number (r .field)))
+      → choose b (tabbed (0x43 ∷ tabbed (escapedPart f (r .field) (r .nameLength)))) (tabbed (0x53 ∷ number (r .field))) ≡ choose b (tabbed (0x43 ∷ tabbed (escapedPart g (r .field) (r .nameLength)))) (tabbed (0x53 ∷ number (r .field)))
   unfolding escapedPart
-  label-by true e = ap (λ (t : List ℕ). tabbed (0x43 ∷ tabbed t)) (ap (bytesAll escaped) (part-same f g same (r .field) (r .named) (h .1 (eqb-true (r .kind) 1 e))))
+  label-by true e = ap (λ (t : List ℕ). tabbed (0x43 ∷ tabbed t)) (ap (bytesAll escaped) (part-same f g same (r .field) (r .nameLength) (h .1 (eqb-true (r .kind) 1 e))))
   label-by false e = refl
 
   label-same : label f r ≡ label g r

@@ -9,6 +9,7 @@ use lib.ListN.{length}
 use borrow.Author.Tests.{eq-eqb, ne-eqb}
 use Rattle.cursor.specs.declared.Node.{Node}
 use Rattle.cursor.specs.declared.Item.{Item}
+use Rattle.metadata.specs.Tables.{nodeWidth, itemWidth}
 use Rattle.tree.specs.Rows.{nodeFrom, itemFrom, nodesFrom, itemsFrom, nodesIn, itemsIn}
 use Rattle.tree.proofs.Rows.{nodes-in-length, items-in-length}
 use Rattle.tree.specs.Hidden.{isHidden}
@@ -54,14 +55,14 @@ unfolding linesOf
 lines-are v n m f ws us = rw (nodes-in-length ws n, items-in-length us m)
 
 -- a custom name lies in the file
-pub named-inside : {size : ℕ} (r : Item) → ItemInside size r → r .kind ≡ 1 → r .field + r .named ≤ size
+pub named-inside : {size : ℕ} (r : Item) → ItemInside size r → r .kind ≡ 1 → r .field + r .nameLength ≤ size
 named-inside r (a, inl e) k = absurd (omega arith)
 named-inside r (a, inr l) k = l
 
 -- ---- rows
 
 module _ (ws : List ℕ) (count : ℕ) where
-  pub nodes-on : (i : ℕ) → i < count → nodeLines i (nodesFrom i (count - i) ws) ≡ nodeLine i (nodeFrom ws (i * 13)) ++ nodeLines (i + 1) (nodesFrom (i + 1) (count - (i + 1)) ws)
+  pub nodes-on : (i : ℕ) → i < count → nodeLines i (nodesFrom i (count - i) ws) ≡ nodeLine i (nodeFrom ws (i * nodeWidth)) ++ nodeLines (i + 1) (nodesFrom (i + 1) (count - (i + 1)) ws)
   unfolding nodesFrom nodeLines
   nodes-on i l = let e : count - i ≡ suc (count - (i + 1)) = omega arith in rw e
 
@@ -74,7 +75,7 @@ module _ (ws : List ℕ) (count : ℕ) where
   nodes-start = let e : count - 0 ≡ count = omega arith in rw e
 
   module _ (f : List ℕ) where
-    pub items-on : (i : ℕ) → i < count → itemLines f (itemsFrom i (count - i) ws) ≡ visibleLine f (itemFrom ws (i * 10)) ++ itemLines f (itemsFrom (i + 1) (count - (i + 1)) ws)
+    pub items-on : (i : ℕ) → i < count → itemLines f (itemsFrom i (count - i) ws) ≡ visibleLine f (itemFrom ws (i * itemWidth)) ++ itemLines f (itemsFrom (i + 1) (count - (i + 1)) ws)
     unfolding itemsFrom itemLines
     items-on i l = let e : count - i ≡ suc (count - (i + 1)) = omega arith in rw e
 
@@ -87,7 +88,7 @@ module _ (ws : List ℕ) (count : ℕ) where
     items-start = let e : count - 0 ≡ count = omega arith in rw e
 
 module _ (f : List ℕ) (r : Item) where
-  pub label-custom : r .kind ≡ 1 → (0x09 ∷ []) ++ (0x43 ∷ []) ++ (0x09 ∷ []) ++ escapedPart f (r .field) (r .named) ≡ label f r
+  pub label-custom : r .kind ≡ 1 → (0x09 ∷ []) ++ (0x43 ∷ []) ++ (0x09 ∷ []) ++ escapedPart f (r .field) (r .nameLength) ≡ label f r
   unfolding label tabbed
   label-custom e = simp (eq-eqb (r .kind) 1 e)
 

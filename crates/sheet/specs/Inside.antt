@@ -10,7 +10,7 @@ use Rattle.cursor.specs.declared.Item.{Item}
 
 -- an item's data and custom name lie in a file of `size` bytes
 abbrev pub ItemInside : ℕ → Item → Type 0
-ItemInside size r = (r .place + r .size ≤ size) × ((r .kind ≡ 0) ⊎ (r .field + r .named ≤ size))
+ItemInside size r = (r .place + r .size ≤ size) × ((r .kind ≡ 0) ⊎ (r .field + r .nameLength ≤ size))
 
 -- the bytes of a file from `from` up to `at` stand for themselves
 pub record PlainUpTo (f : List ℕ) (from at : ℕ) : Type 0 where

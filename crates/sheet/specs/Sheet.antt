@@ -81,7 +81,7 @@ nodeLine k r = 0x4E ∷ number k ++ number (r .parent) ++ number (r .depth) ++ n
 
 -- `C` and the name of a custom field, or `S` and the number of a standard one
 unfoldable pub label : List ℕ → Item → List ℕ
-label f r = choose (eqb (r .kind) 1) (tabbed (0x43 ∷ tabbed (escapedPart f (r .field) (r .named)))) (tabbed (0x53 ∷ number (r .field)))
+label f r = choose (eqb (r .kind) 1) (tabbed (0x43 ∷ tabbed (escapedPart f (r .field) (r .nameLength)))) (tabbed (0x53 ∷ number (r .field)))
 
 -- the row's data: format 2 is UTF-16, every other format stands as its bytes
 unfoldable pub textOf : List ℕ → Item → List ℕ

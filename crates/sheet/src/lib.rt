@@ -4,6 +4,7 @@ ghost use mathlib.Core.Bool.{true};
 ghost use mathlib.Core.List.{[]};
 ghost use Prim.Native.Nat.{ℕ, _≤_, _<_, _*_, _+_, _-_};
 ghost use lib.ListN.{length};
+ghost use Rattle.metadata.specs.Tables.{nodeWidth, itemWidth};
 ghost use Rattle.tree.specs.Rows.{nodeFrom, itemFrom, nodesIn, itemsIn};
 ghost use Rattle.tree.specs.Asking.{answered, nodesLeft, itemsLeft};
 ghost use Rattle.sheet.specs.Sheet.{hexDigits, plain, hexed, escaped, escapedPart, shown, shownOr, unicodeText, number, versionText, firstLine, nodeLine, label, textOf, itemLine, visibleLine, nodeLines, itemLines, linesOf, write, counted, kept};
@@ -145,8 +146,8 @@ fn put_first(
 
 // Puts the line of node row i.
 fn put_node_line(out: &mut [u8], to: usize, nodes: &[u64], i: usize) -> usize
-    requires { ⌜ i * 13 + 13 ≤ length (now nodes) ⌝ }
-    ensures { λ r. ⌜ Counts (now (out .entry)) (now (out .exit)) to (nodeLine i (nodeFrom (now (nodes .entry)) (i * 13))) r ⌝ }
+    requires { ⌜ i * nodeWidth + nodeWidth ≤ length (now nodes) ⌝ }
+    ensures { λ r. ⌜ Counts (now (out .entry)) (now (out .exit)) to (nodeLine i (nodeFrom (now (nodes .entry)) (i * nodeWidth))) r ⌝ }
 {
     let k = i * cursor::NODE_WIDTH;
     let parent = nodes[k + 4];
@@ -166,7 +167,7 @@ fn put_node_line(out: &mut [u8], to: usize, nodes: &[u64], i: usize) -> usize
 
 // Puts the lines of the node rows.
 fn put_node_lines(out: &mut [u8], to: usize, nodes: &[u64], count: usize) -> usize
-    requires { ⌜ count * 13 ≤ length (now nodes) ⌝ }
+    requires { ⌜ count * nodeWidth ≤ length (now nodes) ⌝ }
     ensures { λ r. ⌜ Counts (now (out .entry)) (now (out .exit)) to (nodeLines 0 (nodesIn count (now (nodes .entry)))) r ⌝ }
 {
     let mut next = to;
@@ -180,7 +181,7 @@ fn put_node_lines(out: &mut [u8], to: usize, nodes: &[u64], count: usize) -> usi
 
 // Puts the field of the item row whose words begin at k: `C` and its name, or `S` and its number.
 fn put_label(out: &mut [u8], to: usize, file: &[u8], items: &[u64], k: usize) -> usize
-    requires { ⌜ (k + 10 ≤ length (now items)) × ItemInside (length (now file)) (itemFrom (now items) k) ⌝ }
+    requires { ⌜ (k + itemWidth ≤ length (now items)) × ItemInside (length (now file)) (itemFrom (now items) k) ⌝ }
     ensures { λ r. ⌜ Counts (now (out .entry)) (now (out .exit)) to (label (now (file .entry)) (itemFrom (now (items .entry)) k)) r ⌝ }
 {
     let a = room::put_byte(out, to, 0x09);
@@ -239,7 +240,7 @@ fn put_unicode(out: &mut [u8], to: usize, file: &[u8], from: usize, size: usize)
 
 // Puts the text of the item row whose words begin at k.
 pub fn put_text(out: &mut [u8], to: usize, file: &[u8], items: &[u64], k: usize) -> usize
-    requires { ⌜ (k + 10 ≤ length (now items)) × ItemInside (length (now file)) (itemFrom (now items) k) ⌝ }
+    requires { ⌜ (k + itemWidth ≤ length (now items)) × ItemInside (length (now file)) (itemFrom (now items) k) ⌝ }
     ensures { λ r. ⌜ Counts (now (out .entry)) (now (out .exit)) to (textOf (now (file .entry)) (itemFrom (now (items .entry)) k)) r ⌝ }
 {
     if items[k + 7] == 2 {
@@ -250,7 +251,7 @@ pub fn put_text(out: &mut [u8], to: usize, file: &[u8], items: &[u64], k: usize)
 
 // Puts the line of the item row whose words begin at k.
 pub fn put_item_line(out: &mut [u8], to: usize, file: &[u8], items: &[u64], k: usize) -> usize
-    requires { ⌜ (k + 10 ≤ length (now items)) × ItemInside (length (now file)) (itemFrom (now items) k) ⌝ }
+    requires { ⌜ (k + itemWidth ≤ length (now items)) × ItemInside (length (now file)) (itemFrom (now items) k) ⌝ }
     ensures { λ r. ⌜ Counts (now (out .entry)) (now (out .exit)) to (itemLine (now (file .entry)) (itemFrom (now (items .entry)) k)) r ⌝ }
 {
     let a = room::put_byte(out, to, b'M');
@@ -265,7 +266,7 @@ pub fn put_item_line(out: &mut [u8], to: usize, file: &[u8], items: &[u64], k: u
 
 // Puts the line of the item row whose words begin at k, if the row is visible.
 fn put_visible_line(out: &mut [u8], to: usize, file: &[u8], items: &[u64], k: usize) -> usize
-    requires { ⌜ (k + 10 ≤ length (now items)) × ItemInside (length (now file)) (itemFrom (now items) k) ⌝ }
+    requires { ⌜ (k + itemWidth ≤ length (now items)) × ItemInside (length (now file)) (itemFrom (now items) k) ⌝ }
     ensures { λ r. ⌜ Counts (now (out .entry)) (now (out .exit)) to (visibleLine (now (file .entry)) (itemFrom (now (items .entry)) k)) r ⌝ }
 {
     if items[k + 7] % 2 == 1 {
@@ -276,7 +277,7 @@ fn put_visible_line(out: &mut [u8], to: usize, file: &[u8], items: &[u64], k: us
 
 // Puts the lines of the visible item rows.
 fn put_item_lines(out: &mut [u8], to: usize, file: &[u8], items: &[u64], count: usize) -> usize
-    requires { ⌜ (count * 10 ≤ length (now items)) × ((i : ℕ) → i < count → ItemInside (length (now file)) (itemFrom (now items) (i * 10))) ⌝ }
+    requires { ⌜ (count * itemWidth ≤ length (now items)) × ((i : ℕ) → i < count → ItemInside (length (now file)) (itemFrom (now items) (i * itemWidth))) ⌝ }
     ensures { λ r. ⌜ Counts (now (out .entry)) (now (out .exit)) to (itemLines (now (file .entry)) (itemsIn count (now (items .entry)))) r ⌝ }
 {
     let mut next = to;
@@ -298,7 +299,7 @@ fn put_sheet(
     rows: usize,
     contents: usize,
 ) -> usize
-    requires { ⌜ (rows * 13 ≤ length (now nodes)) × (contents * 10 ≤ length (now items)) × ((i : ℕ) → i < contents → ItemInside (length (now file)) (itemFrom (now items) (i * 10))) ⌝ }
+    requires { ⌜ (rows * nodeWidth ≤ length (now nodes)) × (contents * itemWidth ≤ length (now items)) × ((i : ℕ) → i < contents → ItemInside (length (now file)) (itemFrom (now items) (i * itemWidth))) ⌝ }
     ensures { λ r. ⌜ Counts (now (out .entry)) (now (out .exit)) 0 (linesOf version (now (file .entry)) (nodesIn rows (now (nodes .entry))) (itemsIn contents (now (items .entry)))) r ⌝ }
 {
     let one = put_first(out, 0, version, file.len(), rows, contents);

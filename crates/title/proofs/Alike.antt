@@ -419,9 +419,9 @@ abbrev pub Shapes : Shape → Shape → Type 0
 Shapes r s = ShapePair (λ _ _. Unit {0}) r s × (r .unpackers ≡ s .unpackers)
 
 module _ (g k : List ℕ) (big : length g < 2 ^ 28) where
-  reference-runs : (first size held stop q : ℕ) {r s : Shape} → Shapes r s → (r .reference ≡ 1) ⊎ ((r .reference ≡ 4) × (held ≡ 0)) → Lies g q (ownText r) → Lies k q (ownText s) → q + length (ownText r) ≤ stop → Runs g k (reference first size held stop) q
+  reference-runs : (headerEnd size contained stop q : ℕ) {r s : Shape} → Shapes r s → (r .reference ≡ 1) ⊎ ((r .reference ≡ 4) × (contained ≡ 0)) → Lies g q (ownText r) → Lies k q (ownText s) → q + length (ownText r) ≤ stop → Runs g k (reference headerEnd size contained stop) q
   unfolding reference target uriPlace
-  reference-runs first size held stop q {r} {s} w (inl e) h h₂ i =
+  reference-runs headerEnd size contained stop q {r} {s} w (inl e) h h₂ i =
       let t = own-inline r e in
       let a = stand (vlq 1 ∷ r .body ∷ []) (lies-as t h) in
       let b = stand (vlq 1 ∷ s .body ∷ []) (lies-as (own-inline s (sym (w .0 .reference) ∙ e)) h₂) in
@@ -429,7 +429,7 @@ module _ (g k : List ℕ) (big : length g < 2 ^ 28) where
       let y = ap length t in
       let e₁ = number-back referenceFrame 3 stop 1 (a .0) (omega arith) (omega arith) in
       runs-place _ q (runs-then _ e₁ (number-runs referenceFrame 3 stop 1 (a .0) (b .0) (omega arith) (omega arith)) (runs-check _ _ _ (runs-check _ _ _ (runs-check _ _ _ (runs-if _ refl (runs-place _ _ runs-ret))))))
-  reference-runs first size held stop q {r} {s} w (inr (e, f)) h h₂ i =
+  reference-runs headerEnd size contained stop q {r} {s} w (inr (e, f)) h h₂ i =
       let n : ℕ = length (r .body) in
       let t = own-uri r e in
       let a = stand (vlq 4 ∷ sized (r .body) ∷ []) (lies-as t h) in
@@ -446,42 +446,42 @@ module _ (g k : List ℕ) (big : length g < 2 ^ 28) where
       (runs-then _ e₂ (block-runs referenceFrame 3 stop n (u .0) m (omega (arith, h .inside)) (omega arith)) (runs-place _ _ (runs-skip _ _ runs-ret))))))))))
 
   front-runs : (x : Context) (parent depth least end : ℕ) (m : Made) (r s : Shape) (cs ds : List Content) (n p : ℕ) → Front (x .limits) (x .types) parent depth m r cs → Stays r → Shapes r s → Each Pair cs ds
-      → headerOf (r .held) (joined (sized (itemsText cs) ∷ sized (r .unpackers) ∷ [])) (length (ownText r) + n) + (length (ownText r) + n) < 2 ^ 28
-      → Lies g p (nodeText r cs n) → Lies k p (nodeText s ds n) → p + (headerOf (r .held) (joined (sized (itemsText cs) ∷ sized (r .unpackers) ∷ [])) (length (ownText r) + n) + (length (ownText r) + n)) ≤ end
-      → least ≤ p + (headerOf (r .held) (joined (sized (itemsText cs) ∷ sized (r .unpackers) ∷ [])) (length (ownText r) + n) + (length (ownText r) + n)) → Runs g k (front x parent depth (inTree least end) m) p
+      → headerOf (r .contained) (joined (sized (itemsText cs) ∷ sized (r .unpackers) ∷ [])) (length (ownText r) + n) + (length (ownText r) + n) < 2 ^ 28
+      → Lies g p (nodeText r cs n) → Lies k p (nodeText s ds n) → p + (headerOf (r .contained) (joined (sized (itemsText cs) ∷ sized (r .unpackers) ∷ [])) (length (ownText r) + n) + (length (ownText r) + n)) ≤ end
+      → least ≤ p + (headerOf (r .contained) (joined (sized (itemsText cs) ∷ sized (r .unpackers) ∷ [])) (length (ownText r) + n) + (length (ownText r) + n)) → Runs g k (front x parent depth (inTree least end) m) p
   unfolding front nodeText framed rest
   front-runs x parent depth least end m r s cs ds n p f stays w ws small h h₂ i j =
       let rest : List ℕ = joined (sized (itemsText cs) ∷ sized (r .unpackers) ∷ []) in
       let rest₂ : List ℕ = joined (sized (itemsText ds) ∷ sized (s .unpackers) ∷ []) in
       let c : ℕ = length (ownText r) + n in
-      let H : ℕ = headerOf (r .held) rest c in
+      let H : ℕ = headerOf (r .contained) rest c in
       let N : ℕ = H + c in
-      let ps : List (List ℕ) = vlq N ∷ vlq (r .held) ∷ vlq H ∷ rest ∷ ownText r ∷ [] in
+      let ps : List (List ℕ) = vlq N ∷ vlq (r .contained) ∷ vlq H ∷ rest ∷ ownText r ∷ [] in
       let a = stand ps h in
       let t = stand (sized (itemsText cs) ∷ sized (r .unpackers) ∷ []) (a .1 .1 .1 .0) in
       let own-long = each-length (own-pair (λ _. tt) (w .0)) in
       let ip = items-pair (λ _. tt) ws in
       let rp : Each (λ _ _. Unit {0}) rest rest₂ = fields (λ _. tt) (more (block (λ _. tt) ip) (more (block (λ _. tt) (w .0 .unpackers)) none)) in
       let ec : c ≡ length (ownText s) + n = ap (λ v. v + n) own-long in
-      let eH : H ≡ headerOf (s .held) rest₂ (length (ownText s) + n) = header-pair (λ _. tt) (w .0 .held) rp ec in
+      let eH : H ≡ headerOf (s .contained) rest₂ (length (ownText s) + n) = header-pair (λ _. tt) (w .0 .contained) rp ec in
       let eN = ap₂ _+_ eH ec in
       let c₂ : ℕ = length (ownText s) + n in
-      let a₂ = stand (vlq (headerOf (s .held) rest₂ c₂ + c₂) ∷ vlq (s .held) ∷ vlq (headerOf (s .held) rest₂ c₂) ∷ rest₂ ∷ ownText s ∷ []) h₂ in
+      let a₂ = stand (vlq (headerOf (s .contained) rest₂ c₂ + c₂) ∷ vlq (s .contained) ∷ vlq (headerOf (s .contained) rest₂ c₂) ∷ rest₂ ∷ ownText s ∷ []) h₂ in
       let t₂ = stand (sized (itemsText ds) ∷ sized (s .unpackers) ∷ []) (a₂ .1 .1 .1 .0) in
       let lN = ap (λ v. length (vlq v)) eN in
-      let lh = ap (λ v. length (vlq v)) (w .0 .held) in
+      let lh = ap (λ v. length (vlq v)) (w .0 .contained) in
       let lH = ap (λ v. length (vlq v)) eH in
       let k₁ : Lies k p (vlq N) = lies-as (ap vlq (sym eN)) (a₂ .0) in
-      let k₂ : Lies k (p + length (vlq N)) (vlq (r .held)) = lies-at (omega arith) (lies-as (ap vlq (sym (w .0 .held))) (a₂ .1 .0)) in
-      let k₃ : Lies k (p + length (vlq N) + length (vlq (r .held))) (vlq H) = lies-at (omega arith) (lies-as (ap vlq (sym eH)) (a₂ .1 .1 .0)) in
-      let q : ℕ = p + length (vlq N) + length (vlq (r .held)) + length (vlq H) in
-      let fl = framed-length (r .held) rest (ownText r) n small in
-      let fh = framed-header (r .held) rest c small in
+      let k₂ : Lies k (p + length (vlq N)) (vlq (r .contained)) = lies-at (omega arith) (lies-as (ap vlq (sym (w .0 .contained))) (a₂ .1 .0)) in
+      let k₃ : Lies k (p + length (vlq N) + length (vlq (r .contained))) (vlq H) = lies-at (omega arith) (lies-as (ap vlq (sym eH)) (a₂ .1 .1 .0)) in
+      let q : ℕ = p + length (vlq N) + length (vlq (r .contained)) + length (vlq H) in
+      let fl = framed-length (r .contained) rest (ownText r) n small in
+      let fh = framed-header (r .contained) rest c small in
       let z = joined-length (sized (itemsText cs) ∷ sized (r .unpackers) ∷ []) in
       let si = each-length (block (λ _. tt) ip) in
       let su = sized-length (r .unpackers) in
-      let e₁ = head-back end least g p (r .held) rest (ownText r) n (f .few) small h (omega arith) (omega arith) in
-      let chunk : (j : ℕ) → p ≤ j → j < q → getD g j 0 ≡ getD k j 0 = agree-on g k (agree-on g k (agree p (vlq N) (a .0) k₁) (agree (p + length (vlq N)) (vlq (r .held)) (a .1 .0) k₂)) (agree (p + length (vlq N) + length (vlq (r .held))) (vlq H) (a .1 .1 .0) k₃) in
+      let e₁ = head-back end least g p (r .contained) rest (ownText r) n (f .few) small h (omega arith) (omega arith) in
+      let chunk : (j : ℕ) → p ≤ j → j < q → getD g j 0 ≡ getD k j 0 = agree-on g k (agree-on g k (agree p (vlq N) (a .0) k₁) (agree (p + length (vlq N)) (vlq (r .contained)) (a .1 .0) k₂)) (agree (p + length (vlq N) + length (vlq (r .contained))) (vlq H) (a .1 .1 .0) k₃) in
       let e₂ = ran (collect g) _ g q (record { nodes = []; items = [] }) (meta-back x (m .nodes) (p + H) g big (f .entries) cs (f .contents) m q (record { nodes = []; items = [] }) (t .0) (omega arith) (f .item-room)) in
       let (dss, dq, dw) = regroup (f .groups) (subst (λ v. Each Pair v ds) (sym (f .contents)) ws) in
       let it : itemsText cs ≡ joined (entryTexts (f .groups)) = ap itemsText (sym (f .contents)) ∙ items-text (f .entries) in
@@ -493,13 +493,13 @@ module _ (g k : List ℕ) (big : length g < 2 ^ 28) where
       let mr = metadata-runs g k big x (m .nodes) (p + H) dw (f .entries) m q (lies-as (ap sized it) (t .0)) (lies-as (ap sized it₂) m₂) (omega arith) (omega arith) in
       let b : ℕ = q + length (sized (itemsText cs)) in
       let i₃ : b + length (sized (r .unpackers)) ≡ p + H = omega arith in
-      let e₃ = packs-back g big (r .held) (p + H) b (f .unpackers) (r .unpackers) (r .layers) (f .packed) (f .layers) (f .unpacked) (t .1 .0) i₃ in
+      let e₃ = packs-back g big (r .contained) (p + H) b (f .unpackers) (r .unpackers) (r .unpackerCount) (f .packed) (f .unpackerCount) (f .unpacked) (t .1 .0) i₃ in
       let u₂ : Lies k b (sized (r .unpackers)) = lies-at (omega arith) (lies-as (ap sized (sym (w .1))) (t₂ .1 .0)) in
       let ur = runs-chunk e₃ (λ v lo hi. agree b (sized (r .unpackers)) (t .1 .0) u₂ v lo (omega arith)) in
       let o₁ : Lies g (p + H) (ownText r) = lies-at (omega arith) (a .1 .1 .1 .1 .0) in
       let rl = each-length rp in
       let o₂ : Lies k (p + H) (ownText s) = lies-at (omega arith) (a₂ .1 .1 .1 .1 .0) in
-      let rr = reference-runs (x .first) (x .size) (r .held) (p + N) (p + H) w (f .refers stays) o₁ o₂ (omega arith) in
+      let rr = reference-runs (x .headerEnd) (x .size) (r .contained) (p + N) (p + H) w (f .refers stays) o₁ o₂ (omega arith) in
       runs-place _ p (runs-then _ e₁ (runs-chunk e₁ chunk) (runs-then _ e₂ mr
       (runs-on (runs-then _ e₃ ur (runs-place _ (p + H) (runs-check _ _ _ (runs-on rr (λ a q. runs-ret))))) (λ a q. runs-ret))))
 
@@ -517,18 +517,18 @@ rest-outer (nodes.more {n = n} {r = r} {rs = rs} {ss = ts} {cs = cs} {ds = ds} {
     let dv : drop (s .rows) cs₂ ≡ v = ap (drop (s .rows)) e ∙ drop-at u v (s .rows) n₁ in
     let (rs₃, cs₃, p, q, z) = rest-outer ys (ts ++ ss) (fs ++ es) (rw (append-assoc rs ts ss) at ws) b in
     let (rs₄, cs₄, p₂, q₂, z₂) = rest-outer xs ss es p q in
-    (rs₄, cs₄, p₂, q₂, ap (λ c. drop n (drop (s .held) (outer rs₂ c))) dv ∙ ap (λ c. drop n (drop c (outer rs₂ v))) (sym (w .0 .held)) ∙ ap (drop n) z ∙ z₂)
+    (rs₄, cs₄, p₂, q₂, ap (λ c. drop n (drop (s .contained) (outer rs₂ c))) dv ∙ ap (λ c. drop n (drop c (outer rs₂ v))) (sym (w .0 .contained)) ∙ ap (drop n) z ∙ z₂)
 
 -- the first of the other side
 first-outer : (s : Shape) (rs₂ : List Shape) (cs₂ u v : List Content) (n : ℕ) → cs₂ ≡ u ++ v → length u ≡ s .rows
-    → take (suc n) (outer (s ∷ rs₂) cs₂) ≡ wholeText s u (joined (take (s .held) (outer rs₂ v))) ∷ take n (drop (s .held) (outer rs₂ v))
+    → take (suc n) (outer (s ∷ rs₂) cs₂) ≡ wholeText s u (joined (take (s .contained) (outer rs₂ v))) ∷ take n (drop (s .contained) (outer rs₂ v))
 unfolding outer
 first-outer s rs₂ cs₂ u v n e l = rw (e, take-at u v (s .rows) l, drop-at u v (s .rows) l) refl
 
-outer-first : (s : Shape) (rs₂ : List Shape) (cs₂ u v : List Content) (held : ℕ) → cs₂ ≡ u ++ v → length u ≡ s .rows → s .held ≡ held
-    → joined (outer (s ∷ rs₂) cs₂) ≡ wholeText s u (joined (take held (outer rs₂ v))) ++ joined (drop held (outer rs₂ v))
+outer-first : (s : Shape) (rs₂ : List Shape) (cs₂ u v : List Content) (contained : ℕ) → cs₂ ≡ u ++ v → length u ≡ s .rows → s .contained ≡ contained
+    → joined (outer (s ∷ rs₂) cs₂) ≡ wholeText s u (joined (take contained (outer rs₂ v))) ++ joined (drop contained (outer rs₂ v))
 unfolding outer
-outer-first s rs₂ cs₂ u v held e l z = rw (e, take-at u v (s .rows) l, drop-at u v (s .rows) l, z) refl
+outer-first s rs₂ cs₂ u v contained e l z = rw (e, take-at u v (s .rows) l, drop-at u v (s .rows) l, z) refl
 
 -- as many bytes
 inner-long : {limits : Limits} {types : List Declared} {d parent n : ℕ} {m : Made} {rs : List Shape} {cs : List Content} {bs : List (List ℕ)} → Nodes limits types d parent m n rs cs bs → (ss : List Shape) (es : List Content) {rs₂ : List Shape} {cs₂ : List Content}
@@ -538,14 +538,14 @@ inner-long {n = n} {rs = rs} {cs = cs} {bs = bs} ns ss es {rs₂} {cs₂} x y =
     let e : take n (outer (rs ++ ss) (cs ++ es)) ≡ bs = ap (take n) (nodes-outer ns ss es) ∙ take-at bs (outer ss es) n (nodes-length ns) in
     sym (each-length (fields (λ _. tt) (subst (λ v. Each (Each (λ _ _. Unit {0})) v (take n (outer rs₂ cs₂))) e (each-take n o))))
 
-most : (r : Shape) (cs : List Content) (n : ℕ) → headerOf (r .held) (joined (sized (itemsText cs) ∷ sized (r .unpackers) ∷ [])) (length (ownText r) + n) + (length (ownText r) + n) ≤ length (nodeText r cs n) + n
+most : (r : Shape) (cs : List Content) (n : ℕ) → headerOf (r .contained) (joined (sized (itemsText cs) ∷ sized (r .unpackers) ∷ [])) (length (ownText r) + n) + (length (ownText r) + n) ≤ length (nodeText r cs n) + n
 unfolding nodeText
-most r cs n = framed-most (r .held) (joined (sized (itemsText cs) ∷ sized (r .unpackers) ∷ [])) (ownText r) n
+most r cs n = framed-most (r .contained) (joined (sized (itemsText cs) ∷ sized (r .unpackers) ∷ [])) (ownText r) n
 
-exact : (r : Shape) (cs : List Content) (n : ℕ) → headerOf (r .held) (joined (sized (itemsText cs) ∷ sized (r .unpackers) ∷ [])) (length (ownText r) + n) + (length (ownText r) + n) < 2 ^ 28
-    → length (nodeText r cs n) + n ≡ headerOf (r .held) (joined (sized (itemsText cs) ∷ sized (r .unpackers) ∷ [])) (length (ownText r) + n) + (length (ownText r) + n)
+exact : (r : Shape) (cs : List Content) (n : ℕ) → headerOf (r .contained) (joined (sized (itemsText cs) ∷ sized (r .unpackers) ∷ [])) (length (ownText r) + n) + (length (ownText r) + n) < 2 ^ 28
+    → length (nodeText r cs n) + n ≡ headerOf (r .contained) (joined (sized (itemsText cs) ∷ sized (r .unpackers) ∷ [])) (length (ownText r) + n) + (length (ownText r) + n)
 unfolding nodeText
-exact r cs n h = framed-length (r .held) (joined (sized (itemsText cs) ∷ sized (r .unpackers) ∷ [])) (ownText r) n h
+exact r cs n h = framed-length (r .contained) (joined (sized (itemsText cs) ∷ sized (r .unpackers) ∷ [])) (ownText r) n h
 
 node-lies : {g : List ℕ} {p : ℕ} (r : Shape) (cs : List Content) (inner : List ℕ) → Lies g p (wholeText r cs inner) → Lies g p (nodeText r cs (length inner))
 unfolding wholeText
@@ -553,9 +553,9 @@ node-lies r cs inner h = lies-left (nodeText r cs (length inner)) inner h
 
 module _ (g k : List ℕ) (big : length g < 2 ^ 28) (x : Context) where
   -- a node, where what it holds runs alike
-  node-runs : (d parent least end : ℕ) (m : Made) (p : ℕ) {r s : Shape} {cs ds : List Content} (inner inner₂ : List ℕ) → Front (x .limits) (x .types) parent (16 - d) m r cs → Stays r → Shapes r s → Each Pair cs ds → ((r .held ≡ 0) → length inner ≡ 0)
+  node-runs : (d parent least end : ℕ) (m : Made) (p : ℕ) {r s : Shape} {cs ds : List Content} (inner inner₂ : List ℕ) → Front (x .limits) (x .types) parent (16 - d) m r cs → Stays r → Shapes r s → Each Pair cs ds → ((r .contained ≡ 0) → length inner ≡ 0)
       → length inner₂ ≡ length inner → Lies g p (wholeText r cs inner) → Lies k p (wholeText s ds inner₂) → p + length (wholeText r cs inner) ≤ end → least ≤ p + length (wholeText r cs inner)
-      → Runs g k (times (r .held) (node d x (m .nodes) (inTree 0 (p + length (wholeText r cs inner)))) (plusNode (plusItems (length cs) m))) (p + length (nodeText r cs (length inner)))
+      → Runs g k (times (r .contained) (node d x (m .nodes) (inTree 0 (p + length (wholeText r cs inner)))) (plusNode (plusItems (length cs) m))) (p + length (nodeText r cs (length inner)))
       → Runs g k (node (suc d) x parent (inTree least end) m) p
   unfolding node folder
   node-runs d parent least end m p {r} {s} {cs} {ds} inner inner₂ f stays w ws alone long h h₂ i j c =
@@ -569,7 +569,7 @@ module _ (g k : List ℕ) (big : length g < 2 ^ 28) (x : Context) where
       let l₂ : Lies k p (nodeText s ds n) = lies-as (ap (nodeText s ds) long) (node-lies s ds inner₂ h₂) in
       let fr = front-runs g k big x parent (16 - d) least end m r s cs ds n p f stays w ws (omega arith) l₁ l₂ (omega arith) (omega arith) in
       let e = ran (collect g) _ g p (record { nodes = []; items = [] }) (b .ran) in
-      let cr : Runs g k (times (b .is .row .held) (node d x (m .nodes) (inTree 0 (p + b .is .row .size))) (plusNode (b .is .made))) (b .next + inlineSize (b .is .row)) = rw (b .past, b .held, b .size, b .made) c in
+      let cr : Runs g k (times (b .is .row .contained) (node d x (m .nodes) (inTree 0 (p + b .is .row .size))) (plusNode (b .is .made))) (b .next + inlineSize (b .is .row)) = rw (b .past, b .contained, b .size, b .made) c in
       runs-place _ p (runs-check _ _ _ (runs-then _ e fr (runs-skip _ _ (runs-on cr (λ m q. runs-place _ q (runs-check _ _ _ runs-ret))))))
 
   nodes-runs : {d parent n : ℕ} {m : Made} {rs : List Shape} {cs : List Content} {bs : List (List ℕ)} → Nodes (x .limits) (x .types) d parent m n rs cs bs → AllStay rs → (ss : List Shape) (es : List Content) {rs₂ : List Shape} {cs₂ : List Content}
@@ -584,18 +584,18 @@ module _ (g k : List ℕ) (big : length g < 2 ^ 28) (x : Context) where
       let fo = first-outer s rs₂ cs₂ u v n e n₁ in
       let ws′ : Each Shapes (rs ++ (ts ++ ss)) rs₂ = rw (append-assoc rs ts ss) at ws in
       let (rs₃, cs₃, p₃, q₃, z₃) = rest-outer ys (ts ++ ss) (fs ++ es) ws′ b in
-      let hl : r .held ≡ s .held = w .0 .held in
-      let inner₂ : List ℕ = joined (take (r .held) O) in
+      let hl : r .contained ≡ s .contained = w .0 .contained in
+      let inner₂ : List ℕ = joined (take (r .contained) O) in
       let il = inner-long ys (ts ++ ss) (fs ++ es) ws′ b in
       let t : List ℕ = wholeText r cs (joined inner) in
       let t₂ : List ℕ = wholeText s u inner₂ in
-      let k₁ : Lies k p (t₂ ++ joined (take n (drop (r .held) O))) = lies-as (ap joined fo ∙ ap (λ j. wholeText s u (joined (take j O)) ++ joined (take n (drop j O))) (sym hl)) h₂ in
+      let k₁ : Lies k p (t₂ ++ joined (take n (drop (r .contained) O))) = lies-as (ap joined fo ∙ ap (λ j. wholeText s u (joined (take j O)) ++ joined (take n (drop j O))) (sym hl)) h₂ in
       let lt = whole-length r cs (joined inner) in
       let lt₂ = whole-length s u inner₂ in
       let np = each-length (node-pair (λ _. tt) (w .0) a (sym il)) in
       let z = length-append t (joined bs) in
       let g₁ = lies-left t (joined bs) h in
-      let k₂ = lies-left t₂ (joined (take n (drop (r .held) O))) k₁ in
+      let k₂ = lies-left t₂ (joined (take n (drop (r .contained) O))) k₁ in
       let q : ℕ = p + length (nodeText r cs (length (joined inner))) in
       let al = nodes.alone ys in
       let gi = inner-lies r cs (joined inner) g₁ in
@@ -606,7 +606,7 @@ module _ (g k : List ℕ) (big : length g < 2 ^ 28) (x : Context) where
       let fb = front-back x g big parent (16 - d) 0 end m r cs (joined inner) p σ f (stay .0) al g₁ (omega arith) (omega arith) in
       let cb = nodes-back x g big ys (stay-left rs ts (stay .1)) (p + length t) q (record { nodes = r ∷ []; items = cs }) gi (omega arith) in
       let e₁ = ran (collect g) _ g p σ (node-back x g d parent 0 end m p σ rs ds inner (f .node-room) fb cb) in
-      let k₃ : Lies k (p + length t) (joined (take n (outer rs₃ cs₃))) = lies-as (ap (λ j. joined (take n j)) z₃) (lies-at (omega arith) (lies-right t₂ (joined (take n (drop (r .held) O))) k₁)) in
+      let k₃ : Lies k (p + length t) (joined (take n (outer rs₃ cs₃))) = lies-as (ap (λ j. joined (take n j)) z₃) (lies-at (omega arith) (lies-right t₂ (joined (take n (drop (r .contained) O))) k₁)) in
       runs-then _ e₁ nr (nodes-runs xs (stay-right rs ts (stay .1)) ss es p₃ q₃ end (p + length t) (lies-right t (joined bs) h) k₃ (omega arith))
 
   -- the tree
@@ -618,12 +618,12 @@ module _ (g k : List ℕ) (big : length g < 2 ^ 28) (x : Context) where
       let (u, v, e, a, b) = each-split cs (ds ++ []) y′ in
       let n₁ : length u ≡ s .rows = sym (each-length a) ∙ f .counted ∙ w .0 .rows in
       let O : List (List ℕ) = outer rs₃ v in
-      let hl : r .held ≡ s .held = w .0 .held in
-      let inner₂ : List ℕ = joined (take (r .held) O) in
+      let hl : r .contained ≡ s .contained = w .0 .contained in
+      let inner₂ : List ℕ = joined (take (r .contained) O) in
       let il = inner-long ys [] [] ws b in
       let t : List ℕ = wholeText r cs (joined inner) in
       let t₂ : List ℕ = wholeText s u inner₂ in
-      let k₂ : Lies k p t₂ = lies-left t₂ _ (lies-as (outer-first s rs₃ cs₂ u v (r .held) e n₁ (sym hl)) h₂) in
+      let k₂ : Lies k p t₂ = lies-left t₂ _ (lies-as (outer-first s rs₃ cs₂ u v (r .contained) e n₁ (sym hl)) h₂) in
       let lt = whole-length r cs (joined inner) in
       let lt₂ = whole-length s u inner₂ in
       let np = each-length (node-pair (λ _. tt) (w .0) a (sym il)) in

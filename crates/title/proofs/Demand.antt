@@ -59,7 +59,7 @@ module _ (f k : List ℕ) (long : length f ≡ length k) where
 
   content-pair : (r : Item) → ContentPair (Copied f k) (content f r) (content k r)
   unfolding content
-  content-pair r = record { node = refl; item = refl; kind = refl; field = refl; name = parts (r .field) (r .named); version = refl; declared = refl; format = refl; bytes = parts (r .place) (r .size) }
+  content-pair r = record { node = refl; item = refl; kind = refl; field = refl; name = parts (r .field) (r .nameLength); version = refl; declared = refl; format = refl; bytes = parts (r .place) (r .size) }
 
   contents-pair : (is : List Item) → Each (ContentPair (Copied f k)) (map (content f) is) (map (content k) is)
   contents-pair [] = none
@@ -71,7 +71,7 @@ module _ (f k : List ℕ) (long : length f ≡ length k) where
 
   shape-pair : (r : Node) → Same f k long r → ShapePair (Copied f k) (shape f r) (shape k r)
   unfolding shape
-  shape-pair r s = record { held = refl; reference = refl; unpackers = subst (Each (Copied f k) _) s (each-same same _); rows = refl; body = body-pair (eqb (r .held) 0) (r .target) (r .extent) }
+  shape-pair r s = record { contained = refl; reference = refl; unpackers = subst (Each (Copied f k) _) s (each-same same _); rows = refl; body = body-pair (eqb (r .contained) 0) (r .target) (r .extent) }
 
   shapes-pair : (ns : List Node) → AllSame f k long ns → Each (ShapePair (Copied f k)) (map (shape f) ns) (map (shape k) ns)
   shapes-pair [] a = none
@@ -132,7 +132,7 @@ module _ (lim : Limits) (f k : List ℕ) {h : Header} {ns : List Node} {is : Lis
   all-shapes [] a = none
   all-shapes (r ∷ ms) a =
       let w = shape-pair f k (differ .same-length) r (a .0) in
-      more (record { held = w .held; reference = w .reference; unpackers = loosely (w .unpackers); rows = w .rows; body = loosely (w .body) }, a .0) (all-shapes ms (a .1))
+      more (record { contained = w .contained; reference = w .reference; unpackers = loosely (w .unpackers); rows = w .rows; body = loosely (w .body) }, a .0) (all-shapes ms (a .1))
 
   -- and read the same: the tables agree
   pub titles-read : length (titledFile i text f h ns is) < 2 ^ 28 → readFile lim (titledFile i text k h ns is) ≡ readFile lim (titledFile i text f h ns is)

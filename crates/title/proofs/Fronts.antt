@@ -50,9 +50,9 @@ pub own-uri : (r : Shape) → r .reference ≡ 4 → ownText r ≡ joined (vlq 4
 unfolding ownText
 own-uri r e = ap (λ v. joined (vlq v ∷ choose (eqb v 4) (sized (r .body)) (r .body) ∷ [])) e
 
-module _ (g : List ℕ) (big : length g < 2 ^ 28) (first size held stop q : ℕ) (r : Shape) where
+module _ (g : List ℕ) (big : length g < 2 ^ 28) (headerEnd size contained stop q : ℕ) (r : Shape) where
   inline-run : r .reference ≡ 1 → Lies g q (ownText r) → q + length (ownText r) ≤ stop
-      → run (reference first size held stop) g q ≡ ok (record { kind = 1; target = q + length (vlq 1); extent = stop - (q + length (vlq 1)) }) (q + length (vlq 1))
+      → run (reference headerEnd size contained stop) g q ≡ ok (record { kind = 1; target = q + length (vlq 1); extent = stop - (q + length (vlq 1)) }) (q + length (vlq 1))
   unfolding reference target
   inline-run e h i =
       let ss : List (List ℕ) = vlq 1 ∷ r .body ∷ [] in
@@ -61,10 +61,10 @@ module _ (g : List ℕ) (big : length g < 2 ^ 28) (first size held stop q : ℕ)
       let z = joined-length ss in
       let w = ap length t in
       let e₁ = number-back referenceFrame 3 stop 1 (s .0) (omega arith) (omega arith) in
-      simp (running, e₁, or-true (eqb held 0))
+      simp (running, e₁, or-true (eqb contained 0))
 
-  uri-run : r .reference ≡ 4 → held ≡ 0 → Lies g q (ownText r) → q + length (ownText r) ≤ stop
-      → run (reference first size held stop) g q ≡ ok (record { kind = 4; target = q + length (vlq 4) + length (vlq (length (r .body))); extent = length (r .body) }) (q + length (ownText r))
+  uri-run : r .reference ≡ 4 → contained ≡ 0 → Lies g q (ownText r) → q + length (ownText r) ≤ stop
+      → run (reference headerEnd size contained stop) g q ≡ ok (record { kind = 4; target = q + length (vlq 4) + length (vlq (length (r .body))); extent = length (r .body) }) (q + length (ownText r))
   unfolding reference target uriPlace
   uri-run e f h i =
       let n : ℕ = length (r .body) in
@@ -94,31 +94,31 @@ pub record Front (limits : Limits) (types : List Declared) (parent depth : ℕ) 
   pub packs : List (List ℕ)
   pub unpackers : Unpackers packs
   pub packed : joined packs ≡ r .unpackers
-  pub layers : length packs ≡ r .layers
+  pub unpackerCount : length packs ≡ r .unpackerCount
   pub parent-is : parent ≡ r .parent
   pub depth-is : depth ≡ r .depth
   pub in-tree : 0 ≡ r .detached
   pub counted : length cs ≡ r .rows
-  pub few : r .held < 2 ^ 28
+  pub few : r .contained < 2 ^ 28
   pub node-room : m .nodes < limits .nodes
   pub item-room : m .items + length cs ≤ limits .items
-  pub refers : Stays r → (r .reference ≡ 1) ⊎ ((r .reference ≡ 4) × (r .held ≡ 0))
-  pub unpacked : (r .held ≡ 0) ⊎ (length (r .unpackers) ≡ 0)
-  pub empty : ((r .held ≡ 0) → ⊥) → r .body ≡ []
+  pub refers : Stays r → (r .reference ≡ 1) ⊎ ((r .reference ≡ 4) × (r .contained ≡ 0))
+  pub unpacked : (r .contained ≡ 0) ⊎ (length (r .unpackers) ≡ 0)
+  pub empty : ((r .contained ≡ 0) → ⊥) → r .body ≡ []
 
 -- ---- up to the reference
 
 exec-head : (g : List ℕ) (s : Standing) (f : List ℕ) (at : ℕ) (σ : Collected) → exec (collect g) (node.head s) f at σ ≡ still (run (node.head s) f at) σ
 exec-head g s = head-quiet (collect-ignores _ g) s .quiet
 
-exec-rest : (g : List ℕ) (first size held inner stop : ℕ) (f : List ℕ) (at : ℕ) (σ : Collected) → exec (collect g) (rest first size held inner stop) f at σ ≡ still (run (rest first size held inner stop) f at) σ
-exec-rest g first size held inner stop = rest-quiet (collect-ignores _ g) first size held inner stop .quiet
+exec-rest : (g : List ℕ) (headerEnd size contained inner stop : ℕ) (f : List ℕ) (at : ℕ) (σ : Collected) → exec (collect g) (rest headerEnd size contained inner stop) f at σ ≡ still (run (rest headerEnd size contained inner stop) f at) σ
+exec-rest g headerEnd size contained inner stop = rest-quiet (collect-ignores _ g) headerEnd size contained inner stop .quiet
 
 -- unpackers that end where the header does, and a reference
-rest-run : (first size held inner stop : ℕ) (g : List ℕ) (q : ℕ) {u : unpackers.Unpackers} {o : reference.Reference} {e : ℕ} → run (node.unpackers held inner) g q ≡ ok u inner → run (reference first size held stop) g inner ≡ ok o e
-    → run (rest first size held inner stop) g q ≡ ok (record { unpackers = u; reference = o }) e
+rest-run : (headerEnd size contained inner stop : ℕ) (g : List ℕ) (q : ℕ) {u : unpackers.Unpackers} {o : reference.Reference} {e : ℕ} → run (node.unpackers contained inner) g q ≡ ok u inner → run (reference headerEnd size contained stop) g inner ≡ ok o e
+    → run (rest headerEnd size contained inner stop) g q ≡ ok (record { unpackers = u; reference = o }) e
 unfolding rest
-rest-run first size held inner stop g q a b = let k : inner ≤ inner = omega arith in simp (running, a, le-leb _ _ k, b)
+rest-run headerEnd size contained inner stop g q a b = let k : inner ≤ inner = omega arith in simp (running, a, le-leb _ _ k, b)
 
 pub meta-back : (x : Context) (node end : ℕ) (g : List ℕ) → length g < 2 ^ 28 → {css : List (List Content)} → Entries (x .types) node 0 css → (cs : List Content) → flat css ≡ cs → (m : Made) (p : ℕ) (σ : Collected)
     → Lies g p (sized (itemsText cs)) → p + length (sized (itemsText cs)) ≤ end → m .items + length cs ≤ x .limits .items
@@ -133,33 +133,33 @@ module _ (x : Context) (g : List ℕ) (big : length g < 2 ^ 28) (parent depth le
   header = joined (sized (itemsText cs) ∷ sized (r .unpackers) ∷ [])
 
   abbrev H : ℕ
-  H = headerOf (r .held) header (length (ownText r) + n)
+  H = headerOf (r .contained) header (length (ownText r) + n)
 
   abbrev N : ℕ
   N = H + (length (ownText r) + n)
 
   -- whatever the reference is
   upto : N < 2 ^ 28 → Lies g p (nodeText r cs n) → p + N ≤ end → least ≤ p + N → {o : reference.Reference} {e : ℕ}
-      → run (reference (x .first) (x .size) (r .held) (p + N)) g (p + H) ≡ ok o e
+      → run (reference (x .headerEnd) (x .size) (r .contained) (p + N)) g (p + H) ≡ ok o e
       → exec (collect g) (front x parent depth (inTree least end) m) g p σ
-      ≡ ok (record { row = node.rowOf p (record { size = N; held = r .held; header = H }) parent depth 0 o (record { place = record { 0 = p + H - length (r .unpackers) }; count = r .layers }) (m .items + length cs - m .items); made = plusItems (length cs) m }, withItems σ cs) e
+      ≡ ok (record { row = node.rowOf p (record { size = N; contained = r .contained; header = H }) parent depth 0 o (record { place = record { 0 = p + H - length (r .unpackers) }; count = r .unpackerCount }) (m .items + length cs - m .items); made = plusItems (length cs) m }, withItems σ cs) e
   unfolding front nodeText framed
   upto small h i j {o} {e} ref =
-      let ss : List (List ℕ) = vlq N ∷ vlq (r .held) ∷ vlq H ∷ header ∷ ownText r ∷ [] in
+      let ss : List (List ℕ) = vlq N ∷ vlq (r .contained) ∷ vlq H ∷ header ∷ ownText r ∷ [] in
       let s = stand ss h in
       let t = stand (sized (itemsText cs) ∷ sized (r .unpackers) ∷ []) (s .1 .1 .1 .0) in
-      let w = framed-length (r .held) header (ownText r) n small in
-      let y = framed-header (r .held) header (length (ownText r) + n) small in
+      let w = framed-length (r .contained) header (ownText r) n small in
+      let y = framed-header (r .contained) header (length (ownText r) + n) small in
       let z = joined-length (sized (itemsText cs) ∷ sized (r .unpackers) ∷ []) in
       let v = sized-length (r .unpackers) in
-      let a : ℕ = p + length (vlq N) + length (vlq (r .held)) + length (vlq H) in
-      let e₁ = head-back end least g p (r .held) header (ownText r) n (f .few) small h (omega arith) (omega arith) in
+      let a : ℕ = p + length (vlq N) + length (vlq (r .contained)) + length (vlq H) in
+      let e₁ = head-back end least g p (r .contained) header (ownText r) n (f .few) small h (omega arith) (omega arith) in
       let b : ℕ = a + length (sized (itemsText cs)) in
       let i₂ : a + length (sized (itemsText cs)) ≤ p + H = omega arith in
       let e₂ = meta-back x (m .nodes) (p + H) g big (f .entries) cs (f .contents) m a σ (t .0) i₂ (f .item-room) in
       let i₃ : b + length (sized (r .unpackers)) ≡ p + H = omega arith in
-      let e₃ = packs-back g big (r .held) (p + H) b (f .unpackers) (r .unpackers) (r .layers) (f .packed) (f .layers) (f .unpacked) (t .1 .0) i₃ in
-      let e₄ = rest-run (x .first) (x .size) (r .held) (p + H) (p + N) g b e₃ ref in
+      let e₃ = packs-back g big (r .contained) (p + H) b (f .unpackers) (r .unpackers) (r .unpackerCount) (f .packed) (f .unpackerCount) (f .unpacked) (t .1 .0) i₃ in
+      let e₄ = rest-run (x .headerEnd) (x .size) (r .contained) (p + H) (p + N) g b e₃ ref in
       let e₅ : b + length (vlq (length (r .unpackers))) ≡ p + H - length (r .unpackers) = omega arith in
       simp (executing, exec-head, e₁, e₂, exec-rest, e₄, e₅)
 
@@ -167,12 +167,12 @@ module _ (x : Context) (g : List ℕ) (big : length g < 2 ^ 28) (parent depth le
   parts-lie : N < 2 ^ 28 → Lies g p (nodeText r cs n) → Lies g (p + H - length (r .unpackers)) (r .unpackers) × Lies g (p + H) (ownText r) × (p + H + length (ownText r) ≡ p + length (nodeText r cs n)) × (length (nodeText r cs n) + n ≡ N)
   unfolding nodeText framed
   parts-lie small h =
-      let ss : List (List ℕ) = vlq N ∷ vlq (r .held) ∷ vlq H ∷ header ∷ ownText r ∷ [] in
+      let ss : List (List ℕ) = vlq N ∷ vlq (r .contained) ∷ vlq H ∷ header ∷ ownText r ∷ [] in
       let s = stand ss h in
       let t = stand (sized (itemsText cs) ∷ sized (r .unpackers) ∷ []) (s .1 .1 .1 .0) in
       let u = stand-sized (r .unpackers) (t .1 .0) in
-      let w = framed-length (r .held) header (ownText r) n small in
-      let y = framed-header (r .held) header (length (ownText r) + n) small in
+      let w = framed-length (r .contained) header (ownText r) n small in
+      let y = framed-header (r .contained) header (length (ownText r) + n) small in
       let z = joined-length (sized (itemsText cs) ∷ sized (r .unpackers) ∷ []) in
       let q = joined-length ss in
       let v = sized-length (r .unpackers) in
@@ -182,31 +182,31 @@ module _ (x : Context) (g : List ℕ) (big : length g < 2 ^ 28) (parent depth le
 
 -- a row says a node
 row-says : (g : List ℕ) (r : Shape) (h : head.Head) (p parent depth : ℕ) (o : reference.Reference) (u : unpackers.Unpackers) (rows : ℕ)
-    → h .held ≡ r .held → parent ≡ r .parent → depth ≡ r .depth → o .kind ≡ r .reference → u .count ≡ r .layers → rows ≡ r .rows → 0 ≡ r .detached
-    → answer (run (times (u .count) (unpackerText g) []) g (u .place .0)) ≡ r .unpackers → choose (eqb (h .held) 0) (part g (o .target) (o .extent)) [] ≡ r .body
+    → h .contained ≡ r .contained → parent ≡ r .parent → depth ≡ r .depth → o .kind ≡ r .reference → u .count ≡ r .unpackerCount → rows ≡ r .rows → 0 ≡ r .detached
+    → answer (run (times (u .count) (unpackerText g) []) g (u .place .0)) ≡ r .unpackers → choose (eqb (h .contained) 0) (part g (o .target) (o .extent)) [] ≡ r .body
     → shape g (node.rowOf p h parent depth 0 o u rows) ≡ r
 unfolding shape
 row-says g r h p parent depth o u rows a b c d e f t k l = rw (l, k, a, b, c, d, e, f, t)
 
-body-is : (held : ℕ) (t body : List ℕ) → (held ≡ 0 → t ≡ body) → (((held ≡ 0) → ⊥) → body ≡ []) → choose (eqb held 0) t [] ≡ body
+body-is : (contained : ℕ) (t body : List ℕ) → (contained ≡ 0 → t ≡ body) → (((contained ≡ 0) → ⊥) → body ≡ []) → choose (eqb contained 0) t [] ≡ body
 body-is zero t body a b = a refl
-body-is (suc held) t body a b = let n : (suc held ≡ 0) → ⊥ = λ e. omega arith in rw (ne-eqb (suc held) 0 n) (sym (b n))
+body-is (suc contained) t body a b = let n : (suc contained ≡ 0) → ⊥ = λ e. omega arith in rw (ne-eqb (suc contained) 0 n) (sym (b n))
 
 -- what the row of a node with reference 1 passes over
-passed : (held n k : ℕ) → (held ≡ 0 → n ≡ k) → (((held ≡ 0) → ⊥) → 0 ≡ k) → sizeIf (eqb held 0 && eqb 1 1) n ≡ k
+passed : (contained n k : ℕ) → (contained ≡ 0 → n ≡ k) → (((contained ≡ 0) → ⊥) → 0 ≡ k) → sizeIf (eqb contained 0 && eqb 1 1) n ≡ k
 passed zero n k a b = a refl
-passed (suc held) n k a b = let z : (suc held ≡ 0) → ⊥ = λ e. omega arith in rw (ne-eqb (suc held) 0 z) (b z)
+passed (suc contained) n k a b = let z : (suc contained ≡ 0) → ⊥ = λ e. omega arith in rw (ne-eqb (suc contained) 0 z) (b z)
 
-passed-none : (held n : ℕ) → sizeIf (eqb held 0 && eqb 4 1) n ≡ 0
+passed-none : (contained n : ℕ) → sizeIf (eqb contained 0 && eqb 4 1) n ≡ 0
 passed-none zero n = refl
-passed-none (suc held) n = let z : (suc held ≡ 0) → ⊥ = λ e. omega arith in rw (ne-eqb (suc held) 0 z) refl
+passed-none (suc contained) n = let z : (suc contained ≡ 0) → ⊥ = λ e. omega arith in rw (ne-eqb (suc contained) 0 z) refl
 
 part-as : {g : List ℕ} {q : ℕ} {s : List ℕ} (n : ℕ) → n ≡ length s → Lies g q s → part g q n ≡ s
 part-as n e h = rw e (lies-part h)
 
-most : (r : Shape) (cs : List Content) (n : ℕ) → headerOf (r .held) (joined (sized (itemsText cs) ∷ sized (r .unpackers) ∷ [])) (length (ownText r) + n) + (length (ownText r) + n) ≤ length (nodeText r cs n) + n
+most : (r : Shape) (cs : List Content) (n : ℕ) → headerOf (r .contained) (joined (sized (itemsText cs) ∷ sized (r .unpackers) ∷ [])) (length (ownText r) + n) + (length (ownText r) + n) ≤ length (nodeText r cs n) + n
 unfolding nodeText
-most r cs n = framed-most (r .held) (joined (sized (itemsText cs) ∷ sized (r .unpackers) ∷ [])) (ownText r) n
+most r cs n = framed-most (r .contained) (joined (sized (itemsText cs) ∷ sized (r .unpackers) ∷ [])) (ownText r) n
 
 lies-whole : {g : List ℕ} {p : ℕ} (r : Shape) (cs : List Content) (inner : List ℕ) → Lies g p (wholeText r cs inner) → Lies g p (nodeText r cs (length inner)) × (length (wholeText r cs inner) ≡ length (nodeText r cs (length inner)) + length inner)
 unfolding wholeText
@@ -219,21 +219,21 @@ pub record FrontBack (x : Context) (g : List ℕ) (parent depth least end : ℕ)
   pub ran : exec (collect g) (front x parent depth (inTree least end) m) g p σ ≡ ok (is, withItems σ cs) next
   pub says : shape g (is .row) ≡ r
   pub made : is .made ≡ plusItems (length cs) m
-  pub held : is .row .held ≡ r .held
+  pub contained : is .row .contained ≡ r .contained
   pub size : is .row .size ≡ length (wholeText r cs inner)
   pub past : next + inlineSize (is .row) ≡ p + length (nodeText r cs (length inner))
 
 module _ (x : Context) (g : List ℕ) (big : length g < 2 ^ 28) (parent depth least end : ℕ) (m : Made) (r : Shape) (cs : List Content) (inner : List ℕ) (p : ℕ) (σ : Collected) (f : Front (x .limits) (x .types) parent depth m r cs) where
-  pub front-back : Stays r → ((r .held ≡ 0) → length inner ≡ 0) → Lies g p (wholeText r cs inner) → p + length (wholeText r cs inner) ≤ end → least ≤ p + length (wholeText r cs inner) → FrontBack x g parent depth least end m r cs inner p σ
+  pub front-back : Stays r → ((r .contained ≡ 0) → length inner ≡ 0) → Lies g p (wholeText r cs inner) → p + length (wholeText r cs inner) ≤ end → least ≤ p + length (wholeText r cs inner) → FrontBack x g parent depth least end m r cs inner p σ
   front-back stays alone h i j =
       let n : ℕ = length inner in
       let (hn, w) = lies-whole r cs inner h in
       let own : ℕ = length (ownText r) in
-      let H : ℕ = headerOf (r .held) (joined (sized (itemsText cs) ∷ sized (r .unpackers) ∷ [])) (own + n) in
+      let H : ℕ = headerOf (r .contained) (joined (sized (itemsText cs) ∷ sized (r .unpackers) ∷ [])) (own + n) in
       let N : ℕ = H + (own + n) in
       let small : N < 2 ^ 28 = omega (arith, most r cs n, h .inside) in
       let (up, ol, at, len) = parts-lie x g big parent depth least end m r cs n p σ f small hn in
-      let again = packs-again g (f .unpackers) (r .unpackers) (r .layers) (p + H - length (r .unpackers)) (f .packed) (f .layers) up in
+      let again = packs-again g (f .unpackers) (r .unpackers) (r .unpackerCount) (p + H - length (r .unpackers)) (f .packed) (f .unpackerCount) up in
       let rows : m .items + length cs - m .items ≡ r .rows = omega (arith, f .counted) in
       elim (f .refers stays) [
         | inl one ↦
@@ -242,15 +242,15 @@ module _ (x : Context) (g : List ℕ) (big : length g < 2 ^ 28) (parent depth le
             let z = joined-length (vlq 1 ∷ r .body ∷ []) in
             let zz = ap length oe in
             let q : ℕ = p + H + length (vlq 1) in
-            let ref = inline-run g big (x .first) (x .size) (r .held) (p + N) (p + H) r one ol (omega arith) in
-            let pass = passed (r .held) (p + N - q) (length (r .body)) (λ e. omega (arith, alone e)) (λ e. sym (ap length (f .empty e))) in
+            let ref = inline-run g big (x .headerEnd) (x .size) (r .contained) (p + N) (p + H) r one ol (omega arith) in
+            let pass = passed (r .contained) (p + N - q) (length (r .body)) (λ e. omega (arith, alone e)) (λ e. sym (ap length (f .empty e))) in
             record {
               is = _;
               next = q;
               ran = upto x g big parent depth least end m r cs n p σ f small hn (omega arith) (omega arith) ref;
-              says = row-says g r _ p parent depth _ _ _ refl (f .parent-is) (f .depth-is) (sym one) refl rows (f .in-tree) again (body-is (r .held) (part g q (p + N - q)) (r .body) (λ e. part-as (p + N - q) (omega (arith, alone e)) (s .1 .0)) (f .empty));
+              says = row-says g r _ p parent depth _ _ _ refl (f .parent-is) (f .depth-is) (sym one) refl rows (f .in-tree) again (body-is (r .contained) (part g q (p + N - q)) (r .body) (λ e. part-as (p + N - q) (omega (arith, alone e)) (s .1 .0)) (f .empty));
               made = refl;
-              held = refl;
+              contained = refl;
               size = omega arith;
               past = omega (arith, pass);
             }
@@ -260,15 +260,15 @@ module _ (x : Context) (g : List ℕ) (big : length g < 2 ^ 28) (parent depth le
             let z = joined-length (vlq 4 ∷ sized (r .body) ∷ []) in
             let zz = ap length oe in
             let q : ℕ = p + H + length (vlq 4) + length (vlq (length (r .body))) in
-            let ref = uri-run g big (x .first) (x .size) (r .held) (p + N) (p + H) r four none ol (omega arith) in
+            let ref = uri-run g big (x .headerEnd) (x .size) (r .contained) (p + N) (p + H) r four none ol (omega arith) in
             record {
               is = _;
               next = p + H + own;
               ran = upto x g big parent depth least end m r cs n p σ f small hn (omega arith) (omega arith) ref;
-              says = row-says g r _ p parent depth _ _ _ refl (f .parent-is) (f .depth-is) (sym four) refl rows (f .in-tree) again (body-is (r .held) (part g q (length (r .body))) (r .body) (λ e. lies-part (stand-sized (r .body) (s .1 .0) .1)) (f .empty));
+              says = row-says g r _ p parent depth _ _ _ refl (f .parent-is) (f .depth-is) (sym four) refl rows (f .in-tree) again (body-is (r .contained) (part g q (length (r .body))) (r .body) (λ e. lies-part (stand-sized (r .body) (s .1 .0) .1)) (f .empty));
               made = refl;
-              held = refl;
+              contained = refl;
               size = omega arith;
-              past = omega (arith, passed-none (r .held) (length (r .body)));
+              past = omega (arith, passed-none (r .contained) (length (r .body)));
             }
       ]

@@ -19,7 +19,7 @@ use Rattle.cursor.proofs.Lies.{Lies, lies-part, lies-left, lies-right, Stand, s
 use Rattle.cursor.proofs.Back.{number-back, block-back}
 use Rattle.header.specs.Types.{Declared, known, formatOf}
 use Rattle.metadata.specs.Tables.{plusItem}
-use Rattle.metadata.specs.Metadata.{Context, kindOf, fieldOf, nameSizeOf, rowOf, field, itemFrame, universal, declaredFormat, version, rowsFor, item, nextItem, metaItems, metadata}
+use Rattle.metadata.specs.Metadata.{Context, kindOf, fieldOf, nameLengthOf, rowOf, field, itemFrame, universal, declaredFormat, version, rowsFor, item, nextItem, metaItems, metadata}
 use Rattle.metadata.specs.declared.Made.{Made}
 use Rattle.metadata.specs.declared.Label.{Label}
 use Rattle.metadata.specs.declared.Field.{Field}
@@ -38,7 +38,7 @@ pub record Labels (g : List ℕ) (l : Label) (c : Content) : Type 0 where
   pub item : l .item ≡ c .item
   pub kind : kindOf (l .field) ≡ c .kind
   pub field : choose (eqb (kindOf (l .field)) 1) 0 (fieldOf (l .field)) ≡ c .field
-  pub name : part g (fieldOf (l .field)) (nameSizeOf (l .field)) ≡ c .name
+  pub name : part g (fieldOf (l .field)) (nameLengthOf (l .field)) ≡ c .name
 
 row-says : (g : List ℕ) (l : Label) (c : Content) (v d fm p n : ℕ) → Labels g l c → v ≡ c .version → d ≡ c .declared → fm ≡ c .format → part g p n ≡ c .bytes → content g (rowOf l v d fm p n) ≡ c
 unfolding content

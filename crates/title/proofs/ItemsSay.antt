@@ -20,7 +20,7 @@ use Rattle.cursor.proofs.Lies.{part-length}
 use Rattle.cursor.proofs.Post.{Post, post-after, post-step, post-weaken, post-ret, post-refuse, post-check, post-place, post-skip, post-many}
 use Rattle.header.specs.Types.{Declared, Known, known, unknown, formatOf}
 use Rattle.metadata.specs.Tables.{plusItem}
-use Rattle.metadata.specs.Metadata.{Context, kindOf, fieldOf, nameSizeOf, rowOf, field, contents, itemFrame, universal, declaredFormat, version, rowsFor, item, Count, nextItem, metaItems, metadata}
+use Rattle.metadata.specs.Metadata.{Context, kindOf, fieldOf, nameLengthOf, rowOf, field, contents, itemFrame, universal, declaredFormat, version, rowsFor, item, Count, nextItem, metaItems, metadata}
 use Rattle.metadata.specs.declared.Made.{Made}
 use Rattle.metadata.specs.declared.Label.{Label}
 use Rattle.metadata.specs.declared.Field.{Field}
@@ -98,8 +98,8 @@ unfolding itemFrame
 frame-is f end at o = wp-after (field-is f end at o) λ g q y. wp-after (contents-is end q) λ c r z. wp-ret (y, z)
 
 field-fits : (f : List ℕ) (g : Field) → FieldIs f g
-    → ((kindOf g ≡ 0) × (choose (eqb (kindOf g) 1) 0 (fieldOf g) < 2 ^ 28) × (part f (fieldOf g) (nameSizeOf g) ≡ []))
-    ⊎ ((kindOf g ≡ 1) × (choose (eqb (kindOf g) 1) 0 (fieldOf g) ≡ 0) × (0 < length (part f (fieldOf g) (nameSizeOf g))))
+    → ((kindOf g ≡ 0) × (choose (eqb (kindOf g) 1) 0 (fieldOf g) < 2 ^ 28) × (part f (fieldOf g) (nameLengthOf g) ≡ []))
+    ⊎ ((kindOf g ≡ 1) × (choose (eqb (kindOf g) 1) 0 (fieldOf g) ≡ 0) × (0 < length (part f (fieldOf g) (nameLengthOf g))))
 field-fits f (Standard k) h = inl (refl, h, refl)
 field-fits f (Name p n) h = inr (refl, refl, omega (arith, part-length f (p .0) n (h .1)))
 

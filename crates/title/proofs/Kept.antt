@@ -45,18 +45,18 @@ module _ (f k : List ℕ) (long : length f ≡ length k) where
   abbrev UnpackersSame : unpackers.Unpackers → Type 0
   UnpackersSame u = answer (run (times (u .count) (unpackerText f) []) f (u .place .0)) ≡ answer (run (times (u .count) (unpackerText k) []) k (u .place .0))
 
-  reread-same : (held inner at : ℕ) → inner ≤ length f → {u : unpackers.Unpackers} {q : ℕ} → run (unpackers held inner) f at ≡ ok u q → Held privateData B (trace (unpackers held inner) f at) → UnpackersSame u
-  reread-same held inner at o {u} {q} e h =
-      let r = unpackers-reread f held inner at o e in
+  reread-same : (contained inner at : ℕ) → inner ≤ length f → {u : unpackers.Unpackers} {q : ℕ} → run (unpackers contained inner) f at ≡ ok u q → Held privateData B (trace (unpackers contained inner) f at) → UnpackersSame u
+  reread-same contained inner at o {u} {q} e h =
+      let r = unpackers-reread f contained inner at o e in
       let a = r .after in
       let b = r .before in
-      let g : Agree f k (u .place .0) (r .stop) = λ j lo hi. all-bytes B (unpackers held inner) (unpackers-use tt held inner) f at e h j (omega arith) (omega arith) in
+      let g : Agree f k (u .place .0) (r .stop) = λ j lo hi. all-bytes B (unpackers contained inner) (unpackers-use tt contained inner) f at e h j (omega arith) (omega arith) in
       ap answer (r .ran) ∙ sym (ap answer (unpackers-alike f k long (u .count) (u .place .0) (r .ran) g))
 
-  rest-kept : (first size held inner stop at : ℕ) → inner ≤ length f → Keeping B nothing f (rest first size held inner stop) (Holds (λ o q. UnpackersSame (o .unpackers))) at tt
+  rest-kept : (headerEnd size contained inner stop at : ℕ) → inner ≤ length f → Keeping B nothing f (rest headerEnd size contained inner stop) (Holds (λ o q. UnpackersSame (o .unpackers))) at tt
   unfolding rest
-  rest-kept first size held inner stop at o =
-      keep-step nothing-quiet λ u q e h. keep-place _ q (keep-check _ _ λ t. keep-step nothing-quiet λ r p e₂ h₂. keep-ret (reread-same held inner at o e h))
+  rest-kept headerEnd size contained inner stop at o =
+      keep-step nothing-quiet λ u q e h. keep-place _ q (keep-check _ _ λ t. keep-step nothing-quiet λ r p e₂ h₂. keep-ret (reread-same contained inner at o e h))
 
   front-kept : (x : Context) (parent depth least end : ℕ) (m : Made) (at : ℕ) → end ≤ length f → Keeping B nothing f (front x parent depth (inTree least end) m) (Holds (λ w q. Same (w .row) × (at + w .row .size ≤ end))) at tt
   unfolding front shape
@@ -106,7 +106,7 @@ module _ (f k : List ℕ) (long : length f ≡ length k) (x : Context) where
       let y = meets-run f (front x parent (16 - d) (inTree least end) m) at (λ w q. Same f k long (w .row) × (at + w .row .size ≤ end)) (front-kept f k long x parent (16 - d) least end m at o .meets h) e in
       let i = y .1 in
       keep-skip _ _
-      (keep-after (children (w .row .held) (m .nodes) (at + w .row .size) (plusNode (w .made)) _ _ (omega arith) (same-on f k long σ (w .row) s (y .0))) λ m₂ p τ t.
+      (keep-after (children (w .row .contained) (m .nodes) (at + w .row .size) (plusNode (w .made)) _ _ (omega arith) (same-on f k long σ (w .row) s (y .0))) λ m₂ p τ t.
       keep-place _ p (keep-check _ _ λ full. keep-ret t)))
 
   times-kept : (d : ℕ) → Keep f k long x d → Keep f k long x (suc d)

@@ -36,7 +36,7 @@ module _ (limits : Limits) (types : List Declared) where
   pub data Nodes : (d parent : ℕ) → Made → (n : ℕ) → List Shape → List Content → List (List ℕ) → Type 0 where
     none : {d parent : ℕ} {m : Made} → Nodes d parent m 0 [] [] []
     more : {d parent n : ℕ} {m : Made} {r : Shape} {rs ss : List Shape} {cs ds es : List Content} {inner bs : List (List ℕ)} → Front limits types parent (16 - d) m r cs
-        → Nodes d (m .nodes) (madeBy (r ∷ []) cs m) (r .held) rs ds inner → Nodes (suc d) parent (madeBy (r ∷ rs) (cs ++ ds) m) n ss es bs
+        → Nodes d (m .nodes) (madeBy (r ∷ []) cs m) (r .contained) rs ds inner → Nodes (suc d) parent (madeBy (r ∷ rs) (cs ++ ds) m) n ss es bs
         → Nodes (suc d) parent m (suc n) (r ∷ (rs ++ ss)) (cs ++ ds ++ es) (wholeText r cs (joined inner) ∷ bs)
 
 -- ---- the bytes are those of the rows
@@ -54,7 +54,7 @@ module _ {limits : Limits} {types : List Declared} where
       let e = f .counted in
       let l = nodes-length ys in
       let i : outer ((rs ++ ts) ++ ss) (es ++ (fs ++ ds)) ≡ inner ++ (bs ++ outer ss ds) = rw append-assoc (nodes-outer ys (ts ++ ss) (fs ++ ds) ∙ ap (λ v. inner ++ v) (nodes-outer xs ss ds)) in
-      rw (append-assoc (cs ++ es) fs ds, append-assoc cs es (fs ++ ds), take-at cs (es ++ (fs ++ ds)) (r .rows) e, drop-at cs (es ++ (fs ++ ds)) (r .rows) e, i, take-at inner (bs ++ outer ss ds) (r .held) l, drop-at inner (bs ++ outer ss ds) (r .held) l) refl
+      rw (append-assoc (cs ++ es) fs ds, append-assoc cs es (fs ++ ds), take-at cs (es ++ (fs ++ ds)) (r .rows) e, drop-at cs (es ++ (fs ++ ds)) (r .rows) e, i, take-at inner (bs ++ outer ss ds) (r .contained) l, drop-at inner (bs ++ outer ss ds) (r .contained) l) refl
 
   pub tree-text : {d parent : ℕ} {m : Made} {rs : List Shape} {cs : List Content} {b : List ℕ} → Nodes limits types d parent m 1 rs cs (b ∷ []) → joined (outer rs cs) ≡ b
   unfolding outer
@@ -92,7 +92,7 @@ folder-in g end children q τ e l = simp (executing, e, le-leb _ _ l)
 
 module _ (x : Context) (g : List ℕ) (d parent least end : ℕ) (m : Made) (p : ℕ) (σ : Collected) {r : Shape} {cs : List Content} where
   pub node-back : (rs : List Shape) (ds : List Content) (inner : List (List ℕ)) → m .nodes < x .limits .nodes → FrontBack x g parent (16 - d) least end m r cs (joined inner) p σ
-      → exec (collect g) (times (r .held) (node d x (m .nodes) (inTree 0 (p + length (wholeText r cs (joined inner))))) (plusNode (plusItems (length cs) m))) g (p + length (nodeText r cs (length (joined inner)))) (withRows σ (r ∷ []) cs)
+      → exec (collect g) (times (r .contained) (node d x (m .nodes) (inTree 0 (p + length (wholeText r cs (joined inner))))) (plusNode (plusItems (length cs) m))) g (p + length (nodeText r cs (length (joined inner)))) (withRows σ (r ∷ []) cs)
       ≡ ok (madeBy rs ds (madeBy (r ∷ []) cs m), withRows (withRows σ (r ∷ []) cs) rs ds) (p + length (nodeText r cs (length (joined inner))) + length (joined inner))
       → exec (collect g) (node (suc d) x parent (inTree least end) m) g p σ ≡ ok (madeBy (r ∷ rs) (cs ++ ds) m, withRows σ (r ∷ rs) (cs ++ ds)) (p + length (wholeText r cs (joined inner)))
   node-back rs ds inner room b c =
@@ -107,11 +107,11 @@ module _ (x : Context) (g : List ℕ) (d parent least end : ℕ) (m : Made) (p :
       let row = b .is .row in
       let q : ℕ = b .next + inlineSize row in
       let τ : Collected = collect g (nodeRow row) (b .next) (inlineSize row) (withItems σ cs) in
-      let c₁ : exec (collect g) (times (r .held) (node d x (m .nodes) (inTree 0 (p + length (wholeText r cs (joined inner))))) (plusNode (plusItems (length cs) m))) g (p + length (nodeText r cs (length (joined inner)))) (withRows σ (r ∷ []) cs) ≡ o = c ∙ simp (t, u, v, append-assoc) in
-      let c₂ : exec (collect g) (times (row .held) (node d x (m .nodes) (inTree 0 (p + row .size))) (plusNode (b .is .made))) g q τ ≡ o = rw (b .says, b .past, b .held, b .size, b .made) c₁ in
+      let c₁ : exec (collect g) (times (r .contained) (node d x (m .nodes) (inTree 0 (p + length (wholeText r cs (joined inner))))) (plusNode (plusItems (length cs) m))) g (p + length (nodeText r cs (length (joined inner)))) (withRows σ (r ∷ []) cs) ≡ o = c ∙ simp (t, u, v, append-assoc) in
+      let c₂ : exec (collect g) (times (row .contained) (node d x (m .nodes) (inTree 0 (p + row .size))) (plusNode (b .is .made))) g q τ ≡ o = rw (b .says, b .past, b .contained, b .size, b .made) c₁ in
       let k : p + row .size ≤ p + length (wholeText r cs (joined inner)) = omega (arith, b .size) in
       let n = node-in x parent (inTree least end) m g p (collect g) (suc d) σ (λ z. omega arith) room {w = b .is} {τ = withItems σ cs} {p = b .next} (rw k₂ (b .ran)) in
-      rw k₁ at n ∙ folder-in g (p + row .size) (times (row .held) (node d x (m .nodes) (inTree 0 (p + row .size))) (plusNode (b .is .made))) q τ c₂ k
+      rw k₁ at n ∙ folder-in g (p + row .size) (times (row .contained) (node d x (m .nodes) (inTree 0 (p + row .size))) (plusNode (b .is .made))) q τ c₂ k
 
 -- ---- all of them
 

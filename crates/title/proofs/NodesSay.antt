@@ -45,20 +45,20 @@ use Rattle.title.proofs.Nodes.{madeBy, Nodes, none, more}
 -- ---- what follows the metadata
 
 -- a folder refers to what follows it
-abbrev RefersTo : (held kind : ℕ) → Type 0
-RefersTo held k = (k ≡ 1) ⊎ ((held ≡ 0) × ((k ≡ 2) ⊎ (k ≡ 3) ⊎ (k ≡ 4)))
+abbrev RefersTo : (contained kind : ℕ) → Type 0
+RefersTo contained k = (k ≡ 1) ⊎ ((contained ≡ 0) × ((k ≡ 2) ⊎ (k ≡ 3) ⊎ (k ≡ 4)))
 
-target-is : (first size r end at : ℕ) → Wp Any (target first size r end) (λ o q. (o .kind ≡ 1) ⊎ ((o .kind ≡ 2) ⊎ (o .kind ≡ 3) ⊎ (o .kind ≡ 4))) at
+target-is : (headerEnd size r end at : ℕ) → Wp Any (target headerEnd size r end) (λ o q. (o .kind ≡ 1) ⊎ ((o .kind ≡ 2) ⊎ (o .kind ≡ 3) ⊎ (o .kind ≡ 4))) at
 unfolding target resource nodePlace uriPlace
-target-is first size r end at =
+target-is headerEnd size r end at =
     wp-if (λ t. wp-place _ at (wp-ret (inl (eqb-true r 1 t))))
     λ t. wp-if (λ u. wp-place _ at (wp-after (number-on _ _ end at) λ o q x. wp-check _ _ λ c. wp-check _ _ λ d. wp-ret (inr (inl refl))))
     λ u. wp-if (λ w. wp-after (number-on _ _ end at) λ o q x. wp-ret (inr (inr (inl refl))))
     λ w. wp-after (block-on _ _ end at) λ n q x. wp-place _ q (wp-skip _ _ tt (λ _. wp-ret (inr (inr (inr refl)))))
 
-target-one : (first size end at : ℕ) → Wp Any (target first size 1 end) (λ o q. o .kind ≡ 1) at
+target-one : (headerEnd size end at : ℕ) → Wp Any (target headerEnd size 1 end) (λ o q. o .kind ≡ 1) at
 unfolding target
-target-one first size end at = wp-if (λ t. wp-place _ at (wp-ret refl)) (λ t. absurd (eqb-false 1 1 t refl))
+target-one headerEnd size end at = wp-if (λ t. wp-place _ at (wp-ret refl)) (λ t. absurd (eqb-false 1 1 t refl))
 
 either : (a b : ℕ) → (eqb a 0 || eqb b 1) ≡ true → (a ≡ 0) ⊎ (b ≡ 1)
 either a b t = by (eqb a 0) refl t
@@ -67,46 +67,46 @@ either a b t = by (eqb a 0) refl t
     by true e t = inl (eqb-true a 0 e)
     by false e t = inr (eqb-true b 1 t)
 
-refers-by : (first size held r end at : ℕ) → (held ≡ 0) ⊎ (r ≡ 1) → Wp Any (target first size r end) (λ o q. RefersTo held (o .kind)) at
-refers-by first size held r end at (inl z) = wp-weaken (target-is first size r end at) (λ o q w. elim w [ inl k ↦ inl k | inr k ↦ inr (z, k) ])
-refers-by first size held r end at (inr k) = subst (λ v. Wp Any (target first size v end) (λ o q. RefersTo held (o .kind)) at) (sym k) (wp-weaken (target-one first size end at) (λ o q w. inl w))
+refers-by : (headerEnd size contained r end at : ℕ) → (contained ≡ 0) ⊎ (r ≡ 1) → Wp Any (target headerEnd size r end) (λ o q. RefersTo contained (o .kind)) at
+refers-by headerEnd size contained r end at (inl z) = wp-weaken (target-is headerEnd size r end at) (λ o q w. elim w [ inl k ↦ inl k | inr k ↦ inr (z, k) ])
+refers-by headerEnd size contained r end at (inr k) = subst (λ v. Wp Any (target headerEnd size v end) (λ o q. RefersTo contained (o .kind)) at) (sym k) (wp-weaken (target-one headerEnd size end at) (λ o q w. inl w))
 
-reference-is : (first size held end at : ℕ) → Wp Any (reference first size held end) (λ o q. RefersTo held (o .kind)) at
+reference-is : (headerEnd size contained end at : ℕ) → Wp Any (reference headerEnd size contained end) (λ o q. RefersTo contained (o .kind)) at
 unfolding reference
-reference-is first size held end at =
+reference-is headerEnd size contained end at =
     wp-place _ at
-    (wp-after (number-on _ _ end at) λ r q x. wp-check _ _ λ t. wp-check _ _ λ u. wp-check _ _ λ v. refers-by first size held r end q (either held r v))
+    (wp-after (number-on _ _ end at) λ r q x. wp-check _ _ λ t. wp-check _ _ λ u. wp-check _ _ λ v. refers-by headerEnd size contained r end q (either contained r v))
 
-rest-post : (f : List ℕ) (first size held inner stop at : ℕ) → inner ≤ length f → Post nothing f (rest first size held inner stop) (Holds (λ o q. PacksOf f held (o .unpackers) × RefersTo held (o .reference .kind))) at tt
+rest-post : (f : List ℕ) (headerEnd size contained inner stop at : ℕ) → inner ≤ length f → Post nothing f (rest headerEnd size contained inner stop) (Holds (λ o q. PacksOf f contained (o .unpackers) × RefersTo contained (o .reference .kind))) at tt
 unfolding rest
-rest-post f first size held inner stop at o =
-    post-step (unpackers-quiet nothing-ignores held inner) λ u q e.
+rest-post f headerEnd size contained inner stop at o =
+    post-step (unpackers-quiet nothing-ignores contained inner) λ u q e.
     post-place _ q
     (post-check _ _ λ t.
-    post-step (reference-quiet nothing-ignores first size held stop) λ r p e₂.
-    post-ret (unpackers-say f held inner at o e, at-end any-free f (reference-is first size held stop q) e₂))
+    post-step (reference-quiet nothing-ignores headerEnd size contained stop) λ r p e₂.
+    post-ret (unpackers-say f contained inner at o e, at-end any-free f (reference-is headerEnd size contained stop q) e₂))
 
 -- ---- the three numbers
 
-head-few : (s : Standing) (at : ℕ) → Wp Any (head s) (λ h q. h .held < 2 ^ 28) at
+head-few : (s : Standing) (at : ℕ) → Wp Any (head s) (λ h q. h .contained < 2 ^ 28) at
 unfolding head headerLength
 head-few s at =
     wp-place _ at
     (wp-after (number-on _ _ (s .end .0) at) λ n p x. wp-check _ _ λ t. wp-check _ _ λ u. wp-check _ _ λ v.
-    wp-after (number-on _ _ (at + n) p) λ held q y. wp-check _ _ λ w.
+    wp-after (number-on _ _ (at + n) p) λ contained q y. wp-check _ _ λ w.
     wp-place _ q (wp-after (number-on _ _ (at + n) q) λ header r z. wp-place _ r (wp-check _ _ λ a. wp-check _ _ λ b. wp-ret (y .3))))
 
 -- ---- the front of a node
 
-refers-stay : (held k : ℕ) → RefersTo held k → ((k ≡ 2) → ⊥) × ((k ≡ 3) → ⊥) → (k ≡ 1) ⊎ ((k ≡ 4) × (held ≡ 0))
-refers-stay held k (inl e) s = inl e
-refers-stay held k (inr (z, inl e)) s = absurd (s .0 e)
-refers-stay held k (inr (z, inr (inl e))) s = absurd (s .1 e)
-refers-stay held k (inr (z, inr (inr e))) s = inr (e, z)
+refers-stay : (contained k : ℕ) → RefersTo contained k → ((k ≡ 2) → ⊥) × ((k ≡ 3) → ⊥) → (k ≡ 1) ⊎ ((k ≡ 4) × (contained ≡ 0))
+refers-stay contained k (inl e) s = inl e
+refers-stay contained k (inr (z, inl e)) s = absurd (s .0 e)
+refers-stay contained k (inr (z, inr (inl e))) s = absurd (s .1 e)
+refers-stay contained k (inr (z, inr (inr e))) s = inr (e, z)
 
 module _ {f : List ℕ} {say : ℕ → Item → Content} (keeps : Keeps f say) (x : Context) where
-  front-made : (parent depth p : ℕ) (h : head.Head) (m m′ : Made) (o : Rest) (cs : List Content) → h .held < 2 ^ 28 → m .nodes < x .limits .nodes → Grouped (x .types) (m .nodes) cs → m .items + length cs ≤ x .limits .items → m′ ≡ plusItems (length cs) m
-      → PacksOf f (h .held) (o .unpackers) → RefersTo (h .held) (o .reference .kind)
+  front-made : (parent depth p : ℕ) (h : head.Head) (m m′ : Made) (o : Rest) (cs : List Content) → h .contained < 2 ^ 28 → m .nodes < x .limits .nodes → Grouped (x .types) (m .nodes) cs → m .items + length cs ≤ x .limits .items → m′ ≡ plusItems (length cs) m
+      → PacksOf f (h .contained) (o .unpackers) → RefersTo (h .contained) (o .reference .kind)
       → Front (x .limits) (x .types) parent depth m (shape f (node.rowOf p h parent depth 0 (o .reference) (o .unpackers) (m′ .items - m .items))) cs
   unfolding shape
   front-made parent depth p h m m′ o cs few room groups r made packs refers =
@@ -119,7 +119,7 @@ module _ {f : List ℕ} {say : ℕ → Item → Content} (keeps : Keeps f say) (
         packs = packs .packs;
         unpackers = packs .are;
         packed = packs .text;
-        layers = packs .count;
+        unpackerCount = packs .count;
         parent-is = refl;
         depth-is = refl;
         in-tree = refl;
@@ -127,7 +127,7 @@ module _ {f : List ℕ} {say : ℕ → Item → Content} (keeps : Keeps f say) (
         few = few;
         node-room = room;
         item-room = r;
-        refers = λ s. refers-stay (h .held) (o .reference .kind) refers s;
+        refers = λ s. refers-stay (h .contained) (o .reference .kind) refers s;
         unpacked = elim (packs .unpacked) [ inl z ↦ inl z | inr z ↦ inr (sym (ap length (packs .text)) ∙ z) ];
         empty = λ z. rw (ne-eqb _ _ z) refl;
       }
@@ -141,8 +141,8 @@ module _ {f : List ℕ} {say : ℕ → Item → Content} (keeps : Keeps f say) (
       (post-step (head-quiet (collect-ignores say f) (inTree least end)) λ h p e.
       let i = head-inside (inTree least end) f at e in
       post-after (metadata-says keeps x (m .nodes) (at + h .header) (omega arith) m p σ r) λ m′ q τ s.
-      post-step (rest-quiet (collect-ignores say f) (x .first) (x .size) (h .held) (at + h .header) (at + h .size)) λ u v e₂.
-      let w = post-ran (rest-post f (x .first) (x .size) (h .held) (at + h .header) (at + h .size) q (omega arith)) e₂ in
+      post-step (rest-quiet (collect-ignores say f) (x .headerEnd) (x .size) (h .contained) (at + h .header) (at + h .size)) λ u v e₂.
+      let w = post-ran (rest-post f (x .headerEnd) (x .size) (h .contained) (at + h .header) (at + h .size) q (omega arith)) e₂ in
       post-ret (s .contents, front-made parent depth at h m m′ u (s .contents) (at-end any-free f (head-few (inTree least end) at) e) room (s .are) (s .room) (s .made) (w .0) (w .1), s .made, s .left, i .3))
 
 -- ---- nodes
@@ -162,12 +162,12 @@ record GrownOne (x : Context) (d parent : ℕ) (m : Made) (σ : Collected) (m′
   shape : Shape
   own : List Content
   front : Front (x .limits) (x .types) parent (16 - d) m shape own
-  held : List Shape
+  contained : List Shape
   contents : List Content
   inner : List (List ℕ)
-  are : Nodes (x .limits) (x .types) d (m .nodes) (madeBy (shape ∷ []) own m) (shape .held) held contents inner
-  made : m′ ≡ madeBy (shape ∷ held) (own ++ contents) m
-  left : τ ≡ withRows σ (shape ∷ held) (own ++ contents)
+  are : Nodes (x .limits) (x .types) d (m .nodes) (madeBy (shape ∷ []) own m) (shape .contained) contained contents inner
+  made : m′ ≡ madeBy (shape ∷ contained) (own ++ contents) m
+  left : τ ≡ withRows σ (shape ∷ contained) (own ++ contents)
   room : m′ .items ≤ x .limits .items
 
 grown-none : (x : Context) (d parent : ℕ) (m : Made) (q : ℕ) (σ : Collected) → m .items ≤ x .limits .items → Grown x d parent m σ 0 m q σ
@@ -180,21 +180,21 @@ grown-more : (x : Context) (d parent n : ℕ) {m m₁ m₂ : Made} {p q : ℕ} {
 grown-more x d parent n {m = m} {m₁ = m₁} {m₂ = m₂} {σ = σ} s t =
     let a : ℕ = length (s .own ++ s .contents) in
     let y = length-append (s .own ++ s .contents) (t .contents) in
-    let z = length-append (s .held) (t .shapes) in
-    let k₁ : m .nodes + suc (length (s .held)) + length (t .shapes) ≡ m .nodes + suc (length (s .held ++ t .shapes)) = omega arith in
+    let z = length-append (s .contained) (t .shapes) in
+    let k₁ : m .nodes + suc (length (s .contained)) + length (t .shapes) ≡ m .nodes + suc (length (s .contained ++ t .shapes)) = omega arith in
     let k₂ : m .items + a + length (t .contents) ≡ m .items + length (s .own ++ s .contents ++ t .contents) = omega arith in
     record {
-      shapes = s .shape ∷ (s .held ++ t .shapes);
+      shapes = s .shape ∷ (s .contained ++ t .shapes);
       contents = s .own ++ s .contents ++ t .contents;
       texts = wholeText (s .shape) (s .own) (joined (s .inner)) ∷ t .texts;
       are = more (s .front) (s .are) (subst (λ v. Nodes (x .limits) (x .types) (suc d) parent v n (t .shapes) (t .contents) (t .texts)) (s .made) (t .are));
       made = t .made ∙ ap (madeBy (t .shapes) (t .contents)) (s .made) ∙ rw (k₁, k₂) refl;
-      left = t .left ∙ ap (λ w. withRows w (t .shapes) (t .contents)) (s .left) ∙ rw (append-assoc (σ .nodes) (s .shape ∷ s .held) (t .shapes), append-assoc (σ .items) (s .own ++ s .contents) (t .contents)) refl;
+      left = t .left ∙ ap (λ w. withRows w (t .shapes) (t .contents)) (s .left) ∙ rw (append-assoc (σ .nodes) (s .shape ∷ s .contained) (t .shapes), append-assoc (σ .items) (s .own ++ s .contents) (t .contents)) refl;
       room = t .room;
     }
 
 grown-one : (x : Context) (d parent : ℕ) {m m₁ m₂ : Made} {q : ℕ} {σ τ υ : Collected} (r : Shape) (cs : List Content) → Front (x .limits) (x .types) parent (16 - d) m r cs → m₁ ≡ plusItems (length cs) m → τ ≡ withItems σ cs
-    → Grown x d (m .nodes) (plusNode m₁) (record { nodes = τ .nodes ++ r ∷ []; items = τ .items }) (r .held) m₂ q υ → GrownOne x d parent m σ m₂ q υ
+    → Grown x d (m .nodes) (plusNode m₁) (record { nodes = τ .nodes ++ r ∷ []; items = τ .items }) (r .contained) m₂ q υ → GrownOne x d parent m σ m₂ q υ
 grown-one x d parent {m = m} {m₁ = m₁} {σ = σ} r cs f e l t =
     let y = length-append cs (t .contents) in
     let k₁ : m .nodes + 1 + length (t .shapes) ≡ m .nodes + suc (length (t .shapes)) = omega arith in
@@ -203,18 +203,18 @@ grown-one x d parent {m = m} {m₁ = m₁} {σ = σ} r cs f e l t =
       shape = r;
       own = cs;
       front = f;
-      held = t .shapes;
+      contained = t .shapes;
       contents = t .contents;
       inner = t .texts;
-      are = subst (λ v. Nodes (x .limits) (x .types) d (m .nodes) (plusNode v) (r .held) (t .shapes) (t .contents) (t .texts)) e (t .are);
+      are = subst (λ v. Nodes (x .limits) (x .types) d (m .nodes) (plusNode v) (r .contained) (t .shapes) (t .contents) (t .texts)) e (t .are);
       made = t .made ∙ ap (λ v. madeBy (t .shapes) (t .contents) (plusNode v)) e ∙ rw (k₁, k₂) refl;
       left = t .left ∙ ap (λ w. withRows (record { nodes = w .nodes ++ r ∷ []; items = w .items }) (t .shapes) (t .contents)) l ∙ rw (append-assoc (σ .nodes) (r ∷ []) (t .shapes), append-assoc (σ .items) cs (t .contents)) refl;
       room = t .room;
     }
 
-shape-held : (f : List ℕ) (r : front.Front) → shape f (r .row) .held ≡ r .row .held
+shape-contained : (f : List ℕ) (r : front.Front) → shape f (r .row) .contained ≡ r .row .contained
 unfolding shape
-shape-held f r = refl
+shape-contained f r = refl
 
 -- what is to be shown of n nodes with d levels left
 abbrev Say : (f : List ℕ) (say : ℕ → Item → Content) (x : Context) (d : ℕ) → Type 0
@@ -231,10 +231,10 @@ module _ {f : List ℕ} {say : ℕ → Item → Content} (keeps : Keeps f say) (
       let (cs, front, made, left, inside) = s in
       let k : w .made .items ≡ m .items + length cs = ap (λ (v : Made). v .items) made in
       post-skip _ _
-      (post-after (children (w .row .held) (m .nodes) (at + w .row .size) (plusNode (w .made)) _ _ (omega arith) (omega (arith, front .item-room))) λ m₂ p υ t.
+      (post-after (children (w .row .contained) (m .nodes) (at + w .row .size) (plusNode (w .made)) _ _ (omega arith) (omega (arith, front .item-room))) λ m₂ p υ t.
       post-place _ p
       (post-check _ _ λ full.
-      post-ret (grown-one x d parent (shape f (w .row)) cs front made left (subst (λ v. Grown x d (m .nodes) (plusNode (w .made)) (record { nodes = τ .nodes ++ shape f (w .row) ∷ []; items = τ .items }) v m₂ p υ) (sym (shape-held f w)) t)))))
+      post-ret (grown-one x d parent (shape f (w .row)) cs front made left (subst (λ v. Grown x d (m .nodes) (plusNode (w .made)) (record { nodes = τ .nodes ++ shape f (w .row) ∷ []; items = τ .items }) v m₂ p υ) (sym (shape-contained f w)) t)))))
 
   times-say : (d : ℕ) → Say f say x d → Say f say x (suc d)
   unfolding times
@@ -259,7 +259,7 @@ module _ {f : List ℕ} {say : ℕ → Item → Content} (keeps : Keeps f say) (
 -- ---- the tree
 
 one-node : {limits : Limits} {types : List Declared} {d parent : ℕ} {m : Made} {r : Shape} {rs : List Shape} {cs ds : List Content} {inner : List (List ℕ)} → Front limits types parent (16 - d) m r cs
-    → Nodes limits types d (m .nodes) (madeBy (r ∷ []) cs m) (r .held) rs ds inner → Nodes limits types (suc d) parent m 1 (r ∷ rs) (cs ++ ds) (wholeText r cs (joined inner) ∷ [])
+    → Nodes limits types d (m .nodes) (madeBy (r ∷ []) cs m) (r .contained) rs ds inner → Nodes limits types (suc d) parent m 1 (r ∷ rs) (cs ++ ds) (wholeText r cs (joined inner) ∷ [])
 one-node {limits} {types} {d} {parent} {m} {r} {rs} {cs} {ds} {inner} f ys =
     subst (λ v. Nodes limits types (suc d) parent m 1 (r ∷ v) (cs ++ ds) (wholeText r cs (joined inner) ∷ [])) (append-nil rs)
     (subst (λ v. Nodes limits types (suc d) parent m 1 (r ∷ (rs ++ [])) v (wholeText r cs (joined inner) ∷ [])) (append-nil (cs ++ ds)) (more f ys none))

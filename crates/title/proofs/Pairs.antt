@@ -64,7 +64,7 @@ pub record ContentPair (R : ℕ → ℕ → Type 0) (c d : Content) : Type 0 whe
   pub bytes : Each R (c .bytes) (d .bytes)
 
 pub record ShapePair (R : ℕ → ℕ → Type 0) (r s : Shape) : Type 0 where
-  pub held : r .held ≡ s .held
+  pub contained : r .contained ≡ s .contained
   pub reference : r .reference ≡ s .reference
   pub unpackers : Each R (r .unpackers) (s .unpackers)
   pub rows : r .rows ≡ s .rows
@@ -130,11 +130,11 @@ module _ {R : ℕ → ℕ → Type 0} (same : (a : ℕ) → R a a) where
   items-pair none = none
   items-pair (more x xs) = fields (more (chosen (ap (λ n. leb n 1) (x .version)) (item-pair x (ap suc (further-pair xs))) none) (more (content-pair x) (more (items-pair xs) none)))
 
-  pub header-pair : {held held′ n n′ : ℕ} {rest rest′ : List ℕ} → held ≡ held′ → Each R rest rest′ → n ≡ n′ → headerOf held rest n ≡ headerOf held′ rest′ n′
+  pub header-pair : {contained contained′ n n′ : ℕ} {rest rest′ : List ℕ} → contained ≡ contained′ → Each R rest rest′ → n ≡ n′ → headerOf contained rest n ≡ headerOf contained′ rest′ n′
   unfolding headerOf
   header-pair h x e = rw (h, each-length x, e) refl
 
-  framed-pair : {held held′ n n′ : ℕ} {rest rest′ own own′ : List ℕ} → held ≡ held′ → Each R rest rest′ → Each R own own′ → n ≡ n′ → Each R (framed held rest own n) (framed held′ rest′ own′ n′)
+  framed-pair : {contained contained′ n n′ : ℕ} {rest rest′ own own′ : List ℕ} → contained ≡ contained′ → Each R rest rest′ → Each R own own′ → n ≡ n′ → Each R (framed contained rest own n) (framed contained′ rest′ own′ n′)
   unfolding framed
   framed-pair h x y e =
       let c = ap₂ _+_ (each-length y) e in
@@ -147,7 +147,7 @@ module _ {R : ℕ → ℕ → Type 0} (same : (a : ℕ) → R a a) where
 
   pub node-pair : {r s : Shape} {cs ds : List Content} {n n′ : ℕ} → ShapePair R r s → Each (ContentPair R) cs ds → n ≡ n′ → Each R (nodeText r cs n) (nodeText s ds n′)
   unfolding nodeText
-  node-pair x y e = framed-pair (x .held) (fields (more (block (items-pair y)) (more (block (x .unpackers)) none))) (own-pair x) e
+  node-pair x y e = framed-pair (x .contained) (fields (more (block (items-pair y)) (more (block (x .unpackers)) none))) (own-pair x) e
 
   whole-pair : {r s : Shape} {cs ds : List Content} {inner inner′ : List ℕ} → ShapePair R r s → Each (ContentPair R) cs ds → Each R inner inner′ → Each R (wholeText r cs inner) (wholeText s ds inner′)
   unfolding wholeText
@@ -158,7 +158,7 @@ module _ {R : ℕ → ℕ → Type 0} (same : (a : ℕ) → R a a) where
   outer-pair none y = none
   outer-pair (more x xs) y =
       let o = outer-pair xs (drop-pair (x .rows) y) in
-      more (whole-pair x (take-pair (x .rows) y) (fields (take-pair (x .held) o))) (drop-pair (x .held) o)
+      more (whole-pair x (take-pair (x .rows) y) (fields (take-pair (x .contained) o))) (drop-pair (x .contained) o)
 
   file-pair : {o o′ t t′ g g′ b b′ a a′ : List ℕ} → Each R o o′ → Each R t t′ → Each R g g′ → Each R b b′ → Each R a a′ → Each R (fileOf o t g b a) (fileOf o′ t′ g′ b′ a′)
   unfolding fileOf assembled treeStart

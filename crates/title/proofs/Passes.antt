@@ -21,7 +21,7 @@ total (n ∷ ns) = n + total ns
 unfoldable pub sizesOf : List Shape → List Content → List ℕ
 sizesOf [] cs = []
 sizesOf (r ∷ rs) cs =
-    (length (nodeText r (take (r .rows) cs) (total (take (r .held) (sizesOf rs (drop (r .rows) cs))))) + total (take (r .held) (sizesOf rs (drop (r .rows) cs)))) ∷ drop (r .held) (sizesOf rs (drop (r .rows) cs))
+    (length (nodeText r (take (r .rows) cs) (total (take (r .contained) (sizesOf rs (drop (r .rows) cs))))) + total (take (r .contained) (sizesOf rs (drop (r .rows) cs)))) ∷ drop (r .contained) (sizesOf rs (drop (r .rows) cs))
 
 take-lengths : (n : ℕ) (ss : List (List ℕ)) → take n (lengths ss) ≡ lengths (take n ss)
 take-lengths zero ss = refl
@@ -42,8 +42,8 @@ pub sizes-are : (rs : List Shape) (cs : List Content) → sizesOf rs cs ≡ leng
 unfolding outer wholeText sizesOf
 sizes-are [] cs = refl
 sizes-are (r ∷ rs) cs =
-    let inner : List (List ℕ) = take (r .held) (outer rs (drop (r .rows) cs)) in
-    rw (sizes-are rs (drop (r .rows) cs), take-lengths (r .held) (outer rs (drop (r .rows) cs)), drop-lengths (r .held) (outer rs (drop (r .rows) cs)), total-lengths inner, length-append (nodeText r (take (r .rows) cs) (length (joined inner))) (joined inner)) refl
+    let inner : List (List ℕ) = take (r .contained) (outer rs (drop (r .rows) cs)) in
+    rw (sizes-are rs (drop (r .rows) cs), take-lengths (r .contained) (outer rs (drop (r .rows) cs)), drop-lengths (r .contained) (outer rs (drop (r .rows) cs)), total-lengths inner, length-append (nodeText r (take (r .rows) cs) (length (joined inner))) (joined inner)) refl
 
 -- ---- the second pass
 
@@ -53,9 +53,9 @@ joined-append (s ∷ a) b = ap (λ v. s ++ v) (joined-append a b) ∙ sym (appen
 
 -- a node's own bytes, and then those of the rows after it
 pub in-row-order : (r : Shape) (rs : List Shape) (cs : List Content)
-    → joined (outer (r ∷ rs) cs) ≡ nodeText r (take (r .rows) cs) (length (joined (take (r .held) (outer rs (drop (r .rows) cs))))) ++ joined (outer rs (drop (r .rows) cs))
+    → joined (outer (r ∷ rs) cs) ≡ nodeText r (take (r .rows) cs) (length (joined (take (r .contained) (outer rs (drop (r .rows) cs))))) ++ joined (outer rs (drop (r .rows) cs))
 unfolding outer wholeText sizesOf
 in-row-order r rs cs =
     let os : List (List ℕ) = outer rs (drop (r .rows) cs) in
-    let t : List ℕ = nodeText r (take (r .rows) cs) (length (joined (take (r .held) os))) in
-    append-assoc t (joined (take (r .held) os)) (joined (drop (r .held) os)) ∙ ap (λ v. t ++ v) (sym (joined-append (take (r .held) os) (drop (r .held) os)) ∙ ap joined (take-append-drop (r .held) os))
+    let t : List ℕ = nodeText r (take (r .rows) cs) (length (joined (take (r .contained) os))) in
+    append-assoc t (joined (take (r .contained) os)) (joined (drop (r .contained) os)) ∙ ap (λ v. t ++ v) (sym (joined-append (take (r .contained) os) (drop (r .contained) os)) ∙ ap joined (take-append-drop (r .contained) os))

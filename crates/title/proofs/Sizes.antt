@@ -52,52 +52,52 @@ module _ (fixed : ℕ) where
         let z : headerBytes fixed (lengthBytes fixed contents) ≤ headerBytes fixed a = least-up (λ j. lengthBytes fixed contents + j + fixed) (λ j. a + j + fixed) (omega arith) in
         (y, omega arith)
 
-module _ (held : ℕ) (rest : List ℕ) where
+module _ (contained : ℕ) (rest : List ℕ) where
   -- the header has as many bytes as NodeHeaderLength says
-  pub framed-header : (contents : ℕ) → headerOf held rest contents + contents < 2 ^ 28
-      → headerOf held rest contents ≡ length (vlq (headerOf held rest contents + contents)) + length (vlq held) + length (vlq (headerOf held rest contents)) + length rest
+  pub framed-header : (contents : ℕ) → headerOf contained rest contents + contents < 2 ^ 28
+      → headerOf contained rest contents ≡ length (vlq (headerOf contained rest contents + contents)) + length (vlq contained) + length (vlq (headerOf contained rest contents)) + length rest
   unfolding headerOf
   framed-header contents h =
-      let fixed : ℕ = length (vlq held) + length rest in
+      let fixed : ℕ = length (vlq contained) + length rest in
       let a : ℕ = lengthBytes fixed contents in
       let i : length (vlq (headerSize fixed a + contents)) ≡ a = vlq-length (headerSize fixed a + contents) ∙ length-short fixed contents h in
       let j : length (vlq (headerSize fixed a)) ≡ headerBytes fixed a = vlq-length (headerSize fixed a) ∙ header-short fixed a (omega arith) in
       omega (arith, header-is fixed a)
 
   -- NodeLength and NodeHeaderLength are each the least: in any byte counts a and b that hold both they have no fewer bytes
-  pub node-least : (contents : ℕ) → headerOf held rest contents + contents < 2 ^ 28 → (a b : ℕ) → 1 ≤ a → 1 ≤ b → a + length (vlq held) + b + length rest < 128 ^ b → a + length (vlq held) + b + length rest + contents < 128 ^ a
-      → (length (vlq (headerOf held rest contents + contents)) ≤ a) × (length (vlq (headerOf held rest contents)) ≤ b)
+  pub node-least : (contents : ℕ) → headerOf contained rest contents + contents < 2 ^ 28 → (a b : ℕ) → 1 ≤ a → 1 ≤ b → a + length (vlq contained) + b + length rest < 128 ^ b → a + length (vlq contained) + b + length rest + contents < 128 ^ a
+      → (length (vlq (headerOf contained rest contents + contents)) ≤ a) × (length (vlq (headerOf contained rest contents)) ≤ b)
   unfolding headerOf
   node-least contents small a b l m h k =
-      let fixed : ℕ = length (vlq held) + length rest in
+      let fixed : ℕ = length (vlq contained) + length rest in
       let w = bytes-least fixed contents a b l m (omega arith) (omega arith) in
       let c : ℕ = lengthBytes fixed contents in
       let i = vlq-length (headerSize fixed c + contents) ∙ length-short fixed contents small in
       let j = vlq-length (headerSize fixed c) ∙ header-short fixed c (omega arith) in
       (omega arith, omega arith)
 
-  header-most : (contents : ℕ) → headerOf held rest contents ≤ length (vlq (headerOf held rest contents + contents)) + length (vlq held) + length (vlq (headerOf held rest contents)) + length rest
+  header-most : (contents : ℕ) → headerOf contained rest contents ≤ length (vlq (headerOf contained rest contents + contents)) + length (vlq contained) + length (vlq (headerOf contained rest contents)) + length rest
   unfolding headerOf
   header-most contents =
-      let fixed : ℕ = length (vlq held) + length rest in
+      let fixed : ℕ = length (vlq contained) + length rest in
       let a : ℕ = lengthBytes fixed contents in
       omega (arith, header-is fixed a, length-within fixed contents, header-within fixed a, vlq-length (headerSize fixed a + contents), vlq-length (headerSize fixed a))
 
   module _ (own : List ℕ) (n : ℕ) where
     -- a node has as many bytes as NodeLength says, and never fewer
-    pub framed-length : headerOf held rest (length own + n) + (length own + n) < 2 ^ 28 → length (framed held rest own n) + n ≡ headerOf held rest (length own + n) + (length own + n)
+    pub framed-length : headerOf contained rest (length own + n) + (length own + n) < 2 ^ 28 → length (framed contained rest own n) + n ≡ headerOf contained rest (length own + n) + (length own + n)
     unfolding framed
     framed-length h =
         let c : ℕ = length own + n in
-        let H : ℕ = headerOf held rest c in
-        omega (arith, joined-length (vlq (H + c) ∷ vlq held ∷ vlq H ∷ rest ∷ own ∷ []), framed-header c h)
+        let H : ℕ = headerOf contained rest c in
+        omega (arith, joined-length (vlq (H + c) ∷ vlq contained ∷ vlq H ∷ rest ∷ own ∷ []), framed-header c h)
 
-    pub framed-most : headerOf held rest (length own + n) + (length own + n) ≤ length (framed held rest own n) + n
+    pub framed-most : headerOf contained rest (length own + n) + (length own + n) ≤ length (framed contained rest own n) + n
     unfolding framed
     framed-most =
         let c : ℕ = length own + n in
-        let H : ℕ = headerOf held rest c in
-        omega (arith, joined-length (vlq (H + c) ∷ vlq held ∷ vlq H ∷ rest ∷ own ∷ []), header-most c)
+        let H : ℕ = headerOf contained rest c in
+        omega (arith, joined-length (vlq (H + c) ∷ vlq contained ∷ vlq H ∷ rest ∷ own ∷ []), header-most c)
 
 -- ---- FileLength, TreeStart and TreeEnd
 

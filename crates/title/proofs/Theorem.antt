@@ -99,18 +99,18 @@ description-is d a b c e f g h i j = rw (a, b, c, e, f, g, h, i, j) refl
 
 -- ---- the new file
 
-framed-some : (held : ℕ) (rest own : List ℕ) (n : ℕ) → 0 < length (framed held rest own n)
+framed-some : (contained : ℕ) (rest own : List ℕ) (n : ℕ) → 0 < length (framed contained rest own n)
 unfolding framed
-framed-some held rest own n =
+framed-some contained rest own n =
     let c : ℕ = length own + n in
-    let H : ℕ = headerOf held rest c in
-    omega (arith, joined-length (vlq (H + c) ∷ vlq held ∷ vlq H ∷ rest ∷ own ∷ []), vlq-some held)
+    let H : ℕ = headerOf contained rest c in
+    omega (arith, joined-length (vlq (H + c) ∷ vlq contained ∷ vlq H ∷ rest ∷ own ∷ []), vlq-some contained)
 
 some-text : (r : Shape) (cs : List Content) (inner : List ℕ) → 0 < length (wholeText r cs inner)
 unfolding wholeText nodeText
 some-text r cs inner =
     let rest : List ℕ = joined (sized (itemsText cs) ∷ sized (r .unpackers) ∷ []) in
-    omega (arith, length-append (framed (r .held) rest (ownText r) (length inner)) inner, framed-some (r .held) rest (ownText r) (length inner))
+    omega (arith, length-append (framed (r .contained) rest (ownText r) (length inner)) inner, framed-some (r .contained) rest (ownText r) (length inner))
 
 pub tree-some : {lim : Limits} {types : List Declared} {d parent : ℕ} {m : Made} {rs : List Shape} {cs : List Content} {b : List ℕ} → Nodes lim types d parent m 1 rs cs (b ∷ []) → 0 < length b
 tree-some (more {r = r} {cs = cs} {inner = inner} f ys xs) = some-text r cs (joined inner)

@@ -136,9 +136,9 @@ either a b (inr e) = rw e (or-true (eqb a 0))
     or-true true = refl
     or-true false = refl
 
-module _ (g : List ℕ) (big : length g < 2 ^ 28) (held inner q : ℕ) {ss : List (List ℕ)} (us : Unpackers ss) where
-  unpackers-run : (held ≡ 0) ⊎ (length (joined ss) ≡ 0) → Lies g q (sized (joined ss)) → q + length (sized (joined ss)) ≡ inner
-      → run (unpackers held inner) g q ≡ ok (record { place = record { 0 = q + length (vlq (length (joined ss))) }; count = length ss }) inner
+module _ (g : List ℕ) (big : length g < 2 ^ 28) (contained inner q : ℕ) {ss : List (List ℕ)} (us : Unpackers ss) where
+  unpackers-run : (contained ≡ 0) ⊎ (length (joined ss) ≡ 0) → Lies g q (sized (joined ss)) → q + length (sized (joined ss)) ≡ inner
+      → run (unpackers contained inner) g q ≡ ok (record { place = record { 0 = q + length (vlq (length (joined ss))) }; count = length ss }) inner
   unfolding unpackers entries
   unpackers-run f h i =
       let n : ℕ = length (joined ss) in
@@ -149,12 +149,12 @@ module _ (g : List ℕ) (big : length g < 2 ^ 28) (held inner q : ℕ) {ss : Lis
       let e₂ : run (many (r + n) (node.unpacker (r + n)) 0) g r ≡ ok (0 + length ss) (r + n) = run-many g (r + n) r (node.unpacker (r + n)) 0 ∙ unpackers-back (r + n) g us (r + n - r) 0 r (s .1) refl (omega arith) in
       let e₃ : r + n ≡ inner = omega arith in
       let e₄ : 0 + length ss ≡ length ss = omega arith in
-      rw (← e₃) (simp (running, e₁, either held n f, e₂, e₄))
+      rw (← e₃) (simp (running, e₁, either contained n f, e₂, e₄))
 
 -- the same of a text t of k unpackers
-pub packs-back : (g : List ℕ) → length g < 2 ^ 28 → (held inner q : ℕ) {ss : List (List ℕ)} → Unpackers ss → (t : List ℕ) (k : ℕ) → joined ss ≡ t → length ss ≡ k → (held ≡ 0) ⊎ (length t ≡ 0) → Lies g q (sized t) → q + length (sized t) ≡ inner
-    → run (unpackers held inner) g q ≡ ok (record { place = record { 0 = q + length (vlq (length t)) }; count = k }) inner
-packs-back g big held inner q us t k a b z h i = rw (← b, ← a) (unpackers-run g big held inner q us (rw (← a) at z) (rw (← a) at h) (rw (← a) at i))
+pub packs-back : (g : List ℕ) → length g < 2 ^ 28 → (contained inner q : ℕ) {ss : List (List ℕ)} → Unpackers ss → (t : List ℕ) (k : ℕ) → joined ss ≡ t → length ss ≡ k → (contained ≡ 0) ⊎ (length t ≡ 0) → Lies g q (sized t) → q + length (sized t) ≡ inner
+    → run (unpackers contained inner) g q ≡ ok (record { place = record { 0 = q + length (vlq (length t)) }; count = k }) inner
+packs-back g big contained inner q us t k a b z h i = rw (← b, ← a) (unpackers-run g big contained inner q us (rw (← a) at z) (rw (← a) at h) (rw (← a) at i))
 
 pub packs-again : (g : List ℕ) {ss : List (List ℕ)} → Unpackers ss → (t : List ℕ) (k q : ℕ) → joined ss ≡ t → length ss ≡ k → Lies g q t → answer (run (times k (unpackerText g) []) g q) ≡ t
 packs-again g us t k q a b h = rw (← b, ← a) (ap answer (unpackers-again g us [] q (rw (← a) at h)))

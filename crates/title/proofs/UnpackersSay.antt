@@ -150,12 +150,12 @@ entries-say f end o at l =
     λ k q _ w. post-ret (refl, w))
 
 -- the unpackers of a node, of which a folder has none
-pub record PacksOf (f : List ℕ) (held : ℕ) (u : unpackers.Unpackers) : Type 0 where
+pub record PacksOf (f : List ℕ) (contained : ℕ) (u : unpackers.Unpackers) : Type 0 where
   pub packs : List (List ℕ)
   pub are : Unpackers packs
   pub count : length packs ≡ u .count
   pub text : joined packs ≡ answer (run (times (u .count) (unpackerText f) []) f (u .place .0))
-  pub unpacked : (held ≡ 0) ⊎ (length (joined packs) ≡ 0)
+  pub unpacked : (contained ≡ 0) ⊎ (length (joined packs) ≡ 0)
 
 either : (a b : ℕ) → (eqb a 0 || eqb b 0) ≡ true → (a ≡ 0) ⊎ (b ≡ 0)
 either a b t = by (eqb a 0) refl t
@@ -168,9 +168,9 @@ empty-packs : (ss : List (List ℕ)) → length ss ≡ 0 → length (joined ss) 
 empty-packs [] e = refl
 empty-packs (s ∷ ss) e = absurd (omega arith)
 
-unpackers-post : (f : List ℕ) (held end : ℕ) → end ≤ length f → (at : ℕ) → Post nothing f (unpackers held end) (Holds (λ u q. PacksOf f held u)) at tt
+unpackers-post : (f : List ℕ) (contained end : ℕ) → end ≤ length f → (at : ℕ) → Post nothing f (unpackers contained end) (Holds (λ u q. PacksOf f contained u)) at tt
 unfolding unpackers
-unpackers-post f held end o at =
+unpackers-post f contained end o at =
     post-place _ at
     (post-step (block-quiet unpackFrame 8 end) λ n q e.
     post-check _ _ λ t.
@@ -185,11 +185,11 @@ unpackers-post f held end o at =
       are = w .are;
       count = sym (w .count);
       text = rw (v .0) (ap answer (sym (w .text)));
-      unpacked = elim (either held n t) [ inl z ↦ inl z | inr z ↦ inr (empty-packs (w .packs) (omega arith)) ];
+      unpacked = elim (either contained n t) [ inl z ↦ inl z | inr z ↦ inr (empty-packs (w .packs) (omega arith)) ];
     }))
 
-pub unpackers-say : (f : List ℕ) (held end at : ℕ) → end ≤ length f → {u : unpackers.Unpackers} {q : ℕ} → run (unpackers held end) f at ≡ ok u q → PacksOf f held u
-unpackers-say f held end at o e = post-ran (unpackers-post f held end o at) e
+pub unpackers-say : (f : List ℕ) (contained end at : ℕ) → end ≤ length f → {u : unpackers.Unpackers} {q : ℕ} → run (unpackers contained end) f at ≡ ok u q → PacksOf f contained u
+unpackers-say f contained end at o e = post-ran (unpackers-post f contained end o at) e
 
 -- where they were read again: after the length, and not past where they end
 pub record Reread (f : List ℕ) (at : ℕ) (u : unpackers.Unpackers) (q : ℕ) : Type 0 where
@@ -199,9 +199,9 @@ pub record Reread (f : List ℕ) (at : ℕ) (u : unpackers.Unpackers) (q : ℕ) 
   pub after : at ≤ u .place .0
   pub before : stop ≤ q
 
-reread-post : (f : List ℕ) (held end : ℕ) → end ≤ length f → (at : ℕ) → Post nothing f (unpackers held end) (Holds (Reread f at)) at tt
+reread-post : (f : List ℕ) (contained end : ℕ) → end ≤ length f → (at : ℕ) → Post nothing f (unpackers contained end) (Holds (Reread f at)) at tt
 unfolding unpackers
-reread-post f held end o at =
+reread-post f contained end o at =
     post-place _ at
     (post-step (block-quiet unpackFrame 8 end) λ n q e.
     post-check _ _ λ t.
@@ -210,5 +210,5 @@ reread-post f held end o at =
     (post-weaken (entries-say f (q + n) (omega arith) q (omega arith)) λ u r _ v.
     record { text = joined (v .1 .packs); stop = r; ran = rw (v .0) (v .1 .text); after = omega (arith, v .0); before = omega arith }))
 
-pub unpackers-reread : (f : List ℕ) (held end at : ℕ) → end ≤ length f → {u : unpackers.Unpackers} {q : ℕ} → run (unpackers held end) f at ≡ ok u q → Reread f at u q
-unpackers-reread f held end at o e = post-ran (reread-post f held end o at) e
+pub unpackers-reread : (f : List ℕ) (contained end at : ℕ) → end ≤ length f → {u : unpackers.Unpackers} {q : ℕ} → run (unpackers contained end) f at ≡ ok u q → Reread f at u q
+unpackers-reread f contained end at o e = post-ran (reread-post f contained end o at) e

@@ -36,7 +36,7 @@ content f r = record {
   item = r .item;
   kind = r .kind;
   field = choose (eqb (r .kind) 1) 0 (r .field);
-  name = part f (r .field) (r .named);
+  name = part f (r .field) (r .nameLength);
   version = r .version;
   declared = r .declared;
   format = r .format;
@@ -100,12 +100,12 @@ answer (refused n p) = []
 -- ---- a node: a node row, with its unpackers and its resource
 
 pub record Shape : Type 0 where
-  pub held : ℕ
+  pub contained : ℕ
   pub parent : ℕ
   pub depth : ℕ
   pub reference : ℕ
   pub unpackers : List ℕ
-  pub layers : ℕ
+  pub unpackerCount : ℕ
   pub rows : ℕ
   pub body : List ℕ
   pub detached : ℕ
@@ -113,14 +113,14 @@ pub record Shape : Type 0 where
 -- the body is inline data or a URI; a folder has none of its own
 unfoldable pub shape : List ℕ → Node → Shape
 shape f r = record {
-  held = r .held;
+  contained = r .contained;
   parent = r .parent;
   depth = r .depth;
   reference = r .reference;
-  unpackers = answer (run (times (r .layers) (unpackerText f) []) f (r .unpackers));
-  layers = r .layers;
+  unpackers = answer (run (times (r .unpackerCount) (unpackerText f) []) f (r .unpackers));
+  unpackerCount = r .unpackerCount;
   rows = r .rows;
-  body = choose (eqb (r .held) 0) (part f (r .target) (r .extent)) [];
+  body = choose (eqb (r .contained) 0) (part f (r .target) (r .extent)) [];
   detached = r .detached;
 }
 

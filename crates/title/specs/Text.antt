@@ -53,12 +53,12 @@ unfoldable pub lengthBytes : (fixed contents : ℕ) → ℕ
 lengthBytes fixed contents = least (λ a. headerSize fixed a + contents)
 
 -- NodeHeaderLength of a node that holds so many nodes, and whose header has `rest` behind its three numbers
-unfoldable pub headerOf : (held : ℕ) → (rest : List ℕ) → (contents : ℕ) → ℕ
-headerOf held rest contents = headerSize (length (vlq held) + length rest) (lengthBytes (length (vlq held) + length rest) contents)
+unfoldable pub headerOf : (contained : ℕ) → (rest : List ℕ) → (contents : ℕ) → ℕ
+headerOf contained rest contents = headerSize (length (vlq contained) + length rest) (lengthBytes (length (vlq contained) + length rest) contents)
 
 -- NodeLength, NodeContainedItems, NodeHeaderLength, the rest of the header, and what follows it but for the nodes that it holds, which have n bytes
-unfoldable pub framed : (held : ℕ) → (rest own : List ℕ) → (n : ℕ) → List ℕ
-framed held rest own n = joined (vlq (headerOf held rest (length own + n) + (length own + n)) ∷ vlq held ∷ vlq (headerOf held rest (length own + n)) ∷ rest ∷ own ∷ [])
+unfoldable pub framed : (contained : ℕ) → (rest own : List ℕ) → (n : ℕ) → List ℕ
+framed contained rest own n = joined (vlq (headerOf contained rest (length own + n) + (length own + n)) ∷ vlq contained ∷ vlq (headerOf contained rest (length own + n)) ∷ rest ∷ own ∷ [])
 
 -- ReferenceTypeID; a URI with its length, or inline data
 unfoldable pub ownText : Shape → List ℕ
@@ -66,7 +66,7 @@ ownText r = joined (vlq (r .reference) ∷ choose (eqb (r .reference) 4) (sized 
 
 -- a node with these contents, but for the nodes that it holds, which have n bytes
 unfoldable pub nodeText : Shape → List Content → (n : ℕ) → List ℕ
-nodeText r cs n = framed (r .held) (joined (sized (itemsText cs) ∷ sized (r .unpackers) ∷ [])) (ownText r) n
+nodeText r cs n = framed (r .contained) (joined (sized (itemsText cs) ∷ sized (r .unpackers) ∷ [])) (ownText r) n
 
 -- a node with the nodes that it holds
 unfoldable pub wholeText : Shape → List Content → (inner : List ℕ) → List ℕ
@@ -77,7 +77,7 @@ wholeText r cs inner = nodeText r cs (length inner) ++ inner
 unfoldable pub outer : List Shape → List Content → List (List ℕ)
 outer [] cs = []
 outer (r ∷ rs) cs =
-    wholeText r (take (r .rows) cs) (joined (take (r .held) (outer rs (drop (r .rows) cs)))) ∷ drop (r .held) (outer rs (drop (r .rows) cs))
+    wholeText r (take (r .rows) cs) (joined (take (r .contained) (outer rs (drop (r .rows) cs)))) ∷ drop (r .contained) (outer rs (drop (r .rows) cs))
 
 -- ---- the file: `fixed` bytes before the tree are not in FileLength, TreeStart and TreeEnd, which have x, y and z bytes
 

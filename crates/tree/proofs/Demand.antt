@@ -29,7 +29,7 @@ use Rattle.metadata.specs.Metadata.{Context}
 use Rattle.metadata.specs.declared.Limits.{Limits}
 use Rattle.metadata.specs.declared.Made.{Made}
 use Rattle.metadata.proofs.Ends.{OfNames, Nothing, Given, Inside}
-use Rattle.node.specs.Node.{headerLength, head, front, loose}
+use Rattle.node.specs.Node.{headerLength, head, front, outsideTree}
 use Rattle.tree.specs.Tree.{tree, node, detached}
 use Rattle.tree.specs.Reading.{nodeOf, nodesOf, itemsOf, Result, good, bad, Reading, rows, refusal, madeBy, logged, lost, offsetAt, outside, partEnd, takenFrom, detachedAt, reach, follow, reading, context, readTree, readFile}
 use Rattle.tree.specs.Rows.{nodeAt, itemAt, if_then_else_}
@@ -42,14 +42,14 @@ use Rattle.tree.proofs.Follow.{never, stops, treeOf, target, Step, step
 
 -- ---- the place of the number that names a detached node matters to a refusal alone
 
-loose-near : (end taken p q : ℕ) → Near (head (loose end taken p)) (head (loose end taken q))
+outside-near : (end taken p q : ℕ) → Near (head (outsideTree end taken p)) (head (outsideTree end taken q))
 unfolding head
-loose-near end taken p q =
-    near-then place λ at. near-then _ λ size. near-check _ _ _ _ _ (near-check _ _ _ _ _ (near-check _ _ _ _ _ (near-then _ λ held. near-check _ _ _ _ _ (near-same (headerLength at size held)))))
+outside-near end taken p q =
+    near-then place λ at. near-then _ λ size. near-check _ _ _ _ _ (near-check _ _ _ _ _ (near-check _ _ _ _ _ (near-then _ λ contained. near-check _ _ _ _ _ (near-same (headerLength at size contained)))))
 
 detached-near : (x : Context) (end taken p q : ℕ) (m : Made) → Near (detached x end taken p m) (detached x end taken q m)
 unfolding detached node front
-detached-near x end taken p q m = near-then place λ at. near-check _ _ _ _ _ (near-on _ (near-then place λ at. near-on _ (loose-near end taken p q)))
+detached-near x end taken p q m = near-then place λ at. near-check _ _ _ _ _ (near-on _ (near-then place λ at. near-on _ (outside-near end taken p q)))
 
 -- ---- files that agree on what the one's log does not leave free are read alike
 
@@ -149,7 +149,7 @@ module _ (free : Part → Bool) (f g : List ℕ) where
 
   -- what is alike of a row
   abbrev pub RowAlike : Item → Type 0
-  RowAlike r = ((r .kind ≡ 0) ⊎ Agree f g (r .field) (r .named)) × (T (not (free (itemRow r))) → Agree f g (r .place) (r .size))
+  RowAlike r = ((r .kind ≡ 0) ⊎ Agree f g (r .field) (r .nameLength)) × (T (not (free (itemRow r))) → Agree f g (r .place) (r .size))
 
   named-alike : {A B C : Type 0} → A ⊎ (B × C) → A ⊎ C
   named-alike (inl x) = inl x

@@ -12,25 +12,25 @@ use Rattle.cursor.specs.Rows.{Part, nodeRow, itemRow, plain, P, Events}
 use Rattle.cursor.specs.declared.Node.{Node}
 use Rattle.cursor.specs.declared.Item.{Item}
 use Rattle.cursor.proofs.Quiet.{still}
-use Rattle.metadata.specs.Tables.{State, state, put}
+use Rattle.metadata.specs.Tables.{nodeWidth, itemWidth, State, state, put}
 use Rattle.tree.specs.Reading.{nodesOf, itemsOf, allNodes, allItems}
 
 -- the rows of events, behind those that are there
 abbrev pub filled : Events → State → State
 filled es σ = record {
-  nodes = sets (σ .nodes) (σ .made .nodes * 13) (allNodes (nodesOf es));
-  items = sets (σ .items) (σ .made .items * 10) (allItems (itemsOf es));
+  nodes = sets (σ .nodes) (σ .made .nodes * nodeWidth) (allNodes (nodesOf es));
+  items = sets (σ .items) (σ .made .items * itemWidth) (allItems (itemsOf es));
   made = record { nodes = σ .made .nodes + length (nodesOf es); items = σ .made .items + length (itemsOf es) };
 }
 
 filled-more : (w : Part) (p n : ℕ) (es : Events) (σ : State) → filled es (put w p n σ) ≡ filled (passed w p n ∷ es) σ
 unfolding rowsOf
 filled-more (nodeRow r) p n es σ =
-    let a : (σ .made .nodes + 1) * 13 ≡ suc (suc (suc (suc (suc (suc (suc (suc (suc (suc (suc (suc (suc (σ .made .nodes * 13))))))))))))) = omega arith in
+    let a : (σ .made .nodes + 1) * nodeWidth ≡ suc (suc (suc (suc (suc (suc (suc (suc (suc (suc (suc (suc (suc (σ .made .nodes * nodeWidth))))))))))))) = omega arith in
     let b : σ .made .nodes + 1 + length (nodesOf es) ≡ σ .made .nodes + suc (length (nodesOf es)) = omega arith in
     rw (a, b)
 filled-more (itemRow r) p n es σ =
-    let a : (σ .made .items + 1) * 10 ≡ suc (suc (suc (suc (suc (suc (suc (suc (suc (suc (σ .made .items * 10)))))))))) = omega arith in
+    let a : (σ .made .items + 1) * itemWidth ≡ suc (suc (suc (suc (suc (suc (suc (suc (suc (suc (σ .made .items * itemWidth)))))))))) = omega arith in
     let b : σ .made .items + 1 + length (itemsOf es) ≡ σ .made .items + suc (length (itemsOf es)) = omega arith in
     rw (a, b)
 filled-more (plain x) p n es σ = refl
@@ -51,10 +51,10 @@ exec-fills (pass w n m) f at σ = exec-fills m f (at + n) (put w at n σ) ∙ ap
 
 -- ---- the words of rows
 
-pub nodes-length : (ns : List Node) → length (allNodes ns) ≡ length ns * 13
+pub nodes-length : (ns : List Node) → length (allNodes ns) ≡ length ns * nodeWidth
 nodes-length [] = refl
 nodes-length (r ∷ ns) = let e = nodes-length ns in omega arith
 
-pub items-length : (is : List Item) → length (allItems is) ≡ length is * 10
+pub items-length : (is : List Item) → length (allItems is) ≡ length is * itemWidth
 items-length [] = refl
 items-length (r ∷ is) = let e = items-length is in omega arith

@@ -18,14 +18,14 @@ use Rattle.cursor.specs.declared.Node.{Node}
 use Rattle.cursor.proofs.Laws.{puts-on, rows-on}
 use Rattle.cursor.proofs.Quiet.{still, exec-puts}
 use Rattle.header.specs.Header.{Header}
-use Rattle.metadata.specs.Tables.{State, state, put}
+use Rattle.metadata.specs.Tables.{nodeWidth, State, state, put}
 use Rattle.metadata.specs.Told.{told, Fits, Gives}
 use Rattle.metadata.specs.declared.Limits.{Limits}
 use Rattle.metadata.specs.declared.Made.{Made}
 use Rattle.metadata.specs.declared.Walked.{Walked}
 use Rattle.metadata.specs.declared.Walked.the-variants.{Done, Refused}
 use Rattle.tree.specs.Reading.{nodeOf, nodesOf, itemsOf, allNodes, Result, good, bad, madeBy, logged, startsAt, lost, offsetAt, outside, partEnd, takenFrom, detachedAt, reach, follow, context}
-use Rattle.node.specs.Node.{loose}
+use Rattle.node.specs.Node.{outsideTree}
 use Rattle.tree.specs.Tree.{node, detached}
 use Rattle.tree.specs.Rows.{noNode, nodeFrom, nodesFrom, nodeAt, nodesIn, rowStarting, Rising, if_then_else_}
 use Rattle.tree.specs.Told.{Stands, said, left, Leaves}
@@ -54,7 +54,7 @@ module _ {lim : Limits} {size : ℕ} {σ : State} {log : Events} {tree : ℕ} {t
   made-is = ap₂ (λ (a : ℕ) (b : ℕ). record { nodes = a; items = b }) (sym node-count) (sym item-count)
 
   -- the log's rows are those that the table's words are read as
-  pub rows-stand : lim .nodes * 13 ≤ length t → nodesIn (m .nodes) t ≡ nodesOf log
+  pub rows-stand : lim .nodes * nodeWidth ≤ length t → nodesIn (m .nodes) t ≡ nodesOf log
   rows-stand room =
       let n = nodes-length (nodesOf log) in
       let c = node-count in
@@ -86,8 +86,8 @@ module _ {lim : Limits} {size : ℕ} {σ : State} {log : Events} {tree : ℕ} {t
 
 -- ---- what the calls that look at the table ask for
 
-module _ {lim : Limits} {size : ℕ} {σ : State} {log : Events} {tree : ℕ} {t u : List ℕ} {m : Made} (s : Stands lim size σ log tree t u m) (room : lim .nodes * 13 ≤ length t) where
-  pub stand-few : (tree ≤ m .nodes) × (m .nodes * 13 ≤ length t)
+module _ {lim : Limits} {size : ℕ} {σ : State} {log : Events} {tree : ℕ} {t u : List ℕ} {m : Made} (s : Stands lim size σ log tree t u m) (room : lim .nodes * nodeWidth ≤ length t) where
+  pub stand-few : (tree ≤ m .nodes) × (m .nodes * nodeWidth ≤ length t)
   stand-few = let n = node-count s in let f = tree-few (nodesOf log) in let e = s .first .tree-is in let g = s .fits .0 in (omega arith, omega arith)
 
   pub stand-rising : Rising (nodesIn tree t)
@@ -136,11 +136,11 @@ starts-not ns p l = by (startsAt ns p) refl
     by true e = let w = none-by ns p e in absurd (omega arith)
     by false e = refl
 
-module _ (lim : Limits) (f : List ℕ) (h : Header) {σ : State} {log : Events} {tree : ℕ} {t u : List ℕ} {m : Made} (s : Stands lim (length f) σ log tree t u m) (room : lim .nodes * 13 ≤ length t) (i : ℕ) (l : i < m .nodes) where
+module _ (lim : Limits) (f : List ℕ) (h : Header) {σ : State} {log : Events} {tree : ℕ} {t u : List ℕ} {m : Made} (s : Stands lim (length f) σ log tree t u m) (room : lim .nodes * nodeWidth ≤ length t) (i : ℕ) (l : i < m .nodes) where
   abbrev r : Node
   r = nodeAt (nodesOf log) i
 
-  pub row-words : nodeFrom t (i * 13) ≡ r
+  pub row-words : nodeFrom t (i * nodeWidth) ≡ r
   row-words = sym (node-at t (m .nodes) i l) ∙ ap (λ v. nodeAt v i) (rows-stand s room)
 
   reach-same : lost (nodesOf log) r ≡ false → (c : Cursor) → Leaves lim σ (Done m c) t u (reach lim f h log r)
@@ -148,12 +148,12 @@ module _ (lim : Limits) (f : List ℕ) (h : Header) {σ : State} {log : Events} 
   reach-same e c = rw e (leaves-same s c)
 
   -- no reference 3
-  pub reach-other : ((getD t (i * 13 + 6) 0 ≡ 3) → ⊥) → (c : Cursor) → Leaves lim σ (Done m c) t u (reach lim f h log r)
+  pub reach-other : ((getD t (i * nodeWidth + 6) 0 ≡ 3) → ⊥) → (c : Cursor) → Leaves lim σ (Done m c) t u (reach lim f h log r)
   unfolding lost
   reach-other n c = let q : (r .reference ≡ 3) → ⊥ = λ z. n (ap (λ (x : Node). x .reference) row-words ∙ z) in reach-same (ap (λ b. b && not (startsAt (nodesOf log) (r .target))) (ne-eqb _ _ q)) c
 
   -- a row starts there
-  pub reach-known : {k to : ℕ} → to ≡ getD t (i * 13 + 7) 0 → k ≡ rowStarting (nodesIn (m .nodes) t) to → k < m .nodes → (c : Cursor) → Leaves lim σ (Done m c) t u (reach lim f h log r)
+  pub reach-known : {k to : ℕ} → to ≡ getD t (i * nodeWidth + 7) 0 → k ≡ rowStarting (nodesIn (m .nodes) t) to → k < m .nodes → (c : Cursor) → Leaves lim σ (Done m c) t u (reach lim f h log r)
   unfolding lost
   reach-known {k} {to} a e j c =
       let z : to ≡ r .target = a ∙ ap (λ (x : Node). x .target) row-words in
@@ -165,7 +165,7 @@ module _ (lim : Limits) (f : List ℕ) (h : Header) {σ : State} {log : Events} 
       and-false true = refl
       and-false false = refl
 
-  module _ (three : getD t (i * 13 + 6) 0 ≡ 3) {k to : ℕ} (is : to ≡ getD t (i * 13 + 7) 0) (e : k ≡ rowStarting (nodesIn (m .nodes) t) to) (none : m .nodes ≤ k) where
+  module _ (three : getD t (i * nodeWidth + 6) 0 ≡ 3) {k to : ℕ} (is : to ≡ getD t (i * nodeWidth + 7) 0) (e : k ≡ rowStarting (nodesIn (m .nodes) t) to) (none : m .nodes ≤ k) where
     to-is : to ≡ r .target
     to-is = is ∙ ap (λ (x : Node). x .target) row-words
 
@@ -186,18 +186,18 @@ module _ (lim : Limits) (f : List ℕ) (h : Header) {σ : State} {log : Events} 
         rw (is-lost, o) (record { answer = ap (bad 16) z; fits = tt })
 
     -- a node is read there
-    pub reach-node : true ≡ outside h (length f) to → {named end taken : ℕ} → named ≡ offsetAt f (nodeAt (nodesIn (m .nodes) t) i) → end ≡ partEnd h (length f) to → taken ≡ takenFrom (nodesIn (m .nodes) t) to end
-        → {w : Walked} {t′ u′ : List ℕ} → Gives lim w t′ u′ (exec put (times 1 (node 17 (context lim h (length f)) (m .nodes) (loose end taken named)) m) f to (state t u m)) → Leaves lim σ w t′ u′ (reach lim f h log r)
+    pub reach-node : true ≡ outside h (length f) to → {offset end taken : ℕ} → offset ≡ offsetAt f (nodeAt (nodesIn (m .nodes) t) i) → end ≡ partEnd h (length f) to → taken ≡ takenFrom (nodesIn (m .nodes) t) to end
+        → {w : Walked} {t′ u′ : List ℕ} → Gives lim w t′ u′ (exec put (times 1 (node 17 (context lim h (length f)) (m .nodes) (outsideTree end taken offset)) m) f to (state t u m)) → Leaves lim σ w t′ u′ (reach lim f h log r)
     unfolding reach if_then_else_ detachedAt detached
-    reach-node b {named} {end} {taken} q en ta {w} {t′} {u′} g =
+    reach-node b {offset} {end} {taken} q en ta {w} {t′} {u′} g =
         let o : outside h (length f) (r .target) ≡ true = sym (b ∙ ap (outside h (length f)) to-is) in
-        let z : named ≡ offsetAt f r = q ∙ ap (λ v. offsetAt f (nodeAt v i)) (rows-stand s room) in
+        let z : offset ≡ offsetAt f r = q ∙ ap (λ v. offsetAt f (nodeAt v i)) (rows-stand s room) in
         let en′ : end ≡ partEnd h (length f) (r .target) = en ∙ ap (partEnd h (length f)) to-is in
         let ta′ : taken ≡ takenFrom (nodesOf log) (r .target) (partEnd h (length f) (r .target)) = ta ∙ ap₂ (λ v p. takenFrom v p end) (rows-stand s room) to-is ∙ ap (takenFrom (nodesOf log) (r .target)) en′ in
         let x = context lim h (length f) in
-        let n : node 17 x (m .nodes) (loose end taken named) m ≡ node 17 x (madeBy log .nodes) (loose (partEnd h (length f) (r .target)) (takenFrom (nodesOf log) (r .target) (partEnd h (length f) (r .target))) (offsetAt f r)) (madeBy log) =
-        ap (λ (v : Made). node 17 x (v .nodes) (loose end taken named) v) (sym (made-is s)) ∙ ap₂ (λ (a : ℕ) (b : ℕ). node 17 x (madeBy log .nodes) (loose a b named) (madeBy log)) en′ ta′ ∙ ap (λ c. node 17 x (madeBy log .nodes) (loose (partEnd h (length f) (r .target)) (takenFrom (nodesOf log) (r .target) (partEnd h (length f) (r .target))) c) (madeBy log)) z in
-        rw (is-lost, o) (subst (λ (v : P Made). Leaves lim σ w t′ u′ (logged log (run v f (r .target)) (trace v f (r .target)))) n (subst (λ v. Leaves lim σ w t′ u′ (logged log (run (node 17 x (m .nodes) (loose end taken named) m) f v) (trace (node 17 x (m .nodes) (loose end taken named) m) f v))) to-is (leaves-more s f to _ (one-node (node 17 x (m .nodes) (loose end taken named)) m f to (state t u m) g))))
+        let n : node 17 x (m .nodes) (outsideTree end taken offset) m ≡ node 17 x (madeBy log .nodes) (outsideTree (partEnd h (length f) (r .target)) (takenFrom (nodesOf log) (r .target) (partEnd h (length f) (r .target))) (offsetAt f r)) (madeBy log) =
+        ap (λ (v : Made). node 17 x (v .nodes) (outsideTree end taken offset) v) (sym (made-is s)) ∙ ap₂ (λ (a : ℕ) (b : ℕ). node 17 x (madeBy log .nodes) (outsideTree a b offset) (madeBy log)) en′ ta′ ∙ ap (λ c. node 17 x (madeBy log .nodes) (outsideTree (partEnd h (length f) (r .target)) (takenFrom (nodesOf log) (r .target) (partEnd h (length f) (r .target))) c) (madeBy log)) z in
+        rw (is-lost, o) (subst (λ (v : P Made). Leaves lim σ w t′ u′ (logged log (run v f (r .target)) (trace v f (r .target)))) n (subst (λ v. Leaves lim σ w t′ u′ (logged log (run (node 17 x (m .nodes) (outsideTree end taken offset) m) f v) (trace (node 17 x (m .nodes) (outsideTree end taken offset) m) f v))) to-is (leaves-more s f to _ (one-node (node 17 x (m .nodes) (outsideTree end taken offset)) m f to (state t u m) g))))
 
 -- ---- all rows
 

@@ -45,7 +45,7 @@ module _ {lim most : Limits} (less : Less lim most) (x : Context) where
   node-limited (suc d) parent s m c i =
       places λ p. row-checks limited.node (m .nodes) (most .nodes) p (i .0) (less .nodes) (makes-then _ λ w. makes-row _ _ _ tt) λ left.
       after (front-limited less x parent (16 - d) s m c (refl, omega arith, omega arith, omega arith)) λ w e j. passes _ _
-      (folder-limited _ (counts (Is lim) (w .row .held) _ (λ t g k. node-limited d (m .nodes) (inTree 0 (p + w .row .size)) t g k) (omega arith, omega arith, omega arith, omega arith)))
+      (folder-limited _ (counts (Is lim) (w .row .contained) _ (λ t g k. node-limited d (m .nodes) (inTree 0 (p + w .row .size)) t g k) (omega arith, omega arith, omega arith, omega arith)))
 
 -- ---- rows of a log
 

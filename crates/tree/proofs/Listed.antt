@@ -16,7 +16,7 @@ use Rattle.header.proofs.Uses.{header-uses}
 use Rattle.metadata.specs.Metadata.{Context}
 use Rattle.metadata.specs.declared.Limits.{Limits}
 use Rattle.metadata.specs.declared.Made.{Made}
-use Rattle.node.specs.Node.{inTree, loose}
+use Rattle.node.specs.Node.{inTree, outsideTree}
 use Rattle.node.specs.declared.Standing.{Standing}
 use Rattle.node.proofs.Uses.{front-uses}
 use Rattle.tree.specs.Tree.{folder, node, tree, detached}
@@ -35,15 +35,15 @@ node-listed zero x parent s m = at-place λ p. stops tt
 node-listed (suc d) x parent s m =
     places λ p. checks _ _ _ tt
     (after (front-uses (λ κ. tt) (λ v. tt) (λ i. tt) x parent (16 - d) s m) λ w. passes _ _ tt
-    (folder-listed _ (counts (w .row .held) _ (λ t. node-listed d x (m .nodes) (inTree 0 (p + w .row .size)) t))))
+    (folder-listed _ (counts (w .row .contained) _ (λ t. node-listed d x (m .nodes) (inTree 0 (p + w .row .size)) t))))
 
 pub tree-listed : (x : Context) (end : ℕ) → Listed (tree x end)
 unfolding tree
 tree-listed x end = node-listed 16 x 0 (inTree end end) (record { nodes = 0; items = 0 })
 
-detached-listed : (x : Context) (end taken named : ℕ) (m : Made) → Listed (detached x end taken named m)
+detached-listed : (x : Context) (end taken offset : ℕ) (m : Made) → Listed (detached x end taken offset m)
 unfolding detached
-detached-listed x end taken named m = node-listed 17 x (m .nodes) (loose end taken named) m
+detached-listed x end taken offset m = node-listed 17 x (m .nodes) (outsideTree end taken offset) m
 
 -- ---- the file
 

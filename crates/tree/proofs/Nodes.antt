@@ -14,7 +14,7 @@ use Rattle.cursor.specs.declared.Cursor.{Cursor}
 use Rattle.cursor.specs.declared.FilePlace.{FilePlace}
 use Rattle.cursor.proofs.Laws.{executing, andThen, ran, exec-times, exec-timed}
 use Rattle.cursor.proofs.Wp.{at-end}
-use Rattle.metadata.specs.Tables.{State, state, put, nodeWords, plusNode}
+use Rattle.metadata.specs.Tables.{nodeWidth, State, state, put, nodeWords, plusNode}
 use Rattle.metadata.specs.Metadata.{Context}
 use Rattle.metadata.specs.Told.{Gives}
 use Rattle.metadata.specs.declared.Limits.{Limits}
@@ -33,13 +33,13 @@ use Rattle.tree.proofs.Ends.{node-on}
 -- ---- inline data
 
 module _ (r : Node) where
-  pub inline-is : r .held ≡ 0 → r .reference ≡ 1 → inlineSize r ≡ r .extent
+  pub inline-is : r .contained ≡ 0 → r .reference ≡ 1 → inlineSize r ≡ r .extent
   inline-is z o = simp (eq-eqb _ _ z, eq-eqb _ _ o)
 
-  pub inline-other : r .held ≡ 0 → ((r .reference ≡ 1) → ⊥) → inlineSize r ≡ 0
+  pub inline-other : r .contained ≡ 0 → ((r .reference ≡ 1) → ⊥) → inlineSize r ≡ 0
   inline-other z o = simp (eq-eqb _ _ z, ne-eqb _ _ o)
 
-  pub inline-folder : ((r .held ≡ 0) → ⊥) → inlineSize r ≡ 0
+  pub inline-folder : ((r .contained ≡ 0) → ⊥) → inlineSize r ≡ 0
   inline-folder z = simp (ne-eqb _ _ z)
 
 -- ---- the end of a node
@@ -74,7 +74,7 @@ module _ (x : Context) (parent : ℕ) (z : Standing) (m : Made) (s : List ℕ) (
   -- past its front, with its row made; for any state
   pub node-in : {S : Type 0} (put : Part → ℕ → ℕ → S → S) (levels : ℕ) (σ : S) → ((levels ≡ 0) → ⊥) → m .nodes < x .limits .nodes → {w : Front} {τ : S} {p : ℕ} → exec put (front x parent (17 - levels) z m) s at σ ≡ ok (w, τ) p
       → exec put (node levels x parent z m) s at σ
-      ≡ exec put (folder (at + w .row .size) (times (w .row .held) (node (levels - 1) x (m .nodes) (inTree 0 (at + w .row .size))) (plusNode (w .made))))
+      ≡ exec put (folder (at + w .row .size) (times (w .row .contained) (node (levels - 1) x (m .nodes) (inTree 0 (at + w .row .size))) (plusNode (w .made))))
       s (p + inlineSize (w .row)) (put (nodeRow (w .row)) p (inlineSize (w .row)) τ)
   unfolding node
   node-in put zero σ some l e = absurd (some refl)
@@ -86,32 +86,32 @@ module _ (x : Context) (parent : ℕ) (z : Standing) (m : Made) (s : List ℕ) (
 
   module _ (levels : ℕ) (some : (levels ≡ 0) → ⊥) (l : m .nodes < x .limits .nodes) (i : z .end .0 ≤ x .size) (t u u′ : List ℕ) {w : Front} {p : ℕ}
       (e : exec put (front x parent (17 - levels) z m) s at (state t u m) ≡ ok (w, state t u′ (w .made)) p)
-      (t′ : List ℕ) (row : t′ ≡ sets t (m .nodes * 13) (nodeWords (w .row))) {stop : ℕ} (is : stop ≡ at + w .row .size) {q : ℕ} (past : q ≡ p + inlineSize (w .row)) where
-    row-is : sets t (w .made .nodes * 13) (nodeWords (w .row)) ≡ t′
-    row-is = ap (λ k. sets t (k * 13) (nodeWords (w .row))) (front-inside x parent (17 - levels) z m s at (state t u m) i e .nodes) ∙ sym row
+      (t′ : List ℕ) (row : t′ ≡ sets t (m .nodes * nodeWidth) (nodeWords (w .row))) {stop : ℕ} (is : stop ≡ at + w .row .size) {q : ℕ} (past : q ≡ p + inlineSize (w .row)) where
+    row-is : sets t (w .made .nodes * nodeWidth) (nodeWords (w .row)) ≡ t′
+    row-is = ap (λ k. sets t (k * nodeWidth) (nodeWords (w .row))) (front-inside x parent (17 - levels) z m s at (state t u m) i e .nodes) ∙ sym row
 
     -- the node behind its row
     node-rest : exec put (node levels x parent z m) s at (state t u m)
-        ≡ exec put (folder stop (times (w .row .held) (node (levels - 1) x (m .nodes) (inTree 0 stop)) (plusNode (w .made)))) s q (state t′ u′ (plusNode (w .made)))
+        ≡ exec put (folder stop (times (w .row .contained) (node (levels - 1) x (m .nodes) (inTree 0 stop)) (plusNode (w .made)))) s q (state t′ u′ (plusNode (w .made)))
     node-rest = rw (is, past) (node-in put levels (state t u m) some l e ∙ simp (executing, row-is))
 
-    pub node-children : {n v : ℕ} → exec put (times (w .row .held) (node (levels - 1) x (m .nodes) (inTree 0 stop)) (plusNode (w .made))) s q (state t′ u′ (plusNode (w .made))) ≡ refused n v
+    pub node-children : {n v : ℕ} → exec put (times (w .row .contained) (node (levels - 1) x (m .nodes) (inTree 0 stop)) (plusNode (w .made))) s q (state t′ u′ (plusNode (w .made))) ≡ refused n v
         → refused n v ≡ exec put (node levels x parent z m) s at (state t u m)
     unfolding folder
     node-children h = sym (node-rest ∙ simp (executing, h))
 
-    pub node-held : {m′ : Made} {t″ u″ : List ℕ} {v : ℕ}
-        → exec put (times (w .row .held) (node (levels - 1) x (m .nodes) (inTree 0 stop)) (plusNode (w .made))) s q (state t′ u′ (plusNode (w .made))) ≡ ok (m′, state t″ u″ m′) v
+    pub node-contained : {m′ : Made} {t″ u″ : List ℕ} {v : ℕ}
+        → exec put (times (w .row .contained) (node (levels - 1) x (m .nodes) (inTree 0 stop)) (plusNode (w .made))) s q (state t′ u′ (plusNode (w .made))) ≡ ok (m′, state t″ u″ m′) v
         → {lim : Limits} {r : Walked} → Gives lim r t″ u″ (exec put (folder stop (ret m′)) s v (state t″ u″ m′)) → Gives lim r t″ u″ (exec put (node levels x parent z m) s at (state t u m))
     unfolding folder
-    node-held {m′} {t″} {u″} {v} h g =
+    node-contained {m′} {t″} {u″} {v} h g =
         let y : exec put (node levels x parent z m) s at (state t u m) ≡ exec put (folder stop (ret m′)) s v (state t″ u″ m′) = node-rest ∙ simp (executing, h) in
         rw y g
 
     -- a file node has no children
-    pub node-file : w .row .held ≡ 0 → {lim : Limits} {r : Walked} → Gives lim r t′ u′ (exec put (folder stop (ret (plusNode (w .made)))) s q (state t′ u′ (plusNode (w .made))))
+    pub node-file : w .row .contained ≡ 0 → {lim : Limits} {r : Walked} → Gives lim r t′ u′ (exec put (folder stop (ret (plusNode (w .made)))) s q (state t′ u′ (plusNode (w .made))))
         → Gives lim r t′ u′ (exec put (node levels x parent z m) s at (state t u m))
-    node-file none g = node-held (exec-timed put s (w .row .held) q _ (plusNode (w .made)) (state t′ u′ (plusNode (w .made))) none) g
+    node-file none g = node-contained (exec-timed put s (w .row .contained) q _ (plusNode (w .made)) (state t′ u′ (plusNode (w .made))) none) g
 
 -- ---- nodes one after the other
 

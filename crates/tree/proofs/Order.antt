@@ -18,7 +18,7 @@ use Rattle.header.proofs.Ends.{header-on}
 use Rattle.metadata.specs.Metadata.{Context}
 use Rattle.metadata.specs.declared.Limits.{Limits}
 use Rattle.metadata.specs.declared.Made as made
-use Rattle.node.specs.Node.{inTree, loose}
+use Rattle.node.specs.Node.{inTree, outsideTree}
 use Rattle.node.specs.declared.Standing.{Standing}
 use Rattle.node.proofs.Order.{front-orders}
 use Rattle.tree.specs.Tree.{folder, node, tree, detached}
@@ -45,7 +45,7 @@ node-orders (suc d) x parent s m k c a b before =
     (after (front-orders x parent (16 - d) s m) λ w k c i.
     passes-node (w .row) _ (i .2) (let a = i .0 in let b = i .3 in omega arith)
     (folder-orders (m .nodes) _
-    (counts (Above (m .nodes)) (w .row .held) _
+    (counts (Above (m .nodes)) (w .row .contained) _
     (λ t k′ c′ j. weaken (node-orders d x (m .nodes) (inTree 0 (p + w .row .size)) t k′ c′ (j .0) (j .1) (let z = j .2 in omega arith)) (λ s′ k″ c″ l. (l .0, l .1, omega arith)))
     (omega arith, refl, omega arith)))))
 
@@ -82,9 +82,9 @@ parents-before k c (passed (itemRow r) p n ∷ es) k′ c′ o i l = parents-bef
 parents-before k c (passed (plain x) p n ∷ es) k′ c′ o i l = parents-before k c es k′ c′ o i l
 
 -- a detached node makes its row behind k others
-pub detached-orders : (x : Context) (end taken named : ℕ) (m : made.Made) → Orders (detached x end taken named m) (Above (m .nodes)) (m .nodes) 0
+pub detached-orders : (x : Context) (end taken offset : ℕ) (m : made.Made) → Orders (detached x end taken offset m) (Above (m .nodes)) (m .nodes) 0
 unfolding detached
-detached-orders x end taken named m = node-orders 17 x (m .nodes) (loose end taken named) m (m .nodes) 0 refl refl (omega arith)
+detached-orders x end taken offset m = node-orders 17 x (m .nodes) (outsideTree end taken offset) m (m .nodes) 0 refl refl (omega arith)
 
 -- ---- the rows of an accepted file
 
@@ -103,11 +103,11 @@ tree-log f x end at e =
     let n : length (nodesOf (trace (tree x end) f at)) ≡ w .nodes = omega arith in
     rw n (subst (λ v. Ordered 0 0 (trace (tree x end) f at) (w .nodes) v) (w .ends .1) (w .ordered))
 
-more-log : (f : List ℕ) (x : Context) (end taken named at : ℕ) (log : Events) {m : made.Made} {p : ℕ} → InLog log → run (detached x end taken named (madeBy log)) f at ≡ ok m p
-    → InLog (log ++ trace (detached x end taken named (madeBy log)) f at)
-more-log f x end taken named at log i e =
-    let es = trace (detached x end taken named (madeBy log)) f at in
-    let w = in-order f at (detached-orders x end taken named (madeBy log)) e in
+more-log : (f : List ℕ) (x : Context) (end taken offset at : ℕ) (log : Events) {m : made.Made} {p : ℕ} → InLog log → run (detached x end taken offset (madeBy log)) f at ≡ ok m p
+    → InLog (log ++ trace (detached x end taken offset (madeBy log)) f at)
+more-log f x end taken offset at log i e =
+    let es = trace (detached x end taken offset (madeBy log)) f at in
+    let w = in-order f at (detached-orders x end taken offset (madeBy log)) e in
     let k = length (nodesOf log) in
     let o : Ordered k 0 es (w .nodes) 0 = subst (λ v. Ordered k 0 es (w .nodes) v) (w .ends .1) (w .ordered) in
     let a = ordered-on 0 0 log es k 0 (w .nodes) 0 i o in

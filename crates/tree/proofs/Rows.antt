@@ -16,7 +16,7 @@ use Rattle.cursor.proofs.Wp.{All, at-end}
 use Rattle.cursor.proofs.Leaves.{any-free}
 use Rattle.header.specs.Header.{Header, header}
 use Rattle.header.proofs.Ends.{header-on}
-use Rattle.metadata.specs.Tables.{nodeWords, itemWords, limits}
+use Rattle.metadata.specs.Tables.{nodeWidth, itemWidth, nodeWords, itemWords, limits}
 use Rattle.metadata.specs.declared.Limits.{Limits}
 use Rattle.metadata.specs.declared.Made.{Made}
 use Rattle.metadata.proofs.Ends.{Nothing, Inside}
@@ -35,26 +35,26 @@ use Rattle.tree.proofs.Filled.{nodes-length, items-length}
 -- ---- row i of the words
 
 module _ (ws : List ℕ) where
-  from-nodes : (i n j : ℕ) → j < n → getD (nodesFrom i n ws) j noNode ≡ nodeFrom ws ((i + j) * 13)
+  from-nodes : (i n j : ℕ) → j < n → getD (nodesFrom i n ws) j noNode ≡ nodeFrom ws ((i + j) * nodeWidth)
   unfolding nodesFrom
   from-nodes i zero j l = absurd (omega arith)
   from-nodes i (suc n) zero l = let e : i + 0 ≡ i = omega arith in rw e
-  from-nodes i (suc n) (suc j) l = let e : i + 1 + j ≡ i + suc j = omega arith in from-nodes (i + 1) n j (omega arith) ∙ ap (λ k. nodeFrom ws (k * 13)) e
+  from-nodes i (suc n) (suc j) l = let e : i + 1 + j ≡ i + suc j = omega arith in from-nodes (i + 1) n j (omega arith) ∙ ap (λ k. nodeFrom ws (k * nodeWidth)) e
 
-  from-items : (i n j : ℕ) → j < n → getD (itemsFrom i n ws) j noItem ≡ itemFrom ws ((i + j) * 10)
+  from-items : (i n j : ℕ) → j < n → getD (itemsFrom i n ws) j noItem ≡ itemFrom ws ((i + j) * itemWidth)
   unfolding itemsFrom
   from-items i zero j l = absurd (omega arith)
   from-items i (suc n) zero l = let e : i + 0 ≡ i = omega arith in rw e
-  from-items i (suc n) (suc j) l = let e : i + 1 + j ≡ i + suc j = omega arith in from-items (i + 1) n j (omega arith) ∙ ap (λ k. itemFrom ws (k * 10)) e
+  from-items i (suc n) (suc j) l = let e : i + 1 + j ≡ i + suc j = omega arith in from-items (i + 1) n j (omega arith) ∙ ap (λ k. itemFrom ws (k * itemWidth)) e
 
   -- row i of the first n rows is the one whose words begin at row i
-  pub node-at : (n i : ℕ) → i < n → nodeAt (nodesIn n ws) i ≡ nodeFrom ws (i * 13)
+  pub node-at : (n i : ℕ) → i < n → nodeAt (nodesIn n ws) i ≡ nodeFrom ws (i * nodeWidth)
   unfolding nodesIn
-  node-at n i l = from-nodes 0 n i l ∙ ap (λ k. nodeFrom ws (k * 13)) (let e : 0 + i ≡ i = omega arith in e)
+  node-at n i l = from-nodes 0 n i l ∙ ap (λ k. nodeFrom ws (k * nodeWidth)) (let e : 0 + i ≡ i = omega arith in e)
 
-  pub item-at : (n i : ℕ) → i < n → itemAt (itemsIn n ws) i ≡ itemFrom ws (i * 10)
+  pub item-at : (n i : ℕ) → i < n → itemAt (itemsIn n ws) i ≡ itemFrom ws (i * itemWidth)
   unfolding itemsIn
-  item-at n i l = from-items 0 n i l ∙ ap (λ k. itemFrom ws (k * 10)) (let e : 0 + i ≡ i = omega arith in e)
+  item-at n i l = from-items 0 n i l ∙ ap (λ k. itemFrom ws (k * itemWidth)) (let e : 0 + i ≡ i = omega arith in e)
 
   nodes-count : (i n : ℕ) → length (nodesFrom i n ws) ≡ n
   unfolding nodesFrom
@@ -78,7 +78,7 @@ module _ (ws : List ℕ) where
   unfolding nodesFrom
   nodes-front i zero n l = refl
   nodes-front i (suc k) zero l = absurd (omega arith)
-  nodes-front i (suc k) (suc n) l = ap (λ v. nodeFrom ws (i * 13) ∷ v) (nodes-front (i + 1) k n (omega arith))
+  nodes-front i (suc k) (suc n) l = ap (λ v. nodeFrom ws (i * nodeWidth) ∷ v) (nodes-front (i + 1) k n (omega arith))
 
   -- the first k of n rows
   pub in-front : (k n : ℕ) → k ≤ n → nodesIn k ws ≡ take k (nodesIn n ws)
@@ -88,10 +88,10 @@ module _ (ws : List ℕ) where
 -- ---- rows that stand in words are read back
 
 -- the words after one row, read from the next row on
-next-node : (r : Node) (ws : List ℕ) (i : ℕ) → nodeFrom (nodeWords r ++ ws) (suc i * 13) ≡ nodeFrom ws (i * 13)
+next-node : (r : Node) (ws : List ℕ) (i : ℕ) → nodeFrom (nodeWords r ++ ws) (suc i * nodeWidth) ≡ nodeFrom ws (i * nodeWidth)
 next-node r ws i =
-    let e : (j : ℕ) → suc i * 13 + j ≡ suc (suc (suc (suc (suc (suc (suc (suc (suc (suc (suc (suc (suc (i * 13 + j))))))))))))) = λ j. omega arith in
-    let e₀ : suc i * 13 ≡ suc (suc (suc (suc (suc (suc (suc (suc (suc (suc (suc (suc (suc (i * 13))))))))))))) = omega arith in
+    let e : (j : ℕ) → suc i * nodeWidth + j ≡ suc (suc (suc (suc (suc (suc (suc (suc (suc (suc (suc (suc (suc (i * nodeWidth + j))))))))))))) = λ j. omega arith in
+    let e₀ : suc i * nodeWidth ≡ suc (suc (suc (suc (suc (suc (suc (suc (suc (suc (suc (suc (suc (i * nodeWidth))))))))))))) = omega arith in
     rw (e 1, e 2, e 3, e 4, e 5, e 6, e 7, e 8, e 9, e 10, e 11, e 12, e₀)
 
 node-shift : (r : Node) (ws : List ℕ) (i n : ℕ) → nodesFrom (suc i) n (nodeWords r ++ ws) ≡ nodesFrom i n ws
@@ -106,10 +106,10 @@ unfolding nodesIn nodesFrom
 nodes-back [] rest = refl
 nodes-back (r ∷ ns) rest = ap (λ v. r ∷ v) (node-shift r (allNodes ns ++ rest) 0 (length ns) ∙ nodes-back ns rest)
 
-next-item : (r : Item) (ws : List ℕ) (i : ℕ) → itemFrom (itemWords r ++ ws) (suc i * 10) ≡ itemFrom ws (i * 10)
+next-item : (r : Item) (ws : List ℕ) (i : ℕ) → itemFrom (itemWords r ++ ws) (suc i * itemWidth) ≡ itemFrom ws (i * itemWidth)
 next-item r ws i =
-    let e : (j : ℕ) → suc i * 10 + j ≡ suc (suc (suc (suc (suc (suc (suc (suc (suc (suc (i * 10 + j)))))))))) = λ j. omega arith in
-    let e₀ : suc i * 10 ≡ suc (suc (suc (suc (suc (suc (suc (suc (suc (suc (i * 10)))))))))) = omega arith in
+    let e : (j : ℕ) → suc i * itemWidth + j ≡ suc (suc (suc (suc (suc (suc (suc (suc (suc (suc (i * itemWidth + j)))))))))) = λ j. omega arith in
+    let e₀ : suc i * itemWidth ≡ suc (suc (suc (suc (suc (suc (suc (suc (suc (suc (i * itemWidth)))))))))) = omega arith in
     rw (e 1, e 2, e 3, e 4, e 5, e 6, e 7, e 8, e 9, e₀)
 
 item-shift : (r : Item) (ws : List ℕ) (i n : ℕ) → itemsFrom (suc i) n (itemWords r ++ ws) ≡ itemsFrom i n ws
@@ -132,7 +132,7 @@ NodeIn size r = (r .header ≤ r .size) × (r .start + r .size ≤ size) × ((r 
 
 -- an item's data and custom name lie in a file of `size` bytes
 abbrev pub ItemIn : ℕ → Item → Type 0
-ItemIn size r = (r .place + r .size ≤ size) × ((r .kind ≡ 0) ⊎ (r .field + r .named ≤ size))
+ItemIn size r = (r .place + r .size ≤ size) × ((r .kind ≡ 0) ⊎ (r .field + r .nameLength ≤ size))
 
 pub node-in : (es : Events) (end size : ℕ) → end ≤ size → All (Inside Nothing end size .asks) es → (i : ℕ) → i < length (nodesOf es) → NodeIn size (nodeAt (nodesOf es) i)
 unfolding rowsOf
@@ -152,7 +152,7 @@ unfolding rowsOf
 item-in [] end size l a i h = absurd (omega arith)
 item-in (seen κ p ∷ es) end size l a i h = item-in es end size l a i h
 item-in (passed (nodeRow r) p n ∷ es) end size l a i h = item-in es end size l (a .1) i h
-item-in (passed (itemRow r) p n ∷ es) end size l a zero h = let b = a .0 .0 in let c = a .0 .1 in let d = a .0 .2 in (omega arith, named (r .field) (r .named) end size l (a .0 .3))
+item-in (passed (itemRow r) p n ∷ es) end size l a zero h = let b = a .0 .0 in let c = a .0 .1 in let d = a .0 .2 in (omega arith, named (r .field) (r .nameLength) end size l (a .0 .3))
 item-in (passed (itemRow r) p n ∷ es) end size l a (suc i) h = item-in es end size l (a .1) i (omega arith)
 item-in (passed (plain x) p n ∷ es) end size l a i h = item-in es end size l (a .1) i h
 
@@ -177,8 +177,8 @@ pub record Standing (f : List ℕ) (o : Reading) (s : Summary) (t u : List ℕ) 
   pub summed : s ≡ summary h ns is
   pub nodes-are : nodesIn (s .nodes) t ≡ ns
   pub items-are : itemsIn (s .items) u ≡ is
-  pub node-room : s .nodes * 13 ≤ length t
-  pub item-room : s .items * 10 ≤ length u
+  pub node-room : s .nodes * nodeWidth ≤ length t
+  pub item-room : s .items * itemWidth ≤ length u
   pub sound : Accepted f ns is
 
 padded-back-nodes : (size : ℕ) (ns : List Node) → nodesIn (length ns) (padded size (allNodes ns)) ≡ ns

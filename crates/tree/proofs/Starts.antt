@@ -18,8 +18,8 @@ use Rattle.cursor.proofs.Uses as uses
 use Rattle.metadata.specs.Metadata.{Context}
 use Rattle.metadata.specs.declared.Made.{Made}
 use Rattle.metadata.proofs.Ends.{Nothing, Inside, inside-free}
-use Rattle.tree.proofs.Ends.{held-fills, node-on}
-use Rattle.node.specs.Node.{inTree, loose, front}
+use Rattle.tree.proofs.Ends.{contained-fills, node-on}
+use Rattle.node.specs.Node.{inTree, outsideTree, front}
 use Rattle.node.specs.declared.Standing.{Standing}
 use Rattle.node.specs.declared.Front.{Front}
 use Rattle.node.proofs.Ends.{FrontIn, front-on}
@@ -141,7 +141,7 @@ module _ (b : ℕ) (f : List ℕ) where
   node-rises (suc d) x parent s m at l v =
       places _ at (checks _ _ _ (front-then x parent (16 - d) s m at l v λ w q i.
       let a = i .within in
-      folder-rises _ (times-rise (w .row .held) _ (q + inlineSize (w .row)) λ t p. node-rises d x (m .nodes) (inTree 0 (at + w .row .size)) t p (omega arith) (omega arith))))
+      folder-rises _ (times-rise (w .row .contained) _ (q + inlineSize (w .row)) λ t p. node-rises d x (m .nodes) (inTree 0 (at + w .row .size)) t p (omega arith) (omega arith))))
 
 -- the rows of a tree that was read
 pub tree-rises : (x : Context) (end : ℕ) (f : List ℕ) (at : ℕ) → end ≤ x .size → {m : Made} {p : ℕ} → run (tree x end) f at ≡ ok m p → Rising (nodesOf (trace (tree x end) f at))
@@ -197,14 +197,14 @@ unfolding node
 own-row f d x parent s m at l =
     own-place f s at _ at (own-check f s at _ _ _ (own-front f x parent (16 - d) s m at l _ λ w q i.
     let a = i .within in
-    held-fills Nothing (s .end .0) d x s m at w q (omega arith) i
+    contained-fills Nothing (s .end .0) d x s m at w q (omega arith) i
     (λ t p j. wp-weaken (node-on Nothing (s .end .0) d x (m .nodes) (inTree 0 (at + w .row .size)) t p (omega arith) (omega arith)) (λ _ v z. (omega arith, z .1)))))
 
 -- a detached node's row
-pub detached-row : (f : List ℕ) (x : Context) (end taken named : ℕ) (m : Made) (at : ℕ) → end ≤ x .size → {m′ : Made} {q : ℕ} → run (detached x end taken named m) f at ≡ ok m′ q
-    → OwnRow (loose end taken named) at q (nodesOf (trace (detached x end taken named m) f at))
+pub detached-row : (f : List ℕ) (x : Context) (end taken offset : ℕ) (m : Made) (at : ℕ) → end ≤ x .size → {m′ : Made} {q : ℕ} → run (detached x end taken offset m) f at ≡ ok m′ q
+    → OwnRow (outsideTree end taken offset) at q (nodesOf (trace (detached x end taken offset m) f at))
 unfolding detached
-detached-row f x end taken named m at l e = own-row f 16 x (m .nodes) (loose end taken named) m at l .owns e
+detached-row f x end taken offset m at l e = own-row f 16 x (m .nodes) (outsideTree end taken offset) m at l .owns e
 
 -- all rows start at `at` or later
 abbrev pub From : ℕ → List Node → Type 0
@@ -215,10 +215,10 @@ rise-from : {d low high : ℕ} {ns : List Node} (at : ℕ) → at ≤ low → Ri
 rise-from at l (done a) = tt
 rise-from at l (more a x h) = (omega arith, rise-from at (omega arith) h)
 
-pub detached-from : (f : List ℕ) (x : Context) (end taken named : ℕ) (m : Made) (at : ℕ) → end ≤ x .size → {m′ : Made} {q : ℕ} → run (detached x end taken named m) f at ≡ ok m′ q
-    → From at (nodesOf (trace (detached x end taken named m) f at))
+pub detached-from : (f : List ℕ) (x : Context) (end taken offset : ℕ) (m : Made) (at : ℕ) → end ≤ x .size → {m′ : Made} {q : ℕ} → run (detached x end taken offset m) f at ≡ ok m′ q
+    → From at (nodesOf (trace (detached x end taken offset m) f at))
 unfolding detached
-detached-from f x end taken named m at l e = rise-from at (omega arith) (node-rises 1 f 17 x (m .nodes) (loose end taken named) m at l (omega arith) .rises e)
+detached-from f x end taken offset m at l e = rise-from at (omega arith) (node-rises 1 f 17 x (m .nodes) (outsideTree end taken offset) m at l (omega arith) .rises e)
 
 pub tree-from : (f : List ℕ) (x : Context) (end at : ℕ) → end ≤ x .size → {m : Made} {q : ℕ} → run (tree x end) f at ≡ ok m q → From at (nodesOf (trace (tree x end) f at))
 unfolding tree

@@ -16,7 +16,8 @@ use Rattle.cursor.specs.declared.Node.{Node}
 use Rattle.header.specs.Header.{Header}
 use Rattle.header.specs.Told.{extentOf}
 use Rattle.header.specs.declared.Extent.{Extent}
-use Rattle.tree.specs.Reading.{cursor, offsetAt, outside, partEnd, takenFrom}
+use Rattle.metadata.specs.Tables.{nodeWidth}
+use Rattle.tree.specs.Reading.{placeOf, offsetAt, outside, partEnd, takenFrom}
 use Rattle.tree.specs.Rows.{nodeFrom, nodesIn, nodeAt, if_then_else_, rowStarting, Rising}
 use Rattle.tree.proofs.Rows.{node-at, nodes-in-length}
 
@@ -50,12 +51,12 @@ module _ (h : Header) (size p : ℕ) {x : Extent} (e : h .extent ≡ extentOf x)
 -- ---- the place of a row's offset
 
 module _ (ws : List ℕ) (count i : ℕ) (l : i < count) where
-  pub words-inside : {size : ℕ} → nodeAt (nodesIn count ws) i .start + nodeAt (nodesIn count ws) i .header ≤ size → getD ws (i * 13) 0 + getD ws (i * 13 + 2) 0 ≤ size
+  pub words-inside : {size : ℕ} → nodeAt (nodesIn count ws) i .start + nodeAt (nodesIn count ws) i .header ≤ size → getD ws (i * nodeWidth) 0 + getD ws (i * nodeWidth + 2) 0 ≤ size
   words-inside {size} m = subst (λ (r : Node). r .start + r .header ≤ size) (node-at ws count i l) m
 
-  pub offset-is : (f : List ℕ) (o : Out ℕ) {at : ℕ} → at ≡ getD ws (i * 13) 0 + getD ws (i * 13 + 2) 0 → o ≡ run (number referenceFrame 3 (length f)) f at → cursor o ≡ offsetAt f (nodeAt (nodesIn count ws) i)
+  pub offset-is : (f : List ℕ) (o : Out ℕ) {at : ℕ} → at ≡ getD ws (i * nodeWidth) 0 + getD ws (i * nodeWidth + 2) 0 → o ≡ run (number referenceFrame 3 (length f)) f at → placeOf o ≡ offsetAt f (nodeAt (nodesIn count ws) i)
   unfolding offsetAt
-  offset-is f o h g = ap cursor (g ∙ ap (run (number referenceFrame 3 (length f)) f) (h ∙ sym (ap (λ (r : Node). r .start + r .header) (node-at ws count i l))))
+  offset-is f o h g = ap placeOf (g ∙ ap (run (number referenceFrame 3 (length f)) f) (h ∙ sym (ap (λ (r : Node). r .start + r .header) (node-at ws count i l))))
 
 -- ---- the search for a start
 
@@ -70,29 +71,29 @@ starting-is (r ∷ rs) p (suc k) l e n =
 
 -- rows before `low` start before the place, rows from `high` on start after it
 pub record Between (ws : List ℕ) (count place low high : ℕ) : Type 0 where
-  pub before : (i : ℕ) → i < low → getD ws (i * 13) 0 < place
-  pub after : (i : ℕ) → high ≤ i → i < count → place < getD ws (i * 13) 0
+  pub before : (i : ℕ) → i < low → getD ws (i * nodeWidth) 0 < place
+  pub after : (i : ℕ) → high ≤ i → i < count → place < getD ws (i * nodeWidth) 0
 
 pub search-begins : (ws : List ℕ) (count place : ℕ) → Between ws count place 0 count
 search-begins ws count place = record { before = λ i l. absurd (omega arith); after = λ i l m. absurd (omega arith) }
 
 -- no row before row i starts there
 abbrev pub NoneBefore : List ℕ → ℕ → ℕ → Type 0
-NoneBefore ws place i = (j : ℕ) → j < i → getD ws (j * 13) 0 ≡ place → ⊥
+NoneBefore ws place i = (j : ℕ) → j < i → getD ws (j * nodeWidth) 0 ≡ place → ⊥
 
 module _ (ws : List ℕ) (tree count place : ℕ) (few : tree ≤ count) where
-  start-at : (i : ℕ) → i < count → nodeAt (nodesIn count ws) i .start ≡ getD ws (i * 13) 0
+  start-at : (i : ℕ) → i < count → nodeAt (nodesIn count ws) i .start ≡ getD ws (i * nodeWidth) 0
   start-at i l = ap (λ (r : Node). r .start) (node-at ws count i l)
 
   module _ (h : Rising (nodesIn tree ws)) where
-    later-start : (i j : ℕ) → i < j → j < tree → getD ws (i * 13) 0 < getD ws (j * 13) 0
+    later-start : (i j : ℕ) → i < j → j < tree → getD ws (i * nodeWidth) 0 < getD ws (j * nodeWidth) 0
     later-start i j l m =
         let c = nodes-in-length ws tree in
         let g = h i j l (omega arith) in
         omega (arith, ap (λ (r : Node). r .start) (node-at ws tree i (omega arith)), ap (λ (r : Node). r .start) (node-at ws tree j m))
 
     module _ {low high : ℕ} (b : Between ws tree place low high) (k : ℕ) (l : k < tree) where
-      pub search-later : getD ws (k * 13) 0 < place → Between ws tree place (k + 1) high
+      pub search-later : getD ws (k * nodeWidth) 0 < place → Between ws tree place (k + 1) high
       search-later g = record {
         before = λ i m. elim (decLt i k) [
           | yes n ↦ omega (arith, later-start i k n l)
@@ -101,7 +102,7 @@ module _ (ws : List ℕ) (tree count place : ℕ) (few : tree ≤ count) where
         after = b .after;
       }
 
-      pub search-sooner : place < getD ws (k * 13) 0 → Between ws tree place low k
+      pub search-sooner : place < getD ws (k * nodeWidth) 0 → Between ws tree place low k
       search-sooner g = record {
         before = b .before;
         after = λ i m n. elim (decLt k i) [
@@ -110,7 +111,7 @@ module _ (ws : List ℕ) (tree count place : ℕ) (few : tree ≤ count) where
         ];
       }
 
-    pub search-found : (k : ℕ) → k < tree → getD ws (k * 13) 0 ≡ place → k ≡ rowStarting (nodesIn count ws) place
+    pub search-found : (k : ℕ) → k < tree → getD ws (k * nodeWidth) 0 ≡ place → k ≡ rowStarting (nodesIn count ws) place
     search-found k l e =
         let c = nodes-in-length ws count in
         starting-is (nodesIn count ws) place k (omega arith) (λ m. start-at k (omega arith) ∙ e) (λ i m q. omega (arith, start-at i (omega arith), later-start i k m l))
@@ -121,13 +122,13 @@ module _ (ws : List ℕ) (tree count place : ℕ) (few : tree ≤ count) where
     | no n ↦ omega (arith, b .after j (omega arith) m)
   ]
 
-  pub linear-on : {i : ℕ} → NoneBefore ws place i → ((getD ws (i * 13) 0 ≡ place) → ⊥) → NoneBefore ws place (i + 1)
+  pub linear-on : {i : ℕ} → NoneBefore ws place i → ((getD ws (i * nodeWidth) 0 ≡ place) → ⊥) → NoneBefore ws place (i + 1)
   linear-on {i} b n j m q = elim (decLt j i) [
     | yes l ↦ b j l q
-    | no l ↦ let e : j ≡ i = omega arith in n (subst (λ v. getD ws (v * 13) 0 ≡ place) e q)
+    | no l ↦ let e : j ≡ i = omega arith in n (subst (λ v. getD ws (v * nodeWidth) 0 ≡ place) e q)
   ]
 
-  pub linear-found : {i : ℕ} → NoneBefore ws place i → i < count → getD ws (i * 13) 0 ≡ place → i ≡ rowStarting (nodesIn count ws) place
+  pub linear-found : {i : ℕ} → NoneBefore ws place i → i < count → getD ws (i * nodeWidth) 0 ≡ place → i ≡ rowStarting (nodesIn count ws) place
   linear-found {i} b l e = let c = nodes-in-length ws count in starting-is (nodesIn count ws) place i (omega arith) (λ m. start-at i l ∙ e) (λ j m q. b j m (sym (start-at j (omega arith)) ∙ q))
 
   pub linear-ends : {i : ℕ} → NoneBefore ws place i → i ≡ count → count ≡ rowStarting (nodesIn count ws) place
@@ -149,25 +150,25 @@ module _ (ws : List ℕ) (count place end : ℕ) where
   taken-begun = let c = nodes-in-length ws count in ap (λ v. takenFrom v place end) (sym (drop-of-length-le (nodesIn count ws) {i = count} (omega arith)))
 
   module _ {i j taken : ℕ} (w : TakenTo j taken) (is : j ≡ i + 1) (l : i < count) where
-    here-is : takenFrom (drop i (nodesIn count ws)) place end ≡ takenFrom (nodeFrom ws (i * 13) ∷ drop (i + 1) (nodesIn count ws)) place end
+    here-is : takenFrom (drop i (nodesIn count ws)) place end ≡ takenFrom (nodeFrom ws (i * nodeWidth) ∷ drop (i + 1) (nodesIn count ws)) place end
     here-is = let c = nodes-in-length ws count in ap (λ v. takenFrom v place end) (row-of (nodesIn count ws) i (omega arith) ∙ ap (λ (r : Node). r ∷ drop (i + 1) (nodesIn count ws)) (node-at ws count i l))
 
     rest-is : taken ≡ takenFrom (drop (i + 1) (nodesIn count ws)) place end
     rest-is = w ∙ ap (λ v. takenFrom (drop v (nodesIn count ws)) place end) is
 
-    pub taken-here : getD ws (i * 13 + 12) 0 ≡ 1 → place < getD ws (i * 13) 0 + getD ws (i * 13 + 1) 0 → {v : ℕ} → v ≡ min (max place (getD ws (i * 13) 0)) taken → TakenTo i v
+    pub taken-here : getD ws (i * nodeWidth + 12) 0 ≡ 1 → place < getD ws (i * nodeWidth) 0 + getD ws (i * nodeWidth + 1) 0 → {v : ℕ} → v ≡ min (max place (getD ws (i * nodeWidth) 0)) taken → TakenTo i v
     unfolding takenFrom if_then_else_
-    taken-here a b e = e ∙ ap (min (max place (getD ws (i * 13) 0))) rest-is ∙ sym (here-is ∙ rw (eq-eqb _ _ a, lt-ltb _ _ b) refl)
+    taken-here a b e = e ∙ ap (min (max place (getD ws (i * nodeWidth) 0))) rest-is ∙ sym (here-is ∙ rw (eq-eqb _ _ a, lt-ltb _ _ b) refl)
 
-    pub taken-past : getD ws (i * 13) 0 + getD ws (i * 13 + 1) 0 ≤ place → TakenTo i taken
+    pub taken-past : getD ws (i * nodeWidth) 0 + getD ws (i * nodeWidth + 1) 0 ≤ place → TakenTo i taken
     unfolding takenFrom if_then_else_
-    taken-past b = rest-is ∙ sym (here-is ∙ rw (le-ltb _ _ b) (by (eqb (getD ws (i * 13 + 12) 0) 1) _ _))
+    taken-past b = rest-is ∙ sym (here-is ∙ rw (le-ltb _ _ b) (by (eqb (getD ws (i * nodeWidth + 12) 0) 1) _ _))
       where
         by : (b : Bool) (x y : ℕ) → (if (b && false) then x else y) ≡ y
         by true x y = refl
         by false x y = refl
 
-    pub taken-other : ((getD ws (i * 13 + 12) 0 ≡ 1) → ⊥) → TakenTo i taken
+    pub taken-other : ((getD ws (i * nodeWidth + 12) 0 ≡ 1) → ⊥) → TakenTo i taken
     unfolding takenFrom if_then_else_
     taken-other n = rest-is ∙ sym (here-is ∙ rw (ne-eqb _ _ n) refl)
 
@@ -184,5 +185,5 @@ pub taken-done : (ws : List ℕ) (count tree place end i : ℕ) → i ≡ tree �
     → takenFrom (drop i (nodesIn count ws)) place end ≡ takenFrom (nodesIn count ws) place end
 taken-done ws count tree place end i e l a = let c = nodes-in-length ws count in ap (λ v. takenFrom (drop v (nodesIn count ws)) place end) e ∙ taken-all (nodesIn count ws) tree place end (omega arith) a
 
-pub small-row : (ws : List ℕ) (count i : ℕ) → i < count → ((j : ℕ) → j < count → nodeAt (nodesIn count ws) j .start + nodeAt (nodesIn count ws) j .size < 2 ^ 28) → getD ws (i * 13) 0 + getD ws (i * 13 + 1) 0 < 2 ^ 28
+pub small-row : (ws : List ℕ) (count i : ℕ) → i < count → ((j : ℕ) → j < count → nodeAt (nodesIn count ws) j .start + nodeAt (nodesIn count ws) j .size < 2 ^ 28) → getD ws (i * nodeWidth) 0 + getD ws (i * nodeWidth + 1) 0 < 2 ^ 28
 small-row ws count i l a = subst (λ (r : Node). r .start + r .size < 2 ^ 28) (node-at ws count i l) (a i l)

@@ -23,7 +23,7 @@ use Rattle.header.specs.declared.Headed.{Headed}
 use Rattle.header.specs.declared.Headed.the-variants as headed
 use Rattle.header.specs.declared.Header as code
 use Rattle.header.proofs.Ends.{header-on}
-use Rattle.metadata.specs.Tables.{State, state, put, limits, mostNodes, mostItems}
+use Rattle.metadata.specs.Tables.{nodeWidth, itemWidth, State, state, put, limits, mostNodes, mostItems}
 use Rattle.metadata.specs.Told.{Fits, Gives}
 use Rattle.metadata.specs.declared.Limits.{Limits}
 use Rattle.metadata.specs.declared.Made.{Made}
@@ -149,7 +149,7 @@ module _ (file t u : List ℕ) where
             by (good log) x y = let z : _≡_ {A = ℕ} 0 1 = cc in absurd (omega arith)
             by (bad a b) x y = let v : n ≡ a = cc in let w : p .0 ≡ b = cc in rw (x, ← v, ← w) (refl, ct ∙ ap (λ i. replicate i 0) (lt′ ∙ lt), cu ∙ ap (λ i. replicate i 0) (lu′ ∙ lu))
 
-        pub whole-good : {t‴ u‴ : List ℕ} {n : Made} {p : Cursor} → r′ ≡ Done n p → t‴ ≡ take (n .nodes * 13) t″ ++ replicate (length t″ - n .nodes * 13) 0 → u‴ ≡ take (n .items * 10) u″ ++ replicate (length u″ - n .items * 10) 0
+        pub whole-good : {t‴ u‴ : List ℕ} {n : Made} {p : Cursor} → r′ ≡ Done n p → t‴ ≡ take (n .nodes * nodeWidth) t″ ++ replicate (length t″ - n .nodes * nodeWidth) 0 → u‴ ≡ take (n .items * itemWidth) u″ ++ replicate (length u″ - n .items * itemWidth) 0
             → Says (read.Is (record { version = h .version; edition = record { kind = h .edition .type; revision = h .edition .revision }; tree = m .nodes; nodes = n .nodes; items = n .items })) t‴ u‴
         unfolding readOf nodeTable itemTable reading
         whole-good {t‴} {u‴} {n} {p} e ct cu =
@@ -170,15 +170,15 @@ module _ (file t u : List ℕ) where
                 let ui : u″ ≡ allItems (itemsOf log) ++ drop (length (allItems (itemsOf log))) u = sym (ap (λ (σ : State). σ .items) z) ∙ sets-front u (allItems (itemsOf log)) (omega arith) in
                 rw x (
                   ap (λ (a : ℕ). read.Is (record { version = h .version; edition = record { kind = h .edition .type; revision = h .edition .revision }; tree = a; nodes = n .nodes; items = n .items })) (sym (first .tree-is)) ∙ ap₂ (λ (a : ℕ) (b : ℕ). read.Is (record { version = h .version; edition = record { kind = h .edition .type; revision = h .edition .revision }; tree = treeRows (nodesOf log); nodes = a; items = b })) cn ci,
-                  ct ∙ padded-behind (allNodes (nodesOf log)) _ tn (ap (λ a. a * 13) cn ∙ sym ln) ∙ ap (λ a. padded a (allNodes (nodesOf log))) (lt′ ∙ lt),
-                  cu ∙ padded-behind (allItems (itemsOf log)) _ ui (ap (λ a. a * 10) ci ∙ sym li) ∙ ap (λ a. padded a (allItems (itemsOf log))) (lu′ ∙ lu),
+                  ct ∙ padded-behind (allNodes (nodesOf log)) _ tn (ap (λ a. a * nodeWidth) cn ∙ sym ln) ∙ ap (λ a. padded a (allNodes (nodesOf log))) (lt′ ∙ lt),
+                  cu ∙ padded-behind (allItems (itemsOf log)) _ ui (ap (λ a. a * itemWidth) ci ∙ sym li) ∙ ap (λ a. padded a (allItems (itemsOf log))) (lu′ ∙ lu),
                 )
 
 -- what the call of the tree's root asks for
 pub whole-within : (file : List ℕ) {h : Header} {q : ℕ} → run (header (length file)) file 0 ≡ ok h q → (h .extent .last < length file) × (length file < 2 ^ 28) × (h .extent .start ≤ length file)
 whole-within file e = let w = at-end any-free file (header-on (length file)) e in (w .3, w .4, omega arith)
 
-pub whole-room : {lim : Limits} {n i : ℕ} → lim ≡ limits n i → (lim .nodes * 13 ≤ n) × (lim .items * 10 ≤ i) × (lim .nodes ≤ mostNodes) × (lim .items ≤ mostItems)
+pub whole-room : {lim : Limits} {n i : ℕ} → lim ≡ limits n i → (lim .nodes * nodeWidth ≤ n) × (lim .items * itemWidth ≤ i) × (lim .nodes ≤ mostNodes) × (lim .items ≤ mostItems)
 whole-room e = rw e (omega arith)
 
 -- ---- the first question's answer, from what is kept of the file

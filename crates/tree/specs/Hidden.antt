@@ -28,7 +28,7 @@ HiddenData is k = (i : ℕ) × (i < length is) × T (mayDiffer (itemAt is i)) ×
 
 -- k is a byte of the inline data of a file node: no contained items, reference 1
 abbrev pub InlineData : List Node → ℕ → Type 0
-InlineData ns k = (i : ℕ) × (i < length ns) × (nodeAt ns i .held ≡ 0) × (nodeAt ns i .reference ≡ 1) × (nodeAt ns i .target ≤ k) × (k < nodeAt ns i .target + nodeAt ns i .extent)
+InlineData ns k = (i : ℕ) × (i < length ns) × (nodeAt ns i .contained ≡ 0) × (nodeAt ns i .reference ≡ 1) × (nodeAt ns i .target ≤ k) × (k < nodeAt ns i .target + nodeAt ns i .extent)
 
 -- k is a byte of a detached node
 abbrev pub InDetached : List Node → ℕ → Type 0

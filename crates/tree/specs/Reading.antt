@@ -62,7 +62,7 @@ pub data Reading : Type 0 where
 -- ---- the log: what was read and passed so far, part after part; the rows are taken off it
 
 abbrev pub context : Limits → Header → ℕ → Context
-context lim h size = record { limits = lim; types = h .types; first = h .extent .end; size = size }
+context lim h size = record { limits = lim; types = h .types; headerEnd = h .extent .end; size = size }
 
 abbrev pub madeBy : Events → Made
 madeBy log = record { nodes = length (nodesOf log); items = length (itemsOf log) }
@@ -78,13 +78,13 @@ unfoldable pub startsAt : List Node → ℕ → Bool
 startsAt [] p = false
 startsAt (r ∷ rs) p = eqb (r .start) p || startsAt rs p
 
-abbrev pub cursor : {A : Type 0} → Out A → ℕ
-cursor (ok a p) = p
-cursor (refused n p) = p
+abbrev pub placeOf : {A : Type 0} → Out A → ℕ
+placeOf (ok a p) = p
+placeOf (refused n p) = p
 
 -- the place of a row's offset: after its reference, which stands after its header
 unfoldable pub offsetAt : List ℕ → Node → ℕ
-offsetAt f r = cursor (run (number referenceFrame cutShort (length f)) f (r .start + r .header))
+offsetAt f r = placeOf (run (number referenceFrame cutShort (length f)) f (r .start + r .header))
 
 -- a row that refers to no node so far
 unfoldable pub lost : List Node → Node → Bool
@@ -104,8 +104,8 @@ takenFrom [] p end = end
 takenFrom (r ∷ rs) p end = if eqb (r .detached) 1 && ltb p (r .start + r .size) then min (max p (r .start)) (takenFrom rs p end) else takenFrom rs p end
 
 -- the node at p, which is named at `named`
-unfoldable pub detachedAt : Limits → Header → (size : ℕ) → Events → (p named : ℕ) → P Made
-detachedAt lim h size log p named = detached (context lim h size) (partEnd h size p) (takenFrom (nodesOf log) p (partEnd h size p)) named (madeBy log)
+unfoldable pub detachedAt : Limits → Header → (size : ℕ) → Events → (p offset : ℕ) → P Made
+detachedAt lim h size log p offset = detached (context lim h size) (partEnd h size p) (takenFrom (nodesOf log) p (partEnd h size p)) offset (madeBy log)
 
 unfoldable pub reach : Limits → List ℕ → Header → Events → Node → Result Events
 reach lim f h log r =

@@ -8,7 +8,7 @@ use Rattle.cursor.specs.Refusals.{tooDeep, noRowLeft, bytesLeft}
 use Rattle.metadata.specs.Tables.{plusNode}
 use Rattle.metadata.specs.Metadata.{Context}
 use Rattle.metadata.specs.declared.Made.{Made}
-use Rattle.node.specs.Node.{inTree, loose, front}
+use Rattle.node.specs.Node.{inTree, outsideTree, front}
 use Rattle.node.specs.declared.Standing.{Standing}
 
 -- the deepest level, with the root at 1
@@ -31,12 +31,12 @@ node (suc d) x parent s m = do
   check (ltb (m .nodes) (x .limits .nodes)) noRowLeft p
   w ← front x parent (mostDepth - d) s m
   skip (nodeRow (w .row)) (inlineSize (w .row))
-  folder (p + w .row .size) (times (w .row .held) (node d x (m .nodes) (inTree 0 (p + w .row .size))) (plusNode (w .made)))
+  folder (p + w .row .size) (times (w .row .contained) (node d x (m .nodes) (inTree 0 (p + w .row .size))) (plusNode (w .made)))
 
 -- the tree is one node, the root, which ends where the tree does
 unfoldable pub tree : Context → ℕ → P Made
 tree x end = node mostDepth x 0 (inTree end end) (record { nodes = 0; items = 0 })
 
 -- a detached node: of depth 0, one level above the root's, and its own parent
-unfoldable pub detached : Context → (end taken named : ℕ) → Made → P Made
-detached x end taken named m = node (suc mostDepth) x (m .nodes) (loose end taken named) m
+unfoldable pub detached : Context → (end taken offset : ℕ) → Made → P Made
+detached x end taken offset m = node (suc mostDepth) x (m .nodes) (outsideTree end taken offset) m

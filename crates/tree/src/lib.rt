@@ -8,13 +8,13 @@ ghost use Rattle.cursor.specs.Machine.{ret, exec, times};
 ghost use Rattle.cursor.specs.declared.Node.{Node};
 ghost use Rattle.header.specs.Told.{headerOf, extentOf};
 ghost use Rattle.header.specs.Header as spec;
-ghost use Rattle.metadata.specs.Tables.{State, nodeWidth, nodeWords, limits, put, state};
+ghost use Rattle.metadata.specs.Tables.{itemWidth, State, nodeWidth, nodeWords, limits, put, state};
 ghost use Rattle.metadata.specs.Told.{Room, contextOf, Gives};
 ghost use Rattle.node.specs.declared.Standing.{Standing};
 ghost use Rattle.cursor.specs.Rows.{inlineSize, Events};
 ghost use Rattle.tree.specs.Tree.{mostDepth, folder, node, tree};
 ghost use Rattle.tree.specs.Reading.{nodesOf, good, context, offsetAt, outside, partEnd, takenFrom, reach, follow, readOf, answerOf};
-ghost use Rattle.tree.specs.Rows.{itemFrom, nodeAt, nodesIn, rowStarting, Rising};
+ghost use Rattle.tree.specs.Rows.{nodeFrom, itemFrom, nodeAt, nodesIn, rowStarting, Rising};
 ghost use Rattle.tree.specs.Asking.{reads, nodesRead, itemsRead};
 ghost use Rattle.tree.specs.Told.{Lent, Stands, Leaves};
 use cursor::Cursor;
@@ -54,10 +54,33 @@ pub enum Answer {
     Refused(u64, usize),
 }
 
+// Row i of the node table.
+pub fn node_at(nodes: &[u64], i: usize) -> Node
+    requires { ⌜ i * nodeWidth + nodeWidth ≤ length (now nodes) ⌝ }
+    ensures { λ r. ⌜ r ≡ nodeFrom (now (nodes .entry)) (i * nodeWidth) ⌝ }
+{
+    let k = i * cursor::NODE_WIDTH;
+    Node {
+        start: nodes[k],
+        size: nodes[k + 1],
+        header: nodes[k + 2],
+        contained: nodes[k + 3],
+        parent: nodes[k + 4],
+        depth: nodes[k + 5],
+        reference: nodes[k + 6],
+        target: nodes[k + 7],
+        extent: nodes[k + 8],
+        unpackers: nodes[k + 9],
+        unpackerCount: nodes[k + 10],
+        rows: nodes[k + 11],
+        detached: nodes[k + 12],
+    }
+}
+
 // Row i of the item table.
 pub fn item_at(items: &[u64], i: usize) -> Item
-    requires { ⌜ i * 10 + 10 ≤ length (now items) ⌝ }
-    ensures { λ r. ⌜ r ≡ itemFrom (now (items .entry)) (i * 10) ⌝ }
+    requires { ⌜ i * itemWidth + itemWidth ≤ length (now items) ⌝ }
+    ensures { λ r. ⌜ r ≡ itemFrom (now (items .entry)) (i * itemWidth) ⌝ }
 {
     let k = i * cursor::ITEM_WIDTH;
     Item {
@@ -65,7 +88,7 @@ pub fn item_at(items: &[u64], i: usize) -> Item
         item: items[k + 1],
         kind: items[k + 2],
         field: items[k + 3],
-        named: items[k + 4],
+        nameLength: items[k + 4],
         version: items[k + 5],
         declared: items[k + 6],
         format: items[k + 7],
@@ -92,14 +115,14 @@ fn put_node(nodes: &mut [u64], made: usize, row: Node)
         row.start,
         row.size,
         row.header,
-        row.held,
+        row.contained,
         row.parent,
         row.depth,
         row.reference,
         row.target,
         row.extent,
         row.unpackers,
-        row.layers,
+        row.unpackerCount,
         row.rows,
         row.detached,
     ];
@@ -111,7 +134,7 @@ fn past_inline(c: Cursor, row: Node) -> Cursor
     requires { ⌜ c .at .0 + inlineSize row < 2 ^ 28 ⌝ }
     ensures { λ r. ⌜ r .at .0 ≡ c .at .0 + inlineSize row ⌝ }
 {
-    if row.held == 0 {
+    if row.contained == 0 {
         if row.reference == 1 {
             let at = c.at;
             return Cursor {
@@ -174,7 +197,7 @@ fn read_node(
         Fronted::Is(w, d) => {
             let row = w.row;
             let m = w.made;
-            let now = Made {
+            let counts = Made {
                 nodes: m.nodes + 1,
                 items: m.items,
             };
@@ -182,14 +205,14 @@ fn read_node(
             let stop = start.of(NodePlace(row.size as usize));
             let next = past_inline(d, row);
             // A file node has no children. To ask here is faster than a call that reads none.
-            if row.held == 0 {
-                return end_node(next, stop, lim, now);
+            if row.contained == 0 {
+                return end_node(next, stop, lim, counts);
             }
             let inside = Standing {
                 least: FilePlace(0),
                 end: stop,
                 taken: stop,
-                named: FilePlace(0),
+                offset: FilePlace(0),
                 detached: 0,
             };
             match read_children(
@@ -202,8 +225,8 @@ fn read_node(
                 levels - 1,
                 index,
                 inside,
-                row.held,
-                now,
+                row.contained,
+                counts,
             ) {
                 Walked::Refused(n, p) => Walked::Refused(n, p),
                 Walked::Done(m, e) => end_node(e, stop, lim, m),
@@ -276,11 +299,11 @@ fn read_root(
     let extent = h.extent;
     let start = extent.start;
     let last = extent.last;
-    let first = extent.end;
+    let headerEnd = extent.end;
     let scope = Scope {
         limits: lim,
         types: h.types,
-        first,
+        headerEnd,
     };
     let none = Made { nodes: 0, items: 0 };
     let end = FilePlace(last.0 + 1);
@@ -288,7 +311,7 @@ fn read_root(
         least: end,
         end,
         taken: end,
-        named: FilePlace(0),
+        offset: FilePlace(0),
         detached: 0,
     };
     read_children(
@@ -436,23 +459,23 @@ fn reach_from(
     if row_starting(nodes, tree, made.nodes, to) < made.nodes {
         return Walked::Done(made, here);
     }
-    let named = offset_at(file, nodes, made.nodes, i);
+    let offset = offset_at(file, nodes, made.nodes, i);
     let extent = h.extent;
     let place = to as usize;
     if is_outside(extent, file.len(), place) {
         let end = part_end(extent, file.len(), place);
         let taken = taken_from(nodes, tree, made.nodes, to, end as u64);
-        let first = extent.end;
+        let headerEnd = extent.end;
         let scope = Scope {
             limits: lim,
             types: h.types,
-            first,
+            headerEnd,
         };
         let s = Standing {
             least: FilePlace(0),
             end: FilePlace(end),
             taken: FilePlace(taken as usize),
-            named,
+            offset,
             detached: 1,
         };
         let at = Cursor {
@@ -473,7 +496,7 @@ fn reach_from(
             made,
         );
     }
-    Walked::Refused(cursor::BAD_TARGET, named)
+    Walked::Refused(cursor::BAD_TARGET, offset)
 }
 
 // Follows the rows from the first on, in row order, over the growing table.

@@ -16,7 +16,7 @@ use Rattle.room.specs.Counts as room
 use Rattle.room.proofs.Counting.{counts-as, wrote-past}
 use Rattle.cursor.specs.declared.FilePlace.{FilePlace}
 use Rattle.cursor.specs.declared.Item.{Item}
-use Rattle.metadata.specs.Tables.{limits}
+use Rattle.metadata.specs.Tables.{itemWidth, limits}
 use Rattle.tree.specs.Rows.{nodesIn, itemFrom, itemsFrom, itemsIn, noItem, itemAt}
 use Rattle.tree.specs.Reading.{Reading, rows, refusal, readOf, readFile}
 use Rattle.tree.specs.Asking.{Result, good, bad, ask}
@@ -47,7 +47,7 @@ module _ (f : List ℕ) (k : ℕ) (r : Item) {b : Bool} (e : b ≡ isNoTitle r) 
 -- ---- all lines
 
 module _ (f ws : List ℕ) (count : ℕ) where
-  pub lines-on : (i : ℕ) → i < count → titleLines f i (itemsFrom i (count - i) ws) ≡ titleLine f i (itemFrom ws (i * 10)) ++ titleLines f (i + 1) (itemsFrom (i + 1) (count - (i + 1)) ws)
+  pub lines-on : (i : ℕ) → i < count → titleLines f i (itemsFrom i (count - i) ws) ≡ titleLine f i (itemFrom ws (i * itemWidth)) ++ titleLines f (i + 1) (itemsFrom (i + 1) (count - (i + 1)) ws)
   unfolding itemsFrom titleLines
   lines-on i l = let e : count - i ≡ suc (count - (i + 1)) = omega arith in rw e
 
@@ -119,7 +119,7 @@ module _ (f : List ℕ) {n i : ℕ} (en : 3328 ≡ n) (ei : 10240 ≡ i) where
     count-is : length (st .is) ≡ s .items
     count-is = ap length (sym (st .items-are)) ∙ items-in-length u (s .items)
 
-    row-is : (row : ℕ) → row < s .items → itemAt (st .is) row ≡ itemFrom u (row * 10)
+    row-is : (row : ℕ) → row < s .items → itemAt (st .is) row ≡ itemFrom u (row * itemWidth)
     row-is row l = ap (λ (v : List Item). itemAt v row) (sym (st .items-are)) ∙ item-at u (s .items) row l
 
     -- the list
@@ -151,12 +151,12 @@ module _ (f : List ℕ) {n i : ℕ} (en : 3328 ≡ n) (ei : 10240 ≡ i) where
     unfolding rowText
     text-past row l = let c = count-is in rw (accepted, le-leb (length (st .is)) row (omega arith))
 
-    module _ (row : ℕ) (l : row < s .items) {b : Bool} (e : b ≡ isNoTitle (itemFrom u (row * 10))) where
+    module _ (row : ℕ) (l : row < s .items) {b : Bool} (e : b ≡ isNoTitle (itemFrom u (row * itemWidth))) where
       pub text-none : b ≡ true → [] ≡ rowText row f (reads f)
       unfolding rowText
       text-none k = let c = count-is in rw (accepted, lt-leb (length (st .is)) row (omega arith), row-is row l, sym e ∙ k)
 
-      pub text-is : b ≡ false → textOf f (itemFrom u (row * 10)) ≡ rowText row f (reads f)
+      pub text-is : b ≡ false → textOf f (itemFrom u (row * itemWidth)) ≡ rowText row f (reads f)
       unfolding rowText
       text-is k = let c = count-is in rw (accepted, lt-leb (length (st .is)) row (omega arith), row-is row l, sym e ∙ k)
 
@@ -165,7 +165,7 @@ module _ (f : List ℕ) {n i : ℕ} (en : 3328 ≡ n) (ei : 10240 ≡ i) where
     unfolding isUnicode
     unicode-past row l = let c = count-is in rw (accepted, List·getD-eq-default (st .is) noItem (let z : length (st .is) ≤ row = omega arith in z))
 
-    pub unicode-is : (row : ℕ) → row < s .items → eqb (getD u (row * 10 + 7) 0) 2 ≡ isUnicode row (reads f)
+    pub unicode-is : (row : ℕ) → row < s .items → eqb (getD u (row * itemWidth + 7) 0) 2 ≡ isUnicode row (reads f)
     unfolding isUnicode
     unicode-is row l = rw (accepted, row-is row l)
 

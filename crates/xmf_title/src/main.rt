@@ -7,6 +7,7 @@ ghost use mathlib.Core.Path.{_≡_};
 ghost use Prim.Native.Nat.{ℕ, _+_, _*_, _≤_, _<_};
 ghost use lib.ListN.{length};
 ghost use Rattle.room.specs.Counts.{Counts};
+ghost use Rattle.metadata.specs.Tables.{itemWidth};
 ghost use Rattle.tree.specs.Rows.{itemFrom, itemsIn};
 ghost use Rattle.tree.specs.Asking.{good};
 ghost use Rattle.sheet.specs.Inside.{ItemInside};
@@ -39,8 +40,8 @@ fn title_buffer() -> [u8; 196608]
 
 // Puts the line of an item row, if it is visible and universal: its number, and its line on the sheet.
 fn put_title_line(out: &mut [u8], to: usize, file: &[u8], items: &[u64], row: usize) -> usize
-    requires { ⌜ (row * 10 + 10 ≤ length (now items)) × ItemInside (length (now file)) (itemFrom (now items) (row * 10)) ⌝ }
-    ensures { λ r. ⌜ Counts (now (out .entry)) (now (out .exit)) to (titleLine (now (file .entry)) row (itemFrom (now (items .entry)) (row * 10))) r ⌝ }
+    requires { ⌜ (row * itemWidth + itemWidth ≤ length (now items)) × ItemInside (length (now file)) (itemFrom (now items) (row * itemWidth)) ⌝ }
+    ensures { λ r. ⌜ Counts (now (out .entry)) (now (out .exit)) to (titleLine (now (file .entry)) row (itemFrom (now (items .entry)) (row * itemWidth))) r ⌝ }
 {
     if retitle::is_no_title(items, row) {
         return to;
@@ -52,7 +53,7 @@ fn put_title_line(out: &mut [u8], to: usize, file: &[u8], items: &[u64], row: us
 
 // Puts the lines of all titles.
 fn put_title_lines(out: &mut [u8], file: &[u8], items: &[u64], count: usize) -> usize
-    requires { ⌜ (count * 10 ≤ length (now items)) × ((i : ℕ) → i < count → ItemInside (length (now file)) (itemFrom (now items) (i * 10))) ⌝ }
+    requires { ⌜ (count * itemWidth ≤ length (now items)) × ((i : ℕ) → i < count → ItemInside (length (now file)) (itemFrom (now items) (i * itemWidth))) ⌝ }
     ensures { λ r. ⌜ Counts (now (out .entry)) (now (out .exit)) 0 (titleLines (now (file .entry)) 0 (itemsIn count (now (items .entry)))) r ⌝ }
 {
     let mut next: usize = 0;

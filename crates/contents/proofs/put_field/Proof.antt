@@ -1,5 +1,6 @@
 -- `put_field` puts a custom name with its length, or 0 and a standard number.
 -- Assumes nothing.
+use Rattle.metadata.specs.Tables.{itemWidth}
 use Rattle.writer.proofs.Counting.{counts-in}
 use Rattle.tree.specs.Rows.{itemFrom}
 use Rattle.contents.proofs.Putting.{field-custom, field-standard, custom-inside}
@@ -45,7 +46,7 @@ put-number-requires : tie.Need-put-number-requires
 put-number-requires c κs = search needs
 
 put-part-requires : tie.Need-put-part-requires
-put-part-requires c κs = (custom-inside (c .before .before .before .before .before .before .before .before .before .before .before .before .args .file .now) (itemFrom (c .before .before .before .before .before .before .before .before .before .before .before .before .args .items .now) (c .before .before .before .before .before .before .before .before .before .before .before .before .args .k * 10)) (c .before .before .before .before .before .before .before .before .before .before .before .before .pre .1) (c .before .before .before .before .before .before .if1 .taken), counts-in (c .before .before .before .put-number .ensures))
+put-part-requires c κs = (custom-inside (c .before .before .before .before .before .before .before .before .before .before .before .before .args .file .now) (itemFrom (c .before .before .before .before .before .before .before .before .before .before .before .before .args .items .now) (c .before .before .before .before .before .before .before .before .before .before .before .before .args .k * itemWidth)) (c .before .before .before .before .before .before .before .before .before .before .before .before .pre .1) (c .before .before .before .before .before .before .if1 .taken), counts-in (c .before .before .before .put-number .ensures))
 
 same-length : tie.Need-same-length
 same-length c = search needs

@@ -38,14 +38,14 @@ number-requires-2 c κs = omega (arith, c .before .before .before .before .befor
 enum-known-n-2 : tie.Need-enum-known-n-2
 enum-known-n-2 c = search needs
 
-enum-known-held : tie.Need-enum-known-held
-enum-known-held c = search needs
+enum-known-contained : tie.Need-enum-known-contained
+enum-known-contained c = search needs
 
-is-loose-folder-requires : tie.Need-is-loose-folder-requires
-is-loose-folder-requires c κs = search needs
+is-detached-folder-requires : tie.Need-is-detached-folder-requires
+is-detached-folder-requires c κs = search needs
 
 returns-4 : tie.Need-returns-4
-returns-4 c = head-folder _ _ _ (was numberTold (c .before .before .before .before .before .before .before .before .before .before .before .before .before .before .before .before .before .before .before .number .ensures nodeFrame) (c .before .before .before .before .before .before .before .before .before .before .before .before .before .before .before .before .before .size .given .1)) (c .before .before .before .before .before .before .before .before .before .before .before .before .before .before .before .of .ensures) (c .before .before .before .before .before .before .before .before .before .before .before .before .if1 .left) (c .before .before .before .before .before .before .before .before .before .if2 .left) (c .before .before .before .before .before .before .if3 .left) (was numberTold (c .before .before .before .before .before .number2 .ensures nodeFrame) (c .before .before .before .held .given .1)) (sym (c .if4 .taken) ∙ c .before .is-loose-folder .ensures)
+returns-4 c = head-folder _ _ _ (was numberTold (c .before .before .before .before .before .before .before .before .before .before .before .before .before .before .before .before .before .before .before .number .ensures nodeFrame) (c .before .before .before .before .before .before .before .before .before .before .before .before .before .before .before .before .before .size .given .1)) (c .before .before .before .before .before .before .before .before .before .before .before .before .before .before .before .of .ensures) (c .before .before .before .before .before .before .before .before .before .before .before .before .if1 .left) (c .before .before .before .before .before .before .before .before .before .if2 .left) (c .before .before .before .before .before .before .if3 .left) (was numberTold (c .before .before .before .before .before .number2 .ensures nodeFrame) (c .before .before .before .contained .given .1)) (sym (c .if4 .taken) ∙ c .before .is-detached-folder .ensures)
 
 read-header-length-requires : tie.Need-read-header-length-requires
 read-header-length-requires c κs = omega (arith, c .before .before .before .before .before .before .before .before .before .before .before .before .before .before .before .before .before .before .before .before .before .before .before .before .before .before .pre, c .before .before .before .before .before .before .before .before .before .before .before .before .if1 .left, c .before .before .before .before .before .before .before .before .before .before .before .before .before .before .before .of .ensures)
@@ -57,7 +57,7 @@ returns-6 : tie.Need-returns-6
 returns-6 c = head-held _ _ _ (was numberTold (c .before .before .before .before .before .before .before .before .before .before .before .before .before .before .before .before .before .number .ensures nodeFrame) (c .before .before .before .before .before .before .before .before .before .before .before .before .before .before .before .size .given .1)) (c .before .before .before .before .before .before .before .before .before .before .before .before .before .of .ensures) (c .before .before .before .before .before .before .before .before .before .before .if1 .left) (c .before .before .before .before .before .before .before .if2 .left) (c .before .before .before .before .if3 .left) (was numberTold (c .before .before .before .number2 .ensures nodeFrame) (c .before .n2 .given .1))
 
 returns-7 : tie.Need-returns-7
-returns-7 c = head-header _ _ _ (was numberTold (c .before .before .before .before .before .before .before .before .before .before .before .before .before .before .before .before .before .before .before .before .number .ensures nodeFrame) (c .before .before .before .before .before .before .before .before .before .before .before .before .before .before .before .before .before .before .size .given .1)) (c .before .before .before .before .before .before .before .before .before .before .before .before .before .before .before .before .of .ensures) (c .before .before .before .before .before .before .before .before .before .before .before .before .before .if1 .left) (c .before .before .before .before .before .before .before .before .before .before .if2 .left) (c .before .before .before .before .before .before .before .if3 .left) (was numberTold (c .before .before .before .before .before .before .number2 .ensures nodeFrame) (c .before .before .before .before .held .given .1)) (sym (c .before .if4 .left) ∙ c .before .before .is-loose-folder .ensures) (c .read-header-length .ensures)
+returns-7 c = head-header _ _ _ (was numberTold (c .before .before .before .before .before .before .before .before .before .before .before .before .before .before .before .before .before .before .before .before .number .ensures nodeFrame) (c .before .before .before .before .before .before .before .before .before .before .before .before .before .before .before .before .before .before .size .given .1)) (c .before .before .before .before .before .before .before .before .before .before .before .before .before .before .before .before .of .ensures) (c .before .before .before .before .before .before .before .before .before .before .before .before .before .if1 .left) (c .before .before .before .before .before .before .before .before .before .before .if2 .left) (c .before .before .before .before .before .before .before .if3 .left) (was numberTold (c .before .before .before .before .before .before .number2 .ensures nodeFrame) (c .before .before .before .before .contained .given .1)) (sym (c .before .if4 .left) ∙ c .before .before .is-detached-folder .ensures) (c .read-header-length .ensures)
 
 pub read-head-spec : {M : Type 1} → statement M
 read-head-spec =
@@ -72,8 +72,8 @@ read-head-spec =
     returns-3
     number-requires-2
     enum-known-n-2
-    enum-known-held
-    is-loose-folder-requires
+    enum-known-contained
+    is-detached-folder-requires
     returns-4
     read-header-length-requires
     returns-5

@@ -12,17 +12,17 @@ use borrow.Author.Needs.{needs}
 use Rattle.retitle.proofs.frame_of.Statement.{statement}
 use Rattle.retitle.proofs.frame_of.Tie as tie
 
-mul-held : tie.Need-mul-held
-mul-held c = search needs
+mul-contained : tie.Need-mul-contained
+mul-contained c = search needs
 
-add-held : tie.Need-add-held
-add-held c = search needs
+add-contained : tie.Need-add-contained
+add-contained c = search needs
 
-mul-held-2 : tie.Need-mul-held-2
-mul-held-2 c = search needs
+mul-contained-2 : tie.Need-mul-contained-2
+mul-contained-2 c = search needs
 
-shared-slice-read-held : tie.Need-shared-slice-read-held
-shared-slice-read-held c = search needs
+shared-slice-read-contained : tie.Need-shared-slice-read-contained
+shared-slice-read-contained c = search needs
 
 slice-aggregate-put-unpackers : tie.Need-slice-aggregate-put-unpackers
 slice-aggregate-put-unpackers c = search needs
@@ -74,10 +74,10 @@ pub frame-of-spec : {M : Type 1} → statement M
 frame-of-spec =
     tie.close
     (tie.spec
-    mul-held
-    add-held
-    mul-held-2
-    shared-slice-read-held
+    mul-contained
+    add-contained
+    mul-contained-2
+    shared-slice-read-contained
     slice-aggregate-put-unpackers
     put-unpackers-requires
     slice-aggregate-put-own

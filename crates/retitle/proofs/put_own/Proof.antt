@@ -2,6 +2,7 @@
 -- Assumes nothing.
 use native.Mathlib.Omega.{arith}
 use Prim.Native.Nat.{_*_}
+use Rattle.metadata.specs.Tables.{nodeWidth}
 use Rattle.tree.specs.Rows.{nodeFrom}
 use Rattle.retitle.proofs.Nodes.{body-most, own-uri, own-inline}
 use borrow.Author.Needs.{needs}
@@ -48,7 +49,7 @@ shared-slice-read-put-part : tie.Need-shared-slice-read-put-part
 shared-slice-read-put-part c = search needs
 
 put-part-requires : tie.Need-put-part-requires
-put-part-requires c κs = (omega (arith, c .before .before .before .before .before .before .before .before .before .before .before .before .before .body-size .ensures, body-most (nodeFrom (c .before .before .before .before .before .before .before .before .before .before .before .before .before .before .before .before .before .args .nodes .now) (c .before .before .before .before .before .before .before .before .before .before .before .before .before .before .before .before .before .args .i * 13))), omega (arith, c .before .before .before .before .put-number2 .ensures .after))
+put-part-requires c κs = (omega (arith, c .before .before .before .before .before .before .before .before .before .before .before .before .before .body-size .ensures, body-most (nodeFrom (c .before .before .before .before .before .before .before .before .before .before .before .before .before .before .before .before .before .args .nodes .now) (c .before .before .before .before .before .before .before .before .before .before .before .before .before .before .before .before .before .args .i * nodeWidth))), omega (arith, c .before .before .before .before .put-number2 .ensures .after))
 
 same-length : tie.Need-same-length
 same-length c = search needs
@@ -66,7 +67,7 @@ shared-slice-read-put-part-2 : tie.Need-shared-slice-read-put-part-2
 shared-slice-read-put-part-2 c = search needs
 
 put-part-requires-2 : tie.Need-put-part-requires-2
-put-part-requires-2 c κs = (omega (arith, c .before .before .before .before .before .before .before .before .before .body-size .ensures, body-most (nodeFrom (c .before .before .before .before .before .before .before .before .before .before .before .before .before .args .nodes .now) (c .before .before .before .before .before .before .before .before .before .before .before .before .before .args .i * 13))), omega (arith, c .before .before .before .before .before .before .put-number .ensures .after))
+put-part-requires-2 c κs = (omega (arith, c .before .before .before .before .before .before .before .before .before .body-size .ensures, body-most (nodeFrom (c .before .before .before .before .before .before .before .before .before .before .before .before .before .args .nodes .now) (c .before .before .before .before .before .before .before .before .before .before .before .before .before .args .i * nodeWidth))), omega (arith, c .before .before .before .before .before .before .put-number .ensures .after))
 
 same-length-2 : tie.Need-same-length-2
 same-length-2 c = search needs

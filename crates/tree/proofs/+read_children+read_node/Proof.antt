@@ -8,7 +8,7 @@ use Rattle.metadata.specs.Told.{contextOf}
 use Rattle.metadata.proofs.Gives.{done, stopped, fitting, no}
 use Rattle.node.proofs.Ends.{front-inside, inline-fits}
 use Rattle.node.proofs.Ways.{front-done, front-stopped, front-fitting}
-use Rattle.tree.proofs.Nodes.{node-none, node-limit, node-front, node-children, node-held, node-file, Going, children-begun, children-further, children-done, children-no, children-on}
+use Rattle.tree.proofs.Nodes.{node-none, node-limit, node-front, node-children, node-contained, node-file, Going, children-begun, children-further, children-done, children-no, children-on}
 use native.Mathlib.Omega.{arith}
 use borrow.Author.Needs.{needs}
 use Prim.Native.Nat.{ℕ, _+_, _*_, _-_, _<_}
@@ -187,7 +187,7 @@ read-node-same-length-7 : (t : ℕ) → read-node-lts.Need-same-length-7 (node-c
 read-node-same-length-7 t c = c .before .before .before .before .before .before .before .before .read-children .kept .1 .1 .1 .1 .0 ∙ c .before .before .before .before .before .before .before .before .before .before .before .before .before .before .before .before .before .before .before .before .before .before .before .before .before .before .before .read-front .kept .1 .1 .1 .0
 
 read-node-returns-6 : (t : ℕ) → read-node-lts.Need-returns-6 (node-calls t) (read-node-at t) read-node.Post
-read-node-returns-6 t c = node-held _ _ _ _ _ _ _ (c .before .before .before .before .before .before .before .before .before .before .before .before .before .before .before .before .before .before .before .before .before .before .before .before .before .before .before .before .before .before .before .before .if1 .left) (c .before .before .before .before .before .before .before .before .before .before .before .before .before .before .before .before .before .before .before .before .before .before .before .before .before .before .before .before .before .if2 .left) (omega (arith, c .before .before .before .before .before .before .before .before .before .before .before .before .before .before .before .before .before .before .before .before .before .before .before .before .before .before .before .before .before .before .before .before .before .before .before .before .before .before .pre)) _ _ _ (front-done (c .before .before .before .before .before .before .before .before .before .before .before .before .before .before .before .before .before .before .before .before .before .before .before .before .before .before .before .read-front .ensures _) (c .before .before .before .before .before .before .before .before .before .before .before .before .before .before .before .before .before .before .before .before .before .before .before .w .given .1)) _ (c .before .before .before .before .before .before .before .before .before .before .before .before .before .before .before .before .before .put-node .ensures) (c .before .before .before .before .before .before .before .before .before .before .before .before .before .before .of .ensures) (c .before .before .before .before .before .before .before .before .before .before .before .before .before .past-inline .ensures) (done (c .before .before .before .before .before .before .before .before .read-children .ensures) (c .before .before .m2 .given .1)) (c .end-node2 .ensures _ _ _)
+read-node-returns-6 t c = node-contained _ _ _ _ _ _ _ (c .before .before .before .before .before .before .before .before .before .before .before .before .before .before .before .before .before .before .before .before .before .before .before .before .before .before .before .before .before .before .before .before .if1 .left) (c .before .before .before .before .before .before .before .before .before .before .before .before .before .before .before .before .before .before .before .before .before .before .before .before .before .before .before .before .before .if2 .left) (omega (arith, c .before .before .before .before .before .before .before .before .before .before .before .before .before .before .before .before .before .before .before .before .before .before .before .before .before .before .before .before .before .before .before .before .before .before .before .before .before .before .pre)) _ _ _ (front-done (c .before .before .before .before .before .before .before .before .before .before .before .before .before .before .before .before .before .before .before .before .before .before .before .before .before .before .before .read-front .ensures _) (c .before .before .before .before .before .before .before .before .before .before .before .before .before .before .before .before .before .before .before .before .before .before .before .w .given .1)) _ (c .before .before .before .before .before .before .before .before .before .before .before .before .before .before .before .before .before .put-node .ensures) (c .before .before .before .before .before .before .before .before .before .before .before .before .before .before .of .ensures) (c .before .before .before .before .before .before .before .before .before .before .before .before .before .past-inline .ensures) (done (c .before .before .before .before .before .before .before .before .read-children .ensures) (c .before .before .m2 .given .1)) (c .end-node2 .ensures _ _ _)
 
 pub +read-children+read-node-spec : {M : Type 1} → statement M
 +read-children+read-node-spec = close μ-read-children μ-read-node (λ t. read-children-lts.spec (children-calls t)
