@@ -1,7 +1,8 @@
 // Two builds of the proved reader, for tools/compare.sh, which renames the functions of the first to before_*.
 //   compare QUESTION FILE                  both take turns: the median time of a call, in nanoseconds, and the ratio after to before
 //   compare BUILD QUESTION FILE CALLS      so many calls of one build, before or after, whose instructions are counted
-// QUESTION is tree, sheet or verdict. Tables and buffer are full. Both builds must leave the same.
+// QUESTION is tree, sheet, verdict, find (a field that is on no node, from the last row on, so that all of its path is looked at) or correct (the title of the first item
+// row that takes another). Tables and buffer are full. Both builds must leave the same.
 #include <stdint.h>
 #include <stdio.h>
 #include <stdlib.h>
@@ -14,12 +15,18 @@ enum { NODE_WORDS = XMF_ALL_NODE_WORDS, ITEM_WORDS = XMF_ALL_ITEM_WORDS, ROOM = 
 
 typedef void table_call(const uint8_t *, size_t, uint64_t *, size_t, uint64_t *, size_t, uint64_t *, size_t);
 typedef void sheet_call(const uint8_t *, size_t, uint64_t *, size_t, uint64_t *, size_t, uint8_t *, size_t, uint64_t *, size_t);
+typedef void find_call(const uint8_t *, size_t, uint64_t *, size_t, uint64_t *, size_t, size_t, uint64_t, uint64_t, const uint8_t *, size_t, uint64_t *, size_t);
+typedef void title_call(const uint8_t *, size_t, uint64_t *, size_t, uint64_t *, size_t, size_t, const uint8_t *, size_t, uint8_t *, size_t, uint64_t *, size_t);
 table_call before_read_tree, before_judge;
 sheet_call before_write_sheet;
+find_call before_find;
+title_call before_correct_title;
 
 static table_call *const trees[] = {before_read_tree, xmf_read_tree};
 static table_call *const verdicts[] = {before_judge, xmf_judge};
 static sheet_call *const sheets[] = {before_write_sheet, xmf_write_sheet};
+static find_call *const finds[] = {before_find, xmf_find};
+static title_call *const titles[] = {before_correct_title, xmf_correct_title};
 
 struct lent {
     uint64_t nodes[NODE_WORDS], items[ITEM_WORDS], answer[WORDS];
@@ -29,13 +36,24 @@ struct lent {
 static struct lent lent[2];
 static uint8_t *file;
 static size_t size;
+static size_t last_row, title_row;
+static const uint8_t new_title[] = "another title";
 
 static void call(int build, char question) {
     struct lent *l = &lent[build];
-    if (question == 's')
+    switch (question) {
+    case 's':
         sheets[build](file, size, l->nodes, NODE_WORDS, l->items, ITEM_WORDS, l->sheet, ROOM, l->answer, WORDS);
-    else
+        break;
+    case 'f':
+        finds[build](file, size, l->nodes, NODE_WORDS, l->items, ITEM_WORDS, last_row, 0, 0xfffffff, NULL, 0, l->answer, WORDS);
+        break;
+    case 'c':
+        titles[build](file, size, l->nodes, NODE_WORDS, l->items, ITEM_WORDS, title_row, new_title, sizeof new_title - 1, l->sheet, ROOM, l->answer, WORDS);
+        break;
+    default:
         (question == 't' ? trees : verdicts)[build](file, size, l->nodes, NODE_WORDS, l->items, ITEM_WORDS, l->answer, WORDS);
+    }
 }
 
 static void load(const char *path) {
@@ -52,6 +70,15 @@ static void load(const char *path) {
         exit(1);
     }
     fclose(in);
+    struct lent *l = &lent[1];
+    xmf_read_tree(file, size, l->nodes, NODE_WORDS, l->items, ITEM_WORDS, l->answer, WORDS);
+    size_t rows = l->answer[0] ? 0 : l->answer[4];
+    last_row = l->answer[0] ? 0 : l->answer[3] - 1;
+    while (title_row < rows) {
+        const uint64_t *row = &l->items[title_row * XMF_ITEM_WORDS];
+        if (row[XMF_ITEM_VERSION] == 0 && row[XMF_ITEM_FORMAT] % 2 == 0) break;
+        title_row++;
+    }
 }
 
 // Nanoseconds of a call, over a few calls: so short a turn is seldom broken off by another program.

@@ -15,10 +15,7 @@ here=$(CDPATH= cd -- "$(dirname -- "$0")" && pwd -P)
 work=$(mktemp -d)
 trap 'rm -rf "$work"' EXIT
 
-renamed=
-for name in read_tree write_sheet judge find find_own resolve utf16_to_utf8 utf8_to_utf16; do
-    renamed="$renamed --redefine-sym xmf_$name=before_$name"
-done
+renamed=$(nm -g --defined-only "$before" | awk '$3 ~ /^xmf_/ { printf " --redefine-sym %s=before_%s", $3, substr($3, 5) }')
 # shellcheck disable=SC2086
 objcopy $renamed "$before" "$work/before.a"
 cc -O2 -o "$work/compare" "$here/compare.c" "$work/before.a" "$after"
@@ -34,7 +31,7 @@ printf '%-12s %-8s %10s %10s %6s' file question 'ns before' after ratio
 if command -v valgrind >/dev/null; then printf ' %12s %10s %6s' 'instructions' after ratio; fi
 echo
 for file in "$@"; do
-    for question in tree sheet verdict; do
+    for question in tree sheet verdict find correct; do
         line=$("$work/compare" "$question" "$file")
         if command -v valgrind >/dev/null; then
             b=$(instructions before "$question" "$file")

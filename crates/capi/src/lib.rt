@@ -90,7 +90,7 @@ fn put_resolved(answer: &mut [u64], said: Resolved)
     match said {
         Resolved::Refused(n, p) => put_refusal(answer, n, p),
         Resolved::At(place, size, last, hops) => {
-            let words = [0, 0, place as u64, size as u64, last as u64, hops];
+            let words = [0, 0, place.0 as u64, size as u64, last as u64, hops];
             put_answer(answer, &words);
         }
     }

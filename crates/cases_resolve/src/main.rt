@@ -54,7 +54,7 @@ fn is_given(
     let part = resolve::resource(file, &mut nodes[0..n], &mut items[0..m], row);
     match answer {
         Resolved::Refused(_, _) => part.len() == 0,
-        Resolved::At(place, size, _, _) => is_part(file, part, place, size),
+        Resolved::At(place, size, _, _) => is_part(file, part, place.0, size),
     }
 }
 
@@ -64,7 +64,7 @@ fn put_answer(out: &mut [u8], answer: Resolved) -> usize {
         Resolved::Refused(number, place) => casetext::put_refusal(out, 0, number, place),
         Resolved::At(place, size, row, hops) => {
             let mut end = casetext::put(out, 0, b"ok");
-            end = casetext::put_spaced(out, end, place as u64);
+            end = casetext::put_spaced(out, end, place.0 as u64);
             end = casetext::put_spaced(out, end, size as u64);
             end = casetext::put_spaced(out, end, row as u64);
             casetext::put_spaced(out, end, hops)

@@ -54,12 +54,12 @@ fn show_tree(
     item_rows: usize,
     m: usize,
 ) {
-    let a = casetext::row_words(rows, 13, n);
-    let b = casetext::row_words(item_rows, 10, m);
+    let a = casetext::row_words(rows, cursor::NODE_WIDTH, n);
+    let b = casetext::row_words(item_rows, cursor::ITEM_WIDTH, m);
     if n <= nodes.len() {
         if m <= items.len() {
-            let mut end = put_table(out, at, b'n', &nodes[0..a], 13);
-            end = put_table(out, end, b'i', &items[0..b], 10);
+            let mut end = put_table(out, at, b'n', &nodes[0..a], cursor::NODE_WIDTH);
+            end = put_table(out, end, b'i', &items[0..b], cursor::ITEM_WIDTH);
             finish(
                 out,
                 end,

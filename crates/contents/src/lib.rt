@@ -3,37 +3,56 @@ ghost use mathlib.Core.Path.{_≡_};
 ghost use mathlib.Core.List.{List, _∷_, []};
 ghost use Prim.Native.Nat.{ℕ, suc, _≤_, _<_, _*_, _+_, _-_};
 ghost use lib.ListN.{length};
-ghost use Rattle.cursor.specs.Vlq.{vlq, joined};
+ghost use Rattle.cursor.specs.Vlq.{vlq, joined, sized};
 ghost use Rattle.metadata.specs.Tables.{itemWidth};
-ghost use Rattle.tree.specs.Rows.{itemFrom};
-ghost use Rattle.title.specs.Description.{content};
+ghost use Rattle.tree.specs.Rows.{itemFrom, ItemIn, ItemRows};
+ghost use Rattle.title.specs.Description.{content, titled};
 ghost use Rattle.title.specs.Text as text;
-ghost use Rattle.title.specs.Text.{fieldText, itemText, universalText, versionText, contentText, itemsText};
-ghost use Rattle.writer.specs.Counts.{Counts, tooMany};
-ghost use Rattle.contents.specs.Contents.{contentAt, contentsFrom, rowText, ItemInside, ItemsInside};
+ghost use Rattle.title.specs.Text.{fieldText, itemText, contentText, itemsText};
+ghost use Rattle.room.specs.Counts.{Counts};
+ghost use Rattle.contents.specs.Contents.{contentAt, contentsFrom, rowText};
+use cursor::Item;
 
-// Puts the data of item row k: the title for row `row`, and the file's for another.
-fn put_data(
-    out: &mut [u8],
-    to: usize,
-    file: &[u8],
-    items: &[u64],
-    k: usize,
-    row: usize,
-    title: &[u8],
-) -> usize
-    requires { ⌜ (k * itemWidth + itemWidth ≤ length (now items)) × ItemInside (length (now file)) (itemFrom (now items) (k * itemWidth)) × (to ≤ tooMany) ⌝ }
-    ensures { λ r. ⌜ Counts (now (out .entry)) (now (out .exit)) to (contentAt (now (file .entry)) row (now (title .entry)) (now (items .entry)) k .bytes) r ⌝ }
+// Puts string format and data.
+fn put_text(out: &mut [u8], to: usize, format: u64, bytes: &[u8]) -> usize
+    ensures { λ r. ⌜ Counts (now (out .entry)) (now (out .exit)) to (joined (vlq format ∷ now (bytes .entry) ∷ [])) r ⌝ }
 {
-    if k == row {
-        return writer::put_part(out, to, title, 0, title.len());
+    let a = room::put_number(out, to, format);
+    room::put_bytes(out, a, bytes)
+}
+
+// Puts a universal content: a length, string format and data.
+fn put_universal(out: &mut [u8], to: usize, format: u64, bytes: &[u8]) -> usize
+    ensures { λ r. ⌜ Counts (now (out .entry)) (now (out .exit)) to (sized (joined (vlq format ∷ now (bytes .entry) ∷ []))) r ⌝ }
+{
+    let n = room::on(room::vlq_size(format), bytes.len());
+    let a = room::put_number(out, to, n as u64);
+    put_text(out, a, format, bytes)
+}
+
+// Puts a version: a declared type, a length and data.
+fn put_version(out: &mut [u8], to: usize, declared: u64, bytes: &[u8]) -> usize
+    ensures { λ r. ⌜ Counts (now (out .entry)) (now (out .exit)) to (joined (vlq declared ∷ sized (now (bytes .entry)) ∷ [])) r ⌝ }
+{
+    let a = room::put_number(out, to, declared);
+    let b = room::put_number(out, a, bytes.len() as u64);
+    room::put_bytes(out, b, bytes)
+}
+
+// Puts the content of item row k with that data.
+fn put_content(out: &mut [u8], to: usize, items: &[u64], k: usize, bytes: &[u8]) -> usize
+    requires { ⌜ k * itemWidth + itemWidth ≤ length (now items) ⌝ }
+    ensures { λ r. ⌜ ((f : List ℕ) → Counts (now (out .entry)) (now (out .exit)) to (contentText (titled (now (bytes .entry)) (content f (itemFrom (now (items .entry)) (k * itemWidth))))) r) ⌝ }
+{
+    let item = tree::item_at(items, k);
+    if item.version == 0 {
+        return put_universal(out, to, item.format, bytes);
     }
-    let w = k * cursor::ITEM_WIDTH;
-    writer::put_part(out, to, file, items[w + 8] as usize, items[w + 9] as usize)
+    put_version(out, to, item.declared, bytes)
 }
 
-// Puts string format and data of item row k.
-fn put_text(
+// Puts the content of item row k: row `row` with the title, and another with the file's data.
+fn put_content_at(
     out: &mut [u8],
     to: usize,
     file: &[u8],
@@ -42,85 +61,29 @@ fn put_text(
     row: usize,
     title: &[u8],
 ) -> usize
-    requires { ⌜ (k * itemWidth + itemWidth ≤ length (now items)) × ItemInside (length (now file)) (itemFrom (now items) (k * itemWidth)) × (to ≤ tooMany) ⌝ }
-    ensures { λ r. ⌜ Counts (now (out .entry)) (now (out .exit)) to (joined (vlq (contentAt (now (file .entry)) row (now (title .entry)) (now (items .entry)) k .format) ∷ contentAt (now (file .entry)) row (now (title .entry)) (now (items .entry)) k .bytes ∷ [])) r ⌝ }
-{
-    let a = writer::put_number(out, to, items[k * cursor::ITEM_WIDTH + 7]);
-    put_data(out, a, file, items, k, row, title)
-}
-
-// Puts item row k, which is universal: a length, string format and data.
-fn put_universal(
-    out: &mut [u8],
-    to: usize,
-    file: &[u8],
-    items: &[u64],
-    k: usize,
-    row: usize,
-    title: &[u8],
-) -> usize
-    requires { ⌜ (k * itemWidth + itemWidth ≤ length (now items)) × ItemInside (length (now file)) (itemFrom (now items) (k * itemWidth)) × (to ≤ tooMany) ⌝ }
-    ensures { λ r. ⌜ Counts (now (out .entry)) (now (out .exit)) to (universalText (contentAt (now (file .entry)) row (now (title .entry)) (now (items .entry)) k)) r ⌝ }
-{
-    let mut scratch = [0u8; 1];
-    let n = put_text(&mut scratch, 0, file, items, k, row, title);
-    let a = writer::put_number(out, to, n as u64);
-    put_text(out, a, file, items, k, row, title)
-}
-
-// Puts item row k, which is a version: a declared type, a length and data.
-fn put_version(
-    out: &mut [u8],
-    to: usize,
-    file: &[u8],
-    items: &[u64],
-    k: usize,
-    row: usize,
-    title: &[u8],
-) -> usize
-    requires { ⌜ (k * itemWidth + itemWidth ≤ length (now items)) × ItemInside (length (now file)) (itemFrom (now items) (k * itemWidth)) × (to ≤ tooMany) ⌝ }
-    ensures { λ r. ⌜ Counts (now (out .entry)) (now (out .exit)) to (versionText (contentAt (now (file .entry)) row (now (title .entry)) (now (items .entry)) k)) r ⌝ }
-{
-    let mut scratch = [0u8; 1];
-    let n = put_data(&mut scratch, 0, file, items, k, row, title);
-    let a = writer::put_number(out, to, items[k * cursor::ITEM_WIDTH + 6]);
-    let b = writer::put_number(out, a, n as u64);
-    put_data(out, b, file, items, k, row, title)
-}
-
-// Puts item row k.
-fn put_content(
-    out: &mut [u8],
-    to: usize,
-    file: &[u8],
-    items: &[u64],
-    k: usize,
-    row: usize,
-    title: &[u8],
-) -> usize
-    requires { ⌜ (k * itemWidth + itemWidth ≤ length (now items)) × ItemInside (length (now file)) (itemFrom (now items) (k * itemWidth)) × (to ≤ tooMany) ⌝ }
+    requires { ⌜ (k * itemWidth + itemWidth ≤ length (now items)) × ItemIn (length (now file)) (itemFrom (now items) (k * itemWidth)) ⌝ }
     ensures { λ r. ⌜ Counts (now (out .entry)) (now (out .exit)) to (contentText (contentAt (now (file .entry)) row (now (title .entry)) (now (items .entry)) k)) r ⌝ }
 {
-    if items[k * cursor::ITEM_WIDTH + 5] == 0 {
-        return put_universal(out, to, file, items, k, row, title);
+    let item = tree::item_at(items, k);
+    if k == row {
+        return put_content(out, to, items, k, title);
     }
-    put_version(out, to, file, items, k, row, title)
+    let from = item.place as usize;
+    let end = from + item.size as usize;
+    put_content(out, to, items, k, &file[from..end])
 }
 
-// Puts the field of item row k: a custom name with its length, or 0 and a standard number.
-fn put_field(out: &mut [u8], to: usize, file: &[u8], items: &[u64], k: usize) -> usize
-    requires { ⌜ (k * itemWidth + itemWidth ≤ length (now items)) × ItemInside (length (now file)) (itemFrom (now items) (k * itemWidth)) × (to ≤ tooMany) ⌝ }
-    ensures { λ r. ⌜ Counts (now (out .entry)) (now (out .exit)) to (fieldText (content (now (file .entry)) (itemFrom (now (items .entry)) (k * itemWidth)))) r ⌝ }
+// Puts the field of an item row: a custom name with its length, or 0 and a standard number.
+fn put_field(out: &mut [u8], to: usize, file: &[u8], item: Item) -> usize
+    requires { ⌜ ItemIn (length (now file)) item ⌝ }
+    ensures { λ r. ⌜ Counts (now (out .entry)) (now (out .exit)) to (fieldText (content (now (file .entry)) item)) r ⌝ }
 {
-    let w = k * cursor::ITEM_WIDTH;
-    let field = items[w + 3];
-    if items[w + 2] == 1 {
-        let size = items[w + 4];
-        let a = writer::put_number(out, to, size);
-        return writer::put_part(out, a, file, field as usize, size as usize);
+    if item.kind == 1 {
+        let a = room::put_number(out, to, item.nameLength);
+        return room::put_part(out, a, file, item.field as usize, item.nameLength as usize);
     }
-    let a = writer::put_number(out, to, 0);
-    writer::put_number(out, a, field)
+    let a = room::put_number(out, to, 0);
+    room::put_number(out, a, item.field)
 }
 
 // How many item rows from row `first` on, and before row `end`, are further versions of the item before them.
@@ -131,7 +94,7 @@ fn further(items: &[u64], first: usize, end: usize) -> u64
 {
     let mut k = first;
     while k < end {
-        if items[k * cursor::ITEM_WIDTH + 5] <= 1 {
+        if tree::item_at(items, k).version <= 1 {
             return (k - first) as u64;
         }
         k = k + 1;
@@ -141,14 +104,15 @@ fn further(items: &[u64], first: usize, end: usize) -> u64
 
 // Puts what the item of row k has before its contents, the rows before row `end`: its field and the number of versions.
 fn put_start(out: &mut [u8], to: usize, file: &[u8], items: &[u64], k: usize, end: usize) -> usize
-    requires { ⌜ (k < end) × (end * itemWidth ≤ length (now items)) × ItemInside (length (now file)) (itemFrom (now items) (k * itemWidth)) × (to ≤ tooMany) ⌝ }
+    requires { ⌜ (k < end) × (end * itemWidth ≤ length (now items)) × ItemIn (length (now file)) (itemFrom (now items) (k * itemWidth)) ⌝ }
     ensures { λ r. ⌜ ((row : ℕ) (title : List ℕ) → Counts (now (out .entry)) (now (out .exit)) to (itemText (contentAt (now (file .entry)) row title (now (items .entry)) k) (suc (text.further (contentsFrom (now (file .entry)) row title (now (items .entry)) (k + 1) (end - (k + 1)))))) r) ⌝ }
 {
-    let a = put_field(out, to, file, items, k);
-    if items[k * cursor::ITEM_WIDTH + 5] == 0 {
-        return writer::put_number(out, a, 0);
+    let item = tree::item_at(items, k);
+    let a = put_field(out, to, file, item);
+    if item.version == 0 {
+        return room::put_number(out, a, 0);
     }
-    writer::put_number(out, a, 1 + further(items, k + 1, end))
+    room::put_number(out, a, 1 + further(items, k + 1, end))
 }
 
 // Puts item row k, with what its item has before it where it is the first of the item.
@@ -162,14 +126,14 @@ fn put_item(
     row: usize,
     title: &[u8],
 ) -> usize
-    requires { ⌜ (k < end) × (end * itemWidth ≤ length (now items)) × ItemInside (length (now file)) (itemFrom (now items) (k * itemWidth)) × (to ≤ tooMany) ⌝ }
+    requires { ⌜ (k < end) × (end * itemWidth ≤ length (now items)) × ItemIn (length (now file)) (itemFrom (now items) (k * itemWidth)) ⌝ }
     ensures { λ r. ⌜ Counts (now (out .entry)) (now (out .exit)) to (rowText (now (file .entry)) row (now (title .entry)) (now (items .entry)) k end) r ⌝ }
 {
-    if items[k * cursor::ITEM_WIDTH + 5] <= 1 {
+    if tree::item_at(items, k).version <= 1 {
         let a = put_start(out, to, file, items, k, end);
-        return put_content(out, a, file, items, k, row, title);
+        return put_content_at(out, a, file, items, k, row, title);
     }
-    put_content(out, to, file, items, k, row, title)
+    put_content_at(out, to, file, items, k, row, title)
 }
 
 // Puts the item rows from row `first` on, up to row `end`.
@@ -183,7 +147,7 @@ pub fn put_items(
     row: usize,
     title: &[u8],
 ) -> usize
-    requires { ⌜ (first ≤ end) × ItemsInside (length (now file)) end (now items) × (to ≤ tooMany) ⌝ }
+    requires { ⌜ (first ≤ end) × ItemRows (length (now file)) end (now items) ⌝ }
     ensures { λ r. ⌜ Counts (now (out .entry)) (now (out .exit)) to (itemsText (contentsFrom (now (file .entry)) row (now (title .entry)) (now (items .entry)) first (end - first))) r ⌝ }
 {
     let mut next = to;

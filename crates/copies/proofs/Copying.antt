@@ -2,11 +2,10 @@
 -- Assumes nothing.
 use mathlib.Core.Path.{_≡_, refl, sym, ap, _∙_, subst}
 use mathlib.Core.List.{List, [], _∷_, _++_, append-assoc, append-nil}
-use Prim.Native.Nat.{ℕ, zero, suc, _+_, _-_, _≤_, _<_, min}
+use Prim.Native.Nat.{ℕ, zero, suc, _+_, _-_, _≤_, _<_}
 use native.Mathlib.Omega.{arith}
-use lib.Dec.{eqb}
 use lib.ListN.{length}
-use borrow.Author.Tests.{eq-eqb, ne-eqb}
+use borrow.Author.Tests.{ne-eqb}
 use Rattle.cursor.specs.Machine.{Out, ok, refused, run, times}
 use Rattle.cursor.specs.Rows.{Frame, P, unpackFrame, fileFrame}
 use Rattle.cursor.specs.Leaves.{number, block, manufacturer, guid}
@@ -17,8 +16,8 @@ use Rattle.cursor.proofs.Laws.{running, andThen, run-times, run-timed}
 use Rattle.cursor.proofs.Wp.{at-end}
 use Rattle.cursor.proofs.Leaves.{Any, any-free, guid-on, manufacturer-on}
 use Rattle.title.specs.Description.{answer, copied, identifierText, unpackerText, entryText, tableText}
-use Rattle.writer.specs.Counts.{Counts, tooMany}
-use Rattle.writer.proofs.Counting.{counts-none, counts-then, counts-as, block-put}
+use Rattle.room.specs.Counts.{Counts, tooMany}
+use Rattle.room.proofs.Counting.{counts-none, counts-then, counts-as, put-sized}
 use Rattle.copies.specs.Told.{numberText, Copies}
 use Rattle.copies.specs.declared.Copied.{Copied}
 use Rattle.copies.specs.declared.Copied.the-variants as copying
@@ -60,9 +59,6 @@ module _ {o o′ : List ℕ} {s n : ℕ} {c : Cursor} {x : Out (List ℕ)} (p : 
 
   pub copied-puts : Counts o o′ s copied-bytes n
   copied-puts = p .is .2
-
-  pub copied-in : n ≤ tooMany
-  copied-in = let k = p .is .2 .after in omega arith
 
 pub copied-no : {o o′ : List ℕ} {s n : ℕ} {p : FilePlace} {x : Out (List ℕ)} → Copies o o′ s (copying.Refused n p) x → x ≡ refused n (p .0)
 copied-no k = k .is
@@ -229,9 +225,6 @@ pub record Copying (f : List ℕ) (body : List ℕ → P (List ℕ)) (o o′ : L
 pub copying-start : (f : List ℕ) (body : List ℕ → P (List ℕ)) (o : List ℕ) (to count from : ℕ) → to ≤ tooMany → Copying f body o o to count from to from count
 copying-start f body o to count from l = record { done = []; puts = counts-none o l; same = sym (before-none (run (times count body []) f from)) }
 
-pub copying-in : {f : List ℕ} {body : List ℕ → P (List ℕ)} {o o′ : List ℕ} {to count from next at left : ℕ} → Copying f body o o′ to count from next at left → next ≤ tooMany
-copying-in g = let e = g .puts .after in omega arith
-
 module _ {f : List ℕ} {body : List ℕ → P (List ℕ)} (behind : Behind f body) {o o₁ : List ℕ} {to count from next at left : ℕ} (g : Copying f body o o₁ to count from next at left) where
   turn : 0 < left → run (times count body []) f from ≡ before (g .done) (andThen (run (body []) f at) (λ t p. run (times (left - 1) body t) f p))
   turn some = g .same ∙ ap (before (g .done)) (run-times f left at body [] (λ z. omega arith))
@@ -309,13 +302,12 @@ entry-put a b c d p q x y = counts-then p (counts-then q (counts-then x (counts-
 -- ---- a block of what is read again
 
 pub block-copied : {z z′ o o₁ o₂ : List ℕ} {s s₁ n m : ℕ} {c d : Cursor} (x : Out (List ℕ)) → Copies z z′ 0 (copying.To n c) x → Counts o o₁ s (vlq n) s₁ → Copies o₁ o₂ s₁ (copying.To m d) x → Counts o o₂ s (sized (answer x)) m
-block-copied {n = n} x j v w =
+block-copied x j v w =
     let (a, e, p) = j .is in
     let (b, h, q) = w .is in
     let k : b ≡ a = ok-left (sym h ∙ e) in
-    let i = p .after in
     let l : answer x ≡ a = ap answer e in
-    rw l (block-put a n (omega arith) v (counts-as k q))
+    rw l (put-sized a p v (counts-as k q))
 
 pub block-none : {o o′ : List ℕ} {s r n p : ℕ} (x : Out (List ℕ)) → x ≡ refused n p → Counts o o′ s (vlq 0) r → Counts o o′ s (sized (answer x)) r
 unfolding sized

@@ -9,7 +9,7 @@ use Rattle.cursor.specs.Rows.{Frame, P}
 use Rattle.cursor.specs.Refusals.{cutShort}
 use Rattle.cursor.specs.Leaves.{number}
 use Rattle.cursor.specs.Vlq.{vlq}
-use Rattle.writer.specs.Counts.{Counts}
+use Rattle.room.specs.Counts.{Counts}
 use Rattle.copies.specs.declared.Copied.{Copied}
 use Rattle.copies.specs.declared.Copied.the-variants as copied
 

@@ -1,18 +1,16 @@
 // Writes anew what is read again for it, unpackers and the types table: every number in its shortest form, and all else as it is.
-ghost use mathlib.Core.Path.{_≡_};
-ghost use mathlib.Core.List.{List, []};
-ghost use Prim.Native.Nat.{ℕ, _≤_, _<_, _^_, _*_, _+_};
+ghost use mathlib.Core.List.{[]};
+ghost use Prim.Native.Nat.{_<_, _^_};
 ghost use lib.ListN.{length};
 ghost use Rattle.cursor.specs.Machine.{run, times};
 ghost use Rattle.cursor.specs.Rows.{Frame};
 ghost use Rattle.cursor.specs.Vlq.{sized};
-ghost use Rattle.metadata.specs.Tables.{nodeWidth};
-ghost use Rattle.tree.specs.Rows.{nodeFrom};
 ghost use Rattle.title.specs.Description.{answer, unpackerText, identifierText, entryText, tableText, shape};
-ghost use Rattle.writer.specs.Counts.{Counts, tooMany};
+ghost use Rattle.room.specs.Counts.{Counts};
 ghost use Rattle.copies.specs.Told.{numberText, Copies};
 use cursor::Cursor;
 use cursor::FilePlace;
+use cursor::Node;
 use cursor::Numbered;
 use cursor::Passed;
 
@@ -24,18 +22,17 @@ pub enum Copied {
 
 // Puts the number at c.
 fn copy_number(out: &mut [u8], to: usize, file: &[u8], c: Cursor) -> Copied
-    requires { ⌜ to ≤ tooMany ⌝ }
     ensures { λ r. ⌜ ((κ : Frame) → Copies (now (out .entry)) (now (out .exit)) to r (run (numberText κ (now (file .entry))) (now (file .entry)) (c .at .0))) ⌝ }
 {
     match c.number(file, FilePlace(file.len()), cursor::CUT_SHORT) {
         Numbered::Refused(n, p) => Copied::Refused(n, p),
-        Numbered::Is(v, d) => Copied::To(writer::put_number(out, to, v), d),
+        Numbered::Is(v, d) => Copied::To(room::put_number(out, to, v), d),
     }
 }
 
 // Puts what names the unpacker at c, which is of that kind.
 fn copy_identifier(out: &mut [u8], to: usize, file: &[u8], c: Cursor, kind: u64) -> Copied
-    requires { ⌜ (to ≤ tooMany) × (length (now file) < 2 ^ 28) ⌝ }
+    requires { ⌜ length (now file) < 2 ^ 28 ⌝ }
     ensures { λ r. ⌜ Copies (now (out .entry)) (now (out .exit)) to r (run (identifierText (now (file .entry)) kind) (now (file .entry)) (c .at .0)) ⌝ }
 {
     let start = c.at;
@@ -45,10 +42,7 @@ fn copy_identifier(out: &mut [u8], to: usize, file: &[u8], c: Cursor, kind: u64)
             Passed::Refused(n, p) => Copied::Refused(n, p),
             Passed::To(d) => {
                 let after = d.at;
-                Copied::To(
-                    writer::put_part(out, to, file, start.0, after.0 - start.0),
-                    d,
-                )
+                Copied::To(room::put_part(out, to, file, start.0, after.0 - start.0), d)
             }
         };
     }
@@ -57,7 +51,7 @@ fn copy_identifier(out: &mut [u8], to: usize, file: &[u8], c: Cursor, kind: u64)
             Passed::Refused(n, p) => Copied::Refused(n, p),
             Passed::To(d) => {
                 let after = d.at;
-                let a = writer::put_part(out, to, file, start.0, after.0 - start.0);
+                let a = room::put_part(out, to, file, start.0, after.0 - start.0);
                 copy_number(out, a, file, d)
             }
         };
@@ -67,13 +61,13 @@ fn copy_identifier(out: &mut [u8], to: usize, file: &[u8], c: Cursor, kind: u64)
 
 // Puts the unpacker at c.
 fn copy_unpacker(out: &mut [u8], to: usize, file: &[u8], c: Cursor) -> Copied
-    requires { ⌜ (to ≤ tooMany) × (length (now file) < 2 ^ 28) ⌝ }
+    requires { ⌜ length (now file) < 2 ^ 28 ⌝ }
     ensures { λ r. ⌜ Copies (now (out .entry)) (now (out .exit)) to r (run (unpackerText (now (file .entry)) []) (now (file .entry)) (c .at .0)) ⌝ }
 {
     match c.number(file, FilePlace(file.len()), cursor::CUT_SHORT) {
         Numbered::Refused(n, p) => Copied::Refused(n, p),
         Numbered::Is(kind, d) => {
-            let a = writer::put_number(out, to, kind);
+            let a = room::put_number(out, to, kind);
             match copy_identifier(out, a, file, d, kind) {
                 Copied::Refused(n, p) => Copied::Refused(n, p),
                 Copied::To(b, e) => copy_number(out, b, file, e),
@@ -84,7 +78,7 @@ fn copy_unpacker(out: &mut [u8], to: usize, file: &[u8], c: Cursor) -> Copied
 
 // Puts the unpackers at c, of which there are so many.
 fn copy_unpackers(out: &mut [u8], to: usize, file: &[u8], c: Cursor, count: u64) -> Copied
-    requires { ⌜ (to ≤ tooMany) × (length (now file) < 2 ^ 28) ⌝ }
+    requires { ⌜ length (now file) < 2 ^ 28 ⌝ }
     ensures { λ r. ⌜ Copies (now (out .entry)) (now (out .exit)) to r (run (times count (unpackerText (now (file .entry))) []) (now (file .entry)) (c .at .0)) ⌝ }
 {
     let mut next = to;
@@ -103,19 +97,18 @@ fn copy_unpackers(out: &mut [u8], to: usize, file: &[u8], c: Cursor, count: u64)
     Copied::To(next, at)
 }
 
-// Puts the unpackers of node row i with their length. Those of a file that was read are never refused.
-pub fn put_unpackers(out: &mut [u8], to: usize, file: &[u8], nodes: &[u64], i: usize) -> usize
-    requires { ⌜ (i * nodeWidth + nodeWidth ≤ length (now nodes)) × (to ≤ tooMany) × (length (now file) < 2 ^ 28) ⌝ }
-    ensures { λ r. ⌜ Counts (now (out .entry)) (now (out .exit)) to (sized (shape (now (file .entry)) (nodeFrom (now (nodes .entry)) (i * nodeWidth)) .unpackers)) r ⌝ }
+// Puts the unpackers of a node row with their length. Those of a file that was read are never refused.
+pub fn put_unpackers(out: &mut [u8], to: usize, file: &[u8], row: Node) -> usize
+    requires { ⌜ length (now file) < 2 ^ 28 ⌝ }
+    ensures { λ r. ⌜ Counts (now (out .entry)) (now (out .exit)) to (sized (shape (now (file .entry)) row .unpackers)) r ⌝ }
 {
-    let k = i * cursor::NODE_WIDTH;
-    let at = FilePlace(nodes[k + 9] as usize);
-    let count = nodes[k + 10];
+    let at = FilePlace(row.unpackers as usize);
+    let count = row.unpackerCount;
     let mut scratch = [0u8; 1];
     match copy_unpackers(&mut scratch, 0, file, Cursor { at }, count) {
-        Copied::Refused(_, _) => writer::put_number(out, to, 0),
+        Copied::Refused(_, _) => room::put_number(out, to, 0),
         Copied::To(n, _) => {
-            let a = writer::put_number(out, to, n as u64);
+            let a = room::put_number(out, to, n as u64);
             match copy_unpackers(out, a, file, Cursor { at }, count) {
                 Copied::Refused(_, _) => a,
                 Copied::To(b, _) => b,
@@ -126,7 +119,7 @@ pub fn put_unpackers(out: &mut [u8], to: usize, file: &[u8], nodes: &[u64], i: u
 
 // Puts the entry of the types table at c.
 fn copy_entry(out: &mut [u8], to: usize, file: &[u8], c: Cursor) -> Copied
-    requires { ⌜ (to ≤ tooMany) × (length (now file) < 2 ^ 28) ⌝ }
+    requires { ⌜ length (now file) < 2 ^ 28 ⌝ }
     ensures { λ r. ⌜ Copies (now (out .entry)) (now (out .exit)) to r (run (entryText (now (file .entry)) []) (now (file .entry)) (c .at .0)) ⌝ }
 {
     let end = FilePlace(file.len());
@@ -138,8 +131,8 @@ fn copy_entry(out: &mut [u8], to: usize, file: &[u8], c: Cursor) -> Copied
                 Numbered::Refused(n, p) => Copied::Refused(n, p),
                 Numbered::Is(size, name) => {
                     let first = name.at;
-                    let g = writer::put_number(out, b, size);
-                    let h = writer::put_part(out, g, file, first.0, size as usize);
+                    let g = room::put_number(out, b, size);
+                    let h = room::put_part(out, g, file, first.0, size as usize);
                     Copied::To(h, name.on(size))
                 }
             },
@@ -149,7 +142,7 @@ fn copy_entry(out: &mut [u8], to: usize, file: &[u8], c: Cursor) -> Copied
 
 // Puts the entries of the types table at c, of which there are so many.
 fn copy_entries(out: &mut [u8], to: usize, file: &[u8], c: Cursor, count: u64) -> Copied
-    requires { ⌜ (to ≤ tooMany) × (length (now file) < 2 ^ 28) ⌝ }
+    requires { ⌜ length (now file) < 2 ^ 28 ⌝ }
     ensures { λ r. ⌜ Copies (now (out .entry)) (now (out .exit)) to r (run (times count (entryText (now (file .entry))) []) (now (file .entry)) (c .at .0)) ⌝ }
 {
     let mut next = to;
@@ -170,7 +163,7 @@ fn copy_entries(out: &mut [u8], to: usize, file: &[u8], c: Cursor, count: u64) -
 
 // Puts the types table's count and entries; FileLength, which stands before the table, begins at c.
 fn copy_table(out: &mut [u8], to: usize, file: &[u8], c: Cursor) -> Copied
-    requires { ⌜ (to ≤ tooMany) × (length (now file) < 2 ^ 28) ⌝ }
+    requires { ⌜ length (now file) < 2 ^ 28 ⌝ }
     ensures { λ r. ⌜ Copies (now (out .entry)) (now (out .exit)) to r (run (tableText (now (file .entry))) (now (file .entry)) (c .at .0)) ⌝ }
 {
     let end = FilePlace(file.len());
@@ -181,7 +174,7 @@ fn copy_table(out: &mut [u8], to: usize, file: &[u8], c: Cursor) -> Copied
             Numbered::Is(_, e) => match e.number(file, end, cursor::CUT_SHORT) {
                 Numbered::Refused(n, p) => Copied::Refused(n, p),
                 Numbered::Is(count, g) => {
-                    let a = writer::put_number(out, to, count);
+                    let a = room::put_number(out, to, count);
                     copy_entries(out, a, file, g, count)
                 }
             },
@@ -191,15 +184,15 @@ fn copy_table(out: &mut [u8], to: usize, file: &[u8], c: Cursor) -> Copied
 
 // Puts the types table with its length. That of a file that was read is never refused.
 pub fn put_types(out: &mut [u8], to: usize, file: &[u8], opening: usize) -> usize
-    requires { ⌜ (to ≤ tooMany) × (length (now file) < 2 ^ 28) ⌝ }
+    requires { ⌜ length (now file) < 2 ^ 28 ⌝ }
     ensures { λ r. ⌜ Counts (now (out .entry)) (now (out .exit)) to (sized (answer (run (tableText (now (file .entry))) (now (file .entry)) opening))) r ⌝ }
 {
     let at = FilePlace(opening);
     let mut scratch = [0u8; 1];
     match copy_table(&mut scratch, 0, file, Cursor { at }) {
-        Copied::Refused(_, _) => writer::put_number(out, to, 0),
+        Copied::Refused(_, _) => room::put_number(out, to, 0),
         Copied::To(n, _) => {
-            let a = writer::put_number(out, to, n as u64);
+            let a = room::put_number(out, to, n as u64);
             match copy_table(out, a, file, Cursor { at }) {
                 Copied::Refused(_, _) => a,
                 Copied::To(b, _) => b,

@@ -1,7 +1,7 @@
 -- The least byte count: it holds its number, none less does, and it is the number's own shortest form.
 -- Assumes nothing.
 use mathlib.Core.Path.{_≡_, refl, ap}
-use mathlib.Core.Bool.{Bool, true, false}
+use mathlib.Core.Bool.{Bool, true, false, cond}
 use mathlib.Core.List.{List}
 use Prim.Native.Nat.{ℕ, zero, suc, _+_, _^_, _≤_, _<_}
 use native.Mathlib.Omega.{arith}
@@ -9,9 +9,9 @@ use native.Mathlib.Decide.{decLe, decLt}
 use lib.Dec.{ltb}
 use lib.ListN.{length}
 use borrow.Author.Tests.{ltb-true, ltb-false, le-ltb}
-use Rattle.cursor.specs.Vlq.{choose, inBytes, from, least, vlq}
+use Rattle.cursor.specs.Vlq.{inBytes, from, least, vlq}
 
-chosen : {A : Type 0} (Q : A → Type 0) (b : Bool) {x y : A} → (b ≡ true → Q x) → (b ≡ false → Q y) → Q (choose b x y)
+chosen : {A : Type 0} (Q : A → Type 0) (b : Bool) {x y : A} → (b ≡ true → Q x) → (b ≡ false → Q y) → Q (cond b x y)
 chosen Q true h k = h refl
 chosen Q false h k = k refl
 

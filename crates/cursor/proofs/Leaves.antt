@@ -16,6 +16,7 @@ use Rattle.cursor.proofs.Digits.{begun, last}
 use Rattle.cursor.proofs.Stable.{depends}
 use Rattle.cursor.proofs.Within.{same, number-within}
 use Rattle.cursor.proofs.Wp.{Wp, Rule, Free, at-end, wp-after, wp-weaken, wp-ret, wp-refuse, wp-here, wp-byte, wp-if, wp-check, wp-place}
+use Rattle.cursor.proofs.Agree.{AgreeUpTo}
 
 module _ {U : Rule Part} where
   -- one byte
@@ -87,7 +88,7 @@ module _ (κ : Frame) (past end : ℕ) (f : List ℕ) (at : ℕ) {v q : ℕ} whe
   number-short l is h k = let m : 0 * 128 + v % 128 ≡ v = omega arith in rw k (sym (rw m at (last (begun f past end at) (λ z. omega arith) l is h κ)))
 
   -- a number depends on the bytes that it read alone
-  pub number-depends : run (number κ past end) f at ≡ ok v q → (g : List ℕ) → ((k : ℕ) → at ≤ k → k < q → getD f k 0 ≡ getD g k 0) → run (number κ past end) g at ≡ ok v q
+  pub number-depends : run (number κ past end) f at ≡ ok v q → (g : List ℕ) → AgreeUpTo f g at q → run (number κ past end) g at ≡ ok v q
   number-depends e g h = depends (number κ past end) f g at e h
 
 -- ---- the ways through a block and a manufacturer
@@ -137,5 +138,5 @@ module _ (κ : Frame) (end : ℕ) (f : List ℕ) (at : ℕ) where
 
 -- ---- a number, given or refused, depends on the bytes of its part alone
 
-pub number-same : (f g : List ℕ) (κ : Frame) (past end at : ℕ) → ((k : ℕ) → at ≤ k → k < end → getD f k 0 ≡ getD g k 0) → run (number κ past end) f at ≡ run (number κ past end) g at
+pub number-same : (f g : List ℕ) (κ : Frame) (past end at : ℕ) → AgreeUpTo f g at end → run (number κ past end) f at ≡ run (number κ past end) g at
 number-same f g κ past end at h = same (number-within κ past end) f g at h

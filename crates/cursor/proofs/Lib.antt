@@ -7,6 +7,7 @@ pub mod Uses
 pub mod Quiet
 pub mod Digits
 pub mod Within
+pub mod Agree
 pub mod Leaves
 pub mod Order
 pub mod Limited

@@ -9,6 +9,7 @@ use native.Mathlib.Omega.{arith}
 use lib.Dec.{T, T-not}
 use lib.ListN.{getD}
 use Rattle.cursor.specs.Machine.{Prog, ret, refuse, here, byte, pass, Out, ok, refused, Event, seen, passed, run, trace}
+use Rattle.cursor.proofs.Agree.{AgreeUpTo}
 
 -- its first byte, and how many bytes it has
 abbrev pub startOf : {K W : Type 0} → Event K W → ℕ
@@ -129,7 +130,7 @@ module _ {K W : Type 0} (free : W → Bool) where
 -- ---- a run that was accepted depends on the bytes between its two places alone
 
 pub depends : {K W A : Type 0} (m : Prog K W A) (f g : List ℕ) (at : ℕ) {a : A} {q : ℕ} → run m f at ≡ ok a q
-    → ((k : ℕ) → at ≤ k → k < q → getD f k 0 ≡ getD g k 0) → run m g at ≡ ok a q
+    → AgreeUpTo f g at q → run m g at ≡ ok a q
 depends m f g at e h =
     let z = ends m f at e in
     sym (stable (λ _. false) m f g at (kept (λ _. false) f g (trace m f at) at (chain m f at) (λ k lo hi n. h k lo (omega arith))) .0) ∙ e

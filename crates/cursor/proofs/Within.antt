@@ -11,6 +11,7 @@ use borrow.Author.Tests.{ltb-true}
 use Rattle.cursor.specs.Machine.{ret, refuse, here, byte, pass, run, _>>=_, _>>_, if_then_else_, place, check, times}
 use Rattle.cursor.specs.Rows.{Frame, P}
 use Rattle.cursor.specs.Leaves.{next, digits, number, manufacturer}
+use Rattle.cursor.proofs.Agree.{AgreeUpTo}
 
 module _ (end : ℕ) where
   abbrev WithinOf : {A : Type 0} → P A → (at : ℕ) → Type 0
@@ -20,7 +21,7 @@ module _ (end : ℕ) where
   WithinOf (byte κ k) at = (at < end) × ((b : ℕ) → WithinOf (k b) (at + 1))
   WithinOf (pass w n m) at = WithinOf m (at + n)
 
-  of-run : {A : Type 0} (m : P A) (f g : List ℕ) (at : ℕ) → WithinOf m at → ((k : ℕ) → at ≤ k → k < end → getD f k 0 ≡ getD g k 0) → run m f at ≡ run m g at
+  of-run : {A : Type 0} (m : P A) (f g : List ℕ) (at : ℕ) → WithinOf m at → AgreeUpTo f g at end → run m f at ≡ run m g at
   unfolding run
   of-run (ret a) f g at w h = refl
   of-run (refuse n p) f g at w h = refl
@@ -42,7 +43,7 @@ pub record Within {A : Type 0} (end : ℕ) (m : P A) : Type 0 where
 
 module _ {end : ℕ} {A : Type 0} where
   -- two files that agree from a place up to the end: the runs from that place are the same
-  pub same : {m : P A} → Within end m → (f g : List ℕ) (at : ℕ) → ((k : ℕ) → at ≤ k → k < end → getD f k 0 ≡ getD g k 0) → run m f at ≡ run m g at
+  pub same : {m : P A} → Within end m → (f g : List ℕ) (at : ℕ) → AgreeUpTo f g at end → run m f at ≡ run m g at
   same {m} w f g at h = of-run end m f g at (w .within at) h
 
   -- ---- the rules

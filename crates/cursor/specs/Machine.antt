@@ -1,6 +1,6 @@
 -- The reading machine. A definition of the format is a program: it says what it asks for, and what the bytes are that it passes over. Knows nothing of a format.
 -- Assumes nothing.
-use mathlib.Core.Bool.{Bool, true, false}
+use mathlib.Core.Bool.{Bool, true, false, cond}
 use mathlib.Core.List.{List, [], _∷_, _++_}
 use Prim.Native.Nat.{ℕ, zero, suc, _+_, _-_}
 use lib.Dec.{ltb}
@@ -76,10 +76,10 @@ pass w n m >>= g = pass w n (m >>= g)
 unfoldable pub _>>_ : {K W A B : Type 0} → Prog K W A → Prog K W B → Prog K W B
 m >> n = m >>= λ _. n
 
+-- the library's conditional, of programs: it has a name of its own so that a law finds the two programs by it
 infixr 2 if_then_else_
 unfoldable pub if_then_else_ : {K W A : Type 0} → Bool → Prog K W A → Prog K W A → Prog K W A
-if true then m else n = m
-if false then m else n = n
+if b then m else n = cond b m n
 
 -- the cursor's place
 unfoldable pub place : {K W : Type 0} → Prog K W ℕ

@@ -1,6 +1,6 @@
 -- Numbers as they are written: in so many bytes, and in the least that hold them, also where a length counts its own bytes.
 -- Assumes nothing.
-use mathlib.Core.Bool.{Bool, true, false}
+use mathlib.Core.Bool.{cond}
 use mathlib.Core.List.{List, [], _∷_, _++_}
 use Prim.Native.Nat.{ℕ, zero, suc, _+_, _*_, _/_, _%_, _^_}
 use lib.Dec.{ltb}
@@ -9,11 +9,6 @@ use lib.ListN.{length, take, drop}
 -- n bytes of a file, from `at` on
 abbrev pub part : List ℕ → (at n : ℕ) → List ℕ
 part f at n = take n (drop at f)
-
--- the first where the test holds, else the second
-abbrev pub choose : {A : Type 0} → Bool → A → A → A
-choose true a b = a
-choose false a b = b
 
 -- what a byte with k bytes after it has added: 80h, and the last nothing
 abbrev pub mark : ℕ → ℕ
@@ -28,7 +23,7 @@ inBytes (suc k) n = (mark k + n / 128 ^ k % 128) ∷ inBytes k n
 -- the first count from k on, among so many and one, that holds the number n, which may depend on the count; the last of them if none does
 unfoldable pub from : ℕ → ℕ → (ℕ → ℕ) → ℕ
 from zero k n = k
-from (suc more) k n = choose (ltb (n k) (128 ^ k)) k (from more (suc k) n)
+from (suc more) k n = cond (ltb (n k) (128 ^ k)) k (from more (suc k) n)
 
 -- the least count of bytes, 1 to 4, that holds the number n, which may depend on that count
 unfoldable pub least : (ℕ → ℕ) → ℕ

@@ -1,15 +1,17 @@
 -- The count depends on the rows and on the data of its own row alone: no other byte of the file counts. Nor does any other byte for whether a row is readable.
 -- Assumes nothing.
 use mathlib.Core.Path.{_≡_, refl, ap}
-use mathlib.Core.Bool.{Bool, true, false, cond}
+use mathlib.Core.Bool.{Bool, true, false, cond, _||_}
 use mathlib.Core.List.{List}
 use Prim.Native.Nat.{ℕ, zero, suc, _+_, _≤_, _<_}
-use lib.Dec.{ltb}
+use lib.Dec.{ltb, eqb}
 use lib.ListN.{length, getD}
 use borrow.Author.Tests.{ltb-true}
+use Rattle.cursor.specs.Rows.{P}
 use Rattle.cursor.specs.declared.Node.{Node}
 use Rattle.cursor.specs.declared.Item.{Item}
-use Rattle.cursor.proofs.Within.{Within, same, after, ends, either, checks, places, counts, next-within, number-within, manufacturer-within}
+use Rattle.cursor.proofs.Within.{Within, same, after, ends, checks, places, counts, next-within, number-within, manufacturer-within}
+use Rattle.cursor.proofs.Agree.{Agree}
 use Rattle.header.specs.Header.{Header}
 use Rattle.tree.specs.Rows.{itemAt}
 use Rattle.description.specs.Row.{isDescription}
@@ -28,11 +30,15 @@ module _ (end : ℕ) where
   unfolding guid aByte
   guid-within = places λ p. counts 16 tt λ _. after (next-within _ end _ p) λ b. ends
 
+  by-test : (b : Bool) {m n : P (Unit {0})} → Within end m → Within end n → Within end (cond b m n)
+  by-test true h k = h
+  by-test false h k = k
+
   resource-within : Within end (resource end)
   unfolding resource identifier
   resource-within =
       places λ p. after (number-within _ _ end) λ kind. checks _ _ _
-      (either _ guid-within (either _ (after (manufacturer-within _ end) λ m. value-within) value-within))
+      (by-test (eqb kind 3 || eqb kind 5) guid-within (by-test (eqb kind 1) (after (manufacturer-within _ end) λ m. value-within) value-within))
 
   numbers-within : (n : ℕ) → Within end (numbers n end)
   unfolding numbers
@@ -50,7 +56,7 @@ module _ (end : ℕ) where
 
 module _ (f g : List ℕ) where
   abbrev pub Same : Item → Type 0
-  Same r = (k : ℕ) → r .place ≤ k → k < r .place + r .size → getD f k 0 ≡ getD g k 0
+  Same r = Agree f g (r .place) (r .size)
 
   data-same : (r : Item) → Same r → dataRead f r ≡ dataRead g r
   unfolding dataRead

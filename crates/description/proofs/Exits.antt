@@ -4,7 +4,6 @@ use mathlib.Core.Path.{_≡_, sym, ap, _∙_}
 use mathlib.Core.Bool.{Bool, true, false, not}
 use mathlib.Core.List.{List}
 use Prim.Native.Nat.{ℕ, _+_, _*_, _≤_, _<_}
-use native.Mathlib.Omega.{arith}
 use lib.ListN.{length, replicate}
 use borrow.Author.Tests.{lt-ltb, le-ltb, not-true, not-false}
 use Rattle.cursor.specs.Machine.{run}
@@ -12,16 +11,18 @@ use Rattle.cursor.specs.declared.FilePlace.{FilePlace}
 use Rattle.cursor.specs.declared.Item.{Item}
 use Rattle.metadata.specs.Tables.{itemWidth, limits}
 use Rattle.tree.specs.Reading.{readFile, readOf, nodeTable, itemTable}
-use Rattle.tree.specs.Rows.{itemFrom, itemsIn}
-use Rattle.tree.specs.Asking.{Result, good, bad, ask, keptNodes, keptItems}
+use Rattle.tree.specs.Rows.{itemFrom, itemsIn, ItemRows}
+use Rattle.tree.specs.Asking.{Result, good, bad}
 use Rattle.tree.specs.declared.Summary.{Summary}
 use Rattle.tree.specs.declared.Read.{Read}
 use Rattle.tree.specs.declared.Read.the-variants as read
-use Rattle.tree.proofs.Rows.{item-at, items-in-length, Standing, standing, ask-refused, refused-nodes, refused-items, ask-is, good-nodes, good-items, bad-nodes, bad-items}
+use Rattle.tree.proofs.Rows.{item-at, items-in-length, Standing, standing}
+use Rattle.tree.proofs.Exits.{Says, says-unread, says-refused, says-answer}
+use Rattle.tree.proofs.Own.{item-rows}
 use Rattle.description.specs.Row.{isField, isBinary, isDescription}
 use Rattle.description.specs.Description.{description}
 use Rattle.description.specs.Count.{dataRead, countOf, countIn, countRow, countFor}
-use Rattle.description.specs.Told.{told, DataIn}
+use Rattle.description.specs.Told.{told}
 use Rattle.description.specs.declared.Counted.{Counted}
 use Rattle.description.specs.declared.Counted.the-variants as counted
 
@@ -45,10 +46,6 @@ module _ (f : List ℕ) (channel resource : ℕ) (x : Item) where
       unfolding countIn isDescription dataRead
       row-count u h = let w : isField 13 x ≡ true = sym e ∙ not-false b t in let y : isBinary x ≡ true = sym k ∙ not-false c u in simp (w, y) h
 
--- the data of a row of the table lies in the file
-pub row-in : (size : ℕ) (ws : List ℕ) (n i : ℕ) → DataIn size (itemsIn n ws) → i < n → {r : Item} → r ≡ itemFrom ws (i * itemWidth) → r .place + r .size ≤ size
-row-in size ws n i h l e = rw (item-at ws n i l ∙ sym e) at (h i (omega (arith, items-in-length ws n)))
-
 module _ (f ws : List ℕ) (count row channel resource : ℕ) where
   pub row-none : count ≤ row → bad 18 0 ≡ countRow f row channel resource (itemsIn count ws)
   unfolding countRow
@@ -62,25 +59,19 @@ module _ (f ws : List ℕ) (count row channel resource : ℕ) where
 
 -- the answer, and both tables
 abbrev pub Ends : (f : List ℕ) (nsize isize row channel resource : ℕ) → Result ℕ → (t u : List ℕ) → Type 0
-Ends f nsize isize row channel resource a t u =
-    (a ≡ ask (readFile (limits nsize isize) f) (countFor row channel resource f))
-    × (t ≡ keptNodes nsize (readFile (limits nsize isize) f) (ask (readFile (limits nsize isize) f) (countFor row channel resource f)))
-    × (u ≡ keptItems isize (readFile (limits nsize isize) f) (ask (readFile (limits nsize isize) f) (countFor row channel resource f)))
+Ends f nsize isize row channel resource a t u = Says nsize isize (readFile (limits nsize isize) f) (countFor row channel resource f) a t u
 
 module _ (f : List ℕ) (nsize isize row channel resource : ℕ) {r : Read} {t u : List ℕ} (e : r ≡ readOf (readFile (limits nsize isize) f))
     (a : t ≡ nodeTable nsize (readFile (limits nsize isize) f)) (b : u ≡ itemTable isize (readFile (limits nsize isize) f)) where
   pub ends-unread : {n : ℕ} {p : FilePlace} → r ≡ read.Refused n p → Ends f nsize isize row channel resource (bad n (p .0)) t u
-  ends-unread k = (sym (ask-refused _ e k (countFor row channel resource f)), refused-nodes _ (countFor row channel resource f) e k nsize a, refused-items _ (countFor row channel resource f) e k isize b)
+  ends-unread k = says-unread nsize isize _ (countFor row channel resource f) e k a b
 
   module _ {s : Summary} (k : r ≡ read.Is s) where
     stands : Standing f (readFile (limits nsize isize) f) s t u
     stands = standing f (limits nsize isize) nsize isize e a b k
 
-    pub rows-room : s .items * itemWidth ≤ length u
-    rows-room = stands .item-room
-
-    pub rows-inside : DataIn (length f) (itemsIn (s .items) u)
-    rows-inside = let w = stands in rw (w .items-are) (λ i l. w .sound .items-inside i l .0)
+    pub rows-inside : ItemRows (length f) (s .items) u
+    rows-inside = item-rows stands
 
     module _ (x : Counted) (y : told x ≡ countRow f row channel resource (itemsIn (s .items) u)) where
       answered : told x ≡ countFor row channel resource f (stands .h) (stands .ns) (stands .is)
@@ -91,10 +82,10 @@ module _ (f : List ℕ) (nsize isize row channel resource : ℕ) {r : Read} {t u
       ends-refused {n} {p} z c d =
           let w = stands in
           let q : countFor row channel resource f (w .h) (w .ns) (w .is) ≡ bad n p = sym answered ∙ ap told z in
-          (sym (ask-is (w .reads) (countFor row channel resource f) ∙ q), bad-nodes (w .reads) (countFor row channel resource f) nsize q c, bad-items (w .reads) (countFor row channel resource f) isize q d)
+          says-refused nsize isize _ (countFor row channel resource f) (w .reads) q c d
 
       pub ends-count : {n : ℕ} → x ≡ counted.Count n → Ends f nsize isize row channel resource (good n) t u
       ends-count {n} z =
           let w = stands in
           let q : countFor row channel resource f (w .h) (w .ns) (w .is) ≡ good n = sym answered ∙ ap told z in
-          (sym (ask-is (w .reads) (countFor row channel resource f) ∙ q), good-nodes (w .reads) (countFor row channel resource f) nsize q a, good-items (w .reads) (countFor row channel resource f) isize q b)
+          says-answer nsize isize _ (countFor row channel resource f) (w .reads) q a b

@@ -1,7 +1,7 @@
 -- The ways through a content description: what each exit of the code comes to.
 -- Assumes nothing.
 use mathlib.Core.Path.{_≡_, refl, sym, ap, _∙_}
-use mathlib.Core.Bool.{Bool, true, false, cond, not, _&&_}
+use mathlib.Core.Bool.{Bool, true, false, cond, not, _&&_, _||_}
 use mathlib.Core.Logic.{_⊎_, inl, inr}
 use mathlib.Core.List.{List, [], _∷_}
 use Prim.Native.Nat.{ℕ, zero, suc, _+_, _*_, _-_, _^_, _≤_, _<_}
@@ -12,11 +12,11 @@ use lib.Dec.{ltb, eqb}
 use lib.ListN.{getD}
 use borrow.Author.Tests.{lt-ltb, le-ltb, le-leb, lt-leb, eq-eqb, ne-eqb}
 use Rattle.cursor.specs.Machine.{Out, ok, refused, run, times}
-use Rattle.cursor.specs.Rows.{metaFrame}
+use Rattle.cursor.specs.Rows.{P, metaFrame}
 use Rattle.cursor.specs.Leaves.{next, number, manufacturer}
 use Rattle.cursor.specs.declared.Item.{Item}
 use Rattle.cursor.proofs.Laws.{running, andThen, run-times, run-timed}
-use Rattle.cursor.proofs.Wp.{Wp, at-end, wp-after, wp-weaken, wp-ret, wp-if, wp-check, wp-place, wp-times}
+use Rattle.cursor.proofs.Wp.{Wp, at-end, wp-after, wp-weaken, wp-ret, wp-check, wp-place, wp-times}
 use Rattle.cursor.proofs.Leaves.{Any, any-free, next-on, number-on, manufacturer-on}
 use Rattle.tree.specs.Asking.{Result, good, bad}
 use Rattle.description.specs.Description.{value, aByte, guid, identifier, resource, numbers, Description, lists, table, description}
@@ -64,12 +64,12 @@ module _ (end : ℕ) (f : List ℕ) (at : ℕ) where
 module _ (kind end : ℕ) (f : List ℕ) (at : ℕ) where
   pub identifier-three : kind ≡ 3 → {o : Out (Unit {0})} → o ≡ run (guid end) f at → o ≡ run (identifier kind end) f at
   unfolding identifier
-  identifier-three k h = h ∙ simp (running, eq-eqb _ _ k)
+  identifier-three k h = h ∙ simp (eq-eqb _ _ k)
 
   module _ (n₃ : (kind ≡ 3) → ⊥) where
     pub identifier-five : kind ≡ 5 → {o : Out (Unit {0})} → o ≡ run (guid end) f at → o ≡ run (identifier kind end) f at
     unfolding identifier
-    identifier-five k h = h ∙ simp (running, ne-eqb _ _ n₃, eq-eqb _ _ k)
+    identifier-five k h = h ∙ simp (ne-eqb _ _ n₃, eq-eqb _ _ k)
 
     module _ (n₅ : (kind ≡ 5) → ⊥) where
       pub identifier-cut : kind ≡ 1 → {n p : ℕ} → run (manufacturer metaFrame end) f at ≡ refused n p → refused n p ≡ run (identifier kind end) f at
@@ -82,7 +82,7 @@ module _ (kind end : ℕ) (f : List ℕ) (at : ℕ) where
 
       pub identifier-one : ((kind ≡ 1) → ⊥) → {o : Out (Unit {0})} → o ≡ run (value end) f at → o ≡ run (identifier kind end) f at
       unfolding identifier
-      identifier-one n₁ h = h ∙ simp (running, ne-eqb _ _ n₃, ne-eqb _ _ n₅, ne-eqb _ _ n₁)
+      identifier-one n₁ h = h ∙ simp (ne-eqb _ _ n₃, ne-eqb _ _ n₅, ne-eqb _ _ n₁)
 
 module _ (end : ℕ) (f : List ℕ) (at : ℕ) where
   pub resource-cut : {n p : ℕ} → run (number metaFrame 3 end) f at ≡ refused n p → refused n p ≡ run (resource end) f at
@@ -109,11 +109,15 @@ guid-on end at l =
     wp-place _ at
     (wp-weaken (wp-times (λ _. Unit {0}) 16 tt (λ t p h i. wp-after (next-on _ _ end at p) λ b q x. wp-ret (tt, omega arith, omega arith)) tt l) (λ _ q x. (x .1, x .2)))
 
+by-test : (b : Bool) {m n : P (Unit {0})} {R : Unit {0} → ℕ → Type 0} {at : ℕ} → Wp Any m R at → Wp Any n R at → Wp Any (cond b m n) R at
+by-test true h k = h
+by-test false h k = k
+
 identifier-on : (kind end at : ℕ) → at ≤ end → Wp Any (identifier kind end) (λ _ q. (at ≤ q) × (q ≤ end)) at
 unfolding identifier
 identifier-on kind end at l =
-    wp-if (λ t. guid-on end at l)
-    λ t. wp-if (λ u. wp-after (manufacturer-on _ end at) λ m q x. wp-weaken (value-on end q) (λ _ r y. omega arith)) (λ u. value-on end at)
+    by-test (eqb kind 3 || eqb kind 5) (guid-on end at l)
+    (by-test (eqb kind 1) (wp-after (manufacturer-on _ end at) λ m q x. wp-weaken (value-on end q) (λ _ r y. omega arith)) (value-on end at))
 
 resource-on : (end at : ℕ) → Wp Any (resource end) (λ _ q. (at < q) × (q ≤ end)) at
 unfolding resource

@@ -1,10 +1,10 @@
 -- A content description (02, E4; document 002, section 10): the data of field 13, one line a field, in a part that ends at `end`.
 -- Assumes nothing.
-use mathlib.Core.Bool.{_||_}
+use mathlib.Core.Bool.{cond, _||_}
 use mathlib.Core.List.{List, [], _∷_}
 use Prim.Native.Nat.{ℕ, zero, suc, _*_}
 use lib.Dec.{leb, eqb}
-use Rattle.cursor.specs.Machine.{ret, _>>=_, _>>_, if_then_else_, place, check, times}
+use Rattle.cursor.specs.Machine.{ret, _>>=_, _>>_, place, check, times}
 use Rattle.cursor.specs.Rows.{P, metaFrame}
 use Rattle.cursor.specs.Refusals.{cutShort, badDescription}
 use Rattle.cursor.specs.Leaves.{next, number, manufacturer}
@@ -32,12 +32,12 @@ guid end = do
 -- what names a resource, by its kind: 0, 2 and 4 a VLQ, 1 a manufacturer and a VLQ, 3 and 5 a GUID
 unfoldable pub identifier : (kind end : ℕ) → P (Unit {0})
 identifier kind end =
-    if eqb kind 3 || eqb kind 5 then guid end
-    else if eqb kind 1
-    then (do
+    cond (eqb kind 3 || eqb kind 5) (guid end)
+    (cond (eqb kind 1)
+    (do
       m ← manufacturer metaFrame end
       value end)
-    else value end
+    (value end))
 
 -- an entry: a kind, and what names the resource
 unfoldable pub resource : ℕ → P (Unit {0})

@@ -1,11 +1,9 @@
 -- What the code's answers say.
 -- Assumes nothing.
 use mathlib.Core.List.{List, [], _∷_}
-use Prim.Native.Nat.{ℕ, _+_, _≤_, _<_}
-use lib.ListN.{length, getD}
+use Prim.Native.Nat.{ℕ}
+use lib.ListN.{getD}
 use Rattle.cursor.specs.Machine.{Out, ok, refused}
-use Rattle.cursor.specs.declared.Item.{Item}
-use Rattle.tree.specs.Rows.{itemAt}
 use Rattle.tree.specs.Asking.{Result, good, bad}
 use Rattle.description.specs.declared.Counted.{Counted}
 use Rattle.description.specs.declared.Counted.the-variants as counted
@@ -27,7 +25,3 @@ words (counted.Refused n p) = n ∷ p ∷ []
 abbrev pub picked : ℕ → Out (List ℕ) → Out ℕ
 picked i (ok vs q) = ok (getD vs i 0) q
 picked i (refused n p) = refused n p
-
--- the data of each item row lies in a file of `size` bytes
-abbrev pub DataIn : ℕ → List Item → Type 0
-DataIn size is = (i : ℕ) → i < length is → itemAt is i .place + itemAt is i .size ≤ size

@@ -4,13 +4,12 @@ ghost use Prim.Native.Nat.{_≤_, _<_, _^_, _*_, _+_};
 ghost use lib.ListN.{length};
 ghost use Rattle.cursor.specs.Machine.{run, times};
 ghost use Rattle.cursor.specs.Told.{numberTold, passTold};
-ghost use Rattle.metadata.specs.Tables.{itemWidth};
-ghost use Rattle.tree.specs.Rows.{itemsIn};
+ghost use Rattle.tree.specs.Rows.{itemsIn, ItemIn, ItemRows};
 ghost use Rattle.tree.specs.Asking.{answered, nodesLeft, itemsLeft};
 ghost use Rattle.description.specs.Row.{isField, isBinary};
 ghost use Rattle.description.specs.Description.{value, guid, identifier, resource, numbers, lists, table, description};
 ghost use Rattle.description.specs.Count.{isReadable, countOf, countIn, countRow, countFor};
-ghost use Rattle.description.specs.Told.{told, picked, DataIn};
+ghost use Rattle.description.specs.Told.{told, picked};
 use cursor::Cursor;
 use cursor::FilePlace;
 use cursor::Item;
@@ -224,7 +223,7 @@ fn count_of(file: &[u8], place: usize, size: usize, channel: u64, resource: u64)
 
 // Whether the row's data, which lies in the file, is readable.
 pub fn is_readable(file: &[u8], row: Item) -> bool
-    requires { ⌜ row .place + row .size ≤ length (now file) ⌝ }
+    requires { ⌜ ItemIn (length (now file)) row ⌝ }
     ensures { λ r. ⌜ r ≡ isReadable (now (file .entry)) row ⌝ }
 {
     match count_of(file, row.place as usize, row.size as usize, 0, 0) {
@@ -258,7 +257,7 @@ pub fn is_binary(row: Item) -> bool
 
 // The answer for a row whose data lies in the file.
 fn count_in(file: &[u8], row: Item, channel: u64, resource: u64) -> Counted
-    requires { ⌜ row .place + row .size ≤ length (now file) ⌝ }
+    requires { ⌜ ItemIn (length (now file)) row ⌝ }
     ensures { λ r. ⌜ told r ≡ countIn (now (file .entry)) channel resource row ⌝ }
 {
     if !is_field(row, 13) {
@@ -285,7 +284,7 @@ fn count_row(
     channel: u64,
     resource: u64,
 ) -> Counted
-    requires { ⌜ (count * itemWidth ≤ length (now items)) × DataIn (length (now file)) (itemsIn count (now items)) ⌝ }
+    requires { ⌜ ItemRows (length (now file)) count (now items) ⌝ }
     ensures { λ r. ⌜ told r ≡ countRow (now (file .entry)) row channel resource (itemsIn count (now (items .entry))) ⌝ }
 {
     if count <= row {

@@ -3,29 +3,30 @@
 use mathlib.Core.Path.{_≡_, refl, ap, ap₂}
 use mathlib.Core.Bool.{Bool, true, false, cond, _&&_}
 use mathlib.Core.List.{List, [], _∷_}
-use Prim.Native.Nat.{ℕ, zero, suc, _+_, _≤_, _<_}
+use Prim.Native.Nat.{ℕ, suc, _+_, _≤_, _<_}
 use native.Mathlib.Omega.{arith}
 use lib.Dec.{ltb, eqb}
 use lib.ListN.{length, getD}
 use borrow.Author.Tests.{eqb-true}
 use Rattle.cursor.specs.declared.Node.{Node}
 use Rattle.cursor.specs.declared.Item.{Item}
+use Rattle.cursor.proofs.Agree.{Agree}
 use Rattle.header.specs.Header.{Header}
 use Rattle.tree.specs.Rows.{itemAt}
 use Rattle.tree.specs.Asking.{Result, good, bad}
-use Rattle.find.specs.Own.{Numbered, numbered, those, isOwn, own}
-use Rattle.find.specs.Find.{Wanted, standard, custom, choose, sameBytes, matches, among, look, path, orElse, firstAnswer, nearest, find, findOwn}
+use Rattle.tree.specs.Own.{Numbered, numbered, those, isOwn, own}
+use Rattle.find.specs.Find.{Wanted, standard, custom, sameBytes, matches, among, look, path, orElse, firstAnswer, nearest, find, findOwn}
 
 module _ (f g : List ℕ) where
   -- the two files agree at the name of a row
-  abbrev pub AgreeAt : Item → Type 0
-  AgreeAt r = r .kind ≡ 1 → (k : ℕ) → r .field ≤ k → k < r .field + r .nameLength → getD f k 0 ≡ getD g k 0
+  abbrev pub SameName : Item → Type 0
+  SameName r = r .kind ≡ 1 → Agree f g (r .field) (r .nameLength)
 
   -- they agree at the names of all rows
-  abbrev pub Agree : List Item → Type 0
-  Agree is = (i : ℕ) → i < length is → AgreeAt (itemAt is i)
+  abbrev pub SameNames : List Item → Type 0
+  SameNames is = (i : ℕ) → i < length is → SameName (itemAt is i)
 
-  bytes-same : (at : ℕ) (name : List ℕ) → ((k : ℕ) → at ≤ k → k < at + length name → getD f k 0 ≡ getD g k 0) → sameBytes f at name ≡ sameBytes g at name
+  bytes-same : (at : ℕ) (name : List ℕ) → Agree f g at (length name) → sameBytes f at name ≡ sameBytes g at name
   unfolding sameBytes
   bytes-same at [] a = refl
   bytes-same at (b ∷ name) a =
@@ -37,7 +38,7 @@ module _ (f g : List ℕ) where
   guarded true false h = refl
   guarded true true h = h refl refl
 
-  matches-same : (w : Wanted) (r : Item) → AgreeAt r → matches f w r ≡ matches g w r
+  matches-same : (w : Wanted) (r : Item) → SameName r → matches f w r ≡ matches g w r
   unfolding matches
   matches-same (standard n) r a = refl
   matches-same (custom name) r a =
@@ -48,7 +49,7 @@ module _ (f g : List ℕ) where
 
   module _ (w : Wanted) where
     -- of rows from row i on
-    own-same : (k i : ℕ) (is : List Item) → Agree is → among f w (those (isOwn k) (numbered i is)) ≡ among g w (those (isOwn k) (numbered i is))
+    own-same : (k i : ℕ) (is : List Item) → SameNames is → among f w (those (isOwn k) (numbered i is)) ≡ among g w (those (isOwn k) (numbered i is))
     unfolding those numbered among
     own-same k i [] a = refl
     own-same k i (r ∷ is) a = by (eqb (r .node) k) (own-same k (i + 1) is (λ j l. a (suc j) (omega arith)))
@@ -56,10 +57,10 @@ module _ (f g : List ℕ) where
         by : (b : Bool) → among f w (those (isOwn k) (numbered (i + 1) is)) ≡ among g w (those (isOwn k) (numbered (i + 1) is))
             → among f w (cond b (record { row = i; item = r } ∷ those (isOwn k) (numbered (i + 1) is)) (those (isOwn k) (numbered (i + 1) is)))
             ≡ among g w (cond b (record { row = i; item = r } ∷ those (isOwn k) (numbered (i + 1) is)) (those (isOwn k) (numbered (i + 1) is)))
-        by true e = ap₂ (λ (b : Bool) (o : Result Numbered). choose b (good (record { row = i; item = r })) o) (matches-same w r (a 0 (omega arith))) e
+        by true e = ap₂ (λ (b : Bool) (o : Result Numbered). cond b (good (record { row = i; item = r })) o) (matches-same w r (a 0 (omega arith))) e
         by false e = e
 
-    module _ (is : List Item) (a : Agree is) where
+    module _ (is : List Item) (a : SameNames is) where
       look-same : (k : ℕ) → look f w is k ≡ look g w is k
       unfolding look own
       look-same k = own-same k 0 is a
@@ -71,8 +72,8 @@ module _ (f g : List ℕ) where
 
       pub find-same : (row : ℕ) (h : Header) (ns : List Node) → find w row f h ns is ≡ find w row g h ns is
       unfolding find nearest
-      find-same row h ns = ap (λ (o : Result Numbered). choose (ltb row (length ns)) o (bad 18 0)) (first-same (path ns row))
+      find-same row h ns = ap (λ (o : Result Numbered). cond (ltb row (length ns)) o (bad 18 0)) (first-same (path ns row))
 
       pub find-own-same : (row : ℕ) (h : Header) (ns : List Node) → findOwn w row f h ns is ≡ findOwn w row g h ns is
       unfolding findOwn
-      find-own-same row h ns = ap (λ (o : Result Numbered). choose (ltb row (length ns)) o (bad 18 0)) (look-same row)
+      find-own-same row h ns = ap (λ (o : Result Numbered). cond (ltb row (length ns)) o (bad 18 0)) (look-same row)

@@ -1,4 +1,3 @@
-pub mod Own
 pub mod Matching
 pub mod Looking
 pub mod Climbing

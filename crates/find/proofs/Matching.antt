@@ -2,9 +2,8 @@
 -- Assumes nothing.
 use mathlib.Core.Path.{_≡_, sym, ap, ap₂, _∙_}
 use mathlib.Core.Bool.{Bool, true, false}
-use mathlib.Core.Logic.{inl, inr}
 use mathlib.Core.List.{List}
-use Prim.Native.Nat.{ℕ, suc, _+_, _-_, _≤_, _<_}
+use Prim.Native.Nat.{ℕ, suc, _+_, _≤_, _<_}
 use native.Mathlib.Omega.{arith}
 use lib.Dec.{eqb}
 use lib.ListN.{length, getD, drop, drop-of-length-le}
@@ -12,7 +11,7 @@ use lib.Seq.{drop-cons}
 use borrow.Author.Tests.{eq-eqb, ne-eqb, lt-ltb}
 use Rattle.cursor.specs.declared.Item.{Item}
 use Rattle.find.specs.Find.{standard, custom, sameBytes, matches}
-use Rattle.find.specs.Told.{Named, wantedOf}
+use Rattle.find.specs.Told.{wantedOf}
 use Rattle.find.specs.declared.Field.{Field}
 use Rattle.find.specs.declared.Field.the-variants as field
 
@@ -77,8 +76,3 @@ module _ (f name : List ℕ) (r : Item) (x : Field) where
 
   pub wanted-name : {b : Bool} → x ≡ field.Custom → b ≡ matches f (custom name) r → b ≡ matches f (wantedOf x name) r
   wanted-name e z = z ∙ ap (λ (y : Field). matches f (wantedOf y name) r) (sym e)
-
--- the name of a row of kind 1 lies in the file
-pub name-inside : {size n : ℕ} (r : Item) → Named size r → r .kind ≡ 1 → r .nameLength ≡ n → r .field + n ≤ size
-name-inside r (inl z) k e = absurd (omega arith)
-name-inside r (inr l) k e = omega arith

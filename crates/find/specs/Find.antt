@@ -1,6 +1,6 @@
 -- The two kinds of find (01, Questions; 02, E1): an item row of a field on a node itself, or the nearest one on its path to the root.
 -- Assumes nothing.
-use mathlib.Core.Bool.{Bool, true, false, _&&_}
+use mathlib.Core.Bool.{Bool, true, cond, _&&_}
 use mathlib.Core.List.{List, [], _∷_}
 use Prim.Native.Nat.{ℕ, zero, suc, _+_}
 use lib.Dec.{ltb, eqb}
@@ -8,18 +8,14 @@ use lib.ListN.{length, getD}
 use Rattle.cursor.specs.Refusals.{noSuchRow, noSuchItem}
 use Rattle.cursor.specs.declared.Node.{Node}
 use Rattle.cursor.specs.declared.Item.{Item}
-use Rattle.tree.specs.Rows.{nodeAt, if_then_else_}
+use Rattle.tree.specs.Rows.{nodeAt}
 use Rattle.tree.specs.Asking.{Asks, Result, good, bad}
-use Rattle.find.specs.Own.{Numbered, own}
+use Rattle.tree.specs.Own.{Numbered, own}
 
 -- the field that is looked for: a standard number, or a custom name's bytes
 pub data Wanted : Type 0 where
   standard : ℕ → Wanted
   custom : List ℕ → Wanted
-
-unfoldable pub choose : Bool → Result Numbered → Result Numbered → Result Numbered
-choose true a b = a
-choose false a b = b
 
 -- ---- rows of that field
 
@@ -36,7 +32,7 @@ matches f (custom name) r = ltb 0 (length name) && (eqb (r .kind) 1 && (eqb (r .
 -- the first of these rows, in file order, of that field
 unfoldable pub among : List ℕ → Wanted → List Numbered → Result Numbered
 among f w [] = bad noSuchItem 0
-among f w (r ∷ rs) = choose (matches f w (r .item)) (good r) (among f w rs)
+among f w (r ∷ rs) = cond (matches f w (r .item)) (good r) (among f w rs)
 
 -- ---- the look at one node: the first of its own rows of that field
 
@@ -48,7 +44,7 @@ look f w is k = among f w (own is k)
 -- Node k, then its parent, and so on to the root, whose parent is itself; at most so many rows. A detached node's parent is itself too: its path is itself alone.
 unfoldable pub rowsUp : List Node → (most k : ℕ) → List ℕ
 rowsUp ns zero k = []
-rowsUp ns (suc most) k = k ∷ (if ltb (nodeAt ns k .parent) k then rowsUp ns most (nodeAt ns k .parent) else [])
+rowsUp ns (suc most) k = k ∷ cond (ltb (nodeAt ns k .parent) k) (rowsUp ns most (nodeAt ns k .parent)) []
 
 -- each parent's row is smaller, so k + 1 rows are enough
 unfoldable pub path : List Node → ℕ → List ℕ
@@ -72,8 +68,8 @@ nearest f w ns is k = firstAnswer (look f w is) (path ns k)
 
 -- 01's: the nearest item from a row
 unfoldable pub find : Wanted → (row : ℕ) → Asks Numbered
-find w row f h ns is = choose (ltb row (length ns)) (nearest f w ns is row) (bad noSuchRow 0)
+find w row f h ns is = cond (ltb row (length ns)) (nearest f w ns is row) (bad noSuchRow 0)
 
 -- the row's own item
 unfoldable pub findOwn : Wanted → (row : ℕ) → Asks Numbered
-findOwn w row f h ns is = choose (ltb row (length ns)) (look f w is row) (bad noSuchRow 0)
+findOwn w row f h ns is = cond (ltb row (length ns)) (look f w is row) (bad noSuchRow 0)

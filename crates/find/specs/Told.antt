@@ -1,17 +1,13 @@
--- What the code's field and answer say, and what it knows of the rows.
+-- What the code's field and answer say.
 -- Assumes nothing.
-use mathlib.Core.Path.{_≡_}
 use mathlib.Core.Bool.{Bool, true, false}
-use mathlib.Core.Logic.{_⊎_}
 use mathlib.Core.List.{List, [], _∷_}
-use Prim.Native.Nat.{ℕ, _+_, _≤_, _<_}
-use lib.ListN.{length}
+use Prim.Native.Nat.{ℕ}
 use Rattle.cursor.specs.declared.Node.{Node}
 use Rattle.cursor.specs.declared.Item.{Item}
 use Rattle.metadata.specs.Tables.{itemWords}
-use Rattle.tree.specs.Rows.{itemAt}
 use Rattle.tree.specs.Asking.{Asks, Result, good, bad}
-use Rattle.find.specs.Own.{Numbered}
+use Rattle.tree.specs.Own.{Numbered}
 use Rattle.find.specs.Find.{Wanted, standard, custom, look, nearest, find, findOwn}
 use Rattle.find.specs.declared.Field.{Field}
 use Rattle.find.specs.declared.Field.the-variants as field
@@ -45,11 +41,3 @@ foundBy false f w ns is k = look f w is k
 abbrev pub question : (climbs : Bool) → Wanted → (row : ℕ) → Asks Numbered
 question true w row = find w row
 question false w row = findOwn w row
-
--- a custom name lies in a file of `size` bytes
-abbrev pub Named : ℕ → Item → Type 0
-Named size r = (r .kind ≡ 0) ⊎ (r .field + r .nameLength ≤ size)
-
--- all of them do
-abbrev pub AllNamed : ℕ → List Item → Type 0
-AllNamed size is = (i : ℕ) → i < length is → Named size (itemAt is i)

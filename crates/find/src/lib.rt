@@ -1,14 +1,13 @@
 // The two kinds of find: an item row of a field on a node itself, or the nearest one, climbing from the node to the root.
 ghost use mathlib.Core.Path.{_≡_};
-ghost use mathlib.Core.Bool.{_&&_};
 ghost use Prim.Native.Nat.{_≤_, _<_, _*_, _+_};
-ghost use lib.Dec.{eqb};
 ghost use lib.ListN.{length};
-ghost use Rattle.metadata.specs.Tables.{nodeWidth, itemWidth};
-ghost use Rattle.tree.specs.Rows.{nodesIn, itemsIn};
+ghost use Rattle.metadata.specs.Tables.{nodeWidth};
+ghost use Rattle.tree.specs.Rows.{nodesIn, itemsIn, ItemIn, ItemRows};
 ghost use Rattle.tree.specs.Asking.{answered, nodesLeft, itemsLeft};
-ghost use Rattle.find.specs.Find.{standard, custom, sameBytes, matches, look, nearest, find, findOwn};
-ghost use Rattle.find.specs.Told.{wantedOf, told, foundBy, question, Named, AllNamed};
+ghost use Rattle.tree.specs.Own.{numbered, part, firstRow, Tables};
+ghost use Rattle.find.specs.Find.{standard, custom, sameBytes, matches, among, nearest, find, findOwn};
+ghost use Rattle.find.specs.Told.{wantedOf, told, foundBy, question};
 use cursor::Item;
 use tree::Read;
 
@@ -41,7 +40,7 @@ fn same_bytes(file: &[u8], at: usize, name: &[u8]) -> bool
 
 // Whether the row is of that custom name.
 fn is_named(file: &[u8], row: Item, name: &[u8]) -> bool
-    requires { ⌜ Named (length (now file)) row ⌝ }
+    requires { ⌜ ItemIn (length (now file)) row ⌝ }
     ensures { λ r. ⌜ r ≡ matches (now (file .entry)) (custom (now (name .entry))) row ⌝ }
 {
     if name.len() == 0 {
@@ -58,7 +57,7 @@ fn is_named(file: &[u8], row: Item, name: &[u8]) -> bool
 
 // Whether the row is of that field.
 fn is_wanted(file: &[u8], row: Item, field: Field, name: &[u8]) -> bool
-    requires { ⌜ Named (length (now file)) row ⌝ }
+    requires { ⌜ ItemIn (length (now file)) row ⌝ }
     ensures { λ r. ⌜ r ≡ matches (now (file .entry)) (wantedOf field (now (name .entry))) row ⌝ }
 {
     match field {
@@ -72,26 +71,23 @@ fn is_wanted(file: &[u8], row: Item, field: Field, name: &[u8]) -> bool
     }
 }
 
-// Whether the row is node k's own and of that field.
-fn is_own(file: &[u8], row: Item, k: usize, field: Field, name: &[u8]) -> bool
-    requires { ⌜ Named (length (now file)) row ⌝ }
-    ensures { λ r. ⌜ r ≡ (eqb (row .node) k && matches (now (file .entry)) (wantedOf field (now (name .entry))) row) ⌝ }
+// The first row of that field among the item rows from `first` on and before `end`.
+fn look(
+    file: &[u8],
+    items: &[u64],
+    m: usize,
+    first: usize,
+    end: usize,
+    field: Field,
+    name: &[u8],
+) -> Found
+    requires { ⌜ ItemRows (length (now file)) m (now items) × (end ≤ m) ⌝ }
+    ensures { λ r. ⌜ told r ≡ among (now (file .entry)) (wantedOf field (now (name .entry))) (numbered first (part (itemsIn m (now (items .entry))) first end)) ⌝ }
 {
-    if row.node != k as u64 {
-        return false;
-    }
-    is_wanted(file, row, field, name)
-}
-
-// The look at node k: the first of its own rows of that field.
-fn look(file: &[u8], items: &[u64], rows: usize, k: usize, field: Field, name: &[u8]) -> Found
-    requires { ⌜ (rows * itemWidth ≤ length (now items)) × AllNamed (length (now file)) (itemsIn rows (now items)) ⌝ }
-    ensures { λ r. ⌜ told r ≡ look (now (file .entry)) (wantedOf field (now (name .entry))) (itemsIn rows (now (items .entry))) k ⌝ }
-{
-    let mut i = 0;
-    while i < rows {
+    let mut i = first;
+    while i < end {
         let row = tree::item_at(items, i);
-        if is_own(file, row, k, field, name) {
+        if is_wanted(file, row, field, name) {
             return Found::Item(i, row);
         }
         i = i + 1;
@@ -99,28 +95,48 @@ fn look(file: &[u8], items: &[u64], rows: usize, k: usize, field: Field, name: &
     Found::Refused(cursor::NO_SUCH_ITEM, 0)
 }
 
-// The nearest row of that field: the look at node k, or else at its parent, whose row is smaller, and so on to the root.
+// The item row behind node k's own rows, where those of node `from`, which is later, begin at `first`. Goes back over the node rows between the two.
+fn rows_end(nodes: &[u64], n: usize, from: usize, first: usize, k: usize) -> usize
+    requires { ⌜ (n * nodeWidth ≤ length (now nodes)) × (k < from) × (from ≤ n) × (first ≡ firstRow (nodesIn n (now nodes)) from) ⌝ }
+    ensures { λ r. ⌜ r ≡ firstRow (nodesIn n (now (nodes .entry))) (k + 1) ⌝ }
+{
+    let mut i = from;
+    let mut end = first;
+    while k + 1 < i {
+        i = i - 1;
+        let row = tree::node_at(nodes, i);
+        end = end - row.rows as usize;
+    }
+    end
+}
+
+// The nearest row of that field: the look at node k, whose own item rows end before row `end`, or else at its parent, whose row is smaller, and so on to the
+// root. In all each node row is passed once.
 fn climb(
     file: &[u8],
     nodes: &[u64],
     items: &[u64],
-    count: usize,
-    rows: usize,
+    n: usize,
+    m: usize,
     k: usize,
+    end: usize,
     field: Field,
     name: &[u8],
 ) -> Found
-    requires { ⌜ (count * nodeWidth ≤ length (now nodes)) × (rows * itemWidth ≤ length (now items)) × (k < count) × AllNamed (length (now file)) (itemsIn rows (now items)) ⌝ }
-    ensures { λ r. ⌜ told r ≡ nearest (now (file .entry)) (wantedOf field (now (name .entry))) (nodesIn count (now (nodes .entry))) (itemsIn rows (now (items .entry))) k ⌝ }
+    requires { ⌜ Tables (now file) (now nodes) (now items) n m × (k < n) × (end ≡ firstRow (nodesIn n (now nodes)) (k + 1)) ⌝ }
+    ensures { λ r. ⌜ told r ≡ nearest (now (file .entry)) (wantedOf field (now (name .entry))) (nodesIn n (now (nodes .entry))) (itemsIn m (now (items .entry))) k ⌝ }
 {
-    match look(file, items, rows, k, field, name) {
-        Found::Item(i, row) => Found::Item(i, row),
+    let row = tree::node_at(nodes, k);
+    let first = end - row.rows as usize;
+    match look(file, items, m, first, end, field, name) {
+        Found::Item(i, item) => Found::Item(i, item),
         Found::Refused(_, _) => {
-            let parent = nodes[k * cursor::NODE_WIDTH + 4] as usize;
+            let parent = row.parent as usize;
             if k <= parent {
                 return Found::Refused(cursor::NO_SUCH_ITEM, 0);
             }
-            climb(file, nodes, items, count, rows, parent, field, name)
+            let before = rows_end(nodes, n, k, first, parent);
+            climb(file, nodes, items, n, m, parent, before, field, name)
         }
     }
 }
@@ -130,20 +146,22 @@ fn found_by(
     file: &[u8],
     nodes: &[u64],
     items: &[u64],
-    count: usize,
-    rows: usize,
+    n: usize,
+    m: usize,
     k: usize,
     field: Field,
     name: &[u8],
     climbs: bool,
 ) -> Found
-    requires { ⌜ (count * nodeWidth ≤ length (now nodes)) × (rows * itemWidth ≤ length (now items)) × (k < count) × AllNamed (length (now file)) (itemsIn rows (now items)) ⌝ }
-    ensures { λ r. ⌜ told r ≡ foundBy climbs (now (file .entry)) (wantedOf field (now (name .entry))) (nodesIn count (now (nodes .entry))) (itemsIn rows (now (items .entry))) k ⌝ }
+    requires { ⌜ Tables (now file) (now nodes) (now items) n m × (k < n) ⌝ }
+    ensures { λ r. ⌜ told r ≡ foundBy climbs (now (file .entry)) (wantedOf field (now (name .entry))) (nodesIn n (now (nodes .entry))) (itemsIn m (now (items .entry))) k ⌝ }
 {
+    let end = rows_end(nodes, n, n, m, k);
     if climbs {
-        return climb(file, nodes, items, count, rows, k, field, name);
+        return climb(file, nodes, items, n, m, k, end, field, name);
     }
-    look(file, items, rows, k, field, name)
+    let row = tree::node_at(nodes, k);
+    look(file, items, m, end - row.rows as usize, end, field, name)
 }
 
 // Reads the file and finds from the row.

@@ -7,7 +7,7 @@ use native.Mathlib.Omega.{arith}
 use lib.ListN.{length, getD, set, length-set}
 use lib.Seq.{getD-set-same, getD-set-other}
 use borrow.Author.Tests.{eq-eqb, ne-eqb}
-use Rattle.header.specs.Types.{Declared, Known, known, unknown, either, formatOf, typesFrom, typesOf}
+use Rattle.header.specs.Types.{Declared, Known, known, unknown, formatOf, typesFrom, typesOf}
 
 -- what is left of the search from row i
 abbrev pub Searching : List ℕ → ℕ → ℕ → ℕ → Type 0
@@ -19,11 +19,11 @@ module _ (ws : List ℕ) (count t i : ℕ) (h : Searching ws count t i) where
   row l = let e : count - i ≡ suc (count - (i + 1)) = omega arith in rw e
 
   pub found : i < count → getD ws (i * 2) 0 ≡ t → known (getD ws (i * 2 + 1) 0) ≡ formatOf (typesOf count ws) t
-  unfolding formatOf either
+  unfolding formatOf
   found l e = sym (h ∙ ap (λ v. formatOf v t) (row l) ∙ simp (eq-eqb _ _ e))
 
   pub on : i < count → ((getD ws (i * 2) 0 ≡ t) → ⊥) → Searching ws count t (i + 1)
-  unfolding formatOf either
+  unfolding formatOf
   on l n = h ∙ ap (λ v. formatOf v t) (row l) ∙ simp (ne-eqb _ _ n)
 
   pub nothing : count ≤ i → unknown ≡ formatOf (typesOf count ws) t

@@ -1,6 +1,6 @@
 -- The types that a file declares, and the format of one; read off the words of a table, two words a type.
 -- Assumes nothing.
-use mathlib.Core.Bool.{Bool, true, false}
+use mathlib.Core.Bool.{Bool, true, false, cond}
 use mathlib.Core.List.{List, [], _∷_}
 use Prim.Native.Nat.{ℕ, zero, suc, _+_, _*_}
 use lib.Dec.{eqb}
@@ -20,14 +20,10 @@ pub data Known : Type 0 where
   known : ℕ → Known
   unknown : Known
 
-unfoldable pub either : Bool → Known → Known → Known
-either true a b = a
-either false a b = b
-
 -- the format of a type, if it is declared
 unfoldable pub formatOf : List Declared → ℕ → Known
 formatOf [] t = unknown
-formatOf (d ∷ ds) t = either (eqb (d .type) t) (known (d .format)) (formatOf ds t)
+formatOf (d ∷ ds) t = cond (eqb (d .type) t) (known (d .format)) (formatOf ds t)
 
 abbrev pub isUnknown : Known → Bool
 isUnknown (known f) = false

@@ -32,6 +32,13 @@ mostNodes = 256
 abbrev pub mostItems : ℕ
 mostItems = 1024
 
+-- the words of tables with room for as many rows as there may be
+abbrev pub fullNodes : ℕ
+fullNodes = mostNodes * nodeWidth
+
+abbrev pub fullItems : ℕ
+fullItems = mostItems * itemWidth
+
 -- the rows that tables of so many words hold
 abbrev pub limits : ℕ → ℕ → Limits
 limits nodes items = record { nodes = min mostNodes (nodes / nodeWidth); items = min mostItems (items / itemWidth) }

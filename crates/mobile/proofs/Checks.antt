@@ -5,7 +5,6 @@ use mathlib.Core.Bool.{Bool, true, false, not, _&&_}
 use mathlib.Core.List.{List, []}
 use Prim.Native.Nat.{ℕ, _+_, _*_, _≤_, _<_}
 use lib.Dec.{ltb, eqb}
-use lib.ListN.{length}
 use borrow.Author.Tests.{not-true, not-false}
 use Rattle.cursor.specs.declared.Node.{Node}
 use Rattle.cursor.specs.declared.Item.{Item}
@@ -13,16 +12,17 @@ use Rattle.header.specs.Header.{Header}
 use Rattle.metadata.specs.Tables.{itemWidth}
 use Rattle.tree.specs.Reading.{Reading, summary, nodeTable, itemTable}
 use Rattle.tree.specs.Rows.{nodesIn, itemsIn, itemFrom, itemAt}
-use Rattle.tree.specs.Asking.{good, ask, keptNodes, keptItems}
+use Rattle.tree.specs.Asking.{good}
+use Rattle.tree.specs.Own.{those, part}
 use Rattle.tree.specs.declared.Summary.{Summary}
-use Rattle.tree.proofs.Rows.{item-at, items-in-length, Standing, ask-is, good-nodes, good-items}
-use Rattle.find.specs.Own.{those, part, Runs}
+use Rattle.tree.proofs.Rows.{item-at, items-in-length, Standing}
+use Rattle.tree.proofs.Exits.{Says, says-answer}
+use Rattle.tree.proofs.Own.{part-all}
 use Rattle.description.specs.Row.{isField}
 use Rattle.mobile.specs.Mobile.{all, isEmpty, children, rightEdition, filesOnly, plainReferences, noUnpackers, oneTune, isNeed, areNeeds, tuneNeeds, isShort, isSmall, smallFields, check, verdictBy, verdict, mobile}
-use Rattle.mobile.specs.Told.{Tables, NextRow}
+use Rattle.mobile.specs.Told.{NextRow}
 use Rattle.mobile.specs.declared.Few.{Few}
 use Rattle.mobile.specs.declared.Few.the-variants as few
-use Rattle.mobile.proofs.Lists.{part-all}
 
 -- ---- check 6
 
@@ -139,14 +139,6 @@ verdict-by f h ns is e k t =
 -- ---- the answer
 
 module _ {f : List ℕ} {o : Reading} {s : Summary} {t u : List ℕ} (st : Standing f o s t u) where
-  pub tables : Runs (st .ns) (st .is) → Tables f t u (s .nodes) (s .items)
-  tables r = record {
-    node-room = st .node-room;
-    item-room = st .item-room;
-    data-in = rw (st .items-are) (λ i l. st .sound .items-inside i l .0);
-    runs = rw (st .nodes-are, st .items-are) r;
-  }
-
   module _ {v : ℕ} (h : (h : Header) → s ≡ summary h (nodesIn (s .nodes) t) (itemsIn (s .items) u) → v ≡ verdict f h (nodesIn (s .nodes) t) (itemsIn (s .items) u)) where
     answer : mobile f (st .h) (st .ns) (st .is) ≡ good v
     unfolding mobile
@@ -154,11 +146,5 @@ module _ {f : List ℕ} {o : Reading} {s : Summary} {t u : List ℕ} (st : Stand
         let e : s ≡ summary (st .h) (nodesIn (s .nodes) t) (itemsIn (s .items) u) = st .summed ∙ sym (ap₂ (summary (st .h)) (st .nodes-are) (st .items-are)) in
         sym (ap (λ x. good x) (h (st .h) e ∙ ap₂ (verdict f (st .h)) (st .nodes-are) (st .items-are)))
 
-    pub judged : good v ≡ ask o (mobile f)
-    judged = sym (ask-is (st .reads) (mobile f) ∙ answer)
-
-    pub judged-nodes : (size : ℕ) → t ≡ nodeTable size o → t ≡ keptNodes size o (ask o (mobile f))
-    judged-nodes size k = good-nodes (st .reads) (mobile f) size answer k
-
-    pub judged-items : (size : ℕ) → u ≡ itemTable size o → u ≡ keptItems size o (ask o (mobile f))
-    judged-items size k = good-items (st .reads) (mobile f) size answer k
+    pub judged : (nsize isize : ℕ) → t ≡ nodeTable nsize o → u ≡ itemTable isize o → Says nsize isize o (mobile f) (good v) t u
+    judged nsize isize a b = says-answer nsize isize o (mobile f) (st .reads) answer a b

@@ -3,7 +3,7 @@
 use mathlib.Core.Path.{_≡_, refl, ap, ap₂, _∙_}
 use mathlib.Core.Bool.{Bool, true, false, cond, not, _&&_}
 use mathlib.Core.List.{List, [], _∷_}
-use Prim.Native.Nat.{ℕ, zero, suc, _+_, _≤_, _<_}
+use Prim.Native.Nat.{ℕ, suc, _+_, _≤_, _<_}
 use native.Mathlib.Omega.{arith}
 use native.Mathlib.Decide.{decLt}
 use lib.Dec.{ltb, eqb}
@@ -14,9 +14,10 @@ use Rattle.cursor.specs.Rows.{metaFrame}
 use Rattle.cursor.specs.declared.Node.{Node}
 use Rattle.cursor.specs.declared.Item.{Item}
 use Rattle.cursor.proofs.Leaves.{number-same}
+use Rattle.cursor.proofs.Agree.{Agree}
 use Rattle.header.specs.Header.{Header}
 use Rattle.tree.specs.Rows.{itemAt}
-use Rattle.find.specs.Own.{Numbered, itemsOf, numbered, those, isOwn, own}
+use Rattle.tree.specs.Own.{Numbered, itemsOf, numbered, those, isOwn, own}
 use Rattle.description.specs.Row.{isField, isBinary}
 use Rattle.description.proofs.Tests.{field-is}
 use Rattle.description.proofs.Depends.{readable-same}
@@ -60,15 +61,11 @@ module _ (Q : Item → Type 0) where
   each-items (x ∷ xs) h = (h .0, each-items xs (h .1))
 
 module _ (f g : List ℕ) where
-  -- the two files agree from one place up to another
-  abbrev Agree : ℕ → ℕ → Type 0
-  Agree from end = (k : ℕ) → from ≤ k → k < end → getD f k 0 ≡ getD g k 0
-
   -- ---- what a child is
 
   -- the files agree on a row's data
   abbrev Same : Item → Type 0
-  Same r = Agree (r .place) (r .place + r .size)
+  Same r = Agree f g (r .place) (r .size)
 
   row-same : (r : Item) → Same r → roleOfRow f r ≡ roleOfRow g r
   unfolding roleOfRow
@@ -121,7 +118,7 @@ module _ (f g : List ℕ) where
 
   -- each row of the field is as the files agree on
   abbrev pub Agreed : ℕ → List Item → Type 0
-  Agreed n is = (i : ℕ) → i < length is → itemAt is i .kind ≡ 0 → itemAt is i .field ≡ n → (k : ℕ) → itemAt is i .place ≤ k → k < itemAt is i .place + itemAt is i .size → getD f k 0 ≡ getD g k 0
+  Agreed n is = (i : ℕ) → i < length is → itemAt is i .kind ≡ 0 → itemAt is i .field ≡ n → Agree f g (itemAt is i .place) (itemAt is i .size)
 
   each-of : (n : ℕ) (is : List Item) → Agreed n is → Each (Of n) is
   each-of n is a = each-at (Of n) _ is (λ i l e. let x = field-is (itemAt is i) n e in a i l (x .0) (x .1))

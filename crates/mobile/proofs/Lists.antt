@@ -1,26 +1,21 @@
 -- `all`, `those` and the rows of a table, one row at a time.
 -- Assumes nothing.
-use mathlib.Core.Path.{_≡_, sym, ap, ap₂, _∙_}
+use mathlib.Core.Path.{_≡_, sym, ap, _∙_}
 use mathlib.Core.Bool.{Bool, true, false, cond, _&&_}
 use mathlib.Core.List.{List, [], _∷_}
-use Prim.Native.Nat.{ℕ, suc, _+_, _*_, _-_, _≤_, _<_}
+use Prim.Native.Nat.{ℕ, _+_, _*_, _≤_, _<_}
 use native.Mathlib.Omega.{arith}
-use native.Mathlib.Numerals.{add-one}
-use lib.ListN.{length, getD, take, drop, drop-of-length-le}
-use lib.Seq.{drop-cons, take-length}
+use lib.ListN.{length, getD, drop, drop-of-length-le}
 use Rattle.cursor.specs.declared.Node.{Node}
 use Rattle.cursor.specs.declared.Item.{Item}
 use Rattle.metadata.specs.Tables.{nodeWidth, itemWidth}
 use Rattle.tree.specs.Rows.{nodeFrom, itemFrom, nodesIn, itemsIn, itemAt, noNode, noItem}
 use Rattle.tree.proofs.Rows.{node-at, item-at, nodes-in-length, items-in-length}
-use Rattle.find.specs.Own.{those, part}
+use Rattle.tree.specs.Own.{those, part}
+use Rattle.tree.proofs.Own.{drop-next, part-next, part-none}
 use Rattle.description.specs.Row.{isField}
 use Rattle.mobile.specs.Mobile.{all}
 use Rattle.mobile.specs.Told.{NextRow}
-
--- the list from element i on
-pub drop-next : {A : Type 0} (xs : List A) (i : ℕ) (d : A) → i < length xs → drop i xs ≡ getD xs i d ∷ drop (i + 1) xs
-drop-next xs i d l = drop-cons xs i d l ∙ ap (λ k. getD xs i d ∷ drop k xs) (sym (add-one i))
 
 -- ---- every one: what is left from i on is the whole
 
@@ -64,18 +59,6 @@ module _ (p : Item → Bool) (ws : List ℕ) (n i : ℕ) {whole : Bool} (h : who
   items-yes l = all-yes p _ i h (omega (arith, items-in-length ws n))
 
 -- ---- the next row of a field
-
-part-next : (is : List Item) (i end : ℕ) → i < end → end ≤ length is → part is i end ≡ itemAt is i ∷ part is (i + 1) end
-part-next is i end l h =
-    let e : end - i ≡ suc (end - (i + 1)) = omega arith in
-    ap₂ (λ (k : ℕ) (v : List Item). take k v) e (drop-next is i noItem (omega arith))
-
-part-none : (is : List Item) (i end : ℕ) → end ≤ i → part is i end ≡ []
-part-none is i end l = let e : end - i ≡ 0 = omega arith in ap (λ (k : ℕ). take k (drop i is)) e
-
--- all rows are a part
-pub part-all : (is : List Item) (m : ℕ) → length is ≡ m → part is 0 m ≡ is
-part-all is m e = let z : m - 0 ≡ length is = omega arith in ap (λ (k : ℕ). take k is) z ∙ take-length is
 
 module _ (ws : List ℕ) (n field from end i : ℕ) (h : those (isField field) (part (itemsIn n ws) from end) ≡ those (isField field) (part (itemsIn n ws) i end)) (low : from ≤ i) (fits : end ≤ n) where
   module _ (l : i < end) {r : Item} (e : r ≡ itemFrom ws (i * itemWidth)) {b : Bool} (t : b ≡ isField field r) where

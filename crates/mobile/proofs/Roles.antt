@@ -3,7 +3,7 @@
 use mathlib.Core.Path.{_≡_, refl, sym, ap, ap₂, _∙_}
 use mathlib.Core.Bool.{Bool, true, false, cond, _&&_}
 use mathlib.Core.List.{List, [], _∷_}
-use Prim.Native.Nat.{ℕ, zero, suc, _+_, _*_, _-_, _≤_, _<_}
+use Prim.Native.Nat.{ℕ, _+_, _*_, _-_, _≤_, _<_}
 use native.Mathlib.Omega.{arith}
 use native.Mathlib.Decide.{decLt}
 use lib.Dec.{ltb}
@@ -15,17 +15,16 @@ use Rattle.cursor.specs.Leaves.{number}
 use Rattle.cursor.specs.declared.Node.{Node}
 use Rattle.cursor.specs.declared.Item.{Item}
 use Rattle.metadata.specs.Tables.{nodeWidth, itemWidth}
-use Rattle.tree.specs.Rows.{nodeFrom, itemFrom, nodesIn, itemsIn, nodeAt, itemAt, noNode}
-use Rattle.tree.proofs.Rows.{node-at, item-at, nodes-in-length, items-in-length}
-use Rattle.find.specs.Own.{itemsOf, own, firstRow, part}
-use Rattle.find.proofs.Own.{first-next, first-most, items-numbered}
+use Rattle.tree.specs.Rows.{nodeFrom, itemFrom, nodesIn, itemsIn, itemAt, noNode}
+use Rattle.tree.specs.Own.{itemsOf, own, firstRow, part, Tables}
+use Rattle.tree.proofs.Rows.{item-at, nodes-in-length}
+use Rattle.tree.proofs.Own.{items-numbered, drop-next, own-are}
 use Rattle.description.specs.Row.{isBinary}
 use Rattle.mobile.specs.Mobile.{roleOfType, roleOfNumber, roleOfRow, roleOfRows, roleOf, child, noChildren, childrenFrom, children}
-use Rattle.mobile.specs.Told.{Tables, NextRow}
+use Rattle.mobile.specs.Told.{NextRow}
 use Rattle.mobile.specs.declared.Role.{Role}
 use Rattle.mobile.specs.declared.Role.the-variants as role
 use Rattle.mobile.specs.declared.Children.{Children}
-use Rattle.mobile.proofs.Lists.{drop-next}
 
 -- ---- one row of field 3
 
@@ -97,10 +96,6 @@ module _ {f ws vs : List ℕ} {n m : ℕ} (t : Tables f ws vs n m) where
   pub children-begin : noChildren ≡ left n
   children-begin = sym (left-none f (itemsIn m vs) n n (nodesIn n ws) (omega (arith, nodes-in-length ws n)))
 
-  -- behind the last node's own rows
-  pub end-begin : m ≡ firstRow (nodesIn n ws) n
-  end-begin = sym (ap (firstRow (nodesIn n ws)) (sym (nodes-in-length ws n)) ∙ t .runs .whole ∙ items-in-length vs m)
-
   pub children-end : (i : ℕ) → i ≤ 1 → (1 ≤ n → 1 ≤ i) → {c : Children} → c ≡ left i → c ≡ children f (nodesIn n ws) (itemsIn m vs)
   unfolding children
   children-end i l h e = elim (decLt 0 n) [
@@ -113,26 +108,9 @@ module _ {f ws vs : List ℕ} {n m : ℕ} (t : Tables f ws vs n m) where
 
   -- node j, whose own rows end before row `end`
   module _ (i j : ℕ) (q : i ≡ j + 1) (l : j < n) {r : Node} (e : r ≡ nodeFrom ws (j * nodeWidth)) {end : ℕ} (a : end ≡ firstRow (nodesIn n ws) i) where
-    in-list : j < length (nodesIn n ws)
-    in-list = omega (arith, nodes-in-length ws n)
-
-    rows-are : end ≡ firstRow (nodesIn n ws) j + r .rows
-    rows-are = a ∙ ap (firstRow (nodesIn n ws)) q ∙ first-next (nodesIn n ws) j in-list ∙ ap (λ (x : Node). firstRow (nodesIn n ws) j + x .rows) (node-at ws n j l ∙ sym e)
-
-    pub rows-in : r .rows ≤ end
-    rows-in = omega (arith, rows-are)
-
-    pub end-in : end ≤ m
-    end-in =
-        let s = nodes-in-length ws n in
-        omega (arith, first-most (nodesIn n ws) i (omega arith), t .runs .whole, items-in-length vs m)
-
-    pub end-next : end - r .rows ≡ firstRow (nodesIn n ws) j
-    end-next = omega (arith, rows-are)
-
     pub child-next : {x : Role} → x ≡ roleOf f (part (itemsIn m vs) (end - r .rows) end) → {c d : Children} → c ≡ left i → d ≡ child x j c → d ≡ left j
     unfolding childrenFrom
     child-next {x} g {c} {d} h k =
-        let own-are : itemsOf (own (itemsIn m vs) j) ≡ part (itemsIn m vs) (end - r .rows) end =
-        ap itemsOf (t .runs .run j in-list) ∙ items-numbered _ _ ∙ ap₂ (part (itemsIn m vs)) (sym end-next) (sym (a ∙ ap (firstRow (nodesIn n ws)) q)) in
-        k ∙ ap₂ (λ (y : Role) (z : Children). child y j z) (g ∙ ap (roleOf f) (sym own-are)) (h ∙ ap left q) ∙ sym (ap (childrenFrom f (itemsIn m vs) j) (drop-next (nodesIn n ws) j noNode in-list))
+        let rows-are : itemsOf (own (itemsIn m vs) j) ≡ part (itemsIn m vs) (end - r .rows) end = ap itemsOf (own-are t i j q l e a) ∙ items-numbered _ _ in
+        k ∙ ap₂ (λ (y : Role) (z : Children). child y j z) (g ∙ ap (roleOf f) (sym rows-are)) (h ∙ ap left q)
+        ∙ sym (ap (childrenFrom f (itemsIn m vs) j) (drop-next (nodesIn n ws) j noNode (omega (arith, nodes-in-length ws n))))

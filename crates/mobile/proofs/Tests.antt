@@ -11,7 +11,7 @@ use borrow.Author.Tests.{eq-eqb, ne-eqb, le-leb, lt-leb, not-true, not-false}
 use Rattle.cursor.specs.declared.Node.{Node}
 use Rattle.cursor.specs.declared.Item.{Item}
 use Rattle.metadata.specs.Tables.{nodeWidth}
-use Rattle.tree.specs.Rows.{nodeFrom, nodesFrom, nodesIn, nodeAt}
+use Rattle.tree.specs.Rows.{nodeFrom, nodesIn, nodeAt, rowsFrom}
 use Rattle.tree.proofs.Rows.{node-at}
 use Rattle.description.specs.Row.{isBinary}
 use Rattle.description.specs.Count.{isReadable}
@@ -63,7 +63,7 @@ unpackers-are ns = refl
 
 -- the root, before the other rows are looked at
 pub root-none : (ws : List ℕ) (n : ℕ) → n ≡ 0 → false ≡ filesOnly (nodesIn n ws)
-unfolding filesOnly isFile nodesIn nodesFrom
+unfolding filesOnly isFile nodesIn rowsFrom
 root-none ws n e = rw e
 
 module _ (ws : List ℕ) (n : ℕ) (l : 0 < n) {r : Node} (e : r ≡ nodeFrom ws (0 * nodeWidth)) where

@@ -1,16 +1,13 @@
--- What the code's answer says, and what is known of the item rows that it reads by.
+-- What the code's answer says, and what its search for a row gives.
 -- Assumes nothing.
 use mathlib.Core.Path.{_≡_}
 use mathlib.Core.List.{List, [], _∷_}
-use Prim.Native.Nat.{ℕ, _+_, _*_, _≤_, _<_}
-use lib.ListN.{length}
+use Prim.Native.Nat.{ℕ, _+_, _≤_, _<_}
 use Rattle.cursor.specs.declared.Item.{Item}
-use Rattle.metadata.specs.Tables.{nodeWidth, itemWidth}
-use Rattle.tree.specs.Rows.{nodesIn, itemsIn, itemAt}
+use Rattle.tree.specs.Rows.{itemAt}
 use Rattle.tree.specs.Asking.{Result, good, bad}
-use Rattle.find.specs.Own.{those, part, Runs}
+use Rattle.tree.specs.Own.{those, part}
 use Rattle.description.specs.Row.{isField}
-use Rattle.description.specs.Told.{DataIn}
 use Rattle.mobile.specs.declared.Judged.{Judged}
 use Rattle.mobile.specs.declared.Judged.the-variants as judged
 
@@ -26,13 +23,6 @@ answerOf (bad n p) = judged.Refused n p
 abbrev pub words : Judged → List ℕ
 words (judged.Verdict v) = 0 ∷ 0 ∷ v ∷ []
 words (judged.Refused n p) = n ∷ p ∷ []
-
--- what is known of the tables of an accepted file: they hold n node rows and m item rows, whose data lies in the file, and each node's own item rows are a run of them
-pub record Tables (file nodes items : List ℕ) (n m : ℕ) : Type 0 where
-  pub node-room : n * nodeWidth ≤ length nodes
-  pub item-room : m * itemWidth ≤ length items
-  pub data-in : DataIn (length file) (itemsIn m items)
-  pub runs : Runs (nodesIn n nodes) (itemsIn m items)
 
 -- r is the first row of the field in a part, or its end
 pub record NextRow (field : ℕ) (is : List Item) (from end r : ℕ) : Type 0 where

@@ -7,13 +7,12 @@ ghost use lib.ListN.{length};
 ghost use Rattle.header.specs.Header.{Header};
 ghost use Rattle.metadata.specs.Tables.{nodeWidth, itemWidth};
 ghost use Rattle.tree.specs.Reading.{summary};
-ghost use Rattle.tree.specs.Rows.{nodesIn, itemsIn};
+ghost use Rattle.tree.specs.Rows.{nodesIn, itemsIn, ItemIn, ItemRows};
 ghost use Rattle.tree.specs.Asking.{answered, nodesLeft, itemsLeft};
-ghost use Rattle.find.specs.Own.{those, part};
+ghost use Rattle.tree.specs.Own.{those, part, Tables};
 ghost use Rattle.description.specs.Row.{isField};
-ghost use Rattle.description.specs.Told.{DataIn};
 ghost use Rattle.mobile.specs.Mobile.{all, roleOfType, roleOfRow, roleOf, besides, child, children, filesOnly, isPlain, plainReferences, noUnpackers, oneTune, isNeed, areNeeds, tuneNeeds, isShort, fieldSize, isSmall, smallFields, verdict, mobile};
-ghost use Rattle.mobile.specs.Told.{told, Tables, NextRow};
+ghost use Rattle.mobile.specs.Told.{told, NextRow};
 use cursor::Cursor;
 use cursor::FilePlace;
 use cursor::Item;
@@ -159,7 +158,7 @@ fn role_of_type(v: u64) -> Role
 
 // What a child is whose one row of field 3 is this.
 fn role_of_row(file: &[u8], row: Item) -> Role
-    requires { ⌜ row .place + row .size ≤ length (now file) ⌝ }
+    requires { ⌜ ItemIn (length (now file)) row ⌝ }
     ensures { λ r. ⌜ r ≡ roleOfRow (now (file .entry)) row ⌝ }
 {
     if !description::is_binary(row) {
@@ -190,7 +189,7 @@ fn role_of_row(file: &[u8], row: Item) -> Role
 
 // What a child is whose own item rows begin at `at` and end at `end`.
 fn role_of(file: &[u8], items: &[u64], many: usize, at: usize, end: usize) -> Role
-    requires { ⌜ (many * itemWidth ≤ length (now items)) × (at ≤ end) × (end ≤ many) × DataIn (length (now file)) (itemsIn many (now items)) ⌝ }
+    requires { ⌜ ItemRows (length (now file)) many (now items) × (at ≤ end) × (end ≤ many) ⌝ }
     ensures { λ r. ⌜ r ≡ roleOf (now (file .entry)) (part (itemsIn many (now (items .entry))) at end) ⌝ }
 {
     let first = next_row(items, many, 3, at, end);
@@ -286,7 +285,7 @@ fn one_tune(tunes: Few, instruments: Few) -> bool
 
 // Whether the row, of field 13, may stand where it is, and is readable.
 fn is_need(file: &[u8], row: Item, tune: usize) -> bool
-    requires { ⌜ row .place + row .size ≤ length (now file) ⌝ }
+    requires { ⌜ ItemIn (length (now file)) row ⌝ }
     ensures { λ r. ⌜ r ≡ isNeed (now (file .entry)) tune row ⌝ }
 {
     if row.node != tune as u64 {
@@ -300,7 +299,7 @@ fn is_need(file: &[u8], row: Item, tune: usize) -> bool
 
 // Whether there are rows of field 13, and all may stand where they are, and are readable.
 fn are_needs(file: &[u8], items: &[u64], many: usize, tune: usize) -> bool
-    requires { ⌜ (many * itemWidth ≤ length (now items)) × DataIn (length (now file)) (itemsIn many (now items)) ⌝ }
+    requires { ⌜ ItemRows (length (now file)) many (now items) ⌝ }
     ensures { λ r. ⌜ r ≡ areNeeds (now (file .entry)) tune (those (isField 13) (itemsIn many (now (items .entry)))) ⌝ }
 {
     let mut i = next_row(items, many, 13, 0, many);
@@ -318,7 +317,7 @@ fn are_needs(file: &[u8], items: &[u64], many: usize, tune: usize) -> bool
 
 // Whether field 13 is on the tune, and there only, and readable.
 fn tune_needs(file: &[u8], items: &[u64], many: usize, tunes: Few) -> bool
-    requires { ⌜ (many * itemWidth ≤ length (now items)) × DataIn (length (now file)) (itemsIn many (now items)) ⌝ }
+    requires { ⌜ ItemRows (length (now file)) many (now items) ⌝ }
     ensures { λ r. ⌜ r ≡ tuneNeeds (now (file .entry)) tunes (itemsIn many (now (items .entry))) ⌝ }
 {
     match tunes {

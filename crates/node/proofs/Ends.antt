@@ -35,14 +35,14 @@ abbrev pub Follows : (end q : ℕ) → Reference → Type 0
 Follows end q r = (r .kind ≡ 1) → (r .target ≡ q) × (r .extent ≡ end - q)
 
 module _ (N : OfNames) (top size : ℕ) where
-  pub header-length-on : (p n contained at : ℕ) → Wp (Inside N top size) (headerLength p n contained) (λ h q. (at < q) × (q ≤ p + h .header) × (h .header ≤ h .size) × (h .size ≡ n) × (h .contained ≡ contained)) at
+  pub header-length-on : (p n contained at : ℕ) → Wp (Inside N top size) (headerLength p n contained) (λ h q. (at < q) × (q ≤ p + h .header .0) × (h .header .0 ≤ h .size .0) × (h .size .0 ≡ n) × (h .contained ≡ contained)) at
   unfolding headerLength
   header-length-on p n contained at =
       wp-place _ at
       (wp-after (number-on _ _ (p + n) at) λ header q x.
       wp-place _ q (wp-check _ _ λ t. wp-check _ _ λ u. wp-ret (omega arith, leb-true q (p + header) u, leb-true header n t, refl, refl)))
 
-  pub head-on : (s : Standing) (at : ℕ) → Wp (Inside N top size) (head s) (λ h q. (at < q) × (q ≤ at + h .header) × (h .header ≤ h .size) × (at + h .size ≤ s .end .0) × (s .least .0 ≤ at + h .size) × (at + h .size ≤ s .taken .0)) at
+  pub head-on : (s : Standing) (at : ℕ) → Wp (Inside N top size) (head s) (λ h q. (at < q) × (q ≤ at + h .header .0) × (h .header .0 ≤ h .size .0) × (at + h .size .0 ≤ s .end .0) × (s .least .0 ≤ at + h .size .0) × (at + h .size .0 ≤ s .taken .0)) at
   unfolding head
   head-on s at =
       wp-place _ at
@@ -129,8 +129,8 @@ front-on N top x parent depth s m at o i =
     let size = x .size in
     wp-place _ at
     (wp-after (head-on N top size s at) λ h p y.
-    wp-after (metadata-on N top size x (m .nodes) (at + h .header) (omega arith) m p) λ m′ q z.
-    wp-after (rest-on N top size (x .headerEnd) (h .contained) (at + h .header) (at + h .size) q (omega arith) (omega arith)) λ r v w.
+    wp-after (metadata-on N top size x (m .nodes) (at + h .header .0) (omega arith) m p) λ m′ q z.
+    wp-after (rest-on N top size (x .headerEnd) (h .contained) (at + h .header .0) (at + h .size .0) q (omega arith) (omega arith)) λ r v w.
     wp-ret (record {
       nodes = z .0 .0;
       items = z .0 .1;
@@ -171,7 +171,7 @@ module _ {x : Context} {s : Standing} {m : Made} {at : ℕ} {w : Front} {q : ℕ
 -- ---- the same of a run that is known
 
 pub head-inside : (z : Standing) (s : List ℕ) (at : ℕ) {h : Head} {p : ℕ} → run (head z) s at ≡ ok h p
-    → (at < p) × (p ≤ at + h .header) × (h .header ≤ h .size) × (at + h .size ≤ z .end .0)
+    → (at < p) × (p ≤ at + h .header .0) × (h .header .0 ≤ h .size .0) × (at + h .size .0 ≤ z .end .0)
 head-inside z s at e = let w = at-end (inside-free 0 0) s (head-on Nothing 0 0 z at) e in (w .0, w .1, w .2, w .3)
 
 pub metadata-since : (x : Context) (node end : ℕ) (m : Made) (s : List ℕ) (at : ℕ) (σ : State) {m′ : Made} {τ : State} {p : ℕ} → exec put (metadata x node end m) s at σ ≡ ok (m′, τ) p → Since m m′

@@ -16,6 +16,6 @@ pub front-orders : (x : Context) (parent depth : ℕ) (s : Standing) (m : Made) 
 unfolding front
 front-orders x parent depth s m =
     places λ p. then-rowless (head-uses tt s) λ h.
-    after (metadata-orders x (m .nodes) (p + h .header) m (m .nodes) 0 refl) λ m′ k c i.
-    then-rowless (rest-uses tt tt tt (x .headerEnd) (x .size) (h .contained) (p + h .header) (p + h .size)) λ o.
+    after (metadata-orders x (m .nodes) (p + h .header .0) m (m .nodes) 0 refl) λ m′ k c i.
+    then-rowless (rest-uses tt tt tt (x .headerEnd) (x .size) (h .contained) (p + h .header .0) (p + h .size .0)) λ o.
     ends (i .0, i .1, omega arith, refl)

@@ -54,7 +54,7 @@ module _ (p size contained : ℕ) (s : List ℕ) (at : ℕ) {stop : ℕ} (is : s
       unfolding headerLength
       header-short l = let e₁′ = rw is at e₁ in simp (running, e₁′, le-leb _ _ l₁, lt-leb _ _ l)
 
-      pub header-all : q ≤ p + header → ok (record { size = size; contained = contained; header = header }) q ≡ run (headerLength p size contained) s at
+      pub header-all : q ≤ p + header → ok (record { size = record { 0 = size }; contained = contained; header = record { 0 = header } }) q ≡ run (headerLength p size contained) s at
       unfolding headerLength
       header-all l = let e₁′ = rw is at e₁ in simp (running, e₁′, le-leb _ _ l₁, le-leb _ _ l)
 
@@ -79,9 +79,9 @@ module _ (z : Standing) (s : List ℕ) (at : ℕ) where
         head-meets l = let l₁′ = rw is at l₁ in let l₂′ = rw is at l₂ in let l′ = rw is at l in simp (running, e₁, le-leb _ _ l₁′, le-leb _ _ l₂′, lt-leb _ _ l′)
 
         module _ (l₃ : stop ≤ z .taken .0) where
-          pub head-held : {n q : ℕ} → run (number nodeFrame 3 stop) s p ≡ refused n q → refused n q ≡ run (head z) s at
+          pub head-contained : {n q : ℕ} → run (number nodeFrame 3 stop) s p ≡ refused n q → refused n q ≡ run (head z) s at
           unfolding head
-          head-held e = let l₁′ = rw is at l₁ in let l₂′ = rw is at l₂ in let l₃′ = rw is at l₃ in let e′ = rw is at e in simp (running, e₁, le-leb _ _ l₁′, le-leb _ _ l₂′, le-leb _ _ l₃′, e′)
+          head-contained e = let l₁′ = rw is at l₁ in let l₂′ = rw is at l₂ in let l₃′ = rw is at l₃ in let e′ = rw is at e in simp (running, e₁, le-leb _ _ l₁′, le-leb _ _ l₂′, le-leb _ _ l₃′, e′)
 
           module _ {contained q : ℕ} (e₂ : run (number nodeFrame 3 stop) s p ≡ ok contained q) where
             pub head-folder : true ≡ not (eqb contained 0 || eqb (z .detached) 0) → refused 24 (z .offset .0) ≡ run (head z) s at
@@ -329,12 +329,12 @@ module _ (x : Context) (parent depth : ℕ) (z : Standing) (m : Made) (s : List 
   unfolding front
   front-head e = simp (executing, exec-head, e)
 
-  module _ {h : Head} {p : ℕ} (e₁ : run (head z) s at ≡ ok h p) {inner : ℕ} (is : inner ≡ at + h .header) where
+  module _ {h : Head} {p : ℕ} (e₁ : run (head z) s at ≡ ok h p) {inner : ℕ} (is : inner ≡ at + h .header .0) where
     pub front-metadata : {n q : ℕ} → exec put (metadata x (m .nodes) inner m) s p σ ≡ refused n q → refused n q ≡ exec put (front x parent depth z m) s at σ
     unfolding front
     front-metadata e = let e′ = rw is at e in simp (executing, exec-head, e₁, e′)
 
-    module _ {m′ : Made} {σ′ : State} {q : ℕ} (e₂ : exec put (metadata x (m .nodes) inner m) s p σ ≡ ok (m′, σ′) q) {stop : ℕ} (is₂ : stop ≡ at + h .size) where
+    module _ {m′ : Made} {σ′ : State} {q : ℕ} (e₂ : exec put (metadata x (m .nodes) inner m) s p σ ≡ ok (m′, σ′) q) {stop : ℕ} (is₂ : stop ≡ at + h .size .0) where
       pub front-rest : {n r : ℕ} → run (rest (x .headerEnd) (x .size) (h .contained) inner stop) s q ≡ refused n r → refused n r ≡ exec put (front x parent depth z m) s at σ
       unfolding front
       front-rest e = let e₂′ = rw is at e₂ in let e′ = rw (is, is₂) at e in simp (executing, exec-head, exec-rest, e₁, e₂′, e′)

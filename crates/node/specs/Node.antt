@@ -26,7 +26,7 @@ headerLength p size contained = do
   q ← place
   check (leb header size) badNode h
   check (leb q (p + header)) badNode h
-  ret (record { size = size; contained = contained; header = header })
+  ret (record { size = record { 0 = size }; contained = contained; header = record { 0 = header } })
 
 -- The node may not end past `end`, nor before `least`. A detached one may not end past `taken`, the first byte of another, and is no folder: both are
 -- refused at the number that names it.
@@ -154,8 +154,8 @@ rest headerEnd size contained inner stop = do
 abbrev pub rowOf : ℕ → Head → (parent depth detached : ℕ) → Reference → Unpackers → ℕ → Node
 rowOf start h parent depth detached r u rows = record {
   start = start;
-  size = h .size;
-  header = h .header;
+  size = h .size .0;
+  header = h .header .0;
   contained = h .contained;
   parent = parent;
   depth = depth;
@@ -173,6 +173,6 @@ unfoldable pub front : Context → (parent depth : ℕ) → Standing → Made �
 front x parent depth s m = do
   p ← place
   h ← head s
-  m′ ← metadata x (m .nodes) (p + h .header) m
-  o ← rest (x .headerEnd) (x .size) (h .contained) (p + h .header) (p + h .size)
+  m′ ← metadata x (m .nodes) (p + h .header .0) m
+  o ← rest (x .headerEnd) (x .size) (h .contained) (p + h .header .0) (p + h .size .0)
   ret (record { row = rowOf p h parent depth (s .detached) (o .reference) (o .unpackers) (m′ .items - m .items); made = m′ })

@@ -22,7 +22,7 @@ use metadata::Rowed;
 use metadata::Scope;
 
 // How a node stands: it ends at or before `end` and not before `least`. A detached one ends at or before `taken`, where another
-// begins, and `named` is the place of the number that names it.
+// begins, and `offset` is the place of the number that leads to it.
 pub struct Standing {
     pub least: FilePlace,
     pub end: FilePlace,
@@ -31,11 +31,12 @@ pub struct Standing {
     pub detached: u64,
 }
 
-// What a node starts with: its length, the number of nodes that it holds, its header's length.
+// What a node starts with: its length, the number of contained items, its header's length. The two lengths are places counted from the node's first byte:
+// its end, and its header's.
 pub struct Head {
-    pub size: u64,
+    pub size: NodePlace,
     pub contained: u64,
-    pub header: u64,
+    pub header: NodePlace,
 }
 
 pub enum Headed {
@@ -105,8 +106,9 @@ fn read_head(c: Cursor, file: &[u8], s: Standing) -> Headed
     let offset = s.offset;
     match c.number(file, end, cursor::CUT_SHORT) {
         Numbered::Refused(n, p) => Headed::Refused(n, p),
-        Numbered::Is(size, d) => {
-            let stop = start.of(NodePlace(size as usize));
+        Numbered::Is(length, d) => {
+            let size = NodePlace(length as usize);
+            let stop = start.of(size);
             if end.0 < stop.0 {
                 return Headed::Refused(cursor::BAD_NODE, start);
             }
@@ -130,18 +132,25 @@ fn read_head(c: Cursor, file: &[u8], s: Standing) -> Headed
 }
 
 // NodeHeaderLength of a node that starts at `start`.
-fn read_header_length(c: Cursor, file: &[u8], start: FilePlace, size: u64, contained: u64) -> Headed
-    requires { ⌜ Readable (start .0 + size) (now file) ⌝ }
-    ensures { λ r. ⌜ headTold r ≡ run (headerLength (start .0) size contained) (now (file .entry)) (c .at .0) ⌝ }
+fn read_header_length(
+    c: Cursor,
+    file: &[u8],
+    start: FilePlace,
+    size: NodePlace,
+    contained: u64,
+) -> Headed
+    requires { ⌜ Readable (start .0 + size .0) (now file) ⌝ }
+    ensures { λ r. ⌜ headTold r ≡ run (headerLength (start .0) (size .0) contained) (now (file .entry)) (c .at .0) ⌝ }
 {
     let place = c.at;
-    match c.number(file, start.of(NodePlace(size as usize)), cursor::CUT_SHORT) {
+    match c.number(file, start.of(size), cursor::CUT_SHORT) {
         Numbered::Refused(n, p) => Headed::Refused(n, p),
-        Numbered::Is(header, d) => {
-            if size < header {
+        Numbered::Is(length, d) => {
+            let header = NodePlace(length as usize);
+            if size.0 < header.0 {
                 return Headed::Refused(cursor::BAD_NODE, place);
             }
-            let inner = start.of(NodePlace(header as usize));
+            let inner = start.of(header);
             let first = d.at;
             if inner.0 < first.0 {
                 return Headed::Refused(cursor::BAD_NODE, place);
@@ -413,11 +422,13 @@ fn row_of(
 ) -> Node
     ensures { λ n. ⌜ n ≡ rowOf (start .0) h parent depth detached r u rows ⌝ }
 {
+    let size = h.size;
+    let header = h.header;
     let place = u.place;
     Node {
         start: start.0 as u64,
-        size: h.size,
-        header: h.header,
+        size: size.0 as u64,
+        header: header.0 as u64,
         contained: h.contained,
         parent: parent as u64,
         depth: depth as u64,
@@ -450,7 +461,7 @@ pub fn read_front(
     match read_head(c, file, s) {
         Headed::Refused(n, p) => Fronted::Refused(n, p),
         Headed::Is(h, d) => {
-            let inner = start.of(NodePlace(h.header as usize));
+            let inner = start.of(h.header);
             match metadata::read_metadata(
                 d,
                 file,
@@ -463,7 +474,7 @@ pub fn read_front(
             ) {
                 Rowed::Refused(n, p) => Fronted::Refused(n, p),
                 Rowed::Done(rows, e) => {
-                    let stop = start.of(NodePlace(h.size as usize));
+                    let stop = start.of(h.size);
                     let headerEnd = scope.headerEnd;
                     match read_rest(e, file, headerEnd, h.contained, inner, stop) {
                         Rested::Refused(n, p) => Fronted::Refused(n, p),

@@ -1,6 +1,7 @@
 // What the programs share: full tables, a file read by its name, and a message where that fails.
 ghost use mathlib.Core.Path.{_≡_};
 ghost use lib.ListN.{length};
+ghost use Rattle.metadata.specs.Tables.{fullNodes, fullItems};
 ghost use Rattle.program.specs.Inputs.{Inside};
 use libc::STDERR_FILENO;
 
@@ -21,17 +22,17 @@ pub fn file_buffer() -> [u8; 65537]
 }
 
 // Room for 256 node rows.
-pub fn node_table() -> [u64; 3328]
-    ensures { λ r. ⌜ 3328 ≡ length r ⌝ }
+pub fn node_table() -> [u64; cursor::MOST_NODES * cursor::NODE_WIDTH]
+    ensures { λ r. ⌜ fullNodes ≡ length r ⌝ }
 {
-    [0; 3328]
+    [0; cursor::MOST_NODES * cursor::NODE_WIDTH]
 }
 
 // Room for 1,024 item rows.
-pub fn item_table() -> [u64; 10240]
-    ensures { λ r. ⌜ 10240 ≡ length r ⌝ }
+pub fn item_table() -> [u64; cursor::MOST_ITEMS * cursor::ITEM_WIDTH]
+    ensures { λ r. ⌜ fullItems ≡ length r ⌝ }
 {
-    [0; 10240]
+    [0; cursor::MOST_ITEMS * cursor::ITEM_WIDTH]
 }
 
 // Room for a name of 4,096 bytes, each as a backslash and two digits.

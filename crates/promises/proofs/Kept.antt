@@ -6,18 +6,19 @@ use mathlib.Core.Bool.{Bool, true, false, cond, not, _&&_, _||_}
 use mathlib.Core.Logic.{_⊎_, inl, inr}
 use mathlib.Core.List.{List, [], _∷_, _++_, map}
 use Prim.Native.Nat.{ℕ, zero, suc, _+_, _*_, _%_, _<_, _-_, _^_}
+use native.Mathlib.Decide.{decLe}
 use native.Mathlib.Omega.{arith}
 use lib.Dec.{T, eqb, ltb, leb}
 use lib.ListN.{length, getD, replicate, take, drop, length-take, length-drop}
 use lib.Seq.{getD-take, getD-drop, take-append-seam}
-use borrow.Author.Tests.{ne-eqb, eq-eqb, leb-false}
+use borrow.Author.Tests.{ne-eqb, leb-false, le-leb, lt-leb}
 use Rattle.cursor.specs.Machine.{Out, ok, refused}
 use Rattle.cursor.specs.Refusals.{ofReader, ofFind, ofResolve, ofCount, ofSheet, ofConversion, isOneOf, isAllowed, ofTitle}
-use Rattle.cursor.specs.Vlq.{choose}
 use Rattle.cursor.specs.declared.Node.{Node}
 use Rattle.cursor.specs.declared.Item.{Item}
+use Rattle.cursor.proofs.Agree.{Agree}
 use Rattle.header.specs.Header.{Header}
-use Rattle.metadata.specs.Tables.{limits, itemWords}
+use Rattle.metadata.specs.Tables.{fullNodes, fullItems, limits, itemWords}
 use Rattle.metadata.specs.declared.Limits.{Limits}
 use Rattle.metadata.proofs.Limited.{Less}
 use Rattle.tree.specs.Reading.{Reading, rows, refusal, readFile, answerOf, nodeTable, itemTable}
@@ -28,7 +29,7 @@ use Rattle.tree.specs.Hidden.{isHidden, mayDiffer, DifferInPrivate}
 use Rattle.tree.proofs.Demand.{Alike, RowAlike, privateData, private-alike, rows-alike}
 use Rattle.tree.proofs.Limited.{to-wider, to-narrower}
 use Rattle.tree.proofs.Listed.{refusal-listed}
-use Rattle.find.specs.Own as own
+use Rattle.tree.specs.Own as own
 use Rattle.find.specs.Find as find
 use Rattle.find.specs.Told as found
 use Rattle.find.specs.declared.Found.{Found}
@@ -49,7 +50,7 @@ use Rattle.mobile.specs.Mobile as mobile
 use Rattle.mobile.specs.Told as judged
 use Rattle.mobile.specs.declared.Judged.{Judged}
 use Rattle.mobile.specs.declared.Judged.the-variants as judging
-use Rattle.mobile.proofs.Depends.{Agreed, verdict-depends}
+use Rattle.mobile.proofs.Depends.{verdict-depends}
 use Rattle.sheet.specs.Sheet as sheet
 use Rattle.sheet.specs.Told as written
 use Rattle.sheet.specs.declared.Written.{Written}
@@ -70,7 +71,7 @@ use Rattle.unicode.specs.Told as converted
 use Rattle.unicode.specs.declared.Converted.{Converted}
 use Rattle.unicode.specs.declared.Converted.the-variants as converting
 use Rattle.unicode.proofs.Back.{placed8, placed16}
-use Rattle.promises.specs.Promises.{Question, readTree, findItem, findOwn, resolveRow, countFor, judgeMobile, writeSheet, toUtf8, toUtf16, refusals, Sizes, size, lent, Outcome, reads, leaves, over, conversion, outcome, resource, IsRefusal, IsAnswer, Demand1, FitsExactly, OnlyThere, Demand3, correctTitle, writes, writing, Accepted, InTables, newFile, AlikeIn, Correction, Corrects, EachLeast}
+use Rattle.promises.specs.Promises.{Question, readTree, findItem, findOwn, resolveRow, countFor, judgeMobile, writeSheet, toUtf8, toUtf16, Sizes, size, lent, Outcome, reads, leaves, over, conversion, outcome, resource, IsRefusal, IsAnswer, Demand1, FitsExactly, OnlyThere, Demand3, correctTitle, writes, writing, Accepted, InTables, newFile, AlikeIn, Correction, Corrects, EachLeast}
 use Rattle.promises.specs.Calls.{Called, read-tree, find-standard, find-custom, find-own-standard, find-own-custom, resolve-row, count-for, judge, write-sheet, to-utf8, to-utf16, Given, correct-title}
 
 -- ---- which data may not differ
@@ -104,7 +105,7 @@ data Twins (lim : Limits) (f g : List ℕ) : (x y : Result (List ℕ)) → Type 
   files-alike : {x y : List ℕ} → Each (Copied f g) x y → readFile lim y ≡ readFile lim x → Twins lim f g (good x) (good y)
 
 module _ {lim : Limits} {f g : List ℕ} where
-  unless : (b : Bool) (n p : ℕ) {x y : Result (List ℕ)} → (b ≡ false → Twins lim f g x y) → Twins lim f g (choose b (bad n p) x) (choose b (bad n p) y)
+  unless : (b : Bool) (n p : ℕ) {x y : Result (List ℕ)} → (b ≡ false → Twins lim f g x y) → Twins lim f g (cond b (bad n p) x) (cond b (bad n p) y)
   unless true n p t = refusals-same n p
   unless false n p t = t refl
 
@@ -144,18 +145,25 @@ module _ (ls : Sizes) (f g : List ℕ) (h : Header) (ns : List Node) (is : List 
   unfolding reads
   reads-same = alike .same-reading
 
+  -- the files agree on custom names, and on data that may not differ
+  name-alike : (i : ℕ) → i < length is → itemAt is i .kind ≡ 1 → Agree f g (itemAt is i .field) (itemAt is i .nameLength)
+  name-alike i m e = named (itemAt is i) (row i m .0) e
+
+  data-alike : (i : ℕ) → i < length is → T (not (mayDiffer (itemAt is i))) → Agree f g (itemAt is i .place) (itemAt is i .size)
+  data-alike i m t = row i m .1 t
+
   find-alike : (w : find.Wanted) (k : ℕ) → find.find w k g h ns is ≡ find.find w k f h ns is
-  find-alike w k = sym (find-same f g w is (λ i m e. named (itemAt is i) (row i m .0) e) k h ns)
+  find-alike w k = sym (find-same f g w is name-alike k h ns)
 
   find-own-alike : (w : find.Wanted) (k : ℕ) → find.findOwn w k g h ns is ≡ find.findOwn w k f h ns is
-  find-own-alike w k = sym (find-own-same f g w is (λ i m e. named (itemAt is i) (row i m .0) e) k h ns)
+  find-own-alike w k = sym (find-own-same f g w is name-alike k h ns)
 
   resolve-alike : (k : ℕ) → resolve.resolve k g h ns is ≡ resolve.resolve k f h ns is
   unfolding resolve.resolve
   resolve-alike k = refl
 
-  fields-alike : (n : ℕ) → T (eqb n 0 || eqb n 3 || eqb n 13) → Agreed f g n is
-  fields-alike n t i m a b = row i m .1 (field-kept n t (itemAt is i) a b)
+  fields-alike : (n : ℕ) → T (eqb n 0 || eqb n 3 || eqb n 13) → (i : ℕ) → i < length is → itemAt is i .kind ≡ 0 → itemAt is i .field ≡ n → Agree f g (itemAt is i .place) (itemAt is i .size)
+  fields-alike n t i m a b = data-alike i m (field-kept n t (itemAt is i) a b)
 
   count-alike : (item channel resource : ℕ) → count.countFor item channel resource g h ns is ≡ count.countFor item channel resource f h ns is
   count-alike item channel resource = sym (count-same f g item channel resource h ns is (fields-alike 13 tt))
@@ -166,7 +174,7 @@ module _ (ls : Sizes) (f g : List ℕ) (h : Header) (ns : List Node) (is : List 
 
   sheet-alike : (n : ℕ) → sheet.write n g h ns is ≡ sheet.write n f h ns is
   unfolding sheet.write
-  sheet-alike n = ap (λ (s : List ℕ). sheet.fitting n (good s)) (sym (sheet-same f g h ns is (d .same-length) (λ i m. (λ e. row i m .1 (even-kept (itemAt is i) e), λ e. named (itemAt is i) (row i m .0) e))))
+  sheet-alike n = ap (λ (s : List ℕ). sheet.fitting n (good s)) (sym (sheet-same f g h ns is (d .same-length) (λ i m. (λ e. data-alike i m (even-kept (itemAt is i) e), name-alike i m))))
 
   -- a question that answers the same of the rows
   asks-alike : {A : Type 0} (q : Asks A) → q g h ns is ≡ q f h ns is → ask (reads ls g) (q g) ≡ ask (reads ls f) (q f)
@@ -308,10 +316,10 @@ pub fits-exactly : FitsExactly
 unfolding reads
 fits-exactly ls f h ns is = (λ e. let w = to-wider less f e in (w .0, (omega (arith, w .1), omega (arith, w .2))), λ e l. let w = to-wider whole f e in to-narrower less f e (omega (arith, w .1)) (omega (arith, w .2)))
   where
-    less : Less (limits (size ls 0) (size ls 1)) (limits 3328 10240)
+    less : Less (limits (size ls 0) (size ls 1)) (limits fullNodes fullItems)
     less = record { nodes = omega arith; items = omega arith }
 
-    whole : Less (limits 3328 10240) (limits 3328 10240)
+    whole : Less (limits fullNodes fullItems) (limits fullNodes fullItems)
     whole = record { nodes = omega arith; items = omega arith }
 
 -- ---- refusals are the question's
@@ -342,10 +350,9 @@ module _ (f : List ℕ) (w : find.Wanted) where
   abbrev Finds : Result own.Numbered → Type 0
   Finds x = Own (ofReader ++ ofFind) x
 
-  choose-own : (b : Bool) (x y : Result own.Numbered) → Finds x → Finds y → Finds (find.choose b x y)
-  unfolding find.choose
-  choose-own true x y a c = a
-  choose-own false x y a c = c
+  cond-own : (b : Bool) (x y : Result own.Numbered) → Finds x → Finds y → Finds (cond b x y)
+  cond-own true x y a c = a
+  cond-own false x y a c = c
 
   or-own : (x y : Result own.Numbered) → Finds x → Finds y → Finds (find.orElse x y)
   unfolding find.orElse
@@ -355,7 +362,7 @@ module _ (f : List ℕ) (w : find.Wanted) where
   among-own : (rs : List own.Numbered) → Finds (find.among f w rs)
   unfolding find.among
   among-own [] = tt
-  among-own (r ∷ rs) = choose-own (find.matches f w (r .item)) _ _ tt (among-own rs)
+  among-own (r ∷ rs) = cond-own (find.matches f w (r .item)) (good r) (find.among f w rs) tt (among-own rs)
 
   look-own : (is : List Item) (k : ℕ) → Finds (find.look f w is k)
   unfolding find.look
@@ -368,40 +375,43 @@ module _ (f : List ℕ) (w : find.Wanted) where
 
   nearest-own : (row : ℕ) (h : Header) (ns : List Node) (is : List Item) → Finds (find.find w row f h ns is)
   unfolding find.find find.nearest
-  nearest-own row h ns is = choose-own _ _ _ (first-own is (find.path ns row)) tt
+  nearest-own row h ns is = cond-own (ltb row (length ns)) (find.nearest f w ns is row) (bad 18 0) (first-own is (find.path ns row)) tt
 
   node-own : (row : ℕ) (h : Header) (ns : List Node) (is : List Item) → Finds (find.findOwn w row f h ns is)
   unfolding find.findOwn
-  node-own row h ns is = choose-own _ _ _ (look-own is row) tt
+  node-own row h ns is = cond-own (ltb row (length ns)) (find.look f w is row) (bad 18 0) (look-own is row) tt
 
 abbrev Resolves : Result resolve.Resource → Type 0
 Resolves x = Own (ofReader ++ ofResolve) x
 
-if-own : (b : Bool) (x y : Result resolve.Resource) → Resolves x → Resolves y → Resolves (resolve.if_then_else_ b x y)
-unfolding resolve.if_then_else_
+if-own : (b : Bool) (x y : Result resolve.Resource) → Resolves x → Resolves y → Resolves (cond b x y)
 if-own true x y a c = a
 if-own false x y a c = c
 
 reached-own : (r : Node) (k hops : ℕ) (two three : Result resolve.Resource) → Resolves two → Resolves three → Resolves (resolve.reached r k hops two three)
-unfolding resolve.reached resolve.named
-reached-own r k hops two three a b = if-own _ _ _ tt (if-own _ _ _ tt (if-own _ _ _ a (if-own _ _ _ b tt)))
+unfolding resolve.reached resolve.resourceOf
+reached-own r k hops two three a b = if-own (not (eqb (r .contained) 0)) _ _ tt (if-own (eqb (r .reference) 1) _ _ tt (if-own (eqb (r .reference) 2) _ _ a (if-own (eqb (r .reference) 3) _ _ b tt)))
 
 chain-own : (left : ℕ) (ns : List Node) (k hops : ℕ) → Resolves (resolve.chain left ns k hops)
-unfolding resolve.chain resolve.named
+unfolding resolve.chain resolve.resourceOf
 chain-own zero ns k hops = reached-own _ k hops _ _ tt tt
 chain-own (suc left) ns k hops = reached-own _ k hops _ _ tt (chain-own left ns _ (hops + 1))
 
 resolve-own : (row : ℕ) (f : List ℕ) (h : Header) (ns : List Node) (is : List Item) → Resolves (resolve.resolve row f h ns is)
 unfolding resolve.resolve resolve.resolveRow
-resolve-own row f h ns is = if-own _ _ _ (chain-own 4 ns row 0) tt
+resolve-own row f h ns is = if-own (ltb row (length ns)) _ _ (chain-own 4 ns row 0) tt
+
+-- bytes that a buffer holds, or 22
+fitted : (P : Result (List ℕ) → Type 0) (n : ℕ) (s : List ℕ) → P (good s) → P (bad 22 0) → P (room.fitting n (good s))
+unfolding room.fitting
+fitted P n s a b = elim (decLe (length s) n) [
+  | yes l ↦ simp (le-leb (length s) n l) a
+  | no l ↦ simp (lt-leb (length s) n (omega arith)) b
+]
 
 sheet-own : (n : ℕ) (f : List ℕ) (h : Header) (ns : List Node) (is : List Item) → Own (ofReader ++ ofSheet) (sheet.write n f h ns is)
-unfolding sheet.write sheet.fitting
-sheet-own n f h ns is = go (leb _ n) _
-  where
-    go : (b : Bool) (s : List ℕ) → Own (ofReader ++ ofSheet) (room.choose b (good s) (bad 22 0))
-    go true s = tt
-    go false s = tt
+unfolding sheet.write
+sheet-own n f h ns is = fitted (Own (ofReader ++ ofSheet)) n (sheet.sheetOf f h ns is) tt tt
 
 abbrev Counts : Result ℕ → Type 0
 Counts x = Own (ofReader ++ ofCount) x
@@ -428,7 +438,7 @@ unfolding title.correctTitle title.fitting
 title-own i text n f h ns is =
     let g : List ℕ = title.titledFile i text f h ns is in go (leb (length is) i) (title.elsewhere ns) (title.isNoTitle (itemAt is i)) (leb (2 ^ 28) (length g)) (ltb n (length g)) g
   where
-    go : (a b c d e : Bool) (g : List ℕ) → Own (ofReader ++ ofTitle) (choose a (bad 18 0) (choose b (bad 36 0) (choose c (bad 37 0) (choose d (bad 38 0) (choose e (bad 22 0) (good g))))))
+    go : (a b c d e : Bool) (g : List ℕ) → Own (ofReader ++ ofTitle) (cond a (bad 18 0) (cond b (bad 36 0) (cond c (bad 37 0) (cond d (bad 38 0) (cond e (bad 22 0) (good g))))))
     go true b c d e g = tt
     go false true c d e g = tt
     go false false true d e g = tt
@@ -482,11 +492,7 @@ utf16-own text = written-own _ _ _ (chars-own _ 0 0 text)
 
 fitting-own : (n : ℕ) (r : Result (List ℕ)) → Own ofConversion r → Own ofConversion (room.fitting n r)
 unfolding room.fitting
-fitting-own n (good s) k = go (leb (length s) n)
-  where
-    go : (b : Bool) → Own ofConversion (room.choose b (good s) (bad 22 0))
-    go true = tt
-    go false = tt
+fitting-own n (good s) k = fitted (Own ofConversion) n s tt tt
 fitting-own n (bad m p) k = k
 
 -- ---- a refusal or an answer
@@ -625,11 +631,11 @@ no-part ls o f row (bad n p) w = refl
 -- a conversion that answers 26 comes to a text that is refused so
 placed : (n size p : ℕ) (r : Result (List ℕ)) → ((m q : ℕ) → r ≡ bad m q → (m ≡ 26) × (q < size)) → converted.words (converted.answerOf (room.counted (room.fitting n r))) ≡ 26 ∷ p ∷ [] → p < size
 unfolding room.counted room.fitting
-placed n size p (good s) h e = by (leb (length s) n) e
-  where
-    by : (b : Bool) → converted.words (converted.answerOf (room.counted (room.choose b (good s) (bad 22 0)))) ≡ 26 ∷ p ∷ [] → p < size
-    by true z = let y : _≡_ {A = ℕ} 0 26 = cc in absurd (omega arith)
-    by false z = let y : _≡_ {A = ℕ} 22 26 = cc in absurd (omega arith)
+placed n size p (good s) h e =
+    fitted (λ r. converted.words (converted.answerOf (room.counted r)) ≡ 26 ∷ p ∷ [] → p < size) n s
+    (λ z. let y : _≡_ {A = ℕ} 0 26 = cc in absurd (omega arith))
+    (λ z. let y : _≡_ {A = ℕ} 22 26 = cc in absurd (omega arith))
+    e
 placed n size p (bad m q) h e = let y : q ≡ p = cc in let z = h m q refl .1 in omega arith
 
 pub demand1 : Demand1

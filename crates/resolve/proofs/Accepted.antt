@@ -1,7 +1,7 @@
 -- The rows of an accepted file: each reference 3 leads to a row, and what a question resolves to lies in the file.
 -- Assumes nothing.
 use mathlib.Core.Path.{_≡_, refl, sym, ap, subst, _∙_}
-use mathlib.Core.Bool.{Bool, true, false, not, _&&_, _||_, true≢false}
+use mathlib.Core.Bool.{Bool, true, false, cond, not, _&&_, _||_, true≢false}
 use mathlib.Core.Logic.{_⊎_, inl, inr}
 use mathlib.Core.List.{List, [], _∷_}
 use Prim.Native.Nat.{ℕ, zero, suc, _+_, _≤_, _<_}
@@ -18,18 +18,17 @@ use Rattle.header.specs.Header.{Header, header}
 use Rattle.metadata.specs.declared.Limits.{Limits}
 use Rattle.metadata.specs.declared.Made.{Made}
 use Rattle.tree.specs.Reading.{Reading, rows, refusal, startsAt, readFile}
-use Rattle.tree.specs.Rows.{nodeAt}
+use Rattle.tree.specs.Rows.{nodeAt, NodeIn}
 use Rattle.tree.specs.Asking.{Result, good, bad, ask}
-use Rattle.tree.proofs.Rows.{NodeIn, accepted}
+use Rattle.tree.proofs.Rows.{accepted}
 use Rattle.tree.proofs.Links.{led}
-use Rattle.resolve.specs.Resolve.{if_then_else_, Resource, rowStarting, named, reached, chain, resolveRow, resolve}
+use Rattle.resolve.specs.Resolve.{Resource, rowStarting, resourceOf, reached, chain, resolveRow, resolve}
 use Rattle.resolve.specs.Told.{Linked}
 use Rattle.resolve.proofs.Chain.{reached-folder, reached-one, reached-two, reached-three, reached-uri}
 
 -- ---- each reference 3 leads to a row
 
-below-by : (b c : Bool) (n m : ℕ) → (c ≡ true → n < m) → (b || c) ≡ true → (if b then 0 else suc n) < suc m
-unfolding if_then_else_
+below-by : (b c : Bool) (n m : ℕ) → (c ≡ true → n < m) → (b || c) ≡ true → (cond b 0 (suc n)) < suc m
 below-by true c n m h e = omega arith
 below-by false c n m h e = let x = h e in omega arith
 
@@ -47,9 +46,9 @@ abbrev pub InPart : ℕ → Result Resource → Type 0
 InPart size (good r) = r .place + r .size ≤ size
 InPart size (bad n p) = Unit {0}
 
-in-named : (size : ℕ) (r : Node) (k hops : ℕ) → NodeIn size r → (r .reference ≡ 3 → ⊥) → InPart size (named r k hops)
-unfolding named
-in-named size r k hops w n = by (w .2)
+in-resource : (size : ℕ) (r : Node) (k hops : ℕ) → NodeIn size r → (r .reference ≡ 3 → ⊥) → InPart size (resourceOf r k hops)
+unfolding resourceOf
+in-resource size r k hops w n = by (w .2)
   where
     by : (r .reference ≡ 3) ⊎ (r .target + r .extent ≤ size) → r .target + r .extent ≤ size
     by (inl e) = absurd (n e)
@@ -61,7 +60,7 @@ in-reached size r k hops two three w a b =
     elim (ℕ-discrete (r .contained) 0) [
       | no n ↦ rw (reached-folder r k hops two three n) tt
       | yes z ↦ elim (ℕ-discrete (r .reference) 1) [
-        | yes e ↦ rw (reached-one r k hops two three z e) (in-named size r k hops w (λ t. omega arith))
+        | yes e ↦ rw (reached-one r k hops two three z e) (in-resource size r k hops w (λ t. omega arith))
         | no n ↦ elim (ℕ-discrete (r .reference) 2) [
           | yes e ↦ rw (reached-two r k hops two three z e) (a e)
           | no m ↦ elim (ℕ-discrete (r .reference) 3) [
@@ -77,11 +76,11 @@ module _ (size : ℕ) (ns : List Node) (h : Linked ns) (inside : (i : ℕ) → i
   unfolding chain
   in-chain zero k hops l = in-reached size (nodeAt ns k) k hops (bad 21 0) (bad 21 0) (inside k l) (λ e. tt) (λ e. tt)
   in-chain (suc left) k hops l =
-      in-reached size (nodeAt ns k) k hops (named (nodeAt ns k) k (hops + 1)) (chain left ns (rowStarting ns (nodeAt ns k .target)) (hops + 1)) (inside k l)
-      (λ e. in-named size (nodeAt ns k) k (hops + 1) (inside k l) (λ t. omega arith)) (λ e. in-chain left (rowStarting ns (nodeAt ns k .target)) (hops + 1) (h k l e))
+      in-reached size (nodeAt ns k) k hops (resourceOf (nodeAt ns k) k (hops + 1)) (chain left ns (rowStarting ns (nodeAt ns k .target)) (hops + 1)) (inside k l)
+      (λ e. in-resource size (nodeAt ns k) k (hops + 1) (inside k l) (λ t. omega arith)) (λ e. in-chain left (rowStarting ns (nodeAt ns k .target)) (hops + 1) (h k l e))
 
   in-row : (row : ℕ) → InPart size (resolveRow row ns)
-  unfolding resolveRow if_then_else_
+  unfolding resolveRow
   in-row row = elim (decLt row (length ns)) [
     | yes l ↦ rw (lt-ltb _ _ l) (in-chain 4 row 0 l)
     | no n ↦ rw (le-ltb row (length ns) (omega arith)) tt

@@ -9,11 +9,12 @@ use Rattle.cursor.specs.declared.FilePlace.{FilePlace}
 use Rattle.metadata.specs.Tables.{nodeWidth, limits}
 use Rattle.tree.specs.Reading.{readFile, readOf, nodeTable, itemTable}
 use Rattle.tree.specs.Rows.{nodesIn, treeRows, Rising}
-use Rattle.tree.specs.Asking.{Result, good, bad, ask, keptNodes, keptItems}
+use Rattle.tree.specs.Asking.{Result, good, bad, ask}
 use Rattle.tree.specs.declared.Summary.{Summary}
 use Rattle.tree.specs.declared.Read.{Read}
 use Rattle.tree.specs.declared.Read.the-variants as read
-use Rattle.tree.proofs.Rows.{in-front, Standing, standing, ask-refused, refused-nodes, refused-items, ask-is, good-nodes, good-items, bad-nodes, bad-items}
+use Rattle.tree.proofs.Rows.{in-front, Standing, standing}
+use Rattle.tree.proofs.Exits.{Says, says-unread, says-refused, says-answer}
 use Rattle.tree.proofs.TreeRows.{tree-few, rows-rise}
 use Rattle.resolve.specs.Resolve.{Resource, resolveRow, resolve, part}
 use Rattle.resolve.specs.Told.{told, Linked}
@@ -22,16 +23,13 @@ use Rattle.resolve.specs.declared.Resolved.the-variants as resolved
 use Rattle.resolve.proofs.Accepted.{linked, resolved-in}
 
 -- the answer, and both tables
-abbrev pub Ends : List ℕ → ℕ → ℕ → ℕ → Result Resource → List ℕ → List ℕ → Type 0
-Ends f nsize isize row a t u =
-    (a ≡ ask (readFile (limits nsize isize) f) (resolve row f))
-    × (t ≡ keptNodes nsize (readFile (limits nsize isize) f) (ask (readFile (limits nsize isize) f) (resolve row f)))
-    × (u ≡ keptItems isize (readFile (limits nsize isize) f) (ask (readFile (limits nsize isize) f) (resolve row f)))
+abbrev pub Ends : (f : List ℕ) (nsize isize row : ℕ) → Result Resource → (t u : List ℕ) → Type 0
+Ends f nsize isize row a t u = Says nsize isize (readFile (limits nsize isize) f) (resolve row f) a t u
 
 module _ (f : List ℕ) (nsize isize row : ℕ) {r : Read} {t u : List ℕ} (e : r ≡ readOf (readFile (limits nsize isize) f))
     (a : t ≡ nodeTable nsize (readFile (limits nsize isize) f)) (b : u ≡ itemTable isize (readFile (limits nsize isize) f)) where
   pub ends-unread : {n : ℕ} {p : FilePlace} → r ≡ read.Refused n p → Ends f nsize isize row (bad n (p .0)) t u
-  ends-unread k = (sym (ask-refused _ e k (resolve row f)), refused-nodes _ (resolve row f) e k nsize a, refused-items _ (resolve row f) e k isize b)
+  ends-unread k = says-unread nsize isize _ (resolve row f) e k a b
 
   module _ {s : Summary} (k : r ≡ read.Is s) where
     stands : Standing f (readFile (limits nsize isize) f) s t u
@@ -61,14 +59,14 @@ module _ (f : List ℕ) (nsize isize row : ℕ) {r : Read} {t u : List ℕ} (e :
       ends-refused {n} {p} z c d =
           let w = stands in
           let q : resolve row f (w .h) (w .ns) (w .is) ≡ bad n p = sym answered ∙ ap told z in
-          (sym (ask-is (w .reads) (resolve row f) ∙ q), bad-nodes (w .reads) (resolve row f) nsize q c, bad-items (w .reads) (resolve row f) isize q d)
+          says-refused nsize isize _ (resolve row f) (w .reads) q c d
 
-      pub ends-at : {place size last hops : ℕ} → x ≡ resolved.At place size last hops
-          → Ends f nsize isize row (good (record { place = place; size = size; row = last; hops = hops })) t u
+      pub ends-at : {place : FilePlace} {size last hops : ℕ} → x ≡ resolved.At place size last hops
+          → Ends f nsize isize row (good (record { place = place .0; size = size; row = last; hops = hops })) t u
       ends-at {place} {size} {last} {hops} z =
           let w = stands in
-          let q : resolve row f (w .h) (w .ns) (w .is) ≡ good (record { place = place; size = size; row = last; hops = hops }) = sym answered ∙ ap told z in
-          (sym (ask-is (w .reads) (resolve row f) ∙ q), good-nodes (w .reads) (resolve row f) nsize q a, good-items (w .reads) (resolve row f) isize q b)
+          let q : resolve row f (w .h) (w .ns) (w .is) ≡ good (record { place = place .0; size = size; row = last; hops = hops }) = sym answered ∙ ap told z in
+          says-answer nsize isize _ (resolve row f) (w .reads) q a b
 
 -- ---- the part of the file
 
@@ -77,11 +75,11 @@ module _ (f : List ℕ) (x : Resolved) {o : Result Resource} (y : told x ≡ o) 
   unfolding part
   part-none z = ap (part f) (ap told (sym z) ∙ y)
 
-  pub part-at : {place size row hops : ℕ} → x ≡ resolved.At place size row hops → take (place + size - place) (drop place f) ≡ part f o
+  pub part-at : {place : FilePlace} {size row hops : ℕ} → x ≡ resolved.At place size row hops → take (place .0 + size - place .0) (drop (place .0) f) ≡ part f o
   unfolding part
-  part-at {place} {size} z = let e : place + size - place ≡ size = omega arith in ap (λ n. take n (drop place f)) e ∙ ap (part f) (ap told (sym z) ∙ y)
+  part-at {place} {size} z = let e : place .0 + size - place .0 ≡ size = omega arith in ap (λ n. take n (drop (place .0) f)) e ∙ ap (part f) (ap told (sym z) ∙ y)
 
 -- it lies in the file
-pub part-inside : (f : List ℕ) (nsize isize row : ℕ) (x : Resolved) → told x ≡ ask (readFile (limits nsize isize) f) (resolve row f) → {place size last hops : ℕ}
-    → x ≡ resolved.At place size last hops → place + size ≤ length f
+pub part-inside : (f : List ℕ) (nsize isize row : ℕ) (x : Resolved) → told x ≡ ask (readFile (limits nsize isize) f) (resolve row f) → {place : FilePlace} {size last hops : ℕ}
+    → x ≡ resolved.At place size last hops → place .0 + size ≤ length f
 part-inside f nsize isize row x y z = resolved-in (limits nsize isize) f row (ap told (sym z) ∙ y)

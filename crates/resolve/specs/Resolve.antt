@@ -1,6 +1,6 @@
 -- The question Resolve (01, Questions): where a row's resource is. It is answered of the node rows alone: no definition before `resolve` takes the file.
 -- Assumes nothing.
-use mathlib.Core.Bool.{not}
+use mathlib.Core.Bool.{cond, not}
 use mathlib.Core.List.{List, []}
 use Prim.Native.Nat.{ℕ, zero, suc, _+_}
 use lib.Dec.{ltb, eqb}
@@ -8,7 +8,7 @@ use lib.ListN.{length, take, drop}
 use Rattle.cursor.specs.Refusals.{noSuchRow, endsAtFolder, endsAtUri, tooManyHops}
 use Rattle.cursor.specs.declared.Node.{Node}
 use Rattle.tree.specs.Rows.{nodeAt}
-unfoldable pub use Rattle.tree.specs.Rows.{if_then_else_, rowStarting}
+unfoldable pub use Rattle.tree.specs.Rows.{rowStarting}
 use Rattle.tree.specs.Asking.{Asks, Result, good, bad}
 
 -- place and length of the resource, the row whose unpackers apply, the number of references followed
@@ -23,27 +23,27 @@ abbrev pub mostHops : ℕ
 mostHops = 4
 
 -- the resource that node r of row k names, after so many references
-unfoldable pub named : Node → (k hops : ℕ) → Result Resource
-named r k hops = good (record { place = r .target; size = r .extent; row = k; hops = hops })
+unfoldable pub resourceOf : Node → (k hops : ℕ) → Result Resource
+resourceOf r k hops = good (record { place = r .target; size = r .extent; row = k; hops = hops })
 
 -- The answer at node r of row k, after so many references: `two` is the answer if its reference 2 is followed, `three` if its reference 3 is.
 unfoldable pub reached : Node → (k hops : ℕ) → (two three : Result Resource) → Result Resource
 reached r k hops two three =
-    if not (eqb (r .contained) 0) then bad endsAtFolder 0
-    else if eqb (r .reference) 1 then named r k hops
-    else if eqb (r .reference) 2 then two
-    else if eqb (r .reference) 3 then three
-    else bad endsAtUri 0
+    cond (not (eqb (r .contained) 0)) (bad endsAtFolder 0)
+    (cond (eqb (r .reference) 1) (resourceOf r k hops)
+    (cond (eqb (r .reference) 2) two
+    (cond (eqb (r .reference) 3) three
+    (bad endsAtUri 0))))
 
 -- the answer from row k on, after so many references, where `left` more may be followed
 unfoldable pub chain : (left : ℕ) → List Node → (k hops : ℕ) → Result Resource
 chain zero ns k hops = reached (nodeAt ns k) k hops (bad tooManyHops 0) (bad tooManyHops 0)
 chain (suc left) ns k hops =
-    reached (nodeAt ns k) k hops (named (nodeAt ns k) k (hops + 1)) (chain left ns (rowStarting ns (nodeAt ns k .target)) (hops + 1))
+    reached (nodeAt ns k) k hops (resourceOf (nodeAt ns k) k (hops + 1)) (chain left ns (rowStarting ns (nodeAt ns k .target)) (hops + 1))
 
 -- the answer for a row
 unfoldable pub resolveRow : (row : ℕ) → List Node → Result Resource
-resolveRow row ns = if ltb row (length ns) then chain mostHops ns row 0 else bad noSuchRow 0
+resolveRow row ns = cond (ltb row (length ns)) (chain mostHops ns row 0) (bad noSuchRow 0)
 
 -- the question
 unfoldable pub resolve : (row : ℕ) → Asks Resource

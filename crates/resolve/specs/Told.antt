@@ -12,16 +12,16 @@ use Rattle.resolve.specs.declared.Resolved.{Resolved}
 use Rattle.resolve.specs.declared.Resolved.the-variants as resolved
 
 abbrev pub told : Resolved → Result Resource
-told (resolved.At place size row hops) = good (record { place = place; size = size; row = row; hops = hops })
+told (resolved.At place size row hops) = good (record { place = place .0; size = size; row = row; hops = hops })
 told (resolved.Refused n p) = bad n p
 
 abbrev pub answerOf : Result Resource → Resolved
-answerOf (good a) = resolved.At (a .place) (a .size) (a .row) (a .hops)
+answerOf (good a) = resolved.At (record { 0 = a .place }) (a .size) (a .row) (a .hops)
 answerOf (bad n p) = resolved.Refused n p
 
 -- the answer in words: refusal number (0: none) and place; then place, length, row, references followed
 abbrev pub words : Resolved → List ℕ
-words (resolved.At place size row hops) = 0 ∷ 0 ∷ place ∷ size ∷ row ∷ hops ∷ []
+words (resolved.At place size row hops) = 0 ∷ 0 ∷ place .0 ∷ size ∷ row ∷ hops ∷ []
 words (resolved.Refused n p) = n ∷ p ∷ []
 
 -- each reference 3 leads to a row

@@ -7,6 +7,7 @@ ghost use Rattle.tree.specs.Rows.{nodesIn, Rising};
 ghost use Rattle.tree.specs.Asking.{answered, nodesLeft, itemsLeft};
 ghost use Rattle.resolve.specs.Resolve.{chain, resolveRow, resolve, part};
 ghost use Rattle.resolve.specs.Told.{told, Linked};
+use cursor::FilePlace;
 use tree::Read;
 
 // The references that are followed at most.
@@ -14,7 +15,7 @@ pub const MOST_HOPS: u64 = 4;
 
 // Place, length, the row whose unpackers apply, the number of references followed; or a refusal's number and place.
 pub enum Resolved {
-    At(usize, usize, usize, u64),
+    At(FilePlace, usize, usize, u64),
     Refused(u64, usize),
 }
 
@@ -23,29 +24,27 @@ fn follow(nodes: &[u64], tree: usize, count: usize, left: u64, k: usize, hops: u
     requires { ⌜ (count * nodeWidth ≤ length (now nodes)) × (k < count) × (hops + left ≤ 4) × Linked (nodesIn count (now nodes)) × (tree ≤ count) × Rising (nodesIn tree (now nodes)) ⌝ }
     ensures { λ r. ⌜ told r ≡ chain left (nodesIn count (now (nodes .entry))) k hops ⌝ }
 {
-    let at = k * cursor::NODE_WIDTH;
-    if nodes[at + 3] != 0 {
+    let row = tree::node_at(nodes, k);
+    if row.contained != 0 {
         return Resolved::Refused(cursor::ENDS_AT_FOLDER, 0);
     }
-    let reference = nodes[at + 6];
-    let target = nodes[at + 7];
-    let extent = nodes[at + 8];
-    if reference == 1 {
-        return Resolved::At(target as usize, extent as usize, k, hops);
+    let place = FilePlace(row.target as usize);
+    if row.reference == 1 {
+        return Resolved::At(place, row.extent as usize, k, hops);
     }
-    if reference == 2 {
+    if row.reference == 2 {
         if left == 0 {
             return Resolved::Refused(cursor::TOO_MANY_HOPS, 0);
         }
-        return Resolved::At(target as usize, extent as usize, k, hops + 1);
+        return Resolved::At(place, row.extent as usize, k, hops + 1);
     }
-    if reference != 3 {
+    if row.reference != 3 {
         return Resolved::Refused(cursor::ENDS_AT_URI, 0);
     }
     if left == 0 {
         return Resolved::Refused(cursor::TOO_MANY_HOPS, 0);
     }
-    let next = tree::row_starting(nodes, tree, count, target);
+    let next = tree::row_starting(nodes, tree, count, row.target);
     follow(nodes, tree, count, left - 1, next, hops + 1)
 }
 
@@ -86,6 +85,9 @@ pub fn resource<'a>(file: &'a [u8], nodes: &mut [u64], items: &mut [u64], row: u
 {
     match resolve(file, nodes, items, row) {
         Resolved::Refused(_, _) => &file[0..0],
-        Resolved::At(place, size, _, _) => &file[place..place + size],
+        Resolved::At(place, size, _, _) => {
+            let at = place.0;
+            &file[at..at + size]
+        }
     }
 }

@@ -1,15 +1,15 @@
 -- The ways through the question: what each exit of the code comes to, answer, tables and buffer.
 -- Assumes nothing.
 use mathlib.Core.Path.{_≡_, refl, sym, ap, ap₂, _∙_, subst}
-use mathlib.Core.Bool.{Bool, true, false}
-use mathlib.Core.List.{List, [], _∷_, _++_}
-use Prim.Native.Nat.{ℕ, _+_, _-_, _*_, _^_, _≤_, _<_, min}
+use mathlib.Core.Bool.{Bool, true, false, cond}
+use mathlib.Core.List.{List, [], _++_}
+use Prim.Native.Nat.{ℕ, _+_, _-_, _^_, _≤_, _<_}
+use native.Mathlib.Decide.{decLt}
 use native.Mathlib.Omega.{arith}
-use lib.Dec.{leb, ltb}
+use lib.Dec.{leb}
 use lib.ListN.{length, take, drop, replicate}
 use lib.Seq.{sets, sets-eq, take-at}
 use borrow.Author.Tests.{le-leb, lt-leb, lt-ltb, le-ltb}
-use Rattle.cursor.specs.Vlq.{choose}
 use Rattle.cursor.specs.declared.Node.{Node}
 use Rattle.cursor.specs.declared.Item.{Item}
 use Rattle.cursor.specs.declared.FilePlace.{FilePlace}
@@ -18,16 +18,18 @@ use Rattle.metadata.specs.Tables.{limits}
 use Rattle.metadata.specs.declared.Limits.{Limits}
 use Rattle.room.specs.Room.{Result, good, bad, padded, counted, kept}
 use Rattle.tree.specs.Rows.{itemAt, nodesIn, itemsIn}
-use Rattle.tree.specs.Reading.{Reading, rows, readFile, readOf, nodeTable, itemTable}
+use Rattle.tree.specs.Reading.{rows, readFile, readOf, nodeTable, itemTable}
 use Rattle.tree.specs.Asking.{ask, keptNodes, keptItems}
 use Rattle.tree.specs.declared.Summary.{Summary}
 use Rattle.tree.specs.declared.Read.{Read}
 use Rattle.tree.specs.declared.Read.the-variants as read
 use Rattle.tree.proofs.Rows.{Standing, ask-refused, refused-nodes, refused-items, ask-is}
 use Rattle.title.specs.Title.{elsewhere, isNoTitle, titledFile, fitting, correctTitle}
-use Rattle.writer.specs.Counts.{Counts, tooMany}
+use Rattle.room.specs.Counts.{Counts}
+use Rattle.room.proofs.Counting.{counts-exact}
+use Rattle.retitle.specs.Passes.{tooLarge}
 use Rattle.retitle.specs.Stands.{Stands, refusalOf}
-use Rattle.retitle.specs.Told.{told, titledNodes, titledItems, Wrote}
+use Rattle.retitle.specs.Told.{told, titledNodes, titledItems, Fills, Wrote}
 use Rattle.retitle.specs.declared.Corrected.{Corrected}
 use Rattle.retitle.specs.declared.Corrected.the-variants as corrected
 
@@ -35,10 +37,10 @@ use Rattle.retitle.specs.declared.Corrected.the-variants as corrected
 
 -- the number, and the answer, by the three tests
 abbrev numberBy : (a b c : Bool) → ℕ
-numberBy a b c = choose a 18 (choose b 36 (choose c 37 0))
+numberBy a b c = cond a 18 (cond b 36 (cond c 37 0))
 
 abbrev answerBy : (a b c : Bool) → Result (List ℕ) → Result (List ℕ)
-answerBy a b c o = choose a (bad 18 0) (choose b (bad 36 0) (choose c (bad 37 0) o))
+answerBy a b c o = cond a (bad 18 0) (cond b (bad 36 0) (cond c (bad 37 0) o))
 
 by-some : (a b c : Bool) (o : Result (List ℕ)) → (numberBy a b c ≡ 0 → ⊥) → answerBy a b c o ≡ bad (numberBy a b c) 0
 by-some true b c o z = refl
@@ -67,17 +69,29 @@ module _ (row : ℕ) (title : List ℕ) (room : ℕ) (f : List ℕ) (h : Header)
 
     -- ---- the file's
 
-    module _ {lent out : List ℕ} {r : ℕ} (same : length lent ≡ room) (p : Counts lent out 0 (titledFile row title f h ns is) r) where
-      pub too-large : r ≡ tooMany → correctTitle row title room f h ns is ≡ bad 38 0
+    module _ {lent out : List ℕ} {r : ℕ} (same : length lent ≡ room) (p : Fills lent out (titledFile row title f h ns is) r) where
+      large : tooLarge ≤ r → tooLarge ≤ length g
+      large l = elim (decLt (length g) tooLarge) [
+        | yes m ↦ omega (arith, p .small m .after)
+        | no m ↦ omega arith
+      ]
+
+      pub too-large : tooLarge ≤ r → correctTitle row title room f h ns is ≡ bad 38 0
       unfolding fitting
-      too-large l = rows-allow ∙ rw (le-leb (2 ^ 28) (length g) (omega (arith, p .after))) refl
+      too-large l = rows-allow ∙ rw (le-leb (2 ^ 28) (length g) (large l)) refl
 
-      module _ (l : r ≡ tooMany → ⊥) where
+      module _ (l : r < tooLarge) where
+        small : length g < tooLarge
+        small = elim (decLt (length g) tooLarge) [
+          | yes m ↦ m
+          | no m ↦ omega (arith, p .large (omega arith))
+        ]
+
+        puts : Counts lent out 0 g r
+        puts = p .small small
+
         size-is : r ≡ length g
-        size-is = omega (arith, p .after)
-
-        small : length g < 2 ^ 28
-        small = omega (arith, p .after)
+        size-is = omega (arith, counts-exact puts (omega arith))
 
         pub no-room : room < r → correctTitle row title room f h ns is ≡ bad 22 0
         unfolding fitting
@@ -87,10 +101,10 @@ module _ (row : ℕ) (title : List ℕ) (room : ℕ) (f : List ℕ) (h : Header)
         unfolding fitting
         wrote m =
             let a : correctTitle row title room f h ns is ≡ good g = rows-allow ∙ rw (lt-leb (2 ^ 28) (length g) small, le-ltb room (length g) (omega (arith, size-is))) refl in
-            let b : out ≡ sets lent 0 g = p .fits (omega (arith, small, size-is)) (omega arith) in
+            let b : out ≡ sets lent 0 g = puts .fits (omega arith) (omega arith) in
             let c : 0 + length g ≡ length g = omega arith in
             let d : sets lent 0 g ≡ g ++ drop (0 + length g) lent = sets-eq g lent 0 (omega (arith, size-is)) in
-            record { is = (g, a, size-is, omega (arith, p .long), ap (take r) (b ∙ d) ∙ take-at g (drop (0 + length g) lent) r (sym size-is)) }
+            record { is = (g, a, size-is, omega (arith, puts .long), ap (take r) (b ∙ d) ∙ take-at g (drop (0 + length g) lent) r (sym size-is)) }
 
 pub rows-stay : (row : ℕ) (ns : List Node) (is : List Item) {n : ℕ} → n ≡ refusalOf row ns is → n ≡ 0 → elsewhere ns ≡ false
 unfolding refusalOf

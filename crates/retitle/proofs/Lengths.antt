@@ -1,9 +1,8 @@
 -- Lengths and places that count their own bytes, as the code finds them.
 -- Assumes nothing.
-use mathlib.Core.Path.{_≡_, refl, sym, _∙_}
-use Prim.Native.Nat.{ℕ, _+_, _-_, _≤_, _<_}
+use mathlib.Core.Path.{_≡_, refl, _∙_}
+use Prim.Native.Nat.{ℕ, _+_, _-_, _≤_}
 use native.Mathlib.Omega.{arith}
-use lib.Dec.{ltb}
 use Rattle.cursor.specs.Vlq.{from, least}
 use Rattle.cursor.proofs.Least.{least-in}
 use Rattle.title.specs.Text.{headerBytes, headerSize, lengthBytes, startWith, lastBytes, startBytes, startAt, fileBytes}

@@ -1,20 +1,23 @@
 -- The two passes, row by row.
 -- Assumes nothing.
 use mathlib.Core.Path.{_≡_, refl, sym, ap, ap₂, _∙_, subst}
-use mathlib.Core.List.{List, [], _∷_, _++_}
-use Prim.Native.Nat.{ℕ, zero, suc, _+_, _-_, _*_, _≤_, _<_, min}
+use mathlib.Core.List.{List, [], _∷_}
+use Prim.Native.Nat.{ℕ, zero, suc, _+_, _-_, _≤_, _<_, min}
 use native.Mathlib.Decide.{decLe, decLt}
 use native.Mathlib.Omega.{arith}
 use lib.ListN.{length, getD, take, drop, set, length-append, length-drop, length-set}
 use lib.Seq.{drop-cons, drop-length, drop-drop, take-all, getD-set-same, getD-set-other}
 use Rattle.cursor.specs.Vlq.{part, joined}
-use Rattle.title.specs.Description.{Content}
+use Rattle.cursor.specs.declared.Node.{Node}
+use Rattle.metadata.specs.Tables.{mostNodes}
+use Rattle.tree.specs.Rows.{ItemRows}
+use Rattle.title.specs.Description.{Content, shape}
 use Rattle.title.specs.Text.{itemsText, nodeText, wholeText}
 use Rattle.title.proofs.Nodes.{whole-length}
-use Rattle.writer.specs.Counts.{Counts, tooMany}
-use Rattle.writer.proofs.Counting.{Going, going-start, going-on, going-end, counts-as}
-use Rattle.contents.specs.Contents.{contentsFrom, ItemsInside}
-use Rattle.retitle.specs.Passes.{sumOf, Task, firstItem, nodeOf, shapeOf, contentsOf, outerFrom, innerOf, Sound, Measured, Framed}
+use Rattle.room.specs.Counts.{Counts, tooMany}
+use Rattle.room.proofs.Counting.{Going, going-start, going-on, going-end, counts-as}
+use Rattle.contents.specs.Contents.{contentsFrom}
+use Rattle.retitle.specs.Passes.{tooLarge, sumOf, Task, firstItem, nodeOf, shapeOf, contentsOf, outerFrom, innerOf, Sound, Measured, Framed}
 use Rattle.retitle.specs.declared.Frame.{Frame}
 use Rattle.retitle.proofs.Rows.{first-on, first-start, rows-fit, outer-end, outer-on, text-on, inner-within}
 use Rattle.retitle.proofs.Nodes.{texts-within}
@@ -24,13 +27,13 @@ use Rattle.retitle.proofs.Nodes.{texts-within}
 -- what was added, and what is left
 pub record Adding (ws : List ℕ) (from end r k : ℕ) : Type 0 where
   pub within : (from ≤ k) × (k ≤ end)
-  pub few : r ≤ tooMany
-  pub same : min (r + sumOf (part ws k (end - k))) tooMany ≡ min (sumOf (part ws from (end - from))) tooMany
+  pub few : r ≤ tooLarge
+  pub same : min (r + sumOf (part ws k (end - k))) tooLarge ≡ min (sumOf (part ws from (end - from))) tooLarge
 
 pub adding-start : (ws : List ℕ) (from end : ℕ) → from ≤ end → Adding ws from end 0 from
 adding-start ws from end l = record { within = (omega arith, l); few = omega arith; same = omega arith }
 
-pub adding-on : {ws : List ℕ} {from end r k : ℕ} → Adding ws from end r k → k < end → end ≤ length ws → {q : ℕ} → q ≡ min (r + getD ws k 0) tooMany → Adding ws from end q (k + 1)
+pub adding-on : {ws : List ℕ} {from end r k : ℕ} → Adding ws from end r k → k < end → end ≤ length ws → {q : ℕ} → q ≡ min (r + getD ws k 0) tooLarge → Adding ws from end q (k + 1)
 adding-on {ws} {from} {end} {r} {k} a l m {q} e =
     let w = a .within in
     let i : end - k ≡ suc (end - (k + 1)) = omega arith in
@@ -40,7 +43,7 @@ adding-on {ws} {from} {end} {r} {k} a l m {q} e =
     let u = a .same in
     record { within = (omega arith, omega arith); few = omega arith; same = omega arith }
 
-pub adding-end : {ws : List ℕ} {from end r k : ℕ} → Adding ws from end r k → end ≤ k → r ≡ min (sumOf (part ws from (end - from))) tooMany
+pub adding-end : {ws : List ℕ} {from end r k : ℕ} → Adding ws from end r k → end ≤ k → r ≡ min (sumOf (part ws from (end - from))) tooLarge
 adding-end {ws} {from} {end} {r} {k} a l =
     let z : end - k ≡ 0 = omega arith in
     let t : sumOf (part ws k (end - k)) ≡ 0 = rw z refl in
@@ -52,7 +55,7 @@ adding-end {ws} {from} {end} {r} {k} a l =
 
 abbrev pub stops : List (List ℕ) → List ℕ
 stops [] = []
-stops (s ∷ ss) = min (length s) tooMany ∷ stops ss
+stops (s ∷ ss) = min (length s) tooLarge ∷ stops ss
 
 stops-length : (ss : List (List ℕ)) → length (stops ss) ≡ length ss
 stops-length [] = refl
@@ -61,14 +64,14 @@ stops-length (s ∷ ss) = ap suc (stops-length ss)
 take-stops : (n : ℕ) (ss : List (List ℕ)) → take n (stops ss) ≡ stops (take n ss)
 take-stops zero ss = refl
 take-stops (suc n) [] = refl
-take-stops (suc n) (s ∷ ss) = ap (λ v. min (length s) tooMany ∷ v) (take-stops n ss)
+take-stops (suc n) (s ∷ ss) = ap (λ v. min (length s) tooLarge ∷ v) (take-stops n ss)
 
 drop-stops : (n : ℕ) (ss : List (List ℕ)) → drop n (stops ss) ≡ stops (drop n ss)
 drop-stops zero ss = refl
 drop-stops (suc n) [] = refl
 drop-stops (suc n) (s ∷ ss) = drop-stops n ss
 
-sum-stops : (ss : List (List ℕ)) → min (sumOf (stops ss)) tooMany ≡ min (length (joined ss)) tooMany
+sum-stops : (ss : List (List ℕ)) → min (sumOf (stops ss)) tooLarge ≡ min (length (joined ss)) tooLarge
 sum-stops [] = refl
 sum-stops (s ∷ ss) = let e = sum-stops ss in omega (arith, length-append s (joined ss))
 
@@ -83,15 +86,15 @@ drop-set (x ∷ l) (suc k) a h = let e : suc k + 1 ≡ suc (k + 1) = omega arith
 pub record Measuring (x : Task) (i end top : ℕ) (sizes metadata inner : List ℕ) : Type 0 where
   pub within : i ≤ x .count
   pub first : end ≡ firstItem (x .nodes) i
-  pub room : (top ≤ 256) × (256 ≤ top + (x .count - i))
-  pub long : (length sizes ≡ 256) × (length metadata ≡ 256) × (length inner ≡ 256)
+  pub room : (top ≤ mostNodes) × (mostNodes ≤ top + (x .count - i))
+  pub long : (length sizes ≡ mostNodes) × (length metadata ≡ mostNodes) × (length inner ≡ mostNodes)
   pub stack : drop top sizes ≡ stops (outerFrom x i)
   pub measured : Measured x i metadata inner
 
 gone : (l : List ℕ) {n : ℕ} → length l ≡ n → drop n l ≡ []
 gone l e = rw e at (drop-length l)
 
-pub measuring-start : {x : Task} → Sound x → {sizes metadata inner : List ℕ} → length sizes ≡ 256 → length metadata ≡ 256 → length inner ≡ 256 → Measuring x (x .count) (x .total) 256 sizes metadata inner
+pub measuring-start : {x : Task} → Sound x → {sizes metadata inner : List ℕ} → length sizes ≡ mostNodes → length metadata ≡ mostNodes → length inner ≡ mostNodes → Measuring x (x .count) (x .total) mostNodes sizes metadata inner
 measuring-start s {sizes} a b c = record {
   within = omega arith;
   first = sym (s .all-items);
@@ -118,14 +121,14 @@ module _ {x : Task} (s : Sound x) {i end top : ℕ} {sizes metadata inner : List
   pub here : j < x .count
   here = omega (arith, w .within)
 
-  pub first-is : end ≡ firstItem (x .nodes) j + nodeOf x j .rows
+  first-is : end ≡ firstItem (x .nodes) j + nodeOf x j .rows
   first-is = w .first ∙ ap (firstItem (x .nodes)) back ∙ first-on (x .nodes) j
 
   stack-is : drop top sizes ≡ stops below
   stack-is = w .stack ∙ ap (λ v. stops (outerFrom x v)) back
 
   -- the stack has the nodes that this one holds, and room for one more
-  pub stack-has : top + contained ≤ 256
+  stack-has : top + contained ≤ mostNodes
   stack-has =
       let l = w .long .0 in
       let r = w .room .0 in
@@ -134,39 +137,39 @@ module _ {x : Task} (s : Sound x) {i end top : ℕ} {sizes metadata inner : List
   pub stack-room : 1 ≤ top
   stack-room = let r = w .room .1 in omega (arith, here, s .few)
 
-  pub items-here : ItemsInside (length (x .file)) end (x .items)
+  pub items-here : ItemRows (length (x .file)) end (x .items)
   items-here =
       let e = rows-fit s j here in
       let f = first-is in
       (omega (arith, s .items-inside .0), λ k l. s .items-inside .1 k (omega arith))
 
   -- what is known of the row
-  module _ {m n : ℕ} {f : Frame} (em : m ≡ min (length (itemsText (contentsFrom (x .file) (x .row) (x .title) (x .items) (end - nodeOf x j .rows) (end - (end - nodeOf x j .rows))))) tooMany)
-      (en : n ≡ min (sumOf (part sizes top (top + contained - top))) tooMany) (ef : (cs : List Content) → m ≡ min (length (itemsText cs)) tooMany → Framed (shapeOf x j) cs n f) where
-    texts-are : m ≡ min (length (itemsText (contentsOf x j))) tooMany
+  module _ {m n : ℕ} {f : Frame} (em : m ≡ min (length (itemsText (contentsFrom (x .file) (x .row) (x .title) (x .items) (end - nodeOf x j .rows) (end - (end - nodeOf x j .rows))))) tooLarge)
+      (en : n ≡ min (sumOf (part sizes top (top + contained - top))) tooLarge) (ef : (cs : List Content) → m ≡ min (length (itemsText cs)) tooLarge → Framed (shapeOf x j) cs n f) where
+    texts-are : m ≡ min (length (itemsText (contentsOf x j))) tooLarge
     texts-are =
         let e = first-is in
         let a : end - nodeOf x j .rows ≡ firstItem (x .nodes) j = omega arith in
         let b : end - (end - nodeOf x j .rows) ≡ nodeOf x j .rows = omega arith in
-        em ∙ ap₂ (λ (k c : ℕ). min (length (itemsText (contentsFrom (x .file) (x .row) (x .title) (x .items) k c))) tooMany) a b
+        em ∙ ap₂ (λ (k c : ℕ). min (length (itemsText (contentsFrom (x .file) (x .row) (x .title) (x .items) k c))) tooLarge) a b
 
-    inner-is : n ≡ min (innerOf x j) tooMany
+    inner-is : n ≡ min (innerOf x j) tooLarge
     inner-is =
         let a : top + contained - top ≡ contained = omega arith in
         let b : part sizes top (top + contained - top) ≡ stops (take contained below) = rw a (ap (take contained) stack-is ∙ take-stops contained below) in
-        en ∙ ap (λ v. min (sumOf v) tooMany) b ∙ sum-stops (take contained below)
+        en ∙ ap (λ v. min (sumOf v) tooLarge) b ∙ sum-stops (take contained below)
 
-    size-is : f .size ≡ min (length (wholeText (shapeOf x j) (contentsOf x j) (joined (take contained below)))) tooMany
+    size-is : f .size ≡ min (length (wholeText (shapeOf x j) (contentsOf x j) (joined (take contained below)))) tooLarge
     size-is =
         let a = ef (contentsOf x j) texts-are .stops in
         let b = whole-length (shapeOf x j) (contentsOf x j) (joined (take contained below)) in
         let c = inner-is in
-        elim (decLt (innerOf x j) tooMany) [
-          | yes l ↦ let d : n ≡ innerOf x j = omega arith in rw d at a ∙ sym (ap (λ v. min v tooMany) b)
+        elim (decLt (innerOf x j) tooLarge) [
+          | yes l ↦ let d : n ≡ innerOf x j = omega arith in rw d at a ∙ sym (ap (λ v. min v tooLarge) b)
           | no l ↦ omega arith
         ]
 
-    pub measuring-on : Measuring x j (end - nodeOf x j .rows) (top + contained - 1) (set sizes (top + contained - 1) (f .size)) (set metadata j m) (set inner j n)
+    measuring-on : Measuring x j (end - nodeOf x j .rows) (top + contained - 1) (set sizes (top + contained - 1) (f .size)) (set metadata j m) (set inner j n)
     measuring-on =
         let e = first-is in
         let l = w .long in
@@ -195,6 +198,21 @@ module _ {x : Task} (s : Sound x) {i end top : ℕ} {sizes metadata inner : List
           };
         }
 
+  -- by the row that was read
+  module _ {r : Node} (er : r ≡ nodeOf x j) where
+    pub first-row : end ≡ firstItem (x .nodes) j + r .rows
+    first-row = rw er first-is
+
+    pub stack-row : top + r .contained ≤ mostNodes
+    stack-row = rw er stack-has
+
+    pub inside-row : r .target + r .extent ≤ length (x .file)
+    inside-row = rw er (s .bodies-inside j here)
+
+    pub measuring-row : {m n : ℕ} {f : Frame} → m ≡ min (length (itemsText (contentsFrom (x .file) (x .row) (x .title) (x .items) (end - r .rows) (end - (end - r .rows))))) tooLarge → n ≡ min (sumOf (part sizes top (top + r .contained - top))) tooLarge
+        → ((cs : List Content) → m ≡ min (length (itemsText cs)) tooLarge → Framed (shape (x .file) r) cs n f) → Measuring x j (end - r .rows) (top + r .contained - 1) (set sizes (top + r .contained - 1) (f .size)) (set metadata j m) (set inner j n)
+    measuring-row em en ef = rw er (measuring-on (rw er at em) (rw er at en) (rw er at ef))
+
 -- all rows are measured
 module _ {x : Task} {i end top : ℕ} {sizes metadata inner : List ℕ} (w : Measuring x i end top sizes metadata inner) (none : i ≤ 0) where
   at-first : i ≡ 0
@@ -203,11 +221,11 @@ module _ {x : Task} {i end top : ℕ} {sizes metadata inner : List ℕ} (w : Mea
   pub measured-all : Measured x 0 metadata inner
   measured-all = subst (λ k. Measured x k metadata inner) at-first (w .measured)
 
-  pub tree-size : {r : ℕ} → r ≡ min (sumOf (part sizes top (256 - top))) tooMany → r ≡ min (length (joined (outerFrom x 0))) tooMany
+  pub tree-size : {r : ℕ} → r ≡ min (sumOf (part sizes top (mostNodes - top))) tooLarge → r ≡ min (length (joined (outerFrom x 0))) tooLarge
   tree-size e =
       let l = w .long .0 in
-      let a : part sizes top (256 - top) ≡ stops (outerFrom x 0) = take-all (256 - top) (drop top sizes) (omega (arith, length-drop top sizes)) ∙ w .stack ∙ ap (λ k. stops (outerFrom x k)) at-first in
-      e ∙ ap (λ v. min (sumOf v) tooMany) a ∙ sum-stops (outerFrom x 0)
+      let a : part sizes top (mostNodes - top) ≡ stops (outerFrom x 0) = take-all (mostNodes - top) (drop top sizes) (omega (arith, length-drop top sizes)) ∙ w .stack ∙ ap (λ k. stops (outerFrom x k)) at-first in
+      e ∙ ap (λ v. min (sumOf v) tooLarge) a ∙ sum-stops (outerFrom x 0)
 
 -- ---- the second pass
 
@@ -218,9 +236,9 @@ pub record Putting (x : Task) (o o′ : List ℕ) (to next first i : ℕ) : Type
   pub going : Going o o′ to next (joined (outerFrom x 0)) (joined (outerFrom x i))
 
 pub putting-start : {x : Task} (o : List ℕ) {to : ℕ} → to ≤ tooMany → Putting x o o to to 0 0
-putting-start {x} o l = record { within = omega arith; first-is = sym (first-start (x .nodes)); going = going-start o l }
+putting-start {x} o l = record { within = omega arith; first-is = sym (first-start (x .nodes)); going = going-start o l refl }
 
-module _ {x : Task} (s : Sound x) {o o′ : List ℕ} {to next first i : ℕ} (w : Putting x o o′ to next first i) (l : i < x .count) {metadata inner : List ℕ} (measured : Measured x 0 metadata inner) (small : length (joined (outerFrom x 0)) < tooMany) where
+module _ {x : Task} (s : Sound x) {o o′ : List ℕ} {to next first i : ℕ} (w : Putting x o o′ to next first i) (l : i < x .count) {metadata inner : List ℕ} (measured : Measured x 0 metadata inner) (small : length (joined (outerFrom x 0)) < tooLarge) where
   -- the contents by the code's numbers
   abbrev contents : List Content
   contents = contentsFrom (x .file) (x .row) (x .title) (x .items) first (first + nodeOf x i .rows - first)
@@ -231,7 +249,7 @@ module _ {x : Task} (s : Sound x) {o o′ : List ℕ} {to next first i : ℕ} (w
       ap₂ (λ (k n : ℕ). contentsFrom (x .file) (x .row) (x .title) (x .items) k n) (w .first-is) e
 
   -- a node and all after it have fewer bytes than the whole
-  node-small : length (nodeText (shapeOf x i) (contentsOf x i) (innerOf x i)) + innerOf x i < tooMany
+  node-small : length (nodeText (shapeOf x i) (contentsOf x i) (innerOf x i)) + innerOf x i < tooLarge
   node-small =
       let g = w .going in
       let t : List ℕ = nodeText (shapeOf x i) (contentsOf x i) (innerOf x i) in
@@ -240,28 +258,43 @@ module _ {x : Task} (s : Sound x) {o o′ : List ℕ} {to next first i : ℕ} (w
   inner-are : getD inner i 0 ≡ innerOf x i
   inner-are = let e = measured .inners i (omega arith) l in let k = node-small in omega arith
 
-  pub items-room : ItemsInside (length (x .file)) (first + nodeOf x i .rows) (x .items)
-  items-room =
-      let e = rows-fit s i l in
-      let f = w .first-is in
-      (omega (arith, s .items-inside .0), λ k m. s .items-inside .1 k (omega arith))
-
-  pub texts-here : getD metadata i 0 ≡ length (itemsText contents)
+  texts-here : getD metadata i 0 ≡ length (itemsText contents)
   texts-here =
       let e = measured .texts i (omega arith) l in
       let k = node-small in
       let m = texts-within (shapeOf x i) (contentsOf x i) (innerOf x i) in
       rw contents-are (omega arith)
 
-  pub small-here : length (nodeText (shapeOf x i) contents (getD inner i 0)) + getD inner i 0 < tooMany
+  small-here : length (nodeText (shapeOf x i) contents (getD inner i 0)) + getD inner i 0 < tooLarge
   small-here = rw (contents-are, inner-are) node-small
 
-  pub putting-on : {o″ : List ℕ} {r : ℕ} → Counts o′ o″ next (nodeText (shapeOf x i) contents (getD inner i 0)) r → Putting x o o″ to r (first + nodeOf x i .rows) (i + 1)
+  putting-on : {o″ : List ℕ} {r : ℕ} → Counts o′ o″ next (nodeText (shapeOf x i) contents (getD inner i 0)) r → Putting x o o″ to r (first + nodeOf x i .rows) (i + 1)
   putting-on p = record {
     within = omega arith;
     first-is = ap (λ n. n + nodeOf x i .rows) (w .first-is) ∙ sym (first-on (x .nodes) i);
     going = going-on (text-on s i l) (w .going) (counts-as (ap₂ (nodeText (shapeOf x i)) contents-are inner-are) p);
   }
+
+-- by the row that was read
+module _ {x : Task} (s : Sound x) {o o′ : List ℕ} {to next first i : ℕ} (w : Putting x o o′ to next first i) (l : i < x .count) {r : Node} (er : r ≡ nodeOf x i) where
+  pub rows-room : first + r .rows ≤ x .total
+  rows-room = rw (er, w .first-is) (rows-fit s i l)
+
+  pub inside-here : r .target + r .extent ≤ length (x .file)
+  inside-here = rw er (s .bodies-inside i l)
+
+  pub items-room : ItemRows (length (x .file)) (first + r .rows) (x .items)
+  items-room = let e = rows-room in (omega (arith, s .items-inside .0), λ k m. s .items-inside .1 k (omega arith))
+
+  module _ {metadata inner : List ℕ} (measured : Measured x 0 metadata inner) (small : length (joined (outerFrom x 0)) < tooLarge) where
+    pub texts-row : getD metadata i 0 ≡ length (itemsText (contentsFrom (x .file) (x .row) (x .title) (x .items) first (first + r .rows - first)))
+    texts-row = rw er (texts-here s w l measured small)
+
+    pub small-row : length (nodeText (shape (x .file) r) (contentsFrom (x .file) (x .row) (x .title) (x .items) first (first + r .rows - first)) (getD inner i 0)) + getD inner i 0 < tooLarge
+    small-row = rw er (small-here s w l measured small)
+
+    pub putting-row : {o″ : List ℕ} {q : ℕ} → Counts o′ o″ next (nodeText (shape (x .file) r) (contentsFrom (x .file) (x .row) (x .title) (x .items) first (first + r .rows - first)) (getD inner i 0)) q → Putting x o o″ to q (first + r .rows) (i + 1)
+    putting-row p = rw er (putting-on s w l measured small (rw er at p))
 
 pub putting-end : {x : Task} (s : Sound x) {o o′ : List ℕ} {to next first i : ℕ} → Putting x o o′ to next first i → x .count ≤ i → Counts o o′ to (joined (outerFrom x 0)) next
 putting-end {x} s {i = i} w l =

@@ -1,12 +1,11 @@
 -- The rows of a file that was read are as the passes want them, and what they put is the file with that title.
 -- Assumes nothing.
-use mathlib.Core.Path.{_≡_, refl, sym, ap, ap₂, _∙_, subst}
+use mathlib.Core.Path.{_≡_, refl, ap, _∙_, subst}
 use mathlib.Core.Logic.{_⊎_, inl, inr}
-use mathlib.Core.Bool.{Bool, true, false}
+use mathlib.Core.Bool.{false}
 use mathlib.Core.List.{List, [], _∷_, _++_, append-assoc, append-nil, map}
-use Prim.Native.Nat.{ℕ, zero, suc, _+_, _-_, _*_, _^_, _≤_, _<_}
+use Prim.Native.Nat.{ℕ, zero, suc, _+_, _-_, _*_, _≤_, _<_}
 use native.Mathlib.Omega.{arith}
-use lib.Dec.{eqb}
 use lib.ListN.{length, drop, length-append, length-map}
 use lib.Seq.{drop-at}
 use borrow.Author.Tests.{eq-eqb, ne-eqb}
@@ -16,8 +15,8 @@ use Rattle.header.specs.Types.{Declared}
 use Rattle.metadata.specs.declared.Limits.{Limits}
 use Rattle.metadata.specs.declared.Made.{Made}
 use Rattle.metadata.specs.Tables.{itemWidth}
-use Rattle.tree.specs.Rows.{nodeFrom, nodesFrom, itemFrom, itemsFrom, nodesIn, itemsIn, nodeAt, itemAt}
-use Rattle.tree.proofs.Rows.{Accepted, accepted, node-at, item-at, nodes-in-length, items-in-length}
+use Rattle.tree.specs.Rows.{nodesFrom, itemFrom, itemsFrom, nodesIn, itemsIn, nodeAt, rowsFrom}
+use Rattle.tree.proofs.Rows.{accepted, node-at, item-at, nodes-in-length, items-in-length}
 use Rattle.title.specs.Description.{Content, content, Shape, shape, titled, titledAt}
 use Rattle.title.specs.Text.{outer}
 use Rattle.title.specs.Title.{elsewhere}
@@ -101,7 +100,7 @@ module _ (x : Task) where
   from-row w (suc i) l = let e : i + 1 ≡ suc i = omega arith in subst From e (from-next i (omega arith) (from-row w i (omega arith)))
 
   from-end : From (x .count) → firstItem (x .nodes) (x .count) ≡ x .total
-  unfolding nodesFrom
+  unfolding rowsFrom
   from-end w =
       let e : x .count - x .count ≡ 0 = omega arith in
       let a : Follows (shapes (x .count)) (contents (firstItem (x .nodes) (x .count))) = w .follow in
@@ -112,12 +111,12 @@ module _ (x : Task) where
 
 module _ (f : List ℕ) (row : ℕ) (title us : List ℕ) where
   other-contents : (k n : ℕ) → row < k → contentsFrom f row title us k n ≡ map (content f) (itemsFrom k n us)
-  unfolding contentsFrom contentAt itemsFrom
+  unfolding contentsFrom contentAt rowsFrom
   other-contents k zero l = refl
   other-contents k (suc n) l = rw (ne-eqb k row (λ e. omega arith)) (ap (λ v. content f (itemFrom us (k * itemWidth)) ∷ v) (other-contents (k + 1) n (omega arith)))
 
   titled-contents : (k n i : ℕ) → row ≡ k + i → contentsFrom f row title us k n ≡ titledAt i title (map (content f) (itemsFrom k n us))
-  unfolding contentsFrom contentAt itemsFrom titledAt
+  unfolding contentsFrom contentAt rowsFrom titledAt
   titled-contents k zero i e = refl
   titled-contents k (suc n) zero e = rw (eq-eqb k row (omega arith)) (ap (λ v. titled title (content f (itemFrom us (k * itemWidth))) ∷ v) (other-contents (k + 1) n (omega arith)))
   titled-contents k (suc n) (suc i) e = rw (ne-eqb k row (λ z. omega arith)) (ap (λ v. content f (itemFrom us (k * itemWidth)) ∷ v) (titled-contents (k + 1) n i (omega arith)))

@@ -1,17 +1,17 @@
 -- What the rows refuse, as the code finds it.
 -- Assumes nothing.
 use mathlib.Core.Path.{_≡_, refl, sym, ap, _∙_}
-use mathlib.Core.Bool.{Bool, true, false, not, _||_}
-use mathlib.Core.List.{List, [], _∷_}
-use Prim.Native.Nat.{ℕ, zero, suc, _+_, _-_, _*_, _%_, _≤_, _<_}
+use mathlib.Core.Bool.{Bool, true, false, cond, not, _||_}
+use mathlib.Core.List.{List, []}
+use Prim.Native.Nat.{ℕ, _+_, _-_, _*_, _%_, _≤_, _<_}
 use native.Mathlib.Omega.{arith}
 use lib.Dec.{eqb}
 use lib.ListN.{length}
 use borrow.Author.Tests.{eq-eqb, ne-eqb, le-leb, lt-leb}
-use Rattle.cursor.specs.Vlq.{choose}
+use Rattle.cursor.specs.declared.Node.{Node}
 use Rattle.cursor.specs.declared.Item.{Item}
 use Rattle.metadata.specs.Tables.{nodeWidth, itemWidth}
-use Rattle.tree.specs.Rows.{nodeFrom, nodesFrom, nodesIn, itemFrom, itemsIn}
+use Rattle.tree.specs.Rows.{nodeFrom, nodesFrom, nodesIn, itemFrom, itemsIn, rowsFrom}
 use Rattle.tree.specs.Hidden.{isHidden}
 use Rattle.tree.proofs.Rows.{item-at, items-in-length}
 use Rattle.title.specs.Title.{elsewhere, isNoTitle}
@@ -30,23 +30,23 @@ unfolding nodesIn
 looking-start ws count = record { within = omega arith; same = ap (λ n. elsewhere (nodesFrom 0 n ws)) (let e : count ≡ count - 0 = omega arith in e) }
 
 module _ {ws : List ℕ} {count i : ℕ} (w : Looking ws count i) where
-  module _ (l : i < count) where
-    turn : elsewhere (nodesIn count ws) ≡ (eqb (nodeFrom ws (i * nodeWidth) .reference) 2 || eqb (nodeFrom ws (i * nodeWidth) .reference) 3 || elsewhere (nodesFrom (i + 1) (count - (i + 1)) ws))
+  module _ (l : i < count) {r : Node} (er : r ≡ nodeFrom ws (i * nodeWidth)) where
+    turn : elsewhere (nodesIn count ws) ≡ (eqb (r .reference) 2 || eqb (r .reference) 3 || elsewhere (nodesFrom (i + 1) (count - (i + 1)) ws))
     unfolding elsewhere
-    turn = w .same ∙ ap elsewhere (nodes-on ws count i l)
+    turn = rw er (w .same ∙ ap elsewhere (nodes-on ws count i l))
 
-    pub looking-two : nodeFrom ws (i * nodeWidth) .reference ≡ 2 → true ≡ elsewhere (nodesIn count ws)
+    pub looking-two : r .reference ≡ 2 → true ≡ elsewhere (nodesIn count ws)
     looking-two e = sym (turn ∙ rw (eq-eqb _ 2 e) refl)
 
-    module _ (a : nodeFrom ws (i * nodeWidth) .reference ≡ 2 → ⊥) where
-      pub looking-three : nodeFrom ws (i * nodeWidth) .reference ≡ 3 → true ≡ elsewhere (nodesIn count ws)
+    module _ (a : r .reference ≡ 2 → ⊥) where
+      pub looking-three : r .reference ≡ 3 → true ≡ elsewhere (nodesIn count ws)
       looking-three e = sym (turn ∙ rw (ne-eqb _ 2 a, eq-eqb _ 3 e) refl)
 
-      pub looking-on : (nodeFrom ws (i * nodeWidth) .reference ≡ 3 → ⊥) → Looking ws count (i + 1)
+      pub looking-on : (r .reference ≡ 3 → ⊥) → Looking ws count (i + 1)
       looking-on b = record { within = omega arith; same = turn ∙ rw (ne-eqb _ 2 a, ne-eqb _ 3 b) refl }
 
   pub looking-end : count ≤ i → false ≡ elsewhere (nodesIn count ws)
-  unfolding elsewhere nodesFrom
+  unfolding elsewhere rowsFrom
   looking-end l = let e : count - i ≡ 0 = omega arith in sym (w .same ∙ rw e refl)
 
 -- ---- the four ways out
@@ -60,7 +60,7 @@ module _ (ts us : List ℕ) (count total row : ℕ) where
   refuses-row l = rw (rows-there, le-leb total row l) refl
 
   module _ (l : row < total) where
-    by-tests : refusalOf row (nodesIn count ts) (itemsIn total us) ≡ choose (elsewhere (nodesIn count ts)) 36 (choose (isNoTitle (itemFrom us (row * itemWidth))) 37 0)
+    by-tests : refusalOf row (nodesIn count ts) (itemsIn total us) ≡ cond (elsewhere (nodesIn count ts)) 36 (cond (isNoTitle (itemFrom us (row * itemWidth))) 37 0)
     unfolding refusalOf
     by-tests = rw (rows-there, lt-leb total row l, item-at us total row l) refl
 
@@ -76,11 +76,11 @@ module _ (ts us : List ℕ) (count total row : ℕ) where
 
 -- ---- a content that is no title
 
-module _ (r : Item) where
-  pub hidden : r .format % 2 ≡ 1 → true ≡ isNoTitle r
+module _ {q r : Item} (e : r ≡ q) where
+  pub hidden : r .format % 2 ≡ 1 → true ≡ isNoTitle q
   unfolding isNoTitle isHidden
-  hidden e = rw (eq-eqb (r .format % 2) 1 e) refl
+  hidden h = rw (← e, eq-eqb (r .format % 2) 1 h) refl
 
-  pub unhidden : (r .format % 2 ≡ 1 → ⊥) → not (eqb (r .version) 0) ≡ isNoTitle r
+  pub unhidden : (r .format % 2 ≡ 1 → ⊥) → not (eqb (r .version) 0) ≡ isNoTitle q
   unfolding isNoTitle isHidden
-  unhidden e = rw (ne-eqb (r .format % 2) 1 e) refl
+  unhidden h = rw (← e, ne-eqb (r .format % 2) 1 h) refl

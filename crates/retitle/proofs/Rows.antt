@@ -1,14 +1,13 @@
 -- Nodes and contents by their rows: the bytes of the nodes from a row on, by those from the next row on.
 -- Assumes nothing.
 use mathlib.Core.Path.{_≡_, refl, sym, ap, _∙_}
-use mathlib.Core.List.{List, [], _∷_, _++_, append-assoc, map}
+use mathlib.Core.List.{List, [], _∷_, _++_, append-assoc}
 use Prim.Native.Nat.{ℕ, zero, suc, _+_, _-_, _*_, _≤_, _<_}
 use native.Mathlib.Omega.{arith}
 use lib.ListN.{length, take, drop, length-append, take-append-drop}
 use Rattle.cursor.specs.Vlq.{joined}
-use Rattle.cursor.specs.declared.Node.{Node}
 use Rattle.metadata.specs.Tables.{nodeWidth}
-use Rattle.tree.specs.Rows.{nodeFrom, nodesFrom}
+use Rattle.tree.specs.Rows.{nodeFrom, nodesFrom, rowsFrom}
 use Rattle.title.specs.Description.{Content, Shape, shape}
 use Rattle.title.specs.Text.{nodeText, wholeText, outer}
 use Rattle.contents.specs.Contents.{contentAt, contentsFrom}
@@ -28,7 +27,7 @@ module _ (f : List ℕ) (row : ℕ) (title us : List ℕ) where
   contents-drop k (suc n) (suc m) l = let a : k + 1 + n ≡ k + suc n = omega arith in let b : m - n ≡ suc m - suc n = omega arith in contents-drop (k + 1) n m (omega arith) ∙ rw (a, b) refl
 
 pub nodes-on : (ws : List ℕ) (count i : ℕ) → i < count → nodesFrom i (count - i) ws ≡ nodeFrom ws (i * nodeWidth) ∷ nodesFrom (i + 1) (count - (i + 1)) ws
-unfolding nodesFrom
+unfolding rowsFrom
 nodes-on ws count i l = let e : count - i ≡ suc (count - (i + 1)) = omega arith in rw e refl
 
 -- ---- the first item row of a node row
@@ -68,7 +67,7 @@ module _ {x : Task} (s : Sound x) where
       omega (arith, first-on (x .nodes) i, rw e at (first-rises (x .nodes) (i + 1) (x .count - (i + 1))), s .all-items)
 
   pub outer-end : outerFrom x (x .count) ≡ []
-  unfolding outerFrom outer nodesFrom
+  unfolding outerFrom outer rowsFrom
   outer-end = let e : x .count - x .count ≡ 0 = omega arith in rw e refl
 
   module _ (i : ℕ) (l : i < x .count) where

@@ -1,25 +1,29 @@
 -- What the code works on: a file, its tables, and the title; nodes and contents by their rows, and the bytes of the nodes from a row on.
 -- Assumes nothing.
 use mathlib.Core.Path.{_≡_}
+use mathlib.Core.Bool.{cond}
 use mathlib.Core.List.{List, [], _∷_, map}
 use Prim.Native.Nat.{ℕ, zero, suc, _+_, _-_, _*_, _^_, _≤_, _<_, min}
 use lib.Dec.{eqb}
 use lib.ListN.{length, getD, take}
-use Rattle.cursor.specs.Vlq.{choose, joined, sized}
+use Rattle.cursor.specs.Vlq.{joined, sized}
 use Rattle.cursor.specs.declared.Node.{Node}
-use Rattle.metadata.specs.Tables.{nodeWidth}
-use Rattle.tree.specs.Rows.{nodeFrom, nodesFrom}
+use Rattle.metadata.specs.Tables.{nodeWidth, mostNodes}
+use Rattle.tree.specs.Rows.{nodeFrom, nodesFrom, ItemRows}
 use Rattle.title.specs.Description.{Content, Shape, shape}
 use Rattle.title.specs.Text.{itemsText, headerOf, ownText, nodeText, outer}
-use Rattle.writer.specs.Counts.{tooMany}
-use Rattle.contents.specs.Contents.{contentsFrom, ItemsInside}
+use Rattle.contents.specs.Contents.{contentsFrom}
 use Rattle.retitle.specs.declared.Frame.{Frame}
+
+-- no file has so many bytes: a size that is measured stops there
+abbrev pub tooLarge : ℕ
+tooLarge = 2 ^ 28
 
 -- ---- a node
 
 -- the bytes of a URI or of inline data; a folder has none of its own
 abbrev pub bodySize : Node → ℕ
-bodySize r = choose (eqb (r .contained) 0) (r .extent) 0
+bodySize r = cond (eqb (r .contained) 0) (r .extent) 0
 
 -- what a node's header has behind its three numbers
 abbrev pub restText : Shape → List Content → List ℕ
@@ -27,9 +31,9 @@ restText s cs = joined (sized (itemsText cs) ∷ sized (s .unpackers) ∷ [])
 
 -- NodeLength and NodeHeaderLength of a node with these contents, whose nodes have n bytes; where NodeLength is too large it stops, and nothing is said of the other
 pub record Framed (s : Shape) (cs : List Content) (n : ℕ) (r : Frame) : Type 0 where
-  pub stops : r .size ≡ min (length (nodeText s cs n) + n) tooMany
-  pub size : r .size < tooMany → r .size ≡ headerOf (s .contained) (restText s cs) (length (ownText s) + n) + (length (ownText s) + n)
-  pub header : r .size < tooMany → r .header ≡ headerOf (s .contained) (restText s cs) (length (ownText s) + n)
+  pub stops : r .size ≡ min (length (nodeText s cs n) + n) tooLarge
+  pub size : r .size < tooLarge → r .size ≡ headerOf (s .contained) (restText s cs) (length (ownText s) + n) + (length (ownText s) + n)
+  pub header : r .size < tooLarge → r .header ≡ headerOf (s .contained) (restText s cs) (length (ownText s) + n)
 
 abbrev pub sumOf : List ℕ → ℕ
 sumOf [] = 0
@@ -79,14 +83,14 @@ module _ (x : Task) where
 -- what is known of the rows: they and what they name lie in the tables and in the file, item rows belong to node rows, and a node's nodes follow it
 pub record Sound (x : Task) : Type 0 where
   pub small : length (x .file) < 2 ^ 28
-  pub few : x .count ≤ 256
+  pub few : x .count ≤ mostNodes
   pub node-room : x .count * nodeWidth ≤ length (x .nodes)
-  pub items-inside : ItemsInside (length (x .file)) (x .total) (x .items)
+  pub items-inside : ItemRows (length (x .file)) (x .total) (x .items)
   pub bodies-inside : (i : ℕ) → i < x .count → nodeOf x i .target + nodeOf x i .extent ≤ length (x .file)
   pub all-items : firstItem (x .nodes) (x .count) ≡ x .total
   pub nodes-follow : (i : ℕ) → i < x .count → nodeOf x i .contained ≤ length (outerFrom x (i + 1))
 
 -- the first pass was at the rows from row i on: the bytes of a node's contents, and of the nodes that it holds, each stopped
 pub record Measured (x : Task) (i : ℕ) (metadata inner : List ℕ) : Type 0 where
-  pub texts : (j : ℕ) → i ≤ j → j < x .count → getD metadata j 0 ≡ min (length (itemsText (contentsOf x j))) tooMany
-  pub inners : (j : ℕ) → i ≤ j → j < x .count → getD inner j 0 ≡ min (innerOf x j) tooMany
+  pub texts : (j : ℕ) → i ≤ j → j < x .count → getD metadata j 0 ≡ min (length (itemsText (contentsOf x j))) tooLarge
+  pub inners : (j : ℕ) → i ≤ j → j < x .count → getD inner j 0 ≡ min (innerOf x j) tooLarge

@@ -1,12 +1,12 @@
 -- A file that was read, and its rows in the tables; what the rows refuse.
 -- Assumes nothing.
 use mathlib.Core.Path.{_≡_}
+use mathlib.Core.Bool.{cond}
 use mathlib.Core.List.{List}
 use Prim.Native.Nat.{ℕ, _*_, _≤_}
 use lib.Dec.{leb}
 use lib.ListN.{length}
 use Rattle.cursor.specs.Refusals.{noSuchRow, refersElsewhere, notATitle}
-use Rattle.cursor.specs.Vlq.{choose}
 use Rattle.cursor.specs.declared.Node.{Node}
 use Rattle.cursor.specs.declared.Item.{Item}
 use Rattle.header.specs.Header.{Header}
@@ -26,4 +26,4 @@ pub record Stands (f nodes items : List ℕ) (count total : ℕ) : Type 0 where
 
 -- the first refusal that the rows give; 0 for none
 unfoldable pub refusalOf : (row : ℕ) → List Node → List Item → ℕ
-refusalOf row ns is = choose (leb (length is) row) noSuchRow (choose (elsewhere ns) refersElsewhere (choose (isNoTitle (itemAt is row)) notATitle 0))
+refusalOf row ns is = cond (leb (length is) row) noSuchRow (cond (elsewhere ns) refersElsewhere (cond (isNoTitle (itemAt is row)) notATitle 0))

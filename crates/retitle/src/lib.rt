@@ -1,27 +1,28 @@
 // Correct a title: writes a file anew with the data of one content replaced. Two passes over the rows: sizes from the last row to the first, and bytes
 // from the first row to the last.
 ghost use mathlib.Core.Path.{_≡_};
-ghost use mathlib.Core.Bool.{Bool, true, false};
+ghost use mathlib.Core.Bool.{true, false};
 ghost use mathlib.Core.List.{List};
-ghost use Prim.Native.Nat.{ℕ, _≤_, _<_, _^_, _*_, _+_, _-_, min};
+ghost use Prim.Native.Nat.{_≤_, _<_, _^_, _*_, _+_, _-_, min};
 ghost use lib.ListN.{length, take, drop};
 ghost use Rattle.cursor.specs.Machine.{run};
 ghost use Rattle.cursor.specs.Vlq.{part, least, joined, sized};
 ghost use Rattle.header.specs.Header.{Header};
-ghost use Rattle.metadata.specs.Tables.{nodeWidth, itemWidth, limits};
+ghost use Rattle.metadata.specs.Tables.{nodeWidth, itemWidth, mostNodes, limits};
 ghost use Rattle.metadata.specs.declared.Limits.{Limits};
 ghost use Rattle.room.specs.Room.{counted, kept};
-ghost use Rattle.tree.specs.Rows.{nodeFrom, itemFrom, nodesIn, itemsIn};
+ghost use Rattle.room.specs.Counts.{Counts};
+ghost use Rattle.tree.specs.Rows.{itemFrom, nodesIn, itemsIn, ItemRows};
 ghost use Rattle.tree.specs.Reading.{rows, readFile};
 ghost use Rattle.tree.specs.Asking.{ask};
 ghost use Rattle.title.specs.Description.{Content, answer, tableText, openingSize, shape};
-ghost use Rattle.title.specs.Text.{itemsText, ownText, nodeText, headerSize, lengthBytes, startWith, lastBytes, startAt, fileBytes, fileOf};
+ghost use Rattle.title.specs.Text.{itemsText, referenceText, ownText, nodeText, headerSize, lengthBytes, startWith, lastBytes, startAt, fileBytes, fileOf};
 ghost use Rattle.title.specs.Title.{elsewhere, isNoTitle, titledFile, correctTitle};
-ghost use Rattle.writer.specs.Counts.{Counts, tooMany};
-ghost use Rattle.contents.specs.Contents.{contentsFrom, ItemsInside};
-ghost use Rattle.retitle.specs.Passes.{bodySize, Framed, sumOf, task, Sound, Measured, outerFrom};
+ghost use Rattle.contents.specs.Contents.{contentsFrom};
+ghost use Rattle.retitle.specs.Passes.{tooLarge, bodySize, Framed, sumOf, task, Sound, Measured, outerFrom};
 ghost use Rattle.retitle.specs.Stands.{Stands, refusalOf};
-ghost use Rattle.retitle.specs.Told.{told, titledNodes, titledItems, Wrote};
+ghost use Rattle.retitle.specs.Told.{told, titledNodes, titledItems, Fills, Wrote};
+use cursor::Node;
 use header::Headed;
 use tree::Read;
 
@@ -37,12 +38,22 @@ pub enum Corrected {
     Refused(u64, usize),
 }
 
+// No file has so many bytes: a size that is measured stops here.
+const TOO_LARGE: usize = 268435456;
+
+// A size, stopped.
+fn stopped(size: usize) -> usize
+    ensures { λ r. ⌜ r ≡ min size tooLarge ⌝ }
+{
+    if TOO_LARGE < size { TOO_LARGE } else { size }
+}
+
 // The bytes of a number that counts them and m bytes more.
 fn self_bytes(m: usize) -> usize
     requires { ⌜ m ≤ 2 ^ 40 ⌝ }
     ensures { λ r. ⌜ r ≡ least (λ k. k + m) ⌝ }
 {
-    writer::least_bytes(1 + m, 2 + m, 3 + m)
+    room::least_bytes(1 + m, 2 + m, 3 + m)
 }
 
 // NodeHeaderLength, where NodeLength has a bytes, and `fixed` bytes of the header are in neither.
@@ -61,7 +72,7 @@ fn length_bytes(fixed: usize, contents: usize) -> usize
     let one = header_size(fixed, 1) + contents;
     let two = header_size(fixed, 2) + contents;
     let three = header_size(fixed, 3) + contents;
-    writer::least_bytes(one, two, three)
+    room::least_bytes(one, two, three)
 }
 
 // The bytes of TreeEnd, where FileLength has x bytes and TreeStart y, and `fixed` bytes before the tree are in none of the three.
@@ -88,7 +99,7 @@ fn start_at(fixed: usize, tree: usize, x: usize) -> usize
     let one = start_with(fixed, tree, x, 1);
     let two = start_with(fixed, tree, x, 2);
     let three = start_with(fixed, tree, x, 3);
-    start_with(fixed, tree, x, writer::least_bytes(one, two, three))
+    start_with(fixed, tree, x, room::least_bytes(one, two, three))
 }
 
 // TreeStart, where `after` bytes follow the tree.
@@ -99,60 +110,69 @@ fn tree_start(fixed: usize, tree: usize, after: usize) -> usize
     let one = start_at(fixed, tree, 1) + tree + after;
     let two = start_at(fixed, tree, 2) + tree + after;
     let three = start_at(fixed, tree, 3) + tree + after;
-    start_at(fixed, tree, writer::least_bytes(one, two, three))
+    start_at(fixed, tree, room::least_bytes(one, two, three))
 }
 
-// The bytes of the URI or inline data of node row i; a folder has none.
-fn body_size(nodes: &[u64], i: usize) -> u64
-    requires { ⌜ i * nodeWidth + nodeWidth ≤ length (now nodes) ⌝ }
-    ensures { λ r. ⌜ r ≡ bodySize (nodeFrom (now (nodes .entry)) (i * nodeWidth)) ⌝ }
+// The bytes of the URI or inline data of a node row; a folder has none of its own.
+fn body_size(row: Node) -> u64
+    ensures { λ r. ⌜ r ≡ bodySize row ⌝ }
 {
-    let k = i * cursor::NODE_WIDTH;
-    if nodes[k + 3] == 0 { nodes[k + 8] } else { 0 }
+    if row.contained == 0 { row.extent } else { 0 }
 }
 
-// Puts what follows the header of node row i, but for the nodes that it holds: ReferenceTypeID; a URI with its length, or inline data.
-fn put_own(out: &mut [u8], to: usize, file: &[u8], nodes: &[u64], i: usize) -> usize
-    requires { ⌜ (i * nodeWidth + nodeWidth ≤ length (now nodes)) × (nodeFrom (now nodes) (i * nodeWidth) .target + nodeFrom (now nodes) (i * nodeWidth) .extent ≤ length (now file)) × (to ≤ tooMany) ⌝ }
-    ensures { λ r. ⌜ Counts (now (out .entry)) (now (out .exit)) to (ownText (shape (now (file .entry)) (nodeFrom (now (nodes .entry)) (i * nodeWidth)))) r ⌝ }
+// Puts ReferenceTypeID, and what it leads to: a URI with its length, or inline data.
+fn put_reference(
+    out: &mut [u8],
+    to: usize,
+    file: &[u8],
+    reference: u64,
+    place: usize,
+    size: usize,
+) -> usize
+    requires { ⌜ place + size ≤ length (now file) ⌝ }
+    ensures { λ r. ⌜ Counts (now (out .entry)) (now (out .exit)) to (referenceText reference (part (now (file .entry)) place size)) r ⌝ }
 {
-    let k = i * cursor::NODE_WIDTH;
-    let size = body_size(nodes, i);
-    let a = writer::put_number(out, to, nodes[k + 6]);
-    if nodes[k + 6] == 4 {
-        let b = writer::put_number(out, a, size);
-        return writer::put_part(out, b, file, nodes[k + 7] as usize, size as usize);
+    let a = room::put_number(out, to, reference);
+    if reference == 4 {
+        let b = room::put_number(out, a, size as u64);
+        return room::put_part(out, b, file, place, size);
     }
-    writer::put_part(out, a, file, nodes[k + 7] as usize, size as usize)
+    room::put_part(out, a, file, place, size)
 }
 
-// NodeHeaderLength and NodeLength of node row i, whose item rows have `metadata` bytes, and whose nodes have `inner`.
-fn frame_of(file: &[u8], nodes: &[u64], i: usize, metadata: usize, inner: usize) -> Frame
-    requires { ⌜ (i * nodeWidth + nodeWidth ≤ length (now nodes)) × (nodeFrom (now nodes) (i * nodeWidth) .target + nodeFrom (now nodes) (i * nodeWidth) .extent ≤ length (now file)) × (length (now file) < 2 ^ 28) × (metadata ≤ tooMany) × (inner ≤ tooMany) ⌝ }
-    ensures { λ r. ⌜ ((cs : List Content) → metadata ≡ min (length (itemsText cs)) tooMany → Framed (shape (now (file .entry)) (nodeFrom (now (nodes .entry)) (i * nodeWidth))) cs inner r) ⌝ }
+// NodeHeaderLength and NodeLength of a node row, whose item rows have `metadata` bytes, and whose nodes have `inner`.
+fn frame_of(file: &[u8], row: Node, metadata: usize, inner: usize) -> Frame
+    requires { ⌜ (row .target + row .extent ≤ length (now file)) × (length (now file) < 2 ^ 28) × (metadata ≤ tooLarge) × (inner ≤ tooLarge) ⌝ }
+    ensures { λ r. ⌜ ((cs : List Content) → metadata ≡ min (length (itemsText cs)) tooLarge → Framed (shape (now (file .entry)) row) cs inner r) ⌝ }
 {
-    let contained = nodes[i * cursor::NODE_WIDTH + 3];
     let mut scratch = [0u8; 1];
-    let unpackers = copies::put_unpackers(&mut scratch, 0, file, nodes, i);
-    let own = put_own(&mut scratch, 0, file, nodes, i);
-    let fixed = writer::vlq_size(contained)
-        + writer::vlq_size(metadata as u64)
+    let unpackers = stopped(copies::put_unpackers(&mut scratch, 0, file, row));
+    let body = body_size(row) as usize;
+    let own = stopped(put_reference(
+        &mut scratch,
+        0,
+        file,
+        row.reference,
+        row.target as usize,
+        body,
+    ));
+    let fixed = room::vlq_size(row.contained)
+        + room::vlq_size(metadata as u64)
         + metadata
         + unpackers;
     let contents = own + inner;
     let header = header_size(fixed, length_bytes(fixed, contents));
-    let size = writer::on(0, header + contents);
+    let size = stopped(header + contents);
     Frame { header, size }
 }
 
-// Puts node row i, but for the nodes that it holds, which have `inner` bytes; its item rows are those from row `first` on, up to row `end`, and have `metadata` bytes.
+// Puts a node row, but for the nodes that it holds, which have `inner` bytes; its item rows are those from row `first` on, up to row `end`, and have `metadata` bytes.
 fn put_node(
     out: &mut [u8],
     to: usize,
     file: &[u8],
-    nodes: &[u64],
+    node: Node,
     items: &[u64],
-    i: usize,
     first: usize,
     end: usize,
     row: usize,
@@ -160,18 +180,19 @@ fn put_node(
     metadata: usize,
     inner: usize,
 ) -> usize
-    requires rows { ⌜ (i * nodeWidth + nodeWidth ≤ length (now nodes)) × (nodeFrom (now nodes) (i * nodeWidth) .target + nodeFrom (now nodes) (i * nodeWidth) .extent ≤ length (now file)) × (length (now file) < 2 ^ 28) × (first ≤ end) × ItemsInside (length (now file)) end (now items) × (to ≤ tooMany) ⌝ }
-    requires sizes { ⌜ (metadata ≡ length (itemsText (contentsFrom (now file) row (now title) (now items) first (end - first)))) × (length (nodeText (shape (now file) (nodeFrom (now nodes) (i * nodeWidth))) (contentsFrom (now file) row (now title) (now items) first (end - first)) inner) + inner < tooMany) ⌝ }
-    ensures { λ r. ⌜ Counts (now (out .entry)) (now (out .exit)) to (nodeText (shape (now (file .entry)) (nodeFrom (now (nodes .entry)) (i * nodeWidth))) (contentsFrom (now (file .entry)) row (now (title .entry)) (now (items .entry)) first (end - first)) inner) r ⌝ }
+    requires rows { ⌜ (node .target + node .extent ≤ length (now file)) × (length (now file) < 2 ^ 28) × (first ≤ end) × ItemRows (length (now file)) end (now items) ⌝ }
+    requires sizes { ⌜ (metadata ≡ length (itemsText (contentsFrom (now file) row (now title) (now items) first (end - first)))) × (length (nodeText (shape (now file) node) (contentsFrom (now file) row (now title) (now items) first (end - first)) inner) + inner < tooLarge) ⌝ }
+    ensures { λ r. ⌜ Counts (now (out .entry)) (now (out .exit)) to (nodeText (shape (now (file .entry)) node) (contentsFrom (now (file .entry)) row (now (title .entry)) (now (items .entry)) first (end - first)) inner) r ⌝ }
 {
-    let f = frame_of(file, nodes, i, metadata, inner);
-    let a = writer::put_number(out, to, f.size as u64);
-    let b = writer::put_number(out, a, nodes[i * cursor::NODE_WIDTH + 3]);
-    let c = writer::put_number(out, b, f.header as u64);
-    let d = writer::put_number(out, c, metadata as u64);
+    let f = frame_of(file, node, metadata, inner);
+    let a = room::put_number(out, to, f.size as u64);
+    let b = room::put_number(out, a, node.contained);
+    let c = room::put_number(out, b, f.header as u64);
+    let d = room::put_number(out, c, metadata as u64);
     let e = contents::put_items(out, d, file, items, first, end, row, title);
-    let g = copies::put_unpackers(out, e, file, nodes, i);
-    put_own(out, g, file, nodes, i)
+    let g = copies::put_unpackers(out, e, file, node);
+    let body = body_size(node) as usize;
+    put_reference(out, g, file, node.reference, node.target as usize, body)
 }
 
 // The bytes of the item rows from row `first` on, up to row `end`.
@@ -183,22 +204,22 @@ fn items_size(
     row: usize,
     title: &[u8],
 ) -> usize
-    requires { ⌜ (first ≤ end) × ItemsInside (length (now file)) end (now items) ⌝ }
-    ensures { λ r. ⌜ r ≡ min (length (itemsText (contentsFrom (now (file .entry)) row (now (title .entry)) (now (items .entry)) first (end - first)))) tooMany ⌝ }
+    requires { ⌜ (first ≤ end) × ItemRows (length (now file)) end (now items) ⌝ }
+    ensures { λ r. ⌜ r ≡ min (length (itemsText (contentsFrom (now (file .entry)) row (now (title .entry)) (now (items .entry)) first (end - first)))) tooLarge ⌝ }
 {
     let mut scratch = [0u8; 1];
-    contents::put_items(&mut scratch, 0, file, items, first, end, row, title)
+    stopped(contents::put_items(&mut scratch, 0, file, items, first, end, row, title))
 }
 
 // The sum of the words from word `from` on, up to word `end`.
 fn sum(words: &[usize], from: usize, end: usize) -> usize
     requires { ⌜ (from ≤ end) × (end ≤ length (now words)) ⌝ }
-    ensures { λ r. ⌜ r ≡ min (sumOf (part (now (words .entry)) from (end - from))) tooMany ⌝ }
+    ensures { λ r. ⌜ r ≡ min (sumOf (part (now (words .entry)) from (end - from))) tooLarge ⌝ }
 {
     let mut r: usize = 0;
     let mut k = from;
     while k < end {
-        r = writer::on(r, words[k]);
+        r = stopped(room::on(r, words[k]));
         k = k + 1;
     }
     r
@@ -217,9 +238,9 @@ fn measure_tree(
     metadata: &mut [usize],
     inner: &mut [usize],
 ) -> usize
-    requires { ⌜ Sound (task (now file) (now nodes) (now items) count total row (now title)) × (length (now metadata) ≡ 256) × (length (now inner) ≡ 256) ⌝ }
+    requires { ⌜ Sound (task (now file) (now nodes) (now items) count total row (now title)) × (length (now metadata) ≡ mostNodes) × (length (now inner) ≡ mostNodes) ⌝ }
     ensures measured { λ _. ⌜ Measured (task (now (file .entry)) (now (nodes .entry)) (now (items .entry)) count total row (now (title .entry))) 0 (now (metadata .exit)) (now (inner .exit)) ⌝ }
-    ensures tree { λ r. ⌜ r ≡ min (length (joined (outerFrom (task (now (file .entry)) (now (nodes .entry)) (now (items .entry)) count total row (now (title .entry))) 0))) tooMany ⌝ }
+    ensures tree { λ r. ⌜ r ≡ min (length (joined (outerFrom (task (now (file .entry)) (now (nodes .entry)) (now (items .entry)) count total row (now (title .entry))) 0))) tooLarge ⌝ }
 {
     let mut sizes = [0usize; cursor::MOST_NODES];
     let mut top = cursor::MOST_NODES;
@@ -227,12 +248,12 @@ fn measure_tree(
     let mut i = count;
     while 0 < i {
         i = i - 1;
-        let k = i * cursor::NODE_WIDTH;
-        let first = end - nodes[k + 11] as usize;
-        let below = top + nodes[k + 3] as usize;
+        let node = tree::node_at(nodes, i);
+        let first = end - node.rows as usize;
+        let below = top + node.contained as usize;
         let m = items_size(file, items, first, end, row, title);
         let n = sum(&sizes, top, below);
-        let f = frame_of(file, nodes, i, m, n);
+        let f = frame_of(file, node, m, n);
         metadata[i] = m;
         inner[i] = n;
         top = below - 1;
@@ -256,22 +277,22 @@ fn put_tree(
     metadata: &[usize],
     inner: &[usize],
 ) -> usize
-    requires rows { ⌜ Sound (task (now file) (now nodes) (now items) count total row (now title)) × Measured (task (now file) (now nodes) (now items) count total row (now title)) 0 (now metadata) (now inner) × (length (now metadata) ≡ 256) × (length (now inner) ≡ 256) ⌝ }
-    requires small { ⌜ (length (joined (outerFrom (task (now file) (now nodes) (now items) count total row (now title)) 0)) < tooMany) × (to ≤ tooMany) ⌝ }
+    requires rows { ⌜ Sound (task (now file) (now nodes) (now items) count total row (now title)) × Measured (task (now file) (now nodes) (now items) count total row (now title)) 0 (now metadata) (now inner) × (length (now metadata) ≡ mostNodes) × (length (now inner) ≡ mostNodes) ⌝ }
+    requires small { ⌜ length (joined (outerFrom (task (now file) (now nodes) (now items) count total row (now title)) 0)) < tooLarge ⌝ }
     ensures { λ r. ⌜ Counts (now (out .entry)) (now (out .exit)) to (joined (outerFrom (task (now (file .entry)) (now (nodes .entry)) (now (items .entry)) count total row (now (title .entry))) 0)) r ⌝ }
 {
     let mut next = to;
     let mut first: usize = 0;
     let mut i: usize = 0;
     while i < count {
-        let end = first + nodes[i * cursor::NODE_WIDTH + 11] as usize;
+        let node = tree::node_at(nodes, i);
+        let end = first + node.rows as usize;
         next = put_node(
             out,
             next,
             file,
-            nodes,
+            node,
             items,
-            i,
             first,
             end,
             row,
@@ -302,7 +323,7 @@ fn put_file(
 ) -> usize
     requires rows { ⌜ Sound (task (now file) (now nodes) (now items) count total row (now title)) ⌝ }
     requires inside { ⌜ (opening ≤ length (now file)) × (end ≤ start) × (start ≤ last) × (last < length (now file)) ⌝ }
-    ensures { λ r. ⌜ Counts (now (out .entry)) (now (out .exit)) 0 (fileOf (take opening (now (file .entry))) (sized (answer (run (tableText (now (file .entry))) (now (file .entry)) opening))) (part (now (file .entry)) end (start - end)) (joined (outerFrom (task (now (file .entry)) (now (nodes .entry)) (now (items .entry)) count total row (now (title .entry))) 0)) (drop (last + 1) (now (file .entry)))) r ⌝ }
+    ensures { λ r. ⌜ Fills (now (out .entry)) (now (out .exit)) (fileOf (take opening (now (file .entry))) (sized (answer (run (tableText (now (file .entry))) (now (file .entry)) opening))) (part (now (file .entry)) end (start - end)) (joined (outerFrom (task (now (file .entry)) (now (nodes .entry)) (now (items .entry)) count total row (now (title .entry))) 0)) (drop (last + 1) (now (file .entry)))) r ⌝ }
 {
     let mut metadata = [0usize; cursor::MOST_NODES];
     let mut inner = [0usize; cursor::MOST_NODES];
@@ -317,23 +338,23 @@ fn put_file(
         &mut metadata,
         &mut inner,
     );
-    if tree == writer::TOO_MANY {
+    if tree == TOO_LARGE {
         return tree;
     }
     let mut scratch = [0u8; 1];
-    let types = copies::put_types(&mut scratch, 0, file, opening);
+    let types = stopped(copies::put_types(&mut scratch, 0, file, opening));
     let gap = start - end;
     let rest = last + 1;
     let after = file.len() - rest;
     let first = tree_start(opening + types + gap, tree, after);
     let stop = first + tree;
     let size = stop + after;
-    let a = writer::put_part(out, 0, file, 0, opening);
-    let b = writer::put_number(out, a, size as u64);
+    let a = room::put_part(out, 0, file, 0, opening);
+    let b = room::put_number(out, a, size as u64);
     let c = copies::put_types(out, b, file, opening);
-    let d = writer::put_number(out, c, first as u64);
-    let e = writer::put_number(out, d, (stop - 1) as u64);
-    let f = writer::put_part(out, e, file, end, gap);
+    let d = room::put_number(out, c, first as u64);
+    let e = room::put_number(out, d, (stop - 1) as u64);
+    let f = room::put_part(out, e, file, end, gap);
     let g = put_tree(
         out,
         f,
@@ -347,7 +368,7 @@ fn put_file(
         &metadata,
         &inner,
     );
-    writer::put_part(out, g, file, rest, after)
+    room::put_part(out, g, file, rest, after)
 }
 
 // Where FileLength begins.
@@ -369,7 +390,7 @@ fn put_titled(
     title: &[u8],
 ) -> usize
     requires { ⌜ Stands (now file) (now nodes) (now items) count total × (elsewhere (nodesIn count (now nodes)) ≡ false) ⌝ }
-    ensures { λ r. ⌜ ((lim : Limits) (h : Header) → readFile lim (now (file .entry)) ≡ rows h (nodesIn count (now (nodes .entry))) (itemsIn total (now (items .entry))) → Counts (now (out .entry)) (now (out .exit)) 0 (titledFile row (now (title .entry)) (now (file .entry)) h (nodesIn count (now (nodes .entry))) (itemsIn total (now (items .entry)))) r) ⌝ }
+    ensures { λ r. ⌜ ((lim : Limits) (h : Header) → readFile lim (now (file .entry)) ≡ rows h (nodesIn count (now (nodes .entry))) (itemsIn total (now (items .entry))) → Fills (now (out .entry)) (now (out .exit)) (titledFile row (now (title .entry)) (now (file .entry)) h (nodesIn count (now (nodes .entry))) (itemsIn total (now (items .entry)))) r) ⌝ }
 {
     let mut types = [0u64; header::MOST_TYPES * 2];
     match header::read_header(file, &mut types) {
@@ -405,11 +426,11 @@ pub fn refers_elsewhere(nodes: &[u64], count: usize) -> bool
 {
     let mut i: usize = 0;
     while i < count {
-        let reference = nodes[i * cursor::NODE_WIDTH + 6];
-        if reference == 2 {
+        let node = tree::node_at(nodes, i);
+        if node.reference == 2 {
             return true;
         }
-        if reference == 3 {
+        if node.reference == 3 {
             return true;
         }
         i = i + 1;
@@ -422,11 +443,11 @@ pub fn is_no_title(items: &[u64], row: usize) -> bool
     requires { ⌜ row * itemWidth + itemWidth ≤ length (now items) ⌝ }
     ensures { λ r. ⌜ r ≡ isNoTitle (itemFrom (now (items .entry)) (row * itemWidth)) ⌝ }
 {
-    let k = row * cursor::ITEM_WIDTH;
-    if items[k + 7] % 2 == 1 {
+    let item = tree::item_at(items, row);
+    if item.format % 2 == 1 {
         return true;
     }
-    items[k + 5] != 0
+    item.version != 0
 }
 
 // The first refusal that the rows give; 0 for none.
@@ -467,7 +488,7 @@ fn write_titled(
         return Corrected::Refused(refusal, 0);
     }
     let size = put_titled(out, file, nodes, items, count, total, row, title);
-    if size == writer::TOO_MANY {
+    if TOO_LARGE <= size {
         return Corrected::Refused(cursor::RESULT_TOO_LARGE, 0);
     }
     if out.len() < size {

@@ -3,10 +3,11 @@
 use mathlib.Core.Path.{_≡_, refl, sym, ap, ap₂, _∙_}
 use mathlib.Core.List.{List, [], _∷_, _++_, append-assoc, append-nil}
 use Prim.Native.Nat.{ℕ, _+_, _-_, _≤_, _<_, min}
+use native.Mathlib.Decide.{decLt}
 use native.Mathlib.Omega.{arith}
-use lib.ListN.{length, length-append, replicate, take, drop}
+use lib.ListN.{length, length-append, length-take, length-drop, replicate, take, drop}
 use lib.Seq.{sets, length-sets}
-use Rattle.cursor.specs.Vlq.{part}
+use Rattle.cursor.specs.Vlq.{part, vlq, joined, sized}
 use Rattle.room.proofs.Sets.{sets-append, sets-front, padded-behind}
 use Rattle.room.specs.Room.{padded}
 use Rattle.room.specs.Counts.{Counts, tooMany}
@@ -22,6 +23,13 @@ module _ {o : List ℕ} {to r : ℕ} (bytes : List ℕ) (e : r ≡ min (to + len
 
 pub counts-none : (o : List ℕ) {to : ℕ} → to ≤ tooMany → Counts o o to [] to
 counts-none o l = counts-stored [] (omega arith) refl
+
+-- a place before the last one is exact
+pub counts-exact : {o o′ : List ℕ} {to r : ℕ} {bytes : List ℕ} → Counts o o′ to bytes r → r < tooMany → r ≡ to + length bytes
+counts-exact p l = let e = p .after in omega arith
+
+pub part-length : (f : List ℕ) (from size : ℕ) → from + size ≤ length f → length (part f from size) ≡ size
+part-length f from size l = simp (length-take, length-drop) (omega arith)
 
 -- the part of a file that is lent from `from` up to `end`
 pub lent-part : (f : List ℕ) (from size : ℕ) {end : ℕ} → end ≡ from + size → take (end - from) (drop from f) ≡ part f from size
@@ -45,6 +53,32 @@ counts-then {o} {o₁} {o₂} {s} {s₁} {s₂} {a} {b} p q =
 
 pub counts-as : {o o′ : List ℕ} {s r : ℕ} {a b : List ℕ} → a ≡ b → Counts o o′ s a r → Counts o o′ s b r
 counts-as e p = rw e at p
+
+-- two fields
+pub put-two : {o o₁ o₂ : List ℕ} {s s₁ s₂ : ℕ} (a b : List ℕ) → Counts o o₁ s a s₁ → Counts o₁ o₂ s₁ b s₂ → Counts o o₂ s (joined (a ∷ b ∷ [])) s₂
+put-two a b p q = counts-as (ap (λ v. a ++ v) (sym (append-nil b))) (counts-then p q)
+
+-- a block of known length
+pub put-block : {o o₁ o₂ : List ℕ} {s s₁ s₂ : ℕ} (body : List ℕ) (n : ℕ) → length body ≡ n → Counts o o₁ s (vlq n) s₁ → Counts o₁ o₂ s₁ body s₂ → Counts o o₂ s (sized body) s₂
+unfolding sized
+put-block body n e p q = put-two (vlq (length body)) body (counts-as (ap vlq (sym e)) p) q
+
+-- a block whose length was counted: a count that stopped makes the whole stop
+pub put-counted : {o o₁ o₂ : List ℕ} {n s s₁ s₂ : ℕ} (body : List ℕ) → n ≡ min (length body) tooMany → Counts o o₁ s (vlq n) s₁ → Counts o₁ o₂ s₁ body s₂ → Counts o o₂ s (sized body) s₂
+unfolding sized
+put-counted {n = n} body e p q = elim (decLt (length body) tooMany) [
+  | yes l ↦ put-block body n (omega arith) p q
+  | no l ↦
+      let y = length-append (vlq (length body)) (body ++ []) in
+      let z = length-append body [] in
+      let a = q .after in
+      let b = p .after in
+      record { after = omega arith; fits = λ v w. absurd (omega arith); long = q .long ∙ p .long }
+]
+
+-- or measured by its own writer
+pub put-sized : {z z′ o o₁ o₂ : List ℕ} {n s s₁ s₂ : ℕ} (body : List ℕ) → Counts z z′ 0 body n → Counts o o₁ s (vlq n) s₁ → Counts o₁ o₂ s₁ body s₂ → Counts o o₂ s (sized body) s₂
+put-sized body m p q = let e = m .after in put-counted body (omega arith) p q
 
 -- ---- a loop: of the whole, `rest` is still to be put
 

@@ -1,7 +1,7 @@
 -- The digits of a decimal number, counted and stored from the last one on.
 -- Assumes nothing.
 use mathlib.Core.Path.{_≡_, refl, sym, ap, _∙_}
-use mathlib.Core.Bool.{Bool, true, false}
+use mathlib.Core.Bool.{Bool, true, false, cond}
 use mathlib.Core.List.{List, [], _∷_, _++_, append-assoc, append-nil}
 use Prim.Native.Nat.{ℕ, zero, suc, _+_, _-_, _/_, _%_, _^_, _≤_, _<_}
 use native.Mathlib.Decide.{decLt}
@@ -10,7 +10,6 @@ use lib.Dec.{ltb}
 use lib.ListN.{length, length-append, set}
 use lib.Seq.{sets, set-comm, length-sets}
 use borrow.Author.Tests.{lt-ltb, le-ltb}
-use Rattle.room.specs.Room.{choose}
 use Rattle.room.specs.Decimal.{digits, decimal}
 
 -- ---- one digit, and the last of more
@@ -21,7 +20,7 @@ unfolding digits
 enough zero n l = simp (lt-ltb n 10 (omega arith))
 enough (suc k) n l = elim (decLt n 10) [
   | yes h ↦ simp (lt-ltb n 10 h)
-  | no h ↦ ap (λ v. choose (ltb n 10) [] v ++ (0x30 + n % 10) ∷ []) (enough k (n / 10) (omega arith))
+  | no h ↦ ap (λ v. cond (ltb n 10) [] v ++ (0x30 + n % 10) ∷ []) (enough k (n / 10) (omega arith))
 ]
 
 pub decimal-one : (n : ℕ) → n < 10 → (0x30 + n) ∷ [] ≡ decimal n
@@ -38,7 +37,7 @@ decimal-more n l h = digits-more 19 n l ∙ ap (λ v. v ++ (0x30 + n % 10) ∷ [
 
 -- ---- counted
 
-shorter : (b : Bool) (xs : List ℕ) → length (choose b [] xs) ≤ length xs
+shorter : (b : Bool) (xs : List ℕ) → length (cond b [] xs) ≤ length xs
 shorter true xs = omega arith
 shorter false xs = omega arith
 
@@ -48,7 +47,7 @@ at-most zero n = omega arith
 at-most (suc k) n =
     let a = at-most k (n / 10) in
     let b = shorter (ltb n 10) (digits k (n / 10)) in
-    let c = length-append (choose (ltb n 10) [] (digits k (n / 10))) ((0x30 + n % 10) ∷ []) in
+    let c = length-append (cond (ltb n 10) [] (digits k (n / 10))) ((0x30 + n % 10) ∷ []) in
     omega arith
 
 pub few-digits : (n : ℕ) → length (decimal n) ≤ 20
@@ -57,7 +56,7 @@ few-digits n = at-most 20 n
 
 pub some-digit : (n : ℕ) → 0 < length (decimal n)
 unfolding decimal digits
-some-digit n = let c = length-append (choose (ltb n 10) [] (digits 19 (n / 10))) ((0x30 + n % 10) ∷ []) in omega arith
+some-digit n = let c = length-append (cond (ltb n 10) [] (digits 19 (n / 10))) ((0x30 + n % 10) ∷ []) in omega arith
 
 -- n without its last k digits
 abbrev pub tens : ℕ → ℕ → ℕ

@@ -3,3 +3,4 @@ pub mod Storing
 pub mod Zeros
 pub mod Counting
 pub mod Decimal
+pub mod Numbers

@@ -1,6 +1,6 @@
 -- A call's answer or refusal; and what it leaves in lent room that it fills afresh.
 -- Assumes nothing.
-use mathlib.Core.Bool.{Bool, true, false}
+use mathlib.Core.Bool.{cond}
 use mathlib.Core.List.{List, _++_}
 use Prim.Native.Nat.{ℕ, _-_}
 use lib.Dec.{leb}
@@ -12,18 +12,13 @@ pub data Result (A : Type 0) : Type 0 where
   good : A → Result A
   bad : ℕ → ℕ → Result A
 
--- the first where the test holds, else the second
-abbrev pub choose : {A : Type 0} → Bool → A → A → A
-choose true a b = a
-choose false a b = b
-
 -- what is written, and then zeros to the room's end
 unfoldable pub padded : ℕ → List ℕ → List ℕ
 padded size ws = ws ++ replicate (size - length ws) 0
 
 -- the bytes, if a buffer of `room` bytes holds them
 unfoldable pub fitting : ℕ → Result (List ℕ) → Result (List ℕ)
-fitting room (good s) = choose (leb (length s) room) (good s) (bad noRoom 0)
+fitting room (good s) = cond (leb (length s) room) (good s) (bad noRoom 0)
 fitting room (bad n p) = bad n p
 
 -- the answer: the number of bytes

@@ -1,10 +1,10 @@
 // Lent room: tables of words and buffers of bytes. Cleared, and filled with bytes put one after the other.
 ghost use mathlib.Core.Path.{_≡_};
 ghost use mathlib.Core.List.{_∷_, [], _++_};
-ghost use Prim.Native.Nat.{_+_, _-_, _≤_, min};
+ghost use Prim.Native.Nat.{ℕ, _+_, _-_, _^_, _≤_, _<_, min};
 ghost use lib.ListN.{length, replicate, take};
 ghost use lib.Seq.{sets};
-ghost use Rattle.cursor.specs.Vlq.{part};
+ghost use Rattle.cursor.specs.Vlq.{part, least, inBytes, vlq};
 ghost use Rattle.room.specs.Counts.{Counts, tooMany};
 ghost use Rattle.room.specs.Decimal.{decimal};
 
@@ -176,4 +176,70 @@ pub fn put_decimal(out: &mut [u8], to: usize, n: u64) -> usize
     let end = to + size;
     store_digits(out, to, end, n);
     end
+}
+
+// 128 to the power of k.
+fn power(k: usize) -> u64
+    requires { ⌜ k < 5 ⌝ }
+    ensures { λ r. ⌜ r ≡ 128 ^ k ⌝ }
+{
+    let mut r: u64 = 1;
+    let mut i = 0;
+    while i < k {
+        r = r * 128;
+        i = i + 1;
+    }
+    r
+}
+
+// The least count of bytes that holds a number, which may depend on that count: it is `one` where it has one byte, and so on; 4 where no less will do.
+pub fn least_bytes(one: usize, two: usize, three: usize) -> usize
+    ensures { λ r. ⌜ ((n : ℕ → ℕ) → one ≡ n 1 → two ≡ n 2 → three ≡ n 3 → r ≡ least n) ⌝ }
+{
+    if one < 128 {
+        return 1;
+    }
+    if two < 16384 {
+        return 2;
+    }
+    if three < 2097152 {
+        return 3;
+    }
+    4
+}
+
+// The number of bytes of n in its shortest form; 4 where it has none.
+pub fn vlq_size(n: u64) -> usize
+    ensures { λ r. ⌜ r ≡ least (λ _. n) ⌝ }
+{
+    least_bytes(n as usize, n as usize, n as usize)
+}
+
+// Puts n in k bytes.
+pub fn put_in_bytes(out: &mut [u8], to: usize, n: u64, k: usize) -> usize
+    requires { ⌜ k ≤ 4 ⌝ }
+    ensures { λ r. ⌜ Counts (now (out .entry)) (now (out .exit)) to (inBytes k n) r ⌝ }
+{
+    let mut next = to;
+    let mut left = k;
+    while 0 < left {
+        left = left - 1;
+        let digit = (n / power(left) % 128) as u8;
+        if 0 < left {
+            next = put_byte(out, next, 128 + digit);
+        } else {
+            next = put_byte(out, next, digit);
+        }
+    }
+    next
+}
+
+// Puts n in its shortest form.
+pub fn put_number(out: &mut [u8], to: usize, n: u64) -> usize
+    ensures { λ r. ⌜ Counts (now (out .entry)) (now (out .exit)) to (vlq n) r ⌝ }
+{
+    if n < 128 {
+        return put_byte(out, to, n as u8);
+    }
+    put_in_bytes(out, to, n, vlq_size(n))
 }

@@ -1,42 +1,29 @@
 -- The sheet depends on few bytes of the file: those of the visible rows' data and of the custom names.
 -- Assumes nothing.
-use mathlib.Core.Path.{_≡_, refl, sym, ap, ap₂, _∙_}
-use mathlib.Core.Bool.{Bool, true, false}
+use mathlib.Core.Path.{_≡_, refl, ap, ap₂}
+use mathlib.Core.Bool.{Bool, true, false, cond}
 use mathlib.Core.List.{List, [], _∷_, _++_}
-use Prim.Native.Nat.{ℕ, suc, _+_, _%_, _≤_, _<_}
+use Prim.Native.Nat.{ℕ, suc, _%_, _<_}
 use native.Mathlib.Omega.{arith}
 use lib.Dec.{eqb}
-use lib.ListN.{length, getD, drop, length-take, length-drop}
-use lib.Seq.{ext-getD, getD-take, getD-drop}
+use lib.ListN.{length}
 use borrow.Author.Tests.{eqb-true, eqb-false}
 use Rattle.cursor.specs.declared.Node.{Node}
 use Rattle.cursor.specs.declared.Item.{Item}
+use Rattle.cursor.proofs.Agree.{Agree, part-same}
 use Rattle.header.specs.Header.{Header}
 use Rattle.tree.specs.Rows.{itemAt}
 use Rattle.tree.specs.Hidden.{isHidden}
-use Rattle.room.specs.Room.{choose}
-use Rattle.cursor.specs.Vlq.{part}
 use Rattle.unicode.specs.Unicode.{bytesAll}
 use Rattle.sheet.specs.Sheet.{escaped, escapedPart, unicodeText, tabbed, number, label, textOf, itemLine, visibleLine, itemLines, linesOf, sheetOf}
-
--- the files agree on n bytes from `at` on
-abbrev pub Agree : List ℕ → List ℕ → ℕ → ℕ → Type 0
-Agree f g at n = (k : ℕ) → at ≤ k → k < at + n → getD f k 0 ≡ getD g k 0
 
 -- the files agree on a row's data where its format is even, and on its custom name
 abbrev pub Shown : List ℕ → List ℕ → Item → Type 0
 Shown f g r = (r .format % 2 ≡ 0 → Agree f g (r .place) (r .size)) × (r .kind ≡ 1 → Agree f g (r .field) (r .nameLength))
 
-part-same : (f g : List ℕ) → length f ≡ length g → (at n : ℕ) → Agree f g at n → part f at n ≡ part g at n
-part-same f g e at n h =
-    ext-getD 0 (part f at n) (part g at n) (simp (length-take, length-drop, e))
-    (λ i l.
-    let k : i < n = omega (arith, l, length-take n (drop at f)) in
-    getD-take n (drop at f) i 0 k ∙ getD-drop at f i 0 ∙ h (at + i) (omega arith) (omega arith) ∙ sym (getD-drop at g i 0) ∙ sym (getD-take n (drop at g) i 0 k))
-
 module _ (f g : List ℕ) (same : length f ≡ length g) (r : Item) (h : Shown f g r) where
   label-by : (b : Bool) → eqb (r .kind) 1 ≡ b
-      → choose b (tabbed (0x43 ∷ tabbed (escapedPart f (r .field) (r .nameLength)))) (tabbed (0x53 ∷ number (r .field))) ≡ choose b (tabbed (0x43 ∷ tabbed (escapedPart g (r .field) (r .nameLength)))) (tabbed (0x53 ∷ number (r .field)))
+      → cond b (tabbed (0x43 ∷ tabbed (escapedPart f (r .field) (r .nameLength)))) (tabbed (0x53 ∷ number (r .field))) ≡ cond b (tabbed (0x43 ∷ tabbed (escapedPart g (r .field) (r .nameLength)))) (tabbed (0x53 ∷ number (r .field)))
   unfolding escapedPart
   label-by true e = ap (λ (t : List ℕ). tabbed (0x43 ∷ tabbed t)) (ap (bytesAll escaped) (part-same f g same (r .field) (r .nameLength) (h .1 (eqb-true (r .kind) 1 e))))
   label-by false e = refl
@@ -54,7 +41,7 @@ module _ (f g : List ℕ) (same : length f ≡ length g) (r : Item) (h : Shown f
   line-same e =
       ap₂ (λ (l : List ℕ) (t : List ℕ). 0x4D ∷ number (r .node) ++ l ++ number (r .version) ++ number (r .format) ++ tabbed t ++ 0x0A ∷ []) label-same (text-same e)
 
-  line-by : (b : Bool) → eqb (r .format % 2) 1 ≡ b → choose b [] (itemLine f r) ≡ choose b [] (itemLine g r)
+  line-by : (b : Bool) → eqb (r .format % 2) 1 ≡ b → cond b [] (itemLine f r) ≡ cond b [] (itemLine g r)
   line-by true e = refl
   line-by false e = let n = eqb-false (r .format % 2) 1 e in line-same (omega arith)
 

@@ -1,21 +1,20 @@
 -- The definitions of the sheet, step by step as the code takes them.
 -- Assumes nothing.
-use mathlib.Core.Path.{_≡_, refl, sym, ap, _∙_}
+use mathlib.Core.Path.{_≡_, refl}
 use mathlib.Core.Logic.{inl, inr}
 use mathlib.Core.List.{List, [], _∷_, _++_, append-assoc}
-use Prim.Native.Nat.{ℕ, zero, suc, _+_, _*_, _-_, _/_, _%_, _^_, _≤_, _<_}
+use Prim.Native.Nat.{ℕ, suc, _+_, _*_, _-_, _/_, _%_, _≤_, _<_}
 use native.Mathlib.Omega.{arith}
 use lib.ListN.{length}
 use borrow.Author.Tests.{eq-eqb, ne-eqb}
 use Rattle.cursor.specs.declared.Node.{Node}
 use Rattle.cursor.specs.declared.Item.{Item}
 use Rattle.metadata.specs.Tables.{nodeWidth, itemWidth}
-use Rattle.tree.specs.Rows.{nodeFrom, itemFrom, nodesFrom, itemsFrom, nodesIn, itemsIn}
+use Rattle.tree.specs.Rows.{nodeFrom, itemFrom, nodesFrom, itemsFrom, nodesIn, itemsIn, ItemIn, rowsFrom}
 use Rattle.tree.proofs.Rows.{nodes-in-length, items-in-length}
 use Rattle.tree.specs.Hidden.{isHidden}
 use Rattle.room.specs.Decimal.{decimal}
 use Rattle.sheet.specs.Sheet.{escapedPart, unicodeText, tabbed, number, versionText, firstLine, nodeLine, label, textOf, itemLine, visibleLine, nodeLines, itemLines, linesOf}
-use Rattle.sheet.specs.Inside.{ItemInside}
 
 -- ---- lines, as the bytes that are put one after the other
 
@@ -37,10 +36,15 @@ pub node-is : (i : ℕ) (r : Node)
 unfolding nodeLine
 node-is i r = refl
 
-pub item-is : (f : List ℕ) (r : Item)
+item-one : (f : List ℕ) (r : Item)
     → (0x4D ∷ []) ++ number (r .node) ++ label f r ++ number (r .version) ++ number (r .format) ++ (0x09 ∷ []) ++ textOf f r ++ (0x0A ∷ []) ≡ itemLine f r
 unfolding itemLine tabbed
-item-is f r = simp append-assoc
+item-one f r = simp append-assoc
+
+-- the row is read anew for each field
+pub item-is : (f : List ℕ) (r : Item) {a b c d e : Item} → a ≡ r → b ≡ r → c ≡ r → d ≡ r → e ≡ r
+    → (0x4D ∷ []) ++ number (a .node) ++ label f b ++ number (c .version) ++ number (d .format) ++ (0x09 ∷ []) ++ textOf f e ++ (0x0A ∷ []) ≡ itemLine f r
+item-is f r ha hb hc hd he = rw (ha, hb, hc, hd, he) (item-one f r)
 
 pub text-unicode : (f : List ℕ) (r : Item) → r .format ≡ 2 → unicodeText f (r .place) (r .size) ≡ textOf f r
 unfolding textOf
@@ -54,20 +58,15 @@ pub lines-are : (v n m : ℕ) (f ws us : List ℕ) → firstLine v (length f) n 
 unfolding linesOf
 lines-are v n m f ws us = rw (nodes-in-length ws n, items-in-length us m)
 
--- a custom name lies in the file
-pub named-inside : {size : ℕ} (r : Item) → ItemInside size r → r .kind ≡ 1 → r .field + r .nameLength ≤ size
-named-inside r (a, inl e) k = absurd (omega arith)
-named-inside r (a, inr l) k = l
-
 -- ---- rows
 
 module _ (ws : List ℕ) (count : ℕ) where
-  pub nodes-on : (i : ℕ) → i < count → nodeLines i (nodesFrom i (count - i) ws) ≡ nodeLine i (nodeFrom ws (i * nodeWidth)) ++ nodeLines (i + 1) (nodesFrom (i + 1) (count - (i + 1)) ws)
-  unfolding nodesFrom nodeLines
-  nodes-on i l = let e : count - i ≡ suc (count - (i + 1)) = omega arith in rw e
+  pub nodes-on : (i : ℕ) → i < count → {r : Node} → r ≡ nodeFrom ws (i * nodeWidth) → nodeLines i (nodesFrom i (count - i) ws) ≡ nodeLine i r ++ nodeLines (i + 1) (nodesFrom (i + 1) (count - (i + 1)) ws)
+  unfolding rowsFrom nodeLines
+  nodes-on i l e = let n : count - i ≡ suc (count - (i + 1)) = omega arith in rw (n, e)
 
   pub nodes-end : (i : ℕ) → count ≤ i → nodeLines i (nodesFrom i (count - i) ws) ≡ []
-  unfolding nodesFrom nodeLines
+  unfolding rowsFrom nodeLines
   nodes-end i l = let e : count - i ≡ 0 = omega arith in rw e
 
   pub nodes-start : nodeLines 0 (nodesIn count ws) ≡ nodeLines 0 (nodesFrom 0 (count - 0) ws)
@@ -76,11 +75,11 @@ module _ (ws : List ℕ) (count : ℕ) where
 
   module _ (f : List ℕ) where
     pub items-on : (i : ℕ) → i < count → itemLines f (itemsFrom i (count - i) ws) ≡ visibleLine f (itemFrom ws (i * itemWidth)) ++ itemLines f (itemsFrom (i + 1) (count - (i + 1)) ws)
-    unfolding itemsFrom itemLines
+    unfolding rowsFrom itemLines
     items-on i l = let e : count - i ≡ suc (count - (i + 1)) = omega arith in rw e
 
     pub items-end : (i : ℕ) → count ≤ i → itemLines f (itemsFrom i (count - i) ws) ≡ []
-    unfolding itemsFrom itemLines
+    unfolding rowsFrom itemLines
     items-end i l = let e : count - i ≡ 0 = omega arith in rw e
 
     pub items-start : itemLines f (itemsIn count ws) ≡ itemLines f (itemsFrom 0 (count - 0) ws)
@@ -96,10 +95,10 @@ module _ (f : List ℕ) (r : Item) where
   unfolding label tabbed
   label-standard n = simp (ne-eqb (r .kind) 1 n)
 
-  pub line-hidden : r .format % 2 ≡ 1 → [] ≡ visibleLine f r
+  pub line-hidden : {x : Item} → x ≡ r → x .format % 2 ≡ 1 → [] ≡ visibleLine f r
   unfolding visibleLine isHidden
-  line-hidden e = simp (eq-eqb (r .format % 2) 1 e)
+  line-hidden h e = simp (eq-eqb (r .format % 2) 1 (rw h at e))
 
-  pub line-shown : (r .format % 2 ≡ 1 → ⊥) → itemLine f r ≡ visibleLine f r
+  pub line-shown : {x : Item} → x ≡ r → (x .format % 2 ≡ 1 → ⊥) → itemLine f r ≡ visibleLine f r
   unfolding visibleLine isHidden
-  line-shown n = simp (ne-eqb (r .format % 2) 1 n)
+  line-shown h n = simp (ne-eqb (r .format % 2) 1 (rw h at n))

@@ -1,6 +1,6 @@
 -- The support sheet (01, Support sheet; 02, E6): lines of fields, written with bytes. And what the question answers.
 -- Assumes nothing.
-use mathlib.Core.Bool.{Bool, not, _&&_}
+use mathlib.Core.Bool.{Bool, cond, not, _&&_}
 use mathlib.Core.List.{List, [], _∷_, _++_}
 use Prim.Native.Nat.{ℕ, _+_, _/_, _%_}
 use lib.Dec.{ltb, leb, eqb}
@@ -8,7 +8,7 @@ use lib.ListN.{length, getD}
 use Rattle.cursor.specs.Vlq.{part}
 use Rattle.cursor.specs.declared.Node.{Node}
 use Rattle.cursor.specs.declared.Item.{Item}
-use Rattle.room.specs.Room.{Result, good, bad, choose}
+use Rattle.room.specs.Room.{Result, good, bad}
 unfoldable pub use Rattle.room.specs.Room.{fitting, counted, kept}
 use Rattle.room.specs.Decimal.{decimal}
 use Rattle.header.specs.Header.{Header}
@@ -35,7 +35,7 @@ hexed b = 0x5C ∷ hexDigit (b / 16) ∷ hexDigit (b % 16) ∷ []
 
 -- a plain byte as itself, another in hex
 unfoldable pub escaped : ℕ → List ℕ
-escaped b = choose (plain b) (b ∷ []) (hexed b)
+escaped b = cond (plain b) (b ∷ []) (hexed b)
 
 -- n bytes of the file, from `at` on, escaped
 unfoldable pub escapedPart : List ℕ → ℕ → ℕ → List ℕ
@@ -45,7 +45,7 @@ escapedPart f at n = bytesAll escaped (part f at n)
 
 -- a byte of a converted text: from 80h up as itself, else escaped
 unfoldable pub shownByte : ℕ → List ℕ
-shownByte b = choose (ltb b 0x80) (escaped b) (b ∷ [])
+shownByte b = cond (ltb b 0x80) (escaped b) (b ∷ [])
 
 unfoldable pub shown : List ℕ → List ℕ
 shown t = bytesAll shownByte t
@@ -81,11 +81,11 @@ nodeLine k r = 0x4E ∷ number k ++ number (r .parent) ++ number (r .depth) ++ n
 
 -- `C` and the name of a custom field, or `S` and the number of a standard one
 unfoldable pub label : List ℕ → Item → List ℕ
-label f r = choose (eqb (r .kind) 1) (tabbed (0x43 ∷ tabbed (escapedPart f (r .field) (r .nameLength)))) (tabbed (0x53 ∷ number (r .field)))
+label f r = cond (eqb (r .kind) 1) (tabbed (0x43 ∷ tabbed (escapedPart f (r .field) (r .nameLength)))) (tabbed (0x53 ∷ number (r .field)))
 
 -- the row's data: format 2 is UTF-16, every other format stands as its bytes
 unfoldable pub textOf : List ℕ → Item → List ℕ
-textOf f r = choose (eqb (r .format) 2) (unicodeText f (r .place) (r .size)) (escapedPart f (r .place) (r .size))
+textOf f r = cond (eqb (r .format) 2) (unicodeText f (r .place) (r .size)) (escapedPart f (r .place) (r .size))
 
 -- `M`, node row, `S` or `C`, field, version, format, text
 unfoldable pub itemLine : List ℕ → Item → List ℕ
@@ -93,7 +93,7 @@ itemLine f r = 0x4D ∷ number (r .node) ++ label f r ++ number (r .version) ++ 
 
 -- no line for a hidden content
 unfoldable pub visibleLine : List ℕ → Item → List ℕ
-visibleLine f r = choose (isHidden r) [] (itemLine f r)
+visibleLine f r = cond (isHidden r) [] (itemLine f r)
 
 -- ---- the sheet
 

@@ -5,13 +5,15 @@ ghost use mathlib.Core.List.{[]};
 ghost use Prim.Native.Nat.{ℕ, _≤_, _<_, _*_, _+_, _-_};
 ghost use lib.ListN.{length};
 ghost use Rattle.metadata.specs.Tables.{nodeWidth, itemWidth};
-ghost use Rattle.tree.specs.Rows.{nodeFrom, itemFrom, nodesIn, itemsIn};
+ghost use Rattle.tree.specs.Rows.{itemFrom, nodesIn, itemsIn, ItemIn, ItemRows};
 ghost use Rattle.tree.specs.Asking.{answered, nodesLeft, itemsLeft};
 ghost use Rattle.sheet.specs.Sheet.{hexDigits, plain, hexed, escaped, escapedPart, shown, shownOr, unicodeText, number, versionText, firstLine, nodeLine, label, textOf, itemLine, visibleLine, nodeLines, itemLines, linesOf, write, counted, kept};
 ghost use Rattle.sheet.specs.Told.{told};
 ghost use Rattle.room.specs.Counts.{Counts};
 ghost use Rattle.unicode.specs.Unicode.{utf8, toUtf8, isGood};
-ghost use Rattle.sheet.specs.Inside.{PlainUpTo, ItemInside};
+ghost use Rattle.sheet.specs.Inside.{PlainUpTo};
+use cursor::Item;
+use cursor::Node;
 use tree::Read;
 use unicode::Character;
 
@@ -144,24 +146,17 @@ fn put_first(
     room::put_byte(out, e, 0x0a)
 }
 
-// Puts the line of node row i.
-fn put_node_line(out: &mut [u8], to: usize, nodes: &[u64], i: usize) -> usize
-    requires { ⌜ i * nodeWidth + nodeWidth ≤ length (now nodes) ⌝ }
-    ensures { λ r. ⌜ Counts (now (out .entry)) (now (out .exit)) to (nodeLine i (nodeFrom (now (nodes .entry)) (i * nodeWidth))) r ⌝ }
+// Puts the line of a node row, which is row i.
+fn put_node_line(out: &mut [u8], to: usize, i: usize, row: Node) -> usize
+    ensures { λ r. ⌜ Counts (now (out .entry)) (now (out .exit)) to (nodeLine i row) r ⌝ }
 {
-    let k = i * cursor::NODE_WIDTH;
-    let parent = nodes[k + 4];
-    let depth = nodes[k + 5];
-    let reference = nodes[k + 6];
-    let target = nodes[k + 7];
-    let extent = nodes[k + 8];
     let a = room::put_byte(out, to, b'N');
     let b = put_number(out, a, i as u64);
-    let c = put_number(out, b, parent);
-    let d = put_number(out, c, depth);
-    let e = put_number(out, d, reference);
-    let f = put_number(out, e, target);
-    let g = put_number(out, f, extent);
+    let c = put_number(out, b, row.parent);
+    let d = put_number(out, c, row.depth);
+    let e = put_number(out, d, row.reference);
+    let f = put_number(out, e, row.target);
+    let g = put_number(out, f, row.extent);
     room::put_byte(out, g, 0x0a)
 }
 
@@ -173,25 +168,25 @@ fn put_node_lines(out: &mut [u8], to: usize, nodes: &[u64], count: usize) -> usi
     let mut next = to;
     let mut i = 0;
     while i < count {
-        next = put_node_line(out, next, nodes, i);
+        next = put_node_line(out, next, i, tree::node_at(nodes, i));
         i = i + 1;
     }
     next
 }
 
-// Puts the field of the item row whose words begin at k: `C` and its name, or `S` and its number.
-fn put_label(out: &mut [u8], to: usize, file: &[u8], items: &[u64], k: usize) -> usize
-    requires { ⌜ (k + itemWidth ≤ length (now items)) × ItemInside (length (now file)) (itemFrom (now items) k) ⌝ }
-    ensures { λ r. ⌜ Counts (now (out .entry)) (now (out .exit)) to (label (now (file .entry)) (itemFrom (now (items .entry)) k)) r ⌝ }
+// Puts the field of an item row: `C` and its name, or `S` and its number.
+fn put_label(out: &mut [u8], to: usize, file: &[u8], row: Item) -> usize
+    requires { ⌜ ItemIn (length (now file)) row ⌝ }
+    ensures { λ r. ⌜ Counts (now (out .entry)) (now (out .exit)) to (label (now (file .entry)) row) r ⌝ }
 {
     let a = room::put_byte(out, to, 0x09);
-    if items[k + 2] == 1 {
+    if row.kind == 1 {
         let b = room::put_byte(out, a, b'C');
         let c = room::put_byte(out, b, 0x09);
-        return put_escaped(out, c, file, items[k + 3] as usize, items[k + 4] as usize);
+        return put_escaped(out, c, file, row.field as usize, row.nameLength as usize);
     }
     let d = room::put_byte(out, a, b'S');
-    put_number(out, d, items[k + 3])
+    put_number(out, d, row.field)
 }
 
 // Puts a character of a converted text: a byte below 80h as text, another character as itself.
@@ -238,52 +233,52 @@ fn put_unicode(out: &mut [u8], to: usize, file: &[u8], from: usize, size: usize)
     put_escaped(out, to, file, from, size)
 }
 
-// Puts the text of the item row whose words begin at k.
-pub fn put_text(out: &mut [u8], to: usize, file: &[u8], items: &[u64], k: usize) -> usize
-    requires { ⌜ (k + itemWidth ≤ length (now items)) × ItemInside (length (now file)) (itemFrom (now items) k) ⌝ }
-    ensures { λ r. ⌜ Counts (now (out .entry)) (now (out .exit)) to (textOf (now (file .entry)) (itemFrom (now (items .entry)) k)) r ⌝ }
+// Puts the text of an item row.
+pub fn put_text(out: &mut [u8], to: usize, file: &[u8], row: Item) -> usize
+    requires { ⌜ ItemIn (length (now file)) row ⌝ }
+    ensures { λ r. ⌜ Counts (now (out .entry)) (now (out .exit)) to (textOf (now (file .entry)) row) r ⌝ }
 {
-    if items[k + 7] == 2 {
-        return put_unicode(out, to, file, items[k + 8] as usize, items[k + 9] as usize);
+    if row.format == 2 {
+        return put_unicode(out, to, file, row.place as usize, row.size as usize);
     }
-    put_escaped(out, to, file, items[k + 8] as usize, items[k + 9] as usize)
+    put_escaped(out, to, file, row.place as usize, row.size as usize)
 }
 
-// Puts the line of the item row whose words begin at k.
-pub fn put_item_line(out: &mut [u8], to: usize, file: &[u8], items: &[u64], k: usize) -> usize
-    requires { ⌜ (k + itemWidth ≤ length (now items)) × ItemInside (length (now file)) (itemFrom (now items) k) ⌝ }
-    ensures { λ r. ⌜ Counts (now (out .entry)) (now (out .exit)) to (itemLine (now (file .entry)) (itemFrom (now (items .entry)) k)) r ⌝ }
+// Puts the line of item row i. Its words are read where they are put: kept from before the line's first byte on, they would be stored and read again.
+pub fn put_item_line(out: &mut [u8], to: usize, file: &[u8], items: &[u64], i: usize) -> usize
+    requires { ⌜ (i * itemWidth + itemWidth ≤ length (now items)) × ItemIn (length (now file)) (itemFrom (now items) (i * itemWidth)) ⌝ }
+    ensures { λ r. ⌜ Counts (now (out .entry)) (now (out .exit)) to (itemLine (now (file .entry)) (itemFrom (now (items .entry)) (i * itemWidth))) r ⌝ }
 {
     let a = room::put_byte(out, to, b'M');
-    let b = put_number(out, a, items[k]);
-    let c = put_label(out, b, file, items, k);
-    let d = put_number(out, c, items[k + 5]);
-    let e = put_number(out, d, items[k + 7]);
+    let b = put_number(out, a, tree::item_at(items, i).node);
+    let c = put_label(out, b, file, tree::item_at(items, i));
+    let d = put_number(out, c, tree::item_at(items, i).version);
+    let e = put_number(out, d, tree::item_at(items, i).format);
     let f = room::put_byte(out, e, 0x09);
-    let g = put_text(out, f, file, items, k);
+    let g = put_text(out, f, file, tree::item_at(items, i));
     room::put_byte(out, g, 0x0a)
 }
 
-// Puts the line of the item row whose words begin at k, if the row is visible.
-fn put_visible_line(out: &mut [u8], to: usize, file: &[u8], items: &[u64], k: usize) -> usize
-    requires { ⌜ (k + itemWidth ≤ length (now items)) × ItemInside (length (now file)) (itemFrom (now items) k) ⌝ }
-    ensures { λ r. ⌜ Counts (now (out .entry)) (now (out .exit)) to (visibleLine (now (file .entry)) (itemFrom (now (items .entry)) k)) r ⌝ }
+// Puts the line of item row i, if the row is visible.
+fn put_visible_line(out: &mut [u8], to: usize, file: &[u8], items: &[u64], i: usize) -> usize
+    requires { ⌜ (i * itemWidth + itemWidth ≤ length (now items)) × ItemIn (length (now file)) (itemFrom (now items) (i * itemWidth)) ⌝ }
+    ensures { λ r. ⌜ Counts (now (out .entry)) (now (out .exit)) to (visibleLine (now (file .entry)) (itemFrom (now (items .entry)) (i * itemWidth))) r ⌝ }
 {
-    if items[k + 7] % 2 == 1 {
+    if tree::item_at(items, i).format % 2 == 1 {
         return to;
     }
-    put_item_line(out, to, file, items, k)
+    put_item_line(out, to, file, items, i)
 }
 
 // Puts the lines of the visible item rows.
 fn put_item_lines(out: &mut [u8], to: usize, file: &[u8], items: &[u64], count: usize) -> usize
-    requires { ⌜ (count * itemWidth ≤ length (now items)) × ((i : ℕ) → i < count → ItemInside (length (now file)) (itemFrom (now items) (i * itemWidth))) ⌝ }
+    requires { ⌜ ItemRows (length (now file)) count (now items) ⌝ }
     ensures { λ r. ⌜ Counts (now (out .entry)) (now (out .exit)) to (itemLines (now (file .entry)) (itemsIn count (now (items .entry)))) r ⌝ }
 {
     let mut next = to;
     let mut i = 0;
     while i < count {
-        next = put_visible_line(out, next, file, items, i * cursor::ITEM_WIDTH);
+        next = put_visible_line(out, next, file, items, i);
         i = i + 1;
     }
     next
@@ -299,7 +294,7 @@ fn put_sheet(
     rows: usize,
     contents: usize,
 ) -> usize
-    requires { ⌜ (rows * nodeWidth ≤ length (now nodes)) × (contents * itemWidth ≤ length (now items)) × ((i : ℕ) → i < contents → ItemInside (length (now file)) (itemFrom (now items) (i * itemWidth))) ⌝ }
+    requires { ⌜ (rows * nodeWidth ≤ length (now nodes)) × ItemRows (length (now file)) contents (now items) ⌝ }
     ensures { λ r. ⌜ Counts (now (out .entry)) (now (out .exit)) 0 (linesOf version (now (file .entry)) (nodesIn rows (now (nodes .entry))) (itemsIn contents (now (items .entry)))) r ⌝ }
 {
     let one = put_first(out, 0, version, file.len(), rows, contents);

@@ -1,14 +1,13 @@
 -- Writing the same title again changes nothing further: the second call is not refused, and gives the same bytes.
 -- Assumes nothing.
 use mathlib.Core.Path.{_≡_, refl, sym, ap, _∙_, subst}
-use mathlib.Core.Bool.{Bool, true, false, not, _||_}
+use mathlib.Core.Bool.{Bool, true, false, cond, not, _||_}
 use mathlib.Core.List.{List, [], _∷_, _++_, map}
 use Prim.Native.Nat.{ℕ, zero, suc, _+_, _^_, _%_, _≤_, _<_}
 use native.Mathlib.Omega.{arith}
 use lib.Dec.{eqb, ltb, leb}
 use lib.ListN.{length, getD}
 use borrow.Author.Tests.{leb-false, ltb-false, le-ltb, lt-leb}
-use Rattle.cursor.specs.Vlq.{choose}
 use Rattle.cursor.specs.declared.Node.{Node}
 use Rattle.cursor.specs.declared.Item.{Item}
 use Rattle.header.specs.Header.{Header}
@@ -89,7 +88,7 @@ pub record Corrected (i : ℕ) (text : List ℕ) (room : ℕ) (f : List ℕ) (h 
   pub small : length g < 2 ^ 28
   pub fits : length g ≤ room
 
-unless : {A : Type 0} (b : Bool) (n p : ℕ) {o : Result A} {a : A} → choose b (bad n p) o ≡ good a → (b ≡ false) × (o ≡ good a)
+unless : {A : Type 0} (b : Bool) (n p : ℕ) {o : Result A} {a : A} → cond b (bad n p) o ≡ good a → (b ≡ false) × (o ≡ good a)
 unless true n p e = let z : _≡_ {A = ℕ} 0 1 = cc in absurd (omega arith)
 unless false n p e = (refl, e)
 

@@ -2,7 +2,7 @@
 -- Assumes nothing.
 use mathlib.Core.Path.{_≡_, refl, sym, ap, ap₂, _∙_, subst}
 use mathlib.Core.Logic.{_⊎_, inl, inr}
-use mathlib.Core.Bool.{Bool, true, false}
+use mathlib.Core.Bool.{Bool, true, false, cond}
 use mathlib.Core.List.{List, [], _∷_, _++_, append-assoc, append-nil}
 use Prim.Native.Nat.{ℕ, zero, suc, _+_, _-_, _^_, _≤_, _<_}
 use native.Mathlib.Omega.{arith}
@@ -14,11 +14,12 @@ use borrow.Author.Tests.{lt-ltb, le-ltb, lt-leb, le-leb, eq-eqb, ne-eqb}
 use Rattle.cursor.specs.Machine.{Prog, ret, refuse, here, byte, pass, Out, ok, refused, Event, seen, passed, run, trace, exec, _>>=_, _>>_, if_then_else_, place, skip, check, turns, many, times}
 use Rattle.cursor.specs.Rows.{Frame, Part, P, Events, inlineSize, metaFrame, unpackFrame, referenceFrame, nodeFrame}
 use Rattle.cursor.specs.Leaves as leaves
-use Rattle.cursor.specs.Vlq.{choose, vlq, joined, sized}
+use Rattle.cursor.specs.Vlq.{vlq, joined, sized}
 use Rattle.cursor.proofs.Laws.{running, andThen, run-bind, ran, run-many, run-turn, run-turned, afterwards, trace-bind}
 use Rattle.cursor.proofs.Stable.{chain, ends, kept, stable}
 use Rattle.cursor.proofs.Lies.{Lies, lies-left, lies-right, lies-at, lies-as, Stand, stand, stand-sized, sum, joined-length, sized-length}
 use Rattle.cursor.proofs.Back.{number-back, block-back}
+use Rattle.cursor.proofs.Agree.{Agree, AgreeUpTo, agree-on}
 use Rattle.header.specs.Types.{Declared, Known, known, unknown, formatOf}
 use Rattle.metadata.specs.Tables.{plusItem, plusNode}
 use Rattle.metadata.specs.Metadata.{Context, rowOf, field, contents, itemFrame, universal, declaredFormat, version, rowsFor, item, nextItem, metaItems, metadata}
@@ -49,7 +50,7 @@ pub record Runs {A : Type 0} (g k : List ℕ) (m : P A) (at : ℕ) : Type 0 wher
 
 module _ {g k : List ℕ} where
   -- what was read agrees
-  pub runs-chunk : {A : Type 0} {m : P A} {at : ℕ} {a : A} {q : ℕ} → run m g at ≡ ok a q → ((j : ℕ) → at ≤ j → j < q → getD g j 0 ≡ getD k j 0) → Runs g k m at
+  pub runs-chunk : {A : Type 0} {m : P A} {at : ℕ} {a : A} {q : ℕ} → run m g at ≡ ok a q → AgreeUpTo g k at q → Runs g k m at
   runs-chunk {m = m} {at = at} e h =
       let z = ends m g at e in
       let w = stable (λ _. false) m g k at (kept (λ _. false) g k (trace m g at) at (chain m g at) (λ j lo hi n. h j lo (omega arith))) in
@@ -83,7 +84,7 @@ module _ {g k : List ℕ} where
   runs-skip w n {at = at} x = record { run-same = x .run-same; trace-same = ap (λ (es : Events). passed w at n ∷ es) (x .trace-same) }
 
   -- a number that both have there
-  pub agree : (p : ℕ) (s : List ℕ) → Lies g p s → Lies k p s → (j : ℕ) → p ≤ j → j < p + length s → getD g j 0 ≡ getD k j 0
+  pub agree : (p : ℕ) (s : List ℕ) → Lies g p s → Lies k p s → Agree g k p (length s)
   agree p s x y j lo hi =
       let e : p + (j - p) ≡ j = omega arith in
       rw e at (x .same (j - p) (omega arith)) ∙ sym (rw e at (y .same (j - p) (omega arith)))
@@ -204,8 +205,8 @@ module _ {g k : List ℕ} (big : length g < 2 ^ 28) where
   field-runs end p {c} {d} w (inr (kd, nil, some)) h h₂ i =
       let n : ℕ = length (c .name) in
       let kd₂ : d .kind ≡ 1 = sym (w .kind) ∙ kd in
-      let t : choose (eqb (c .kind) 1) (sized (c .name)) (joined (vlq 0 ∷ vlq (c .field) ∷ [])) ≡ sized (c .name) = rw kd refl in
-      let t₂ : choose (eqb (d .kind) 1) (sized (d .name)) (joined (vlq 0 ∷ vlq (d .field) ∷ [])) ≡ sized (d .name) = rw kd₂ refl in
+      let t : cond (eqb (c .kind) 1) (sized (c .name)) (joined (vlq 0 ∷ vlq (c .field) ∷ [])) ≡ sized (c .name) = rw kd refl in
+      let t₂ : cond (eqb (d .kind) 1) (sized (d .name)) (joined (vlq 0 ∷ vlq (d .field) ∷ [])) ≡ sized (d .name) = rw kd₂ refl in
       let h′ : Lies g p (sized (c .name)) = lies-as t h in
       let s = stand-sized (c .name) h′ in
       let s₂ = stand-sized (d .name) (lies-as t₂ h₂) in
@@ -289,7 +290,7 @@ versions-pair (more w ws) = each-on (version-pair w) (versions-pair ws)
 entry-pair : {cs ds : List Content} → Each Pair cs ds → Each (λ _ _. Unit {0}) (entryText cs) (entryText ds)
 entry-pair none = none
 entry-pair (more {a = c} {b = d} {s = cs} {t = ds} w ws) =
-    fields (λ _. tt) (more (field-pair (λ _. tt) w) (more (number (λ _. tt) (ap₂ (λ (a b : ℕ). choose (eqb a 0) 0 (suc b)) (w .version) (each-length ws)))
+    fields (λ _. tt) (more (field-pair (λ _. tt) w) (more (number (λ _. tt) (ap₂ (λ (a b : ℕ). cond (eqb a 0) 0 (suc b)) (w .version) (each-length ws)))
     (more (chosen (λ _. tt) (ap (λ n. eqb n 0) (w .version)) (universal-pair w) (versions-pair (more w ws))) none)))
 
 entries-pair : {css dss : List (List Content)} → Each (Each Pair) css dss → Each (λ _ _. Unit {0}) (joined (entryTexts css)) (joined (entryTexts dss))
@@ -409,9 +410,6 @@ regroup : (css : List (List Content)) {cs : List Content} → Each Pair (flat cs
 regroup [] none = ([], refl, none)
 regroup (cs ∷ css) w = let (u, v, e, s, t) = each-split cs (flat css) w in let (dss, q, r) = regroup css t in (u ∷ dss, e ∙ ap (λ z. u ++ z) q, more s r)
 
-pub agree-on : (g k : List ℕ) {p q r : ℕ} → ((j : ℕ) → p ≤ j → j < q → getD g j 0 ≡ getD k j 0) → ((j : ℕ) → q ≤ j → j < r → getD g j 0 ≡ getD k j 0) → (j : ℕ) → p ≤ j → j < r → getD g j 0 ≡ getD k j 0
-agree-on g k {q = q} x y j lo hi = elim (decLt j q) [ yes l ↦ x j lo l | no l ↦ y j (omega arith) hi ]
-
 -- ---- a node up to its contents
 
 -- the same but for copied bytes, as many, and with the same unpackers
@@ -481,7 +479,7 @@ module _ (g k : List ℕ) (big : length g < 2 ^ 28) where
       let si = each-length (block (λ _. tt) ip) in
       let su = sized-length (r .unpackers) in
       let e₁ = head-back end least g p (r .contained) rest (ownText r) n (f .few) small h (omega arith) (omega arith) in
-      let chunk : (j : ℕ) → p ≤ j → j < q → getD g j 0 ≡ getD k j 0 = agree-on g k (agree-on g k (agree p (vlq N) (a .0) k₁) (agree (p + length (vlq N)) (vlq (r .contained)) (a .1 .0) k₂)) (agree (p + length (vlq N) + length (vlq (r .contained))) (vlq H) (a .1 .1 .0) k₃) in
+      let chunk : AgreeUpTo g k p q = agree-on g k (agree-on g k (agree p (vlq N) (a .0) k₁) (agree (p + length (vlq N)) (vlq (r .contained)) (a .1 .0) k₂)) (agree (p + length (vlq N) + length (vlq (r .contained))) (vlq H) (a .1 .1 .0) k₃) in
       let e₂ = ran (collect g) _ g q (record { nodes = []; items = [] }) (meta-back x (m .nodes) (p + H) g big (f .entries) cs (f .contents) m q (record { nodes = []; items = [] }) (t .0) (omega arith) (f .item-room)) in
       let (dss, dq, dw) = regroup (f .groups) (subst (λ v. Each Pair v ds) (sym (f .contents)) ws) in
       let it : itemsText cs ≡ joined (entryTexts (f .groups)) = ap itemsText (sym (f .contents)) ∙ items-text (f .entries) in

@@ -3,7 +3,7 @@
 -- Assumes nothing.
 use mathlib.Core.Path.{_≡_, refl, sym, ap, _∙_, subst}
 use mathlib.Core.Logic.{inl, inr}
-use mathlib.Core.Bool.{Bool, true, false}
+use mathlib.Core.Bool.{Bool, true, false, cond}
 use mathlib.Core.List.{List, [], _∷_, _++_, map}
 use Prim.Native.Nat.{ℕ, zero, suc, _+_, _-_, _^_, _≤_, _<_}
 use native.Mathlib.Omega.{arith}
@@ -11,9 +11,10 @@ use lib.Dec.{eqb}
 use lib.ListN.{length, getD, take, drop}
 use Rattle.cursor.specs.Machine.{Out, ok, refused, run, trace, times}
 use Rattle.cursor.specs.Rows.{P, Events, fileFrame}
-use Rattle.cursor.specs.Vlq.{part, choose, vlq, joined, sized}
+use Rattle.cursor.specs.Vlq.{part, vlq, joined, sized}
 use Rattle.cursor.specs.declared.Node.{Node}
 use Rattle.cursor.specs.declared.Item.{Item}
+use Rattle.cursor.proofs.Agree.{part-same}
 use Rattle.cursor.proofs.Wp.{at-end}
 use Rattle.cursor.proofs.Leaves.{any-free}
 use Rattle.cursor.proofs.Stable.{Kept}
@@ -34,7 +35,7 @@ use Rattle.title.proofs.Twins.{read-alike}
 use Rattle.title.proofs.Theorem.{Grammar, grammar, same-file}
 use Rattle.title.proofs.Follows.{log-is-tree, all-stay}
 use Rattle.title.proofs.Headers.{HeaderSays, header-says}
-use Rattle.title.proofs.Transfer.{Agree, onward, part-same, tables-alike}
+use Rattle.title.proofs.Transfer.{onward, tables-alike}
 use Rattle.title.proofs.Kept.{Same, AllSame, tree-kept, header-kept}
 
 module _ (f k : List ℕ) (long : length f ≡ length k) where
@@ -65,7 +66,7 @@ module _ (f k : List ℕ) (long : length f ≡ length k) where
   contents-pair [] = none
   contents-pair (r ∷ is) = more (content-pair r) (contents-pair is)
 
-  body-pair : (b : Bool) (p n : ℕ) → Each (Copied f k) (choose b (part f p n) []) (choose b (part k p n) [])
+  body-pair : (b : Bool) (p n : ℕ) → Each (Copied f k) (cond b (part f p n) []) (cond b (part k p n) [])
   body-pair true p n = parts p n
   body-pair false p n = none
 
@@ -148,7 +149,7 @@ module _ (lim : Limits) (f k : List ℕ) {h : Header} {ns : List Node} {is : Lis
       let b = says .before in
       let on = onward (tableText f) f n (says .ran) in
       let table = tables-alike f k long n (says .ran) (λ j lo hi. agree j (omega arith) (omega arith)) in
-      let opens : take n f ≡ take n k = part-same f k long 0 n (omega (arith, says .long)) (λ j lo hi. agree j lo (omega arith)) in
+      let opens : take n f ≡ take n k = part-same f k long 0 n (λ j lo hi. agree j lo (omega arith)) in
       let types : List ℕ = joined (vlq (length (says .texts)) ∷ says .texts) in
       let tree₂ : List ℕ = joined (outer (map (shape k) ns) (titledAt i text (map (content k) is))) in
       let gap₂ : List ℕ = part k (h .extent .end) (h .extent .start - h .extent .end) in

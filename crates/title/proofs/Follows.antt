@@ -1,7 +1,7 @@
 -- Where no node has reference 3, nothing is read behind the tree.
 -- Assumes nothing.
 use mathlib.Core.Path.{_≡_, refl, sym, ap, _∙_, subst}
-use mathlib.Core.Bool.{Bool, true, false, not, _&&_, _||_}
+use mathlib.Core.Bool.{Bool, true, false, cond, not, _&&_, _||_}
 use mathlib.Core.List.{List, [], _∷_, _++_, append-assoc, append-nil, map}
 use Prim.Native.Nat.{ℕ, zero, suc, _+_, _≤_, _<_}
 use native.Mathlib.Omega.{arith}
@@ -16,7 +16,7 @@ use Rattle.cursor.proofs.Laws.{rows-on}
 use Rattle.header.specs.Header.{Header, header}
 use Rattle.metadata.specs.declared.Limits.{Limits}
 use Rattle.metadata.specs.declared.Made.{Made}
-use Rattle.tree.specs.Rows.{nodeAt, if_then_else_}
+use Rattle.tree.specs.Rows.{nodeAt}
 use Rattle.tree.specs.Reading.{nodeOf, nodesOf, itemsOf, Result, good, bad, Reading, rows, refusal, logged, lost, startsAt, reach, follow, reading, readTree, readFile}
 use Rattle.tree.proofs.Follow.{target, treeOf, ReadAs, read-back, Reached, known, added, followed}
 use Rattle.title.specs.Description.{Shape, shape}
@@ -67,16 +67,16 @@ stay-elsewhere f (r ∷ ns) s = neither (eqb (r .reference) 2) (eqb (r .referenc
 
 module _ (lim : Limits) (f : List ℕ) (h : Header) (log : Events) (here : elsewhere (nodesOf log) ≡ false) where
   reach-none : (i : ℕ) → i < length (nodesOf log) → reach lim f h log (nodeAt (nodesOf log) i) ≡ good log
-  unfolding reach lost if_then_else_
+  unfolding reach lost
   reach-none i l = rw (elsewhere-at (nodesOf log) i here l) refl
 
   pub follow-none : (k i : ℕ) → follow k lim f h i (good log) ≡ good log
-  unfolding follow if_then_else_
+  unfolding follow
   follow-none zero i = refl
   follow-none (suc k) i = by (ltb i (length (nodesOf log))) refl (λ l. ap (follow k lim f h (i + 1)) (reach-none i l) ∙ follow-none k (i + 1))
     where
       by : (b : Bool) → ltb i (length (nodesOf log)) ≡ b → (i < length (nodesOf log) → follow k lim f h (i + 1) (reach lim f h log (nodeAt (nodesOf log) i)) ≡ good log)
-          → (if b then follow k lim f h (i + 1) (reach lim f h log (nodeAt (nodesOf log) i)) else good log) ≡ good log
+          → (cond b (follow k lim f h (i + 1) (reach lim f h log (nodeAt (nodesOf log) i))) (good log)) ≡ good log
       by true e r = r (ltb-true _ _ e)
       by false e r = refl
 

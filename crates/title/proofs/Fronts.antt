@@ -2,7 +2,7 @@
 -- Assumes nothing.
 use mathlib.Core.Path.{_≡_, refl, sym, ap, _∙_, subst}
 use mathlib.Core.Logic.{_⊎_, inl, inr}
-use mathlib.Core.Bool.{Bool, true, false, _&&_, _||_}
+use mathlib.Core.Bool.{Bool, true, false, cond, _&&_, _||_}
 use mathlib.Core.List.{List, [], _∷_, _++_}
 use Prim.Native.Nat.{ℕ, zero, suc, _+_, _-_, _^_, _≤_, _<_}
 use native.Mathlib.Omega.{arith}
@@ -11,7 +11,7 @@ use lib.ListN.{length, length-append}
 use borrow.Author.Tests.{le-leb, eq-eqb, ne-eqb}
 use Rattle.cursor.specs.Machine.{Out, ok, refused, run, exec, times}
 use Rattle.cursor.specs.Rows.{referenceFrame, sizeIf, inlineSize}
-use Rattle.cursor.specs.Vlq.{part, choose, vlq, joined, sized}
+use Rattle.cursor.specs.Vlq.{part, vlq, joined, sized}
 use Rattle.cursor.proofs.Laws.{running, executing}
 use Rattle.cursor.proofs.Quiet.{still}
 use Rattle.cursor.proofs.Lies.{Lies, lies-left, lies-part, lies-at, lies-as, Stand, stand, stand-sized, sum, joined-length, sized-length}
@@ -44,11 +44,11 @@ or-true false = refl
 
 pub own-inline : (r : Shape) → r .reference ≡ 1 → ownText r ≡ joined (vlq 1 ∷ r .body ∷ [])
 unfolding ownText
-own-inline r e = ap (λ v. joined (vlq v ∷ choose (eqb v 4) (sized (r .body)) (r .body) ∷ [])) e
+own-inline r e = ap (λ v. joined (vlq v ∷ cond (eqb v 4) (sized (r .body)) (r .body) ∷ [])) e
 
 pub own-uri : (r : Shape) → r .reference ≡ 4 → ownText r ≡ joined (vlq 4 ∷ sized (r .body) ∷ [])
 unfolding ownText
-own-uri r e = ap (λ v. joined (vlq v ∷ choose (eqb v 4) (sized (r .body)) (r .body) ∷ [])) e
+own-uri r e = ap (λ v. joined (vlq v ∷ cond (eqb v 4) (sized (r .body)) (r .body) ∷ [])) e
 
 module _ (g : List ℕ) (big : length g < 2 ^ 28) (headerEnd size contained stop q : ℕ) (r : Shape) where
   inline-run : r .reference ≡ 1 → Lies g q (ownText r) → q + length (ownText r) ≤ stop
@@ -142,7 +142,7 @@ module _ (x : Context) (g : List ℕ) (big : length g < 2 ^ 28) (parent depth le
   upto : N < 2 ^ 28 → Lies g p (nodeText r cs n) → p + N ≤ end → least ≤ p + N → {o : reference.Reference} {e : ℕ}
       → run (reference (x .headerEnd) (x .size) (r .contained) (p + N)) g (p + H) ≡ ok o e
       → exec (collect g) (front x parent depth (inTree least end) m) g p σ
-      ≡ ok (record { row = node.rowOf p (record { size = N; contained = r .contained; header = H }) parent depth 0 o (record { place = record { 0 = p + H - length (r .unpackers) }; count = r .unpackerCount }) (m .items + length cs - m .items); made = plusItems (length cs) m }, withItems σ cs) e
+      ≡ ok (record { row = node.rowOf p (record { size = record { 0 = N }; contained = r .contained; header = record { 0 = H } }) parent depth 0 o (record { place = record { 0 = p + H - length (r .unpackers) }; count = r .unpackerCount }) (m .items + length cs - m .items); made = plusItems (length cs) m }, withItems σ cs) e
   unfolding front nodeText framed
   upto small h i j {o} {e} ref =
       let ss : List (List ℕ) = vlq N ∷ vlq (r .contained) ∷ vlq H ∷ header ∷ ownText r ∷ [] in
@@ -183,12 +183,12 @@ module _ (x : Context) (g : List ℕ) (big : length g < 2 ^ 28) (parent depth le
 -- a row says a node
 row-says : (g : List ℕ) (r : Shape) (h : head.Head) (p parent depth : ℕ) (o : reference.Reference) (u : unpackers.Unpackers) (rows : ℕ)
     → h .contained ≡ r .contained → parent ≡ r .parent → depth ≡ r .depth → o .kind ≡ r .reference → u .count ≡ r .unpackerCount → rows ≡ r .rows → 0 ≡ r .detached
-    → answer (run (times (u .count) (unpackerText g) []) g (u .place .0)) ≡ r .unpackers → choose (eqb (h .contained) 0) (part g (o .target) (o .extent)) [] ≡ r .body
+    → answer (run (times (u .count) (unpackerText g) []) g (u .place .0)) ≡ r .unpackers → cond (eqb (h .contained) 0) (part g (o .target) (o .extent)) [] ≡ r .body
     → shape g (node.rowOf p h parent depth 0 o u rows) ≡ r
 unfolding shape
 row-says g r h p parent depth o u rows a b c d e f t k l = rw (l, k, a, b, c, d, e, f, t)
 
-body-is : (contained : ℕ) (t body : List ℕ) → (contained ≡ 0 → t ≡ body) → (((contained ≡ 0) → ⊥) → body ≡ []) → choose (eqb contained 0) t [] ≡ body
+body-is : (contained : ℕ) (t body : List ℕ) → (contained ≡ 0 → t ≡ body) → (((contained ≡ 0) → ⊥) → body ≡ []) → cond (eqb contained 0) t [] ≡ body
 body-is zero t body a b = a refl
 body-is (suc contained) t body a b = let n : (suc contained ≡ 0) → ⊥ = λ e. omega arith in rw (ne-eqb (suc contained) 0 n) (sym (b n))
 

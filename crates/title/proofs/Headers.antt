@@ -2,7 +2,7 @@
 -- Assumes nothing.
 use mathlib.Core.Path.{_≡_, refl, sym, ap, _∙_, subst}
 use mathlib.Core.Logic.{_⊎_, inl, inr}
-use mathlib.Core.Bool.{Bool, true, false}
+use mathlib.Core.Bool.{Bool, true, false, cond}
 use mathlib.Core.List.{List, [], _∷_, _++_}
 use Prim.Native.Nat.{ℕ, zero, suc, _+_, _-_, _*_, _^_, _≤_, _<_}
 use native.Mathlib.Omega.{arith}
@@ -12,7 +12,7 @@ use borrow.Author.Tests.{leb-true, eqb-true, eqb-false, lt-ltb, le-leb, eq-eqb, 
 use Rattle.cursor.specs.Machine.{Out, ok, refused, run, check, _>>_}
 use Rattle.cursor.specs.Rows.{Frame, Part, fileFrame}
 use Rattle.cursor.specs.Leaves.{next, number}
-use Rattle.cursor.specs.Vlq.{choose, vlq, joined, sized}
+use Rattle.cursor.specs.Vlq.{vlq, joined, sized}
 use Rattle.cursor.proofs.Laws.{running}
 use Rattle.cursor.proofs.Wp.{at-end}
 use Rattle.cursor.proofs.Leaves.{any-free}
@@ -71,7 +71,7 @@ size-one v n = rw (ne-eqb _ _ n) refl
 pub size-least : (v : ℕ) → (8 ≤ openingSize v) × (openingSize v ≤ 16)
 size-least v = by (eqb v 200)
   where
-    by : (b : Bool) → (8 ≤ choose b 16 8) × (choose b 16 8 ≤ 16)
+    by : (b : Bool) → (8 ≤ cond b 16 8) × (cond b 16 8 ≤ 16)
     by true = (omega arith, omega arith)
     by false = (omega arith, omega arith)
 

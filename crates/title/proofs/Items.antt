@@ -1,6 +1,7 @@
 -- Metadata that was written is read back, and says what was written.
 -- Assumes nothing.
 use mathlib.Core.Path.{_≡_, refl, sym, ap, _∙_, subst}
+use mathlib.Core.Bool.{cond}
 use mathlib.Core.Logic.{_⊎_, inl, inr}
 use mathlib.Core.List.{List, [], _∷_, _++_, append-assoc, append-nil}
 use Prim.Native.Nat.{ℕ, zero, suc, _+_, _-_, _^_, _≤_, _<_}
@@ -10,7 +11,7 @@ use lib.ListN.{length, length-append}
 use borrow.Author.Tests.{lt-ltb, le-ltb, eq-eqb, ne-eqb, lt-leb, le-leb}
 use Rattle.cursor.specs.Machine.{Out, ok, refused, run, exec, turns, many, times}
 use Rattle.cursor.specs.Rows.{metaFrame}
-use Rattle.cursor.specs.Vlq.{part, choose, vlq, joined, sized}
+use Rattle.cursor.specs.Vlq.{part, vlq, joined, sized}
 use Rattle.cursor.specs.declared.FilePlace.{FilePlace}
 use Rattle.cursor.proofs.Laws.{running, executing, exec-turn, exec-turned, exec-many}
 use Rattle.cursor.proofs.Quiet.{still, exec-number, exec-block}
@@ -37,7 +38,7 @@ pub record Labels (g : List ℕ) (l : Label) (c : Content) : Type 0 where
   pub node : l .node ≡ c .node
   pub item : l .item ≡ c .item
   pub kind : kindOf (l .field) ≡ c .kind
-  pub field : choose (eqb (kindOf (l .field)) 1) 0 (fieldOf (l .field)) ≡ c .field
+  pub field : cond (eqb (kindOf (l .field)) 1) 0 (fieldOf (l .field)) ≡ c .field
   pub name : part g (fieldOf (l .field)) (nameLengthOf (l .field)) ≡ c .name
 
 row-says : (g : List ℕ) (l : Label) (c : Content) (v d fm p n : ℕ) → Labels g l c → v ≡ c .version → d ≡ c .declared → fm ≡ c .format → part g p n ≡ c .bytes → content g (rowOf l v d fm p n) ≡ c
@@ -142,7 +143,7 @@ module _ (g : List ℕ) (big : length g < 2 ^ 28) (end p : ℕ) (c : Content) wh
   unfolding fieldText field
   field-back (inl (k, small, none)) h i =
       let ss : List (List ℕ) = vlq 0 ∷ vlq (c .field) ∷ [] in
-      let t : choose (eqb (c .kind) 1) (sized (c .name)) (joined ss) ≡ joined ss = rw k refl in
+      let t : cond (eqb (c .kind) 1) (sized (c .name)) (joined ss) ≡ joined ss = rw k refl in
       let h′ : Lies g p (joined ss) = rw t at h in
       let i′ : p + length (joined ss) ≤ end = rw t at i in
       let s = stand ss h′ in
@@ -157,7 +158,7 @@ module _ (g : List ℕ) (big : length g < 2 ^ 28) (end p : ℕ) (c : Content) wh
       }
   field-back (inr (k, nil, some)) h i =
       let n : ℕ = length (c .name) in
-      let t : choose (eqb (c .kind) 1) (sized (c .name)) (joined (vlq 0 ∷ vlq (c .field) ∷ [])) ≡ sized (c .name) = rw k refl in
+      let t : cond (eqb (c .kind) 1) (sized (c .name)) (joined (vlq 0 ∷ vlq (c .field) ∷ [])) ≡ sized (c .name) = rw k refl in
       let h′ : Lies g p (sized (c .name)) = rw t at h in
       let i′ : p + length (sized (c .name)) ≤ end = rw t at i in
       let s = stand-sized (c .name) h′ in
@@ -182,7 +183,7 @@ pub data Entry (types : List Declared) (node index : ℕ) : List Content → Typ
 
 abbrev pub entryText : List Content → List ℕ
 entryText [] = []
-entryText (c ∷ cs) = joined (fieldText c ∷ vlq (choose (eqb (c .version) 0) 0 (suc (length cs))) ∷ choose (eqb (c .version) 0) (universalText c) (joined (versionTexts (c ∷ cs))) ∷ [])
+entryText (c ∷ cs) = joined (fieldText c ∷ vlq (cond (eqb (c .version) 0) 0 (suc (length cs))) ∷ cond (eqb (c .version) 0) (universalText c) (joined (versionTexts (c ∷ cs))) ∷ [])
 
 module _ (x : Context) (node index end : ℕ) (m : Made) (g : List ℕ) (big : length g < 2 ^ 28) (p : ℕ) (σ : Collected) where
   pub item-back : {cs : List Content} → Entry (x .types) node index cs → Lies g p (entryText cs) → p + length (entryText cs) ≤ end → m .items + length cs ≤ x .limits .items
@@ -232,8 +233,8 @@ flat [] = []
 flat (cs ∷ css) = cs ++ flat css
 
 pub entry-some : {types : List Declared} {node index : ℕ} {cs : List Content} → Entry types node index cs → 0 < length (entryText cs)
-entry-some {cs = cs} (one {c} f a b v d fm) = let z = joined-length (fieldText c ∷ vlq (choose (eqb (c .version) 0) 0 1) ∷ choose (eqb (c .version) 0) (universalText c) (joined (versionTexts (c ∷ []))) ∷ []) in omega (arith, vlq-some (choose (eqb (c .version) 0) 0 1))
-entry-some (several {c} {cs} f a b v few) = let z = joined-length (fieldText c ∷ vlq (choose (eqb (c .version) 0) 0 (suc (length cs))) ∷ choose (eqb (c .version) 0) (universalText c) (joined (versionTexts (c ∷ cs))) ∷ []) in omega (arith, vlq-some (choose (eqb (c .version) 0) 0 (suc (length cs))))
+entry-some {cs = cs} (one {c} f a b v d fm) = let z = joined-length (fieldText c ∷ vlq (cond (eqb (c .version) 0) 0 1) ∷ cond (eqb (c .version) 0) (universalText c) (joined (versionTexts (c ∷ []))) ∷ []) in omega (arith, vlq-some (cond (eqb (c .version) 0) 0 1))
+entry-some (several {c} {cs} f a b v few) = let z = joined-length (fieldText c ∷ vlq (cond (eqb (c .version) 0) 0 (suc (length cs))) ∷ cond (eqb (c .version) 0) (universalText c) (joined (versionTexts (c ∷ cs))) ∷ []) in omega (arith, vlq-some (cond (eqb (c .version) 0) 0 (suc (length cs))))
 
 module _ (x : Context) (node end : ℕ) (g : List ℕ) (big : length g < 2 ^ 28) where
   pub turns-back : {index : ℕ} {css : List (List Content)} → Entries (x .types) node index css → (k : ℕ) (m : Made) (p : ℕ) (σ : Collected) → Lies g p (joined (entryTexts css)) → p + length (joined (entryTexts css)) ≡ end

@@ -2,7 +2,7 @@
 -- Assumes nothing.
 use mathlib.Core.Path.{_≡_, refl, sym, ap, _∙_, subst}
 use mathlib.Core.Logic.{_⊎_, inl, inr}
-use mathlib.Core.Bool.{Bool, true, false}
+use mathlib.Core.Bool.{Bool, true, false, cond}
 use mathlib.Core.List.{List, [], _∷_, _++_, append-assoc, append-nil}
 use Prim.Native.Nat.{ℕ, zero, suc, _+_, _-_, _^_, _≤_, _<_}
 use native.Mathlib.Omega.{arith}
@@ -11,7 +11,7 @@ use lib.ListN.{length, length-append}
 use borrow.Author.Tests.{ltb-true, eqb-false}
 use Rattle.cursor.specs.Machine.{Out, ok, refused, times}
 use Rattle.cursor.specs.Rows.{Part, P, metaFrame}
-use Rattle.cursor.specs.Vlq.{part, choose}
+use Rattle.cursor.specs.Vlq.{part}
 use Rattle.cursor.specs.declared.Item.{Item}
 use Rattle.cursor.proofs.Wp.{Wp, at-end, wp-after, wp-ret, wp-if, wp-place, wp-skip}
 use Rattle.cursor.proofs.Leaves.{Any, any-free, number-on, block-on, number-inside, block-inside}
@@ -98,8 +98,8 @@ unfolding itemFrame
 frame-is f end at o = wp-after (field-is f end at o) λ g q y. wp-after (contents-is end q) λ c r z. wp-ret (y, z)
 
 field-fits : (f : List ℕ) (g : Field) → FieldIs f g
-    → ((kindOf g ≡ 0) × (choose (eqb (kindOf g) 1) 0 (fieldOf g) < 2 ^ 28) × (part f (fieldOf g) (nameLengthOf g) ≡ []))
-    ⊎ ((kindOf g ≡ 1) × (choose (eqb (kindOf g) 1) 0 (fieldOf g) ≡ 0) × (0 < length (part f (fieldOf g) (nameLengthOf g))))
+    → ((kindOf g ≡ 0) × (cond (eqb (kindOf g) 1) 0 (fieldOf g) < 2 ^ 28) × (part f (fieldOf g) (nameLengthOf g) ≡ []))
+    ⊎ ((kindOf g ≡ 1) × (cond (eqb (kindOf g) 1) 0 (fieldOf g) ≡ 0) × (0 < length (part f (fieldOf g) (nameLengthOf g))))
 field-fits f (Standard k) h = inl (refl, h, refl)
 field-fits f (Name p n) h = inr (refl, refl, omega (arith, part-length f (p .0) n (h .1)))
 

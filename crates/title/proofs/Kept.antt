@@ -9,6 +9,7 @@ use Rattle.cursor.specs.Machine.{ok, run, trace, exec, puts, rowsOf, times, see
 use Rattle.cursor.specs.Rows.{Part, nodeRow, itemRow, plain, P, Events}
 use Rattle.cursor.specs.declared.Node.{Node}
 use Rattle.cursor.specs.declared.Item.{Item}
+use Rattle.cursor.proofs.Agree.{AgreeUpTo}
 use Rattle.cursor.proofs.Quiet.{still, exec-puts, quiet-of}
 use Rattle.cursor.proofs.Stable.{Held, Kept}
 use Rattle.cursor.proofs.Runs.{nothing, nothing-quiet, Holds}
@@ -30,7 +31,7 @@ use Rattle.tree.proofs.Demand.{privateData}
 use Rattle.title.specs.Description.{Shape, shape, answer, unpackerText}
 use Rattle.title.proofs.UnpackersSay.{Reread, unpackers-reread}
 use Rattle.title.proofs.Regions.{all-bytes, Keeping, keep-step, keep-ret, keep-check, keep-place, keep-skip, keep-after}
-use Rattle.title.proofs.Transfer.{Agree, unpackers-alike}
+use Rattle.title.proofs.Transfer.{unpackers-alike}
 
 -- ---- unpackers of each row
 
@@ -50,7 +51,7 @@ module _ (f k : List ℕ) (long : length f ≡ length k) where
       let r = unpackers-reread f contained inner at o e in
       let a = r .after in
       let b = r .before in
-      let g : Agree f k (u .place .0) (r .stop) = λ j lo hi. all-bytes B (unpackers contained inner) (unpackers-use tt contained inner) f at e h j (omega arith) (omega arith) in
+      let g : AgreeUpTo f k (u .place .0) (r .stop) = λ j lo hi. all-bytes B (unpackers contained inner) (unpackers-use tt contained inner) f at e h j (omega arith) (omega arith) in
       ap answer (r .ran) ∙ sym (ap answer (unpackers-alike f k long (u .count) (u .place .0) (r .ran) g))
 
   rest-kept : (headerEnd size contained inner stop at : ℕ) → inner ≤ length f → Keeping B nothing f (rest headerEnd size contained inner stop) (Holds (λ o q. UnpackersSame (o .unpackers))) at tt
@@ -134,5 +135,5 @@ module _ (f k : List ℕ) (long : length f ≡ length k) (x : Context) where
 
 -- ---- the header
 
-pub header-kept : (f k : List ℕ) {h : Header} {q : ℕ} → run (header (length f)) f 0 ≡ ok h q → Kept privateData f k (trace (header (length f)) f 0) → Agree f k 0 q
+pub header-kept : (f k : List ℕ) {h : Header} {q : ℕ} → run (header (length f)) f 0 ≡ ok h q → Kept privateData f k (trace (header (length f)) f 0) → AgreeUpTo f k 0 q
 header-kept f k e h j lo hi = all-bytes (λ j. getD f j 0 ≡ getD k j 0) (header (length f)) (header-uses tt tt (length f)) f 0 e h j lo hi

@@ -140,9 +140,9 @@ module _ {f : List ℕ} {say : ℕ → Item → Content} (keeps : Keeps f say) (
       post-place _ at
       (post-step (head-quiet (collect-ignores say f) (inTree least end)) λ h p e.
       let i = head-inside (inTree least end) f at e in
-      post-after (metadata-says keeps x (m .nodes) (at + h .header) (omega arith) m p σ r) λ m′ q τ s.
-      post-step (rest-quiet (collect-ignores say f) (x .headerEnd) (x .size) (h .contained) (at + h .header) (at + h .size)) λ u v e₂.
-      let w = post-ran (rest-post f (x .headerEnd) (x .size) (h .contained) (at + h .header) (at + h .size) q (omega arith)) e₂ in
+      post-after (metadata-says keeps x (m .nodes) (at + h .header .0) (omega arith) m p σ r) λ m′ q τ s.
+      post-step (rest-quiet (collect-ignores say f) (x .headerEnd) (x .size) (h .contained) (at + h .header .0) (at + h .size .0)) λ u v e₂.
+      let w = post-ran (rest-post f (x .headerEnd) (x .size) (h .contained) (at + h .header .0) (at + h .size .0) q (omega arith)) e₂ in
       post-ret (s .contents, front-made parent depth at h m m′ u (s .contents) (at-end any-free f (head-few (inTree least end) at) e) room (s .are) (s .room) (s .made) (w .0) (w .1), s .made, s .left, i .3))
 
 -- ---- nodes

@@ -2,13 +2,13 @@
 -- and differ where the copied bytes do.
 -- Assumes nothing.
 use mathlib.Core.Path.{_≡_, refl, sym, ap, ap₂, _∙_, subst}
-use mathlib.Core.Bool.{Bool, true, false}
+use mathlib.Core.Bool.{Bool, true, false, cond}
 use mathlib.Core.List.{List, [], _∷_, _++_}
 use Prim.Native.Nat.{ℕ, zero, suc, _+_, _-_, _<_}
 use native.Mathlib.Omega.{arith}
 use lib.Dec.{eqb, ltb, leb}
 use lib.ListN.{length, getD, take, drop}
-use Rattle.cursor.specs.Vlq.{choose, vlq, joined, sized}
+use Rattle.cursor.specs.Vlq.{vlq, joined, sized}
 use Rattle.header.specs.Types.{Declared}
 use Rattle.header.specs.Header.{Edition}
 use Rattle.title.specs.Description.{Content, Shape, Description, titled, titledAt, retitled}
@@ -100,10 +100,10 @@ module _ {R : ℕ → ℕ → Type 0} (same : (a : ℕ) → R a a) where
   unfolding sized
   block x = fields (more (number (each-length x)) (more x none))
 
-  pub chosen : {b c : Bool} {s t u v : List ℕ} → b ≡ c → Each R s t → Each R u v → Each R (choose b s u) (choose c t v)
-  chosen {b} {c} {s} {t} {u} {v} e x y = subst (λ z. Each R (choose b s u) (choose z t v)) e (by b)
+  pub chosen : {b c : Bool} {s t u v : List ℕ} → b ≡ c → Each R s t → Each R u v → Each R (cond b s u) (cond c t v)
+  chosen {b} {c} {s} {t} {u} {v} e x y = subst (λ z. Each R (cond b s u) (cond z t v)) e (by b)
     where
-      by : (z : Bool) → Each R (choose z s u) (choose z t v)
+      by : (z : Bool) → Each R (cond z s u) (cond z t v)
       by true = x
       by false = y
 
@@ -118,7 +118,7 @@ module _ {R : ℕ → ℕ → Type 0} (same : (a : ℕ) → R a a) where
 
   item-pair : {c d : Content} {m n : ℕ} → ContentPair R c d → m ≡ n → Each R (itemText c m) (itemText d n)
   unfolding itemText
-  item-pair x e = fields (more (field-pair x) (more (number (ap₂ (λ (a b : ℕ). choose (eqb a 0) 0 b) (x .version) e)) none))
+  item-pair x e = fields (more (field-pair x) (more (number (ap₂ (λ (a b : ℕ). cond (eqb a 0) 0 b) (x .version) e)) none))
 
   pub content-pair : {c d : Content} → ContentPair R c d → Each R (contentText c) (contentText d)
   unfolding contentText universalText versionText

@@ -1,7 +1,7 @@
 -- The file with another title is accepted with the same tables, and says what the old file says with that title; the same title again changes nothing further.
 -- Assumes nothing.
 use mathlib.Core.Path.{_≡_, refl, sym, ap, _∙_, subst}
-use mathlib.Core.Bool.{Bool, true, false, not, _||_}
+use mathlib.Core.Bool.{Bool, true, false, cond, not, _||_}
 use mathlib.Core.List.{List, [], _∷_, _++_, map}
 use Prim.Native.Nat.{ℕ, zero, suc, _+_, _-_, _^_, _≤_, _<_}
 use native.Mathlib.Omega.{arith}
@@ -12,7 +12,7 @@ use lib.Seq.{getD-take, length-take-le}
 use borrow.Author.Tests.{eq-eqb, ne-eqb}
 use Rattle.cursor.specs.Machine.{Out, ok, refused, run, trace, exec}
 use Rattle.cursor.specs.Rows.{Events, P}
-use Rattle.cursor.specs.Vlq.{part, choose, vlq, joined, sized}
+use Rattle.cursor.specs.Vlq.{part, vlq, joined, sized}
 use Rattle.cursor.specs.declared.Node.{Node}
 use Rattle.cursor.specs.declared.Item.{Item}
 use Rattle.cursor.proofs.Wp.{at-end}
@@ -45,9 +45,9 @@ use Rattle.title.proofs.Follows.{all-stay, stay-elsewhere, log-is-tree,
 -- ---- the contents, one with another title
 
 abbrev retitling : List ℕ → ℕ → List ℕ → ℕ → Item → Content
-retitling f i text k r = choose (eqb k i) (titled text (content f r)) (content f r)
+retitling f i text k r = cond (eqb k i) (titled text (content f r)) (content f r)
 
-like-titled : (text : List ℕ) (c : Content) (b : Bool) → Like c (choose b (titled text c) c)
+like-titled : (text : List ℕ) (c : Content) (b : Bool) → Like c (cond b (titled text c) c)
 unfolding titled
 like-titled text c true = record { node = refl; item = refl; kind = refl; field = refl; name = refl; version = refl; declared = refl; format = refl }
 like-titled text c false = record { node = refl; item = refl; kind = refl; field = refl; name = refl; version = refl; declared = refl; format = refl }

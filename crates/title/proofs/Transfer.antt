@@ -13,6 +13,7 @@ use Rattle.cursor.specs.Machine.{Out, ok, refused, ret, run, trace, _>>=_, _>>_
 use Rattle.cursor.specs.Rows.{Frame, P, fileFrame, unpackFrame, plain, language}
 use Rattle.cursor.specs.Leaves.{number, block, manufacturer, guid}
 use Rattle.cursor.specs.Vlq.{part, vlq, joined, sized}
+use Rattle.cursor.proofs.Agree.{AgreeUpTo, part-same}
 use Rattle.cursor.proofs.Laws.{running, andThen, run-bind}
 use Rattle.cursor.proofs.Stable.{depends, ends, at-least}
 use Rattle.cursor.proofs.Lies.{part-length}
@@ -22,25 +23,13 @@ use Rattle.cursor.proofs.Post.{Post, post-after, post-step, post-weaken, post-r
 use Rattle.cursor.proofs.Runs.{nothing, nothing-quiet, Holds, post-ran}
 use Rattle.title.specs.Description.{copied, identifierText, unpackerText, entryText, tableText, answer}
 
--- the two files agree from p up to q
-abbrev pub Agree : List ℕ → List ℕ → ℕ → ℕ → Type 0
-Agree f k p q = (j : ℕ) → p ≤ j → j < q → getD f j 0 ≡ getD k j 0
-
 -- no run goes back
 pub onward : {A : Type 0} (m : P A) (f : List ℕ) (at : ℕ) {a : A} {q : ℕ} → run m f at ≡ ok a q → at ≤ q
 onward m f at e = omega (arith, ends m f at e, at-least (trace m f at) at)
 
-module _ (f k : List ℕ) (long : length f ≡ length k) where
-  pub part-same : (p n : ℕ) → p + n ≤ length f → Agree f k p (p + n) → part f p n ≡ part k p n
-  part-same p n l a =
-      let x = part-length f p n l in
-      let y = part-length k p n (omega arith) in
-      ext-getD 0 (part f p n) (part k p n) (x ∙ sym y) λ i h.
-      getD-take n (drop p f) i 0 (omega arith) ∙ getD-drop p f i 0 ∙ a (p + i) (omega arith) (omega arith) ∙ sym (getD-take n (drop p k) i 0 (omega arith) ∙ getD-drop p k i 0)
-
 -- m on f and m′ on k answer the same, where the files agree on what m read
 record Alike (f k : List ℕ) {A : Type 0} (m m′ : P A) (at : ℕ) : Type 0 where
-  alike : (a : A) (q : ℕ) → run m f at ≡ ok a q → Agree f k at q → run m′ k at ≡ ok a q
+  alike : (a : A) (q : ℕ) → run m f at ≡ ok a q → AgreeUpTo f k at q → run m′ k at ≡ ok a q
 
 no : {A B : Type 0} {a : A} {n p q : ℕ} → refused n p ≡ ok a q → B
 no e = let z : _≡_ {A = ℕ} 0 1 = cc in absurd (omega arith)
@@ -58,7 +47,7 @@ module _ {f k : List ℕ} where
   alike-bind : {A C : Type 0} {m m′ : P A} {h h′ : A → P C} {at : ℕ} → Alike f k m m′ at → ((a : A) (p : ℕ) → run m f at ≡ ok a p → Alike f k (h a) (h′ a) p) → Alike f k (m >>= h) (m′ >>= h′) at
   alike-bind {A} {C} {m} {m′} {h} {h′} {at} x y = record { alike = λ c q e g. by c q (run m f at) refl (sym (run-bind m h f at) ∙ e) g }
     where
-      by : (c : C) (q : ℕ) (o : Out A) → run m f at ≡ o → andThen o (λ a p. run (h a) f p) ≡ ok c q → Agree f k at q → run (m′ >>= h′) k at ≡ ok c q
+      by : (c : C) (q : ℕ) (o : Out A) → run m f at ≡ o → andThen o (λ a p. run (h a) f p) ≡ ok c q → AgreeUpTo f k at q → run (m′ >>= h′) k at ≡ ok c q
       by c q (refused n p) e z g = no z
       by c q (ok a p) e z g =
           let l = onward m f at e in
@@ -109,7 +98,7 @@ module _ (f k : List ℕ) (long : length f ≡ length k) where
         let l = onward m f at y in
         let i = inside a q y in
         let w : at + (q - at) ≡ q = omega arith in
-        copied-is k m at (depends m f k at y g) ∙ ap (λ v. ok v q) (sym (part-same f k long at (q - at) (omega arith) (λ j lo hi. g j lo (omega arith))) ∙ sym z);
+        copied-is k m at (depends m f k at y g) ∙ ap (λ v. ok v q) (sym (part-same f k long at (q - at) (λ j lo hi. g j lo (omega arith))) ∙ sym z);
   })
 
   identifier-alike : (kind at : ℕ) → Alike f k (identifierText f kind) (identifierText k kind) at
@@ -129,7 +118,7 @@ module _ (f k : List ℕ) (long : length f ≡ length k) where
   language-alike n at h l = record {
     alike = λ s q e g.
         let (u, v) = ok-same (simp running at e) in
-        let w = part-same f k long at n l (λ j lo hi. g j lo (omega arith)) in
+        let w = part-same f k long at n (λ j lo hi. g j lo (omega arith)) in
         simp running (rw (← w) (rw (u, v) refl));
   }
 
@@ -145,8 +134,8 @@ module _ (f k : List ℕ) (long : length f ≡ length k) where
   table-alike at = alike-bind (numbers fileFrame) λ size p e₁. alike-bind (blocks fileFrame) λ n q e₂. alike-bind (numbers fileFrame) λ count r e₃. alike-times count (vlq count) r (λ s u. entry-alike s u)
 
   -- where f's unpackers were read, k says the same; so of the types table
-  pub unpackers-alike : (n at : ℕ) {s : List ℕ} {q : ℕ} → run (times n (unpackerText f) []) f at ≡ ok s q → Agree f k at q → run (times n (unpackerText k) []) k at ≡ ok s q
+  pub unpackers-alike : (n at : ℕ) {s : List ℕ} {q : ℕ} → run (times n (unpackerText f) []) f at ≡ ok s q → AgreeUpTo f k at q → run (times n (unpackerText k) []) k at ≡ ok s q
   unpackers-alike n at {s} {q} e g = alike-times n [] at (λ s p. unpacker-alike s p) .alike s q e g
 
-  pub tables-alike : (at : ℕ) {s : List ℕ} {q : ℕ} → run (tableText f) f at ≡ ok s q → Agree f k at q → run (tableText k) k at ≡ ok s q
+  pub tables-alike : (at : ℕ) {s : List ℕ} {q : ℕ} → run (tableText f) f at ≡ ok s q → AgreeUpTo f k at q → run (tableText k) k at ≡ ok s q
   tables-alike at {s} {q} e g = table-alike at .alike s q e g

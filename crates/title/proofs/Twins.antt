@@ -10,6 +10,7 @@ use Rattle.cursor.specs.Machine.{Out, ok, refused, run, trace}
 use Rattle.cursor.specs.Rows.{P}
 use Rattle.cursor.specs.Vlq.{vlq, joined, sized}
 use Rattle.cursor.proofs.Lies.{Lies, lies-at, lies-as}
+use Rattle.cursor.proofs.Agree.{AgreeUpTo, agree-on}
 use Rattle.header.specs.Header.{Header, header}
 use Rattle.metadata.specs.declared.Limits.{Limits}
 use Rattle.metadata.specs.declared.Made.{Made}
@@ -25,7 +26,7 @@ use Rattle.title.proofs.Places.{FileStands, file-stands}
 use Rattle.title.proofs.Follows.{stay-elsewhere, read-whole}
 use Rattle.title.proofs.Theorem.{rows-were, tree-some, new-header}
 use Rattle.title.proofs.Pairs.{Each, each-length, fields, outer-pair}
-use Rattle.title.proofs.Alike.{Runs, runs-chunk, agree, agree-on, Pair, Shapes, each-by, tree-runs}
+use Rattle.title.proofs.Alike.{Runs, runs-chunk, agree, Pair, Shapes, each-by, tree-runs}
 
 start-same : (o t g b a g₂ b₂ a₂ : List ℕ) → length g ≡ length g₂ → length b ≡ length b₂ → length a ≡ length a₂ → treeStart o t g₂ b₂ a₂ ≡ treeStart o t g b a
 unfolding treeStart
@@ -84,7 +85,7 @@ module _ (lim : Limits) {f : List ℕ} {h : Header} (says : HeaderSays f h) (gap
         let a₂ = agree {g = g} {k = k} (n + length (vlq (length g))) types (st .types-lies) k₂ in
         let a₃ = agree {g = g} {k = k} (n + length (vlq (length g)) + length types) (vlq start) (st .start-lies) k₃ in
         let a₄ = agree {g = g} {k = k} (n + length (vlq (length g)) + length types + length (vlq start)) (vlq last) (st .last-lies) k₄ in
-        let chunk : (j : ℕ) → 0 ≤ j → j < end → getD g j 0 ≡ getD k j 0 = λ j lo hi. agree-on g k {p = 0} {q = n} (λ j lo hi. a₀ j lo (omega arith)) (agree-on g k a₁ (agree-on g k a₂ (agree-on g k a₃ a₄))) j lo (omega arith) in
+        let chunk : AgreeUpTo g k 0 end = λ j lo hi. agree-on g k {p = 0} {q = n} (λ j lo hi. a₀ j lo (omega arith)) (agree-on g k a₁ (agree-on g k a₂ (agree-on g k a₃ a₄))) j lo (omega arith) in
         let hr = runs-chunk e chunk in
         let p : P Made = treeOf lim (length g) h′ in
         let tr = tree-runs g k small (context lim h′ (length g)) nodes stay shapes contents (last + 1) start (st .tree-lies) (lies-at eS (st₂ .tree-lies)) (st .last-is) in

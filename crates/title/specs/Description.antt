@@ -1,7 +1,7 @@
 -- What a file says, but for places and lengths: its header and rows, with the bytes themselves in place of where they are and how many. Numbers among them
 -- are in their shortest form. Two files that say the same differ in the form of their numbers alone.
 -- Assumes nothing.
-use mathlib.Core.Bool.{Bool, true, false}
+use mathlib.Core.Bool.{Bool, true, false, cond}
 use mathlib.Core.List.{List, [], _∷_, _++_, map}
 use Prim.Native.Nat.{ℕ, zero, suc, _+_, _-_}
 use lib.Dec.{eqb}
@@ -10,7 +10,7 @@ use Rattle.cursor.specs.Machine.{Out, ok, refused, ret, run, _>>=_, _>>_, if_th
 use Rattle.cursor.specs.Rows.{P, fileFrame, unpackFrame, plain, language}
 use Rattle.cursor.specs.Refusals.{cutShort}
 use Rattle.cursor.specs.Leaves.{number, block, manufacturer, guid}
-use Rattle.cursor.specs.Vlq.{part, choose, vlq, joined}
+use Rattle.cursor.specs.Vlq.{part, vlq, joined}
 use Rattle.cursor.specs.declared.Node.{Node}
 use Rattle.cursor.specs.declared.Item.{Item}
 use Rattle.header.specs.Header.{Header, Edition}
@@ -35,7 +35,7 @@ content f r = record {
   node = r .node;
   item = r .item;
   kind = r .kind;
-  field = choose (eqb (r .kind) 1) 0 (r .field);
+  field = cond (eqb (r .kind) 1) 0 (r .field);
   name = part f (r .field) (r .nameLength);
   version = r .version;
   declared = r .declared;
@@ -120,7 +120,7 @@ shape f r = record {
   unpackers = answer (run (times (r .unpackerCount) (unpackerText f) []) f (r .unpackers));
   unpackerCount = r .unpackerCount;
   rows = r .rows;
-  body = choose (eqb (r .contained) 0) (part f (r .target) (r .extent)) [];
+  body = cond (eqb (r .contained) 0) (part f (r .target) (r .extent)) [];
   detached = r .detached;
 }
 
@@ -140,7 +140,7 @@ pub record Description : Type 0 where
 
 -- where FileLength begins
 abbrev pub openingSize : ℕ → ℕ
-openingSize version = choose (eqb version 200) 16 8
+openingSize version = cond (eqb version 200) 16 8
 
 unfoldable pub described : List ℕ → Header → List Node → List Item → Description
 described f h ns is = record {

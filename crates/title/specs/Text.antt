@@ -1,10 +1,11 @@
 -- A file from what it says: its bytes, with every number in its shortest form, and each length and place the least that fits all the others.
 -- Assumes nothing.
+use mathlib.Core.Bool.{cond}
 use mathlib.Core.List.{List, [], _∷_, _++_}
 use Prim.Native.Nat.{ℕ, zero, suc, _+_, _-_}
 use lib.Dec.{ltb, leb, eqb}
 use lib.ListN.{length, take, drop}
-use Rattle.cursor.specs.Vlq.{choose, least, vlq, joined, sized}
+use Rattle.cursor.specs.Vlq.{least, vlq, joined, sized}
 use Rattle.title.specs.Description.{Content, Shape, Description}
 
 -- ---- metadata
@@ -12,15 +13,15 @@ use Rattle.title.specs.Description.{Content, Shape, Description}
 -- how many contents at the front are further versions of the item before them
 unfoldable pub further : List Content → ℕ
 further [] = 0
-further (c ∷ cs) = choose (ltb 1 (c .version)) (suc (further cs)) 0
+further (c ∷ cs) = cond (ltb 1 (c .version)) (suc (further cs)) 0
 
 -- an item's field: a custom name with its length, or 0 and a standard number
 unfoldable pub fieldText : Content → List ℕ
-fieldText c = choose (eqb (c .kind) 1) (sized (c .name)) (joined (vlq 0 ∷ vlq (c .field) ∷ []))
+fieldText c = cond (eqb (c .kind) 1) (sized (c .name)) (joined (vlq 0 ∷ vlq (c .field) ∷ []))
 
 -- what an item's first content has before it: the item's field and the number of versions; a universal one has 0 for that
 unfoldable pub itemText : Content → (versions : ℕ) → List ℕ
-itemText c versions = joined (fieldText c ∷ vlq (choose (eqb (c .version) 0) 0 versions) ∷ [])
+itemText c versions = joined (fieldText c ∷ vlq (cond (eqb (c .version) 0) 0 versions) ∷ [])
 
 -- a length that covers string format and data; the two
 unfoldable pub universalText : Content → List ℕ
@@ -31,12 +32,12 @@ unfoldable pub versionText : Content → List ℕ
 versionText c = joined (vlq (c .declared) ∷ sized (c .bytes) ∷ [])
 
 unfoldable pub contentText : Content → List ℕ
-contentText c = choose (eqb (c .version) 0) (universalText c) (versionText c)
+contentText c = cond (eqb (c .version) 0) (universalText c) (versionText c)
 
 -- contents in row order: one that is universal or version 1 begins an item
 unfoldable pub itemsText : List Content → List ℕ
 itemsText [] = []
-itemsText (c ∷ cs) = joined (choose (leb (c .version) 1) (itemText c (suc (further cs))) [] ∷ contentText c ∷ itemsText cs ∷ [])
+itemsText (c ∷ cs) = joined (cond (leb (c .version) 1) (itemText c (suc (further cs))) [] ∷ contentText c ∷ itemsText cs ∷ [])
 
 -- ---- a node: `fixed` bytes of its header are neither NodeLength nor NodeHeaderLength, and `contents` bytes follow the header
 
@@ -61,8 +62,11 @@ unfoldable pub framed : (contained : ℕ) → (rest own : List ℕ) → (n : ℕ
 framed contained rest own n = joined (vlq (headerOf contained rest (length own + n) + (length own + n)) ∷ vlq contained ∷ vlq (headerOf contained rest (length own + n)) ∷ rest ∷ own ∷ [])
 
 -- ReferenceTypeID; a URI with its length, or inline data
+abbrev pub referenceText : (reference : ℕ) → (body : List ℕ) → List ℕ
+referenceText reference body = joined (vlq reference ∷ cond (eqb reference 4) (sized body) body ∷ [])
+
 unfoldable pub ownText : Shape → List ℕ
-ownText r = joined (vlq (r .reference) ∷ choose (eqb (r .reference) 4) (sized (r .body)) (r .body) ∷ [])
+ownText r = referenceText (r .reference) (r .body)
 
 -- a node with these contents, but for the nodes that it holds, which have n bytes
 unfoldable pub nodeText : Shape → List Content → (n : ℕ) → List ℕ

@@ -1,6 +1,6 @@
 -- The question: the file with other data in one universal, visible content, or a refusal.
 -- Assumes nothing.
-use mathlib.Core.Bool.{Bool, true, false, not, _||_}
+use mathlib.Core.Bool.{Bool, true, false, cond, not, _||_}
 use mathlib.Core.List.{List, [], _∷_}
 use mathlib.Core.Logic.{_⊎_}
 use mathlib.Core.Path.{_≡_}
@@ -8,7 +8,6 @@ use Prim.Native.Nat.{ℕ, _^_, _<_}
 use lib.Dec.{ltb, leb, eqb}
 use lib.ListN.{length, getD}
 use Rattle.cursor.specs.Refusals.{noSuchRow, refersElsewhere, notATitle, resultTooLarge, noRoom}
-use Rattle.cursor.specs.Vlq.{choose}
 use Rattle.cursor.specs.declared.Node.{Node}
 use Rattle.cursor.specs.declared.Item.{Item}
 use Rattle.header.specs.Header.{Header}
@@ -51,11 +50,11 @@ titledFile i text f h ns is = fileText (retitled i text (described f h ns is))
 
 -- a file that can be read again and that `room` bytes hold
 unfoldable pub fitting : (room : ℕ) → List ℕ → Result (List ℕ)
-fitting room g = choose (leb (2 ^ 28) (length g)) (bad resultTooLarge 0) (choose (ltb room (length g)) (bad noRoom 0) (good g))
+fitting room g = cond (leb (2 ^ 28) (length g)) (bad resultTooLarge 0) (cond (ltb room (length g)) (bad noRoom 0) (good g))
 
 unfoldable pub correctTitle : (i : ℕ) → (text : List ℕ) → (room : ℕ) → List ℕ → Header → List Node → List Item → Result (List ℕ)
 correctTitle i text room f h ns is =
-    choose (leb (length is) i) (bad noSuchRow 0)
-    (choose (elsewhere ns) (bad refersElsewhere 0)
-    (choose (isNoTitle (itemAt is i)) (bad notATitle 0)
+    cond (leb (length is) i) (bad noSuchRow 0)
+    (cond (elsewhere ns) (bad refersElsewhere 0)
+    (cond (isNoTitle (itemAt is i)) (bad notATitle 0)
     (fitting room (titledFile i text f h ns is))))

@@ -8,16 +8,15 @@ use lib.ListN.{length, take, drop, replicate}
 use Rattle.cursor.specs.Machine.{Out, ok, refused, run, trace, rowsOf, _>>=_, _>>_, if_then_else_, place, skip, check, turns, many, times}
 use Rattle.cursor.specs.Leaves.{next, digits, number, block, manufacturer, guid}
 use Rattle.cursor.specs.Vlq as vlq
-use Rattle.header.specs.Types.{formatOf, either}
+use Rattle.header.specs.Types.{formatOf}
 use Rattle.header.specs.Header.{Header, four, edition, fileLength, entry, typesTable, extent, header}
 use Rattle.header.specs.Header as head
-use Rattle.metadata.specs.Tables.{limits}
+use Rattle.metadata.specs.Tables.{fullNodes, fullItems, limits}
 use Rattle.metadata.specs.Metadata.{field, contents, itemFrame, universal, declaredFormat, version, rowsFor, item, nextItem, metaItems, metadata}
 use Rattle.node.specs.Node as node
 use Rattle.node.specs.Node.{headerLength, value, identifier, unpacker, entries, unpackers, resource, nodePlace, uriPlace, target, reference}
 use Rattle.tree.specs.Tree as tree
 use Rattle.tree.specs.Tree.{folder}
-use Rattle.tree.specs.Rows as rows
 use Rattle.tree.specs.Reading.{Reading, logged, startsAt, offsetAt, lost, outside, partEnd, takenFrom, detachedAt, reach, follow, reading, readTree, readFile}
 use Rattle.tree.specs.Asking.{Result, good, bad, ask}
 use Rattle.tree.specs.Hidden.{isHidden}
@@ -68,7 +67,7 @@ longer = opening ++ (0x81 ∷ 0x02 ∷ 0x01 ∷ 0x00 ∷ 0x17 ∷ 0x81 ∷ 0x01 
 
 -- with full tables
 unfoldable corrected : (room row : ℕ) → List ℕ → List ℕ → Result (List ℕ)
-corrected room row text f = ask (readFile (limits 3328 10240) f) (title.correctTitle row text room f)
+corrected room row text f = ask (readFile (limits fullNodes fullItems) f) (title.correctTitle row text room f)
 
 cases : (corrected 59 0 hello worked ≡ good greeting)
     × (corrected 59 0 hello padded ≡ good greeting)
@@ -81,5 +80,5 @@ cases : (corrected 59 0 hello worked ≡ good greeting)
     × (corrected 0 1 hello elsewhere ≡ bad 36 0)
     × (corrected 0 1 hello worked ≡ bad 37 0)
     × (corrected 58 0 hello worked ≡ bad 22 0)
-unfolding corrected run trace rowsOf _>>=_ _>>_ if_then_else_ place skip check turns many times next digits number block manufacturer guid formatOf either four edition fileLength entry typesTable extent header head.opening field contents itemFrame universal declaredFormat version rowsFor item nextItem metaItems metadata headerLength node.head value identifier unpacker entries unpackers resource nodePlace uriPlace target reference node.rest node.front folder tree.node tree.tree tree.detached logged startsAt offsetAt lost outside partEnd takenFrom detachedAt reach follow rows.if_then_else_ reading readTree readFile ask isHidden vlq.inBytes vlq.from vlq.least vlq.vlq vlq.sized described.content described.copied described.identifierText described.unpackerText described.entryText described.tableText described.shape described.described described.titled described.titledAt described.retitled text.further text.fieldText text.itemText text.universalText text.versionText text.contentText text.itemsText text.headerBytes text.headerSize text.lengthBytes text.headerOf text.framed text.ownText text.nodeText text.wholeText text.outer text.lastBytes text.startBytes text.startAt text.fileBytes text.treeStart text.assembled text.fileOf text.fileText title.elsewhere title.isNoTitle title.titledFile title.fitting title.correctTitle
+unfolding corrected run trace rowsOf _>>=_ _>>_ if_then_else_ place skip check turns many times next digits number block manufacturer guid formatOf four edition fileLength entry typesTable extent header head.opening field contents itemFrame universal declaredFormat version rowsFor item nextItem metaItems metadata headerLength node.head value identifier unpacker entries unpackers resource nodePlace uriPlace target reference node.rest node.front folder tree.node tree.tree tree.detached logged startsAt offsetAt lost outside partEnd takenFrom detachedAt reach follow reading readTree readFile ask isHidden vlq.inBytes vlq.from vlq.least vlq.vlq vlq.sized described.content described.copied described.identifierText described.unpackerText described.entryText described.tableText described.shape described.described described.titled described.titledAt described.retitled text.further text.fieldText text.itemText text.universalText text.versionText text.contentText text.itemsText text.headerBytes text.headerSize text.lengthBytes text.headerOf text.framed text.ownText text.nodeText text.wholeText text.outer text.lastBytes text.startBytes text.startAt text.fileBytes text.treeStart text.assembled text.fileOf text.fileText title.elsewhere title.isNoTitle title.titledFile title.fitting title.correctTitle
 cases = (refl, refl, refl, refl, refl, refl, refl, refl, refl, refl, refl)

@@ -3,7 +3,7 @@
 -- and inline data free: demand 3 for the first question. What the other questions use besides: custom names, and the data of rows that are not free, agree too.
 -- Assumes nothing.
 use mathlib.Core.Path.{_≡_, refl, sym, ap, ap₂, _∙_, subst}
-use mathlib.Core.Bool.{Bool, true, false, not, _&&_, _||_}
+use mathlib.Core.Bool.{Bool, true, false, cond, not, _&&_, _||_}
 use mathlib.Core.Logic.{_⊎_, inl, inr}
 use mathlib.Core.List.{List, [], _∷_, _++_, append-assoc, append-nil}
 use Prim.Native.Nat.{ℕ, zero, suc, _+_, _-_, _≤_, _<_, min, max}
@@ -21,6 +21,7 @@ use Rattle.cursor.proofs.Laws.{rows-on}
 use Rattle.cursor.proofs.Leaves.{any-free}
 use Rattle.cursor.proofs.Wp.{All, all-on, at-end}
 use Rattle.cursor.proofs.Stable.{Free, Kept, chain, ends, stable}
+use Rattle.cursor.proofs.Agree.{Agree}
 use Rattle.cursor.proofs.Log.{held-parts, Sound, sound-run, sound-on, sound-in, sound-kept}
 use Rattle.cursor.proofs.Near.{Near, near-run, near-same, near-then, near-on, near-check}
 use Rattle.header.specs.Header.{Header, header}
@@ -32,7 +33,7 @@ use Rattle.metadata.proofs.Ends.{OfNames, Nothing, Given, Inside}
 use Rattle.node.specs.Node.{headerLength, head, front, outsideTree}
 use Rattle.tree.specs.Tree.{tree, node, detached}
 use Rattle.tree.specs.Reading.{nodeOf, nodesOf, itemsOf, Result, good, bad, Reading, rows, refusal, madeBy, logged, lost, offsetAt, outside, partEnd, takenFrom, detachedAt, reach, follow, reading, context, readTree, readFile}
-use Rattle.tree.specs.Rows.{nodeAt, itemAt, if_then_else_}
+use Rattle.tree.specs.Rows.{nodeAt, itemAt}
 use Rattle.tree.specs.Hidden.{mayDiffer, HiddenData, InlineData, InDetached, InParts, Private, DifferInPrivate, DifferInHidden}
 use Rattle.tree.proofs.Ends.{tree-ends, detached-ends}
 use Rattle.tree.proofs.Nodes.{inline-is}
@@ -66,7 +67,7 @@ module _ (free : Part → Bool) (lim : Limits) (f g : List ℕ) (l : length f �
 
   -- where row r leads in the one, it leads in the other
   reach-same : (log : Events) (r : Node) {log′ : Events} → Kept free f g log′ → Reached lim f h log r log′ → reach lim g h log r ≡ good log′
-  unfolding reach if_then_else_ detachedAt logged
+  unfolding reach detachedAt logged
   reach-same log r keep (known x y) = rw x (ap good (sym y))
   reach-same log r {log′} keep (added s y) =
       let m = target lim f h log r in
@@ -78,7 +79,7 @@ module _ (free : Part → Bool) (lim : Limits) (f g : List ℕ) (l : length f �
       rw (s .is-lost, ← l, s .is-outside, c, d, ← b) (ap good (sym y))
 
   follow-same : (k i : ℕ) (o : Result Events) {log′ : Events} → Kept free f g log′ → follow k lim f h i o ≡ good log′ → follow k lim g h i o ≡ good log′
-  unfolding follow if_then_else_
+  unfolding follow
   follow-same zero i o keep e = e
   follow-same (suc k) i (bad n p) keep e = e
   follow-same (suc k) i (good log) {log′} keep e = by (ltb i (length (nodesOf log))) (λ o. follow-same k (i + 1) o keep) e
@@ -95,7 +96,7 @@ module _ (free : Part → Bool) (lim : Limits) (f g : List ℕ) (l : length f �
       on (bad n p) q rest z = absurd (stops lim f k (i + 1) h n p z)
 
       by : (b : Bool) → ((o : Result Events) → follow k lim f h (i + 1) o ≡ good log′ → follow k lim g h (i + 1) o ≡ good log′)
-          → (if b then follow k lim f h (i + 1) (reach lim f h log r) else good log) ≡ good log′ → (if b then follow k lim g h (i + 1) (reach lim g h log r) else good log) ≡ good log′
+          → (cond b (follow k lim f h (i + 1) (reach lim f h log r)) (good log)) ≡ good log′ → (cond b (follow k lim g h (i + 1) (reach lim g h log r)) (good log)) ≡ good log′
       by true rest z = on (reach lim f h log r) refl rest z
       by false rest z = z
 
@@ -130,10 +131,6 @@ module _ (free : Part → Bool) where
         keeps-header = x;
         keeps = y;
       }
-
--- the two files agree on the n bytes from p on
-abbrev pub Agree : List ℕ → List ℕ → ℕ → ℕ → Type 0
-Agree f g p n = (k : ℕ) → p ≤ k → k < p + n → getD f k 0 ≡ getD g k 0
 
 -- ---- names, and data that is not free, agree
 
@@ -197,13 +194,13 @@ taken-after (r ∷ ns) at k h (inr y) = taken-after ns at k (h .1) y
 
 -- none before the first
 from-taken : (ns : List Node) (p end k : ℕ) → p ≤ k → Taken ns k → takenFrom ns p end ≤ k
-unfolding takenFrom if_then_else_
+unfolding takenFrom
 from-taken (r ∷ ns) p end k l (inl x) =
     let b : (eqb (r .detached) 1 && ltb p (r .start + r .size)) ≡ true = ap₂ _&&_ (eq-eqb _ _ (x .0)) (lt-ltb p (r .start + r .size) (omega arith)) in
     rw b (omega arith)
 from-taken (r ∷ ns) p end k l (inr y) = let z = from-taken ns p end k l y in by (eqb (r .detached) 1 && ltb p (r .start + r .size)) z
   where
-    by : (b : Bool) → takenFrom ns p end ≤ k → (if b then min (max p (r .start)) (takenFrom ns p end) else takenFrom ns p end) ≤ k
+    by : (b : Bool) → takenFrom ns p end ≤ k → (cond b (min (max p (r .start)) (takenFrom ns p end)) (takenFrom ns p end)) ≤ k
     by true z = omega arith
     by false z = z
 

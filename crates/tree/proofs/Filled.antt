@@ -1,19 +1,20 @@
 -- A run leaves in the tables the rows of its trace, and behind them what was there.
 -- Assumes nothing.
-use mathlib.Core.Path.{_≡_, refl, ap, _∙_}
+use mathlib.Core.Path.{_≡_, refl, sym, ap, ap₂, _∙_}
 use mathlib.Core.List.{List, [], _∷_}
 use Prim.Native.Nat.{ℕ, suc, _+_, _*_}
 use native.Mathlib.Nat.{add-zero}
 use native.Mathlib.Omega.{arith}
-use lib.ListN.{length, getD}
+use lib.ListN.{length, getD, length-append}
 use lib.Seq.{sets}
 use Rattle.cursor.specs.Machine.{Prog, ret, refuse, here, byte, pass, Out, ok, refused, Event, seen, passed, run, trace, exec, puts, rowsOf}
 use Rattle.cursor.specs.Rows.{Part, nodeRow, itemRow, plain, P, Events}
 use Rattle.cursor.specs.declared.Node.{Node}
 use Rattle.cursor.specs.declared.Item.{Item}
 use Rattle.cursor.proofs.Quiet.{still}
-use Rattle.metadata.specs.Tables.{nodeWidth, itemWidth, State, state, put}
-use Rattle.tree.specs.Reading.{nodesOf, itemsOf, allNodes, allItems}
+use Rattle.metadata.specs.Tables.{nodeWidth, itemWidth, nodeWords, itemWords, State, state, put}
+use Rattle.room.proofs.Sets.{sets-append}
+use Rattle.tree.specs.Reading.{nodesOf, itemsOf, allRows, allNodes, allItems}
 
 -- the rows of events, behind those that are there
 abbrev pub filled : Events → State → State
@@ -23,14 +24,21 @@ filled es σ = record {
   made = record { nodes = σ .made .nodes + length (nodesOf es); items = σ .made .items + length (itemsOf es) };
 }
 
+-- one more row, and rows behind it, whatever their width
+rows-behind : {A : Type 0} (width : ℕ) (words : A → List ℕ) (r : A) → length (words r) ≡ width → (t : List ℕ) (k : ℕ) (rs : List A)
+    → sets (sets t (k * width) (words r)) ((k + 1) * width) (allRows words rs) ≡ sets t (k * width) (allRows words (r ∷ rs))
+rows-behind width words r e t k rs =
+    let a : (k + 1) * width ≡ k * width + length (words r) = omega arith in
+    ap (λ n. sets (sets t (k * width) (words r)) n (allRows words rs)) a ∙ sets-append t (k * width) (words r) (allRows words rs)
+
 filled-more : (w : Part) (p n : ℕ) (es : Events) (σ : State) → filled es (put w p n σ) ≡ filled (passed w p n ∷ es) σ
 unfolding rowsOf
 filled-more (nodeRow r) p n es σ =
-    let a : (σ .made .nodes + 1) * nodeWidth ≡ suc (suc (suc (suc (suc (suc (suc (suc (suc (suc (suc (suc (suc (σ .made .nodes * nodeWidth))))))))))))) = omega arith in
+    let a = rows-behind nodeWidth nodeWords r refl (σ .nodes) (σ .made .nodes) (nodesOf es) in
     let b : σ .made .nodes + 1 + length (nodesOf es) ≡ σ .made .nodes + suc (length (nodesOf es)) = omega arith in
     rw (a, b)
 filled-more (itemRow r) p n es σ =
-    let a : (σ .made .items + 1) * itemWidth ≡ suc (suc (suc (suc (suc (suc (suc (suc (suc (suc (σ .made .items * itemWidth)))))))))) = omega arith in
+    let a = rows-behind itemWidth itemWords r refl (σ .items) (σ .made .items) (itemsOf es) in
     let b : σ .made .items + 1 + length (itemsOf es) ≡ σ .made .items + suc (length (itemsOf es)) = omega arith in
     rw (a, b)
 filled-more (plain x) p n es σ = refl
@@ -51,10 +59,14 @@ exec-fills (pass w n m) f at σ = exec-fills m f (at + n) (put w at n σ) ∙ ap
 
 -- ---- the words of rows
 
+words-length : {A : Type 0} (width : ℕ) (words : A → List ℕ) → ((r : A) → length (words r) ≡ width) → (rs : List A) → length (allRows words rs) ≡ length rs * width
+words-length width words e [] = omega arith
+words-length width words e (r ∷ rs) =
+    let z : suc (length rs) * width ≡ width + length rs * width = omega arith in
+    length-append (words r) (allRows words rs) ∙ ap₂ (λ a b. a + b) (e r) (words-length width words e rs) ∙ sym z
+
 pub nodes-length : (ns : List Node) → length (allNodes ns) ≡ length ns * nodeWidth
-nodes-length [] = refl
-nodes-length (r ∷ ns) = let e = nodes-length ns in omega arith
+nodes-length = words-length nodeWidth nodeWords (λ r. refl)
 
 pub items-length : (is : List Item) → length (allItems is) ≡ length is * itemWidth
-items-length [] = refl
-items-length (r ∷ is) = let e = items-length is in omega arith
+items-length = words-length itemWidth itemWords (λ r. refl)

@@ -2,7 +2,7 @@
 -- behind it if it held before, holds of the whole.
 -- Assumes nothing.
 use mathlib.Core.Path.{_≡_, refl, sym, ap, _∙_, subst}
-use mathlib.Core.Bool.{Bool, true, false, not, _&&_, _||_}
+use mathlib.Core.Bool.{Bool, true, false, cond, not, _&&_, _||_}
 use mathlib.Core.Logic.{_⊎_, inl, inr}
 use mathlib.Core.List.{List, [], _∷_, _++_}
 use Prim.Native.Nat.{ℕ, zero, suc, _+_, _≤_, _<_}
@@ -20,7 +20,7 @@ use Rattle.metadata.specs.declared.Limits.{Limits}
 use Rattle.metadata.specs.declared.Made.{Made}
 use Rattle.tree.specs.Tree.{tree, detached}
 use Rattle.tree.specs.Reading.{nodesOf, itemsOf, Result, good, bad, Reading, rows, refusal, madeBy, logged, lost, offsetAt, outside, partEnd, takenFrom, detachedAt, reach, follow, context, reading, readTree, readFile}
-use Rattle.tree.specs.Rows.{nodeAt, if_then_else_}
+use Rattle.tree.specs.Rows.{nodeAt}
 
 no : {A B : Type 0} {n p : ℕ} {a : A} → bad n p ≡ good a → B
 no e = let z : _≡_ {A = ℕ} 0 1 = cc in absurd (omega arith)
@@ -58,11 +58,11 @@ module _ (lim : Limits) (f : List ℕ) (h : Header) where
     added : Step log r → log′ ≡ stepped log r → Reached log r log′
 
   pub reached : (log : Events) (r : Node) {log′ : Events} → reach lim f h log r ≡ good log′ → Reached log r log′
-  unfolding reach if_then_else_
+  unfolding reach
   reached log r {log′} e = by (lost (nodesOf log) r) (outside h (length f) (r .target)) refl refl e
     where
       by : (b c : Bool) → lost (nodesOf log) r ≡ b → outside h (length f) (r .target) ≡ c
-          → (if b then if c then logged log (run (target log r) f (r .target)) (trace (target log r) f (r .target)) else bad 16 (offsetAt f r) else good log) ≡ good log′ → Reached log r log′
+          → (cond b (cond c (logged log (run (target log r) f (r .target)) (trace (target log r) f (r .target))) (bad 16 (offsetAt f r))) (good log)) ≡ good log′ → Reached log r log′
       by true true x y z =
           let w = logged-good log (trace (target log r) f (r .target)) (run (target log r) f (r .target)) z in
           added (record { made = w .0; after = w .1; is-lost = x; is-outside = y; runs = w .2 }) (w .3)
@@ -77,7 +77,7 @@ module _ (lim : Limits) (f : List ℕ) (h : Header) where
       → ((i : ℕ) (log log′ : Events) → I i log → i < length (nodesOf log) → Reached log (nodeAt (nodesOf log) i) log′ → I (i + 1) log′)
       → (k i : ℕ) (o : Result Events) {log′ : Events} → ((log : Events) → o ≡ good log → I i log) → follow k lim f h i o ≡ good log′
       → (j : ℕ) × I j log′ × ((length (nodesOf log′) ≤ j) ⊎ (j ≡ i + k))
-  unfolding follow if_then_else_
+  unfolding follow
   followed I step zero i o {log′} base e = (i, base log′ e, inr (omega arith))
   followed I step (suc k) i (bad n p) base e = no e
   followed I step (suc k) i (good log) {log′} base e =
@@ -85,7 +85,7 @@ module _ (lim : Limits) (f : List ℕ) (h : Header) where
     where
       by : (b : Bool) → ltb i (length (nodesOf log)) ≡ b
           → (ltb i (length (nodesOf log)) ≡ true → follow k lim f h (i + 1) (reach lim f h log (nodeAt (nodesOf log) i)) ≡ good log′ → (j : ℕ) × I j log′ × ((length (nodesOf log′) ≤ j) ⊎ (j ≡ i + 1 + k)))
-          → (if b then follow k lim f h (i + 1) (reach lim f h log (nodeAt (nodesOf log) i)) else good log) ≡ good log′
+          → (cond b (follow k lim f h (i + 1) (reach lim f h log (nodeAt (nodesOf log) i))) (good log)) ≡ good log′
           → (j : ℕ) × I j log′ × ((length (nodesOf log′) ≤ j) ⊎ (j ≡ i + suc k))
       by true t rest z = let w = rest t z in (w .0, w .1, elim (w .2) [ inl l ↦ inl l | inr l ↦ inr (omega arith) ])
       by false t rest z = let q : log ≡ log′ = cc in (i, subst (I i) q (base log refl), inl (subst (λ v. length (nodesOf v) ≤ i) q (ltb-false _ _ t)))

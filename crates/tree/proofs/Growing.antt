@@ -1,7 +1,7 @@
 -- The ways through following the rows: what each exit of the code comes to, over a log that grows.
 -- Assumes nothing.
 use mathlib.Core.Path.{_≡_, refl, sym, ap, ap₂, _∙_, subst}
-use mathlib.Core.Bool.{Bool, true, false, not, _&&_, _||_}
+use mathlib.Core.Bool.{Bool, true, false, cond, not, _&&_, _||_}
 use mathlib.Core.List.{List, [], _∷_, _++_}
 use Prim.Native.Nat.{ℕ, zero, suc, _+_, _*_, _-_, _^_, _≤_, _<_}
 use native.Mathlib.Nat.{zero-add}
@@ -27,7 +27,7 @@ use Rattle.metadata.specs.declared.Walked.the-variants.{Done, Refused}
 use Rattle.tree.specs.Reading.{nodeOf, nodesOf, itemsOf, allNodes, Result, good, bad, madeBy, logged, startsAt, lost, offsetAt, outside, partEnd, takenFrom, detachedAt, reach, follow, context}
 use Rattle.node.specs.Node.{outsideTree}
 use Rattle.tree.specs.Tree.{node, detached}
-use Rattle.tree.specs.Rows.{noNode, nodeFrom, nodesFrom, nodeAt, nodesIn, rowStarting, Rising, if_then_else_}
+use Rattle.tree.specs.Rows.{noNode, nodeFrom, nodesFrom, nodeAt, nodesIn, rowStarting, Rising, NodeIn}
 use Rattle.tree.specs.Told.{Stands, said, left, Leaves}
 use Rattle.room.proofs.Sets.{sets-front}
 use Rattle.tree.proofs.Filled.{filled, puts-fills, nodes-length}
@@ -36,7 +36,7 @@ use Rattle.tree.proofs.Follow.{target, Reached, known, added, reached}
 use Rattle.tree.proofs.Ends.{detached-inside}
 use Rattle.tree.proofs.Shown.{part-is}
 use Rattle.tree.proofs.TreeRows.{tree-few, attached, tree-still}
-use Rattle.tree.proofs.Rows.{node-at, in-front, nodes-back, NodeIn, node-in}
+use Rattle.tree.proofs.Rows.{node-at, in-front, nodes-back, node-in}
 
 -- ---- what stands in the tables
 
@@ -105,20 +105,20 @@ part-in h size p l e = let w = part-is h size p l .0 in omega arith
 -- ---- one row
 
 none-by : (ns : List Node) (p : ℕ) → startsAt ns p ≡ true → rowStarting ns p < length ns
-unfolding startsAt rowStarting if_then_else_
+unfolding startsAt rowStarting
 none-by [] p e = let y : _≡_ {A = ℕ} 0 1 = cc in absurd (omega arith)
 none-by (r ∷ rs) p e = by (eqb (r .start) p) e (none-by rs p)
   where
-    by : (b : Bool) → (b || startsAt rs p) ≡ true → (startsAt rs p ≡ true → rowStarting rs p < length rs) → (if b then 0 else suc (rowStarting rs p)) < suc (length rs)
+    by : (b : Bool) → (b || startsAt rs p) ≡ true → (startsAt rs p ≡ true → rowStarting rs p < length rs) → (cond b 0 (suc (rowStarting rs p))) < suc (length rs)
     by true z rest = omega arith
     by false z rest = let w = rest z in omega arith
 
 some-by : (ns : List Node) (p : ℕ) → startsAt ns p ≡ false → length ns ≤ rowStarting ns p
-unfolding startsAt rowStarting if_then_else_
+unfolding startsAt rowStarting
 some-by [] p e = omega arith
 some-by (r ∷ rs) p e = by (eqb (r .start) p) e (some-by rs p)
   where
-    by : (b : Bool) → (b || startsAt rs p) ≡ false → (startsAt rs p ≡ false → length rs ≤ rowStarting rs p) → suc (length rs) ≤ (if b then 0 else suc (rowStarting rs p))
+    by : (b : Bool) → (b || startsAt rs p) ≡ false → (startsAt rs p ≡ false → length rs ≤ rowStarting rs p) → suc (length rs) ≤ (cond b 0 (suc (rowStarting rs p)))
     by true z rest = let y : _≡_ {A = ℕ} 0 1 = cc in absurd (omega arith)
     by false z rest = let w = rest z in omega arith
 
@@ -136,28 +136,30 @@ starts-not ns p l = by (startsAt ns p) refl
     by true e = let w = none-by ns p e in absurd (omega arith)
     by false e = refl
 
-module _ (lim : Limits) (f : List ℕ) (h : Header) {σ : State} {log : Events} {tree : ℕ} {t u : List ℕ} {m : Made} (s : Stands lim (length f) σ log tree t u m) (room : lim .nodes * nodeWidth ≤ length t) (i : ℕ) (l : i < m .nodes) where
+module _ (lim : Limits) (f : List ℕ) (h : Header) {σ : State} {log : Events} {tree : ℕ} {t u : List ℕ} {m : Made} (s : Stands lim (length f) σ log tree t u m) (room : lim .nodes * nodeWidth ≤ length t) (i : ℕ) (l : i < m .nodes) {row : Node} (read : row ≡ nodeFrom t (i * nodeWidth)) where
   abbrev r : Node
   r = nodeAt (nodesOf log) i
 
-  pub row-words : nodeFrom t (i * nodeWidth) ≡ r
-  row-words = sym (node-at t (m .nodes) i l) ∙ ap (λ v. nodeAt v i) (rows-stand s room)
+  row-words : row ≡ r
+  row-words = read ∙ sym (node-at t (m .nodes) i l) ∙ ap (λ v. nodeAt v i) (rows-stand s room)
 
   reach-same : lost (nodesOf log) r ≡ false → (c : Cursor) → Leaves lim σ (Done m c) t u (reach lim f h log r)
-  unfolding reach if_then_else_
+  unfolding reach
   reach-same e c = rw e (leaves-same s c)
 
   -- no reference 3
-  pub reach-other : ((getD t (i * nodeWidth + 6) 0 ≡ 3) → ⊥) → (c : Cursor) → Leaves lim σ (Done m c) t u (reach lim f h log r)
+  pub reach-other : ((row .reference ≡ 3) → ⊥) → (c : Cursor) → Leaves lim σ (Done m c) t u (reach lim f h log r)
   unfolding lost
   reach-other n c = let q : (r .reference ≡ 3) → ⊥ = λ z. n (ap (λ (x : Node). x .reference) row-words ∙ z) in reach-same (ap (λ b. b && not (startsAt (nodesOf log) (r .target))) (ne-eqb _ _ q)) c
 
+  to-is : row .target ≡ r .target
+  to-is = ap (λ (x : Node). x .target) row-words
+
   -- a row starts there
-  pub reach-known : {k to : ℕ} → to ≡ getD t (i * nodeWidth + 7) 0 → k ≡ rowStarting (nodesIn (m .nodes) t) to → k < m .nodes → (c : Cursor) → Leaves lim σ (Done m c) t u (reach lim f h log r)
+  pub reach-known : {k : ℕ} → k ≡ rowStarting (nodesIn (m .nodes) t) (row .target) → k < m .nodes → (c : Cursor) → Leaves lim σ (Done m c) t u (reach lim f h log r)
   unfolding lost
-  reach-known {k} {to} a e j c =
-      let z : to ≡ r .target = a ∙ ap (λ (x : Node). x .target) row-words in
-      let y : k ≡ rowStarting (nodesOf log) (r .target) = e ∙ ap₂ rowStarting (rows-stand s room) z in
+  reach-known {k} e j c =
+      let y : k ≡ rowStarting (nodesOf log) (r .target) = e ∙ ap₂ rowStarting (rows-stand s room) to-is in
       let n = node-count s in
       reach-same (rw (starts-when (nodesOf log) (r .target) (omega arith)) (and-false (eqb (r .reference) 3))) c
     where
@@ -165,10 +167,7 @@ module _ (lim : Limits) (f : List ℕ) (h : Header) {σ : State} {log : Events} 
       and-false true = refl
       and-false false = refl
 
-  module _ (three : getD t (i * nodeWidth + 6) 0 ≡ 3) {k to : ℕ} (is : to ≡ getD t (i * nodeWidth + 7) 0) (e : k ≡ rowStarting (nodesIn (m .nodes) t) to) (none : m .nodes ≤ k) where
-    to-is : to ≡ r .target
-    to-is = is ∙ ap (λ (x : Node). x .target) row-words
-
+  module _ (three : row .reference ≡ 3) {k : ℕ} (e : k ≡ rowStarting (nodesIn (m .nodes) t) (row .target)) (none : m .nodes ≤ k) where
     is-lost : lost (nodesOf log) r ≡ true
     unfolding lost
     is-lost =
@@ -178,17 +177,17 @@ module _ (lim : Limits) (f : List ℕ) (h : Header) {σ : State} {log : Events} 
         rw (eq-eqb _ _ q, starts-not (nodesOf log) (r .target) (omega arith)) refl
 
     -- no node may start there
-    pub reach-nowhere : false ≡ outside h (length f) to → {p : FilePlace} → p .0 ≡ offsetAt f (nodeAt (nodesIn (m .nodes) t) i) → Leaves lim σ (Refused 16 p) t u (reach lim f h log r)
-    unfolding reach if_then_else_
+    pub reach-nowhere : false ≡ outside h (length f) (row .target) → {p : FilePlace} → p .0 ≡ offsetAt f (nodeAt (nodesIn (m .nodes) t) i) → Leaves lim σ (Refused 16 p) t u (reach lim f h log r)
+    unfolding reach
     reach-nowhere b {p} q =
         let o : outside h (length f) (r .target) ≡ false = sym (b ∙ ap (outside h (length f)) to-is) in
         let z : p .0 ≡ offsetAt f r = q ∙ ap (λ v. offsetAt f (nodeAt v i)) (rows-stand s room) in
         rw (is-lost, o) (record { answer = ap (bad 16) z; fits = tt })
 
     -- a node is read there
-    pub reach-node : true ≡ outside h (length f) to → {offset end taken : ℕ} → offset ≡ offsetAt f (nodeAt (nodesIn (m .nodes) t) i) → end ≡ partEnd h (length f) to → taken ≡ takenFrom (nodesIn (m .nodes) t) to end
-        → {w : Walked} {t′ u′ : List ℕ} → Gives lim w t′ u′ (exec put (times 1 (node 17 (context lim h (length f)) (m .nodes) (outsideTree end taken offset)) m) f to (state t u m)) → Leaves lim σ w t′ u′ (reach lim f h log r)
-    unfolding reach if_then_else_ detachedAt detached
+    pub reach-node : true ≡ outside h (length f) (row .target) → {offset end taken : ℕ} → offset ≡ offsetAt f (nodeAt (nodesIn (m .nodes) t) i) → end ≡ partEnd h (length f) (row .target) → taken ≡ takenFrom (nodesIn (m .nodes) t) (row .target) end
+        → {w : Walked} {t′ u′ : List ℕ} → Gives lim w t′ u′ (exec put (times 1 (node 17 (context lim h (length f)) (m .nodes) (outsideTree end taken offset)) m) f (row .target) (state t u m)) → Leaves lim σ w t′ u′ (reach lim f h log r)
+    unfolding reach detachedAt detached
     reach-node b {offset} {end} {taken} q en ta {w} {t′} {u′} g =
         let o : outside h (length f) (r .target) ≡ true = sym (b ∙ ap (outside h (length f)) to-is) in
         let z : offset ≡ offsetAt f r = q ∙ ap (λ v. offsetAt f (nodeAt v i)) (rows-stand s room) in
@@ -197,7 +196,7 @@ module _ (lim : Limits) (f : List ℕ) (h : Header) {σ : State} {log : Events} 
         let x = context lim h (length f) in
         let n : node 17 x (m .nodes) (outsideTree end taken offset) m ≡ node 17 x (madeBy log .nodes) (outsideTree (partEnd h (length f) (r .target)) (takenFrom (nodesOf log) (r .target) (partEnd h (length f) (r .target))) (offsetAt f r)) (madeBy log) =
         ap (λ (v : Made). node 17 x (v .nodes) (outsideTree end taken offset) v) (sym (made-is s)) ∙ ap₂ (λ (a : ℕ) (b : ℕ). node 17 x (madeBy log .nodes) (outsideTree a b offset) (madeBy log)) en′ ta′ ∙ ap (λ c. node 17 x (madeBy log .nodes) (outsideTree (partEnd h (length f) (r .target)) (takenFrom (nodesOf log) (r .target) (partEnd h (length f) (r .target))) c) (madeBy log)) z in
-        rw (is-lost, o) (subst (λ (v : P Made). Leaves lim σ w t′ u′ (logged log (run v f (r .target)) (trace v f (r .target)))) n (subst (λ v. Leaves lim σ w t′ u′ (logged log (run (node 17 x (m .nodes) (outsideTree end taken offset) m) f v) (trace (node 17 x (m .nodes) (outsideTree end taken offset) m) f v))) to-is (leaves-more s f to _ (one-node (node 17 x (m .nodes) (outsideTree end taken offset)) m f to (state t u m) g))))
+        rw (is-lost, o) (subst (λ (v : P Made). Leaves lim σ w t′ u′ (logged log (run v f (r .target)) (trace v f (r .target)))) n (subst (λ v. Leaves lim σ w t′ u′ (logged log (run (node 17 x (m .nodes) (outsideTree end taken offset) m) f v) (trace (node 17 x (m .nodes) (outsideTree end taken offset) m) f v))) to-is (leaves-more s f (row .target) _ (one-node (node 17 x (m .nodes) (outsideTree end taken offset)) m f (row .target) (state t u m) g))))
 
 -- ---- all rows
 
@@ -249,7 +248,7 @@ module _ (lim : Limits) (f : List ℕ) (h : Header) (tree : ℕ) (t₀ u₀ : Li
     -- a row is left: what it leads to
     turn : (σ : State) (log₀ : Events) (s : Stands lim (length f) σ log₀ tree t₀ u₀ m₀) → i < m .nodes
         → follow (lim .nodes) lim f h 0 (good log₀) ≡ follow (lim .nodes - (i + 1)) lim f h (i + 1) (reach lim f h (w σ log₀ s .log) (nodeAt (nodesOf (w σ log₀ s .log)) i))
-    unfolding follow if_then_else_
+    unfolding follow
     turn σ log₀ s l =
         let x = w σ log₀ s in
         let n = node-count (x .stands) in
@@ -283,7 +282,7 @@ module _ (lim : Limits) (f : List ℕ) (h : Header) (tree : ℕ) (t₀ u₀ : Li
           by (bad a b) q y fits = let v : _≡_ {A = ℕ} 0 1 = cc in absurd (omega arith)
 
     pub follows-done : m .nodes ≤ i → (c : Cursor) → (σ : State) (log₀ : Events) → Stands lim (length f) σ log₀ tree t₀ u₀ m₀ → Leaves lim σ (Done m c) t u (follow (lim .nodes) lim f h 0 (good log₀))
-    unfolding follow if_then_else_
+    unfolding follow
     follows-done l c σ log₀ s =
         let x = w σ log₀ s in
         let n = node-count (x .stands) in

@@ -9,8 +9,10 @@ pub mod Filled
 pub mod Growing
 pub mod Whole
 pub mod Rows
+pub mod Exits
 pub mod Demand
 pub mod Order
+pub mod Own
 pub mod Limited
 pub mod Links
 pub mod Listed

@@ -1,7 +1,7 @@
 -- A file under smaller limits: it is accepted just when it is accepted under larger ones with rows that fit, and then it has the same rows.
 -- Assumes nothing.
 use mathlib.Core.Path.{_≡_, refl, sym, ap, ap₂, _∙_, subst}
-use mathlib.Core.Bool.{Bool, true, false}
+use mathlib.Core.Bool.{Bool, true, false, cond}
 use mathlib.Core.List.{List, [], _∷_, _++_, append-nil, append-assoc}
 use Prim.Native.Nat.{ℕ, zero, suc, _+_, _-_, _≤_, _<_}
 use native.Mathlib.Omega.{arith}
@@ -25,7 +25,7 @@ use Rattle.node.specs.declared.Standing.{Standing}
 use Rattle.node.proofs.Limited.{front-limited}
 use Rattle.tree.specs.Tree.{folder, node, tree, detached}
 use Rattle.tree.specs.Reading.{nodeOf, itemOf, nodesOf, itemsOf, Result, good, bad, rows, madeBy, logged, detachedAt, reach, follow, context, reading, readTree, readFile}
-use Rattle.tree.specs.Rows.{nodeAt, if_then_else_}
+use Rattle.tree.specs.Rows.{nodeAt}
 use Rattle.tree.proofs.Follow.{treeOf, target, stepped, Reached, known, added, reached, followed, ReadAs, read-back, stops}
 
 -- ---- a node
@@ -102,24 +102,24 @@ module _ (from to lim : Limits) (f : List ℕ) (h : Header)
     (runs-too : (log : Events) (r : Node) (m : Made) (p : ℕ) → run (target from f h log r) f (r .target) ≡ ok m p → Fits lim (stepped from f h log r)
     → (run (target to f h log r) f (r .target) ≡ ok m p) × (trace (target to f h log r) f (r .target) ≡ trace (target from f h log r) f (r .target))) where
   reach-as : (log log′ : Events) (r : Node) → Reached from f h log r log′ → Fits lim log′ → reach to f h log r ≡ good log′
-  unfolding reach if_then_else_ logged
+  unfolding reach logged
   reach-as log log′ r (known x y) l = rw x (ap good (sym y))
   reach-as log log′ r (added s y) l =
       let (a, b) = runs-too log r (s .made) (s .after) (s .runs) (subst (Fits lim) y l) in
       rw (s .is-lost, s .is-outside, a) (ap good (ap (λ v. log ++ v) b ∙ sym y))
 
   stays : (k i : ℕ) (log : Events) → length (nodesOf log) ≤ i → follow k to f h i (good log) ≡ good log
-  unfolding follow if_then_else_
+  unfolding follow
   stays zero i log l = refl
   stays (suc k) i log l = rw (le-ltb i (length (nodesOf log)) l)
 
   turn : (j i : ℕ) (log : Events) {log′ : Events} → i < length (nodesOf log) → follow j to f h (i + 1) (reach to f h log (nodeAt (nodesOf log) i)) ≡ good log′ → follow (suc j) to f h i (good log) ≡ good log′
-  unfolding follow if_then_else_
+  unfolding follow
   turn j i log t z = rw (lt-ltb i (length (nodesOf log)) t) z
 
   follow-as : (k k′ i : ℕ) (log : Events) {log′ : Events} → follow k from f h i (good log) ≡ good log′ → Fits lim log′ → length (nodesOf log′) ≤ i + k → length (nodesOf log′) ≤ i + k′
       → follow k′ to f h i (good log) ≡ good log′
-  unfolding follow if_then_else_
+  unfolding follow
   follow-as zero k′ i log e l a b = let z = same-good e in stays k′ i log (subst (λ v. length (nodesOf v) ≤ i) (sym z) (omega arith)) ∙ ap good z
   follow-as (suc k) k′ i log {log′} e l a b =
       let (es, g) = grown from f h (suc k) i log e in
@@ -137,7 +137,7 @@ module _ (from to lim : Limits) (f : List ℕ) (h : Header)
           ap (follow j to f h (i + 1)) w ∙ rest log₁ z
 
       by : (k′ : ℕ) (s : Bool) → ltb i (length (nodesOf log)) ≡ s → length (nodesOf log) ≤ length (nodesOf log′) → length (nodesOf log′) ≤ i + k′
-          → (if s then follow k from f h (i + 1) (reach from f h log (nodeAt (nodesOf log) i)) else good log) ≡ good log′
+          → (cond s (follow k from f h (i + 1) (reach from f h log (nodeAt (nodesOf log) i))) (good log)) ≡ good log′
           → ((log₁ : Events) → follow k from f h (i + 1) (good log₁) ≡ good log′ → (j : ℕ) → length (nodesOf log′) ≤ i + 1 + j → follow j to f h (i + 1) (good log₁) ≡ good log′)
           → follow k′ to f h i (good log) ≡ good log′
       by zero true t g c z rest = let y = ltb-true i (length (nodesOf log)) t in absurd (omega arith)

@@ -1,7 +1,7 @@
 -- Each refusal of the reader is one of the reader's: the header's, the tree's, and those of targets.
 -- Assumes nothing.
 use mathlib.Core.Path.{_≡_, refl, subst}
-use mathlib.Core.Bool.{Bool, true, false}
+use mathlib.Core.Bool.{Bool, true, false, cond}
 use mathlib.Core.List.{List, []}
 use Prim.Native.Nat.{ℕ, zero, suc, _+_, _-_}
 use native.Mathlib.Omega.{arith}
@@ -20,7 +20,7 @@ use Rattle.node.specs.Node.{inTree, outsideTree}
 use Rattle.node.specs.declared.Standing.{Standing}
 use Rattle.node.proofs.Uses.{front-uses}
 use Rattle.tree.specs.Tree.{folder, node, tree, detached}
-use Rattle.tree.specs.Rows.{nodeAt, if_then_else_}
+use Rattle.tree.specs.Rows.{nodeAt}
 use Rattle.tree.specs.Reading.{nodesOf, Result, good, bad, refusal, logged, lost, offsetAt, outside, detachedAt, reach, follow, reading, context, readTree, readFile}
 
 -- ---- the tree
@@ -60,26 +60,26 @@ logged-listed f at l log (refused k q) e z = same-bad (refused-as f at l e) z
 
 module _ (lim : Limits) (f : List ℕ) (h : Header) {n p : ℕ} where
   reach-listed : (log : Events) (r : Node) → reach lim f h log r ≡ bad n p → InList n p
-  unfolding reach if_then_else_ detachedAt
+  unfolding reach detachedAt
   reach-listed log r e = by (lost (nodesOf log) r) (outside h (length f) (r .target)) e
     where
       m : P Made
       m = detachedAt lim h (length f) log (r .target) (offsetAt f r)
 
-      by : (b c : Bool) → (if b then if c then logged log (run m f (r .target)) (trace m f (r .target)) else bad 16 (offsetAt f r) else good log) ≡ bad n p → InList n p
+      by : (b c : Bool) → (cond b (cond c (logged log (run m f (r .target)) (trace m f (r .target))) (bad 16 (offsetAt f r))) (good log)) ≡ bad n p → InList n p
       by true true z = logged-listed f (r .target) (detached-listed _ _ _ _ _) log (run m f (r .target)) refl z
       by true false z = same-bad tt z
       by false true z = not-good z
       by false false z = not-good z
 
   follow-listed : (k i : ℕ) (o : Result Events) → (o ≡ bad n p → InList n p) → follow k lim f h i o ≡ bad n p → InList n p
-  unfolding follow if_then_else_
+  unfolding follow
   follow-listed zero i o base e = base e
   follow-listed (suc k) i (bad a b) base e = base e
   follow-listed (suc k) i (good log) base e = by (ltb i (length (nodesOf log))) (follow-listed k (i + 1) (reach lim f h log (nodeAt (nodesOf log) i)) (reach-listed log (nodeAt (nodesOf log) i))) e
     where
       by : (b : Bool) → (follow k lim f h (i + 1) (reach lim f h log (nodeAt (nodesOf log) i)) ≡ bad n p → InList n p)
-          → (if b then follow k lim f h (i + 1) (reach lim f h log (nodeAt (nodesOf log) i)) else good log) ≡ bad n p → InList n p
+          → (cond b (follow k lim f h (i + 1) (reach lim f h log (nodeAt (nodesOf log) i))) (good log)) ≡ bad n p → InList n p
       by true rest z = rest z
       by false rest z = not-good z
 

@@ -3,7 +3,7 @@
 use mathlib.Core.Path.{_≡_, refl, sym, ap, ap₂, _∙_}
 use mathlib.Core.Bool.{Bool, true, false}
 use mathlib.Core.Logic.{_⊎_, inl, inr}
-use mathlib.Core.List.{List, [], _∷_, _++_}
+use mathlib.Core.List.{List, [], _∷_, _++_, append-assoc}
 use Prim.Native.Nat.{ℕ, zero, suc, _+_, _*_, _-_, _^_, _≤_, _<_}
 use native.Mathlib.Omega.{arith}
 use lib.ListN.{length, getD, replicate, take, length-append, length-replicate}
@@ -21,9 +21,9 @@ use Rattle.metadata.specs.declared.Limits.{Limits}
 use Rattle.metadata.specs.declared.Made.{Made}
 use Rattle.metadata.proofs.Ends.{Nothing, Inside}
 use Rattle.tree.specs.Tree.{tree}
-use Rattle.tree.specs.Reading.{nodesOf, itemsOf, allNodes, allItems, Reading, rows, refusal, readFile, readOf, summary, nodeTable, itemTable}
+use Rattle.tree.specs.Reading.{nodesOf, itemsOf, allRows, allNodes, allItems, Reading, rows, refusal, readFile, readOf, summary, nodeTable, itemTable}
 use Rattle.room.specs.Room.{padded}
-use Rattle.tree.specs.Rows.{nodeFrom, itemFrom, nodesFrom, itemsFrom, nodesIn, itemsIn, noNode, noItem, nodeAt, itemAt}
+use Rattle.tree.specs.Rows.{nodeFrom, itemFrom, rowsFrom, nodesIn, itemsIn, noNode, noItem, nodeAt, itemAt, NodeIn, ItemIn, ItemsIn}
 use Rattle.tree.specs.Asking.{Result, good, bad, ask, keptNodes, keptItems}
 use Rattle.tree.specs.declared.Summary.{Summary}
 use Rattle.tree.specs.declared.Read.{Read}
@@ -32,107 +32,113 @@ use Rattle.tree.proofs.Follow.{ReadAs, read-back}
 use Rattle.tree.proofs.Shown.{header-of, log-inside}
 use Rattle.tree.proofs.Filled.{nodes-length, items-length}
 
--- ---- row i of the words
+-- ---- row i of the words, whatever their width
+
+module _ {A : Type 0} (width : ℕ) (row : List ℕ → ℕ → A) (ws : List ℕ) where
+  row-at : (d : A) (i n j : ℕ) → j < n → getD (rowsFrom width row i n ws) j d ≡ row ws ((i + j) * width)
+  unfolding rowsFrom
+  row-at d i zero j l = absurd (omega arith)
+  row-at d i (suc n) zero l = let e : i + 0 ≡ i = omega arith in rw e
+  row-at d i (suc n) (suc j) l = let e : i + 1 + j ≡ i + suc j = omega arith in row-at d (i + 1) n j (omega arith) ∙ ap (λ k. row ws (k * width)) e
+
+  rows-length : (i n : ℕ) → length (rowsFrom width row i n ws) ≡ n
+  unfolding rowsFrom
+  rows-length i zero = refl
+  rows-length i (suc n) = ap suc (rows-length (i + 1) n)
+
+  rows-front : (i k n : ℕ) → k ≤ n → rowsFrom width row i k ws ≡ take k (rowsFrom width row i n ws)
+  unfolding rowsFrom
+  rows-front i zero n l = refl
+  rows-front i (suc k) zero l = absurd (omega arith)
+  rows-front i (suc k) (suc n) l = ap (λ v. row ws (i * width) ∷ v) (rows-front (i + 1) k n (omega arith))
 
 module _ (ws : List ℕ) where
-  from-nodes : (i n j : ℕ) → j < n → getD (nodesFrom i n ws) j noNode ≡ nodeFrom ws ((i + j) * nodeWidth)
-  unfolding nodesFrom
-  from-nodes i zero j l = absurd (omega arith)
-  from-nodes i (suc n) zero l = let e : i + 0 ≡ i = omega arith in rw e
-  from-nodes i (suc n) (suc j) l = let e : i + 1 + j ≡ i + suc j = omega arith in from-nodes (i + 1) n j (omega arith) ∙ ap (λ k. nodeFrom ws (k * nodeWidth)) e
-
-  from-items : (i n j : ℕ) → j < n → getD (itemsFrom i n ws) j noItem ≡ itemFrom ws ((i + j) * itemWidth)
-  unfolding itemsFrom
-  from-items i zero j l = absurd (omega arith)
-  from-items i (suc n) zero l = let e : i + 0 ≡ i = omega arith in rw e
-  from-items i (suc n) (suc j) l = let e : i + 1 + j ≡ i + suc j = omega arith in from-items (i + 1) n j (omega arith) ∙ ap (λ k. itemFrom ws (k * itemWidth)) e
-
   -- row i of the first n rows is the one whose words begin at row i
   pub node-at : (n i : ℕ) → i < n → nodeAt (nodesIn n ws) i ≡ nodeFrom ws (i * nodeWidth)
   unfolding nodesIn
-  node-at n i l = from-nodes 0 n i l ∙ ap (λ k. nodeFrom ws (k * nodeWidth)) (let e : 0 + i ≡ i = omega arith in e)
+  node-at n i l = let e : 0 + i ≡ i = omega arith in row-at nodeWidth nodeFrom ws noNode 0 n i l ∙ ap (λ k. nodeFrom ws (k * nodeWidth)) e
 
   pub item-at : (n i : ℕ) → i < n → itemAt (itemsIn n ws) i ≡ itemFrom ws (i * itemWidth)
   unfolding itemsIn
-  item-at n i l = from-items 0 n i l ∙ ap (λ k. itemFrom ws (k * itemWidth)) (let e : 0 + i ≡ i = omega arith in e)
-
-  nodes-count : (i n : ℕ) → length (nodesFrom i n ws) ≡ n
-  unfolding nodesFrom
-  nodes-count i zero = refl
-  nodes-count i (suc n) = ap suc (nodes-count (i + 1) n)
-
-  items-count : (i n : ℕ) → length (itemsFrom i n ws) ≡ n
-  unfolding itemsFrom
-  items-count i zero = refl
-  items-count i (suc n) = ap suc (items-count (i + 1) n)
+  item-at n i l = let e : 0 + i ≡ i = omega arith in row-at itemWidth itemFrom ws noItem 0 n i l ∙ ap (λ k. itemFrom ws (k * itemWidth)) e
 
   pub nodes-in-length : (n : ℕ) → length (nodesIn n ws) ≡ n
   unfolding nodesIn
-  nodes-in-length n = nodes-count 0 n
+  nodes-in-length n = rows-length nodeWidth nodeFrom ws 0 n
 
   pub items-in-length : (n : ℕ) → length (itemsIn n ws) ≡ n
   unfolding itemsIn
-  items-in-length n = items-count 0 n
-
-  nodes-front : (i k n : ℕ) → k ≤ n → nodesFrom i k ws ≡ take k (nodesFrom i n ws)
-  unfolding nodesFrom
-  nodes-front i zero n l = refl
-  nodes-front i (suc k) zero l = absurd (omega arith)
-  nodes-front i (suc k) (suc n) l = ap (λ v. nodeFrom ws (i * nodeWidth) ∷ v) (nodes-front (i + 1) k n (omega arith))
+  items-in-length n = rows-length itemWidth itemFrom ws 0 n
 
   -- the first k of n rows
   pub in-front : (k n : ℕ) → k ≤ n → nodesIn k ws ≡ take k (nodesIn n ws)
   unfolding nodesIn
-  in-front k n l = nodes-front 0 k n l
+  in-front k n l = rows-front nodeWidth nodeFrom ws 0 k n l
 
 -- ---- rows that stand in words are read back
 
--- the words after one row, read from the next row on
-next-node : (r : Node) (ws : List ℕ) (i : ℕ) → nodeFrom (nodeWords r ++ ws) (suc i * nodeWidth) ≡ nodeFrom ws (i * nodeWidth)
-next-node r ws i =
-    let e : (j : ℕ) → suc i * nodeWidth + j ≡ suc (suc (suc (suc (suc (suc (suc (suc (suc (suc (suc (suc (suc (i * nodeWidth + j))))))))))))) = λ j. omega arith in
-    let e₀ : suc i * nodeWidth ≡ suc (suc (suc (suc (suc (suc (suc (suc (suc (suc (suc (suc (suc (i * nodeWidth))))))))))))) = omega arith in
-    rw (e 1, e 2, e 3, e 4, e 5, e 6, e 7, e 8, e 9, e 10, e 11, e 12, e₀)
+-- a row is read back where its words stand, and the rows after it from the next place on
+record ReadBack {A : Type 0} (width : ℕ) (row : List ℕ → ℕ → A) (words : A → List ℕ) : Type 0 where
+  this : (r : A) (ws : List ℕ) → row (words r ++ ws) 0 ≡ r
+  later : (r : A) (ws : List ℕ) (k : ℕ) → row (words r ++ ws) (width + k) ≡ row ws k
 
-node-shift : (r : Node) (ws : List ℕ) (i n : ℕ) → nodesFrom (suc i) n (nodeWords r ++ ws) ≡ nodesFrom i n ws
-unfolding nodesFrom
-node-shift r ws i zero = refl
-node-shift r ws i (suc n) =
-    let b : suc i + 1 ≡ suc (i + 1) = omega arith in
-    ap₂ (λ (x : Node) (v : List Node). x ∷ v) (next-node r ws i) (ap (λ k. nodesFrom k n (nodeWords r ++ ws)) b ∙ node-shift r ws (i + 1) n)
+module _ {A : Type 0} {width : ℕ} {row : List ℕ → ℕ → A} {words : A → List ℕ} (back : ReadBack width row words) where
+  rows-shift : (r : A) (ws : List ℕ) (i n : ℕ) → rowsFrom width row (suc i) n (words r ++ ws) ≡ rowsFrom width row i n ws
+  unfolding rowsFrom
+  rows-shift r ws i zero = refl
+  rows-shift r ws i (suc n) =
+      let a : suc i * width ≡ width + i * width = omega arith in
+      let b : suc i + 1 ≡ suc (i + 1) = omega arith in
+      ap₂ (λ (x : A) (v : List A). x ∷ v) (ap (row (words r ++ ws)) a ∙ back .later r ws (i * width)) (ap (λ k. rowsFrom width row k n (words r ++ ws)) b ∙ rows-shift r ws (i + 1) n)
+
+  rows-back : (rs : List A) (rest : List ℕ) → rowsFrom width row 0 (length rs) (allRows words rs ++ rest) ≡ rs
+  unfolding rowsFrom
+  rows-back [] rest = refl
+  rows-back (r ∷ rs) rest =
+      let z : 0 * width ≡ 0 = omega arith in
+      ap₂ (λ (x : A) (v : List A). x ∷ v) (ap₂ row (append-assoc (words r) (allRows words rs) rest) z ∙ back .this r (allRows words rs ++ rest))
+      (ap (rowsFrom width row 1 (length rs)) (append-assoc (words r) (allRows words rs) rest) ∙ rows-shift r (allRows words rs ++ rest) 0 (length rs) ∙ rows-back rs rest)
+
+-- a word behind other words
+behind : (xs ws : List ℕ) (k : ℕ) {n : ℕ} → n ≡ length xs + k → getD (xs ++ ws) n 0 ≡ getD ws k 0
+behind xs ws k e = ap (λ n. getD (xs ++ ws) n 0) e ∙ by xs
+  where
+    by : (xs : List ℕ) → getD (xs ++ ws) (length xs + k) 0 ≡ getD ws k 0
+    by [] = ap (λ n. getD ws n 0) (omega arith)
+    by (x ∷ xs) = let s : suc (length xs) + k ≡ suc (length xs + k) = omega arith in ap (λ n. getD (x ∷ xs ++ ws) n 0) s ∙ by xs
+
+node-back : ReadBack nodeWidth nodeFrom nodeWords
+node-back = record {
+  this = λ r ws. refl;
+  later = λ r ws k.
+      let w : (j : ℕ) → getD (nodeWords r ++ ws) (nodeWidth + k + j) 0 ≡ getD ws (k + j) 0 = λ j. behind (nodeWords r) ws (k + j) {n = nodeWidth + k + j} (omega arith) in
+      let v : getD (nodeWords r ++ ws) (nodeWidth + k) 0 ≡ getD ws k 0 = behind (nodeWords r) ws k {n = nodeWidth + k} (omega arith) in
+      simp (v, w);
+}
+
+item-back : ReadBack itemWidth itemFrom itemWords
+item-back = record {
+  this = λ r ws. refl;
+  later = λ r ws k.
+      let w : (j : ℕ) → getD (itemWords r ++ ws) (itemWidth + k + j) 0 ≡ getD ws (k + j) 0 = λ j. behind (itemWords r) ws (k + j) {n = itemWidth + k + j} (omega arith) in
+      let v : getD (itemWords r ++ ws) (itemWidth + k) 0 ≡ getD ws k 0 = behind (itemWords r) ws k {n = itemWidth + k} (omega arith) in
+      simp (v, w);
+}
 
 pub nodes-back : (ns : List Node) (rest : List ℕ) → nodesIn (length ns) (allNodes ns ++ rest) ≡ ns
-unfolding nodesIn nodesFrom
-nodes-back [] rest = refl
-nodes-back (r ∷ ns) rest = ap (λ v. r ∷ v) (node-shift r (allNodes ns ++ rest) 0 (length ns) ∙ nodes-back ns rest)
-
-next-item : (r : Item) (ws : List ℕ) (i : ℕ) → itemFrom (itemWords r ++ ws) (suc i * itemWidth) ≡ itemFrom ws (i * itemWidth)
-next-item r ws i =
-    let e : (j : ℕ) → suc i * itemWidth + j ≡ suc (suc (suc (suc (suc (suc (suc (suc (suc (suc (i * itemWidth + j)))))))))) = λ j. omega arith in
-    let e₀ : suc i * itemWidth ≡ suc (suc (suc (suc (suc (suc (suc (suc (suc (suc (i * itemWidth)))))))))) = omega arith in
-    rw (e 1, e 2, e 3, e 4, e 5, e 6, e 7, e 8, e 9, e₀)
-
-item-shift : (r : Item) (ws : List ℕ) (i n : ℕ) → itemsFrom (suc i) n (itemWords r ++ ws) ≡ itemsFrom i n ws
-unfolding itemsFrom
-item-shift r ws i zero = refl
-item-shift r ws i (suc n) =
-    let b : suc i + 1 ≡ suc (i + 1) = omega arith in
-    ap₂ (λ (x : Item) (v : List Item). x ∷ v) (next-item r ws i) (ap (λ k. itemsFrom k n (itemWords r ++ ws)) b ∙ item-shift r ws (i + 1) n)
+unfolding nodesIn
+nodes-back = rows-back node-back
 
 pub items-back : (is : List Item) (rest : List ℕ) → itemsIn (length is) (allItems is ++ rest) ≡ is
-unfolding itemsIn itemsFrom
-items-back [] rest = refl
-items-back (r ∷ is) rest = ap (λ v. r ∷ v) (item-shift r (allItems is ++ rest) 0 (length is) ∙ items-back is rest)
+unfolding itemsIn
+items-back = rows-back item-back
 
 -- ---- what is known of the rows of an accepted file
 
--- a node's places lie in a file of `size` bytes
-abbrev pub NodeIn : ℕ → Node → Type 0
-NodeIn size r = (r .header ≤ r .size) × (r .start + r .size ≤ size) × ((r .reference ≡ 3) ⊎ (r .target + r .extent ≤ size))
-
--- an item's data and custom name lie in a file of `size` bytes
-abbrev pub ItemIn : ℕ → Item → Type 0
-ItemIn size r = (r .place + r .size ≤ size) × ((r .kind ≡ 0) ⊎ (r .field + r .nameLength ≤ size))
+-- a custom name lies in the file
+pub name-in : {size : ℕ} (r : Item) → ItemIn size r → r .kind ≡ 1 → r .field + r .nameLength ≤ size
+name-in r (a, inl e) k = absurd (omega arith)
+name-in r (a, inr l) k = l
 
 pub node-in : (es : Events) (end size : ℕ) → end ≤ size → All (Inside Nothing end size .asks) es → (i : ℕ) → i < length (nodesOf es) → NodeIn size (nodeAt (nodesOf es) i)
 unfolding rowsOf
@@ -159,7 +165,7 @@ item-in (passed (plain x) p n ∷ es) end size l a i h = item-in es end size l (
 pub record Accepted (f : List ℕ) (ns : List Node) (is : List Item) : Type 0 where
   pub small : length f < 2 ^ 28
   pub nodes-inside : (i : ℕ) → i < length ns → NodeIn (length f) (nodeAt ns i)
-  pub items-inside : (i : ℕ) → i < length is → ItemIn (length f) (itemAt is i)
+  pub items-inside : ItemsIn (length f) is
 
 pub accepted : (lim : Limits) (f : List ℕ) {h : Header} {ns : List Node} {is : List Item} → readFile lim f ≡ rows h ns is → Accepted f ns is
 accepted lim f e = let a = read-back lim f e in of-log (a .log) (header-of a .4) (log-inside a) (a .nodes-are) (a .items-are)

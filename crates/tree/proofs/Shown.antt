@@ -1,7 +1,7 @@
 -- Every row of an accepted file lies in it, and its custom name was passed.
 -- Assumes nothing.
 use mathlib.Core.Path.{_≡_, refl, sym, ap, _∙_, subst}
-use mathlib.Core.Bool.{Bool, true, false, _&&_, _||_}
+use mathlib.Core.Bool.{Bool, true, false, cond, _&&_, _||_}
 use mathlib.Core.Logic.{_⊎_, inl, inr}
 use mathlib.Core.List.{List, [], _∷_, _++_}
 use Prim.Native.Nat.{ℕ, zero, suc, _+_, _^_, _≤_, _<_}
@@ -20,7 +20,7 @@ use Rattle.header.proofs.Ends.{header-on}
 use Rattle.metadata.specs.declared.Limits.{Limits}
 use Rattle.metadata.proofs.Ends.{OfNames, Nothing, Given, inside-free, Inside}
 use Rattle.tree.specs.Reading.{nodesOf, good, outside, partEnd, detachedAt, context}
-use Rattle.tree.specs.Rows.{nodeAt, if_then_else_}
+use Rattle.tree.specs.Rows.{nodeAt}
 use Rattle.tree.proofs.Ends.{tree-shows, detached-shows}
 use Rattle.tree.proofs.Follow.{treeOf, target, Step, stepped, Reached, known, added, followed, ReadAs}
 
@@ -48,10 +48,10 @@ module _ (h : Header) (size p : ℕ) where
 
   -- it ends in the file; and where p lies before the tree, where that starts
   pub part-is : h .extent .start ≤ size → (partEnd h size p ≤ size) × (p < h .extent .start → partEnd h size p ≡ h .extent .start)
-  unfolding partEnd if_then_else_
+  unfolding partEnd
   part-is l = by (ltb p (h .extent .start)) refl
     where
-      by : (b : Bool) → ltb p (h .extent .start) ≡ b → ((if b then h .extent .start else size) ≤ size) × (p < h .extent .start → (if b then h .extent .start else size) ≡ h .extent .start)
+      by : (b : Bool) → ltb p (h .extent .start) ≡ b → ((cond b (h .extent .start) size) ≤ size) × (p < h .extent .start → (cond b (h .extent .start) size) ≡ h .extent .start)
       by true t = (l, λ _. refl)
       by false t = (omega arith, λ m. absurd (omega (arith, ltb-false p (h .extent .start) t)))
 

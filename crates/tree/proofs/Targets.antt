@@ -1,7 +1,7 @@
 -- The search for a row by its start; what lies outside header and tree; the place of a row's offset.
 -- Assumes nothing.
 use mathlib.Core.Path.{_≡_, refl, sym, ap, ap₂, _∙_, subst}
-use mathlib.Core.Bool.{Bool, true, false, not, _&&_, _||_}
+use mathlib.Core.Bool.{Bool, true, false, cond, not, _&&_, _||_}
 use mathlib.Core.List.{List, [], _∷_, _++_}
 use Prim.Native.Nat.{ℕ, zero, suc, _+_, _*_, _-_, _≤_, _<_, _^_, min, max}
 use native.Mathlib.Omega.{arith}
@@ -18,7 +18,7 @@ use Rattle.header.specs.Told.{extentOf}
 use Rattle.header.specs.declared.Extent.{Extent}
 use Rattle.metadata.specs.Tables.{nodeWidth}
 use Rattle.tree.specs.Reading.{placeOf, offsetAt, outside, partEnd, takenFrom}
-use Rattle.tree.specs.Rows.{nodeFrom, nodesIn, nodeAt, if_then_else_, rowStarting, Rising}
+use Rattle.tree.specs.Rows.{nodeFrom, nodesIn, nodeAt, rowStarting, Rising}
 use Rattle.tree.proofs.Rows.{node-at, nodes-in-length}
 
 -- ---- outside header and tree
@@ -41,28 +41,29 @@ module _ (h : Header) (size p : ℕ) {x : Extent} (e : h .extent ≡ extentOf x)
   out-after a b l = rw e (simp (le-leb _ _ a, lt-ltb _ _ b, le-ltb _ _ l))
 
   pub part-before : p < x .start .0 → x .start .0 ≡ partEnd h size p
-  unfolding partEnd if_then_else_
+  unfolding partEnd
   part-before l = rw e (simp (lt-ltb _ _ l))
 
   pub part-after : x .start .0 ≤ p → size ≡ partEnd h size p
-  unfolding partEnd if_then_else_
+  unfolding partEnd
   part-after l = rw e (simp (le-ltb _ _ l))
 
 -- ---- the place of a row's offset
 
-module _ (ws : List ℕ) (count i : ℕ) (l : i < count) where
-  pub words-inside : {size : ℕ} → nodeAt (nodesIn count ws) i .start + nodeAt (nodesIn count ws) i .header ≤ size → getD ws (i * nodeWidth) 0 + getD ws (i * nodeWidth + 2) 0 ≤ size
-  words-inside {size} m = subst (λ (r : Node). r .start + r .header ≤ size) (node-at ws count i l) m
+module _ (ws : List ℕ) (count i : ℕ) (l : i < count) {r : Node} (is : r ≡ nodeFrom ws (i * nodeWidth)) where
+  -- the row that was read is row i
+  pub row-is : nodeAt (nodesIn count ws) i ≡ r
+  row-is = node-at ws count i l ∙ sym is
 
-  pub offset-is : (f : List ℕ) (o : Out ℕ) {at : ℕ} → at ≡ getD ws (i * nodeWidth) 0 + getD ws (i * nodeWidth + 2) 0 → o ≡ run (number referenceFrame 3 (length f)) f at → placeOf o ≡ offsetAt f (nodeAt (nodesIn count ws) i)
+  pub offset-is : (f : List ℕ) (o : Out ℕ) {at : ℕ} → at ≡ r .start + r .header → o ≡ run (number referenceFrame 3 (length f)) f at → placeOf o ≡ offsetAt f (nodeAt (nodesIn count ws) i)
   unfolding offsetAt
-  offset-is f o h g = ap placeOf (g ∙ ap (run (number referenceFrame 3 (length f)) f) (h ∙ sym (ap (λ (r : Node). r .start + r .header) (node-at ws count i l))))
+  offset-is f o h g = ap placeOf (g ∙ ap (run (number referenceFrame 3 (length f)) f) (h ∙ sym (ap (λ (r : Node). r .start + r .header) row-is)))
 
 -- ---- the search for a start
 
 -- the number of a row that starts at p, where none before it does; or how many rows there are, where none does
 starting-is : (ns : List Node) (p k : ℕ) → k ≤ length ns → (k < length ns → nodeAt ns k .start ≡ p) → ((i : ℕ) → i < k → nodeAt ns i .start ≡ p → ⊥) → k ≡ rowStarting ns p
-unfolding rowStarting if_then_else_
+unfolding rowStarting
 starting-is [] p k l e n = omega arith
 starting-is (r ∷ rs) p zero l e n = let q : r .start ≡ p = e (omega arith) in simp (eq-eqb _ _ q)
 starting-is (r ∷ rs) p (suc k) l e n =
@@ -71,50 +72,56 @@ starting-is (r ∷ rs) p (suc k) l e n =
 
 -- rows before `low` start before the place, rows from `high` on start after it
 pub record Between (ws : List ℕ) (count place low high : ℕ) : Type 0 where
-  pub before : (i : ℕ) → i < low → getD ws (i * nodeWidth) 0 < place
-  pub after : (i : ℕ) → high ≤ i → i < count → place < getD ws (i * nodeWidth) 0
+  pub before : (i : ℕ) → i < low → nodeFrom ws (i * nodeWidth) .start < place
+  pub after : (i : ℕ) → high ≤ i → i < count → place < nodeFrom ws (i * nodeWidth) .start
 
 pub search-begins : (ws : List ℕ) (count place : ℕ) → Between ws count place 0 count
 search-begins ws count place = record { before = λ i l. absurd (omega arith); after = λ i l m. absurd (omega arith) }
 
 -- no row before row i starts there
 abbrev pub NoneBefore : List ℕ → ℕ → ℕ → Type 0
-NoneBefore ws place i = (j : ℕ) → j < i → getD ws (j * nodeWidth) 0 ≡ place → ⊥
+NoneBefore ws place i = (j : ℕ) → j < i → nodeFrom ws (j * nodeWidth) .start ≡ place → ⊥
 
 module _ (ws : List ℕ) (tree count place : ℕ) (few : tree ≤ count) where
-  start-at : (i : ℕ) → i < count → nodeAt (nodesIn count ws) i .start ≡ getD ws (i * nodeWidth) 0
+  start-at : (i : ℕ) → i < count → nodeAt (nodesIn count ws) i .start ≡ nodeFrom ws (i * nodeWidth) .start
   start-at i l = ap (λ (r : Node). r .start) (node-at ws count i l)
 
   module _ (h : Rising (nodesIn tree ws)) where
-    later-start : (i j : ℕ) → i < j → j < tree → getD ws (i * nodeWidth) 0 < getD ws (j * nodeWidth) 0
+    later-start : (i j : ℕ) → i < j → j < tree → nodeFrom ws (i * nodeWidth) .start < nodeFrom ws (j * nodeWidth) .start
     later-start i j l m =
         let c = nodes-in-length ws tree in
         let g = h i j l (omega arith) in
         omega (arith, ap (λ (r : Node). r .start) (node-at ws tree i (omega arith)), ap (λ (r : Node). r .start) (node-at ws tree j m))
 
-    module _ {low high : ℕ} (b : Between ws tree place low high) (k : ℕ) (l : k < tree) where
-      pub search-later : getD ws (k * nodeWidth) 0 < place → Between ws tree place (k + 1) high
-      search-later g = record {
-        before = λ i m. elim (decLt i k) [
-          | yes n ↦ omega (arith, later-start i k n l)
-          | no n ↦ let e : i ≡ k = omega arith in rw e g
-        ];
-        after = b .after;
-      }
+    module _ (k : ℕ) (l : k < tree) {r : Node} (is : r ≡ nodeFrom ws (k * nodeWidth)) where
+      module _ {low high : ℕ} (b : Between ws tree place low high) where
+        pub search-later : r .start < place → Between ws tree place (k + 1) high
+        search-later g₀ =
+            let g : nodeFrom ws (k * nodeWidth) .start < place = rw is at g₀ in
+            record {
+              before = λ i m. elim (decLt i k) [
+                | yes n ↦ omega (arith, later-start i k n l)
+                | no n ↦ let e : i ≡ k = omega arith in rw e g
+              ];
+              after = b .after;
+            }
 
-      pub search-sooner : place < getD ws (k * nodeWidth) 0 → Between ws tree place low k
-      search-sooner g = record {
-        before = b .before;
-        after = λ i m n. elim (decLt k i) [
-          | yes o ↦ omega (arith, later-start k i o n)
-          | no o ↦ let e : i ≡ k = omega arith in rw e g
-        ];
-      }
+        pub search-sooner : place < r .start → Between ws tree place low k
+        search-sooner g₀ =
+            let g : place < nodeFrom ws (k * nodeWidth) .start = rw is at g₀ in
+            record {
+              before = b .before;
+              after = λ i m n. elim (decLt k i) [
+                | yes o ↦ omega (arith, later-start k i o n)
+                | no o ↦ let e : i ≡ k = omega arith in rw e g
+              ];
+            }
 
-    pub search-found : (k : ℕ) → k < tree → getD ws (k * nodeWidth) 0 ≡ place → k ≡ rowStarting (nodesIn count ws) place
-    search-found k l e =
-        let c = nodes-in-length ws count in
-        starting-is (nodesIn count ws) place k (omega arith) (λ m. start-at k (omega arith) ∙ e) (λ i m q. omega (arith, start-at i (omega arith), later-start i k m l))
+      pub search-found : r .start ≡ place → k ≡ rowStarting (nodesIn count ws) place
+      search-found e₀ =
+          let c = nodes-in-length ws count in
+          let e : nodeFrom ws (k * nodeWidth) .start ≡ place = rw is at e₀ in
+          starting-is (nodesIn count ws) place k (omega arith) (λ m. start-at k (omega arith) ∙ e) (λ i m q. omega (arith, start-at i (omega arith), later-start i k m l))
 
   pub search-none : {low high : ℕ} → Between ws tree place low high → high ≤ low → NoneBefore ws place tree
   search-none {low} b l j m q = elim (decLt j low) [
@@ -122,14 +129,17 @@ module _ (ws : List ℕ) (tree count place : ℕ) (few : tree ≤ count) where
     | no n ↦ omega (arith, b .after j (omega arith) m)
   ]
 
-  pub linear-on : {i : ℕ} → NoneBefore ws place i → ((getD ws (i * nodeWidth) 0 ≡ place) → ⊥) → NoneBefore ws place (i + 1)
-  linear-on {i} b n j m q = elim (decLt j i) [
-    | yes l ↦ b j l q
-    | no l ↦ let e : j ≡ i = omega arith in n (subst (λ v. getD ws (v * nodeWidth) 0 ≡ place) e q)
-  ]
+  module _ {i : ℕ} (b : NoneBefore ws place i) {r : Node} (is : r ≡ nodeFrom ws (i * nodeWidth)) where
+    pub linear-on : ((r .start ≡ place) → ⊥) → NoneBefore ws place (i + 1)
+    linear-on n j m q = elim (decLt j i) [
+      | yes l ↦ b j l q
+      | no l ↦ let e : j ≡ i = omega arith in n (ap (λ (x : Node). x .start) is ∙ subst (λ v. nodeFrom ws (v * nodeWidth) .start ≡ place) e q)
+    ]
 
-  pub linear-found : {i : ℕ} → NoneBefore ws place i → i < count → getD ws (i * nodeWidth) 0 ≡ place → i ≡ rowStarting (nodesIn count ws) place
-  linear-found {i} b l e = let c = nodes-in-length ws count in starting-is (nodesIn count ws) place i (omega arith) (λ m. start-at i l ∙ e) (λ j m q. b j m (sym (start-at j (omega arith)) ∙ q))
+    pub linear-found : i < count → r .start ≡ place → i ≡ rowStarting (nodesIn count ws) place
+    linear-found l e =
+        let c = nodes-in-length ws count in
+        starting-is (nodesIn count ws) place i (omega arith) (λ m. start-at i l ∙ sym (ap (λ (x : Node). x .start) is) ∙ e) (λ j m q. b j m (sym (start-at j (omega arith)) ∙ q))
 
   pub linear-ends : {i : ℕ} → NoneBefore ws place i → i ≡ count → count ≡ rowStarting (nodesIn count ws) place
   linear-ends {i} b e = let c = nodes-in-length ws count in starting-is (nodesIn count ws) place count (omega arith) (λ m. absurd (omega arith)) (λ j m q. b j (omega arith) (sym (start-at j (omega arith)) ∙ q))
@@ -149,32 +159,32 @@ module _ (ws : List ℕ) (count place end : ℕ) where
   unfolding takenFrom
   taken-begun = let c = nodes-in-length ws count in ap (λ v. takenFrom v place end) (sym (drop-of-length-le (nodesIn count ws) {i = count} (omega arith)))
 
-  module _ {i j taken : ℕ} (w : TakenTo j taken) (is : j ≡ i + 1) (l : i < count) where
-    here-is : takenFrom (drop i (nodesIn count ws)) place end ≡ takenFrom (nodeFrom ws (i * nodeWidth) ∷ drop (i + 1) (nodesIn count ws)) place end
-    here-is = let c = nodes-in-length ws count in ap (λ v. takenFrom v place end) (row-of (nodesIn count ws) i (omega arith) ∙ ap (λ (r : Node). r ∷ drop (i + 1) (nodesIn count ws)) (node-at ws count i l))
+  module _ {i j taken : ℕ} (w : TakenTo j taken) (next : j ≡ i + 1) (l : i < count) {r : Node} (is : r ≡ nodeFrom ws (i * nodeWidth)) where
+    here-is : takenFrom (drop i (nodesIn count ws)) place end ≡ takenFrom (r ∷ drop (i + 1) (nodesIn count ws)) place end
+    here-is = let c = nodes-in-length ws count in ap (λ v. takenFrom v place end) (row-of (nodesIn count ws) i (omega arith) ∙ ap (λ (x : Node). x ∷ drop (i + 1) (nodesIn count ws)) (row-is ws count i l is))
 
     rest-is : taken ≡ takenFrom (drop (i + 1) (nodesIn count ws)) place end
-    rest-is = w ∙ ap (λ v. takenFrom (drop v (nodesIn count ws)) place end) is
+    rest-is = w ∙ ap (λ v. takenFrom (drop v (nodesIn count ws)) place end) next
 
-    pub taken-here : getD ws (i * nodeWidth + 12) 0 ≡ 1 → place < getD ws (i * nodeWidth) 0 + getD ws (i * nodeWidth + 1) 0 → {v : ℕ} → v ≡ min (max place (getD ws (i * nodeWidth) 0)) taken → TakenTo i v
-    unfolding takenFrom if_then_else_
-    taken-here a b e = e ∙ ap (min (max place (getD ws (i * nodeWidth) 0))) rest-is ∙ sym (here-is ∙ rw (eq-eqb _ _ a, lt-ltb _ _ b) refl)
+    pub taken-here : r .detached ≡ 1 → place < r .start + r .size → {v : ℕ} → v ≡ min (max place (r .start)) taken → TakenTo i v
+    unfolding takenFrom
+    taken-here a b e = e ∙ ap (min (max place (r .start))) rest-is ∙ sym (here-is ∙ rw (eq-eqb _ _ a, lt-ltb _ _ b) refl)
 
-    pub taken-past : getD ws (i * nodeWidth) 0 + getD ws (i * nodeWidth + 1) 0 ≤ place → TakenTo i taken
-    unfolding takenFrom if_then_else_
-    taken-past b = rest-is ∙ sym (here-is ∙ rw (le-ltb _ _ b) (by (eqb (getD ws (i * nodeWidth + 12) 0) 1) _ _))
+    pub taken-past : r .start + r .size ≤ place → TakenTo i taken
+    unfolding takenFrom
+    taken-past b = rest-is ∙ sym (here-is ∙ rw (le-ltb _ _ b) (by (eqb (r .detached) 1) _ _))
       where
-        by : (b : Bool) (x y : ℕ) → (if (b && false) then x else y) ≡ y
+        by : (b : Bool) (x y : ℕ) → (cond (b && false) x y) ≡ y
         by true x y = refl
         by false x y = refl
 
-    pub taken-other : ((getD ws (i * nodeWidth + 12) 0 ≡ 1) → ⊥) → TakenTo i taken
-    unfolding takenFrom if_then_else_
+    pub taken-other : ((r .detached ≡ 1) → ⊥) → TakenTo i taken
+    unfolding takenFrom
     taken-other n = rest-is ∙ sym (here-is ∙ rw (ne-eqb _ _ n) refl)
 
 -- rows that are not detached take nothing
 pub taken-all : (ns : List Node) (tree place end : ℕ) → tree ≤ length ns → ((i : ℕ) → i < tree → nodeAt ns i .detached ≡ 0) → takenFrom (drop tree ns) place end ≡ takenFrom ns place end
-unfolding takenFrom if_then_else_
+unfolding takenFrom
 taken-all ns zero place end l a = refl
 taken-all [] (suc tree) place end l a = absurd (omega arith)
 taken-all (r ∷ ns) (suc tree) place end l a =
@@ -184,6 +194,3 @@ taken-all (r ∷ ns) (suc tree) place end l a =
 pub taken-done : (ws : List ℕ) (count tree place end i : ℕ) → i ≡ tree → tree ≤ count → ((j : ℕ) → j < tree → nodeAt (nodesIn count ws) j .detached ≡ 0)
     → takenFrom (drop i (nodesIn count ws)) place end ≡ takenFrom (nodesIn count ws) place end
 taken-done ws count tree place end i e l a = let c = nodes-in-length ws count in ap (λ v. takenFrom (drop v (nodesIn count ws)) place end) e ∙ taken-all (nodesIn count ws) tree place end (omega arith) a
-
-pub small-row : (ws : List ℕ) (count i : ℕ) → i < count → ((j : ℕ) → j < count → nodeAt (nodesIn count ws) j .start + nodeAt (nodesIn count ws) j .size < 2 ^ 28) → getD ws (i * nodeWidth) 0 + getD ws (i * nodeWidth + 1) 0 < 2 ^ 28
-small-row ws count i l a = subst (λ (r : Node). r .start + r .size < 2 ^ 28) (node-at ws count i l) (a i l)

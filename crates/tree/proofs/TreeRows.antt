@@ -1,7 +1,7 @@
 -- The tree's rows come first and rise; following adds rows behind them that are detached.
 -- Assumes nothing.
 use mathlib.Core.Path.{_≡_, refl, sym, ap, _∙_, subst}
-use mathlib.Core.Bool.{Bool, true, false}
+use mathlib.Core.Bool.{Bool, true, false, cond}
 use mathlib.Core.List.{List, [], _∷_, _++_}
 use Prim.Native.Nat.{ℕ, zero, suc, _+_, _≤_, _<_}
 use native.Mathlib.Omega.{arith}
@@ -18,7 +18,7 @@ use Rattle.header.specs.Header.{Header}
 use Rattle.metadata.specs.declared.Limits.{Limits}
 use Rattle.metadata.specs.declared.Made.{Made}
 use Rattle.tree.specs.Reading.{nodeOf, nodesOf, Result, good, follow, detachedAt, context, rows, readFile}
-use Rattle.tree.specs.Rows.{nodeAt, treeRows, Rising, if_then_else_}
+use Rattle.tree.specs.Rows.{nodeAt, treeRows, Rising}
 use Rattle.tree.specs.Told.{TreeFirst}
 use Rattle.tree.proofs.Starts.{detached-row, tree-rises, tree-attached}
 use Rattle.tree.proofs.Shown.{part-is, header-of}
@@ -27,35 +27,35 @@ use Rattle.tree.proofs.Follow.{treeOf, target, Reached, known, added, f
 -- ---- of any rows
 
 pub tree-few : (ns : List Node) → treeRows ns ≤ length ns
-unfolding treeRows if_then_else_
+unfolding treeRows
 tree-few [] = omega arith
 tree-few (r ∷ ns) = by (eqb (r .detached) 0) (tree-few ns)
   where
-    by : (b : Bool) → treeRows ns ≤ length ns → (if b then suc (treeRows ns) else 0) ≤ suc (length ns)
+    by : (b : Bool) → treeRows ns ≤ length ns → (cond b (suc (treeRows ns)) 0) ≤ suc (length ns)
     by true l = omega arith
     by false l = omega arith
 
 pub attached : (ns : List Node) (i : ℕ) → i < treeRows ns → nodeAt ns i .detached ≡ 0
-unfolding treeRows if_then_else_
+unfolding treeRows
 attached [] i l = absurd (omega arith)
 attached (r ∷ ns) i l = by (eqb (r .detached) 0) refl (attached ns) i l
   where
-    by : (b : Bool) → eqb (r .detached) 0 ≡ b → ((j : ℕ) → j < treeRows ns → nodeAt ns j .detached ≡ 0) → (i : ℕ) → i < (if b then suc (treeRows ns) else 0) → nodeAt (r ∷ ns) i .detached ≡ 0
+    by : (b : Bool) → eqb (r .detached) 0 ≡ b → ((j : ℕ) → j < treeRows ns → nodeAt ns j .detached ≡ 0) → (i : ℕ) → i < (cond b (suc (treeRows ns)) 0) → nodeAt (r ∷ ns) i .detached ≡ 0
     by true e rest zero l = eqb-true _ _ e
     by true e rest (suc i) l = rest i (omega arith)
     by false e rest i l = absurd (omega arith)
 
 -- rows none of which is detached are all the tree's
 all-attached : (ns : List Node) → ((i : ℕ) → i < length ns → nodeAt ns i .detached ≡ 0) → treeRows ns ≡ length ns
-unfolding treeRows if_then_else_
+unfolding treeRows
 all-attached [] h = refl
 all-attached (r ∷ ns) h = rw (eq-eqb (r .detached) 0 (h 0 (omega arith))) (ap suc (all-attached ns (λ i l. h (suc i) (omega arith))))
 
 -- a detached row behind them changes nothing
 behind : (ns : List Node) (r : Node) (ms : List Node) → r .detached ≡ 1 → treeRows (ns ++ (r ∷ ms)) ≡ treeRows ns
-unfolding treeRows if_then_else_
+unfolding treeRows
 behind [] r ms e = let n : (r .detached ≡ 0) → ⊥ = λ z. omega arith in rw (ne-eqb (r .detached) 0 n) refl
-behind (q ∷ ns) r ms e = ap (λ k. if eqb (q .detached) 0 then suc k else 0) (behind ns r ms e)
+behind (q ∷ ns) r ms e = ap (λ k. cond (eqb (q .detached) 0) (suc k) 0) (behind ns r ms e)
 
 take-front : (k : ℕ) (ns ms : List Node) → k ≤ length ns → take k (ns ++ ms) ≡ take k ns
 take-front zero ns ms l = refl

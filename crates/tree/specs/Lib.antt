@@ -2,5 +2,6 @@ pub mod Tree
 pub mod Reading
 pub mod Rows
 pub mod Asking
+pub mod Own
 pub mod Hidden
 pub mod Told

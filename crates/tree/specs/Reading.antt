@@ -1,7 +1,7 @@
 -- What reading a file gives: its header, its rows, and the tables that hold them; or a refusal.
 -- Assumes nothing.
 use mathlib.Core.List.{List, [], _∷_, _++_}
-use mathlib.Core.Bool.{Bool, true, false, not, _&&_, _||_}
+use mathlib.Core.Bool.{Bool, true, false, cond, not, _&&_, _||_}
 use Prim.Native.Nat.{ℕ, zero, suc, _+_, min, max}
 use lib.Dec.{eqb, ltb, leb}
 use lib.ListN.{length, replicate}
@@ -19,7 +19,7 @@ use Rattle.metadata.specs.Metadata.{Context}
 use Rattle.metadata.specs.declared.Limits.{Limits}
 use Rattle.metadata.specs.declared.Made.{Made}
 use Rattle.tree.specs.Tree.{tree, detached}
-use Rattle.tree.specs.Rows.{nodeAt, treeRows, if_then_else_}
+use Rattle.tree.specs.Rows.{nodeAt, treeRows}
 use Rattle.tree.specs.declared.Summary.{Summary}
 use Rattle.tree.specs.declared.Read.{Read}
 use Rattle.tree.specs.declared.Read.the-variants as read
@@ -45,13 +45,15 @@ abbrev pub itemsOf : Events → List Item
 itemsOf es = rowsOf itemOf es
 
 -- all rows as words
+abbrev pub allRows : {A : Type 0} → (A → List ℕ) → List A → List ℕ
+allRows words [] = []
+allRows words (r ∷ rs) = words r ++ allRows words rs
+
 abbrev pub allNodes : List Node → List ℕ
-allNodes [] = []
-allNodes (r ∷ rs) = nodeWords r ++ allNodes rs
+allNodes ns = allRows nodeWords ns
 
 abbrev pub allItems : List Item → List ℕ
-allItems [] = []
-allItems (r ∷ rs) = itemWords r ++ allItems rs
+allItems is = allRows itemWords is
 
 -- ---- what a file reads as
 
@@ -96,12 +98,12 @@ outside h size p = leb (h .extent .end) p && (ltb p size && (ltb p (h .extent .s
 
 -- the end of the part that p lies in: the tree's start, or the file's end
 unfoldable pub partEnd : Header → (size p : ℕ) → ℕ
-partEnd h size p = if ltb p (h .extent .start) then h .extent .start else size
+partEnd h size p = cond (ltb p (h .extent .start)) (h .extent .start) size
 
 -- the first byte from p on that a detached node has; `end` if none before that
 unfoldable pub takenFrom : List Node → (p end : ℕ) → ℕ
 takenFrom [] p end = end
-takenFrom (r ∷ rs) p end = if eqb (r .detached) 1 && ltb p (r .start + r .size) then min (max p (r .start)) (takenFrom rs p end) else takenFrom rs p end
+takenFrom (r ∷ rs) p end = cond (eqb (r .detached) 1 && ltb p (r .start + r .size)) (min (max p (r .start)) (takenFrom rs p end)) (takenFrom rs p end)
 
 -- the node at p, which is named at `named`
 unfoldable pub detachedAt : Limits → Header → (size : ℕ) → Events → (p offset : ℕ) → P Made
@@ -109,17 +111,17 @@ detachedAt lim h size log p offset = detached (context lim h size) (partEnd h si
 
 unfoldable pub reach : Limits → List ℕ → Header → Events → Node → Result Events
 reach lim f h log r =
-    if lost (nodesOf log) r
-    then if outside h (length f) (r .target)
-    then logged log (run (detachedAt lim h (length f) log (r .target) (offsetAt f r)) f (r .target)) (trace (detachedAt lim h (length f) log (r .target) (offsetAt f r)) f (r .target))
-    else bad badTarget (offsetAt f r)
-    else good log
+    cond (lost (nodesOf log) r)
+    (cond (outside h (length f) (r .target))
+    (logged log (run (detachedAt lim h (length f) log (r .target) (offsetAt f r)) f (r .target)) (trace (detachedAt lim h (length f) log (r .target) (offsetAt f r)) f (r .target)))
+    (bad badTarget (offsetAt f r)))
+    (good log)
 
 -- the rows from row i on, in row order, over the growing log; each turn takes a row, so as many turns as there may be rows are enough
 unfoldable pub follow : ℕ → Limits → List ℕ → Header → ℕ → Result Events → Result Events
 follow zero lim f h i o = o
 follow (suc k) lim f h i (bad n p) = bad n p
-follow (suc k) lim f h i (good log) = if ltb i (length (nodesOf log)) then follow k lim f h (i + 1) (reach lim f h log (nodeAt (nodesOf log) i)) else good log
+follow (suc k) lim f h i (good log) = cond (ltb i (length (nodesOf log))) (follow k lim f h (i + 1) (reach lim f h log (nodeAt (nodesOf log) i))) (good log)
 
 -- ---- header, tree and detached nodes, each a run on a part of the file of its own
 

@@ -1,8 +1,10 @@
 -- Rows read back off the words of a table, by their number and by where they start.
 -- Assumes nothing.
-use mathlib.Core.Bool.{Bool, true, false}
+use mathlib.Core.Path.{_≡_}
+use mathlib.Core.Bool.{cond}
+use mathlib.Core.Logic.{_⊎_}
 use mathlib.Core.List.{List, [], _∷_}
-use Prim.Native.Nat.{ℕ, zero, suc, _+_, _*_, _<_}
+use Prim.Native.Nat.{ℕ, zero, suc, _+_, _*_, _≤_, _<_}
 use lib.Dec.{eqb}
 use lib.ListN.{length, getD}
 use Rattle.cursor.specs.declared.Node.{Node}
@@ -42,14 +44,16 @@ itemFrom ws k = record {
   size = getD ws (k + 9) 0;
 }
 
--- n rows of the words, from row i on
-unfoldable pub nodesFrom : ℕ → ℕ → List ℕ → List Node
-nodesFrom i zero ws = []
-nodesFrom i (suc n) ws = nodeFrom ws (i * nodeWidth) ∷ nodesFrom (i + 1) n ws
+-- n rows of the words, from row i on: a row has `width` words, and `row` reads the one whose words begin at a place
+unfoldable pub rowsFrom : {A : Type 0} → (width : ℕ) → (row : List ℕ → ℕ → A) → (i n : ℕ) → List ℕ → List A
+rowsFrom width row i zero ws = []
+rowsFrom width row i (suc n) ws = row ws (i * width) ∷ rowsFrom width row (i + 1) n ws
 
-unfoldable pub itemsFrom : ℕ → ℕ → List ℕ → List Item
-itemsFrom i zero ws = []
-itemsFrom i (suc n) ws = itemFrom ws (i * itemWidth) ∷ itemsFrom (i + 1) n ws
+abbrev pub nodesFrom : (i n : ℕ) → List ℕ → List Node
+nodesFrom i n ws = rowsFrom nodeWidth nodeFrom i n ws
+
+abbrev pub itemsFrom : (i n : ℕ) → List ℕ → List Item
+itemsFrom i n ws = rowsFrom itemWidth itemFrom i n ws
 
 -- the first n rows
 unfoldable pub nodesIn : ℕ → List ℕ → List Node
@@ -74,21 +78,34 @@ itemAt is i = getD is i noItem
 
 -- ---- where rows start
 
-infixr 2 if_then_else_
-unfoldable pub if_then_else_ : {A : Type 0} → Bool → A → A → A
-if true then a else b = a
-if false then a else b = b
-
 -- the number of the first row that starts at p; how many rows there are if none does, which an accepted file's reference 3 excludes
 unfoldable pub rowStarting : List Node → ℕ → ℕ
 rowStarting [] p = 0
-rowStarting (r ∷ rs) p = if eqb (r .start) p then 0 else suc (rowStarting rs p)
+rowStarting (r ∷ rs) p = cond (eqb (r .start) p) 0 (suc (rowStarting rs p))
 
 -- how many rows are the tree's: those before the first detached one
 unfoldable pub treeRows : List Node → ℕ
 treeRows [] = 0
-treeRows (r ∷ rs) = if eqb (r .detached) 0 then suc (treeRows rs) else 0
+treeRows (r ∷ rs) = cond (eqb (r .detached) 0) (suc (treeRows rs)) 0
 
 -- each row starts before those after it
 abbrev pub Rising : List Node → Type 0
 Rising ns = (i j : ℕ) → i < j → j < length ns → nodeAt ns i .start < nodeAt ns j .start
+
+-- ---- rows whose bytes lie in a file of `size` bytes
+
+-- a node's places
+abbrev pub NodeIn : ℕ → Node → Type 0
+NodeIn size r = (r .header ≤ r .size) × (r .start + r .size ≤ size) × ((r .reference ≡ 3) ⊎ (r .target + r .extent ≤ size))
+
+-- an item's data and custom name
+abbrev pub ItemIn : ℕ → Item → Type 0
+ItemIn size r = (r .place + r .size ≤ size) × ((r .kind ≡ 0) ⊎ (r .field + r .nameLength ≤ size))
+
+-- those of all items
+abbrev pub ItemsIn : ℕ → List Item → Type 0
+ItemsIn size is = (i : ℕ) → i < length is → ItemIn size (itemAt is i)
+
+-- n item rows stand in the words, and lie in the file
+abbrev pub ItemRows : (size n : ℕ) → List ℕ → Type 0
+ItemRows size n ws = (n * itemWidth ≤ length ws) × ((i : ℕ) → i < n → ItemIn size (itemFrom ws (i * itemWidth)))

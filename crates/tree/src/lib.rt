@@ -269,18 +269,24 @@ fn read_children(
     Walked::Done(m, next)
 }
 
-fn least(a: usize, b: usize) -> usize
+fn lesser(a: usize, b: usize) -> usize
     ensures { λ r. ⌜ r ≡ min a b ⌝ }
 {
     if a <= b { a } else { b }
+}
+
+fn greater(a: usize, b: usize) -> usize
+    ensures { λ r. ⌜ r ≡ max a b ⌝ }
+{
+    if a <= b { b } else { a }
 }
 
 // The rows that tables of so many words hold.
 fn room_of(nodes: usize, items: usize) -> Limits
     ensures { λ r. ⌜ r ≡ limits nodes items ⌝ }
 {
-    let n = least(cursor::MOST_NODES, nodes / cursor::NODE_WIDTH);
-    let i = least(cursor::MOST_ITEMS, items / cursor::ITEM_WIDTH);
+    let n = lesser(cursor::MOST_NODES, nodes / cursor::NODE_WIDTH);
+    let i = lesser(cursor::MOST_ITEMS, items / cursor::ITEM_WIDTH);
     Limits { nodes: n, items: i }
 }
 
@@ -338,11 +344,11 @@ pub fn row_starting(nodes: &[u64], tree: usize, count: usize, place: u64) -> usi
     let mut high = tree;
     while low < high {
         let middle = low + (high - low) / 2;
-        let start = nodes[middle * cursor::NODE_WIDTH];
-        if start == place {
+        let row = node_at(nodes, middle);
+        if row.start == place {
             return middle;
         }
-        if start < place {
+        if row.start < place {
             low = middle + 1;
         } else {
             high = middle;
@@ -350,7 +356,8 @@ pub fn row_starting(nodes: &[u64], tree: usize, count: usize, place: u64) -> usi
     }
     let mut i = tree;
     while i < count {
-        if nodes[i * cursor::NODE_WIDTH] == place {
+        let row = node_at(nodes, i);
+        if row.start == place {
             return i;
         }
         i = i + 1;
@@ -359,7 +366,7 @@ pub fn row_starting(nodes: &[u64], tree: usize, count: usize, place: u64) -> usi
 }
 
 // The first byte from `place` on that a detached node has; `end` if none before that. No row before row `tree` is detached.
-fn taken_from(nodes: &[u64], tree: usize, count: usize, place: u64, end: u64) -> u64
+fn taken_from(nodes: &[u64], tree: usize, count: usize, place: usize, end: usize) -> usize
     requires { ⌜ (tree ≤ count) × (count * nodeWidth ≤ length (now nodes)) × ((i : ℕ) → i < count → nodeAt (nodesIn count (now nodes)) i .start + nodeAt (nodesIn count (now nodes)) i .size < 2 ^ 28) × ((i : ℕ) → i < tree → nodeAt (nodesIn count (now nodes)) i .detached ≡ 0) ⌝ }
     ensures { λ r. ⌜ r ≡ takenFrom (nodesIn count (now (nodes .entry))) place end ⌝ }
 {
@@ -367,27 +374,14 @@ fn taken_from(nodes: &[u64], tree: usize, count: usize, place: u64, end: u64) ->
     let mut taken = end;
     while tree < i {
         i = i - 1;
-        let k = i * cursor::NODE_WIDTH;
-        let start = nodes[k];
-        if nodes[k + 12] == 1 {
-            if place < start + nodes[k + 1] {
-                taken = lesser(greater(place, start), taken);
+        let row = node_at(nodes, i);
+        if row.detached == 1 {
+            if place < (row.start + row.size) as usize {
+                taken = lesser(greater(place, row.start as usize), taken);
             }
         }
     }
     taken
-}
-
-fn lesser(a: u64, b: u64) -> u64
-    ensures { λ r. ⌜ r ≡ min a b ⌝ }
-{
-    if a <= b { a } else { b }
-}
-
-fn greater(a: u64, b: u64) -> u64
-    ensures { λ r. ⌜ r ≡ max a b ⌝ }
-{
-    if a <= b { b } else { a }
 }
 
 // Whether the place lies in a file of `size` bytes, outside header and tree.
@@ -425,9 +419,9 @@ fn offset_at(file: &[u8], nodes: &[u64], count: usize, i: usize) -> FilePlace
     requires { ⌜ (i < count) × (count * nodeWidth ≤ length (now nodes)) × (nodeAt (nodesIn count (now nodes)) i .start + nodeAt (nodesIn count (now nodes)) i .header ≤ length (now file)) × (length (now file) < 2 ^ 28) ⌝ }
     ensures { λ r. ⌜ r .0 ≡ offsetAt (now (file .entry)) (nodeAt (nodesIn count (now (nodes .entry))) i) ⌝ }
 {
-    let k = i * cursor::NODE_WIDTH;
-    let start = FilePlace(nodes[k] as usize);
-    let at = start.of(NodePlace(nodes[k + 2] as usize));
+    let row = node_at(nodes, i);
+    let start = FilePlace(row.start as usize);
+    let at = start.of(NodePlace(row.header as usize));
     match (Cursor { at }).number(file, FilePlace(file.len()), cursor::CUT_SHORT) {
         Numbered::Refused(_, place) => place,
         Numbered::Is(_, next) => next.at,
@@ -451,11 +445,11 @@ fn reach_from(
         → Leaves lim σ r (now (nodes .exit)) (now (items .exit)) (reach lim (now (file .entry)) (headerOf h (now (types .entry))) log (nodeAt (nodesOf log) i))) ⌝ }
 {
     let here = Cursor { at: FilePlace(0) };
-    let k = i * cursor::NODE_WIDTH;
-    if nodes[k + 6] != 3 {
+    let row = node_at(nodes, i);
+    if row.reference != 3 {
         return Walked::Done(made, here);
     }
-    let to = nodes[k + 7];
+    let to = row.target;
     if row_starting(nodes, tree, made.nodes, to) < made.nodes {
         return Walked::Done(made, here);
     }
@@ -464,7 +458,7 @@ fn reach_from(
     let place = to as usize;
     if is_outside(extent, file.len(), place) {
         let end = part_end(extent, file.len(), place);
-        let taken = taken_from(nodes, tree, made.nodes, to, end as u64);
+        let taken = taken_from(nodes, tree, made.nodes, place, end);
         let headerEnd = extent.end;
         let scope = Scope {
             limits: lim,
@@ -474,7 +468,7 @@ fn reach_from(
         let s = Standing {
             least: FilePlace(0),
             end: FilePlace(end),
-            taken: FilePlace(taken as usize),
+            taken: FilePlace(taken),
             offset,
             detached: 1,
         };

@@ -2,15 +2,15 @@
 -- Assumes nothing.
 use mathlib.Core.Path.{_≡_, refl, sym, ap, _∙_}
 use mathlib.Core.Logic.{_⊎_, inl, inr}
-use mathlib.Core.Bool.{Bool, true, false}
+use mathlib.Core.Bool.{Bool, true, false, cond}
 use mathlib.Core.List.{List, [], _∷_, _++_, append-nil}
-use Prim.Native.Nat.{ℕ, _+_, _-_, _/_, _%_, _<_}
+use Prim.Native.Nat.{ℕ, _+_, _/_, _%_, _<_}
 use native.Mathlib.Decide.{decLt}
 use native.Mathlib.Omega.{arith}
 use lib.Dec.{eqb}
 use lib.ListN.{length}
 use borrow.Author.Tests.{eq-eqb, ne-eqb}
-use Rattle.room.specs.Room.{Result, good, bad, choose}
+use Rattle.room.specs.Room.{Result, good, bad}
 use Rattle.unicode.specs.Unicode.{units, bytesOf, utf16, bytes16, utf8, first16, first8, chars, bytesAll, unmark, written, toUtf8, toUtf16}
 use Rattle.unicode.proofs.Walk.{Bytes, All, nil, cons, placed, read-all, write-all}
 use Rattle.unicode.proofs.Sixteen.{Scalar, units-bytes, short16, long16, form16}
@@ -93,7 +93,7 @@ unfolding unmark
 good-unmark [] g = nil
 good-unmark (c ∷ cs) (cons g gs) = by (eqb c 0xFEFF)
   where
-    by : (b : Bool) → All Scalar (choose b cs (c ∷ cs))
+    by : (b : Bool) → All Scalar (cond b cs (c ∷ cs))
     by true = gs
     by false = cons g gs
 

@@ -1,11 +1,11 @@
 -- UTF-16, high byte first, and UTF-8 (02, E6; the Unicode standard, chapter 3.9): bytes, code units, scalar values.
 -- Assumes nothing.
-use mathlib.Core.Bool.{Bool, true, false, _&&_, _||_}
+use mathlib.Core.Bool.{Bool, true, false, cond, _&&_, _||_}
 use mathlib.Core.List.{List, [], _∷_, _++_}
 use Prim.Native.Nat.{ℕ, zero, suc, _+_, _-_, _*_, _/_, _%_}
 use lib.Dec.{ltb, leb, eqb}
 use Rattle.cursor.specs.Refusals.{badText}
-use Rattle.room.specs.Room.{Result, good, bad, choose}
+use Rattle.room.specs.Room.{Result, good, bad}
 
 -- ---- units and bytes
 
@@ -27,7 +27,7 @@ isScalar c = ltb c 0xD800 || (leb 0xE000 c && ltb c 0x110000)
 -- ---- the units of a scalar value: itself, or a high and a low surrogate
 
 unfoldable pub utf16 : ℕ → List ℕ
-utf16 c = choose (ltb c 0x10000) (c ∷ []) ((0xD800 + (c - 0x10000) / 1024) ∷ (0xDC00 + (c - 0x10000) % 1024) ∷ [])
+utf16 c = cond (ltb c 0x10000) (c ∷ []) ((0xD800 + (c - 0x10000) / 1024) ∷ (0xDC00 + (c - 0x10000) % 1024) ∷ [])
 
 -- ---- the bytes of a scalar value
 
@@ -40,9 +40,9 @@ tail x = 0x80 + x % 64
 
 unfoldable pub utf8 : ℕ → List ℕ
 utf8 c =
-    choose (ltb c 0x80) (c ∷ [])
-    (choose (ltb c 0x800) ((0xC0 + c / 64) ∷ tail c ∷ [])
-    (choose (ltb c 0x10000) ((0xE0 + c / 4096) ∷ tail (c / 64) ∷ tail c ∷ [])
+    cond (ltb c 0x80) (c ∷ [])
+    (cond (ltb c 0x800) ((0xC0 + c / 64) ∷ tail c ∷ [])
+    (cond (ltb c 0x10000) ((0xE0 + c / 4096) ∷ tail (c / 64) ∷ tail c ∷ [])
     ((0xF0 + c / 262144) ∷ tail (c / 4096) ∷ tail (c / 64) ∷ tail c ∷ [])))
 
 -- ---- the first character: its scalar value and how many bytes it takes; or it is bad
@@ -54,30 +54,30 @@ pub data Char : Type 0 where
 -- the low surrogate that belongs to the high surrogate u
 unfoldable pub paired : ℕ → List ℕ → Char
 paired u [] = none
-paired u (v ∷ us) = choose (leb 0xDC00 v && ltb v 0xE000) (char (0x10000 + (u - 0xD800) * 1024 + (v - 0xDC00)) 4) none
+paired u (v ∷ us) = cond (leb 0xDC00 v && ltb v 0xE000) (char (0x10000 + (u - 0xD800) * 1024 + (v - 0xDC00)) 4) none
 
 unfoldable pub ofUnits : List ℕ → Char
 ofUnits [] = none
-ofUnits (u ∷ us) = choose (ltb u 0xD800 || leb 0xE000 u) (char u 2) (choose (ltb u 0xDC00) (paired u us) none)
+ofUnits (u ∷ us) = cond (ltb u 0xD800 || leb 0xE000 u) (char u 2) (cond (ltb u 0xDC00) (paired u us) none)
 
 unfoldable pub first16 : List ℕ → Char
 first16 s = ofUnits (units s)
 
 -- k bytes of six bits, after v; n bytes and at least `low` in all
 unfoldable pub tails : (k v n low : ℕ) → List ℕ → Char
-tails zero v n low s = choose (leb low v && isScalar v) (char v n) none
+tails zero v n low s = cond (leb low v && isScalar v) (char v n) none
 tails (suc k) v n low [] = none
-tails (suc k) v n low (b ∷ s) = choose (leb 0x80 b && ltb b 0xC0) (tails k (v * 64 + (b - 0x80)) n low s) none
+tails (suc k) v n low (b ∷ s) = cond (leb 0x80 b && ltb b 0xC0) (tails k (v * 64 + (b - 0x80)) n low s) none
 
 -- a form is refused where a shorter one has the value
 unfoldable pub first8 : List ℕ → Char
 first8 [] = none
 first8 (b ∷ s) =
-    choose (ltb b 0x80) (char b 1)
-    (choose (ltb b 0xC0) none
-    (choose (ltb b 0xE0) (tails 1 (b - 0xC0) 2 0x80 s)
-    (choose (ltb b 0xF0) (tails 2 (b - 0xE0) 3 0x800 s)
-    (choose (ltb b 0xF8) (tails 3 (b - 0xF0) 4 0x10000 s) none))))
+    cond (ltb b 0x80) (char b 1)
+    (cond (ltb b 0xC0) none
+    (cond (ltb b 0xE0) (tails 1 (b - 0xC0) 2 0x80 s)
+    (cond (ltb b 0xF0) (tails 2 (b - 0xE0) 3 0x800 s)
+    (cond (ltb b 0xF8) (tails 3 (b - 0xF0) 4 0x10000 s) none))))
 
 -- ---- all characters
 
@@ -105,7 +105,7 @@ bytesAll put (c ∷ cs) = put c ++ bytesAll put cs
 -- one leading mark FEFFh is dropped
 unfoldable pub unmark : List ℕ → List ℕ
 unmark [] = []
-unmark (c ∷ cs) = choose (eqb c 0xFEFF) cs (c ∷ cs)
+unmark (c ∷ cs) = cond (eqb c 0xFEFF) cs (c ∷ cs)
 
 -- the bytes of the characters in another form, after a change
 unfoldable pub written : (ℕ → List ℕ) → (List ℕ → List ℕ) → Result (List ℕ) → Result (List ℕ)

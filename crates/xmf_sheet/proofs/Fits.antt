@@ -1,18 +1,17 @@
 -- What a writer put stands at the start of its buffer, and is the answer's text.
 -- Assumes nothing.
 use mathlib.Core.Path.{_≡_, refl, sym, ap, subst, _∙_}
-use mathlib.Core.Bool.{Bool, true, false}
 use mathlib.Core.List.{List, [], _∷_, _++_}
 use Prim.Native.Nat.{ℕ, _-_, _≤_, _<_}
+use native.Mathlib.Decide.{decLe}
 use native.Mathlib.Omega.{arith}
-use lib.Dec.{leb}
-use lib.ListN.{length, length-append, take, drop, replicate}
+use lib.ListN.{length, length-append, take, replicate}
 use lib.Seq.{take-at}
-use borrow.Author.Tests.{leb-true, lt-ltb, le-ltb}
+use borrow.Author.Tests.{le-leb, lt-leb, lt-ltb, le-ltb}
 use Rattle.io.specs.Counts.{Counts}
 use Rattle.io.proofs.Counting.{counts}
-use Rattle.metadata.specs.Tables.{limits}
-use Rattle.room.specs.Room.{choose, padded}
+use Rattle.metadata.specs.Tables.{fullNodes, fullItems, limits}
+use Rattle.room.specs.Room.{padded}
 use Rattle.room.specs.Counts as room
 use Rattle.program.proofs.Starts.{starts}
 use Rattle.room.proofs.Decimal.{few-digits}
@@ -65,14 +64,16 @@ abbrev Below : ℕ → Result ℕ → Type 0
 Below room (good n) = n ≤ room
 Below room (bad n p) = Unit {0}
 
-chosen : (room : ℕ) (s : List ℕ) (b : Bool) → leb (length s) room ≡ b → Below room (counted (choose b (good s) (bad 22 0)))
-unfolding counted
-chosen room s true e = leb-true (length s) room e
-chosen room s false e = tt
+fits : (room : ℕ) (s : List ℕ) → Below room (counted (fitting room (good s)))
+unfolding counted fitting
+fits room s = elim (decLe (length s) room) [
+  | yes l ↦ simp (le-leb (length s) room l) l
+  | no n ↦ simp (lt-leb (length s) room (omega arith)) tt
+]
 
 below : (room : ℕ) (f : List ℕ) (o : Reading) → Below room (counted (ask o (write room f)))
-unfolding counted ask write fitting
-below room f (rows h ns is) = chosen room (sheetOf f h ns is) _ refl
+unfolding counted ask write
+below room f (rows h ns is) = fits room (sheetOf f h ns is)
 below room f (refusal n p) = tt
 
 -- what an answer says of the lines
@@ -115,6 +116,6 @@ pub answer-long : (f : List ℕ) → 65536 < length f → tooLong ≡ answerText
 unfolding answerText
 answer-long f l = simp (lt-ltb 65536 (length f) l)
 
-pub answer-short : (f : List ℕ) {n i room : ℕ} → 3328 ≡ n → 10240 ≡ i → 65536 ≡ room → length f ≤ 65536 → lines (ask (readFile (limits n i) f) (write room f)) ≡ answerText f
+pub answer-short : (f : List ℕ) {n i room : ℕ} → fullNodes ≡ n → fullItems ≡ i → 65536 ≡ room → length f ≤ 65536 → lines (ask (readFile (limits n i) f) (write room f)) ≡ answerText f
 unfolding answerText
 answer-short f a b c l = simp (sym a, sym b, sym c, le-ltb 65536 (length f) l)

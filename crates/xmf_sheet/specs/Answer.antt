@@ -1,13 +1,13 @@
 -- What the program writes for a file: its sheet, one refusal line, or `too long`.
 -- Assumes nothing.
+use mathlib.Core.Bool.{cond}
 use mathlib.Core.List.{List, [], _∷_, _++_}
 use Prim.Native.Nat.{ℕ}
 use lib.Dec.{ltb}
 use lib.ListN.{length}
-use Rattle.metadata.specs.Tables.{limits}
+use Rattle.metadata.specs.Tables.{fullNodes, fullItems, limits}
 use Rattle.tree.specs.Reading.{readFile}
 use Rattle.tree.specs.Asking.{Result, good, bad, ask}
-use Rattle.room.specs.Room.{choose}
 use Rattle.sheet.specs.Sheet.{number, write}
 
 -- `R`, number, place
@@ -25,4 +25,4 @@ lines (bad n p) = refusalLine n p
 
 -- with full tables, and 65,536 bytes for the sheet
 unfoldable pub answerText : List ℕ → List ℕ
-answerText f = choose (ltb 65536 (length f)) tooLong (lines (ask (readFile (limits 3328 10240) f) (write 65536 f)))
+answerText f = cond (ltb 65536 (length f)) tooLong (lines (ask (readFile (limits fullNodes fullItems) f) (write 65536 f)))

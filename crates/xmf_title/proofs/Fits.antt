@@ -1,29 +1,29 @@
 -- What was put is the list or a row's text; what was made stands at the start of its buffer.
 -- Assumes nothing.
-use mathlib.Core.Path.{_≡_, refl, sym, ap, subst, _∙_}
+use mathlib.Core.Path.{_≡_, sym, ap, subst, _∙_}
 use mathlib.Core.Bool.{Bool, true, false}
 use mathlib.Core.List.{List, [], _∷_, _++_, append-assoc}
 use Prim.Native.Nat.{ℕ, suc, _+_, _*_, _-_, _≤_, _<_}
 use native.Mathlib.Omega.{arith}
-use lib.Dec.{eqb, leb}
-use lib.ListN.{length, length-append, List·getD-eq-default, getD, take, replicate}
+use lib.Dec.{eqb}
+use lib.ListN.{length, length-append, List·getD-eq-default, take, replicate}
 use lib.Seq.{take-append-seam}
 use borrow.Author.Tests.{le-leb, lt-leb}
 use Rattle.io.specs.Counts.{Counts}
 use Rattle.io.proofs.Counting.{counts}
-use Rattle.room.specs.Room.{choose, padded, fitting, counted, kept}
+use Rattle.room.specs.Room.{padded, fitting, counted, kept}
 use Rattle.room.specs.Counts as room
 use Rattle.room.proofs.Counting.{counts-as, wrote-past}
 use Rattle.cursor.specs.declared.FilePlace.{FilePlace}
 use Rattle.cursor.specs.declared.Item.{Item}
-use Rattle.metadata.specs.Tables.{itemWidth, limits}
-use Rattle.tree.specs.Rows.{nodesIn, itemFrom, itemsFrom, itemsIn, noItem, itemAt}
+use Rattle.metadata.specs.Tables.{fullNodes, fullItems, itemWidth, limits}
+use Rattle.tree.specs.Rows.{nodesIn, itemFrom, itemsFrom, itemsIn, noItem, itemAt, rowsFrom}
 use Rattle.tree.specs.Reading.{Reading, rows, refusal, readOf, readFile}
 use Rattle.tree.specs.Asking.{Result, good, bad, ask}
 use Rattle.tree.specs.declared.Read.{Read}
 use Rattle.tree.specs.declared.Read.the-variants as read
 use Rattle.tree.specs.declared.Summary.{Summary}
-use Rattle.tree.proofs.Rows.{Standing, ask-refused, ask-is, item-at, items-in-length}
+use Rattle.tree.proofs.Rows.{Standing, ask-refused, item-at, items-in-length}
 use Rattle.room.specs.Decimal.{decimal}
 use Rattle.sheet.specs.Sheet.{tabbed, textOf, itemLine}
 use Rattle.unicode.specs.Unicode.{toUtf16}
@@ -48,11 +48,11 @@ module _ (f : List ℕ) (k : ℕ) (r : Item) {b : Bool} (e : b ≡ isNoTitle r) 
 
 module _ (f ws : List ℕ) (count : ℕ) where
   pub lines-on : (i : ℕ) → i < count → titleLines f i (itemsFrom i (count - i) ws) ≡ titleLine f i (itemFrom ws (i * itemWidth)) ++ titleLines f (i + 1) (itemsFrom (i + 1) (count - (i + 1)) ws)
-  unfolding itemsFrom titleLines
+  unfolding rowsFrom titleLines
   lines-on i l = let e : count - i ≡ suc (count - (i + 1)) = omega arith in rw e
 
   pub lines-end : (i : ℕ) → count ≤ i → titleLines f i (itemsFrom i (count - i) ws) ≡ []
-  unfolding itemsFrom titleLines
+  unfolding rowsFrom titleLines
   lines-end i l = let e : count - i ≡ 0 = omega arith in rw e
 
   pub lines-start : titleLines f 0 (itemsIn count ws) ≡ titleLines f 0 (itemsFrom 0 (count - 0) ws)
@@ -89,7 +89,7 @@ unfolding ask
 refusal-is (rows h ns is) e = let z : _≡_ {A = ℕ} 0 1 = cc in absurd (omega arith)
 refusal-is (refusal m q) {n} {p} e = let a : m ≡ n = cc in let b : q ≡ p = cc in rw (a, b)
 
-module _ (f : List ℕ) {n i : ℕ} (en : 3328 ≡ n) (ei : 10240 ≡ i) where
+module _ (f : List ℕ) {n i : ℕ} (en : fullNodes ≡ n) (ei : fullItems ≡ i) where
   pub full : readFile (limits n i) f ≡ reads f
   unfolding reads
   full = rw (← en, ← ei)
@@ -156,22 +156,22 @@ module _ (f : List ℕ) {n i : ℕ} (en : 3328 ≡ n) (ei : 10240 ≡ i) where
       unfolding rowText
       text-none k = let c = count-is in rw (accepted, lt-leb (length (st .is)) row (omega arith), row-is row l, sym e ∙ k)
 
-      pub text-is : b ≡ false → textOf f (itemFrom u (row * itemWidth)) ≡ rowText row f (reads f)
+      pub text-is : b ≡ false → {x : Item} → x ≡ itemFrom u (row * itemWidth) → textOf f x ≡ rowText row f (reads f)
       unfolding rowText
-      text-is k = let c = count-is in rw (accepted, lt-leb (length (st .is)) row (omega arith), row-is row l, sym e ∙ k)
+      text-is k h = let c = count-is in rw (h, accepted, lt-leb (length (st .is)) row (omega arith), row-is row l, sym e ∙ k)
 
     -- a row in UTF-16
     pub unicode-past : (row : ℕ) → s .items ≤ row → false ≡ isUnicode row (reads f)
     unfolding isUnicode
     unicode-past row l = let c = count-is in rw (accepted, List·getD-eq-default (st .is) noItem (let z : length (st .is) ≤ row = omega arith in z))
 
-    pub unicode-is : (row : ℕ) → row < s .items → eqb (getD u (row * itemWidth + 7) 0) 2 ≡ isUnicode row (reads f)
+    pub unicode-is : (row : ℕ) → row < s .items → {r : Item} → r ≡ itemFrom u (row * itemWidth) → eqb (r .format) 2 ≡ isUnicode row (reads f)
     unfolding isUnicode
-    unicode-is row l = rw (accepted, row-is row l)
+    unicode-is row l e = rw (e, accepted, row-is row l)
 
 -- ---- the new file
 
-pub corrected-is : (row : ℕ) (bytes f : List ℕ) {n i room : ℕ} → 3328 ≡ n → 10240 ≡ i → 65536 ≡ room → ask (readFile (limits n i) f) (correctTitle row bytes room f) ≡ corrected row (good bytes) f
+pub corrected-is : (row : ℕ) (bytes f : List ℕ) {n i room : ℕ} → fullNodes ≡ n → fullItems ≡ i → 65536 ≡ room → ask (readFile (limits n i) f) (correctTitle row bytes room f) ≡ corrected row (good bytes) f
 unfolding corrected reads
 corrected-is row bytes f en ei er = rw (← en, ← ei, ← er)
 

@@ -1,7 +1,7 @@
 -- What the program makes of a file: the list of its titles that can be corrected, or the file with another title.
 -- Assumes nothing.
 use mathlib.Core.Path.{_≡_}
-use mathlib.Core.Bool.{Bool, true, false}
+use mathlib.Core.Bool.{Bool, true, false, cond}
 use mathlib.Core.List.{List, [], _∷_, _++_}
 use Prim.Native.Nat.{ℕ, _+_}
 use lib.Dec.{eqb, leb}
@@ -10,8 +10,8 @@ use Rattle.cursor.specs.Refusals.{refersElsewhere}
 use Rattle.cursor.specs.declared.Node.{Node}
 use Rattle.cursor.specs.declared.Item.{Item}
 use Rattle.header.specs.Header.{Header}
-use Rattle.metadata.specs.Tables.{limits}
-use Rattle.room.specs.Room.{choose, fitting}
+use Rattle.metadata.specs.Tables.{fullNodes, fullItems, limits}
+use Rattle.room.specs.Room.{fitting}
 use Rattle.tree.specs.Rows.{itemAt}
 use Rattle.tree.specs.Reading.{Reading, rows, refusal, readFile}
 use Rattle.tree.specs.Asking.{Result, good, bad, ask}
@@ -25,13 +25,13 @@ use Rattle.xmf_title.specs.declared.Made.the-variants as made
 
 -- with full tables
 unfoldable pub reads : List ℕ → Reading
-reads f = readFile (limits 3328 10240) f
+reads f = readFile (limits fullNodes fullItems) f
 
 -- ---- the list
 
 -- the line of item row k: its number, and its line on the sheet; none for a row that is hidden or a version
 unfoldable pub titleLine : List ℕ → ℕ → Item → List ℕ
-titleLine f k r = choose (isNoTitle r) [] (decimal k ++ tabbed (itemLine f r))
+titleLine f k r = cond (isNoTitle r) [] (decimal k ++ tabbed (itemLine f r))
 
 -- the rows from row k on
 unfoldable pub titleLines : List ℕ → ℕ → List Item → List ℕ
@@ -40,14 +40,14 @@ titleLines f k (r ∷ rs) = titleLine f k r ++ titleLines f (k + 1) rs
 
 -- all lines, if `room` bytes hold them; where some node has reference 2 or 3, no title can be corrected
 unfoldable pub list : ℕ → List ℕ → Header → List Node → List Item → Result (List ℕ)
-list room f h ns is = choose (elsewhere ns) (bad refersElsewhere 0) (fitting room (good (titleLines f 0 is)))
+list room f h ns is = cond (elsewhere ns) (bad refersElsewhere 0) (fitting room (good (titleLines f 0 is)))
 
 unfoldable pub listed : List ℕ → Result (List ℕ)
 listed f = ask (reads f) (list 65536 f)
 
 -- the text of an item row, as it stands on the sheet; none for a row that is not there, hidden or a version
 unfoldable pub rowText : (row : ℕ) → List ℕ → Reading → List ℕ
-rowText row f (rows h ns is) = choose (leb (length is) row) [] (choose (isNoTitle (itemAt is row)) [] (textOf f (itemAt is row)))
+rowText row f (rows h ns is) = cond (leb (length is) row) [] (cond (isNoTitle (itemAt is row)) [] (textOf f (itemAt is row)))
 rowText row f (refusal n p) = []
 
 -- ---- the new file

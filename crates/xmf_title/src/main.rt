@@ -8,9 +8,8 @@ ghost use Prim.Native.Nat.{ℕ, _+_, _*_, _≤_, _<_};
 ghost use lib.ListN.{length};
 ghost use Rattle.room.specs.Counts.{Counts};
 ghost use Rattle.metadata.specs.Tables.{itemWidth};
-ghost use Rattle.tree.specs.Rows.{itemFrom, itemsIn};
+ghost use Rattle.tree.specs.Rows.{itemFrom, itemsIn, ItemIn, ItemRows};
 ghost use Rattle.tree.specs.Asking.{good};
-ghost use Rattle.sheet.specs.Inside.{ItemInside};
 ghost use Rattle.xmf_title.specs.Answer.{reads, titleLine, titleLines, listed, rowText, isUnicode, corrected, retitled, Makes};
 use libc::STDERR_FILENO;
 use libc::STDOUT_FILENO;
@@ -40,7 +39,7 @@ fn title_buffer() -> [u8; 196608]
 
 // Puts the line of an item row, if it is visible and universal: its number, and its line on the sheet.
 fn put_title_line(out: &mut [u8], to: usize, file: &[u8], items: &[u64], row: usize) -> usize
-    requires { ⌜ (row * itemWidth + itemWidth ≤ length (now items)) × ItemInside (length (now file)) (itemFrom (now items) (row * itemWidth)) ⌝ }
+    requires { ⌜ (row * itemWidth + itemWidth ≤ length (now items)) × ItemIn (length (now file)) (itemFrom (now items) (row * itemWidth)) ⌝ }
     ensures { λ r. ⌜ Counts (now (out .entry)) (now (out .exit)) to (titleLine (now (file .entry)) row (itemFrom (now (items .entry)) (row * itemWidth))) r ⌝ }
 {
     if retitle::is_no_title(items, row) {
@@ -48,12 +47,12 @@ fn put_title_line(out: &mut [u8], to: usize, file: &[u8], items: &[u64], row: us
     }
     let a = room::put_decimal(out, to, row as u64);
     let b = room::put_byte(out, a, 0x09);
-    sheet::put_item_line(out, b, file, items, row * cursor::ITEM_WIDTH)
+    sheet::put_item_line(out, b, file, items, row)
 }
 
 // Puts the lines of all titles.
 fn put_title_lines(out: &mut [u8], file: &[u8], items: &[u64], count: usize) -> usize
-    requires { ⌜ (count * itemWidth ≤ length (now items)) × ((i : ℕ) → i < count → ItemInside (length (now file)) (itemFrom (now items) (i * itemWidth))) ⌝ }
+    requires { ⌜ ItemRows (length (now file)) count (now items) ⌝ }
     ensures { λ r. ⌜ Counts (now (out .entry)) (now (out .exit)) 0 (titleLines (now (file .entry)) 0 (itemsIn count (now (items .entry)))) r ⌝ }
 {
     let mut next: usize = 0;
@@ -102,7 +101,7 @@ fn put_row_text(out: &mut [u8], file: &[u8], row: usize) -> usize
             if retitle::is_no_title(&items, row) {
                 return 0;
             }
-            sheet::put_text(out, 0, file, &items, row * cursor::ITEM_WIDTH)
+            sheet::put_text(out, 0, file, tree::item_at(&items, row))
         }
     }
 }
@@ -119,7 +118,7 @@ fn is_unicode(file: &[u8], row: usize) -> bool
             if s.items <= row {
                 return false;
             }
-            items[row * cursor::ITEM_WIDTH + 7] == 2
+            tree::item_at(&items, row).format == 2
         }
     }
 }

@@ -1,6 +1,7 @@
 //! Writes the files that are timed into a folder: `write_timed FOLDER`.
 
 use generate::timed;
+use generate::titles::folders_title;
 use std::path::Path;
 use std::process::ExitCode;
 use std::{env, fs};
@@ -14,7 +15,8 @@ fn main() -> ExitCode {
         eprintln!("usage: write_timed FOLDER");
         return ExitCode::from(2);
     };
-    for (name, file) in timed::all(SEED) {
+    let folders = ("folders", folders_title(SEED, 15).0);
+    for (name, file) in timed::all(SEED).into_iter().chain([folders]) {
         let path = Path::new(folder).join(name).with_extension("xmf");
         if let Err(error) = fs::write(&path, file) {
             eprintln!("{}: {error}", path.display());

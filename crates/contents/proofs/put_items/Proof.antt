@@ -1,12 +1,11 @@
 -- `put_items` puts rows. The invariant: of the whole, the rows from row k on are still to be put.
 -- Assumes nothing.
 use Rattle.contents.proofs.Putting.{rows-on, rows-end}
-use Rattle.writer.proofs.Counting.{Going, going-start, going-on, going-end, going-in}
+use Rattle.room.proofs.Counting.{Going, going-start, going-on, going-end, going-length}
 use Rattle.contents.specs.Contents.{contentsFrom}
 use Rattle.title.specs.Text.{itemsText}
-use mathlib.Core.Path.{_≡_, refl, sym, ap, _∙_}
-use Prim.Native.Nat.{ℕ, _+_, _-_, _*_, _≤_, _<_}
-use lib.ListN.{length}
+use mathlib.Core.Path.{refl}
+use Prim.Native.Nat.{_-_, _≤_}
 use native.Mathlib.Omega.{arith}
 use borrow.Author.Needs.{needs}
 use Rattle.contents.proofs.put_items.Statement.{statement}
@@ -19,10 +18,10 @@ abbrev μ-loop : tie.MeasureT-loop
 μ-loop out₀ to file items first end row title next₀ k₀ out next k = end - k
 
 loop-holds : tie.Need-loop-holds Inv-loop μ-loop
-loop-holds c = (omega arith, omega arith, going-start _ (omega arith))
+loop-holds c = (omega arith, omega arith, going-start _ (omega arith) refl)
 
 put-item-requires : tie.Need-put-item-requires Inv-loop μ-loop
-put-item-requires c κs = (omega arith, omega (arith, c .before .before .before .before .before .before .before .pre .1 .0), c .before .before .before .before .before .before .before .pre .1 .1 _ (c .before .loop-test .taken), going-in (c .before .before .loop .inv .2))
+put-item-requires c κs = (omega arith, omega (arith, c .before .before .before .before .before .before .before .pre .1 .0), c .before .before .before .before .before .before .before .pre .1 .1 _ (c .before .loop-test .taken))
 
 add-k : tie.Need-add-k Inv-loop μ-loop
 add-k c = search needs
@@ -34,7 +33,7 @@ loop-again : tie.Need-loop-again Inv-loop μ-loop
 loop-again c = (omega arith, omega arith, going-on (rows-on _ _ _ _ _ _ (c .before .before .before .before .loop-test .taken)) (c .before .before .before .before .before .loop .inv .2) (c .before .before .put-item .ensures))
 
 same-length : tie.Need-same-length Inv-loop μ-loop
-same-length c = c .before .loop .inv .2 .puts .long
+same-length c = going-length (c .before .loop .inv .2)
 
 returns : tie.Need-returns Inv-loop μ-loop
 returns c = going-end (rows-end _ _ _ _ _ _ (c .loop-test .left)) (c .before .loop .inv .2)

@@ -1,14 +1,12 @@
 -- `copy_entry` puts a type, its string format, and the language's name with its length.
 -- Assumes nothing.
-use Rattle.copies.proofs.Copying.{type-no, format-no, language-no, entry-done, entry-put, number-was, copied-was, copied-answer, copied-puts, copied-in, copied-no}
-use Rattle.writer.proofs.Counting.{counts-as}
+use Rattle.copies.proofs.Copying.{type-no, format-no, language-no, entry-done, entry-put, number-was, copied-was, copied-answer, copied-puts, copied-no}
+use Rattle.room.proofs.Counting.{counts-as}
 use Rattle.cursor.proofs.Leaves.{block-inside}
-use Rattle.cursor.specs.Rows.{unpackFrame, fileFrame}
-use Rattle.cursor.specs.Told.{numberTold, passTold}
+use Rattle.cursor.specs.Rows.{fileFrame}
+use Rattle.cursor.specs.Told.{numberTold}
 use Rattle.cursor.proofs.Laws.{was}
-use mathlib.Core.Path.{_≡_, refl, sym, ap, _∙_}
-use Prim.Native.Nat.{ℕ, _+_, _-_, _*_, _≤_, _<_}
-use lib.ListN.{length}
+use mathlib.Core.Path.{_∙_}
 use native.Mathlib.Omega.{arith}
 use borrow.Author.Needs.{needs}
 use Rattle.copies.proofs.copy_entry.Statement.{statement}
@@ -24,7 +22,7 @@ enum-known-a : tie.Need-enum-known-a
 enum-known-a c = search needs
 
 copy-number-requires-2 : tie.Need-copy-number-requires-2
-copy-number-requires-2 c κs = copied-in (copied-was (c .before .before .before .before .before .before .copy-number .ensures fileFrame) (c .before .before .a .given .1))
+copy-number-requires-2 c κs = search needs
 
 enum-known-n-2 : tie.Need-enum-known-n-2
 enum-known-n-2 c = search needs
@@ -42,13 +40,13 @@ enum-known-size : tie.Need-enum-known-size
 enum-known-size c = search needs
 
 put-number-requires : tie.Need-put-number-requires
-put-number-requires c κs = copied-in (copied-was (c .before .before .before .before .before .before .before .before .before .before .before .copy-number2 .ensures fileFrame) (c .before .before .before .before .before .before .before .b .given .1))
+put-number-requires c κs = search needs
 
 put-part-requires : tie.Need-put-part-requires
-put-part-requires c κs = (omega (arith, block-inside fileFrame 3 _ _ _ (was numberTold (c .before .before .before .before .before .before .before .before .before .block .ensures fileFrame) (c .before .before .before .before .before .before .before .size .given .1))), omega (arith, c .before .before .before .put-number .ensures .after))
+put-part-requires c κs = omega (arith, block-inside fileFrame 3 _ _ _ (was numberTold (c .before .before .before .before .before .before .before .before .before .block .ensures fileFrame) (c .before .before .before .before .before .before .before .size .given .1)))
 
 on-requires : tie.Need-on-requires
-on-requires c κs = omega (arith, c .before .before .before .before .before .before .before .before .before .before .before .before .before .before .before .before .before .before .before .before .before .before .before .before .before .before .before .before .before .pre .1, block-inside fileFrame 3 _ _ _ (was numberTold (c .before .before .before .before .before .before .before .before .before .before .before .before .block .ensures fileFrame) (c .before .before .before .before .before .before .before .before .before .before .size .given .1)))
+on-requires c κs = omega (arith, c .before .before .before .before .before .before .before .before .before .before .before .before .before .before .before .before .before .before .before .before .before .before .before .before .before .before .before .before .before .pre, block-inside fileFrame 3 _ _ _ (was numberTold (c .before .before .before .before .before .before .before .before .before .before .before .before .block .ensures fileFrame) (c .before .before .before .before .before .before .before .before .before .before .size .given .1)))
 
 same-length : tie.Need-same-length
 same-length c = search needs

@@ -1,12 +1,10 @@
 -- `copy_identifier` puts a GUID as it is; a manufacturer as it is and a number; or a number.
 -- Assumes nothing.
 use Rattle.copies.proofs.Copying.{guid-no, guid-is, guid-inside, maker-no, maker-is, maker-inside, other-is, copies-as, copies-after}
-use Rattle.cursor.specs.Rows.{unpackFrame, fileFrame}
-use Rattle.cursor.specs.Told.{numberTold, passTold}
+use Rattle.cursor.specs.Rows.{unpackFrame}
+use Rattle.cursor.specs.Told.{passTold}
 use Rattle.cursor.proofs.Laws.{was}
-use mathlib.Core.Path.{_≡_, refl, sym, ap, _∙_}
-use Prim.Native.Nat.{ℕ, _+_, _-_, _*_, _≤_, _<_}
-use lib.ListN.{length}
+use mathlib.Core.Path.{sym}
 use native.Mathlib.Omega.{arith}
 use borrow.Author.Needs.{needs}
 use Rattle.copies.proofs.copy_identifier.Statement.{statement}
@@ -25,7 +23,7 @@ sub-put-part : tie.Need-sub-put-part
 sub-put-part c = omega (arith, guid-inside (c .before .before .before .before .before .before .before .before .before .before .before .before .args .file .now) (c .before .before .before .before .before .before .before .before .before .before .before .before .args .c .at .0) (was passTold (c .before .before .before .before .before .before .before .guid .ensures unpackFrame) (c .before .before .before .before .before .d .given .1)))
 
 put-part-requires : tie.Need-put-part-requires
-put-part-requires c κs = (omega (arith, guid-inside (c .before .before .before .before .before .before .before .before .before .before .before .before .args .file .now) (c .before .before .before .before .before .before .before .before .before .before .before .before .args .c .at .0) (was passTold (c .before .before .before .before .before .before .before .guid .ensures unpackFrame) (c .before .before .before .before .before .d .given .1))), omega arith)
+put-part-requires c κs = omega (arith, guid-inside (c .before .before .before .before .before .before .before .before .before .before .before .before .args .file .now) (c .before .before .before .before .before .before .before .before .before .before .before .before .args .c .at .0) (was passTold (c .before .before .before .before .before .before .before .guid .ensures unpackFrame) (c .before .before .before .before .before .d .given .1)))
 
 returns : tie.Need-returns
 returns c = record { is = guid-no _ _ _ (c .before .before .before .before .if1 .taken) (was passTold (c .before .before .before .guid .ensures unpackFrame) (c .before .n .given .1)) }
@@ -49,7 +47,7 @@ sub-put-part-2 : tie.Need-sub-put-part-2
 sub-put-part-2 c = omega (arith, maker-inside (c .before .before .before .before .before .before .before .before .before .before .before .before .before .args .file .now) (c .before .before .before .before .before .before .before .before .before .before .before .before .before .args .c .at .0) (was passTold (c .before .before .before .before .before .before .before .manufacturer .ensures unpackFrame) (c .before .before .before .before .before .d2 .given .1)))
 
 put-part-requires-2 : tie.Need-put-part-requires-2
-put-part-requires-2 c κs = (omega (arith, maker-inside (c .before .before .before .before .before .before .before .before .before .before .before .before .before .args .file .now) (c .before .before .before .before .before .before .before .before .before .before .before .before .before .args .c .at .0) (was passTold (c .before .before .before .before .before .before .before .manufacturer .ensures unpackFrame) (c .before .before .before .before .before .d2 .given .1))), omega arith)
+put-part-requires-2 c κs = omega (arith, maker-inside (c .before .before .before .before .before .before .before .before .before .before .before .before .before .args .file .now) (c .before .before .before .before .before .before .before .before .before .before .before .before .before .args .c .at .0) (was passTold (c .before .before .before .before .before .before .before .manufacturer .ensures unpackFrame) (c .before .before .before .before .before .d2 .given .1)))
 
 copy-number-requires : tie.Need-copy-number-requires
 copy-number-requires c κs = search needs

@@ -1,13 +1,8 @@
 -- `copy_number` puts the number that it reads.
 -- Assumes nothing.
 use Rattle.copies.proofs.Copying.{number-no, number-is}
-use Rattle.cursor.specs.Rows.{unpackFrame, fileFrame}
-use Rattle.cursor.specs.Told.{numberTold, passTold}
+use Rattle.cursor.specs.Told.{numberTold}
 use Rattle.cursor.proofs.Laws.{was}
-use mathlib.Core.Path.{_≡_, refl, sym, ap, _∙_}
-use Prim.Native.Nat.{ℕ, _+_, _-_, _*_, _≤_, _<_}
-use lib.ListN.{length}
-use native.Mathlib.Omega.{arith}
 use borrow.Author.Needs.{needs}
 use Rattle.copies.proofs.copy_number.Statement.{statement}
 use Rattle.copies.proofs.copy_number.Tie as tie

@@ -1,13 +1,10 @@
 -- `copy_table` passes FileLength and the table's length, and puts the count and the entries.
 -- Assumes nothing.
 use Rattle.copies.proofs.Copying.{size-no, block-no, count-no, table-is, copies-as, copies-after}
-use Rattle.cursor.specs.Rows.{unpackFrame, fileFrame}
-use Rattle.cursor.specs.Told.{numberTold, passTold}
+use Rattle.cursor.specs.Rows.{fileFrame}
+use Rattle.cursor.specs.Told.{numberTold}
 use Rattle.cursor.proofs.Laws.{was}
-use mathlib.Core.Path.{_≡_, refl, sym, ap, _∙_}
-use Prim.Native.Nat.{ℕ, _+_, _-_, _*_, _≤_, _<_}
-use lib.ListN.{length}
-use native.Mathlib.Omega.{arith}
+use mathlib.Core.Path.{sym}
 use borrow.Author.Needs.{needs}
 use Rattle.copies.proofs.copy_table.Statement.{statement}
 use Rattle.copies.proofs.copy_table.Tie as tie

@@ -1,13 +1,10 @@
 -- `copy_unpacker` puts kind, name and size.
 -- Assumes nothing.
-use Rattle.copies.proofs.Copying.{kind-no, name-no, unpacker-is, copies-as, copies-after, copied-was, copied-answer, copied-puts, copied-in, copied-no}
-use Rattle.cursor.specs.Rows.{unpackFrame, fileFrame}
-use Rattle.cursor.specs.Told.{numberTold, passTold}
+use Rattle.copies.proofs.Copying.{kind-no, name-no, unpacker-is, copies-as, copies-after, copied-was, copied-answer, copied-puts, copied-no}
+use Rattle.cursor.specs.Rows.{unpackFrame}
+use Rattle.cursor.specs.Told.{numberTold}
 use Rattle.cursor.proofs.Laws.{was}
-use mathlib.Core.Path.{_≡_, refl, sym, ap, _∙_}
-use Prim.Native.Nat.{ℕ, _+_, _-_, _*_, _≤_, _<_}
-use lib.ListN.{length}
-use native.Mathlib.Omega.{arith}
+use mathlib.Core.Path.{sym}
 use borrow.Author.Needs.{needs}
 use Rattle.copies.proofs.copy_unpacker.Statement.{statement}
 use Rattle.copies.proofs.copy_unpacker.Tie as tie
@@ -34,7 +31,7 @@ enum-known-b : tie.Need-enum-known-b
 enum-known-b c = search needs
 
 copy-number-requires : tie.Need-copy-number-requires
-copy-number-requires c κs = copied-in (copied-was (c .before .before .before .before .before .before .copy-identifier .ensures) (c .before .before .b .given .1))
+copy-number-requires c κs = search needs
 
 returns : tie.Need-returns
 returns c = record { is = kind-no _ _ (was numberTold (c .before .before .before .number .ensures unpackFrame) (c .before .n .given .1)) }

@@ -1,10 +1,6 @@
 -- `put_types` measures the table, and puts its length and it.
 -- Assumes nothing.
 use Rattle.copies.proofs.Copying.{block-none, block-copied, block-never, copied-was, copied-no}
-use mathlib.Core.Path.{_≡_, refl, sym, ap, _∙_}
-use Prim.Native.Nat.{ℕ, _+_, _-_, _*_, _≤_, _<_}
-use lib.ListN.{length}
-use native.Mathlib.Omega.{arith}
 use borrow.Author.Needs.{needs}
 use Rattle.copies.proofs.put_types.Statement.{statement}
 use Rattle.copies.proofs.put_types.Tie as tie

@@ -2,34 +2,9 @@
 -- Assumes nothing.
 use Rattle.copies.proofs.Copying.{block-none, block-copied, block-never, copied-was, copied-no}
 use Rattle.title.specs.Description.{shape}
-use mathlib.Core.Path.{_≡_, refl, sym, ap, _∙_}
-use Prim.Native.Nat.{ℕ, _+_, _-_, _*_, _≤_, _<_}
-use lib.ListN.{length}
-use native.Mathlib.Omega.{arith}
 use borrow.Author.Needs.{needs}
 use Rattle.copies.proofs.put_unpackers.Statement.{statement}
 use Rattle.copies.proofs.put_unpackers.Tie as tie
-
-mul-k : tie.Need-mul-k
-mul-k c = search needs
-
-add-count : tie.Need-add-count
-add-count c = search needs
-
-mul-count : tie.Need-mul-count
-mul-count c = search needs
-
-shared-slice-read-count : tie.Need-shared-slice-read-count
-shared-slice-read-count c = search needs
-
-add-count-2 : tie.Need-add-count-2
-add-count-2 c = search needs
-
-mul-count-2 : tie.Need-mul-count-2
-mul-count-2 c = search needs
-
-shared-slice-read-count-2 : tie.Need-shared-slice-read-count-2
-shared-slice-read-count-2 c = search needs
 
 slice-aggregate-copy-unpackers : tie.Need-slice-aggregate-copy-unpackers
 slice-aggregate-copy-unpackers c = search needs
@@ -82,13 +57,6 @@ pub put-unpackers-spec : {M : Type 1} → statement M
 put-unpackers-spec =
     tie.close
     (tie.spec
-    mul-k
-    add-count
-    mul-count
-    shared-slice-read-count
-    add-count-2
-    mul-count-2
-    shared-slice-read-count-2
     slice-aggregate-copy-unpackers
     copy-unpackers-requires
     enum-told

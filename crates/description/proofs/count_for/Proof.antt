@@ -2,7 +2,7 @@
 -- Assumes nothing.
 use lib.ListN.{length, replicate}
 use mathlib.Core.Path.{_∙_, ap}
-use Rattle.description.proofs.Exits.{ends-unread, rows-room, rows-inside, ends-refused, ends-count}
+use Rattle.description.proofs.Exits.{ends-unread, rows-inside, ends-refused, ends-count}
 use borrow.Author.Needs.{needs}
 use Rattle.description.proofs.count_for.Statement.{statement}
 use Rattle.description.proofs.count_for.Tie as tie
@@ -17,7 +17,7 @@ enum-known-s : tie.Need-enum-known-s
 enum-known-s c = search needs
 
 count-row-requires : tie.Need-count-row-requires
-count-row-requires c κs = (rows-room (c .before .before .before .before .before .before .before .before .before .before .before .before .before .before .args .file .now) (length (c .before .before .before .before .before .before .before .before .before .before .before .before .before .before .args .nodes .now)) (length (c .before .before .before .before .before .before .before .before .before .before .before .before .before .before .args .items .now)) (c .before .before .before .before .before .before .before .before .before .before .before .before .before .before .args .item-row) (c .before .before .before .before .before .before .before .before .before .before .before .before .before .before .args .channel) (c .before .before .before .before .before .before .before .before .before .before .before .before .before .before .args .resource) (c .before .before .before .before .before .before .before .before .read-file .ensures .0) (c .before .before .before .before .before .before .before .before .read-file .ensures .1 .0) (c .before .before .before .before .before .before .before .before .read-file .ensures .1 .1) (c .before .before .s .given .1), rows-inside (c .before .before .before .before .before .before .before .before .before .before .before .before .before .before .args .file .now) (length (c .before .before .before .before .before .before .before .before .before .before .before .before .before .before .args .nodes .now)) (length (c .before .before .before .before .before .before .before .before .before .before .before .before .before .before .args .items .now)) (c .before .before .before .before .before .before .before .before .before .before .before .before .before .before .args .item-row) (c .before .before .before .before .before .before .before .before .before .before .before .before .before .before .args .channel) (c .before .before .before .before .before .before .before .before .before .before .before .before .before .before .args .resource) (c .before .before .before .before .before .before .before .before .read-file .ensures .0) (c .before .before .before .before .before .before .before .before .read-file .ensures .1 .0) (c .before .before .before .before .before .before .before .before .read-file .ensures .1 .1) (c .before .before .s .given .1))
+count-row-requires c κs = rows-inside (c .before .before .before .before .before .before .before .before .before .before .before .before .before .before .args .file .now) (length (c .before .before .before .before .before .before .before .before .before .before .before .before .before .before .args .nodes .now)) (length (c .before .before .before .before .before .before .before .before .before .before .before .before .before .before .args .items .now)) (c .before .before .before .before .before .before .before .before .before .before .before .before .before .before .args .item-row) (c .before .before .before .before .before .before .before .before .before .before .before .before .before .before .args .channel) (c .before .before .before .before .before .before .before .before .before .before .before .before .before .before .args .resource) (c .before .before .before .before .before .before .before .before .read-file .ensures .0) (c .before .before .before .before .before .before .before .before .read-file .ensures .1 .0) (c .before .before .before .before .before .before .before .before .read-file .ensures .1 .1) (c .before .before .s .given .1)
 
 enum-known-n-2 : tie.Need-enum-known-n-2
 enum-known-n-2 c = search needs

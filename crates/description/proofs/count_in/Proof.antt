@@ -18,7 +18,7 @@ returns-2 : tie.Need-returns-2
 returns-2 c = row-text _ _ _ _ (c .before .before .before .is-field .ensures) (c .before .before .if1 .left) (c .before .is-binary .ensures) (c .if2 .taken)
 
 count-of-requires : tie.Need-count-of-requires
-count-of-requires c κs = search needs
+count-of-requires c κs = c .before .before .before .before .before .pre .0
 
 returns-3 : tie.Need-returns-3
 returns-3 c = row-count _ _ _ _ (c .before .before .before .before .is-field .ensures) (c .before .before .before .if1 .left) (c .before .before .is-binary .ensures) (c .before .if2 .left) (c .count-of .ensures)

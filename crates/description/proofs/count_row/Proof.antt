@@ -2,8 +2,8 @@
 -- Assumes nothing.
 use lib.ListN.{length}
 use native.Mathlib.Omega.{arith}
-use Rattle.description.proofs.Exits.{row-none, row-in, row-there}
-use borrow.Author.Needs.{needs}
+use Rattle.tree.proofs.Own.{row-in}
+use Rattle.description.proofs.Exits.{row-none, row-there}
 use Rattle.description.proofs.count_row.Statement.{statement}
 use Rattle.description.proofs.count_row.Tie as tie
 
@@ -14,7 +14,7 @@ item-at-requires : tie.Need-item-at-requires
 item-at-requires c κs = omega arith
 
 count-in-requires : tie.Need-count-in-requires
-count-in-requires c κs = row-in (length (c .before .before .before .before .args .file .now)) (c .before .before .before .before .args .items .now) (c .before .before .before .before .args .count) (c .before .before .before .before .args .row) (c .before .before .before .before .pre .1) (c .before .if1 .left) (c .item-at .ensures)
+count-in-requires c κs = row-in (c .before .before .before .before .args .items .now) (c .before .before .before .before .pre) (c .before .if1 .left) (c .item-at .ensures)
 
 returns-2 : tie.Need-returns-2
 returns-2 c = row-there (c .before .before .before .before .before .args .file .now) (c .before .before .before .before .before .args .items .now) (c .before .before .before .before .before .args .count) (c .before .before .before .before .before .args .row) (c .before .before .before .before .before .args .channel) (c .before .before .before .before .before .args .resource) (c .before .before .if1 .left) (c .before .item-at .ensures) (c .count-in .ensures)

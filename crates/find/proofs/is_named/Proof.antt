@@ -1,8 +1,8 @@
 -- `is_named` says what `matches` says of a custom name, test by test.
 -- Assumes nothing.
-use Rattle.find.proofs.Matching.{named-empty, named-kind, named-size, named-bytes, name-inside}
 use native.Mathlib.Omega.{arith}
-use borrow.Author.Needs.{needs}
+use Rattle.tree.proofs.Rows.{name-in}
+use Rattle.find.proofs.Matching.{named-empty, named-kind, named-size, named-bytes}
 use Rattle.find.proofs.is_named.Statement.{statement}
 use Rattle.find.proofs.is_named.Tie as tie
 
@@ -16,7 +16,7 @@ returns-3 : tie.Need-returns-3
 returns-3 c = named-size _ _ _ (c .if3 .taken) (c .before .before .if2 .left) (c .before .before .before .before .if1 .left)
 
 same-bytes-requires : tie.Need-same-bytes-requires
-same-bytes-requires c κs = name-inside (c .before .before .before .before .before .before .before .args .row) (c .before .before .before .before .before .before .before .pre) (c .before .before .if2 .left) (c .if3 .left)
+same-bytes-requires c κs = omega (arith, name-in (c .before .before .before .before .before .before .before .args .row) (c .before .before .before .before .before .before .before .pre) (c .before .before .if2 .left), c .if3 .left)
 
 returns-4 : tie.Need-returns-4
 returns-4 c = named-bytes _ _ _ (c .same-bytes .ensures) (c .before .if3 .left) (c .before .before .before .if2 .left) (c .before .before .before .before .before .if1 .left)

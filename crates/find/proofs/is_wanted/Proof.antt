@@ -1,7 +1,6 @@
 -- `is_wanted` says what `matches` says of either field.
 -- Assumes nothing.
 use Rattle.find.proofs.Matching.{wanted-kind, wanted-field, wanted-name}
-use native.Mathlib.Omega.{arith}
 use borrow.Author.Needs.{needs}
 use Rattle.find.proofs.is_wanted.Statement.{statement}
 use Rattle.find.proofs.is_wanted.Tie as tie

@@ -4,7 +4,6 @@ use Prim.Native.Nat.{_-_, _≤_}
 use lib.ListN.{length}
 use Rattle.find.proofs.Matching.{Comparing, bytes-begin, bytes-differ, bytes-on, bytes-all}
 use native.Mathlib.Omega.{arith}
-use borrow.Author.Needs.{needs}
 use Rattle.find.proofs.same_bytes.Statement.{statement}
 use Rattle.find.proofs.same_bytes.Tie as tie
 

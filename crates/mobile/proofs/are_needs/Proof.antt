@@ -4,7 +4,7 @@ use borrow.Author.Tests.{not-true, not-false}
 use mathlib.Core.Path.{sym}
 use Prim.Native.Nat.{_-_, _≤_}
 use lib.ListN.{length}
-use Rattle.description.proofs.Exits.{row-in}
+use Rattle.tree.proofs.Own.{row-in}
 use Rattle.mobile.proofs.Checks.{NeedsLeft, needs-none, needs-begin, needs-no, needs-on}
 use native.Mathlib.Omega.{arith}
 use Rattle.mobile.proofs.are_needs.Statement.{statement}
@@ -29,7 +29,7 @@ item-at-requires : tie.Need-item-at-requires Inv-loop μ-loop
 item-at-requires c κs = omega arith
 
 is-need-requires : tie.Need-is-need-requires Inv-loop μ-loop
-is-need-requires c κs = row-in (length (c .before .before .before .before .before .before .before .args .file .now)) (c .before .before .before .before .before .before .before .args .items .now) (c .before .before .before .before .before .before .before .args .many) (c .before .before .loop .i) (c .before .before .before .before .before .before .before .pre .1) (c .before .loop-test .taken) (c .item-at .ensures)
+is-need-requires c κs = row-in (c .before .before .before .before .before .before .before .args .items .now) (c .before .before .before .before .before .before .before .pre) (c .before .loop-test .taken) (c .item-at .ensures)
 
 returns-2 : tie.Need-returns-2 Inv-loop μ-loop
 returns-2 c = needs-no (c .before .before .before .before .before .before .before .before .before .args .file .now) (c .before .before .before .before .before .before .before .before .before .args .tune) (c .before .before .before .before .before .before .before .before .before .args .items .now) (c .before .before .before .before .before .before .before .before .before .args .many) (c .before .before .before .before .loop .inv .1) (c .before .before .before .loop-test .taken) (c .before .before .item-at .ensures) (c .before .is-need .ensures) (not-true (c .before .is-need .result) (c .if2 .taken))

@@ -1,6 +1,5 @@
 -- `child` gives what `child` gives by definition.
 -- Assumes nothing.
-use mathlib.Core.Path.{sym}
 use Rattle.mobile.specs.Mobile.{child}
 use borrow.Author.Needs.{needs}
 use Rattle.mobile.proofs.child.Statement.{statement}

@@ -4,9 +4,10 @@ use mathlib.Core.Path.{_≡_}
 use Prim.Native.Nat.{_-_, _≤_}
 use lib.ListN.{drop}
 use Rattle.tree.specs.Rows.{nodesIn, itemsIn}
-use Rattle.find.specs.Own.{firstRow}
+use Rattle.tree.specs.Own.{firstRow}
+use Rattle.tree.proofs.Own.{end-begin, rows-in, end-in, end-next}
 use Rattle.mobile.specs.Mobile.{childrenFrom}
-use Rattle.mobile.proofs.Roles.{children-begin, children-end, end-begin, rows-in, end-in, end-next, child-next}
+use Rattle.mobile.proofs.Roles.{children-begin, children-end, child-next}
 use native.Mathlib.Omega.{arith}
 use borrow.Author.Needs.{needs}
 use Rattle.mobile.proofs.children_of.Statement.{statement}
@@ -31,7 +32,7 @@ sub-at : tie.Need-sub-at Inv-loop μ-loop
 sub-at c = rows-in (c .before .before .before .before .before .before .pre) (c .before .before .loop .i) (c .before .before .loop .i - 1) (omega arith) (omega arith) (c .node-at .ensures) (c .before .before .loop .inv .2)
 
 role-of-requires : tie.Need-role-of-requires Inv-loop μ-loop
-role-of-requires c κs = (c .before .before .before .before .before .before .pre .item-room, omega arith, end-in (c .before .before .before .before .before .before .pre) (c .before .before .loop .i) (c .before .before .loop .i - 1) (omega arith) (omega arith) (c .node-at .ensures) (c .before .before .loop .inv .2), c .before .before .before .before .before .before .pre .data-in)
+role-of-requires c κs = (c .before .before .before .before .before .before .pre .item-rows, omega arith, end-in (c .before .before .before .before .before .before .pre) (c .before .before .loop .i) (c .before .before .loop .i - 1) (omega arith) (omega arith) (c .node-at .ensures) (c .before .before .loop .inv .2))
 
 child-requires : tie.Need-child-requires Inv-loop μ-loop
 child-requires c κs = search needs

@@ -1,11 +1,10 @@
 -- `judge` gives the verdict of the file's reading, or its refusal, and leaves the tables as the reader does.
 -- Assumes nothing.
-use mathlib.Core.Path.{sym}
-use Rattle.tree.proofs.Order.{in-row-order}
-use Rattle.tree.proofs.Rows.{standing, ask-refused, refused-nodes, refused-items}
-use Rattle.find.proofs.Own.{runs}
+use Rattle.tree.proofs.Rows.{standing}
+use Rattle.tree.proofs.Exits.{says-unread}
+use Rattle.tree.proofs.Own.{tables}
 use Rattle.mobile.specs.Mobile.{mobile}
-use Rattle.mobile.proofs.Checks.{tables, judged, judged-nodes, judged-items}
+use Rattle.mobile.proofs.Checks.{judged}
 use borrow.Author.Needs.{needs}
 use Rattle.mobile.proofs.judge.Statement.{statement}
 use Rattle.mobile.proofs.judge.Tie as tie
@@ -20,7 +19,7 @@ enum-known-s : tie.Need-enum-known-s
 enum-known-s c = search needs
 
 verdict-requires : tie.Need-verdict-requires
-verdict-requires c κs = let st = standing _ _ _ _ (c .before .before .before .before .before .before .before .before .before .read-file .ensures .0) (c .before .before .before .before .before .before .before .before .before .read-file .ensures .1 .0) (c .before .before .before .before .before .before .before .before .before .read-file .ensures .1 .1) (c .before .before .before .s .given .1) in tables st (runs _ _ (in-row-order _ _ (st .reads) .items-follow))
+verdict-requires c κs = let st = standing _ _ _ _ (c .before .before .before .before .before .before .before .before .before .read-file .ensures .0) (c .before .before .before .before .before .before .before .before .before .read-file .ensures .1 .0) (c .before .before .before .before .before .before .before .before .before .read-file .ensures .1 .1) (c .before .before .before .s .given .1) in tables _ _ st
 
 same-length : tie.Need-same-length
 same-length c = search needs
@@ -29,7 +28,7 @@ same-length-2 : tie.Need-same-length-2
 same-length-2 c = search needs
 
 returns : tie.Need-returns
-returns c = (sym (ask-refused _ (c .before .before .before .before .before .before .before .read-file .ensures .0) (c .before .n .given .1) (mobile (c .before .before .before .before .before .before .before .before .before .before .before .before .before .args .file .now))), (refused-nodes _ (mobile (c .before .before .before .before .before .before .before .before .before .before .before .before .before .args .file .now)) (c .before .before .before .before .before .before .before .read-file .ensures .0) (c .before .n .given .1) _ (c .before .before .before .before .before .before .before .read-file .ensures .1 .0), refused-items _ (mobile (c .before .before .before .before .before .before .before .before .before .before .before .before .before .args .file .now)) (c .before .before .before .before .before .before .before .read-file .ensures .0) (c .before .n .given .1) _ (c .before .before .before .before .before .before .before .read-file .ensures .1 .1)))
+returns c = let w = says-unread _ _ _ (mobile (c .before .before .before .before .before .before .before .before .before .before .before .before .before .args .file .now)) (c .before .before .before .before .before .before .before .read-file .ensures .0) (c .before .n .given .1) (c .before .before .before .before .before .before .before .read-file .ensures .1 .0) (c .before .before .before .before .before .before .before .read-file .ensures .1 .1) in (w .0, (w .1, w .2))
 
 same-length-3 : tie.Need-same-length-3
 same-length-3 c = search needs
@@ -38,7 +37,7 @@ same-length-4 : tie.Need-same-length-4
 same-length-4 c = search needs
 
 returns-2 : tie.Need-returns-2
-returns-2 c = let st = standing _ _ _ _ (c .before .before .before .before .before .before .before .before .before .before .read-file .ensures .0) (c .before .before .before .before .before .before .before .before .before .before .read-file .ensures .1 .0) (c .before .before .before .before .before .before .before .before .before .before .read-file .ensures .1 .1) (c .before .before .before .before .s .given .1) in (judged st (c .verdict .ensures), (judged-nodes st (c .verdict .ensures) _ (c .before .before .before .before .before .before .before .before .before .before .read-file .ensures .1 .0), judged-items st (c .verdict .ensures) _ (c .before .before .before .before .before .before .before .before .before .before .read-file .ensures .1 .1)))
+returns-2 c = let st = standing _ _ _ _ (c .before .before .before .before .before .before .before .before .before .before .read-file .ensures .0) (c .before .before .before .before .before .before .before .before .before .before .read-file .ensures .1 .0) (c .before .before .before .before .before .before .before .before .before .before .read-file .ensures .1 .1) (c .before .before .before .before .s .given .1) in let w = judged st (c .verdict .ensures) _ _ (c .before .before .before .before .before .before .before .before .before .before .read-file .ensures .1 .0) (c .before .before .before .before .before .before .before .before .before .before .read-file .ensures .1 .1) in (w .0, (w .1, w .2))
 
 pub judge-spec : {M : Type 1} → statement M
 judge-spec = tie.close (tie.spec read-file-requires enum-known-n enum-known-s verdict-requires same-length same-length-2 returns same-length-3 same-length-4 returns-2)

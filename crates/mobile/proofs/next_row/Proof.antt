@@ -3,7 +3,7 @@
 use mathlib.Core.Path.{_≡_, refl}
 use Prim.Native.Nat.{_-_, _≤_}
 use Rattle.tree.specs.Rows.{itemsIn}
-use Rattle.find.specs.Own.{those, part}
+use Rattle.tree.specs.Own.{those, part}
 use Rattle.description.specs.Row.{isField}
 use Rattle.mobile.proofs.Lists.{next-here, next-on, next-none}
 use native.Mathlib.Omega.{arith}

@@ -2,8 +2,6 @@
 -- Assumes nothing.
 use mathlib.Core.Path.{refl}
 use Rattle.mobile.proofs.Tests.{edition-version, edition-kind, edition-by}
-use native.Mathlib.Omega.{arith}
-use borrow.Author.Needs.{needs}
 use Rattle.mobile.proofs.right_edition.Statement.{statement}
 use Rattle.mobile.proofs.right_edition.Tie as tie
 

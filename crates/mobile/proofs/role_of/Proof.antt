@@ -1,7 +1,7 @@
 -- `role_of` says what `roleOf` says: the rows of field 3 are looked for twice.
 -- Assumes nothing.
 use lib.ListN.{length}
-use Rattle.description.proofs.Exits.{row-in}
+use Rattle.tree.proofs.Own.{row-in}
 use Rattle.mobile.proofs.Roles.{role-none, role-two, role-one}
 use native.Mathlib.Omega.{arith}
 use borrow.Author.Needs.{needs}
@@ -27,7 +27,7 @@ item-at-requires : tie.Need-item-at-requires
 item-at-requires c κs = search needs
 
 role-of-row-requires : tie.Need-role-of-row-requires
-role-of-row-requires c κs = row-in (length (c .before .before .before .before .before .before .before .args .file .now)) (c .before .before .before .before .before .before .before .args .items .now) (c .before .before .before .before .before .before .before .args .many) (c .before .before .before .before .next-row .result) (c .before .before .before .before .before .before .before .pre .3) (omega arith) (c .item-at .ensures)
+role-of-row-requires c κs = row-in (c .before .before .before .before .before .before .before .args .items .now) (c .before .before .before .before .before .before .before .pre .0) (omega arith) (c .item-at .ensures)
 
 returns-3 : tie.Need-returns-3
 returns-3 c = role-one (c .before .before .before .before .before .before .before .before .args .file .now) (c .before .before .before .before .before .before .before .before .args .items .now) (c .before .before .before .before .before .before .before .before .args .many) (c .before .before .before .before .before .next-row .ensures) (c .before .before .before .before .if1 .left) (c .before .before .before .next-row2 .ensures) (c .before .before .if2 .left) (omega arith) (c .before .item-at .ensures) (c .role-of-row .ensures)

@@ -2,7 +2,6 @@
 -- Assumes nothing.
 use borrow.Author.Tests.{not-true, not-false}
 use Rattle.mobile.proofs.Checks.{small-long, small-by}
-use native.Mathlib.Omega.{arith}
 use borrow.Author.Needs.{needs}
 use Rattle.mobile.proofs.small_fields.Statement.{statement}
 use Rattle.mobile.proofs.small_fields.Tie as tie

@@ -46,13 +46,13 @@ returns-6 : tie.Need-returns-6
 returns-6 c = λ h e. verdict-by (c .before .before .before .before .before .before .before .before .before .before .before .before .before .before .before .before .before .args .file .now) h (nodesIn (c .before .before .before .before .before .before .before .before .before .before .before .before .before .before .before .before .before .args .s .nodes) (c .before .before .before .before .before .before .before .before .before .before .before .before .before .before .before .before .before .args .nodes .now)) (itemsIn (c .before .before .before .before .before .before .before .before .before .before .before .before .before .before .before .before .before .args .s .items) (c .before .before .before .before .before .before .before .before .before .before .before .before .before .before .before .before .before .args .items .now)) e (c .before .before .before .before .before .before .before .before .before .before .before .before .right-edition .ensures) (skip 1 (refl) (c .before .before .before .before .before .before .before .before .before .before .before .if1 .left) (skip 2 (c .before .before .before .before .before .before .before .before .before .before .files-only .ensures) (c .before .before .before .before .before .before .before .before .before .if2 .left) (skip 3 (c .before .before .before .before .before .before .before .before .plain-references .ensures) (c .before .before .before .before .before .before .before .if3 .left) (skip 4 (c .before .before .before .before .before .before .no-unpackers .ensures) (c .before .before .before .before .before .if4 .left) (skip 5 (ap (λ (x : Children). x .typed) (c .before .before .before .before .children-of .ensures)) (c .before .before .if5 .left) (stop 6 _ (c .before .one-tune .ensures ∙ ap (λ (x : Children). oneTune (x .tunes) (x .instruments)) (c .before .before .before .before .children-of .ensures)) (c .if6 .taken)))))))
 
 tune-needs-requires : tie.Need-tune-needs-requires
-tune-needs-requires c κs = (c .before .before .before .before .before .before .before .before .before .before .before .before .before .before .before .before .before .pre .item-room, c .before .before .before .before .before .before .before .before .before .before .before .before .before .before .before .before .before .pre .data-in)
+tune-needs-requires c κs = c .before .before .before .before .before .before .before .before .before .before .before .before .before .before .before .before .before .pre .item-rows
 
 returns-7 : tie.Need-returns-7
 returns-7 c = λ h e. verdict-by (c .before .before .before .before .before .before .before .before .before .before .before .before .before .before .before .before .before .before .before .args .file .now) h (nodesIn (c .before .before .before .before .before .before .before .before .before .before .before .before .before .before .before .before .before .before .before .args .s .nodes) (c .before .before .before .before .before .before .before .before .before .before .before .before .before .before .before .before .before .before .before .args .nodes .now)) (itemsIn (c .before .before .before .before .before .before .before .before .before .before .before .before .before .before .before .before .before .before .before .args .s .items) (c .before .before .before .before .before .before .before .before .before .before .before .before .before .before .before .before .before .before .before .args .items .now)) e (c .before .before .before .before .before .before .before .before .before .before .before .before .before .before .right-edition .ensures) (skip 1 (refl) (c .before .before .before .before .before .before .before .before .before .before .before .before .before .if1 .left) (skip 2 (c .before .before .before .before .before .before .before .before .before .before .before .before .files-only .ensures) (c .before .before .before .before .before .before .before .before .before .before .before .if2 .left) (skip 3 (c .before .before .before .before .before .before .before .before .before .before .plain-references .ensures) (c .before .before .before .before .before .before .before .before .before .if3 .left) (skip 4 (c .before .before .before .before .before .before .before .before .no-unpackers .ensures) (c .before .before .before .before .before .before .before .if4 .left) (skip 5 (ap (λ (x : Children). x .typed) (c .before .before .before .before .before .before .children-of .ensures)) (c .before .before .before .before .if5 .left) (skip 6 (c .before .before .before .one-tune .ensures ∙ ap (λ (x : Children). oneTune (x .tunes) (x .instruments)) (c .before .before .before .before .before .before .children-of .ensures)) (c .before .before .if6 .left) (stop 7 _ (c .before .tune-needs .ensures ∙ ap (λ (x : Children). tuneNeeds (c .before .before .before .before .before .before .before .before .before .before .before .before .before .before .before .before .before .before .before .args .file .now) (x .tunes) (itemsIn (c .before .before .before .before .before .before .before .before .before .before .before .before .before .before .before .before .before .before .before .args .s .items) (c .before .before .before .before .before .before .before .before .before .before .before .before .before .before .before .before .before .before .before .args .items .now))) (c .before .before .before .before .before .before .children-of .ensures)) (c .if7 .taken))))))))
 
 small-fields-requires : tie.Need-small-fields-requires
-small-fields-requires c κs = (c .before .before .before .before .before .before .before .before .before .before .before .before .before .before .before .before .before .before .before .pre .node-room, c .before .before .before .before .before .before .before .before .before .before .before .before .before .before .before .before .before .before .before .pre .item-room)
+small-fields-requires c κs = (c .before .before .before .before .before .before .before .before .before .before .before .before .before .before .before .before .before .before .before .pre .node-room, c .before .before .before .before .before .before .before .before .before .before .before .before .before .before .before .before .before .before .before .pre .item-rows .0)
 
 returns-8 : tie.Need-returns-8
 returns-8 c = λ h e. verdict-by (c .before .before .before .before .before .before .before .before .before .before .before .before .before .before .before .before .before .before .before .before .before .args .file .now) h (nodesIn (c .before .before .before .before .before .before .before .before .before .before .before .before .before .before .before .before .before .before .before .before .before .args .s .nodes) (c .before .before .before .before .before .before .before .before .before .before .before .before .before .before .before .before .before .before .before .before .before .args .nodes .now)) (itemsIn (c .before .before .before .before .before .before .before .before .before .before .before .before .before .before .before .before .before .before .before .before .before .args .s .items) (c .before .before .before .before .before .before .before .before .before .before .before .before .before .before .before .before .before .before .before .before .before .args .items .now)) e (c .before .before .before .before .before .before .before .before .before .before .before .before .before .before .before .before .right-edition .ensures) (skip 1 (refl) (c .before .before .before .before .before .before .before .before .before .before .before .before .before .before .before .if1 .left) (skip 2 (c .before .before .before .before .before .before .before .before .before .before .before .before .before .before .files-only .ensures) (c .before .before .before .before .before .before .before .before .before .before .before .before .before .if2 .left) (skip 3 (c .before .before .before .before .before .before .before .before .before .before .before .before .plain-references .ensures) (c .before .before .before .before .before .before .before .before .before .before .before .if3 .left) (skip 4 (c .before .before .before .before .before .before .before .before .before .before .no-unpackers .ensures) (c .before .before .before .before .before .before .before .before .before .if4 .left) (skip 5 (ap (λ (x : Children). x .typed) (c .before .before .before .before .before .before .before .before .children-of .ensures)) (c .before .before .before .before .before .before .if5 .left) (skip 6 (c .before .before .before .before .before .one-tune .ensures ∙ ap (λ (x : Children). oneTune (x .tunes) (x .instruments)) (c .before .before .before .before .before .before .before .before .children-of .ensures)) (c .before .before .before .before .if6 .left) (skip 7 (c .before .before .before .tune-needs .ensures ∙ ap (λ (x : Children). tuneNeeds (c .before .before .before .before .before .before .before .before .before .before .before .before .before .before .before .before .before .before .before .before .before .args .file .now) (x .tunes) (itemsIn (c .before .before .before .before .before .before .before .before .before .before .before .before .before .before .before .before .before .before .before .before .before .args .s .items) (c .before .before .before .before .before .before .before .before .before .before .before .before .before .before .before .before .before .before .before .before .before .args .items .now))) (c .before .before .before .before .before .before .before .before .children-of .ensures)) (c .before .before .if7 .left) (stop 8 _ (c .before .small-fields .ensures) (c .if8 .taken)))))))))

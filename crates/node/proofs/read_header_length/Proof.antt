@@ -20,23 +20,23 @@ number-requires c κs = omega (arith, c .of .ensures, c .before .before .before 
 enum-known-n : tie.Need-enum-known-n
 enum-known-n c = search needs
 
-enum-known-header : tie.Need-enum-known-header
-enum-known-header c = search needs
+enum-known-length : tie.Need-enum-known-length
+enum-known-length c = search needs
 
 returns : tie.Need-returns
-returns c = header-past _ _ _ _ _ (c .before .before .before .before .before .of .ensures) (was numberTold (c .before .before .before .before .number .ensures nodeFrame) (c .before .before .header .given .1)) (c .if1 .taken)
+returns c = header-past _ _ _ _ _ (c .before .before .before .before .before .before .before .of .ensures) (was numberTold (c .before .before .before .before .before .before .number .ensures nodeFrame) (c .before .before .before .before .length .given .1)) (c .if1 .taken)
 
 of-requires-2 : tie.Need-of-requires-2
 of-requires-2 c κs = search needs
 
 returns-2 : tie.Need-returns-2
-returns-2 c = header-short _ _ _ _ _ (c .before .before .before .before .before .before .before .before .before .before .of .ensures) (was numberTold (c .before .before .before .before .before .before .before .before .before .number .ensures nodeFrame) (c .before .before .before .before .before .before .before .header .given .1)) (c .before .before .before .before .before .if1 .left) (omega (arith, c .before .before .before .before .of2 .ensures, c .if2 .taken))
+returns-2 c = header-short _ _ _ _ _ (c .before .before .before .before .before .before .before .before .before .before .before .before .of .ensures) (was numberTold (c .before .before .before .before .before .before .before .before .before .before .before .number .ensures nodeFrame) (c .before .before .before .before .before .before .before .before .before .length .given .1)) (c .before .before .before .before .before .if1 .left) (omega (arith, c .before .before .before .before .of2 .ensures, c .if2 .taken))
 
 returns-3 : tie.Need-returns-3
 returns-3 c = header-cut _ _ _ _ _ (c .before .before .before .before .of .ensures) (was numberTold (c .before .before .before .number .ensures nodeFrame) (c .before .n .given .1))
 
 returns-4 : tie.Need-returns-4
-returns-4 c = header-all _ _ _ _ _ (c .before .before .before .before .before .before .before .before .before .before .of .ensures) (was numberTold (c .before .before .before .before .before .before .before .before .before .number .ensures nodeFrame) (c .before .before .before .before .before .before .before .header .given .1)) (c .before .before .before .before .before .if1 .left) (omega (arith, c .before .before .before .before .of2 .ensures, c .if2 .left))
+returns-4 c = header-all _ _ _ _ _ (c .before .before .before .before .before .before .before .before .before .before .before .before .of .ensures) (was numberTold (c .before .before .before .before .before .before .before .before .before .before .before .number .ensures nodeFrame) (c .before .before .before .before .before .before .before .before .before .length .given .1)) (c .before .before .before .before .before .if1 .left) (omega (arith, c .before .before .before .before .of2 .ensures, c .if2 .left))
 
 pub read-header-length-spec : {M : Type 1} → statement M
 read-header-length-spec =
@@ -45,7 +45,7 @@ read-header-length-spec =
     of-requires
     number-requires
     enum-known-n
-    enum-known-header
+    enum-known-length
     returns
     of-requires-2
     returns-2

@@ -8,6 +8,7 @@ use borrow.Fn.PlainCycle.{Measures, is, falls, and}
 use Rattle.resolve.proofs.follow.Reads as follow
 use Rattle.resolve.proofs.follow.Kinds as follow-kinds
 use Rattle.resolve.proofs.+follow.Lts-follow as follow-lts
+use Rattle.tree.proofs.node_at.Reads as node-at-reads
 use Rattle.tree.proofs.row_starting.Reads as row-starting-reads
 use Rattle.resolve.proofs.+follow.{statement}
 use Rattle.resolve.proofs.+follow.Tie.{close}
@@ -23,104 +24,56 @@ follow-below t = and 1 follow-kinds.ps (falls 1 follow-kinds.ps _<_ μ-follow t)
 
 -- what the callees ask and give
 abbrev follow-calls : ℕ → follow-lts.Claims
-follow-calls t = (row-starting-reads.Asked, row-starting-reads.Learnt, follow-below t, follow.Post)
+follow-calls t = (node-at-reads.Asked, node-at-reads.Learnt, row-starting-reads.Asked, row-starting-reads.Learnt, follow-below t, follow.Post)
 
-follow-mul-at : (t : ℕ) → follow-lts.Need-mul-at (follow-calls t) (follow-at t) follow.Post
-follow-mul-at t c = omega (arith, c .before .pre)
-
-follow-add-if1 : (t : ℕ) → follow-lts.Need-add-if1 (follow-calls t) (follow-at t) follow.Post
-follow-add-if1 t c = omega (arith, c .before .pre)
-
-follow-mul-if1 : (t : ℕ) → follow-lts.Need-mul-if1 (follow-calls t) (follow-at t) follow.Post
-follow-mul-if1 t c = omega (arith, c .before .pre)
-
-follow-shared-slice-read-if1 : (t : ℕ) → follow-lts.Need-shared-slice-read-if1 (follow-calls t) (follow-at t) follow.Post
-follow-shared-slice-read-if1 t c = omega (arith, c .before .before .pre)
+follow-node-at-requires : (t : ℕ) → follow-lts.Need-node-at-requires (follow-calls t) (follow-at t) follow.Post
+follow-node-at-requires t c κs = omega (arith, c .before .pre)
 
 follow-returns : (t : ℕ) → follow-lts.Need-returns (follow-calls t) (follow-at t) follow.Post
-follow-returns t c = at-folder _ _ _ _ _ (omega (arith, c .before .before .before .pre)) (c .if1 .taken)
-
-follow-add-reference : (t : ℕ) → follow-lts.Need-add-reference (follow-calls t) (follow-at t) follow.Post
-follow-add-reference t c = omega (arith, c .before .before .before .pre)
-
-follow-mul-reference : (t : ℕ) → follow-lts.Need-mul-reference (follow-calls t) (follow-at t) follow.Post
-follow-mul-reference t c = omega (arith, c .before .before .before .pre)
-
-follow-shared-slice-read-reference : (t : ℕ) → follow-lts.Need-shared-slice-read-reference (follow-calls t) (follow-at t) follow.Post
-follow-shared-slice-read-reference t c = omega (arith, c .before .before .before .before .pre)
-
-follow-add-target : (t : ℕ) → follow-lts.Need-add-target (follow-calls t) (follow-at t) follow.Post
-follow-add-target t c = omega (arith, c .before .before .before .before .pre)
-
-follow-mul-target : (t : ℕ) → follow-lts.Need-mul-target (follow-calls t) (follow-at t) follow.Post
-follow-mul-target t c = omega (arith, c .before .before .before .before .pre)
-
-follow-shared-slice-read-target : (t : ℕ) → follow-lts.Need-shared-slice-read-target (follow-calls t) (follow-at t) follow.Post
-follow-shared-slice-read-target t c = omega (arith, c .before .before .before .before .before .pre)
-
-follow-add-extent : (t : ℕ) → follow-lts.Need-add-extent (follow-calls t) (follow-at t) follow.Post
-follow-add-extent t c = omega (arith, c .before .before .before .before .before .pre)
-
-follow-mul-extent : (t : ℕ) → follow-lts.Need-mul-extent (follow-calls t) (follow-at t) follow.Post
-follow-mul-extent t c = omega (arith, c .before .before .before .before .before .pre)
-
-follow-shared-slice-read-extent : (t : ℕ) → follow-lts.Need-shared-slice-read-extent (follow-calls t) (follow-at t) follow.Post
-follow-shared-slice-read-extent t c = omega (arith, c .before .before .before .before .before .before .pre)
+follow-returns t c = at-folder _ _ _ _ _ (omega (arith, c .before .before .before .before .pre)) (c .before .before .node-at .ensures) (c .if1 .taken)
 
 follow-returns-2 : (t : ℕ) → follow-lts.Need-returns-2 (follow-calls t) (follow-at t) follow.Post
-follow-returns-2 t c = at-one _ _ _ _ _ (omega (arith, c .before .before .before .before .before .before .before .pre)) (c .before .before .before .before .if1 .left) (c .if2 .taken)
+follow-returns-2 t c = at-one _ _ _ _ _ (omega (arith, c .before .before .before .before .before .before .pre)) (c .before .before .before .before .node-at .ensures) (c .before .before .if1 .left) (c .if2 .taken)
 
 follow-returns-3 : (t : ℕ) → follow-lts.Need-returns-3 (follow-calls t) (follow-at t) follow.Post
-follow-returns-3 t c = two-many _ _ _ _ _ (omega (arith, c .before .before .before .before .before .before .before .before .before .pre)) (c .before .before .before .before .before .before .if1 .left) (c .before .if3 .taken) (c .if4 .taken)
+follow-returns-3 t c = two-many _ _ _ _ _ (omega (arith, c .before .before .before .before .before .before .before .before .before .pre)) (c .before .before .before .before .before .before .before .node-at .ensures) (c .before .before .before .before .before .if1 .left) (c .before .if3 .taken) (c .if4 .taken)
 
-follow-add-t25 : (t : ℕ) → follow-lts.Need-add-t25 (follow-calls t) (follow-at t) follow.Post
-follow-add-t25 t c = omega (arith, c .before .before .before .before .before .before .before .before .before .pre)
+follow-add-t15 : (t : ℕ) → follow-lts.Need-add-t15 (follow-calls t) (follow-at t) follow.Post
+follow-add-t15 t c = omega (arith, c .before .before .before .before .before .before .before .before .before .pre)
 
 follow-returns-4 : (t : ℕ) → follow-lts.Need-returns-4 (follow-calls t) (follow-at t) follow.Post
-follow-returns-4 t c = two-on _ _ _ _ _ (omega (arith, c .before .before .before .before .before .before .before .before .before .pre)) (c .before .before .before .before .before .before .if1 .left) (c .if4 .left) (c .before .if3 .taken)
+follow-returns-4 t c = two-on _ _ _ _ _ (omega (arith, c .before .before .before .before .before .before .before .before .before .pre)) (c .before .before .before .before .before .before .before .node-at .ensures) (c .before .before .before .before .before .if1 .left) (c .if4 .left) (c .before .if3 .taken)
 
 follow-returns-5 : (t : ℕ) → follow-lts.Need-returns-5 (follow-calls t) (follow-at t) follow.Post
-follow-returns-5 t c = at-uri _ _ _ _ _ (omega (arith, c .before .before .before .before .before .before .before .before .before .pre)) (c .before .before .before .before .before .before .if1 .left) (c .before .before .if2 .left) (c .before .if3 .left) (c .if5 .taken)
+follow-returns-5 t c = at-uri _ _ _ _ _ (omega (arith, c .before .before .before .before .before .before .before .before .before .before .pre)) (c .before .before .before .before .before .before .before .before .node-at .ensures) (c .before .before .before .before .before .before .if1 .left) (c .before .before .before .before .if2 .left) (c .before .before .if3 .left) (c .if5 .taken)
 
 follow-returns-6 : (t : ℕ) → follow-lts.Need-returns-6 (follow-calls t) (follow-at t) follow.Post
-follow-returns-6 t c = three-many _ _ _ _ _ (omega (arith, c .before .before .before .before .before .before .before .before .before .before .pre)) (c .before .before .before .before .before .before .before .if1 .left) (c .before .if5 .left) (c .if6 .taken)
+follow-returns-6 t c = three-many _ _ _ _ _ (omega (arith, c .before .before .before .before .before .before .before .before .before .before .before .pre)) (c .before .before .before .before .before .before .before .before .before .node-at .ensures) (c .before .before .before .before .before .before .before .if1 .left) (c .before .if5 .left) (c .if6 .taken)
 
 follow-row-starting-requires : (t : ℕ) → follow-lts.Need-row-starting-requires (follow-calls t) (follow-at t) follow.Post
-follow-row-starting-requires t c κs = (omega (arith, c .before .before .before .before .before .before .before .before .before .before .pre), omega (arith, c .before .before .before .before .before .before .before .before .before .before .pre), c .before .before .before .before .before .before .before .before .before .before .pre .1 .5)
+follow-row-starting-requires t c κs = (omega (arith, c .before .before .before .before .before .before .before .before .before .before .before .pre), omega (arith, c .before .before .before .before .before .before .before .before .before .before .before .pre), c .before .before .before .before .before .before .before .before .before .before .before .pre .1 .5)
 
 follow-sub-follow : (t : ℕ) → follow-lts.Need-sub-follow (follow-calls t) (follow-at t) follow.Post
-follow-sub-follow t c = omega (arith, c .before .before .before .before .before .before .before .before .before .before .before .pre)
+follow-sub-follow t c = omega (arith, c .before .before .before .before .before .before .before .before .before .before .before .before .pre)
 
 follow-add-follow : (t : ℕ) → follow-lts.Need-add-follow (follow-calls t) (follow-at t) follow.Post
-follow-add-follow t c = omega (arith, c .before .before .before .before .before .before .before .before .before .before .before .pre)
+follow-add-follow t c = omega (arith, c .before .before .before .before .before .before .before .before .before .before .before .before .pre)
 
 follow-follow-requires : (t : ℕ) → follow-lts.Need-follow-requires (follow-calls t) (follow-at t) follow.Post
-follow-follow-requires t c κs = (omega (arith, c .before .before .before .before .before .before .before .before .before .before .before .pre), (omega (arith, c .before .before .before .before .before .before .before .before .before .before .before .pre), next-there _ _ _ (omega (arith, c .before .before .before .before .before .before .before .before .before .before .before .pre)) (c .before .before .before .before .before .before .before .before .before .before .before .pre .1 .3) (c .before .before .if5 .left) (c .row-starting .ensures), omega (arith, c .before .before .before .before .before .before .before .before .before .before .before .pre), c .before .before .before .before .before .before .before .before .before .before .before .pre .1 .3, omega (arith, c .before .before .before .before .before .before .before .before .before .before .before .pre), c .before .before .before .before .before .before .before .before .before .before .before .pre .1 .5))
+follow-follow-requires t c κs = (omega (arith, c .before .before .before .before .before .before .before .before .before .before .before .before .pre), (omega (arith, c .before .before .before .before .before .before .before .before .before .before .before .before .pre), next-there _ _ _ (omega (arith, c .before .before .before .before .before .before .before .before .before .before .before .before .pre)) (c .before .before .before .before .before .before .before .before .before .before .before .before .pre .1 .3) (c .before .before .before .before .before .before .before .before .before .before .node-at .ensures) (c .before .before .if5 .left) (c .row-starting .ensures), omega (arith, c .before .before .before .before .before .before .before .before .before .before .before .before .pre), c .before .before .before .before .before .before .before .before .before .before .before .before .pre .1 .3, omega (arith, c .before .before .before .before .before .before .before .before .before .before .before .before .pre), c .before .before .before .before .before .before .before .before .before .before .before .before .pre .1 .5))
 
 follow-returns-7 : (t : ℕ) → follow-lts.Need-returns-7 (follow-calls t) (follow-at t) follow.Post
-follow-returns-7 t c = three-on _ _ _ _ _ (omega (arith, c .before .before .before .before .before .before .before .before .before .before .before .before .pre)) (c .before .before .before .before .before .before .before .before .before .if1 .left) (c .before .before .if6 .left) (c .before .before .before .if5 .left) (c .before .row-starting .ensures) (c .follow .ensures)
+follow-returns-7 t c = three-on _ _ _ _ _ (omega (arith, c .before .before .before .before .before .before .before .before .before .before .before .before .before .pre)) (c .before .before .before .before .before .before .before .before .before .before .before .node-at .ensures) (c .before .before .before .before .before .before .before .before .before .if1 .left) (c .before .before .if6 .left) (c .before .before .before .if5 .left) (c .before .row-starting .ensures) (c .follow .ensures)
 
 pub +follow-spec : {M : Type 1} → statement M
 +follow-spec = close μ-follow λ t. follow-lts.spec (follow-calls t)
     (follow-at t)
     follow.Post
-    (follow-mul-at t)
-    (follow-add-if1 t)
-    (follow-mul-if1 t)
-    (follow-shared-slice-read-if1 t)
+    (follow-node-at-requires t)
     (follow-returns t)
-    (follow-add-reference t)
-    (follow-mul-reference t)
-    (follow-shared-slice-read-reference t)
-    (follow-add-target t)
-    (follow-mul-target t)
-    (follow-shared-slice-read-target t)
-    (follow-add-extent t)
-    (follow-mul-extent t)
-    (follow-shared-slice-read-extent t)
     (follow-returns-2 t)
     (follow-returns-3 t)
-    (follow-add-t25 t)
+    (follow-add-t15 t)
     (follow-returns-4 t)
     (follow-returns-5 t)
     (follow-returns-6 t)

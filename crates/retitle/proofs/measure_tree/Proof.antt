@@ -3,9 +3,8 @@
 use native.Mathlib.Omega.{arith}
 use borrow.Author.Needs.{needs}
 use mathlib.Core.Path.{refl}
-use Prim.Native.Nat.{_-_, _*_, _+_, _≤_}
 use Rattle.retitle.specs.Passes.{task}
-use Rattle.retitle.proofs.Passes.{Measuring, measuring-start, here, first-is, stack-has, stack-room, items-here, measuring-on, measured-all, tree-size}
+use Rattle.retitle.proofs.Passes.{Measuring, measuring-start, here, stack-room, items-here, first-row, stack-row, inside-row, measuring-row, measured-all, tree-size}
 use Rattle.retitle.proofs.measure_tree.Statement.{statement}
 use Rattle.retitle.proofs.measure_tree.Tie as tie
 
@@ -22,71 +21,53 @@ loop-holds c = measuring-start (c .before .before .before .before .before .befor
 sub-i : tie.Need-sub-i Inv-loop μ-loop
 sub-i c = omega arith
 
-mul-k : tie.Need-mul-k Inv-loop μ-loop
-mul-k c = omega (arith, here (c .before .before .before .before .before .before .before .before .pre .0) (c .before .loop .inv) (c .loop-test .taken), c .before .before .before .before .before .before .before .before .pre .0 .node-room, c .before .before .before .before .before .before .before .before .pre .0 .few)
-
-add-first : tie.Need-add-first Inv-loop μ-loop
-add-first c = omega (arith, here (c .before .before .before .before .before .before .before .before .pre .0) (c .before .loop .inv) (c .loop-test .taken), c .before .before .before .before .before .before .before .before .pre .0 .node-room, c .before .before .before .before .before .before .before .before .pre .0 .few)
-
-mul-first : tie.Need-mul-first Inv-loop μ-loop
-mul-first c = omega (arith, here (c .before .before .before .before .before .before .before .before .pre .0) (c .before .loop .inv) (c .loop-test .taken), c .before .before .before .before .before .before .before .before .pre .0 .node-room, c .before .before .before .before .before .before .before .before .pre .0 .few)
-
-shared-slice-read-first : tie.Need-shared-slice-read-first Inv-loop μ-loop
-shared-slice-read-first c = omega (arith, here (c .before .before .before .before .before .before .before .before .before .pre .0) (c .before .before .loop .inv) (c .before .loop-test .taken), c .before .before .before .before .before .before .before .before .before .pre .0 .node-room, c .before .before .before .before .before .before .before .before .before .pre .0 .few)
+node-at-requires : tie.Need-node-at-requires Inv-loop μ-loop
+node-at-requires c κs = omega (arith, here (c .before .before .before .before .before .before .before .before .pre .0) (c .before .loop .inv) (c .loop-test .taken), c .before .before .before .before .before .before .before .before .pre .0 .node-room)
 
 sub-first : tie.Need-sub-first Inv-loop μ-loop
-sub-first c = omega (arith, first-is (c .before .before .before .before .before .before .before .before .before .pre .0) (c .before .before .loop .inv) (c .before .loop-test .taken))
+sub-first c = omega (arith, first-row (c .before .before .before .before .before .before .before .before .before .pre .0) (c .before .before .loop .inv) (c .before .loop-test .taken) (c .node-at .ensures))
 
 add-below : tie.Need-add-below Inv-loop μ-loop
-add-below c = omega (arith, here (c .before .before .before .before .before .before .before .before .before .pre .0) (c .before .before .loop .inv) (c .before .loop-test .taken), c .before .before .before .before .before .before .before .before .before .pre .0 .node-room, c .before .before .before .before .before .before .before .before .before .pre .0 .few)
-
-mul-below : tie.Need-mul-below Inv-loop μ-loop
-mul-below c = omega (arith, here (c .before .before .before .before .before .before .before .before .before .pre .0) (c .before .before .loop .inv) (c .before .loop-test .taken), c .before .before .before .before .before .before .before .before .before .pre .0 .node-room, c .before .before .before .before .before .before .before .before .before .pre .0 .few)
-
-shared-slice-read-below : tie.Need-shared-slice-read-below Inv-loop μ-loop
-shared-slice-read-below c = omega (arith, here (c .before .before .before .before .before .before .before .before .before .before .pre .0) (c .before .before .before .loop .inv) (c .before .before .loop-test .taken), c .before .before .before .before .before .before .before .before .before .before .pre .0 .node-room, c .before .before .before .before .before .before .before .before .before .before .pre .0 .few)
-
-add-below-2 : tie.Need-add-below-2 Inv-loop μ-loop
-add-below-2 c = omega (arith, stack-has (c .before .before .before .before .before .before .before .before .before .before .pre .0) (c .before .before .before .loop .inv) (c .before .before .loop-test .taken))
+add-below c = omega (arith, stack-row (c .before .before .before .before .before .before .before .before .before .pre .0) (c .before .before .loop .inv) (c .before .loop-test .taken) (c .node-at .ensures))
 
 items-size-requires : tie.Need-items-size-requires Inv-loop μ-loop
-items-size-requires c κs = (omega (arith, first-is (c .before .before .before .before .before .before .before .before .before .before .pre .0) (c .before .before .before .loop .inv) (c .before .before .loop-test .taken)), items-here (c .before .before .before .before .before .before .before .before .before .before .pre .0) (c .before .before .before .loop .inv) (c .before .before .loop-test .taken))
+items-size-requires c κs = (omega (arith, first-row (c .before .before .before .before .before .before .before .before .before .pre .0) (c .before .before .loop .inv) (c .before .loop-test .taken) (c .node-at .ensures)), items-here (c .before .before .before .before .before .before .before .before .before .pre .0) (c .before .before .loop .inv) (c .before .loop-test .taken))
 
 slice-aggregate-sum : tie.Need-slice-aggregate-sum Inv-loop μ-loop
 slice-aggregate-sum c = search needs
 
 sum-requires : tie.Need-sum-requires Inv-loop μ-loop
-sum-requires c κs = (omega arith, omega (arith, stack-has (c .before .before .before .before .before .before .before .before .before .before .before .before .pre .0) (c .before .before .before .before .before .loop .inv) (c .before .before .before .before .loop-test .taken), c .before .before .before .before .before .loop .inv .long .0))
+sum-requires c κs = (omega arith, omega (arith, stack-row (c .before .before .before .before .before .before .before .before .before .before .before .pre .0) (c .before .before .before .before .loop .inv) (c .before .before .before .loop-test .taken) (c .before .before .node-at .ensures), c .before .before .before .before .loop .inv .long .0))
 
 frame-of-requires : tie.Need-frame-of-requires Inv-loop μ-loop
-frame-of-requires c κs = (omega (arith, here (c .before .before .before .before .before .before .before .before .before .before .before .before .before .pre .0) (c .before .before .before .before .before .before .loop .inv) (c .before .before .before .before .before .loop-test .taken), c .before .before .before .before .before .before .before .before .before .before .before .before .before .pre .0 .node-room), c .before .before .before .before .before .before .before .before .before .before .before .before .before .pre .0 .bodies-inside _ (here (c .before .before .before .before .before .before .before .before .before .before .before .before .before .pre .0) (c .before .before .before .before .before .before .loop .inv) (c .before .before .before .before .before .loop-test .taken)), c .before .before .before .before .before .before .before .before .before .before .before .before .before .pre .0 .small, omega (arith, c .before .before .items-size .ensures), omega (arith, c .sum .ensures))
+frame-of-requires c κs = (inside-row (c .before .before .before .before .before .before .before .before .before .before .before .before .pre .0) (c .before .before .before .before .before .loop .inv) (c .before .before .before .before .loop-test .taken) (c .before .before .before .node-at .ensures), c .before .before .before .before .before .before .before .before .before .before .before .before .pre .0 .small, omega (arith, c .before .before .items-size .ensures), omega (arith, c .sum .ensures))
 
 mul-metadata : tie.Need-mul-metadata Inv-loop μ-loop
-mul-metadata c = omega (arith, here (c .before .before .before .before .before .before .before .before .before .before .before .before .before .before .pre .0) (c .before .before .before .before .before .before .before .loop .inv) (c .before .before .before .before .before .before .loop-test .taken), c .before .before .before .before .before .before .before .before .before .before .before .before .before .before .pre .0 .few)
+mul-metadata c = omega (arith, here (c .before .before .before .before .before .before .before .before .before .before .before .before .before .pre .0) (c .before .before .before .before .before .before .loop .inv) (c .before .before .before .before .before .loop-test .taken), c .before .before .before .before .before .before .before .before .before .before .before .before .before .pre .0 .few)
 
 slice-write-metadata : tie.Need-slice-write-metadata Inv-loop μ-loop
-slice-write-metadata c = omega (arith, here (c .before .before .before .before .before .before .before .before .before .before .before .before .before .before .pre .0) (c .before .before .before .before .before .before .before .loop .inv) (c .before .before .before .before .before .before .loop-test .taken), c .before .before .before .before .before .before .before .before .before .before .before .before .before .before .pre .0 .few, c .before .before .before .before .before .before .before .loop .inv .long .1)
+slice-write-metadata c = omega (arith, here (c .before .before .before .before .before .before .before .before .before .before .before .before .before .pre .0) (c .before .before .before .before .before .before .loop .inv) (c .before .before .before .before .before .loop-test .taken), c .before .before .before .before .before .before .before .before .before .before .before .before .before .pre .0 .few, c .before .before .before .before .before .before .loop .inv .long .1)
 
 mul-inner : tie.Need-mul-inner Inv-loop μ-loop
-mul-inner c = omega (arith, here (c .before .before .before .before .before .before .before .before .before .before .before .before .before .before .pre .0) (c .before .before .before .before .before .before .before .loop .inv) (c .before .before .before .before .before .before .loop-test .taken), c .before .before .before .before .before .before .before .before .before .before .before .before .before .before .pre .0 .few)
+mul-inner c = omega (arith, here (c .before .before .before .before .before .before .before .before .before .before .before .before .before .pre .0) (c .before .before .before .before .before .before .loop .inv) (c .before .before .before .before .before .loop-test .taken), c .before .before .before .before .before .before .before .before .before .before .before .before .before .pre .0 .few)
 
 slice-write-inner : tie.Need-slice-write-inner Inv-loop μ-loop
-slice-write-inner c = omega (arith, here (c .before .before .before .before .before .before .before .before .before .before .before .before .before .before .pre .0) (c .before .before .before .before .before .before .before .loop .inv) (c .before .before .before .before .before .before .loop-test .taken), c .before .before .before .before .before .before .before .before .before .before .before .before .before .before .pre .0 .few, c .before .before .before .before .before .before .before .loop .inv .long .2)
+slice-write-inner c = omega (arith, here (c .before .before .before .before .before .before .before .before .before .before .before .before .before .pre .0) (c .before .before .before .before .before .before .loop .inv) (c .before .before .before .before .before .loop-test .taken), c .before .before .before .before .before .before .before .before .before .before .before .before .before .pre .0 .few, c .before .before .before .before .before .before .loop .inv .long .2)
 
 sub-top : tie.Need-sub-top Inv-loop μ-loop
-sub-top c = omega (arith, stack-room (c .before .before .before .before .before .before .before .before .before .before .before .before .before .before .pre .0) (c .before .before .before .before .before .before .before .loop .inv) (c .before .before .before .before .before .before .loop-test .taken))
+sub-top c = omega (arith, stack-room (c .before .before .before .before .before .before .before .before .before .before .before .before .before .pre .0) (c .before .before .before .before .before .before .loop .inv) (c .before .before .before .before .before .loop-test .taken))
 
 mul-sizes : tie.Need-mul-sizes Inv-loop μ-loop
-mul-sizes c = omega (arith, stack-has (c .before .before .before .before .before .before .before .before .before .before .before .before .before .before .pre .0) (c .before .before .before .before .before .before .before .loop .inv) (c .before .before .before .before .before .before .loop-test .taken))
+mul-sizes c = omega (arith, stack-row (c .before .before .before .before .before .before .before .before .before .before .before .before .before .pre .0) (c .before .before .before .before .before .before .loop .inv) (c .before .before .before .before .before .loop-test .taken) (c .before .before .before .before .node-at .ensures))
 
 array-write-sizes : tie.Need-array-write-sizes Inv-loop μ-loop
-array-write-sizes c = omega (arith, stack-has (c .before .before .before .before .before .before .before .before .before .before .before .before .before .before .pre .0) (c .before .before .before .before .before .before .before .loop .inv) (c .before .before .before .before .before .before .loop-test .taken), stack-room (c .before .before .before .before .before .before .before .before .before .before .before .before .before .before .pre .0) (c .before .before .before .before .before .before .before .loop .inv) (c .before .before .before .before .before .before .loop-test .taken), c .before .before .before .before .before .before .before .loop .inv .long .0)
+array-write-sizes c = omega (arith, stack-row (c .before .before .before .before .before .before .before .before .before .before .before .before .before .pre .0) (c .before .before .before .before .before .before .loop .inv) (c .before .before .before .before .before .loop-test .taken) (c .before .before .before .before .node-at .ensures), stack-room (c .before .before .before .before .before .before .before .before .before .before .before .before .before .pre .0) (c .before .before .before .before .before .before .loop .inv) (c .before .before .before .before .before .loop-test .taken), c .before .before .before .before .before .before .loop .inv .long .0)
 
 loop-less : tie.Need-loop-less Inv-loop μ-loop
 loop-less c = omega arith
 
 loop-again : tie.Need-loop-again Inv-loop μ-loop
-loop-again c = measuring-on (c .before .before .before .before .before .before .before .before .before .before .before .before .before .before .pre .0) (c .before .before .before .before .before .before .before .loop .inv) (c .before .before .before .before .before .before .loop-test .taken) (c .before .before .before .items-size .ensures) (c .before .sum .ensures) (c .frame-of .ensures)
+loop-again c = measuring-row (c .before .before .before .before .before .before .before .before .before .before .before .before .before .pre .0) (c .before .before .before .before .before .before .loop .inv) (c .before .before .before .before .before .loop-test .taken) (c .before .before .before .before .node-at .ensures) (c .before .before .before .items-size .ensures) (c .before .sum .ensures) (c .frame-of .ensures)
 
 slice-aggregate-sum-2 : tie.Need-slice-aggregate-sum-2 Inv-loop μ-loop
 slice-aggregate-sum-2 c = search needs
@@ -111,15 +92,9 @@ measure-tree-spec =
     μ-loop
     loop-holds
     sub-i
-    mul-k
-    add-first
-    mul-first
-    shared-slice-read-first
+    node-at-requires
     sub-first
     add-below
-    mul-below
-    shared-slice-read-below
-    add-below-2
     items-size-requires
     slice-aggregate-sum
     sum-requires

@@ -2,9 +2,9 @@
 -- Assumes nothing.
 use Rattle.header.specs.Header.{Header}
 use Rattle.metadata.specs.declared.Limits.{Limits}
-use Rattle.writer.proofs.Counting.{counts-as}
 use Rattle.retitle.proofs.Ready.{ready, tree-is}
 use Rattle.retitle.proofs.Headed.{never-refused, header-inside, file-same}
+use Rattle.retitle.proofs.Files.{fills-as}
 use borrow.Author.Needs.{needs}
 use Rattle.retitle.proofs.put_titled.Statement.{statement}
 use Rattle.retitle.proofs.put_titled.Tie as tie
@@ -34,7 +34,7 @@ same-length : tie.Need-same-length
 same-length c = search needs
 
 returns-2 : tie.Need-returns-2
-returns-2 c = λ (lim : Limits) (h : Header) reads. counts-as (file-same lim _ reads (c .before .before .before .before .before .before .before .before .before .before .before .before .before .read-header .result) (c .before .before .before .before .before .before .before .before .before .before .before .before .before .read-header .last .1 .0) (c .before .before .before .before .before .before .before .before .before .before .before .before .before .read-header .ensures .0) (c .before .before .before .before .before .before .before .before .before .before .h .given .1) (c .before .before .before .before .before .before .before .before .opening-size .ensures) _ _ (tree-is (c .before .before .before .before .before .before .before .before .before .before .before .before .before .before .before .before .before .before .before .before .pre .0) (c .before .before .before .before .before .before .before .before .before .before .before .before .before .before .before .before .before .before .before .before .pre .1) _ _)) (c .before .before .put-file .ensures)
+returns-2 c = λ (lim : Limits) (h : Header) reads. fills-as (file-same lim _ reads (c .before .before .before .before .before .before .before .before .before .before .before .before .before .read-header .result) (c .before .before .before .before .before .before .before .before .before .before .before .before .before .read-header .last .1 .0) (c .before .before .before .before .before .before .before .before .before .before .before .before .before .read-header .ensures .0) (c .before .before .before .before .before .before .before .before .before .before .h .given .1) (c .before .before .before .before .before .before .before .before .opening-size .ensures) _ _ (tree-is (c .before .before .before .before .before .before .before .before .before .before .before .before .before .before .before .before .before .before .before .before .pre .0) (c .before .before .before .before .before .before .before .before .before .before .before .before .before .before .before .before .before .before .before .before .pre .1) _ _)) (c .before .before .put-file .ensures)
 
 pub put-titled-spec : {M : Type 1} → statement M
 put-titled-spec =

@@ -1,12 +1,10 @@
 -- `put_tree` goes from the first row to the last. The invariant: the rows before row i are put.
 -- Assumes nothing.
 use native.Mathlib.Omega.{arith}
-use mathlib.Core.Path.{refl}
-use Prim.Native.Nat.{_-_, _*_, _+_, _≤_}
-use Rattle.writer.proofs.Counting.{going-in}
+use Prim.Native.Nat.{_-_}
+use Rattle.room.proofs.Counting.{going-length}
 use Rattle.retitle.specs.Passes.{task}
-use Rattle.retitle.proofs.Rows.{rows-fit}
-use Rattle.retitle.proofs.Passes.{Putting, putting-start, items-room, texts-here, small-here, putting-on, putting-end}
+use Rattle.retitle.proofs.Passes.{Putting, putting-start, rows-room, inside-here, items-room, texts-row, small-row, putting-row, putting-end}
 use Rattle.retitle.proofs.put_tree.Statement.{statement}
 use Rattle.retitle.proofs.put_tree.Tie as tie
 
@@ -18,22 +16,13 @@ abbrev μ-loop : tie.MeasureT-loop
 μ-loop out₀ to file nodes items count total row title metadata inner next₀ first₀ i₀ out next first i = count - i
 
 loop-holds : tie.Need-loop-holds Inv-loop μ-loop
-loop-holds c = putting-start _ (c .before .before .before .before .before .before .before .pre .1 .1)
+loop-holds c = putting-start _ (omega arith)
 
-mul-end : tie.Need-mul-end Inv-loop μ-loop
-mul-end c = omega (arith, c .loop-test .taken, c .before .before .before .before .before .before .before .before .before .pre .0 .0 .node-room, c .before .before .before .before .before .before .before .before .before .pre .0 .0 .few)
+node-at-requires : tie.Need-node-at-requires Inv-loop μ-loop
+node-at-requires c κs = omega (arith, c .loop-test .taken, c .before .before .before .before .before .before .before .before .before .pre .0 .0 .node-room)
 
 add-end : tie.Need-add-end Inv-loop μ-loop
-add-end c = omega (arith, c .loop-test .taken, c .before .before .before .before .before .before .before .before .before .pre .0 .0 .node-room, c .before .before .before .before .before .before .before .before .before .pre .0 .0 .few)
-
-mul-end-2 : tie.Need-mul-end-2 Inv-loop μ-loop
-mul-end-2 c = omega (arith, c .loop-test .taken, c .before .before .before .before .before .before .before .before .before .pre .0 .0 .node-room, c .before .before .before .before .before .before .before .before .before .pre .0 .0 .few)
-
-shared-slice-read-end : tie.Need-shared-slice-read-end Inv-loop μ-loop
-shared-slice-read-end c = omega (arith, c .before .loop-test .taken, c .before .before .before .before .before .before .before .before .before .before .pre .0 .0 .node-room, c .before .before .before .before .before .before .before .before .before .before .pre .0 .0 .few)
-
-add-end-2 : tie.Need-add-end-2 Inv-loop μ-loop
-add-end-2 c = omega (arith, rows-fit (c .before .before .before .before .before .before .before .before .before .before .pre .0 .0) (c .before .before .loop .i) (c .before .loop-test .taken), c .before .before .before .before .before .before .before .before .before .before .pre .0 .0 .items-inside .0, c .before .before .loop .inv .first-is)
+add-end c = omega (arith, rows-room (c .before .before .before .before .before .before .before .before .before .before .pre .0 .0) (c .before .before .loop .inv) (c .before .loop-test .taken) (c .node-at .ensures), c .before .before .before .before .before .before .before .before .before .before .pre .0 .0 .items-inside .0)
 
 mul-put-node : tie.Need-mul-put-node Inv-loop μ-loop
 mul-put-node c = omega (arith, c .before .before .loop-test .taken, c .before .before .before .before .before .before .before .before .before .before .before .pre .0 .0 .few)
@@ -48,7 +37,7 @@ shared-slice-read-put-node-2 : tie.Need-shared-slice-read-put-node-2 Inv-loop μ
 shared-slice-read-put-node-2 c = omega (arith, c .before .before .before .before .loop-test .taken, c .before .before .before .before .before .before .before .before .before .before .before .before .before .pre .0 .0 .few, c .before .before .before .before .before .before .before .before .before .before .before .before .before .pre .0 .3)
 
 put-node-requires : tie.Need-put-node-requires Inv-loop μ-loop
-put-node-requires c κs = ((omega (arith, c .before .before .before .before .loop-test .taken, c .before .before .before .before .before .before .before .before .before .before .before .before .before .pre .0 .0 .node-room), c .before .before .before .before .before .before .before .before .before .before .before .before .before .pre .0 .0 .bodies-inside _ (c .before .before .before .before .loop-test .taken), c .before .before .before .before .before .before .before .before .before .before .before .before .before .pre .0 .0 .small, omega arith, items-room (c .before .before .before .before .before .before .before .before .before .before .before .before .before .pre .0 .0) (c .before .before .before .before .before .loop .inv) (c .before .before .before .before .loop-test .taken) (c .before .before .before .before .before .before .before .before .before .before .before .before .before .pre .0 .1) (c .before .before .before .before .before .before .before .before .before .before .before .before .before .pre .1 .0), going-in (c .before .before .before .before .before .loop .inv .going)), (texts-here (c .before .before .before .before .before .before .before .before .before .before .before .before .before .pre .0 .0) (c .before .before .before .before .before .loop .inv) (c .before .before .before .before .loop-test .taken) (c .before .before .before .before .before .before .before .before .before .before .before .before .before .pre .0 .1) (c .before .before .before .before .before .before .before .before .before .before .before .before .before .pre .1 .0), small-here (c .before .before .before .before .before .before .before .before .before .before .before .before .before .pre .0 .0) (c .before .before .before .before .before .loop .inv) (c .before .before .before .before .loop-test .taken) (c .before .before .before .before .before .before .before .before .before .before .before .before .before .pre .0 .1) (c .before .before .before .before .before .before .before .before .before .before .before .before .before .pre .1 .0)))
+put-node-requires c κs = ((inside-here (c .before .before .before .before .before .before .before .before .before .before .before .before .before .pre .0 .0) (c .before .before .before .before .before .loop .inv) (c .before .before .before .before .loop-test .taken) (c .before .before .before .node-at .ensures), c .before .before .before .before .before .before .before .before .before .before .before .before .before .pre .0 .0 .small, omega arith, items-room (c .before .before .before .before .before .before .before .before .before .before .before .before .before .pre .0 .0) (c .before .before .before .before .before .loop .inv) (c .before .before .before .before .loop-test .taken) (c .before .before .before .node-at .ensures)), (texts-row (c .before .before .before .before .before .before .before .before .before .before .before .before .before .pre .0 .0) (c .before .before .before .before .before .loop .inv) (c .before .before .before .before .loop-test .taken) (c .before .before .before .node-at .ensures) (c .before .before .before .before .before .before .before .before .before .before .before .before .before .pre .0 .1) (c .before .before .before .before .before .before .before .before .before .before .before .before .before .pre .1), small-row (c .before .before .before .before .before .before .before .before .before .before .before .before .before .pre .0 .0) (c .before .before .before .before .before .loop .inv) (c .before .before .before .before .loop-test .taken) (c .before .before .before .node-at .ensures) (c .before .before .before .before .before .before .before .before .before .before .before .before .before .pre .0 .1) (c .before .before .before .before .before .before .before .before .before .before .before .before .before .pre .1)))
 
 add-i : tie.Need-add-i Inv-loop μ-loop
 add-i c = omega (arith, c .before .before .before .before .before .before .before .loop-test .taken)
@@ -57,10 +46,10 @@ loop-less : tie.Need-loop-less Inv-loop μ-loop
 loop-less c = omega (arith, c .before .before .before .before .before .before .before .loop-test .taken)
 
 loop-again : tie.Need-loop-again Inv-loop μ-loop
-loop-again c = putting-on (c .before .before .before .before .before .before .before .before .before .before .before .before .before .before .before .before .pre .0 .0) (c .before .before .before .before .before .before .before .before .loop .inv) (c .before .before .before .before .before .before .before .loop-test .taken) (c .before .before .before .before .before .before .before .before .before .before .before .before .before .before .before .before .pre .0 .1) (c .before .before .before .before .before .before .before .before .before .before .before .before .before .before .before .before .pre .1 .0) (c .before .before .put-node .ensures)
+loop-again c = putting-row (c .before .before .before .before .before .before .before .before .before .before .before .before .before .before .before .before .pre .0 .0) (c .before .before .before .before .before .before .before .before .loop .inv) (c .before .before .before .before .before .before .before .loop-test .taken) (c .before .before .before .before .before .before .node-at .ensures) (c .before .before .before .before .before .before .before .before .before .before .before .before .before .before .before .before .pre .0 .1) (c .before .before .before .before .before .before .before .before .before .before .before .before .before .before .before .before .pre .1) (c .before .before .put-node .ensures)
 
 same-length : tie.Need-same-length Inv-loop μ-loop
-same-length c = c .before .loop .inv .going .puts .long
+same-length c = going-length (c .before .loop .inv .going)
 
 returns : tie.Need-returns Inv-loop μ-loop
 returns c = putting-end (c .before .before .before .before .before .before .before .before .before .pre .0 .0) (c .before .loop .inv) (c .loop-test .left)
@@ -72,11 +61,8 @@ put-tree-spec =
     Inv-loop
     μ-loop
     loop-holds
-    mul-end
+    node-at-requires
     add-end
-    mul-end-2
-    shared-slice-read-end
-    add-end-2
     mul-put-node
     shared-slice-read-put-node
     mul-put-node-2

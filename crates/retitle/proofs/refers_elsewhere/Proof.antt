@@ -15,23 +15,14 @@ abbrev μ-loop : tie.MeasureT-loop
 loop-holds : tie.Need-loop-holds Inv-loop μ-loop
 loop-holds c = looking-start _ _
 
-mul-reference : tie.Need-mul-reference Inv-loop μ-loop
-mul-reference c = search needs
-
-add-reference : tie.Need-add-reference Inv-loop μ-loop
-add-reference c = search needs
-
-mul-reference-2 : tie.Need-mul-reference-2 Inv-loop μ-loop
-mul-reference-2 c = search needs
-
-shared-slice-read-reference : tie.Need-shared-slice-read-reference Inv-loop μ-loop
-shared-slice-read-reference c = search needs
+node-at-requires : tie.Need-node-at-requires Inv-loop μ-loop
+node-at-requires c κs = search needs
 
 returns : tie.Need-returns Inv-loop μ-loop
-returns c = looking-two (c .before .before .before .loop .inv) (c .before .before .loop-test .taken) (c .if1 .taken)
+returns c = looking-two (c .before .before .before .before .loop .inv) (c .before .before .before .loop-test .taken) (c .before .before .node-at .ensures) (c .if1 .taken)
 
 returns-2 : tie.Need-returns-2 Inv-loop μ-loop
-returns-2 c = looking-three (c .before .before .before .before .loop .inv) (c .before .before .before .loop-test .taken) (c .before .if1 .left) (c .if2 .taken)
+returns-2 c = looking-three (c .before .before .before .before .before .before .loop .inv) (c .before .before .before .before .before .loop-test .taken) (c .before .before .before .before .node-at .ensures) (c .before .before .if1 .left) (c .if2 .taken)
 
 add-i : tie.Need-add-i Inv-loop μ-loop
 add-i c = search needs
@@ -40,7 +31,7 @@ loop-less : tie.Need-loop-less Inv-loop μ-loop
 loop-less c = search needs
 
 loop-again : tie.Need-loop-again Inv-loop μ-loop
-loop-again c = looking-on (c .before .before .before .before .loop .inv) (c .before .before .before .loop-test .taken) (c .before .if1 .left) (c .if2 .left)
+loop-again c = looking-on (c .before .before .before .before .before .before .loop .inv) (c .before .before .before .before .before .loop-test .taken) (c .before .before .before .before .node-at .ensures) (c .before .before .if1 .left) (c .if2 .left)
 
 returns-3 : tie.Need-returns-3 Inv-loop μ-loop
 returns-3 c = looking-end (c .before .loop .inv) (c .loop-test .left)
@@ -52,10 +43,7 @@ refers-elsewhere-spec =
     Inv-loop
     μ-loop
     loop-holds
-    mul-reference
-    add-reference
-    mul-reference-2
-    shared-slice-read-reference
+    node-at-requires
     returns
     returns-2
     add-i

@@ -1,8 +1,6 @@
 -- `start_with` adds the bytes of the three numbers to the rest.
 -- Assumes nothing.
 use native.Mathlib.Omega.{arith}
-use mathlib.Core.Path.{ap}
-use Prim.Native.Nat.{_+_}
 use Rattle.retitle.proofs.Lengths.{last-few}
 use borrow.Author.Needs.{needs}
 use Rattle.retitle.proofs.start_with.Statement.{statement}

@@ -1,5 +1,6 @@
 -- `sum` adds word by word. The invariant: the sum so far and the words that are left.
 -- Assumes nothing.
+use native.Mathlib.Omega.{arith}
 use borrow.Author.Needs.{needs}
 use Prim.Native.Nat.{_-_}
 use Rattle.retitle.proofs.Passes.{Adding, adding-start, adding-on, adding-end}
@@ -22,7 +23,10 @@ shared-slice-read-on : tie.Need-shared-slice-read-on Inv-loop μ-loop
 shared-slice-read-on c = search needs
 
 on-requires : tie.Need-on-requires Inv-loop μ-loop
-on-requires c κs = c .before .before .loop .inv .few
+on-requires c κs = search needs
+
+stopped-requires : tie.Need-stopped-requires Inv-loop μ-loop
+stopped-requires c κs = search needs
 
 add-k : tie.Need-add-k Inv-loop μ-loop
 add-k c = search needs
@@ -31,7 +35,7 @@ loop-less : tie.Need-loop-less Inv-loop μ-loop
 loop-less c = search needs
 
 loop-again : tie.Need-loop-again Inv-loop μ-loop
-loop-again c = adding-on (c .before .before .before .loop .inv) (c .before .before .loop-test .taken) (c .before .before .before .before .before .pre .1) (c .on .ensures)
+loop-again c = adding-on (c .before .before .before .before .loop .inv) (c .before .before .before .loop-test .taken) (c .before .before .before .before .before .before .pre .1) (omega (arith, c .before .on .ensures, c .stopped .ensures))
 
 returns : tie.Need-returns Inv-loop μ-loop
 returns c = adding-end (c .before .loop .inv) (c .loop-test .left)
@@ -46,6 +50,7 @@ sum-spec =
     mul-on
     shared-slice-read-on
     on-requires
+    stopped-requires
     add-k
     loop-less
     loop-again

@@ -1,7 +1,7 @@
 -- `tree_start` gives TreeStart with the least count for FileLength.
 -- Assumes nothing.
 use native.Mathlib.Omega.{arith}
-use mathlib.Core.Path.{_≡_, ap, _∙_}
+use mathlib.Core.Path.{ap, _∙_}
 use Prim.Native.Nat.{ℕ, _+_}
 use Rattle.cursor.proofs.Least.{least-in}
 use Rattle.title.specs.Text.{startAt, fileBytes}

@@ -19,9 +19,6 @@ abbrev μ-loop : tie.MeasureT-loop
 loop-holds : tie.Need-loop-holds Inv-loop μ-loop
 loop-holds c = (omega arith, going-start _ (omega arith) (sym (items-start _ _ _)))
 
-mul-put-visible-line : tie.Need-mul-put-visible-line Inv-loop μ-loop
-mul-put-visible-line c = omega arith
-
 put-visible-line-requires : tie.Need-put-visible-line-requires Inv-loop μ-loop
 put-visible-line-requires c κs = (omega (arith, c .before .before .before .before .before .before .pre .0), c .before .before .before .before .before .before .pre .1 _ (c .before .loop-test .taken))
 
@@ -47,7 +44,6 @@ put-item-lines-spec =
     Inv-loop
     μ-loop
     loop-holds
-    mul-put-visible-line
     put-visible-line-requires
     add-i
     loop-less

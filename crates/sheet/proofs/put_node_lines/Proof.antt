@@ -7,6 +7,7 @@ use Rattle.sheet.specs.Sheet.{nodeLines}
 use Rattle.room.proofs.Counting.{Going, going-start, going-on, going-end, going-length}
 use Rattle.sheet.proofs.Lines.{nodes-on, nodes-end, nodes-start}
 use native.Mathlib.Omega.{arith}
+use borrow.Author.Needs.{needs}
 use Rattle.sheet.proofs.put_node_lines.Statement.{statement}
 use Rattle.sheet.proofs.put_node_lines.Tie as tie
 
@@ -19,8 +20,11 @@ abbrev μ-loop : tie.MeasureT-loop
 loop-holds : tie.Need-loop-holds Inv-loop μ-loop
 loop-holds c = (omega arith, going-start _ (omega arith) (sym (nodes-start _ _)))
 
+node-at-requires : tie.Need-node-at-requires Inv-loop μ-loop
+node-at-requires c κs = omega (arith, c .before .before .before .before .before .pre)
+
 put-node-line-requires : tie.Need-put-node-line-requires Inv-loop μ-loop
-put-node-line-requires c κs = omega arith
+put-node-line-requires c κs = search needs
 
 add-i : tie.Need-add-i Inv-loop μ-loop
 add-i c = omega arith
@@ -29,7 +33,7 @@ loop-less : tie.Need-loop-less Inv-loop μ-loop
 loop-less c = omega arith
 
 loop-again : tie.Need-loop-again Inv-loop μ-loop
-loop-again c = (omega arith, going-on (nodes-on _ _ _ (c .before .before .before .before .loop-test .taken)) (c .before .before .before .before .before .loop .inv .1) (c .before .before .put-node-line .ensures))
+loop-again c = (omega arith, going-on (nodes-on _ _ _ (c .before .before .before .before .before .loop-test .taken) (c .before .before .before .node-at .ensures)) (c .before .before .before .before .before .before .loop .inv .1) (c .before .before .put-node-line .ensures))
 
 same-length : tie.Need-same-length Inv-loop μ-loop
 same-length c = going-length (c .before .loop .inv .1)
@@ -44,6 +48,7 @@ put-node-lines-spec =
     Inv-loop
     μ-loop
     loop-holds
+    node-at-requires
     put-node-line-requires
     add-i
     loop-less

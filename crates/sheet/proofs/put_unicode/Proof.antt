@@ -1,6 +1,6 @@
 -- `put_unicode` puts UTF-16 converted where it converts, and escaped where not.
 -- Assumes nothing.
-use mathlib.Core.Path.{refl, sym, ap, _∙_}
+use mathlib.Core.Path.{refl, sym, _∙_}
 use Rattle.room.proofs.Counting.{counts-as, lent-part}
 use Rattle.sheet.proofs.Shown.{unicode-good, unicode-bad}
 use borrow.Author.Needs.{needs}

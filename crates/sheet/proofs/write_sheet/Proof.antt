@@ -1,9 +1,9 @@
 -- `write_sheet` answers, and leaves tables and sheet, as `write` says of what the file reads as.
 -- Assumes nothing.
 use lib.ListN.{length}
-use mathlib.Core.Path.{_∙_}
 use Rattle.tree.proofs.Rows.{standing}
-use Rattle.sheet.proofs.Asked.{items-inside, asked-refused, asked-good, asked-full, zeros}
+use Rattle.tree.proofs.Own.{item-rows}
+use Rattle.sheet.proofs.Asked.{asked-refused, asked-good, asked-full, zeros}
 use native.Mathlib.Omega.{arith}
 use borrow.Author.Needs.{needs}
 use Rattle.sheet.proofs.write_sheet.Statement.{statement}
@@ -22,7 +22,7 @@ enum-known-s : tie.Need-enum-known-s
 enum-known-s c = search needs
 
 put-sheet-requires : tie.Need-put-sheet-requires
-put-sheet-requires c κs = let w = (standing (c .before .before .before .before .before .before .before .before .before .before .before .before .before .before .before .before .before .args .file .now) _ _ _ (c .before .before .before .before .before .before .before .before .before .before .read-file .ensures .0) (c .before .before .before .before .before .before .before .before .before .before .read-file .ensures .1 .0) (c .before .before .before .before .before .before .before .before .before .before .read-file .ensures .1 .1) (c .before .before .before .before .s .given .1)) in (w .node-room, w .item-room, items-inside w)
+put-sheet-requires c κs = let w = (standing (c .before .before .before .before .before .before .before .before .before .before .before .before .before .before .before .before .before .args .file .now) _ _ _ (c .before .before .before .before .before .before .before .before .before .before .read-file .ensures .0) (c .before .before .before .before .before .before .before .before .before .before .read-file .ensures .1 .0) (c .before .before .before .before .before .before .before .before .before .before .read-file .ensures .1 .1) (c .before .before .before .before .s .given .1)) in (w .node-room, item-rows w)
 
 clear-all-requires : tie.Need-clear-all-requires
 clear-all-requires c κs = search needs

@@ -28,17 +28,11 @@ sub-middle c = omega arith
 add-middle : tie.Need-add-middle Inv-loop μ-loop Inv-loop2 μ-loop2
 add-middle c = omega arith
 
-mul-start : tie.Need-mul-start Inv-loop μ-loop Inv-loop2 μ-loop2
-mul-start c = omega arith
-
-mul-start-2 : tie.Need-mul-start-2 Inv-loop μ-loop Inv-loop2 μ-loop2
-mul-start-2 c = omega (arith, c .before .before .pre)
-
-shared-slice-read-start : tie.Need-shared-slice-read-start Inv-loop μ-loop Inv-loop2 μ-loop2
-shared-slice-read-start c = omega (arith, c .before .before .before .pre)
+node-at-requires : tie.Need-node-at-requires Inv-loop μ-loop Inv-loop2 μ-loop2
+node-at-requires c κs = omega (arith, c .before .before .before .pre)
 
 returns : tie.Need-returns Inv-loop μ-loop Inv-loop2 μ-loop2
-returns c = search-found _ _ _ _ (c .before .before .before .before .pre .0) (c .before .before .before .before .pre .2) _ (omega arith) (c .if1 .taken)
+returns c = search-found _ _ _ _ (c .before .before .before .before .before .before .pre .0) (c .before .before .before .before .before .before .pre .2) _ (omega arith) (c .before .before .node-at .ensures) (c .if1 .taken)
 
 add-low : tie.Need-add-low Inv-loop μ-loop Inv-loop2 μ-loop2
 add-low c = omega arith
@@ -47,28 +41,22 @@ loop-less : tie.Need-loop-less Inv-loop μ-loop Inv-loop2 μ-loop2
 loop-less c = omega arith
 
 loop-again : tie.Need-loop-again Inv-loop μ-loop Inv-loop2 μ-loop2
-loop-again c = (omega arith, search-later _ _ _ _ (c .before .before .before .before .before .pre .0) (c .before .before .before .before .before .pre .2) (c .before .before .before .before .loop .inv .1) _ (omega arith) (c .if2 .taken))
+loop-again c = (omega arith, search-later _ _ _ _ (c .before .before .before .before .before .before .before .before .pre .0) (c .before .before .before .before .before .before .before .before .pre .2) _ (omega arith) (c .before .before .before .before .node-at .ensures) (c .before .before .before .before .before .before .loop .inv .1) (c .if2 .taken))
 
 loop-less-2 : tie.Need-loop-less-2 Inv-loop μ-loop Inv-loop2 μ-loop2
 loop-less-2 c = omega arith
 
 loop-again-2 : tie.Need-loop-again-2 Inv-loop μ-loop Inv-loop2 μ-loop2
-loop-again-2 c = (omega arith, search-sooner _ _ _ _ (c .before .before .before .before .before .pre .0) (c .before .before .before .before .before .pre .2) (c .before .before .before .before .loop .inv .1) _ (omega arith) (omega arith))
+loop-again-2 c = (omega arith, search-sooner _ _ _ _ (c .before .before .before .before .before .before .before .before .pre .0) (c .before .before .before .before .before .before .before .before .pre .2) _ (omega arith) (c .before .before .before .before .node-at .ensures) (c .before .before .before .before .before .before .loop .inv .1) (omega arith))
 
 loop2-holds : tie.Need-loop2-holds Inv-loop μ-loop Inv-loop2 μ-loop2
-loop2-holds c = (omega arith, c .before .before .pre .0, search-none _ _ _ _ (c .before .before .pre .0) (c .before .loop .inv .1) (c .loop-test .left))
+loop2-holds c = (omega arith, c .before .before .before .pre .0, search-none _ _ _ _ (c .before .before .before .pre .0) (c .before .loop .inv .1) (c .loop-test .left))
 
-mul-if3 : tie.Need-mul-if3 Inv-loop μ-loop Inv-loop2 μ-loop2
-mul-if3 c = omega arith
-
-mul-if3-2 : tie.Need-mul-if3-2 Inv-loop μ-loop Inv-loop2 μ-loop2
-mul-if3-2 c = omega (arith, c .before .before .before .before .pre)
-
-shared-slice-read-if3 : tie.Need-shared-slice-read-if3 Inv-loop μ-loop Inv-loop2 μ-loop2
-shared-slice-read-if3 c = omega (arith, c .before .before .before .before .before .pre)
+node-at-requires-2 : tie.Need-node-at-requires-2 Inv-loop μ-loop Inv-loop2 μ-loop2
+node-at-requires-2 c κs = omega (arith, c .before .before .before .before .before .pre)
 
 returns-2 : tie.Need-returns-2 Inv-loop μ-loop Inv-loop2 μ-loop2
-returns-2 c = linear-found _ _ _ _ (c .before .before .before .before .before .before .pre .0) (c .before .before .before .loop2 .inv .2) (c .before .before .loop2-test .taken) (c .if3 .taken)
+returns-2 c = linear-found _ _ _ _ (c .before .before .before .before .before .before .before .before .pre .0) (c .before .before .before .before .loop2 .inv .2) (c .before .before .node-at2 .ensures) (c .before .before .before .loop2-test .taken) (c .if3 .taken)
 
 add-i : tie.Need-add-i Inv-loop μ-loop Inv-loop2 μ-loop2
 add-i c = omega arith
@@ -77,10 +65,10 @@ loop2-less : tie.Need-loop2-less Inv-loop μ-loop Inv-loop2 μ-loop2
 loop2-less c = omega arith
 
 loop2-again : tie.Need-loop2-again Inv-loop μ-loop Inv-loop2 μ-loop2
-loop2-again c = (omega arith, omega arith, linear-on (c .before .before .before .before .before .before .args .nodes .now) (c .before .before .before .before .before .before .args .tree) (c .before .before .before .before .before .before .args .count) (c .before .before .before .before .before .before .args .place) (c .before .before .before .before .before .before .pre .0) (c .before .before .before .loop2 .inv .2) (c .if3 .left))
+loop2-again c = (omega arith, omega arith, linear-on (c .before .before .before .before .before .before .before .before .args .nodes .now) (c .before .before .before .before .before .before .before .before .args .tree) (c .before .before .before .before .before .before .before .before .args .count) (c .before .before .before .before .before .before .before .before .args .place) (c .before .before .before .before .before .before .before .before .pre .0) (c .before .before .before .before .loop2 .inv .2) (c .before .before .node-at2 .ensures) (c .if3 .left))
 
 returns-3 : tie.Need-returns-3 Inv-loop μ-loop Inv-loop2 μ-loop2
-returns-3 c = linear-ends _ _ _ _ (c .before .before .before .before .pre .0) (c .before .loop2 .inv .2) (omega arith)
+returns-3 c = linear-ends _ _ _ _ (c .before .before .before .before .before .pre .0) (c .before .loop2 .inv .2) (omega arith)
 
 pub row-starting-spec : {M : Type 1} → statement M
-row-starting-spec = tie.close (tie.spec Inv-loop μ-loop Inv-loop2 μ-loop2 loop-holds sub-middle add-middle mul-start mul-start-2 shared-slice-read-start returns add-low loop-less loop-again loop-less-2 loop-again-2 loop2-holds mul-if3 mul-if3-2 shared-slice-read-if3 returns-2 add-i loop2-less loop2-again returns-3)
+row-starting-spec = tie.close (tie.spec Inv-loop μ-loop Inv-loop2 μ-loop2 loop-holds sub-middle add-middle node-at-requires returns add-low loop-less loop-again loop-less-2 loop-again-2 loop2-holds node-at-requires-2 returns-2 add-i loop2-less loop2-again returns-3)

@@ -2,8 +2,8 @@
 -- Assumes nothing.
 use mathlib.Core.Path.{_≡_, refl, sym, ap, _∙_}
 use Prim.Native.Nat.{_-_, _+_, _≤_, min}
-use Rattle.tree.proofs.Rows.{node-at, nodes-in-length}
-use Rattle.tree.proofs.Targets.{TakenTo, taken-begun, taken-here, taken-past, taken-other, taken-done, small-row}
+use Rattle.cursor.specs.declared.Node.{Node}
+use Rattle.tree.proofs.Targets.{row-is, TakenTo, taken-begun, taken-here, taken-past, taken-other, taken-done}
 use native.Mathlib.Omega.{arith}
 use borrow.Author.Needs.{needs}
 use Rattle.tree.proofs.taken_from.Statement.{statement}
@@ -21,35 +21,11 @@ loop-holds c = (c .before .pre .0, omega arith, taken-begun (c .before .args .no
 sub-i : tie.Need-sub-i Inv-loop μ-loop
 sub-i c = omega arith
 
-mul-k : tie.Need-mul-k Inv-loop μ-loop
-mul-k c = omega (arith, c .before .before .before .pre)
-
-mul-start : tie.Need-mul-start Inv-loop μ-loop
-mul-start c = omega (arith, c .before .before .before .pre)
-
-shared-slice-read-start : tie.Need-shared-slice-read-start Inv-loop μ-loop
-shared-slice-read-start c = omega (arith, c .before .before .before .before .pre)
-
-add-if1 : tie.Need-add-if1 Inv-loop μ-loop
-add-if1 c = omega (arith, c .before .before .before .before .pre)
-
-mul-if1 : tie.Need-mul-if1 Inv-loop μ-loop
-mul-if1 c = omega (arith, c .before .before .before .before .pre)
-
-shared-slice-read-if1 : tie.Need-shared-slice-read-if1 Inv-loop μ-loop
-shared-slice-read-if1 c = omega (arith, c .before .before .before .before .before .pre)
+node-at-requires : tie.Need-node-at-requires Inv-loop μ-loop
+node-at-requires c κs = omega (arith, c .before .before .before .pre)
 
 add-if2 : tie.Need-add-if2 Inv-loop μ-loop
-add-if2 c = omega (arith, c .before .before .before .before .before .before .pre)
-
-mul-if2 : tie.Need-mul-if2 Inv-loop μ-loop
-mul-if2 c = omega (arith, c .before .before .before .before .before .before .pre)
-
-shared-slice-read-if2 : tie.Need-shared-slice-read-if2 Inv-loop μ-loop
-shared-slice-read-if2 c = omega (arith, c .before .before .before .before .before .before .before .pre)
-
-add-if2-2 : tie.Need-add-if2-2 Inv-loop μ-loop
-add-if2-2 c = omega (arith, small-row (c .before .before .before .before .before .before .before .args .nodes .now) (c .before .before .before .before .before .before .before .args .count) (c .before .before .before .before .before .loop .i - 1) (omega arith) (c .before .before .before .before .before .before .before .pre .2))
+add-if2 c = let w = c .before .before .before .before .before .before .before .pre .2 (c .before .before .before .before .before .loop .i - 1) (omega arith) in omega (arith, ap (λ (r : Node). r .start + r .size) (row-is (c .before .before .before .before .before .before .before .args .nodes .now) (c .before .before .before .before .before .before .before .args .count) (c .before .before .before .before .before .loop .i - 1) (omega arith) (c .before .before .before .node-at .ensures)))
 
 greater-requires : tie.Need-greater-requires Inv-loop μ-loop
 greater-requires c κs = search needs
@@ -61,22 +37,22 @@ loop-less : tie.Need-loop-less Inv-loop μ-loop
 loop-less c = omega arith
 
 loop-again : tie.Need-loop-again Inv-loop μ-loop
-loop-again c = (omega arith, omega arith, taken-here (c .before .before .before .before .before .before .before .before .before .before .args .nodes .now) (c .before .before .before .before .before .before .before .before .before .before .args .count) (c .before .before .before .before .before .before .before .before .before .before .args .place) (c .before .before .before .before .before .before .before .before .before .before .args .end) {i = c .before .before .before .before .before .before .before .before .loop .i - 1} {j = c .before .before .before .before .before .before .before .before .loop .i} (c .before .before .before .before .before .before .before .before .loop .inv .2) (omega arith) (omega arith) (c .before .before .before .before .if1 .taken) (c .before .before .if2 .taken) (c .lesser .ensures ∙ ap (λ v. min v (c .before .before .before .before .before .before .before .before .loop .taken)) (c .before .greater .ensures)))
+loop-again c = (omega arith, omega arith, taken-here (c .before .before .before .before .before .before .before .before .before .before .args .nodes .now) (c .before .before .before .before .before .before .before .before .before .before .args .count) (c .before .before .before .before .before .before .before .before .before .before .args .place) (c .before .before .before .before .before .before .before .before .before .before .args .end) {i = c .before .before .before .before .before .before .before .before .loop .i - 1} {j = c .before .before .before .before .before .before .before .before .loop .i} (c .before .before .before .before .before .before .before .before .loop .inv .2) (omega arith) (omega arith) (c .before .before .before .before .before .before .node-at .ensures) (c .before .before .before .before .if1 .taken) (c .before .before .if2 .taken) (c .lesser .ensures ∙ ap (λ v. min v (c .before .before .before .before .before .before .before .before .loop .taken)) (c .before .greater .ensures)))
 
 loop-less-2 : tie.Need-loop-less-2 Inv-loop μ-loop
 loop-less-2 c = omega arith
 
 loop-again-2 : tie.Need-loop-again-2 Inv-loop μ-loop
-loop-again-2 c = (omega arith, omega arith, taken-past (c .before .before .before .before .before .before .before .before .args .nodes .now) (c .before .before .before .before .before .before .before .before .args .count) (c .before .before .before .before .before .before .before .before .args .place) (c .before .before .before .before .before .before .before .before .args .end) {i = c .before .before .before .before .before .before .loop .i - 1} {j = c .before .before .before .before .before .before .loop .i} (c .before .before .before .before .before .before .loop .inv .2) (omega arith) (omega arith) (c .if2 .left))
+loop-again-2 c = (omega arith, omega arith, taken-past (c .before .before .before .before .before .before .before .before .args .nodes .now) (c .before .before .before .before .before .before .before .before .args .count) (c .before .before .before .before .before .before .before .before .args .place) (c .before .before .before .before .before .before .before .before .args .end) {i = c .before .before .before .before .before .before .loop .i - 1} {j = c .before .before .before .before .before .before .loop .i} (c .before .before .before .before .before .before .loop .inv .2) (omega arith) (omega arith) (c .before .before .before .before .node-at .ensures) (c .if2 .left))
 
 loop-less-3 : tie.Need-loop-less-3 Inv-loop μ-loop
 loop-less-3 c = omega arith
 
 loop-again-3 : tie.Need-loop-again-3 Inv-loop μ-loop
-loop-again-3 c = (omega arith, omega arith, taken-other (c .before .before .before .before .before .before .args .nodes .now) (c .before .before .before .before .before .before .args .count) (c .before .before .before .before .before .before .args .place) (c .before .before .before .before .before .before .args .end) {i = c .before .before .before .before .loop .i - 1} {j = c .before .before .before .before .loop .i} (c .before .before .before .before .loop .inv .2) (omega arith) (omega arith) (c .if1 .left))
+loop-again-3 c = (omega arith, omega arith, taken-other (c .before .before .before .before .before .before .args .nodes .now) (c .before .before .before .before .before .before .args .count) (c .before .before .before .before .before .before .args .place) (c .before .before .before .before .before .before .args .end) {i = c .before .before .before .before .loop .i - 1} {j = c .before .before .before .before .loop .i} (c .before .before .before .before .loop .inv .2) (omega arith) (omega arith) (c .before .before .node-at .ensures) (c .if1 .left))
 
 returns : tie.Need-returns Inv-loop μ-loop
 returns c = let e = c .before .loop .inv .2 in e ∙ taken-done (c .before .before .before .args .nodes .now) (c .before .before .before .args .count) (c .before .before .before .args .tree) (c .before .before .before .args .place) (c .before .before .before .args .end) (c .before .loop .i) (omega arith) (c .before .before .before .pre .0) (c .before .before .before .pre .3)
 
 pub taken-from-spec : {M : Type 1} → statement M
-taken-from-spec = tie.close (tie.spec Inv-loop μ-loop loop-holds sub-i mul-k mul-start shared-slice-read-start add-if1 mul-if1 shared-slice-read-if1 add-if2 mul-if2 shared-slice-read-if2 add-if2-2 greater-requires lesser-requires loop-less loop-again loop-less-2 loop-again-2 loop-less-3 loop-again-3 returns)
+taken-from-spec = tie.close (tie.spec Inv-loop μ-loop loop-holds sub-i node-at-requires add-if2 greater-requires lesser-requires loop-less loop-again loop-less-2 loop-again-2 loop-less-3 loop-again-3 returns)

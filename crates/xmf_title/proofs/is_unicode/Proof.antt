@@ -31,23 +31,17 @@ enum-known-s c = search needs
 returns : tie.Need-returns
 returns c = unicode-past (c .before .before .before .before .before .before .before .before .before .before .before .before .before .args .file .now) (c .before .before .before .before .before .before .before .before .before .before .before .node-table .ensures) (c .before .before .before .before .before .before .before .before .before .before .item-table .ensures) (standing (c .before .before .before .before .before .before .before .before .before .before .before .before .before .args .file .now) _ _ _ (c .before .before .before .before .before .before .before .read-file .ensures .0) (c .before .before .before .before .before .before .before .read-file .ensures .1 .0) (c .before .before .before .before .before .before .before .read-file .ensures .1 .1) (c .before .before .before .s .given .1)) (c .before .before .before .before .before .before .before .before .before .before .before .before .before .args .row) (c .if1 .taken)
 
-mul-result : tie.Need-mul-result
-mul-result c = let w = standing (c .before .before .before .before .before .before .before .before .before .before .before .before .before .args .file .now) _ _ _ (c .before .before .before .before .before .before .before .read-file .ensures .0) (c .before .before .before .before .before .before .before .read-file .ensures .1 .0) (c .before .before .before .before .before .before .before .read-file .ensures .1 .1) (c .before .before .before .s .given .1) in omega (arith, w .item-room, c .if1 .left)
+slice-aggregate-item-at : tie.Need-slice-aggregate-item-at
+slice-aggregate-item-at c = search needs
 
-add-result : tie.Need-add-result
-add-result c = let w = standing (c .before .before .before .before .before .before .before .before .before .before .before .before .before .args .file .now) _ _ _ (c .before .before .before .before .before .before .before .read-file .ensures .0) (c .before .before .before .before .before .before .before .read-file .ensures .1 .0) (c .before .before .before .before .before .before .before .read-file .ensures .1 .1) (c .before .before .before .s .given .1) in omega (arith, w .item-room, c .if1 .left)
-
-mul-result-2 : tie.Need-mul-result-2
-mul-result-2 c = let w = standing (c .before .before .before .before .before .before .before .before .before .before .before .before .before .args .file .now) _ _ _ (c .before .before .before .before .before .before .before .read-file .ensures .0) (c .before .before .before .before .before .before .before .read-file .ensures .1 .0) (c .before .before .before .before .before .before .before .read-file .ensures .1 .1) (c .before .before .before .s .given .1) in omega (arith, w .item-room, c .if1 .left)
-
-array-read-result : tie.Need-array-read-result
-array-read-result c = let w = standing (c .before .before .before .before .before .before .before .before .before .before .before .before .before .args .file .now) _ _ _ (c .before .before .before .before .before .before .before .read-file .ensures .0) (c .before .before .before .before .before .before .before .read-file .ensures .1 .0) (c .before .before .before .before .before .before .before .read-file .ensures .1 .1) (c .before .before .before .s .given .1) in omega (arith, w .item-room, c .if1 .left)
+item-at-requires : tie.Need-item-at-requires
+item-at-requires c κs = let w = standing (c .before .before .before .before .before .before .before .before .before .before .before .before .before .before .args .file .now) _ _ _ (c .before .before .before .before .before .before .before .before .read-file .ensures .0) (c .before .before .before .before .before .before .before .before .read-file .ensures .1 .0) (c .before .before .before .before .before .before .before .before .read-file .ensures .1 .1) (c .before .before .before .before .s .given .1) in omega (arith, w .item-room, c .before .if1 .left)
 
 returns-2 : tie.Need-returns-2
 returns-2 c = unicode-refused (c .before .before .before .before .before .before .before .before .before .before .before .args .file .now) (c .before .before .before .before .before .before .before .before .before .node-table .ensures) (c .before .before .before .before .before .before .before .before .item-table .ensures) (c .before .before .before .before .before .read-file .ensures .0) (c .before .n .given .1) (c .before .before .before .before .before .before .before .before .before .before .before .args .row)
 
 returns-3 : tie.Need-returns-3
-returns-3 c = unicode-is (c .before .before .before .before .before .before .before .before .before .before .before .before .before .args .file .now) (c .before .before .before .before .before .before .before .before .before .before .before .node-table .ensures) (c .before .before .before .before .before .before .before .before .before .before .item-table .ensures) (standing (c .before .before .before .before .before .before .before .before .before .before .before .before .before .args .file .now) _ _ _ (c .before .before .before .before .before .before .before .read-file .ensures .0) (c .before .before .before .before .before .before .before .read-file .ensures .1 .0) (c .before .before .before .before .before .before .before .read-file .ensures .1 .1) (c .before .before .before .s .given .1)) (c .before .before .before .before .before .before .before .before .before .before .before .before .before .args .row) (omega (arith, c .if1 .left))
+returns-3 c = unicode-is (c .before .before .before .before .before .before .before .before .before .before .before .before .before .before .before .before .args .file .now) (c .before .before .before .before .before .before .before .before .before .before .before .before .before .before .node-table .ensures) (c .before .before .before .before .before .before .before .before .before .before .before .before .before .item-table .ensures) (standing (c .before .before .before .before .before .before .before .before .before .before .before .before .before .before .before .before .args .file .now) _ _ _ (c .before .before .before .before .before .before .before .before .before .before .read-file .ensures .0) (c .before .before .before .before .before .before .before .before .before .before .read-file .ensures .1 .0) (c .before .before .before .before .before .before .before .before .before .before .read-file .ensures .1 .1) (c .before .before .before .before .before .before .s .given .1)) (c .before .before .before .before .before .before .before .before .before .before .before .before .before .before .before .before .args .row) (omega (arith, c .before .before .before .if1 .left)) (c .before .item-at .ensures)
 
 pub is-unicode-spec : {M : Type 1} → statement M
 is-unicode-spec =
@@ -61,9 +55,7 @@ is-unicode-spec =
     enum-known-n
     enum-known-s
     returns
-    mul-result
-    add-result
-    mul-result-2
-    array-read-result
+    slice-aggregate-item-at
+    item-at-requires
     returns-2
     returns-3)

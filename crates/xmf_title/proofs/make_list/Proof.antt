@@ -1,9 +1,8 @@
 -- `make_list` makes the list, or its refusal.
 -- Assumes nothing.
-use mathlib.Core.Path.{_∙_}
 use native.Mathlib.Omega.{arith}
 use Rattle.tree.proofs.Rows.{standing}
-use Rattle.sheet.proofs.Asked.{items-inside}
+use Rattle.tree.proofs.Own.{item-rows}
 use Rattle.xmf_title.proofs.Fits.{list-refused, list-elsewhere, list-made, list-full}
 use borrow.Author.Needs.{needs}
 use Rattle.xmf_title.proofs.make_list.Statement.{statement}
@@ -43,7 +42,7 @@ slice-aggregate-put-title-lines : tie.Need-slice-aggregate-put-title-lines
 slice-aggregate-put-title-lines c = search needs
 
 put-title-lines-requires : tie.Need-put-title-lines-requires
-put-title-lines-requires c κs = let w = standing (c .before .before .before .before .before .before .before .before .before .before .before .before .before .before .before .before .before .args .file .now) _ _ _ (c .before .before .before .before .before .before .before .before .before .before .read-file .ensures .0) (c .before .before .before .before .before .before .before .before .before .before .read-file .ensures .1 .0) (c .before .before .before .before .before .before .before .before .before .before .read-file .ensures .1 .1) (c .before .before .before .before .before .before .s .given .1) in (w .item-room, items-inside w)
+put-title-lines-requires c κs = let w = standing (c .before .before .before .before .before .before .before .before .before .before .before .before .before .before .before .before .before .args .file .now) _ _ _ (c .before .before .before .before .before .before .before .before .before .before .read-file .ensures .0) (c .before .before .before .before .before .before .before .before .before .before .read-file .ensures .1 .0) (c .before .before .before .before .before .before .before .before .before .before .read-file .ensures .1 .1) (c .before .before .before .before .before .before .s .given .1) in item-rows w
 
 same-length : tie.Need-same-length
 same-length c = search needs

@@ -3,7 +3,7 @@
 use native.Mathlib.Omega.{arith}
 use Rattle.room.proofs.Counting.{counts-none, counts-as}
 use Rattle.tree.proofs.Rows.{standing}
-use Rattle.sheet.proofs.Asked.{items-inside}
+use Rattle.tree.proofs.Own.{item-rows}
 use Rattle.xmf_title.proofs.Fits.{text-refused, text-past, text-none, text-is}
 use borrow.Author.Needs.{needs}
 use Rattle.xmf_title.proofs.put_row_text.Statement.{statement}
@@ -42,14 +42,14 @@ is-no-title-requires c κs = let w = standing (c .before .before .before .before
 returns-2 : tie.Need-returns-2
 returns-2 c = counts-as (text-none (c .before .before .before .before .before .before .before .before .before .before .before .before .before .before .before .before .before .args .file .now) (c .before .before .before .before .before .before .before .before .before .before .before .before .before .before .node-table .ensures) (c .before .before .before .before .before .before .before .before .before .before .before .before .before .item-table .ensures) (standing (c .before .before .before .before .before .before .before .before .before .before .before .before .before .before .before .before .before .args .file .now) _ _ _ (c .before .before .before .before .before .before .before .before .before .before .read-file .ensures .0) (c .before .before .before .before .before .before .before .before .before .before .read-file .ensures .1 .0) (c .before .before .before .before .before .before .before .before .before .before .read-file .ensures .1 .1) (c .before .before .before .before .before .before .s .given .1)) (c .before .before .before .before .before .before .before .before .before .before .before .before .before .before .before .before .before .args .row) (omega (arith, c .before .before .before .if1 .left)) (c .before .is-no-title .ensures) (c .if2 .taken)) (counts-none _ (omega arith))
 
-slice-aggregate-put-text : tie.Need-slice-aggregate-put-text
-slice-aggregate-put-text c = search needs
+slice-aggregate-item-at : tie.Need-slice-aggregate-item-at
+slice-aggregate-item-at c = search needs
 
-mul-put-text : tie.Need-mul-put-text
-mul-put-text c = let w = standing (c .before .before .before .before .before .before .before .before .before .before .before .before .before .before .before .before .before .before .before .args .file .now) _ _ _ (c .before .before .before .before .before .before .before .before .before .before .before .before .read-file .ensures .0) (c .before .before .before .before .before .before .before .before .before .before .before .before .read-file .ensures .1 .0) (c .before .before .before .before .before .before .before .before .before .before .before .before .read-file .ensures .1 .1) (c .before .before .before .before .before .before .before .before .s .given .1) in omega (arith, w .item-room, c .before .before .before .before .before .if1 .left)
+item-at-requires : tie.Need-item-at-requires
+item-at-requires c κs = let w = standing (c .before .before .before .before .before .before .before .before .before .before .before .before .before .before .before .before .before .before .before .args .file .now) _ _ _ (c .before .before .before .before .before .before .before .before .before .before .before .before .read-file .ensures .0) (c .before .before .before .before .before .before .before .before .before .before .before .before .read-file .ensures .1 .0) (c .before .before .before .before .before .before .before .before .before .before .before .before .read-file .ensures .1 .1) (c .before .before .before .before .before .before .before .before .s .given .1) in omega (arith, w .item-room, c .before .before .before .before .before .if1 .left)
 
 put-text-requires : tie.Need-put-text-requires
-put-text-requires c κs = let w = standing (c .before .before .before .before .before .before .before .before .before .before .before .before .before .before .before .before .before .before .before .args .file .now) _ _ _ (c .before .before .before .before .before .before .before .before .before .before .before .before .read-file .ensures .0) (c .before .before .before .before .before .before .before .before .before .before .before .before .read-file .ensures .1 .0) (c .before .before .before .before .before .before .before .before .before .before .before .before .read-file .ensures .1 .1) (c .before .before .before .before .before .before .before .before .s .given .1) in (omega (arith, w .item-room, c .before .before .before .before .before .if1 .left), items-inside w _ (omega (arith, c .before .before .before .before .before .if1 .left)))
+put-text-requires c κs = let w = standing (c .before .before .before .before .before .before .before .before .before .before .before .before .before .before .before .before .before .before .before .before .args .file .now) _ _ _ (c .before .before .before .before .before .before .before .before .before .before .before .before .before .read-file .ensures .0) (c .before .before .before .before .before .before .before .before .before .before .before .before .before .read-file .ensures .1 .0) (c .before .before .before .before .before .before .before .before .before .before .before .before .before .read-file .ensures .1 .1) (c .before .before .before .before .before .before .before .before .before .s .given .1) in rw (c .item-at .ensures) (item-rows w .1 _ (omega (arith, c .before .before .before .before .before .before .if1 .left)))
 
 returns-3 : tie.Need-returns-3
 returns-3 c = counts-as (text-refused (c .before .before .before .before .before .before .before .before .before .before .before .before .args .file .now) (c .before .before .before .before .before .before .before .before .before .node-table .ensures) (c .before .before .before .before .before .before .before .before .item-table .ensures) (c .before .before .before .before .before .read-file .ensures .0) (c .before .n .given .1) (c .before .before .before .before .before .before .before .before .before .before .before .before .args .row)) (counts-none _ (omega arith))
@@ -58,7 +58,7 @@ same-length : tie.Need-same-length
 same-length c = search needs
 
 returns-4 : tie.Need-returns-4
-returns-4 c = counts-as (text-is (c .before .before .before .before .before .before .before .before .before .before .before .before .before .before .before .before .before .before .before .before .before .before .args .file .now) (c .before .before .before .before .before .before .before .before .before .before .before .before .before .before .before .before .before .before .before .node-table .ensures) (c .before .before .before .before .before .before .before .before .before .before .before .before .before .before .before .before .before .before .item-table .ensures) (standing (c .before .before .before .before .before .before .before .before .before .before .before .before .before .before .before .before .before .before .before .before .before .before .args .file .now) _ _ _ (c .before .before .before .before .before .before .before .before .before .before .before .before .before .before .before .read-file .ensures .0) (c .before .before .before .before .before .before .before .before .before .before .before .before .before .before .before .read-file .ensures .1 .0) (c .before .before .before .before .before .before .before .before .before .before .before .before .before .before .before .read-file .ensures .1 .1) (c .before .before .before .before .before .before .before .before .before .before .before .s .given .1)) (c .before .before .before .before .before .before .before .before .before .before .before .before .before .before .before .before .before .before .before .before .before .before .args .row) (omega (arith, c .before .before .before .before .before .before .before .before .if1 .left)) (c .before .before .before .before .before .before .is-no-title .ensures) (c .before .before .before .before .before .if2 .left)) (c .before .before .put-text .ensures)
+returns-4 c = counts-as (text-is (c .before .before .before .before .before .before .before .before .before .before .before .before .before .before .before .before .before .before .before .before .before .before .before .args .file .now) (c .before .before .before .before .before .before .before .before .before .before .before .before .before .before .before .before .before .before .before .before .node-table .ensures) (c .before .before .before .before .before .before .before .before .before .before .before .before .before .before .before .before .before .before .before .item-table .ensures) (standing (c .before .before .before .before .before .before .before .before .before .before .before .before .before .before .before .before .before .before .before .before .before .before .before .args .file .now) _ _ _ (c .before .before .before .before .before .before .before .before .before .before .before .before .before .before .before .before .read-file .ensures .0) (c .before .before .before .before .before .before .before .before .before .before .before .before .before .before .before .before .read-file .ensures .1 .0) (c .before .before .before .before .before .before .before .before .before .before .before .before .before .before .before .before .read-file .ensures .1 .1) (c .before .before .before .before .before .before .before .before .before .before .before .before .s .given .1)) (c .before .before .before .before .before .before .before .before .before .before .before .before .before .before .before .before .before .before .before .before .before .before .before .args .row) (omega (arith, c .before .before .before .before .before .before .before .before .before .if1 .left)) (c .before .before .before .before .before .before .before .is-no-title .ensures) (c .before .before .before .before .before .before .if2 .left) (c .before .before .before .item-at .ensures)) (c .before .before .put-text .ensures)
 
 pub put-row-text-spec : {M : Type 1} → statement M
 put-row-text-spec =
@@ -75,8 +75,8 @@ put-row-text-spec =
     slice-aggregate-is-no-title
     is-no-title-requires
     returns-2
-    slice-aggregate-put-text
-    mul-put-text
+    slice-aggregate-item-at
+    item-at-requires
     put-text-requires
     returns-3
     same-length

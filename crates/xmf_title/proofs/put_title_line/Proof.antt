@@ -19,9 +19,6 @@ put-decimal-requires c κs = search needs
 put-byte-requires : tie.Need-put-byte-requires
 put-byte-requires c κs = search needs
 
-mul-put-item-line : tie.Need-mul-put-item-line
-mul-put-item-line c = search needs
-
 put-item-line-requires : tie.Need-put-item-line-requires
 put-item-line-requires c κs = search needs
 
@@ -39,7 +36,6 @@ put-title-line-spec =
     returns
     put-decimal-requires
     put-byte-requires
-    mul-put-item-line
     put-item-line-requires
     same-length
     returns-2)

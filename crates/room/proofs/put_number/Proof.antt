@@ -1,11 +1,12 @@
 -- `put_number` puts n in its shortest form.
 -- Assumes nothing.
 use native.Mathlib.Omega.{arith}
-use Rattle.writer.proofs.Counting.{counts-as, short-number, number-put}
+use Rattle.room.proofs.Counting.{counts-as}
+use Rattle.room.proofs.Numbers.{short-number, number-put}
 use Rattle.cursor.proofs.Least.{least-in}
 use borrow.Author.Needs.{needs}
-use Rattle.writer.proofs.put_number.Statement.{statement}
-use Rattle.writer.proofs.put_number.Tie as tie
+use Rattle.room.proofs.put_number.Statement.{statement}
+use Rattle.room.proofs.put_number.Tie as tie
 
 cast-put-byte : tie.Need-cast-put-byte
 cast-put-byte c = search needs
@@ -23,7 +24,7 @@ vlq-size-requires : tie.Need-vlq-size-requires
 vlq-size-requires c κs = search needs
 
 put-in-bytes-requires : tie.Need-put-in-bytes-requires
-put-in-bytes-requires c κs = (omega (arith, c .vlq-size .ensures, least-in (λ _. c .before .before .before .before .args .n) .1), omega arith)
+put-in-bytes-requires c κs = omega (arith, c .vlq-size .ensures, least-in (λ _. c .before .before .before .before .args .n) .1)
 
 same-length-2 : tie.Need-same-length-2
 same-length-2 c = search needs

@@ -1,18 +1,23 @@
--- A node's own rows are a run of the item rows: since these stand in node order, as many for each node as its row counts.
+-- A node's own rows are a run of the item rows: since these stand in node order, as many for each node as its row counts. And what a question's code knows of the tables by that.
 -- Assumes nothing.
-use mathlib.Core.Path.{_≡_, refl, sym, ap, ap₂, _∙_}
+use mathlib.Core.Path.{_≡_, refl, sym, ap, ap₂, subst, _∙_}
 use mathlib.Core.List.{List, [], _∷_, _++_, map}
-use Prim.Native.Nat.{ℕ, zero, suc, _+_, _-_, _≤_, _<_}
+use Prim.Native.Nat.{ℕ, zero, suc, _+_, _*_, _-_, _≤_, _<_}
 use native.Mathlib.Omega.{arith}
 use native.Mathlib.Numerals.{add-one}
-use lib.ListN.{length, take, drop, replicate, length-append, length-replicate}
-use lib.Seq.{drop-drop}
+use lib.ListN.{length, getD, take, drop, replicate, length-append, length-replicate}
+use lib.Seq.{drop-drop, drop-cons, take-length}
 use borrow.Author.Tests.{eq-eqb, ne-eqb}
 use Rattle.cursor.specs.declared.Node.{Node}
 use Rattle.cursor.specs.declared.Item.{Item}
-use Rattle.tree.specs.Rows.{nodeAt}
-use Rattle.tree.proofs.Order.{spread}
-use Rattle.find.specs.Own.{Numbered, itemsOf, numbered, those, isOwn, own, firstRow, part, Runs}
+use Rattle.metadata.specs.Tables.{nodeWidth, itemWidth}
+use Rattle.metadata.specs.declared.Limits.{Limits}
+use Rattle.tree.specs.Reading.{Reading, readFile}
+use Rattle.tree.specs.Rows.{nodeFrom, itemFrom, nodesIn, itemsIn, nodeAt, itemAt, noItem, ItemIn, ItemsIn, ItemRows}
+use Rattle.tree.specs.Own.{Numbered, itemsOf, numbered, those, isOwn, own, firstRow, part, Runs, Tables}
+use Rattle.tree.specs.declared.Summary.{Summary}
+use Rattle.tree.proofs.Order.{spread, in-row-order}
+use Rattle.tree.proofs.Rows.{node-at, item-at, nodes-in-length, items-in-length, Standing}
 
 -- ---- first rows
 
@@ -25,7 +30,7 @@ first-next ns k l = ap (firstRow ns) (add-one k) ∙ by ns k l
     by (r ∷ ns) zero l = omega arith
     by (r ∷ ns) (suc k) l = let z = by ns k (omega arith) in omega arith
 
-pub first-most : (ns : List Node) (k : ℕ) → k ≤ length ns → firstRow ns k ≤ firstRow ns (length ns)
+first-most : (ns : List Node) (k : ℕ) → k ≤ length ns → firstRow ns k ≤ firstRow ns (length ns)
 unfolding firstRow
 first-most ns zero l = omega arith
 first-most [] (suc k) l = absurd (omega arith)
@@ -136,3 +141,67 @@ pub items-numbered : (i : ℕ) (is : List Item) → itemsOf (numbered i is) ≡ 
 unfolding numbered
 items-numbered i [] = refl
 items-numbered i (r ∷ is) = ap (λ v. r ∷ v) (items-numbered (i + 1) is)
+
+-- ---- a part of the rows, row by row
+
+-- the list from element i on
+pub drop-next : {A : Type 0} (xs : List A) (i : ℕ) (d : A) → i < length xs → drop i xs ≡ getD xs i d ∷ drop (i + 1) xs
+drop-next xs i d l = drop-cons xs i d l ∙ ap (λ k. getD xs i d ∷ drop k xs) (sym (add-one i))
+
+pub part-next : (is : List Item) (i end : ℕ) → i < end → end ≤ length is → part is i end ≡ itemAt is i ∷ part is (i + 1) end
+part-next is i end l h =
+    let e : end - i ≡ suc (end - (i + 1)) = omega arith in
+    ap₂ (λ (k : ℕ) (v : List Item). take k v) e (drop-next is i noItem (omega arith))
+
+pub part-none : (is : List Item) (i end : ℕ) → end ≤ i → part is i end ≡ []
+part-none is i end l = let e : end - i ≡ 0 = omega arith in ap (λ (k : ℕ). take k (drop i is)) e
+
+-- all rows are a part
+pub part-all : (is : List Item) (m : ℕ) → length is ≡ m → part is 0 m ≡ is
+part-all is m e = let z : m - 0 ≡ length is = omega arith in ap (λ (k : ℕ). take k is) z ∙ take-length is
+
+-- ---- the tables of an accepted file
+
+-- a row that was read lies in the file
+pub row-in : {size n i : ℕ} (ws : List ℕ) → ItemRows size n ws → i < n → {r : Item} → r ≡ itemFrom ws (i * itemWidth) → ItemIn size r
+row-in {i = i} ws h l e = rw e (h .1 i l)
+
+pub item-rows : {f : List ℕ} {o : Reading} {s : Summary} {t u : List ℕ} → Standing f o s t u → ItemRows (length f) (s .items) u
+item-rows {f} {o} {s} {t} {u} st =
+    (st .item-room, λ i l. rw (item-at u (s .items) i l) at (subst (ItemsIn (length f)) (sym (st .items-are)) (st .sound .items-inside) i (omega (arith, items-in-length u (s .items)))))
+
+pub tables : (lim : Limits) (f : List ℕ) {s : Summary} {t u : List ℕ} → Standing f (readFile lim f) s t u → Tables f t u (s .nodes) (s .items)
+tables lim f st = record {
+  node-room = st .node-room;
+  item-rows = item-rows st;
+  runs = rw (st .nodes-are, st .items-are) (runs _ _ (in-row-order lim f (st .reads) .items-follow));
+}
+
+-- ---- back over the node rows: each node's own rows end where those of the next begin
+
+module _ {f ws vs : List ℕ} {n m : ℕ} (t : Tables f ws vs n m) where
+  -- behind the last node's
+  pub end-begin : m ≡ firstRow (nodesIn n ws) n
+  end-begin = sym (ap (firstRow (nodesIn n ws)) (sym (nodes-in-length ws n)) ∙ t .runs .whole ∙ items-in-length vs m)
+
+  -- node j, whose own rows end before row `end`
+  module _ (i j : ℕ) (q : i ≡ j + 1) (l : j < n) {r : Node} (e : r ≡ nodeFrom ws (j * nodeWidth)) {end : ℕ} (a : end ≡ firstRow (nodesIn n ws) i) where
+    in-list : j < length (nodesIn n ws)
+    in-list = omega (arith, nodes-in-length ws n)
+
+    rows-are : end ≡ firstRow (nodesIn n ws) j + r .rows
+    rows-are = a ∙ ap (firstRow (nodesIn n ws)) q ∙ first-next (nodesIn n ws) j in-list ∙ ap (λ (x : Node). firstRow (nodesIn n ws) j + x .rows) (node-at ws n j l ∙ sym e)
+
+    pub rows-in : r .rows ≤ end
+    rows-in = omega (arith, rows-are)
+
+    pub end-in : end ≤ m
+    end-in =
+        let s = nodes-in-length ws n in
+        omega (arith, first-most (nodesIn n ws) i (omega arith), t .runs .whole, items-in-length vs m)
+
+    pub end-next : end - r .rows ≡ firstRow (nodesIn n ws) j
+    end-next = omega (arith, rows-are)
+
+    pub own-are : own (itemsIn m vs) j ≡ numbered (end - r .rows) (part (itemsIn m vs) (end - r .rows) end)
+    own-are = t .runs .run j in-list ∙ ap₂ (λ (x y : ℕ). numbered x (part (itemsIn m vs) x y)) (sym end-next) (sym (a ∙ ap (firstRow (nodesIn n ws)) q))

@@ -2,8 +2,8 @@
 -- Assumes nothing.
 use mathlib.Core.Path.{refl}
 use borrow.Author.Needs.{needs}
-use Rattle.writer.proofs.vlq_size.Statement.{statement}
-use Rattle.writer.proofs.vlq_size.Tie as tie
+use Rattle.room.proofs.vlq_size.Statement.{statement}
+use Rattle.room.proofs.vlq_size.Tie as tie
 
 least-bytes-requires : tie.Need-least-bytes-requires
 least-bytes-requires c κs = search needs

@@ -1,12 +1,11 @@
 -- `power` multiplies k times.
 -- Assumes nothing.
-use mathlib.Core.Path.{_≡_, refl, sym, ap, _∙_}
-use Prim.Native.Nat.{ℕ, suc, _*_, _^_, _≤_, _<_, _+_, _-_}
-use native.Mathlib.Nat.{pow-succ', pow-le-pow-right, mul-comm}
+use mathlib.Core.Path.{_≡_, refl}
+use Prim.Native.Nat.{_^_, _≤_, _+_, _-_}
 use native.Mathlib.Omega.{arith}
-use Rattle.writer.proofs.Counting.{power-on, power-most}
-use Rattle.writer.proofs.power.Statement.{statement}
-use Rattle.writer.proofs.power.Tie as tie
+use Rattle.room.proofs.Numbers.{power-on, power-most}
+use Rattle.room.proofs.power.Statement.{statement}
+use Rattle.room.proofs.power.Tie as tie
 
 abbrev Inv-loop : tie.InvT-loop
 Inv-loop k r₀ i₀ r i = (r ≡ 128 ^ i) × (i ≤ k) × (r ≤ 128 ^ 4)

@@ -1,0 +1,57 @@
+-- `put_content_at` puts the title, or the part of the file that the row names.
+-- Assumes nothing.
+use native.Mathlib.Omega.{arith}
+use mathlib.Core.Path.{refl}
+use Rattle.contents.proofs.Putting.{row-inside, content-title, content-file}
+use borrow.Author.Needs.{needs}
+use Rattle.contents.proofs.put_content_at.Statement.{statement}
+use Rattle.contents.proofs.put_content_at.Tie as tie
+
+item-at-requires : tie.Need-item-at-requires
+item-at-requires c κs = search needs
+
+put-content-requires : tie.Need-put-content-requires
+put-content-requires c κs = search needs
+
+same-length : tie.Need-same-length
+same-length c = search needs
+
+returns : tie.Need-returns
+returns c = content-title _ _ _ _ _ (c .before .before .before .before .before .item-at .ensures) (c .before .before .before .before .if1 .taken) (c .before .before .put-content .ensures _)
+
+add-end : tie.Need-add-end
+add-end c = omega (arith, row-inside (c .before .item-at .ensures) (c .before .before .before .before .before .before .pre .1) .0)
+
+sub-put-content : tie.Need-sub-put-content
+sub-put-content c = search needs
+
+part-put-content-start : tie.Need-part-put-content-start
+part-put-content-start c = search needs
+
+part-put-content-end : tie.Need-part-put-content-end
+part-put-content-end c = omega (arith, row-inside (c .before .before .item-at .ensures) (c .before .before .before .before .before .before .before .pre .1) .0)
+
+put-content-requires-2 : tie.Need-put-content-requires-2
+put-content-requires-2 c κs = search needs
+
+same-length-2 : tie.Need-same-length-2
+same-length-2 c = search needs
+
+returns-2 : tie.Need-returns-2
+returns-2 c = content-file _ _ _ _ _ (c .before .before .before .before .before .before .item-at .ensures) (c .before .before .before .before .before .if1 .left) refl (c .before .before .put-content2 .ensures _)
+
+pub put-content-at-spec : {M : Type 1} → statement M
+put-content-at-spec =
+    tie.close
+    (tie.spec
+    item-at-requires
+    put-content-requires
+    same-length
+    returns
+    add-end
+    sub-put-content
+    part-put-content-start
+    part-put-content-end
+    put-content-requires-2
+    same-length-2
+    returns-2)

@@ -1,0 +1,44 @@
+-- `rows_end` counts back to the row behind node k's own. The invariant: the item rows of the nodes before row i end there.
+-- Assumes nothing.
+use Prim.Native.Nat.{_+_, _<_, _≤_, _-_}
+use Rattle.find.proofs.Climbing.{EndsAt, back-rows, back-one}
+use mathlib.Core.Path.{ap, _∙_}
+use Rattle.tree.specs.Rows.{nodesIn}
+use Rattle.tree.specs.Own.{firstRow}
+use native.Mathlib.Omega.{arith}
+use borrow.Author.Needs.{needs}
+use Rattle.find.proofs.rows_end.Statement.{statement}
+use Rattle.find.proofs.rows_end.Tie as tie
+
+abbrev Inv-loop : tie.InvT-loop
+Inv-loop nodes n from first k i₀ end₀ i end = (k < i) × (i ≤ n) × EndsAt nodes n i end
+
+abbrev μ-loop : tie.MeasureT-loop
+μ-loop nodes n from first k i₀ end₀ i end = i - k
+
+loop-holds : tie.Need-loop-holds Inv-loop μ-loop
+loop-holds c = (c .before .pre .1, c .before .pre .2, c .before .pre .3)
+
+add-loop : tie.Need-add-loop Inv-loop μ-loop
+add-loop c = omega (arith, c .before .before .pre)
+
+sub-i : tie.Need-sub-i Inv-loop μ-loop
+sub-i c = omega arith
+
+node-at-requires : tie.Need-node-at-requires Inv-loop μ-loop
+node-at-requires c κs = omega (arith, c .before .before .before .pre .0, c .before .loop .inv)
+
+sub-end : tie.Need-sub-end Inv-loop μ-loop
+sub-end c = back-rows (c .before .before .before .before .args .nodes .now) (c .before .before .before .before .args .n) (c .before .before .loop .i) (omega arith) (c .before .before .loop .inv .1) (c .node-at .ensures) (c .before .before .loop .inv .2)
+
+loop-less : tie.Need-loop-less Inv-loop μ-loop
+loop-less c = omega arith
+
+loop-again : tie.Need-loop-again Inv-loop μ-loop
+loop-again c = (omega arith, omega (arith, c .before .before .loop .inv), back-one (c .before .before .before .before .args .nodes .now) (c .before .before .before .before .args .n) (c .before .before .loop .i) (omega arith) (c .before .before .loop .inv .1) (c .node-at .ensures) (c .before .before .loop .inv .2))
+
+returns : tie.Need-returns Inv-loop μ-loop
+returns c = c .before .loop .inv .2 ∙ ap (firstRow (nodesIn (c .before .before .before .args .n) (c .before .before .before .args .nodes .now))) (omega (arith, c .before .loop .inv))
+
+pub rows-end-spec : {M : Type 1} → statement M
+rows-end-spec = tie.close (tie.spec Inv-loop μ-loop loop-holds add-loop sub-i node-at-requires sub-end loop-less loop-again returns)
