@@ -27,7 +27,7 @@ use Rattle.tree.proofs.Rows.{Standing, ask-refused, refused-nodes, refused-item
 use Rattle.title.specs.Title.{elsewhere, isNoTitle, titledFile, fitting, correctTitle}
 use Rattle.room.specs.Counts.{Counts}
 use Rattle.room.proofs.Counting.{counts-exact}
-use Rattle.retitle.specs.Passes.{tooLarge}
+use Rattle.retitle.specs.Passes.{sizeStop}
 use Rattle.retitle.specs.Stands.{Stands, refusalOf}
 use Rattle.retitle.specs.Told.{told, titledNodes, titledItems, Fills, Wrote}
 use Rattle.retitle.specs.declared.Corrected.{Corrected}
@@ -70,19 +70,19 @@ module _ (row : ℕ) (title : List ℕ) (room : ℕ) (f : List ℕ) (h : Header)
     -- ---- the file's
 
     module _ {lent out : List ℕ} {r : ℕ} (same : length lent ≡ room) (p : Fills lent out (titledFile row title f h ns is) r) where
-      large : tooLarge ≤ r → tooLarge ≤ length g
-      large l = elim (decLt (length g) tooLarge) [
+      large : sizeStop ≤ r → sizeStop ≤ length g
+      large l = elim (decLt (length g) sizeStop) [
         | yes m ↦ omega (arith, p .small m .after)
         | no m ↦ omega arith
       ]
 
-      pub too-large : tooLarge ≤ r → correctTitle row title room f h ns is ≡ bad 38 0
+      pub too-large : sizeStop ≤ r → correctTitle row title room f h ns is ≡ bad 38 0
       unfolding fitting
       too-large l = rows-allow ∙ rw (le-leb (2 ^ 28) (length g) (large l)) refl
 
-      module _ (l : r < tooLarge) where
-        small : length g < tooLarge
-        small = elim (decLt (length g) tooLarge) [
+      module _ (l : r < sizeStop) where
+        small : length g < sizeStop
+        small = elim (decLt (length g) sizeStop) [
           | yes m ↦ m
           | no m ↦ omega (arith, p .large (omega arith))
         ]

@@ -18,7 +18,7 @@ use Rattle.title.specs.Text.{referenceText, itemsText, headerSize, lengthBytes,
 use Rattle.title.proofs.Sizes.{framed-length, framed-most}
 use Rattle.room.specs.Counts.{Counts}
 use Rattle.room.proofs.Counting.{counts-as, counts-then, put-two, put-block, part-length}
-use Rattle.retitle.specs.Passes.{tooLarge, bodySize, restText, Framed}
+use Rattle.retitle.specs.Passes.{sizeStop, bodySize, restText, Framed}
 use Rattle.retitle.specs.declared.Frame.{Frame}
 
 -- ---- what follows the header
@@ -53,7 +53,7 @@ own-put f r e p = counts-as (ap (referenceText (r .reference)) (ap (part f (r .t
 -- ---- its two lengths
 
 -- a size that was measured, stopped
-pub stopped-length : {z z₁ : List ℕ} {t : List ℕ} {n m : ℕ} → Counts z z₁ 0 t n → m ≡ min n tooLarge → m ≡ min (length t) tooLarge
+pub stopped-length : {z z₁ : List ℕ} {t : List ℕ} {n m : ℕ} → Counts z z₁ 0 t n → m ≡ min n sizeStop → m ≡ min (length t) sizeStop
 stopped-length p e = omega (arith, p .after)
 
 -- a block's bytes
@@ -93,12 +93,12 @@ module _ (s : Shape) (cs : List Content) (n : ℕ) where
   header-least k a = omega arith
 
   -- each of the three measured, and stopped where it is too large
-  module _ {m : ℕ} (em : m ≡ min texts tooLarge) {u w : ℕ} (eu : u ≡ min packed tooLarge) (ew : w ≡ min own tooLarge) {a b : ℕ} (ea : a ≡ least (λ _. s .contained)) (eb : b ≡ least (λ _. m)) {h : ℕ}
-      (eh : h ≡ headerSize (a + b + m + u) (lengthBytes (a + b + m + u) (w + n))) {size : ℕ} (es : size ≡ min (h + (w + n)) tooLarge) where
+  module _ {m : ℕ} (em : m ≡ min texts sizeStop) {u w : ℕ} (eu : u ≡ min packed sizeStop) (ew : w ≡ min own sizeStop) {a b : ℕ} (ea : a ≡ least (λ _. s .contained)) (eb : b ≡ least (λ _. m)) {h : ℕ}
+      (eh : h ≡ headerSize (a + b + m + u) (lengthBytes (a + b + m + u) (w + n))) {size : ℕ} (es : size ≡ min (h + (w + n)) sizeStop) where
     abbrev k : ℕ
     k = a + b + m + u
 
-    exact : texts < tooLarge → packed < tooLarge → own < tooLarge → Framed s cs n (record { header = h; size = size })
+    exact : texts < sizeStop → packed < sizeStop → own < sizeStop → Framed s cs n (record { header = h; size = size })
     unfolding headerOf nodeText
     exact l₁ l₂ l₃ =
         let i : m ≡ texts = omega arith in
@@ -107,9 +107,9 @@ module _ (s : Shape) (cs : List Content) (n : ℕ) where
         let d : k ≡ fixed = omega (arith, vlq-length (s .contained), rest-length) in
         let e : h ≡ headerOf (s .contained) (restText s cs) (own + n) = eh ∙ rw (d, c) refl in
         let t : headerOf (s .contained) (restText s cs) (own + n) + (own + n) ≤ length (nodeText s cs n) + n = framed-most (s .contained) (restText s cs) (ownText s) n in
-        let g : headerOf (s .contained) (restText s cs) (own + n) + (own + n) < tooLarge → length (nodeText s cs n) + n ≡ headerOf (s .contained) (restText s cs) (own + n) + (own + n) = framed-length (s .contained) (restText s cs) (ownText s) n in
+        let g : headerOf (s .contained) (restText s cs) (own + n) + (own + n) < sizeStop → length (nodeText s cs n) + n ≡ headerOf (s .contained) (restText s cs) (own + n) + (own + n) = framed-length (s .contained) (restText s cs) (ownText s) n in
         record {
-          stops = elim (decLt (headerOf (s .contained) (restText s cs) (own + n) + (own + n)) tooLarge) [
+          stops = elim (decLt (headerOf (s .contained) (restText s cs) (own + n) + (own + n)) sizeStop) [
             | yes l ↦ let i = g l in omega arith
             | no l ↦ omega arith
           ];
@@ -117,18 +117,18 @@ module _ (s : Shape) (cs : List Content) (n : ℕ) where
           header = λ l. e;
         }
 
-    large : tooLarge ≤ length (restText s cs) + own → tooLarge ≤ k + w → Framed s cs n (record { header = h; size = size })
+    large : sizeStop ≤ length (restText s cs) + own → sizeStop ≤ k + w → Framed s cs n (record { header = h; size = size })
     large l i =
         let t = node-most in
         let j = header-least k (lengthBytes k (w + n)) in
         record { stops = omega arith; size = λ z. absurd (omega arith); header = λ z. absurd (omega arith) }
 
     pub framed-by : Framed s cs n (record { header = h; size = size })
-    framed-by = elim (decLt texts tooLarge) [
+    framed-by = elim (decLt texts sizeStop) [
       | no l ↦ large (omega (arith, rest-length)) (omega arith)
-      | yes l₁ ↦ elim (decLt packed tooLarge) [
+      | yes l₁ ↦ elim (decLt packed sizeStop) [
         | no l ↦ large (omega (arith, rest-length)) (omega arith)
-        | yes l₂ ↦ elim (decLt own tooLarge) [
+        | yes l₂ ↦ elim (decLt own sizeStop) [
           | no l ↦ large (omega arith) (omega arith)
           | yes l₃ ↦ exact l₁ l₂ l₃
         ]
@@ -137,14 +137,14 @@ module _ (s : Shape) (cs : List Content) (n : ℕ) where
 
 -- ---- the whole, but for the nodes in it
 
-pub texts-few : (s : Shape) (cs : List Content) (n : ℕ) {m : ℕ} → m ≡ length (itemsText cs) → length (nodeText s cs n) + n < tooLarge → m ≤ tooLarge
+pub texts-few : (s : Shape) (cs : List Content) (n : ℕ) {m : ℕ} → m ≡ length (itemsText cs) → length (nodeText s cs n) + n < sizeStop → m ≤ sizeStop
 texts-few s cs n e l = omega (arith, texts-within s cs n)
 
-pub stopped-not : (s : Shape) (cs : List Content) (n : ℕ) {m : ℕ} → m ≡ length (itemsText cs) → length (nodeText s cs n) + n < tooLarge → m ≡ min (length (itemsText cs)) tooLarge
+pub stopped-not : (s : Shape) (cs : List Content) (n : ℕ) {m : ℕ} → m ≡ length (itemsText cs) → length (nodeText s cs n) + n < sizeStop → m ≡ min (length (itemsText cs)) sizeStop
 stopped-not s cs n e l = omega (arith, texts-within s cs n)
 
-module _ (s : Shape) (cs : List Content) (n : ℕ) {r : Frame} (w : Framed s cs n r) (small : length (nodeText s cs n) + n < tooLarge) where
-  within : r .size < tooLarge
+module _ (s : Shape) (cs : List Content) (n : ℕ) {r : Frame} (w : Framed s cs n r) (small : length (nodeText s cs n) + n < sizeStop) where
+  within : r .size < sizeStop
   within = omega (arith, w .stops)
 
   pub node-put : {m : ℕ} → m ≡ length (itemsText cs) → {o o₁ o₂ o₃ o₄ o₅ o₆ o₇ : List ℕ} {t t₁ t₂ t₃ t₄ t₅ t₆ t₇ : ℕ} → Counts o o₁ t (vlq (r .size)) t₁ → Counts o₁ o₂ t₁ (vlq (s .contained)) t₂ → Counts o₂ o₃ t₂ (vlq (r .header)) t₃

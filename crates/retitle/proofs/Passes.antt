@@ -17,7 +17,7 @@ use Rattle.title.proofs.Nodes.{whole-length}
 use Rattle.room.specs.Counts.{Counts, tooMany}
 use Rattle.room.proofs.Counting.{Going, going-start, going-on, going-end, counts-as}
 use Rattle.contents.specs.Contents.{contentsFrom}
-use Rattle.retitle.specs.Passes.{tooLarge, sumOf, Task, firstItem, nodeOf, shapeOf, contentsOf, outerFrom, innerOf, Sound, Measured, Framed}
+use Rattle.retitle.specs.Passes.{sizeStop, sumOf, Task, firstItem, nodeOf, shapeOf, contentsOf, outerFrom, innerOf, Sound, Measured, Framed}
 use Rattle.retitle.specs.declared.Frame.{Frame}
 use Rattle.retitle.proofs.Rows.{first-on, first-start, rows-fit, outer-end, outer-on, text-on, inner-within}
 use Rattle.retitle.proofs.Nodes.{texts-within}
@@ -27,13 +27,13 @@ use Rattle.retitle.proofs.Nodes.{texts-within}
 -- what was added, and what is left
 pub record Adding (ws : List ℕ) (from end r k : ℕ) : Type 0 where
   pub within : (from ≤ k) × (k ≤ end)
-  pub few : r ≤ tooLarge
-  pub same : min (r + sumOf (part ws k (end - k))) tooLarge ≡ min (sumOf (part ws from (end - from))) tooLarge
+  pub few : r ≤ sizeStop
+  pub same : min (r + sumOf (part ws k (end - k))) sizeStop ≡ min (sumOf (part ws from (end - from))) sizeStop
 
 pub adding-start : (ws : List ℕ) (from end : ℕ) → from ≤ end → Adding ws from end 0 from
 adding-start ws from end l = record { within = (omega arith, l); few = omega arith; same = omega arith }
 
-pub adding-on : {ws : List ℕ} {from end r k : ℕ} → Adding ws from end r k → k < end → end ≤ length ws → {q : ℕ} → q ≡ min (r + getD ws k 0) tooLarge → Adding ws from end q (k + 1)
+pub adding-on : {ws : List ℕ} {from end r k : ℕ} → Adding ws from end r k → k < end → end ≤ length ws → {q : ℕ} → q ≡ min (r + getD ws k 0) sizeStop → Adding ws from end q (k + 1)
 adding-on {ws} {from} {end} {r} {k} a l m {q} e =
     let w = a .within in
     let i : end - k ≡ suc (end - (k + 1)) = omega arith in
@@ -43,7 +43,7 @@ adding-on {ws} {from} {end} {r} {k} a l m {q} e =
     let u = a .same in
     record { within = (omega arith, omega arith); few = omega arith; same = omega arith }
 
-pub adding-end : {ws : List ℕ} {from end r k : ℕ} → Adding ws from end r k → end ≤ k → r ≡ min (sumOf (part ws from (end - from))) tooLarge
+pub adding-end : {ws : List ℕ} {from end r k : ℕ} → Adding ws from end r k → end ≤ k → r ≡ min (sumOf (part ws from (end - from))) sizeStop
 adding-end {ws} {from} {end} {r} {k} a l =
     let z : end - k ≡ 0 = omega arith in
     let t : sumOf (part ws k (end - k)) ≡ 0 = rw z refl in
@@ -55,7 +55,7 @@ adding-end {ws} {from} {end} {r} {k} a l =
 
 abbrev pub stops : List (List ℕ) → List ℕ
 stops [] = []
-stops (s ∷ ss) = min (length s) tooLarge ∷ stops ss
+stops (s ∷ ss) = min (length s) sizeStop ∷ stops ss
 
 stops-length : (ss : List (List ℕ)) → length (stops ss) ≡ length ss
 stops-length [] = refl
@@ -64,14 +64,14 @@ stops-length (s ∷ ss) = ap suc (stops-length ss)
 take-stops : (n : ℕ) (ss : List (List ℕ)) → take n (stops ss) ≡ stops (take n ss)
 take-stops zero ss = refl
 take-stops (suc n) [] = refl
-take-stops (suc n) (s ∷ ss) = ap (λ v. min (length s) tooLarge ∷ v) (take-stops n ss)
+take-stops (suc n) (s ∷ ss) = ap (λ v. min (length s) sizeStop ∷ v) (take-stops n ss)
 
 drop-stops : (n : ℕ) (ss : List (List ℕ)) → drop n (stops ss) ≡ stops (drop n ss)
 drop-stops zero ss = refl
 drop-stops (suc n) [] = refl
 drop-stops (suc n) (s ∷ ss) = drop-stops n ss
 
-sum-stops : (ss : List (List ℕ)) → min (sumOf (stops ss)) tooLarge ≡ min (length (joined ss)) tooLarge
+sum-stops : (ss : List (List ℕ)) → min (sumOf (stops ss)) sizeStop ≡ min (length (joined ss)) sizeStop
 sum-stops [] = refl
 sum-stops (s ∷ ss) = let e = sum-stops ss in omega (arith, length-append s (joined ss))
 
@@ -144,28 +144,28 @@ module _ {x : Task} (s : Sound x) {i end top : ℕ} {sizes metadata inner : List
       (omega (arith, s .items-inside .0), λ k l. s .items-inside .1 k (omega arith))
 
   -- what is known of the row
-  module _ {m n : ℕ} {f : Frame} (em : m ≡ min (length (itemsText (contentsFrom (x .file) (x .row) (x .title) (x .items) (end - nodeOf x j .rows) (end - (end - nodeOf x j .rows))))) tooLarge)
-      (en : n ≡ min (sumOf (part sizes top (top + contained - top))) tooLarge) (ef : (cs : List Content) → m ≡ min (length (itemsText cs)) tooLarge → Framed (shapeOf x j) cs n f) where
-    texts-are : m ≡ min (length (itemsText (contentsOf x j))) tooLarge
+  module _ {m n : ℕ} {f : Frame} (em : m ≡ min (length (itemsText (contentsFrom (x .file) (x .row) (x .title) (x .items) (end - nodeOf x j .rows) (end - (end - nodeOf x j .rows))))) sizeStop)
+      (en : n ≡ min (sumOf (part sizes top (top + contained - top))) sizeStop) (ef : (cs : List Content) → m ≡ min (length (itemsText cs)) sizeStop → Framed (shapeOf x j) cs n f) where
+    texts-are : m ≡ min (length (itemsText (contentsOf x j))) sizeStop
     texts-are =
         let e = first-is in
         let a : end - nodeOf x j .rows ≡ firstItem (x .nodes) j = omega arith in
         let b : end - (end - nodeOf x j .rows) ≡ nodeOf x j .rows = omega arith in
-        em ∙ ap₂ (λ (k c : ℕ). min (length (itemsText (contentsFrom (x .file) (x .row) (x .title) (x .items) k c))) tooLarge) a b
+        em ∙ ap₂ (λ (k c : ℕ). min (length (itemsText (contentsFrom (x .file) (x .row) (x .title) (x .items) k c))) sizeStop) a b
 
-    inner-is : n ≡ min (innerOf x j) tooLarge
+    inner-is : n ≡ min (innerOf x j) sizeStop
     inner-is =
         let a : top + contained - top ≡ contained = omega arith in
         let b : part sizes top (top + contained - top) ≡ stops (take contained below) = rw a (ap (take contained) stack-is ∙ take-stops contained below) in
-        en ∙ ap (λ v. min (sumOf v) tooLarge) b ∙ sum-stops (take contained below)
+        en ∙ ap (λ v. min (sumOf v) sizeStop) b ∙ sum-stops (take contained below)
 
-    size-is : f .size ≡ min (length (wholeText (shapeOf x j) (contentsOf x j) (joined (take contained below)))) tooLarge
+    size-is : f .size ≡ min (length (wholeText (shapeOf x j) (contentsOf x j) (joined (take contained below)))) sizeStop
     size-is =
         let a = ef (contentsOf x j) texts-are .stops in
         let b = whole-length (shapeOf x j) (contentsOf x j) (joined (take contained below)) in
         let c = inner-is in
-        elim (decLt (innerOf x j) tooLarge) [
-          | yes l ↦ let d : n ≡ innerOf x j = omega arith in rw d at a ∙ sym (ap (λ v. min v tooLarge) b)
+        elim (decLt (innerOf x j) sizeStop) [
+          | yes l ↦ let d : n ≡ innerOf x j = omega arith in rw d at a ∙ sym (ap (λ v. min v sizeStop) b)
           | no l ↦ omega arith
         ]
 
@@ -209,8 +209,8 @@ module _ {x : Task} (s : Sound x) {i end top : ℕ} {sizes metadata inner : List
     pub inside-row : r .target + r .extent ≤ length (x .file)
     inside-row = rw er (s .bodies-inside j here)
 
-    pub measuring-row : {m n : ℕ} {f : Frame} → m ≡ min (length (itemsText (contentsFrom (x .file) (x .row) (x .title) (x .items) (end - r .rows) (end - (end - r .rows))))) tooLarge → n ≡ min (sumOf (part sizes top (top + r .contained - top))) tooLarge
-        → ((cs : List Content) → m ≡ min (length (itemsText cs)) tooLarge → Framed (shape (x .file) r) cs n f) → Measuring x j (end - r .rows) (top + r .contained - 1) (set sizes (top + r .contained - 1) (f .size)) (set metadata j m) (set inner j n)
+    pub measuring-row : {m n : ℕ} {f : Frame} → m ≡ min (length (itemsText (contentsFrom (x .file) (x .row) (x .title) (x .items) (end - r .rows) (end - (end - r .rows))))) sizeStop → n ≡ min (sumOf (part sizes top (top + r .contained - top))) sizeStop
+        → ((cs : List Content) → m ≡ min (length (itemsText cs)) sizeStop → Framed (shape (x .file) r) cs n f) → Measuring x j (end - r .rows) (top + r .contained - 1) (set sizes (top + r .contained - 1) (f .size)) (set metadata j m) (set inner j n)
     measuring-row em en ef = rw er (measuring-on (rw er at em) (rw er at en) (rw er at ef))
 
 -- all rows are measured
@@ -221,11 +221,11 @@ module _ {x : Task} {i end top : ℕ} {sizes metadata inner : List ℕ} (w : Mea
   pub measured-all : Measured x 0 metadata inner
   measured-all = subst (λ k. Measured x k metadata inner) at-first (w .measured)
 
-  pub tree-size : {r : ℕ} → r ≡ min (sumOf (part sizes top (mostNodes - top))) tooLarge → r ≡ min (length (joined (outerFrom x 0))) tooLarge
+  pub tree-size : {r : ℕ} → r ≡ min (sumOf (part sizes top (mostNodes - top))) sizeStop → r ≡ min (length (joined (outerFrom x 0))) sizeStop
   tree-size e =
       let l = w .long .0 in
       let a : part sizes top (mostNodes - top) ≡ stops (outerFrom x 0) = take-all (mostNodes - top) (drop top sizes) (omega (arith, length-drop top sizes)) ∙ w .stack ∙ ap (λ k. stops (outerFrom x k)) at-first in
-      e ∙ ap (λ v. min (sumOf v) tooLarge) a ∙ sum-stops (outerFrom x 0)
+      e ∙ ap (λ v. min (sumOf v) sizeStop) a ∙ sum-stops (outerFrom x 0)
 
 -- ---- the second pass
 
@@ -238,7 +238,7 @@ pub record Putting (x : Task) (o o′ : List ℕ) (to next first i : ℕ) : Type
 pub putting-start : {x : Task} (o : List ℕ) {to : ℕ} → to ≤ tooMany → Putting x o o to to 0 0
 putting-start {x} o l = record { within = omega arith; first-is = sym (first-start (x .nodes)); going = going-start o l refl }
 
-module _ {x : Task} (s : Sound x) {o o′ : List ℕ} {to next first i : ℕ} (w : Putting x o o′ to next first i) (l : i < x .count) {metadata inner : List ℕ} (measured : Measured x 0 metadata inner) (small : length (joined (outerFrom x 0)) < tooLarge) where
+module _ {x : Task} (s : Sound x) {o o′ : List ℕ} {to next first i : ℕ} (w : Putting x o o′ to next first i) (l : i < x .count) {metadata inner : List ℕ} (measured : Measured x 0 metadata inner) (small : length (joined (outerFrom x 0)) < sizeStop) where
   -- the contents by the code's numbers
   abbrev contents : List Content
   contents = contentsFrom (x .file) (x .row) (x .title) (x .items) first (first + nodeOf x i .rows - first)
@@ -249,7 +249,7 @@ module _ {x : Task} (s : Sound x) {o o′ : List ℕ} {to next first i : ℕ} (w
       ap₂ (λ (k n : ℕ). contentsFrom (x .file) (x .row) (x .title) (x .items) k n) (w .first-is) e
 
   -- a node and all after it have fewer bytes than the whole
-  node-small : length (nodeText (shapeOf x i) (contentsOf x i) (innerOf x i)) + innerOf x i < tooLarge
+  node-small : length (nodeText (shapeOf x i) (contentsOf x i) (innerOf x i)) + innerOf x i < sizeStop
   node-small =
       let g = w .going in
       let t : List ℕ = nodeText (shapeOf x i) (contentsOf x i) (innerOf x i) in
@@ -265,7 +265,7 @@ module _ {x : Task} (s : Sound x) {o o′ : List ℕ} {to next first i : ℕ} (w
       let m = texts-within (shapeOf x i) (contentsOf x i) (innerOf x i) in
       rw contents-are (omega arith)
 
-  small-here : length (nodeText (shapeOf x i) contents (getD inner i 0)) + getD inner i 0 < tooLarge
+  small-here : length (nodeText (shapeOf x i) contents (getD inner i 0)) + getD inner i 0 < sizeStop
   small-here = rw (contents-are, inner-are) node-small
 
   putting-on : {o″ : List ℕ} {r : ℕ} → Counts o′ o″ next (nodeText (shapeOf x i) contents (getD inner i 0)) r → Putting x o o″ to r (first + nodeOf x i .rows) (i + 1)
@@ -286,11 +286,11 @@ module _ {x : Task} (s : Sound x) {o o′ : List ℕ} {to next first i : ℕ} (w
   pub items-room : ItemRows (length (x .file)) (first + r .rows) (x .items)
   items-room = let e = rows-room in (omega (arith, s .items-inside .0), λ k m. s .items-inside .1 k (omega arith))
 
-  module _ {metadata inner : List ℕ} (measured : Measured x 0 metadata inner) (small : length (joined (outerFrom x 0)) < tooLarge) where
+  module _ {metadata inner : List ℕ} (measured : Measured x 0 metadata inner) (small : length (joined (outerFrom x 0)) < sizeStop) where
     pub texts-row : getD metadata i 0 ≡ length (itemsText (contentsFrom (x .file) (x .row) (x .title) (x .items) first (first + r .rows - first)))
     texts-row = rw er (texts-here s w l measured small)
 
-    pub small-row : length (nodeText (shape (x .file) r) (contentsFrom (x .file) (x .row) (x .title) (x .items) first (first + r .rows - first)) (getD inner i 0)) + getD inner i 0 < tooLarge
+    pub small-row : length (nodeText (shape (x .file) r) (contentsFrom (x .file) (x .row) (x .title) (x .items) first (first + r .rows - first)) (getD inner i 0)) + getD inner i 0 < sizeStop
     small-row = rw er (small-here s w l measured small)
 
     pub putting-row : {o″ : List ℕ} {q : ℕ} → Counts o′ o″ next (nodeText (shape (x .file) r) (contentsFrom (x .file) (x .row) (x .title) (x .items) first (first + r .rows - first)) (getD inner i 0)) q → Putting x o o″ to q (first + r .rows) (i + 1)

@@ -16,8 +16,8 @@ use Rattle.contents.specs.Contents.{contentsFrom}
 use Rattle.retitle.specs.declared.Frame.{Frame}
 
 -- no file has so many bytes: a size that is measured stops there
-abbrev pub tooLarge : ℕ
-tooLarge = 2 ^ 28
+abbrev pub sizeStop : ℕ
+sizeStop = 2 ^ 28
 
 -- ---- a node
 
@@ -31,9 +31,9 @@ restText s cs = joined (sized (itemsText cs) ∷ sized (s .unpackers) ∷ [])
 
 -- NodeLength and NodeHeaderLength of a node with these contents, whose nodes have n bytes; where NodeLength is too large it stops, and nothing is said of the other
 pub record Framed (s : Shape) (cs : List Content) (n : ℕ) (r : Frame) : Type 0 where
-  pub stops : r .size ≡ min (length (nodeText s cs n) + n) tooLarge
-  pub size : r .size < tooLarge → r .size ≡ headerOf (s .contained) (restText s cs) (length (ownText s) + n) + (length (ownText s) + n)
-  pub header : r .size < tooLarge → r .header ≡ headerOf (s .contained) (restText s cs) (length (ownText s) + n)
+  pub stops : r .size ≡ min (length (nodeText s cs n) + n) sizeStop
+  pub size : r .size < sizeStop → r .size ≡ headerOf (s .contained) (restText s cs) (length (ownText s) + n) + (length (ownText s) + n)
+  pub header : r .size < sizeStop → r .header ≡ headerOf (s .contained) (restText s cs) (length (ownText s) + n)
 
 abbrev pub sumOf : List ℕ → ℕ
 sumOf [] = 0
@@ -92,5 +92,5 @@ pub record Sound (x : Task) : Type 0 where
 
 -- the first pass was at the rows from row i on: the bytes of a node's contents, and of the nodes that it holds, each stopped
 pub record Measured (x : Task) (i : ℕ) (metadata inner : List ℕ) : Type 0 where
-  pub texts : (j : ℕ) → i ≤ j → j < x .count → getD metadata j 0 ≡ min (length (itemsText (contentsOf x j))) tooLarge
-  pub inners : (j : ℕ) → i ≤ j → j < x .count → getD inner j 0 ≡ min (innerOf x j) tooLarge
+  pub texts : (j : ℕ) → i ≤ j → j < x .count → getD metadata j 0 ≡ min (length (itemsText (contentsOf x j))) sizeStop
+  pub inners : (j : ℕ) → i ≤ j → j < x .count → getD inner j 0 ≡ min (innerOf x j) sizeStop

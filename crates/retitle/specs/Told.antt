@@ -8,7 +8,7 @@ use Rattle.room.specs.Room.{Result, good, bad}
 use Rattle.room.specs.Counts.{Counts}
 use Rattle.metadata.specs.declared.Limits.{Limits}
 use Rattle.tree.specs.Reading.{readFile, nodeTable, itemTable}
-use Rattle.retitle.specs.Passes.{tooLarge}
+use Rattle.retitle.specs.Passes.{sizeStop}
 use Rattle.retitle.specs.declared.Corrected.{Corrected}
 use Rattle.retitle.specs.declared.Corrected.the-variants as corrected
 
@@ -36,8 +36,8 @@ titledItems size lim (bad n p) = replicate size 0
 
 -- bytes are put from the buffer's first byte on; of those of a file that is too large only that is said
 pub record Fills (out out′ bytes : List ℕ) (r : ℕ) : Type 0 where
-  pub small : length bytes < tooLarge → Counts out out′ 0 bytes r
-  pub large : tooLarge ≤ length bytes → tooLarge ≤ r
+  pub small : length bytes < sizeStop → Counts out out′ 0 bytes r
+  pub large : sizeStop ≤ length bytes → sizeStop ≤ r
 
 -- by the answer: the file stands at the buffer's front; or there is none, and nothing is said of the buffer
 abbrev pub WroteAs : (out : List ℕ) → Corrected → Result (List ℕ) → Type 0

@@ -19,7 +19,7 @@ ghost use Rattle.title.specs.Description.{Content, answer, tableText, openingSi
 ghost use Rattle.title.specs.Text.{itemsText, referenceText, ownText, nodeText, headerSize, lengthBytes, startWith, lastBytes, startAt, fileBytes, fileOf};
 ghost use Rattle.title.specs.Title.{elsewhere, isNoTitle, titledFile, correctTitle};
 ghost use Rattle.contents.specs.Contents.{contentsFrom};
-ghost use Rattle.retitle.specs.Passes.{tooLarge, bodySize, Framed, sumOf, task, Sound, Measured, outerFrom};
+ghost use Rattle.retitle.specs.Passes.{sizeStop, bodySize, Framed, sumOf, task, Sound, Measured, outerFrom};
 ghost use Rattle.retitle.specs.Stands.{Stands, refusalOf};
 ghost use Rattle.retitle.specs.Told.{told, titledNodes, titledItems, Fills, Wrote};
 use cursor::Node;
@@ -39,13 +39,13 @@ pub enum Corrected {
 }
 
 // No file has so many bytes: a size that is measured stops here.
-const TOO_LARGE: usize = 268435456;
+const SIZE_STOP: usize = 268435456;
 
 // A size, stopped.
 fn stopped(size: usize) -> usize
-    ensures { λ r. ⌜ r ≡ min size tooLarge ⌝ }
+    ensures { λ r. ⌜ r ≡ min size sizeStop ⌝ }
 {
-    if TOO_LARGE < size { TOO_LARGE } else { size }
+    if SIZE_STOP < size { SIZE_STOP } else { size }
 }
 
 // The bytes of a number that counts them and m bytes more.
@@ -142,8 +142,8 @@ fn put_reference(
 
 // NodeHeaderLength and NodeLength of a node row, whose item rows have `metadata` bytes, and whose nodes have `inner`.
 fn frame_of(file: &[u8], row: Node, metadata: usize, inner: usize) -> Frame
-    requires { ⌜ (row .target + row .extent ≤ length (now file)) × (length (now file) < 2 ^ 28) × (metadata ≤ tooLarge) × (inner ≤ tooLarge) ⌝ }
-    ensures { λ r. ⌜ ((cs : List Content) → metadata ≡ min (length (itemsText cs)) tooLarge → Framed (shape (now (file .entry)) row) cs inner r) ⌝ }
+    requires { ⌜ (row .target + row .extent ≤ length (now file)) × (length (now file) < 2 ^ 28) × (metadata ≤ sizeStop) × (inner ≤ sizeStop) ⌝ }
+    ensures { λ r. ⌜ ((cs : List Content) → metadata ≡ min (length (itemsText cs)) sizeStop → Framed (shape (now (file .entry)) row) cs inner r) ⌝ }
 {
     let mut scratch = [0u8; 1];
     let unpackers = stopped(copies::put_unpackers(&mut scratch, 0, file, row));
@@ -181,7 +181,7 @@ fn put_node(
     inner: usize,
 ) -> usize
     requires rows { ⌜ (node .target + node .extent ≤ length (now file)) × (length (now file) < 2 ^ 28) × (first ≤ end) × ItemRows (length (now file)) end (now items) ⌝ }
-    requires sizes { ⌜ (metadata ≡ length (itemsText (contentsFrom (now file) row (now title) (now items) first (end - first)))) × (length (nodeText (shape (now file) node) (contentsFrom (now file) row (now title) (now items) first (end - first)) inner) + inner < tooLarge) ⌝ }
+    requires sizes { ⌜ (metadata ≡ length (itemsText (contentsFrom (now file) row (now title) (now items) first (end - first)))) × (length (nodeText (shape (now file) node) (contentsFrom (now file) row (now title) (now items) first (end - first)) inner) + inner < sizeStop) ⌝ }
     ensures { λ r. ⌜ Counts (now (out .entry)) (now (out .exit)) to (nodeText (shape (now (file .entry)) node) (contentsFrom (now (file .entry)) row (now (title .entry)) (now (items .entry)) first (end - first)) inner) r ⌝ }
 {
     let f = frame_of(file, node, metadata, inner);
@@ -205,7 +205,7 @@ fn items_size(
     title: &[u8],
 ) -> usize
     requires { ⌜ (first ≤ end) × ItemRows (length (now file)) end (now items) ⌝ }
-    ensures { λ r. ⌜ r ≡ min (length (itemsText (contentsFrom (now (file .entry)) row (now (title .entry)) (now (items .entry)) first (end - first)))) tooLarge ⌝ }
+    ensures { λ r. ⌜ r ≡ min (length (itemsText (contentsFrom (now (file .entry)) row (now (title .entry)) (now (items .entry)) first (end - first)))) sizeStop ⌝ }
 {
     let mut scratch = [0u8; 1];
     stopped(contents::put_items(&mut scratch, 0, file, items, first, end, row, title))
@@ -214,7 +214,7 @@ fn items_size(
 // The sum of the words from word `from` on, up to word `end`.
 fn sum(words: &[usize], from: usize, end: usize) -> usize
     requires { ⌜ (from ≤ end) × (end ≤ length (now words)) ⌝ }
-    ensures { λ r. ⌜ r ≡ min (sumOf (part (now (words .entry)) from (end - from))) tooLarge ⌝ }
+    ensures { λ r. ⌜ r ≡ min (sumOf (part (now (words .entry)) from (end - from))) sizeStop ⌝ }
 {
     let mut r: usize = 0;
     let mut k = from;
@@ -240,7 +240,7 @@ fn measure_tree(
 ) -> usize
     requires { ⌜ Sound (task (now file) (now nodes) (now items) count total row (now title)) × (length (now metadata) ≡ mostNodes) × (length (now inner) ≡ mostNodes) ⌝ }
     ensures measured { λ _. ⌜ Measured (task (now (file .entry)) (now (nodes .entry)) (now (items .entry)) count total row (now (title .entry))) 0 (now (metadata .exit)) (now (inner .exit)) ⌝ }
-    ensures tree { λ r. ⌜ r ≡ min (length (joined (outerFrom (task (now (file .entry)) (now (nodes .entry)) (now (items .entry)) count total row (now (title .entry))) 0))) tooLarge ⌝ }
+    ensures tree { λ r. ⌜ r ≡ min (length (joined (outerFrom (task (now (file .entry)) (now (nodes .entry)) (now (items .entry)) count total row (now (title .entry))) 0))) sizeStop ⌝ }
 {
     let mut sizes = [0usize; cursor::MOST_NODES];
     let mut top = cursor::MOST_NODES;
@@ -278,7 +278,7 @@ fn put_tree(
     inner: &[usize],
 ) -> usize
     requires rows { ⌜ Sound (task (now file) (now nodes) (now items) count total row (now title)) × Measured (task (now file) (now nodes) (now items) count total row (now title)) 0 (now metadata) (now inner) × (length (now metadata) ≡ mostNodes) × (length (now inner) ≡ mostNodes) ⌝ }
-    requires small { ⌜ length (joined (outerFrom (task (now file) (now nodes) (now items) count total row (now title)) 0)) < tooLarge ⌝ }
+    requires small { ⌜ length (joined (outerFrom (task (now file) (now nodes) (now items) count total row (now title)) 0)) < sizeStop ⌝ }
     ensures { λ r. ⌜ Counts (now (out .entry)) (now (out .exit)) to (joined (outerFrom (task (now (file .entry)) (now (nodes .entry)) (now (items .entry)) count total row (now (title .entry))) 0)) r ⌝ }
 {
     let mut next = to;
@@ -338,7 +338,7 @@ fn put_file(
         &mut metadata,
         &mut inner,
     );
-    if tree == TOO_LARGE {
+    if tree == SIZE_STOP {
         return tree;
     }
     let mut scratch = [0u8; 1];
@@ -488,7 +488,7 @@ fn write_titled(
         return Corrected::Refused(refusal, 0);
     }
     let size = put_titled(out, file, nodes, items, count, total, row, title);
-    if TOO_LARGE <= size {
+    if SIZE_STOP <= size {
         return Corrected::Refused(cursor::RESULT_TOO_LARGE, 0);
     }
     if out.len() < size {

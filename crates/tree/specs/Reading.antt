@@ -105,7 +105,7 @@ unfoldable pub takenFrom : List Node → (p end : ℕ) → ℕ
 takenFrom [] p end = end
 takenFrom (r ∷ rs) p end = cond (eqb (r .detached) 1 && ltb p (r .start + r .size)) (min (max p (r .start)) (takenFrom rs p end)) (takenFrom rs p end)
 
--- the node at p, which is named at `named`
+-- the node at p, to which the number at `offset` leads
 unfoldable pub detachedAt : Limits → Header → (size : ℕ) → Events → (p offset : ℕ) → P Made
 detachedAt lim h size log p offset = detached (context lim h size) (partEnd h size p) (takenFrom (nodesOf log) p (partEnd h size p)) offset (madeBy log)
 
