@@ -4,19 +4,19 @@ use mathlib.Core.Path.{_≡_, refl, sym, ap, ap₂, _∙_, subst}
 use mathlib.Core.List.{List, map}
 use Prim.Native.Nat.{ℕ, zero, suc, _-_, _≤_}
 use native.Mathlib.Omega.{arith}
-use lib.ListN.{length, take, replicate}
+use lib.ListN.{length, getD, take, replicate}
 use lib.Seq.{sets, take-all, length-take-le}
 use Rattle.cursor.specs.declared.Node.{Node}
 use Rattle.cursor.specs.declared.Item.{Item}
 use Rattle.header.specs.Header.{Header}
-use Rattle.room.specs.Room.{padded}
+use Rattle.room.specs.Room.{Result, padded}
 use Rattle.room.proofs.Sets.{sets-zeros}
 use Rattle.tree.specs.Reading.{rows}
 use Rattle.tree.specs.Hidden.{DifferInPrivate}
 use Rattle.find.specs.Find.{Wanted, standard, custom}
-use Rattle.promises.specs.Promises.{Question, writes, Outcome, reads, outcome, AlikeIn}
+use Rattle.promises.specs.Promises.{Question, about, Outcome, saying, lent, reads, outcome, EachAlike}
 use Rattle.promises.specs.Calls.{Called}
-use Rattle.promises.proofs.Kept.{called, outcome-alike}
+use Rattle.promises.proofs.Kept.{called, demand3}
 use Rattle.capi.specs.Fit.{fit, asked, Leaves}
 
 -- ---- the words in the buffer
@@ -34,8 +34,8 @@ pub part-is : (room size : ℕ) (ws : List ℕ) → room ≡ size → take (room
 part-is room size ws e = ap (λ k. take k ws) (let z : room - 0 ≡ size = omega arith in z)
 
 -- the answer's words, once its case is known
-pub put-as : {A : Type 0} (words : A → List ℕ) (size : ℕ) {a : List ℕ} (r : A) {r′ : A} → r ≡ r′ → a ≡ fit size (words r′) → a ≡ fit size (words r)
-put-as words size r e k = k ∙ ap (λ v. fit size (words v)) (sym e)
+pub put-as : {A E : Type 0} (values : A → List ℕ) (told : E → Result A) (size : ℕ) {a : List ℕ} (r : E) {r′ : E} → r ≡ r′ → a ≡ fit size (saying values (told r′)) → a ≡ fit size (saying values (told r))
+put-as values told size r e k = k ∙ ap (λ v. fit size (saying values (told v))) (sym e)
 
 -- ---- what a call leaves
 
@@ -57,12 +57,13 @@ module _ (q : Wanted → (row : ℕ) → Question) (kind number : ℕ) (name : L
 
 -- ---- demand 3 of two calls, whatever their tables and buffers held
 
-pub calls-alike : (q : Question) (lent lent′ : List (List ℕ)) → map length lent′ ≡ map length lent → (f g : List ℕ) (h : Header) (ns : List Node) (is : List Item)
-    → reads (map length lent) f ≡ rows h ns is → DifferInPrivate h ns is f g → {a a′ b b′ : List ℕ} → length b ≡ length a → {left left′ : List (List ℕ)}
-    → Leaves q f lent left a a′ → Leaves q g lent′ left′ b b′ → (b′ ≡ a′) × AlikeIn (writes q) f g left left′
-calls-alike q lent lent′ e f g h ns is r d {a} z {left} {left′} l k =
-    let w = outcome-alike (map length lent) f g h ns is r d q in
-    let o : outcome q (map length lent′) g ≡ outcome q (map length lent) g = ap (λ ls. outcome q ls g) e in (
-      k .answers ∙ ap₂ (λ n (v : Outcome). fit n (v .answer)) z o ∙ ap (fit (length a)) (w .0) ∙ sym (l .answers),
-      subst (λ v. AlikeIn (writes q) f g v left′) (sym (l .holding)) (subst (AlikeIn (writes q) f g (outcome q (map length lent) f .holds)) (sym (k .holding ∙ ap (λ (v : Outcome). v .holds) o)) (w .1)),
+pub calls-alike : (q : Question) (lends lends′ : List (List ℕ)) → map length lends′ ≡ map length lends → (f g : List ℕ) (h : Header) (ns : List Node) (is : List Item)
+    → reads (map length lends) f ≡ rows h ns is → DifferInPrivate h ns is f g → {a a′ b b′ : List ℕ} → length b ≡ length a → {left left′ : List (List ℕ)}
+    → Leaves q f lends left a a′ → Leaves q g lends′ left′ b b′ → (b′ ≡ a′) × EachAlike (map length lends) (getD (outcome q (map length lends) f .answer) 2 0) (lent (about q) (map length lends) f) left left′
+calls-alike q lends lends′ e f g h ns is r d {a} z {left} {left′} l k =
+    let (_, (same, alike), _) = demand3 q (map length lends) f g h ns is r d in
+    let o : outcome q (map length lends′) g ≡ outcome q (map length lends) g = ap (λ ls. outcome q ls g) e in
+    let Alike : (x y : List (List ℕ)) → Type 0 = EachAlike (map length lends) (getD (outcome q (map length lends) f .answer) 2 0) (lent (about q) (map length lends) f) in (
+      k .answers ∙ ap₂ (λ n (v : Outcome). fit n (v .answer)) z o ∙ ap (fit (length a)) same ∙ sym (l .answers),
+      subst (λ v. Alike v left′) (sym (l .holding)) (subst (Alike (outcome q (map length lends) f .holds)) (sym (k .holding ∙ ap (λ (v : Outcome). v .holds) o)) alike),
     )

@@ -8,19 +8,15 @@ ghost use Rattle.find.specs.Told as told_find;
 ghost use Rattle.resolve.specs.Told as told_resolve;
 ghost use Rattle.description.specs.Told as told_description;
 ghost use Rattle.mobile.specs.Told as told_mobile;
-ghost use Rattle.sheet.specs.Told as told_sheet;
-ghost use Rattle.retitle.specs.Told as told_retitle;
-ghost use Rattle.unicode.specs.Told as told_unicode;
-ghost use Rattle.promises.specs.Promises.{readTree, findItem, findOwn, resolveRow, countFor, judgeMobile, writeSheet, correctTitle, toUtf8, toUtf16};
+ghost use Rattle.room.specs.Told as told_room;
+ghost use Rattle.promises.specs.Promises.{readTree, findItem, findOwn, resolveRow, countFor, judgeMobile, writeSheet, correctTitle, toUtf8, toUtf16, saying, treeValues, itemValues, resourceValues, oneValue};
 ghost use Rattle.capi.specs.Fit.{fit, asked, Leaves};
 use description::Counted;
 use find::Found;
 use mobile::Judged;
 use resolve::Resolved;
-use retitle::Corrected;
-use sheet::Written;
+use room::Written;
 use tree::Answer;
-use unicode::Converted;
 
 // Sets the buffer to the words, as many as fit, and zeros.
 fn put_answer(answer: &mut [u64], words: &[u64])
@@ -45,7 +41,7 @@ fn put_refusal(answer: &mut [u64], number: u64, place: usize)
 
 // The tree's version, nodes and item rows.
 fn put_tree(answer: &mut [u64], said: Answer)
-    ensures { λ _. ⌜ now (answer .exit) ≡ fit (length (now (answer .entry))) (told_tree.words said) ⌝ }
+    ensures { λ _. ⌜ now (answer .exit) ≡ fit (length (now (answer .entry))) (saying treeValues (told_tree.told said)) ⌝ }
 {
     match said {
         Answer::Refused(n, p) => put_refusal(answer, n, p),
@@ -58,7 +54,7 @@ fn put_tree(answer: &mut [u64], said: Answer)
 
 // The item row that was found, and its ten words.
 fn put_found(answer: &mut [u64], said: Found)
-    ensures { λ _. ⌜ now (answer .exit) ≡ fit (length (now (answer .entry))) (told_find.words said) ⌝ }
+    ensures { λ _. ⌜ now (answer .exit) ≡ fit (length (now (answer .entry))) (saying itemValues (told_find.told said)) ⌝ }
 {
     match said {
         Found::Refused(n, p) => put_refusal(answer, n, p),
@@ -85,7 +81,7 @@ fn put_found(answer: &mut [u64], said: Found)
 
 // The resource's place and length, its row, the references followed.
 fn put_resolved(answer: &mut [u64], said: Resolved)
-    ensures { λ _. ⌜ now (answer .exit) ≡ fit (length (now (answer .entry))) (told_resolve.words said) ⌝ }
+    ensures { λ _. ⌜ now (answer .exit) ≡ fit (length (now (answer .entry))) (saying resourceValues (told_resolve.told said)) ⌝ }
 {
     match said {
         Resolved::Refused(n, p) => put_refusal(answer, n, p),
@@ -98,7 +94,7 @@ fn put_resolved(answer: &mut [u64], said: Resolved)
 
 // The count.
 fn put_counted(answer: &mut [u64], said: Counted)
-    ensures { λ _. ⌜ now (answer .exit) ≡ fit (length (now (answer .entry))) (told_description.words said) ⌝ }
+    ensures { λ _. ⌜ now (answer .exit) ≡ fit (length (now (answer .entry))) (saying oneValue (told_description.told said)) ⌝ }
 {
     match said {
         Counted::Refused(n, p) => put_refusal(answer, n, p),
@@ -111,7 +107,7 @@ fn put_counted(answer: &mut [u64], said: Counted)
 
 // The verdict.
 fn put_judged(answer: &mut [u64], said: Judged)
-    ensures { λ _. ⌜ now (answer .exit) ≡ fit (length (now (answer .entry))) (told_mobile.words said) ⌝ }
+    ensures { λ _. ⌜ now (answer .exit) ≡ fit (length (now (answer .entry))) (saying oneValue (told_mobile.told said)) ⌝ }
 {
     match said {
         Judged::Refused(n, p) => put_refusal(answer, n, p),
@@ -124,38 +120,12 @@ fn put_judged(answer: &mut [u64], said: Judged)
 
 // The number of bytes written.
 fn put_written(answer: &mut [u64], said: Written)
-    ensures { λ _. ⌜ now (answer .exit) ≡ fit (length (now (answer .entry))) (told_sheet.words said) ⌝ }
+    ensures { λ _. ⌜ now (answer .exit) ≡ fit (length (now (answer .entry))) (saying oneValue (told_room.told said)) ⌝ }
 {
     match said {
         Written::Refused(n, p) => put_refusal(answer, n, p),
         Written::Bytes(n) => {
             let words = [0, 0, n as u64];
-            put_answer(answer, &words);
-        }
-    }
-}
-
-// The number of bytes of the new file.
-fn put_corrected(answer: &mut [u64], said: Corrected)
-    ensures { λ _. ⌜ now (answer .exit) ≡ fit (length (now (answer .entry))) (told_retitle.words said) ⌝ }
-{
-    match said {
-        Corrected::Refused(n, p) => put_refusal(answer, n, p),
-        Corrected::File(size) => {
-            let words = [0, 0, size as u64];
-            put_answer(answer, &words);
-        }
-    }
-}
-
-// The number of bytes converted to.
-fn put_converted(answer: &mut [u64], said: Converted)
-    ensures { λ _. ⌜ now (answer .exit) ≡ fit (length (now (answer .entry))) (told_unicode.words said) ⌝ }
-{
-    match said {
-        Converted::Refused(n, p) => put_refusal(answer, n, p),
-        Converted::Bytes(count) => {
-            let words = [0, 0, count as u64];
             put_answer(answer, &words);
         }
     }
@@ -287,7 +257,7 @@ pub extern "C" fn xmf_correct_title(
 )
     ensures { λ _. ⌜ Leaves (correctTitle row (now (title .entry))) (now (file .entry)) (now (nodes .entry) ∷ now (items .entry) ∷ now (out .entry) ∷ []) (now (nodes .exit) ∷ now (items .exit) ∷ now (out .exit) ∷ []) (now (answer .entry)) (now (answer .exit)) ⌝ }
 {
-    put_corrected(
+    put_written(
         answer,
         retitle::correct_title(file, nodes, items, row, title, out),
     );
@@ -299,7 +269,7 @@ pub extern "C" fn xmf_correct_title(
 pub extern "C" fn xmf_utf16_to_utf8(units: &[u8], text: &mut [u8], answer: &mut [u64])
     ensures { λ _. ⌜ Leaves (toUtf8 (now (units .entry))) [] (now (text .entry) ∷ []) (now (text .exit) ∷ []) (now (answer .entry)) (now (answer .exit)) ⌝ }
 {
-    put_converted(answer, unicode::to_utf8(units, text));
+    put_written(answer, unicode::to_utf8(units, text));
 }
 
 // Converts UTF-8 into UTF-16, high byte first. Answer: bytes written.
@@ -307,5 +277,5 @@ pub extern "C" fn xmf_utf16_to_utf8(units: &[u8], text: &mut [u8], answer: &mut 
 pub extern "C" fn xmf_utf8_to_utf16(text: &[u8], units: &mut [u8], answer: &mut [u64])
     ensures { λ _. ⌜ Leaves (toUtf16 (now (text .entry))) [] (now (units .entry) ∷ []) (now (units .exit) ∷ []) (now (answer .entry)) (now (answer .exit)) ⌝ }
 {
-    put_converted(answer, unicode::to_utf16(text, units));
+    put_written(answer, unicode::to_utf16(text, units));
 }

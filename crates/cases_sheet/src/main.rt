@@ -2,7 +2,7 @@
 ghost use Prim.Native.Nat.{_≤_};
 ghost use lib.ListN.{length};
 use libc::STDIN_FILENO;
-use sheet::Written;
+use room::Written;
 
 // Lends the first `n` node words, the first `m` item words and the first `room` bytes.
 fn write(

@@ -2,7 +2,7 @@
 ghost use Prim.Native.Nat.{_≤_};
 ghost use lib.ListN.{length};
 use libc::STDIN_FILENO;
-use retitle::Corrected;
+use room::Written;
 
 // The most bytes that a case lends for the new file.
 const LONGEST: usize = 65536;
@@ -28,10 +28,10 @@ fn read_asked(line: &[u8]) -> Asked
 }
 
 // Puts an answer, with the bytes of the new file, or none of them where it is longer than the bytes that were lent.
-fn put_answer(out: &mut [u8], answer: Corrected, bytes: &[u8]) -> usize {
+fn put_answer(out: &mut [u8], answer: Written, bytes: &[u8]) -> usize {
     match answer {
-        Corrected::Refused(number, place) => casetext::put_refusal(out, 0, number, place),
-        Corrected::File(count) => {
+        Written::Refused(number, place) => casetext::put_refusal(out, 0, number, place),
+        Written::Bytes(count) => {
             let end = casetext::put(out, 0, b"ok ");
             if count > bytes.len() {
                 return end;
@@ -52,7 +52,7 @@ fn correct(
     title: &[u8],
     bytes: &mut [u8],
     room: usize,
-) -> Corrected
+) -> Written
     requires { ⌜ (n ≤ length (now nodes)) × (m ≤ length (now items)) × (room ≤ length (now bytes)) ⌝ }
 {
     retitle::correct_title(

@@ -2,13 +2,13 @@
 ghost use Prim.Native.Nat.{_≤_};
 ghost use lib.ListN.{length};
 use libc::STDIN_FILENO;
-use unicode::Converted;
+use room::Written;
 
 // Puts an answer, with the bytes that were written.
-fn put_answer(out: &mut [u8], answer: Converted, bytes: &[u8]) -> usize {
+fn put_answer(out: &mut [u8], answer: Written, bytes: &[u8]) -> usize {
     match answer {
-        Converted::Refused(number, place) => casetext::put_refusal(out, 0, number, place),
-        Converted::Bytes(count) => {
+        Written::Refused(number, place) => casetext::put_refusal(out, 0, number, place),
+        Written::Bytes(count) => {
             let end = casetext::put(out, 0, b"ok ");
             if count > bytes.len() {
                 return end;
@@ -19,7 +19,7 @@ fn put_answer(out: &mut [u8], answer: Converted, bytes: &[u8]) -> usize {
 }
 
 // Lends the first `room` bytes.
-fn convert(wide: bool, given: &[u8], bytes: &mut [u8], room: usize) -> Converted
+fn convert(wide: bool, given: &[u8], bytes: &mut [u8], room: usize) -> Written
     requires { ⌜ room ≤ length (now bytes) ⌝ }
 {
     if wide {

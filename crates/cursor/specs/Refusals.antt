@@ -1,4 +1,4 @@
--- The refusal list of 01: each number with its name, and which of them each question may give. The code has the same names in capitals.
+-- The refusal list of 01 and of 02: each number with its name. The code has the same names in capitals. The reader's list is here; a question's own stands with the question.
 -- Assumes nothing.
 use mathlib.Core.Bool.{Bool, true, false, not, _&&_, _||_}
 use mathlib.Core.List.{List, [], _∷_}
@@ -90,6 +90,37 @@ badDescription = 25
 abbrev pub badText : ℕ
 badText = 26
 
+-- call 0, or no card with this desk, call and boat
+abbrev pub noSuchCard : ℕ
+noSuchCard = 27
+
+abbrev pub noFreeCard : ℕ
+noFreeCard = 28
+
+abbrev pub alreadyThere : ℕ
+alreadyThere = 29
+
+abbrev pub sheetTooLong : ℕ
+sheetTooLong = 30
+
+-- a sheet that is not well formed; its place is a line's number
+abbrev pub badSheet : ℕ
+badSheet = 31
+
+abbrev pub tooManyFiles : ℕ
+tooManyFiles = 32
+
+-- fewer than ten bytes, no tag, or not version 4
+abbrev pub notATag : ℕ
+notATag = 33
+
+-- of a tag: cut short, a size byte of 80h or more, too small an extended size
+abbrev pub badTag : ℕ
+badTag = 34
+
+abbrev pub unsynchronised : ℕ
+unsynchronised = 35
+
 -- a node has reference 2 or 3
 abbrev pub refersElsewhere : ℕ
 refersElsewhere = 36
@@ -101,7 +132,11 @@ notATitle = 37
 abbrev pub resultTooLarge : ℕ
 resultTooLarge = 38
 
--- ---- who gives which
+-- too many cards, or a taken card that is faulty
+abbrev pub damagedShelf : ℕ
+damagedShelf = 39
+
+-- ---- lists
 
 -- the reader, and so every question over a file
 abbrev pub ofReader : List ℕ
@@ -109,32 +144,11 @@ ofReader =
     notXmf ∷ badVersion ∷ cutShort ∷ badNumber ∷ wrongLength ∷ badType ∷ badTree ∷ badNode ∷ tooDeep ∷ noRowLeft
     ∷ badContents ∷ badUnpacker ∷ badReference ∷ badFolder ∷ bytesLeft ∷ badTarget ∷ tooLarge ∷ badDetached ∷ []
 
--- a question of its own, after the reader
-abbrev pub ofFind : List ℕ
-ofFind = noSuchRow ∷ noSuchItem ∷ []
-
-abbrev pub ofResolve : List ℕ
-ofResolve = noSuchRow ∷ endsAtFolder ∷ endsAtUri ∷ tooManyHops ∷ []
-
-abbrev pub ofCount : List ℕ
-ofCount = noSuchRow ∷ noSuchItem ∷ badDescription ∷ []
-
-abbrev pub ofSheet : List ℕ
-ofSheet = noRoom ∷ []
-
--- the correction of a title
-abbrev pub ofTitle : List ℕ
-ofTitle = noSuchRow ∷ refersElsewhere ∷ notATitle ∷ resultTooLarge ∷ noRoom ∷ []
-
--- a conversion of text, which has no file
-abbrev pub ofConversion : List ℕ
-ofConversion = badText ∷ noRoom ∷ []
-
 -- those that name no field: their place is 0
 abbrev pub placeless : List ℕ
 placeless =
-    tooLarge ∷ noSuchRow ∷ endsAtFolder ∷ endsAtUri ∷ tooManyHops ∷ noRoom ∷ noSuchItem
-    ∷ refersElsewhere ∷ notATitle ∷ resultTooLarge ∷ []
+    tooLarge ∷ noSuchRow ∷ endsAtFolder ∷ endsAtUri ∷ tooManyHops ∷ noRoom ∷ noSuchItem ∷ noSuchCard ∷ noFreeCard ∷ alreadyThere
+    ∷ sheetTooLong ∷ tooManyFiles ∷ refersElsewhere ∷ notATitle ∷ resultTooLarge ∷ damagedShelf ∷ []
 
 -- ---- membership
 

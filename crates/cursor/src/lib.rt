@@ -60,11 +60,31 @@ pub const BAD_DESCRIPTION: u64 = 25;
 
 pub const BAD_TEXT: u64 = 26;
 
+pub const NO_SUCH_CARD: u64 = 27;
+
+pub const NO_FREE_CARD: u64 = 28;
+
+pub const ALREADY_THERE: u64 = 29;
+
+pub const SHEET_TOO_LONG: u64 = 30;
+
+pub const BAD_SHEET: u64 = 31;
+
+pub const TOO_MANY_FILES: u64 = 32;
+
+pub const NOT_A_TAG: u64 = 33;
+
+pub const BAD_TAG: u64 = 34;
+
+pub const UNSYNCHRONISED: u64 = 35;
+
 pub const REFERS_ELSEWHERE: u64 = 36;
 
 pub const NOT_A_TITLE: u64 = 37;
 
 pub const RESULT_TOO_LARGE: u64 = 38;
+
+pub const DAMAGED_SHELF: u64 = 39;
 
 // The words of a row, and how many rows and levels there may be.
 pub const NODE_WIDTH: usize = 13;

@@ -2,3 +2,4 @@ pub mod Tests
 pub mod Ways
 pub mod Exits
 pub mod Depends
+pub mod Listed

@@ -1,7 +1,7 @@
 -- The count that an item row gives for a channel and a resource, both numbered from 0 (02, E4).
 -- Assumes nothing.
 use mathlib.Core.Bool.{Bool, true, false, cond, _&&_}
-use mathlib.Core.List.{List}
+use mathlib.Core.List.{List, [], _∷_}
 use Prim.Native.Nat.{ℕ, _+_, _*_}
 use lib.Dec.{ltb}
 use lib.ListN.{length, getD}
@@ -45,3 +45,7 @@ countRow f row c r is = cond (ltb row (length is)) (countIn f c r (itemAt is row
 -- the question
 unfoldable pub countFor : (row channel resource : ℕ) → Asks ℕ
 countFor row c r f h ns is = countRow f row c r is
+
+-- its own refusals, after the reader's
+abbrev pub refusals : List ℕ
+refusals = noSuchRow ∷ noSuchItem ∷ badDescription ∷ []

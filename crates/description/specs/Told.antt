@@ -1,6 +1,6 @@
 -- What the code's answers say.
 -- Assumes nothing.
-use mathlib.Core.List.{List, [], _∷_}
+use mathlib.Core.List.{List}
 use Prim.Native.Nat.{ℕ}
 use lib.ListN.{getD}
 use Rattle.cursor.specs.Machine.{Out, ok, refused}
@@ -11,15 +11,6 @@ use Rattle.description.specs.declared.Counted.the-variants as counted
 abbrev pub told : Counted → Result ℕ
 told (counted.Count n) = good n
 told (counted.Refused n p) = bad n p
-
-abbrev pub answerOf : Result ℕ → Counted
-answerOf (good n) = counted.Count n
-answerOf (bad n p) = counted.Refused n p
-
--- the answer in words: refusal number (0: none) and place; then the count
-abbrev pub words : Counted → List ℕ
-words (counted.Count n) = 0 ∷ 0 ∷ n ∷ []
-words (counted.Refused n p) = n ∷ p ∷ []
 
 -- of numbers that were read, the one at i
 abbrev pub picked : ℕ → Out (List ℕ) → Out ℕ

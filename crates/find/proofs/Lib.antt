@@ -2,3 +2,4 @@ pub mod Matching
 pub mod Looking
 pub mod Climbing
 pub mod Depends
+pub mod Listed

@@ -73,3 +73,7 @@ find w row f h ns is = cond (ltb row (length ns)) (nearest f w ns is row) (bad n
 -- the row's own item
 unfoldable pub findOwn : Wanted → (row : ℕ) → Asks Numbered
 findOwn w row f h ns is = cond (ltb row (length ns)) (look f w is row) (bad noSuchRow 0)
+
+-- the refusals of both, after the reader's
+abbrev pub refusals : List ℕ
+refusals = noSuchRow ∷ noSuchItem ∷ []

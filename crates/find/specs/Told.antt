@@ -1,11 +1,10 @@
 -- What the code's field and answer say.
 -- Assumes nothing.
 use mathlib.Core.Bool.{Bool, true, false}
-use mathlib.Core.List.{List, [], _∷_}
+use mathlib.Core.List.{List}
 use Prim.Native.Nat.{ℕ}
 use Rattle.cursor.specs.declared.Node.{Node}
 use Rattle.cursor.specs.declared.Item.{Item}
-use Rattle.metadata.specs.Tables.{itemWords}
 use Rattle.tree.specs.Asking.{Asks, Result, good, bad}
 use Rattle.tree.specs.Own.{Numbered}
 use Rattle.find.specs.Find.{Wanted, standard, custom, look, nearest, find, findOwn}
@@ -22,15 +21,6 @@ wantedOf field.Custom name = custom name
 abbrev pub told : Found → Result Numbered
 told (found.Item i r) = good (record { row = i; item = r })
 told (found.Refused n p) = bad n p
-
-abbrev pub answerOf : Result Numbered → Found
-answerOf (good a) = found.Item (a .row) (a .item)
-answerOf (bad n p) = found.Refused n p
-
--- the answer in words: refusal number (0: none) and place; then the item row's number and its ten words
-abbrev pub words : Found → List ℕ
-words (found.Item i r) = 0 ∷ 0 ∷ i ∷ itemWords r
-words (found.Refused n p) = n ∷ p ∷ []
 
 -- what is found from node k: the nearest item, or its own
 abbrev pub foundBy : (climbs : Bool) → List ℕ → Wanted → List Node → List Item → ℕ → Result Numbered

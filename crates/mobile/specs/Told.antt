@@ -15,15 +15,6 @@ abbrev pub told : Judged → Result ℕ
 told (judged.Verdict v) = good v
 told (judged.Refused n p) = bad n p
 
-abbrev pub answerOf : Result ℕ → Judged
-answerOf (good v) = judged.Verdict v
-answerOf (bad n p) = judged.Refused n p
-
--- the answer in words: refusal number (0: none) and place; then the verdict
-abbrev pub words : Judged → List ℕ
-words (judged.Verdict v) = 0 ∷ 0 ∷ v ∷ []
-words (judged.Refused n p) = n ∷ p ∷ []
-
 -- r is the first row of the field in a part, or its end
 pub record NextRow (field : ℕ) (is : List Item) (from end r : ℕ) : Type 0 where
   pub low : from ≤ r

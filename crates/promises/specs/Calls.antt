@@ -2,15 +2,18 @@
 -- before. f is the file; t, u and v are what the tables and the buffer finally hold.
 -- Assumes nothing.
 use mathlib.Core.Path.{_≡_}
-use mathlib.Core.List.{List, [], _∷_}
+use mathlib.Core.List.{List, [], _∷_, map}
 use Prim.Native.Nat.{ℕ}
-use lib.ListN.{length}
-use Rattle.metadata.specs.Tables.{limits}
-use Rattle.tree.specs.Reading.{answerOf}
+use lib.ListN.{length, getD}
+use Rattle.cursor.specs.declared.Node.{Node}
+use Rattle.cursor.specs.declared.Item.{Item}
+use Rattle.header.specs.Header.{Header}
+use Rattle.tree.specs.Reading.{rows, answerOf}
 use Rattle.tree.specs.Told as tree
 use Rattle.tree.specs.declared.Answer.{Answer}
-use Rattle.tree.specs.Asking.{reads, nodesRead, itemsRead, answered, nodesLeft, itemsLeft}
-use Rattle.find.specs.Find.{standard, custom, find, findOwn}
+use Rattle.tree.specs.Asking.{Asks, Result, reads, nodesRead, itemsRead, answered, nodesLeft, itemsLeft, nodesWritten, itemsWritten}
+use Rattle.tree.specs.Hidden.{DifferInPrivate}
+use Rattle.find.specs.Find.{Wanted, find, findOwn}
 use Rattle.find.specs.Told as found
 use Rattle.find.specs.declared.Found.{Found}
 use Rattle.resolve.specs.Resolve.{resolve, part}
@@ -23,91 +26,95 @@ use Rattle.mobile.specs.Mobile.{mobile}
 use Rattle.mobile.specs.Told as judged
 use Rattle.mobile.specs.declared.Judged.{Judged}
 use Rattle.sheet.specs.Sheet.{write}
-use Rattle.sheet.specs.Told as written
-use Rattle.sheet.specs.declared.Written.{Written}
 use Rattle.title.specs.Title as title
-use Rattle.retitle.specs.Told as corrected
-use Rattle.retitle.specs.declared.Corrected.{Corrected}
 use Rattle.room.specs.Room as room
+use Rattle.room.specs.Told as written
+use Rattle.room.specs.declared.Written.{Written}
 use Rattle.unicode.specs.Unicode as unicode
-use Rattle.unicode.specs.Told as converted
-use Rattle.unicode.specs.declared.Converted.{Converted}
 use Rattle.promises.specs.Promises as promises
-use Rattle.promises.specs.Promises.{Question, readTree, findItem, resolveRow, judgeMobile, writeSheet, correctTitle, toUtf8, toUtf16, Outcome}
+use Rattle.promises.specs.Promises.{Question, readTree, findItem, resolveRow, judgeMobile, writeSheet, correctTitle, toUtf8, toUtf16, Outcome, saying, treeValues, itemValues, resourceValues, oneValue, about, outcome, OnlyThere, OutcomesAlike}
+
+-- what a call left: the answer's words, and the tables and buffers
+abbrev pub left : {A : Type 0} → (values : A → List ℕ) → Result A → List (List ℕ) → Outcome
+left values r holds = record { answer = saying values r; holds = holds }
+
+-- a call over a file with two tables
+pub record Over {A : Type 0} (question : Asks A) (nodes items f : List ℕ) (says : Result A) (t u : List ℕ) : Type 0 where
+  pub answers : says ≡ answered nodes items f question
+  pub in-nodes : t ≡ nodesLeft nodes items f question
+  pub in-items : u ≡ itemsLeft nodes items f question
+
+-- a call that fills a buffer with what it was to write
+pub record Fills (bytes : Result (List ℕ)) (buffer : List ℕ) (says : Result ℕ) (v : List ℕ) : Type 0 where
+  pub answers : says ≡ room.counted bytes
+  pub in-buffer : v ≡ room.kept (length buffer) bytes
 
 -- a call that was made: its question, the tables and buffers lent, as they were, the file, and what it left
 pub data Called : Question → (lent : List (List ℕ)) → (file : List ℕ) → Outcome → Type 0 where
   -- tree::read_tree
   read-tree : {nodes items f t u : List ℕ} (r : Answer)
       → r ≡ answerOf (reads nodes items f) → t ≡ nodesRead nodes items f → u ≡ itemsRead nodes items f
-      → Called readTree (nodes ∷ items ∷ []) f (record { answer = tree.words r; holds = t ∷ u ∷ [] })
-  -- find::find_standard
-  find-standard : {nodes items f t u : List ℕ} (row number : ℕ) (r : Found)
-      → found.told r ≡ answered nodes items f (find (standard number) row)
-      → t ≡ nodesLeft nodes items f (find (standard number) row)
-      → u ≡ itemsLeft nodes items f (find (standard number) row)
-      → Called (findItem (standard number) row) (nodes ∷ items ∷ []) f (record { answer = found.words r; holds = t ∷ u ∷ [] })
-  -- find::find_custom
-  find-custom : {nodes items f t u : List ℕ} (row : ℕ) (name : List ℕ) (r : Found)
-      → found.told r ≡ answered nodes items f (find (custom name) row)
-      → t ≡ nodesLeft nodes items f (find (custom name) row)
-      → u ≡ itemsLeft nodes items f (find (custom name) row)
-      → Called (findItem (custom name) row) (nodes ∷ items ∷ []) f (record { answer = found.words r; holds = t ∷ u ∷ [] })
-  -- find::find_own_standard
-  find-own-standard : {nodes items f t u : List ℕ} (row number : ℕ) (r : Found)
-      → found.told r ≡ answered nodes items f (findOwn (standard number) row)
-      → t ≡ nodesLeft nodes items f (findOwn (standard number) row)
-      → u ≡ itemsLeft nodes items f (findOwn (standard number) row)
-      → Called (promises.findOwn (standard number) row) (nodes ∷ items ∷ []) f (record { answer = found.words r; holds = t ∷ u ∷ [] })
-  -- find::find_own_custom
-  find-own-custom : {nodes items f t u : List ℕ} (row : ℕ) (name : List ℕ) (r : Found)
-      → found.told r ≡ answered nodes items f (findOwn (custom name) row)
-      → t ≡ nodesLeft nodes items f (findOwn (custom name) row)
-      → u ≡ itemsLeft nodes items f (findOwn (custom name) row)
-      → Called (promises.findOwn (custom name) row) (nodes ∷ items ∷ []) f (record { answer = found.words r; holds = t ∷ u ∷ [] })
+      → Called readTree (nodes ∷ items ∷ []) f (left treeValues (tree.told r) (t ∷ u ∷ []))
+  -- find::find_standard with w a standard number, find::find_custom with w a custom name
+  find-item : {nodes items f t u : List ℕ} (w : Wanted) (row : ℕ) (r : Found)
+      → Over (find w row) nodes items f (found.told r) t u
+      → Called (findItem w row) (nodes ∷ items ∷ []) f (left itemValues (found.told r) (t ∷ u ∷ []))
+  -- find::find_own_standard and find::find_own_custom
+  find-own : {nodes items f t u : List ℕ} (w : Wanted) (row : ℕ) (r : Found)
+      → Over (findOwn w row) nodes items f (found.told r) t u
+      → Called (promises.findOwn w row) (nodes ∷ items ∷ []) f (left itemValues (found.told r) (t ∷ u ∷ []))
   -- resolve::resolve
   resolve-row : {nodes items f t u : List ℕ} (row : ℕ) (r : Resolved)
-      → resolved.told r ≡ answered nodes items f (resolve row)
-      → t ≡ nodesLeft nodes items f (resolve row)
-      → u ≡ itemsLeft nodes items f (resolve row)
-      → Called (resolveRow row) (nodes ∷ items ∷ []) f (record { answer = resolved.words r; holds = t ∷ u ∷ [] })
+      → Over (resolve row) nodes items f (resolved.told r) t u
+      → Called (resolveRow row) (nodes ∷ items ∷ []) f (left resourceValues (resolved.told r) (t ∷ u ∷ []))
   -- description::count_for
   count-for : {nodes items f t u : List ℕ} (item channel resource : ℕ) (r : Counted)
-      → counted.told r ≡ answered nodes items f (countFor item channel resource)
-      → t ≡ nodesLeft nodes items f (countFor item channel resource)
-      → u ≡ itemsLeft nodes items f (countFor item channel resource)
-      → Called (promises.countFor item channel resource) (nodes ∷ items ∷ []) f (record { answer = counted.words r; holds = t ∷ u ∷ [] })
+      → Over (countFor item channel resource) nodes items f (counted.told r) t u
+      → Called (promises.countFor item channel resource) (nodes ∷ items ∷ []) f (left oneValue (counted.told r) (t ∷ u ∷ []))
   -- mobile::judge
   judge : {nodes items f t u : List ℕ} (r : Judged)
-      → judged.told r ≡ answered nodes items f mobile
-      → t ≡ nodesLeft nodes items f mobile
-      → u ≡ itemsLeft nodes items f mobile
-      → Called judgeMobile (nodes ∷ items ∷ []) f (record { answer = judged.words r; holds = t ∷ u ∷ [] })
+      → Over mobile nodes items f (judged.told r) t u
+      → Called judgeMobile (nodes ∷ items ∷ []) f (left oneValue (judged.told r) (t ∷ u ∷ []))
   -- sheet::write_sheet
   write-sheet : {nodes items sheet f t u v : List ℕ} (r : Written)
-      → written.told r ≡ room.counted (answered nodes items f (write (length sheet)))
-      → t ≡ nodesLeft nodes items f (write (length sheet))
-      → u ≡ itemsLeft nodes items f (write (length sheet))
-      → v ≡ room.kept (length sheet) (answered nodes items f (write (length sheet)))
-      → Called writeSheet (nodes ∷ items ∷ sheet ∷ []) f (record { answer = written.words r; holds = t ∷ u ∷ v ∷ [] })
+      → Fills (answered nodes items f (write (length sheet))) sheet (written.told r) v
+      → t ≡ nodesLeft nodes items f (write (length sheet)) → u ≡ itemsLeft nodes items f (write (length sheet))
+      → Called writeSheet (nodes ∷ items ∷ sheet ∷ []) f (left oneValue (written.told r) (t ∷ u ∷ v ∷ []))
   -- retitle::correct_title
-  correct-title : {nodes items out f t u v : List ℕ} (item : ℕ) (text : List ℕ) (r : Corrected)
-      → corrected.told r ≡ room.counted (answered nodes items f (title.correctTitle item text (length out)))
-      → t ≡ corrected.titledNodes (length nodes) (limits (length nodes) (length items)) (answered nodes items f (title.correctTitle item text (length out)))
-      → u ≡ corrected.titledItems (length items) (limits (length nodes) (length items)) (answered nodes items f (title.correctTitle item text (length out)))
-      → v ≡ room.kept (length out) (answered nodes items f (title.correctTitle item text (length out)))
-      → Called (correctTitle item text) (nodes ∷ items ∷ out ∷ []) f (record { answer = corrected.words r; holds = t ∷ u ∷ v ∷ [] })
+  correct-title : {nodes items out f t u v : List ℕ} (item : ℕ) (text : List ℕ) (r : Written)
+      → Fills (answered nodes items f (title.correctTitle item text (length out))) out (written.told r) v
+      → t ≡ nodesWritten nodes items (answered nodes items f (title.correctTitle item text (length out)))
+      → u ≡ itemsWritten nodes items (answered nodes items f (title.correctTitle item text (length out)))
+      → Called (correctTitle item text) (nodes ∷ items ∷ out ∷ []) f (left oneValue (written.told r) (t ∷ u ∷ v ∷ []))
   -- unicode::to_utf8
-  to-utf8 : {buffer f units v : List ℕ} (r : Converted)
-      → converted.told r ≡ room.counted (room.fitting (length buffer) (unicode.toUtf8 units)) → v ≡ room.kept (length buffer) (room.fitting (length buffer) (unicode.toUtf8 units))
-      → Called (toUtf8 units) (buffer ∷ []) f (record { answer = converted.words r; holds = v ∷ [] })
+  to-utf8 : {buffer f units v : List ℕ} (r : Written)
+      → Fills (room.fitting (length buffer) (unicode.toUtf8 units)) buffer (written.told r) v
+      → Called (toUtf8 units) (buffer ∷ []) f (left oneValue (written.told r) (v ∷ []))
   -- unicode::to_utf16
-  to-utf16 : {buffer f text v : List ℕ} (r : Converted)
-      → converted.told r ≡ room.counted (room.fitting (length buffer) (unicode.toUtf16 text)) → v ≡ room.kept (length buffer) (room.fitting (length buffer) (unicode.toUtf16 text))
-      → Called (toUtf16 text) (buffer ∷ []) f (record { answer = converted.words r; holds = v ∷ [] })
+  to-utf16 : {buffer f text v : List ℕ} (r : Written)
+      → Fills (room.fitting (length buffer) (unicode.toUtf16 text)) buffer (written.told r) v
+      → Called (toUtf16 text) (buffer ∷ []) f (left oneValue (written.told r) (v ∷ []))
 
 -- resolve::resource, the second call of resolve, which gave `bytes`
 pub record Given (row : ℕ) (nodes items f bytes t u : List ℕ) : Type 0 where
   pub gives : bytes ≡ part f (answered nodes items f (resolve row))
   pub in-nodes : t ≡ nodesLeft nodes items f (resolve row)
   pub in-items : u ≡ itemsLeft nodes items f (resolve row)
+
+-- ---- What is promised of calls, whatever their tables and buffers held.
+
+-- Demand 2: each call leaves its question's outcome.
+abbrev pub EachLeaves : Type 0
+EachLeaves = (q : Question) (lends : List (List ℕ)) (f : List ℕ) (o : Outcome) → Called q lends f o → o ≡ outcome q (map length lends) f
+
+-- Demand 3 of two calls with tables and buffers of the same sizes.
+abbrev pub CallsAlike : Type 0
+CallsAlike = (q : Question) (lends lends′ : List (List ℕ)) → map length lends′ ≡ map length lends → (f g : List ℕ) (o o′ : Outcome) (h : Header) (ns : List Node) (is : List Item)
+    → promises.reads (map length lends) f ≡ rows h ns is → DifferInPrivate h ns is f g → Called q lends f o → Called q lends′ g o′
+    → OutcomesAlike (about q) (map length lends) f o o′
+
+-- And of two second calls of resolve: the tables are the same, and the parts differ only where the files do.
+abbrev pub PartsAlike : Type 0
+PartsAlike = (row : ℕ) (nodes items nodes′ items′ : List ℕ) → length nodes′ ≡ length nodes → length items′ ≡ length items → (f g x y t t′ u u′ : List ℕ) (h : Header) (ns : List Node) (is : List Item)
+    → promises.reads (length nodes ∷ length items ∷ []) f ≡ rows h ns is → DifferInPrivate h ns is f g → Given row nodes items f x t u → Given row nodes′ items′ g y t′ u′
+    → (t′ ≡ t) × (u′ ≡ u) × OnlyThere f g (getD (outcome (resolveRow row) (length nodes ∷ length items ∷ []) f .answer) 2 0) x y

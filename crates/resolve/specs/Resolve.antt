@@ -1,7 +1,7 @@
 -- The question Resolve (01, Questions): where a row's resource is. It is answered of the node rows alone: no definition before `resolve` takes the file.
 -- Assumes nothing.
 use mathlib.Core.Bool.{cond, not}
-use mathlib.Core.List.{List, []}
+use mathlib.Core.List.{List, [], _∷_}
 use Prim.Native.Nat.{ℕ, zero, suc, _+_}
 use lib.Dec.{ltb, eqb}
 use lib.ListN.{length, take, drop}
@@ -53,3 +53,7 @@ resolve row f h ns is = resolveRow row ns
 unfoldable pub part : List ℕ → Result Resource → List ℕ
 part f (good r) = take (r .size) (drop (r .place) f)
 part f (bad n p) = []
+
+-- its own refusals, after the reader's
+abbrev pub refusals : List ℕ
+refusals = noSuchRow ∷ endsAtFolder ∷ endsAtUri ∷ tooManyHops ∷ []

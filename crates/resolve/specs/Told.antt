@@ -1,7 +1,7 @@
 -- What the code's answer says, and what the code needs of the rows of an accepted file.
 -- Assumes nothing.
 use mathlib.Core.Path.{_≡_}
-use mathlib.Core.List.{List, [], _∷_}
+use mathlib.Core.List.{List}
 use Prim.Native.Nat.{ℕ, _<_}
 use lib.ListN.{length}
 use Rattle.cursor.specs.declared.Node.{Node}
@@ -14,15 +14,6 @@ use Rattle.resolve.specs.declared.Resolved.the-variants as resolved
 abbrev pub told : Resolved → Result Resource
 told (resolved.At place size row hops) = good (record { place = place .0; size = size; row = row; hops = hops })
 told (resolved.Refused n p) = bad n p
-
-abbrev pub answerOf : Result Resource → Resolved
-answerOf (good a) = resolved.At (record { 0 = a .place }) (a .size) (a .row) (a .hops)
-answerOf (bad n p) = resolved.Refused n p
-
--- the answer in words: refusal number (0: none) and place; then place, length, row, references followed
-abbrev pub words : Resolved → List ℕ
-words (resolved.At place size row hops) = 0 ∷ 0 ∷ place .0 ∷ size ∷ row ∷ hops ∷ []
-words (resolved.Refused n p) = n ∷ p ∷ []
 
 -- each reference 3 leads to a row
 abbrev pub Linked : List Node → Type 0

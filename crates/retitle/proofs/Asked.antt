@@ -19,7 +19,7 @@ use Rattle.metadata.specs.declared.Limits.{Limits}
 use Rattle.room.specs.Room.{Result, good, bad, padded, counted, kept}
 use Rattle.tree.specs.Rows.{itemAt, nodesIn, itemsIn}
 use Rattle.tree.specs.Reading.{rows, readFile, readOf, nodeTable, itemTable}
-use Rattle.tree.specs.Asking.{ask, keptNodes, keptItems}
+use Rattle.tree.specs.Asking.{ask, keptNodes, keptItems, writtenNodes, writtenItems}
 use Rattle.tree.specs.declared.Summary.{Summary}
 use Rattle.tree.specs.declared.Read.{Read}
 use Rattle.tree.specs.declared.Read.the-variants as read
@@ -29,9 +29,10 @@ use Rattle.room.specs.Counts.{Counts}
 use Rattle.room.proofs.Counting.{counts-exact}
 use Rattle.retitle.specs.Passes.{sizeStop}
 use Rattle.retitle.specs.Stands.{Stands, refusalOf}
-use Rattle.retitle.specs.Told.{told, titledNodes, titledItems, Fills, Wrote}
-use Rattle.retitle.specs.declared.Corrected.{Corrected}
-use Rattle.retitle.specs.declared.Corrected.the-variants as corrected
+use Rattle.room.specs.Told.{told}
+use Rattle.retitle.specs.Told.{Fills, Wrote}
+use Rattle.room.specs.declared.Written.{Written}
+use Rattle.room.specs.declared.Written.the-variants as written
 
 -- ---- the rows' refusals
 
@@ -97,7 +98,7 @@ module _ (row : ℕ) (title : List ℕ) (room : ℕ) (f : List ℕ) (h : Header)
         unfolding fitting
         no-room m = rows-allow ∙ rw (lt-leb (2 ^ 28) (length g) small, lt-ltb room (length g) (omega (arith, size-is))) refl
 
-        pub wrote : r ≤ room → Wrote out (corrected.File r) (correctTitle row title room f h ns is)
+        pub wrote : r ≤ room → Wrote out (written.Bytes r) (correctTitle row title room f h ns is)
         unfolding fitting
         wrote m =
             let a : correctTitle row title room f h ns is ≡ good g = rows-allow ∙ rw (lt-leb (2 ^ 28) (length g) small, le-ltb room (length g) (omega (arith, size-is))) refl in
@@ -112,7 +113,7 @@ rows-stay row ns is e z = by-none (leb (length is) row) (elsewhere ns) (isNoTitl
 
 -- ---- the call
 
-wrote-was : {out : List ℕ} {r r′ : Corrected} {o : Result (List ℕ)} → Wrote out r o → r ≡ r′ → Wrote out r′ o
+wrote-was : {out : List ℕ} {r r′ : Written} {o : Result (List ℕ)} → Wrote out r o → r ≡ r′ → Wrote out r′ o
 wrote-was {out} {o = o} w e = subst (λ v. Wrote out v o) e w
 
 -- zeros of a length that was kept
@@ -134,14 +135,14 @@ module _ (f : List ℕ) (nsize isize row : ℕ) (title : List ℕ) (room : ℕ) 
   result = ask (readFile lim f) (correctTitle row title room f)
 
   -- what the call says of its answer, and of the tables and the buffer that it leaves
-  abbrev pub Says : Corrected → List ℕ → List ℕ → List ℕ → Type 0
-  Says a t u out = (told a ≡ counted result) × ((t ≡ titledNodes nsize lim result) × ((u ≡ titledItems isize lim result) × (out ≡ kept room result)))
+  abbrev pub Says : Written → List ℕ → List ℕ → List ℕ → Type 0
+  Says a t u out = (told a ≡ counted result) × ((t ≡ writtenNodes nsize lim result) × ((u ≡ writtenItems isize lim result) × (out ≡ kept room result)))
 
-  says-bad : {n p : ℕ} → result ≡ bad n p → {t u out : List ℕ} → t ≡ replicate nsize 0 → u ≡ replicate isize 0 → out ≡ replicate room 0 → Says (corrected.Refused n p) t u out
-  unfolding counted titledNodes titledItems kept
+  says-bad : {n p : ℕ} → result ≡ bad n p → {t u out : List ℕ} → t ≡ replicate nsize 0 → u ≡ replicate isize 0 → out ≡ replicate room 0 → Says (written.Refused n p) t u out
+  unfolding counted writtenNodes writtenItems kept
   says-bad q a b c = rw q (refl, (a, (b, c)))
 
-  pub asked-refused : {r : Read} → r ≡ readOf (readFile lim f) → {n : ℕ} {p : FilePlace} → r ≡ read.Refused n p → {t u : List ℕ} → t ≡ nodeTable nsize (readFile lim f) → u ≡ itemTable isize (readFile lim f) → {out : List ℕ} → out ≡ replicate room 0 → Says (corrected.Refused n (p .0)) t u out
+  pub asked-refused : {r : Read} → r ≡ readOf (readFile lim f) → {n : ℕ} {p : FilePlace} → r ≡ read.Refused n p → {t u : List ℕ} → t ≡ nodeTable nsize (readFile lim f) → u ≡ itemTable isize (readFile lim f) → {out : List ℕ} → out ≡ replicate room 0 → Says (written.Refused n (p .0)) t u out
   unfolding keptNodes keptItems
   asked-refused e k a b c =
       let q = ask-refused (readFile lim f) e k (correctTitle row title room f) in
@@ -153,18 +154,18 @@ module _ (f : List ℕ) (nsize isize row : ℕ) (title : List ℕ) (room : ℕ) 
     result-is : result ≡ correctTitle row title room f (st .h) (nodesIn (s .nodes) t) (itemsIn (s .items) u)
     result-is = ask-is (reads-as f nsize isize st) (correctTitle row title room f)
 
-    module _ {out : List ℕ} {r : Corrected} (w : Wrote out r (correctTitle row title room f (st .h) (nodesIn (s .nodes) t) (itemsIn (s .items) u))) where
-      pub asked-bad : {n p : ℕ} → r ≡ corrected.Refused n p → {t′ u′ out′ : List ℕ} → t′ ≡ replicate nsize 0 → u′ ≡ replicate isize 0 → out′ ≡ replicate room 0 → Says (corrected.Refused n p) t′ u′ out′
+    module _ {out : List ℕ} {r : Written} (w : Wrote out r (correctTitle row title room f (st .h) (nodesIn (s .nodes) t) (itemsIn (s .items) u))) where
+      pub asked-bad : {n p : ℕ} → r ≡ written.Refused n p → {t′ u′ out′ : List ℕ} → t′ ≡ replicate nsize 0 → u′ ≡ replicate isize 0 → out′ ≡ replicate room 0 → Says (written.Refused n p) t′ u′ out′
       asked-bad k a b c = says-bad (result-is ∙ wrote-was w k .is) a b c
 
-      module _ {n : ℕ} (k : r ≡ corrected.File n) where
+      module _ {n : ℕ} (k : r ≡ written.Bytes n) where
         pub file-inside : n ≤ length out
         file-inside = wrote-was w k .is .3
 
         -- what is written is read again
         pub asked-good : length out ≡ room → {out′ : List ℕ} → out′ ≡ take n out ++ replicate (length out - n) 0 → length t ≡ nsize → length u ≡ isize → {t′ u′ : List ℕ}
-            → t′ ≡ nodeTable (length t) (readFile (limits (length t) (length u)) (take n out′)) → u′ ≡ itemTable (length u) (readFile (limits (length t) (length u)) (take n out′)) → Says (corrected.File n) t′ u′ out′
-        unfolding counted titledNodes titledItems kept padded
+            → t′ ≡ nodeTable (length t) (readFile (limits (length t) (length u)) (take n out′)) → u′ ≡ itemTable (length u) (readFile (limits (length t) (length u)) (take n out′)) → Says (written.Bytes n) t′ u′ out′
+        unfolding counted writtenNodes writtenItems kept padded
         asked-good lo {out′} c lt lu a b =
             let (g, e, size, inside, front) = wrote-was w k .is in
             let q : result ≡ good g = result-is ∙ e in

@@ -12,30 +12,26 @@ ghost use Rattle.metadata.specs.Tables.{nodeWidth, itemWidth, mostNodes, limits
 ghost use Rattle.metadata.specs.declared.Limits.{Limits};
 ghost use Rattle.room.specs.Room.{counted, kept};
 ghost use Rattle.room.specs.Counts.{Counts};
+ghost use Rattle.room.specs.Told.{told};
 ghost use Rattle.tree.specs.Rows.{itemFrom, nodesIn, itemsIn, ItemRows};
 ghost use Rattle.tree.specs.Reading.{rows, readFile};
-ghost use Rattle.tree.specs.Asking.{ask};
+ghost use Rattle.tree.specs.Asking.{answered, nodesWritten, itemsWritten};
 ghost use Rattle.title.specs.Description.{Content, answer, tableText, openingSize, shape};
 ghost use Rattle.title.specs.Text.{itemsText, referenceText, ownText, nodeText, headerSize, lengthBytes, startWith, lastBytes, startAt, fileBytes, fileOf};
 ghost use Rattle.title.specs.Title.{elsewhere, isNoTitle, titledFile, correctTitle};
 ghost use Rattle.contents.specs.Contents.{contentsFrom};
 ghost use Rattle.retitle.specs.Passes.{sizeStop, bodySize, Framed, sumOf, task, Sound, Measured, outerFrom};
 ghost use Rattle.retitle.specs.Stands.{Stands, refusalOf};
-ghost use Rattle.retitle.specs.Told.{told, titledNodes, titledItems, Fills, Wrote};
+ghost use Rattle.retitle.specs.Told.{Fills, Wrote};
 use cursor::Node;
 use header::Headed;
+use room::Written;
 use tree::Read;
 
 // NodeHeaderLength and NodeLength.
 struct Frame {
     header: usize,
     size: usize,
-}
-
-// The number of bytes of the file that was written; or the refusal's number and place.
-pub enum Corrected {
-    File(usize),
-    Refused(u64, usize),
 }
 
 // No file has so many bytes: a size that is measured stops here.
@@ -479,22 +475,22 @@ fn write_titled(
     total: usize,
     row: usize,
     title: &[u8],
-) -> Corrected
+) -> Written
     requires { ⌜ Stands (now file) (now nodes) (now items) count total ⌝ }
     ensures { λ r. ⌜ ((lim : Limits) (h : Header) → readFile lim (now (file .entry)) ≡ rows h (nodesIn count (now (nodes .entry))) (itemsIn total (now (items .entry))) → Wrote (now (out .exit)) r (correctTitle row (now (title .entry)) (length (now (out .entry))) (now (file .entry)) h (nodesIn count (now (nodes .entry))) (itemsIn total (now (items .entry))))) ⌝ }
 {
     let refusal = refusal_of(nodes, items, count, total, row);
     if refusal != 0 {
-        return Corrected::Refused(refusal, 0);
+        return Written::Refused(refusal, 0);
     }
     let size = put_titled(out, file, nodes, items, count, total, row, title);
     if SIZE_STOP <= size {
-        return Corrected::Refused(cursor::RESULT_TOO_LARGE, 0);
+        return Written::Refused(cursor::RESULT_TOO_LARGE, 0);
     }
     if out.len() < size {
-        return Corrected::Refused(cursor::NO_ROOM, 0);
+        return Written::Refused(cursor::NO_ROOM, 0);
     }
-    Corrected::File(size)
+    Written::Bytes(size)
 }
 
 // Writes a file anew with the title as the data of item row `row`, a universal and visible content.
@@ -505,28 +501,28 @@ pub fn correct_title(
     row: usize,
     title: &[u8],
     out: &mut [u8],
-) -> Corrected
-    ensures answer { λ r. ⌜ told r ≡ counted (ask (readFile (limits (length (now (nodes .entry))) (length (now (items .entry)))) (now (file .entry))) (correctTitle row (now (title .entry)) (length (now (out .entry))) (now (file .entry)))) ⌝ }
-    ensures nodes { λ _. ⌜ now (nodes .exit) ≡ titledNodes (length (now (nodes .entry))) (limits (length (now (nodes .entry))) (length (now (items .entry)))) (ask (readFile (limits (length (now (nodes .entry))) (length (now (items .entry)))) (now (file .entry))) (correctTitle row (now (title .entry)) (length (now (out .entry))) (now (file .entry)))) ⌝ }
-    ensures items { λ _. ⌜ now (items .exit) ≡ titledItems (length (now (items .entry))) (limits (length (now (nodes .entry))) (length (now (items .entry)))) (ask (readFile (limits (length (now (nodes .entry))) (length (now (items .entry)))) (now (file .entry))) (correctTitle row (now (title .entry)) (length (now (out .entry))) (now (file .entry)))) ⌝ }
-    ensures out { λ _. ⌜ now (out .exit) ≡ kept (length (now (out .entry))) (ask (readFile (limits (length (now (nodes .entry))) (length (now (items .entry)))) (now (file .entry))) (correctTitle row (now (title .entry)) (length (now (out .entry))) (now (file .entry)))) ⌝ }
+) -> Written
+    ensures answer { λ r. ⌜ told r ≡ counted (answered (now (nodes .entry)) (now (items .entry)) (now (file .entry)) (correctTitle row (now (title .entry)) (length (now (out .entry))))) ⌝ }
+    ensures nodes { λ _. ⌜ now (nodes .exit) ≡ nodesWritten (now (nodes .entry)) (now (items .entry)) (answered (now (nodes .entry)) (now (items .entry)) (now (file .entry)) (correctTitle row (now (title .entry)) (length (now (out .entry))))) ⌝ }
+    ensures items { λ _. ⌜ now (items .exit) ≡ itemsWritten (now (nodes .entry)) (now (items .entry)) (answered (now (nodes .entry)) (now (items .entry)) (now (file .entry)) (correctTitle row (now (title .entry)) (length (now (out .entry))))) ⌝ }
+    ensures out { λ _. ⌜ now (out .exit) ≡ kept (length (now (out .entry))) (answered (now (nodes .entry)) (now (items .entry)) (now (file .entry)) (correctTitle row (now (title .entry)) (length (now (out .entry))))) ⌝ }
 {
     match tree::read_file(file, nodes, items) {
         Read::Refused(n, p) => {
             room::clear_bytes(out);
-            Corrected::Refused(n, p.0)
+            Written::Refused(n, p.0)
         }
         Read::Is(s) => match write_titled(out, file, nodes, items, s.nodes, s.items, row, title) {
-            Corrected::Refused(n, p) => {
+            Written::Refused(n, p) => {
                 tree::clear_all(nodes, items);
                 room::clear_bytes(out);
-                Corrected::Refused(n, p)
+                Written::Refused(n, p)
             }
-            Corrected::File(size) => {
+            Written::Bytes(size) => {
                 room::clear_bytes_from(out, size);
                 let written = &out[..size];
                 tree::read_file(written, nodes, items);
-                Corrected::File(size)
+                Written::Bytes(size)
             }
         },
     }

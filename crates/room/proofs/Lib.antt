@@ -4,3 +4,4 @@ pub mod Zeros
 pub mod Counting
 pub mod Decimal
 pub mod Numbers
+pub mod Listed

@@ -1,3 +1,4 @@
 pub mod Counts
 pub mod Room
+pub mod Told
 pub mod Decimal

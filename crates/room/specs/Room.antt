@@ -3,14 +3,19 @@
 use mathlib.Core.Bool.{cond}
 use mathlib.Core.List.{List, _++_}
 use Prim.Native.Nat.{ℕ, _-_}
-use lib.Dec.{leb}
+use lib.Dec.{T, leb}
 use lib.ListN.{length, replicate}
-use Rattle.cursor.specs.Refusals.{noRoom}
+use Rattle.cursor.specs.Refusals.{noRoom, isAllowed}
 
 -- an answer, or a refusal's number and place
 pub data Result (A : Type 0) : Type 0 where
   good : A → Result A
   bad : ℕ → ℕ → Result A
+
+-- its refusal, if it is one, is among these
+abbrev pub Among : {A : Type 0} → List ℕ → Result A → Type 0
+Among ns (good a) = Unit {0}
+Among ns (bad n p) = T (isAllowed ns n p)
 
 -- what is written, and then zeros to the room's end
 unfoldable pub padded : ℕ → List ℕ → List ℕ

@@ -8,6 +8,12 @@ ghost use Rattle.cursor.specs.Vlq.{part, least, inBytes, vlq};
 ghost use Rattle.room.specs.Counts.{Counts, tooMany};
 ghost use Rattle.room.specs.Decimal.{decimal};
 
+// The answer of every call that fills room: the number of bytes written; or the refusal's number and place.
+pub enum Written {
+    Bytes(usize),
+    Refused(u64, usize),
+}
+
 // Sets every word of the table to 0.
 pub fn clear(table: &mut [u64])
     ensures { λ _. ⌜ now (table .exit) ≡ replicate (length (now (table .entry))) 0 ⌝ }

@@ -18,10 +18,10 @@ use Rattle.tree.specs.declared.Read.the-variants as read
 use Rattle.tree.proofs.Rows.{Standing}
 use Rattle.tree.proofs.Exits as exits
 use Rattle.sheet.specs.Sheet.{linesOf, sheetOf, fitting, write, counted, kept}
-use Rattle.sheet.specs.Told.{told}
+use Rattle.room.specs.Told.{told}
 use Rattle.room.specs.Counts.{Counts, tooMany}
-use Rattle.sheet.specs.declared.Written.{Written}
-use Rattle.sheet.specs.declared.Written.the-variants as written
+use Rattle.room.specs.declared.Written.{Written}
+use Rattle.room.specs.declared.Written.the-variants as written
 use Rattle.room.proofs.Counting.{counts-as, wrote-all, wrote-past}
 
 -- the lines that the code puts are the sheet

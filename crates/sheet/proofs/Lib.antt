@@ -3,3 +3,4 @@ pub mod Escapes
 pub mod Asked
 pub mod Depends
 pub mod Shown
+pub mod Listed

@@ -9,6 +9,7 @@ use Rattle.cursor.specs.Vlq.{part}
 use Rattle.cursor.specs.declared.Node.{Node}
 use Rattle.cursor.specs.declared.Item.{Item}
 use Rattle.room.specs.Room.{Result, good, bad}
+use Rattle.cursor.specs.Refusals.{noRoom}
 unfoldable pub use Rattle.room.specs.Room.{fitting, counted, kept}
 use Rattle.room.specs.Decimal.{decimal}
 use Rattle.header.specs.Header.{Header}
@@ -118,3 +119,7 @@ sheetOf f h ns is = linesOf (h .version) f ns is
 -- the sheet, if a buffer of `room` bytes holds it
 unfoldable pub write : (room : ℕ) → Asks (List ℕ)
 write room f h ns is = fitting room (good (sheetOf f h ns is))
+
+-- its own refusals, after the reader's
+abbrev pub refusals : List ℕ
+refusals = noRoom ∷ []

@@ -8,20 +8,15 @@ ghost use Rattle.metadata.specs.Tables.{nodeWidth, itemWidth};
 ghost use Rattle.tree.specs.Rows.{itemFrom, nodesIn, itemsIn, ItemIn, ItemRows};
 ghost use Rattle.tree.specs.Asking.{answered, nodesLeft, itemsLeft};
 ghost use Rattle.sheet.specs.Sheet.{hexDigits, plain, hexed, escaped, escapedPart, shown, shownOr, unicodeText, number, versionText, firstLine, nodeLine, label, textOf, itemLine, visibleLine, nodeLines, itemLines, linesOf, write, counted, kept};
-ghost use Rattle.sheet.specs.Told.{told};
 ghost use Rattle.room.specs.Counts.{Counts};
+ghost use Rattle.room.specs.Told.{told};
 ghost use Rattle.unicode.specs.Unicode.{utf8, toUtf8, isGood};
 ghost use Rattle.sheet.specs.Inside.{PlainUpTo};
 use cursor::Item;
 use cursor::Node;
+use room::Written;
 use tree::Read;
 use unicode::Character;
-
-// The answer: the number of the sheet's bytes; or the refusal's number and place.
-pub enum Written {
-    Bytes(usize),
-    Refused(u64, usize),
-}
 
 // Puts a tab and a decimal number.
 pub fn put_number(out: &mut [u8], to: usize, n: u64) -> usize

@@ -18,10 +18,11 @@ use Rattle.tree.specs.Asking.{Result, good, bad, ask}
 use Rattle.tree.specs.Hidden.{isHidden}
 use Rattle.title.specs.Description.{Content, content, Shape, shape, Description, described, titled, titledAt, retitled}
 use Rattle.title.specs.Text.{fileText}
-use Rattle.title.specs.Title.{Says, elsewhere, isNoTitle, titledFile, fitting, correctTitle}
+use Rattle.title.specs.Title.{Says, NowhereLonger, elsewhere, isNoTitle, titledFile, fitting, correctTitle}
 use Rattle.title.proofs.Follows.{all-stay, stay-elsewhere}
 use Rattle.title.proofs.Nodes.{AllStay}
 use Rattle.title.proofs.Theorem.{retitled-reads}
+use Rattle.title.proofs.Shortest.{nowhere-longer}
 
 -- ---- twice is once
 
@@ -152,3 +153,15 @@ module _ (lim : Limits) (f : List ℕ) {h : Header} {ns : List Node} {is : List 
       subst (λ v. titledFile i text v (s .header) (s .nodes) (s .items) ≡ v) q
       (same-again i text f h ns is (s .header) (s .nodes) (s .items) (subst (λ v. described v (s .header) (s .nodes) (s .items) ≡ retitled i text (described f h ns is)) (sym q) (s .says))) in
       rw (s .reads) (answers i text room′ g (s .header) (s .nodes) (s .items) (record { there = in′; here = here; title = title; is-file = file; small = c .small; fits = l }))
+
+  -- and is nowhere longer than any other that says the same
+  stays : AllStay (retitled i text (described f h ns is) .nodes)
+  unfolding retitled described
+  stays = all-stay f ns (corrected i text room f h ns is e .here)
+
+  size-of : length g ≤ length (fileText (retitled i text (described f h ns is)))
+  unfolding titledFile
+  size-of = let k = ap length (corrected i text room f h ns is e .is-file) in omega arith
+
+  pub correct-least : {lim′ : Limits} {g′ : List ℕ} (t : Says lim′ g′ (retitled i text (described f h ns is))) → NowhereLonger correct-says t
+  correct-least t = nowhere-longer correct-says t stays size-of

@@ -2,34 +2,38 @@
 -- Assumes nothing.
 use mathlib.Core.Path.{_≡_, refl, sym, ap, ap₂, _∙_, subst}
 use mathlib.Core.Logic.{_⊎_, inl, inr}
-use mathlib.Core.Bool.{Bool, true, false, cond}
+use mathlib.Core.Bool.{Bool, true, false, cond, not, _&&_, _||_}
 use mathlib.Core.List.{List, [], _∷_, _++_, append-assoc, append-nil}
-use Prim.Native.Nat.{ℕ, zero, suc, _+_, _-_, _^_, _≤_, _<_}
+use Prim.Native.Nat.{ℕ, zero, suc, _+_, _-_, _^_, _%_, _≤_, _<_}
 use native.Mathlib.Omega.{arith}
 use native.Mathlib.Decide.{decLt}
-use lib.Dec.{eqb}
+use lib.Dec.{T, eqb}
 use lib.ListN.{length, getD, take, drop, length-append}
 use lib.Seq.{take-at, drop-at}
 use borrow.Author.Tests.{lt-ltb, le-ltb, lt-leb, le-leb, eq-eqb, ne-eqb}
-use Rattle.cursor.specs.Machine.{Prog, ret, refuse, here, byte, pass, Out, ok, refused, Event, seen, passed, run, trace, exec, _>>=_, _>>_, if_then_else_, place, skip, check, turns, many, times}
-use Rattle.cursor.specs.Rows.{Frame, Part, P, Events, inlineSize, metaFrame, unpackFrame, referenceFrame, nodeFrame}
+use Rattle.cursor.specs.Machine.{Prog, ret, refuse, here, byte, pass, Out, ok, refused, Event, seen, passed, run, trace, _>>=_, _>>_, if_then_else_, place, skip, check, turns, many, times}
+use Rattle.cursor.specs.Rows.{Frame, Part, P, Events, hasInline, sizeIf, inlineSize, metaFrame, unpackFrame, referenceFrame, nodeFrame}
 use Rattle.cursor.specs.Leaves as leaves
 use Rattle.cursor.specs.Vlq.{vlq, joined, sized}
-use Rattle.cursor.proofs.Laws.{running, andThen, run-bind, ran, run-many, run-turn, run-turned, afterwards, trace-bind}
-use Rattle.cursor.proofs.Stable.{chain, ends, kept, stable}
+use Rattle.cursor.specs.declared.Node.{Node}
+use Rattle.cursor.specs.declared.Item.{Item}
+use Rattle.cursor.proofs.Laws.{running, ran, run-many, run-turn, run-turned, afterwards, trace-bind}
+use Rattle.cursor.proofs.Stable.{chain, ends, Held, Kept, kept}
 use Rattle.cursor.proofs.Lies.{Lies, lies-left, lies-right, lies-at, lies-as, Stand, stand, stand-sized, sum, joined-length, sized-length}
 use Rattle.cursor.proofs.Back.{number-back, block-back}
 use Rattle.cursor.proofs.Agree.{Agree, AgreeUpTo, agree-on}
 use Rattle.header.specs.Types.{Declared, Known, known, unknown, formatOf}
 use Rattle.metadata.specs.Tables.{plusItem, plusNode}
-use Rattle.metadata.specs.Metadata.{Context, rowOf, field, contents, itemFrame, universal, declaredFormat, version, rowsFor, item, nextItem, metaItems, metadata}
+use Rattle.metadata.specs.Metadata.{Context, kindOf, fieldOf, rowOf, field, contents, itemFrame, universal, declaredFormat, version, rowsFor, item, nextItem, metaItems, metadata}
 use Rattle.metadata.specs.declared.Made.{Made}
 use Rattle.metadata.specs.declared.Label.{Label}
 use Rattle.metadata.specs.declared.Limits.{Limits}
 use Rattle.metadata.specs.declared.Contents.the-variants as contents
 use Rattle.metadata.proofs.Ways.{contents-universal, contents-versions, frame-all}
 use Rattle.tree.specs.Tree.{folder, node, tree}
-use Rattle.title.specs.Description.{Content, Shape}
+use Rattle.tree.specs.Hidden.{isHidden, mayDiffer}
+use Rattle.tree.proofs.Demand.{privateData}
+use Rattle.title.specs.Description.{Content, content, Shape}
 use Rattle.title.specs.Text.{further, fieldText, itemText, universalText, versionText, contentText, itemsText, headerOf, framed, ownText, nodeText, wholeText, outer}
 use Rattle.node.specs.Node.{inTree, head, unpackers, uriPlace, target, reference, rest, front}
 use Rattle.title.proofs.Collecting.{Collected, collect}
@@ -43,45 +47,53 @@ use Rattle.title.proofs.Items as entries
 use Rattle.title.proofs.Items.{Labels, same-label, SameItem, Versions, versionTexts, universal-back, version-back, FieldOk, FieldBack, field-back, Entry, one, several, Opens, further-none, entry-some, entryText, Entries, entryTexts, flat, plusItems, items-text, item-back, metadata-back}
 use Rattle.title.proofs.Pairs.{Each, none, more, each-length, each-take, outer-pair, each-on, fields, number, chosen, block, own-pair, items-pair, header-pair, node-pair, ContentPair, ShapePair, version-pair, universal-pair, field-pair}
 
--- m runs alike on g and k from `at` on
+ok-same : {A : Type 0} {a b : A} {p q : ℕ} → ok a p ≡ ok b q → (a ≡ b) × (p ≡ q)
+ok-same e = (cc, cc)
+
+-- m runs alike on g and k from `at` on: they agree on all that it reads and passes there but for private data
 pub record Runs {A : Type 0} (g k : List ℕ) (m : P A) (at : ℕ) : Type 0 where
-  pub run-same : run m g at ≡ run m k at
-  pub trace-same : trace m g at ≡ trace m k at
+  pub keeps : Kept privateData g k (trace m g at)
+
+held-on : (B : ℕ → Type 0) (es fs : Events) → Held privateData B es → Held privateData B fs → Held privateData B (es ++ fs)
+held-on B [] fs x y = y
+held-on B (seen κ p ∷ es) fs x y = (x .0, held-on B es fs (x .1) y)
+held-on B (passed w p n ∷ es) fs x y = (x .0, held-on B es fs (x .1) y)
 
 module _ {g k : List ℕ} where
   -- what was read agrees
   pub runs-chunk : {A : Type 0} {m : P A} {at : ℕ} {a : A} {q : ℕ} → run m g at ≡ ok a q → AgreeUpTo g k at q → Runs g k m at
-  runs-chunk {m = m} {at = at} e h =
-      let z = ends m g at e in
-      let w = stable (λ _. false) m g k at (kept (λ _. false) g k (trace m g at) at (chain m g at) (λ j lo hi n. h j lo (omega arith))) in
-      record { run-same = w .0; trace-same = w .1 }
+  runs-chunk {m = m} {at = at} e h = let z = ends m g at e in record { keeps = kept privateData g k (trace m g at) at (chain m g at) (λ j lo hi n. h j lo (omega arith)) }
+
+  -- a program that runs alike, and then one that does wherever that ended
+  runs-on : {A C : Type 0} {m : P A} {h : A → P C} {at : ℕ} → Runs g k m at → ((a : A) (q : ℕ) → run m g at ≡ ok a q → Runs g k (h a) q) → Runs g k (m >>= h) at
+  unfolding afterwards
+  runs-on {A} {C} {m} {h} {at} x y = record { keeps = rw (trace-bind m h g at) (held-on _ (trace m g at) (afterwards h g (run m g at)) (x .keeps) (by (run m g at) refl)) }
+    where
+      by : (o : Out A) → run m g at ≡ o → Kept privateData g k (afterwards h g o)
+      by (ok a q) e = y a q e .keeps
+      by (refused n p) e = tt
 
   -- and then another, where the answer is known
   runs-then : {A C : Type 0} {m : P A} (h : A → P C) {at : ℕ} {a : A} {q : ℕ} → run m g at ≡ ok a q → Runs g k m at → Runs g k (h a) q → Runs g k (m >>= h) at
-  unfolding afterwards
-  runs-then {A} {C} {m} h {at} {a} {q} e x y =
-      let e′ : run m k at ≡ ok a q = sym (x .run-same) ∙ e in
-      record {
-        run-same = run-bind m h g at ∙ ap (λ o. andThen o (λ a p. run (h a) g p)) e ∙ y .run-same ∙ sym (run-bind m h k at ∙ ap (λ o. andThen o (λ a p. run (h a) k p)) e′);
-        trace-same = trace-bind m h g at ∙ ap (λ o. trace m g at ++ afterwards h g o) e ∙ ap₂ (λ (u v : Events). u ++ v) (x .trace-same) (y .trace-same) ∙ sym (trace-bind m h k at ∙ ap (λ o. trace m k at ++ afterwards h k o) e′);
-      }
+  runs-then {A} {C} {m} h {at} {a} {q} e x y = runs-on x λ b r z. let (u, v) = ok-same (sym e ∙ z) in rw (← u, ← v) y
 
   runs-ret : {A : Type 0} {a : A} {at : ℕ} → Runs g k (ret a) at
-  unfolding run trace
-  runs-ret = record { run-same = refl; trace-same = refl }
+  unfolding trace
+  runs-ret = record { keeps = tt }
 
   runs-check : {A : Type 0} (b : Bool) (n p : ℕ) {m : P A} {at : ℕ} → Runs g k m at → Runs g k (check b n p >> m) at
-  unfolding run trace _>>=_ _>>_ check
-  runs-check true n p x = record { run-same = x .run-same; trace-same = x .trace-same }
-  runs-check false n p x = record { run-same = refl; trace-same = refl }
+  unfolding trace _>>=_ _>>_ check
+  runs-check true n p x = record { keeps = x .keeps }
+  runs-check false n p x = record { keeps = tt }
 
   runs-place : {A : Type 0} (h : ℕ → P A) (at : ℕ) → Runs g k (h at) at → Runs g k (place >>= h) at
-  unfolding run trace _>>=_ place
-  runs-place h at x = record { run-same = x .run-same; trace-same = x .trace-same }
+  unfolding trace _>>=_ place
+  runs-place h at x = record { keeps = x .keeps }
 
-  runs-skip : {A : Type 0} (w : Part) (n : ℕ) {m : P A} {at : ℕ} → Runs g k m (at + n) → Runs g k (skip w n >> m) at
-  unfolding run trace _>>=_ _>>_ skip
-  runs-skip w n {at = at} x = record { run-same = x .run-same; trace-same = ap (λ (es : Events). passed w at n ∷ es) (x .trace-same) }
+  -- passed over: private, or the same
+  runs-skip : {A : Type 0} (w : Part) (n : ℕ) {m : P A} {at : ℕ} → (T (not (privateData w)) → Agree g k at n) → Runs g k m (at + n) → Runs g k (skip w n >> m) at
+  unfolding trace _>>=_ _>>_ skip
+  runs-skip w n {at = at} h x = record { keeps = (h, x .keeps) }
 
   -- a number that both have there
   pub agree : (p : ℕ) (s : List ℕ) → Lies g p s → Lies k p s → Agree g k p (length s)
@@ -100,40 +112,56 @@ unfolding declaredFormat run
 format-is g p o e q = rw e refl
 
 format-runs : (g k : List ℕ) (p : ℕ) (o : Known) (q : ℕ) → Runs g k (declaredFormat p o) q
-unfolding declaredFormat run trace
-format-runs g k p (known v) q = record { run-same = refl; trace-same = refl }
-format-runs g k p unknown q = record { run-same = refl; trace-same = refl }
+unfolding declaredFormat trace
+format-runs g k p (known v) q = record { keeps = tt }
+format-runs g k p unknown q = record { keeps = tt }
 
 runs-else : {g k : List ℕ} {A : Type 0} {b : Bool} (m : P A) {n : P A} {at : ℕ} → b ≡ false → Runs g k n at → Runs g k (if b then m else n) at
 unfolding if_then_else_
 runs-else {g} {k} m {n} {at} e x = subst (λ c. Runs g k (if c then m else n) at) (sym e) x
 
--- a program that runs alike, and then one that does wherever that ended
-runs-on : {g k : List ℕ} {A C : Type 0} {m : P A} {h : A → P C} {at : ℕ} → Runs g k m at → ((a : A) (q : ℕ) → Runs g k (h a) q) → Runs g k (m >>= h) at
-unfolding afterwards
-runs-on {g} {k} {A} {C} {m} {h} {at} x y = record {
-  run-same = run-bind m h g at ∙ by (run m g at) ∙ ap (λ o. andThen o (λ a p. run (h a) k p)) (x .run-same) ∙ sym (run-bind m h k at);
-  trace-same = trace-bind m h g at ∙ ap₂ (λ (u v : Events). u ++ v) (x .trace-same) (to (run m g at) ∙ ap (afterwards h k) (x .run-same)) ∙ sym (trace-bind m h k at);
-}
-  where
-    by : (o : Out A) → andThen o (λ a p. run (h a) g p) ≡ andThen o (λ a p. run (h a) k p)
-    by (ok a q) = y a q .run-same
-    by (refused n p) = refl
+-- ---- what is private of a content, by its row
 
-    to : (o : Out A) → afterwards h g o ≡ afterwards h k o
-    to (ok a q) = y a q .trace-same
-    to (refused n p) = refl
+-- its data may differ
+unfoldable pub isPrivate : Content → Bool
+isPrivate c = eqb (c .format % 2) 1 && (eqb (c .kind) 1 || not (eqb (c .field) 0 || eqb (c .field) 3 || eqb (c .field) 13))
+
+private-by : (format kind field said : ℕ) → cond (eqb kind 1) 0 field ≡ said
+    → (eqb (format % 2) 1 && (eqb kind 1 || not (eqb field 0 || eqb field 3 || eqb field 13))) ≡ (eqb (format % 2) 1 && (eqb kind 1 || not (eqb said 0 || eqb said 3 || eqb said 13)))
+private-by format kind field said e = by (eqb kind 1) e
+  where
+    by : (b : Bool) → cond b 0 field ≡ said → (eqb (format % 2) 1 && (b || not (eqb field 0 || eqb field 3 || eqb field 13))) ≡ (eqb (format % 2) 1 && (b || not (eqb said 0 || eqb said 3 || eqb said 13)))
+    by true e = refl
+    by false e = rw e refl
+
+pub row-private : (f : List ℕ) (r : Item) → mayDiffer r ≡ isPrivate (content f r)
+unfolding mayDiffer isHidden isPrivate content
+row-private f r = private-by (r .format) (r .kind) (r .field) _ refl
+
+label-private : {g : List ℕ} {l : Label} {c : Content} → Labels g l c → (v d p n : ℕ) → mayDiffer (rowOf l v d (c .format) p n) ≡ isPrivate c
+unfolding mayDiffer isHidden isPrivate
+label-private {l = l} {c = c} lab v d p n = private-by (c .format) (kindOf (l .field)) (fieldOf (l .field)) (c .field) (lab .field) ∙ ap (λ k. eqb (c .format % 2) 1 && (eqb k 1 || not (eqb (c .field) 0 || eqb (c .field) 3 || eqb (c .field) 13))) (lab .kind)
+
+is-false : (b : Bool) → T (not b) → b ≡ false
+is-false true t = absurd t
+is-false false t = refl
 
 -- ---- metadata
 
--- the same but for copied bytes, as many
-abbrev pub Pair : Content → Content → Type 0
-Pair c d = ContentPair (λ _ _. Unit {0}) c d
+-- the same but for copied bytes, as many; the same name, and the same data where it is not private
+pub record Pair (c d : Content) : Type 0 where
+  pub pair : ContentPair (λ _ _. Unit {0}) c d
+  pub named : c .kind ≡ 1 → c .name ≡ d .name
+  pub shown : isPrivate c ≡ false → c .bytes ≡ d .bytes
+
+pub pairs : {cs ds : List Content} → Each Pair cs ds → Each (ContentPair (λ _ _. Unit {0})) cs ds
+pairs none = none
+pairs (more w ws) = more (w .pair) (pairs ws)
 
 module _ {g k : List ℕ} (big : length g < 2 ^ 28) where
-  universal-runs : (x : Context) (l : Label) (end : ℕ) (m : Made) (p : ℕ) {c d : Content} → Pair c d → c .format < 2 ^ 28 → Lies g p (universalText c) → Lies k p (universalText d) → p + length (universalText c) ≤ end → Runs g k (universal x l end m) p
+  universal-runs : (x : Context) (l : Label) (end : ℕ) (m : Made) (p : ℕ) {c d : Content} → Labels g l c → Pair c d → c .format < 2 ^ 28 → Lies g p (universalText c) → Lies k p (universalText d) → p + length (universalText c) ≤ end → Runs g k (universal x l end m) p
   unfolding universal universalText
-  universal-runs x l end m p {c} {d} w fm h h₂ i =
+  universal-runs x l end m p {c} {d} lab w fm h h₂ i =
       let ss : List (List ℕ) = vlq (c .format) ∷ c .bytes ∷ [] in
       let ts : List (List ℕ) = vlq (d .format) ∷ d .bytes ∷ [] in
       let n : ℕ = length (joined ss) in
@@ -145,39 +173,47 @@ module _ {g k : List ℕ} (big : length g < 2 ^ 28) where
       let y = sized-length (joined ss) in
       let z = joined-length ss in
       let z₂ = joined-length ts in
-      let ef = ap (λ v. length (vlq v)) (w .format) in
-      let eb = each-length (w .bytes) in
+      let ef = ap (λ v. length (vlq v)) (w .pair .format) in
+      let eb = each-length (w .pair .bytes) in
       let en : length (joined ts) ≡ n = omega arith in
       let el = ap (λ v. length (vlq v)) en in
       let a = lies-as (ap vlq en) (t₂ .0) in
-      let b : Lies k q (vlq (c .format)) = lies-at (omega arith) (lies-as (ap vlq (sym (w .format))) (s₂ .0)) in
+      let b : Lies k q (vlq (c .format)) = lies-at (omega arith) (lies-as (ap vlq (sym (w .pair .format))) (s₂ .0)) in
       let e₁ = block-back metaFrame 3 end n (t .0) (omega (arith, h .inside)) (omega arith) in
       let e₂ = number-back metaFrame 3 (q + n) (c .format) (s .0) fm (omega arith) in
+      let r : ℕ = q + length (vlq (c .format)) in
+      let shows : T (not (mayDiffer (rowOf l 0 0 (c .format) r (q + n - r)))) → Agree g k r (q + n - r) = λ t.
+      let y₂ : Lies k r (c .bytes) = lies-as (sym (w .shown (sym (label-private lab 0 0 r (q + n - r)) ∙ is-false _ t))) (lies-at (omega arith) (s₂ .1 .0)) in
+      λ j lo hi. agree r (c .bytes) (s .1 .0) y₂ j lo (omega arith) in
       runs-place _ p (runs-check _ _ _ (runs-then _ e₁ (block-runs metaFrame 3 end n (t .0) a (omega (arith, h .inside)) (omega arith))
-      (runs-check _ _ _ (runs-place _ q (runs-then _ e₂ (number-runs metaFrame 3 (q + n) (c .format) (s .0) b fm (omega arith)) (runs-place _ _ (runs-skip _ _ runs-ret)))))))
+      (runs-check _ _ _ (runs-place _ q (runs-then _ e₂ (number-runs metaFrame 3 (q + n) (c .format) (s .0) b fm (omega arith)) (runs-place _ _ (runs-skip _ _ shows runs-ret)))))))
 
-  version-runs : (x : Context) (l : Label) (end before : ℕ) (m : Made) (p : ℕ) {c d : Content} → Pair c d → formatOf (x .types) (c .declared) ≡ known (c .format) → c .declared < 2 ^ 28 → Lies g p (versionText c) → Lies k p (versionText d) → p + length (versionText c) ≤ end
+  version-runs : (x : Context) (l : Label) (end before : ℕ) (m : Made) (p : ℕ) {c d : Content} → Labels g l c → Pair c d → formatOf (x .types) (c .declared) ≡ known (c .format) → c .declared < 2 ^ 28 → Lies g p (versionText c) → Lies k p (versionText d) → p + length (versionText c) ≤ end
       → Runs g k (version x l end before m) p
   unfolding version versionText
-  version-runs x l end before m p {c} {d} w fm dl h h₂ i =
+  version-runs x l end before m p {c} {d} lab w fm dl h h₂ i =
       let n : ℕ = length (c .bytes) in
       let ss : List (List ℕ) = vlq (c .declared) ∷ sized (c .bytes) ∷ [] in
       let ts : List (List ℕ) = vlq (d .declared) ∷ sized (d .bytes) ∷ [] in
       let s = stand ss h in
       let s₂ = stand ts h₂ in
-      let t = stand-sized (c .bytes) (s .1 .0) in
+      let t₁ = stand-sized (c .bytes) (s .1 .0) in
       let t₂ = stand-sized (d .bytes) (s₂ .1 .0) in
       let y = sized-length (c .bytes) in
       let z = joined-length ss in
-      let ed = ap (λ v. length (vlq v)) (w .declared) in
-      let eb = each-length (w .bytes) in
-      let a = lies-as (ap vlq (sym (w .declared))) (s₂ .0) in
+      let ed = ap (λ v. length (vlq v)) (w .pair .declared) in
+      let eb = each-length (w .pair .bytes) in
+      let a = lies-as (ap vlq (sym (w .pair .declared))) (s₂ .0) in
       let q : ℕ = p + length (vlq (c .declared)) in
       let b : Lies k q (vlq n) = lies-at (omega arith) (lies-as (ap vlq (sym eb)) (t₂ .0)) in
       let e₁ = number-back metaFrame 3 end (c .declared) (s .0) dl (omega arith) in
-      let e₂ = block-back metaFrame 3 end n (t .0) (omega (arith, h .inside)) (omega arith) in
+      let e₂ = block-back metaFrame 3 end n (t₁ .0) (omega (arith, h .inside)) (omega arith) in
+      let r : ℕ = q + length (vlq n) in
+      let shows : T (not (mayDiffer (rowOf l (m .items + 1 - before) (c .declared) (c .format) r n))) → Agree g k r n = λ t.
+      let el = ap (λ v. length (vlq v)) eb in
+      agree r (c .bytes) (t₁ .1) (lies-as (sym (w .shown (sym (label-private lab (m .items + 1 - before) (c .declared) r n) ∙ is-false _ t))) (lies-at (omega arith) (t₂ .1))) in
       runs-place _ p (runs-check _ _ _ (runs-then _ e₁ (number-runs metaFrame 3 end (c .declared) (s .0) a dl (omega arith))
-      (runs-then _ (format-is g p _ fm q) (format-runs g k p _ q) (runs-then _ e₂ (block-runs metaFrame 3 end n (t .0) b (omega (arith, h .inside)) (omega arith)) (runs-place _ _ (runs-skip _ _ runs-ret))))))
+      (runs-then _ (format-is g p _ fm q) (format-runs g k p _ q) (runs-then _ e₂ (block-runs metaFrame 3 end n (t₁ .0) b (omega (arith, h .inside)) (omega arith)) (runs-place _ _ (runs-skip _ _ shows runs-ret))))))
 
   versions-runs : (x : Context) (l : Label) (end before : ℕ) (b : Content) → Labels g l b → (cs ds : List Content) (m : Made) (p : ℕ) → Each Pair cs ds → Versions (x .types) b (m .items + 1 - before) cs → before ≤ m .items → m .items + length cs ≤ x .limits .items
       → Lies g p (joined (versionTexts cs)) → Lies k p (joined (versionTexts ds)) → p + length (joined (versionTexts cs)) ≤ end → Runs g k (times (length cs) (version x l end before) m) p
@@ -189,8 +225,8 @@ module _ {g k : List ℕ} (big : length g < 2 ^ 28) where
       let ld = lies-left (versionText d) (joined (versionTexts ds)) h₂ in
       let e₁ = ran (collect g) _ g p (record { nodes = []; items = [] }) (version-back x l end m g p (record { nodes = []; items = [] }) c (same-label lab (v .0)) (omega arith) big before (v .1) (v .2) (v .3) lc (omega arith)) in
       let e : m .items + 1 - before + 1 ≡ m .items + 1 + 1 - before = omega arith in
-      let n : length (versionText d) ≡ length (versionText c) = sym (each-length (version-pair w)) in
-      runs-then _ e₁ (version-runs x l end before m p w (v .2) (v .3) lc ld (omega arith))
+      let n : length (versionText d) ≡ length (versionText c) = sym (each-length (version-pair (w .pair))) in
+      runs-then _ e₁ (version-runs x l end before m p (same-label lab (v .0)) w (v .2) (v .3) lc ld (omega arith))
       (versions-runs x l end before b lab cs ds (plusItem m) (p + length (versionText c)) ws (rw e at (v .4)) (omega arith) (omega arith) (lies-right (versionText c) (joined (versionTexts cs)) h) (lies-at (ap (λ j. p + j) n) (lies-right (versionText d) (joined (versionTexts ds)) h₂)) (omega arith))
 
   -- ---- an item's field and the number of its versions
@@ -199,12 +235,12 @@ module _ {g k : List ℕ} (big : length g < 2 ^ 28) where
   unfolding fieldText field
   field-runs end p {c} {d} w (inl (kd, small, nil)) h h₂ i =
       let fb = field-back g big end p c (inl (kd, small, nil)) h i in
-      let kd₂ : d .kind ≡ 0 = sym (w .kind) ∙ kd in
-      let t₂ : fieldText d ≡ fieldText c = rw (kd, kd₂, w .field) refl in
+      let kd₂ : d .kind ≡ 0 = sym (w .pair .kind) ∙ kd in
+      let t₂ : fieldText d ≡ fieldText c = rw (kd, kd₂, w .pair .field) refl in
       runs-chunk (fb .ran) (agree p (fieldText c) h (lies-as t₂ h₂))
   field-runs end p {c} {d} w (inr (kd, nil, some)) h h₂ i =
       let n : ℕ = length (c .name) in
-      let kd₂ : d .kind ≡ 1 = sym (w .kind) ∙ kd in
+      let kd₂ : d .kind ≡ 1 = sym (w .pair .kind) ∙ kd in
       let t : cond (eqb (c .kind) 1) (sized (c .name)) (joined (vlq 0 ∷ vlq (c .field) ∷ [])) ≡ sized (c .name) = rw kd refl in
       let t₂ : cond (eqb (d .kind) 1) (sized (d .name)) (joined (vlq 0 ∷ vlq (d .field) ∷ [])) ≡ sized (d .name) = rw kd₂ refl in
       let h′ : Lies g p (sized (c .name)) = lies-as t h in
@@ -212,9 +248,11 @@ module _ {g k : List ℕ} (big : length g < 2 ^ 28) where
       let s₂ = stand-sized (d .name) (lies-as t₂ h₂) in
       let z = sized-length (c .name) in
       let i′ : p + length (sized (c .name)) ≤ end = rw t at i in
-      let a : Lies k p (vlq n) = lies-as (ap vlq (sym (each-length (w .name)))) (s₂ .0) in
+      let a : Lies k p (vlq n) = lies-as (ap vlq (sym (each-length (w .pair .name)))) (s₂ .0) in
       let e₁ = block-back metaFrame 3 end n (s .0) (omega (arith, h′ .inside)) (omega arith) in
-      runs-then _ e₁ (block-runs metaFrame 3 end n (s .0) a (omega (arith, h′ .inside)) (omega arith)) (runs-else _ (ne-eqb n 0 (λ (z : n ≡ 0). omega arith)) (runs-place _ _ (runs-skip _ _ runs-ret)))
+      let el = ap (λ v. length (vlq v)) (each-length (w .pair .name)) in
+      let same : Lies k (p + length (vlq n)) (c .name) = lies-as (sym (w .named kd)) (lies-at (omega arith) (s₂ .1)) in
+      runs-then _ e₁ (block-runs metaFrame 3 end n (s .0) a (omega (arith, h′ .inside)) (omega arith)) (runs-else _ (ne-eqb n 0 (λ (z : n ≡ 0). omega arith)) (runs-place _ _ (runs-skip _ _ (λ _. agree (p + length (vlq n)) (c .name) (s .1) same) runs-ret)))
 
   contents-runs : (end p n : ℕ) → n < 2 ^ 28 → Lies g p (vlq n) → Lies k p (vlq n) → p + length (vlq n) ≤ end → Runs g k (contents end) p
   unfolding contents if_then_else_
@@ -229,11 +267,11 @@ module _ {g k : List ℕ} (big : length g < 2 ^ 28) where
   unfolding itemFrame
   frame-runs end p n {c} {d} w f l a b a₂ b₂ i =
       let fb = field-back g big end p c f a (omega arith) in
-      let e = each-length (field-pair (λ _. tt) w) in
+      let e = each-length (field-pair (λ _. tt) (w .pair)) in
       let q : ℕ = p + length (fieldText c) in
       let b₃ : Lies k q (vlq n) = lies-at (omega arith) b₂ in
       let cr = contents-runs end q n l b b₃ i in
-      runs-then _ (fb .ran) (field-runs end p w f a a₂ (omega arith)) (runs-on cr (λ a q. runs-ret))
+      runs-then _ (fb .ran) (field-runs end p w f a a₂ (omega arith)) (runs-on cr (λ a q e. runs-ret))
 
   -- ---- an item
 
@@ -242,7 +280,7 @@ module _ {g k : List ℕ} (big : length g < 2 ^ 28) where
   unfolding item rowsFor
   item-runs x node index end m p (more {b = d} w none) (one {c} f a b v dc fm) h h₂ i r =
       let v′ : c .version ≡ 0 = sym v in
-      let v₂ : d .version ≡ 0 = sym (w .version) ∙ v′ in
+      let v₂ : d .version ≡ 0 = sym (w .pair .version) ∙ v′ in
       let ss : List (List ℕ) = fieldText c ∷ vlq 0 ∷ universalText c ∷ [] in
       let ts : List (List ℕ) = fieldText d ∷ vlq 0 ∷ universalText d ∷ [] in
       let t : entryText (c ∷ []) ≡ joined ss = rw v′ refl in
@@ -254,14 +292,14 @@ module _ {g k : List ℕ} (big : length g < 2 ^ 28) where
       let fb = field-back g big end p c f (s .0) (omega arith) in
       let e₂ = number-back metaFrame 3 end 0 (s .1 .0) (omega arith) (omega arith) in
       let e₁ = sym (frame-all end g p (fb .ran) (sym (contents-universal end g (p + length (fieldText c)) e₂ refl))) in
-      let ef = each-length (field-pair (λ _. tt) w) in
+      let ef = each-length (field-pair (λ _. tt) (w .pair)) in
       let q : ℕ = p + length (fieldText c) + length (vlq 0) in
       let u₂ : Lies k q (universalText d) = lies-at (omega arith) (s₂ .1 .1 .0) in
-      runs-then _ e₁ (frame-runs end p 0 w f (omega arith) (s .0) (s .1 .0) (s₂ .0) (s₂ .1 .0) (omega arith)) (universal-runs x _ end m q w fm (s .1 .1 .0) u₂ (omega arith))
+      runs-then _ e₁ (frame-runs end p 0 w f (omega arith) (s .0) (s .1 .0) (s₂ .0) (s₂ .1 .0) (omega arith)) (universal-runs x _ end m q (fb .labels node index a b) w fm (s .1 .1 .0) u₂ (omega arith))
   item-runs x node index end m p (more {b = d} {t = ds} w ws) (several {c} {cs} f a b v few) h h₂ i r =
       let n : ℕ = suc (length cs) in
       let v′ : c .version ≡ 1 = sym (v .1) in
-      let v₂ : d .version ≡ 1 = sym (w .version) ∙ v′ in
+      let v₂ : d .version ≡ 1 = sym (w .pair .version) ∙ v′ in
       let en : suc (length ds) ≡ n = ap suc (sym (each-length ws)) in
       let ss : List (List ℕ) = fieldText c ∷ vlq n ∷ joined (versionTexts (c ∷ cs)) ∷ [] in
       let ts : List (List ℕ) = fieldText d ∷ vlq n ∷ joined (versionTexts (d ∷ ds)) ∷ [] in
@@ -274,7 +312,7 @@ module _ {g k : List ℕ} (big : length g < 2 ^ 28) where
       let fb = field-back g big end p c f (s .0) (omega arith) in
       let e₂ = number-back metaFrame 3 end n (s .1 .0) few (omega arith) in
       let e₁ = sym (frame-all end g p (fb .ran) (sym (contents-versions end g (p + length (fieldText c)) e₂ (λ z. omega arith)))) in
-      let ef = each-length (field-pair (λ _. tt) w) in
+      let ef = each-length (field-pair (λ _. tt) (w .pair)) in
       let q : ℕ = p + length (fieldText c) + length (vlq n) in
       let u₂ : Lies k q (joined (versionTexts (d ∷ ds))) = lies-at (omega arith) (s₂ .1 .1 .0) in
       let j : 1 ≡ m .items + 1 - m .items = omega arith in
@@ -285,21 +323,21 @@ module _ {g k : List ℕ} (big : length g < 2 ^ 28) where
 
 versions-pair : {cs ds : List Content} → Each Pair cs ds → Each (λ _ _. Unit {0}) (joined (versionTexts cs)) (joined (versionTexts ds))
 versions-pair none = none
-versions-pair (more w ws) = each-on (version-pair w) (versions-pair ws)
+versions-pair (more w ws) = each-on (version-pair (w .pair)) (versions-pair ws)
 
 entry-pair : {cs ds : List Content} → Each Pair cs ds → Each (λ _ _. Unit {0}) (entryText cs) (entryText ds)
 entry-pair none = none
 entry-pair (more {a = c} {b = d} {s = cs} {t = ds} w ws) =
-    fields (λ _. tt) (more (field-pair (λ _. tt) w) (more (number (λ _. tt) (ap₂ (λ (a b : ℕ). cond (eqb a 0) 0 (suc b)) (w .version) (each-length ws)))
-    (more (chosen (λ _. tt) (ap (λ n. eqb n 0) (w .version)) (universal-pair w) (versions-pair (more w ws))) none)))
+    fields (λ _. tt) (more (field-pair (λ _. tt) (w .pair)) (more (number (λ _. tt) (ap₂ (λ (a b : ℕ). cond (eqb a 0) 0 (suc b)) (w .pair .version) (each-length ws)))
+    (more (chosen (λ _. tt) (ap (λ n. eqb n 0) (w .pair .version)) (universal-pair (w .pair)) (versions-pair (more w ws))) none)))
 
 entries-pair : {css dss : List (List Content)} → Each (Each Pair) css dss → Each (λ _ _. Unit {0}) (joined (entryTexts css)) (joined (entryTexts dss))
 entries-pair none = none
 entries-pair (more w ws) = each-on (entry-pair w) (entries-pair ws)
 
 runs-here : {g k : List ℕ} {A : Type 0} (h : ℕ → P A) (at : ℕ) → Runs g k (h at) at → Runs g k (here h) at
-unfolding run trace
-runs-here h at x = record { run-same = x .run-same; trace-same = x .trace-same }
+unfolding trace
+runs-here h at x = record { keeps = x .keeps }
 
 runs-if : {g k : List ℕ} {A : Type 0} {b : Bool} {m : P A} (n : P A) {at : ℕ} → b ≡ true → Runs g k m at → Runs g k (if b then m else n) at
 unfolding if_then_else_
@@ -316,7 +354,7 @@ module _ (g k : List ℕ) (big : length g < 2 ^ 28) (x : Context) (node end : �
   next-runs : (index : ℕ) (m : Made) (p : ℕ) {cs ds : List Content} → Each Pair cs ds → Entry (x .types) node index cs → Lies g p (entryText cs) → Lies k p (entryText ds) → p + length (entryText cs) ≤ end → m .items + length cs ≤ x .limits .items
       → Runs g k (nextItem x node end (record { made = m; index = index })) p
   unfolding nextItem
-  next-runs index m p w e h h₂ i r = runs-on (item-runs big x node index end m p w e h h₂ i r) (λ a q. runs-ret)
+  next-runs index m p w e h h₂ i r = runs-on (item-runs big x node index end m p w e h h₂ i r) (λ a q e. runs-ret)
 
   turns-runs : {index : ℕ} {css dss : List (List Content)} → Each (Each Pair) css dss → Entries (x .types) node index css → (t : ℕ) (m : Made) (p : ℕ) → Lies g p (joined (entryTexts css)) → Lies k p (joined (entryTexts dss))
       → p + length (joined (entryTexts css)) ≡ end → end ≤ p + t → m .items + length (flat css) ≤ x .limits .items → Runs g k (turns t end (nextItem x node end) (record { made = m; index = index })) p
@@ -353,7 +391,7 @@ metadata-runs g k big x node end {css} {dss} w es m p h h₂ i r =
     let b : Lies k q (joined (entryTexts dss)) = lies-at (omega arith) (s₂ .1) in
     let e₁ = block-back metaFrame 8 end n (s .0) (omega (arith, h .inside)) (omega arith) in
     runs-then _ e₁ (block-runs metaFrame 8 end n (s .0) a (omega (arith, h .inside)) (omega arith))
-    (runs-place _ q (runs-on (runs-here _ q (turns-runs g k big x node (q + n) w es (q + n - q) m q (s .1) b refl (omega arith) r)) (λ a q. runs-ret)))
+    (runs-place _ q (runs-on (runs-here _ q (turns-runs g k big x node (q + n) w es (q + n - q) m q (s .1) b refl (omega arith) r)) (λ a q e. runs-ret)))
 
 -- ---- the other side's items, grouped alike
 
@@ -363,7 +401,7 @@ Numbered n (c ∷ cs) = (n ≡ c .version) × Numbered (n + 1) cs
 
 numbered : (types : List Declared) (b : Content) (n : ℕ) {cs ds : List Content} → Each Pair cs ds → Versions types b n cs → Numbered n ds
 numbered types b n none v = tt
-numbered types b n (more w ws) v = (v .1 ∙ w .version, numbered types b (n + 1) ws (v .4))
+numbered types b n (more w ws) v = (v .1 ∙ w .pair .version, numbered types b (n + 1) ws (v .4))
 
 further-all : (n : ℕ) (cs ds : List Content) → 1 < n → Numbered n cs → Opens ds → further (cs ++ ds) ≡ length cs
 unfolding further
@@ -380,18 +418,18 @@ numbered-text n (c ∷ cs) ds l v =
 
 opens-pair : {types : List Declared} {node index : ℕ} {css dss : List (List Content)} → Entries types node index css → Each (Each Pair) css dss → Opens (flat dss)
 opens-pair entries.none none = tt
-opens-pair (entries.more (one f a b v d fm) es) (more (more w none) ws) = omega (arith, w .version)
-opens-pair (entries.more (several f a b v few) es) (more (more w vs) ws) = omega (arith, w .version, v .1)
+opens-pair (entries.more (one f a b v d fm) es) (more (more w none) ws) = omega (arith, w .pair .version)
+opens-pair (entries.more (several f a b v few) es) (more (more w vs) ws) = omega (arith, w .pair .version, v .1)
 
 items-text-pair : {types : List Declared} {node index : ℕ} {css dss : List (List Content)} → Entries types node index css → Each (Each Pair) css dss → itemsText (flat dss) ≡ joined (entryTexts dss)
 unfolding itemsText contentText itemText
 items-text-pair entries.none none = refl
 items-text-pair (entries.more (one {c} f a b v dc fm) es) (more (more {b = d} w none) ws) =
-    let v′ : d .version ≡ 0 = sym (v ∙ w .version) in
+    let v′ : d .version ≡ 0 = sym (v ∙ w .pair .version) in
     let l : d .version ≤ 1 = omega arith in
     simp (le-leb _ _ l, eq-eqb _ _ v′, items-text-pair es ws, append-nil, append-assoc)
 items-text-pair {types} (entries.more (several {c} {cs} f a b v few) es) (more {t = dss} (more {b = d} {t = ds} w vs) ws) =
-    let v′ : d .version ≡ 1 = sym (v .1 ∙ w .version) in
+    let v′ : d .version ≡ 1 = sym (v .1 ∙ w .pair .version) in
     let l : d .version ≤ 1 = omega arith in
     let n : (d .version ≡ 0) → ⊥ = λ z. omega arith in
     let nb = numbered types c 2 vs (v .4) in
@@ -412,9 +450,9 @@ regroup (cs ∷ css) w = let (u, v, e, s, t) = each-split cs (flat css) w in let
 
 -- ---- a node up to its contents
 
--- the same but for copied bytes, as many, and with the same unpackers
+-- the same but for copied bytes, as many, and with the same unpackers and URI
 abbrev pub Shapes : Shape → Shape → Type 0
-Shapes r s = ShapePair (λ _ _. Unit {0}) r s × (r .unpackers ≡ s .unpackers)
+Shapes r s = ShapePair (λ _ _. Unit {0}) r s × (r .unpackers ≡ s .unpackers) × (r .reference ≡ 4 → r .body ≡ s .body)
 
 module _ (g k : List ℕ) (big : length g < 2 ^ 28) where
   reference-runs : (headerEnd size contained stop q : ℕ) {r s : Shape} → Shapes r s → (r .reference ≡ 1) ⊎ ((r .reference ≡ 4) × (contained ≡ 0)) → Lies g q (ownText r) → Lies k q (ownText s) → q + length (ownText r) ≤ stop → Runs g k (reference headerEnd size contained stop) q
@@ -437,11 +475,13 @@ module _ (g k : List ℕ) (big : length g < 2 ^ 28) where
       let z = joined-length (vlq 4 ∷ sized (r .body) ∷ []) in
       let y = ap length t in
       let x = sized-length (r .body) in
+      let el = ap (λ v. length (vlq v)) (each-length (w .0 .body)) in
+      let same : Lies k (q + length (vlq 4) + length (vlq n)) (r .body) = lies-as (sym (w .2 e)) (lies-at (omega arith) (v .1)) in
       let m : Lies k (q + length (vlq 4)) (vlq n) = lies-as (ap vlq (sym (each-length (w .0 .body)))) (v .0) in
       let e₁ = number-back referenceFrame 3 stop 4 (a .0) (omega arith) (omega arith) in
       let e₂ = block-back referenceFrame 3 stop n (u .0) (omega (arith, h .inside)) (omega arith) in
       runs-place _ q (runs-then _ e₁ (number-runs referenceFrame 3 stop 4 (a .0) (b .0) (omega arith) (omega arith)) (runs-check _ _ _ (runs-check _ _ _ (runs-check _ _ _ (runs-else _ refl (runs-else _ refl (runs-else _ refl
-      (runs-then _ e₂ (block-runs referenceFrame 3 stop n (u .0) m (omega (arith, h .inside)) (omega arith)) (runs-place _ _ (runs-skip _ _ runs-ret))))))))))
+      (runs-then _ e₂ (block-runs referenceFrame 3 stop n (u .0) m (omega (arith, h .inside)) (omega arith)) (runs-place _ _ (runs-skip _ _ (λ _. agree (q + length (vlq 4) + length (vlq n)) (r .body) (u .1) same) runs-ret))))))))))
 
   front-runs : (x : Context) (parent depth least end : ℕ) (m : Made) (r s : Shape) (cs ds : List Content) (n p : ℕ) → Front (x .limits) (x .types) parent depth m r cs → Stays r → Shapes r s → Each Pair cs ds
       → headerOf (r .contained) (joined (sized (itemsText cs) ∷ sized (r .unpackers) ∷ [])) (length (ownText r) + n) + (length (ownText r) + n) < 2 ^ 28
@@ -458,7 +498,7 @@ module _ (g k : List ℕ) (big : length g < 2 ^ 28) where
       let a = stand ps h in
       let t = stand (sized (itemsText cs) ∷ sized (r .unpackers) ∷ []) (a .1 .1 .1 .0) in
       let own-long = each-length (own-pair (λ _. tt) (w .0)) in
-      let ip = items-pair (λ _. tt) ws in
+      let ip = items-pair (λ _. tt) (pairs ws) in
       let rp : Each (λ _ _. Unit {0}) rest rest₂ = fields (λ _. tt) (more (block (λ _. tt) ip) (more (block (λ _. tt) (w .0 .unpackers)) none)) in
       let ec : c ≡ length (ownText s) + n = ap (λ v. v + n) own-long in
       let eH : H ≡ headerOf (s .contained) rest₂ (length (ownText s) + n) = header-pair (λ _. tt) (w .0 .contained) rp ec in
@@ -499,7 +539,7 @@ module _ (g k : List ℕ) (big : length g < 2 ^ 28) where
       let o₂ : Lies k (p + H) (ownText s) = lies-at (omega arith) (a₂ .1 .1 .1 .1 .0) in
       let rr = reference-runs (x .headerEnd) (x .size) (r .contained) (p + N) (p + H) w (f .refers stays) o₁ o₂ (omega arith) in
       runs-place _ p (runs-then _ e₁ (runs-chunk e₁ chunk) (runs-then _ e₂ mr
-      (runs-on (runs-then _ e₃ ur (runs-place _ (p + H) (runs-check _ _ _ (runs-on rr (λ a q. runs-ret))))) (λ a q. runs-ret))))
+      (runs-on (runs-then _ e₃ ur (runs-place _ (p + H) (runs-check _ _ _ (runs-on rr (λ a q e. runs-ret))))) (λ a q e. runs-ret))))
 
 -- ---- nodes
 
@@ -532,7 +572,7 @@ outer-first s rs₂ cs₂ u v contained e l z = rw (e, take-at u v (s .rows) l, 
 inner-long : {limits : Limits} {types : List Declared} {d parent n : ℕ} {m : Made} {rs : List Shape} {cs : List Content} {bs : List (List ℕ)} → Nodes limits types d parent m n rs cs bs → (ss : List Shape) (es : List Content) {rs₂ : List Shape} {cs₂ : List Content}
     → Each Shapes (rs ++ ss) rs₂ → Each Pair (cs ++ es) cs₂ → length (joined (take n (outer rs₂ cs₂))) ≡ length (joined bs)
 inner-long {n = n} {rs = rs} {cs = cs} {bs = bs} ns ss es {rs₂} {cs₂} x y =
-    let o = outer-pair (λ _. tt) (each-by (λ a b w. w .0) x) y in
+    let o = outer-pair (λ _. tt) (each-by (λ a b w. w .0) x) (pairs y) in
     let e : take n (outer (rs ++ ss) (cs ++ es)) ≡ bs = ap (take n) (nodes-outer ns ss es) ∙ take-at bs (outer ss es) n (nodes-length ns) in
     sym (each-length (fields (λ _. tt) (subst (λ v. Each (Each (λ _ _. Unit {0})) v (take n (outer rs₂ cs₂))) e (each-take n o))))
 
@@ -548,6 +588,14 @@ exact r cs n h = framed-length (r .contained) (joined (sized (itemsText cs) ∷ 
 node-lies : {g : List ℕ} {p : ℕ} (r : Shape) (cs : List Content) (inner : List ℕ) → Lies g p (wholeText r cs inner) → Lies g p (nodeText r cs (length inner))
 unfolding wholeText
 node-lies r cs inner h = lies-left (nodeText r cs (length inner)) inner h
+
+-- what is passed over with a node's row is private
+inline-private : (g k : List ℕ) (at : ℕ) (r : Node) → T (not (hasInline r)) → Agree g k at (inlineSize r)
+inline-private g k at r = by (hasInline r)
+  where
+    by : (b : Bool) → T (not b) → Agree g k at (sizeIf b (r .extent))
+    by true t = absurd t
+    by false t = λ j lo hi. absurd (omega arith)
 
 module _ (g k : List ℕ) (big : length g < 2 ^ 28) (x : Context) where
   -- a node, where what it holds runs alike
@@ -568,7 +616,7 @@ module _ (g k : List ℕ) (big : length g < 2 ^ 28) (x : Context) where
       let fr = front-runs g k big x parent (16 - d) least end m r s cs ds n p f stays w ws (omega arith) l₁ l₂ (omega arith) (omega arith) in
       let e = ran (collect g) _ g p (record { nodes = []; items = [] }) (b .ran) in
       let cr : Runs g k (times (b .is .row .contained) (node d x (m .nodes) (inTree 0 (p + b .is .row .size))) (plusNode (b .is .made))) (b .next + inlineSize (b .is .row)) = rw (b .past, b .contained, b .size, b .made) c in
-      runs-place _ p (runs-check _ _ _ (runs-then _ e fr (runs-skip _ _ (runs-on cr (λ m q. runs-place _ q (runs-check _ _ _ runs-ret))))))
+      runs-place _ p (runs-check _ _ _ (runs-then _ e fr (runs-skip _ _ (inline-private g k (b .next) (b .is .row)) (runs-on cr (λ m q e. runs-place _ q (runs-check _ _ _ runs-ret))))))
 
   nodes-runs : {d parent n : ℕ} {m : Made} {rs : List Shape} {cs : List Content} {bs : List (List ℕ)} → Nodes (x .limits) (x .types) d parent m n rs cs bs → AllStay rs → (ss : List Shape) (es : List Content) {rs₂ : List Shape} {cs₂ : List Content}
       → Each Shapes (rs ++ ss) rs₂ → Each Pair (cs ++ es) cs₂ → (end p : ℕ) → Lies g p (joined bs) → Lies k p (joined (take n (outer rs₂ cs₂))) → p + length (joined bs) ≤ end → Runs g k (times n (node d x parent (inTree 0 end)) m) p
@@ -590,7 +638,7 @@ module _ (g k : List ℕ) (big : length g < 2 ^ 28) (x : Context) where
       let k₁ : Lies k p (t₂ ++ joined (take n (drop (r .contained) O))) = lies-as (ap joined fo ∙ ap (λ j. wholeText s u (joined (take j O)) ++ joined (take n (drop j O))) (sym hl)) h₂ in
       let lt = whole-length r cs (joined inner) in
       let lt₂ = whole-length s u inner₂ in
-      let np = each-length (node-pair (λ _. tt) (w .0) a (sym il)) in
+      let np = each-length (node-pair (λ _. tt) (w .0) (pairs a) (sym il)) in
       let z = length-append t (joined bs) in
       let g₁ = lies-left t (joined bs) h in
       let k₂ = lies-left t₂ (joined (take n (drop (r .contained) O))) k₁ in
@@ -624,7 +672,7 @@ module _ (g k : List ℕ) (big : length g < 2 ^ 28) (x : Context) where
       let k₂ : Lies k p t₂ = lies-left t₂ _ (lies-as (outer-first s rs₃ cs₂ u v (r .contained) e n₁ (sym hl)) h₂) in
       let lt = whole-length r cs (joined inner) in
       let lt₂ = whole-length s u inner₂ in
-      let np = each-length (node-pair (λ _. tt) (w .0) a (sym il)) in
+      let np = each-length (node-pair (λ _. tt) (w .0) (pairs a) (sym il)) in
       let q : ℕ = p + length (nodeText r cs (length (joined inner))) in
       let al = nodes.alone ys in
       let gi = inner-lies r cs (joined inner) h in

@@ -15,7 +15,7 @@ use Rattle.cursor.specs.Leaves.{next, number}
 use Rattle.cursor.specs.Vlq.{vlq, joined, sized}
 use Rattle.cursor.proofs.Laws.{running}
 use Rattle.cursor.proofs.Wp.{at-end}
-use Rattle.cursor.proofs.Leaves.{any-free}
+use Rattle.cursor.proofs.Leaves.{any-free, number-inside}
 use Rattle.cursor.proofs.Lies.{Lies}
 use Rattle.cursor.proofs.Back.{number-back}
 use Rattle.cursor.proofs.Post.{Post, post-after, post-run, post-step, post-ret, post-refuse, post-if, post-check, post-place}
@@ -24,6 +24,7 @@ use Rattle.header.specs.Types.{Declared}
 use Rattle.header.specs.Header.{four, opening, Edition, edition, fileLength, typesTable, Extent, extent, Header, header}
 use Rattle.header.proofs.Ends.{four-on, extent-on}
 use Rattle.title.specs.Description.{openingSize, tableText}
+use Rattle.title.proofs.Held.{number-fits}
 use Rattle.title.proofs.Tables.{Table, TableSays, table-says, table-back}
 
 -- ---- four bytes as one number
@@ -173,9 +174,43 @@ unfolding check
 check-at f true n p at e = let z = simp running at e in cc
 check-at f false n p at e = let z = simp running at e in let y : _≡_ {A = ℕ} 0 1 = cc in absurd (omega arith)
 
-length-says : (f : List ℕ) (at : ℕ) → Post nothing f (fileLength (length f)) (Holds (λ _ r. (v : ℕ) × (run (number fileFrame 3 (length f)) f at ≡ ok v r))) at tt
+check-true : (f : List ℕ) (b : Bool) (n p at : ℕ) {a : Unit {0}} {q : ℕ} → run {K = Frame} {W = Part} (check b n p) f at ≡ ok a q → b ≡ true
+unfolding check
+check-true f true n p at e = refl
+check-true f false n p at e = let z = simp running at e in let y : _≡_ {A = ℕ} 0 1 = cc in absurd (omega arith)
+
+length-says : (f : List ℕ) (at : ℕ) → Post nothing f (fileLength (length f)) (Holds (λ _ r. (v : ℕ) × (run (number fileFrame 3 (length f)) f at ≡ ok v r) × (v ≡ length f))) at tt
 unfolding fileLength
-length-says f at = post-place _ at (post-step nothing-quiet λ n q e. post-run nothing-quiet λ _ r c. (n, e ∙ ap (ok n) (check-at f _ 5 at q c)))
+length-says f at = post-place _ at (post-step nothing-quiet λ n q e. post-run nothing-quiet λ _ r c. (n, e ∙ ap (ok n) (check-at f _ 5 at q c), eqb-true n (length f) (check-true f _ 5 at q c)))
+
+-- TreeStart took y bytes, TreeEnd z
+abbrev ExtentIn : ℕ → Extent → ℕ → Type 0
+ExtentIn at e q = (y : ℕ) × (z : ℕ) × (1 ≤ y) × (1 ≤ z) × (e .start < 128 ^ y) × (e .last < 128 ^ z) × (at + y + z ≡ e .end)
+
+extent-in : (f : List ℕ) (at : ℕ) → Post nothing f (extent (length f)) (Holds (ExtentIn at)) at tt
+unfolding extent
+extent-in f at =
+    post-place _ at
+    (post-step nothing-quiet λ start q e₁.
+    post-place _ q
+    (post-step nothing-quiet λ last r e₂.
+    post-place _ r (post-check _ _ λ t. post-check _ _ λ u. post-check _ _ λ v. post-ret (
+    let i = number-inside fileFrame 3 (length f) f at e₁ in
+    let j = number-inside fileFrame 3 (length f) f q e₂ in
+    (q - at, r - q, omega arith, omega arith, number-fits fileFrame 3 (length f) f at e₁, number-fits fileFrame 3 (length f) f q e₂, omega arith)))))
+
+-- FileLength, TreeStart and TreeEnd took x, y and z bytes, and the types table no fewer than its text
+pub record HeaderSpans (f : List ℕ) (h : Header) (types : List ℕ) : Type 0 where
+  pub x : ℕ
+  pub y : ℕ
+  pub z : ℕ
+  pub x-some : 1 ≤ x
+  pub y-some : 1 ≤ y
+  pub z-some : 1 ≤ z
+  pub length-fits : length f < 128 ^ x
+  pub start-fits : h .extent .start < 128 ^ y
+  pub last-fits : h .extent .last < 128 ^ z
+  pub holds : openingSize (h .version) + x + length (sized types) + y + z ≤ h .extent .end
 
 pub record HeaderSays (f : List ℕ) (h : Header) : Type 0 where
   pub opened : Opened f (h .version) (h .edition)
@@ -186,6 +221,7 @@ pub record HeaderSays (f : List ℕ) (h : Header) : Type 0 where
   pub stop : ℕ
   pub ran : run (tableText f) f (openingSize (h .version)) ≡ ok (joined (vlq (length texts) ∷ texts)) stop
   pub before : stop ≤ h .extent .end
+  pub spans : HeaderSpans f h (joined (vlq (length texts) ∷ texts))
 
 header-post : (f : List ℕ) → Post nothing f (header (length f)) (Holds (λ h q. HeaderSays f h)) 0 tt
 unfolding header _>>_
@@ -204,6 +240,11 @@ header-post f =
       stop = s;
       ran = subst (λ n. run (tableText f) f n ≡ ok (joined (vlq (length (t .texts)) ∷ t .texts)) s) (y .0) (t .text q (z .1));
       before = (let w = at-end any-free f (extent-on (length f) s) e₅ in omega arith);
+      spans = (
+          let (a, b, some, some₂, fits, fits₂, is) = post-ran (extent-in f s) e₅ in
+          let i = number-inside fileFrame 3 (length f) f q (z .1) in
+          let l : length f < 128 ^ (r - q) = rw (z .2) at (number-fits fileFrame 3 (length f) f q (z .1)) in
+          record { x = r - q; y = a; z = b; x-some = omega arith; y-some = some; z-some = some₂; length-fits = l; start-fits = fits; last-fits = fits₂; holds = omega (arith, y .0, t .short) });
     })
 
 pub header-says : (f : List ℕ) {h : Header} {q : ℕ} → run (header (length f)) f 0 ≡ ok h q → HeaderSays f h

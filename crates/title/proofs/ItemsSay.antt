@@ -7,17 +7,20 @@ use mathlib.Core.List.{List, [], _∷_, _++_, append-assoc, append-nil}
 use Prim.Native.Nat.{ℕ, zero, suc, _+_, _-_, _^_, _≤_, _<_}
 use native.Mathlib.Omega.{arith}
 use lib.Dec.{eqb}
-use lib.ListN.{length, length-append}
-use borrow.Author.Tests.{ltb-true, eqb-false}
-use Rattle.cursor.specs.Machine.{Out, ok, refused, times}
+use lib.ListN.{length, drop, length-append, length-take}
+use borrow.Author.Tests.{ltb-true, eqb-true, eqb-false}
+use Rattle.cursor.specs.Machine.{Out, ok, refused, run, trace, puts, times}
 use Rattle.cursor.specs.Rows.{Part, P, metaFrame}
-use Rattle.cursor.specs.Vlq.{part}
+use Rattle.cursor.specs.Leaves.{number, block}
+use Rattle.cursor.specs.Vlq.{part, vlq, joined, sized}
+use Rattle.cursor.specs.declared.FilePlace.{FilePlace}
 use Rattle.cursor.specs.declared.Item.{Item}
 use Rattle.cursor.proofs.Wp.{Wp, at-end, wp-after, wp-ret, wp-if, wp-place, wp-skip}
 use Rattle.cursor.proofs.Leaves.{Any, any-free, number-on, block-on, number-inside, block-inside}
-use Rattle.cursor.proofs.Quiet.{number-quiet, block-quiet}
-use Rattle.cursor.proofs.Lies.{part-length}
-use Rattle.cursor.proofs.Post.{Post, post-after, post-step, post-weaken, post-ret, post-refuse, post-check, post-place, post-skip, post-many}
+use Rattle.cursor.proofs.Quiet.{still, exec-puts, number-quiet, block-quiet}
+use Rattle.cursor.proofs.Lies.{sum, part-length, joined-length}
+use Rattle.cursor.proofs.Runs.{nothing, nothing-quiet, Holds, post-ran}
+use Rattle.cursor.proofs.Post.{Meets, Post, post-if, post-after, post-step, post-weaken, post-ret, post-refuse, post-check, post-place, post-skip, post-many}
 use Rattle.header.specs.Types.{Declared, Known, known, unknown, formatOf}
 use Rattle.metadata.specs.Tables.{plusItem}
 use Rattle.metadata.specs.Metadata.{Context, kindOf, fieldOf, nameLengthOf, rowOf, field, contents, itemFrame, universal, declaredFormat, version, rowsFor, item, Count, nextItem, metaItems, metadata}
@@ -28,9 +31,12 @@ use Rattle.metadata.specs.declared.Field.the-variants.{Standard, Name}
 use Rattle.metadata.specs.declared.Contents.{Contents}
 use Rattle.metadata.specs.declared.Contents.the-variants as contents
 use Rattle.metadata.proofs.Quiet.{frame-quiet}
+use Rattle.metadata.proofs.Ends.{Nothing, inside-free, items-on}
 use Rattle.title.specs.Description.{Content, content}
+use Rattle.title.specs.Text.{fieldText, universalText, versionText, itemsText}
+use Rattle.title.proofs.Held.{number-held, vlq-up, block-held, sized-held}
 use Rattle.title.proofs.Collecting.{Collected, collectAs, collect-ignores, withItems}
-use Rattle.title.proofs.Items.{SameItem, Versions, plusItems, FieldOk, Entry, one, several, Entries, none, more, flat}
+use Rattle.title.proofs.Items.{SameItem, Versions, versionTexts, plusItems, FieldOk, Entry, one, several, entryText, Entries, none, more, entryTexts, flat, items-text}
 
 -- ---- what is said of a row: all but the data is what the file has
 
@@ -46,6 +52,14 @@ pub record Like (c d : Content) : Type 0 where
 
 abbrev pub Keeps : List ℕ → (ℕ → Item → Content) → Type 0
 Keeps f say = (k : ℕ) (r : Item) → Like (content f r) (say k r)
+
+-- no content is said with more data than its row has; then what is said has no more bytes than were read (`at` to q)
+abbrev pub Fits : (ℕ → Item → Content) → Type 0
+Fits say = (k : ℕ) (r : Item) → length (say k r .bytes) ≤ r .size
+
+pub plainly-fits : (f : List ℕ) → Fits (λ k r. content f r)
+unfolding content
+plainly-fits f k r = omega (arith, length-take (r .size) (drop (r .place) f))
 
 -- a content of the labelled item, whatever its version
 abbrev base : List ℕ → Label → Content
@@ -111,16 +125,96 @@ same-field : {c d : Content} → SameItem c d → FieldOk c → FieldOk d
 same-field s (inl (a, b, e)) = inl (sym (s .kind) ∙ a, rw (s .field) at b, sym (s .name) ∙ e)
 same-field s (inr (a, b, e)) = inr (sym (s .kind) ∙ a, sym (s .field) ∙ b, rw (s .name) at e)
 
--- ---- contents that were added: of these Are holds
+-- ---- it has no more bytes than were read
 
-pub record Added (x : Context) (m : Made) (σ : Collected) (Are : List Content → Type 0) (m′ : Made) (q : ℕ) (τ : Collected) : Type 0 where
+same-text : {c d : Content} → SameItem c d → fieldText c ≡ fieldText d
+unfolding fieldText
+same-text s = rw (s .kind, s .field, s .name) refl
+
+abbrev countOf : Contents → ℕ
+countOf contents.Universal = 0
+countOf (contents.Versions n) = n
+
+module _ (f : List ℕ) (node index end at : ℕ) where
+  -- what is said of a field
+  abbrev fieldSaid : Field → List ℕ
+  fieldSaid g = fieldText (base f (record { node = node; item = index; field = g }))
+
+  standard-said : (k : ℕ) → fieldSaid (Standard k) ≡ joined (vlq 0 ∷ vlq k ∷ [])
+  unfolding fieldText content
+  standard-said k = refl
+
+  name-said : (p : FilePlace) (n : ℕ) → fieldSaid (Name p n) ≡ sized (part f (p .0) n)
+  unfolding fieldText content
+  name-said p n = refl
+
+  field-short : Post nothing f (field end) (Holds (λ g q. at + length (fieldSaid g) ≤ q)) at tt
+  unfolding field
+  field-short =
+      post-step nothing-quiet λ n q b.
+      post-if
+      (λ t. post-step nothing-quiet λ k r e. post-ret (omega (arith, ap length (standard-said k), joined-length (vlq 0 ∷ vlq k ∷ []), block-held metaFrame 3 end f at b 0 (omega arith), number-held metaFrame 3 end f q e)))
+      (λ t. post-place _ q (post-skip _ _ (post-ret (
+      let l = length-take n (drop q f) in
+      omega (arith, ap length (name-said (record { 0 = q }) n), sized-held metaFrame 3 end f at b (part f q n) (omega arith))))))
+
+  contents-short : (p : ℕ) → Post nothing f (contents end) (Holds (λ c q. p + length (vlq (countOf c)) ≤ q)) p tt
+  unfolding contents
+  contents-short p =
+      post-step nothing-quiet λ n q e.
+      post-if (λ t. post-ret (let z = eqb-true n 0 t in omega (arith, number-held metaFrame 3 end f p e, vlq-up 0 n (omega arith)))) (λ t. post-ret (number-held metaFrame 3 end f p e))
+
+  frame-short : Post nothing f (itemFrame end) (Holds (λ i q. at + length (fieldSaid (i .field)) + length (vlq (countOf (i .contents))) ≤ q)) at tt
+  unfolding itemFrame
+  frame-short = post-after field-short λ g q _ a. post-after (contents-short q) λ c r _ b. post-ret (omega arith)
+
+  universal-short : {n q format r : ℕ} → run (block metaFrame 3 end) f at ≡ ok n q → run (number metaFrame 3 (q + n)) f q ≡ ok format r → (c : Content) → format ≡ c .format → length (c .bytes) ≤ q + n - r
+      → at + length (universalText c) ≤ r + (q + n - r)
+  unfolding universalText
+  universal-short {n} {q} {format} {r} b e c i l =
+      let t : List ℕ = joined (vlq (c .format) ∷ c .bytes ∷ []) in
+      let j = number-inside metaFrame 3 (q + n) f q e in
+      let h : q + length (vlq (c .format)) ≤ r = rw i at (number-held metaFrame 3 (q + n) f q e) in
+      let z = joined-length (vlq (c .format) ∷ c .bytes ∷ []) in
+      omega (arith, sized-held metaFrame 3 end f at b t (omega arith))
+
+  version-short : {t q n r : ℕ} → run (number metaFrame 3 end) f at ≡ ok t q → run (block metaFrame 3 end) f q ≡ ok n r → (c : Content) → t ≡ c .declared → length (c .bytes) ≤ n → at + length (versionText c) ≤ r + n
+  unfolding versionText
+  version-short {t} {q} {n} {r} e b c i l =
+      let h : at + length (vlq (c .declared)) ≤ q = rw i at (number-held metaFrame 3 end f at e) in
+      omega (arith, joined-length (vlq (c .declared) ∷ sized (c .bytes) ∷ []), sized-held metaFrame 3 end f q b (c .bytes) l)
+
+versions-length : (cs ds : List Content) → length (joined (versionTexts (cs ++ ds))) ≡ length (joined (versionTexts cs)) + length (joined (versionTexts ds))
+versions-length [] ds = omega arith
+versions-length (c ∷ cs) ds =
+    omega (arith, versions-length cs ds, length-append (versionText c) (joined (versionTexts (cs ++ ds))), length-append (versionText c) (joined (versionTexts cs)))
+
+entries-length : (css : List (List Content)) (cs : List Content) → length (joined (entryTexts (css ++ cs ∷ []))) ≡ length (joined (entryTexts css)) + length (entryText cs)
+entries-length [] cs = omega (arith, length-append (entryText cs) [])
+entries-length (ds ∷ css) cs = omega (arith, entries-length css cs, length-append (entryText ds) (joined (entryTexts (css ++ cs ∷ []))), length-append (entryText ds) (joined (entryTexts css)))
+
+one-length : (c : Content) → 0 ≡ c .version → length (entryText (c ∷ [])) ≡ length (fieldText c) + length (vlq 0) + length (universalText c)
+one-length c v =
+    let v′ : c .version ≡ 0 = sym v in
+    let t : entryText (c ∷ []) ≡ joined (fieldText c ∷ vlq 0 ∷ universalText c ∷ []) = rw v′ refl in
+    omega (arith, ap length t, joined-length (fieldText c ∷ vlq 0 ∷ universalText c ∷ []))
+
+several-length : (c : Content) (cs : List Content) → 1 ≡ c .version → length (entryText (c ∷ cs)) ≡ length (fieldText c) + length (vlq (suc (length cs))) + length (joined (versionTexts (c ∷ cs)))
+several-length c cs v =
+    let v′ : c .version ≡ 1 = sym v in
+    let t : entryText (c ∷ cs) ≡ joined (fieldText c ∷ vlq (suc (length cs)) ∷ joined (versionTexts (c ∷ cs)) ∷ []) = rw v′ refl in
+    omega (arith, ap length t, joined-length (fieldText c ∷ vlq (suc (length cs)) ∷ joined (versionTexts (c ∷ cs)) ∷ []))
+
+-- ---- contents that were added: of these, and of where they end, Are holds
+
+pub record Added (x : Context) (m : Made) (σ : Collected) (Are : List Content → ℕ → Type 0) (m′ : Made) (q : ℕ) (τ : Collected) : Type 0 where
   pub contents : List Content
-  pub are : Are contents
+  pub are : Are contents q
   pub room : m .items + length contents ≤ x .limits .items
   pub made : m′ ≡ plusItems (length contents) m
   pub left : τ ≡ withItems σ contents
 
-added-none : {x : Context} {m : Made} {σ : Collected} {A : List Content → Type 0} {q : ℕ} → A [] → m .items ≤ x .limits .items → Added x m σ A m q σ
+added-none : {x : Context} {m : Made} {σ : Collected} {A : List Content → ℕ → Type 0} {q : ℕ} → A [] q → m .items ≤ x .limits .items → Added x m σ A m q σ
 added-none {m = m} {σ = σ} a l = record {
   contents = [];
   are = a;
@@ -130,7 +224,7 @@ added-none {m = m} {σ = σ} a l = record {
 }
 
 -- and then others
-added-on : {x : Context} {m m₁ m₂ : Made} {σ τ υ : Collected} {A B C : List Content → Type 0} {p q : ℕ} (s : Added x m σ A m₁ p τ) (t : Added x m₁ τ B m₂ q υ) → C (s .contents ++ t .contents) → Added x m σ C m₂ q υ
+added-on : {x : Context} {m m₁ m₂ : Made} {σ τ υ : Collected} {A B C : List Content → ℕ → Type 0} {p q : ℕ} (s : Added x m σ A m₁ p τ) (t : Added x m₁ τ B m₂ q υ) → C (s .contents ++ t .contents) q → Added x m σ C m₂ q υ
 added-on {m = m} {m₁ = m₁} {σ = σ} s t c =
     let z = length-append (s .contents) (t .contents) in
     let k : m₁ .items ≡ m .items + length (s .contents) = ap (λ (w : Made). w .items) (s .made) in
@@ -142,13 +236,13 @@ added-on {m = m} {m₁ = m₁} {σ = σ} s t c =
       left = t .left ∙ ap (λ w. withItems w (t .contents)) (s .left) ∙ rw (append-assoc (σ .items) (s .contents) (t .contents)) refl;
     }
 
-added-room : {x : Context} {m m₁ : Made} {σ τ : Collected} {A : List Content → Type 0} {p : ℕ} → Added x m σ A m₁ p τ → m₁ .items ≤ x .limits .items
+added-room : {x : Context} {m m₁ : Made} {σ τ : Collected} {A : List Content → ℕ → Type 0} {p : ℕ} → Added x m σ A m₁ p τ → m₁ .items ≤ x .limits .items
 added-room s = omega (arith, s .room, ap (λ (w : Made). w .items) (s .made))
 
-added-count : {x : Context} {m m₁ : Made} {σ τ : Collected} {A : List Content → Type 0} {p : ℕ} (s : Added x m σ A m₁ p τ) → m₁ .items ≡ m .items + length (s .contents)
+added-count : {x : Context} {m m₁ : Made} {σ τ : Collected} {A : List Content → ℕ → Type 0} {p : ℕ} (s : Added x m σ A m₁ p τ) → m₁ .items ≡ m .items + length (s .contents)
 added-count s = ap (λ (w : Made). w .items) (s .made)
 
-added-by : {x : Context} {m m₁ : Made} {σ τ : Collected} {A B : List Content → Type 0} {p : ℕ} (s : Added x m σ A m₁ p τ) → B (s .contents) → Added x m σ B m₁ p τ
+added-by : {x : Context} {m m₁ : Made} {σ τ : Collected} {A B : List Content → ℕ → Type 0} {p : ℕ} (s : Added x m σ A m₁ p τ) → B (s .contents) p → Added x m σ B m₁ p τ
 added-by s b = record { contents = s .contents; are = b; room = s .room; made = s .made; left = s .left }
 
 -- ---- a universal content; versions
@@ -159,11 +253,14 @@ versions-on types b k (c ∷ cs) ds v w =
     let e : k + suc (length cs) ≡ k + 1 + length cs = omega arith in
     (v .0, v .1, v .2, v .3, versions-on types b (k + 1) cs ds (v .4) (subst (λ j. Versions types b j ds) e w))
 
-abbrev IsUniversal : List ℕ → Label → List Content → Type 0
-IsUniversal f l cs = (c : Content) × (cs ≡ c ∷ []) × SameItem (base f l) c × (0 ≡ c .version) × (0 ≡ c .declared) × (c .format < 2 ^ 28)
+abbrev IsUniversal : List ℕ → (ℕ → Item → Content) → Label → ℕ → List Content → ℕ → Type 0
+IsUniversal f say l at cs q = (c : Content) × (cs ≡ c ∷ []) × SameItem (base f l) c × (0 ≡ c .version) × (0 ≡ c .declared) × (c .format < 2 ^ 28) × (Fits say → at + length (universalText c) ≤ q)
+
+abbrev AreVersions : (ℕ → Item → Content) → List Declared → Content → (n k at : ℕ) → List Content → ℕ → Type 0
+AreVersions say types b n k at cs q = (length cs ≡ n) × Versions types b k cs × (Fits say → at + length (joined (versionTexts cs)) ≤ q)
 
 module _ {f : List ℕ} {say : ℕ → Item → Content} (keeps : Keeps f say) (x : Context) (l : Label) (end : ℕ) where
-  universal-says : (m : Made) (at : ℕ) (σ : Collected) → Post (collectAs say f) f (universal x l end m) (Added x m σ (IsUniversal f l)) at σ
+  universal-says : (m : Made) (at : ℕ) (σ : Collected) → Post (collectAs say f) f (universal x l end m) (Added x m σ (IsUniversal f say l at)) at σ
   unfolding universal
   universal-says m at σ =
       post-place _ at
@@ -180,25 +277,26 @@ module _ {f : List ℕ} {say : ℕ → Item → Content} (keeps : Keeps f say) (
       let i = like-format f l 0 0 format r (q + n - r) h in
       record {
         contents = c ∷ [];
-        are = (c, refl, like-same f l 0 0 format r (q + n - r) h, like-version f l 0 0 format r (q + n - r) h, like-declared f l 0 0 format r (q + n - r) h, omega arith);
+        are = (c, refl, like-same f l 0 0 format r (q + n - r) h, like-version f l 0 0 format r (q + n - r) h, like-declared f l 0 0 format r (q + n - r) h, omega arith, λ fits. universal-short f (l .node) (l .item) end at b e c i (fits (length (σ .items)) (rowOf l 0 0 format r (q + n - r))));
         room = omega (arith, ltb-true (m .items) (x .limits .items) room);
         made = refl;
         left = refl;
       })))))
 
-  format-says : (p : ℕ) (k : Known) (at : ℕ) (σ : Collected) → Post (collectAs say f) f (declaredFormat p k) (λ fm q τ. (k ≡ known fm) × (τ ≡ σ)) at σ
+  format-says : (p : ℕ) (k : Known) (at : ℕ) (σ : Collected) → Post (collectAs say f) f (declaredFormat p k) (λ fm q τ. (k ≡ known fm) × (τ ≡ σ) × (at ≡ q)) at σ
   unfolding declaredFormat
-  format-says p (known fm) at σ = post-ret (refl, refl)
+  format-says p (known fm) at σ = post-ret (refl, refl, refl)
   format-says p unknown at σ = post-refuse
 
   version-says : (before : ℕ) (m : Made) (at : ℕ) (σ : Collected)
-      → Post (collectAs say f) f (version x l end before m) (Added x m σ (λ cs. (length cs ≡ 1) × Versions (x .types) (base f l) (m .items + 1 - before) cs)) at σ
+      → Post (collectAs say f) f (version x l end before m) (Added x m σ (AreVersions say (x .types) (base f l) 1 (m .items + 1 - before) at)) at σ
   unfolding version
   version-says before m at σ =
       post-place _ at
       (post-check _ _ λ room.
       post-step (number-quiet metaFrame 3 end) λ t q a.
       post-after (format-says at (formatOf (x .types) t) q σ) λ format q₁ σ₁ b.
+      let b₂ = b .2 in
       post-step (block-quiet metaFrame 3 end) λ n r e.
       post-place _ r
       (post-skip _ _ (post-ret (
@@ -210,16 +308,22 @@ module _ {f : List ℕ} {say : ℕ → Item → Content} (keeps : Keeps f say) (
       let k = like-format f l v t format r n h in
       record {
         contents = c ∷ [];
-        are = (refl, (like-same f l v t format r n h, like-version f l v t format r n h, rw (← j, ← k) (b .0), omega arith, tt));
+        are = (
+          refl,
+          (like-same f l v t format r n h, like-version f l v t format r n h, rw (← j, ← k) (b .0), omega arith, tt),
+          λ fits.
+              let y = length-append (versionText c) [] in
+              omega (arith, version-short f (l .node) (l .item) end at a (subst (λ p. run (block metaFrame 3 end) f p ≡ ok n r) (sym b₂) e) c j (fits (length (σ₁ .items)) (rowOf l v t format r n))),
+        );
         room = omega (arith, ltb-true (m .items) (x .limits .items) room);
         made = refl;
         left = ap (λ w. withItems w (c ∷ [])) (b .1);
       }))))
 
   versions-say : (before n : ℕ) (m : Made) (at : ℕ) (σ : Collected) → before ≤ m .items → m .items ≤ x .limits .items
-      → Post (collectAs say f) f (times n (version x l end before) m) (Added x m σ (λ cs. (length cs ≡ n) × Versions (x .types) (base f l) (m .items + 1 - before) cs)) at σ
+      → Post (collectAs say f) f (times n (version x l end before) m) (Added x m σ (AreVersions say (x .types) (base f l) n (m .items + 1 - before) at)) at σ
   unfolding times
-  versions-say before zero m at σ o r = post-ret (added-none (refl, tt) r)
+  versions-say before zero m at σ o r = post-ret (added-none (refl, tt, λ fits. omega arith) r)
   versions-say before (suc n) m at σ o r =
       post-after (version-says before m at σ) λ m₁ q τ s.
       let k = added-count s in
@@ -227,7 +331,11 @@ module _ {f : List ℕ} {say : ℕ → Item → Content} (keeps : Keeps f say) (
       post-weaken (versions-say before n m₁ q τ (omega arith) (added-room s)) λ m₂ v υ t.
       let z = length-append (s .contents) (t .contents) in
       let e : m₁ .items + 1 - before ≡ m .items + 1 - before + length (s .contents) = omega arith in
-      added-on s t (omega (arith, t .are .0), versions-on (x .types) (base f l) (m .items + 1 - before) (s .contents) (t .contents) (s .are .1) (subst (λ j. Versions (x .types) (base f l) j (t .contents)) e (t .are .1)))
+      added-on s t (
+        omega (arith, t .are .0),
+        versions-on (x .types) (base f l) (m .items + 1 - before) (s .contents) (t .contents) (s .are .1) (subst (λ j. Versions (x .types) (base f l) j (t .contents)) e (t .are .1)),
+        λ fits. omega (arith, versions-length (s .contents) (t .contents), s .are .2 fits, t .are .2 fits),
+      )
 
 -- ---- an item
 
@@ -253,26 +361,37 @@ entry-one types f node index g c h s v d fm =
     let i = base-label f node index g in
     one (same-field s (field-ok f (record { node = node; item = index; field = g }) h)) (i .0 ∙ s .node) (i .1 ∙ s .item) v d fm
 
+several-short : (f : List ℕ) (types : List Declared) (node index : ℕ) (g : Field) (cs : List Content) → Versions types (base f (record { node = node; item = index; field = g })) 1 cs → 0 < length cs
+    → length (entryText cs) ≡ length (fieldText (base f (record { node = node; item = index; field = g }))) + length (vlq (length cs)) + length (joined (versionTexts cs))
+several-short f types node index g [] v s = absurd (omega arith)
+several-short f types node index g (c ∷ cs) v s = omega (arith, several-length c cs (v .1), ap length (same-text (v .0)))
+
+-- the contents of an item that began at `start`
+abbrev IsEntry : (ℕ → Item → Content) → List Declared → (node index start : ℕ) → List Content → ℕ → Type 0
+IsEntry say types node index start cs q = Entry types node index cs × (Fits say → start + length (entryText cs) ≤ q)
+
 module _ {f : List ℕ} {say : ℕ → Item → Content} (keeps : Keeps f say) (x : Context) (node end : ℕ) (o : end ≤ length f) where
-  rows-say : (index : ℕ) (g : Field) → FieldIs f g → (c : Contents) → Some c → (m : Made) (at : ℕ) (σ : Collected) → m .items ≤ x .limits .items
-      → Post (collectAs say f) f (rowsFor x (record { node = node; item = index; field = g }) end c m) (Added x m σ (Entry (x .types) node index)) at σ
+  rows-say : (index : ℕ) (g : Field) → FieldIs f g → (c : Contents) → Some c → (m : Made) (start at : ℕ) (σ : Collected) → m .items ≤ x .limits .items
+      → start + length (fieldText (base f (record { node = node; item = index; field = g }))) + length (vlq (countOf c)) ≤ at
+      → Post (collectAs say f) f (rowsFor x (record { node = node; item = index; field = g }) end c m) (Added x m σ (IsEntry say (x .types) node index start)) at σ
   unfolding rowsFor
-  rows-say index g h contents.Universal s m at σ r =
+  rows-say index g h contents.Universal s m start at σ r b =
       post-weaken (universal-says keeps x (record { node = node; item = index; field = g }) end m at σ) λ m₁ q τ a.
-      let (c, e, same, v, d, fm) = a .are in
-      added-by a (subst (Entry (x .types) node index) (sym e) (entry-one (x .types) f node index g c h same v d fm))
-  rows-say index g h (contents.Versions n) s m at σ r =
+      let (c, e, same, v, d, fm, short) = a .are in
+      added-by a (subst (Entry (x .types) node index) (sym e) (entry-one (x .types) f node index g c h same v d fm), λ fits. omega (arith, ap (λ cs. length (entryText cs)) e, one-length c v, ap length (same-text same), short fits))
+  rows-say index g h (contents.Versions n) s m start at σ r b =
       post-weaken (versions-say keeps x (record { node = node; item = index; field = g }) end (m .items) n m at σ (omega arith) r) λ m₁ q τ a.
       let k = a .are .0 in
       let e : m .items + 1 - m .items ≡ 1 = omega arith in
-      added-by a (entry-several (x .types) f node index g (a .contents) h (omega arith) (omega arith) (subst (λ j. Versions (x .types) (base f (record { node = node; item = index; field = g })) j (a .contents)) e (a .are .1)))
+      let v = subst (λ j. Versions (x .types) (base f (record { node = node; item = index; field = g })) j (a .contents)) e (a .are .1) in
+      added-by a (entry-several (x .types) f node index g (a .contents) h (omega arith) (omega arith) v, λ fits. omega (arith, several-short f (x .types) node index g (a .contents) v (omega arith), ap (λ j. length (vlq j)) k, a .are .2 fits))
 
-  item-says : (index : ℕ) (m : Made) (at : ℕ) (σ : Collected) → m .items ≤ x .limits .items → Post (collectAs say f) f (item x node index end m) (Added x m σ (Entry (x .types) node index)) at σ
+  item-says : (index : ℕ) (m : Made) (at : ℕ) (σ : Collected) → m .items ≤ x .limits .items → Post (collectAs say f) f (item x node index end m) (Added x m σ (IsEntry say (x .types) node index at)) at σ
   unfolding item
   item-says index m at σ r =
       post-step (frame-quiet (collect-ignores say f) end) λ i q e.
       let w = at-end any-free f (frame-is f end at o) e in
-      rows-say index (i .field) (w .0) (i .contents) (w .1) m q σ r
+      rows-say index (i .field) (w .0) (i .contents) (w .1) m at q σ r (post-ran (frame-short f node index end at) e)
 
 -- ---- items end to end
 
@@ -290,27 +409,44 @@ count-more css cs = length-append css (cs ∷ [])
 abbrev pub Grouped : List Declared → ℕ → List Content → Type 0
 Grouped types node cs = (css : List (List Content)) × Entries types node 0 css × (flat css ≡ cs)
 
-abbrev SoFar : List Declared → (node index : ℕ) → List Content → Type 0
-SoFar types node index cs = (css : List (List Content)) × Entries types node 0 css × (flat css ≡ cs) × (index ≡ length css)
+abbrev SoFar : (ℕ → Item → Content) → List Declared → (node index at : ℕ) → List Content → ℕ → Type 0
+SoFar say types node index at cs q = (css : List (List Content)) × Entries types node 0 css × (flat css ≡ cs) × (index ≡ length css) × (Fits say → at + length (joined (entryTexts css)) ≤ q)
+
+-- items end to end, and their text has no more bytes than were read
+abbrev AreGrouped : (ℕ → Item → Content) → List Declared → (node at : ℕ) → List Content → ℕ → Type 0
+AreGrouped say types node at cs q = Grouped types node cs × (Fits say → at + length (itemsText cs) ≤ q)
+
+abbrev pub AreMetadata : (ℕ → Item → Content) → List Declared → (node at : ℕ) → List Content → ℕ → Type 0
+AreMetadata say types node at cs q = Grouped types node cs × (Fits say → at + length (sized (itemsText cs)) ≤ q)
+
+-- a run that is known besides
+pub post-known : {A S : Type 0} {put : Part → ℕ → ℕ → S → S} {f : List ℕ} {m : P A} {Q : A → ℕ → S → Type 0} {at : ℕ} {σ : S} → Post put f m Q at σ → Post put f m (λ a q τ. Q a q τ × (run m f at ≡ ok a q)) at σ
+post-known {A} {S} {put} {f} {m} {Q} {at} {σ} w = record { post = rw (exec-puts put m f at σ) (by (run m f at) refl (rw (exec-puts put m f at σ) at (w .post))) }
+  where
+    by : (o : Out A) → run m f at ≡ o → Meets Q (still o (puts put (trace m f at) σ)) → Meets (λ a q τ. Q a q τ × (run m f at ≡ ok a q)) (still o (puts put (trace m f at) σ))
+    by (ok a q) e x = (x, e)
+    by (refused n p) e x = tt
 
 module _ {f : List ℕ} {say : ℕ → Item → Content} (keeps : Keeps f say) (x : Context) (node : ℕ) where
-  items-say : (end : ℕ) → end ≤ length f → (m : Made) (at : ℕ) (σ : Collected) → m .items ≤ x .limits .items → Post (collectAs say f) f (metaItems x node end m) (Added x m σ (Grouped (x .types) node)) at σ
+  items-say : (end : ℕ) → end ≤ length f → (m : Made) (at : ℕ) (σ : Collected) → m .items ≤ x .limits .items → Post (collectAs say f) f (metaItems x node end m) (Added x m σ (AreGrouped say (x .types) node at)) at σ
   unfolding metaItems nextItem
   items-say end o m at σ r =
       post-after
-      (post-many (λ k q τ. Added x m σ (SoFar (x .types) node (k .index)) (k .made) q τ) end (record { made = m; index = 0 })
+      (post-many (λ k q τ. Added x m σ (SoFar say (x .types) node (k .index) at) (k .made) q τ) end (record { made = m; index = 0 })
       (λ k p τ s.
       post-after (item-says keeps x node end o (k .index) (k .made) p τ (added-room s)) λ m₁ q υ t.
       post-ret (
-      let (css, es, e, i) = s .are in
+      let (css, es, e, i, short) = s .are in
       let y = count-more css (t .contents) in
-      added-on s t (css ++ t .contents ∷ [], entries-more es (k .index) (t .contents) (omega arith) (t .are), flat-more css (t .contents) ∙ ap (λ v. v ++ t .contents) e, omega arith)))
-      (added-none ([], none, refl, refl) r))
-      λ k q τ s. post-ret (let (css, es, e, i) = s .are in added-by s (css, es, e))
+      added-on s t (css ++ t .contents ∷ [], entries-more es (k .index) (t .contents) (omega arith) (t .are .0), flat-more css (t .contents) ∙ ap (λ v. v ++ t .contents) e, omega arith, λ fits. omega (arith, entries-length css (t .contents), short fits, t .are .1 fits))))
+      (added-none ([], none, refl, refl, λ fits. omega arith) r))
+      λ k q τ s. post-ret (let (css, es, e, i, short) = s .are in added-by s ((css, es, e), λ fits. omega (arith, short fits, ap length (sym (ap itemsText e) ∙ items-text es))))
 
-  pub metadata-says : (end : ℕ) → end ≤ length f → (m : Made) (at : ℕ) (σ : Collected) → m .items ≤ x .limits .items → Post (collectAs say f) f (metadata x node end m) (Added x m σ (Grouped (x .types) node)) at σ
+  pub metadata-says : (end : ℕ) → end ≤ length f → (m : Made) (at : ℕ) (σ : Collected) → m .items ≤ x .limits .items → Post (collectAs say f) f (metadata x node end m) (Added x m σ (AreMetadata say (x .types) node at)) at σ
   unfolding metadata
   metadata-says end o m at σ r =
       post-step (block-quiet metaFrame 8 end) λ n q b.
       let i = block-inside metaFrame 8 end f at b in
-      post-place _ q (items-say (q + n) (omega arith) m q σ r)
+      post-place _ q (post-weaken (post-known (items-say (q + n) (omega arith) m q σ r)) λ m′ p τ s.
+      let e = at-end (inside-free (q + n) (q + n)) f (items-on Nothing (q + n) (q + n) x node (q + n) (omega arith) m q (omega arith)) (s .1) .1 in
+      added-by (s .0) (s .0 .are .0, λ fits. let short = s .0 .are .1 fits in omega (arith, sized-held metaFrame 8 end f at b (itemsText (s .0 .contents)) (omega arith))))

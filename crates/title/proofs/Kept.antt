@@ -5,11 +5,14 @@ use mathlib.Core.List.{List, [], _∷_, _++_, append-assoc, append-nil, map}
 use Prim.Native.Nat.{ℕ, zero, suc, _+_, _-_, _≤_, _<_}
 use native.Mathlib.Omega.{arith}
 use lib.ListN.{length, getD, take, drop}
+use borrow.Author.Tests.{eqb-true}
 use Rattle.cursor.specs.Machine.{ok, run, trace, exec, puts, rowsOf, times, seen, passed, _>>=_}
 use Rattle.cursor.specs.Rows.{Part, nodeRow, itemRow, plain, P, Events}
 use Rattle.cursor.specs.declared.Node.{Node}
 use Rattle.cursor.specs.declared.Item.{Item}
-use Rattle.cursor.proofs.Agree.{AgreeUpTo}
+use Rattle.cursor.proofs.Agree.{Agree, AgreeUpTo}
+use Rattle.cursor.proofs.Wp.{Wp, at-end, wp-after, wp-weaken, wp-ret, wp-if, wp-check, wp-place, wp-skip}
+use Rattle.cursor.proofs.Leaves.{Any, any-free, number-on, block-on}
 use Rattle.cursor.proofs.Quiet.{still, exec-puts, quiet-of}
 use Rattle.cursor.proofs.Stable.{Held, Kept}
 use Rattle.cursor.proofs.Runs.{nothing, nothing-quiet, Holds}
@@ -19,10 +22,11 @@ use Rattle.header.proofs.Uses.{header-uses}
 use Rattle.metadata.specs.Tables.{plusNode}
 use Rattle.metadata.specs.Metadata.{Context}
 use Rattle.metadata.specs.declared.Made.{Made}
-use Rattle.node.specs.Node.{inTree, unpackers, rest, front}
+use Rattle.node.specs.Node.{inTree, unpackers, resource, nodePlace, uriPlace, target, reference, rest, front}
+use Rattle.node.specs.declared.Reference as reference
 use Rattle.node.specs.declared.Unpackers as unpackers
 use Rattle.node.specs.declared.Front as front
-use Rattle.node.proofs.Uses.{unpackers-use, front-uses}
+use Rattle.node.proofs.Uses.{unpackers-use, reference-uses, front-uses}
 use Rattle.node.proofs.Ends.{head-inside}
 use Rattle.tree.specs.Tree as tree
 use Rattle.tree.specs.Tree.{folder}
@@ -33,15 +37,30 @@ use Rattle.title.proofs.UnpackersSay.{Reread, unpackers-reread}
 use Rattle.title.proofs.Regions.{all-bytes, Keeping, keep-step, keep-ret, keep-check, keep-place, keep-skip, keep-after}
 use Rattle.title.proofs.Transfer.{unpackers-alike}
 
--- ---- unpackers of each row
+-- ---- unpackers and URI of each row
+
+-- a URI lies in what was read of its reference
+target-spans : (headerEnd size r end at : ℕ) → Wp Any (target headerEnd size r end) (λ o q. o .kind ≡ 4 → (at ≤ o .target) × (o .target + o .extent ≤ q)) at
+unfolding target resource nodePlace uriPlace
+target-spans headerEnd size r end at =
+    wp-if (λ t. wp-place _ at (wp-ret (λ z. let e = eqb-true r 1 t in absurd (omega arith))))
+    λ t. wp-if (λ u. wp-place _ at (wp-after (number-on _ _ end at) λ o q x. wp-check _ _ λ c. wp-check _ _ λ d. wp-ret (λ z. absurd (omega arith))))
+    λ u. wp-if (λ w. wp-after (number-on _ _ end at) λ o q x. wp-ret (λ z. absurd (omega arith)))
+    λ w. wp-after (block-on _ _ end at) λ n q x. wp-place _ q (wp-skip _ _ tt (λ _. wp-ret (λ z. (omega arith, omega arith))))
+
+reference-spans : (headerEnd size contained end at : ℕ) → Wp Any (reference headerEnd size contained end) (λ o q. o .kind ≡ 4 → (at ≤ o .target) × (o .target + o .extent ≤ q)) at
+unfolding reference
+reference-spans headerEnd size contained end at =
+    wp-place _ at
+    (wp-after (number-on _ _ end at) λ r q x. wp-check _ _ λ t. wp-check _ _ λ u. wp-check _ _ λ v. wp-weaken (target-spans headerEnd size r end q) λ o p h z. let w = h z in (omega arith, omega arith))
 
 module _ (f k : List ℕ) (long : length f ≡ length k) where
   abbrev pub B : ℕ → Type 0
   B j = getD f j 0 ≡ getD k j 0
 
-  -- the row's unpackers are the same in both
+  -- the row's unpackers are the same in both, and so is its URI
   abbrev pub Same : Node → Type 0
-  Same r = shape f r .unpackers ≡ shape k r .unpackers
+  Same r = (shape f r .unpackers ≡ shape k r .unpackers) × (r .reference ≡ 4 → Agree f k (r .target) (r .extent))
 
   abbrev UnpackersSame : unpackers.Unpackers → Type 0
   UnpackersSame u = answer (run (times (u .count) (unpackerText f) []) f (u .place .0)) ≡ answer (run (times (u .count) (unpackerText k) []) k (u .place .0))
@@ -54,10 +73,18 @@ module _ (f k : List ℕ) (long : length f ≡ length k) where
       let g : AgreeUpTo f k (u .place .0) (r .stop) = λ j lo hi. all-bytes B (unpackers contained inner) (unpackers-use tt contained inner) f at e h j (omega arith) (omega arith) in
       ap answer (r .ran) ∙ sym (ap answer (unpackers-alike f k long (u .count) (u .place .0) (r .ran) g))
 
-  rest-kept : (headerEnd size contained inner stop at : ℕ) → inner ≤ length f → Keeping B nothing f (rest headerEnd size contained inner stop) (Holds (λ o q. UnpackersSame (o .unpackers))) at tt
+  abbrev UriSame : reference.Reference → Type 0
+  UriSame r = r .kind ≡ 4 → Agree f k (r .target) (r .extent)
+
+  uri-same : (headerEnd size contained stop at : ℕ) {r : reference.Reference} {q : ℕ} → run (reference headerEnd size contained stop) f at ≡ ok r q → Held privateData B (trace (reference headerEnd size contained stop) f at) → UriSame r
+  uri-same headerEnd size contained stop at e h z =
+      let w = at-end any-free f (reference-spans headerEnd size contained stop at) e z in
+      λ j lo hi. all-bytes B (reference headerEnd size contained stop) (reference-uses tt tt headerEnd size contained stop) f at e h j (omega arith) (omega arith)
+
+  rest-kept : (headerEnd size contained inner stop at : ℕ) → inner ≤ length f → Keeping B nothing f (rest headerEnd size contained inner stop) (Holds (λ o q. UnpackersSame (o .unpackers) × UriSame (o .reference))) at tt
   unfolding rest
   rest-kept headerEnd size contained inner stop at o =
-      keep-step nothing-quiet λ u q e h. keep-place _ q (keep-check _ _ λ t. keep-step nothing-quiet λ r p e₂ h₂. keep-ret (reread-same contained inner at o e h))
+      keep-step nothing-quiet λ u q e h. keep-place _ q (keep-check _ _ λ t. keep-step nothing-quiet λ r p e₂ h₂. keep-ret (reread-same contained inner at o e h, uri-same headerEnd size contained stop q e₂ h₂))
 
   front-kept : (x : Context) (parent depth least end : ℕ) (m : Made) (at : ℕ) → end ≤ length f → Keeping B nothing f (front x parent depth (inTree least end) m) (Holds (λ w q. Same (w .row) × (at + w .row .size ≤ end))) at tt
   unfolding front shape

@@ -1,6 +1,7 @@
 pub mod Sizes
 pub mod Collecting
 pub mod Items
+pub mod Held
 pub mod Unpackers
 pub mod Head
 pub mod Fronts
@@ -9,11 +10,13 @@ pub mod Passes
 pub mod ItemsSay
 pub mod UnpackersSay
 pub mod NodesSay
+pub mod Levels
 pub mod Tables
 pub mod Headers
 pub mod Follows
 pub mod Places
 pub mod Theorem
+pub mod Shortest
 pub mod Again
 pub mod Pairs
 pub mod Regions
@@ -21,4 +24,6 @@ pub mod Transfer
 pub mod Kept
 pub mod Demand
 pub mod Alike
+pub mod Private
 pub mod Twins
+pub mod Listed

@@ -7,15 +7,17 @@ use mathlib.Core.List.{List, [], _∷_, _++_, append-assoc, append-nil}
 use Prim.Native.Nat.{ℕ, zero, suc, _+_, _-_, _^_, _≤_, _<_}
 use native.Mathlib.Omega.{arith}
 use lib.Dec.{eqb, ltb, leb}
-use lib.ListN.{length, length-append}
+use lib.ListN.{length, drop, length-append, length-take}
 use borrow.Author.Tests.{ltb-true, leb-true, eqb-true, eqb-false, ne-eqb}
 use Rattle.cursor.specs.Machine.{Out, ok, refused, run, exec, times, _>>=_}
-use Rattle.cursor.specs.Rows.{P, nodeFrame, referenceFrame}
-use Rattle.cursor.specs.Vlq.{joined}
+use Rattle.cursor.specs.Rows.{P, nodeFrame, referenceFrame, inlineSize}
+use Rattle.cursor.specs.Vlq.{part, vlq, joined, sized}
+use Rattle.cursor.specs.declared.Node.{Node}
 use Rattle.cursor.specs.declared.Item.{Item}
 use Rattle.cursor.proofs.Wp.{Wp, at-end, wp-after, wp-ret, wp-if, wp-check, wp-place, wp-skip, wp-weaken}
-use Rattle.cursor.proofs.Leaves.{Any, any-free, number-on, block-on}
-use Rattle.cursor.proofs.Post.{Post, post-after, post-step, post-weaken, post-ret, post-refuse, post-check, post-place, post-skip}
+use Rattle.cursor.proofs.Leaves.{Any, any-free, number-on, block-on, number-inside}
+use Rattle.cursor.proofs.Lies.{sum, joined-length}
+use Rattle.cursor.proofs.Post.{post-if, Post, post-after, post-step, post-weaken, post-ret, post-refuse, post-check, post-place, post-skip}
 use Rattle.header.specs.Types.{Declared}
 use Rattle.metadata.specs.Tables.{plusNode}
 use Rattle.metadata.specs.Metadata.{Context}
@@ -33,13 +35,15 @@ use Rattle.node.proofs.Ends.{head-inside}
 use Rattle.tree.specs.Tree as tree
 use Rattle.tree.specs.Tree.{folder}
 use Rattle.title.specs.Description.{Content, Shape, shape, answer, unpackerText}
-use Rattle.title.specs.Text.{wholeText}
+use Rattle.title.specs.Text.{itemsText, ownText, wholeText}
 use Rattle.title.proofs.Collecting.{Collected, collectAs, collect-ignores, withItems, withRows}
-use Rattle.cursor.proofs.Runs.{nothing, nothing-ignores, Holds, post-ran}
+use Rattle.cursor.proofs.Runs.{nothing, nothing-ignores, nothing-quiet, Holds, post-ran}
+use Rattle.tree.proofs.Nodes.{inline-is}
+use Rattle.title.proofs.Held.{number-fits, number-held, sized-held}
 use Rattle.title.proofs.Items.{plusItems}
-use Rattle.title.proofs.ItemsSay.{Keeps, Added, Grouped, metadata-says}
+use Rattle.title.proofs.ItemsSay.{Keeps, Fits, Added, Grouped, metadata-says}
 use Rattle.title.proofs.UnpackersSay.{PacksOf, unpackers-say}
-use Rattle.title.proofs.Fronts.{Stays, Front}
+use Rattle.title.proofs.Fronts.{own-inline, own-uri, Stays, Front}
 use Rattle.title.proofs.Nodes.{madeBy, Nodes, none, more}
 
 -- ---- what follows the metadata
@@ -77,14 +81,42 @@ reference-is headerEnd size contained end at =
     wp-place _ at
     (wp-after (number-on _ _ end at) λ r q x. wp-check _ _ λ t. wp-check _ _ λ u. wp-check _ _ λ v. refers-by headerEnd size contained r end q (either contained r v))
 
-rest-post : (f : List ℕ) (headerEnd size contained inner stop at : ℕ) → inner ≤ length f → Post nothing f (rest headerEnd size contained inner stop) (Holds (λ o q. PacksOf f contained (o .unpackers) × RefersTo contained (o .reference .kind))) at tt
+-- a reference took no fewer bytes than its shortest form: alone, or with a URI
+abbrev RefersIn : List ℕ → ℕ → reference.Reference → ℕ → Type 0
+RefersIn f at o q = (o .kind ≡ 1 → at + length (vlq 1) ≤ q) × (o .kind ≡ 4 → at + length (vlq 4) + length (sized (part f (o .target) (o .extent))) ≤ q)
+
+target-in : (f : List ℕ) (headerEnd size r end at p : ℕ) → at + length (vlq r) ≤ p → 0 < r → r ≤ 4 → Post nothing f (target headerEnd size r end) (Holds (RefersIn f at)) p tt
+unfolding target resource nodePlace uriPlace
+target-in f headerEnd size r end at p l some four =
+    post-if (λ t. post-place _ p (post-ret (let e = eqb-true r 1 t in (λ _. omega (arith, ap (λ k. length (vlq k)) e), λ z. absurd (omega arith)))))
+    λ t. post-if (λ u. post-place _ p (post-step nothing-quiet λ o q e. post-check _ _ λ c. post-check _ _ λ d. post-ret (λ z. absurd (omega arith), λ z. absurd (omega arith))))
+    λ u. post-if (λ w. post-step nothing-quiet λ o q e. post-ret (λ z. absurd (omega arith), λ z. absurd (omega arith)))
+    λ w. post-step nothing-quiet λ n q e. post-place _ q (post-skip _ _ (post-ret (
+    let a = eqb-false r 1 t in
+    let b = eqb-false r 2 u in
+    let c = eqb-false r 3 w in
+    let k : r ≡ 4 = omega arith in
+    let n-most = length-take n (drop q f) in
+    (λ z. absurd (omega arith), λ z. omega (arith, ap (λ k. length (vlq k)) k, sized-held referenceFrame 3 end f p e (part f q n) (omega arith))))))
+
+reference-in : (f : List ℕ) (headerEnd size contained end at : ℕ) → Post nothing f (reference headerEnd size contained end) (Holds (RefersIn f at)) at tt
+unfolding reference
+reference-in f headerEnd size contained end at =
+    post-place _ at
+    (post-step nothing-quiet λ r q e. post-check _ _ λ t. post-check _ _ λ u. post-check _ _ λ v. target-in f headerEnd size r end at q (number-held referenceFrame 3 end f at e) (ltb-true 0 r t) (leb-true r 4 u))
+
+-- unpackers up to where the header ends, and the reference
+abbrev RestSays : (f : List ℕ) (contained inner at : ℕ) → Rest → ℕ → Type 0
+RestSays f contained inner at o q = (e : ℕ) × PacksOf f contained inner at (o .unpackers) e × RefersTo contained (o .reference .kind) × (inner ≤ e) × RefersIn f e (o .reference) q
+
+rest-post : (f : List ℕ) (headerEnd size contained inner stop at : ℕ) → inner ≤ length f → Post nothing f (rest headerEnd size contained inner stop) (Holds (RestSays f contained inner at)) at tt
 unfolding rest
 rest-post f headerEnd size contained inner stop at o =
     post-step (unpackers-quiet nothing-ignores contained inner) λ u q e.
     post-place _ q
     (post-check _ _ λ t.
     post-step (reference-quiet nothing-ignores headerEnd size contained stop) λ r p e₂.
-    post-ret (unpackers-say f contained inner at o e, at-end any-free f (reference-is headerEnd size contained stop q) e₂))
+    post-ret (q, unpackers-say f contained inner at o e, at-end any-free f (reference-is headerEnd size contained stop q) e₂, leb-true inner q t, post-ran (reference-in f headerEnd size contained stop q) e₂))
 
 -- ---- the three numbers
 
@@ -96,7 +128,37 @@ head-few s at =
     wp-after (number-on _ _ (at + n) p) λ contained q y. wp-check _ _ λ w.
     wp-place _ q (wp-after (number-on _ _ (at + n) q) λ header r z. wp-place _ r (wp-check _ _ λ a. wp-check _ _ λ b. wp-ret (y .3))))
 
+-- NodeLength took a bytes, NodeHeaderLength b, and the number between them no fewer than its shortest form
+abbrev HeadIn : ℕ → head.Head → ℕ → Type 0
+HeadIn at h q = (a : ℕ) × (b : ℕ) × (1 ≤ a) × (1 ≤ b) × (h .size .0 < 128 ^ a) × (h .header .0 < 128 ^ b) × (at + a + length (vlq (h .contained)) + b ≤ q)
+
+head-in : (f : List ℕ) (s : Standing) (at : ℕ) → Post nothing f (head s) (Holds (HeadIn at)) at tt
+unfolding head headerLength
+head-in f s at =
+    post-place _ at
+    (post-step nothing-quiet λ n p e₁. post-check _ _ λ t. post-check _ _ λ u. post-check _ _ λ v.
+    post-step nothing-quiet λ contained q e₂. post-check _ _ λ w.
+    post-place _ q (post-step nothing-quiet λ header r e₃. post-place _ r (post-check _ _ λ c. post-check _ _ λ d. post-ret (
+    let i = number-inside nodeFrame 3 (s .end .0) f at e₁ in
+    let k = number-inside nodeFrame 3 (at + n) f q e₃ in
+    (p - at, r - q, omega arith, omega arith, number-fits nodeFrame 3 (s .end .0) f at e₁, number-fits nodeFrame 3 (at + n) f q e₃, omega (arith, number-held nodeFrame 3 (at + n) f p e₂))))))
+
 -- ---- the front of a node
+
+-- what a node's header has behind its three numbers
+abbrev pub restText : Shape → List Content → List ℕ
+restText r cs = joined (sized (itemsText cs) ∷ sized (r .unpackers) ∷ [])
+
+-- a node's row, and its front from `at` to q: NodeLength took a bytes, NodeHeaderLength b, and all else no fewer than its text
+pub record Spans (row : Node) (r : Shape) (cs : List Content) (at q : ℕ) : Type 0 where
+  pub a : ℕ
+  pub b : ℕ
+  pub length-some : 1 ≤ a
+  pub header-some : 1 ≤ b
+  pub length-fits : row .size < 128 ^ a
+  pub header-fits : row .header < 128 ^ b
+  pub header-holds : a + length (vlq (r .contained)) + b + length (restText r cs) ≤ row .header
+  pub own-holds : at + row .header + length (ownText r) ≤ q + inlineSize row
 
 refers-stay : (contained k : ℕ) → RefersTo contained k → ((k ≡ 2) → ⊥) × ((k ≡ 3) → ⊥) → (k ≡ 1) ⊎ ((k ≡ 4) × (contained ≡ 0))
 refers-stay contained k (inl e) s = inl e
@@ -104,9 +166,60 @@ refers-stay contained k (inr (z, inl e)) s = absurd (s .0 e)
 refers-stay contained k (inr (z, inr (inl e))) s = absurd (s .1 e)
 refers-stay contained k (inr (z, inr (inr e))) s = inr (e, z)
 
+decEqZero : (n : ℕ) → (n ≡ 0) ⊎ ((n ≡ 0) → ⊥)
+decEqZero zero = inl refl
+decEqZero (suc n) = inr (λ z. omega arith)
+
+module _ (f : List ℕ) where
+  -- its own text: the reference, with what it leads to in the node
+  own-in : (row : Node) (at q : ℕ) → Stays (shape f row) → RefersTo (row .contained) (row .reference) → (row .reference ≡ 1 → at + length (vlq 1) ≤ q) → (row .reference ≡ 4 → at + length (vlq 4) + length (sized (part f (row .target) (row .extent))) ≤ q)
+      → at + length (ownText (shape f row)) ≤ q + inlineSize row
+  unfolding shape
+  own-in row at q stays refers one four = elim (refers-stay (row .contained) (row .reference) refers stays) [
+    | inl e ↦
+        let r : Shape = shape f row in
+        let t = ap length (own-inline r e) ∙ joined-length (vlq 1 ∷ r .body ∷ []) in
+        let h = one e in
+        elim (decEqZero (row .contained)) [
+          | inl z ↦
+              let b : r .body ≡ part f (row .target) (row .extent) = rw z refl in
+              let k = length-take (row .extent) (drop (row .target) f) in
+              omega (arith, ap length b, inline-is row z e)
+          | inr n ↦ let b : r .body ≡ [] = rw (ne-eqb _ _ n) refl in omega (arith, ap length b)
+        ]
+    | inr (e, z) ↦
+        let r : Shape = shape f row in
+        let b : r .body ≡ part f (row .target) (row .extent) = rw z refl in
+        let t = ap length (own-uri r e) ∙ joined-length (vlq 4 ∷ sized (r .body) ∷ []) in
+        let h = four e in
+        omega (arith, ap (λ v. length (sized v)) b)
+  ]
+
+  spans-made : (parent depth at p q v : ℕ) (h : head.Head) (m m′ : Made) (o : Rest) (cs : List Content) → HeadIn at h p → p + length (sized (itemsText cs)) ≤ q → RestSays f (h .contained) (at + h .header .0) q o v
+      → Stays (shape f (node.rowOf at h parent depth 0 (o .reference) (o .unpackers) (m′ .items - m .items)))
+      → Spans (node.rowOf at h parent depth 0 (o .reference) (o .unpackers) (m′ .items - m .items)) (shape f (node.rowOf at h parent depth 0 (o .reference) (o .unpackers) (m′ .items - m .items))) cs at v
+  unfolding shape
+  spans-made parent depth at p q v h m m′ o cs (a, b, some, some₂, fits, fits₂, spans) l (e, packs, refers, full, short) stays =
+      let row : Node = node.rowOf at h parent depth 0 (o .reference) (o .unpackers) (m′ .items - m .items) in
+      let u = packs .short in
+      let w = packs .within in
+      let i : e ≡ at + h .header .0 = omega arith in
+      let z = joined-length (sized (itemsText cs) ∷ sized (shape f row .unpackers) ∷ []) in
+      let y = ap (λ t. length (sized t)) (packs .text) in
+      record {
+        a = a;
+        b = b;
+        length-some = some;
+        header-some = some₂;
+        length-fits = fits;
+        header-fits = fits₂;
+        header-holds = omega arith;
+        own-holds = (let k = own-in row e v stays refers (short .0) (short .1) in omega arith);
+      }
+
 module _ {f : List ℕ} {say : ℕ → Item → Content} (keeps : Keeps f say) (x : Context) where
   front-made : (parent depth p : ℕ) (h : head.Head) (m m′ : Made) (o : Rest) (cs : List Content) → h .contained < 2 ^ 28 → m .nodes < x .limits .nodes → Grouped (x .types) (m .nodes) cs → m .items + length cs ≤ x .limits .items → m′ ≡ plusItems (length cs) m
-      → PacksOf f (h .contained) (o .unpackers) → RefersTo (h .contained) (o .reference .kind)
+      → {end a e : ℕ} → PacksOf f (h .contained) end a (o .unpackers) e → RefersTo (h .contained) (o .reference .kind)
       → Front (x .limits) (x .types) parent depth m (shape f (node.rowOf p h parent depth 0 (o .reference) (o .unpackers) (m′ .items - m .items))) cs
   unfolding shape
   front-made parent depth p h m m′ o cs few room groups r made packs refers =
@@ -132,9 +245,9 @@ module _ {f : List ℕ} {say : ℕ → Item → Content} (keeps : Keeps f say) (
         empty = λ z. rw (ne-eqb _ _ z) refl;
       }
 
-  front-says : (parent depth least end : ℕ) (m : Made) (at : ℕ) (σ : Collected) → end ≤ length f → m .nodes < x .limits .nodes → m .items ≤ x .limits .items
+  pub front-says : (parent depth least end : ℕ) (m : Made) (at : ℕ) (σ : Collected) → end ≤ length f → m .nodes < x .limits .nodes → m .items ≤ x .limits .items
       → Post (collectAs say f) f (front x parent depth (inTree least end) m)
-      (λ w q τ. (cs : List Content) × Front (x .limits) (x .types) parent depth m (shape f (w .row)) cs × (w .made ≡ plusItems (length cs) m) × (τ ≡ withItems σ cs) × (at + w .row .size ≤ end)) at σ
+      (λ w q τ. (cs : List Content) × Front (x .limits) (x .types) parent depth m (shape f (w .row)) cs × (w .made ≡ plusItems (length cs) m) × (τ ≡ withItems σ cs) × (at + w .row .size ≤ end) × (Fits say → Stays (shape f (w .row)) → Spans (w .row) (shape f (w .row)) cs at q)) at σ
   unfolding front
   front-says parent depth least end m at σ o room r =
       post-place _ at
@@ -143,7 +256,14 @@ module _ {f : List ℕ} {say : ℕ → Item → Content} (keeps : Keeps f say) (
       post-after (metadata-says keeps x (m .nodes) (at + h .header .0) (omega arith) m p σ r) λ m′ q τ s.
       post-step (rest-quiet (collect-ignores say f) (x .headerEnd) (x .size) (h .contained) (at + h .header .0) (at + h .size .0)) λ u v e₂.
       let w = post-ran (rest-post f (x .headerEnd) (x .size) (h .contained) (at + h .header .0) (at + h .size .0) q (omega arith)) e₂ in
-      post-ret (s .contents, front-made parent depth at h m m′ u (s .contents) (at-end any-free f (head-few (inTree least end) at) e) room (s .are) (s .room) (s .made) (w .0) (w .1), s .made, s .left, i .3))
+      post-ret (
+        s .contents,
+        front-made parent depth at h m m′ u (s .contents) (at-end any-free f (head-few (inTree least end) at) e) room (s .are .0) (s .room) (s .made) (w .1) (w .2),
+        s .made,
+        s .left,
+        i .3,
+        λ fits stays. spans-made f parent depth at p q v h m m′ u (s .contents) (post-ran (head-in f (inTree least end) at) e) (s .are .1 fits) w stays,
+      ))
 
 -- ---- nodes
 
@@ -228,7 +348,7 @@ module _ {f : List ℕ} {say : ℕ → Item → Content} (keeps : Keeps f say) (
       post-place _ at
       (post-check _ _ λ room.
       post-after (front-says keeps x parent (16 - d) least end m at σ o (ltb-true _ _ room) r) λ w q τ s.
-      let (cs, front, made, left, inside) = s in
+      let (cs, front, made, left, inside, spans) = s in
       let k : w .made .items ≡ m .items + length cs = ap (λ (v : Made). v .items) made in
       post-skip _ _
       (post-after (children (w .row .contained) (m .nodes) (at + w .row .size) (plusNode (w .made)) _ _ (omega arith) (omega (arith, front .item-room))) λ m₂ p υ t.

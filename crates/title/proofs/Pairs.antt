@@ -39,11 +39,6 @@ module _ {A : Type 0} {R : A → A → Type 0} where
   each-drop (suc n) none = none
   each-drop (suc n) (more x xs) = each-drop n xs
 
-  pub each-at : {s t : List A} → Each R s t → (k : ℕ) (d : A) → k < length s → R (getD s k d) (getD t k d)
-  each-at none k d l = absurd (omega arith)
-  each-at (more x xs) zero d l = x
-  each-at (more x xs) (suc k) d l = each-at xs k d (omega arith)
-
 take-pair : {A : Type 0} {Q : A → A → Type 0} {m n : ℕ} {s t : List A} → m ≡ n → Each Q s t → Each Q (take m s) (take n t)
 take-pair {Q = Q} {m} {n} {s} {t} e x = subst (λ k. Each Q (take m s) (take k t)) e (each-take m x)
 

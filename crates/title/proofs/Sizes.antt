@@ -64,17 +64,13 @@ module _ (contained : ℕ) (rest : List ℕ) where
       let j : length (vlq (headerSize fixed a)) ≡ headerBytes fixed a = vlq-length (headerSize fixed a) ∙ header-short fixed a (omega arith) in
       omega (arith, header-is fixed a)
 
-  -- NodeLength and NodeHeaderLength are each the least: in any byte counts a and b that hold both they have no fewer bytes
-  pub node-least : (contents : ℕ) → headerOf contained rest contents + contents < 2 ^ 28 → (a b : ℕ) → 1 ≤ a → 1 ≤ b → a + length (vlq contained) + b + length rest < 128 ^ b → a + length (vlq contained) + b + length rest + contents < 128 ^ a
-      → (length (vlq (headerOf contained rest contents + contents)) ≤ a) × (length (vlq (headerOf contained rest contents)) ≤ b)
+  -- NodeHeaderLength is the least: no more than in any byte counts a and b of NodeLength and itself that hold both; and so is NodeLength, which has `contents` more
+  pub header-least : (contents a b : ℕ) → 1 ≤ a → 1 ≤ b → a + length (vlq contained) + b + length rest < 128 ^ b → a + length (vlq contained) + b + length rest + contents < 128 ^ a → headerOf contained rest contents ≤ a + length (vlq contained) + b + length rest
   unfolding headerOf
-  node-least contents small a b l m h k =
+  header-least contents a b l m h k =
       let fixed : ℕ = length (vlq contained) + length rest in
       let w = bytes-least fixed contents a b l m (omega arith) (omega arith) in
-      let c : ℕ = lengthBytes fixed contents in
-      let i = vlq-length (headerSize fixed c + contents) ∙ length-short fixed contents small in
-      let j = vlq-length (headerSize fixed c) ∙ header-short fixed c (omega arith) in
-      (omega arith, omega arith)
+      omega (arith, header-is fixed (lengthBytes fixed contents))
 
   header-most : (contents : ℕ) → headerOf contained rest contents ≤ length (vlq (headerOf contained rest contents + contents)) + length (vlq contained) + length (vlq (headerOf contained rest contents)) + length rest
   unfolding headerOf
@@ -187,22 +183,15 @@ module _ (opening types gap tree after : List ℕ) where
       let c : length (vlq (s + length tree - 1)) ≡ lastBytes fixed (length tree) x y = rw e (vlq-length (lastWith fixed (length tree) x y) ∙ last-short fixed (length tree) x y (omega arith)) in
       omega arith
 
-  -- FileLength, TreeStart and TreeEnd are each the least: in any byte counts x, y and z that hold all three they have no fewer bytes
-  pub file-least : S + length tree + length after < 2 ^ 28 → (x y z : ℕ) → 1 ≤ x → 1 ≤ y → 1 ≤ z → length opening + x + length types + y + z + length gap < 128 ^ y
+  -- TreeStart is the least: no more than in any byte counts x, y and z of FileLength, TreeStart and TreeEnd that hold all three; and so are the other two
+  pub start-least : (x y z : ℕ) → 1 ≤ x → 1 ≤ y → 1 ≤ z → length opening + x + length types + y + z + length gap < 128 ^ y
       → length opening + x + length types + y + z + length gap + length tree - 1 < 128 ^ z → length opening + x + length types + y + z + length gap + length tree + length after < 128 ^ x
-      → (length (vlq (S + length tree + length after)) ≤ x) × (length (vlq S) ≤ y) × (length (vlq (S + length tree - 1)) ≤ z)
+      → S ≤ length opening + x + length types + y + z + length gap
   unfolding treeStart
-  file-least h x y z l m n i j k =
+  start-least x y z l m n i j k =
       let fixed : ℕ = length opening + length types + length gap in
       let w = three-least fixed (length tree) (length after) x y z l m n (omega arith) (omega arith) (omega arith) in
-      let u : ℕ = fileBytes fixed (length tree) (length after) in
-      let v : ℕ = startBytes fixed (length tree) u in
-      let s : ℕ = startAt fixed (length tree) u in
-      let e = start-is fixed (length tree) u in
-      let a = vlq-length (s + length tree + length after) ∙ file-short fixed (length tree) (length after) h in
-      let b = vlq-length s ∙ start-short fixed (length tree) u (omega arith) in
-      let c : length (vlq (s + length tree - 1)) ≡ lastBytes fixed (length tree) u v = rw e (vlq-length (lastWith fixed (length tree) u v) ∙ last-short fixed (length tree) u v (omega arith)) in
-      (omega arith, omega arith, omega arith)
+      omega (arith, start-is fixed (length tree) (fileBytes fixed (length tree) (length after)))
 
   start-most : S ≤ front + length gap
   unfolding treeStart
@@ -215,7 +204,7 @@ module _ (opening types gap tree after : List ℕ) where
       let c : lastBytes fixed (length tree) x y ≤ length (vlq (s + length tree - 1)) = rw (e, vlq-length) (last-within fixed (length tree) x y) in
       omega (arith, vlq-length (s + length tree + length after), file-within fixed (length tree) (length after), vlq-length s, start-within fixed (length tree) x)
 
-  size-is : length (fileOf opening types gap tree after) ≡ front + length gap + length tree + length after
+  pub size-is : length (fileOf opening types gap tree after) ≡ front + length gap + length tree + length after
   unfolding fileOf assembled
   size-is = omega (arith, joined-length (opening ∷ vlq (S + length tree + length after) ∷ types ∷ vlq S ∷ vlq (S + length tree - 1) ∷ gap ∷ tree ∷ after ∷ []))
 

@@ -16,6 +16,7 @@ use Rattle.cursor.proofs.Lies.{Lies, lies-left, lies-right, lies-part, Stand, s
 use Rattle.cursor.proofs.Back.{number-back, block-back}
 use Rattle.cursor.proofs.Wider.{number-wider, block-wider}
 use Rattle.cursor.proofs.Leaves.{number-inside, block-inside}
+use Rattle.title.proofs.Held.{number-held, sized-held}
 use Rattle.cursor.proofs.Post.{Post, post-after, post-step, post-weaken, post-ret, post-check, post-place, post-skip}
 use Rattle.cursor.proofs.Runs.{nothing, nothing-quiet, Holds, post-ran}
 use Rattle.header.specs.Types.{Declared, formatOf, isUnknown}
@@ -143,8 +144,8 @@ module _ (f : List ℕ) (end : ℕ) (o : end ≤ length f) where
       let z = part-length f u n (omega arith) in
       simp (running, a, b, c, z, append-nil)
 
--- one entry was read
-record EntrySays (f : List ℕ) (ds : List Declared) (at : ℕ) (ds′ : List Declared) (q : ℕ) : Type 0 where
+-- one entry was read, in no fewer bytes than its text
+record EntrySays (f : List ℕ) (end : ℕ) (ds : List Declared) (at : ℕ) (ds′ : List Declared) (q : ℕ) : Type 0 where
   type : ℕ
   format : ℕ
   language : List ℕ
@@ -154,8 +155,10 @@ record EntrySays (f : List ℕ) (ds : List Declared) (at : ℕ) (ds′ : List De
   format-fits : format < 2 ^ 28
   is : ds′ ≡ ds ++ (record { type = type; format = format } ∷ [])
   text : (before : List ℕ) → run (entryText f before) f at ≡ ok (before ++ joined (vlq type ∷ vlq format ∷ sized language ∷ [])) q
+  short : at + length (joined (vlq type ∷ vlq format ∷ sized language ∷ [])) ≤ q
+  inside : q ≤ end
 
-entry-says : (f : List ℕ) (end : ℕ) → end ≤ length f → (ds : List Declared) (at : ℕ) → Post nothing f (entry end ds) (Holds (EntrySays f ds at)) at tt
+entry-says : (f : List ℕ) (end : ℕ) → end ≤ length f → (ds : List Declared) (at : ℕ) → Post nothing f (entry end ds) (Holds (EntrySays f end ds at)) at tt
 unfolding entry
 entry-says f end o ds at =
     post-place _ at
@@ -167,6 +170,8 @@ entry-says f end o ds at =
     post-skip _ _ (post-ret (
     let i = number-inside fileFrame 3 end f at e₁ in
     let j = number-inside fileFrame 3 end f q e₂ in
+    let k = block-inside fileFrame 3 end f r e₃ in
+    let z = part-length f u n (omega arith) in
     record {
       type = t;
       format = fm;
@@ -177,32 +182,38 @@ entry-says f end o ds at =
       format-fits = j .3;
       is = refl;
       text = λ before. entry-text f end o before at e₁ e₂ e₃;
+      short = omega (arith, joined-length (vlq t ∷ vlq fm ∷ sized (part f u n) ∷ []), number-held fileFrame 3 end f at e₁, number-held fileFrame 3 end f q e₂, sized-held fileFrame 3 end f r e₃ (part f u n) (omega arith));
+      inside = k .2;
     })))
 
 -- n entries were read
-record EntriesSay (f : List ℕ) (n : ℕ) (ds : List Declared) (at : ℕ) (ds′ : List Declared) (q : ℕ) : Type 0 where
+record EntriesSay (f : List ℕ) (end n : ℕ) (ds : List Declared) (at : ℕ) (ds′ : List Declared) (q : ℕ) : Type 0 where
   texts : List (List ℕ)
   count : length texts ≡ n
   table : Table ds ds′ texts
   text : (before : List ℕ) → run (times n (entryText f) before) f at ≡ ok (before ++ joined texts) q
+  short : at + length (joined texts) ≤ q
+  inside : q ≤ end
 
 times-text : (f : List ℕ) (n : ℕ) (before : List ℕ) (at : ℕ) (s t : List ℕ) {q r : ℕ} → run (entryText f before) f at ≡ ok (before ++ s) q → run (times n (entryText f) (before ++ s)) f q ≡ ok (before ++ s ++ t) r
     → run (times (suc n) (entryText f) before) f at ≡ ok (before ++ (s ++ t)) r
 unfolding times
 times-text f n before at s t e₁ e₂ = rw (← append-assoc before s t) (simp (running, e₁, e₂))
 
-entries-say : (f : List ℕ) (end : ℕ) → end ≤ length f → (n : ℕ) (ds : List Declared) (at : ℕ) → Post nothing f (times n (entry end) ds) (Holds (EntriesSay f n ds at)) at tt
+entries-say : (f : List ℕ) (end : ℕ) → end ≤ length f → (n : ℕ) (ds : List Declared) (at : ℕ) → at ≤ end → Post nothing f (times n (entry end) ds) (Holds (EntriesSay f end n ds at)) at tt
 unfolding times
-entries-say f end o zero ds at = post-ret (record { texts = []; count = refl; table = none; text = λ before. rw (append-nil before) (simp running) })
-entries-say f end o (suc n) ds at =
+entries-say f end o zero ds at l = post-ret (record { texts = []; count = refl; table = none; text = λ before. rw (append-nil before) (simp running); short = omega arith; inside = l })
+entries-say f end o (suc n) ds at l =
     post-after (entry-says f end o ds at) λ ds₁ q _ s.
-    post-weaken (entries-say f end o n ds₁ q) λ ds₂ r _ w.
+    post-weaken (entries-say f end o n ds₁ q (s .inside)) λ ds₂ r _ w.
     let x : List ℕ = joined (vlq (s .type) ∷ vlq (s .format) ∷ sized (s .language) ∷ []) in
     record {
       texts = x ∷ w .texts;
       count = ap suc (w .count);
       table = more (s .language) (s .room) (s .new) (s .type-fits) (s .format-fits) (subst (λ v. Table v ds₂ (w .texts)) (s .is) (w .table));
       text = λ before. times-text f n before at x (joined (w .texts)) (s .text before) (w .text (before ++ x));
+      short = omega (arith, s .short, w .short, length-append x (joined (w .texts)));
+      inside = w .inside;
     }
 
 -- the table of a file
@@ -210,6 +221,7 @@ pub record TableSays (f : List ℕ) (at : ℕ) (ds : List Declared) (q : ℕ) : 
   pub texts : List (List ℕ)
   pub table : Table [] ds texts
   pub few : length texts < 2 ^ 28
+  pub short : at + length (sized (joined (vlq (length texts) ∷ texts))) ≤ q
   pub text : (p : ℕ) {size : ℕ} → run (number fileFrame 3 (length f)) f p ≡ ok size at → run (tableText f) f p ≡ ok (joined (vlq (length texts) ∷ texts)) q
 
 table-text : (f : List ℕ) (p at : ℕ) {size n count q r u : ℕ} {s : List ℕ} → run (number fileFrame 3 (length f)) f p ≡ ok size at → run (block fileFrame 3 (length f)) f at ≡ ok n q → run (number fileFrame 3 (length f)) f q ≡ ok count r
@@ -225,12 +237,20 @@ table-says f at =
     (post-step nothing-quiet λ count r e₂.
     let i = block-inside fileFrame 3 (length f) f at e₁ in
     let j = number-inside fileFrame 3 (q + n) f q e₂ in
-    post-after (entries-say f (q + n) (omega arith) count [] r) λ ds u _ w.
+    post-after (entries-say f (q + n) (omega arith) count [] r (j .2)) λ ds u _ w.
     post-place _ u
     (post-check _ _ λ full.
     post-ret (record {
       texts = w .texts;
       table = w .table;
       few = omega (arith, w .count);
+      short = (
+          let t : List ℕ = joined (vlq (length (w .texts)) ∷ w .texts) in
+          let z = length-append (vlq (length (w .texts))) (joined (w .texts)) in
+          let y = ap (λ k. length (vlq k)) (w .count) in
+          let h = number-held fileFrame 3 (q + n) f q e₂ in
+          let a = w .short in
+          let b = w .inside in
+          omega (arith, sized-held fileFrame 3 (length f) f at e₁ t (omega arith)));
       text = λ p e₀. rw (w .count) (table-text f p at e₀ e₁ (wide f (q + n) (omega arith) q e₂) (w .text (vlq count)));
     })))

@@ -1,4 +1,4 @@
--- Two written files that differ in copied bytes alone, but for header and unpackers, read the same.
+-- Two written files that differ in copied bytes alone, but for header, unpackers, names, URIs and data that is shown, differ at private places of the first alone.
 -- Assumes nothing.
 use mathlib.Core.Path.{_≡_, refl, sym, ap, ap₂, _∙_, subst}
 use mathlib.Core.Bool.{false}
@@ -9,11 +9,14 @@ use lib.ListN.{length, getD, take, drop}
 use Rattle.cursor.specs.Machine.{Out, ok, refused, run, trace}
 use Rattle.cursor.specs.Rows.{P}
 use Rattle.cursor.specs.Vlq.{vlq, joined, sized}
+use Rattle.cursor.specs.declared.Node.{Node}
+use Rattle.cursor.specs.declared.Item.{Item}
 use Rattle.cursor.proofs.Lies.{Lies, lies-at, lies-as}
 use Rattle.cursor.proofs.Agree.{AgreeUpTo, agree-on}
 use Rattle.header.specs.Header.{Header, header}
 use Rattle.metadata.specs.declared.Limits.{Limits}
 use Rattle.metadata.specs.declared.Made.{Made}
+use Rattle.tree.specs.Hidden.{DifferInPrivate}
 use Rattle.tree.specs.Reading.{nodesOf, itemsOf, rows, readFile, context}
 use Rattle.tree.proofs.Follow.{treeOf}
 use Rattle.title.specs.Description.{Content, Shape, openingSize}
@@ -26,11 +29,20 @@ use Rattle.title.proofs.Places.{FileStands, file-stands}
 use Rattle.title.proofs.Follows.{stay-elsewhere, read-whole}
 use Rattle.title.proofs.Theorem.{rows-were, tree-some, new-header}
 use Rattle.title.proofs.Pairs.{Each, each-length, fields, outer-pair}
-use Rattle.title.proofs.Alike.{Runs, runs-chunk, agree, Pair, Shapes, each-by, tree-runs}
+use Rattle.title.proofs.Alike.{Runs, agree, Pair, pairs, Shapes, each-by, tree-runs}
+use Rattle.title.proofs.Private.{differ-private}
 
 start-same : (o t g b a g₂ b₂ a₂ : List ℕ) → length g ≡ length g₂ → length b ≡ length b₂ → length a ≡ length a₂ → treeStart o t g₂ b₂ a₂ ≡ treeStart o t g b a
 unfolding treeStart
 start-same o t g b a g₂ b₂ a₂ x y z = rw (x, y, z) refl
+
+-- the first is accepted, and the second differs from it at its private places alone
+pub record Twins (lim : Limits) (g k : List ℕ) : Type 0 where
+  pub header : Header
+  pub nodes : List Node
+  pub items : List Item
+  pub reads : readFile lim g ≡ rows header nodes items
+  pub differ : DifferInPrivate header nodes items g k
 
 module _ (lim : Limits) {f : List ℕ} {h : Header} (says : HeaderSays f h) (gap after gap₂ after₂ : List ℕ) {rs rs₂ : List Shape} {cs cs₂ : List Content} {b : List ℕ}
     (nodes : Nodes lim (h .types) 16 0 (record { nodes = 0; items = 0 }) 1 rs cs (b ∷ [])) (stay : AllStay rs) (shapes : Each Shapes rs rs₂) (contents : Each Pair cs cs₂) (eg : length gap ≡ length gap₂) (ea : length after ≡ length after₂) where
@@ -47,14 +59,14 @@ module _ (lim : Limits) {f : List ℕ} {h : Header} (says : HeaderSays f h) (gap
   k = fileOf opening types gap₂ (joined (outer rs₂ cs₂)) after₂
 
   tree-long : length b ≡ length (joined (outer rs₂ cs₂))
-  tree-long = ap length (sym (tree-text nodes)) ∙ each-length (fields (λ _. tt) (outer-pair (λ _. tt) (each-by (λ a b w. w .0) shapes) contents))
+  tree-long = ap length (sym (tree-text nodes)) ∙ each-length (fields (λ _. tt) (outer-pair (λ _. tt) (each-by (λ a b w. w .0) shapes) (pairs contents)))
 
   start-is : S opening types gap₂ (joined (outer rs₂ cs₂)) after₂ ≡ S opening types gap b after
   start-is = start-same opening types gap b after gap₂ (joined (outer rs₂ cs₂)) after₂ eg tree-long ea
 
   module _ (small : length g < 2 ^ 28) (small₂ : length k < 2 ^ 28) where
-    pub read-alike : readFile lim k ≡ readFile lim g
-    read-alike =
+    pub differ-alike : Twins lim g k
+    differ-alike =
         let some = tree-some nodes in
         let bl = tree-long in
         let st = file-stands opening types gap b after some small in
@@ -86,13 +98,14 @@ module _ (lim : Limits) {f : List ℕ} {h : Header} (says : HeaderSays f h) (gap
         let a₃ = agree {g = g} {k = k} (n + length (vlq (length g)) + length types) (vlq start) (st .start-lies) k₃ in
         let a₄ = agree {g = g} {k = k} (n + length (vlq (length g)) + length types + length (vlq start)) (vlq last) (st .last-lies) k₄ in
         let chunk : AgreeUpTo g k 0 end = λ j lo hi. agree-on g k {p = 0} {q = n} (λ j lo hi. a₀ j lo (omega arith)) (agree-on g k a₁ (agree-on g k a₂ (agree-on g k a₃ a₄))) j lo (omega arith) in
-        let hr = runs-chunk e chunk in
         let p : P Made = treeOf lim (length g) h′ in
         let tr = tree-runs g k small (context lim h′ (length g)) nodes stay shapes contents (last + 1) start (st .tree-lies) (lies-at eS (st₂ .tree-lies)) (st .last-is) in
         let w = rows-were g p start (tree-back (context lim h′ (length g)) g small nodes stay (last + 1) start (st .tree-lies) (st .last-is)) in
         let none : elsewhere (nodesOf (trace p g start)) ≡ false = stay-elsewhere g (nodesOf (trace p g start)) (subst AllStay (sym (w .1)) stay) in
-        let ek = subst (λ v. run (header v) k 0 ≡ ok h′ end) (sym lk) (sym (hr .run-same) ∙ e) in
-        let tk = subst (λ v. run (treeOf lim v h′) k start ≡ ok (madeBy rs cs (record { nodes = 0; items = 0 })) (last + 1)) (sym lk) (sym (tr .run-same) ∙ w .0) in
-        let sk : trace (treeOf lim (length k) h′) k start ≡ trace p g start = ap (λ v. trace (treeOf lim v h′) k start) lk ∙ sym (tr .trace-same) in
-        let rk = read-whole lim k ek tk (ap (λ v. elsewhere (nodesOf v)) sk ∙ none) in
-        rk ∙ ap (λ v. rows h′ (nodesOf v) (itemsOf v)) sk ∙ sym (read-whole lim g e (w .0) none)
+        record {
+          header = h′;
+          nodes = nodesOf (trace p g start);
+          items = itemsOf (trace p g start);
+          reads = read-whole lim g e (w .0) none;
+          differ = differ-private lim g k h′ (omega arith) (w .0) (sym lk) chunk (tr .keeps);
+        }

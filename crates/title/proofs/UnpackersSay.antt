@@ -12,12 +12,12 @@ use borrow.Author.Tests.{leb-true, eqb-true, eqb-false, ne-eqb}
 use Rattle.cursor.specs.Machine.{Out, ok, refused, run, exec, times}
 use Rattle.cursor.specs.Rows.{Part, P, unpackFrame}
 use Rattle.cursor.specs.Leaves.{number}
-use Rattle.cursor.specs.Vlq.{part, vlq, joined}
+use Rattle.cursor.specs.Vlq.{part, vlq, joined, sized}
 use Rattle.cursor.proofs.Laws.{running, andThen}
 use Rattle.cursor.proofs.Quiet.{Quiet, IgnoresPlain, still, number-quiet, block-quiet, manufacturer-quiet, guid-quiet}
 use Rattle.cursor.proofs.Wp.{at-end}
 use Rattle.cursor.proofs.Leaves.{Any, any-free, number-inside, block-inside, manufacturer-on, guid-on}
-use Rattle.cursor.proofs.Lies.{Lies, lies-part}
+use Rattle.cursor.proofs.Lies.{Lies, lies-part, sum, joined-length}
 use Rattle.cursor.proofs.Back.{Guid, Maker, guid-back, maker-back, Stood, guid-was, maker-was}
 use Rattle.cursor.proofs.Wider.{number-wider}
 use Rattle.cursor.proofs.Post.{Meets, Post, post-after, post-run, post-step, post-weaken, post-ret, post-if, post-check, post-place, post-many}
@@ -26,6 +26,7 @@ use Rattle.node.specs.Node.{value, identifier, entries, unpackers}
 use Rattle.node.specs.declared.Unpackers as unpackers
 use Rattle.title.specs.Description.{copied, identifierText, unpackerText, answer}
 use Rattle.cursor.proofs.Runs.{nothing, Holds, post-ran, times-more}
+use Rattle.title.proofs.Held.{number-held, sized-held}
 use Rattle.title.proofs.Unpackers as grammar
 use Rattle.title.proofs.Unpackers.{Names, guid, made, Unpacker, unpacker, Unpackers, none, more}
 
@@ -58,7 +59,7 @@ module _ (f : List ℕ) (end : ℕ) (o : end ≤ length f) where
   unfolding identifierText
   number-text kind at a b e = let e₁ = wide at e in simp (running, ne-eqb _ _ a, ne-eqb _ _ b, e₁)
 
-  identifier-says : (kind at : ℕ) → Post nothing f (identifier kind end) (Holds (λ _ q. (q ≤ end) × (at < q) × (s : List ℕ) × Names kind s × (run (identifierText f kind) f at ≡ ok s q))) at tt
+  identifier-says : (kind at : ℕ) → Post nothing f (identifier kind end) (Holds (λ _ q. (q ≤ end) × (at < q) × (s : List ℕ) × Names kind s × (run (identifierText f kind) f at ≡ ok s q) × (at + length s ≤ q))) at tt
   unfolding identifier value
   identifier-says kind at =
       post-if
@@ -66,7 +67,7 @@ module _ (f : List ℕ) (end : ℕ) (o : end ≤ length f) where
       let i = at-end any-free f (guid-on {U = Any} unpackFrame end at) e in
       let w = guid-was unpackFrame end f o at e in
       let k = eqb-true kind 3 t in
-      (i .2, i .0, w .bytes, subst (λ j. Names j (w .bytes)) (sym k) (guid (w .is)), guid-text kind at k (w .is) (w .lies) ∙ ap (ok (w .bytes)) (sym (w .ends))))
+      (i .2, i .0, w .bytes, subst (λ j. Names j (w .bytes)) (sym k) (guid (w .is)), guid-text kind at k (w .is) (w .lies) ∙ ap (ok (w .bytes)) (sym (w .ends)), omega (arith, w .ends)))
       (λ t. post-if
       (λ u. post-step (manufacturer-quiet unpackFrame end) λ _ q e.
       post-step (number-quiet unpackFrame 3 end) λ v r e₂.
@@ -74,10 +75,17 @@ module _ (f : List ℕ) (end : ℕ) (o : end ≤ length f) where
       let j = number-inside unpackFrame 3 end f q e₂ in
       let w = maker-was unpackFrame end f o at e in
       let k = eqb-true kind 1 u in
-      post-ret (j .2, omega arith, joined (w .bytes ∷ vlq v ∷ []), subst (λ n. Names n (joined (w .bytes ∷ vlq v ∷ []))) (sym k) (made (w .is) (j .3)), made-text kind at k (w .is) (w .lies) (subst (λ n. run (number unpackFrame 3 end) f n ≡ ok v r) (w .ends) e₂)))
+      post-ret (
+        j .2,
+        omega arith,
+        joined (w .bytes ∷ vlq v ∷ []),
+        subst (λ n. Names n (joined (w .bytes ∷ vlq v ∷ []))) (sym k) (made (w .is) (j .3)),
+        made-text kind at k (w .is) (w .lies) (subst (λ n. run (number unpackFrame 3 end) f n ≡ ok v r) (w .ends) e₂),
+        omega (arith, w .ends, number-held unpackFrame 3 end f q e₂, joined-length (w .bytes ∷ vlq v ∷ [])),
+      ))
       (λ u. post-step (number-quiet unpackFrame 3 end) λ v q e.
       let i = number-inside unpackFrame 3 end f at e in
-      post-ret (i .2, i .0, vlq v, grammar.number (eqb-false kind 3 t) (eqb-false kind 1 u) (i .3), number-text kind at (eqb-false kind 3 t) (eqb-false kind 1 u) e)))
+      post-ret (i .2, i .0, vlq v, grammar.number (eqb-false kind 3 t) (eqb-false kind 1 u) (i .3), number-text kind at (eqb-false kind 3 t) (eqb-false kind 1 u) e, number-held unpackFrame 3 end f at e)))
 
   -- ---- an unpacker
 
@@ -90,7 +98,7 @@ module _ (f : List ℕ) (end : ℕ) (o : end ≤ length f) where
   unfolding value
   value-says at = post-step (number-quiet unpackFrame 3 end) λ v q e. post-ret (v, e)
 
-  unpacker-says : (n at : ℕ) → Post nothing f (node.unpacker end n) (Holds (λ k q. (k ≡ n + 1) × (at < q) × (q ≤ end) × (s : List ℕ) × Unpacker s × ((before : List ℕ) → run (unpackerText f before) f at ≡ ok (before ++ s) q))) at tt
+  unpacker-says : (n at : ℕ) → Post nothing f (node.unpacker end n) (Holds (λ k q. (k ≡ n + 1) × (at < q) × (q ≤ end) × (s : List ℕ) × Unpacker s × ((before : List ℕ) → run (unpackerText f before) f at ≡ ok (before ++ s) q) × (at + length s ≤ q))) at tt
   unfolding node.unpacker
   unpacker-says n at =
       post-place _ at
@@ -99,10 +107,18 @@ module _ (f : List ℕ) (end : ℕ) (o : end ≤ length f) where
       post-after (identifier-says kind q) λ _ r _ w.
       post-after (value-says r) λ _ u _ y.
       let (size, e₂) = y in
-      let (a, b, s, names, text) = w in
+      let (a, b, s, names, text, short) = w in
       let i = number-inside unpackFrame 3 end f at e in
       let j = number-inside unpackFrame 3 end f r e₂ in
-      post-ret (refl, omega arith, j .2, joined (vlq kind ∷ s ∷ vlq size ∷ []), unpacker (leb-true kind 3 t) names (j .3), λ before. unpacker-text before at e text e₂))
+      post-ret (
+        refl,
+        omega arith,
+        j .2,
+        joined (vlq kind ∷ s ∷ vlq size ∷ []),
+        unpacker (leb-true kind 3 t) names (j .3),
+        λ before. unpacker-text before at e text e₂,
+        omega (arith, number-held unpackFrame 3 end f at e, number-held unpackFrame 3 end f r e₂, joined-length (vlq kind ∷ s ∷ vlq size ∷ [])),
+      ))
 
 -- ---- end to end
 
@@ -114,22 +130,25 @@ joined-more : (ss : List (List ℕ)) (s : List ℕ) → joined (ss ++ s ∷ []) 
 joined-more [] s = append-nil s
 joined-more (t ∷ ss) s = ap (λ v. t ++ v) (joined-more ss s) ∙ sym (append-assoc t (joined ss) s)
 
--- k unpackers that begin at p were read up to q
+-- k unpackers that begin at p were read up to q; they took no fewer bytes
 record Packs (f : List ℕ) (end p k q : ℕ) : Type 0 where
   packs : List (List ℕ)
   are : Unpackers packs
   count : k ≡ length packs
   far : p + length packs ≤ q
   inside : q ≤ end
+  short : p + length (joined packs) ≤ q
   text : run (times k (unpackerText f) []) f p ≡ ok (joined packs) q
 
 begun : (f : List ℕ) (end p : ℕ) → p ≤ end → Packs f end p 0 p
 unfolding times
-begun f end p l = record { packs = []; are = none; count = refl; far = omega arith; inside = l; text = simp running }
+begun f end p l = record { packs = []; are = none; count = refl; far = omega arith; inside = l; short = omega arith; text = simp running }
 
-one-more : (f : List ℕ) (end p k k′ q r : ℕ) {s : List ℕ} → Packs f end p k q → k′ ≡ k + 1 → q < r → r ≤ end → Unpacker s → ((before : List ℕ) → run (unpackerText f before) f q ≡ ok (before ++ s) r) → Packs f end p k′ r
-one-more f end p k k′ q r {s} w e l i u t =
+one-more : (f : List ℕ) (end p k k′ q r : ℕ) {s : List ℕ} → Packs f end p k q → k′ ≡ k + 1 → q < r → r ≤ end → Unpacker s → ((before : List ℕ) → run (unpackerText f before) f q ≡ ok (before ++ s) r) → q + length s ≤ r → Packs f end p k′ r
+one-more f end p k k′ q r {s} w e l i u t o =
     let z = length-append (w .packs) (s ∷ []) in
+    let y = ap length (joined-more (w .packs) s) ∙ length-append (joined (w .packs)) s in
+    let x = w .short in
     let c = w .count in
     let b = w .far in
     let n : k′ ≡ suc k = omega arith in
@@ -139,6 +158,7 @@ one-more f end p k k′ q r {s} w e l i u t =
       count = omega arith;
       far = omega arith;
       inside = i;
+      short = omega arith;
       text = rw (n, joined-more (w .packs) s) (times-more f (unpackerText f) k [] p (w .text) (t (joined (w .packs))));
     }
 
@@ -146,16 +166,18 @@ entries-say : (f : List ℕ) (end : ℕ) → end ≤ length f → (at : ℕ) →
 unfolding entries
 entries-say f end o at l =
     post-place _ at
-    (post-after (post-many (λ k q τ. Packs f end at k q) end 0 (λ k p τ w. post-weaken (unpacker-says f end o k p) λ k′ q _ v. one-more f end at k k′ p q w (v .0) (v .1) (v .2) (v .4) (v .5)) (begun f end at l))
+    (post-after (post-many (λ k q τ. Packs f end at k q) end 0 (λ k p τ w. post-weaken (unpacker-says f end o k p) λ k′ q _ v. one-more f end at k k′ p q w (v .0) (v .1) (v .2) (v .4) (v .5) (v .6)) (begun f end at l))
     λ k q _ w. post-ret (refl, w))
 
 -- the unpackers of a node, of which a folder has none
-pub record PacksOf (f : List ℕ) (contained : ℕ) (u : unpackers.Unpackers) : Type 0 where
+pub record PacksOf (f : List ℕ) (contained end at : ℕ) (u : unpackers.Unpackers) (q : ℕ) : Type 0 where
   pub packs : List (List ℕ)
   pub are : Unpackers packs
   pub count : length packs ≡ u .count
   pub text : joined packs ≡ answer (run (times (u .count) (unpackerText f) []) f (u .place .0))
   pub unpacked : (contained ≡ 0) ⊎ (length (joined packs) ≡ 0)
+  pub short : at + length (sized (joined packs)) ≤ q
+  pub within : q ≤ end
 
 either : (a b : ℕ) → (eqb a 0 || eqb b 0) ≡ true → (a ≡ 0) ⊎ (b ≡ 0)
 either a b t = by (eqb a 0) refl t
@@ -168,7 +190,7 @@ empty-packs : (ss : List (List ℕ)) → length ss ≡ 0 → length (joined ss) 
 empty-packs [] e = refl
 empty-packs (s ∷ ss) e = absurd (omega arith)
 
-unpackers-post : (f : List ℕ) (contained end : ℕ) → end ≤ length f → (at : ℕ) → Post nothing f (unpackers contained end) (Holds (λ u q. PacksOf f contained u)) at tt
+unpackers-post : (f : List ℕ) (contained end : ℕ) → end ≤ length f → (at : ℕ) → Post nothing f (unpackers contained end) (Holds (PacksOf f contained end at)) at tt
 unfolding unpackers
 unpackers-post f contained end o at =
     post-place _ at
@@ -186,9 +208,11 @@ unpackers-post f contained end o at =
       count = sym (w .count);
       text = rw (v .0) (ap answer (sym (w .text)));
       unpacked = elim (either contained n t) [ inl z ↦ inl z | inr z ↦ inr (empty-packs (w .packs) (omega arith)) ];
+      short = (let y = w .short in omega (arith, sized-held unpackFrame 8 end f at e (joined (w .packs)) (omega arith)));
+      within = omega arith;
     }))
 
-pub unpackers-say : (f : List ℕ) (contained end at : ℕ) → end ≤ length f → {u : unpackers.Unpackers} {q : ℕ} → run (unpackers contained end) f at ≡ ok u q → PacksOf f contained u
+pub unpackers-say : (f : List ℕ) (contained end at : ℕ) → end ≤ length f → {u : unpackers.Unpackers} {q : ℕ} → run (unpackers contained end) f at ≡ ok u q → PacksOf f contained end at u q
 unpackers-say f contained end at o e = post-ran (unpackers-post f contained end o at) e
 
 -- where they were read again: after the length, and not past where they end

@@ -2,17 +2,16 @@
 -- Assumes nothing.
 use mathlib.Core.Bool.{Bool, true, false, cond, not, _||_}
 use mathlib.Core.List.{List, [], _∷_}
-use mathlib.Core.Logic.{_⊎_}
 use mathlib.Core.Path.{_≡_}
-use Prim.Native.Nat.{ℕ, _^_, _<_}
+use Prim.Native.Nat.{ℕ, _^_, _≤_, _<_}
 use lib.Dec.{ltb, leb, eqb}
-use lib.ListN.{length, getD}
+use lib.ListN.{length}
 use Rattle.cursor.specs.Refusals.{noSuchRow, refersElsewhere, notATitle, resultTooLarge, noRoom}
 use Rattle.cursor.specs.declared.Node.{Node}
 use Rattle.cursor.specs.declared.Item.{Item}
 use Rattle.header.specs.Header.{Header}
 use Rattle.metadata.specs.declared.Limits.{Limits}
-use Rattle.tree.specs.Rows.{itemAt}
+use Rattle.tree.specs.Rows.{nodeAt, itemAt}
 use Rattle.tree.specs.Reading.{rows, readFile}
 use Rattle.tree.specs.Asking.{Result, good, bad}
 use Rattle.tree.specs.Hidden.{isHidden}
@@ -29,9 +28,13 @@ pub record Says (lim : Limits) (g : List ℕ) (d : Description) : Type 0 where
   pub reads : readFile lim g ≡ rows header nodes items
   pub says : described g header nodes items ≡ d
 
--- two bytes that are equal, or copied from the same place of f and g
-abbrev pub Copied : (f g : List ℕ) → ℕ → ℕ → Type 0
-Copied f g a b = (a ≡ b) ⊎ ((j : ℕ) × (j < length f) × (a ≡ getD f j 0) × (b ≡ getD g j 0))
+-- Two files say the same, and the first is nowhere longer than the second: not as a whole (FileLength), nor where its tree starts (TreeStart) and ends (TreeEnd), nor is any node
+-- (NodeLength) or node's header (NodeHeaderLength).
+pub record NowhereLonger {lim lim′ : Limits} {g g′ : List ℕ} {d : Description} (s : Says lim g d) (t : Says lim′ g′ d) : Type 0 where
+  pub whole : length g ≤ length g′
+  pub start : s .header .extent .start ≤ t .header .extent .start
+  pub last : s .header .extent .last ≤ t .header .extent .last
+  pub nodes : (i : ℕ) → i < length (s .nodes) → (nodeAt (s .nodes) i .size ≤ nodeAt (t .nodes) i .size) × (nodeAt (s .nodes) i .header ≤ nodeAt (t .nodes) i .header)
 
 -- ---- the question
 
@@ -58,3 +61,7 @@ correctTitle i text room f h ns is =
     (cond (elsewhere ns) (bad refersElsewhere 0)
     (cond (isNoTitle (itemAt is i)) (bad notATitle 0)
     (fitting room (titledFile i text f h ns is))))
+
+-- its own refusals, after the reader's
+abbrev pub refusals : List ℕ
+refusals = noSuchRow ∷ refersElsewhere ∷ notATitle ∷ resultTooLarge ∷ noRoom ∷ []

@@ -7,6 +7,7 @@ use Rattle.cursor.specs.declared.Node.{Node}
 use Rattle.cursor.specs.declared.Item.{Item}
 use Rattle.header.specs.Header.{Header}
 use Rattle.metadata.specs.Tables.{limits}
+use Rattle.metadata.specs.declared.Limits.{Limits}
 pub use Rattle.tree.specs.Reading.{Result, good, bad}
 use Rattle.tree.specs.Reading.{Reading, rows, refusal, readFile, nodeTable, itemTable}
 
@@ -23,6 +24,15 @@ keptNodes size o (bad n p) = replicate size 0
 unfoldable pub keptItems : {A : Type 0} → ℕ → Reading → Result A → List ℕ
 keptItems size o (good a) = itemTable size o
 keptItems size o (bad n p) = replicate size 0
+
+-- those of a file that was written: its rows, or zeros
+unfoldable pub writtenNodes : ℕ → Limits → Result (List ℕ) → List ℕ
+writtenNodes size lim (good g) = nodeTable size (readFile lim g)
+writtenNodes size lim (bad n p) = replicate size 0
+
+unfoldable pub writtenItems : ℕ → Limits → Result (List ℕ) → List ℕ
+writtenItems size lim (good g) = itemTable size (readFile lim g)
+writtenItems size lim (bad n p) = replicate size 0
 
 -- ---- what a call answers and leaves, of the two tables and the file that are lent to it: each is one line of its contract
 
@@ -50,3 +60,19 @@ nodesLeft nodes items file question = keptNodes (length nodes) (reads nodes item
 
 abbrev pub itemsLeft : {A : Type 0} → (nodes items file : List ℕ) → Asks A → List ℕ
 itemsLeft nodes items file question = keptItems (length items) (reads nodes items file) (answered nodes items file question)
+
+-- the tables after a call that writes a file
+abbrev pub nodesWritten : (nodes items : List ℕ) → (written : Result (List ℕ)) → List ℕ
+nodesWritten nodes items written = writtenNodes (length nodes) (limits (length nodes) (length items)) written
+
+abbrev pub itemsWritten : (nodes items : List ℕ) → (written : Result (List ℕ)) → List ℕ
+itemsWritten nodes items written = writtenItems (length items) (limits (length nodes) (length items)) written
+
+-- the first question: version, number of node rows, number of item rows
+pub record Counts : Type 0 where
+  pub version : ℕ
+  pub nodes : ℕ
+  pub items : ℕ
+
+unfoldable pub counts : Asks Counts
+counts f h ns is = good (record { version = h .version; nodes = length ns; items = length is })

@@ -1,7 +1,7 @@
 -- What a call is lent, what the answer says, rows that stand in the tables, and what following them leaves there.
 -- Assumes nothing.
 use mathlib.Core.Path.{_≡_}
-use mathlib.Core.List.{List, [], _∷_}
+use mathlib.Core.List.{List}
 use Prim.Native.Nat.{ℕ, _+_, _*_, _^_, _≤_, _<_}
 use lib.ListN.{length, take}
 use Rattle.cursor.specs.Machine.{puts}
@@ -16,13 +16,13 @@ use Rattle.metadata.specs.declared.Walked.the-variants as all
 use Rattle.metadata.specs.Told.{Fits}
 use Rattle.tree.specs.Reading.{nodesOf, Result, good, bad}
 use Rattle.tree.specs.Rows.{nodeAt, treeRows, Rising}
+use Rattle.tree.specs.Asking.{Counts}
 use Rattle.tree.specs.declared.Answer.{Answer}
 use Rattle.tree.specs.declared.Answer.the-variants as answer
 
--- the answer in words: refusal number (0: none) and place; then version, number of node rows, number of item rows
-abbrev pub words : Answer → List ℕ
-words (answer.Tree version nodes items) = 0 ∷ 0 ∷ version ∷ nodes ∷ items ∷ []
-words (answer.Refused n p) = n ∷ p ∷ []
+abbrev pub told : Answer → Result Counts
+told (answer.Tree version nodes items) = good (record { version = version; nodes = nodes; items = items })
+told (answer.Refused n p) = bad n p
 
 -- what is lent to a call that reads by the header h: the tree lies in the file, the declared types stand in their table, and both tables hold as many rows as there may be
 pub record Lent (h : Header) (lim : Limits) (file types nodes items : List ℕ) : Type 0 where

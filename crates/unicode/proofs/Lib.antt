@@ -5,3 +5,4 @@ pub mod Back
 pub mod Ways
 pub mod Converting
 pub mod Tails
+pub mod Listed

@@ -4,7 +4,7 @@ use mathlib.Core.Bool.{Bool, true, false, cond, _&&_, _||_}
 use mathlib.Core.List.{List, [], _∷_, _++_}
 use Prim.Native.Nat.{ℕ, zero, suc, _+_, _-_, _*_, _/_, _%_}
 use lib.Dec.{ltb, leb, eqb}
-use Rattle.cursor.specs.Refusals.{badText}
+use Rattle.cursor.specs.Refusals.{badText, noRoom}
 use Rattle.room.specs.Room.{Result, good, bad}
 
 -- ---- units and bytes
@@ -130,3 +130,7 @@ converted first put at s = written put (λ cs. cs) (chars first 0 at s)
 unfoldable pub isGood : Result (List ℕ) → Bool
 isGood (good t) = true
 isGood (bad n p) = false
+
+-- the refusals of a conversion, which has no file
+abbrev pub refusals : List ℕ
+refusals = badText ∷ noRoom ∷ []

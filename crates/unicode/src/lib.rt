@@ -6,13 +6,9 @@ ghost use lib.ListN.{length, getD, drop};
 ghost use Rattle.room.specs.Counts.{Counts};
 ghost use Rattle.room.specs.Room.{fitting, counted, kept};
 ghost use Rattle.unicode.specs.Unicode.{bytesOf, utf8, bytes16, first16, tails, first8, converted, toUtf8, toUtf16, isGood};
-ghost use Rattle.unicode.specs.Told.{told, charTold};
-
-// The answer: the number of bytes written; or the refusal's number and place.
-pub enum Converted {
-    Bytes(usize),
-    Refused(u64, usize),
-}
+ghost use Rattle.unicode.specs.Told.{charTold};
+ghost use Rattle.room.specs.Told.{told};
+use room::Written;
 
 // The character at a place: its scalar value and how many bytes it takes.
 pub enum Character {
@@ -202,7 +198,7 @@ pub fn after_mark(units: &[u8]) -> usize
 }
 
 // Converts UTF-16 into UTF-8.
-pub fn to_utf8(units: &[u8], text: &mut [u8]) -> Converted
+pub fn to_utf8(units: &[u8], text: &mut [u8]) -> Written
     ensures answer { λ r. ⌜ told r ≡ counted (fitting (length (now (text .entry))) (toUtf8 (now (units .entry)))) ⌝ }
     ensures text { λ _. ⌜ now (text .exit) ≡ kept (length (now (text .entry))) (fitting (length (now (text .entry))) (toUtf8 (now (units .entry)))) ⌝ }
 {
@@ -212,7 +208,7 @@ pub fn to_utf8(units: &[u8], text: &mut [u8]) -> Converted
         match char16(units, at) {
             Character::Bad => {
                 room::clear_bytes(text);
-                return Converted::Refused(cursor::BAD_TEXT, at);
+                return Written::Refused(cursor::BAD_TEXT, at);
             }
             Character::Is(value, size) => {
                 next = put8(text, next, value);
@@ -222,14 +218,14 @@ pub fn to_utf8(units: &[u8], text: &mut [u8]) -> Converted
     }
     if text.len() < next {
         room::clear_bytes(text);
-        return Converted::Refused(cursor::NO_ROOM, 0);
+        return Written::Refused(cursor::NO_ROOM, 0);
     }
     room::clear_bytes_from(text, next);
-    Converted::Bytes(next)
+    Written::Bytes(next)
 }
 
 // Converts UTF-8 into UTF-16.
-pub fn to_utf16(text: &[u8], units: &mut [u8]) -> Converted
+pub fn to_utf16(text: &[u8], units: &mut [u8]) -> Written
     ensures answer { λ r. ⌜ told r ≡ counted (fitting (length (now (units .entry))) (toUtf16 (now (text .entry)))) ⌝ }
     ensures units { λ _. ⌜ now (units .exit) ≡ kept (length (now (units .entry))) (fitting (length (now (units .entry))) (toUtf16 (now (text .entry)))) ⌝ }
 {
@@ -239,7 +235,7 @@ pub fn to_utf16(text: &[u8], units: &mut [u8]) -> Converted
         match char8(text, at) {
             Character::Bad => {
                 room::clear_bytes(units);
-                return Converted::Refused(cursor::BAD_TEXT, at);
+                return Written::Refused(cursor::BAD_TEXT, at);
             }
             Character::Is(value, size) => {
                 next = put16(units, next, value);
@@ -249,10 +245,10 @@ pub fn to_utf16(text: &[u8], units: &mut [u8]) -> Converted
     }
     if units.len() < next {
         room::clear_bytes(units);
-        return Converted::Refused(cursor::NO_ROOM, 0);
+        return Written::Refused(cursor::NO_ROOM, 0);
     }
     room::clear_bytes_from(units, next);
-    Converted::Bytes(next)
+    Written::Bytes(next)
 }
 
 // Whether UTF-16 converts.

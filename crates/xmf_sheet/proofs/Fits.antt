@@ -18,9 +18,9 @@ use Rattle.room.proofs.Decimal.{few-digits}
 use Rattle.tree.specs.Reading.{readFile, Reading, rows, refusal}
 use Rattle.tree.specs.Asking.{Result, good, bad, ask}
 use Rattle.sheet.specs.Sheet.{tabbed, number, fitting, write, counted, kept, sheetOf}
-use Rattle.sheet.specs.Told.{told}
-use Rattle.sheet.specs.declared.Written.{Written}
-use Rattle.sheet.specs.declared.Written.the-variants as written
+use Rattle.room.specs.Told.{told}
+use Rattle.room.specs.declared.Written.{Written}
+use Rattle.room.specs.declared.Written.the-variants as written
 use Rattle.xmf_sheet.specs.Answer.{refusalLine, tooLong, lines, answerText}
 
 -- `n` bytes at the start of a buffer, which are these

@@ -10,7 +10,7 @@ use libc::STDERR_FILENO;
 use libc::STDIN_FILENO;
 use libc::STDOUT_FILENO;
 use program::Input;
-use sheet::Written;
+use room::Written;
 
 // Puts the line of a refusal.
 fn put_refusal(out: &mut [u8], number: u64, place: usize) -> usize

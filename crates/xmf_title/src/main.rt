@@ -14,9 +14,8 @@ ghost use Rattle.xmf_title.specs.Answer.{reads, titleLine, titleLines, l
 use libc::STDERR_FILENO;
 use libc::STDOUT_FILENO;
 use program::Input;
-use retitle::Corrected;
+use room::Written;
 use tree::Read;
-use unicode::Converted;
 
 // The item row that an argument names; a number that is larger than any row stands for itself or for another such number.
 enum Row {
@@ -131,8 +130,8 @@ fn correct(file: &[u8], row: usize, bytes: &[u8], out: &mut [u8]) -> Made
     let mut nodes = program::node_table();
     let mut items = program::item_table();
     match retitle::correct_title(file, &mut nodes, &mut items, row, bytes, out) {
-        Corrected::Refused(n, p) => Made::Refused(n, p),
-        Corrected::File(n) => Made::Bytes(n),
+        Written::Refused(n, p) => Made::Refused(n, p),
+        Written::Bytes(n) => Made::Bytes(n),
     }
 }
 
@@ -146,8 +145,8 @@ fn make_new(file: &[u8], row: usize, title: &[u8], out: &mut [u8]) -> Made
     }
     let mut units = io::large_buffer();
     match unicode::to_utf16(title, &mut units) {
-        Converted::Refused(n, p) => Made::Refused(n, p),
-        Converted::Bytes(n) => correct(file, row, &units[..n], out),
+        Written::Refused(n, p) => Made::Refused(n, p),
+        Written::Bytes(n) => correct(file, row, &units[..n], out),
     }
 }
 

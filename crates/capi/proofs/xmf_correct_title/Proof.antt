@@ -9,8 +9,8 @@ use Rattle.capi.proofs.xmf_correct_title.Tie as tie
 correct-title-requires : tie.Need-correct-title-requires
 correct-title-requires c κs = search needs
 
-put-corrected-requires : tie.Need-put-corrected-requires
-put-corrected-requires c κs = search needs
+put-written-requires : tie.Need-put-written-requires
+put-written-requires c κs = search needs
 
 same-length : tie.Need-same-length
 same-length c = search needs
@@ -25,14 +25,16 @@ same-length-4 : tie.Need-same-length-4
 same-length-4 c = search needs
 
 returns : tie.Need-returns
-returns c = leaves (c .before .before .before .before .before .before .before .before .before .before .before .before .before .before .before .before .before .before .before .before .args .answer .now) (correct-title {nodes = c .before .before .before .before .before .before .before .before .before .before .before .before .before .before .before .before .before .before .before .before .args .nodes .now} {items = c .before .before .before .before .before .before .before .before .before .before .before .before .before .before .before .before .before .before .before .before .args .items .now} {out = c .before .before .before .before .before .before .before .before .before .before .before .before .before .before .before .before .before .before .before .before .args .out .now} {f = c .before .before .before .before .before .before .before .before .before .before .before .before .before .before .before .before .before .before .before .before .args .file .now} (c .before .before .before .before .before .before .before .before .before .before .before .before .before .before .before .before .before .before .before .before .args .row) (c .before .before .before .before .before .before .before .before .before .before .before .before .before .before .before .before .before .before .before .before .args .title .now) (c .before .before .before .before .before .before .before .before .before .correct-title .result) (c .before .before .before .before .before .before .before .before .before .correct-title .ensures .0) (c .before .before .before .before .before .before .before .before .before .correct-title .ensures .1 .0) (c .before .before .before .before .before .before .before .before .before .correct-title .ensures .1 .1 .0) (c .before .before .before .before .before .before .before .before .before .correct-title .ensures .1 .1 .1)) (c .before .before .put-corrected .ensures)
+returns c =
+    let r = c .before .before .before .before .before .before .before .before .before .correct-title in
+    leaves _ (correct-title _ _ (r .result) (record { answers = r .ensures .0; in-buffer = r .ensures .1 .1 .1 }) (r .ensures .1 .0) (r .ensures .1 .1 .0)) (c .before .before .put-written .ensures)
 
 pub xmf-correct-title-spec : {M : Type 1} → statement M
 xmf-correct-title-spec =
     tie.close
     (tie.spec
     correct-title-requires
-    put-corrected-requires
+    put-written-requires
     same-length
     same-length-2
     same-length-3

@@ -1,7 +1,7 @@
 -- `xmf_find_own` leaves the outcome of the own find.
 -- Assumes nothing.
 use Rattle.promises.specs.Promises.{findOwn}
-use Rattle.promises.specs.Calls.{find-own-standard, find-own-custom}
+use Rattle.promises.specs.Calls.{find-own}
 use Rattle.capi.proofs.Words.{asks-standard, asks-custom, leaves}
 use borrow.Author.Needs.{needs}
 use Rattle.capi.proofs.xmf_find_own.Statement.{statement}
@@ -29,7 +29,9 @@ same-length-3 : tie.Need-same-length-3
 same-length-3 c = search needs
 
 returns : tie.Need-returns
-returns c = asks-standard findOwn (c .before .before .before .before .before .before .before .before .before .before .before .before .before .before .before .before .before .args .kind) (c .before .before .before .before .before .before .before .before .before .before .before .before .before .before .before .before .before .args .number) (c .before .before .before .before .before .before .before .before .before .before .before .before .before .before .before .before .before .args .name .now) (c .before .before .before .before .before .before .before .before .before .before .before .before .before .before .before .before .before .args .row) (c .before .before .before .before .before .before .before .before .before .before .before .if1 .taken) (leaves (c .before .before .before .before .before .before .before .before .before .before .before .before .before .before .before .before .before .args .answer .now) (find-own-standard {nodes = c .before .before .before .before .before .before .before .before .before .before .before .before .before .before .before .before .before .args .nodes .now} {items = c .before .before .before .before .before .before .before .before .before .before .before .before .before .before .before .before .before .args .items .now} {f = c .before .before .before .before .before .before .before .before .before .before .before .before .before .before .before .before .before .args .file .now} (c .before .before .before .before .before .before .before .before .before .before .before .before .before .before .before .before .before .args .row) (c .before .before .before .before .before .before .before .before .before .before .before .before .before .before .before .before .before .args .number) (c .before .before .before .before .before .before .before .find-own-standard .result) (c .before .before .before .before .before .before .before .find-own-standard .ensures .0) (c .before .before .before .before .before .before .before .find-own-standard .ensures .1 .0) (c .before .before .before .before .before .before .before .find-own-standard .ensures .1 .1)) (c .before .before .put-found .ensures))
+returns c =
+    let r = c .before .before .before .before .before .before .before .find-own-standard in
+    asks-standard findOwn _ _ _ _ (c .before .before .before .before .before .before .before .before .before .before .before .if1 .taken) (leaves _ (find-own _ _ (r .result) (record { answers = r .ensures .0; in-nodes = r .ensures .1 .0; in-items = r .ensures .1 .1 })) (c .before .before .put-found .ensures))
 
 same-length-4 : tie.Need-same-length-4
 same-length-4 c = search needs
@@ -41,7 +43,9 @@ same-length-6 : tie.Need-same-length-6
 same-length-6 c = search needs
 
 returns-2 : tie.Need-returns-2
-returns-2 c = asks-custom findOwn (c .before .before .before .before .before .before .before .before .before .before .before .before .before .before .before .before .before .args .kind) (c .before .before .before .before .before .before .before .before .before .before .before .before .before .before .before .before .before .args .number) (c .before .before .before .before .before .before .before .before .before .before .before .before .before .before .before .before .before .args .name .now) (c .before .before .before .before .before .before .before .before .before .before .before .before .before .before .before .before .before .args .row) (c .before .before .before .before .before .before .before .before .before .before .before .if1 .left) (leaves (c .before .before .before .before .before .before .before .before .before .before .before .before .before .before .before .before .before .args .answer .now) (find-own-custom {nodes = c .before .before .before .before .before .before .before .before .before .before .before .before .before .before .before .before .before .args .nodes .now} {items = c .before .before .before .before .before .before .before .before .before .before .before .before .before .before .before .before .before .args .items .now} {f = c .before .before .before .before .before .before .before .before .before .before .before .before .before .before .before .before .before .args .file .now} (c .before .before .before .before .before .before .before .before .before .before .before .before .before .before .before .before .before .args .row) (c .before .before .before .before .before .before .before .before .before .before .before .before .before .before .before .before .before .args .name .now) (c .before .before .before .before .before .before .before .find-own-custom .result) (c .before .before .before .before .before .before .before .find-own-custom .ensures .0) (c .before .before .before .before .before .before .before .find-own-custom .ensures .1 .0) (c .before .before .before .before .before .before .before .find-own-custom .ensures .1 .1)) (c .before .before .put-found2 .ensures))
+returns-2 c =
+    let r = c .before .before .before .before .before .before .before .find-own-custom in
+    asks-custom findOwn _ _ _ _ (c .before .before .before .before .before .before .before .before .before .before .before .if1 .left) (leaves _ (find-own _ _ (r .result) (record { answers = r .ensures .0; in-nodes = r .ensures .1 .0; in-items = r .ensures .1 .1 })) (c .before .before .put-found2 .ensures))
 
 pub xmf-find-own-spec : {M : Type 1} → statement M
 xmf-find-own-spec =

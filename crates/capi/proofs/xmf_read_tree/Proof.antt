@@ -22,7 +22,9 @@ same-length-3 : tie.Need-same-length-3
 same-length-3 c = search needs
 
 returns : tie.Need-returns
-returns c = leaves (c .before .before .before .before .before .before .before .before .before .before .before .before .before .before .before .args .answer .now) (read-tree {nodes = c .before .before .before .before .before .before .before .before .before .before .before .before .before .before .before .args .nodes .now} {items = c .before .before .before .before .before .before .before .before .before .before .before .before .before .before .before .args .items .now} {f = c .before .before .before .before .before .before .before .before .before .before .before .before .before .before .before .args .file .now} (c .before .before .before .before .before .before .before .read-tree .result) (c .before .before .before .before .before .before .before .read-tree .ensures .0) (c .before .before .before .before .before .before .before .read-tree .ensures .1 .0) (c .before .before .before .before .before .before .before .read-tree .ensures .1 .1)) (c .before .before .put-tree .ensures)
+returns c =
+    let r = c .before .before .before .before .before .before .before .read-tree in
+    leaves _ (read-tree (r .result) (r .ensures .0) (r .ensures .1 .0) (r .ensures .1 .1)) (c .before .before .put-tree .ensures)
 
 pub xmf-read-tree-spec : {M : Type 1} → statement M
 xmf-read-tree-spec =

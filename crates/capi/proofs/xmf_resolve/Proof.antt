@@ -22,7 +22,9 @@ same-length-3 : tie.Need-same-length-3
 same-length-3 c = search needs
 
 returns : tie.Need-returns
-returns c = leaves (c .before .before .before .before .before .before .before .before .before .before .before .before .before .before .before .args .answer .now) (resolve-row {nodes = c .before .before .before .before .before .before .before .before .before .before .before .before .before .before .before .args .nodes .now} {items = c .before .before .before .before .before .before .before .before .before .before .before .before .before .before .before .args .items .now} {f = c .before .before .before .before .before .before .before .before .before .before .before .before .before .before .before .args .file .now} (c .before .before .before .before .before .before .before .before .before .before .before .before .before .before .before .args .row) (c .before .before .before .before .before .before .before .resolve .result) (c .before .before .before .before .before .before .before .resolve .ensures .0) (c .before .before .before .before .before .before .before .resolve .ensures .1 .0) (c .before .before .before .before .before .before .before .resolve .ensures .1 .1)) (c .before .before .put-resolved .ensures)
+returns c =
+    let r = c .before .before .before .before .before .before .before .resolve in
+    leaves _ (resolve-row _ (r .result) (record { answers = r .ensures .0; in-nodes = r .ensures .1 .0; in-items = r .ensures .1 .1 })) (c .before .before .put-resolved .ensures)
 
 pub xmf-resolve-spec : {M : Type 1} → statement M
 xmf-resolve-spec =

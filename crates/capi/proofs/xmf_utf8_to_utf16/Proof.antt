@@ -10,8 +10,8 @@ use Rattle.capi.proofs.xmf_utf8_to_utf16.Tie as tie
 to-utf16-requires : tie.Need-to-utf16-requires
 to-utf16-requires c κs = search needs
 
-put-converted-requires : tie.Need-put-converted-requires
-put-converted-requires c κs = search needs
+put-written-requires : tie.Need-put-written-requires
+put-written-requires c κs = search needs
 
 same-length : tie.Need-same-length
 same-length c = search needs
@@ -20,8 +20,10 @@ same-length-2 : tie.Need-same-length-2
 same-length-2 c = search needs
 
 returns : tie.Need-returns
-returns c = leaves (c .before .before .before .before .before .before .before .before .before .before .before .args .answer .now) (to-utf16 {buffer = c .before .before .before .before .before .before .before .before .before .before .before .args .units .now} {f = []} {text = c .before .before .before .before .before .before .before .before .before .before .before .args .text .now} (c .before .before .before .before .before .to-utf16 .result) (c .before .before .before .before .before .to-utf16 .ensures .0) (c .before .before .before .before .before .to-utf16 .ensures .1)) (c .before .before .put-converted .ensures)
+returns c =
+    let r = c .before .before .before .before .before .to-utf16 in
+    leaves _ (to-utf16 {f = []} (r .result) (record { answers = r .ensures .0; in-buffer = r .ensures .1 })) (c .before .before .put-written .ensures)
 
 pub xmf-utf8-to-utf16-spec : {M : Type 1} → statement M
 xmf-utf8-to-utf16-spec =
-    tie.close (tie.spec to-utf16-requires put-converted-requires same-length same-length-2 returns)
+    tie.close (tie.spec to-utf16-requires put-written-requires same-length same-length-2 returns)

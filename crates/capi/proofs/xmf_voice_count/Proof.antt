@@ -22,7 +22,9 @@ same-length-3 : tie.Need-same-length-3
 same-length-3 c = search needs
 
 returns : tie.Need-returns
-returns c = leaves (c .before .before .before .before .before .before .before .before .before .before .before .before .before .before .before .args .answer .now) (count-for {nodes = c .before .before .before .before .before .before .before .before .before .before .before .before .before .before .before .args .nodes .now} {items = c .before .before .before .before .before .before .before .before .before .before .before .before .before .before .before .args .items .now} {f = c .before .before .before .before .before .before .before .before .before .before .before .before .before .before .before .args .file .now} (c .before .before .before .before .before .before .before .before .before .before .before .before .before .before .before .args .item-row) (c .before .before .before .before .before .before .before .before .before .before .before .before .before .before .before .args .channel) (c .before .before .before .before .before .before .before .before .before .before .before .before .before .before .before .args .resource) (c .before .before .before .before .before .before .before .count-for .result) (c .before .before .before .before .before .before .before .count-for .ensures .0) (c .before .before .before .before .before .before .before .count-for .ensures .1 .0) (c .before .before .before .before .before .before .before .count-for .ensures .1 .1)) (c .before .before .put-counted .ensures)
+returns c =
+    let r = c .before .before .before .before .before .before .before .count-for in
+    leaves _ (count-for _ _ _ (r .result) (record { answers = r .ensures .0; in-nodes = r .ensures .1 .0; in-items = r .ensures .1 .1 })) (c .before .before .put-counted .ensures)
 
 pub xmf-voice-count-spec : {M : Type 1} → statement M
 xmf-voice-count-spec =

@@ -25,7 +25,9 @@ same-length-4 : tie.Need-same-length-4
 same-length-4 c = search needs
 
 returns : tie.Need-returns
-returns c = leaves (c .before .before .before .before .before .before .before .before .before .before .before .before .before .before .before .before .before .before .before .args .answer .now) (write-sheet {nodes = c .before .before .before .before .before .before .before .before .before .before .before .before .before .before .before .before .before .before .before .args .nodes .now} {items = c .before .before .before .before .before .before .before .before .before .before .before .before .before .before .before .before .before .before .before .args .items .now} {sheet = c .before .before .before .before .before .before .before .before .before .before .before .before .before .before .before .before .before .before .before .args .sheet .now} {f = c .before .before .before .before .before .before .before .before .before .before .before .before .before .before .before .before .before .before .before .args .file .now} (c .before .before .before .before .before .before .before .before .before .write-sheet .result) (c .before .before .before .before .before .before .before .before .before .write-sheet .ensures .0) (c .before .before .before .before .before .before .before .before .before .write-sheet .ensures .1 .0) (c .before .before .before .before .before .before .before .before .before .write-sheet .ensures .1 .1 .0) (c .before .before .before .before .before .before .before .before .before .write-sheet .ensures .1 .1 .1)) (c .before .before .put-written .ensures)
+returns c =
+    let r = c .before .before .before .before .before .before .before .before .before .write-sheet in
+    leaves _ (write-sheet (r .result) (record { answers = r .ensures .0; in-buffer = r .ensures .1 .1 .1 }) (r .ensures .1 .0) (r .ensures .1 .1 .0)) (c .before .before .put-written .ensures)
 
 pub xmf-write-sheet-spec : {M : Type 1} → statement M
 xmf-write-sheet-spec =

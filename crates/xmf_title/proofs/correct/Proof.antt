@@ -1,7 +1,7 @@
 -- `correct` makes the file with those bytes, or its refusal.
 -- Assumes nothing.
 use mathlib.Core.Path.{sym, ap, _∙_}
-use Rattle.retitle.specs.Told.{told}
+use Rattle.room.specs.Told.{told}
 use Rattle.xmf_title.proofs.Fits.{kept-good, kept-bad, corrected-is}
 use borrow.Author.Needs.{needs}
 use Rattle.xmf_title.proofs.correct.Statement.{statement}

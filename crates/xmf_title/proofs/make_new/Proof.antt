@@ -2,7 +2,7 @@
 -- Assumes nothing.
 use mathlib.Core.Path.{sym, ap, _∙_}
 use borrow.Author.Tests.{not-true, not-false}
-use Rattle.unicode.specs.Told.{told}
+use Rattle.room.specs.Told.{told}
 use Rattle.xmf_title.proofs.Fits.{kept-good, kept-bad, makes-as, plain-is, units-is, units-bad}
 use borrow.Author.Needs.{needs}
 use Rattle.xmf_title.proofs.make_new.Statement.{statement}

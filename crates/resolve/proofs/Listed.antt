@@ -1,0 +1,27 @@
+-- The refusals of resolve are its own.
+-- Assumes nothing.
+use mathlib.Core.Bool.{not}
+use mathlib.Core.List.{List}
+use Prim.Native.Nat.{ℕ, zero, suc, _+_}
+use lib.Dec.{eqb, ltb}
+use lib.ListN.{length}
+use Rattle.cursor.specs.declared.Node.{Node}
+use Rattle.cursor.specs.declared.Item.{Item}
+use Rattle.header.specs.Header.{Header}
+use Rattle.room.specs.Room.{Result, Among}
+use Rattle.room.proofs.Listed.{among-if}
+use Rattle.resolve.specs.Resolve.{Resource, resourceOf, reached, chain, resolveRow, resolve, refusals}
+
+reached-listed : (r : Node) (k hops : ℕ) (two three : Result Resource) → Among refusals two → Among refusals three → Among refusals (reached r k hops two three)
+unfolding reached resourceOf
+reached-listed r k hops two three a b =
+    among-if _ (not (eqb (r .contained) 0)) _ _ tt (among-if _ (eqb (r .reference) 1) _ _ tt (among-if _ (eqb (r .reference) 2) _ _ a (among-if _ (eqb (r .reference) 3) _ _ b tt)))
+
+chain-listed : (left : ℕ) (ns : List Node) (k hops : ℕ) → Among refusals (chain left ns k hops)
+unfolding chain resourceOf
+chain-listed zero ns k hops = reached-listed _ k hops _ _ tt tt
+chain-listed (suc left) ns k hops = reached-listed _ k hops _ _ tt (chain-listed left ns _ (hops + 1))
+
+pub resolve-listed : (row : ℕ) (f : List ℕ) (h : Header) (ns : List Node) (is : List Item) → Among refusals (resolve row f h ns is)
+unfolding resolve resolveRow
+resolve-listed row f h ns is = among-if _ (ltb row (length ns)) _ _ (chain-listed 4 ns row 0) tt

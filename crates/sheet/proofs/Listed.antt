@@ -1,0 +1,14 @@
+-- The refusals of the sheet are its own.
+-- Assumes nothing.
+use mathlib.Core.List.{List}
+use Prim.Native.Nat.{ℕ}
+use Rattle.cursor.specs.declared.Node.{Node}
+use Rattle.cursor.specs.declared.Item.{Item}
+use Rattle.header.specs.Header.{Header}
+use Rattle.room.specs.Room.{good, Among}
+use Rattle.room.proofs.Listed.{fitting-among}
+use Rattle.sheet.specs.Sheet.{sheetOf, write, refusals}
+
+pub sheet-listed : (room : ℕ) (f : List ℕ) (h : Header) (ns : List Node) (is : List Item) → Among refusals (write room f h ns is)
+unfolding write
+sheet-listed room f h ns is = fitting-among refusals tt room (good (sheetOf f h ns is)) tt
