@@ -41,7 +41,7 @@ use Rattle.sheet.specs.Sheet as sheet
 use Rattle.sheet.proofs.Listed.{sheet-listed}
 use Rattle.sheet.proofs.Depends.{sheet-same}
 use Rattle.title.specs.Title as title
-use Rattle.title.proofs.Again.{corrected, correct-says, correct-least, correct-again}
+use Rattle.title.proofs.Again.{corrected, correct-says, correct-least, correct-only, correct-again}
 use Rattle.title.proofs.Listed.{title-listed}
 use Rattle.title.proofs.Demand as titles
 use Rattle.room.specs.Room as room
@@ -430,6 +430,7 @@ title-corrects ls f i text (good g) e a =
       accepted = z;
       says = correct-says lim f z i text (size ls 2) c;
       least = λ ls′ g′ other. correct-least lim f z i text (size ls 2) c other;
+      only = λ ls′ g′ bytes other l. correct-only lim f z i text (size ls 2) c bytes other l;
       again = ap (leaves (about (correctTitle i text)) ls f) (correct-again lim f z i text (size ls 2) c (size ls 2) fits ∙ sym e);
     })
 title-corrects ls f i text (bad n p) e a = let z : _≡_ {A = ℕ} 0 1 = cc (ap length a) in absurd (omega arith)

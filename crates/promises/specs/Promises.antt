@@ -23,7 +23,7 @@ use Rattle.mobile.specs.Mobile as mobile
 use Rattle.sheet.specs.Sheet as sheet
 use Rattle.title.specs.Description.{described, retitled}
 use Rattle.title.specs.Title as title
-use Rattle.title.specs.Title.{Says, NowhereLonger}
+use Rattle.title.specs.Title.{Bytes, Says, NowhereLonger}
 use Rattle.room.specs.Room as room
 use Rattle.unicode.specs.Unicode as unicode
 
@@ -309,7 +309,8 @@ InTurn = (i : ℕ) (text : List ℕ) (q : Question) (ls : Sizes) (f g : List ℕ
 -- ---- The correction of a title. Where it is answered, f was accepted and g was written: g is accepted with the tables lent and says what f says with that
 -- content replaced, so that its tree, other contents and resources are the old ones, and only places, lengths and that data differ. The same title again
 -- leaves the same, to the last word and byte. And each number in it is the least: of all files that are accepted, with whatever tables, and that say the same,
--- none is shorter, none has a tree that starts or ends earlier, and none has a shorter node or a shorter node's header.
+-- none is shorter, none has a tree that starts or ends earlier, and none has a shorter node or a shorter node's header. It is the only one as short: so every number
+-- in it, also a length or a count that no row shows, stands in its shortest form.
 
 pub record Correction (i : ℕ) (text : List ℕ) (ls : Sizes) (f g : List ℕ) : Type 0 where
   pub header : Header
@@ -318,6 +319,7 @@ pub record Correction (i : ℕ) (text : List ℕ) (ls : Sizes) (f g : List ℕ) 
   pub accepted : reads ls f ≡ rows header nodes items
   pub says : Says (limits (size ls 0) (size ls 1)) g (retitled i text (described f header nodes items))
   pub least : (ls′ : Sizes) (g′ : List ℕ) (other : Says (limits (size ls′ 0) (size ls′ 1)) g′ (retitled i text (described f header nodes items))) → NowhereLonger says other
+  pub only : (ls′ : Sizes) (g′ : List ℕ) → Bytes g′ → Says (limits (size ls′ 0) (size ls′ 1)) g′ (retitled i text (described f header nodes items)) → length g′ ≤ length g → g′ ≡ g
   pub again : outcome (correctTitle i text) ls g ≡ outcome (correctTitle i text) ls f
 
 abbrev pub Corrects : Type 0

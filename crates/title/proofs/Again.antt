@@ -1,4 +1,4 @@
--- Writing the same title again changes nothing further: the second call is not refused, and gives the same bytes.
+-- The result of a correction: what it says; that the same title again changes nothing further; that it is nowhere longer than a file that says the same, and the only one as short.
 -- Assumes nothing.
 use mathlib.Core.Path.{_≡_, refl, sym, ap, _∙_, subst}
 use mathlib.Core.Bool.{Bool, true, false, cond, not, _||_}
@@ -18,11 +18,11 @@ use Rattle.tree.specs.Asking.{Result, good, bad, ask}
 use Rattle.tree.specs.Hidden.{isHidden}
 use Rattle.title.specs.Description.{Content, content, Shape, shape, Description, described, titled, titledAt, retitled}
 use Rattle.title.specs.Text.{fileText}
-use Rattle.title.specs.Title.{Says, NowhereLonger, elsewhere, isNoTitle, titledFile, fitting, correctTitle}
+use Rattle.title.specs.Title.{Bytes, Says, NowhereLonger, elsewhere, isNoTitle, titledFile, fitting, correctTitle}
 use Rattle.title.proofs.Follows.{all-stay, stay-elsewhere}
 use Rattle.title.proofs.Nodes.{AllStay}
 use Rattle.title.proofs.Theorem.{retitled-reads}
-use Rattle.title.proofs.Shortest.{nowhere-longer}
+use Rattle.title.proofs.Shortest.{nowhere-longer, only-shortest}
 
 -- ---- twice is once
 
@@ -165,3 +165,8 @@ module _ (lim : Limits) (f : List ℕ) {h : Header} {ns : List Node} {is : List 
 
   pub correct-least : {lim′ : Limits} {g′ : List ℕ} (t : Says lim′ g′ (retitled i text (described f h ns is))) → NowhereLonger correct-says t
   correct-least t = nowhere-longer correct-says t stays size-of
+
+  -- and the only one that is as short
+  pub correct-only : {lim′ : Limits} {g′ : List ℕ} → Bytes g′ → Says lim′ g′ (retitled i text (described f h ns is)) → length g′ ≤ length g → g′ ≡ g
+  unfolding titledFile
+  correct-only bytes t l = only-shortest t stays bytes (omega (arith, size-of)) ∙ corrected i text room f h ns is e .is-file

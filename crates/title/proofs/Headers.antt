@@ -24,7 +24,7 @@ use Rattle.header.specs.Types.{Declared}
 use Rattle.header.specs.Header.{four, opening, Edition, edition, fileLength, typesTable, Extent, extent, Header, header}
 use Rattle.header.proofs.Ends.{four-on, extent-on}
 use Rattle.title.specs.Description.{openingSize, tableText}
-use Rattle.title.proofs.Held.{number-fits}
+use Rattle.title.proofs.Held.{Held, Number, number-is}
 use Rattle.title.proofs.Tables.{Table, TableSays, table-says, table-back}
 
 -- ---- four bytes as one number
@@ -183,34 +183,28 @@ length-says : (f : List ℕ) (at : ℕ) → Post nothing f (fileLength (length f
 unfolding fileLength
 length-says f at = post-place _ at (post-step nothing-quiet λ n q e. post-run nothing-quiet λ _ r c. (n, e ∙ ap (ok n) (check-at f _ 5 at q c), eqb-true n (length f) (check-true f _ 5 at q c)))
 
--- TreeStart took y bytes, TreeEnd z
-abbrev ExtentIn : ℕ → Extent → ℕ → Type 0
-ExtentIn at e q = (y : ℕ) × (z : ℕ) × (1 ≤ y) × (1 ≤ z) × (e .start < 128 ^ y) × (e .last < 128 ^ z) × (at + y + z ≡ e .end)
+-- TreeStart ends at c, and TreeEnd at the header's end
+abbrev ExtentIn : List ℕ → ℕ → Extent → ℕ → Type 0
+ExtentIn f at e q = (c : ℕ) × Number f at (e .start) c × Number f c (e .last) (e .end)
 
-extent-in : (f : List ℕ) (at : ℕ) → Post nothing f (extent (length f)) (Holds (ExtentIn at)) at tt
+extent-in : (f : List ℕ) (at : ℕ) → Post nothing f (extent (length f)) (Holds (ExtentIn f at)) at tt
 unfolding extent
 extent-in f at =
     post-place _ at
     (post-step nothing-quiet λ start q e₁.
     post-place _ q
     (post-step nothing-quiet λ last r e₂.
-    post-place _ r (post-check _ _ λ t. post-check _ _ λ u. post-check _ _ λ v. post-ret (
-    let i = number-inside fileFrame 3 (length f) f at e₁ in
-    let j = number-inside fileFrame 3 (length f) f q e₂ in
-    (q - at, r - q, omega arith, omega arith, number-fits fileFrame 3 (length f) f at e₁, number-fits fileFrame 3 (length f) f q e₂, omega arith)))))
+    post-place _ r (post-check _ _ λ t. post-check _ _ λ u. post-check _ _ λ v. post-ret (q, number-is fileFrame 3 (length f) f at e₁, number-is fileFrame 3 (length f) f q e₂))))
 
--- FileLength, TreeStart and TreeEnd took x, y and z bytes, and the types table no fewer than its text
+-- where the fields of a header end, after its first bytes: FileLength at a, the types table at b, TreeStart at c
 pub record HeaderSpans (f : List ℕ) (h : Header) (types : List ℕ) : Type 0 where
-  pub x : ℕ
-  pub y : ℕ
-  pub z : ℕ
-  pub x-some : 1 ≤ x
-  pub y-some : 1 ≤ y
-  pub z-some : 1 ≤ z
-  pub length-fits : length f < 128 ^ x
-  pub start-fits : h .extent .start < 128 ^ y
-  pub last-fits : h .extent .last < 128 ^ z
-  pub holds : openingSize (h .version) + x + length (sized types) + y + z ≤ h .extent .end
+  pub a : ℕ
+  pub b : ℕ
+  pub c : ℕ
+  pub length-is : Number f (openingSize (h .version)) (length f) a
+  pub types-held : Held f a (sized types) b
+  pub start-is : Number f b (h .extent .start) c
+  pub last-is : Number f c (h .extent .last) (h .extent .end)
 
 pub record HeaderSays (f : List ℕ) (h : Header) : Type 0 where
   pub opened : Opened f (h .version) (h .edition)
@@ -241,10 +235,9 @@ header-post f =
       ran = subst (λ n. run (tableText f) f n ≡ ok (joined (vlq (length (t .texts)) ∷ t .texts)) s) (y .0) (t .text q (z .1));
       before = (let w = at-end any-free f (extent-on (length f) s) e₅ in omega arith);
       spans = (
-          let (a, b, some, some₂, fits, fits₂, is) = post-ran (extent-in f s) e₅ in
-          let i = number-inside fileFrame 3 (length f) f q (z .1) in
-          let l : length f < 128 ^ (r - q) = rw (z .2) at (number-fits fileFrame 3 (length f) f q (z .1)) in
-          record { x = r - q; y = a; z = b; x-some = omega arith; y-some = some; z-some = some₂; length-fits = l; start-fits = fits; last-fits = fits₂; holds = omega (arith, y .0, t .short) });
+          let (c, start, last) = post-ran (extent-in f s) e₅ in
+          let size : Number f q (length f) r = rw (z .2) at (number-is fileFrame 3 (length f) f q (z .1)) in
+          record { a = r; b = s; c = c; length-is = subst (λ n. Number f n (length f) r) (y .0) size; types-held = t .held; start-is = start; last-is = last });
     })
 
 pub header-says : (f : List ℕ) {h : Header} {q : ℕ} → run (header (length f)) f 0 ≡ ok h q → HeaderSays f h

@@ -34,7 +34,7 @@ use Rattle.metadata.proofs.Quiet.{frame-quiet}
 use Rattle.metadata.proofs.Ends.{Nothing, inside-free, items-on}
 use Rattle.title.specs.Description.{Content, content}
 use Rattle.title.specs.Text.{fieldText, universalText, versionText, itemsText}
-use Rattle.title.proofs.Held.{number-held, vlq-up, block-held, sized-held}
+use Rattle.title.proofs.Held.{Held, held-none, held-on, held-as, held-to, held-last, held-part, number-held, block-held, sized-held}
 use Rattle.title.proofs.Collecting.{Collected, collectAs, collect-ignores, withItems}
 use Rattle.title.proofs.Items.{SameItem, Versions, versionTexts, plusItems, FieldOk, Entry, one, several, entryText, Entries, none, more, entryTexts, flat, items-text}
 
@@ -53,13 +53,13 @@ pub record Like (c d : Content) : Type 0 where
 abbrev pub Keeps : List ℕ → (ℕ → Item → Content) → Type 0
 Keeps f say = (k : ℕ) (r : Item) → Like (content f r) (say k r)
 
--- no content is said with more data than its row has; then what is said has no more bytes than were read (`at` to q)
-abbrev pub Fits : (ℕ → Item → Content) → Type 0
-Fits say = (k : ℕ) (r : Item) → length (say k r .bytes) ≤ r .size
+-- each content is said with the data that its row has; then the bytes that were read hold what is said
+abbrev pub Plain : List ℕ → (ℕ → Item → Content) → Type 0
+Plain f say = (k : ℕ) (r : Item) → part f (r .place) (r .size) ≡ say k r .bytes
 
-pub plainly-fits : (f : List ℕ) → Fits (λ k r. content f r)
+pub plainly : (f : List ℕ) → Plain f (λ k r. content f r)
 unfolding content
-plainly-fits f k r = omega (arith, length-take (r .size) (drop (r .place) f))
+plainly f k r = refl
 
 -- a content of the labelled item, whatever its version
 abbrev base : List ℕ → Label → Content
@@ -125,7 +125,7 @@ same-field : {c d : Content} → SameItem c d → FieldOk c → FieldOk d
 same-field s (inl (a, b, e)) = inl (sym (s .kind) ∙ a, rw (s .field) at b, sym (s .name) ∙ e)
 same-field s (inr (a, b, e)) = inr (sym (s .kind) ∙ a, sym (s .field) ∙ b, rw (s .name) at e)
 
--- ---- it has no more bytes than were read
+-- ---- what was read holds what is said
 
 same-text : {c d : Content} → SameItem c d → fieldText c ≡ fieldText d
 unfolding fieldText
@@ -148,62 +148,49 @@ module _ (f : List ℕ) (node index end at : ℕ) where
   unfolding fieldText content
   name-said p n = refl
 
-  field-short : Post nothing f (field end) (Holds (λ g q. at + length (fieldSaid g) ≤ q)) at tt
+  field-held : Post nothing f (field end) (Holds (λ g q. Held f at (fieldSaid g) q)) at tt
   unfolding field
-  field-short =
+  field-held =
       post-step nothing-quiet λ n q b.
       post-if
-      (λ t. post-step nothing-quiet λ k r e. post-ret (omega (arith, ap length (standard-said k), joined-length (vlq 0 ∷ vlq k ∷ []), block-held metaFrame 3 end f at b 0 (omega arith), number-held metaFrame 3 end f q e)))
-      (λ t. post-place _ q (post-skip _ _ (post-ret (
-      let l = length-take n (drop q f) in
-      omega (arith, ap length (name-said (record { 0 = q }) n), sized-held metaFrame 3 end f at b (part f q n) (omega arith))))))
+      (λ t. post-step nothing-quiet λ k r e. post-ret (held-as (sym (standard-said k)) (held-on (held-as (ap vlq (eqb-true n 0 t)) (block-held metaFrame 3 end f at b)) (held-last (number-held metaFrame 3 end f q e)))))
+      (λ t. post-place _ q (post-skip _ _ (post-ret (held-as (sym (name-said (record { 0 = q }) n)) (sized-held metaFrame 3 end f at b (held-part f q n))))))
 
-  contents-short : (p : ℕ) → Post nothing f (contents end) (Holds (λ c q. p + length (vlq (countOf c)) ≤ q)) p tt
+  contents-held : (p : ℕ) → Post nothing f (contents end) (Holds (λ c q. Held f p (vlq (countOf c)) q)) p tt
   unfolding contents
-  contents-short p =
+  contents-held p =
       post-step nothing-quiet λ n q e.
-      post-if (λ t. post-ret (let z = eqb-true n 0 t in omega (arith, number-held metaFrame 3 end f p e, vlq-up 0 n (omega arith)))) (λ t. post-ret (number-held metaFrame 3 end f p e))
+      post-if (λ t. post-ret (held-as (ap vlq (eqb-true n 0 t)) (number-held metaFrame 3 end f p e))) (λ t. post-ret (number-held metaFrame 3 end f p e))
 
-  frame-short : Post nothing f (itemFrame end) (Holds (λ i q. at + length (fieldSaid (i .field)) + length (vlq (countOf (i .contents))) ≤ q)) at tt
+  frame-held : Post nothing f (itemFrame end) (Holds (λ i q. (p : ℕ) × Held f at (fieldSaid (i .field)) p × Held f p (vlq (countOf (i .contents))) q)) at tt
   unfolding itemFrame
-  frame-short = post-after field-short λ g q _ a. post-after (contents-short q) λ c r _ b. post-ret (omega arith)
+  frame-held = post-after field-held λ g q _ a. post-after (contents-held q) λ c r _ b. post-ret (q, a, b)
 
-  universal-short : {n q format r : ℕ} → run (block metaFrame 3 end) f at ≡ ok n q → run (number metaFrame 3 (q + n)) f q ≡ ok format r → (c : Content) → format ≡ c .format → length (c .bytes) ≤ q + n - r
-      → at + length (universalText c) ≤ r + (q + n - r)
+  universal-held : {n q format r : ℕ} → run (block metaFrame 3 end) f at ≡ ok n q → run (number metaFrame 3 (q + n)) f q ≡ ok format r → (c : Content) → format ≡ c .format → part f r (q + n - r) ≡ c .bytes
+      → Held f at (universalText c) (r + (q + n - r))
   unfolding universalText
-  universal-short {n} {q} {format} {r} b e c i l =
-      let t : List ℕ = joined (vlq (c .format) ∷ c .bytes ∷ []) in
+  universal-held {n} {q} {format} {r} b e c i l =
       let j = number-inside metaFrame 3 (q + n) f q e in
-      let h : q + length (vlq (c .format)) ≤ r = rw i at (number-held metaFrame 3 (q + n) f q e) in
-      let z = joined-length (vlq (c .format) ∷ c .bytes ∷ []) in
-      omega (arith, sized-held metaFrame 3 end f at b t (omega arith))
+      let z : r + (q + n - r) ≡ q + n = omega arith in
+      held-to (sym z) (sized-held metaFrame 3 end f at b (held-on (held-as (ap vlq i) (number-held metaFrame 3 (q + n) f q e)) (held-last (held-to z (held-as l (held-part f r (q + n - r)))))))
 
-  version-short : {t q n r : ℕ} → run (number metaFrame 3 end) f at ≡ ok t q → run (block metaFrame 3 end) f q ≡ ok n r → (c : Content) → t ≡ c .declared → length (c .bytes) ≤ n → at + length (versionText c) ≤ r + n
+  version-held : {t q n r : ℕ} → run (number metaFrame 3 end) f at ≡ ok t q → run (block metaFrame 3 end) f q ≡ ok n r → (c : Content) → t ≡ c .declared → part f r n ≡ c .bytes → Held f at (versionText c) (r + n)
   unfolding versionText
-  version-short {t} {q} {n} {r} e b c i l =
-      let h : at + length (vlq (c .declared)) ≤ q = rw i at (number-held metaFrame 3 end f at e) in
-      omega (arith, joined-length (vlq (c .declared) ∷ sized (c .bytes) ∷ []), sized-held metaFrame 3 end f q b (c .bytes) l)
+  version-held {n = n} {r} e b c i l = held-on (held-as (ap vlq i) (number-held metaFrame 3 end f at e)) (held-last (sized-held metaFrame 3 end f _ b (held-as l (held-part f r n))))
 
-versions-length : (cs ds : List Content) → length (joined (versionTexts (cs ++ ds))) ≡ length (joined (versionTexts cs)) + length (joined (versionTexts ds))
-versions-length [] ds = omega arith
-versions-length (c ∷ cs) ds =
-    omega (arith, versions-length cs ds, length-append (versionText c) (joined (versionTexts (cs ++ ds))), length-append (versionText c) (joined (versionTexts cs)))
+versions-joined : (cs ds : List Content) → joined (versionTexts (cs ++ ds)) ≡ joined (versionTexts cs) ++ joined (versionTexts ds)
+versions-joined [] ds = refl
+versions-joined (c ∷ cs) ds = ap (λ v. versionText c ++ v) (versions-joined cs ds) ∙ sym (append-assoc (versionText c) (joined (versionTexts cs)) (joined (versionTexts ds)))
 
-entries-length : (css : List (List Content)) (cs : List Content) → length (joined (entryTexts (css ++ cs ∷ []))) ≡ length (joined (entryTexts css)) + length (entryText cs)
-entries-length [] cs = omega (arith, length-append (entryText cs) [])
-entries-length (ds ∷ css) cs = omega (arith, entries-length css cs, length-append (entryText ds) (joined (entryTexts (css ++ cs ∷ []))), length-append (entryText ds) (joined (entryTexts css)))
+entries-joined : (css : List (List Content)) (cs : List Content) → joined (entryTexts (css ++ cs ∷ [])) ≡ joined (entryTexts css) ++ entryText cs
+entries-joined [] cs = append-nil (entryText cs)
+entries-joined (ds ∷ css) cs = ap (λ v. entryText ds ++ v) (entries-joined css cs) ∙ sym (append-assoc (entryText ds) (joined (entryTexts css)) (entryText cs))
 
-one-length : (c : Content) → 0 ≡ c .version → length (entryText (c ∷ [])) ≡ length (fieldText c) + length (vlq 0) + length (universalText c)
-one-length c v =
-    let v′ : c .version ≡ 0 = sym v in
-    let t : entryText (c ∷ []) ≡ joined (fieldText c ∷ vlq 0 ∷ universalText c ∷ []) = rw v′ refl in
-    omega (arith, ap length t, joined-length (fieldText c ∷ vlq 0 ∷ universalText c ∷ []))
+one-said : (c : Content) → 0 ≡ c .version → entryText (c ∷ []) ≡ joined (fieldText c ∷ vlq 0 ∷ universalText c ∷ [])
+one-said c v = let v′ : c .version ≡ 0 = sym v in rw v′ refl
 
-several-length : (c : Content) (cs : List Content) → 1 ≡ c .version → length (entryText (c ∷ cs)) ≡ length (fieldText c) + length (vlq (suc (length cs))) + length (joined (versionTexts (c ∷ cs)))
-several-length c cs v =
-    let v′ : c .version ≡ 1 = sym v in
-    let t : entryText (c ∷ cs) ≡ joined (fieldText c ∷ vlq (suc (length cs)) ∷ joined (versionTexts (c ∷ cs)) ∷ []) = rw v′ refl in
-    omega (arith, ap length t, joined-length (fieldText c ∷ vlq (suc (length cs)) ∷ joined (versionTexts (c ∷ cs)) ∷ []))
+several-said : (c : Content) (cs : List Content) → 1 ≡ c .version → entryText (c ∷ cs) ≡ joined (fieldText c ∷ vlq (suc (length cs)) ∷ joined (versionTexts (c ∷ cs)) ∷ [])
+several-said c cs v = let v′ : c .version ≡ 1 = sym v in rw v′ refl
 
 -- ---- contents that were added: of these, and of where they end, Are holds
 
@@ -254,10 +241,10 @@ versions-on types b k (c ∷ cs) ds v w =
     (v .0, v .1, v .2, v .3, versions-on types b (k + 1) cs ds (v .4) (subst (λ j. Versions types b j ds) e w))
 
 abbrev IsUniversal : List ℕ → (ℕ → Item → Content) → Label → ℕ → List Content → ℕ → Type 0
-IsUniversal f say l at cs q = (c : Content) × (cs ≡ c ∷ []) × SameItem (base f l) c × (0 ≡ c .version) × (0 ≡ c .declared) × (c .format < 2 ^ 28) × (Fits say → at + length (universalText c) ≤ q)
+IsUniversal f say l at cs q = (c : Content) × (cs ≡ c ∷ []) × SameItem (base f l) c × (0 ≡ c .version) × (0 ≡ c .declared) × (c .format < 2 ^ 28) × (Plain f say → Held f at (universalText c) q)
 
-abbrev AreVersions : (ℕ → Item → Content) → List Declared → Content → (n k at : ℕ) → List Content → ℕ → Type 0
-AreVersions say types b n k at cs q = (length cs ≡ n) × Versions types b k cs × (Fits say → at + length (joined (versionTexts cs)) ≤ q)
+abbrev AreVersions : List ℕ → (ℕ → Item → Content) → List Declared → Content → (n k at : ℕ) → List Content → ℕ → Type 0
+AreVersions f say types b n k at cs q = (length cs ≡ n) × Versions types b k cs × (Plain f say → Held f at (joined (versionTexts cs)) q)
 
 module _ {f : List ℕ} {say : ℕ → Item → Content} (keeps : Keeps f say) (x : Context) (l : Label) (end : ℕ) where
   universal-says : (m : Made) (at : ℕ) (σ : Collected) → Post (collectAs say f) f (universal x l end m) (Added x m σ (IsUniversal f say l at)) at σ
@@ -277,7 +264,7 @@ module _ {f : List ℕ} {say : ℕ → Item → Content} (keeps : Keeps f say) (
       let i = like-format f l 0 0 format r (q + n - r) h in
       record {
         contents = c ∷ [];
-        are = (c, refl, like-same f l 0 0 format r (q + n - r) h, like-version f l 0 0 format r (q + n - r) h, like-declared f l 0 0 format r (q + n - r) h, omega arith, λ fits. universal-short f (l .node) (l .item) end at b e c i (fits (length (σ .items)) (rowOf l 0 0 format r (q + n - r))));
+        are = (c, refl, like-same f l 0 0 format r (q + n - r) h, like-version f l 0 0 format r (q + n - r) h, like-declared f l 0 0 format r (q + n - r) h, omega arith, λ plain. universal-held f (l .node) (l .item) end at b e c i (plain (length (σ .items)) (rowOf l 0 0 format r (q + n - r))));
         room = omega (arith, ltb-true (m .items) (x .limits .items) room);
         made = refl;
         left = refl;
@@ -289,7 +276,7 @@ module _ {f : List ℕ} {say : ℕ → Item → Content} (keeps : Keeps f say) (
   format-says p unknown at σ = post-refuse
 
   version-says : (before : ℕ) (m : Made) (at : ℕ) (σ : Collected)
-      → Post (collectAs say f) f (version x l end before m) (Added x m σ (AreVersions say (x .types) (base f l) 1 (m .items + 1 - before) at)) at σ
+      → Post (collectAs say f) f (version x l end before m) (Added x m σ (AreVersions f say (x .types) (base f l) 1 (m .items + 1 - before) at)) at σ
   unfolding version
   version-says before m at σ =
       post-place _ at
@@ -311,9 +298,7 @@ module _ {f : List ℕ} {say : ℕ → Item → Content} (keeps : Keeps f say) (
         are = (
           refl,
           (like-same f l v t format r n h, like-version f l v t format r n h, rw (← j, ← k) (b .0), omega arith, tt),
-          λ fits.
-              let y = length-append (versionText c) [] in
-              omega (arith, version-short f (l .node) (l .item) end at a (subst (λ p. run (block metaFrame 3 end) f p ≡ ok n r) (sym b₂) e) c j (fits (length (σ₁ .items)) (rowOf l v t format r n))),
+          λ plain. held-last (version-held f (l .node) (l .item) end at a (subst (λ p. run (block metaFrame 3 end) f p ≡ ok n r) (sym b₂) e) c j (plain (length (σ₁ .items)) (rowOf l v t format r n))),
         );
         room = omega (arith, ltb-true (m .items) (x .limits .items) room);
         made = refl;
@@ -321,9 +306,9 @@ module _ {f : List ℕ} {say : ℕ → Item → Content} (keeps : Keeps f say) (
       }))))
 
   versions-say : (before n : ℕ) (m : Made) (at : ℕ) (σ : Collected) → before ≤ m .items → m .items ≤ x .limits .items
-      → Post (collectAs say f) f (times n (version x l end before) m) (Added x m σ (AreVersions say (x .types) (base f l) n (m .items + 1 - before) at)) at σ
+      → Post (collectAs say f) f (times n (version x l end before) m) (Added x m σ (AreVersions f say (x .types) (base f l) n (m .items + 1 - before) at)) at σ
   unfolding times
-  versions-say before zero m at σ o r = post-ret (added-none (refl, tt, λ fits. omega arith) r)
+  versions-say before zero m at σ o r = post-ret (added-none (refl, tt, λ plain. held-none at) r)
   versions-say before (suc n) m at σ o r =
       post-after (version-says before m at σ) λ m₁ q τ s.
       let k = added-count s in
@@ -334,7 +319,7 @@ module _ {f : List ℕ} {say : ℕ → Item → Content} (keeps : Keeps f say) (
       added-on s t (
         omega (arith, t .are .0),
         versions-on (x .types) (base f l) (m .items + 1 - before) (s .contents) (t .contents) (s .are .1) (subst (λ j. Versions (x .types) (base f l) j (t .contents)) e (t .are .1)),
-        λ fits. omega (arith, versions-length (s .contents) (t .contents), s .are .2 fits, t .are .2 fits),
+        λ plain. held-as (sym (versions-joined (s .contents) (t .contents))) (held-on (s .are .2 plain) (t .are .2 plain)),
       )
 
 -- ---- an item
@@ -361,37 +346,44 @@ entry-one types f node index g c h s v d fm =
     let i = base-label f node index g in
     one (same-field s (field-ok f (record { node = node; item = index; field = g }) h)) (i .0 ∙ s .node) (i .1 ∙ s .item) v d fm
 
-several-short : (f : List ℕ) (types : List Declared) (node index : ℕ) (g : Field) (cs : List Content) → Versions types (base f (record { node = node; item = index; field = g })) 1 cs → 0 < length cs
-    → length (entryText cs) ≡ length (fieldText (base f (record { node = node; item = index; field = g }))) + length (vlq (length cs)) + length (joined (versionTexts cs))
-several-short f types node index g [] v s = absurd (omega arith)
-several-short f types node index g (c ∷ cs) v s = omega (arith, several-length c cs (v .1), ap length (same-text (v .0)))
+several-is : (f : List ℕ) (types : List Declared) (node index : ℕ) (g : Field) (cs : List Content) → Versions types (base f (record { node = node; item = index; field = g })) 1 cs → 0 < length cs
+    → entryText cs ≡ joined (fieldText (base f (record { node = node; item = index; field = g })) ∷ vlq (length cs) ∷ joined (versionTexts cs) ∷ [])
+several-is f types node index g [] v s = absurd (omega arith)
+several-is f types node index g (c ∷ cs) v s = several-said c cs (v .1) ∙ ap (λ t. joined (t ∷ vlq (suc (length cs)) ∷ joined (versionTexts (c ∷ cs)) ∷ [])) (sym (same-text (v .0)))
 
 -- the contents of an item that began at `start`
-abbrev IsEntry : (ℕ → Item → Content) → List Declared → (node index start : ℕ) → List Content → ℕ → Type 0
-IsEntry say types node index start cs q = Entry types node index cs × (Fits say → start + length (entryText cs) ≤ q)
+abbrev IsEntry : List ℕ → (ℕ → Item → Content) → List Declared → (node index start : ℕ) → List Content → ℕ → Type 0
+IsEntry f say types node index start cs q = Entry types node index cs × (Plain f say → Held f start (entryText cs) q)
 
 module _ {f : List ℕ} {say : ℕ → Item → Content} (keeps : Keeps f say) (x : Context) (node end : ℕ) (o : end ≤ length f) where
-  rows-say : (index : ℕ) (g : Field) → FieldIs f g → (c : Contents) → Some c → (m : Made) (start at : ℕ) (σ : Collected) → m .items ≤ x .limits .items
-      → start + length (fieldText (base f (record { node = node; item = index; field = g }))) + length (vlq (countOf c)) ≤ at
-      → Post (collectAs say f) f (rowsFor x (record { node = node; item = index; field = g }) end c m) (Added x m σ (IsEntry say (x .types) node index start)) at σ
+  rows-say : (index : ℕ) (g : Field) → FieldIs f g → (c : Contents) → Some c → (m : Made) (start p at : ℕ) (σ : Collected) → m .items ≤ x .limits .items
+      → Held f start (fieldText (base f (record { node = node; item = index; field = g }))) p → Held f p (vlq (countOf c)) at
+      → Post (collectAs say f) f (rowsFor x (record { node = node; item = index; field = g }) end c m) (Added x m σ (IsEntry f say (x .types) node index start)) at σ
   unfolding rowsFor
-  rows-say index g h contents.Universal s m start at σ r b =
+  rows-say index g h contents.Universal s m start p at σ r a₁ b =
       post-weaken (universal-says keeps x (record { node = node; item = index; field = g }) end m at σ) λ m₁ q τ a.
-      let (c, e, same, v, d, fm, short) = a .are in
-      added-by a (subst (Entry (x .types) node index) (sym e) (entry-one (x .types) f node index g c h same v d fm), λ fits. omega (arith, ap (λ cs. length (entryText cs)) e, one-length c v, ap length (same-text same), short fits))
-  rows-say index g h (contents.Versions n) s m start at σ r b =
+      let (c, e, same, v, d, fm, held) = a .are in
+      added-by a (
+        subst (Entry (x .types) node index) (sym e) (entry-one (x .types) f node index g c h same v d fm),
+        λ plain. held-as (sym (ap entryText e ∙ one-said c v)) (held-on (held-as (same-text same) a₁) (held-on b (held-last (held plain)))),
+      )
+  rows-say index g h (contents.Versions n) s m start p at σ r a₁ b =
       post-weaken (versions-say keeps x (record { node = node; item = index; field = g }) end (m .items) n m at σ (omega arith) r) λ m₁ q τ a.
       let k = a .are .0 in
       let e : m .items + 1 - m .items ≡ 1 = omega arith in
       let v = subst (λ j. Versions (x .types) (base f (record { node = node; item = index; field = g })) j (a .contents)) e (a .are .1) in
-      added-by a (entry-several (x .types) f node index g (a .contents) h (omega arith) (omega arith) v, λ fits. omega (arith, several-short f (x .types) node index g (a .contents) v (omega arith), ap (λ j. length (vlq j)) k, a .are .2 fits))
+      added-by a (
+        entry-several (x .types) f node index g (a .contents) h (omega arith) (omega arith) v,
+        λ plain. held-as (sym (several-is f (x .types) node index g (a .contents) v (omega arith))) (held-on a₁ (held-on (held-as (ap vlq (sym k)) b) (held-last (a .are .2 plain)))),
+      )
 
-  item-says : (index : ℕ) (m : Made) (at : ℕ) (σ : Collected) → m .items ≤ x .limits .items → Post (collectAs say f) f (item x node index end m) (Added x m σ (IsEntry say (x .types) node index at)) at σ
+  item-says : (index : ℕ) (m : Made) (at : ℕ) (σ : Collected) → m .items ≤ x .limits .items → Post (collectAs say f) f (item x node index end m) (Added x m σ (IsEntry f say (x .types) node index at)) at σ
   unfolding item
   item-says index m at σ r =
       post-step (frame-quiet (collect-ignores say f) end) λ i q e.
       let w = at-end any-free f (frame-is f end at o) e in
-      rows-say index (i .field) (w .0) (i .contents) (w .1) m at q σ r (post-ran (frame-short f node index end at) e)
+      let (p, a, b) = post-ran (frame-held f node index end at) e in
+      rows-say index (i .field) (w .0) (i .contents) (w .1) m at p q σ r a b
 
 -- ---- items end to end
 
@@ -409,15 +401,15 @@ count-more css cs = length-append css (cs ∷ [])
 abbrev pub Grouped : List Declared → ℕ → List Content → Type 0
 Grouped types node cs = (css : List (List Content)) × Entries types node 0 css × (flat css ≡ cs)
 
-abbrev SoFar : (ℕ → Item → Content) → List Declared → (node index at : ℕ) → List Content → ℕ → Type 0
-SoFar say types node index at cs q = (css : List (List Content)) × Entries types node 0 css × (flat css ≡ cs) × (index ≡ length css) × (Fits say → at + length (joined (entryTexts css)) ≤ q)
+abbrev SoFar : List ℕ → (ℕ → Item → Content) → List Declared → (node index at : ℕ) → List Content → ℕ → Type 0
+SoFar f say types node index at cs q = (css : List (List Content)) × Entries types node 0 css × (flat css ≡ cs) × (index ≡ length css) × (Plain f say → Held f at (joined (entryTexts css)) q)
 
--- items end to end, and their text has no more bytes than were read
-abbrev AreGrouped : (ℕ → Item → Content) → List Declared → (node at : ℕ) → List Content → ℕ → Type 0
-AreGrouped say types node at cs q = Grouped types node cs × (Fits say → at + length (itemsText cs) ≤ q)
+-- items end to end; with their length before them
+abbrev AreGrouped : List ℕ → (ℕ → Item → Content) → List Declared → (node at : ℕ) → List Content → ℕ → Type 0
+AreGrouped f say types node at cs q = Grouped types node cs × (Plain f say → Held f at (itemsText cs) q)
 
-abbrev pub AreMetadata : (ℕ → Item → Content) → List Declared → (node at : ℕ) → List Content → ℕ → Type 0
-AreMetadata say types node at cs q = Grouped types node cs × (Fits say → at + length (sized (itemsText cs)) ≤ q)
+abbrev pub AreMetadata : List ℕ → (ℕ → Item → Content) → List Declared → (node at : ℕ) → List Content → ℕ → Type 0
+AreMetadata f say types node at cs q = Grouped types node cs × (Plain f say → Held f at (sized (itemsText cs)) q)
 
 -- a run that is known besides
 pub post-known : {A S : Type 0} {put : Part → ℕ → ℕ → S → S} {f : List ℕ} {m : P A} {Q : A → ℕ → S → Type 0} {at : ℕ} {σ : S} → Post put f m Q at σ → Post put f m (λ a q τ. Q a q τ × (run m f at ≡ ok a q)) at σ
@@ -428,25 +420,25 @@ post-known {A} {S} {put} {f} {m} {Q} {at} {σ} w = record { post = rw (exec-puts
     by (refused n p) e x = tt
 
 module _ {f : List ℕ} {say : ℕ → Item → Content} (keeps : Keeps f say) (x : Context) (node : ℕ) where
-  items-say : (end : ℕ) → end ≤ length f → (m : Made) (at : ℕ) (σ : Collected) → m .items ≤ x .limits .items → Post (collectAs say f) f (metaItems x node end m) (Added x m σ (AreGrouped say (x .types) node at)) at σ
+  items-say : (end : ℕ) → end ≤ length f → (m : Made) (at : ℕ) (σ : Collected) → m .items ≤ x .limits .items → Post (collectAs say f) f (metaItems x node end m) (Added x m σ (AreGrouped f say (x .types) node at)) at σ
   unfolding metaItems nextItem
   items-say end o m at σ r =
       post-after
-      (post-many (λ k q τ. Added x m σ (SoFar say (x .types) node (k .index) at) (k .made) q τ) end (record { made = m; index = 0 })
+      (post-many (λ k q τ. Added x m σ (SoFar f say (x .types) node (k .index) at) (k .made) q τ) end (record { made = m; index = 0 })
       (λ k p τ s.
       post-after (item-says keeps x node end o (k .index) (k .made) p τ (added-room s)) λ m₁ q υ t.
       post-ret (
-      let (css, es, e, i, short) = s .are in
+      let (css, es, e, i, held) = s .are in
       let y = count-more css (t .contents) in
-      added-on s t (css ++ t .contents ∷ [], entries-more es (k .index) (t .contents) (omega arith) (t .are .0), flat-more css (t .contents) ∙ ap (λ v. v ++ t .contents) e, omega arith, λ fits. omega (arith, entries-length css (t .contents), short fits, t .are .1 fits))))
-      (added-none ([], none, refl, refl, λ fits. omega arith) r))
-      λ k q τ s. post-ret (let (css, es, e, i, short) = s .are in added-by s ((css, es, e), λ fits. omega (arith, short fits, ap length (sym (ap itemsText e) ∙ items-text es))))
+      added-on s t (css ++ t .contents ∷ [], entries-more es (k .index) (t .contents) (omega arith) (t .are .0), flat-more css (t .contents) ∙ ap (λ v. v ++ t .contents) e, omega arith, λ plain. held-as (sym (entries-joined css (t .contents))) (held-on (held plain) (t .are .1 plain)))))
+      (added-none ([], none, refl, refl, λ plain. held-none at) r))
+      λ k q τ s. post-ret (let (css, es, e, i, held) = s .are in added-by s ((css, es, e), λ plain. held-as (sym (sym (ap itemsText e) ∙ items-text es)) (held plain)))
 
-  pub metadata-says : (end : ℕ) → end ≤ length f → (m : Made) (at : ℕ) (σ : Collected) → m .items ≤ x .limits .items → Post (collectAs say f) f (metadata x node end m) (Added x m σ (AreMetadata say (x .types) node at)) at σ
+  pub metadata-says : (end : ℕ) → end ≤ length f → (m : Made) (at : ℕ) (σ : Collected) → m .items ≤ x .limits .items → Post (collectAs say f) f (metadata x node end m) (Added x m σ (AreMetadata f say (x .types) node at)) at σ
   unfolding metadata
   metadata-says end o m at σ r =
       post-step (block-quiet metaFrame 8 end) λ n q b.
       let i = block-inside metaFrame 8 end f at b in
       post-place _ q (post-weaken (post-known (items-say (q + n) (omega arith) m q σ r)) λ m′ p τ s.
       let e = at-end (inside-free (q + n) (q + n)) f (items-on Nothing (q + n) (q + n) x node (q + n) (omega arith) m q (omega arith)) (s .1) .1 in
-      added-by (s .0) (s .0 .are .0, λ fits. let short = s .0 .are .1 fits in omega (arith, sized-held metaFrame 8 end f at b (itemsText (s .0 .contents)) (omega arith))))
+      added-by (s .0) (s .0 .are .0, λ plain. held-to (sym e) (sized-held metaFrame 8 end f at b (held-to e (s .0 .are .1 plain)))))

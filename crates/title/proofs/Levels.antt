@@ -9,10 +9,11 @@ use lib.Seq.{take-at, drop-at}
 use borrow.Author.Tests.{ltb-true, leb-true}
 use Rattle.cursor.specs.Machine.{ret, refuse, here, byte, pass, Out, ok, refused, seen, passed, run, trace, exec, puts, rowsOf, _>>=_, times}
 use Rattle.cursor.specs.Rows.{Part, nodeRow, itemRow, plain, P, Events, inlineSize}
-use Rattle.cursor.specs.Vlq.{joined}
+use Rattle.cursor.specs.Vlq.{vlq, joined}
 use Rattle.cursor.specs.declared.Node.{Node}
 use Rattle.cursor.proofs.Uses.{passing, Only, used}
 use Rattle.cursor.proofs.Quiet.{still, exec-puts}
+use Rattle.cursor.proofs.Least.{vlq-some}
 use Rattle.cursor.proofs.Wp.{at-end}
 use Rattle.cursor.proofs.Post.{Meets, Post, holds, post-after, post-weaken, post-ret, post-check, post-place, post-skip}
 use Rattle.header.specs.Types.{Declared}
@@ -30,13 +31,14 @@ use Rattle.tree.specs.Tree as tree
 use Rattle.tree.specs.Tree.{folder}
 use Rattle.tree.specs.Reading.{nodesOf, itemsOf}
 use Rattle.title.specs.Description.{Content, content, Shape, shape}
-use Rattle.title.specs.Text.{headerOf, ownText, nodeText, wholeText, outer}
+use Rattle.title.specs.Text.{headerOf, framed, ownText, nodeText, wholeText, outer}
 use Rattle.title.proofs.Sizes.{header-least, framed-length}
+use Rattle.title.proofs.Held.{Held, held-none, held-on, held-as, held-last}
 use Rattle.title.proofs.Collecting.{Collected, collect}
 use Rattle.title.proofs.Fronts.{Stays, Front}
 use Rattle.title.proofs.Nodes.{AllStay, stay-left, stay-right, whole-length}
 use Rattle.title.proofs.Items.{plusItems}
-use Rattle.title.proofs.ItemsSay.{Like, Keeps, plainly-fits, post-known}
+use Rattle.title.proofs.ItemsSay.{Like, Keeps, plainly, post-known}
 use Rattle.title.proofs.NodesSay.{restText, Spans, front-says}
 
 -- ---- NodeHeaderLength and NodeLength, as they are written
@@ -79,20 +81,33 @@ node-exact : (r : Shape) (cs : List Content) (inner : List ℕ) → spanOf r cs 
 unfolding nodeText
 node-exact r cs inner h = whole-length r cs inner ∙ framed-length (r .contained) (restText r cs) (ownText r) (length inner) h
 
-module _ (row : Node) (r : Shape) (cs : List Content) (at q : ℕ) (w : Spans row r cs at q) (inner : List ℕ) (i : q + inlineSize row + length inner ≤ at + row .size) where
+module _ {f : List ℕ} (row : Node) (r : Shape) (cs : List Content) {at q : ℕ} (w : Spans f row r cs at q) (inner : List ℕ) (i : q + inlineSize row + length inner ≤ at + row .size) where
   span-header : spanOf r cs inner .header ≤ row .header
   span-header =
-      let h = w .header-holds in
-      let o = w .own-holds in
-      let a = w .length-fits in
-      let b = w .header-fits in
-      omega (arith, header-least (r .contained) (restText r cs) (length (ownText r) + length inner) (w .a) (w .b) (w .length-some) (w .header-some) (omega arith) (omega arith))
+      let a = w .length-is .held .short in
+      let b = w .contained-held .short in
+      let c = w .header-is .held .short in
+      let d = w .rest-held .short in
+      let o = w .own-held .short in
+      let m = w .length-is .fits in
+      let n = w .header-is .fits in
+      let s = vlq-some (row .size) in
+      let t = vlq-some (row .header) in
+      omega (arith, header-least (r .contained) (restText r cs) (length (ownText r) + length inner) (w .a - at) (w .c - w .b) (omega arith) (omega arith) (omega arith) (omega arith))
 
   span-size : spanOf r cs inner .size ≤ row .size
-  span-size = let o = w .own-holds in let h = span-header in omega arith
+  span-size = let o = w .own-held .short in let h = span-header in omega arith
 
   span-tight : spanOf r cs inner .size ≡ row .size → (spanOf r cs inner .header ≡ row .header) × (q + inlineSize row + length inner ≡ at + row .size)
-  span-tight e = let o = w .own-holds in let h = span-header in (omega arith, omega arith)
+  span-tight e = let o = w .own-held .short in let h = span-header in (omega arith, omega arith)
+
+  -- a node that is no longer than its text has these bytes
+  span-held : Held f (q + inlineSize row) inner (at + row .size) → spanOf r cs inner .size ≡ row .size → spanOf r cs inner .header ≡ row .header → Held f at (wholeText r cs inner) (at + row .size)
+  unfolding wholeText nodeText framed
+  span-held h e e₂ =
+      let own : List ℕ = ownText r in
+      let front : List (List ℕ) = vlq (spanOf r cs inner .size) ∷ vlq (r .contained) ∷ vlq (spanOf r cs inner .header) ∷ restText r cs ∷ own ∷ [] in
+      held-on {s = joined front} (held-on (held-as (ap vlq (sym e)) (w .length-is .held)) (held-on (w .contained-held) (held-on (held-as (ap vlq (sym e₂)) (w .header-is .held)) (held-on (w .rest-held) (held-last (w .own-held)))))) h
 
 -- ---- what is collected: node rows as they are, and contents
 
@@ -166,9 +181,9 @@ post-left {A} {S} {put} {f} {m} {Q} {at} {σ} w = record { post = rw (exec-puts 
 
 -- ---- nodes
 
--- the bytes from `at` to q are no fewer than those of the texts, row by row; and where they are no more, no row is longer
-pub record Bound (rows : List Node) (spans : List Span) (texts : List (List ℕ)) (at q : ℕ) : Type 0 where
-  pub short : at + length (joined texts) ≤ q
+-- the bytes from `at` to q hold the texts, row by row; and where they are no more, no row is longer
+pub record Bound (f : List ℕ) (rows : List Node) (spans : List Span) (texts : List (List ℕ)) (at q : ℕ) : Type 0 where
+  pub held : Held f at (joined texts) q
   pub over : Over rows spans
   pub tight : at + length (joined texts) ≡ q → Exactly rows spans
 
@@ -183,23 +198,23 @@ pub record Level (f : List ℕ) (x : Context) (end n : ℕ) (σ : Raw) (at : ℕ
   pub count : length texts ≡ n
   pub outer-is : (ss : List Shape) (ds : List Content) → outer (map (shape f) rows ++ ss) (contents ++ ds) ≡ texts ++ outer ss ds
   pub sizes-are : (ss : List Shape) (ds : List Content) → spans (map (shape f) rows ++ ss) (contents ++ ds) ≡ sizes ++ spans ss ds
-  pub bound : AllStay (map (shape f) rows) → Bound rows sizes texts at q
+  pub bound : AllStay (map (shape f) rows) → Bound f rows sizes texts at q
   pub room : m .items ≤ x .limits .items
   pub inside : q ≤ end
 
-joined-on : (ss ts : List (List ℕ)) → length (joined (ss ++ ts)) ≡ length (joined ss) + length (joined ts)
-joined-on [] ts = omega arith
-joined-on (s ∷ ss) ts = omega (arith, joined-on ss ts, length-append s (joined (ss ++ ts)), length-append s (joined ss))
+joined-on : (ss ts : List (List ℕ)) → joined (ss ++ ts) ≡ joined ss ++ joined ts
+joined-on [] ts = refl
+joined-on (s ∷ ss) ts = ap (λ v. s ++ v) (joined-on ss ts) ∙ sym (append-assoc s (joined ss) (joined ts))
 
-bound-none : (at : ℕ) → Bound [] [] [] at at
-bound-none at = record { short = omega arith; over = none; tight = λ _. none }
+bound-none : (f : List ℕ) (at : ℕ) → Bound f [] [] [] at at
+bound-none f at = record { held = held-none at; over = none; tight = λ _. none }
 
-bound-on : {rs ts : List Node} {ss us : List Span} (xs ys : List (List ℕ)) {at p q : ℕ} → Bound rs ss xs at p → Bound ts us ys p q → Bound (rs ++ ts) (ss ++ us) (xs ++ ys) at q
+bound-on : {f : List ℕ} {rs ts : List Node} {ss us : List Span} (xs ys : List (List ℕ)) {at p q : ℕ} → Bound f rs ss xs at p → Bound f ts us ys p q → Bound f (rs ++ ts) (ss ++ us) (xs ++ ys) at q
 bound-on xs ys x y =
-    let a = x .short in
-    let b = y .short in
-    let z = joined-on xs ys in
-    record { short = omega arith; over = along-on (x .over) (y .over); tight = λ e. along-on (x .tight (omega arith)) (y .tight (omega arith)) }
+    let a = x .held .short in
+    let b = y .held .short in
+    let z = ap length (joined-on xs ys) ∙ length-append (joined xs) (joined ys) in
+    record { held = held-as (sym (joined-on xs ys)) (held-on (x .held) (y .held)); over = along-on (x .over) (y .over); tight = λ e. along-on (x .tight (omega arith)) (y .tight (omega arith)) }
 
 module _ (f : List ℕ) (x : Context) (end : ℕ) where
   level-none : (m : Made) (at : ℕ) (σ : Raw) → m .items ≤ x .limits .items → at ≤ end → Level f x end 0 σ at m at σ
@@ -213,7 +228,7 @@ module _ (f : List ℕ) (x : Context) (end : ℕ) where
     count = refl;
     outer-is = λ ss ds. refl;
     sizes-are = λ ss ds. refl;
-    bound = λ _. bound-none at;
+    bound = λ _. bound-none f at;
     room = r;
     inside = l;
   }
@@ -242,7 +257,7 @@ module _ (f : List ℕ) (x : Context) (end : ℕ) where
 
   -- a node, from its front and the nodes that it holds
   level-one : (big : length f < 2 ^ 28) (o : end ≤ length f) {at q : ℕ} {m₂ : Made} {σ υ : Raw} (τ : Raw) {limits : Limits} {types : List Declared} {parent depth : ℕ} {m : Made} (row : Node) (cs : List Content)
-      → Front limits types parent depth m (shape f row) cs → shape f row .contained ≡ row .contained → τ .nodes ≡ σ .nodes → τ .items ≡ σ .items ++ cs → (Stays (shape f row) → Spans row (shape f row) cs at q) → at + row .size ≤ end
+      → Front limits types parent depth m (shape f row) cs → shape f row .contained ≡ row .contained → τ .nodes ≡ σ .nodes → τ .items ≡ σ .items ++ cs → (Stays (shape f row) → Spans f row (shape f row) cs at q) → at + row .size ≤ end
       → Level f x (at + row .size) (row .contained) (record { nodes = τ .nodes ++ row ∷ []; items = τ .items }) (q + inlineSize row) m₂ (at + row .size) υ
       → Level f x end 1 σ at m₂ (at + row .size) υ
   unfolding outer spans
@@ -266,17 +281,22 @@ module _ (f : List ℕ) (x : Context) (end : ℕ) where
         bound = λ a.
             let b = t .bound (a .1) in
             let w = wide (a .0) in
-            let i = b .short in
-            let h = span-header row r cs at q w inner i in
-            let z = span-size row r cs at q w inner i in
+            let i = b .held .short in
+            let h = span-header row r cs w inner i in
+            let z = span-size row r cs w inner i in
             let y = node-exact r cs inner (omega arith) in
-            let j = length-append (wholeText r cs inner) [] in
             record {
-              short = omega arith;
+              held = held-last (record {
+                short = omega arith;
+                tight = λ bytes k.
+                    let u : spanOf r cs inner .size ≡ row .size = omega arith in
+                    span-held row r cs w inner i (b .held) u (span-tight row r cs w inner i u .0) .tight bytes k;
+              });
               over = more {r = row} h z (b .over);
               tight = λ k.
+                  let j = length-append (wholeText r cs inner) [] in
                   let u : spanOf r cs inner .size ≡ row .size = omega arith in
-                  let v = span-tight row r cs at q w inner i u in
+                  let v = span-tight row r cs w inner i u in
                   more {r = row} (v .0) u (b .tight (v .1));
             };
         room = t .room;
@@ -294,7 +314,7 @@ module _ (f : List ℕ) (big : length f < 2 ^ 28) (x : Context) where
   abbrev FrontLevel : (parent depth : ℕ) → Standing → Made → Raw → ℕ → front.Front → ℕ → Raw → Type 0
   FrontLevel parent depth z m σ at w q τ =
       (cs : List Content) × Front (x .limits) (x .types) parent depth m (shape f (w .row)) cs × (w .made ≡ plusItems (length cs) m) × (τ .nodes ≡ σ .nodes) × (τ .items ≡ σ .items ++ cs)
-      × (Stays (shape f (w .row)) → Spans (w .row) (shape f (w .row)) cs at q) × FrontIn x z m at w q
+      × (Stays (shape f (w .row)) → Spans f (w .row) (shape f (w .row)) cs at q) × FrontIn x z m at w q
 
   front-level : (parent depth least end : ℕ) (m : Made) (at : ℕ) (σ : Raw) → end ≤ length f → end ≤ x .size → m .nodes < x .limits .nodes → m .items ≤ x .limits .items
       → Post (keepAs f) f (front x parent depth (inTree least end) m) (FrontLevel parent depth (inTree least end) m σ at) at σ
@@ -310,7 +330,7 @@ module _ (f : List ℕ) (big : length f < 2 ^ 28) (x : Context) where
         made,
         kept ∙ ap (λ v. σ .nodes ++ v) none-made ∙ append-nil (σ .nodes),
         ap (λ (v : Collected). v .items) left,
-        wide (plainly-fits f),
+        wide (plainly f),
         at-end (inside-free end (x .size)) f (front-on Nothing end x parent depth (inTree least end) m at (omega arith) i) (s .0 .1),
       )
 

@@ -39,9 +39,9 @@ use Rattle.title.specs.Text.{itemsText, ownText, wholeText}
 use Rattle.title.proofs.Collecting.{Collected, collectAs, collect-ignores, withItems, withRows}
 use Rattle.cursor.proofs.Runs.{nothing, nothing-ignores, nothing-quiet, Holds, post-ran}
 use Rattle.tree.proofs.Nodes.{inline-is}
-use Rattle.title.proofs.Held.{number-fits, number-held, sized-held}
+use Rattle.title.proofs.Held.{Held, Number, held-on, held-as, held-to, held-wider, held-last, held-part, number-held, number-is, sized-held}
 use Rattle.title.proofs.Items.{plusItems}
-use Rattle.title.proofs.ItemsSay.{Keeps, Fits, Added, Grouped, metadata-says}
+use Rattle.title.proofs.ItemsSay.{Keeps, Plain, Added, Grouped, metadata-says}
 use Rattle.title.proofs.UnpackersSay.{PacksOf, unpackers-say}
 use Rattle.title.proofs.Fronts.{own-inline, own-uri, Stays, Front}
 use Rattle.title.proofs.Nodes.{madeBy, Nodes, none, more}
@@ -81,14 +81,14 @@ reference-is headerEnd size contained end at =
     wp-place _ at
     (wp-after (number-on _ _ end at) λ r q x. wp-check _ _ λ t. wp-check _ _ λ u. wp-check _ _ λ v. refers-by headerEnd size contained r end q (either contained r v))
 
--- a reference took no fewer bytes than its shortest form: alone, or with a URI
+-- what was read holds a reference: alone, with the data after it, or with a URI
 abbrev RefersIn : List ℕ → ℕ → reference.Reference → ℕ → Type 0
-RefersIn f at o q = (o .kind ≡ 1 → at + length (vlq 1) ≤ q) × (o .kind ≡ 4 → at + length (vlq 4) + length (sized (part f (o .target) (o .extent))) ≤ q)
+RefersIn f at o q = (o .kind ≡ 1 → Held f at (vlq 1) q × (o .target ≡ q)) × (o .kind ≡ 4 → Held f at (joined (vlq 4 ∷ sized (part f (o .target) (o .extent)) ∷ [])) q)
 
-target-in : (f : List ℕ) (headerEnd size r end at p : ℕ) → at + length (vlq r) ≤ p → 0 < r → r ≤ 4 → Post nothing f (target headerEnd size r end) (Holds (RefersIn f at)) p tt
+target-in : (f : List ℕ) (headerEnd size r end at p : ℕ) → Held f at (vlq r) p → 0 < r → r ≤ 4 → Post nothing f (target headerEnd size r end) (Holds (RefersIn f at)) p tt
 unfolding target resource nodePlace uriPlace
-target-in f headerEnd size r end at p l some four =
-    post-if (λ t. post-place _ p (post-ret (let e = eqb-true r 1 t in (λ _. omega (arith, ap (λ k. length (vlq k)) e), λ z. absurd (omega arith)))))
+target-in f headerEnd size r end at p h some four =
+    post-if (λ t. post-place _ p (post-ret (let e = eqb-true r 1 t in (λ _. (held-as (ap vlq e) h, refl), λ z. absurd (omega arith)))))
     λ t. post-if (λ u. post-place _ p (post-step nothing-quiet λ o q e. post-check _ _ λ c. post-check _ _ λ d. post-ret (λ z. absurd (omega arith), λ z. absurd (omega arith))))
     λ u. post-if (λ w. post-step nothing-quiet λ o q e. post-ret (λ z. absurd (omega arith), λ z. absurd (omega arith)))
     λ w. post-step nothing-quiet λ n q e. post-place _ q (post-skip _ _ (post-ret (
@@ -96,8 +96,7 @@ target-in f headerEnd size r end at p l some four =
     let b = eqb-false r 2 u in
     let c = eqb-false r 3 w in
     let k : r ≡ 4 = omega arith in
-    let n-most = length-take n (drop q f) in
-    (λ z. absurd (omega arith), λ z. omega (arith, ap (λ k. length (vlq k)) k, sized-held referenceFrame 3 end f p e (part f q n) (omega arith))))))
+    (λ z. absurd (omega arith), λ z. held-on (held-as (ap vlq k) h) (held-last (sized-held referenceFrame 3 end f p e (held-part f q n)))))))
 
 reference-in : (f : List ℕ) (headerEnd size contained end at : ℕ) → Post nothing f (reference headerEnd size contained end) (Holds (RefersIn f at)) at tt
 unfolding reference
@@ -128,20 +127,23 @@ head-few s at =
     wp-after (number-on _ _ (at + n) p) λ contained q y. wp-check _ _ λ w.
     wp-place _ q (wp-after (number-on _ _ (at + n) q) λ header r z. wp-place _ r (wp-check _ _ λ a. wp-check _ _ λ b. wp-ret (y .3))))
 
--- NodeLength took a bytes, NodeHeaderLength b, and the number between them no fewer than its shortest form
-abbrev HeadIn : ℕ → head.Head → ℕ → Type 0
-HeadIn at h q = (a : ℕ) × (b : ℕ) × (1 ≤ a) × (1 ≤ b) × (h .size .0 < 128 ^ a) × (h .header .0 < 128 ^ b) × (at + a + length (vlq (h .contained)) + b ≤ q)
+-- where the three numbers end: NodeLength at a, the number of contained items at b, NodeHeaderLength at q
+abbrev HeadIn : List ℕ → ℕ → head.Head → ℕ → Type 0
+HeadIn f at h q = (a : ℕ) × (b : ℕ) × Number f at (h .size .0) a × Held f a (vlq (h .contained)) b × Number f b (h .header .0) q
 
-head-in : (f : List ℕ) (s : Standing) (at : ℕ) → Post nothing f (head s) (Holds (HeadIn at)) at tt
+head-in : (f : List ℕ) (s : Standing) (at : ℕ) → Post nothing f (head s) (Holds (HeadIn f at)) at tt
 unfolding head headerLength
 head-in f s at =
     post-place _ at
     (post-step nothing-quiet λ n p e₁. post-check _ _ λ t. post-check _ _ λ u. post-check _ _ λ v.
     post-step nothing-quiet λ contained q e₂. post-check _ _ λ w.
     post-place _ q (post-step nothing-quiet λ header r e₃. post-place _ r (post-check _ _ λ c. post-check _ _ λ d. post-ret (
-    let i = number-inside nodeFrame 3 (s .end .0) f at e₁ in
-    let k = number-inside nodeFrame 3 (at + n) f q e₃ in
-    (p - at, r - q, omega arith, omega arith, number-fits nodeFrame 3 (s .end .0) f at e₁, number-fits nodeFrame 3 (at + n) f q e₃, omega (arith, number-held nodeFrame 3 (at + n) f p e₂))))))
+      p,
+      q,
+      number-is nodeFrame 3 (s .end .0) f at e₁,
+      number-held nodeFrame 3 (at + n) f p e₂,
+      number-is nodeFrame 3 (at + n) f q e₃,
+    ))))
 
 -- ---- the front of a node
 
@@ -149,16 +151,16 @@ head-in f s at =
 abbrev pub restText : Shape → List Content → List ℕ
 restText r cs = joined (sized (itemsText cs) ∷ sized (r .unpackers) ∷ [])
 
--- a node's row, and its front from `at` to q: NodeLength took a bytes, NodeHeaderLength b, and all else no fewer than its text
-pub record Spans (row : Node) (r : Shape) (cs : List Content) (at q : ℕ) : Type 0 where
+-- A node's row, and its front from `at` to q: where the three numbers end; and what stands behind them, up to where the header ends and the node's own data.
+pub record Spans (f : List ℕ) (row : Node) (r : Shape) (cs : List Content) (at q : ℕ) : Type 0 where
   pub a : ℕ
   pub b : ℕ
-  pub length-some : 1 ≤ a
-  pub header-some : 1 ≤ b
-  pub length-fits : row .size < 128 ^ a
-  pub header-fits : row .header < 128 ^ b
-  pub header-holds : a + length (vlq (r .contained)) + b + length (restText r cs) ≤ row .header
-  pub own-holds : at + row .header + length (ownText r) ≤ q + inlineSize row
+  pub c : ℕ
+  pub length-is : Number f at (row .size) a
+  pub contained-held : Held f a (vlq (r .contained)) b
+  pub header-is : Number f b (row .header) c
+  pub rest-held : Held f c (restText r cs) (at + row .header)
+  pub own-held : Held f (at + row .header) (ownText r) (q + inlineSize row)
 
 refers-stay : (contained k : ℕ) → RefersTo contained k → ((k ≡ 2) → ⊥) × ((k ≡ 3) → ⊥) → (k ≡ 1) ⊎ ((k ≡ 4) × (contained ≡ 0))
 refers-stay contained k (inl e) s = inl e
@@ -172,49 +174,41 @@ decEqZero (suc n) = inr (λ z. omega arith)
 
 module _ (f : List ℕ) where
   -- its own text: the reference, with what it leads to in the node
-  own-in : (row : Node) (at q : ℕ) → Stays (shape f row) → RefersTo (row .contained) (row .reference) → (row .reference ≡ 1 → at + length (vlq 1) ≤ q) → (row .reference ≡ 4 → at + length (vlq 4) + length (sized (part f (row .target) (row .extent))) ≤ q)
-      → at + length (ownText (shape f row)) ≤ q + inlineSize row
+  own-in : (row : Node) (at q : ℕ) → Stays (shape f row) → RefersTo (row .contained) (row .reference) → (row .reference ≡ 1 → Held f at (vlq 1) q × (row .target ≡ q)) → (row .reference ≡ 4 → Held f at (joined (vlq 4 ∷ sized (part f (row .target) (row .extent)) ∷ [])) q)
+      → Held f at (ownText (shape f row)) (q + inlineSize row)
   unfolding shape
   own-in row at q stays refers one four = elim (refers-stay (row .contained) (row .reference) refers stays) [
     | inl e ↦
         let r : Shape = shape f row in
-        let t = ap length (own-inline r e) ∙ joined-length (vlq 1 ∷ r .body ∷ []) in
-        let h = one e in
+        let (h, t) = one e in
         elim (decEqZero (row .contained)) [
           | inl z ↦
-              let b : r .body ≡ part f (row .target) (row .extent) = rw z refl in
-              let k = length-take (row .extent) (drop (row .target) f) in
-              omega (arith, ap length b, inline-is row z e)
-          | inr n ↦ let b : r .body ≡ [] = rw (ne-eqb _ _ n) refl in omega (arith, ap length b)
+              let b : part f q (row .extent) ≡ r .body = rw (z, t) refl in
+              held-as (sym (own-inline r e)) (held-on h (held-last (held-to (omega (arith, inline-is row z e)) (held-as b (held-part f q (row .extent))))))
+          | inr n ↦ let b : r .body ≡ [] = rw (ne-eqb _ _ n) refl in held-as (sym (own-inline r e ∙ ap (λ v. joined (vlq 1 ∷ v ∷ [])) b)) (held-last (held-wider (omega arith) h))
         ]
     | inr (e, z) ↦
         let r : Shape = shape f row in
-        let b : r .body ≡ part f (row .target) (row .extent) = rw z refl in
-        let t = ap length (own-uri r e) ∙ joined-length (vlq 4 ∷ sized (r .body) ∷ []) in
-        let h = four e in
-        omega (arith, ap (λ v. length (sized v)) b)
+        let b : part f (row .target) (row .extent) ≡ r .body = rw z refl in
+        held-as (ap (λ v. joined (vlq 4 ∷ sized v ∷ [])) b ∙ sym (own-uri r e)) (held-wider (omega arith) (four e))
   ]
 
-  spans-made : (parent depth at p q v : ℕ) (h : head.Head) (m m′ : Made) (o : Rest) (cs : List Content) → HeadIn at h p → p + length (sized (itemsText cs)) ≤ q → RestSays f (h .contained) (at + h .header .0) q o v
+  spans-made : (parent depth at p q v : ℕ) (h : head.Head) (m m′ : Made) (o : Rest) (cs : List Content) → HeadIn f at h p → Held f p (sized (itemsText cs)) q → RestSays f (h .contained) (at + h .header .0) q o v
       → Stays (shape f (node.rowOf at h parent depth 0 (o .reference) (o .unpackers) (m′ .items - m .items)))
-      → Spans (node.rowOf at h parent depth 0 (o .reference) (o .unpackers) (m′ .items - m .items)) (shape f (node.rowOf at h parent depth 0 (o .reference) (o .unpackers) (m′ .items - m .items))) cs at v
+      → Spans f (node.rowOf at h parent depth 0 (o .reference) (o .unpackers) (m′ .items - m .items)) (shape f (node.rowOf at h parent depth 0 (o .reference) (o .unpackers) (m′ .items - m .items))) cs at v
   unfolding shape
-  spans-made parent depth at p q v h m m′ o cs (a, b, some, some₂, fits, fits₂, spans) l (e, packs, refers, full, short) stays =
+  spans-made parent depth at p q v h m m′ o cs (a, b, size, contained, header) items (e, packs, refers, full, own) stays =
       let row : Node = node.rowOf at h parent depth 0 (o .reference) (o .unpackers) (m′ .items - m .items) in
-      let u = packs .short in
-      let w = packs .within in
-      let i : e ≡ at + h .header .0 = omega arith in
-      let z = joined-length (sized (itemsText cs) ∷ sized (shape f row .unpackers) ∷ []) in
-      let y = ap (λ t. length (sized t)) (packs .text) in
+      let i : e ≡ at + h .header .0 = omega (arith, packs .within) in
       record {
         a = a;
         b = b;
-        length-some = some;
-        header-some = some₂;
-        length-fits = fits;
-        header-fits = fits₂;
-        header-holds = omega arith;
-        own-holds = (let k = own-in row e v stays refers (short .0) (short .1) in omega arith);
+        c = p;
+        length-is = size;
+        contained-held = contained;
+        header-is = header;
+        rest-held = held-to i (held-on items (held-last (held-as (ap sized (packs .text)) (packs .held))));
+        own-held = subst (λ k. Held f k (ownText (shape f row)) (v + inlineSize row)) i (own-in row e v stays refers (own .0) (own .1));
       }
 
 module _ {f : List ℕ} {say : ℕ → Item → Content} (keeps : Keeps f say) (x : Context) where
@@ -247,7 +241,7 @@ module _ {f : List ℕ} {say : ℕ → Item → Content} (keeps : Keeps f say) (
 
   pub front-says : (parent depth least end : ℕ) (m : Made) (at : ℕ) (σ : Collected) → end ≤ length f → m .nodes < x .limits .nodes → m .items ≤ x .limits .items
       → Post (collectAs say f) f (front x parent depth (inTree least end) m)
-      (λ w q τ. (cs : List Content) × Front (x .limits) (x .types) parent depth m (shape f (w .row)) cs × (w .made ≡ plusItems (length cs) m) × (τ ≡ withItems σ cs) × (at + w .row .size ≤ end) × (Fits say → Stays (shape f (w .row)) → Spans (w .row) (shape f (w .row)) cs at q)) at σ
+      (λ w q τ. (cs : List Content) × Front (x .limits) (x .types) parent depth m (shape f (w .row)) cs × (w .made ≡ plusItems (length cs) m) × (τ ≡ withItems σ cs) × (at + w .row .size ≤ end) × (Plain f say → Stays (shape f (w .row)) → Spans f (w .row) (shape f (w .row)) cs at q)) at σ
   unfolding front
   front-says parent depth least end m at σ o room r =
       post-place _ at
@@ -262,7 +256,7 @@ module _ {f : List ℕ} {say : ℕ → Item → Content} (keeps : Keeps f say) (
         s .made,
         s .left,
         i .3,
-        λ fits stays. spans-made f parent depth at p q v h m m′ u (s .contents) (post-ran (head-in f (inTree least end) at) e) (s .are .1 fits) w stays,
+        λ plain stays. spans-made f parent depth at p q v h m m′ u (s .contents) (post-ran (head-in f (inTree least end) at) e) (s .are .1 plain) w stays,
       ))
 
 -- ---- nodes

@@ -1,5 +1,5 @@
 -- No accepted file is shorter than the text of what it says: not as a whole, nor where its tree starts and ends, nor any node or header. One that is as long as that text has
--- all of these as the text has them, so that they are each the least of all files that say the same.
+-- all of these as the text has them, so that they are each the least of all files that say the same; and it is that text, byte for byte.
 -- Assumes nothing.
 use mathlib.Core.Path.{_≡_, refl, sym, ap, ap₂, _∙_, subst}
 use mathlib.Core.List.{List, [], _∷_, append-nil, map}
@@ -12,6 +12,7 @@ use Rattle.cursor.specs.Rows.{P, Events}
 use Rattle.cursor.specs.Vlq.{vlq, joined, sized}
 use Rattle.cursor.specs.declared.Node.{Node}
 use Rattle.cursor.specs.declared.Item.{Item}
+use Rattle.cursor.proofs.Least.{vlq-some}
 use Rattle.cursor.proofs.Lies.{part-length}
 use Rattle.header.specs.Header.{Header}
 use Rattle.metadata.specs.Metadata.{Context}
@@ -22,9 +23,10 @@ use Rattle.tree.specs.Reading.{nodesOf, itemsOf, rows, readFile, context}
 use Rattle.tree.proofs.Shown.{header-of}
 use Rattle.tree.proofs.Follow.{treeOf, read-back}
 use Rattle.title.specs.Description.{content, shape, Description, described, openingSize, answer}
-use Rattle.title.specs.Text.{outer, treeStart, fileText}
-use Rattle.title.specs.Title.{Says, NowhereLonger, elsewhere}
+use Rattle.title.specs.Text.{outer, treeStart, assembled, fileOf, fileText}
+use Rattle.title.specs.Title.{Bytes, Says, NowhereLonger, elsewhere}
 use Rattle.title.proofs.Sizes.{front, start-right, start-least, size-is}
+use Rattle.title.proofs.Held.{Held, held-on, held-as, held-to, held-wider, held-last, held-part, held-first, held-rest, held-whole}
 use Rattle.title.proofs.Nodes.{AllStay}
 use Rattle.title.proofs.Headers.{HeaderSays, header-says}
 use Rattle.title.proofs.Follows.{stay-elsewhere, log-is-tree}
@@ -39,17 +41,22 @@ treeText d = joined (outer (d .nodes) (d .items))
 abbrev startOf : Description → ℕ
 startOf d = treeStart (d .opening) (sized (d .types)) (d .gap) (treeText d) (d .after)
 
--- a file of `size` bytes, with this header and these rows, is nowhere shorter than the text of d; and where it is no longer, it is nowhere longer
-pub record NoShorter (d : Description) (size : ℕ) (h : Header) (ns : List Node) : Type 0 where
-  pub whole : length (fileText d) ≤ size
+-- the file g, with this header and these rows, is nowhere shorter than the text of d; where it is no longer, it is nowhere longer; and then it is that text
+pub record NoShorter (d : Description) (g : List ℕ) (h : Header) (ns : List Node) : Type 0 where
+  pub whole : length (fileText d) ≤ length g
   pub start : startOf d ≤ h .extent .start
   pub last : startOf d + length (treeText d) ≤ h .extent .last + 1
   pub levels : Over ns (spans (d .nodes) (d .items))
-  pub tight : size ≤ length (fileText d) → (startOf d ≡ h .extent .start) × (startOf d + length (treeText d) ≡ h .extent .last + 1) × Exactly ns (spans (d .nodes) (d .items))
+  pub tight : length g ≤ length (fileText d) → (startOf d ≡ h .extent .start) × (startOf d + length (treeText d) ≡ h .extent .last + 1) × Exactly ns (spans (d .nodes) (d .items))
+  pub only : Bytes g → length g ≤ length (fileText d) → g ≡ fileText d
 
 file-size : (d : Description) → length (fileText d) ≡ front (d .opening) (sized (d .types)) (d .gap) (treeText d) (d .after) + length (d .gap) + length (treeText d) + length (d .after)
 unfolding fileText
 file-size d = size-is (d .opening) (sized (d .types)) (d .gap) (treeText d) (d .after)
+
+text-is : (d : Description) → joined (d .opening ∷ vlq (startOf d + length (treeText d) + length (d .after)) ∷ sized (d .types) ∷ vlq (startOf d) ∷ vlq (startOf d + length (treeText d) - 1) ∷ d .gap ∷ treeText d ∷ d .after ∷ []) ≡ fileText d
+unfolding fileText fileOf assembled
+text-is d = refl
 
 module _ {f : List ℕ} {x : Context} {end n : ℕ} {σ τ : Raw} {at q : ℕ} {m : Made} (t : Level f x end n σ at m q τ) where
   all-texts : outer (map (shape f) (t .rows)) (t .contents) ≡ t .texts
@@ -79,7 +86,23 @@ module _ (lim : Limits) (g : List ℕ) {h : Header} {ns : List Node} {is : List 
   unfolding described
   items-are = refl
 
-  pub no-shorter : AllStay (map (shape g) ns) → NoShorter (described g h ns is) (length g) h ns
+  -- a file whose numbers are those of its text holds that text
+  parts-held : (says : HeaderSays g h) → (t : List ℕ) → Held g (h .extent .start) t (h .extent .last + 1) → (size start last : ℕ) → size ≡ length g → start ≡ h .extent .start → last ≡ h .extent .last
+      → h .extent .end ≤ h .extent .start → h .extent .last < length g
+      → Held g 0 (joined (described g h ns is .opening ∷ vlq size ∷ sized (described g h ns is .types) ∷ vlq start ∷ vlq last ∷ described g h ns is .gap ∷ t ∷ described g h ns is .after ∷ [])) (length g)
+  unfolding described
+  parts-held says t tree size start last e₁ e₂ e₃ l m =
+      let sp = says .spans in
+      let z : h .extent .end + (h .extent .start - h .extent .end) ≡ h .extent .start = omega arith in
+      held-on (held-first g (openingSize (h .version)))
+      (held-on (held-as (ap vlq (sym e₁)) (sp .length-is .held))
+      (held-on (held-as (ap sized (sym (types-are says))) (sp .types-held))
+      (held-on (held-as (ap vlq (sym e₂)) (sp .start-is .held))
+      (held-on (held-as (ap vlq (sym e₃)) (sp .last-is .held))
+      (held-on (held-to z (held-part g (h .extent .end) (h .extent .start - h .extent .end)))
+      (held-on tree (held-last (held-rest g (h .extent .last + 1) (omega arith)))))))))
+
+  pub no-shorter : AllStay (map (shape g) ns) → NoShorter (described g h ns is) g h ns
   no-shorter stay =
       let d : Description = described g h ns is in
       let r = read-back lim g reads in
@@ -100,12 +123,18 @@ module _ (lim : Limits) (g : List ℕ) {h : Header} {ns : List Node} {is : List 
       let outer-is : outer (d .nodes) (d .items) ≡ t .texts = ap₂ outer shapes said ∙ all-texts t in
       let sizes-are : spans (d .nodes) (d .items) ≡ t .sizes = ap₂ spans shapes said ∙ all-sizes t in
       let tree-is : length (treeText d) ≡ length (joined (t .texts)) = ap (λ v. length (joined v)) outer-is in
-      let fits : startOf d ≤ length (d .opening) + sp .x + length (sized (d .types)) + sp .y + sp .z + length (d .gap) =
-      start-least (d .opening) (sized (d .types)) (d .gap) (treeText d) (d .after) (sp .x) (sp .y) (sp .z) (sp .x-some) (sp .y-some) (sp .z-some)
-      (omega (arith, sp .holds, sp .start-fits)) (omega (arith, sp .holds, sp .last-fits, bound .short, t .inside)) (omega (arith, sp .holds, sp .length-fits, bound .short, t .inside)) in
-      let hold = sp .holds in
-      let short = bound .short in
+      let x : ℕ = sp .a - openingSize (h .version) in
+      let y : ℕ = sp .c - sp .b in
+      let z : ℕ = h .extent .end - sp .c in
+      let hold : openingSize (h .version) + x + length (sized (d .types)) + y + z ≤ h .extent .end = omega (arith, sp .length-is .held .short, sp .types-held .short, sp .start-is .held .short, sp .last-is .held .short) in
+      let some-x : 1 ≤ x = omega (arith, sp .length-is .held .short, vlq-some (length g)) in
+      let some-y : 1 ≤ y = omega (arith, sp .start-is .held .short, vlq-some (h .extent .start)) in
+      let some-z : 1 ≤ z = omega (arith, sp .last-is .held .short, vlq-some (h .extent .last)) in
+      let short = bound .held .short in
       let inside = t .inside in
+      let fits : startOf d ≤ length (d .opening) + x + length (sized (d .types)) + y + z + length (d .gap) =
+      start-least (d .opening) (sized (d .types)) (d .gap) (treeText d) (d .after) x y z (omega arith) (omega arith) (omega arith)
+      (omega (arith, sp .start-is .fits)) (omega (arith, sp .last-is .fits)) (omega (arith, sp .length-is .fits)) in
       let size = file-size d in
       let right = start-right (d .opening) (sized (d .types)) (d .gap) (treeText d) (d .after) (omega arith) in
       record {
@@ -114,18 +143,25 @@ module _ (lim : Limits) (g : List ℕ) {h : Header} {ns : List Node} {is : List 
         last = omega arith;
         levels = subst (λ v. Over v (spans (d .nodes) (d .items))) rows-are (subst (Over (t .rows)) (sym sizes-are) (bound .over));
         tight = λ l. (omega arith, omega arith, subst (λ v. Exactly v (spans (d .nodes) (d .items))) rows-are (subst (Exactly (t .rows)) (sym sizes-are) (bound .tight (omega arith))));
+        only = λ bytes l.
+            let text = parts-held says (treeText d) (held-as (ap joined (sym outer-is)) (held-wider inside (bound .held))) (startOf d + length (treeText d) + length (d .after)) (startOf d) (startOf d + length (treeText d) - 1) (omega arith) (omega arith) (omega arith) (omega arith) (w .3) in
+            held-whole (held-as (text-is d) text) bytes l;
       }
 
 -- ---- each number is the least of all files that say the same
 
 -- what a file says decides how long it is at least
-pub says-no-shorter : {lim : Limits} {g : List ℕ} {d : Description} (s : Says lim g d) → AllStay (d .nodes) → NoShorter d (length g) (s .header) (s .nodes)
+pub says-no-shorter : {lim : Limits} {g : List ℕ} {d : Description} (s : Says lim g d) → AllStay (d .nodes) → NoShorter d g (s .header) (s .nodes)
 says-no-shorter {lim} {g} {d} s stay =
     let e : d .nodes ≡ map (shape g) (s .nodes) = ap (λ (v : Description). v .nodes) (sym (s .says)) ∙ nodes-are lim g (s .reads) in
-    subst (λ v. NoShorter v (length g) (s .header) (s .nodes)) (s .says) (no-shorter lim g (s .reads) (subst AllStay e stay))
+    subst (λ v. NoShorter v g (s .header) (s .nodes)) (s .says) (no-shorter lim g (s .reads) (subst AllStay e stay))
 
 pub shortest : {lim : Limits} {g : List ℕ} {d : Description} → Says lim g d → AllStay (d .nodes) → length (fileText d) ≤ length g
 shortest s stay = says-no-shorter s stay .whole
+
+-- and one that is no longer, if its elements are bytes, is the text of what it says
+pub only-shortest : {lim : Limits} {g : List ℕ} {d : Description} → Says lim g d → AllStay (d .nodes) → Bytes g → length g ≤ length (fileText d) → g ≡ fileText d
+only-shortest s stay = says-no-shorter s stay .only
 
 row-least : {rs ts : List Node} {ss : List Span} → Exactly rs ss → Over ts ss → (i : ℕ) → i < length rs → (nodeAt rs i .size ≤ nodeAt ts i .size) × (nodeAt rs i .header ≤ nodeAt ts i .header)
 row-least none none i l = absurd (omega arith)

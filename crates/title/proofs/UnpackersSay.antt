@@ -15,18 +15,20 @@ use Rattle.cursor.specs.Leaves.{number}
 use Rattle.cursor.specs.Vlq.{part, vlq, joined, sized}
 use Rattle.cursor.proofs.Laws.{running, andThen}
 use Rattle.cursor.proofs.Quiet.{Quiet, IgnoresPlain, still, number-quiet, block-quiet, manufacturer-quiet, guid-quiet}
-use Rattle.cursor.proofs.Wp.{at-end}
+use Rattle.cursor.proofs.Wp.{Wp, at-end, wp-after, wp-weaken, wp-ret, wp-place, wp-many}
 use Rattle.cursor.proofs.Leaves.{Any, any-free, number-inside, block-inside, manufacturer-on, guid-on}
 use Rattle.cursor.proofs.Lies.{Lies, lies-part, sum, joined-length}
 use Rattle.cursor.proofs.Back.{Guid, Maker, guid-back, maker-back, Stood, guid-was, maker-was}
 use Rattle.cursor.proofs.Wider.{number-wider}
 use Rattle.cursor.proofs.Post.{Meets, Post, post-after, post-run, post-step, post-weaken, post-ret, post-if, post-check, post-place, post-many}
+use Rattle.metadata.proofs.Ends.{Nothing, inside-free, Inside}
 use Rattle.node.specs.Node as node
 use Rattle.node.specs.Node.{value, identifier, entries, unpackers}
 use Rattle.node.specs.declared.Unpackers as unpackers
+use Rattle.node.proofs.Ends.{unpacker-on}
 use Rattle.title.specs.Description.{copied, identifierText, unpackerText, answer}
-use Rattle.cursor.proofs.Runs.{nothing, Holds, post-ran, times-more}
-use Rattle.title.proofs.Held.{number-held, sized-held}
+use Rattle.cursor.proofs.Runs.{nothing, nothing-quiet, Holds, post-ran, times-more}
+use Rattle.title.proofs.Held.{Held, held-none, held-on, held-as, held-to, held-last, held-lies, number-held, sized-held}
 use Rattle.title.proofs.Unpackers as grammar
 use Rattle.title.proofs.Unpackers.{Names, guid, made, Unpacker, unpacker, Unpackers, none, more}
 
@@ -59,7 +61,7 @@ module _ (f : List ℕ) (end : ℕ) (o : end ≤ length f) where
   unfolding identifierText
   number-text kind at a b e = let e₁ = wide at e in simp (running, ne-eqb _ _ a, ne-eqb _ _ b, e₁)
 
-  identifier-says : (kind at : ℕ) → Post nothing f (identifier kind end) (Holds (λ _ q. (q ≤ end) × (at < q) × (s : List ℕ) × Names kind s × (run (identifierText f kind) f at ≡ ok s q) × (at + length s ≤ q))) at tt
+  identifier-says : (kind at : ℕ) → Post nothing f (identifier kind end) (Holds (λ _ q. (q ≤ end) × (at < q) × (s : List ℕ) × Names kind s × (run (identifierText f kind) f at ≡ ok s q) × Held f at s q)) at tt
   unfolding identifier value
   identifier-says kind at =
       post-if
@@ -67,7 +69,7 @@ module _ (f : List ℕ) (end : ℕ) (o : end ≤ length f) where
       let i = at-end any-free f (guid-on {U = Any} unpackFrame end at) e in
       let w = guid-was unpackFrame end f o at e in
       let k = eqb-true kind 3 t in
-      (i .2, i .0, w .bytes, subst (λ j. Names j (w .bytes)) (sym k) (guid (w .is)), guid-text kind at k (w .is) (w .lies) ∙ ap (ok (w .bytes)) (sym (w .ends)), omega (arith, w .ends)))
+      (i .2, i .0, w .bytes, subst (λ j. Names j (w .bytes)) (sym k) (guid (w .is)), guid-text kind at k (w .is) (w .lies) ∙ ap (ok (w .bytes)) (sym (w .ends)), held-to (sym (w .ends)) (held-lies (w .lies))))
       (λ t. post-if
       (λ u. post-step (manufacturer-quiet unpackFrame end) λ _ q e.
       post-step (number-quiet unpackFrame 3 end) λ v r e₂.
@@ -81,7 +83,7 @@ module _ (f : List ℕ) (end : ℕ) (o : end ≤ length f) where
         joined (w .bytes ∷ vlq v ∷ []),
         subst (λ n. Names n (joined (w .bytes ∷ vlq v ∷ []))) (sym k) (made (w .is) (j .3)),
         made-text kind at k (w .is) (w .lies) (subst (λ n. run (number unpackFrame 3 end) f n ≡ ok v r) (w .ends) e₂),
-        omega (arith, w .ends, number-held unpackFrame 3 end f q e₂, joined-length (w .bytes ∷ vlq v ∷ [])),
+        held-on (held-to (sym (w .ends)) (held-lies (w .lies))) (held-last (number-held unpackFrame 3 end f q e₂)),
       ))
       (λ u. post-step (number-quiet unpackFrame 3 end) λ v q e.
       let i = number-inside unpackFrame 3 end f at e in
@@ -98,7 +100,7 @@ module _ (f : List ℕ) (end : ℕ) (o : end ≤ length f) where
   unfolding value
   value-says at = post-step (number-quiet unpackFrame 3 end) λ v q e. post-ret (v, e)
 
-  unpacker-says : (n at : ℕ) → Post nothing f (node.unpacker end n) (Holds (λ k q. (k ≡ n + 1) × (at < q) × (q ≤ end) × (s : List ℕ) × Unpacker s × ((before : List ℕ) → run (unpackerText f before) f at ≡ ok (before ++ s) q) × (at + length s ≤ q))) at tt
+  unpacker-says : (n at : ℕ) → Post nothing f (node.unpacker end n) (Holds (λ k q. (k ≡ n + 1) × (at < q) × (q ≤ end) × (s : List ℕ) × Unpacker s × ((before : List ℕ) → run (unpackerText f before) f at ≡ ok (before ++ s) q) × Held f at s q)) at tt
   unfolding node.unpacker
   unpacker-says n at =
       post-place _ at
@@ -107,7 +109,7 @@ module _ (f : List ℕ) (end : ℕ) (o : end ≤ length f) where
       post-after (identifier-says kind q) λ _ r _ w.
       post-after (value-says r) λ _ u _ y.
       let (size, e₂) = y in
-      let (a, b, s, names, text, short) = w in
+      let (a, b, s, names, text, held) = w in
       let i = number-inside unpackFrame 3 end f at e in
       let j = number-inside unpackFrame 3 end f r e₂ in
       post-ret (
@@ -117,7 +119,7 @@ module _ (f : List ℕ) (end : ℕ) (o : end ≤ length f) where
         joined (vlq kind ∷ s ∷ vlq size ∷ []),
         unpacker (leb-true kind 3 t) names (j .3),
         λ before. unpacker-text before at e text e₂,
-        omega (arith, number-held unpackFrame 3 end f at e, number-held unpackFrame 3 end f r e₂, joined-length (vlq kind ∷ s ∷ vlq size ∷ [])),
+        held-on (number-held unpackFrame 3 end f at e) (held-on held (held-last (number-held unpackFrame 3 end f r e₂))),
       ))
 
 -- ---- end to end
@@ -130,25 +132,23 @@ joined-more : (ss : List (List ℕ)) (s : List ℕ) → joined (ss ++ s ∷ []) 
 joined-more [] s = append-nil s
 joined-more (t ∷ ss) s = ap (λ v. t ++ v) (joined-more ss s) ∙ sym (append-assoc t (joined ss) s)
 
--- k unpackers that begin at p were read up to q; they took no fewer bytes
+-- k unpackers were read from p up to q
 record Packs (f : List ℕ) (end p k q : ℕ) : Type 0 where
   packs : List (List ℕ)
   are : Unpackers packs
   count : k ≡ length packs
   far : p + length packs ≤ q
   inside : q ≤ end
-  short : p + length (joined packs) ≤ q
+  held : Held f p (joined packs) q
   text : run (times k (unpackerText f) []) f p ≡ ok (joined packs) q
 
 begun : (f : List ℕ) (end p : ℕ) → p ≤ end → Packs f end p 0 p
 unfolding times
-begun f end p l = record { packs = []; are = none; count = refl; far = omega arith; inside = l; short = omega arith; text = simp running }
+begun f end p l = record { packs = []; are = none; count = refl; far = omega arith; inside = l; held = held-none p; text = simp running }
 
-one-more : (f : List ℕ) (end p k k′ q r : ℕ) {s : List ℕ} → Packs f end p k q → k′ ≡ k + 1 → q < r → r ≤ end → Unpacker s → ((before : List ℕ) → run (unpackerText f before) f q ≡ ok (before ++ s) r) → q + length s ≤ r → Packs f end p k′ r
+one-more : (f : List ℕ) (end p k k′ q r : ℕ) {s : List ℕ} → Packs f end p k q → k′ ≡ k + 1 → q < r → r ≤ end → Unpacker s → ((before : List ℕ) → run (unpackerText f before) f q ≡ ok (before ++ s) r) → Held f q s r → Packs f end p k′ r
 one-more f end p k k′ q r {s} w e l i u t o =
     let z = length-append (w .packs) (s ∷ []) in
-    let y = ap length (joined-more (w .packs) s) ∙ length-append (joined (w .packs)) s in
-    let x = w .short in
     let c = w .count in
     let b = w .far in
     let n : k′ ≡ suc k = omega arith in
@@ -158,7 +158,7 @@ one-more f end p k k′ q r {s} w e l i u t o =
       count = omega arith;
       far = omega arith;
       inside = i;
-      short = omega arith;
+      held = held-as (sym (joined-more (w .packs) s)) (held-on (w .held) o);
       text = rw (n, joined-more (w .packs) s) (times-more f (unpackerText f) k [] p (w .text) (t (joined (w .packs))));
     }
 
@@ -176,7 +176,7 @@ pub record PacksOf (f : List ℕ) (contained end at : ℕ) (u : unpackers.Unpack
   pub count : length packs ≡ u .count
   pub text : joined packs ≡ answer (run (times (u .count) (unpackerText f) []) f (u .place .0))
   pub unpacked : (contained ≡ 0) ⊎ (length (joined packs) ≡ 0)
-  pub short : at + length (sized (joined packs)) ≤ q
+  pub held : Held f at (sized (joined packs)) q
   pub within : q ≤ end
 
 either : (a b : ℕ) → (eqb a 0 || eqb b 0) ≡ true → (a ≡ 0) ⊎ (b ≡ 0)
@@ -190,6 +190,10 @@ empty-packs : (ss : List (List ℕ)) → length ss ≡ 0 → length (joined ss) 
 empty-packs [] e = refl
 empty-packs (s ∷ ss) e = absurd (omega arith)
 
+entries-end : (end at : ℕ) → at ≤ end → Wp (Inside Nothing end end) (entries end) (λ u q. q ≡ end) at
+unfolding entries
+entries-end end at l = wp-place _ at (wp-after (wp-many (λ _. Unit {0}) 0 (λ n p l i. wp-weaken (unpacker-on Nothing end end end n p) (λ k q x. (tt, x .1, x .2))) tt l) λ k q x. wp-ret (x .1))
+
 unpackers-post : (f : List ℕ) (contained end : ℕ) → end ≤ length f → (at : ℕ) → Post nothing f (unpackers contained end) (Holds (PacksOf f contained end at)) at tt
 unfolding unpackers
 unpackers-post f contained end o at =
@@ -198,17 +202,18 @@ unpackers-post f contained end o at =
     post-check _ _ λ t.
     let i = block-inside unpackFrame 8 end f at e in
     post-place _ q
-    (post-weaken (entries-say f (q + n) (omega arith) q (omega arith)) λ u r _ v.
+    (post-run nothing-quiet λ u r e₂.
+    let v = post-ran (entries-say f (q + n) (omega arith) q (omega arith)) e₂ in
+    let z : r ≡ q + n = at-end (inside-free (q + n) (q + n)) f (entries-end (q + n) q (omega arith)) e₂ in
     let w = v .1 in
     let far = w .far in
-    let inside = w .inside in
     record {
       packs = w .packs;
       are = w .are;
       count = sym (w .count);
-      text = rw (v .0) (ap answer (sym (w .text)));
+      text = ap answer (sym (w .text)) ∙ ap (λ p. answer (run (times (u .count) (unpackerText f) []) f p)) (sym (v .0));
       unpacked = elim (either contained n t) [ inl z ↦ inl z | inr z ↦ inr (empty-packs (w .packs) (omega arith)) ];
-      short = (let y = w .short in omega (arith, sized-held unpackFrame 8 end f at e (joined (w .packs)) (omega arith)));
+      held = held-to (sym z) (sized-held unpackFrame 8 end f at e (held-to z (w .held)));
       within = omega arith;
     }))
 

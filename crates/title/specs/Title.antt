@@ -5,7 +5,7 @@ use mathlib.Core.List.{List, [], _∷_}
 use mathlib.Core.Path.{_≡_}
 use Prim.Native.Nat.{ℕ, _^_, _≤_, _<_}
 use lib.Dec.{ltb, leb, eqb}
-use lib.ListN.{length}
+use lib.ListN.{length, getD}
 use Rattle.cursor.specs.Refusals.{noSuchRow, refersElsewhere, notATitle, resultTooLarge, noRoom}
 use Rattle.cursor.specs.declared.Node.{Node}
 use Rattle.cursor.specs.declared.Item.{Item}
@@ -19,6 +19,10 @@ use Rattle.title.specs.Description.{Description, described, retitled}
 use Rattle.title.specs.Text.{fileText}
 
 -- ---- what is promised of the result
+
+-- each element of a list is a byte
+abbrev pub Bytes : List ℕ → Type 0
+Bytes f = (k : ℕ) → getD f k 0 < 256
 
 -- a file is accepted with tables of these limits, and says d
 pub record Says (lim : Limits) (g : List ℕ) (d : Description) : Type 0 where
