@@ -2,21 +2,21 @@
 -- Assumes nothing.
 use mathlib.Core.Path.{_≡_, refl, sym, ap, _∙_, subst}
 use mathlib.Core.Bool.{Bool, true, false, cond, not, _||_}
-use mathlib.Core.List.{List, [], _∷_, _++_, map}
-use Prim.Native.Nat.{ℕ, zero, suc, _+_, _^_, _%_, _≤_, _<_}
+use mathlib.Core.List.{List, [], _∷_, map}
+use Prim.Native.Nat.{ℕ, zero, suc, _^_, _%_, _≤_, _<_}
 use native.Mathlib.Omega.{arith}
 use lib.Dec.{eqb, ltb, leb}
-use lib.ListN.{length, getD}
+use lib.ListN.{length}
 use borrow.Author.Tests.{leb-false, ltb-false, le-ltb, lt-leb}
 use Rattle.cursor.specs.declared.Node.{Node}
 use Rattle.cursor.specs.declared.Item.{Item}
 use Rattle.header.specs.Header.{Header}
 use Rattle.metadata.specs.declared.Limits.{Limits}
 use Rattle.tree.specs.Rows.{itemAt}
-use Rattle.tree.specs.Reading.{Reading, rows, readFile}
+use Rattle.tree.specs.Reading.{rows, readFile}
 use Rattle.tree.specs.Asking.{Result, good, bad, ask}
 use Rattle.tree.specs.Hidden.{isHidden}
-use Rattle.title.specs.Description.{Content, content, Shape, shape, Description, described, titled, titledAt, retitled}
+use Rattle.title.specs.Description.{Content, content, shape, Description, described, titled, titledAt, retitled}
 use Rattle.title.specs.Text.{fileText}
 use Rattle.title.specs.Title.{Bytes, Says, NowhereLonger, elsewhere, isNoTitle, titledFile, fitting, correctTitle}
 use Rattle.title.proofs.Follows.{all-stay, stay-elsewhere}

@@ -6,20 +6,19 @@ use mathlib.Core.Bool.{Bool, true, false, cond, not, _&&_, _||_}
 use mathlib.Core.List.{List, [], _∷_, _++_, append-assoc, append-nil}
 use Prim.Native.Nat.{ℕ, zero, suc, _+_, _-_, _^_, _%_, _≤_, _<_}
 use native.Mathlib.Omega.{arith}
-use native.Mathlib.Decide.{decLt}
 use lib.Dec.{T, eqb}
-use lib.ListN.{length, getD, take, drop, length-append}
+use lib.ListN.{length, take, drop, length-append}
 use lib.Seq.{take-at, drop-at}
 use borrow.Author.Tests.{lt-ltb, le-ltb, lt-leb, le-leb, eq-eqb, ne-eqb}
-use Rattle.cursor.specs.Machine.{Prog, ret, refuse, here, byte, pass, Out, ok, refused, Event, seen, passed, run, trace, _>>=_, _>>_, if_then_else_, place, skip, check, turns, many, times}
-use Rattle.cursor.specs.Rows.{Frame, Part, P, Events, hasInline, sizeIf, inlineSize, metaFrame, unpackFrame, referenceFrame, nodeFrame}
+use Rattle.cursor.specs.Machine.{ret, here, Out, ok, refused, seen, passed, run, trace, _>>=_, _>>_, if_then_else_, place, skip, check, turns, many, times}
+use Rattle.cursor.specs.Rows.{Frame, Part, P, Events, hasInline, sizeIf, inlineSize, metaFrame, referenceFrame}
 use Rattle.cursor.specs.Leaves as leaves
 use Rattle.cursor.specs.Vlq.{vlq, joined, sized}
 use Rattle.cursor.specs.declared.Node.{Node}
 use Rattle.cursor.specs.declared.Item.{Item}
-use Rattle.cursor.proofs.Laws.{running, ran, run-many, run-turn, run-turned, afterwards, trace-bind}
+use Rattle.cursor.proofs.Laws.{running, ran, afterwards, trace-bind}
 use Rattle.cursor.proofs.Stable.{chain, ends, Held, Kept, kept}
-use Rattle.cursor.proofs.Lies.{Lies, lies-left, lies-right, lies-at, lies-as, Stand, stand, stand-sized, sum, joined-length, sized-length}
+use Rattle.cursor.proofs.Lies.{Lies, lies-left, lies-right, lies-at, lies-as, stand, stand-sized, joined-length, sized-length}
 use Rattle.cursor.proofs.Back.{number-back, block-back}
 use Rattle.cursor.proofs.Agree.{Agree, AgreeUpTo, agree-on}
 use Rattle.header.specs.Types.{Declared, Known, known, unknown, formatOf}
@@ -38,13 +37,13 @@ use Rattle.title.specs.Text.{further, fieldText, itemText, universalText
 use Rattle.node.specs.Node.{inTree, head, unpackers, uriPlace, target, reference, rest, front}
 use Rattle.title.proofs.Collecting.{Collected, collect}
 use Rattle.title.proofs.Sizes.{framed-length, framed-header, framed-most}
-use Rattle.title.proofs.Unpackers.{Unpackers, packs-back}
+use Rattle.title.proofs.Unpackers.{packs-back}
 use Rattle.title.proofs.Head.{head-back}
 use Rattle.title.proofs.Nodes as nodes
-use Rattle.title.proofs.Nodes.{Nodes, madeBy, AllStay, stay-left, stay-right, alone, whole-length, inner-lies, nodes-length, nodes-outer, node-back, nodes-back, root-back}
-use Rattle.title.proofs.Fronts.{own-inline, own-uri, Stays, Front, FrontBack, front-back, meta-back}
+use Rattle.title.proofs.Nodes.{Nodes, AllStay, stay-left, stay-right, alone, whole-length, inner-lies, nodes-length, nodes-outer, node-back, nodes-back}
+use Rattle.title.proofs.Fronts.{own-inline, own-uri, Stays, Front, front-back, meta-back}
 use Rattle.title.proofs.Items as entries
-use Rattle.title.proofs.Items.{Labels, same-label, SameItem, Versions, versionTexts, universal-back, version-back, FieldOk, FieldBack, field-back, Entry, one, several, Opens, further-none, entry-some, entryText, Entries, entryTexts, flat, plusItems, items-text, item-back, metadata-back}
+use Rattle.title.proofs.Items.{Labels, same-label, Versions, versionTexts, version-back, FieldOk, field-back, Entry, one, several, Opens, further-none, entry-some, entryText, Entries, entryTexts, flat, plusItems, items-text, item-back}
 use Rattle.title.proofs.Pairs.{Each, none, more, each-length, each-take, outer-pair, each-on, fields, number, chosen, block, own-pair, items-pair, header-pair, node-pair, ContentPair, ShapePair, version-pair, universal-pair, field-pair}
 
 ok-same : {A : Type 0} {a b : A} {p q : ℕ} → ok a p ≡ ok b q → (a ≡ b) × (p ≡ q)

@@ -1,9 +1,8 @@
 -- What a run says: the rows that it makes, with bytes for places, in a state of its own.
 -- Assumes nothing.
-use mathlib.Core.Path.{_≡_, refl, sym, ap, _∙_}
+use mathlib.Core.Path.{_≡_, refl, ap, _∙_}
 use mathlib.Core.List.{List, [], _∷_, _++_, append-assoc, append-nil, map}
-use Prim.Native.Nat.{ℕ, zero, suc, _+_}
-use native.Mathlib.Omega.{arith}
+use Prim.Native.Nat.{ℕ, _+_}
 use lib.ListN.{length, getD, length-append}
 use Rattle.cursor.specs.Machine.{ret, refuse, here, byte, pass, Out, ok, refused, run, trace, exec, rowsOf}
 use Rattle.cursor.specs.Rows.{Part, nodeRow, itemRow, plain, P}
@@ -11,7 +10,7 @@ use Rattle.cursor.specs.declared.Node.{Node}
 use Rattle.cursor.specs.declared.Item.{Item}
 use Rattle.cursor.proofs.Quiet.{IgnoresPlain}
 use Rattle.tree.specs.Reading.{nodesOf, itemsOf}
-use Rattle.title.specs.Description.{Content, content, Shape, shape, titled, titledAt}
+use Rattle.title.specs.Description.{Content, content, Shape, shape}
 
 pub record Collected : Type 0 where
   pub nodes : List Shape

@@ -4,11 +4,11 @@ use mathlib.Core.Path.{_≡_, refl, sym, ap, _∙_, subst}
 use mathlib.Core.Logic.{inl, inr}
 use mathlib.Core.Bool.{Bool, true, false, cond, not}
 use mathlib.Core.List.{List, [], _∷_, map}
-use Prim.Native.Nat.{ℕ, zero, suc, _+_, _-_, _^_, _≤_, _<_}
+use Prim.Native.Nat.{ℕ, zero, suc, _+_, _-_, _^_, _<_}
 use native.Mathlib.Omega.{arith}
 use lib.Dec.{T, eqb}
 use lib.ListN.{length, take, drop}
-use Rattle.cursor.specs.Machine.{ok, run, trace}
+use Rattle.cursor.specs.Machine.{run, trace}
 use Rattle.cursor.specs.Rows.{Events}
 use Rattle.cursor.specs.Vlq.{part, vlq, joined, sized}
 use Rattle.cursor.specs.declared.Node.{Node}
@@ -23,7 +23,7 @@ use Rattle.metadata.specs.declared.Limits.{Limits}
 use Rattle.tree.specs.Hidden.{mayDiffer, DifferInPrivate}
 use Rattle.tree.specs.Rows.{itemAt}
 use Rattle.tree.specs.Reading.{nodesOf, rows, readFile, context}
-use Rattle.tree.proofs.Follow.{treeOf, ReadAs, read-back}
+use Rattle.tree.proofs.Follow.{treeOf, read-back}
 use Rattle.tree.proofs.Demand.{privateData, Alike, private-alike, RowAlike, rows-alike, demand3}
 use Rattle.title.specs.Description.{Content, content, shape, described, titled, titledAt, openingSize, tableText, answer}
 use Rattle.title.specs.Text.{outer, fileOf}
@@ -31,9 +31,9 @@ use Rattle.title.specs.Title.{elsewhere, titledFile}
 use Rattle.title.proofs.Pairs.{Each, none, more, each-length, each-take, each-drop, each-same, ContentPair, ShapePair, DescriptionPair, retitled-pair, text-length}
 use Rattle.title.proofs.Alike.{row-private, Pair, Shapes}
 use Rattle.title.proofs.Twins.{Twins, differ-alike}
-use Rattle.title.proofs.Theorem.{Grammar, grammar, same-file}
+use Rattle.title.proofs.Theorem.{grammar, same-file}
 use Rattle.title.proofs.Follows.{log-is-tree, all-stay}
-use Rattle.title.proofs.Headers.{HeaderSays, header-says}
+use Rattle.title.proofs.Headers.{header-says}
 use Rattle.title.proofs.Transfer.{onward, tables-alike}
 use Rattle.title.proofs.Kept.{Same, AllSame, tree-kept, header-kept}
 

@@ -1,27 +1,25 @@
 -- Where no node has reference 3, nothing is read behind the tree.
 -- Assumes nothing.
-use mathlib.Core.Path.{_≡_, refl, sym, ap, _∙_, subst}
-use mathlib.Core.Bool.{Bool, true, false, cond, not, _&&_, _||_}
+use mathlib.Core.Path.{_≡_, refl, sym, ap, _∙_}
+use mathlib.Core.Bool.{Bool, true, false, cond, _||_}
 use mathlib.Core.List.{List, [], _∷_, _++_, append-assoc, append-nil, map}
-use Prim.Native.Nat.{ℕ, zero, suc, _+_, _≤_, _<_}
+use Prim.Native.Nat.{ℕ, zero, suc, _+_, _<_}
 use native.Mathlib.Omega.{arith}
 use lib.Dec.{eqb, ltb}
-use lib.ListN.{length, getD}
+use lib.ListN.{length}
 use borrow.Author.Tests.{ltb-true, eqb-false, ne-eqb}
-use Rattle.cursor.specs.Machine.{Out, ok, refused, run, trace, rowsOf}
-use Rattle.cursor.specs.Rows.{P, Events}
+use Rattle.cursor.specs.Machine.{ok, run, trace}
+use Rattle.cursor.specs.Rows.{Events}
 use Rattle.cursor.specs.declared.Node.{Node}
-use Rattle.cursor.specs.declared.Item.{Item}
 use Rattle.cursor.proofs.Laws.{rows-on}
 use Rattle.header.specs.Header.{Header, header}
 use Rattle.metadata.specs.declared.Limits.{Limits}
 use Rattle.metadata.specs.declared.Made.{Made}
 use Rattle.tree.specs.Rows.{nodeAt}
-use Rattle.tree.specs.Reading.{nodeOf, nodesOf, itemsOf, Result, good, bad, Reading, rows, refusal, logged, lost, startsAt, reach, follow, reading, readTree, readFile}
-use Rattle.tree.proofs.Follow.{target, treeOf, ReadAs, read-back, Reached, known, added, followed}
-use Rattle.title.specs.Description.{Shape, shape}
+use Rattle.tree.specs.Reading.{nodeOf, nodesOf, itemsOf, good, rows, logged, lost, reach, follow, reading, readTree, readFile}
+use Rattle.tree.proofs.Follow.{target, treeOf, Reached, known, added, followed}
+use Rattle.title.specs.Description.{shape}
 use Rattle.title.specs.Title.{elsewhere}
-use Rattle.title.proofs.Fronts.{Stays}
 use Rattle.title.proofs.Nodes.{AllStay}
 
 -- ---- no reference 2 or 3

@@ -1,20 +1,20 @@
 -- A node up to its contents that was written is read back, and says what was written.
 -- Assumes nothing.
-use mathlib.Core.Path.{_≡_, refl, sym, ap, _∙_, subst}
+use mathlib.Core.Path.{_≡_, refl, sym, ap, subst}
 use mathlib.Core.Logic.{_⊎_, inl, inr}
 use mathlib.Core.Bool.{Bool, true, false, cond, _&&_, _||_}
-use mathlib.Core.List.{List, [], _∷_, _++_}
+use mathlib.Core.List.{List, [], _∷_}
 use Prim.Native.Nat.{ℕ, zero, suc, _+_, _-_, _^_, _≤_, _<_}
 use native.Mathlib.Omega.{arith}
 use lib.Dec.{eqb}
 use lib.ListN.{length, length-append}
 use borrow.Author.Tests.{le-leb, eq-eqb, ne-eqb}
-use Rattle.cursor.specs.Machine.{Out, ok, refused, run, exec, times}
+use Rattle.cursor.specs.Machine.{ok, run, exec, times}
 use Rattle.cursor.specs.Rows.{referenceFrame, sizeIf, inlineSize}
 use Rattle.cursor.specs.Vlq.{part, vlq, joined, sized}
 use Rattle.cursor.proofs.Laws.{running, executing}
 use Rattle.cursor.proofs.Quiet.{still}
-use Rattle.cursor.proofs.Lies.{Lies, lies-left, lies-part, lies-at, lies-as, Stand, stand, stand-sized, sum, joined-length, sized-length}
+use Rattle.cursor.proofs.Lies.{Lies, lies-left, lies-part, lies-at, lies-as, stand, stand-sized, joined-length, sized-length}
 use Rattle.cursor.proofs.Back.{number-back, block-back}
 use Rattle.header.specs.Types.{Declared}
 use Rattle.metadata.specs.Metadata.{Context, metadata}

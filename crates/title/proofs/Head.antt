@@ -1,18 +1,18 @@
 -- A node's three numbers that were written are read back.
 -- Assumes nothing.
-use mathlib.Core.Path.{_≡_, refl, sym, ap, _∙_}
+use mathlib.Core.Path.{_≡_, refl}
 use mathlib.Core.Bool.{Bool, true, false, _||_}
-use mathlib.Core.List.{List, [], _∷_, _++_}
-use Prim.Native.Nat.{ℕ, zero, suc, _+_, _-_, _^_, _≤_, _<_}
+use mathlib.Core.List.{List, [], _∷_}
+use Prim.Native.Nat.{ℕ, _+_, _^_, _≤_, _<_}
 use native.Mathlib.Omega.{arith}
 use lib.ListN.{length}
 use borrow.Author.Tests.{le-leb}
-use Rattle.cursor.specs.Machine.{Out, ok, refused, run}
+use Rattle.cursor.specs.Machine.{ok, run}
 use Rattle.cursor.specs.Rows.{nodeFrame}
 use Rattle.cursor.proofs.Laws.{running}
 use Rattle.node.specs.Node.{headerLength, head, inTree}
 use Rattle.cursor.specs.Vlq.{vlq, joined}
-use Rattle.cursor.proofs.Lies.{Lies, Stand, stand, sum, joined-length}
+use Rattle.cursor.proofs.Lies.{Lies, stand, joined-length}
 use Rattle.cursor.proofs.Back.{number-back}
 use Rattle.title.specs.Text.{headerOf, framed}
 use Rattle.title.proofs.Sizes.{framed-length, framed-header}

@@ -3,19 +3,19 @@
 use mathlib.Core.Path.{_≡_, refl, sym, ap, _∙_, subst}
 use mathlib.Core.Logic.{_⊎_, inl, inr}
 use mathlib.Core.Bool.{Bool, true, false, cond}
-use mathlib.Core.List.{List, [], _∷_, _++_}
-use Prim.Native.Nat.{ℕ, zero, suc, _+_, _-_, _*_, _^_, _≤_, _<_}
+use mathlib.Core.List.{List, [], _∷_}
+use Prim.Native.Nat.{ℕ, _+_, _*_, _^_, _≤_, _<_}
 use native.Mathlib.Omega.{arith}
 use lib.Dec.{eqb}
 use lib.ListN.{length, getD}
 use borrow.Author.Tests.{leb-true, eqb-true, eqb-false, lt-ltb, le-leb, eq-eqb, ne-eqb}
-use Rattle.cursor.specs.Machine.{Out, ok, refused, run, check, _>>_}
+use Rattle.cursor.specs.Machine.{ok, run, check, _>>_}
 use Rattle.cursor.specs.Rows.{Frame, Part, fileFrame}
 use Rattle.cursor.specs.Leaves.{next, number}
 use Rattle.cursor.specs.Vlq.{vlq, joined, sized}
 use Rattle.cursor.proofs.Laws.{running}
 use Rattle.cursor.proofs.Wp.{at-end}
-use Rattle.cursor.proofs.Leaves.{any-free, number-inside}
+use Rattle.cursor.proofs.Leaves.{any-free}
 use Rattle.cursor.proofs.Lies.{Lies}
 use Rattle.cursor.proofs.Back.{number-back}
 use Rattle.cursor.proofs.Post.{Post, post-after, post-run, post-step, post-ret, post-refuse, post-if, post-check, post-place}
@@ -25,7 +25,7 @@ use Rattle.header.specs.Header.{four, opening, Edition, edition, fileLength, ty
 use Rattle.header.proofs.Ends.{four-on, extent-on}
 use Rattle.title.specs.Description.{openingSize, tableText}
 use Rattle.title.proofs.Held.{Held, Number, number-is}
-use Rattle.title.proofs.Tables.{Table, TableSays, table-says, table-back}
+use Rattle.title.proofs.Tables.{Table, table-says}
 
 -- ---- four bytes as one number
 

@@ -1,6 +1,6 @@
 -- What was read stands there in no fewer bytes than in its shortest form; and where in no more, in that form. Numbers, and blocks with their lengths.
 -- Assumes nothing.
-use mathlib.Core.Path.{_≡_, refl, sym, ap, _∙_}
+use mathlib.Core.Path.{_≡_, sym, ap, _∙_}
 use mathlib.Core.List.{List, [], _∷_, _++_, append-nil}
 use Prim.Native.Nat.{ℕ, zero, suc, _+_, _-_, _*_, _/_, _%_, _^_, _≤_, _<_}
 use native.Mathlib.Nat.{pow-succ', mul-comm, div-div-eq-div-mul, lt-div-mul-add, one-le-pow}
@@ -14,7 +14,7 @@ use Rattle.cursor.specs.Leaves.{number, block}
 use Rattle.cursor.specs.Vlq.{part, inBytes, least, vlq, joined, sized}
 use Rattle.cursor.proofs.Digits.{Digits, final, further, digits-were, begun}
 use Rattle.cursor.proofs.Leaves.{number-inside}
-use Rattle.cursor.proofs.Least.{least-up, in-bytes-length, vlq-length}
+use Rattle.cursor.proofs.Least.{least-up, vlq-length}
 use Rattle.cursor.proofs.Lies.{Lies, sized-length}
 use Rattle.cursor.proofs.Post.{post-step, post-place, post-check, post-ret}
 use Rattle.cursor.proofs.Runs.{nothing-quiet, post-ran}

@@ -1,22 +1,21 @@
 -- Metadata that was written is read back, and says what was written.
 -- Assumes nothing.
-use mathlib.Core.Path.{_≡_, refl, sym, ap, _∙_, subst}
+use mathlib.Core.Path.{_≡_, refl, sym, _∙_, subst}
 use mathlib.Core.Bool.{cond}
 use mathlib.Core.Logic.{_⊎_, inl, inr}
 use mathlib.Core.List.{List, [], _∷_, _++_, append-assoc, append-nil}
-use Prim.Native.Nat.{ℕ, zero, suc, _+_, _-_, _^_, _≤_, _<_}
+use Prim.Native.Nat.{ℕ, suc, _+_, _-_, _^_, _≤_, _<_}
 use native.Mathlib.Omega.{arith}
 use lib.Dec.{eqb}
 use lib.ListN.{length, length-append}
 use borrow.Author.Tests.{lt-ltb, le-ltb, eq-eqb, ne-eqb, lt-leb, le-leb}
-use Rattle.cursor.specs.Machine.{Out, ok, refused, run, exec, turns, many, times}
+use Rattle.cursor.specs.Machine.{ok, run, exec, turns, many, times}
 use Rattle.cursor.specs.Rows.{metaFrame}
 use Rattle.cursor.specs.Vlq.{part, vlq, joined, sized}
-use Rattle.cursor.specs.declared.FilePlace.{FilePlace}
 use Rattle.cursor.proofs.Laws.{running, executing, exec-turn, exec-turned, exec-many}
 use Rattle.cursor.proofs.Quiet.{still, exec-number, exec-block}
 use Rattle.cursor.proofs.Least.{vlq-some}
-use Rattle.cursor.proofs.Lies.{Lies, lies-part, lies-left, lies-right, Stand, stand, stand-sized, sum, joined-length, sized-length}
+use Rattle.cursor.proofs.Lies.{Lies, lies-part, lies-left, lies-right, stand, stand-sized, joined-length, sized-length}
 use Rattle.cursor.proofs.Back.{number-back, block-back}
 use Rattle.header.specs.Types.{Declared, known, formatOf}
 use Rattle.metadata.specs.Tables.{plusItem}

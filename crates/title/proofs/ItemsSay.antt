@@ -2,12 +2,12 @@
 -- Assumes nothing.
 use mathlib.Core.Path.{_≡_, refl, sym, ap, _∙_, subst}
 use mathlib.Core.Logic.{_⊎_, inl, inr}
-use mathlib.Core.Bool.{Bool, true, false, cond}
+use mathlib.Core.Bool.{true, false, cond}
 use mathlib.Core.List.{List, [], _∷_, _++_, append-assoc, append-nil}
 use Prim.Native.Nat.{ℕ, zero, suc, _+_, _-_, _^_, _≤_, _<_}
 use native.Mathlib.Omega.{arith}
 use lib.Dec.{eqb}
-use lib.ListN.{length, drop, length-append, length-take}
+use lib.ListN.{length, length-append}
 use borrow.Author.Tests.{ltb-true, eqb-true, eqb-false}
 use Rattle.cursor.specs.Machine.{Out, ok, refused, run, trace, puts, times}
 use Rattle.cursor.specs.Rows.{Part, P, metaFrame}
@@ -18,12 +18,11 @@ use Rattle.cursor.specs.declared.Item.{Item}
 use Rattle.cursor.proofs.Wp.{Wp, at-end, wp-after, wp-ret, wp-if, wp-place, wp-skip}
 use Rattle.cursor.proofs.Leaves.{Any, any-free, number-on, block-on, number-inside, block-inside}
 use Rattle.cursor.proofs.Quiet.{still, exec-puts, number-quiet, block-quiet}
-use Rattle.cursor.proofs.Lies.{sum, part-length, joined-length}
+use Rattle.cursor.proofs.Lies.{part-length}
 use Rattle.cursor.proofs.Runs.{nothing, nothing-quiet, Holds, post-ran}
 use Rattle.cursor.proofs.Post.{Meets, Post, post-if, post-after, post-step, post-weaken, post-ret, post-refuse, post-check, post-place, post-skip, post-many}
 use Rattle.header.specs.Types.{Declared, Known, known, unknown, formatOf}
-use Rattle.metadata.specs.Tables.{plusItem}
-use Rattle.metadata.specs.Metadata.{Context, kindOf, fieldOf, nameLengthOf, rowOf, field, contents, itemFrame, universal, declaredFormat, version, rowsFor, item, Count, nextItem, metaItems, metadata}
+use Rattle.metadata.specs.Metadata.{Context, kindOf, fieldOf, nameLengthOf, rowOf, field, contents, itemFrame, universal, declaredFormat, version, rowsFor, item, nextItem, metaItems, metadata}
 use Rattle.metadata.specs.declared.Made.{Made}
 use Rattle.metadata.specs.declared.Label.{Label}
 use Rattle.metadata.specs.declared.Field.{Field}

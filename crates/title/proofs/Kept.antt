@@ -1,15 +1,14 @@
 -- What two files say that differ at private places alone: the same, but for copied bytes, each from the same place of both.
 -- Assumes nothing.
 use mathlib.Core.Path.{_≡_, refl, sym, ap, _∙_, subst}
-use mathlib.Core.List.{List, [], _∷_, _++_, append-assoc, append-nil, map}
-use Prim.Native.Nat.{ℕ, zero, suc, _+_, _-_, _≤_, _<_}
+use mathlib.Core.List.{List, [], _∷_, _++_, append-assoc, append-nil}
+use Prim.Native.Nat.{ℕ, zero, suc, _+_, _-_, _≤_}
 use native.Mathlib.Omega.{arith}
-use lib.ListN.{length, getD, take, drop}
+use lib.ListN.{length, getD}
 use borrow.Author.Tests.{eqb-true}
 use Rattle.cursor.specs.Machine.{ok, run, trace, exec, puts, rowsOf, times, seen, passed, _>>=_}
 use Rattle.cursor.specs.Rows.{Part, nodeRow, itemRow, plain, P, Events}
 use Rattle.cursor.specs.declared.Node.{Node}
-use Rattle.cursor.specs.declared.Item.{Item}
 use Rattle.cursor.proofs.Agree.{Agree, AgreeUpTo}
 use Rattle.cursor.proofs.Wp.{Wp, at-end, wp-after, wp-weaken, wp-ret, wp-if, wp-check, wp-place, wp-skip}
 use Rattle.cursor.proofs.Leaves.{Any, any-free, number-on, block-on}
@@ -30,10 +29,10 @@ use Rattle.node.proofs.Uses.{unpackers-use, reference-uses, front-uses}
 use Rattle.node.proofs.Ends.{head-inside}
 use Rattle.tree.specs.Tree as tree
 use Rattle.tree.specs.Tree.{folder}
-use Rattle.tree.specs.Reading.{nodeOf, nodesOf}
+use Rattle.tree.specs.Reading.{nodesOf}
 use Rattle.tree.proofs.Demand.{privateData}
-use Rattle.title.specs.Description.{Shape, shape, answer, unpackerText}
-use Rattle.title.proofs.UnpackersSay.{Reread, unpackers-reread}
+use Rattle.title.specs.Description.{shape, answer, unpackerText}
+use Rattle.title.proofs.UnpackersSay.{unpackers-reread}
 use Rattle.title.proofs.Regions.{all-bytes, Keeping, keep-step, keep-ret, keep-check, keep-place, keep-skip, keep-after}
 use Rattle.title.proofs.Transfer.{unpackers-alike}
 

@@ -1,14 +1,13 @@
 -- The tree that was written is read back, and says what was written. The grammar of nodes is free of places.
 -- Assumes nothing.
-use mathlib.Core.Path.{_≡_, refl, sym, ap, _∙_}
-use mathlib.Core.Bool.{Bool, true, false}
+use mathlib.Core.Path.{_≡_, refl, ap, _∙_}
 use mathlib.Core.List.{List, [], _∷_, _++_, append-assoc, append-nil}
-use Prim.Native.Nat.{ℕ, zero, suc, _+_, _-_, _^_, _≤_, _<_}
+use Prim.Native.Nat.{ℕ, suc, _+_, _-_, _^_, _≤_, _<_}
 use native.Mathlib.Omega.{arith}
 use lib.ListN.{length, take, drop, length-append}
 use lib.Seq.{take-at, drop-at}
 use borrow.Author.Tests.{le-leb}
-use Rattle.cursor.specs.Machine.{Out, ok, refused, run, exec, times}
+use Rattle.cursor.specs.Machine.{Out, ok, exec, times}
 use Rattle.cursor.specs.Rows.{nodeRow, inlineSize, P}
 use Rattle.cursor.specs.Vlq.{joined}
 use Rattle.cursor.proofs.Laws.{executing}

@@ -7,17 +7,16 @@ use mathlib.Core.List.{List, [], _∷_, _++_, append-assoc, append-nil}
 use Prim.Native.Nat.{ℕ, zero, suc, _+_, _-_, _^_, _≤_, _<_}
 use native.Mathlib.Omega.{arith}
 use lib.Dec.{eqb, ltb, leb}
-use lib.ListN.{length, drop, length-append, length-take}
+use lib.ListN.{length, length-append}
 use borrow.Author.Tests.{ltb-true, leb-true, eqb-true, eqb-false, ne-eqb}
-use Rattle.cursor.specs.Machine.{Out, ok, refused, run, exec, times, _>>=_}
-use Rattle.cursor.specs.Rows.{P, nodeFrame, referenceFrame, inlineSize}
+use Rattle.cursor.specs.Machine.{exec, times, _>>=_}
+use Rattle.cursor.specs.Rows.{nodeFrame, referenceFrame, inlineSize}
 use Rattle.cursor.specs.Vlq.{part, vlq, joined, sized}
 use Rattle.cursor.specs.declared.Node.{Node}
 use Rattle.cursor.specs.declared.Item.{Item}
 use Rattle.cursor.proofs.Wp.{Wp, at-end, wp-after, wp-ret, wp-if, wp-check, wp-place, wp-skip, wp-weaken}
-use Rattle.cursor.proofs.Leaves.{Any, any-free, number-on, block-on, number-inside}
-use Rattle.cursor.proofs.Lies.{sum, joined-length}
-use Rattle.cursor.proofs.Post.{post-if, Post, post-after, post-step, post-weaken, post-ret, post-refuse, post-check, post-place, post-skip}
+use Rattle.cursor.proofs.Leaves.{Any, any-free, number-on, block-on}
+use Rattle.cursor.proofs.Post.{post-if, Post, post-after, post-step, post-weaken, post-ret, post-check, post-place, post-skip}
 use Rattle.header.specs.Types.{Declared}
 use Rattle.metadata.specs.Tables.{plusNode}
 use Rattle.metadata.specs.Metadata.{Context}
@@ -34,14 +33,14 @@ use Rattle.node.proofs.Quiet.{head-quiet, unpackers-quiet, reference-quiet, res
 use Rattle.node.proofs.Ends.{head-inside}
 use Rattle.tree.specs.Tree as tree
 use Rattle.tree.specs.Tree.{folder}
-use Rattle.title.specs.Description.{Content, Shape, shape, answer, unpackerText}
+use Rattle.title.specs.Description.{Content, Shape, shape}
 use Rattle.title.specs.Text.{itemsText, ownText, wholeText}
 use Rattle.title.proofs.Collecting.{Collected, collectAs, collect-ignores, withItems, withRows}
 use Rattle.cursor.proofs.Runs.{nothing, nothing-ignores, nothing-quiet, Holds, post-ran}
 use Rattle.tree.proofs.Nodes.{inline-is}
 use Rattle.title.proofs.Held.{Held, Number, held-on, held-as, held-to, held-wider, held-last, held-part, number-held, number-is, sized-held}
 use Rattle.title.proofs.Items.{plusItems}
-use Rattle.title.proofs.ItemsSay.{Keeps, Plain, Added, Grouped, metadata-says}
+use Rattle.title.proofs.ItemsSay.{Keeps, Plain, Grouped, metadata-says}
 use Rattle.title.proofs.UnpackersSay.{PacksOf, unpackers-say}
 use Rattle.title.proofs.Fronts.{own-inline, own-uri, Stays, Front}
 use Rattle.title.proofs.Nodes.{madeBy, Nodes, none, more}

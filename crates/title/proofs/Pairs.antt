@@ -1,16 +1,13 @@
 -- A file's text depends on the copied bytes place by place: where two descriptions differ in copied bytes alone, in as many as before, their texts are as long
 -- and differ where the copied bytes do.
 -- Assumes nothing.
-use mathlib.Core.Path.{_≡_, refl, sym, ap, ap₂, _∙_, subst}
+use mathlib.Core.Path.{_≡_, refl, ap, ap₂, subst}
 use mathlib.Core.Bool.{Bool, true, false, cond}
 use mathlib.Core.List.{List, [], _∷_, _++_}
-use Prim.Native.Nat.{ℕ, zero, suc, _+_, _-_, _<_}
-use native.Mathlib.Omega.{arith}
-use lib.Dec.{eqb, ltb, leb}
-use lib.ListN.{length, getD, take, drop}
+use Prim.Native.Nat.{ℕ, zero, suc, _+_, _-_}
+use lib.Dec.{eqb, leb}
+use lib.ListN.{length, take, drop}
 use Rattle.cursor.specs.Vlq.{vlq, joined, sized}
-use Rattle.header.specs.Types.{Declared}
-use Rattle.header.specs.Header.{Edition}
 use Rattle.title.specs.Description.{Content, Shape, Description, titled, titledAt, retitled}
 use Rattle.title.specs.Text.{further, fieldText, itemText, universalText, versionText, contentText, itemsText, headerOf, framed, ownText, nodeText, wholeText, outer, treeStart, assembled, fileOf, fileText}
 

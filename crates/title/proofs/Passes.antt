@@ -1,14 +1,12 @@
 -- What the two passes of the code come to: sizes from the last row to the first, and bytes from the first row to the last.
 -- Assumes nothing.
-use mathlib.Core.Path.{_≡_, refl, sym, ap, ap₂, _∙_}
-use mathlib.Core.List.{List, [], _∷_, _++_, append-assoc, append-nil, map}
-use Prim.Native.Nat.{ℕ, zero, suc, _+_, _-_, _≤_, _<_}
-use native.Mathlib.Omega.{arith}
+use mathlib.Core.Path.{_≡_, refl, sym, ap, _∙_}
+use mathlib.Core.List.{List, [], _∷_, _++_, append-assoc, map}
+use Prim.Native.Nat.{ℕ, zero, suc, _+_}
 use lib.ListN.{length, take, drop, length-append, take-append-drop}
 use Rattle.cursor.specs.Vlq.{joined}
 use Rattle.title.specs.Description.{Content, Shape}
 use Rattle.title.specs.Text.{nodeText, wholeText, outer}
-use Rattle.cursor.proofs.Lies.{sum, joined-length}
 
 abbrev pub lengths : List (List ℕ) → List ℕ
 lengths ss = map length ss

@@ -1,11 +1,11 @@
 -- Where the parts of a written file stand.
 -- Assumes nothing.
-use mathlib.Core.Path.{_≡_, refl, sym, ap, _∙_}
-use mathlib.Core.List.{List, [], _∷_, _++_}
-use Prim.Native.Nat.{ℕ, zero, suc, _+_, _-_, _^_, _≤_, _<_}
+use mathlib.Core.Path.{_≡_, refl, ap}
+use mathlib.Core.List.{List, [], _∷_}
+use Prim.Native.Nat.{ℕ, _+_, _-_, _^_, _<_}
 use native.Mathlib.Omega.{arith}
-use lib.ListN.{length, getD}
-use Rattle.cursor.specs.Vlq.{vlq, joined}
+use lib.ListN.{length}
+use Rattle.cursor.specs.Vlq.{vlq}
 use Rattle.cursor.proofs.Lies.{Lies, lies-at, lies-as, Stand, stand}
 use Rattle.title.specs.Text.{assembled, fileOf}
 use Rattle.title.proofs.Sizes.{S, front, file-length}

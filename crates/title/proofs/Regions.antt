@@ -1,13 +1,11 @@
 -- Two files that agree on all that a run read and passed, but for private data, agree on every byte of a part that makes no row. A rule for each form, over a known file.
 -- Assumes nothing.
-use mathlib.Core.Path.{_≡_, refl, sym, ap, _∙_, subst}
-use mathlib.Core.Bool.{Bool, true, false, not}
-use mathlib.Core.List.{List, [], _∷_, _++_}
-use Prim.Native.Nat.{ℕ, zero, suc, _+_, _-_, _≤_, _<_}
+use mathlib.Core.Path.{_≡_, refl, ap, _∙_, subst}
+use mathlib.Core.Bool.{Bool, true, false}
+use mathlib.Core.List.{List, [], _∷_}
+use Prim.Native.Nat.{ℕ, _+_, _≤_, _<_}
 use native.Mathlib.Omega.{arith}
 use native.Mathlib.Decide.{decLt}
-use lib.Dec.{T}
-use lib.ListN.{length, getD}
 use Rattle.cursor.specs.Machine.{ret, Out, ok, refused, seen, passed, run, trace, exec, puts, _>>=_, _>>_, place, skip, check}
 use Rattle.cursor.specs.Rows.{Part, nodeRow, itemRow, plain, P, Events}
 use Rattle.cursor.proofs.Laws.{andThen, exec-bind, afterwards, trace-bind}

@@ -1,13 +1,13 @@
 -- Lengths and places that count their own bytes and each other's: each is the least that fits the others, and has in its shortest form the bytes counted for it.
 -- Assumes nothing.
-use mathlib.Core.Path.{_≡_, refl, sym, ap, _∙_}
-use mathlib.Core.List.{List, [], _∷_, _++_}
-use Prim.Native.Nat.{ℕ, zero, suc, _+_, _-_, _^_, _≤_, _<_}
+use mathlib.Core.Path.{_≡_, refl, _∙_}
+use mathlib.Core.List.{List, [], _∷_}
+use Prim.Native.Nat.{ℕ, _+_, _-_, _^_, _≤_, _<_}
 use native.Mathlib.Omega.{arith}
 use lib.ListN.{length}
 use Rattle.cursor.specs.Vlq.{least, vlq, joined}
 use Rattle.cursor.proofs.Least.{least-le, least-up, least-short, least-within, vlq-length}
-use Rattle.cursor.proofs.Lies.{sum, joined-length}
+use Rattle.cursor.proofs.Lies.{joined-length}
 use Rattle.title.specs.Text.{headerBytes, headerSize, lengthBytes, headerOf, framed, startWith, lastBytes, startBytes, startAt, fileBytes, treeStart, assembled, fileOf}
 
 -- a number in its shortest form has no more bytes than any count that holds it

@@ -1,23 +1,23 @@
 -- The types table that was written is read back, and says what was written; an accepted one says such a table.
 -- Assumes nothing.
-use mathlib.Core.Path.{_≡_, refl, sym, ap, _∙_, subst}
-use mathlib.Core.Bool.{Bool, true, false}
+use mathlib.Core.Path.{_≡_, refl, sym, ap, subst}
+use mathlib.Core.Bool.{true}
 use mathlib.Core.List.{List, [], _∷_, _++_, append-assoc, append-nil}
-use Prim.Native.Nat.{ℕ, zero, suc, _+_, _-_, _^_, _≤_, _<_}
+use Prim.Native.Nat.{ℕ, zero, suc, _+_, _^_, _≤_, _<_}
 use native.Mathlib.Omega.{arith}
 use lib.ListN.{length, length-append}
 use borrow.Author.Tests.{ltb-true, leb-true, lt-ltb, le-leb}
-use Rattle.cursor.specs.Machine.{Out, ok, refused, run, times}
+use Rattle.cursor.specs.Machine.{ok, run, times}
 use Rattle.cursor.specs.Rows.{fileFrame}
 use Rattle.cursor.specs.Leaves.{number, block}
 use Rattle.cursor.specs.Vlq.{part, vlq, joined, sized}
 use Rattle.cursor.proofs.Laws.{running}
-use Rattle.cursor.proofs.Lies.{Lies, lies-left, lies-right, lies-part, Stand, stand, stand-sized, sum, joined-length, sized-length, part-length}
+use Rattle.cursor.proofs.Lies.{Lies, lies-left, lies-right, lies-part, stand, stand-sized, joined-length, sized-length, part-length}
 use Rattle.cursor.proofs.Back.{number-back, block-back}
 use Rattle.cursor.proofs.Wider.{number-wider, block-wider}
 use Rattle.cursor.proofs.Leaves.{number-inside, block-inside}
 use Rattle.cursor.proofs.Post.{Post, post-after, post-step, post-weaken, post-ret, post-check, post-place, post-skip}
-use Rattle.cursor.proofs.Runs.{nothing, nothing-quiet, Holds, post-ran}
+use Rattle.cursor.proofs.Runs.{nothing, nothing-quiet, Holds}
 use Rattle.header.specs.Types.{Declared, formatOf, isUnknown}
 use Rattle.header.specs.Header.{entry, typesTable}
 use Rattle.title.specs.Description.{entryText, tableText, answer}

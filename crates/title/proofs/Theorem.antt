@@ -1,12 +1,11 @@
 -- The file with another title is accepted with the same tables, and says what the old file says with that title; the same title again changes nothing further.
 -- Assumes nothing.
 use mathlib.Core.Path.{_≡_, refl, sym, ap, _∙_, subst}
-use mathlib.Core.Bool.{Bool, true, false, cond, not, _||_}
-use mathlib.Core.List.{List, [], _∷_, _++_, map}
-use Prim.Native.Nat.{ℕ, zero, suc, _+_, _-_, _^_, _≤_, _<_}
+use mathlib.Core.Bool.{Bool, true, false, cond}
+use mathlib.Core.List.{List, [], _∷_, map}
+use Prim.Native.Nat.{ℕ, zero, suc, _+_, _-_, _^_, _<_}
 use native.Mathlib.Omega.{arith}
-use native.Mathlib.Decide.{decLt}
-use lib.Dec.{eqb, ltb, leb}
+use lib.Dec.{eqb}
 use lib.ListN.{length, getD, take, drop, length-append}
 use lib.Seq.{getD-take, length-take-le}
 use borrow.Author.Tests.{eq-eqb, ne-eqb}
@@ -18,26 +17,25 @@ use Rattle.cursor.specs.declared.Item.{Item}
 use Rattle.cursor.proofs.Wp.{at-end}
 use Rattle.cursor.proofs.Leaves.{any-free}
 use Rattle.cursor.proofs.Least.{vlq-some}
-use Rattle.cursor.proofs.Lies.{Lies, lies-at, lies-part, lies-end, joined-length, sum}
+use Rattle.cursor.proofs.Lies.{lies-at, lies-part, lies-end, joined-length}
 use Rattle.cursor.proofs.Post.{holds}
 use Rattle.header.specs.Types.{Declared}
-use Rattle.header.specs.Header.{Edition, Extent, Header, header}
+use Rattle.header.specs.Header.{Edition, Header, header}
 use Rattle.header.proofs.Ends.{header-on}
-use Rattle.metadata.specs.Metadata.{Context}
 use Rattle.metadata.specs.declared.Limits.{Limits}
 use Rattle.metadata.specs.declared.Made.{Made}
 use Rattle.tree.specs.Tree.{tree}
-use Rattle.tree.specs.Reading.{nodesOf, itemsOf, Reading, rows, readFile, context}
-use Rattle.tree.proofs.Follow.{treeOf, ReadAs, read-back}
+use Rattle.tree.specs.Reading.{nodesOf, itemsOf, rows, readFile, context}
+use Rattle.tree.proofs.Follow.{treeOf, read-back}
 use Rattle.title.specs.Description.{Content, content, Shape, shape, Description, described, titled, titledAt, retitled, openingSize, tableText, answer}
 use Rattle.title.specs.Text.{itemsText, headerOf, framed, ownText, nodeText, wholeText, outer, fileOf, fileText}
 use Rattle.title.specs.Title.{Says, elsewhere, titledFile}
 use Rattle.title.proofs.Sizes.{S, front}
-use Rattle.title.proofs.Collecting.{Collected, collectAs, collect, saidFrom, said-plain, afterRows, withRows, collects}
+use Rattle.title.proofs.Collecting.{Collected, collectAs, collect, saidFrom, said-plain, afterRows, collects}
 use Rattle.title.proofs.ItemsSay.{Like, Keeps}
-use Rattle.title.proofs.Nodes.{Nodes, more, AllStay, tree-text, tree-back, madeBy}
-use Rattle.title.proofs.NodesSay.{TreeSays, tree-says}
-use Rattle.title.proofs.Tables.{Table, table-back, table-again}
+use Rattle.title.proofs.Nodes.{Nodes, more, AllStay, tree-text, tree-back}
+use Rattle.title.proofs.NodesSay.{tree-says}
+use Rattle.title.proofs.Tables.{table-back, table-again}
 use Rattle.title.proofs.Headers.{Opened, size-least, opened-same, HeaderSays, header-says, header-back, length-back, extent-back}
 use Rattle.title.proofs.Places.{FileStands, file-stands}
 use Rattle.title.proofs.Follows.{all-stay, stay-elsewhere, log-is-tree, read-whole}

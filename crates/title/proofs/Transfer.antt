@@ -2,26 +2,21 @@
 -- Assumes nothing.
 use mathlib.Core.Path.{_≡_, refl, sym, ap, _∙_, subst}
 use mathlib.Core.Bool.{Bool, true, false}
-use mathlib.Core.List.{List, [], _∷_, _++_}
-use Prim.Native.Nat.{ℕ, zero, suc, _+_, _-_, _≤_, _<_}
+use mathlib.Core.List.{List, [], _∷_}
+use Prim.Native.Nat.{ℕ, zero, suc, _+_, _-_, _≤_}
 use native.Mathlib.Omega.{arith}
 use lib.Dec.{eqb}
-use lib.ListN.{length, getD, take, drop, length-drop}
-use lib.Seq.{getD-take, getD-drop, ext-getD, length-take-le}
-use borrow.Author.Tests.{eqb-true, eqb-false, eq-eqb, ne-eqb}
+use lib.ListN.{length}
 use Rattle.cursor.specs.Machine.{Out, ok, refused, ret, run, trace, _>>=_, _>>_, if_then_else_, place, skip, times}
 use Rattle.cursor.specs.Rows.{Frame, P, fileFrame, unpackFrame, plain, language}
 use Rattle.cursor.specs.Leaves.{number, block, manufacturer, guid}
-use Rattle.cursor.specs.Vlq.{part, vlq, joined, sized}
+use Rattle.cursor.specs.Vlq.{part, vlq, joined}
 use Rattle.cursor.proofs.Agree.{AgreeUpTo, part-same}
 use Rattle.cursor.proofs.Laws.{running, andThen, run-bind}
 use Rattle.cursor.proofs.Stable.{depends, ends, at-least}
-use Rattle.cursor.proofs.Lies.{part-length}
 use Rattle.cursor.proofs.Wp.{at-end}
-use Rattle.cursor.proofs.Leaves.{Any, any-free, number-inside, block-inside, manufacturer-on, guid-on}
-use Rattle.cursor.proofs.Post.{Post, post-after, post-step, post-weaken, post-ret, post-if, post-place, post-skip}
-use Rattle.cursor.proofs.Runs.{nothing, nothing-quiet, Holds, post-ran}
-use Rattle.title.specs.Description.{copied, identifierText, unpackerText, entryText, tableText, answer}
+use Rattle.cursor.proofs.Leaves.{Any, any-free, block-inside, manufacturer-on, guid-on}
+use Rattle.title.specs.Description.{copied, identifierText, unpackerText, entryText, tableText}
 
 -- no run goes back
 pub onward : {A : Type 0} (m : P A) (f : List ℕ) (at : ℕ) {a : A} {q : ℕ} → run m f at ≡ ok a q → at ≤ q

@@ -2,11 +2,11 @@
 -- Assumes nothing.
 use mathlib.Core.Path.{_≡_, refl, sym, ap, ap₂, _∙_, subst}
 use mathlib.Core.Bool.{false}
-use mathlib.Core.List.{List, [], _∷_, _++_}
-use Prim.Native.Nat.{ℕ, zero, suc, _+_, _-_, _^_, _≤_, _<_}
+use mathlib.Core.List.{List, [], _∷_}
+use Prim.Native.Nat.{ℕ, _+_, _-_, _^_, _<_}
 use native.Mathlib.Omega.{arith}
-use lib.ListN.{length, getD, take, drop}
-use Rattle.cursor.specs.Machine.{Out, ok, refused, run, trace}
+use lib.ListN.{length, take}
+use Rattle.cursor.specs.Machine.{trace}
 use Rattle.cursor.specs.Rows.{P}
 use Rattle.cursor.specs.Vlq.{vlq, joined, sized}
 use Rattle.cursor.specs.declared.Node.{Node}
@@ -23,13 +23,13 @@ use Rattle.title.specs.Description.{Content, Shape, openingSize}
 use Rattle.title.specs.Text.{outer, treeStart, fileOf}
 use Rattle.title.specs.Title.{elsewhere}
 use Rattle.title.proofs.Sizes.{S, front}
-use Rattle.title.proofs.Nodes.{Nodes, madeBy, AllStay, tree-text, tree-back}
+use Rattle.title.proofs.Nodes.{Nodes, AllStay, tree-text, tree-back}
 use Rattle.title.proofs.Headers.{HeaderSays}
-use Rattle.title.proofs.Places.{FileStands, file-stands}
+use Rattle.title.proofs.Places.{file-stands}
 use Rattle.title.proofs.Follows.{stay-elsewhere, read-whole}
 use Rattle.title.proofs.Theorem.{rows-were, tree-some, new-header}
 use Rattle.title.proofs.Pairs.{Each, each-length, fields, outer-pair}
-use Rattle.title.proofs.Alike.{Runs, agree, Pair, pairs, Shapes, each-by, tree-runs}
+use Rattle.title.proofs.Alike.{agree, Pair, pairs, Shapes, each-by, tree-runs}
 use Rattle.title.proofs.Private.{differ-private}
 
 start-same : (o t g b a g₂ b₂ a₂ : List ℕ) → length g ≡ length g₂ → length b ≡ length b₂ → length a ≡ length a₂ → treeStart o t g₂ b₂ a₂ ≡ treeStart o t g b a

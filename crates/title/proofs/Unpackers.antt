@@ -1,20 +1,20 @@
 -- Unpackers that were written are read back, and say what was written.
 -- Assumes nothing.
-use mathlib.Core.Path.{_≡_, refl, sym, ap, _∙_}
+use mathlib.Core.Path.{_≡_, refl, ap, _∙_}
 use mathlib.Core.Logic.{_⊎_, inl, inr}
 use mathlib.Core.Bool.{Bool, true, false, _||_}
 use mathlib.Core.List.{List, [], _∷_, _++_, append-assoc, append-nil}
-use Prim.Native.Nat.{ℕ, zero, suc, _+_, _-_, _^_, _≤_, _<_}
+use Prim.Native.Nat.{ℕ, suc, _+_, _-_, _^_, _≤_, _<_}
 use native.Mathlib.Omega.{arith}
 use lib.Dec.{eqb}
 use lib.ListN.{length, length-append}
 use borrow.Author.Tests.{le-leb, ne-eqb}
-use Rattle.cursor.specs.Machine.{Out, ok, refused, run, turns, many, times}
+use Rattle.cursor.specs.Machine.{ok, run, turns, many, times}
 use Rattle.cursor.specs.Rows.{unpackFrame}
 use Rattle.cursor.specs.Vlq.{part, vlq, joined, sized}
 use Rattle.cursor.proofs.Laws.{running, run-turn, run-turned, run-many}
 use Rattle.cursor.proofs.Least.{vlq-some}
-use Rattle.cursor.proofs.Lies.{Lies, lies-left, lies-right, lies-part, Stand, stand, stand-sized, sum, joined-length, sized-length}
+use Rattle.cursor.proofs.Lies.{Lies, lies-left, lies-right, lies-part, stand, stand-sized, joined-length, sized-length}
 use Rattle.cursor.proofs.Back.{number-back, block-back, Guid, guid-back, Maker, maker-back}
 use Rattle.node.specs.Node as node
 use Rattle.node.specs.Node.{value, identifier, entries, unpackers}

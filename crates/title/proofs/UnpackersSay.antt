@@ -4,23 +4,23 @@ use mathlib.Core.Path.{_≡_, refl, sym, ap, _∙_, subst}
 use mathlib.Core.Logic.{_⊎_, inl, inr}
 use mathlib.Core.Bool.{Bool, true, false, _||_}
 use mathlib.Core.List.{List, [], _∷_, _++_, append-assoc, append-nil}
-use Prim.Native.Nat.{ℕ, zero, suc, _+_, _-_, _^_, _≤_, _<_}
+use Prim.Native.Nat.{ℕ, suc, _+_, _-_, _≤_, _<_}
 use native.Mathlib.Omega.{arith}
 use lib.Dec.{eqb}
 use lib.ListN.{length, length-append}
 use borrow.Author.Tests.{leb-true, eqb-true, eqb-false, ne-eqb}
-use Rattle.cursor.specs.Machine.{Out, ok, refused, run, exec, times}
-use Rattle.cursor.specs.Rows.{Part, P, unpackFrame}
+use Rattle.cursor.specs.Machine.{ok, run, times}
+use Rattle.cursor.specs.Rows.{unpackFrame}
 use Rattle.cursor.specs.Leaves.{number}
 use Rattle.cursor.specs.Vlq.{part, vlq, joined, sized}
-use Rattle.cursor.proofs.Laws.{running, andThen}
-use Rattle.cursor.proofs.Quiet.{Quiet, IgnoresPlain, still, number-quiet, block-quiet, manufacturer-quiet, guid-quiet}
+use Rattle.cursor.proofs.Laws.{running}
+use Rattle.cursor.proofs.Quiet.{number-quiet, block-quiet, manufacturer-quiet, guid-quiet}
 use Rattle.cursor.proofs.Wp.{Wp, at-end, wp-after, wp-weaken, wp-ret, wp-place, wp-many}
 use Rattle.cursor.proofs.Leaves.{Any, any-free, number-inside, block-inside, manufacturer-on, guid-on}
-use Rattle.cursor.proofs.Lies.{Lies, lies-part, sum, joined-length}
-use Rattle.cursor.proofs.Back.{Guid, Maker, guid-back, maker-back, Stood, guid-was, maker-was}
+use Rattle.cursor.proofs.Lies.{Lies, lies-part}
+use Rattle.cursor.proofs.Back.{Guid, Maker, guid-back, maker-back, guid-was, maker-was}
 use Rattle.cursor.proofs.Wider.{number-wider}
-use Rattle.cursor.proofs.Post.{Meets, Post, post-after, post-run, post-step, post-weaken, post-ret, post-if, post-check, post-place, post-many}
+use Rattle.cursor.proofs.Post.{Post, post-after, post-run, post-step, post-weaken, post-ret, post-if, post-check, post-place, post-many}
 use Rattle.metadata.proofs.Ends.{Nothing, inside-free, Inside}
 use Rattle.node.specs.Node as node
 use Rattle.node.specs.Node.{value, identifier, entries, unpackers}

@@ -1,8 +1,8 @@
 -- What a file says, but for places and lengths: its header and rows, with the bytes themselves in place of where they are and how many. Numbers among them
 -- are in their shortest form. Two files that say the same differ in the form of their numbers alone.
 -- Assumes nothing.
-use mathlib.Core.Bool.{Bool, true, false, cond}
-use mathlib.Core.List.{List, [], _∷_, _++_, map}
+use mathlib.Core.Bool.{cond}
+use mathlib.Core.List.{List, [], _∷_, map}
 use Prim.Native.Nat.{ℕ, zero, suc, _+_, _-_}
 use lib.Dec.{eqb}
 use lib.ListN.{length, take, drop}

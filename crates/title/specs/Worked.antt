@@ -1,15 +1,14 @@
 -- The worked file with other titles, computed in one test.
 -- Assumes nothing.
 use mathlib.Core.Path.{_≡_, refl}
-use mathlib.Core.Bool.{not, _&&_, _||_}
-use mathlib.Core.List.{List, [], _∷_, _++_, map}
+use mathlib.Core.List.{List, [], _∷_, _++_}
 use Prim.Native.Nat.{ℕ}
-use lib.ListN.{length, take, drop, replicate}
-use Rattle.cursor.specs.Machine.{Out, ok, refused, run, trace, rowsOf, _>>=_, _>>_, if_then_else_, place, skip, check, turns, many, times}
+use lib.ListN.{take, replicate}
+use Rattle.cursor.specs.Machine.{run, trace, rowsOf, _>>=_, _>>_, if_then_else_, place, skip, check, turns, many, times}
 use Rattle.cursor.specs.Leaves.{next, digits, number, block, manufacturer, guid}
 use Rattle.cursor.specs.Vlq as vlq
 use Rattle.header.specs.Types.{formatOf}
-use Rattle.header.specs.Header.{Header, four, edition, fileLength, entry, typesTable, extent, header}
+use Rattle.header.specs.Header.{four, edition, fileLength, entry, typesTable, extent, header}
 use Rattle.header.specs.Header as head
 use Rattle.metadata.specs.Tables.{fullNodes, fullItems, limits}
 use Rattle.metadata.specs.Metadata.{field, contents, itemFrame, universal, declaredFormat, version, rowsFor, item, nextItem, metaItems, metadata}
@@ -17,7 +16,7 @@ use Rattle.node.specs.Node as node
 use Rattle.node.specs.Node.{headerLength, value, identifier, unpacker, entries, unpackers, resource, nodePlace, uriPlace, target, reference}
 use Rattle.tree.specs.Tree as tree
 use Rattle.tree.specs.Tree.{folder}
-use Rattle.tree.specs.Reading.{Reading, logged, startsAt, offsetAt, lost, outside, partEnd, takenFrom, detachedAt, reach, follow, reading, readTree, readFile}
+use Rattle.tree.specs.Reading.{logged, startsAt, offsetAt, lost, outside, partEnd, takenFrom, detachedAt, reach, follow, reading, readTree, readFile}
 use Rattle.tree.specs.Asking.{Result, good, bad, ask}
 use Rattle.tree.specs.Hidden.{isHidden}
 use Rattle.title.specs.Description as described
@@ -65,6 +64,28 @@ long = opening ++ (0x7F ∷ 0x01 ∷ 0x00 ∷ 0x15 ∷ 0x7E ∷ 0x6A ∷ 0x01 �
 abbrev longer : List ℕ
 longer = opening ++ (0x81 ∷ 0x02 ∷ 0x01 ∷ 0x00 ∷ 0x17 ∷ 0x81 ∷ 0x01 ∷ 0x6B ∷ 0x01 ∷ 0x05 ∷ 0x00 ∷ 0x00 ∷ 0x01 ∷ 0x65 ∷ 0x00 ∷ 0x62 ∷ 0x5D ∷ 0x01 ∷ 0x61 ∷ 0x00 ∷ 0x4B ∷ 0x00 ∷ []) ++ replicate 74 0x61 ++ rest
 
+-- A file with numbers of every kind, in two, three and four bytes: it has a declared type, versions, unpackers of three kinds, a URI, and bytes before and behind its tree.
+abbrev every : List ℕ
+every =
+    opening ++
+    (0x80 ∷ 0x81 ∷ 0x49 ∷ 0x80 ∷ 0x80 ∷ 0x0D ∷ 0x80 ∷ 0x01 ∷ 0x80 ∷ 0x80 ∷ 0x05 ∷ 0x80 ∷ 0x80 ∷ 0x80 ∷ 0x00 ∷ 0x80 ∷ 0x02 ∷ 0x65 ∷ 0x6E ∷ 0x80 ∷ 0x80 ∷ 0x80 ∷ 0x2B ∷ 0x81
+    ∷ 0x47 ∷ 0xC1 ∷ 0xC2 ∷ 0x80 ∷ 0x80 ∷ 0x81 ∷ 0x1D ∷ 0x80 ∷ 0x80 ∷ 0x02 ∷ 0x80 ∷ 0x45 ∷ 0x80 ∷ 0x80 ∷ 0x80 ∷ 0x36 ∷ 0x80 ∷ 0x80 ∷ 0x80 ∷ 0x01 ∷ 0x61 ∷ 0x80 ∷ 0x00 ∷ 0x80
+    ∷ 0x80 ∷ 0x80 ∷ 0x05 ∷ 0x80 ∷ 0x80 ∷ 0x00 ∷ 0x48 ∷ 0x69 ∷ 0x80 ∷ 0x01 ∷ 0x74 ∷ 0x80 ∷ 0x80 ∷ 0x00 ∷ 0x80 ∷ 0x06 ∷ 0x80 ∷ 0x80 ∷ 0x80 ∷ 0x07 ∷ 0x11 ∷ 0x22 ∷ 0x80 ∷ 0x80
+    ∷ 0x00 ∷ 0x80 ∷ 0x80 ∷ 0x80 ∷ 0x03 ∷ 0x80 ∷ 0x02 ∷ 0x80 ∷ 0x80 ∷ 0x05 ∷ 0x80 ∷ 0x80 ∷ 0x80 ∷ 0x01 ∷ 0x78 ∷ 0x80 ∷ 0x05 ∷ 0x80 ∷ 0x80 ∷ 0x02 ∷ 0x79 ∷ 0x7A ∷ 0x80 ∷ 0x00
+    ∷ 0x80 ∷ 0x80 ∷ 0x01 ∷ 0x80 ∷ 0x80 ∷ 0x3F ∷ 0x80 ∷ 0x00 ∷ 0x80 ∷ 0x80 ∷ 0x80 ∷ 0x3B ∷ 0x80 ∷ 0x80 ∷ 0x10 ∷ 0x80 ∷ 0x80 ∷ 0x00 ∷ 0x80 ∷ 0x80 ∷ 0x80 ∷ 0x03 ∷ 0x80 ∷ 0x00
+    ∷ 0x80 ∷ 0x80 ∷ 0x80 ∷ 0x03 ∷ 0x80 ∷ 0x80 ∷ 0x06 ∷ 0x80 ∷ 0x80 ∷ 0x80 ∷ 0x1B ∷ 0x80 ∷ 0x80 ∷ 0x80 ∷ 0x01 ∷ 0x41 ∷ 0x80 ∷ 0x06 ∷ 0x80 ∷ 0x80 ∷ 0x09 ∷ 0x80 ∷ 0x80 ∷ 0x80
+    ∷ 0x03 ∷ 0x80 ∷ 0x01 ∷ 0x80 ∷ 0x07 ∷ 0x80 ∷ 0x80 ∷ 0x02 ∷ 0x80 ∷ 0x80 ∷ 0x80 ∷ 0x04 ∷ 0x80 ∷ 0x08 ∷ 0x80 ∷ 0x01 ∷ 0xAA ∷ 0xBB ∷ 0x80 ∷ 0x80 ∷ 0x80 ∷ 0x16 ∷ 0x80 ∷ 0x80
+    ∷ 0x00 ∷ 0x80 ∷ 0x0F ∷ 0x80 ∷ 0x80 ∷ 0x80 ∷ 0x00 ∷ 0x80 ∷ 0x00 ∷ 0x80 ∷ 0x04 ∷ 0x80 ∷ 0x80 ∷ 0x02 ∷ 0x61 ∷ 0x62 ∷ 0xEE ∷ [])
+
+-- with that title: each number in its shortest form, and all that is no number as it was
+abbrev everyShort : List ℕ
+everyShort =
+    opening ++
+    (0x5F ∷ 0x06 ∷ 0x01 ∷ 0x05 ∷ 0x00 ∷ 0x02 ∷ 0x65 ∷ 0x6E ∷ 0x1C ∷ 0x5D ∷ 0xC1 ∷ 0xC2 ∷ 0x42 ∷ 0x02 ∷ 0x20 ∷ 0x1B ∷ 0x01 ∷ 0x61 ∷ 0x00 ∷ 0x06 ∷ 0x00 ∷ 0x48 ∷ 0x65 ∷ 0x6C
+    ∷ 0x6C ∷ 0x6F ∷ 0x01 ∷ 0x74 ∷ 0x00 ∷ 0x03 ∷ 0x07 ∷ 0x11 ∷ 0x22 ∷ 0x00 ∷ 0x03 ∷ 0x02 ∷ 0x05 ∷ 0x01 ∷ 0x78 ∷ 0x05 ∷ 0x02 ∷ 0x79 ∷ 0x7A ∷ 0x00 ∷ 0x01 ∷ 0x18 ∷ 0x00 ∷ 0x15
+    ∷ 0x05 ∷ 0x00 ∷ 0x03 ∷ 0x00 ∷ 0x01 ∷ 0x06 ∷ 0x0B ∷ 0x01 ∷ 0x41 ∷ 0x06 ∷ 0x09 ∷ 0x03 ∷ 0x80 ∷ 0x01 ∷ 0x07 ∷ 0x02 ∷ 0x04 ∷ 0x08 ∷ 0x01 ∷ 0xAA ∷ 0xBB ∷ 0x09 ∷ 0x00 ∷ 0x05
+    ∷ 0x00 ∷ 0x00 ∷ 0x04 ∷ 0x02 ∷ 0x61 ∷ 0x62 ∷ 0xEE ∷ [])
+
 -- with full tables
 unfoldable corrected : (room row : ℕ) → List ℕ → List ℕ → Result (List ℕ)
 corrected room row text f = ask (readFile (limits fullNodes fullItems) f) (title.correctTitle row text room f)
@@ -76,9 +97,20 @@ cases : (corrected 59 0 hello worked ≡ good greeting)
     × (corrected 127 0 (replicate 73 0x61) untitled ≡ good long)
     × (corrected 130 0 (replicate 74 0x61) padded ≡ good longer)
     × (corrected 100 0 (0x48 ∷ 0x69 ∷ []) longer ≡ good worked)
+    × (corrected 95 0 hello every ≡ good everyShort)
+    × (corrected 95 0 hello everyShort ≡ good everyShort)
     × (corrected 0 3 hello elsewhere ≡ bad 18 0)
     × (corrected 0 1 hello elsewhere ≡ bad 36 0)
     × (corrected 0 1 hello worked ≡ bad 37 0)
     × (corrected 58 0 hello worked ≡ bad 22 0)
-unfolding corrected run trace rowsOf _>>=_ _>>_ if_then_else_ place skip check turns many times next digits number block manufacturer guid formatOf four edition fileLength entry typesTable extent header head.opening field contents itemFrame universal declaredFormat version rowsFor item nextItem metaItems metadata headerLength node.head value identifier unpacker entries unpackers resource nodePlace uriPlace target reference node.rest node.front folder tree.node tree.tree tree.detached logged startsAt offsetAt lost outside partEnd takenFrom detachedAt reach follow reading readTree readFile ask isHidden vlq.inBytes vlq.from vlq.least vlq.vlq vlq.sized described.content described.copied described.identifierText described.unpackerText described.entryText described.tableText described.shape described.described described.titled described.titledAt described.retitled text.further text.fieldText text.itemText text.universalText text.versionText text.contentText text.itemsText text.headerBytes text.headerSize text.lengthBytes text.headerOf text.framed text.ownText text.nodeText text.wholeText text.outer text.lastBytes text.startBytes text.startAt text.fileBytes text.treeStart text.assembled text.fileOf text.fileText title.elsewhere title.isNoTitle title.titledFile title.fitting title.correctTitle
-cases = (refl, refl, refl, refl, refl, refl, refl, refl, refl, refl, refl)
+unfolding corrected run trace rowsOf _>>=_ _>>_ if_then_else_ place skip check turns many times next digits number block manufacturer guid formatOf
+    four edition fileLength entry typesTable extent header head.opening field contents itemFrame universal declaredFormat version rowsFor item
+    nextItem metaItems metadata headerLength node.head value identifier unpacker entries unpackers resource nodePlace uriPlace target reference
+    node.rest node.front folder tree.node tree.tree tree.detached logged startsAt offsetAt lost outside partEnd takenFrom detachedAt reach follow
+    reading readTree readFile ask isHidden vlq.inBytes vlq.from vlq.least vlq.vlq vlq.sized described.content described.copied
+    described.identifierText described.unpackerText described.entryText described.tableText described.shape described.described described.titled
+    described.titledAt described.retitled text.further text.fieldText text.itemText text.universalText text.versionText text.contentText
+    text.itemsText text.headerBytes text.headerSize text.lengthBytes text.headerOf text.framed text.ownText text.nodeText text.wholeText text.outer
+    text.lastBytes text.startBytes text.startAt text.fileBytes text.treeStart text.assembled text.fileOf text.fileText title.elsewhere title.isNoTitle
+    title.titledFile title.fitting title.correctTitle
+cases = (refl, refl, refl, refl, refl, refl, refl, refl, refl, refl, refl, refl, refl)
