@@ -309,8 +309,8 @@ InTurn = (i : ℕ) (text : List ℕ) (q : Question) (ls : Sizes) (f g : List ℕ
 -- ---- The correction of a title. Where it is answered, f was accepted and g was written: g is accepted with the tables lent and says what f says with that
 -- content replaced, so that its tree, other contents and resources are the old ones, and only places, lengths and that data differ. The same title again
 -- leaves the same, to the last word and byte. And each number in it is the least: of all files that are accepted, with whatever tables, and that say the same,
--- none is shorter, none has a tree that starts or ends earlier, and none has a shorter node or a shorter node's header. It is the only one as short: so every number
--- in it, also a length or a count that no row shows, stands in its shortest form.
+-- none is shorter, none has a tree that starts or ends earlier, and none has a shorter node or a shorter node's header. Nor is any other file
+-- of bytes that says the same as short: so no number in it, also where no row shows it, has a padding byte.
 
 pub record Correction (i : ℕ) (text : List ℕ) (ls : Sizes) (f g : List ℕ) : Type 0 where
   pub header : Header

@@ -4,11 +4,12 @@ use mathlib.Core.Path.{_≡_, refl, ap, _∙_}
 use mathlib.Core.List.{List, [], _∷_, _++_, append-assoc, append-nil, map}
 use Prim.Native.Nat.{ℕ, _+_}
 use lib.ListN.{length, getD, length-append}
-use Rattle.cursor.specs.Machine.{ret, refuse, here, byte, pass, Out, ok, refused, run, trace, exec, rowsOf}
+use Rattle.cursor.specs.Machine.{ret, refuse, here, byte, pass, Out, ok, refused, run, trace, exec, puts, rowsOf}
 use Rattle.cursor.specs.Rows.{Part, nodeRow, itemRow, plain, P}
 use Rattle.cursor.specs.declared.Node.{Node}
 use Rattle.cursor.specs.declared.Item.{Item}
-use Rattle.cursor.proofs.Quiet.{IgnoresPlain}
+use Rattle.cursor.proofs.Quiet.{IgnoresPlain, still, exec-puts}
+use Rattle.cursor.proofs.Post.{Meets, Post}
 use Rattle.tree.specs.Reading.{nodesOf, itemsOf}
 use Rattle.title.specs.Description.{Content, content, Shape, shape}
 
@@ -76,3 +77,19 @@ module _ {A : Type 0} (say : ℕ → Item → Content) (f : List ℕ) where
 pub said-plain : (f : List ℕ) (k : ℕ) (is : List Item) → saidFrom (λ k r. content f r) k is ≡ map (content f) is
 said-plain f k [] = refl
 said-plain f k (r ∷ is) = ap (λ v. content f r ∷ v) (said-plain f (k + 1) is)
+
+-- ---- what is known of a run besides: its answer, and the state that it leaves
+
+pub post-known : {A S : Type 0} {put : Part → ℕ → ℕ → S → S} {f : List ℕ} {m : P A} {Q : A → ℕ → S → Type 0} {at : ℕ} {σ : S} → Post put f m Q at σ → Post put f m (λ a q τ. Q a q τ × (run m f at ≡ ok a q)) at σ
+post-known {A} {S} {put} {f} {m} {Q} {at} {σ} w = record { post = rw (exec-puts put m f at σ) (by (run m f at) refl (rw (exec-puts put m f at σ) at (w .post))) }
+  where
+    by : (o : Out A) → run m f at ≡ o → Meets Q (still o (puts put (trace m f at) σ)) → Meets (λ a q τ. Q a q τ × (run m f at ≡ ok a q)) (still o (puts put (trace m f at) σ))
+    by (ok a q) e x = (x, e)
+    by (refused n p) e x = tt
+
+pub post-left : {A S : Type 0} {put : Part → ℕ → ℕ → S → S} {f : List ℕ} {m : P A} {Q : A → ℕ → S → Type 0} {at : ℕ} {σ : S} → Post put f m Q at σ → Post put f m (λ a q τ. Q a q τ × (τ ≡ puts put (trace m f at) σ)) at σ
+post-left {A} {S} {put} {f} {m} {Q} {at} {σ} w = record { post = rw (exec-puts put m f at σ) (by (run m f at) (rw (exec-puts put m f at σ) at (w .post))) }
+  where
+    by : (o : Out A) → Meets Q (still o (puts put (trace m f at) σ)) → Meets (λ a q τ. Q a q τ × (τ ≡ puts put (trace m f at) σ)) (still o (puts put (trace m f at) σ))
+    by (ok a q) x = (x, refl)
+    by (refused n p) x = tt

@@ -24,7 +24,7 @@ use Rattle.header.specs.Types.{Declared}
 use Rattle.header.specs.Header.{four, opening, Edition, edition, fileLength, typesTable, Extent, extent, Header, header}
 use Rattle.header.proofs.Ends.{four-on, extent-on}
 use Rattle.title.specs.Description.{openingSize, tableText}
-use Rattle.title.proofs.Held.{Held, Number, number-is}
+use Rattle.title.proofs.Covers.{Covers, Number, number-is}
 use Rattle.title.proofs.Tables.{Table, table-says}
 
 -- ---- four bytes as one number
@@ -202,7 +202,7 @@ pub record HeaderSpans (f : List ℕ) (h : Header) (types : List ℕ) : Type 0 w
   pub b : ℕ
   pub c : ℕ
   pub length-is : Number f (openingSize (h .version)) (length f) a
-  pub types-held : Held f a (sized types) b
+  pub types-covers : Covers f a (sized types) b
   pub start-is : Number f b (h .extent .start) c
   pub last-is : Number f c (h .extent .last) (h .extent .end)
 
@@ -237,7 +237,7 @@ header-post f =
       spans = (
           let (c, start, last) = post-ran (extent-in f s) e₅ in
           let size : Number f q (length f) r = rw (z .2) at (number-is fileFrame 3 (length f) f q (z .1)) in
-          record { a = r; b = s; c = c; length-is = subst (λ n. Number f n (length f) r) (y .0) size; types-held = t .held; start-is = start; last-is = last });
+          record { a = r; b = s; c = c; length-is = subst (λ n. Number f n (length f) r) (y .0) size; types-covers = t .covers; start-is = start; last-is = last });
     })
 
 pub header-says : (f : List ℕ) {h : Header} {q : ℕ} → run (header (length f)) f 0 ≡ ok h q → HeaderSays f h

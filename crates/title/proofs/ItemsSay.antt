@@ -9,18 +9,18 @@ use native.Mathlib.Omega.{arith}
 use lib.Dec.{eqb}
 use lib.ListN.{length, length-append}
 use borrow.Author.Tests.{ltb-true, eqb-true, eqb-false}
-use Rattle.cursor.specs.Machine.{Out, ok, refused, run, trace, puts, times}
-use Rattle.cursor.specs.Rows.{Part, P, metaFrame}
+use Rattle.cursor.specs.Machine.{ok, run, times}
+use Rattle.cursor.specs.Rows.{metaFrame}
 use Rattle.cursor.specs.Leaves.{number, block}
 use Rattle.cursor.specs.Vlq.{part, vlq, joined, sized}
 use Rattle.cursor.specs.declared.FilePlace.{FilePlace}
 use Rattle.cursor.specs.declared.Item.{Item}
 use Rattle.cursor.proofs.Wp.{Wp, at-end, wp-after, wp-ret, wp-if, wp-place, wp-skip}
 use Rattle.cursor.proofs.Leaves.{Any, any-free, number-on, block-on, number-inside, block-inside}
-use Rattle.cursor.proofs.Quiet.{still, exec-puts, number-quiet, block-quiet}
+use Rattle.cursor.proofs.Quiet.{number-quiet, block-quiet}
 use Rattle.cursor.proofs.Lies.{part-length}
 use Rattle.cursor.proofs.Runs.{nothing, nothing-quiet, Holds, post-ran}
-use Rattle.cursor.proofs.Post.{Meets, Post, post-if, post-after, post-step, post-weaken, post-ret, post-refuse, post-check, post-place, post-skip, post-many}
+use Rattle.cursor.proofs.Post.{Post, post-if, post-after, post-step, post-weaken, post-ret, post-refuse, post-check, post-place, post-skip, post-many}
 use Rattle.header.specs.Types.{Declared, Known, known, unknown, formatOf}
 use Rattle.metadata.specs.Metadata.{Context, kindOf, fieldOf, nameLengthOf, rowOf, field, contents, itemFrame, universal, declaredFormat, version, rowsFor, item, nextItem, metaItems, metadata}
 use Rattle.metadata.specs.declared.Made.{Made}
@@ -33,8 +33,8 @@ use Rattle.metadata.proofs.Quiet.{frame-quiet}
 use Rattle.metadata.proofs.Ends.{Nothing, inside-free, items-on}
 use Rattle.title.specs.Description.{Content, content}
 use Rattle.title.specs.Text.{fieldText, universalText, versionText, itemsText}
-use Rattle.title.proofs.Held.{Held, held-none, held-on, held-as, held-to, held-last, held-part, number-held, block-held, sized-held}
-use Rattle.title.proofs.Collecting.{Collected, collectAs, collect-ignores, withItems}
+use Rattle.title.proofs.Covers.{Covers, covers-none, covers-on, covers-as, covers-to, covers-last, covers-part, number-covers, block-covers, sized-covers}
+use Rattle.title.proofs.Collecting.{Collected, collectAs, collect-ignores, withItems, post-known}
 use Rattle.title.proofs.Items.{SameItem, Versions, versionTexts, plusItems, FieldOk, Entry, one, several, entryText, Entries, none, more, entryTexts, flat, items-text}
 
 -- ---- what is said of a row: all but the data is what the file has
@@ -147,35 +147,35 @@ module _ (f : List ℕ) (node index end at : ℕ) where
   unfolding fieldText content
   name-said p n = refl
 
-  field-held : Post nothing f (field end) (Holds (λ g q. Held f at (fieldSaid g) q)) at tt
+  field-covers : Post nothing f (field end) (Holds (λ g q. Covers f at (fieldSaid g) q)) at tt
   unfolding field
-  field-held =
+  field-covers =
       post-step nothing-quiet λ n q b.
       post-if
-      (λ t. post-step nothing-quiet λ k r e. post-ret (held-as (sym (standard-said k)) (held-on (held-as (ap vlq (eqb-true n 0 t)) (block-held metaFrame 3 end f at b)) (held-last (number-held metaFrame 3 end f q e)))))
-      (λ t. post-place _ q (post-skip _ _ (post-ret (held-as (sym (name-said (record { 0 = q }) n)) (sized-held metaFrame 3 end f at b (held-part f q n))))))
+      (λ t. post-step nothing-quiet λ k r e. post-ret (covers-as (sym (standard-said k)) (covers-on (covers-as (ap vlq (eqb-true n 0 t)) (block-covers metaFrame 3 end f at b)) (covers-last (number-covers metaFrame 3 end f q e)))))
+      (λ t. post-place _ q (post-skip _ _ (post-ret (covers-as (sym (name-said (record { 0 = q }) n)) (sized-covers metaFrame 3 end f at b (covers-part f q n))))))
 
-  contents-held : (p : ℕ) → Post nothing f (contents end) (Holds (λ c q. Held f p (vlq (countOf c)) q)) p tt
+  contents-covers : (p : ℕ) → Post nothing f (contents end) (Holds (λ c q. Covers f p (vlq (countOf c)) q)) p tt
   unfolding contents
-  contents-held p =
+  contents-covers p =
       post-step nothing-quiet λ n q e.
-      post-if (λ t. post-ret (held-as (ap vlq (eqb-true n 0 t)) (number-held metaFrame 3 end f p e))) (λ t. post-ret (number-held metaFrame 3 end f p e))
+      post-if (λ t. post-ret (covers-as (ap vlq (eqb-true n 0 t)) (number-covers metaFrame 3 end f p e))) (λ t. post-ret (number-covers metaFrame 3 end f p e))
 
-  frame-held : Post nothing f (itemFrame end) (Holds (λ i q. (p : ℕ) × Held f at (fieldSaid (i .field)) p × Held f p (vlq (countOf (i .contents))) q)) at tt
+  frame-covers : Post nothing f (itemFrame end) (Holds (λ i q. (p : ℕ) × Covers f at (fieldSaid (i .field)) p × Covers f p (vlq (countOf (i .contents))) q)) at tt
   unfolding itemFrame
-  frame-held = post-after field-held λ g q _ a. post-after (contents-held q) λ c r _ b. post-ret (q, a, b)
+  frame-covers = post-after field-covers λ g q _ a. post-after (contents-covers q) λ c r _ b. post-ret (q, a, b)
 
-  universal-held : {n q format r : ℕ} → run (block metaFrame 3 end) f at ≡ ok n q → run (number metaFrame 3 (q + n)) f q ≡ ok format r → (c : Content) → format ≡ c .format → part f r (q + n - r) ≡ c .bytes
-      → Held f at (universalText c) (r + (q + n - r))
+  universal-covers : {n q format r : ℕ} → run (block metaFrame 3 end) f at ≡ ok n q → run (number metaFrame 3 (q + n)) f q ≡ ok format r → (c : Content) → format ≡ c .format → part f r (q + n - r) ≡ c .bytes
+      → Covers f at (universalText c) (r + (q + n - r))
   unfolding universalText
-  universal-held {n} {q} {format} {r} b e c i l =
+  universal-covers {n} {q} {format} {r} b e c i l =
       let j = number-inside metaFrame 3 (q + n) f q e in
       let z : r + (q + n - r) ≡ q + n = omega arith in
-      held-to (sym z) (sized-held metaFrame 3 end f at b (held-on (held-as (ap vlq i) (number-held metaFrame 3 (q + n) f q e)) (held-last (held-to z (held-as l (held-part f r (q + n - r)))))))
+      covers-to (sym z) (sized-covers metaFrame 3 end f at b (covers-on (covers-as (ap vlq i) (number-covers metaFrame 3 (q + n) f q e)) (covers-last (covers-to z (covers-as l (covers-part f r (q + n - r)))))))
 
-  version-held : {t q n r : ℕ} → run (number metaFrame 3 end) f at ≡ ok t q → run (block metaFrame 3 end) f q ≡ ok n r → (c : Content) → t ≡ c .declared → part f r n ≡ c .bytes → Held f at (versionText c) (r + n)
+  version-covers : {t q n r : ℕ} → run (number metaFrame 3 end) f at ≡ ok t q → run (block metaFrame 3 end) f q ≡ ok n r → (c : Content) → t ≡ c .declared → part f r n ≡ c .bytes → Covers f at (versionText c) (r + n)
   unfolding versionText
-  version-held {n = n} {r} e b c i l = held-on (held-as (ap vlq i) (number-held metaFrame 3 end f at e)) (held-last (sized-held metaFrame 3 end f _ b (held-as l (held-part f r n))))
+  version-covers {n = n} {r} e b c i l = covers-on (covers-as (ap vlq i) (number-covers metaFrame 3 end f at e)) (covers-last (sized-covers metaFrame 3 end f _ b (covers-as l (covers-part f r n))))
 
 versions-joined : (cs ds : List Content) → joined (versionTexts (cs ++ ds)) ≡ joined (versionTexts cs) ++ joined (versionTexts ds)
 versions-joined [] ds = refl
@@ -240,10 +240,10 @@ versions-on types b k (c ∷ cs) ds v w =
     (v .0, v .1, v .2, v .3, versions-on types b (k + 1) cs ds (v .4) (subst (λ j. Versions types b j ds) e w))
 
 abbrev IsUniversal : List ℕ → (ℕ → Item → Content) → Label → ℕ → List Content → ℕ → Type 0
-IsUniversal f say l at cs q = (c : Content) × (cs ≡ c ∷ []) × SameItem (base f l) c × (0 ≡ c .version) × (0 ≡ c .declared) × (c .format < 2 ^ 28) × (Plain f say → Held f at (universalText c) q)
+IsUniversal f say l at cs q = (c : Content) × (cs ≡ c ∷ []) × SameItem (base f l) c × (0 ≡ c .version) × (0 ≡ c .declared) × (c .format < 2 ^ 28) × (Plain f say → Covers f at (universalText c) q)
 
 abbrev AreVersions : List ℕ → (ℕ → Item → Content) → List Declared → Content → (n k at : ℕ) → List Content → ℕ → Type 0
-AreVersions f say types b n k at cs q = (length cs ≡ n) × Versions types b k cs × (Plain f say → Held f at (joined (versionTexts cs)) q)
+AreVersions f say types b n k at cs q = (length cs ≡ n) × Versions types b k cs × (Plain f say → Covers f at (joined (versionTexts cs)) q)
 
 module _ {f : List ℕ} {say : ℕ → Item → Content} (keeps : Keeps f say) (x : Context) (l : Label) (end : ℕ) where
   universal-says : (m : Made) (at : ℕ) (σ : Collected) → Post (collectAs say f) f (universal x l end m) (Added x m σ (IsUniversal f say l at)) at σ
@@ -263,7 +263,7 @@ module _ {f : List ℕ} {say : ℕ → Item → Content} (keeps : Keeps f say) (
       let i = like-format f l 0 0 format r (q + n - r) h in
       record {
         contents = c ∷ [];
-        are = (c, refl, like-same f l 0 0 format r (q + n - r) h, like-version f l 0 0 format r (q + n - r) h, like-declared f l 0 0 format r (q + n - r) h, omega arith, λ plain. universal-held f (l .node) (l .item) end at b e c i (plain (length (σ .items)) (rowOf l 0 0 format r (q + n - r))));
+        are = (c, refl, like-same f l 0 0 format r (q + n - r) h, like-version f l 0 0 format r (q + n - r) h, like-declared f l 0 0 format r (q + n - r) h, omega arith, λ plain. universal-covers f (l .node) (l .item) end at b e c i (plain (length (σ .items)) (rowOf l 0 0 format r (q + n - r))));
         room = omega (arith, ltb-true (m .items) (x .limits .items) room);
         made = refl;
         left = refl;
@@ -297,7 +297,7 @@ module _ {f : List ℕ} {say : ℕ → Item → Content} (keeps : Keeps f say) (
         are = (
           refl,
           (like-same f l v t format r n h, like-version f l v t format r n h, rw (← j, ← k) (b .0), omega arith, tt),
-          λ plain. held-last (version-held f (l .node) (l .item) end at a (subst (λ p. run (block metaFrame 3 end) f p ≡ ok n r) (sym b₂) e) c j (plain (length (σ₁ .items)) (rowOf l v t format r n))),
+          λ plain. covers-last (version-covers f (l .node) (l .item) end at a (subst (λ p. run (block metaFrame 3 end) f p ≡ ok n r) (sym b₂) e) c j (plain (length (σ₁ .items)) (rowOf l v t format r n))),
         );
         room = omega (arith, ltb-true (m .items) (x .limits .items) room);
         made = refl;
@@ -307,7 +307,7 @@ module _ {f : List ℕ} {say : ℕ → Item → Content} (keeps : Keeps f say) (
   versions-say : (before n : ℕ) (m : Made) (at : ℕ) (σ : Collected) → before ≤ m .items → m .items ≤ x .limits .items
       → Post (collectAs say f) f (times n (version x l end before) m) (Added x m σ (AreVersions f say (x .types) (base f l) n (m .items + 1 - before) at)) at σ
   unfolding times
-  versions-say before zero m at σ o r = post-ret (added-none (refl, tt, λ plain. held-none at) r)
+  versions-say before zero m at σ o r = post-ret (added-none (refl, tt, λ plain. covers-none at) r)
   versions-say before (suc n) m at σ o r =
       post-after (version-says before m at σ) λ m₁ q τ s.
       let k = added-count s in
@@ -318,7 +318,7 @@ module _ {f : List ℕ} {say : ℕ → Item → Content} (keeps : Keeps f say) (
       added-on s t (
         omega (arith, t .are .0),
         versions-on (x .types) (base f l) (m .items + 1 - before) (s .contents) (t .contents) (s .are .1) (subst (λ j. Versions (x .types) (base f l) j (t .contents)) e (t .are .1)),
-        λ plain. held-as (sym (versions-joined (s .contents) (t .contents))) (held-on (s .are .2 plain) (t .are .2 plain)),
+        λ plain. covers-as (sym (versions-joined (s .contents) (t .contents))) (covers-on (s .are .2 plain) (t .are .2 plain)),
       )
 
 -- ---- an item
@@ -352,19 +352,19 @@ several-is f types node index g (c ∷ cs) v s = several-said c cs (v .1) ∙ ap
 
 -- the contents of an item that began at `start`
 abbrev IsEntry : List ℕ → (ℕ → Item → Content) → List Declared → (node index start : ℕ) → List Content → ℕ → Type 0
-IsEntry f say types node index start cs q = Entry types node index cs × (Plain f say → Held f start (entryText cs) q)
+IsEntry f say types node index start cs q = Entry types node index cs × (Plain f say → Covers f start (entryText cs) q)
 
 module _ {f : List ℕ} {say : ℕ → Item → Content} (keeps : Keeps f say) (x : Context) (node end : ℕ) (o : end ≤ length f) where
   rows-say : (index : ℕ) (g : Field) → FieldIs f g → (c : Contents) → Some c → (m : Made) (start p at : ℕ) (σ : Collected) → m .items ≤ x .limits .items
-      → Held f start (fieldText (base f (record { node = node; item = index; field = g }))) p → Held f p (vlq (countOf c)) at
+      → Covers f start (fieldText (base f (record { node = node; item = index; field = g }))) p → Covers f p (vlq (countOf c)) at
       → Post (collectAs say f) f (rowsFor x (record { node = node; item = index; field = g }) end c m) (Added x m σ (IsEntry f say (x .types) node index start)) at σ
   unfolding rowsFor
   rows-say index g h contents.Universal s m start p at σ r a₁ b =
       post-weaken (universal-says keeps x (record { node = node; item = index; field = g }) end m at σ) λ m₁ q τ a.
-      let (c, e, same, v, d, fm, held) = a .are in
+      let (c, e, same, v, d, fm, covers) = a .are in
       added-by a (
         subst (Entry (x .types) node index) (sym e) (entry-one (x .types) f node index g c h same v d fm),
-        λ plain. held-as (sym (ap entryText e ∙ one-said c v)) (held-on (held-as (same-text same) a₁) (held-on b (held-last (held plain)))),
+        λ plain. covers-as (sym (ap entryText e ∙ one-said c v)) (covers-on (covers-as (same-text same) a₁) (covers-on b (covers-last (covers plain)))),
       )
   rows-say index g h (contents.Versions n) s m start p at σ r a₁ b =
       post-weaken (versions-say keeps x (record { node = node; item = index; field = g }) end (m .items) n m at σ (omega arith) r) λ m₁ q τ a.
@@ -373,7 +373,7 @@ module _ {f : List ℕ} {say : ℕ → Item → Content} (keeps : Keeps f say) (
       let v = subst (λ j. Versions (x .types) (base f (record { node = node; item = index; field = g })) j (a .contents)) e (a .are .1) in
       added-by a (
         entry-several (x .types) f node index g (a .contents) h (omega arith) (omega arith) v,
-        λ plain. held-as (sym (several-is f (x .types) node index g (a .contents) v (omega arith))) (held-on a₁ (held-on (held-as (ap vlq (sym k)) b) (held-last (a .are .2 plain)))),
+        λ plain. covers-as (sym (several-is f (x .types) node index g (a .contents) v (omega arith))) (covers-on a₁ (covers-on (covers-as (ap vlq (sym k)) b) (covers-last (a .are .2 plain)))),
       )
 
   item-says : (index : ℕ) (m : Made) (at : ℕ) (σ : Collected) → m .items ≤ x .limits .items → Post (collectAs say f) f (item x node index end m) (Added x m σ (IsEntry f say (x .types) node index at)) at σ
@@ -381,7 +381,7 @@ module _ {f : List ℕ} {say : ℕ → Item → Content} (keeps : Keeps f say) (
   item-says index m at σ r =
       post-step (frame-quiet (collect-ignores say f) end) λ i q e.
       let w = at-end any-free f (frame-is f end at o) e in
-      let (p, a, b) = post-ran (frame-held f node index end at) e in
+      let (p, a, b) = post-ran (frame-covers f node index end at) e in
       rows-say index (i .field) (w .0) (i .contents) (w .1) m at p q σ r a b
 
 -- ---- items end to end
@@ -401,22 +401,14 @@ abbrev pub Grouped : List Declared → ℕ → List Content → Type 0
 Grouped types node cs = (css : List (List Content)) × Entries types node 0 css × (flat css ≡ cs)
 
 abbrev SoFar : List ℕ → (ℕ → Item → Content) → List Declared → (node index at : ℕ) → List Content → ℕ → Type 0
-SoFar f say types node index at cs q = (css : List (List Content)) × Entries types node 0 css × (flat css ≡ cs) × (index ≡ length css) × (Plain f say → Held f at (joined (entryTexts css)) q)
+SoFar f say types node index at cs q = (css : List (List Content)) × Entries types node 0 css × (flat css ≡ cs) × (index ≡ length css) × (Plain f say → Covers f at (joined (entryTexts css)) q)
 
 -- items end to end; with their length before them
 abbrev AreGrouped : List ℕ → (ℕ → Item → Content) → List Declared → (node at : ℕ) → List Content → ℕ → Type 0
-AreGrouped f say types node at cs q = Grouped types node cs × (Plain f say → Held f at (itemsText cs) q)
+AreGrouped f say types node at cs q = Grouped types node cs × (Plain f say → Covers f at (itemsText cs) q)
 
 abbrev pub AreMetadata : List ℕ → (ℕ → Item → Content) → List Declared → (node at : ℕ) → List Content → ℕ → Type 0
-AreMetadata f say types node at cs q = Grouped types node cs × (Plain f say → Held f at (sized (itemsText cs)) q)
-
--- a run that is known besides
-pub post-known : {A S : Type 0} {put : Part → ℕ → ℕ → S → S} {f : List ℕ} {m : P A} {Q : A → ℕ → S → Type 0} {at : ℕ} {σ : S} → Post put f m Q at σ → Post put f m (λ a q τ. Q a q τ × (run m f at ≡ ok a q)) at σ
-post-known {A} {S} {put} {f} {m} {Q} {at} {σ} w = record { post = rw (exec-puts put m f at σ) (by (run m f at) refl (rw (exec-puts put m f at σ) at (w .post))) }
-  where
-    by : (o : Out A) → run m f at ≡ o → Meets Q (still o (puts put (trace m f at) σ)) → Meets (λ a q τ. Q a q τ × (run m f at ≡ ok a q)) (still o (puts put (trace m f at) σ))
-    by (ok a q) e x = (x, e)
-    by (refused n p) e x = tt
+AreMetadata f say types node at cs q = Grouped types node cs × (Plain f say → Covers f at (sized (itemsText cs)) q)
 
 module _ {f : List ℕ} {say : ℕ → Item → Content} (keeps : Keeps f say) (x : Context) (node : ℕ) where
   items-say : (end : ℕ) → end ≤ length f → (m : Made) (at : ℕ) (σ : Collected) → m .items ≤ x .limits .items → Post (collectAs say f) f (metaItems x node end m) (Added x m σ (AreGrouped f say (x .types) node at)) at σ
@@ -427,11 +419,11 @@ module _ {f : List ℕ} {say : ℕ → Item → Content} (keeps : Keeps f say) (
       (λ k p τ s.
       post-after (item-says keeps x node end o (k .index) (k .made) p τ (added-room s)) λ m₁ q υ t.
       post-ret (
-      let (css, es, e, i, held) = s .are in
+      let (css, es, e, i, covers) = s .are in
       let y = count-more css (t .contents) in
-      added-on s t (css ++ t .contents ∷ [], entries-more es (k .index) (t .contents) (omega arith) (t .are .0), flat-more css (t .contents) ∙ ap (λ v. v ++ t .contents) e, omega arith, λ plain. held-as (sym (entries-joined css (t .contents))) (held-on (held plain) (t .are .1 plain)))))
-      (added-none ([], none, refl, refl, λ plain. held-none at) r))
-      λ k q τ s. post-ret (let (css, es, e, i, held) = s .are in added-by s ((css, es, e), λ plain. held-as (sym (sym (ap itemsText e) ∙ items-text es)) (held plain)))
+      added-on s t (css ++ t .contents ∷ [], entries-more es (k .index) (t .contents) (omega arith) (t .are .0), flat-more css (t .contents) ∙ ap (λ v. v ++ t .contents) e, omega arith, λ plain. covers-as (sym (entries-joined css (t .contents))) (covers-on (covers plain) (t .are .1 plain)))))
+      (added-none ([], none, refl, refl, λ plain. covers-none at) r))
+      λ k q τ s. post-ret (let (css, es, e, i, covers) = s .are in added-by s ((css, es, e), λ plain. covers-as (sym (sym (ap itemsText e) ∙ items-text es)) (covers plain)))
 
   pub metadata-says : (end : ℕ) → end ≤ length f → (m : Made) (at : ℕ) (σ : Collected) → m .items ≤ x .limits .items → Post (collectAs say f) f (metadata x node end m) (Added x m σ (AreMetadata f say (x .types) node at)) at σ
   unfolding metadata
@@ -440,4 +432,4 @@ module _ {f : List ℕ} {say : ℕ → Item → Content} (keeps : Keeps f say) (
       let i = block-inside metaFrame 8 end f at b in
       post-place _ q (post-weaken (post-known (items-say (q + n) (omega arith) m q σ r)) λ m′ p τ s.
       let e = at-end (inside-free (q + n) (q + n)) f (items-on Nothing (q + n) (q + n) x node (q + n) (omega arith) m q (omega arith)) (s .1) .1 in
-      added-by (s .0) (s .0 .are .0, λ plain. held-to (sym e) (sized-held metaFrame 8 end f at b (held-to e (s .0 .are .1 plain)))))
+      added-by (s .0) (s .0 .are .0, λ plain. covers-to (sym e) (sized-covers metaFrame 8 end f at b (covers-to e (s .0 .are .1 plain)))))

@@ -1,13 +1,13 @@
 -- Of an accepted file no node and no header is shorter than in the text of what the file says; and where all nodes together are not longer, none is.
 -- Assumes nothing.
 use mathlib.Core.Path.{_≡_, refl, sym, ap, ap₂, _∙_, subst}
-use mathlib.Core.List.{List, [], _∷_, _++_, append-assoc, append-nil, map}
+use mathlib.Core.List.{List, [], _∷_, _++_, append-assoc, append-nil, map, map-append}
 use Prim.Native.Nat.{ℕ, zero, suc, _+_, _-_, _^_, _≤_, _<_}
 use native.Mathlib.Omega.{arith}
 use lib.ListN.{length, getD, take, drop, length-append}
 use lib.Seq.{take-at, drop-at}
 use borrow.Author.Tests.{ltb-true, leb-true}
-use Rattle.cursor.specs.Machine.{ret, refuse, here, byte, pass, Out, ok, refused, seen, passed, run, trace, exec, puts, rowsOf, _>>=_, times}
+use Rattle.cursor.specs.Machine.{ret, refuse, here, byte, pass, ok, seen, passed, run, trace, exec, puts, rowsOf, _>>=_, times}
 use Rattle.cursor.specs.Rows.{Part, nodeRow, itemRow, plain, P, Events, inlineSize}
 use Rattle.cursor.specs.Vlq.{vlq, joined}
 use Rattle.cursor.specs.declared.Node.{Node}
@@ -33,13 +33,14 @@ use Rattle.tree.specs.Reading.{nodesOf, itemsOf}
 use Rattle.title.specs.Description.{Content, content, Shape, shape}
 use Rattle.title.specs.Text.{headerOf, framed, ownText, nodeText, wholeText, outer}
 use Rattle.title.proofs.Sizes.{header-least, framed-length}
-use Rattle.title.proofs.Held.{Held, held-none, held-on, held-as, held-last}
-use Rattle.title.proofs.Collecting.{Collected, collect}
+use Rattle.title.proofs.Covers.{Covers, covers-none, covers-on, covers-as, covers-last}
+use Rattle.title.proofs.Collecting.{Collected, collect, post-known, post-left}
+use Rattle.title.proofs.Passes.{joined-append}
 use Rattle.title.proofs.Fronts.{Stays, Front}
 use Rattle.title.proofs.Nodes.{AllStay, stay-left, stay-right, whole-length}
 use Rattle.title.proofs.Items.{plusItems}
-use Rattle.title.proofs.ItemsSay.{Like, Keeps, plainly, post-known}
-use Rattle.title.proofs.NodesSay.{restText, Spans, front-says}
+use Rattle.title.proofs.ItemsSay.{Like, Keeps, plainly}
+use Rattle.title.proofs.NodesSay.{restText, Spans, front-says, shape-contained}
 
 -- ---- NodeHeaderLength and NodeLength, as they are written
 
@@ -84,11 +85,11 @@ node-exact r cs inner h = whole-length r cs inner ∙ framed-length (r .containe
 module _ {f : List ℕ} (row : Node) (r : Shape) (cs : List Content) {at q : ℕ} (w : Spans f row r cs at q) (inner : List ℕ) (i : q + inlineSize row + length inner ≤ at + row .size) where
   span-header : spanOf r cs inner .header ≤ row .header
   span-header =
-      let a = w .length-is .held .short in
-      let b = w .contained-held .short in
-      let c = w .header-is .held .short in
-      let d = w .rest-held .short in
-      let o = w .own-held .short in
+      let a = w .length-is .covers .short in
+      let b = w .contained-covers .short in
+      let c = w .header-is .covers .short in
+      let d = w .rest-covers .short in
+      let o = w .own-covers .short in
       let m = w .length-is .fits in
       let n = w .header-is .fits in
       let s = vlq-some (row .size) in
@@ -96,18 +97,18 @@ module _ {f : List ℕ} (row : Node) (r : Shape) (cs : List Content) {at q : ℕ
       omega (arith, header-least (r .contained) (restText r cs) (length (ownText r) + length inner) (w .a - at) (w .c - w .b) (omega arith) (omega arith) (omega arith) (omega arith))
 
   span-size : spanOf r cs inner .size ≤ row .size
-  span-size = let o = w .own-held .short in let h = span-header in omega arith
+  span-size = let o = w .own-covers .short in let h = span-header in omega arith
 
   span-tight : spanOf r cs inner .size ≡ row .size → (spanOf r cs inner .header ≡ row .header) × (q + inlineSize row + length inner ≡ at + row .size)
-  span-tight e = let o = w .own-held .short in let h = span-header in (omega arith, omega arith)
+  span-tight e = let o = w .own-covers .short in let h = span-header in (omega arith, omega arith)
 
   -- a node that is no longer than its text has these bytes
-  span-held : Held f (q + inlineSize row) inner (at + row .size) → spanOf r cs inner .size ≡ row .size → spanOf r cs inner .header ≡ row .header → Held f at (wholeText r cs inner) (at + row .size)
+  span-covers : Covers f (q + inlineSize row) inner (at + row .size) → spanOf r cs inner .size ≡ row .size → spanOf r cs inner .header ≡ row .header → Covers f at (wholeText r cs inner) (at + row .size)
   unfolding wholeText nodeText framed
-  span-held h e e₂ =
+  span-covers h e e₂ =
       let own : List ℕ = ownText r in
       let front : List (List ℕ) = vlq (spanOf r cs inner .size) ∷ vlq (r .contained) ∷ vlq (spanOf r cs inner .header) ∷ restText r cs ∷ own ∷ [] in
-      held-on {s = joined front} (held-on (held-as (ap vlq (sym e)) (w .length-is .held)) (held-on (w .contained-held) (held-on (held-as (ap vlq (sym e₂)) (w .header-is .held)) (held-on (w .rest-held) (held-last (w .own-held)))))) h
+      covers-on {s = joined front} (covers-on (covers-as (ap vlq (sym e)) (w .length-is .covers)) (covers-on (w .contained-covers) (covers-on (covers-as (ap vlq (sym e₂)) (w .header-is .covers)) (covers-on (w .rest-covers) (covers-last (w .own-covers)))))) h
 
 -- ---- what is collected: node rows as they are, and contents
 
@@ -121,10 +122,6 @@ module _ (f : List ℕ) where
   keepAs (itemRow r) p n σ = record { nodes = σ .nodes; items = σ .items ++ content f r ∷ [] }
   keepAs (plain x) p n σ = σ
 
-  map-on : {A B : Type 0} (g : A → B) (xs ys : List A) → map g (xs ++ ys) ≡ map g xs ++ map g ys
-  map-on g [] ys = refl
-  map-on g (x ∷ xs) ys = ap (λ v. g x ∷ v) (map-on g xs ys)
-
   abbrev said : Raw → Collected
   said σ = record { nodes = map (shape f) (σ .nodes); items = σ .items }
 
@@ -135,7 +132,7 @@ module _ (f : List ℕ) where
   raw (here k) Q at σ w = raw (k at) Q at σ w
   raw (byte κ k) Q at σ w = raw (k (getD f at 0)) Q (at + 1) σ w
   raw (pass (nodeRow r) n m) Q at σ w =
-      raw m Q (at + n) (record { nodes = σ .nodes ++ r ∷ []; items = σ .items }) (subst (λ v. Meets Q (exec (collect f) m f (at + n) (record { nodes = v; items = σ .items }))) (sym (map-on (shape f) (σ .nodes) (r ∷ []))) w)
+      raw m Q (at + n) (record { nodes = σ .nodes ++ r ∷ []; items = σ .items }) (subst (λ v. Meets Q (exec (collect f) m f (at + n) (record { nodes = v; items = σ .items }))) (sym (map-append (shape f) (σ .nodes) (r ∷ []))) w)
   raw (pass (itemRow r) n m) Q at σ w = raw m Q (at + n) (record { nodes = σ .nodes; items = σ .items ++ content f r ∷ [] }) w
   raw (pass (plain x) n m) Q at σ w = raw m Q (at + n) σ w
 
@@ -171,19 +168,11 @@ like-same c = record { node = refl; item = refl; kind = refl; field = refl; name
 plainly-keeps : (f : List ℕ) → Keeps f (λ k r. content f r)
 plainly-keeps f k r = like-same (content f r)
 
--- the state that a run leaves besides
-post-left : {A S : Type 0} {put : Part → ℕ → ℕ → S → S} {f : List ℕ} {m : P A} {Q : A → ℕ → S → Type 0} {at : ℕ} {σ : S} → Post put f m Q at σ → Post put f m (λ a q τ. Q a q τ × (τ ≡ puts put (trace m f at) σ)) at σ
-post-left {A} {S} {put} {f} {m} {Q} {at} {σ} w = record { post = rw (exec-puts put m f at σ) (by (run m f at) (rw (exec-puts put m f at σ) at (w .post))) }
-  where
-    by : (o : Out A) → Meets Q (still o (puts put (trace m f at) σ)) → Meets (λ a q τ. Q a q τ × (τ ≡ puts put (trace m f at) σ)) (still o (puts put (trace m f at) σ))
-    by (ok a q) x = (x, refl)
-    by (refused n p) x = tt
-
 -- ---- nodes
 
 -- the bytes from `at` to q hold the texts, row by row; and where they are no more, no row is longer
 pub record Bound (f : List ℕ) (rows : List Node) (spans : List Span) (texts : List (List ℕ)) (at q : ℕ) : Type 0 where
-  pub held : Held f at (joined texts) q
+  pub covers : Covers f at (joined texts) q
   pub over : Over rows spans
   pub tight : at + length (joined texts) ≡ q → Exactly rows spans
 
@@ -202,19 +191,15 @@ pub record Level (f : List ℕ) (x : Context) (end n : ℕ) (σ : Raw) (at : ℕ
   pub room : m .items ≤ x .limits .items
   pub inside : q ≤ end
 
-joined-on : (ss ts : List (List ℕ)) → joined (ss ++ ts) ≡ joined ss ++ joined ts
-joined-on [] ts = refl
-joined-on (s ∷ ss) ts = ap (λ v. s ++ v) (joined-on ss ts) ∙ sym (append-assoc s (joined ss) (joined ts))
-
 bound-none : (f : List ℕ) (at : ℕ) → Bound f [] [] [] at at
-bound-none f at = record { held = held-none at; over = none; tight = λ _. none }
+bound-none f at = record { covers = covers-none at; over = none; tight = λ _. none }
 
 bound-on : {f : List ℕ} {rs ts : List Node} {ss us : List Span} (xs ys : List (List ℕ)) {at p q : ℕ} → Bound f rs ss xs at p → Bound f ts us ys p q → Bound f (rs ++ ts) (ss ++ us) (xs ++ ys) at q
 bound-on xs ys x y =
-    let a = x .held .short in
-    let b = y .held .short in
-    let z = ap length (joined-on xs ys) ∙ length-append (joined xs) (joined ys) in
-    record { held = held-as (sym (joined-on xs ys)) (held-on (x .held) (y .held)); over = along-on (x .over) (y .over); tight = λ e. along-on (x .tight (omega arith)) (y .tight (omega arith)) }
+    let a = x .covers .short in
+    let b = y .covers .short in
+    let z = ap length (joined-append xs ys) ∙ length-append (joined xs) (joined ys) in
+    record { covers = covers-as (sym (joined-append xs ys)) (covers-on (x .covers) (y .covers)); over = along-on (x .over) (y .over); tight = λ e. along-on (x .tight (omega arith)) (y .tight (omega arith)) }
 
 module _ (f : List ℕ) (x : Context) (end : ℕ) where
   level-none : (m : Made) (at : ℕ) (σ : Raw) → m .items ≤ x .limits .items → at ≤ end → Level f x end 0 σ at m at σ
@@ -235,7 +220,7 @@ module _ (f : List ℕ) (x : Context) (end : ℕ) where
 
   level-on : {k n at p q : ℕ} {m m₁ : Made} {σ τ υ : Raw} → Level f x end k σ at m p τ → Level f x end n τ p m₁ q υ → Level f x end (k + n) σ at m₁ q υ
   level-on {σ = σ} s t =
-      let e = map-on f (shape f) (s .rows) (t .rows) in
+      let e = map-append (shape f) (s .rows) (t .rows) in
       record {
         rows = s .rows ++ t .rows;
         contents = s .contents ++ t .contents;
@@ -261,10 +246,10 @@ module _ (f : List ℕ) (x : Context) (end : ℕ) where
       → Level f x (at + row .size) (row .contained) (record { nodes = τ .nodes ++ row ∷ []; items = τ .items }) (q + inlineSize row) m₂ (at + row .size) υ
       → Level f x end 1 σ at m₂ (at + row .size) υ
   unfolding outer spans
-  level-one big o {at} {q} {σ = σ} τ row cs fr held left₁ left₂ wide inside t =
+  level-one big o {at} {q} {σ = σ} τ row cs fr contained left₁ left₂ wide inside t =
       let r : Shape = shape f row in
       let e = fr .counted in
-      let l : length (t .texts) ≡ r .contained = t .count ∙ sym held in
+      let l : length (t .texts) ≡ r .contained = t .count ∙ sym contained in
       let inner : List ℕ = joined (t .texts) in
       record {
         rows = row ∷ t .rows;
@@ -281,16 +266,16 @@ module _ (f : List ℕ) (x : Context) (end : ℕ) where
         bound = λ a.
             let b = t .bound (a .1) in
             let w = wide (a .0) in
-            let i = b .held .short in
+            let i = b .covers .short in
             let h = span-header row r cs w inner i in
             let z = span-size row r cs w inner i in
             let y = node-exact r cs inner (omega arith) in
             record {
-              held = held-last (record {
+              covers = covers-last (record {
                 short = omega arith;
                 tight = λ bytes k.
                     let u : spanOf r cs inner .size ≡ row .size = omega arith in
-                    span-held row r cs w inner i (b .held) u (span-tight row r cs w inner i u .0) .tight bytes k;
+                    span-covers row r cs w inner i (b .covers) u (span-tight row r cs w inner i u .0) .tight bytes k;
               });
               over = more {r = row} h z (b .over);
               tight = λ k.
@@ -304,10 +289,6 @@ module _ (f : List ℕ) (x : Context) (end : ℕ) where
       }
 
 -- ---- the tree
-
-shape-contained : (f : List ℕ) (row : Node) → shape f row .contained ≡ row .contained
-unfolding shape
-shape-contained f row = refl
 
 module _ (f : List ℕ) (big : length f < 2 ^ 28) (x : Context) where
   -- the front of a node, from `at` to q

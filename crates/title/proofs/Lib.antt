@@ -1,7 +1,7 @@
 pub mod Sizes
 pub mod Collecting
 pub mod Items
-pub mod Held
+pub mod Covers
 pub mod Unpackers
 pub mod Head
 pub mod Fronts

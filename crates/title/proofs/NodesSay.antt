@@ -38,7 +38,7 @@ use Rattle.title.specs.Text.{itemsText, ownText, wholeText}
 use Rattle.title.proofs.Collecting.{Collected, collectAs, collect-ignores, withItems, withRows}
 use Rattle.cursor.proofs.Runs.{nothing, nothing-ignores, nothing-quiet, Holds, post-ran}
 use Rattle.tree.proofs.Nodes.{inline-is}
-use Rattle.title.proofs.Held.{Held, Number, held-on, held-as, held-to, held-wider, held-last, held-part, number-held, number-is, sized-held}
+use Rattle.title.proofs.Covers.{Covers, Number, covers-on, covers-as, covers-to, covers-wider, covers-last, covers-part, number-covers, number-is, sized-covers}
 use Rattle.title.proofs.Items.{plusItems}
 use Rattle.title.proofs.ItemsSay.{Keeps, Plain, Grouped, metadata-says}
 use Rattle.title.proofs.UnpackersSay.{PacksOf, unpackers-say}
@@ -82,12 +82,12 @@ reference-is headerEnd size contained end at =
 
 -- what was read holds a reference: alone, with the data after it, or with a URI
 abbrev RefersIn : List ℕ → ℕ → reference.Reference → ℕ → Type 0
-RefersIn f at o q = (o .kind ≡ 1 → Held f at (vlq 1) q × (o .target ≡ q)) × (o .kind ≡ 4 → Held f at (joined (vlq 4 ∷ sized (part f (o .target) (o .extent)) ∷ [])) q)
+RefersIn f at o q = (o .kind ≡ 1 → Covers f at (vlq 1) q × (o .target ≡ q)) × (o .kind ≡ 4 → Covers f at (joined (vlq 4 ∷ sized (part f (o .target) (o .extent)) ∷ [])) q)
 
-target-in : (f : List ℕ) (headerEnd size r end at p : ℕ) → Held f at (vlq r) p → 0 < r → r ≤ 4 → Post nothing f (target headerEnd size r end) (Holds (RefersIn f at)) p tt
+target-in : (f : List ℕ) (headerEnd size r end at p : ℕ) → Covers f at (vlq r) p → 0 < r → r ≤ 4 → Post nothing f (target headerEnd size r end) (Holds (RefersIn f at)) p tt
 unfolding target resource nodePlace uriPlace
 target-in f headerEnd size r end at p h some four =
-    post-if (λ t. post-place _ p (post-ret (let e = eqb-true r 1 t in (λ _. (held-as (ap vlq e) h, refl), λ z. absurd (omega arith)))))
+    post-if (λ t. post-place _ p (post-ret (let e = eqb-true r 1 t in (λ _. (covers-as (ap vlq e) h, refl), λ z. absurd (omega arith)))))
     λ t. post-if (λ u. post-place _ p (post-step nothing-quiet λ o q e. post-check _ _ λ c. post-check _ _ λ d. post-ret (λ z. absurd (omega arith), λ z. absurd (omega arith))))
     λ u. post-if (λ w. post-step nothing-quiet λ o q e. post-ret (λ z. absurd (omega arith), λ z. absurd (omega arith)))
     λ w. post-step nothing-quiet λ n q e. post-place _ q (post-skip _ _ (post-ret (
@@ -95,13 +95,13 @@ target-in f headerEnd size r end at p h some four =
     let b = eqb-false r 2 u in
     let c = eqb-false r 3 w in
     let k : r ≡ 4 = omega arith in
-    (λ z. absurd (omega arith), λ z. held-on (held-as (ap vlq k) h) (held-last (sized-held referenceFrame 3 end f p e (held-part f q n)))))))
+    (λ z. absurd (omega arith), λ z. covers-on (covers-as (ap vlq k) h) (covers-last (sized-covers referenceFrame 3 end f p e (covers-part f q n)))))))
 
 reference-in : (f : List ℕ) (headerEnd size contained end at : ℕ) → Post nothing f (reference headerEnd size contained end) (Holds (RefersIn f at)) at tt
 unfolding reference
 reference-in f headerEnd size contained end at =
     post-place _ at
-    (post-step nothing-quiet λ r q e. post-check _ _ λ t. post-check _ _ λ u. post-check _ _ λ v. target-in f headerEnd size r end at q (number-held referenceFrame 3 end f at e) (ltb-true 0 r t) (leb-true r 4 u))
+    (post-step nothing-quiet λ r q e. post-check _ _ λ t. post-check _ _ λ u. post-check _ _ λ v. target-in f headerEnd size r end at q (number-covers referenceFrame 3 end f at e) (ltb-true 0 r t) (leb-true r 4 u))
 
 -- unpackers up to where the header ends, and the reference
 abbrev RestSays : (f : List ℕ) (contained inner at : ℕ) → Rest → ℕ → Type 0
@@ -128,7 +128,7 @@ head-few s at =
 
 -- where the three numbers end: NodeLength at a, the number of contained items at b, NodeHeaderLength at q
 abbrev HeadIn : List ℕ → ℕ → head.Head → ℕ → Type 0
-HeadIn f at h q = (a : ℕ) × (b : ℕ) × Number f at (h .size .0) a × Held f a (vlq (h .contained)) b × Number f b (h .header .0) q
+HeadIn f at h q = (a : ℕ) × (b : ℕ) × Number f at (h .size .0) a × Covers f a (vlq (h .contained)) b × Number f b (h .header .0) q
 
 head-in : (f : List ℕ) (s : Standing) (at : ℕ) → Post nothing f (head s) (Holds (HeadIn f at)) at tt
 unfolding head headerLength
@@ -140,7 +140,7 @@ head-in f s at =
       p,
       q,
       number-is nodeFrame 3 (s .end .0) f at e₁,
-      number-held nodeFrame 3 (at + n) f p e₂,
+      number-covers nodeFrame 3 (at + n) f p e₂,
       number-is nodeFrame 3 (at + n) f q e₃,
     ))))
 
@@ -156,10 +156,10 @@ pub record Spans (f : List ℕ) (row : Node) (r : Shape) (cs : List Content) (at
   pub b : ℕ
   pub c : ℕ
   pub length-is : Number f at (row .size) a
-  pub contained-held : Held f a (vlq (r .contained)) b
+  pub contained-covers : Covers f a (vlq (r .contained)) b
   pub header-is : Number f b (row .header) c
-  pub rest-held : Held f c (restText r cs) (at + row .header)
-  pub own-held : Held f (at + row .header) (ownText r) (q + inlineSize row)
+  pub rest-covers : Covers f c (restText r cs) (at + row .header)
+  pub own-covers : Covers f (at + row .header) (ownText r) (q + inlineSize row)
 
 refers-stay : (contained k : ℕ) → RefersTo contained k → ((k ≡ 2) → ⊥) × ((k ≡ 3) → ⊥) → (k ≡ 1) ⊎ ((k ≡ 4) × (contained ≡ 0))
 refers-stay contained k (inl e) s = inl e
@@ -173,8 +173,8 @@ decEqZero (suc n) = inr (λ z. omega arith)
 
 module _ (f : List ℕ) where
   -- its own text: the reference, with what it leads to in the node
-  own-in : (row : Node) (at q : ℕ) → Stays (shape f row) → RefersTo (row .contained) (row .reference) → (row .reference ≡ 1 → Held f at (vlq 1) q × (row .target ≡ q)) → (row .reference ≡ 4 → Held f at (joined (vlq 4 ∷ sized (part f (row .target) (row .extent)) ∷ [])) q)
-      → Held f at (ownText (shape f row)) (q + inlineSize row)
+  own-in : (row : Node) (at q : ℕ) → Stays (shape f row) → RefersTo (row .contained) (row .reference) → (row .reference ≡ 1 → Covers f at (vlq 1) q × (row .target ≡ q)) → (row .reference ≡ 4 → Covers f at (joined (vlq 4 ∷ sized (part f (row .target) (row .extent)) ∷ [])) q)
+      → Covers f at (ownText (shape f row)) (q + inlineSize row)
   unfolding shape
   own-in row at q stays refers one four = elim (refers-stay (row .contained) (row .reference) refers stays) [
     | inl e ↦
@@ -183,16 +183,16 @@ module _ (f : List ℕ) where
         elim (decEqZero (row .contained)) [
           | inl z ↦
               let b : part f q (row .extent) ≡ r .body = rw (z, t) refl in
-              held-as (sym (own-inline r e)) (held-on h (held-last (held-to (omega (arith, inline-is row z e)) (held-as b (held-part f q (row .extent))))))
-          | inr n ↦ let b : r .body ≡ [] = rw (ne-eqb _ _ n) refl in held-as (sym (own-inline r e ∙ ap (λ v. joined (vlq 1 ∷ v ∷ [])) b)) (held-last (held-wider (omega arith) h))
+              covers-as (sym (own-inline r e)) (covers-on h (covers-last (covers-to (omega (arith, inline-is row z e)) (covers-as b (covers-part f q (row .extent))))))
+          | inr n ↦ let b : r .body ≡ [] = rw (ne-eqb _ _ n) refl in covers-as (sym (own-inline r e ∙ ap (λ v. joined (vlq 1 ∷ v ∷ [])) b)) (covers-last (covers-wider (omega arith) h))
         ]
     | inr (e, z) ↦
         let r : Shape = shape f row in
         let b : part f (row .target) (row .extent) ≡ r .body = rw z refl in
-        held-as (ap (λ v. joined (vlq 4 ∷ sized v ∷ [])) b ∙ sym (own-uri r e)) (held-wider (omega arith) (four e))
+        covers-as (ap (λ v. joined (vlq 4 ∷ sized v ∷ [])) b ∙ sym (own-uri r e)) (covers-wider (omega arith) (four e))
   ]
 
-  spans-made : (parent depth at p q v : ℕ) (h : head.Head) (m m′ : Made) (o : Rest) (cs : List Content) → HeadIn f at h p → Held f p (sized (itemsText cs)) q → RestSays f (h .contained) (at + h .header .0) q o v
+  spans-made : (parent depth at p q v : ℕ) (h : head.Head) (m m′ : Made) (o : Rest) (cs : List Content) → HeadIn f at h p → Covers f p (sized (itemsText cs)) q → RestSays f (h .contained) (at + h .header .0) q o v
       → Stays (shape f (node.rowOf at h parent depth 0 (o .reference) (o .unpackers) (m′ .items - m .items)))
       → Spans f (node.rowOf at h parent depth 0 (o .reference) (o .unpackers) (m′ .items - m .items)) (shape f (node.rowOf at h parent depth 0 (o .reference) (o .unpackers) (m′ .items - m .items))) cs at v
   unfolding shape
@@ -204,10 +204,10 @@ module _ (f : List ℕ) where
         b = b;
         c = p;
         length-is = size;
-        contained-held = contained;
+        contained-covers = contained;
         header-is = header;
-        rest-held = held-to i (held-on items (held-last (held-as (ap sized (packs .text)) (packs .held))));
-        own-held = subst (λ k. Held f k (ownText (shape f row)) (v + inlineSize row)) i (own-in row e v stays refers (own .0) (own .1));
+        rest-covers = covers-to i (covers-on items (covers-last (covers-as (ap sized (packs .text)) (packs .covers))));
+        own-covers = subst (λ k. Covers f k (ownText (shape f row)) (v + inlineSize row)) i (own-in row e v stays refers (own .0) (own .1));
       }
 
 module _ {f : List ℕ} {say : ℕ → Item → Content} (keeps : Keeps f say) (x : Context) where
@@ -325,9 +325,9 @@ grown-one x d parent {m = m} {m₁ = m₁} {σ = σ} r cs f e l t =
       room = t .room;
     }
 
-shape-contained : (f : List ℕ) (r : front.Front) → shape f (r .row) .contained ≡ r .row .contained
+pub shape-contained : (f : List ℕ) (row : Node) → shape f row .contained ≡ row .contained
 unfolding shape
-shape-contained f r = refl
+shape-contained f row = refl
 
 -- what is to be shown of n nodes with d levels left
 abbrev Say : (f : List ℕ) (say : ℕ → Item → Content) (x : Context) (d : ℕ) → Type 0
@@ -347,7 +347,7 @@ module _ {f : List ℕ} {say : ℕ → Item → Content} (keeps : Keeps f say) (
       (post-after (children (w .row .contained) (m .nodes) (at + w .row .size) (plusNode (w .made)) _ _ (omega arith) (omega (arith, front .item-room))) λ m₂ p υ t.
       post-place _ p
       (post-check _ _ λ full.
-      post-ret (grown-one x d parent (shape f (w .row)) cs front made left (subst (λ v. Grown x d (m .nodes) (plusNode (w .made)) (record { nodes = τ .nodes ++ shape f (w .row) ∷ []; items = τ .items }) v m₂ p υ) (sym (shape-contained f w)) t)))))
+      post-ret (grown-one x d parent (shape f (w .row)) cs front made left (subst (λ v. Grown x d (m .nodes) (plusNode (w .made)) (record { nodes = τ .nodes ++ shape f (w .row) ∷ []; items = τ .items }) v m₂ p υ) (sym (shape-contained f (w .row))) t)))))
 
   times-say : (d : ℕ) → Say f say x d → Say f say x (suc d)
   unfolding times

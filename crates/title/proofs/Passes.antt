@@ -45,7 +45,7 @@ sizes-are (r ∷ rs) cs =
 
 -- ---- the second pass
 
-joined-append : (a b : List (List ℕ)) → joined (a ++ b) ≡ joined a ++ joined b
+pub joined-append : (a b : List (List ℕ)) → joined (a ++ b) ≡ joined a ++ joined b
 joined-append [] b = refl
 joined-append (s ∷ a) b = ap (λ v. s ++ v) (joined-append a b) ∙ sym (append-assoc s (joined a) (joined b))
 

@@ -26,7 +26,7 @@ use Rattle.title.specs.Description.{content, shape, Description, describ
 use Rattle.title.specs.Text.{outer, treeStart, assembled, fileOf, fileText}
 use Rattle.title.specs.Title.{Bytes, Says, NowhereLonger, elsewhere}
 use Rattle.title.proofs.Sizes.{front, start-right, start-least, size-is}
-use Rattle.title.proofs.Held.{Held, held-on, held-as, held-to, held-wider, held-last, held-part, held-first, held-rest, held-whole}
+use Rattle.title.proofs.Covers.{Covers, covers-on, covers-as, covers-to, covers-wider, covers-last, covers-part, covers-first, covers-rest, covers-whole}
 use Rattle.title.proofs.Nodes.{AllStay}
 use Rattle.title.proofs.Headers.{HeaderSays, header-says}
 use Rattle.title.proofs.Follows.{stay-elsewhere, log-is-tree}
@@ -87,20 +87,20 @@ module _ (lim : Limits) (g : List ℕ) {h : Header} {ns : List Node} {is : List 
   items-are = refl
 
   -- a file whose numbers are those of its text holds that text
-  parts-held : (says : HeaderSays g h) → (t : List ℕ) → Held g (h .extent .start) t (h .extent .last + 1) → (size start last : ℕ) → size ≡ length g → start ≡ h .extent .start → last ≡ h .extent .last
+  parts-covers : (says : HeaderSays g h) → (t : List ℕ) → Covers g (h .extent .start) t (h .extent .last + 1) → (size start last : ℕ) → size ≡ length g → start ≡ h .extent .start → last ≡ h .extent .last
       → h .extent .end ≤ h .extent .start → h .extent .last < length g
-      → Held g 0 (joined (described g h ns is .opening ∷ vlq size ∷ sized (described g h ns is .types) ∷ vlq start ∷ vlq last ∷ described g h ns is .gap ∷ t ∷ described g h ns is .after ∷ [])) (length g)
+      → Covers g 0 (joined (described g h ns is .opening ∷ vlq size ∷ sized (described g h ns is .types) ∷ vlq start ∷ vlq last ∷ described g h ns is .gap ∷ t ∷ described g h ns is .after ∷ [])) (length g)
   unfolding described
-  parts-held says t tree size start last e₁ e₂ e₃ l m =
+  parts-covers says t tree size start last e₁ e₂ e₃ l m =
       let sp = says .spans in
       let z : h .extent .end + (h .extent .start - h .extent .end) ≡ h .extent .start = omega arith in
-      held-on (held-first g (openingSize (h .version)))
-      (held-on (held-as (ap vlq (sym e₁)) (sp .length-is .held))
-      (held-on (held-as (ap sized (sym (types-are says))) (sp .types-held))
-      (held-on (held-as (ap vlq (sym e₂)) (sp .start-is .held))
-      (held-on (held-as (ap vlq (sym e₃)) (sp .last-is .held))
-      (held-on (held-to z (held-part g (h .extent .end) (h .extent .start - h .extent .end)))
-      (held-on tree (held-last (held-rest g (h .extent .last + 1) (omega arith)))))))))
+      covers-on (covers-first g (openingSize (h .version)))
+      (covers-on (covers-as (ap vlq (sym e₁)) (sp .length-is .covers))
+      (covers-on (covers-as (ap sized (sym (types-are says))) (sp .types-covers))
+      (covers-on (covers-as (ap vlq (sym e₂)) (sp .start-is .covers))
+      (covers-on (covers-as (ap vlq (sym e₃)) (sp .last-is .covers))
+      (covers-on (covers-to z (covers-part g (h .extent .end) (h .extent .start - h .extent .end)))
+      (covers-on tree (covers-last (covers-rest g (h .extent .last + 1) (omega arith)))))))))
 
   pub no-shorter : AllStay (map (shape g) ns) → NoShorter (described g h ns is) g h ns
   no-shorter stay =
@@ -126,11 +126,11 @@ module _ (lim : Limits) (g : List ℕ) {h : Header} {ns : List Node} {is : List 
       let x : ℕ = sp .a - openingSize (h .version) in
       let y : ℕ = sp .c - sp .b in
       let z : ℕ = h .extent .end - sp .c in
-      let hold : openingSize (h .version) + x + length (sized (d .types)) + y + z ≤ h .extent .end = omega (arith, sp .length-is .held .short, sp .types-held .short, sp .start-is .held .short, sp .last-is .held .short) in
-      let some-x : 1 ≤ x = omega (arith, sp .length-is .held .short, vlq-some (length g)) in
-      let some-y : 1 ≤ y = omega (arith, sp .start-is .held .short, vlq-some (h .extent .start)) in
-      let some-z : 1 ≤ z = omega (arith, sp .last-is .held .short, vlq-some (h .extent .last)) in
-      let short = bound .held .short in
+      let hold : openingSize (h .version) + x + length (sized (d .types)) + y + z ≤ h .extent .end = omega (arith, sp .length-is .covers .short, sp .types-covers .short, sp .start-is .covers .short, sp .last-is .covers .short) in
+      let some-x : 1 ≤ x = omega (arith, sp .length-is .covers .short, vlq-some (length g)) in
+      let some-y : 1 ≤ y = omega (arith, sp .start-is .covers .short, vlq-some (h .extent .start)) in
+      let some-z : 1 ≤ z = omega (arith, sp .last-is .covers .short, vlq-some (h .extent .last)) in
+      let short = bound .covers .short in
       let inside = t .inside in
       let fits : startOf d ≤ length (d .opening) + x + length (sized (d .types)) + y + z + length (d .gap) =
       start-least (d .opening) (sized (d .types)) (d .gap) (treeText d) (d .after) x y z (omega arith) (omega arith) (omega arith)
@@ -144,8 +144,8 @@ module _ (lim : Limits) (g : List ℕ) {h : Header} {ns : List Node} {is : List 
         levels = subst (λ v. Over v (spans (d .nodes) (d .items))) rows-are (subst (Over (t .rows)) (sym sizes-are) (bound .over));
         tight = λ l. (omega arith, omega arith, subst (λ v. Exactly v (spans (d .nodes) (d .items))) rows-are (subst (Exactly (t .rows)) (sym sizes-are) (bound .tight (omega arith))));
         only = λ bytes l.
-            let text = parts-held says (treeText d) (held-as (ap joined (sym outer-is)) (held-wider inside (bound .held))) (startOf d + length (treeText d) + length (d .after)) (startOf d) (startOf d + length (treeText d) - 1) (omega arith) (omega arith) (omega arith) (omega arith) (w .3) in
-            held-whole (held-as (text-is d) text) bytes l;
+            let text = parts-covers says (treeText d) (covers-as (ap joined (sym outer-is)) (covers-wider inside (bound .covers))) (startOf d + length (treeText d) + length (d .after)) (startOf d) (startOf d + length (treeText d) - 1) (omega arith) (omega arith) (omega arith) (omega arith) (w .3) in
+            covers-whole (covers-as (text-is d) text) bytes l;
       }
 
 -- ---- each number is the least of all files that say the same

@@ -21,7 +21,7 @@ use Rattle.cursor.proofs.Runs.{nothing, nothing-quiet, Holds}
 use Rattle.header.specs.Types.{Declared, formatOf, isUnknown}
 use Rattle.header.specs.Header.{entry, typesTable}
 use Rattle.title.specs.Description.{entryText, tableText, answer}
-use Rattle.title.proofs.Held.{Held, held-none, held-on, held-as, held-to, held-last, held-part, number-held, sized-held}
+use Rattle.title.proofs.Covers.{Covers, covers-none, covers-on, covers-as, covers-to, covers-last, covers-part, number-covers, sized-covers}
 
 -- the entries' texts, which declare the types behind ds and leave ds′
 pub data Table : List Declared → List Declared → List (List ℕ) → Type 0 where
@@ -155,7 +155,7 @@ record EntrySays (f : List ℕ) (end : ℕ) (ds : List Declared) (at : ℕ) (ds�
   format-fits : format < 2 ^ 28
   is : ds′ ≡ ds ++ (record { type = type; format = format } ∷ [])
   text : (before : List ℕ) → run (entryText f before) f at ≡ ok (before ++ joined (vlq type ∷ vlq format ∷ sized language ∷ [])) q
-  held : Held f at (joined (vlq type ∷ vlq format ∷ sized language ∷ [])) q
+  covers : Covers f at (joined (vlq type ∷ vlq format ∷ sized language ∷ [])) q
   inside : q ≤ end
 
 entry-says : (f : List ℕ) (end : ℕ) → end ≤ length f → (ds : List Declared) (at : ℕ) → Post nothing f (entry end ds) (Holds (EntrySays f end ds at)) at tt
@@ -182,7 +182,7 @@ entry-says f end o ds at =
       format-fits = j .3;
       is = refl;
       text = λ before. entry-text f end o before at e₁ e₂ e₃;
-      held = held-on (number-held fileFrame 3 end f at e₁) (held-on (number-held fileFrame 3 end f q e₂) (held-last (sized-held fileFrame 3 end f r e₃ (held-part f u n))));
+      covers = covers-on (number-covers fileFrame 3 end f at e₁) (covers-on (number-covers fileFrame 3 end f q e₂) (covers-last (sized-covers fileFrame 3 end f r e₃ (covers-part f u n))));
       inside = k .2;
     })))
 
@@ -192,7 +192,7 @@ record EntriesSay (f : List ℕ) (end n : ℕ) (ds : List Declared) (at : ℕ) (
   count : length texts ≡ n
   table : Table ds ds′ texts
   text : (before : List ℕ) → run (times n (entryText f) before) f at ≡ ok (before ++ joined texts) q
-  held : Held f at (joined texts) q
+  covers : Covers f at (joined texts) q
   inside : q ≤ end
 
 times-text : (f : List ℕ) (n : ℕ) (before : List ℕ) (at : ℕ) (s t : List ℕ) {q r : ℕ} → run (entryText f before) f at ≡ ok (before ++ s) q → run (times n (entryText f) (before ++ s)) f q ≡ ok (before ++ s ++ t) r
@@ -202,7 +202,7 @@ times-text f n before at s t e₁ e₂ = rw (← append-assoc before s t) (simp 
 
 entries-say : (f : List ℕ) (end : ℕ) → end ≤ length f → (n : ℕ) (ds : List Declared) (at : ℕ) → at ≤ end → Post nothing f (times n (entry end) ds) (Holds (EntriesSay f end n ds at)) at tt
 unfolding times
-entries-say f end o zero ds at l = post-ret (record { texts = []; count = refl; table = none; text = λ before. rw (append-nil before) (simp running); held = held-none at; inside = l })
+entries-say f end o zero ds at l = post-ret (record { texts = []; count = refl; table = none; text = λ before. rw (append-nil before) (simp running); covers = covers-none at; inside = l })
 entries-say f end o (suc n) ds at l =
     post-after (entry-says f end o ds at) λ ds₁ q _ s.
     post-weaken (entries-say f end o n ds₁ q (s .inside)) λ ds₂ r _ w.
@@ -212,7 +212,7 @@ entries-say f end o (suc n) ds at l =
       count = ap suc (w .count);
       table = more (s .language) (s .room) (s .new) (s .type-fits) (s .format-fits) (subst (λ v. Table v ds₂ (w .texts)) (s .is) (w .table));
       text = λ before. times-text f n before at x (joined (w .texts)) (s .text before) (w .text (before ++ x));
-      held = held-on (s .held) (w .held);
+      covers = covers-on (s .covers) (w .covers);
       inside = w .inside;
     }
 
@@ -221,7 +221,7 @@ pub record TableSays (f : List ℕ) (at : ℕ) (ds : List Declared) (q : ℕ) : 
   pub texts : List (List ℕ)
   pub table : Table [] ds texts
   pub few : length texts < 2 ^ 28
-  pub held : Held f at (sized (joined (vlq (length texts) ∷ texts))) q
+  pub covers : Covers f at (sized (joined (vlq (length texts) ∷ texts))) q
   pub text : (p : ℕ) {size : ℕ} → run (number fileFrame 3 (length f)) f p ≡ ok size at → run (tableText f) f p ≡ ok (joined (vlq (length texts) ∷ texts)) q
 
 table-text : (f : List ℕ) (p at : ℕ) {size n count q r u : ℕ} {s : List ℕ} → run (number fileFrame 3 (length f)) f p ≡ ok size at → run (block fileFrame 3 (length f)) f at ≡ ok n q → run (number fileFrame 3 (length f)) f q ≡ ok count r
@@ -244,8 +244,8 @@ table-says f at =
       texts = w .texts;
       table = w .table;
       few = omega (arith, w .count);
-      held = (
+      covers = (
           let z : u ≡ q + n = omega (arith, w .inside, leb-true (q + n) u full) in
-          held-to (sym z) (sized-held fileFrame 3 (length f) f at e₁ (held-to z (held-on (held-as (ap vlq (sym (w .count))) (number-held fileFrame 3 (q + n) f q e₂)) (w .held)))));
+          covers-to (sym z) (sized-covers fileFrame 3 (length f) f at e₁ (covers-to z (covers-on (covers-as (ap vlq (sym (w .count))) (number-covers fileFrame 3 (q + n) f q e₂)) (w .covers)))));
       text = λ p e₀. rw (w .count) (table-text f p at e₀ e₁ (wide f (q + n) (omega arith) q e₂) (w .text (vlq count)));
     })))

@@ -28,7 +28,7 @@ use Rattle.node.specs.declared.Unpackers as unpackers
 use Rattle.node.proofs.Ends.{unpacker-on}
 use Rattle.title.specs.Description.{copied, identifierText, unpackerText, answer}
 use Rattle.cursor.proofs.Runs.{nothing, nothing-quiet, Holds, post-ran, times-more}
-use Rattle.title.proofs.Held.{Held, held-none, held-on, held-as, held-to, held-last, held-lies, number-held, sized-held}
+use Rattle.title.proofs.Covers.{Covers, covers-none, covers-on, covers-as, covers-to, covers-last, covers-lies, number-covers, sized-covers}
 use Rattle.title.proofs.Unpackers as grammar
 use Rattle.title.proofs.Unpackers.{Names, guid, made, Unpacker, unpacker, Unpackers, none, more}
 
@@ -61,7 +61,7 @@ module _ (f : List ℕ) (end : ℕ) (o : end ≤ length f) where
   unfolding identifierText
   number-text kind at a b e = let e₁ = wide at e in simp (running, ne-eqb _ _ a, ne-eqb _ _ b, e₁)
 
-  identifier-says : (kind at : ℕ) → Post nothing f (identifier kind end) (Holds (λ _ q. (q ≤ end) × (at < q) × (s : List ℕ) × Names kind s × (run (identifierText f kind) f at ≡ ok s q) × Held f at s q)) at tt
+  identifier-says : (kind at : ℕ) → Post nothing f (identifier kind end) (Holds (λ _ q. (q ≤ end) × (at < q) × (s : List ℕ) × Names kind s × (run (identifierText f kind) f at ≡ ok s q) × Covers f at s q)) at tt
   unfolding identifier value
   identifier-says kind at =
       post-if
@@ -69,7 +69,7 @@ module _ (f : List ℕ) (end : ℕ) (o : end ≤ length f) where
       let i = at-end any-free f (guid-on {U = Any} unpackFrame end at) e in
       let w = guid-was unpackFrame end f o at e in
       let k = eqb-true kind 3 t in
-      (i .2, i .0, w .bytes, subst (λ j. Names j (w .bytes)) (sym k) (guid (w .is)), guid-text kind at k (w .is) (w .lies) ∙ ap (ok (w .bytes)) (sym (w .ends)), held-to (sym (w .ends)) (held-lies (w .lies))))
+      (i .2, i .0, w .bytes, subst (λ j. Names j (w .bytes)) (sym k) (guid (w .is)), guid-text kind at k (w .is) (w .lies) ∙ ap (ok (w .bytes)) (sym (w .ends)), covers-to (sym (w .ends)) (covers-lies (w .lies))))
       (λ t. post-if
       (λ u. post-step (manufacturer-quiet unpackFrame end) λ _ q e.
       post-step (number-quiet unpackFrame 3 end) λ v r e₂.
@@ -83,11 +83,11 @@ module _ (f : List ℕ) (end : ℕ) (o : end ≤ length f) where
         joined (w .bytes ∷ vlq v ∷ []),
         subst (λ n. Names n (joined (w .bytes ∷ vlq v ∷ []))) (sym k) (made (w .is) (j .3)),
         made-text kind at k (w .is) (w .lies) (subst (λ n. run (number unpackFrame 3 end) f n ≡ ok v r) (w .ends) e₂),
-        held-on (held-to (sym (w .ends)) (held-lies (w .lies))) (held-last (number-held unpackFrame 3 end f q e₂)),
+        covers-on (covers-to (sym (w .ends)) (covers-lies (w .lies))) (covers-last (number-covers unpackFrame 3 end f q e₂)),
       ))
       (λ u. post-step (number-quiet unpackFrame 3 end) λ v q e.
       let i = number-inside unpackFrame 3 end f at e in
-      post-ret (i .2, i .0, vlq v, grammar.number (eqb-false kind 3 t) (eqb-false kind 1 u) (i .3), number-text kind at (eqb-false kind 3 t) (eqb-false kind 1 u) e, number-held unpackFrame 3 end f at e)))
+      post-ret (i .2, i .0, vlq v, grammar.number (eqb-false kind 3 t) (eqb-false kind 1 u) (i .3), number-text kind at (eqb-false kind 3 t) (eqb-false kind 1 u) e, number-covers unpackFrame 3 end f at e)))
 
   -- ---- an unpacker
 
@@ -100,7 +100,7 @@ module _ (f : List ℕ) (end : ℕ) (o : end ≤ length f) where
   unfolding value
   value-says at = post-step (number-quiet unpackFrame 3 end) λ v q e. post-ret (v, e)
 
-  unpacker-says : (n at : ℕ) → Post nothing f (node.unpacker end n) (Holds (λ k q. (k ≡ n + 1) × (at < q) × (q ≤ end) × (s : List ℕ) × Unpacker s × ((before : List ℕ) → run (unpackerText f before) f at ≡ ok (before ++ s) q) × Held f at s q)) at tt
+  unpacker-says : (n at : ℕ) → Post nothing f (node.unpacker end n) (Holds (λ k q. (k ≡ n + 1) × (at < q) × (q ≤ end) × (s : List ℕ) × Unpacker s × ((before : List ℕ) → run (unpackerText f before) f at ≡ ok (before ++ s) q) × Covers f at s q)) at tt
   unfolding node.unpacker
   unpacker-says n at =
       post-place _ at
@@ -109,7 +109,7 @@ module _ (f : List ℕ) (end : ℕ) (o : end ≤ length f) where
       post-after (identifier-says kind q) λ _ r _ w.
       post-after (value-says r) λ _ u _ y.
       let (size, e₂) = y in
-      let (a, b, s, names, text, held) = w in
+      let (a, b, s, names, text, covers) = w in
       let i = number-inside unpackFrame 3 end f at e in
       let j = number-inside unpackFrame 3 end f r e₂ in
       post-ret (
@@ -119,7 +119,7 @@ module _ (f : List ℕ) (end : ℕ) (o : end ≤ length f) where
         joined (vlq kind ∷ s ∷ vlq size ∷ []),
         unpacker (leb-true kind 3 t) names (j .3),
         λ before. unpacker-text before at e text e₂,
-        held-on (number-held unpackFrame 3 end f at e) (held-on held (held-last (number-held unpackFrame 3 end f r e₂))),
+        covers-on (number-covers unpackFrame 3 end f at e) (covers-on covers (covers-last (number-covers unpackFrame 3 end f r e₂))),
       ))
 
 -- ---- end to end
@@ -139,14 +139,14 @@ record Packs (f : List ℕ) (end p k q : ℕ) : Type 0 where
   count : k ≡ length packs
   far : p + length packs ≤ q
   inside : q ≤ end
-  held : Held f p (joined packs) q
+  covers : Covers f p (joined packs) q
   text : run (times k (unpackerText f) []) f p ≡ ok (joined packs) q
 
 begun : (f : List ℕ) (end p : ℕ) → p ≤ end → Packs f end p 0 p
 unfolding times
-begun f end p l = record { packs = []; are = none; count = refl; far = omega arith; inside = l; held = held-none p; text = simp running }
+begun f end p l = record { packs = []; are = none; count = refl; far = omega arith; inside = l; covers = covers-none p; text = simp running }
 
-one-more : (f : List ℕ) (end p k k′ q r : ℕ) {s : List ℕ} → Packs f end p k q → k′ ≡ k + 1 → q < r → r ≤ end → Unpacker s → ((before : List ℕ) → run (unpackerText f before) f q ≡ ok (before ++ s) r) → Held f q s r → Packs f end p k′ r
+one-more : (f : List ℕ) (end p k k′ q r : ℕ) {s : List ℕ} → Packs f end p k q → k′ ≡ k + 1 → q < r → r ≤ end → Unpacker s → ((before : List ℕ) → run (unpackerText f before) f q ≡ ok (before ++ s) r) → Covers f q s r → Packs f end p k′ r
 one-more f end p k k′ q r {s} w e l i u t o =
     let z = length-append (w .packs) (s ∷ []) in
     let c = w .count in
@@ -158,7 +158,7 @@ one-more f end p k k′ q r {s} w e l i u t o =
       count = omega arith;
       far = omega arith;
       inside = i;
-      held = held-as (sym (joined-more (w .packs) s)) (held-on (w .held) o);
+      covers = covers-as (sym (joined-more (w .packs) s)) (covers-on (w .covers) o);
       text = rw (n, joined-more (w .packs) s) (times-more f (unpackerText f) k [] p (w .text) (t (joined (w .packs))));
     }
 
@@ -176,7 +176,7 @@ pub record PacksOf (f : List ℕ) (contained end at : ℕ) (u : unpackers.Unpack
   pub count : length packs ≡ u .count
   pub text : joined packs ≡ answer (run (times (u .count) (unpackerText f) []) f (u .place .0))
   pub unpacked : (contained ≡ 0) ⊎ (length (joined packs) ≡ 0)
-  pub held : Held f at (sized (joined packs)) q
+  pub covers : Covers f at (sized (joined packs)) q
   pub within : q ≤ end
 
 either : (a b : ℕ) → (eqb a 0 || eqb b 0) ≡ true → (a ≡ 0) ⊎ (b ≡ 0)
@@ -213,7 +213,7 @@ unpackers-post f contained end o at =
       count = sym (w .count);
       text = ap answer (sym (w .text)) ∙ ap (λ p. answer (run (times (u .count) (unpackerText f) []) f p)) (sym (v .0));
       unpacked = elim (either contained n t) [ inl z ↦ inl z | inr z ↦ inr (empty-packs (w .packs) (omega arith)) ];
-      held = held-to (sym z) (sized-held unpackFrame 8 end f at e (held-to z (w .held)));
+      covers = covers-to (sym z) (sized-covers unpackFrame 8 end f at e (covers-to z (w .covers)));
       within = omega arith;
     }))
 

@@ -1,5 +1,6 @@
 -- What a file says, but for places and lengths: its header and rows, with the bytes themselves in place of where they are and how many. Numbers among them
--- are in their shortest form. Two files that say the same differ in the form of their numbers alone.
+-- are in their shortest form. Of the accepted files that say the same, with no reference 2 or 3, none is shorter than the text of it (Text.antt), and one of
+-- bytes that is as short is that text: `shortest` and `only-shortest` in proofs/Shortest.antt.
 -- Assumes nothing.
 use mathlib.Core.Bool.{cond}
 use mathlib.Core.List.{List, [], _∷_, map}

@@ -22,34 +22,34 @@ use Rattle.title.specs.Title.{Bytes}
 use Rattle.title.proofs.Sizes.{number-least}
 
 -- the bytes of f from `at` on are those of s
-pub record Same (f : List ℕ) (at : ℕ) (s : List ℕ) : Type 0 where
+pub record Stands (f : List ℕ) (at : ℕ) (s : List ℕ) : Type 0 where
   pub byte : (k : ℕ) → k < length s → getD f (at + k) 0 ≡ getD s k 0
 
 -- s has no more bytes than f from `at` up to q; and where it has no fewer, it is these
-pub record Held (f : List ℕ) (at : ℕ) (s : List ℕ) (q : ℕ) : Type 0 where
+pub record Covers (f : List ℕ) (at : ℕ) (s : List ℕ) (q : ℕ) : Type 0 where
   pub short : at + length s ≤ q
-  pub tight : Bytes f → q ≤ at + length s → Same f at s
+  pub tight : Bytes f → q ≤ at + length s → Stands f at s
 
 -- the number v was read from `at` up to q
 pub record Number (f : List ℕ) (at v q : ℕ) : Type 0 where
   pub fits : v < 128 ^ (q - at)
-  pub held : Held f at (vlq v) q
+  pub covers : Covers f at (vlq v) q
 
 -- ---- one after the other
 
 module _ {f : List ℕ} where
-  same-none : (at : ℕ) → Same f at []
-  same-none at = record { byte = λ k l. absurd (omega arith) }
+  stands-none : (at : ℕ) → Stands f at []
+  stands-none at = record { byte = λ k l. absurd (omega arith) }
 
-  same-cons : {at b : ℕ} {s : List ℕ} → getD f at 0 ≡ b → Same f (at + 1) s → Same f at (b ∷ s)
-  same-cons {at} {b} {s} e h = record { byte = by }
+  stands-cons : {at b : ℕ} {s : List ℕ} → getD f at 0 ≡ b → Stands f (at + 1) s → Stands f at (b ∷ s)
+  stands-cons {at} {b} {s} e h = record { byte = by }
     where
       by : (k : ℕ) → k < suc (length s) → getD f (at + k) 0 ≡ getD (b ∷ s) k 0
       by zero l = let q : at + 0 ≡ at = omega arith in rw q e
       by (suc k) l = let q : at + suc k ≡ at + 1 + k = omega arith in rw q (h .byte k (omega arith))
 
-  same-on : {at p : ℕ} (s t : List ℕ) → p ≡ at + length s → Same f at s → Same f p t → Same f at (s ++ t)
-  same-on {at} {p} s t e a b =
+  stands-on : {at p : ℕ} (s t : List ℕ) → p ≡ at + length s → Stands f at s → Stands f p t → Stands f at (s ++ t)
+  stands-on {at} {p} s t e a b =
       let z = length-append s t in
       record {
         byte = λ k l. elim (decLt k (length s)) [
@@ -62,52 +62,52 @@ module _ {f : List ℕ} where
         ];
       }
 
-  pub held-none : (at : ℕ) → Held f at [] at
-  held-none at = record { short = omega arith; tight = λ b l. same-none at }
+  pub covers-none : (at : ℕ) → Covers f at [] at
+  covers-none at = record { short = omega arith; tight = λ b l. stands-none at }
 
-  pub held-on : {at p q : ℕ} {s t : List ℕ} → Held f at s p → Held f p t q → Held f at (s ++ t) q
-  held-on {s = s} {t} a b =
+  pub covers-on : {at p q : ℕ} {s t : List ℕ} → Covers f at s p → Covers f p t q → Covers f at (s ++ t) q
+  covers-on {s = s} {t} a b =
       let z = length-append s t in
       let x = a .short in
       let y = b .short in
-      record { short = omega arith; tight = λ bytes l. same-on s t (omega arith) (a .tight bytes (omega arith)) (b .tight bytes (omega arith)) }
+      record { short = omega arith; tight = λ bytes l. stands-on s t (omega arith) (a .tight bytes (omega arith)) (b .tight bytes (omega arith)) }
 
-  pub held-as : {at q : ℕ} {s t : List ℕ} → s ≡ t → Held f at s q → Held f at t q
-  held-as e h = rw e at h
+  pub covers-as : {at q : ℕ} {s t : List ℕ} → s ≡ t → Covers f at s q → Covers f at t q
+  covers-as e h = rw e at h
 
   -- up to another place
-  pub held-to : {at q r : ℕ} {s : List ℕ} → q ≡ r → Held f at s q → Held f at s r
-  held-to e h = rw e at h
+  pub covers-to : {at q r : ℕ} {s : List ℕ} → q ≡ r → Covers f at s q → Covers f at s r
+  covers-to e h = rw e at h
 
-  pub held-wider : {at q r : ℕ} {s : List ℕ} → q ≤ r → Held f at s q → Held f at s r
-  held-wider l h = let i = h .short in record { short = omega arith; tight = λ bytes m. h .tight bytes (omega arith) }
+  pub covers-wider : {at q r : ℕ} {s : List ℕ} → q ≤ r → Covers f at s q → Covers f at s r
+  covers-wider l h = let i = h .short in record { short = omega arith; tight = λ bytes m. h .tight bytes (omega arith) }
 
   -- what is the last of several
-  pub held-last : {at q : ℕ} {s : List ℕ} → Held f at s q → Held f at (joined (s ∷ [])) q
-  held-last {s = s} h = held-as (sym (append-nil s)) h
+  pub covers-last : {at q : ℕ} {s : List ℕ} → Covers f at s q → Covers f at (joined (s ∷ [])) q
+  covers-last {s = s} h = covers-as (sym (append-nil s)) h
 
-  pub held-lies : {at : ℕ} {s : List ℕ} → Lies f at s → Held f at s (at + length s)
-  held-lies h = record { short = omega arith; tight = λ b l. record { byte = h .same } }
+  pub covers-lies : {at : ℕ} {s : List ℕ} → Lies f at s → Covers f at s (at + length s)
+  covers-lies h = record { short = omega arith; tight = λ b l. record { byte = h .same } }
 
 -- a part of the file
-pub held-part : (f : List ℕ) (at n : ℕ) → Held f at (part f at n) (at + n)
-held-part f at n =
+pub covers-part : (f : List ℕ) (at n : ℕ) → Covers f at (part f at n) (at + n)
+covers-part f at n =
     let z = length-take n (drop at f) in
     record { short = omega arith; tight = λ b l. record { byte = λ k i. sym (getD-take n (drop at f) k 0 (omega arith) ∙ getD-drop at f k 0) } }
 
 -- its first bytes
-pub held-first : (f : List ℕ) (n : ℕ) → Held f 0 (take n f) n
-held-first f n = let e : 0 + n ≡ n = omega arith in held-to e (held-part f 0 n)
+pub covers-first : (f : List ℕ) (n : ℕ) → Covers f 0 (take n f) n
+covers-first f n = let e : 0 + n ≡ n = omega arith in covers-to e (covers-part f 0 n)
 
 -- the rest of it
-pub held-rest : (f : List ℕ) (at : ℕ) → at ≤ length f → Held f at (drop at f) (length f)
-held-rest f at l =
+pub covers-rest : (f : List ℕ) (at : ℕ) → at ≤ length f → Covers f at (drop at f) (length f)
+covers-rest f at l =
     let z = length-drop at f in
     record { short = omega arith; tight = λ b m. record { byte = λ k i. sym (getD-drop at f k 0) } }
 
--- what is held from the first byte to the last is the file
-pub held-whole : {f s : List ℕ} → Held f 0 s (length f) → Bytes f → length f ≤ length s → f ≡ s
-held-whole {f} {s} h bytes l =
+-- where a file covers s from its first byte to its last, and is no longer, it is s
+pub covers-whole : {f s : List ℕ} → Covers f 0 s (length f) → Bytes f → length f ≤ length s → f ≡ s
+covers-whole {f} {s} h bytes l =
     let i = h .short in
     ext-getD 0 f s (omega arith) (λ k m. let e : 0 + k ≡ k = omega arith in rw e at (h .tight bytes (omega arith) .byte k (omega arith)))
 
@@ -130,17 +130,17 @@ digits-top {f} (further {left} {v} {at} {w} {q} s d) (suc k) e =
     rw (without w k) (omega arith)
 
 -- and these are the number in k bytes
-digits-same : {f : List ℕ} {left v at w q : ℕ} → Bytes f → Digits f left v at w q → (k : ℕ) → q ≡ at + k → Same f at (inBytes k w)
+digits-same : {f : List ℕ} {left v at w q : ℕ} → Bytes f → Digits f left v at w q → (k : ℕ) → q ≡ at + k → Stands f at (inBytes k w)
 unfolding inBytes
 digits-same {f} bytes (final {left} {v} {at} s) zero e = absurd (omega arith)
-digits-same {f} bytes (final {left} {v} {at} s) (suc zero) e = same-cons {at = at} (omega arith) (same-none (at + 1))
+digits-same {f} bytes (final {left} {v} {at} s) (suc zero) e = stands-cons {at = at} (omega arith) (stands-none (at + 1))
 digits-same {f} bytes (final {left} {v} {at} s) (suc (suc k)) e = absurd (omega arith)
 digits-same {f} bytes (further {left} {v} {at} {w} {q} s d) zero e = absurd (omega (arith, ahead d))
 digits-same {f} bytes (further {left} {v} {at} {w} {q} s d) (suc zero) e = absurd (omega (arith, ahead d))
 digits-same {f} bytes (further {left} {v} {at} {w} {q} s d) (suc (suc k)) e =
     let i : w / 128 ^ suc k ≡ v * 128 + getD f at 0 % 128 = digits-top d (suc k) (omega arith) in
     let b = bytes at in
-    same-cons {at = at} (rw i (omega arith)) (digits-same bytes d (suc k) (omega arith))
+    stands-cons {at = at} (rw i (omega arith)) (digits-same bytes d (suc k) (omega arith))
 
 module _ (κ : Frame) (past end : ℕ) (f : List ℕ) (at : ℕ) {v q : ℕ} where
   stood : run (number κ past end) f at ≡ ok v q → Digits f 4 0 at v q
@@ -155,15 +155,15 @@ module _ (κ : Frame) (past end : ℕ) (f : List ℕ) (at : ℕ) {v q : ℕ} whe
       let l : v < 0 * 128 ^ k + 128 ^ k = rw z at (lt-div-mul-add {a = v} (one-le-pow k 128 (omega arith))) in
       omega arith
 
-  pub number-held : run (number κ past end) f at ≡ ok v q → Held f at (vlq v) q
+  pub number-covers : run (number κ past end) f at ≡ ok v q → Covers f at (vlq v) q
   unfolding vlq
-  number-held e =
+  number-covers e =
       let i = number-inside κ past end f at e in
       let m = number-least v (q - at) (omega arith) (number-fits e) in
       record { short = omega arith; tight = λ bytes l. digits-same bytes (stood e) (least (λ _. v)) (omega (arith, vlq-length v)) }
 
   pub number-is : run (number κ past end) f at ≡ ok v q → Number f at v q
-  number-is e = record { fits = number-fits e; held = number-held e }
+  number-is e = record { fits = number-fits e; covers = number-covers e }
 
 vlq-up : (m n : ℕ) → m ≤ n → length (vlq m) ≤ length (vlq n)
 vlq-up m n l = omega (arith, vlq-length m, vlq-length n, least-up (λ _. m) (λ _. n) l)
@@ -171,14 +171,14 @@ vlq-up m n l = omega (arith, vlq-length m, vlq-length n, least-up (λ _. m) (λ 
 -- ---- a block, behind its length
 
 module _ (κ : Frame) (past end : ℕ) (f : List ℕ) (at : ℕ) {n q : ℕ} where
-  pub block-held : run (block κ past end) f at ≡ ok n q → Held f at (vlq n) q
+  pub block-covers : run (block κ past end) f at ≡ ok n q → Covers f at (vlq n) q
   unfolding block
-  block-held e = post-ran {Q = λ v r. Held f at (vlq v) r} (post-place _ at (post-step nothing-quiet λ size r e₁. post-place _ r (post-check _ _ λ t. post-ret (number-held κ past end f at e₁)))) e
+  block-covers e = post-ran {Q = λ v r. Covers f at (vlq v) r} (post-place _ at (post-step nothing-quiet λ size r e₁. post-place _ r (post-check _ _ λ t. post-ret (number-covers κ past end f at e₁)))) e
 
-  pub sized-held : {s : List ℕ} → run (block κ past end) f at ≡ ok n q → Held f q s (q + n) → Held f at (sized s) (q + n)
+  pub sized-covers : {s : List ℕ} → run (block κ past end) f at ≡ ok n q → Covers f q s (q + n) → Covers f at (sized s) (q + n)
   unfolding sized
-  sized-held {s} e h =
-      let w = block-held e in
+  sized-covers {s} e h =
+      let w = block-covers e in
       let a = w .short in
       let b = h .short in
       let c = sized-length s in
@@ -187,5 +187,5 @@ module _ (κ : Frame) (past end : ℕ) (f : List ℕ) (at : ℕ) {n q : ℕ} whe
         short = omega arith;
         tight = λ bytes l.
             let i : n ≡ length s = omega arith in
-            held-on (held-as (ap vlq i) w) (held-last h) .tight bytes (omega arith);
+            covers-on (covers-as (ap vlq i) w) (covers-last h) .tight bytes (omega arith);
       }
