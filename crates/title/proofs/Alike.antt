@@ -44,7 +44,7 @@ use Rattle.title.proofs.Nodes.{Nodes, AllStay, stay-left, stay-right, a
 use Rattle.title.proofs.Fronts.{own-inline, own-uri, Stays, Front, front-back, meta-back}
 use Rattle.title.proofs.Items as entries
 use Rattle.title.proofs.Items.{Labels, same-label, Versions, versionTexts, version-back, FieldOk, field-back, Entry, one, several, Opens, further-none, entry-some, entryText, Entries, entryTexts, flat, plusItems, items-text, item-back}
-use Rattle.title.proofs.Pairs.{Each, none, more, each-length, each-take, outer-pair, each-on, fields, number, chosen, block, own-pair, items-pair, header-pair, node-pair, ContentPair, ShapePair, version-pair, universal-pair, field-pair}
+use Rattle.title.proofs.Pairs.{Each, none, more, each-length, each-take, AsLong, alike, long-on, outer-pair, fields, number, chosen, block, own-pair, items-pair, header-pair, node-pair, ContentPair, ShapePair, version-pair, universal-pair, field-pair}
 
 ok-same : {A : Type 0} {a b : A} {p q : ℕ} → ok a p ≡ ok b q → (a ≡ b) × (p ≡ q)
 ok-same e = (cc, cc)
@@ -149,11 +149,11 @@ is-false false t = refl
 
 -- the same but for copied bytes, as many; the same name, and the same data where it is not private
 pub record Pair (c d : Content) : Type 0 where
-  pub pair : ContentPair (λ _ _. Unit {0}) c d
+  pub pair : ContentPair c d
   pub named : c .kind ≡ 1 → c .name ≡ d .name
   pub shown : isPrivate c ≡ false → c .bytes ≡ d .bytes
 
-pub pairs : {cs ds : List Content} → Each Pair cs ds → Each (ContentPair (λ _ _. Unit {0})) cs ds
+pub pairs : {cs ds : List Content} → Each Pair cs ds → Each ContentPair cs ds
 pairs none = none
 pairs (more w ws) = more (w .pair) (pairs ws)
 
@@ -173,7 +173,7 @@ module _ {g k : List ℕ} (big : length g < 2 ^ 28) where
       let z = joined-length ss in
       let z₂ = joined-length ts in
       let ef = ap (λ v. length (vlq v)) (w .pair .format) in
-      let eb = each-length (w .pair .bytes) in
+      let eb = w .pair .bytes .long in
       let en : length (joined ts) ≡ n = omega arith in
       let el = ap (λ v. length (vlq v)) en in
       let a = lies-as (ap vlq en) (t₂ .0) in
@@ -201,7 +201,7 @@ module _ {g k : List ℕ} (big : length g < 2 ^ 28) where
       let y = sized-length (c .bytes) in
       let z = joined-length ss in
       let ed = ap (λ v. length (vlq v)) (w .pair .declared) in
-      let eb = each-length (w .pair .bytes) in
+      let eb = w .pair .bytes .long in
       let a = lies-as (ap vlq (sym (w .pair .declared))) (s₂ .0) in
       let q : ℕ = p + length (vlq (c .declared)) in
       let b : Lies k q (vlq n) = lies-at (omega arith) (lies-as (ap vlq (sym eb)) (t₂ .0)) in
@@ -224,7 +224,7 @@ module _ {g k : List ℕ} (big : length g < 2 ^ 28) where
       let ld = lies-left (versionText d) (joined (versionTexts ds)) h₂ in
       let e₁ = ran (collect g) _ g p (record { nodes = []; items = [] }) (version-back x l end m g p (record { nodes = []; items = [] }) c (same-label lab (v .0)) (omega arith) big before (v .1) (v .2) (v .3) lc (omega arith)) in
       let e : m .items + 1 - before + 1 ≡ m .items + 1 + 1 - before = omega arith in
-      let n : length (versionText d) ≡ length (versionText c) = sym (each-length (version-pair (w .pair))) in
+      let n : length (versionText d) ≡ length (versionText c) = sym (version-pair (w .pair) .long) in
       runs-then _ e₁ (version-runs x l end before m p (same-label lab (v .0)) w (v .2) (v .3) lc ld (omega arith))
       (versions-runs x l end before b lab cs ds (plusItem m) (p + length (versionText c)) ws (rw e at (v .4)) (omega arith) (omega arith) (lies-right (versionText c) (joined (versionTexts cs)) h) (lies-at (ap (λ j. p + j) n) (lies-right (versionText d) (joined (versionTexts ds)) h₂)) (omega arith))
 
@@ -247,9 +247,9 @@ module _ {g k : List ℕ} (big : length g < 2 ^ 28) where
       let s₂ = stand-sized (d .name) (lies-as t₂ h₂) in
       let z = sized-length (c .name) in
       let i′ : p + length (sized (c .name)) ≤ end = rw t at i in
-      let a : Lies k p (vlq n) = lies-as (ap vlq (sym (each-length (w .pair .name)))) (s₂ .0) in
+      let a : Lies k p (vlq n) = lies-as (ap vlq (sym (w .pair .name .long))) (s₂ .0) in
       let e₁ = block-back metaFrame 3 end n (s .0) (omega (arith, h′ .inside)) (omega arith) in
-      let el = ap (λ v. length (vlq v)) (each-length (w .pair .name)) in
+      let el = ap (λ v. length (vlq v)) (w .pair .name .long) in
       let same : Lies k (p + length (vlq n)) (c .name) = lies-as (sym (w .named kd)) (lies-at (omega arith) (s₂ .1)) in
       runs-then _ e₁ (block-runs metaFrame 3 end n (s .0) a (omega (arith, h′ .inside)) (omega arith)) (runs-else _ (ne-eqb n 0 (λ (z : n ≡ 0). omega arith)) (runs-place _ _ (runs-skip _ _ (λ _. agree (p + length (vlq n)) (c .name) (s .1) same) runs-ret)))
 
@@ -266,7 +266,7 @@ module _ {g k : List ℕ} (big : length g < 2 ^ 28) where
   unfolding itemFrame
   frame-runs end p n {c} {d} w f l a b a₂ b₂ i =
       let fb = field-back g big end p c f a (omega arith) in
-      let e = each-length (field-pair (λ _. tt) (w .pair)) in
+      let e = field-pair (w .pair) .long in
       let q : ℕ = p + length (fieldText c) in
       let b₃ : Lies k q (vlq n) = lies-at (omega arith) b₂ in
       let cr = contents-runs end q n l b b₃ i in
@@ -291,7 +291,7 @@ module _ {g k : List ℕ} (big : length g < 2 ^ 28) where
       let fb = field-back g big end p c f (s .0) (omega arith) in
       let e₂ = number-back metaFrame 3 end 0 (s .1 .0) (omega arith) (omega arith) in
       let e₁ = sym (frame-all end g p (fb .ran) (sym (contents-universal end g (p + length (fieldText c)) e₂ refl))) in
-      let ef = each-length (field-pair (λ _. tt) (w .pair)) in
+      let ef = field-pair (w .pair) .long in
       let q : ℕ = p + length (fieldText c) + length (vlq 0) in
       let u₂ : Lies k q (universalText d) = lies-at (omega arith) (s₂ .1 .1 .0) in
       runs-then _ e₁ (frame-runs end p 0 w f (omega arith) (s .0) (s .1 .0) (s₂ .0) (s₂ .1 .0) (omega arith)) (universal-runs x _ end m q (fb .labels node index a b) w fm (s .1 .1 .0) u₂ (omega arith))
@@ -311,7 +311,7 @@ module _ {g k : List ℕ} (big : length g < 2 ^ 28) where
       let fb = field-back g big end p c f (s .0) (omega arith) in
       let e₂ = number-back metaFrame 3 end n (s .1 .0) few (omega arith) in
       let e₁ = sym (frame-all end g p (fb .ran) (sym (contents-versions end g (p + length (fieldText c)) e₂ (λ z. omega arith)))) in
-      let ef = each-length (field-pair (λ _. tt) (w .pair)) in
+      let ef = field-pair (w .pair) .long in
       let q : ℕ = p + length (fieldText c) + length (vlq n) in
       let u₂ : Lies k q (joined (versionTexts (d ∷ ds))) = lies-at (omega arith) (s₂ .1 .1 .0) in
       let j : 1 ≡ m .items + 1 - m .items = omega arith in
@@ -320,19 +320,19 @@ module _ {g k : List ℕ} (big : length g < 2 ^ 28) where
 
 -- ---- items end to end
 
-versions-pair : {cs ds : List Content} → Each Pair cs ds → Each (λ _ _. Unit {0}) (joined (versionTexts cs)) (joined (versionTexts ds))
-versions-pair none = none
-versions-pair (more w ws) = each-on (version-pair (w .pair)) (versions-pair ws)
+versions-pair : {cs ds : List Content} → Each Pair cs ds → AsLong (joined (versionTexts cs)) (joined (versionTexts ds))
+versions-pair none = alike []
+versions-pair (more w ws) = long-on (version-pair (w .pair)) (versions-pair ws)
 
-entry-pair : {cs ds : List Content} → Each Pair cs ds → Each (λ _ _. Unit {0}) (entryText cs) (entryText ds)
-entry-pair none = none
+entry-pair : {cs ds : List Content} → Each Pair cs ds → AsLong (entryText cs) (entryText ds)
+entry-pair none = alike []
 entry-pair (more {a = c} {b = d} {s = cs} {t = ds} w ws) =
-    fields (λ _. tt) (more (field-pair (λ _. tt) (w .pair)) (more (number (λ _. tt) (ap₂ (λ (a b : ℕ). cond (eqb a 0) 0 (suc b)) (w .pair .version) (each-length ws)))
-    (more (chosen (λ _. tt) (ap (λ n. eqb n 0) (w .pair .version)) (universal-pair (w .pair)) (versions-pair (more w ws))) none)))
+    fields (more (field-pair (w .pair)) (more (number (ap₂ (λ (a b : ℕ). cond (eqb a 0) 0 (suc b)) (w .pair .version) (each-length ws)))
+    (more (chosen (ap (λ n. eqb n 0) (w .pair .version)) (universal-pair (w .pair)) (versions-pair (more w ws))) none)))
 
-entries-pair : {css dss : List (List Content)} → Each (Each Pair) css dss → Each (λ _ _. Unit {0}) (joined (entryTexts css)) (joined (entryTexts dss))
-entries-pair none = none
-entries-pair (more w ws) = each-on (entry-pair w) (entries-pair ws)
+entries-pair : {css dss : List (List Content)} → Each (Each Pair) css dss → AsLong (joined (entryTexts css)) (joined (entryTexts dss))
+entries-pair none = alike []
+entries-pair (more w ws) = long-on (entry-pair w) (entries-pair ws)
 
 runs-here : {g k : List ℕ} {A : Type 0} (h : ℕ → P A) (at : ℕ) → Runs g k (h at) at → Runs g k (here h) at
 unfolding trace
@@ -367,7 +367,7 @@ module _ (g k : List ℕ) (big : length g < 2 ^ 28) (x : Context) (node end : �
       let z = length-append a (joined (entryTexts css)) in
       let y = length-append cs (flat css) in
       let s = entry-some e in
-      let n = each-length (entry-pair w) in
+      let n = entry-pair w .long in
       let lc = lies-left a (joined (entryTexts css)) h in
       let ld = lies-left b (joined (entryTexts dss)) h₂ in
       runs-here _ p (runs-if _ (lt-ltb p end (omega arith))
@@ -384,7 +384,7 @@ metadata-runs g k big x node end {css} {dss} w es m p h h₂ i r =
     let s = stand-sized t h in
     let s₂ = stand-sized (joined (entryTexts dss)) h₂ in
     let z = sized-length t in
-    let en : length (joined (entryTexts dss)) ≡ n = sym (each-length (entries-pair w)) in
+    let en : length (joined (entryTexts dss)) ≡ n = sym (entries-pair w .long) in
     let el = ap (λ v. length (vlq v)) en in
     let a : Lies k p (vlq n) = lies-as (ap vlq en) (s₂ .0) in
     let b : Lies k q (joined (entryTexts dss)) = lies-at (omega arith) (s₂ .1) in
@@ -451,7 +451,7 @@ regroup (cs ∷ css) w = let (u, v, e, s, t) = each-split cs (flat css) w in let
 
 -- the same but for copied bytes, as many, and with the same unpackers and URI
 abbrev pub Shapes : Shape → Shape → Type 0
-Shapes r s = ShapePair (λ _ _. Unit {0}) r s × (r .unpackers ≡ s .unpackers) × (r .reference ≡ 4 → r .body ≡ s .body)
+Shapes r s = ShapePair r s × (r .unpackers ≡ s .unpackers) × (r .reference ≡ 4 → r .body ≡ s .body)
 
 module _ (g k : List ℕ) (big : length g < 2 ^ 28) where
   reference-runs : (headerEnd size contained stop q : ℕ) {r s : Shape} → Shapes r s → (r .reference ≡ 1) ⊎ ((r .reference ≡ 4) × (contained ≡ 0)) → Lies g q (ownText r) → Lies k q (ownText s) → q + length (ownText r) ≤ stop → Runs g k (reference headerEnd size contained stop) q
@@ -474,9 +474,9 @@ module _ (g k : List ℕ) (big : length g < 2 ^ 28) where
       let z = joined-length (vlq 4 ∷ sized (r .body) ∷ []) in
       let y = ap length t in
       let x = sized-length (r .body) in
-      let el = ap (λ v. length (vlq v)) (each-length (w .0 .body)) in
+      let el = ap (λ v. length (vlq v)) (w .0 .body .long) in
       let same : Lies k (q + length (vlq 4) + length (vlq n)) (r .body) = lies-as (sym (w .2 e)) (lies-at (omega arith) (v .1)) in
-      let m : Lies k (q + length (vlq 4)) (vlq n) = lies-as (ap vlq (sym (each-length (w .0 .body)))) (v .0) in
+      let m : Lies k (q + length (vlq 4)) (vlq n) = lies-as (ap vlq (sym (w .0 .body .long))) (v .0) in
       let e₁ = number-back referenceFrame 3 stop 4 (a .0) (omega arith) (omega arith) in
       let e₂ = block-back referenceFrame 3 stop n (u .0) (omega (arith, h .inside)) (omega arith) in
       runs-place _ q (runs-then _ e₁ (number-runs referenceFrame 3 stop 4 (a .0) (b .0) (omega arith) (omega arith)) (runs-check _ _ _ (runs-check _ _ _ (runs-check _ _ _ (runs-else _ refl (runs-else _ refl (runs-else _ refl
@@ -496,11 +496,11 @@ module _ (g k : List ℕ) (big : length g < 2 ^ 28) where
       let ps : List (List ℕ) = vlq N ∷ vlq (r .contained) ∷ vlq H ∷ rest ∷ ownText r ∷ [] in
       let a = stand ps h in
       let t = stand (sized (itemsText cs) ∷ sized (r .unpackers) ∷ []) (a .1 .1 .1 .0) in
-      let own-long = each-length (own-pair (λ _. tt) (w .0)) in
-      let ip = items-pair (λ _. tt) (pairs ws) in
-      let rp : Each (λ _ _. Unit {0}) rest rest₂ = fields (λ _. tt) (more (block (λ _. tt) ip) (more (block (λ _. tt) (w .0 .unpackers)) none)) in
+      let own-long = own-pair (w .0) .long in
+      let ip = items-pair (pairs ws) in
+      let rp : AsLong rest rest₂ = fields (more (block ip) (more (block (w .0 .unpackers)) none)) in
       let ec : c ≡ length (ownText s) + n = ap (λ v. v + n) own-long in
-      let eH : H ≡ headerOf (s .contained) rest₂ (length (ownText s) + n) = header-pair (λ _. tt) (w .0 .contained) rp ec in
+      let eH : H ≡ headerOf (s .contained) rest₂ (length (ownText s) + n) = header-pair (w .0 .contained) rp ec in
       let eN = ap₂ _+_ eH ec in
       let c₂ : ℕ = length (ownText s) + n in
       let a₂ = stand (vlq (headerOf (s .contained) rest₂ c₂ + c₂) ∷ vlq (s .contained) ∷ vlq (headerOf (s .contained) rest₂ c₂) ∷ rest₂ ∷ ownText s ∷ []) h₂ in
@@ -515,7 +515,7 @@ module _ (g k : List ℕ) (big : length g < 2 ^ 28) where
       let fl = framed-length (r .contained) rest (ownText r) n small in
       let fh = framed-header (r .contained) rest c small in
       let z = joined-length (sized (itemsText cs) ∷ sized (r .unpackers) ∷ []) in
-      let si = each-length (block (λ _. tt) ip) in
+      let si = block ip .long in
       let su = sized-length (r .unpackers) in
       let e₁ = head-back end least g p (r .contained) rest (ownText r) n (f .few) small h (omega arith) (omega arith) in
       let chunk : AgreeUpTo g k p q = agree-on g k (agree-on g k (agree p (vlq N) (a .0) k₁) (agree (p + length (vlq N)) (vlq (r .contained)) (a .1 .0) k₂)) (agree (p + length (vlq N) + length (vlq (r .contained))) (vlq H) (a .1 .1 .0) k₃) in
@@ -534,7 +534,7 @@ module _ (g k : List ℕ) (big : length g < 2 ^ 28) where
       let u₂ : Lies k b (sized (r .unpackers)) = lies-at (omega arith) (lies-as (ap sized (sym (w .1))) (t₂ .1 .0)) in
       let ur = runs-chunk e₃ (λ v lo hi. agree b (sized (r .unpackers)) (t .1 .0) u₂ v lo (omega arith)) in
       let o₁ : Lies g (p + H) (ownText r) = lies-at (omega arith) (a .1 .1 .1 .1 .0) in
-      let rl = each-length rp in
+      let rl = rp .long in
       let o₂ : Lies k (p + H) (ownText s) = lies-at (omega arith) (a₂ .1 .1 .1 .1 .0) in
       let rr = reference-runs (x .headerEnd) (x .size) (r .contained) (p + N) (p + H) w (f .refers stays) o₁ o₂ (omega arith) in
       runs-place _ p (runs-then _ e₁ (runs-chunk e₁ chunk) (runs-then _ e₂ mr
@@ -571,9 +571,9 @@ outer-first s rs₂ cs₂ u v contained e l z = rw (e, take-at u v (s .rows) l, 
 inner-long : {limits : Limits} {types : List Declared} {d parent n : ℕ} {m : Made} {rs : List Shape} {cs : List Content} {bs : List (List ℕ)} → Nodes limits types d parent m n rs cs bs → (ss : List Shape) (es : List Content) {rs₂ : List Shape} {cs₂ : List Content}
     → Each Shapes (rs ++ ss) rs₂ → Each Pair (cs ++ es) cs₂ → length (joined (take n (outer rs₂ cs₂))) ≡ length (joined bs)
 inner-long {n = n} {rs = rs} {cs = cs} {bs = bs} ns ss es {rs₂} {cs₂} x y =
-    let o = outer-pair (λ _. tt) (each-by (λ a b w. w .0) x) (pairs y) in
+    let o = outer-pair (each-by (λ a b w. w .0) x) (pairs y) in
     let e : take n (outer (rs ++ ss) (cs ++ es)) ≡ bs = ap (take n) (nodes-outer ns ss es) ∙ take-at bs (outer ss es) n (nodes-length ns) in
-    sym (each-length (fields (λ _. tt) (subst (λ v. Each (Each (λ _ _. Unit {0})) v (take n (outer rs₂ cs₂))) e (each-take n o))))
+    sym (fields (subst (λ v. Each AsLong v (take n (outer rs₂ cs₂))) e (each-take n o)) .long)
 
 most : (r : Shape) (cs : List Content) (n : ℕ) → headerOf (r .contained) (joined (sized (itemsText cs) ∷ sized (r .unpackers) ∷ [])) (length (ownText r) + n) + (length (ownText r) + n) ≤ length (nodeText r cs n) + n
 unfolding nodeText
@@ -637,7 +637,7 @@ module _ (g k : List ℕ) (big : length g < 2 ^ 28) (x : Context) where
       let k₁ : Lies k p (t₂ ++ joined (take n (drop (r .contained) O))) = lies-as (ap joined fo ∙ ap (λ j. wholeText s u (joined (take j O)) ++ joined (take n (drop j O))) (sym hl)) h₂ in
       let lt = whole-length r cs (joined inner) in
       let lt₂ = whole-length s u inner₂ in
-      let np = each-length (node-pair (λ _. tt) (w .0) (pairs a) (sym il)) in
+      let np = node-pair (w .0) (pairs a) (sym il) .long in
       let z = length-append t (joined bs) in
       let g₁ = lies-left t (joined bs) h in
       let k₂ = lies-left t₂ (joined (take n (drop (r .contained) O))) k₁ in
@@ -671,7 +671,7 @@ module _ (g k : List ℕ) (big : length g < 2 ^ 28) (x : Context) where
       let k₂ : Lies k p t₂ = lies-left t₂ _ (lies-as (outer-first s rs₃ cs₂ u v (r .contained) e n₁ (sym hl)) h₂) in
       let lt = whole-length r cs (joined inner) in
       let lt₂ = whole-length s u inner₂ in
-      let np = each-length (node-pair (λ _. tt) (w .0) (pairs a) (sym il)) in
+      let np = node-pair (w .0) (pairs a) (sym il) .long in
       let q : ℕ = p + length (nodeText r cs (length (joined inner))) in
       let al = nodes.alone ys in
       let gi = inner-lies r cs (joined inner) h in

@@ -7,7 +7,7 @@ use mathlib.Core.List.{List, [], _∷_, map}
 use Prim.Native.Nat.{ℕ, zero, suc, _+_, _-_, _^_, _<_}
 use native.Mathlib.Omega.{arith}
 use lib.Dec.{T, eqb}
-use lib.ListN.{length, take, drop}
+use lib.ListN.{length, take, drop, length-take, length-drop}
 use Rattle.cursor.specs.Machine.{run, trace}
 use Rattle.cursor.specs.Rows.{Events}
 use Rattle.cursor.specs.Vlq.{part, vlq, joined, sized}
@@ -28,7 +28,7 @@ use Rattle.tree.proofs.Demand.{privateData, Alike, private-alike, RowAlike, row
 use Rattle.title.specs.Description.{Content, content, shape, described, titled, titledAt, openingSize, tableText, answer}
 use Rattle.title.specs.Text.{outer, fileOf}
 use Rattle.title.specs.Title.{elsewhere, titledFile}
-use Rattle.title.proofs.Pairs.{Each, none, more, each-length, each-take, each-drop, each-same, ContentPair, ShapePair, DescriptionPair, retitled-pair, text-length}
+use Rattle.title.proofs.Pairs.{Each, none, more, AsLong, alike, ContentPair, ShapePair, DescriptionPair, retitled-pair, text-pair}
 use Rattle.title.proofs.Alike.{row-private, Pair, Shapes}
 use Rattle.title.proofs.Twins.{Twins, differ-alike}
 use Rattle.title.proofs.Theorem.{grammar, same-file}
@@ -37,53 +37,43 @@ use Rattle.title.proofs.Headers.{header-says}
 use Rattle.title.proofs.Transfer.{onward, tables-alike}
 use Rattle.title.proofs.Kept.{Same, AllSame, tree-kept, header-kept}
 
--- as many elements
-abbrev Any : {A : Type 0} → A → A → Type 0
-Any a b = Unit {0}
-
-as-long : (s t : List ℕ) → length s ≡ length t → Each Any s t
-as-long [] [] e = none
-as-long [] (b ∷ t) e = absurd (omega arith)
-as-long (a ∷ s) [] e = absurd (omega arith)
-as-long (a ∷ s) (b ∷ t) e = more tt (as-long s t (omega arith))
-
 module _ (f k : List ℕ) (long : length f ≡ length k) where
-  files : Each Any f k
-  files = as-long f k long
+  rests : (p : ℕ) → AsLong (drop p f) (drop p k)
+  rests p = record { long = length-drop p f ∙ ap (λ n. n - p) long ∙ sym (length-drop p k) }
 
-  parts : (p n : ℕ) → Each Any (part f p n) (part k p n)
-  parts p n = each-take n (each-drop p files)
+  parts : (p n : ℕ) → AsLong (part f p n) (part k p n)
+  parts p n = record { long = omega (arith, length-take n (drop p f), length-take n (drop p k), rests p .long) }
 
-  content-pair : (r : Item) → ContentPair Any (content f r) (content k r)
+  content-pair : (r : Item) → ContentPair (content f r) (content k r)
   unfolding content
   content-pair r = record { node = refl; item = refl; kind = refl; field = refl; name = parts (r .field) (r .nameLength); version = refl; declared = refl; format = refl; bytes = parts (r .place) (r .size) }
 
-  contents-pair : (is : List Item) → Each (ContentPair Any) (map (content f) is) (map (content k) is)
+  contents-pair : (is : List Item) → Each ContentPair (map (content f) is) (map (content k) is)
   contents-pair [] = none
   contents-pair (r ∷ is) = more (content-pair r) (contents-pair is)
 
-  body-pair : (b : Bool) (p n : ℕ) → Each Any (cond b (part f p n) []) (cond b (part k p n) [])
+  body-pair : (b : Bool) (p n : ℕ) → AsLong (cond b (part f p n) []) (cond b (part k p n) [])
   body-pair true p n = parts p n
-  body-pair false p n = none
+  body-pair false p n = alike []
 
-  shape-pair : (r : Node) → Same f k long r → ShapePair Any (shape f r) (shape k r)
+  shape-pair : (r : Node) → Same f k long r → ShapePair (shape f r) (shape k r)
   unfolding shape
-  shape-pair r s = record { contained = refl; reference = refl; unpackers = as-long _ _ (ap length (s .0)); rows = refl; body = body-pair (eqb (r .contained) 0) (r .target) (r .extent) }
+  shape-pair r s = record { contained = refl; reference = refl; unpackers = record { long = ap length (s .0) }; rows = refl; body = body-pair (eqb (r .contained) 0) (r .target) (r .extent) }
 
-  shapes-pair : (ns : List Node) → AllSame f k long ns → Each (ShapePair Any) (map (shape f) ns) (map (shape k) ns)
+  shapes-pair : (ns : List Node) → AllSame f k long ns → Each ShapePair (map (shape f) ns) (map (shape k) ns)
   shapes-pair [] a = none
   shapes-pair (r ∷ ns) a = more (shape-pair r (a .0)) (shapes-pair ns (a .1))
 
   described-pair : (h : Header) (ns : List Node) (is : List Item) → AllSame f k long ns → answer (run (tableText f) f (openingSize (h .version))) ≡ answer (run (tableText k) k (openingSize (h .version)))
-      → DescriptionPair Any (described f h ns is) (described k h ns is)
+      → DescriptionPair (described f h ns is) (described k h ns is)
   unfolding described
   described-pair h ns is a t = record {
-    opening = each-take (openingSize (h .version)) files;
-    types = as-long _ _ (ap length t);
+    opening = parts 0 (openingSize (h .version));
+    types = record { long = ap length t };
     gap = parts (h .extent .end) (h .extent .start - h .extent .end);
     nodes = shapes-pair ns a;
     items = contents-pair is;
-    after = each-drop (h .extent .last + 1) files;
+    after = rests (h .extent .last + 1);
   }
 
 -- ---- demand 3
@@ -114,7 +104,7 @@ module _ (lim : Limits) (f k : List ℕ) {h : Header} {ns : List Node} {is : Lis
       let agree = header-kept f k (r .header-is) (a .keeps-header) in
       let b = says .before in
       let table = tables-alike f k long (openingSize (h .version)) (says .ran) (λ j lo hi. agree j (omega arith) (omega arith)) in
-      text-length (retitled-pair (λ _. tt) i text (described-pair f k long h ns is (all-same a) (ap answer (says .ran) ∙ sym (ap answer table))))
+      text-pair (retitled-pair i text (described-pair f k long h ns is (all-same a) (ap answer (says .ran) ∙ sym (ap answer table)))) .long
 
   no-difference : (b : Bool) → b ≡ false → T (not b)
   no-difference true e = let z : _≡_ {A = ℕ} 0 1 = cc in absurd (omega arith)
@@ -140,7 +130,7 @@ module _ (lim : Limits) (f k : List ℕ) {h : Header} {ns : List Node} {is : Lis
   titled-alike zero (more w ws) =
       let x = w .pair in
       more (record {
-        pair = record { node = x .node; item = x .item; kind = x .kind; field = x .field; name = x .name; version = x .version; declared = x .declared; format = x .format; bytes = each-same (λ _. tt) text };
+        pair = record { node = x .node; item = x .item; kind = x .kind; field = x .field; name = x .name; version = x .version; declared = x .declared; format = x .format; bytes = alike text };
         named = w .named;
         shown = λ _. refl;
       }) ws
@@ -174,9 +164,8 @@ module _ (lim : Limits) (f k : List ℕ) {h : Header} {ns : List Node} {is : Lis
       let gap₂ : List ℕ = part k (h .extent .end) (h .extent .start - h .extent .end) in
       let after₂ : List ℕ = drop (h .extent .last + 1) k in
       let same₂ : fileOf (take n f) (sized types) gap₂ tree₂ after₂ ≡ titledFile i text k h ns is = ap (λ o. fileOf o (sized types) gap₂ tree₂ after₂) opens ∙ same-file k h ns is i text types tree₂ (sym (ap answer table)) refl in
-      let files-are = files f k long in
-      let eg = each-length (parts f k long (h .extent .end) (h .extent .start - h .extent .end)) in
-      let ea = each-length (each-drop (h .extent .last + 1) files-are) in
+      let eg = parts f k long (h .extent .end) (h .extent .start - h .extent .end) .long in
+      let ea = rests f k long (h .extent .last + 1) .long in
       let t = differ-alike lim says (part f (h .extent .end) (h .extent .start - h .extent .end)) (drop (h .extent .last + 1) f) gap₂ after₂ (w .nodes) (all-stay f ns here) (all-shapes ns (all-same a)) (titled-alike i (contents-alike is (rows-alike privateData f k lim tt a))) eg ea
       (subst (λ v. length v < 2 ^ 28) (sym (w .file)) small) (subst (λ v. length v < 2 ^ 28) (sym same₂) (subst (λ j. j < 2 ^ 28) titles-length small)) in
       subst (λ v. Twins lim v (titledFile i text k h ns is)) (w .file) (subst (Twins lim _) same₂ t)

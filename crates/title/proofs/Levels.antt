@@ -1,4 +1,4 @@
--- Of an accepted file no node and no header is shorter than in the text of what the file says; and where all nodes together are not longer, none is.
+-- Of an accepted file no node and no header is shorter than in the text of what the file says; where all nodes together are not longer, none is, and they are that text.
 -- Assumes nothing.
 use mathlib.Core.Path.{_≡_, refl, sym, ap, ap₂, _∙_, subst}
 use mathlib.Core.List.{List, [], _∷_, _++_, append-assoc, append-nil, map, map-append}

@@ -28,7 +28,7 @@ use Rattle.title.proofs.Headers.{HeaderSays}
 use Rattle.title.proofs.Places.{file-stands}
 use Rattle.title.proofs.Follows.{stay-elsewhere, read-whole}
 use Rattle.title.proofs.Theorem.{rows-were, tree-some, new-header}
-use Rattle.title.proofs.Pairs.{Each, each-length, fields, outer-pair}
+use Rattle.title.proofs.Pairs.{Each, fields, outer-pair}
 use Rattle.title.proofs.Alike.{agree, Pair, pairs, Shapes, each-by, tree-runs}
 use Rattle.title.proofs.Private.{differ-private}
 
@@ -59,7 +59,7 @@ module _ (lim : Limits) {f : List ℕ} {h : Header} (says : HeaderSays f h) (gap
   k = fileOf opening types gap₂ (joined (outer rs₂ cs₂)) after₂
 
   tree-long : length b ≡ length (joined (outer rs₂ cs₂))
-  tree-long = ap length (sym (tree-text nodes)) ∙ each-length (fields (λ _. tt) (outer-pair (λ _. tt) (each-by (λ a b w. w .0) shapes) (pairs contents)))
+  tree-long = ap length (sym (tree-text nodes)) ∙ fields (outer-pair (each-by (λ a b w. w .0) shapes) (pairs contents)) .long
 
   start-is : S opening types gap₂ (joined (outer rs₂ cs₂)) after₂ ≡ S opening types gap b after
   start-is = start-same opening types gap b after gap₂ (joined (outer rs₂ cs₂)) after₂ eg tree-long ea
