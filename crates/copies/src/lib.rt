@@ -182,18 +182,18 @@ fn copy_table(out: &mut [u8], to: usize, file: &[u8], c: Cursor) -> Copied
     }
 }
 
-// Puts the types table with its length. That of a file that was read is never refused.
-pub fn put_types(out: &mut [u8], to: usize, file: &[u8], opening: usize) -> usize
+// Puts the types table with its length; FileLength, which stands before it, begins at `opening`. The table of a file that was read is never refused.
+pub fn put_types(out: &mut [u8], to: usize, file: &[u8], opening: FilePlace) -> usize
     requires { ⌜ length (now file) < 2 ^ 28 ⌝ }
-    ensures { λ r. ⌜ Counts (now (out .entry)) (now (out .exit)) to (sized (answer (run (tableText (now (file .entry))) (now (file .entry)) opening))) r ⌝ }
+    ensures { λ r. ⌜ Counts (now (out .entry)) (now (out .exit)) to (sized (answer (run (tableText (now (file .entry))) (now (file .entry)) (opening .0)))) r ⌝ }
 {
-    let at = FilePlace(opening);
+    let c = Cursor { at: opening };
     let mut scratch = [0u8; 1];
-    match copy_table(&mut scratch, 0, file, Cursor { at }) {
+    match copy_table(&mut scratch, 0, file, c) {
         Copied::Refused(_, _) => room::put_number(out, to, 0),
         Copied::To(n, _) => {
             let a = room::put_number(out, to, n as u64);
-            match copy_table(out, a, file, Cursor { at }) {
+            match copy_table(out, a, file, c) {
                 Copied::Refused(_, _) => a,
                 Copied::To(b, _) => b,
             }

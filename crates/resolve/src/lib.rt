@@ -44,7 +44,7 @@ fn follow(nodes: &[u64], tree: usize, count: usize, left: u64, k: usize, hops: u
     if left == 0 {
         return Resolved::Refused(cursor::TOO_MANY_HOPS, 0);
     }
-    let next = tree::row_starting(nodes, tree, count, row.target);
+    let next = tree::row_starting(nodes, tree, count, place);
     follow(nodes, tree, count, left - 1, next, hops + 1)
 }
 

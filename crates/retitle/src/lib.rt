@@ -23,7 +23,9 @@ ghost use Rattle.contents.specs.Contents.{contentsFrom};
 ghost use Rattle.retitle.specs.Passes.{sizeStop, bodySize, Framed, sumOf, task, Sound, Measured, outerFrom};
 ghost use Rattle.retitle.specs.Stands.{Stands, refusalOf};
 ghost use Rattle.retitle.specs.Told.{Fills, Wrote};
+use cursor::FilePlace;
 use cursor::Node;
+use header::Extent;
 use header::Headed;
 use room::Written;
 use tree::Read;
@@ -122,18 +124,18 @@ fn put_reference(
     to: usize,
     file: &[u8],
     reference: u64,
-    place: usize,
+    place: FilePlace,
     size: usize,
 ) -> usize
-    requires { ⌜ place + size ≤ length (now file) ⌝ }
-    ensures { λ r. ⌜ Counts (now (out .entry)) (now (out .exit)) to (referenceText reference (part (now (file .entry)) place size)) r ⌝ }
+    requires { ⌜ place .0 + size ≤ length (now file) ⌝ }
+    ensures { λ r. ⌜ Counts (now (out .entry)) (now (out .exit)) to (referenceText reference (part (now (file .entry)) (place .0) size)) r ⌝ }
 {
     let a = room::put_number(out, to, reference);
     if reference == 4 {
         let b = room::put_number(out, a, size as u64);
-        return room::put_part(out, b, file, place, size);
+        return room::put_part(out, b, file, place.0, size);
     }
-    room::put_part(out, a, file, place, size)
+    room::put_part(out, a, file, place.0, size)
 }
 
 // NodeHeaderLength and NodeLength of a node row, whose item rows have `metadata` bytes, and whose nodes have `inner`.
@@ -149,7 +151,7 @@ fn frame_of(file: &[u8], row: Node, metadata: usize, inner: usize) -> Frame
         0,
         file,
         row.reference,
-        row.target as usize,
+        FilePlace(row.target as usize),
         body,
     ));
     let fixed = room::vlq_size(row.contained)
@@ -188,7 +190,14 @@ fn put_node(
     let e = contents::put_items(out, d, file, items, first, end, row, title);
     let g = copies::put_unpackers(out, e, file, node);
     let body = body_size(node) as usize;
-    put_reference(out, g, file, node.reference, node.target as usize, body)
+    put_reference(
+        out,
+        g,
+        file,
+        node.reference,
+        FilePlace(node.target as usize),
+        body,
+    )
 }
 
 // The bytes of the item rows from row `first` on, up to row `end`.
@@ -302,24 +311,22 @@ fn put_tree(
     next
 }
 
-// Puts the file, whose FileLength begins at `opening`, whose header ends at `end` and whose tree lies from `start` to `last`.
+// Puts the file, whose FileLength begins at `opening`.
 fn put_file(
     out: &mut [u8],
     file: &[u8],
     nodes: &[u64],
     items: &[u64],
-    opening: usize,
-    end: usize,
-    start: usize,
-    last: usize,
+    opening: FilePlace,
+    extent: Extent,
     count: usize,
     total: usize,
     row: usize,
     title: &[u8],
 ) -> usize
     requires rows { ⌜ Sound (task (now file) (now nodes) (now items) count total row (now title)) ⌝ }
-    requires inside { ⌜ (opening ≤ length (now file)) × (end ≤ start) × (start ≤ last) × (last < length (now file)) ⌝ }
-    ensures { λ r. ⌜ Fills (now (out .entry)) (now (out .exit)) (fileOf (take opening (now (file .entry))) (sized (answer (run (tableText (now (file .entry))) (now (file .entry)) opening))) (part (now (file .entry)) end (start - end)) (joined (outerFrom (task (now (file .entry)) (now (nodes .entry)) (now (items .entry)) count total row (now (title .entry))) 0)) (drop (last + 1) (now (file .entry)))) r ⌝ }
+    requires inside { ⌜ (opening .0 ≤ length (now file)) × (extent .end .0 ≤ extent .start .0) × (extent .start .0 ≤ extent .last .0) × (extent .last .0 < length (now file)) ⌝ }
+    ensures { λ r. ⌜ Fills (now (out .entry)) (now (out .exit)) (fileOf (take (opening .0) (now (file .entry))) (sized (answer (run (tableText (now (file .entry))) (now (file .entry)) (opening .0)))) (part (now (file .entry)) (extent .end .0) (extent .start .0 - extent .end .0)) (joined (outerFrom (task (now (file .entry)) (now (nodes .entry)) (now (items .entry)) count total row (now (title .entry))) 0)) (drop (extent .last .0 + 1) (now (file .entry)))) r ⌝ }
 {
     let mut metadata = [0usize; cursor::MOST_NODES];
     let mut inner = [0usize; cursor::MOST_NODES];
@@ -339,18 +346,21 @@ fn put_file(
     }
     let mut scratch = [0u8; 1];
     let types = stopped(copies::put_types(&mut scratch, 0, file, opening));
-    let gap = start - end;
-    let rest = last + 1;
-    let after = file.len() - rest;
-    let first = tree_start(opening + types + gap, tree, after);
+    let end = extent.end;
+    let start = extent.start;
+    let last = extent.last;
+    let gap = start.0 - end.0;
+    let rest = FilePlace(last.0 + 1);
+    let after = file.len() - rest.0;
+    let first = tree_start(opening.0 + types + gap, tree, after);
     let stop = first + tree;
     let size = stop + after;
-    let a = room::put_part(out, 0, file, 0, opening);
+    let a = room::put_part(out, 0, file, 0, opening.0);
     let b = room::put_number(out, a, size as u64);
     let c = copies::put_types(out, b, file, opening);
     let d = room::put_number(out, c, first as u64);
     let e = room::put_number(out, d, (stop - 1) as u64);
-    let f = room::put_part(out, e, file, end, gap);
+    let f = room::put_part(out, e, file, end.0, gap);
     let g = put_tree(
         out,
         f,
@@ -364,14 +374,18 @@ fn put_file(
         &metadata,
         &inner,
     );
-    room::put_part(out, g, file, rest, after)
+    room::put_part(out, g, file, rest.0, after)
 }
 
 // Where FileLength begins.
-fn opening_size(version: u64) -> usize
-    ensures { λ r. ⌜ r ≡ openingSize version ⌝ }
+fn opening_of(version: u64) -> FilePlace
+    ensures { λ r. ⌜ r .0 ≡ openingSize version ⌝ }
 {
-    if version == 200 { 16 } else { 8 }
+    if version == 200 {
+        FilePlace(16)
+    } else {
+        FilePlace(8)
+    }
 }
 
 // Puts the file with that title.
@@ -392,20 +406,15 @@ fn put_titled(
     match header::read_header(file, &mut types) {
         Headed::Refused(_, _) => 0,
         Headed::Is(h) => {
-            let opening = opening_size(h.version);
+            let opening = opening_of(h.version);
             let extent = h.extent;
-            let end = extent.end;
-            let start = extent.start;
-            let last = extent.last;
             put_file(
                 out,
                 file,
                 nodes,
                 items,
                 opening,
-                end.0,
-                start.0,
-                last.0,
+                extent,
                 count,
                 total,
                 row,

@@ -122,10 +122,11 @@ module _ (x : Context) (s t₀ u₀ : List ℕ) (levels parent : ℕ) (z : Stand
     pub items-long : length u ≡ length u₀
     pub nodes-fit : m .nodes ≤ x .limits .nodes
     pub items-fit : m .items ≤ x .limits .items
+    pub onward : at ≤ i
     pub same : exec put (times left (node levels x parent z) made) s at (state t₀ u₀ made) ≡ exec put (times rest (node levels x parent z) m) s i (state t u m)
 
   pub children-begun : made .nodes ≤ x .limits .nodes → made .items ≤ x .limits .items → Going t₀ u₀ at left made
-  children-begun h k = record { nodes-long = refl; items-long = refl; nodes-fit = h; items-fit = k; same = refl }
+  children-begun h k = record { nodes-long = refl; items-long = refl; nodes-fit = h; items-fit = k; onward = omega arith; same = refl }
 
   pub children-done : {t u : List ℕ} {c : Cursor} {rest : ℕ} {m : Made} → Going t u (c .at .0) rest m → rest ≤ 0
       → Gives (x .limits) (Done m c) t u (exec put (times left (node levels x parent z) made) s at (state t₀ u₀ made))
@@ -144,10 +145,11 @@ module _ (x : Context) (s t₀ u₀ : List ℕ) (levels parent : ℕ) (z : Stand
     pub children-further : z .end .0 ≤ x .size → {n : Made} {c : Cursor} → r ≡ Done n c → (i < c .at .0) × (c .at .0 ≤ z .end .0)
     children-further o h = let w = at-end (inside-free (z .end .0) (x .size)) s (node-on Nothing (z .end .0) levels x parent z m i (omega arith) o) (ran put _ s i (state t u m) (done d h)) in (w .0, w .1)
 
-    pub children-on : {n : Made} {c : Cursor} → r ≡ Done n c → length t′ ≡ length t → length u′ ≡ length u → Going t′ u′ (c .at .0) (rest - 1) n
-    children-on h j k =
+    pub children-on : z .end .0 ≤ x .size → {n : Made} {c : Cursor} → r ≡ Done n c → length t′ ≡ length t → length u′ ≡ length u → Going t′ u′ (c .at .0) (rest - 1) n
+    children-on o h j k =
         let b = fitting d h in
-        record { nodes-long = j ∙ g .nodes-long; items-long = k ∙ g .items-long; nodes-fit = b .0; items-fit = b .1; same = turn ∙ rw (done d h) refl }
+        let w = children-further o h in
+        record { nodes-long = j ∙ g .nodes-long; items-long = k ∙ g .items-long; nodes-fit = b .0; items-fit = b .1; onward = omega (arith, g .onward); same = turn ∙ rw (done d h) refl }
 
 -- ---- one node alone
 

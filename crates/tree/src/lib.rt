@@ -336,19 +336,20 @@ fn read_root(
 }
 
 // The row that starts at the place; `count` if none does. The starts of the first `tree` rows rise.
-pub fn row_starting(nodes: &[u64], tree: usize, count: usize, place: u64) -> usize
+pub fn row_starting(nodes: &[u64], tree: usize, count: usize, place: FilePlace) -> usize
     requires { ⌜ (tree ≤ count) × (count * nodeWidth ≤ length (now nodes)) × Rising (nodesIn tree (now nodes)) ⌝ }
-    ensures { λ r. ⌜ r ≡ rowStarting (nodesIn count (now (nodes .entry))) place ⌝ }
+    ensures { λ r. ⌜ r ≡ rowStarting (nodesIn count (now (nodes .entry))) (place .0) ⌝ }
 {
     let mut low: usize = 0;
     let mut high = tree;
     while low < high {
         let middle = low + (high - low) / 2;
         let row = node_at(nodes, middle);
-        if row.start == place {
+        let start = row.start as usize;
+        if start == place.0 {
             return middle;
         }
-        if row.start < place {
+        if start < place.0 {
             low = middle + 1;
         } else {
             high = middle;
@@ -357,7 +358,7 @@ pub fn row_starting(nodes: &[u64], tree: usize, count: usize, place: u64) -> usi
     let mut i = tree;
     while i < count {
         let row = node_at(nodes, i);
-        if row.start == place {
+        if row.start as usize == place.0 {
             return i;
         }
         i = i + 1;
@@ -366,52 +367,58 @@ pub fn row_starting(nodes: &[u64], tree: usize, count: usize, place: u64) -> usi
 }
 
 // The first byte from `place` on that a detached node has; `end` if none before that. No row before row `tree` is detached.
-fn taken_from(nodes: &[u64], tree: usize, count: usize, place: usize, end: usize) -> usize
+fn taken_from(
+    nodes: &[u64],
+    tree: usize,
+    count: usize,
+    place: FilePlace,
+    end: FilePlace,
+) -> FilePlace
     requires { ⌜ (tree ≤ count) × (count * nodeWidth ≤ length (now nodes)) × ((i : ℕ) → i < count → nodeAt (nodesIn count (now nodes)) i .start + nodeAt (nodesIn count (now nodes)) i .size < 2 ^ 28) × ((i : ℕ) → i < tree → nodeAt (nodesIn count (now nodes)) i .detached ≡ 0) ⌝ }
-    ensures { λ r. ⌜ r ≡ takenFrom (nodesIn count (now (nodes .entry))) place end ⌝ }
+    ensures { λ r. ⌜ r .0 ≡ takenFrom (nodesIn count (now (nodes .entry))) (place .0) (end .0) ⌝ }
 {
     let mut i = count;
-    let mut taken = end;
+    let mut taken = end.0;
     while tree < i {
         i = i - 1;
         let row = node_at(nodes, i);
         if row.detached == 1 {
-            if place < (row.start + row.size) as usize {
-                taken = lesser(greater(place, row.start as usize), taken);
+            if place.0 < (row.start + row.size) as usize {
+                taken = lesser(greater(place.0, row.start as usize), taken);
             }
         }
     }
-    taken
+    FilePlace(taken)
 }
 
 // Whether the place lies in a file of `size` bytes, outside header and tree.
-fn is_outside(extent: Extent, size: usize, place: usize) -> bool
-    ensures { λ r. ⌜ ((h : spec.Header) → h .extent ≡ extentOf extent → r ≡ outside h size place) ⌝ }
+fn is_outside(extent: Extent, size: usize, place: FilePlace) -> bool
+    ensures { λ r. ⌜ ((h : spec.Header) → h .extent ≡ extentOf extent → r ≡ outside h size (place .0)) ⌝ }
 {
     let end = extent.end;
     let start = extent.start;
     let last = extent.last;
-    if place < end.0 {
+    if place.0 < end.0 {
         return false;
     }
-    if size <= place {
+    if size <= place.0 {
         return false;
     }
-    if place < start.0 {
+    if place.0 < start.0 {
         return true;
     }
-    last.0 < place
+    last.0 < place.0
 }
 
 // The end of the part that the place lies in.
-fn part_end(extent: Extent, size: usize, place: usize) -> usize
-    ensures { λ r. ⌜ ((h : spec.Header) → h .extent ≡ extentOf extent → r ≡ partEnd h size place) ⌝ }
+fn part_end(extent: Extent, size: usize, place: FilePlace) -> FilePlace
+    ensures { λ r. ⌜ ((h : spec.Header) → h .extent ≡ extentOf extent → r .0 ≡ partEnd h size (place .0)) ⌝ }
 {
     let start = extent.start;
-    if place < start.0 {
-        return start.0;
+    if place.0 < start.0 {
+        return start;
     }
-    size
+    FilePlace(size)
 }
 
 // The place of row i's offset, found again from its header.
@@ -449,16 +456,15 @@ fn reach_from(
     if row.reference != 3 {
         return Walked::Done(made, here);
     }
-    let to = row.target;
+    let to = FilePlace(row.target as usize);
     if row_starting(nodes, tree, made.nodes, to) < made.nodes {
         return Walked::Done(made, here);
     }
     let offset = offset_at(file, nodes, made.nodes, i);
     let extent = h.extent;
-    let place = to as usize;
-    if is_outside(extent, file.len(), place) {
-        let end = part_end(extent, file.len(), place);
-        let taken = taken_from(nodes, tree, made.nodes, place, end);
+    if is_outside(extent, file.len(), to) {
+        let end = part_end(extent, file.len(), to);
+        let taken = taken_from(nodes, tree, made.nodes, to, end);
         let headerEnd = extent.end;
         let scope = Scope {
             limits: lim,
@@ -467,17 +473,14 @@ fn reach_from(
         };
         let s = Standing {
             least: FilePlace(0),
-            end: FilePlace(end),
-            taken: FilePlace(taken),
+            end,
+            taken,
             offset,
             detached: 1,
         };
-        let at = Cursor {
-            at: FilePlace(place),
-        };
         let levels = cursor::MOST_DEPTH + 1;
         return read_children(
-            at,
+            Cursor { at: to },
             file,
             types,
             nodes,

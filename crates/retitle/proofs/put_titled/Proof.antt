@@ -21,11 +21,11 @@ enum-told c = search needs
 enum-known-h : tie.Need-enum-known-h
 enum-known-h c = search needs
 
-opening-size-requires : tie.Need-opening-size-requires
-opening-size-requires c κs = search needs
+opening-of-requires : tie.Need-opening-of-requires
+opening-of-requires c κs = search needs
 
 put-file-requires : tie.Need-put-file-requires
-put-file-requires c κs = (ready (c .before .before .before .before .before .before .before .before .before .before .before .before .before .before .before .before .before .pre .0) (c .before .before .before .before .before .before .before .before .before .before .before .before .before .before .before .before .before .pre .1) _ _, header-inside _ _ (c .before .before .before .before .before .before .before .before .before .before .before .before .before .before .before .before .before .pre .0 .reads) (c .before .before .before .before .before .before .before .before .before .before .read-header .result) (c .before .before .before .before .before .before .before .before .before .before .read-header .last .1 .0) (c .before .before .before .before .before .before .before .before .before .before .read-header .ensures .0) (c .before .before .before .before .before .before .before .h .given .1) (c .before .before .before .before .before .opening-size .ensures))
+put-file-requires c κs = (ready (c .before .before .before .before .before .before .before .before .before .before .before .before .before .before .pre .0) (c .before .before .before .before .before .before .before .before .before .before .before .before .before .before .pre .1) _ _, header-inside _ _ (c .before .before .before .before .before .before .before .before .before .before .before .before .before .before .pre .0 .reads) (c .before .before .before .before .before .before .before .read-header .result) (c .before .before .before .before .before .before .before .read-header .last .1 .0) (c .before .before .before .before .before .before .before .read-header .ensures .0) (c .before .before .before .before .h .given .1) (c .before .before .opening-of .ensures))
 
 returns : tie.Need-returns
 returns c = λ (lim : Limits) (h : Header) reads. never-refused lim _ reads (c .before .before .before .read-header .result) (c .before .before .before .read-header .last .1 .0) (c .before .before .before .read-header .ensures .0) (c .enum-told .given .1)
@@ -34,7 +34,7 @@ same-length : tie.Need-same-length
 same-length c = search needs
 
 returns-2 : tie.Need-returns-2
-returns-2 c = λ (lim : Limits) (h : Header) reads. fills-as (file-same lim _ reads (c .before .before .before .before .before .before .before .before .before .before .before .before .before .read-header .result) (c .before .before .before .before .before .before .before .before .before .before .before .before .before .read-header .last .1 .0) (c .before .before .before .before .before .before .before .before .before .before .before .before .before .read-header .ensures .0) (c .before .before .before .before .before .before .before .before .before .before .h .given .1) (c .before .before .before .before .before .before .before .before .opening-size .ensures) _ _ (tree-is (c .before .before .before .before .before .before .before .before .before .before .before .before .before .before .before .before .before .before .before .before .pre .0) (c .before .before .before .before .before .before .before .before .before .before .before .before .before .before .before .before .before .before .before .before .pre .1) _ _)) (c .before .before .put-file .ensures)
+returns-2 c = λ (lim : Limits) (h : Header) reads. fills-as (file-same lim _ reads (c .before .before .before .before .before .before .before .before .before .before .read-header .result) (c .before .before .before .before .before .before .before .before .before .before .read-header .last .1 .0) (c .before .before .before .before .before .before .before .before .before .before .read-header .ensures .0) (c .before .before .before .before .before .before .before .h .given .1) (c .before .before .before .before .before .opening-of .ensures) _ _ (tree-is (c .before .before .before .before .before .before .before .before .before .before .before .before .before .before .before .before .before .pre .0) (c .before .before .before .before .before .before .before .before .before .before .before .before .before .before .before .before .before .pre .1) _ _)) (c .before .before .put-file .ensures)
 
 pub put-titled-spec : {M : Type 1} → statement M
 put-titled-spec =
@@ -44,7 +44,7 @@ put-titled-spec =
     read-header-requires
     enum-told
     enum-known-h
-    opening-size-requires
+    opening-of-requires
     put-file-requires
     returns
     same-length

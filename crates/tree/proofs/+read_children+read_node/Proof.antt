@@ -1,11 +1,14 @@
--- Reading a node and reading its children, which call each other. The measure is twice the levels left; one more for children. The children are
--- read in a loop, whose measure is the bytes left. Its invariant: what is left of the children comes to what the whole comes to.
+-- Reading a node and reading its children, which call each other. What falls is one number, the levels left and the bytes left together: a child has
+-- a level less than its holder and no more bytes, and a later child has fewer bytes. It is the measure of the calls (twice, and one more for children,
+-- whose first child has the same left) and of the loop over the children. The loop's invariant: what is left comes to what the whole comes to.
 -- Assumes nothing.
 use mathlib.Core.Path.{_∙_}
 use mathlib.Core.List.{[]}
 use lib.ListN.{length}
+use Rattle.cursor.specs.declared.Cursor.{Cursor}
 use Rattle.metadata.specs.Told.{contextOf}
 use Rattle.metadata.proofs.Gives.{done, stopped, fitting, no}
+use Rattle.node.specs.declared.Standing.{Standing}
 use Rattle.node.proofs.Ends.{front-inside, inline-fits}
 use Rattle.node.proofs.Ways.{front-done, front-stopped, front-fitting}
 use Rattle.tree.proofs.Nodes.{node-none, node-limit, node-front, node-children, node-contained, node-file, Going, children-begun, children-further, children-done, children-no, children-on}
@@ -28,11 +31,15 @@ use Rattle.tree.proofs.end_node.Reads as end-node-reads
 use Rattle.tree.proofs.+read_children+read_node.{statement}
 use Rattle.tree.proofs.+read_children+read_node.Tie.{close}
 
+-- the levels left, and the bytes left from the cursor to the end of what holds the node
+abbrev falling : ℕ → Standing → Cursor → ℕ
+falling levels z c = levels + (z .end .0 - c .at .0)
+
 abbrev μ-read-children : Measures 4 read-children-kinds.ps ℕ
-μ-read-children κs a = 2 * a .1 .1 .1 .1 .1 .1 .0 + 1
+μ-read-children κs a = 2 * falling (a .1 .1 .1 .1 .1 .1 .0) (a .1 .1 .1 .1 .1 .1 .1 .1 .0) (a .0) + 1
 
 abbrev μ-read-node : Measures 4 read-node-kinds.ps ℕ
-μ-read-node κs a = 2 * a .1 .1 .1 .1 .1 .1 .0
+μ-read-node κs a = 2 * falling (a .1 .1 .1 .1 .1 .1 .0) (a .1 .1 .1 .1 .1 .1 .1 .1 .0) (a .0)
 
 abbrev read-children-at : ℕ → In 4 read-children-kinds.ps
 read-children-at t =
@@ -64,13 +71,13 @@ abbrev Inv-loop : read-children-lts.InvT-loop
 Inv-loop file types nodes₀ items₀ scope levels parent z left next₀ m₀ rest₀ nodes items next m rest = Going (contextOf scope types (length file)) file nodes₀ items₀ levels parent z (next₀ .at .0) left m₀ nodes items (next .at .0) rest m
 
 abbrev μ-loop : read-children-lts.MeasureT-loop
-μ-loop file types nodes₀ items₀ scope levels parent z left next₀ m₀ rest₀ nodes items next m rest = z .end .0 - next .at .0
+μ-loop file types nodes₀ items₀ scope levels parent z left next₀ m₀ rest₀ nodes items next m rest = falling levels z next
 
 read-children-loop-holds : (t : ℕ) → read-children-lts.Need-loop-holds (children-calls t) (read-children-at t) read-children.Post Inv-loop μ-loop
 read-children-loop-holds t c = children-begun _ _ _ _ _ _ _ _ _ _ (omega (arith, c .before .before .before .before .pre)) (omega (arith, c .before .before .before .before .pre))
 
 read-children-read-node-requires : (t : ℕ) → read-children-lts.Need-read-node-requires (children-calls t) (read-children-at t) read-children.Post Inv-loop μ-loop
-read-children-read-node-requires t c κs = omega (arith, c .before .before .before .before .before .before .before .before .pre, c .before .before .before .loop .inv .nodes-long, c .before .before .before .loop .inv .items-long, c .before .before .before .loop .inv .nodes-fit, c .before .before .before .loop .inv .items-fit)
+read-children-read-node-requires t c κs = omega (arith, c .before .before .before .before .before .before .before .before .pre, c .before .before .before .loop .inv .nodes-long, c .before .before .before .loop .inv .items-long, c .before .before .before .loop .inv .nodes-fit, c .before .before .before .loop .inv .items-fit, c .before .before .before .loop .inv .onward)
 
 read-children-enum-known-n : (t : ℕ) → read-children-lts.Need-enum-known-n (children-calls t) (read-children-at t) read-children.Post Inv-loop μ-loop
 read-children-enum-known-n t c = search needs
@@ -94,7 +101,7 @@ read-children-loop-less : (t : ℕ) → read-children-lts.Need-loop-less (childr
 read-children-loop-less t c = omega (arith, children-further _ _ _ _ _ _ _ _ _ _ (c .before .before .before .before .before .before .before .before .before .before .before .loop .inv) (c .before .before .before .before .before .before .before .before .before .before .loop-test .taken) (c .before .before .before .before .before .before .before .read-node .ensures) (omega (arith, c .before .before .before .before .before .before .before .before .before .before .before .before .before .before .before .before .pre)) (c .before .n2 .given .1))
 
 read-children-loop-again : (t : ℕ) → read-children-lts.Need-loop-again (children-calls t) (read-children-at t) read-children.Post Inv-loop μ-loop
-read-children-loop-again t c = children-on _ _ _ _ _ _ _ _ _ _ (c .before .before .before .before .before .before .before .before .before .before .before .loop .inv) (c .before .before .before .before .before .before .before .before .before .before .loop-test .taken) (c .before .before .before .before .before .before .before .read-node .ensures) (c .before .n2 .given .1) (c .before .before .before .before .before .before .before .read-node .kept .1 .1 .1 .0) (c .before .before .before .before .before .before .before .read-node .kept .1 .1 .1 .1 .0)
+read-children-loop-again t c = children-on _ _ _ _ _ _ _ _ _ _ (c .before .before .before .before .before .before .before .before .before .before .before .loop .inv) (c .before .before .before .before .before .before .before .before .before .before .loop-test .taken) (c .before .before .before .before .before .before .before .read-node .ensures) (omega (arith, c .before .before .before .before .before .before .before .before .before .before .before .before .before .before .before .before .pre)) (c .before .n2 .given .1) (c .before .before .before .before .before .before .before .read-node .kept .1 .1 .1 .0) (c .before .before .before .before .before .before .before .read-node .kept .1 .1 .1 .1 .0)
 
 read-children-same-length-3 : (t : ℕ) → read-children-lts.Need-same-length-3 (children-calls t) (read-children-at t) read-children.Post Inv-loop μ-loop
 read-children-same-length-3 t c = c .before .loop .inv .nodes-long

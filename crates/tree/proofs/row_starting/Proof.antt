@@ -8,13 +8,13 @@ use Rattle.tree.proofs.row_starting.Statement.{statement}
 use Rattle.tree.proofs.row_starting.Tie as tie
 
 abbrev Inv-loop : tie.InvT-loop
-Inv-loop nodes tree count place low₀ high₀ low high = (high ≤ tree) × Between nodes tree place low high
+Inv-loop nodes tree count place low₀ high₀ low high = (high ≤ tree) × Between nodes tree (place .0) low high
 
 abbrev μ-loop : tie.MeasureT-loop
 μ-loop nodes tree count place low₀ high₀ low high = high - low
 
 abbrev Inv-loop2 : tie.InvT-loop2
-Inv-loop2 nodes tree count place low high i₀ i = (tree ≤ i) × (i ≤ count) × NoneBefore nodes place i
+Inv-loop2 nodes tree count place low high i₀ i = (tree ≤ i) × (i ≤ count) × NoneBefore nodes (place .0) i
 
 abbrev μ-loop2 : tie.MeasureT-loop2
 μ-loop2 nodes tree count place low high i₀ i = count - i
@@ -65,7 +65,7 @@ loop2-less : tie.Need-loop2-less Inv-loop μ-loop Inv-loop2 μ-loop2
 loop2-less c = omega arith
 
 loop2-again : tie.Need-loop2-again Inv-loop μ-loop Inv-loop2 μ-loop2
-loop2-again c = (omega arith, omega arith, linear-on (c .before .before .before .before .before .before .before .before .args .nodes .now) (c .before .before .before .before .before .before .before .before .args .tree) (c .before .before .before .before .before .before .before .before .args .count) (c .before .before .before .before .before .before .before .before .args .place) (c .before .before .before .before .before .before .before .before .pre .0) (c .before .before .before .before .loop2 .inv .2) (c .before .before .node-at2 .ensures) (c .if3 .left))
+loop2-again c = (omega arith, omega arith, linear-on (c .before .before .before .before .before .before .before .before .args .nodes .now) (c .before .before .before .before .before .before .before .before .args .tree) (c .before .before .before .before .before .before .before .before .args .count) (c .before .before .before .before .before .before .before .before .args .place .0) (c .before .before .before .before .before .before .before .before .pre .0) (c .before .before .before .before .loop2 .inv .2) (c .before .before .node-at2 .ensures) (c .if3 .left))
 
 returns-3 : tie.Need-returns-3 Inv-loop μ-loop Inv-loop2 μ-loop2
 returns-3 c = linear-ends _ _ _ _ (c .before .before .before .before .before .pre .0) (c .before .loop2 .inv .2) (omega arith)

@@ -10,13 +10,13 @@ use Rattle.tree.proofs.taken_from.Statement.{statement}
 use Rattle.tree.proofs.taken_from.Tie as tie
 
 abbrev Inv-loop : tie.InvT-loop
-Inv-loop nodes tree count place end i₀ taken₀ i taken = (tree ≤ i) × (i ≤ count) × TakenTo nodes count place end i taken
+Inv-loop nodes tree count place i₀ taken₀ i taken = (tree ≤ i) × (i ≤ count) × TakenTo nodes count (place .0) taken₀ i taken
 
 abbrev μ-loop : tie.MeasureT-loop
-μ-loop nodes tree count place end i₀ taken₀ i taken = i - tree
+μ-loop nodes tree count place i₀ taken₀ i taken = i - tree
 
 loop-holds : tie.Need-loop-holds Inv-loop μ-loop
-loop-holds c = (c .before .pre .0, omega arith, taken-begun (c .before .args .nodes .now) (c .before .args .count) (c .before .args .place) (c .before .args .end))
+loop-holds c = (c .before .pre .0, omega arith, taken-begun (c .before .args .nodes .now) (c .before .args .count) (c .before .args .place .0) (c .before .args .end .0))
 
 sub-i : tie.Need-sub-i Inv-loop μ-loop
 sub-i c = omega arith
@@ -37,22 +37,22 @@ loop-less : tie.Need-loop-less Inv-loop μ-loop
 loop-less c = omega arith
 
 loop-again : tie.Need-loop-again Inv-loop μ-loop
-loop-again c = (omega arith, omega arith, taken-here (c .before .before .before .before .before .before .before .before .before .before .args .nodes .now) (c .before .before .before .before .before .before .before .before .before .before .args .count) (c .before .before .before .before .before .before .before .before .before .before .args .place) (c .before .before .before .before .before .before .before .before .before .before .args .end) {i = c .before .before .before .before .before .before .before .before .loop .i - 1} {j = c .before .before .before .before .before .before .before .before .loop .i} (c .before .before .before .before .before .before .before .before .loop .inv .2) (omega arith) (omega arith) (c .before .before .before .before .before .before .node-at .ensures) (c .before .before .before .before .if1 .taken) (c .before .before .if2 .taken) (c .lesser .ensures ∙ ap (λ v. min v (c .before .before .before .before .before .before .before .before .loop .taken)) (c .before .greater .ensures)))
+loop-again c = (omega arith, omega arith, taken-here (c .before .before .before .before .before .before .before .before .before .before .before .args .nodes .now) (c .before .before .before .before .before .before .before .before .before .before .before .args .count) (c .before .before .before .before .before .before .before .before .before .before .before .args .place .0) (c .before .before .before .before .before .before .before .before .before .before .before .args .end .0) {i = c .before .before .before .before .before .before .before .before .before .loop .i - 1} {j = c .before .before .before .before .before .before .before .before .before .loop .i} (c .before .before .before .before .before .before .before .before .before .loop .inv .2) (omega arith) (omega arith) (c .before .before .before .before .before .before .before .node-at .ensures) (c .before .before .before .before .before .if1 .taken) (c .before .before .if2 .taken) (c .lesser .ensures ∙ ap (λ v. min v (c .before .before .before .before .before .before .before .before .before .loop .taken)) (c .before .greater .ensures)))
 
 loop-less-2 : tie.Need-loop-less-2 Inv-loop μ-loop
 loop-less-2 c = omega arith
 
 loop-again-2 : tie.Need-loop-again-2 Inv-loop μ-loop
-loop-again-2 c = (omega arith, omega arith, taken-past (c .before .before .before .before .before .before .before .before .args .nodes .now) (c .before .before .before .before .before .before .before .before .args .count) (c .before .before .before .before .before .before .before .before .args .place) (c .before .before .before .before .before .before .before .before .args .end) {i = c .before .before .before .before .before .before .loop .i - 1} {j = c .before .before .before .before .before .before .loop .i} (c .before .before .before .before .before .before .loop .inv .2) (omega arith) (omega arith) (c .before .before .before .before .node-at .ensures) (c .if2 .left))
+loop-again-2 c = (omega arith, omega arith, taken-past (c .before .before .before .before .before .before .before .before .before .args .nodes .now) (c .before .before .before .before .before .before .before .before .before .args .count) (c .before .before .before .before .before .before .before .before .before .args .place .0) (c .before .before .before .before .before .before .before .before .before .args .end .0) {i = c .before .before .before .before .before .before .before .loop .i - 1} {j = c .before .before .before .before .before .before .before .loop .i} (c .before .before .before .before .before .before .before .loop .inv .2) (omega arith) (omega arith) (c .before .before .before .before .before .node-at .ensures) (c .if2 .left))
 
 loop-less-3 : tie.Need-loop-less-3 Inv-loop μ-loop
 loop-less-3 c = omega arith
 
 loop-again-3 : tie.Need-loop-again-3 Inv-loop μ-loop
-loop-again-3 c = (omega arith, omega arith, taken-other (c .before .before .before .before .before .before .args .nodes .now) (c .before .before .before .before .before .before .args .count) (c .before .before .before .before .before .before .args .place) (c .before .before .before .before .before .before .args .end) {i = c .before .before .before .before .loop .i - 1} {j = c .before .before .before .before .loop .i} (c .before .before .before .before .loop .inv .2) (omega arith) (omega arith) (c .before .before .node-at .ensures) (c .if1 .left))
+loop-again-3 c = (omega arith, omega arith, taken-other (c .before .before .before .before .before .before .args .nodes .now) (c .before .before .before .before .before .before .args .count) (c .before .before .before .before .before .before .args .place .0) (c .before .before .before .before .before .before .args .end .0) {i = c .before .before .before .before .loop .i - 1} {j = c .before .before .before .before .loop .i} (c .before .before .before .before .loop .inv .2) (omega arith) (omega arith) (c .before .before .node-at .ensures) (c .if1 .left))
 
 returns : tie.Need-returns Inv-loop μ-loop
-returns c = let e = c .before .loop .inv .2 in e ∙ taken-done (c .before .before .before .args .nodes .now) (c .before .before .before .args .count) (c .before .before .before .args .tree) (c .before .before .before .args .place) (c .before .before .before .args .end) (c .before .loop .i) (omega arith) (c .before .before .before .pre .0) (c .before .before .before .pre .3)
+returns c = let e = c .before .loop .inv .2 in e ∙ taken-done (c .before .before .before .args .nodes .now) (c .before .before .before .args .count) (c .before .before .before .args .tree) (c .before .before .before .args .place .0) (c .before .before .before .args .end .0) (c .before .loop .i) (omega arith) (c .before .before .before .pre .0) (c .before .before .before .pre .3)
 
 pub taken-from-spec : {M : Type 1} → statement M
 taken-from-spec = tie.close (tie.spec Inv-loop μ-loop loop-holds sub-i node-at-requires add-if2 greater-requires lesser-requires loop-less loop-again loop-less-2 loop-again-2 loop-less-3 loop-again-3 returns)
