@@ -4,7 +4,7 @@ use mathlib.Core.Path.{_≡_, refl, sym, ap, ap₂, _∙_, subst}
 use mathlib.Core.List.{List, map}
 use Prim.Native.Nat.{ℕ, zero, suc, _-_, _≤_}
 use native.Mathlib.Omega.{arith}
-use lib.ListN.{length, getD, take, replicate}
+use lib.ListN.{length, take, replicate}
 use lib.Seq.{sets, take-all, length-take-le}
 use Rattle.cursor.specs.declared.Node.{Node}
 use Rattle.cursor.specs.declared.Item.{Item}
@@ -59,11 +59,11 @@ module _ (q : Wanted → (row : ℕ) → Question) (kind number : ℕ) (name : L
 
 pub calls-alike : (q : Question) (lends lends′ : List (List ℕ)) → map length lends′ ≡ map length lends → (f g : List ℕ) (h : Header) (ns : List Node) (is : List Item)
     → reads (map length lends) f ≡ rows h ns is → DifferInPrivate h ns is f g → {a a′ b b′ : List ℕ} → length b ≡ length a → {left left′ : List (List ℕ)}
-    → Leaves q f lends left a a′ → Leaves q g lends′ left′ b b′ → (b′ ≡ a′) × EachAlike (map length lends) (getD (outcome q (map length lends) f .answer) 2 0) (lent (about q) (map length lends) f) left left′
+    → Leaves q f lends left a a′ → Leaves q g lends′ left′ b b′ → (b′ ≡ a′) × EachAlike (map length lends) f g (outcome q (map length lends) f .answer) (lent (about q) (map length lends) f) left left′
 calls-alike q lends lends′ e f g h ns is r d {a} z {left} {left′} l k =
     let (_, (same, alike), _) = demand3 q (map length lends) f g h ns is r d in
     let o : outcome q (map length lends′) g ≡ outcome q (map length lends) g = ap (λ ls. outcome q ls g) e in
-    let Alike : (x y : List (List ℕ)) → Type 0 = EachAlike (map length lends) (getD (outcome q (map length lends) f .answer) 2 0) (lent (about q) (map length lends) f) in (
+    let Alike : (x y : List (List ℕ)) → Type 0 = EachAlike (map length lends) f g (outcome q (map length lends) f .answer) (lent (about q) (map length lends) f) in (
       k .answers ∙ ap₂ (λ n (v : Outcome). fit n (v .answer)) z o ∙ ap (fit (length a)) same ∙ sym (l .answers),
       subst (λ v. Alike v left′) (sym (l .holding)) (subst (Alike (outcome q (map length lends) f .holds)) (sym (k .holding ∙ ap (λ (v : Outcome). v .holds) o)) alike),
     )

@@ -9,7 +9,7 @@ ghost use Rattle.resolve.specs.Told as told_resolve;
 ghost use Rattle.description.specs.Told as told_description;
 ghost use Rattle.mobile.specs.Told as told_mobile;
 ghost use Rattle.room.specs.Told as told_room;
-ghost use Rattle.promises.specs.Promises.{readTree, findItem, findOwn, resolveRow, countFor, judgeMobile, writeSheet, correctTitle, toUtf8, toUtf16, saying, treeValues, itemValues, resourceValues, oneValue};
+ghost use Rattle.promises.specs.Promises.{readTree, findItem, findOwn, resolveRow, copyResource, countFor, judgeMobile, writeSheet, correctTitle, toUtf8, toUtf16, saying, treeValues, itemValues, resourceValues, oneValue};
 ghost use Rattle.capi.specs.Fit.{fit, asked, Leaves};
 use description::Counted;
 use find::Found;
@@ -201,6 +201,21 @@ pub extern "C" fn xmf_resolve(
     ensures { λ _. ⌜ Leaves (resolveRow row) (now (file .entry)) (now (nodes .entry) ∷ now (items .entry) ∷ []) (now (nodes .exit) ∷ now (items .exit) ∷ []) (now (answer .entry)) (now (answer .exit)) ⌝ }
 {
     put_resolved(answer, resolve::resolve(file, nodes, items, row));
+}
+
+// Resolves a node row's resource and copies it. Answer: as for xmf_resolve. The bytes may be hidden ones, which a reference 2 leads to.
+#[no_mangle]
+pub extern "C" fn xmf_resource(
+    file: &[u8],
+    nodes: &mut [u64],
+    items: &mut [u64],
+    row: usize,
+    out: &mut [u8],
+    answer: &mut [u64],
+)
+    ensures { λ _. ⌜ Leaves (copyResource row) (now (file .entry)) (now (nodes .entry) ∷ now (items .entry) ∷ now (out .entry) ∷ []) (now (nodes .exit) ∷ now (items .exit) ∷ now (out .exit) ∷ []) (now (answer .entry)) (now (answer .exit)) ⌝ }
+{
+    put_resolved(answer, resolve::copy_resource(file, nodes, items, row, out));
 }
 
 // Reads the content description that is the item row. Answer: its count for a channel and a resource, both numbered from 0.

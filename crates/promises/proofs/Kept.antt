@@ -6,12 +6,15 @@ use mathlib.Core.Bool.{Bool, true, false, cond, not, _&&_, _||_}
 use mathlib.Core.Logic.{_⊎_, inl, inr}
 use mathlib.Core.List.{List, [], _∷_, _++_, map}
 use Prim.Native.Nat.{ℕ, _+_, _%_, _<_, _-_, _^_}
+use native.Mathlib.Nat.{sub-zero}
+use native.Mathlib.Decide.{decLt}
 use native.Mathlib.Omega.{arith}
 use lib.Dec.{T, eqb, ltb, leb}
-use lib.ListN.{length, getD, replicate, take, drop, length-take, length-drop}
-use lib.Seq.{getD-take, getD-drop, take-append-seam, take-at, drop-at}
+use lib.ListN.{length, getD, replicate, take, drop, length-append, length-take, length-drop}
+use lib.Seq.{getD-take, getD-drop, take-append-seam, take-append-add, drop-append-add, getD-append-add, take-at, drop-at}
 use borrow.Author.Tests.{ne-eqb, leb-false}
 use Rattle.cursor.specs.Refusals.{ofReader, isAllowed}
+use Rattle.cursor.specs.Vlq.{part}
 use Rattle.cursor.specs.declared.Node.{Node}
 use Rattle.cursor.specs.declared.Item.{Item}
 use Rattle.cursor.proofs.Agree.{Agree}
@@ -31,7 +34,8 @@ use Rattle.find.specs.Find as find
 use Rattle.find.proofs.Listed.{find-listed, find-own-listed}
 use Rattle.find.proofs.Depends.{find-same, find-own-same}
 use Rattle.resolve.specs.Resolve as resolve
-use Rattle.resolve.proofs.Listed.{resolve-listed}
+use Rattle.resolve.specs.Told.{Given}
+use Rattle.resolve.proofs.Listed.{resolve-listed, copy-listed}
 use Rattle.description.specs.Count as count
 use Rattle.description.proofs.Listed.{count-listed}
 use Rattle.description.proofs.Depends.{count-same}
@@ -50,11 +54,11 @@ use Rattle.room.proofs.Listed.{allowed-front, among-back, fitted, fitting-among
 use Rattle.unicode.specs.Unicode as unicode
 use Rattle.unicode.proofs.Listed.{utf8-listed, utf16-listed}
 use Rattle.unicode.proofs.Back.{placed8, placed16}
-use Rattle.promises.specs.Promises.{Question, readTree, findItem, findOwn, resolveRow, countFor, judgeMobile, writeSheet, correctTitle, toUtf8, toUtf16, Sizes, size, reads}
-use Rattle.promises.specs.Promises.{Tables, noTables, ofFile, ofWritten, Lent, filled, copied, changed, About, overRows, rowsIntoRoom, dataIntoRoom, resourceValues, oneValue, sizeValue, bytes, about}
+use Rattle.promises.specs.Promises.{Question, readTree, findItem, findOwn, resolveRow, copyResource, countFor, judgeMobile, writeSheet, correctTitle, toUtf8, toUtf16, Sizes, size, reads}
+use Rattle.promises.specs.Promises.{Tables, noTables, ofFile, ofWritten, Lent, filled, copied, given, changed, About, overRows, rowsIntoRoom, dataIntoRoom, treeValues, resourceValues, oneValue, sizeValue, bytes, about}
 use Rattle.promises.specs.Promises.{Outcome, saying, rowTables, tablesLent, lent, holding, answerTo, leaves, outcome, resource, IsRefusal, Accepted, InTables, newFile, AnsweredOf, Shows, IsAnswer, Demand1, FitsExactly, FirstApplies}
 use Rattle.promises.specs.Promises.{OnlyThere, PrivateAlone, AlikeIn, EachAlike, OutcomesAlike, Demand3, InTurn, Correction, Corrects}
-use Rattle.promises.specs.Calls.{Called, left, Over, Fills, read-tree, find-item, find-own, resolve-row, count-for, judge, write-sheet, to-utf8, to-utf16, correct-title, Given, EachLeaves, CallsAlike, PartsAlike}
+use Rattle.promises.specs.Calls.{Called, left, Over, Fills, read-tree, find-item, find-own, resolve-row, copy-resource, count-for, judge, write-sheet, to-utf8, to-utf16, correct-title, EachLeaves, CallsAlike, PartsAlike}
 
 -- ---- which data may not differ
 
@@ -105,30 +109,77 @@ title-twins ls f g {h} {ns} {is} r d i text n =
 
 -- ---- what is lent holds alike
 
-alike-same : {A : Type 0} (ls : Sizes) (n : ℕ) (l : Lent A) (x : List ℕ) → AlikeIn ls n l x x
-alike-same ls n (filled m w) x = refl
-alike-same ls n (copied m w) x = (λ h ns is e. record { same-length = refl; elsewhere = λ k l o. refl }, refl)
-alike-same ls n (changed w v) x = refl
+-- two parts of files of one length, at the same place
+parts-there : (f g : List ℕ) → length f ≡ length g → (at n : ℕ) → OnlyThere f g at (part f at n) (part g at n)
+parts-there f g e at n =
+    let a = length-take n (drop at f) in
+    let b = length-take n (drop at g) in
+    let x = length-drop at f in
+    let y = length-drop at g in
+    let one : (v : List ℕ) (k : ℕ) → k < n → getD (part v at n) k 0 ≡ getD v (at + k) 0 = λ v k l. getD-take n (drop at v) k 0 l ∙ getD-drop at v k 0 in
+    (omega arith, λ k l s. let b : k < n = omega arith in one f k b ∙ s ∙ sym (one g k b))
 
-each-alike : {A : Type 0} (ls : Sizes) (n : ℕ) (lends : List (Lent A)) (r : Result A) → EachAlike ls n lends (map (holding r) lends) (map (holding r) lends)
-each-alike ls n [] r = refl
-each-alike ls n (l ∷ lends) r = (alike-same ls n l (holding r l), each-alike ls n lends r)
+front-byte : (x zs : List ℕ) (k : ℕ) → k < length x → getD (x ++ zs) k 0 ≡ getD x k 0
+front-byte x zs k l = sym (getD-take (length x) (x ++ zs) k 0 l) ∙ ap (λ (v : List ℕ). getD v k 0) (take-append-seam x zs)
+
+back-byte : (x zs : List ℕ) (k j : ℕ) → length x + j ≡ k → getD (x ++ zs) k 0 ≡ getD zs j 0
+back-byte x zs k j e = ap (λ i. getD (x ++ zs) i 0) (sym e) ∙ getD-append-add x zs j 0
+
+-- with the same bytes behind them
+there-behind : (f g : List ℕ) (at : ℕ) (x y zs : List ℕ) → OnlyThere f g at x y → OnlyThere f g at (x ++ zs) (y ++ zs)
+there-behind f g at x y zs w = let e = w .0 in (
+  length-append x zs ∙ ap (λ n. n + length zs) e ∙ sym (length-append y zs),
+  λ k l s. elim (decLt k (length x)) [
+    | yes b ↦ front-byte x zs k b ∙ w .1 k b s ∙ sym (front-byte y zs k (omega arith))
+    | no b ↦ back-byte x zs k (k - length x) (omega arith) ∙ sym (back-byte y zs k (k - length x) (omega arith))
+  ],
+)
+
+split-there : (f g : List ℕ) (at : ℕ) (x y zs : List ℕ) (n k : ℕ) → OnlyThere f g at x y → length x + k ≡ n → length y + k ≡ n → OnlyThere f g at (take n (x ++ zs)) (take n (y ++ zs)) × (drop n (y ++ zs) ≡ drop n (x ++ zs))
+split-there f g at x y zs n k w a b =
+    let cut : (v : List ℕ) → length v + k ≡ n → (take n (v ++ zs) ≡ v ++ take k zs) × (drop n (v ++ zs) ≡ drop k zs) =
+    λ v e. (ap (λ i. take i (v ++ zs)) (sym e) ∙ take-append-add v zs k, ap (λ i. drop i (v ++ zs)) (sym e) ∙ drop-append-add v zs k) in
+    (rw (cut x a .0, cut y b .0) (there-behind f g at x y (take k zs) w), cut y b .1 ∙ sym (cut x a .1))
+
+-- in buffers, with zeros behind them
+given-alike : (f g : List ℕ) → length f ≡ length g → (m at n : ℕ)
+    → let x : List ℕ = room.padded m (part f at n) in let y : List ℕ = room.padded m (part g at n) in OnlyThere f g at (take n x) (take n y) × (drop n y ≡ drop n x)
+unfolding room.padded
+given-alike f g e m at n =
+    let w = parts-there f g e at n in
+    let l = length-take n (drop at f) in
+    let same = w .0 in
+    rw (← same) (split-there f g at (part f at n) (part g at n) (replicate (m - length (part f at n)) 0) n (n - length (part f at n)) w (omega arith) (omega arith))
+
+alike-held : {A : Type 0} (ls : Sizes) (f g ws : List ℕ) → length f ≡ length g → (r : Result A) (l : Lent A) → AlikeIn ls f g ws l (holding f ws r l) (holding g ws r l)
+alike-held ls f g ws e (good a) (filled m w) = refl
+alike-held ls f g ws e (good a) (copied m w) = (λ h ns is e. record { same-length = refl; elsewhere = λ k l o. refl }, refl)
+alike-held ls f g ws e (good a) (given m) = given-alike f g e m (getD ws 2 0) (getD ws 3 0)
+alike-held ls f g ws e (good a) (changed w v) = refl
+alike-held ls f g ws e (bad n p) (filled m w) = refl
+alike-held ls f g ws e (bad n p) (copied m w) = (λ h ns is e. record { same-length = refl; elsewhere = λ k l o. refl }, refl)
+alike-held ls f g ws e (bad n p) (given m) = ((refl, λ k l s. refl), refl)
+alike-held ls f g ws e (bad n p) (changed w v) = refl
+
+each-alike : {A : Type 0} (ls : Sizes) (f g ws : List ℕ) → length f ≡ length g → (lends : List (Lent A)) (r : Result A) → EachAlike ls f g ws lends (map (holding f ws r) lends) (map (holding g ws r) lends)
+each-alike ls f g ws e [] r = refl
+each-alike ls f g ws e (l ∷ lends) r = (alike-held ls f g ws e r l, each-alike ls f g ws e lends r)
 
 -- what two calls of one question leave
 abbrev Alike₂ : (q : About) → Sizes → (f g : List ℕ) → (r s : Result (q .Answer)) → Type 0
-Alike₂ q ls f g r s = OutcomesAlike q ls f (leaves q ls f r) (leaves q ls g s)
+Alike₂ q ls f g r s = OutcomesAlike q ls f g (leaves q ls f r) (leaves q ls g s)
 
 tables-same : {A : Type 0} (ls : Sizes) (f g : List ℕ) → reads ls g ≡ reads ls f → (t : Tables A) → tablesLent ls g t ≡ tablesLent ls f t
 tables-same ls f g e noTables = refl
 tables-same ls f g e ofFile = ap (λ o. filled (size ls 0) (λ a. nodeTable (size ls 0) o) ∷ filled (size ls 1) (λ a. itemTable (size ls 1) o) ∷ []) e
 tables-same ls f g e (ofWritten w) = refl
 
--- a file that reads the same, and the same answer
-same-alike : (q : About) (ls : Sizes) (f g : List ℕ) → reads ls g ≡ reads ls f → {r s : Result (q .Answer)} → s ≡ r → Alike₂ q ls f g r s
+-- a file as long that reads the same, and the same answer
+same-alike : (q : About) (ls : Sizes) (f g : List ℕ) → length f ≡ length g → reads ls g ≡ reads ls f → {r s : Result (q .Answer)} → s ≡ r → Alike₂ q ls f g r s
 unfolding leaves
-same-alike q ls f g e {r} z =
-    let n : ℕ = getD (saying (q .values) r) 2 0 in
-    (ap (saying (q .values)) z, rw z (subst (λ v. EachAlike ls n (lent q ls f) (map (holding r) (lent q ls f)) (map (holding r) (v ++ q .buffers ls))) (sym (tables-same ls f g e (q .tables))) (each-alike ls n (lent q ls f) r)))
+same-alike q ls f g m e {r} z =
+    let ws : List ℕ = saying (q .values) r in
+    (ap (saying (q .values)) z, rw z (subst (λ v. EachAlike ls f g ws (lent q ls f) (map (holding f ws r) (lent q ls f)) (map (holding g ws r) (v ++ q .buffers ls))) (sym (tables-same ls f g e (q .tables))) (each-alike ls f g ws m (lent q ls f) r)))
 
 -- two files that were written
 title-leaves : (i : ℕ) (text : List ℕ) (ls : Sizes) (f g : List ℕ) {x y : Result (List ℕ)} → Twins ls x y → Alike₂ (about (correctTitle i text)) ls f g x y
@@ -178,6 +229,10 @@ module _ (ls : Sizes) (f g : List ℕ) (h : Header) (ns : List Node) (is : List 
   unfolding resolve.resolve
   resolve-alike k = refl
 
+  copy-alike : (k n : ℕ) → resolve.copyInto k n g h ns is ≡ resolve.copyInto k n f h ns is
+  unfolding resolve.copyInto
+  copy-alike k n = ap (resolve.fitting n) (resolve-alike k)
+
   fields-alike : (n : ℕ) → T (eqb n 0 || eqb n 3 || eqb n 13) → (i : ℕ) → i < length is → itemAt is i .kind ≡ 0 → itemAt is i .field ≡ n → Agree f g (itemAt is i .place) (itemAt is i .size)
   fields-alike n t i m a b = data-alike i m (field-kept n t (itemAt is i) a b)
 
@@ -198,7 +253,7 @@ module _ (ls : Sizes) (f g : List ℕ) (h : Header) (ns : List Node) (is : List 
   asks-alike x y e = rw (reads-same, r) e
 
   same : (q : Question) → answerTo ls g (about q .asks ls) ≡ answerTo ls f (about q .asks ls) → Alike₂ (about q) ls f g (answerTo ls f (about q .asks ls)) (answerTo ls g (about q .asks ls))
-  same q e = same-alike (about q) ls f g reads-same e
+  same q e = same-alike (about q) ls f g (d .same-length) reads-same e
 
   title-alike : (i : ℕ) (text : List ℕ) → Twins ls (ask (reads ls f) (title.correctTitle i text (size ls 2) f)) (ask (reads ls g) (title.correctTitle i text (size ls 2) g))
   unfolding ask
@@ -209,6 +264,7 @@ module _ (ls : Sizes) (f g : List ℕ) (h : Header) (ns : List Node) (is : List 
   outcome-alike (findItem w k) = same (findItem w k) (asks-alike _ _ (find-alike w k))
   outcome-alike (findOwn w k) = same (findOwn w k) (asks-alike _ _ (find-own-alike w k))
   outcome-alike (resolveRow k) = same (resolveRow k) (asks-alike _ _ (resolve-alike k))
+  outcome-alike (copyResource k) = same (copyResource k) (asks-alike _ _ (copy-alike k (size ls 2)))
   outcome-alike (countFor item channel resource) = same (countFor item channel resource) (asks-alike _ _ (count-alike item channel resource))
   outcome-alike judgeMobile = same judgeMobile (asks-alike _ _ mobile-alike)
   outcome-alike writeSheet = same writeSheet (asks-alike _ _ (sheet-alike (size ls 2)))
@@ -220,14 +276,7 @@ module _ (ls : Sizes) (f g : List ℕ) (h : Header) (ns : List Node) (is : List 
 
 part-there : (f g : List ℕ) → length f ≡ length g → (a : Result resolve.Resource) → OnlyThere f g (getD (saying resourceValues a) 2 0) (resolve.part f a) (resolve.part g a)
 unfolding resolve.part
-part-there f g e (good a) =
-    let n = length-take (a .size) (drop (a .place) f) in
-    let m = length-take (a .size) (drop (a .place) g) in
-    let x = length-drop (a .place) f in
-    let y = length-drop (a .place) g in
-    let one : (v : List ℕ) (k : ℕ) → k < a .size → getD (take (a .size) (drop (a .place) v)) k 0 ≡ getD v (a .place + k) 0 =
-    λ v k l. getD-take (a .size) (drop (a .place) v) k 0 l ∙ getD-drop (a .place) v k 0 in
-    (omega arith, λ k l s. let b : k < a .size = omega arith in one f k b ∙ s ∙ sym (one g k b))
+part-there f g e (good a) = parts-there f g e (a .place) (a .size)
 part-there f g e (bad n p) = (refl, λ k l s. refl)
 
 -- resolve is answered of the rows alone
@@ -257,59 +306,66 @@ one : {t u : List ℕ} → t ≡ u → (t ∷ []) ≡ (u ∷ [])
 one e = rw e
 
 -- what the tables hold after a call over a file's rows, and a buffer after a call that writes bytes
-in-nodes : {A : Type 0} (n : ℕ) (o : Reading) (r : Result A) → keptNodes n o r ≡ holding r (filled n (λ a. nodeTable n o))
+in-nodes : {A : Type 0} (f ws : List ℕ) (n : ℕ) (o : Reading) (r : Result A) → keptNodes n o r ≡ holding f ws r (filled n (λ a. nodeTable n o))
 unfolding keptNodes
-in-nodes n o (good a) = refl
-in-nodes n o (bad k p) = refl
+in-nodes f ws n o (good a) = refl
+in-nodes f ws n o (bad k p) = refl
 
-in-items : {A : Type 0} (n : ℕ) (o : Reading) (r : Result A) → keptItems n o r ≡ holding r (filled n (λ a. itemTable n o))
+in-items : {A : Type 0} (f ws : List ℕ) (n : ℕ) (o : Reading) (r : Result A) → keptItems n o r ≡ holding f ws r (filled n (λ a. itemTable n o))
 unfolding keptItems
-in-items n o (good a) = refl
-in-items n o (bad k p) = refl
+in-items f ws n o (good a) = refl
+in-items f ws n o (bad k p) = refl
 
-in-buffer : (n : ℕ) (r : Result (List ℕ)) → (saying oneValue (room.counted r) ≡ saying sizeValue r) × (room.kept n r ≡ holding r (filled n (room.padded n))) × (room.kept n r ≡ holding r (copied n (λ g. g)))
+in-buffer : (f ws : List ℕ) (n : ℕ) (r : Result (List ℕ)) → (saying oneValue (room.counted r) ≡ saying sizeValue r) × (room.kept n r ≡ holding f ws r (filled n (room.padded n))) × (room.kept n r ≡ holding f ws r (copied n (λ g. g)))
 unfolding room.counted room.kept
-in-buffer n (good s) = (refl, refl, refl)
-in-buffer n (bad k p) = (refl, refl, refl)
+in-buffer f ws n (good s) = (refl, refl, refl)
+in-buffer f ws n (bad k p) = (refl, refl, refl)
 
-in-written : (n m : ℕ) (lim : Limits) (r : Result (List ℕ)) → (writtenNodes n lim r ≡ holding r (filled n (λ g. nodeTable n (readFile lim g)))) × (writtenItems m lim r ≡ holding r (filled m (λ g. itemTable m (readFile lim g))))
+in-written : (f ws : List ℕ) (n m : ℕ) (lim : Limits) (r : Result (List ℕ)) → (writtenNodes n lim r ≡ holding f ws r (filled n (λ g. nodeTable n (readFile lim g)))) × (writtenItems m lim r ≡ holding f ws r (filled m (λ g. itemTable m (readFile lim g))))
 unfolding writtenNodes writtenItems
-in-written n m lim (good g) = (refl, refl)
-in-written n m lim (bad k p) = (refl, refl)
+in-written f ws n m lim (good g) = (refl, refl)
+in-written f ws n m lim (bad k p) = (refl, refl)
+
+-- and a buffer after a call that copies a part of the file
+in-given : (f : List ℕ) (n : ℕ) (r : Result resolve.Resource) → room.padded n (resolve.part f r) ≡ holding f (saying resourceValues r) r (given n)
+unfolding resolve.part room.padded
+in-given f n (good a) = refl
+in-given f n (bad k p) = rw sub-zero
 
 tree-says : (o : Reading) (f : List ℕ) → tree.told (answerOf o) ≡ ask o (counts f)
 unfolding answerOf ask counts
 tree-says (rows h ns is) f = refl
 tree-says (refusal n p) f = refl
 
-tree-tables : (n m : ℕ) (o : Reading) (f : List ℕ) → (nodeTable n o ≡ holding (ask o (counts f)) (filled n (λ a. nodeTable n o))) × (itemTable m o ≡ holding (ask o (counts f)) (filled m (λ a. itemTable m o)))
+tree-tables : (n m : ℕ) (o : Reading) (f ws : List ℕ) → (nodeTable n o ≡ holding f ws (ask o (counts f)) (filled n (λ a. nodeTable n o))) × (itemTable m o ≡ holding f ws (ask o (counts f)) (filled m (λ a. itemTable m o)))
 unfolding ask counts nodeTable itemTable
-tree-tables n m (rows h ns is) f = (refl, refl)
-tree-tables n m (refusal k p) f = (refl, refl)
+tree-tables n m (rows h ns is) f ws = (refl, refl)
+tree-tables n m (refusal k p) f ws = (refl, refl)
 
 over-called : {A : Type 0} (question : Asks A) (values : A → List ℕ) {nodes items f t u : List ℕ} {says : Result A} → Over question nodes items f says t u
-    → let ls : Sizes = length nodes ∷ length items ∷ [] in let r = ask (reads ls f) (question f) in left values says (t ∷ u ∷ []) ≡ left values r (map (holding r) (rowTables ls (λ a. f)))
+    → let ls : Sizes = length nodes ∷ length items ∷ [] in let r = ask (reads ls f) (question f) in left values says (t ∷ u ∷ []) ≡ left values r (map (holding f (saying values r) r) (rowTables ls (λ a. f)))
 unfolding reads
-over-called question values k = made (ap (saying values) (k .answers)) (two (k .in-nodes ∙ in-nodes _ _ _) (k .in-items ∙ in-items _ _ _) refl)
+over-called question values k = made (ap (saying values) (k .answers)) (two (k .in-nodes ∙ in-nodes _ _ _ _ _) (k .in-items ∙ in-items _ _ _ _ _) refl)
 
-room-called : (r : Result (List ℕ)) {buffer v : List ℕ} {says : Result ℕ} → Fills r buffer says v → left oneValue says (v ∷ []) ≡ left sizeValue r (holding r (bytes (length buffer)) ∷ [])
-room-called r {buffer = b} k = let w = in-buffer (length b) r in made (ap (saying oneValue) (k .answers) ∙ w .0) (one (k .in-buffer ∙ w .1))
+room-called : (f : List ℕ) (r : Result (List ℕ)) {buffer v : List ℕ} {says : Result ℕ} → Fills r buffer says v → left oneValue says (v ∷ []) ≡ left sizeValue r (holding f (saying sizeValue r) r (bytes (length buffer)) ∷ [])
+room-called f r {buffer = b} k = let w = in-buffer f _ (length b) r in made (ap (saying oneValue) (k .answers) ∙ w .0) (one (k .in-buffer ∙ w .1))
 
 pub called : {q : Question} {lent : List (List ℕ)} {f : List ℕ} {o : Outcome} → Called q lent f o → o ≡ outcome q (map length lent) f
 unfolding outcome leaves reads
 called (read-tree {nodes} {items} {f} r a t u) =
-    let o = readFile (limits (length nodes) (length items)) f in let w = tree-tables (length nodes) (length items) o f in
+    let o = readFile (limits (length nodes) (length items)) f in let w = tree-tables (length nodes) (length items) o f (saying treeValues (ask o (counts f))) in
     made (ap (saying _) (ap tree.told a ∙ tree-says o f)) (two (t ∙ w .0) (u ∙ w .1) refl)
 called (find-item w row r k) = over-called _ _ k
 called (find-own w row r k) = over-called _ _ k
 called (resolve-row row r k) = over-called _ _ k
+called (copy-resource {f = f} row r k v) = made (ap (saying resourceValues) (k .answers)) (two (k .in-nodes ∙ in-nodes _ _ _ _ _) (k .in-items ∙ in-items _ _ _ _ _) (one (v ∙ in-given f _ _)))
 called (count-for item channel resource r k) = over-called _ _ k
 called (judge r k) = over-called _ _ k
-called (write-sheet {sheet = s} r k t u) = let w = in-buffer (length s) _ in made (ap (saying oneValue) (k .answers) ∙ w .0) (two (t ∙ in-nodes _ _ _) (u ∙ in-items _ _ _) (one (k .in-buffer ∙ w .1)))
+called (write-sheet {sheet = s} r k t u) = let w = in-buffer _ _ (length s) _ in made (ap (saying oneValue) (k .answers) ∙ w .0) (two (t ∙ in-nodes _ _ _ _ _) (u ∙ in-items _ _ _ _ _) (one (k .in-buffer ∙ w .1)))
 called (correct-title {out = s} item text r k t u) =
-    let w = in-buffer (length s) _ in let x = in-written _ _ _ _ in made (ap (saying oneValue) (k .answers) ∙ w .0) (two (t ∙ x .0) (u ∙ x .1) (one (k .in-buffer ∙ w .2)))
-called (to-utf8 r k) = room-called _ k
-called (to-utf16 r k) = room-called _ k
+    let w = in-buffer _ _ (length s) _ in let x = in-written _ _ _ _ _ _ in made (ap (saying oneValue) (k .answers) ∙ w .0) (two (t ∙ x .0) (u ∙ x .1) (one (k .in-buffer ∙ w .2)))
+called (to-utf8 r k) = room-called _ _ k
+called (to-utf16 r k) = room-called _ _ k
 
 pub each-leaves : EachLeaves
 each-leaves q lends f o k = called k
@@ -318,8 +374,8 @@ pub calls-alike : CallsAlike
 unfolding outcome
 calls-alike q lends lends′ e f g o o′ h ns is r d a b =
     let ls : Sizes = map length lends in
-    subst (λ v. OutcomesAlike (about q) ls f v o′) (sym (called a))
-    (subst (OutcomesAlike (about q) ls f (outcome q ls f)) (sym (called b ∙ ap (λ ls. outcome q ls g) e)) (outcome-alike ls f g h ns is r d q))
+    subst (λ v. OutcomesAlike (about q) ls f g v o′) (sym (called a))
+    (subst (OutcomesAlike (about q) ls f g (outcome q ls f)) (sym (called b ∙ ap (λ ls. outcome q ls g) e)) (outcome-alike ls f g h ns is r d q))
 
 given-part : {row : ℕ} {nodes items f bytes t u : List ℕ} → Given row nodes items f bytes t u → bytes ≡ resource row (length nodes ∷ length items ∷ []) f
 unfolding reads resource
@@ -330,8 +386,8 @@ unfolding outcome leaves reads
 parts-alike row nodes items nodes′ items′ en ei f g x y t t′ u u′ h ns is r d a b =
     let ls = length nodes ∷ length items ∷ [] in
     let w = outcome-alike ls f g h ns is r d (resolveRow row) .1 in (
-      rw (en, ei) at (b .in-nodes) ∙ in-nodes _ _ _ ∙ w .0 ∙ sym (a .in-nodes ∙ in-nodes _ _ _),
-      rw (en, ei) at (b .in-items) ∙ in-items _ _ _ ∙ w .1 .0 ∙ sym (a .in-items ∙ in-items _ _ _),
+      rw (en, ei) at (b .in-nodes) ∙ in-nodes _ _ _ _ _ ∙ w .0 ∙ sym (a .in-nodes ∙ in-nodes _ _ _ _ _),
+      rw (en, ei) at (b .in-items) ∙ in-items _ _ _ _ _ ∙ w .1 .0 ∙ sym (a .in-items ∙ in-items _ _ _ _ _),
       rw (given-part a, given-part b, en, ei) (resource-there ls f g (d .same-length) (reads-same ls f g h ns is r d) row),
     )
 
@@ -416,6 +472,12 @@ title-answered : (ls : Sizes) (f : List ℕ) (i : ℕ) (text : List ℕ) {g : Li
 unfolding ask
 title-answered ls f i text e = let (h, ns, is, z) = answered (reads ls f) (title.correctTitle i text (size ls 2) f) e in (h, ns, is, z, rw z at e)
 
+-- what it leaves is told by what was written, whatever the file
+leaves-written : (i : ℕ) (text : List ℕ) (ls : Sizes) (f g : List ℕ) (r : Result (List ℕ)) → leaves (about (correctTitle i text)) ls g r ≡ leaves (about (correctTitle i text)) ls f r
+unfolding leaves
+leaves-written i text ls f g (good x) = refl
+leaves-written i text ls f g (bad n p) = refl
+
 title-corrects : (ls : Sizes) (f : List ℕ) (i : ℕ) (text : List ℕ) (r : Result (List ℕ)) → ask (reads ls f) (title.correctTitle i text (size ls 2) f) ≡ r → {n : ℕ}
     → leaves (about (correctTitle i text)) ls f r .answer ≡ 0 ∷ 0 ∷ n ∷ [] → Correction i text ls f (newFile (leaves (about (correctTitle i text)) ls f r))
 unfolding outcome leaves reads
@@ -431,7 +493,7 @@ title-corrects ls f i text (good g) e a =
       says = correct-says lim f z i text (size ls 2) c;
       least = λ ls′ g′ other. correct-least lim f z i text (size ls 2) c other;
       only = λ ls′ g′ bytes other l. correct-only lim f z i text (size ls 2) c bytes other l;
-      again = ap (leaves (about (correctTitle i text)) ls f) (correct-again lim f z i text (size ls 2) c (size ls 2) fits ∙ sym e);
+      again = ap (leaves (about (correctTitle i text)) ls g) (correct-again lim f z i text (size ls 2) c (size ls 2) fits ∙ sym e) ∙ leaves-written i text ls f g (ask (reads ls f) (title.correctTitle i text (size ls 2) f));
     })
 title-corrects ls f i text (bad n p) e a = let z : _≡_ {A = ℕ} 0 1 = cc (ap length a) in absurd (omega arith)
 
@@ -458,10 +520,16 @@ unfolding mobile.mobile
 mobile-listed f h ns is = tt
 
 meets : (q : Question) → Meets (about q)
+unfolding leaves
 meets readTree = over-meets _ _ _ _ counts-listed (λ a. refl)
 meets (findItem w row) = over-meets _ _ _ _ (find-listed w row) (λ a. refl)
 meets (findOwn w row) = over-meets _ _ _ _ (find-own-listed w row) (λ a. refl)
 meets (resolveRow row) = over-meets _ _ _ _ (resolve-listed row) (λ a. refl)
+meets (copyResource row) = record {
+  listed = λ ls. rows-listed resolve.copyRefusals (resolve.copyInto row (size ls 2)) (copy-listed row (size ls 2)) ls;
+  wide = λ a. refl;
+  shown = λ ls f a e. let x = answered (reads ls f) (resolve.copyInto row (size ls 2) f) e in (x, (x, refl));
+}
 meets (countFor item channel resource) = over-meets _ _ _ _ (count-listed item channel resource) (λ a. refl)
 meets judgeMobile = over-meets _ _ _ _ mobile-listed (λ a. refl)
 meets writeSheet = room-meets sheet.write _ sheet-listed
@@ -508,7 +576,7 @@ none-written : (o : Outcome) {n p : ℕ} → o .answer ≡ n ∷ p ∷ [] → ne
 none-written o e = ap (λ (v : List ℕ). take (getD v 2 0) (getD (o .holds) 2 [])) e
 
 -- of the two buffers that a correction filled
-written-part : (i : ℕ) (text : List ℕ) (ls : Sizes) (f g : List ℕ) → OutcomesAlike (about (correctTitle i text)) ls f (outcome (correctTitle i text) ls f) (outcome (correctTitle i text) ls g)
+written-part : (i : ℕ) (text : List ℕ) (ls : Sizes) (f g : List ℕ) → OutcomesAlike (about (correctTitle i text)) ls f g (outcome (correctTitle i text) ls f) (outcome (correctTitle i text) ls g)
     → PrivateAlone ls (newFile (outcome (correctTitle i text) ls f)) (take (getD (outcome (correctTitle i text) ls f .answer) 2 0) (getD (outcome (correctTitle i text) ls g .holds) 2 []))
 unfolding outcome leaves
 written-part i text ls f g w = w .1 .1 .1 .0 .0
@@ -523,7 +591,7 @@ in-turn i text q ls f g h ns is r d =
     elim (choice (correctTitle i text) ls f) [
       | inl (n, p, e, t, u) ↦
           let z : newFile o′ ≡ newFile o = none-written o′ (w .0 ∙ e) ∙ sym (none-written o e) in
-          subst (λ v. OutcomesAlike (about q) ls (newFile o) (outcome q ls (newFile o)) (outcome q ls v)) (sym z) (same-alike (about q) ls (newFile o) (newFile o) refl refl)
+          subst (λ v. OutcomesAlike (about q) ls (newFile o) v (outcome q ls (newFile o)) (outcome q ls v)) (sym z) (same-alike (about q) ls (newFile o) (newFile o) refl refl refl)
       | inr (vs, e, l, _, k) ↦
           let (h′, ns′, is′, a) = k .0 in
           let b : DifferInPrivate h′ ns′ is′ (newFile o) (newFile o′) = subst (DifferInPrivate h′ ns′ is′ (newFile o)) y (written-part i text ls f g w h′ ns′ is′ a) in

@@ -16,8 +16,9 @@ use Rattle.tree.specs.Hidden.{DifferInPrivate}
 use Rattle.find.specs.Find.{Wanted, find, findOwn}
 use Rattle.find.specs.Told as found
 use Rattle.find.specs.declared.Found.{Found}
-use Rattle.resolve.specs.Resolve.{resolve, part}
+use Rattle.resolve.specs.Resolve.{resolve, copyInto, part}
 use Rattle.resolve.specs.Told as resolved
+use Rattle.resolve.specs.Told.{Given}
 use Rattle.resolve.specs.declared.Resolved.{Resolved}
 use Rattle.description.specs.Count.{countFor}
 use Rattle.description.specs.Told as counted
@@ -32,7 +33,7 @@ use Rattle.room.specs.Told as written
 use Rattle.room.specs.declared.Written.{Written}
 use Rattle.unicode.specs.Unicode as unicode
 use Rattle.promises.specs.Promises as promises
-use Rattle.promises.specs.Promises.{Question, readTree, findItem, resolveRow, judgeMobile, writeSheet, correctTitle, toUtf8, toUtf16, Outcome, saying, treeValues, itemValues, resourceValues, oneValue, about, outcome, OnlyThere, OutcomesAlike}
+use Rattle.promises.specs.Promises.{Question, readTree, findItem, resolveRow, copyResource, judgeMobile, writeSheet, correctTitle, toUtf8, toUtf16, Outcome, saying, treeValues, itemValues, resourceValues, oneValue, about, outcome, OnlyThere, OutcomesAlike}
 
 -- what a call left: the answer's words, and the tables and buffers
 abbrev pub left : {A : Type 0} → (values : A → List ℕ) → Result A → List (List ℕ) → Outcome
@@ -67,6 +68,11 @@ pub data Called : Question → (lent : List (List ℕ)) → (file : List ℕ) �
   resolve-row : {nodes items f t u : List ℕ} (row : ℕ) (r : Resolved)
       → Over (resolve row) nodes items f (resolved.told r) t u
       → Called (resolveRow row) (nodes ∷ items ∷ []) f (left resourceValues (resolved.told r) (t ∷ u ∷ []))
+  -- resolve::copy_resource
+  copy-resource : {nodes items out f t u v : List ℕ} (row : ℕ) (r : Resolved)
+      → Over (copyInto row (length out)) nodes items f (resolved.told r) t u
+      → v ≡ room.padded (length out) (part f (answered nodes items f (copyInto row (length out))))
+      → Called (copyResource row) (nodes ∷ items ∷ out ∷ []) f (left resourceValues (resolved.told r) (t ∷ u ∷ v ∷ []))
   -- description::count_for
   count-for : {nodes items f t u : List ℕ} (item channel resource : ℕ) (r : Counted)
       → Over (countFor item channel resource) nodes items f (counted.told r) t u
@@ -95,12 +101,6 @@ pub data Called : Question → (lent : List (List ℕ)) → (file : List ℕ) �
       → Fills (room.fitting (length buffer) (unicode.toUtf16 text)) buffer (written.told r) v
       → Called (toUtf16 text) (buffer ∷ []) f (left oneValue (written.told r) (v ∷ []))
 
--- resolve::resource, the second call of resolve, which gave `bytes`
-pub record Given (row : ℕ) (nodes items f bytes t u : List ℕ) : Type 0 where
-  pub gives : bytes ≡ part f (answered nodes items f (resolve row))
-  pub in-nodes : t ≡ nodesLeft nodes items f (resolve row)
-  pub in-items : u ≡ itemsLeft nodes items f (resolve row)
-
 -- ---- What is promised of calls, whatever their tables and buffers held.
 
 -- Demand 2: each call leaves its question's outcome.
@@ -111,9 +111,9 @@ EachLeaves = (q : Question) (lends : List (List ℕ)) (f : List ℕ) (o : Outcom
 abbrev pub CallsAlike : Type 0
 CallsAlike = (q : Question) (lends lends′ : List (List ℕ)) → map length lends′ ≡ map length lends → (f g : List ℕ) (o o′ : Outcome) (h : Header) (ns : List Node) (is : List Item)
     → promises.reads (map length lends) f ≡ rows h ns is → DifferInPrivate h ns is f g → Called q lends f o → Called q lends′ g o′
-    → OutcomesAlike (about q) (map length lends) f o o′
+    → OutcomesAlike (about q) (map length lends) f g o o′
 
--- And of two second calls of resolve: the tables are the same, and the parts differ only where the files do.
+-- And of two second calls of resolve, `Given` being the contract of resolve::resource: the tables are the same, and the parts differ only where the files do.
 abbrev pub PartsAlike : Type 0
 PartsAlike = (row : ℕ) (nodes items nodes′ items′ : List ℕ) → length nodes′ ≡ length nodes → length items′ ≡ length items → (f g x y t t′ u u′ : List ℕ) (h : Header) (ns : List Node) (is : List Item)
     → promises.reads (length nodes ∷ length items ∷ []) f ≡ rows h ns is → DifferInPrivate h ns is f g → Given row nodes items f x t u → Given row nodes′ items′ g y t′ u′

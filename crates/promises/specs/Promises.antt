@@ -8,6 +8,7 @@ use Prim.Native.Nat.{ℕ, _+_, _*_, _≤_, _<_}
 use lib.Dec.{T}
 use lib.ListN.{length, getD, replicate, take, drop}
 use Rattle.cursor.specs.Refusals.{noRowLeft, badText, ofReader, isAllowed}
+use Rattle.cursor.specs.Vlq.{part}
 use Rattle.cursor.specs.declared.Node.{Node}
 use Rattle.cursor.specs.declared.Item.{Item}
 use Rattle.header.specs.Header.{Header}
@@ -35,6 +36,7 @@ pub data Question : Type 0 where
   findItem : find.Wanted → (row : ℕ) → Question
   findOwn : find.Wanted → (row : ℕ) → Question
   resolveRow : (row : ℕ) → Question
+  copyResource : (row : ℕ) → Question
   countFor : (item channel resource : ℕ) → Question
   judgeMobile : Question
   writeSheet : Question
@@ -68,10 +70,12 @@ pub data Tables (A : Type 0) : Type 0 where
   ofWritten : (A → List ℕ) → Tables A
 
 -- A lent table or buffer, with what it holds after an answer: one that the call fills, whatever it held; one that it fills with a file, which has private bytes of
--- the file that was asked about, and zeros behind it; a refusal clears both. Or one that the call changes: what a refusal leaves there is said by its number.
+-- the file that was asked about, and zeros behind it; one that it fills with a part of that file, whose place and length are the answer's first values, and zeros
+-- behind it; a refusal clears these. Or one that the call changes: what a refusal leaves there is said by its number.
 pub data Lent (A : Type 0) : Type 0 where
   filled : (size : ℕ) → (A → List ℕ) → Lent A
   copied : (size : ℕ) → (A → List ℕ) → Lent A
+  given : (size : ℕ) → Lent A
   changed : (refused : (number : ℕ) → List ℕ) → (A → List ℕ) → Lent A
 
 -- One entry a question: what it asks, with sizes lent; the answer's values, and how many; the refusals that it may give; what the tables hold; what else is lent.
@@ -138,6 +142,15 @@ about readTree = overRows counts treeValues 3 []
 about (findItem w row) = overRows (find.find w row) itemValues 11 find.refusals
 about (findOwn w row) = overRows (find.findOwn w row) itemValues 11 find.refusals
 about (resolveRow row) = overRows (resolve.resolve row) resourceValues 4 resolve.refusals
+about (copyResource row) = record {
+  Answer = resolve.Resource;
+  asks = λ ls. ofRows (resolve.copyInto row (size ls 2));
+  values = resourceValues;
+  number = 4;
+  refusals = ofReader ++ resolve.copyRefusals;
+  tables = ofFile;
+  buffers = λ ls. given (size ls 2) ∷ [];
+}
 about (countFor item channel resource) = overRows (count.countFor item channel resource) oneValue 1 count.refusals
 about judgeMobile = overRows mobile.mobile oneValue 1 []
 about writeSheet = rowsIntoRoom sheet.write sheet.refusals
@@ -180,13 +193,15 @@ lent q ls f = tablesLent ls f (q .tables) ++ q .buffers ls
 abbrev pub onRefusal : {A : Type 0} → (number : ℕ) → Lent A → List ℕ
 onRefusal n (filled size w) = replicate size 0
 onRefusal n (copied size w) = replicate size 0
+onRefusal n (given size) = replicate size 0
 onRefusal n (changed refused w) = refused n
 
-abbrev pub holding : {A : Type 0} → Result A → Lent A → List ℕ
-holding (good a) (filled size w) = w a
-holding (good a) (copied size w) = room.padded size (w a)
-holding (good a) (changed refused w) = w a
-holding (bad n p) l = onRefusal n l
+abbrev pub holding : {A : Type 0} → (file answer : List ℕ) → Result A → Lent A → List ℕ
+holding f ws (good a) (filled size w) = w a
+holding f ws (good a) (copied size w) = room.padded size (w a)
+holding f ws (good a) (given size) = room.padded size (part f (getD ws 2 0) (getD ws 3 0))
+holding f ws (good a) (changed refused w) = w a
+holding f ws (bad n p) l = onRefusal n l
 
 -- what is answered
 abbrev pub answerTo : {A : Type 0} → Sizes → (file : List ℕ) → Asked A → Result A
@@ -195,7 +210,7 @@ answerTo ls f (ofBytes question) = question f
 answerTo ls f (ofData r) = r
 
 unfoldable pub leaves : (q : About) → Sizes → (file : List ℕ) → Result (q .Answer) → Outcome
-leaves q ls f r = record { answer = saying (q .values) r; holds = map (holding r) (lent q ls f) }
+leaves q ls f r = record { answer = saying (q .values) r; holds = map (holding f (saying (q .values) r) r) (lent q ls f) }
 
 -- each question's outcome
 unfoldable pub outcome : Question → Sizes → (file : List ℕ) → Outcome
@@ -277,34 +292,35 @@ OnlyThere f g place x y = (length x ≡ length y) × ((k : ℕ) → k < length x
 abbrev pub PrivateAlone : Sizes → (f g : List ℕ) → Type 0
 PrivateAlone ls f g = (h : Header) (ns : List Node) (is : List Item) → reads ls f ≡ rows h ns is → DifferInPrivate h ns is f g
 
--- What two calls of a question leave in what they are lent: the same. A file of n bytes that was written differs from the other at private places alone, and behind it
--- the buffers are the same.
-abbrev pub AlikeIn : {A : Type 0} → Sizes → (n : ℕ) → Lent A → (x y : List ℕ) → Type 0
-AlikeIn ls n (filled size w) x y = y ≡ x
-AlikeIn ls n (copied size w) x y = PrivateAlone ls (take n x) (take n y) × (drop n y ≡ drop n x)
-AlikeIn ls n (changed refused w) x y = y ≡ x
+-- What two calls of a question that answered `ws` leave in what they are lent, of the files f and g: the same. A file that was written differs from the other at
+-- private places alone, and a part that was given only where the files do; behind these the buffers are the same.
+abbrev pub AlikeIn : {A : Type 0} → Sizes → (f g ws : List ℕ) → Lent A → (x y : List ℕ) → Type 0
+AlikeIn ls f g ws (filled size w) x y = y ≡ x
+AlikeIn ls f g ws (copied size w) x y = let n : ℕ = getD ws 2 0 in PrivateAlone ls (take n x) (take n y) × (drop n y ≡ drop n x)
+AlikeIn ls f g ws (given size) x y = let n : ℕ = getD ws 3 0 in OnlyThere f g (getD ws 2 0) (take n x) (take n y) × (drop n y ≡ drop n x)
+AlikeIn ls f g ws (changed refused w) x y = y ≡ x
 
-abbrev pub EachAlike : {A : Type 0} → Sizes → (n : ℕ) → List (Lent A) → (x y : List (List ℕ)) → Type 0
-EachAlike ls n [] x y = y ≡ x
-EachAlike ls n (l ∷ lends) [] y = ⊥
-EachAlike ls n (l ∷ lends) (x ∷ xs) [] = ⊥
-EachAlike ls n (l ∷ lends) (x ∷ xs) (y ∷ ys) = AlikeIn ls n l x y × EachAlike ls n lends xs ys
+abbrev pub EachAlike : {A : Type 0} → Sizes → (f g ws : List ℕ) → List (Lent A) → (x y : List (List ℕ)) → Type 0
+EachAlike ls f g ws [] x y = y ≡ x
+EachAlike ls f g ws (l ∷ lends) [] y = ⊥
+EachAlike ls f g ws (l ∷ lends) (x ∷ xs) [] = ⊥
+EachAlike ls f g ws (l ∷ lends) (x ∷ xs) (y ∷ ys) = AlikeIn ls f g ws l x y × EachAlike ls f g ws lends xs ys
 
--- the outcomes o and o′ of a question, of f and of another file, are alike; what was written has as many bytes as the answer says
-abbrev pub OutcomesAlike : About → Sizes → (f : List ℕ) (o o′ : Outcome) → Type 0
-OutcomesAlike q ls f o o′ = (o′ .answer ≡ o .answer) × EachAlike ls (getD (o .answer) 2 0) (lent q ls f) (o .holds) (o′ .holds)
+-- the outcomes o and o′ of a question, of the files f and g, are alike
+abbrev pub OutcomesAlike : About → Sizes → (f g : List ℕ) (o o′ : Outcome) → Type 0
+OutcomesAlike q ls f g o o′ = (o′ .answer ≡ o .answer) × EachAlike ls f g (o .answer) (lent q ls f) (o .holds) (o′ .holds)
 
 abbrev pub Demand3 : Type 0
 Demand3 = (q : Question) (ls : Sizes) (f g : List ℕ) (h : Header) (ns : List Node) (is : List Item)
     → reads ls f ≡ rows h ns is → DifferInPrivate h ns is f g
-    → (reads ls g ≡ rows h ns is) × OutcomesAlike (about q) ls f (outcome q ls f) (outcome q ls g)
+    → (reads ls g ≡ rows h ns is) × OutcomesAlike (about q) ls f g (outcome q ls f) (outcome q ls g)
     × ((row : ℕ) → OnlyThere f g (getD (outcome (resolveRow row) ls f .answer) 2 0) (resource row ls f) (resource row ls g))
 
 -- So the demand holds in turn of the two files that a correction writes for two such files: every question, the sheet first, leaves alike of both.
 abbrev pub InTurn : Type 0
 InTurn = (i : ℕ) (text : List ℕ) (q : Question) (ls : Sizes) (f g : List ℕ) (h : Header) (ns : List Node) (is : List Item)
     → reads ls f ≡ rows h ns is → DifferInPrivate h ns is f g
-    → let x : List ℕ = newFile (outcome (correctTitle i text) ls f) in let y : List ℕ = newFile (outcome (correctTitle i text) ls g) in OutcomesAlike (about q) ls x (outcome q ls x) (outcome q ls y)
+    → let x : List ℕ = newFile (outcome (correctTitle i text) ls f) in let y : List ℕ = newFile (outcome (correctTitle i text) ls g) in OutcomesAlike (about q) ls x y (outcome q ls x) (outcome q ls y)
 
 -- ---- The correction of a title. Where it is answered, f was accepted and g was written: g is accepted with the tables lent and says what f says with that
 -- content replaced, so that its tree, other contents and resources are the old ones, and only places, lengths and that data differ. The same title again

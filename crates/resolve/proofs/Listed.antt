@@ -1,16 +1,17 @@
 -- The refusals of resolve are its own.
 -- Assumes nothing.
 use mathlib.Core.Bool.{not}
-use mathlib.Core.List.{List}
+use mathlib.Core.List.{List, [], _∷_}
 use Prim.Native.Nat.{ℕ, zero, suc, _+_}
-use lib.Dec.{eqb, ltb}
+use lib.Dec.{eqb, ltb, leb}
 use lib.ListN.{length}
+use Rattle.cursor.specs.Refusals.{noRoom}
 use Rattle.cursor.specs.declared.Node.{Node}
 use Rattle.cursor.specs.declared.Item.{Item}
 use Rattle.header.specs.Header.{Header}
-use Rattle.room.specs.Room.{Result, Among}
-use Rattle.room.proofs.Listed.{among-if}
-use Rattle.resolve.specs.Resolve.{Resource, resourceOf, reached, chain, resolveRow, resolve, refusals}
+use Rattle.room.specs.Room.{Result, good, bad, Among}
+use Rattle.room.proofs.Listed.{allowed-front, among-if}
+use Rattle.resolve.specs.Resolve.{Resource, resourceOf, reached, chain, resolveRow, resolve, fitting, copyInto, refusals, copyRefusals}
 
 reached-listed : (r : Node) (k hops : ℕ) (two three : Result Resource) → Among refusals two → Among refusals three → Among refusals (reached r k hops two three)
 unfolding reached resourceOf
@@ -25,3 +26,13 @@ chain-listed (suc left) ns k hops = reached-listed _ k hops _ _ tt (chain-listed
 pub resolve-listed : (row : ℕ) (f : List ℕ) (h : Header) (ns : List Node) (is : List Item) → Among refusals (resolve row f h ns is)
 unfolding resolve resolveRow
 resolve-listed row f h ns is = among-if _ (ltb row (length ns)) _ _ (chain-listed 4 ns row 0) tt
+
+-- and those of the copy, which has one more
+fitting-listed : (room : ℕ) (r : Result Resource) → Among refusals r → Among copyRefusals (fitting room r)
+unfolding fitting
+fitting-listed room (good r) k = among-if _ (leb (r .size) room) _ _ tt tt
+fitting-listed room (bad n p) k = allowed-front refusals (noRoom ∷ []) n p k
+
+pub copy-listed : (row room : ℕ) (f : List ℕ) (h : Header) (ns : List Node) (is : List Item) → Among copyRefusals (copyInto row room f h ns is)
+unfolding copyInto
+copy-listed row room f h ns is = fitting-listed room (resolve row f h ns is) (resolve-listed row f h ns is)

@@ -1,11 +1,11 @@
--- The question Resolve (01, Questions): where a row's resource is. It is answered of the node rows alone: no definition before `resolve` takes the file.
+-- The question Resolve (01, Questions): where a row's resource is, and the resource itself. It is answered of the node rows alone: no definition before `resolve` takes the file.
 -- Assumes nothing.
 use mathlib.Core.Bool.{cond, not}
-use mathlib.Core.List.{List, [], _∷_}
+use mathlib.Core.List.{List, [], _∷_, _++_}
 use Prim.Native.Nat.{ℕ, zero, suc, _+_}
-use lib.Dec.{ltb, eqb}
+use lib.Dec.{ltb, leb, eqb}
 use lib.ListN.{length, take, drop}
-use Rattle.cursor.specs.Refusals.{noSuchRow, endsAtFolder, endsAtUri, tooManyHops}
+use Rattle.cursor.specs.Refusals.{noSuchRow, endsAtFolder, endsAtUri, tooManyHops, noRoom}
 use Rattle.cursor.specs.declared.Node.{Node}
 use Rattle.tree.specs.Rows.{nodeAt}
 unfoldable pub use Rattle.tree.specs.Rows.{rowStarting}
@@ -54,6 +54,17 @@ unfoldable pub part : List ℕ → Result Resource → List ℕ
 part f (good r) = take (r .size) (drop (r .place) f)
 part f (bad n p) = []
 
--- its own refusals, after the reader's
+-- the question whose answer is copied into a buffer: resolve, and then whether so much room holds the resource
+unfoldable pub fitting : (room : ℕ) → Result Resource → Result Resource
+fitting room (good r) = cond (leb (r .size) room) (good r) (bad noRoom 0)
+fitting room (bad n p) = bad n p
+
+unfoldable pub copyInto : (row room : ℕ) → Asks Resource
+copyInto row room f h ns is = fitting room (resolve row f h ns is)
+
+-- their own refusals, after the reader's
 abbrev pub refusals : List ℕ
 refusals = noSuchRow ∷ endsAtFolder ∷ endsAtUri ∷ tooManyHops ∷ []
+
+abbrev pub copyRefusals : List ℕ
+copyRefusals = refusals ++ noRoom ∷ []

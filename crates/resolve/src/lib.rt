@@ -1,12 +1,13 @@
-// Resolves the resource of a node: follows references and gives its place, or the resource itself as a part of the file.
+// Resolves the resource of a node: follows references and gives its place, or the resource itself, as a part of the file or copied into a buffer.
 ghost use mathlib.Core.Path.{_≡_};
 ghost use Prim.Native.Nat.{_≤_, _<_, _*_, _+_};
 ghost use lib.ListN.{length};
 ghost use Rattle.metadata.specs.Tables.{nodeWidth};
 ghost use Rattle.tree.specs.Rows.{nodesIn, Rising};
 ghost use Rattle.tree.specs.Asking.{answered, nodesLeft, itemsLeft};
-ghost use Rattle.resolve.specs.Resolve.{chain, resolveRow, resolve, part};
-ghost use Rattle.resolve.specs.Told.{told, Linked};
+ghost use Rattle.room.specs.Room.{padded};
+ghost use Rattle.resolve.specs.Resolve.{chain, resolveRow, resolve, part, copyInto};
+ghost use Rattle.resolve.specs.Told.{told, Given, Linked};
 use cursor::FilePlace;
 use tree::Read;
 
@@ -79,15 +80,45 @@ pub fn resolve(file: &[u8], nodes: &mut [u64], items: &mut [u64], row: usize) ->
 
 // The resource of a row itself, as that part of the file; an empty part on a refusal.
 pub fn resource<'a>(file: &'a [u8], nodes: &mut [u64], items: &mut [u64], row: usize) -> &'a [u8]
-    ensures bytes { λ r. ⌜ now r ≡ part (now (file .entry)) (answered (now (nodes .entry)) (now (items .entry)) (now (file .entry)) (resolve row)) ⌝ }
-    ensures nodes { λ _. ⌜ now (nodes .exit) ≡ nodesLeft (now (nodes .entry)) (now (items .entry)) (now (file .entry)) (resolve row) ⌝ }
-    ensures items { λ _. ⌜ now (items .exit) ≡ itemsLeft (now (nodes .entry)) (now (items .entry)) (now (file .entry)) (resolve row) ⌝ }
+    ensures { λ r. ⌜ Given row (now (nodes .entry)) (now (items .entry)) (now (file .entry)) (now r) (now (nodes .exit)) (now (items .exit)) ⌝ }
 {
     match resolve(file, nodes, items, row) {
         Resolved::Refused(_, _) => &file[0..0],
         Resolved::At(place, size, _, _) => {
             let at = place.0;
             &file[at..at + size]
+        }
+    }
+}
+
+// Where the resource of a row is, and its bytes in a buffer, with zeros behind them; zeros alone on a refusal.
+pub fn copy_resource(
+    file: &[u8],
+    nodes: &mut [u64],
+    items: &mut [u64],
+    row: usize,
+    out: &mut [u8],
+) -> Resolved
+    ensures answer { λ r. ⌜ told r ≡ answered (now (nodes .entry)) (now (items .entry)) (now (file .entry)) (copyInto row (length (now (out .entry)))) ⌝ }
+    ensures nodes { λ _. ⌜ now (nodes .exit) ≡ nodesLeft (now (nodes .entry)) (now (items .entry)) (now (file .entry)) (copyInto row (length (now (out .entry)))) ⌝ }
+    ensures items { λ _. ⌜ now (items .exit) ≡ itemsLeft (now (nodes .entry)) (now (items .entry)) (now (file .entry)) (copyInto row (length (now (out .entry)))) ⌝ }
+    ensures out { λ _. ⌜ now (out .exit) ≡ padded (length (now (out .entry))) (part (now (file .entry)) (answered (now (nodes .entry)) (now (items .entry)) (now (file .entry)) (copyInto row (length (now (out .entry)))))) ⌝ }
+{
+    match resolve(file, nodes, items, row) {
+        Resolved::Refused(n, p) => {
+            room::clear_bytes(out);
+            Resolved::Refused(n, p)
+        }
+        Resolved::At(place, size, last, hops) => {
+            if out.len() < size {
+                tree::clear_all(nodes, items);
+                room::clear_bytes(out);
+                return Resolved::Refused(cursor::NO_ROOM, 0);
+            }
+            let at = place.0;
+            room::store_bytes(out, 0, &file[at..at + size]);
+            room::clear_bytes_from(out, size);
+            Resolved::At(place, size, last, hops)
         }
     }
 }

@@ -44,7 +44,7 @@ same-length-2 : tie.Need-same-length-2
 same-length-2 c = search needs
 
 returns : tie.Need-returns
-returns c = (part-none (c .before .before .before .before .before .before .before .before .before .before .before .before .before .args .file .now) (c .before .before .before .before .before .before .before .resolve .result) (c .before .before .before .before .before .before .before .resolve .ensures .0) (c .before .enum-told .given .1), c .before .before .before .before .before .before .before .resolve .ensures .1)
+returns c = record { gives = part-none (c .before .before .before .before .before .before .before .before .before .before .before .before .before .args .file .now) (c .before .before .before .before .before .before .before .resolve .result) (c .before .before .before .before .before .before .before .resolve .ensures .0) (c .before .enum-told .given .1); in-nodes = c .before .before .before .before .before .before .before .resolve .ensures .1 .0; in-items = c .before .before .before .before .before .before .before .resolve .ensures .1 .1 }
 
 same-length-3 : tie.Need-same-length-3
 same-length-3 c = search needs
@@ -53,7 +53,7 @@ same-length-4 : tie.Need-same-length-4
 same-length-4 c = search needs
 
 returns-2 : tie.Need-returns-2
-returns-2 c = (part-at (c .before .before .before .before .before .before .before .before .before .before .before .before .before .before .args .file .now) (c .before .before .before .before .before .before .before .before .resolve .result) (c .before .before .before .before .before .before .before .before .resolve .ensures .0) (c .before .before .place .given .1), c .before .before .before .before .before .before .before .before .resolve .ensures .1)
+returns-2 c = record { gives = part-at (c .before .before .before .before .before .before .before .before .before .before .before .before .before .before .args .file .now) (c .before .before .before .before .before .before .before .before .resolve .result) (c .before .before .before .before .before .before .before .before .resolve .ensures .0) (c .before .before .place .given .1); in-nodes = c .before .before .before .before .before .before .before .before .resolve .ensures .1 .0; in-items = c .before .before .before .before .before .before .before .before .resolve .ensures .1 .1 }
 
 pub resource-spec : {M : Type 1} → statement M
 resource-spec =
