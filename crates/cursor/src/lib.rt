@@ -5,7 +5,7 @@ ghost use lib.ListN.{length};
 ghost use Rattle.cursor.specs.Machine.{run};
 ghost use Rattle.cursor.specs.Rows.{Frame};
 ghost use Rattle.cursor.specs.Leaves.{number, block, manufacturer, guid};
-ghost use Rattle.cursor.specs.Told.{numberTold, passTold};
+ghost use Rattle.cursor.specs.Told.{ByteTold, numberTold, passTold};
 
 // The refusal list of document 01, in its order.
 pub const NOT_XMF: u64 = 1;
@@ -114,6 +114,12 @@ pub enum Numbered {
     Refused(u64, FilePlace),
 }
 
+// A byte and the cursor after it.
+pub struct Byte {
+    pub value: u64,
+    pub next: Cursor,
+}
+
 // The cursor after a field whose value is not kept, or a refusal with its place.
 pub enum Passed {
     To(Cursor),
@@ -171,6 +177,17 @@ pub fn wide(b: u8) -> u64
 }
 
 impl Cursor {
+    // The byte here. One below 80h is the whole number.
+    pub fn byte(self, file: &[u8]) -> Byte
+        requires { ⌜ self .at .0 < length (now file) ⌝ }
+        ensures { λ r. ⌜ ByteTold r (now (file .entry)) (self .at .0) ⌝ }
+    {
+        let at = self.at.0;
+        let value = wide(file[at]);
+        let next = self.on(1);
+        Byte { value, next }
+    }
+
     // The number here, in a part that ends at `end`; `past` is the refusal of one that runs past it.
     pub fn number(self, file: &[u8], end: FilePlace, past: u64) -> Numbered
         requires { ⌜ end .0 ≤ length (now file) ⌝ }
@@ -181,9 +198,10 @@ impl Cursor {
         let first = start.0;
         // Almost every number is one byte, and is read straight away. The loop below is the rule for any number.
         if first < stop {
-            let byte = wide(file[first]);
-            if byte < 128 {
-                return Numbered::Is(byte, self.on(1));
+            let one = self.byte(file);
+            if one.value < 128 {
+                let next = one.next;
+                return Numbered::Is(one.value, next);
             }
         }
         let mut at = first;

@@ -4,12 +4,14 @@ use mathlib.Core.Path.{_≡_, refl, sym, ap, _∙_, subst}
 use mathlib.Core.List.{List, [], _∷_}
 use Prim.Native.Nat.{ℕ, zero, suc, _+_, _-_, _*_, _≤_, _<_}
 use native.Mathlib.Omega.{arith}
-use lib.ListN.{length, getD}
+use lib.ListN.{length}
 use lib.Seq.{sets}
 use borrow.Author.Tests.{lt-ltb, le-ltb, eq-eqb, ne-eqb}
 use Rattle.cursor.specs.Machine.{Out, ok, refused, run, exec, turns, many, times}
 use Rattle.cursor.specs.Rows.{P, metaFrame}
 use Rattle.cursor.specs.Leaves.{number, block}
+use Rattle.cursor.specs.Told.{ByteTold}
+use Rattle.cursor.specs.declared.Byte.{Byte}
 use Rattle.cursor.specs.declared.Cursor.{Cursor}
 use Rattle.cursor.specs.declared.FilePlace.{FilePlace}
 use Rattle.cursor.specs.declared.Item.{Item}
@@ -214,39 +216,50 @@ module _ (x : Context) (node index end : ℕ) (m : Made) (s : List ℕ) (at : �
 
 -- ---- an item in the common form
 
+-- the place after a byte
+abbrev after : Byte → ℕ
+after b = b .next .at .0
+
 -- five bytes that are such an item
-pub common-read : (end : ℕ) (f : List ℕ) (at : ℕ) {name k versions size format : ℕ}
-    → name ≡ getD f at 0 → k ≡ getD f (at + 1) 0 → versions ≡ getD f (at + 2) 0 → size ≡ getD f (at + 3) 0 → format ≡ getD f (at + 4) 0
-    → name ≡ 0 → k ≤ 127 → versions ≡ 0 → ((size ≡ 0) → ⊥) → size ≤ 127 → format ≤ 127 → at + 4 + size ≤ end → Reads f end at k size format
-common-read end f at {name} {k} {versions} {size} {format} i₀ i₁ i₂ i₃ i₄ none l₁ universally some l₃ l₄ inside =
-    let e₀ : run (block metaFrame 3 end) f at ≡ ok name (at + 1) = sym (block-all metaFrame 3 end f at (number-short metaFrame 3 end f at (omega arith) i₀ (omega arith) refl) (omega arith)) in
-    let e₁ : run (number metaFrame 3 end) f (at + 1) ≡ ok k (at + 2) = number-short metaFrame 3 end f (at + 1) (omega arith) i₁ (omega arith) (omega arith) in
-    let e₂ : run (number metaFrame 3 end) f (at + 2) ≡ ok versions (at + 3) = number-short metaFrame 3 end f (at + 2) (omega arith) i₂ (omega arith) (omega arith) in
+pub common-read : (end : ℕ) (f : List ℕ) (at : ℕ) {name k versions size format : Byte}
+    → ByteTold name f at → ByteTold k f (after name) → ByteTold versions f (after k) → ByteTold size f (after versions) → ByteTold format f (after size)
+    → name .value ≡ 0 → k .value ≤ 127 → versions .value ≡ 0 → ((size .value ≡ 0) → ⊥) → size .value ≤ 127 → format .value ≤ 127 → after size + size .value ≤ end
+    → Reads f end at (record { field = Standard (k .value); contents = Universal }) (size .value) (format .value)
+common-read end f at {name} {k} {versions} {size} {format} b₀ b₁ b₂ b₃ b₄ none l₁ universally some l₃ l₄ inside =
+    let q₃ : after versions ≡ at + 3 = omega (arith, b₀ .on, b₁ .on, b₂ .on) in
+    let q₄ : after size ≡ at + 4 = omega (arith, b₃ .on) in
+    let q₅ : after format ≡ at + 5 = omega (arith, b₄ .on) in
+    let e₀ = sym (block-all metaFrame 3 end f at (number-short metaFrame 3 end f at (omega arith) (b₀ .is) (omega arith) (b₀ .on)) (omega (arith, b₀ .on))) in
+    let e₁ = number-short metaFrame 3 end f (after name) (omega (arith, b₀ .on)) (b₁ .is) (omega arith) (b₁ .on) in
+    let e₂ = number-short metaFrame 3 end f (after k) (omega (arith, b₀ .on, b₁ .on)) (b₂ .is) (omega arith) (b₂ .on) in
+    let e₃ = sym (block-all metaFrame 3 end f (after versions) (number-short metaFrame 3 end f (after versions) (omega arith) (b₃ .is) (omega arith) (b₃ .on)) (omega arith)) in
+    let e₄ = number-short metaFrame 3 (after size + size .value) f (after size) (omega arith) (b₄ .is) (omega arith) (b₄ .on) in
     record {
-      frame = sym (frame-all end f at (sym (field-standard end f at e₀ none e₁)) (sym (contents-universal end f (at + 2) e₂ universally)));
+      frame = rw (← q₃) (sym (frame-all end f at (sym (field-standard end f at e₀ none e₁)) (sym (contents-universal end f (after k) e₂ universally))));
+      universal = refl;
       some = some;
-      covers = sym (block-all metaFrame 3 end f (at + 3) (number-short metaFrame 3 end f (at + 3) (omega arith) i₃ (omega arith) (omega arith)) (omega arith));
-      coded = number-short metaFrame 3 (at + 4 + size) f (at + 4) (omega arith) i₄ (omega arith) (omega arith);
+      covers = rw (← q₃, ← q₄) e₃;
+      coded = rw (← q₄, ← q₅) e₄;
     }
 
-pub common-was : (end : ℕ) (f : List ℕ) (at : ℕ) {r : Common} → CommonTold r f end at → {k size format : ℕ} → r ≡ Is k size format → Reads f end at k size format
+pub common-was : (end : ℕ) (f : List ℕ) (at : ℕ) {r : Common} → CommonTold r f end at → {is : MetaItem} {size format : ℕ} → r ≡ Is is size format → Reads f end at is size format
 common-was end f at told e = subst (λ r. CommonTold r f end at) e told
 
-pub common-inside : (end : ℕ) (f : List ℕ) (at : ℕ) {k size format : ℕ} → Reads f end at k size format → (0 < size) × (at + 4 + size ≤ end)
+pub common-inside : (end : ℕ) (f : List ℕ) (at : ℕ) {is : MetaItem} {size format : ℕ} → Reads f end at is size format → (0 < size) × (at + 4 + size ≤ end)
 common-inside end f at r = (omega (arith, r .some), omega (arith, block-inside metaFrame 3 end f (at + 3) (r .covers)))
 
 -- the row that is made of it at once is the one that `item` makes
-pub common-row : (x : Context) (node index end : ℕ) (m : Made) (s : List ℕ) (at : ℕ) (σ : State) {k size format : ℕ} → Reads s end at k size format → m .items < x .limits .items
-    → {place : ℕ} → place ≡ at + 5 → {row : Item} → row ≡ rowOf (record { node = node; item = index; field = Standard k }) 0 0 format place (size - 1)
+pub common-row : (x : Context) (node index end : ℕ) (m : Made) (s : List ℕ) (at : ℕ) (σ : State) {is : MetaItem} {size format : ℕ} → Reads s end at is size format → m .items < x .limits .items
+    → {place : ℕ} → place ≡ at + 5 → {row : Item} → row ≡ rowOf (record { node = node; item = index; field = is .field }) 0 0 format place (size - 1)
     → {u′ : List ℕ} → u′ ≡ sets (σ .items) (σ .made .items * itemWidth) (itemWords row) → {p : ℕ} → p ≡ at + (4 + size)
     → ok (plusItem m, state (σ .nodes) u′ (plusItem (σ .made))) p ≡ exec put (item x node index end m) s at σ
-common-row x node index end m s at σ {k} {size} {format} r l {place} e₁ {row} w h {p} e₂ =
-    let label : Label = record { node = node; item = index; field = Standard k } in
+common-row x node index end m s at σ {is} {size} {format} r l {place} e₁ {row} w h {p} e₂ =
+    let label : Label = record { node = node; item = index; field = is .field } in
     let e₃ : p ≡ at + 4 + size = omega arith in
     let e₄ : size - 1 ≡ at + 4 + size - (at + 5) = omega arith in
     let w′ : row ≡ rowOf label 0 0 format (at + 5) (at + 4 + size - (at + 5)) = rw (← e₄, ← e₁) w in
     rw e₃ (universal-row x label end m s (at + 3) σ l (r .covers) (r .some) refl (r .coded) w′ h)
-    ∙ sym (item-rows x node index end m s at σ (r .frame) ∙ rows-universal x label end m s (at + 3) σ refl)
+    ∙ sym (item-rows x node index end m s at σ (r .frame) ∙ rows-universal x label end m s (at + 3) σ (r .universal))
 
 -- ---- items end to end
 

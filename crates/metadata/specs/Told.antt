@@ -17,7 +17,6 @@ use Rattle.metadata.specs.declared.Limits.{Limits}
 use Rattle.metadata.specs.declared.Made.{Made}
 use Rattle.metadata.specs.declared.Scope.{Scope}
 use Rattle.metadata.specs.declared.Field.{Field}
-use Rattle.metadata.specs.declared.Field.the-variants.{Standard}
 use Rattle.metadata.specs.declared.Contents.{Contents}
 use Rattle.metadata.specs.declared.Contents.the-variants.{Universal}
 use Rattle.metadata.specs.declared.MetaItem.{MetaItem}
@@ -63,14 +62,15 @@ itemTold (itemed.Is i c) = ok i (c .at .0)
 itemTold (itemed.Refused n p) = refused n (p .0)
 
 -- An item in the common form, from `at` on in metadata that ends at `end`: what the definitions read there, field by field.
-pub record Reads (f : List ℕ) (end at number size format : ℕ) : Type 0 where
-  pub frame : run (itemFrame end) f at ≡ ok (record { field = Standard number; contents = Universal }) (at + 3)
+pub record Reads (f : List ℕ) (end at : ℕ) (is : MetaItem) (size format : ℕ) : Type 0 where
+  pub frame : run (itemFrame end) f at ≡ ok is (at + 3)
+  pub universal : is .contents ≡ Universal
   pub some : (size ≡ 0) → ⊥
   pub covers : run (block metaFrame cutShort end) f (at + 3) ≡ ok size (at + 4)
   pub coded : run (leaves.number metaFrame cutShort (at + 4 + size)) f (at + 4) ≡ ok format (at + 5)
 
 abbrev pub CommonTold : Common → List ℕ → (end at : ℕ) → Type 0
-CommonTold (common.Is number size format) f end at = Reads f end at number size format
+CommonTold (common.Is is size format) f end at = Reads f end at is size format
 CommonTold common.Other f end at = Unit {0}
 
 -- ---- a call that fills tables: a refusal says nothing of them

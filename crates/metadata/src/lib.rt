@@ -73,9 +73,9 @@ pub enum Itemed {
     Refused(u64, FilePlace),
 }
 
-// An item in the common form: its standard number, the length of its content, its string format. Any other item is `Other`.
+// An item in the common form, the length of its content, and its string format. Any other item is `Other`.
 pub enum Common {
-    Is(u64, u64, u64),
+    Is(MetaItem, u64, u64),
     Other,
 }
 
@@ -342,42 +342,44 @@ fn read_common(c: Cursor, file: &[u8], end: FilePlace) -> Common
     requires { ⌜ end .0 ≤ length (now file) ⌝ }
     ensures { λ r. ⌜ CommonTold r (now (file .entry)) (end .0) (c .at .0) ⌝ }
 {
-    let at = c.at.0;
-    let stop = end.0;
-    if stop <= at {
+    let place = c.at;
+    if end.0 <= place.0 {
         return Common::Other;
     }
-    if stop - at < 5 {
+    if end.0 - place.0 < 5 {
         return Common::Other;
     }
-    let name = cursor::wide(file[at]);
-    if name != 0 {
+    let name = c.byte(file);
+    if name.value != 0 {
         return Common::Other;
     }
-    let number = cursor::wide(file[at + 1]);
-    if 127 < number {
+    let number = name.next.byte(file);
+    if 127 < number.value {
         return Common::Other;
     }
-    let versions = cursor::wide(file[at + 2]);
-    if versions != 0 {
+    let versions = number.next.byte(file);
+    if versions.value != 0 {
         return Common::Other;
     }
-    let size = cursor::wide(file[at + 3]);
-    if size == 0 {
+    let size = versions.next.byte(file);
+    if size.value == 0 {
         return Common::Other;
     }
-    if 127 < size {
+    if 127 < size.value {
         return Common::Other;
     }
-    let format = cursor::wide(file[at + 4]);
-    if 127 < format {
+    let format = size.next.byte(file);
+    if 127 < format.value {
         return Common::Other;
     }
-    let after = at + 4 + size as usize;
-    if stop < after {
+    let after = size.next.on(size.value);
+    if end.0 < after.at.0 {
         return Common::Other;
     }
-    Common::Is(number, size, format)
+    let field = Field::Standard(number.value);
+    let contents = Contents::Universal;
+    let is = MetaItem { field, contents };
+    Common::Is(is, size.value, format.value)
 }
 
 // An item: its field, its contents, and their rows.
@@ -398,8 +400,8 @@ fn read_item(
     let limits = scope.limits;
     if rows < limits.items {
         // Most items are in the common form. Their row is made at once: without this a full file takes a third more time. Below is the way of any item.
-        if let Common::Is(number, size, format) = read_common(c, file, end) {
-            let field = Field::Standard(number);
+        if let Common::Is(is, size, format) = read_common(c, file, end) {
+            let field = is.field;
             let l = Label {
                 node,
                 item: index,

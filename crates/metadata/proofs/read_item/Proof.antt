@@ -12,17 +12,17 @@ use Rattle.metadata.proofs.read_item.Tie as tie
 read-common-requires : tie.Need-read-common-requires
 read-common-requires c κs = search needs
 
-enum-known-number : tie.Need-enum-known-number
-enum-known-number c = search needs
+enum-known-is : tie.Need-enum-known-is
+enum-known-is c = search needs
 
 on-requires : tie.Need-on-requires
-on-requires c κs = omega (arith, common-inside _ _ _ (common-was _ _ _ (c .before .before .before .read-common .ensures) (c .before .number .given .1)))
+on-requires c κs = omega (arith, common-inside _ _ _ (common-was _ _ _ (c .before .before .before .read-common .ensures) (c .before .is .given .1)))
 
 add-made : tie.Need-add-made
 add-made c = omega arith
 
 sub-row-of : tie.Need-sub-row-of
-sub-row-of c = omega (arith, common-inside _ _ _ (common-was _ _ _ (c .before .before .before .before .before .read-common .ensures) (c .before .before .before .number .given .1)))
+sub-row-of c = omega (arith, common-inside _ _ _ (common-was _ _ _ (c .before .before .before .before .before .read-common .ensures) (c .before .before .before .is .given .1)))
 
 row-of-requires : tie.Need-row-of-requires
 row-of-requires c κs = search needs
@@ -31,16 +31,16 @@ put-item-requires : tie.Need-put-item-requires
 put-item-requires c κs = omega (arith, c .before .before .before .before .before .before .before .before .before .before .before .before .before .pre, c .before .before .before .before .before .before .before .if1 .taken)
 
 add-on : tie.Need-add-on
-add-on c = omega (arith, c .before .before .before .before .before .before .before .before .before .before .before .before .before .before .before .before .pre, common-inside _ _ _ (common-was _ _ _ (c .before .before .before .before .before .before .before .before .before .read-common .ensures) (c .before .before .before .before .before .before .before .number .given .1)))
+add-on c = omega (arith, c .before .before .before .before .before .before .before .before .before .before .before .before .before .before .before .before .pre, common-inside _ _ _ (common-was _ _ _ (c .before .before .before .before .before .before .before .before .before .read-common .ensures) (c .before .before .before .before .before .before .before .is .given .1)))
 
 on-requires-2 : tie.Need-on-requires-2
-on-requires-2 c κs = omega (arith, c .before .before .before .before .before .before .before .before .before .before .before .before .before .before .before .before .pre, common-inside _ _ _ (common-was _ _ _ (c .before .before .before .before .before .before .before .before .before .read-common .ensures) (c .before .before .before .before .before .before .before .number .given .1)))
+on-requires-2 c κs = omega (arith, c .before .before .before .before .before .before .before .before .before .before .before .before .before .before .before .before .pre, common-inside _ _ _ (common-was _ _ _ (c .before .before .before .before .before .before .before .before .before .read-common .ensures) (c .before .before .before .before .before .before .before .is .given .1)))
 
 same-length : tie.Need-same-length
 same-length c = search needs
 
 returns : tie.Need-returns
-returns c = λ t. yes (common-row _ _ _ _ _ _ _ _ (common-was _ _ _ (c .before .before .before .before .before .before .before .before .before .before .read-common .ensures) (c .before .before .before .before .before .before .before .before .number .given .1)) (c .before .before .before .before .before .before .before .before .before .before .before .if1 .taken) (c .before .before .before .before .before .before .on .ensures) (c .before .before .before .before .row-of .ensures) (c .before .before .before .put-item .ensures) (c .on2 .ensures)) (omega (arith, c .before .before .before .before .before .before .before .before .before .before .before .before .before .before .before .before .before .pre, c .before .before .before .before .before .before .before .before .before .before .before .if1 .taken))
+returns c = λ t. yes (common-row _ _ _ _ _ _ _ _ (common-was _ _ _ (c .before .before .before .before .before .before .before .before .before .before .read-common .ensures) (c .before .before .before .before .before .before .before .before .is .given .1)) (c .before .before .before .before .before .before .before .before .before .before .before .if1 .taken) (c .before .before .before .before .before .before .on .ensures) (c .before .before .before .before .row-of .ensures) (c .before .before .before .put-item .ensures) (c .on2 .ensures)) (omega (arith, c .before .before .before .before .before .before .before .before .before .before .before .before .before .before .before .before .before .pre, c .before .before .before .before .before .before .before .before .before .before .before .if1 .taken))
 
 enum-told : tie.Need-enum-told
 enum-told c = search needs
@@ -51,8 +51,8 @@ read-frame-requires c κs = search needs
 enum-known-n : tie.Need-enum-known-n
 enum-known-n c = search needs
 
-enum-known-is : tie.Need-enum-known-is
-enum-known-is c = search needs
+enum-known-is-2 : tie.Need-enum-known-is-2
+enum-known-is-2 c = search needs
 
 read-rows-requires : tie.Need-read-rows-requires
 read-rows-requires c κs = search needs
@@ -64,7 +64,7 @@ same-length-2 : tie.Need-same-length-2
 same-length-2 c = search needs
 
 returns-3 : tie.Need-returns-3
-returns-3 c = λ t. along (item-rows _ _ _ _ _ _ _ _ (was itemTold (c .before .before .before .before .before .before .before .read-frame .ensures) (c .before .before .before .before .before .is .given .1))) (c .before .before .read-rows .ensures t)
+returns-3 c = λ t. along (item-rows _ _ _ _ _ _ _ _ (was itemTold (c .before .before .before .before .before .before .before .read-frame .ensures) (c .before .before .before .before .before .is2 .given .1))) (c .before .before .read-rows .ensures t)
 
 pub read-item-spec : {M : Type 1} → statement M
-read-item-spec = tie.close (tie.spec read-common-requires enum-known-number on-requires add-made sub-row-of row-of-requires put-item-requires add-on on-requires-2 same-length returns enum-told read-frame-requires enum-known-n enum-known-is read-rows-requires returns-2 same-length-2 returns-3)
+read-item-spec = tie.close (tie.spec read-common-requires enum-known-is on-requires add-made sub-row-of row-of-requires put-item-requires add-on on-requires-2 same-length returns enum-told read-frame-requires enum-known-n enum-known-is-2 read-rows-requires returns-2 same-length-2 returns-3)

@@ -18,26 +18,20 @@ Inv-loop file past start stop first at₀ value₀ left₀ at value left = Readi
 abbrev μ-loop : tie.MeasureT-loop
 μ-loop file past start stop first at₀ value₀ left₀ at value left = left
 
+byte-requires : tie.Need-byte-requires Inv-loop μ-loop
+byte-requires c κs = omega arith
+
+returns : tie.Need-returns Inv-loop μ-loop
+returns c κ = sym (number-short κ _ _ _ _ (omega arith) (c .before .before .before .byte .ensures .is) (c .before .if2 .taken) (c .before .before .before .byte .ensures .on))
+
+loop-holds : tie.Need-loop-holds Inv-loop μ-loop
+loop-holds c = (begun _ _ _ _, omega arith, omega arith)
+
 shared-slice-read-wide : tie.Need-shared-slice-read-wide Inv-loop μ-loop
 shared-slice-read-wide c = omega arith
 
 wide-requires : tie.Need-wide-requires Inv-loop μ-loop
 wide-requires c κs = search needs
-
-on-requires : tie.Need-on-requires Inv-loop μ-loop
-on-requires c κs = omega arith
-
-returns : tie.Need-returns Inv-loop μ-loop
-returns c κ = sym (number-short κ _ _ _ _ (c .before .before .before .before .if1 .taken) (c .before .before .wide .ensures .0) (c .before .if2 .taken) (c .on .ensures))
-
-loop-holds : tie.Need-loop-holds Inv-loop μ-loop
-loop-holds c = (begun _ _ _ _, omega arith, omega arith)
-
-shared-slice-read-wide-2 : tie.Need-shared-slice-read-wide-2 Inv-loop μ-loop
-shared-slice-read-wide-2 c = omega arith
-
-wide-requires-2 : tie.Need-wide-requires-2 Inv-loop μ-loop
-wide-requires-2 c κs = search needs
 
 add-at : tie.Need-add-at Inv-loop μ-loop
 add-at c = omega arith
@@ -55,7 +49,7 @@ loop-less : tie.Need-loop-less Inv-loop μ-loop
 loop-less c = omega arith
 
 loop-again : tie.Need-loop-again Inv-loop μ-loop
-loop-again c = (more (c .before .before .before .before .before .loop .inv .0) (c .before .before .before .before .if3 .left) (c .before .before .before .if4 .left) (c .before .wide2 .ensures .0) (c .if5 .left), omega arith, grown _ _ _ (c .before .before .before .before .if3 .left) (c .before .before .before .before .before .loop .inv .1) (c .before .before .before .before .before .loop .inv .2))
+loop-again c = (more (c .before .before .before .before .before .loop .inv .0) (c .before .before .before .before .if3 .left) (c .before .before .before .if4 .left) (c .before .wide .ensures .0) (c .if5 .left), omega arith, grown _ _ _ (c .before .before .before .before .if3 .left) (c .before .before .before .before .before .loop .inv .1) (c .before .before .before .before .before .loop .inv .2))
 
 returns-2 : tie.Need-returns-2 Inv-loop μ-loop
 returns-2 c = out (c .before .loop .inv .0) (c .if3 .taken)
@@ -64,7 +58,7 @@ returns-3 : tie.Need-returns-3 Inv-loop μ-loop
 returns-3 c = missing (c .before .before .loop .inv .0) (c .before .if3 .left) (c .if4 .taken)
 
 returns-4 : tie.Need-returns-4 Inv-loop μ-loop
-returns-4 c = last (c .before .before .before .before .before .loop .inv .0) (c .before .before .before .before .if3 .left) (c .before .before .before .if4 .left) (c .before .wide2 .ensures .0) (c .if5 .taken)
+returns-4 c = last (c .before .before .before .before .before .loop .inv .0) (c .before .before .before .before .if3 .left) (c .before .before .before .if4 .left) (c .before .wide .ensures .0) (c .if5 .taken)
 
 pub number-spec : {M : Type 1} → statement M
 number-spec =
@@ -72,13 +66,11 @@ number-spec =
     (tie.spec
     Inv-loop
     μ-loop
-    shared-slice-read-wide
-    wide-requires
-    on-requires
+    byte-requires
     returns
     loop-holds
-    shared-slice-read-wide-2
-    wide-requires-2
+    shared-slice-read-wide
+    wide-requires
     add-at
     sub-left
     mul-value
