@@ -1,14 +1,14 @@
 -- Where each part of a node ends: after it began, and not past the part that holds it; and what a node's row says of its places.
 -- Assumes nothing.
-use mathlib.Core.Path.{_≡_, refl}
-use mathlib.Core.Bool.{Bool, true, false, _&&_}
+use mathlib.Core.Path.{_≡_, refl, _∙_}
+use mathlib.Core.Bool.{Bool, true, false, _&&_, _||_}
 use mathlib.Core.Logic.{_⊎_, inl, inr}
 use mathlib.Core.List.{List}
 use Prim.Native.Nat.{ℕ, _+_, _-_, _≤_, _<_}
 use native.Mathlib.Omega.{arith}
 use lib.Dec.{T, eqb, eqb→eq}
 use lib.ListN.{length}
-use borrow.Author.Tests.{ltb-true, leb-true}
+use borrow.Author.Tests.{ltb-true, leb-true, eqb-true}
 use Rattle.cursor.specs.Machine.{ok, run, exec}
 use Rattle.cursor.specs.Rows.{Part, nodeRow, itemRow, plain, hasInline, sizeIf, inlineSize, P}
 use Rattle.cursor.specs.declared.Node.{Node}
@@ -34,6 +34,14 @@ Leads size r = (r .kind ≡ 3) ⊎ (r .target + r .extent ≤ size)
 abbrev pub Follows : (end q : ℕ) → Reference → Type 0
 Follows end q r = (r .kind ≡ 1) → (r .target ≡ q) × (r .extent ≡ end - q)
 
+-- a folder is not detached
+no-folder : (contained detached : ℕ) → (eqb contained 0 || eqb detached 0) ≡ true → (contained ≡ 0) ⊎ (detached ≡ 0)
+no-folder contained detached t = by (eqb contained 0) refl t
+  where
+    by : (b : Bool) → eqb contained 0 ≡ b → (b || eqb detached 0) ≡ true → (contained ≡ 0) ⊎ (detached ≡ 0)
+    by true e z = inl (eqb-true _ _ e)
+    by false e z = inr (eqb-true _ _ z)
+
 module _ (N : OfNames) (top size : ℕ) where
   pub header-length-on : (p n contained at : ℕ) → Wp (Inside N top size) (headerLength p n contained) (λ h q. (at < q) × (q ≤ p + h .header .0) × (h .header .0 ≤ h .size .0) × (h .size .0 ≡ n) × (h .contained ≡ contained)) at
   unfolding headerLength
@@ -42,13 +50,13 @@ module _ (N : OfNames) (top size : ℕ) where
       (wp-after (number-on _ _ (p + n) at) λ header q x.
       wp-place _ q (wp-check _ _ λ t. wp-check _ _ λ u. wp-ret (omega arith, leb-true q (p + header) u, leb-true header n t, refl, refl)))
 
-  pub head-on : (s : Standing) (at : ℕ) → Wp (Inside N top size) (head s) (λ h q. (at < q) × (q ≤ at + h .header .0) × (h .header .0 ≤ h .size .0) × (at + h .size .0 ≤ s .end .0) × (s .least .0 ≤ at + h .size .0) × (at + h .size .0 ≤ s .taken .0)) at
+  pub head-on : (s : Standing) (at : ℕ) → Wp (Inside N top size) (head s) (λ h q. (at < q) × (q ≤ at + h .header .0) × (h .header .0 ≤ h .size .0) × (at + h .size .0 ≤ s .end .0) × (s .least .0 ≤ at + h .size .0) × (at + h .size .0 ≤ s .taken .0) × ((h .contained ≡ 0) ⊎ (s .detached ≡ 0))) at
   unfolding head
   head-on s at =
       wp-place _ at
       (wp-after (number-on _ _ (s .end .0) at) λ n p x. wp-check _ _ λ t. wp-check _ _ λ u. wp-check _ _ λ v.
       wp-after (number-on _ _ (at + n) p) λ contained q y. wp-check _ _ λ w.
-      wp-weaken (header-length-on at n contained q) (λ h r z. (omega arith, omega arith, omega arith, omega (arith, leb-true (at + n) (s .end .0) t), omega (arith, leb-true (s .least .0) (at + n) u), omega (arith, leb-true (at + n) (s .taken .0) v))))
+      wp-weaken (header-length-on at n contained q) (λ h r z. (omega arith, omega arith, omega arith, omega (arith, leb-true (at + n) (s .end .0) t), omega (arith, leb-true (s .least .0) (at + n) u), omega (arith, leb-true (at + n) (s .taken .0) v), elim (no-folder contained (s .detached) w) [ inl e ↦ inl (z .4 ∙ e) | inr e ↦ inr e ])))
 
   value-on : (end at : ℕ) → Wp (Inside N top size) (value end) (λ _ q. (at < q) × (q ≤ end)) at
   unfolding value
@@ -117,6 +125,7 @@ pub record FrontIn (x : Context) (s : Standing) (m : Made) (at : ℕ) (w : Front
   pub least-is : s .least .0 ≤ at + w .row .size
   pub taken-is : at + w .row .size ≤ s .taken .0
   pub detached-is : w .row .detached ≡ s .detached
+  pub folder : (w .row .contained ≡ 0) ⊎ (s .detached ≡ 0)
   pub start : w .row .start ≡ at
   pub header : w .row .header ≤ w .row .size
   pub leads : (w .row .reference ≡ 3) ⊎ (w .row .target + w .row .extent ≤ x .size)
@@ -140,6 +149,7 @@ front-on N top x parent depth s m at o i =
       least-is = y .4;
       taken-is = y .5;
       detached-is = refl;
+      folder = y .6;
       start = refl;
       header = y .2;
       leads = w .2;

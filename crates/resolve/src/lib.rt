@@ -110,15 +110,15 @@ pub fn copy_resource(
             Resolved::Refused(n, p)
         }
         Resolved::At(place, size, last, hops) => {
-            if out.len() < size {
-                tree::clear_all(nodes, items);
-                room::clear_bytes(out);
-                return Resolved::Refused(cursor::NO_ROOM, 0);
+            if size <= out.len() {
+                let at = place.0;
+                room::store_bytes(out, 0, &file[at..at + size]);
+                room::clear_bytes_from(out, size);
+                return Resolved::At(place, size, last, hops);
             }
-            let at = place.0;
-            room::store_bytes(out, 0, &file[at..at + size]);
-            room::clear_bytes_from(out, size);
-            Resolved::At(place, size, last, hops)
+            tree::clear_all(nodes, items);
+            room::clear_bytes(out);
+            Resolved::Refused(cursor::NO_ROOM, 0)
         }
     }
 }

@@ -231,7 +231,7 @@ module _ (lim : Limits) (f : List ℕ) (h : Header) where
   wider ns ms k (inr a) = inr (taken-on ns ms k a)
 
   -- a node at p in the part of p, which ends before what is taken, meets nothing
-  meets-none : (ns : List Node) (p q k : ℕ) → (p < h .extent .start) ⊎ (h .extent .last < p) → (p < h .extent .start → partEnd h (length f) p ≡ h .extent .start)
+  pub meets-none : (ns : List Node) (p q k : ℕ) → (p < h .extent .start) ⊎ (h .extent .last < p) → (p < h .extent .start → partEnd h (length f) p ≡ h .extent .start)
       → q ≤ partEnd h (length f) p → q ≤ takenFrom ns p (partEnd h (length f) p) → Within ns k → p ≤ k → k < q → ⊥
   meets-none ns p q k (inl a) b c d (inl w) l m = let e = b a in omega arith
   meets-none ns p q k (inr a) b c d (inl w) l m = omega arith

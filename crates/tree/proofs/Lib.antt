@@ -12,6 +12,8 @@ pub mod Rows
 pub mod Exits
 pub mod Demand
 pub mod Order
+pub mod Parents
+pub mod Apart
 pub mod Own
 pub mod Limited
 pub mod Links

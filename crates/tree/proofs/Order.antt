@@ -37,7 +37,7 @@ folder-orders : (n end : ℕ) {children : P made.Made} {k c : ℕ} → Orders ch
 unfolding folder
 folder-orders n end w = after w λ m k c i. places λ q. checks _ _ _ (ends i)
 
-node-orders : (d : ℕ) (x : Context) (parent : ℕ) (s : Standing) (m : made.Made) (k c : ℕ) → k ≡ m .nodes → c ≡ 0 → parent ≤ m .nodes → Orders (node d x parent s m) (Above (m .nodes)) k c
+pub node-orders : (d : ℕ) (x : Context) (parent : ℕ) (s : Standing) (m : made.Made) (k c : ℕ) → k ≡ m .nodes → c ≡ 0 → parent ≤ m .nodes → Orders (node d x parent s m) (Above (m .nodes)) k c
 unfolding node
 node-orders zero x parent s m k c a b before = at-place λ p. stops
 node-orders (suc d) x parent s m k c a b before =

@@ -2,6 +2,7 @@
 -- Assumes nothing.
 use mathlib.Core.Path.{_≡_, refl, ap, _∙_}
 use mathlib.Core.Bool.{Bool, true, false}
+use mathlib.Core.Logic.{inl, inr}
 use mathlib.Core.List.{List, [], _∷_, _++_}
 use Prim.Native.Nat.{ℕ, zero, suc, _+_, _-_, _≤_, _<_}
 use native.Mathlib.Omega.{arith}
@@ -12,7 +13,7 @@ use Rattle.cursor.specs.declared.Node.{Node}
 use Rattle.cursor.proofs.Laws.{rows-on, Split, split}
 use Rattle.cursor.proofs.Stable.{ends, at-least}
 use Rattle.cursor.proofs.Wp.{Wp, at-end, wp-weaken}
-use Rattle.cursor.proofs.Order.{Ordered}
+use Rattle.cursor.proofs.Order.{Ordered, in-order}
 use Rattle.cursor.proofs.Uses.{Uses, Only, used, passing}
 use Rattle.cursor.proofs.Uses as uses
 use Rattle.metadata.specs.Metadata.{Context}
@@ -23,6 +24,7 @@ use Rattle.node.specs.Node.{inTree, outsideTree, front}
 use Rattle.node.specs.declared.Standing.{Standing}
 use Rattle.node.specs.declared.Front.{Front}
 use Rattle.node.proofs.Ends.{FrontIn, front-on}
+use Rattle.node.proofs.Order.{front-orders}
 use Rattle.node.proofs.Uses.{front-uses}
 use Rattle.tree.specs.Tree.{folder, node, tree, detached}
 use Rattle.tree.specs.Reading.{nodeOf, nodesOf}
@@ -56,7 +58,7 @@ rising (more a x h) (suc i) (suc j) l m = rising h i j (omega arith) (omega arit
 
 -- ---- an accepted run, part by part
 
-nodes-joined : {A B : Type 0} {m : P A} {g : A → P B} {f : List ℕ} {at : ℕ} {b : B} {q : ℕ} (y : Split m g f at b q) → nodesOf (trace (m >>= g) f at) ≡ nodesOf (trace m f at) ++ nodesOf (trace (g (y .a)) f (y .p))
+pub nodes-joined : {A B : Type 0} {m : P A} {g : A → P B} {f : List ℕ} {at : ℕ} {b : B} {q : ℕ} (y : Split m g f at b q) → nodesOf (trace (m >>= g) f at) ≡ nodesOf (trace m f at) ++ nodesOf (trace (g (y .a)) f (y .p))
 nodes-joined {m = m} {g} {f} {at} y = ap nodesOf (y .joined) ∙ rows-on nodeOf (trace m f at) (trace (g (y .a)) f (y .p))
 
 -- each accepted run of m from `at` makes rows that rise, from `at` on and before where it ends
@@ -74,12 +76,12 @@ counted k c (passed (itemRow r) p n ∷ es) k′ c′ o = counted k (c + 1) es k
 counted k c (passed (plain x) p n ∷ es) k′ c′ o = counted k c es k′ c′ o
 
 -- what makes no node row
-abbrev NoNode : Part → Type 0
+abbrev pub NoNode : Part → Type 0
 NoNode (nodeRow r) = ⊥
 NoNode (itemRow r) = Unit {0}
 NoNode (plain x) = Unit {0}
 
-none : (es : Events) → Only (passing NoNode) es → nodesOf es ≡ []
+pub none : (es : Events) → Only (passing NoNode) es → nodesOf es ≡ []
 unfolding rowsOf
 none [] o = refl
 none (seen κ p ∷ es) o = none es (o .1)
@@ -87,7 +89,7 @@ none (passed (nodeRow r) p n ∷ es) o = absurd (o .0)
 none (passed (itemRow r) p n ∷ es) o = none es (o .1)
 none (passed (plain x) p n ∷ es) o = none es (o .1)
 
-front-none : (f : List ℕ) (x : Context) (parent depth : ℕ) (s : Standing) (m : Made) (at : ℕ) → nodesOf (trace (front x parent depth s m) f at) ≡ []
+pub front-none : (f : List ℕ) (x : Context) (parent depth : ℕ) (s : Standing) (m : Made) (at : ℕ) → nodesOf (trace (front x parent depth s m) f at) ≡ []
 front-none f x parent depth s m at = none _ (used f at (front-uses (λ κ. tt) (λ v. tt) (λ i. tt) x parent depth s m))
 
 -- ---- the rules
@@ -150,33 +152,36 @@ tree-rises x end f at l e = rising (node-rises 0 f 16 x 0 (inTree end end) _ at 
 
 -- ---- the row of a node that was read
 
--- the first row is the node's own: it starts where the run did, and ends where the run did
-pub record OwnRow (s : Standing) (at q : ℕ) (ns : List Node) : Type 0 where
+-- the first row is the node's own: it starts where the run did, and ends where the run did; a detached node has no other
+pub record OwnRow (s : Standing) (parent at q : ℕ) (ns : List Node) : Type 0 where
   pub row : Node
   pub others : List Node
   pub rows-are : ns ≡ row ∷ others
+  pub parent-is : row .parent ≡ parent
+  pub alone : s .detached ≡ 1 → others ≡ []
   pub start : row .start ≡ at
   pub stop : row .start + row .size ≡ q
   pub detached-is : row .detached ≡ s .detached
 
-record Owns {A : Type 0} (f : List ℕ) (s : Standing) (start : ℕ) (m : P A) (at : ℕ) : Type 0 where
-  owns : {a : A} {q : ℕ} → run m f at ≡ ok a q → OwnRow s start q (nodesOf (trace m f at))
+record Owns {A : Type 0} (f : List ℕ) (s : Standing) (parent start : ℕ) (m : P A) (at : ℕ) : Type 0 where
+  owns : {a : A} {q : ℕ} → run m f at ≡ ok a q → OwnRow s parent start q (nodesOf (trace m f at))
 
-module _ (f : List ℕ) (s : Standing) (start : ℕ) where
-  own-place : {A : Type 0} (g : ℕ → P A) (at : ℕ) → Owns f s start (g at) at → Owns f s start (place >>= g) at
+module _ (f : List ℕ) (s : Standing) (parent start : ℕ) where
+  own-place : {A : Type 0} (g : ℕ → P A) (at : ℕ) → Owns f s parent start (g at) at → Owns f s parent start (place >>= g) at
   unfolding run trace _>>=_ place
   own-place g at h = record { owns = h .owns }
 
-  own-check : (b : Bool) (n p : ℕ) {A : Type 0} {m : P A} {at : ℕ} → Owns f s start m at → Owns f s start (check b n p >> m) at
+  own-check : (b : Bool) (n p : ℕ) {A : Type 0} {m : P A} {at : ℕ} → Owns f s parent start m at → Owns f s parent start (check b n p >> m) at
   unfolding run trace _>>=_ _>>_ check
   own-check true n p h = h
   own-check false n p h = record { owns = λ e. let z : _≡_ {A = ℕ} 0 1 = cc in absurd (omega arith) }
 
 own-front : (f : List ℕ) (x : Context) (parent depth : ℕ) (s : Standing) (m : Made) (at : ℕ) → s .end .0 ≤ x .size → (g : Front → P Made)
     → ((w : Front) (q : ℕ) → FrontIn x s m at w q → Wp (Inside Nothing (s .end .0) (x .size)) (skip (nodeRow (w .row)) (inlineSize (w .row)) >> g w) (λ _ v. v ≡ at + w .row .size) q)
-    → Owns f s at (front x parent depth s m >>= λ w. (skip (nodeRow (w .row)) (inlineSize (w .row)) >> g w)) at
+    → ((w : Front) (q : ℕ) → w .row .contained ≡ 0 → nodesOf (trace (g w) f q) ≡ [])
+    → Owns f s parent at (front x parent depth s m >>= λ w. (skip (nodeRow (w .row)) (inlineSize (w .row)) >> g w)) at
 unfolding run trace rowsOf _>>=_ _>>_ skip
-own-front f x parent depth s m at l g h = record {
+own-front f x parent depth s m at l g h only = record {
   owns = λ e.
       let y = split (front x parent depth s m) (λ w. (skip (nodeRow (w .row)) (inlineSize (w .row)) >> g w)) f at e in
       let i = at-end (inside-free (s .end .0) (x .size)) f (front-on Nothing (s .end .0) x parent depth s m at (omega arith) l) (y .first) in
@@ -186,23 +191,31 @@ own-front f x parent depth s m at l g h = record {
         row = y .a .row;
         others = nodesOf (trace (g (y .a)) f (y .p + inlineSize (y .a .row)));
         rows-are = nodes-joined y ∙ ap (λ v. v ++ (y .a .row ∷ nodesOf (trace (g (y .a)) f (y .p + inlineSize (y .a .row))))) (front-none f x parent depth s m at);
+        parent-is = in-order f at (front-orders x parent depth s m) (y .first) .ends .3;
+        alone = λ e. elim (i .folder) [ inl n ↦ only (y .a) _ n | inr n ↦ absurd (omega arith) ];
         start = z;
         stop = omega arith;
         detached-is = i .detached-is;
       };
 }
 
-own-row : (f : List ℕ) (d : ℕ) (x : Context) (parent : ℕ) (s : Standing) (m : Made) (at : ℕ) → s .end .0 ≤ x .size → Owns f s at (node (suc d) x parent s m) at
+no-children : (f : List ℕ) (n : ℕ) → n ≡ 0 → (end : ℕ) (body : Made → P Made) (m : Made) (at : ℕ) → nodesOf (trace (folder end (times n body m)) f at) ≡ []
+unfolding folder times _>>=_
+no-children f zero e end body m at = none _ (used f at (uses.places λ q. uses.checks _ _ _ tt uses.ends))
+no-children f (suc n) e end body m at = absurd (omega arith)
+
+own-row : (f : List ℕ) (d : ℕ) (x : Context) (parent : ℕ) (s : Standing) (m : Made) (at : ℕ) → s .end .0 ≤ x .size → Owns f s parent at (node (suc d) x parent s m) at
 unfolding node
 own-row f d x parent s m at l =
-    own-place f s at _ at (own-check f s at _ _ _ (own-front f x parent (16 - d) s m at l _ λ w q i.
+    own-place f s parent at _ at (own-check f s parent at _ _ _ (own-front f x parent (16 - d) s m at l _ (λ w q i.
     let a = i .within in
     contained-fills Nothing (s .end .0) d x s m at w q (omega arith) i
-    (λ t p j. wp-weaken (node-on Nothing (s .end .0) d x (m .nodes) (inTree 0 (at + w .row .size)) t p (omega arith) (omega arith)) (λ _ v z. (omega arith, z .1)))))
+    (λ t p j. wp-weaken (node-on Nothing (s .end .0) d x (m .nodes) (inTree 0 (at + w .row .size)) t p (omega arith) (omega arith)) (λ _ v z. (omega arith, z .1))))
+    (λ w q e. no-children f (w .row .contained) e _ _ _ q)))
 
 -- a detached node's row
 pub detached-row : (f : List ℕ) (x : Context) (end taken offset : ℕ) (m : Made) (at : ℕ) → end ≤ x .size → {m′ : Made} {q : ℕ} → run (detached x end taken offset m) f at ≡ ok m′ q
-    → OwnRow (outsideTree end taken offset) at q (nodesOf (trace (detached x end taken offset m) f at))
+    → OwnRow (outsideTree end taken offset) (m .nodes) at q (nodesOf (trace (detached x end taken offset m) f at))
 unfolding detached
 detached-row f x end taken offset m at l e = own-row f 16 x (m .nodes) (outsideTree end taken offset) m at l .owns e
 

@@ -1,10 +1,10 @@
--- There and back returns the same units, but for a leading mark; back and there returns the same bytes, of a text that does not begin with the mark.
+-- There and back returns the same units, and back and there the same bytes, but for a leading mark.
 -- Assumes nothing.
-use mathlib.Core.Path.{_≡_, refl, sym, ap, _∙_}
+use mathlib.Core.Path.{_≡_, refl, sym, ap, _∙_, subst}
 use mathlib.Core.Logic.{_⊎_, inl, inr}
 use mathlib.Core.Bool.{Bool, true, false, cond}
 use mathlib.Core.List.{List, [], _∷_, _++_, append-nil}
-use Prim.Native.Nat.{ℕ, _+_, _/_, _%_, _<_}
+use Prim.Native.Nat.{ℕ, suc, _+_, _/_, _%_, _<_}
 use native.Mathlib.Decide.{decLt}
 use native.Mathlib.Omega.{arith}
 use lib.Dec.{eqb}
@@ -13,7 +13,7 @@ use borrow.Author.Tests.{eq-eqb, ne-eqb}
 use Rattle.room.specs.Room.{Result, good, bad}
 use Rattle.unicode.specs.Unicode.{units, bytesOf, utf16, bytes16, utf8, first16, first8, chars, bytesAll, unmark, written, toUtf8, toUtf16}
 use Rattle.unicode.proofs.Walk.{Bytes, All, nil, cons, placed, read-all, write-all}
-use Rattle.unicode.proofs.Sixteen.{Scalar, units-bytes, short16, long16, form16}
+use Rattle.unicode.proofs.Sixteen.{Scalar, char-value, units-bytes, short16, long16, form16}
 use Rattle.unicode.proofs.Eight.{form8}
 
 -- what was written, of characters that were read
@@ -97,40 +97,63 @@ good-unmark (c ∷ cs) (cons g gs) = by (eqb c 0xFEFF)
     by true = gs
     by false = cons g gs
 
-starts : (c : ℕ) (cs : List ℕ) → c ≡ 0xFEFF → bytesAll utf8 (c ∷ cs) ≡ utf8 0xFEFF ++ bytesAll utf8 cs
-unfolding bytesAll
-starts c cs e = rw e
-
-no-mark : (cs : List ℕ) → ((r : List ℕ) → bytesAll utf8 cs ≡ utf8 0xFEFF ++ r → ⊥) → unmark cs ≡ cs
-no-mark [] n = unmark-none
-no-mark (c ∷ cs) n = mark-none c cs (λ e. n (bytesAll utf8 cs) (starts c cs e))
-
 -- ---- the two theorems
 
-pub there-and-back : (d : List ℕ) {t : List ℕ} → Bytes d → toUtf8 d ≡ good t → toUtf16 t ≡ good (bytesOf (unmark (units d)))
-unfolding toUtf8 toUtf16 written
+-- b is a without one leading mark; where there is none it is the same
+abbrev pub ButForMark : (mark a b : List ℕ) → Type 0
+ButForMark mark a b = (a ≡ mark ++ b) ⊎ ((a ≡ b) × ((rest : List ℕ) → a ≡ mark ++ rest → ⊥))
+
+-- characters that were written are converted
+from-eight : (cs : List ℕ) → All Scalar cs → toUtf16 (bytesAll utf8 cs) ≡ good (bytesAll bytes16 cs)
+unfolding toUtf16 written
+from-eight cs g = rw (read-all form8 0 g) refl
+
+from-sixteen : (cs : List ℕ) → All Scalar cs → toUtf8 (bytesAll bytes16 cs) ≡ good (bytesAll utf8 (unmark cs))
+unfolding toUtf8 written
+from-sixteen cs g = rw (read-all form16 0 g) refl
+
+-- of units, as bytes
+mark-units : (us : List ℕ) → ButForMark (0xFE ∷ 0xFF ∷ []) (bytesOf us) (bytesOf (unmark us))
+unfolding bytesOf
+mark-units [] = inr (ap bytesOf (sym unmark-none), λ rest e. let z : _≡_ {A = ℕ} 0 (suc (suc (length rest))) = ap length e in omega arith)
+mark-units (u ∷ us) = elim (mark-or u) [
+  | inl e ↦ inl (rw (mark-is u us e, e) refl)
+  | inr n ↦ inr (ap bytesOf (sym (mark-none u us n)), λ rest e. let a : u / 256 ≡ 0xFE = cc in let b : u % 256 ≡ 0xFF = cc in n (omega arith))
+]
+
+pub there-and-back : (d : List ℕ) {t : List ℕ} → Bytes d → toUtf8 d ≡ good t → (b : List ℕ) × (toUtf16 t ≡ good b) × ButForMark (0xFE ∷ 0xFF ∷ []) d b
+unfolding toUtf8
 there-and-back d {t} h e =
     let x = written-good utf8 unmark (chars first16 0 0 d) e in
     let cs = x .0 in
     let w = write-all form16 0 0 d h (x .1) in
-    let u : units d ≡ bytesAll utf16 cs = ap units (w .1) ∙ all-units cs in
-    let q : bytesAll bytes16 (unmark cs) ≡ bytesOf (unmark (units d)) = all-bytes (unmark cs) ∙ ap bytesOf (sym (same-mark cs (w .0)) ∙ ap unmark (sym u)) in
-    rw (x .2, read-all form8 0 (good-unmark cs (w .0))) (ap good q)
+    let us : List ℕ = bytesAll utf16 cs in
+    let whole : d ≡ bytesOf us = w .1 ∙ all-bytes cs in
+    let q : bytesAll bytes16 (unmark cs) ≡ bytesOf (unmark us) = all-bytes (unmark cs) ∙ ap bytesOf (sym (same-mark cs (w .0))) in
+    (bytesOf (unmark us), ap toUtf16 (x .2) ∙ from-eight (unmark cs) (good-unmark cs (w .0)) ∙ ap good q, subst (λ v. ButForMark (0xFE ∷ 0xFF ∷ []) v (bytesOf (unmark us))) (sym whole) (mark-units us))
 
--- data that converts is whole units
-pub whole-units : (d : List ℕ) {t : List ℕ} → Bytes d → toUtf8 d ≡ good t → bytesOf (units d) ≡ d
-unfolding toUtf8
-whole-units d {t} h e =
-    let x = written-good utf8 unmark (chars first16 0 0 d) e in
-    let cs = x .0 in
-    let w = write-all form16 0 0 d h (x .1) in
-    ap bytesOf (ap units (w .1) ∙ all-units cs) ∙ sym (all-bytes cs) ∙ sym (w .1)
+-- of characters, as UTF-8
+mark-is8 : (rest : List ℕ) → utf8 0xFEFF ++ rest ≡ 0xEF ∷ 0xBB ∷ 0xBF ∷ rest
+unfolding utf8
+mark-is8 rest = refl
 
-pub back-and-there : (t : List ℕ) {d : List ℕ} → ((r : List ℕ) → t ≡ utf8 0xFEFF ++ r → ⊥) → toUtf16 t ≡ good d → toUtf8 d ≡ good t
-unfolding toUtf8 toUtf16 written
-back-and-there t {d} n e =
+first-mark : (c : ℕ) (r rest : List ℕ) → Scalar c → utf8 c ++ r ≡ 0xEF ∷ 0xBB ∷ 0xBF ∷ rest → c ≡ 0xFEFF
+first-mark c r rest g e =
+    let m : Scalar 0xFEFF = record { most = omega arith; apart = inr (omega arith) } in
+    sym (char-value (sym (form8 .reads c r g) ∙ ap first8 (e ∙ sym (mark-is8 rest)) ∙ form8 .reads 0xFEFF rest m))
+
+mark-text : (cs : List ℕ) → All Scalar cs → ButForMark (0xEF ∷ 0xBB ∷ 0xBF ∷ []) (bytesAll utf8 cs) (bytesAll utf8 (unmark cs))
+unfolding bytesAll
+mark-text [] g = inr (ap (bytesAll utf8) (sym unmark-none), λ rest e. let z : _≡_ {A = ℕ} 0 (suc (suc (suc (length rest)))) = ap length e in omega arith)
+mark-text (c ∷ cs) (cons g gs) = elim (mark-or c) [
+  | inl e ↦ inl (rw (mark-is c cs e, e) (mark-is8 (bytesAll utf8 cs)))
+  | inr n ↦ inr (ap (bytesAll utf8) (sym (mark-none c cs n)), λ rest e. n (first-mark c (bytesAll utf8 cs) rest g e))
+]
+
+pub back-and-there : (t : List ℕ) {d : List ℕ} → toUtf16 t ≡ good d → (b : List ℕ) × (toUtf8 d ≡ good b) × ButForMark (0xEF ∷ 0xBB ∷ 0xBF ∷ []) t b
+unfolding toUtf16
+back-and-there t {d} e =
     let x = written-good bytes16 (λ cs. cs) (chars first8 0 0 t) e in
     let cs = x .0 in
     let w = write-all form8 0 0 t tt (x .1) in
-    let k : unmark cs ≡ cs = no-mark cs (λ r q. n r (w .1 ∙ q)) in
-    rw (x .2, read-all form16 0 (w .0), k) (ap good (sym (w .1)))
+    (bytesAll utf8 (unmark cs), ap toUtf8 (x .2) ∙ from-sixteen cs (w .0), subst (λ v. ButForMark (0xEF ∷ 0xBB ∷ 0xBF ∷ []) v (bytesAll utf8 (unmark cs))) (sym (w .1)) (mark-text cs (w .0)))

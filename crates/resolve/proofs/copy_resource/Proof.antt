@@ -20,29 +20,6 @@ clear-bytes-requires c κs = search needs
 enum-known-place : tie.Need-enum-known-place
 enum-known-place c = search needs
 
-clear-all-requires : tie.Need-clear-all-requires
-clear-all-requires c κs = search needs
-
-clear-bytes-requires-2 : tie.Need-clear-bytes-requires-2
-clear-bytes-requires-2 c κs = search needs
-
-same-length : tie.Need-same-length
-same-length c = search needs
-
-same-length-2 : tie.Need-same-length-2
-same-length-2 c = search needs
-
-same-length-3 : tie.Need-same-length-3
-same-length-3 c = search needs
-
-returns : tie.Need-returns
-returns c =
-    let r = c .before .before .before .before .before .before .before .before .before .before .before .before .before .before .before .before .before .before .before .resolve in
-    let w = c .before .before .before .before .before .before .before .before .before .before .before .before .before .before .before .before .before .before .before .before .before .before .before .before .before .before .args in
-    let k = c .before .before .before .before .before .before .before .before .clear-all .ensures in
-    let s = copy-full (w .file .now) (length (w .nodes .now)) (length (w .items .now)) (w .row) (w .out .now) (r .result) (r .ensures .0) (c .before .before .before .before .before .before .before .before .before .before .before .before .before .place .given .1) (c .before .before .before .before .before .before .before .before .before .before .before .if1 .taken) (zeros (k .0) (r .kept .1 .0)) (zeros (k .1) (r .kept .1 .1 .0)) (c .before .before .clear-bytes2 .ensures) in
-    (s .0, (s .1, (s .2, s .3)))
-
 add-store-bytes : tie.Need-add-store-bytes
 add-store-bytes c =
     let r = c .before .before .before .before .before .before .before .before .before .resolve in
@@ -66,6 +43,31 @@ store-bytes-requires c κs = search needs
 
 clear-bytes-from-requires : tie.Need-clear-bytes-from-requires
 clear-bytes-from-requires c κs = search needs
+
+same-length : tie.Need-same-length
+same-length c = search needs
+
+same-length-2 : tie.Need-same-length-2
+same-length-2 c = search needs
+
+same-length-3 : tie.Need-same-length-3
+same-length-3 c = search needs
+
+returns : tie.Need-returns
+returns c =
+    let r = c .before .before .before .before .before .before .before .before .before .before .before .before .before .before .before .before .before .resolve in
+    let w = c .before .before .before .before .before .before .before .before .before .before .before .before .before .before .before .before .before .before .before .before .before .before .before .before .args in
+    let p = c .before .before .before .before .before .before .before .before .before .before .before .place in
+    let i = c .before .before .before .before .before .before .before .before .before .if1 in
+    let k = c .before .before .before .before .before .before .store-bytes in
+    let s = copy-good (w .file .now) (length (w .nodes .now)) (length (w .items .now)) (w .row) (w .out .now) (r .result) (r .ensures .0) (p .given .1) (i .taken) (r .ensures .1 .0) (r .ensures .1 .1) (k .ensures) (k .kept .0) (c .before .before .clear-bytes-from .ensures) in
+    (s .0, (s .1, (s .2, s .3)))
+
+clear-all-requires : tie.Need-clear-all-requires
+clear-all-requires c κs = search needs
+
+clear-bytes-requires-2 : tie.Need-clear-bytes-requires-2
+clear-bytes-requires-2 c κs = search needs
 
 same-length-4 : tie.Need-same-length-4
 same-length-4 c = search needs
@@ -94,9 +96,12 @@ same-length-9 c = search needs
 
 returns-3 : tie.Need-returns-3
 returns-3 c =
-    let r = c .before .before .before .before .before .before .before .before .before .before .before .before .before .before .before .before .before .resolve in
-    let w = c .before .before .before .before .before .before .before .before .before .before .before .before .before .before .before .before .before .before .before .before .before .before .before .before .args in
-    let s = copy-good (w .file .now) (length (w .nodes .now)) (length (w .items .now)) (w .row) (w .out .now) (r .result) (r .ensures .0) (c .before .before .before .before .before .before .before .before .before .before .before .place .given .1) (c .before .before .before .before .before .before .before .before .before .if1 .left) (r .ensures .1 .0) (r .ensures .1 .1) (c .before .before .before .before .before .before .store-bytes .ensures) (c .before .before .before .before .before .before .store-bytes .kept .0) (c .before .before .clear-bytes-from .ensures) in
+    let r = c .before .before .before .before .before .before .before .before .before .before .before .before .before .before .before .before .before .before .before .resolve in
+    let w = c .before .before .before .before .before .before .before .before .before .before .before .before .before .before .before .before .before .before .before .before .before .before .before .before .before .before .args in
+    let p = c .before .before .before .before .before .before .before .before .before .before .before .before .before .place in
+    let i = c .before .before .before .before .before .before .before .before .before .before .before .if1 in
+    let k = c .before .before .before .before .before .before .before .before .clear-all .ensures in
+    let s = copy-full (w .file .now) (length (w .nodes .now)) (length (w .items .now)) (w .row) (w .out .now) (r .result) (r .ensures .0) (p .given .1) (i .left) (zeros (k .0) (r .kept .1 .0)) (zeros (k .1) (r .kept .1 .1 .0)) (c .before .before .clear-bytes2 .ensures) in
     (s .0, (s .1, (s .2, s .3)))
 
 pub copy-resource-spec : {M : Type 1} → statement M
@@ -107,18 +112,18 @@ copy-resource-spec =
     enum-known-n
     clear-bytes-requires
     enum-known-place
-    clear-all-requires
-    clear-bytes-requires-2
-    same-length
-    same-length-2
-    same-length-3
-    returns
     add-store-bytes
     sub-store-bytes
     part-store-bytes-start
     part-store-bytes-end
     store-bytes-requires
     clear-bytes-from-requires
+    same-length
+    same-length-2
+    same-length-3
+    returns
+    clear-all-requires
+    clear-bytes-requires-2
     same-length-4
     same-length-5
     same-length-6
