@@ -14,5 +14,7 @@ pub mod Demand
 pub mod Order
 pub mod Own
 pub mod Limited
+pub mod First
 pub mod Links
 pub mod Listed
+pub mod Stays
