@@ -17,3 +17,4 @@ pub mod Back
 pub mod Wider
 pub mod Post
 pub mod Runs
+pub mod Stays

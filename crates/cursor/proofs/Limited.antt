@@ -4,13 +4,13 @@
 use mathlib.Core.Path.{_≡_, refl, ap, _∙_, subst}
 use mathlib.Core.Bool.{Bool, true, false}
 use mathlib.Core.Logic.{_⊎_, inl, inr}
-use mathlib.Core.List.{List, [], _∷_}
+use mathlib.Core.List.{List, [], _∷_, _++_}
 use Prim.Native.Nat.{ℕ, zero, suc, _+_, _-_, _≤_, _<_}
 use native.Mathlib.Omega.{arith}
 use borrow.Author.Tests.{ltb-true, ltb-false}
 use lib.Dec.{T, ltb}
 use lib.ListN.{getD}
-use Rattle.cursor.specs.Machine.{ret, refuse, here, byte, pass, ok, seen, passed, run, trace, _>>=_, _>>_, if_then_else_, place, skip, check, turns, many, times}
+use Rattle.cursor.specs.Machine.{ret, refuse, here, byte, pass, Out, ok, refused, seen, passed, FirstAt, run, trace, _>>=_, _>>_, if_then_else_, place, skip, check, turns, many, times}
 use Rattle.cursor.specs.Rows.{Frame, Part, nodeRow, itemRow, plain, P, Events}
 use Rattle.cursor.specs.Refusals.{noRowLeft}
 use Rattle.cursor.proofs.Uses.{UsesOf, passing, NoRow, Rowless}
@@ -103,12 +103,13 @@ module _ {A : Type 0} where
   unfolding _>>=_ _>>_ skip
   makes-row w n m t = record { row = inl t }
 
--- ---- m is o under smaller limits, when c rows were made: where m refuses for want of a row, o would make one. Q holds of each answer and the rows made then.
+-- ---- m is o under smaller limits, when c rows were made: where m refuses for want of a row, it does so at once, and o would make one. Q holds of each answer and
+-- the rows made then.
 
 pub data Limited {A : Type 0} (lim : Rows) (Q : A → Rows → Type 0) : Rows → P A → P A → Type 0 where
   answer : {c : Rows} {a : A} → Q a c → Limited lim Q c (ret a) (ret a)
   same : {c : Rows} {n p : ℕ} → Limited lim Q c (refuse n p) (refuse n p)
-  full : {c : Rows} (κ : Kind) {p : ℕ} {o : P A} → lim κ ≤ c κ → Makes κ o → Limited lim Q c (refuse noRowLeft p) o
+  full : {c : Rows} (κ : Kind) {o : ℕ → P A} → lim κ ≤ c κ → ((at : ℕ) → Makes κ (o at)) → Limited lim Q c (here λ p. refuse noRowLeft p) (here o)
   asked : {c : Rows} {k l : ℕ → P A} → ((at : ℕ) → Limited lim Q c (k at) (l at)) → Limited lim Q c (here k) (here l)
   read : {c : Rows} {φ : Frame} {k l : ℕ → P A} → ((b : ℕ) → Limited lim Q c (k b) (l b)) → Limited lim Q c (byte φ k) (byte φ l)
   moved : {c : Rows} {w : Part} {n : ℕ} {m o : P A} → Limited lim Q (more w c) m o → Limited lim Q c (pass w n m) (pass w n o)
@@ -145,11 +146,73 @@ module _ {A : Type 0} {lim : Rows} {Q : A → Rows → Type 0} where
   unfolding run trace
   fitting-run (answer q) f at e h = (e, refl)
   fitting-run same f at e h = (e, refl)
-  fitting-run (full κ {o = o} l w) f at e h = let s = some-row κ o f at (w .row) e in let u = h κ in absurd (omega arith)
+  fitting-run (full κ {o = o} l w) f at e h = let s = some-row κ (o at) f at (w at .row) e in let u = h κ in absurd (omega arith)
   fitting-run (asked k) f at e h = fitting-run (k at) f at e h
   fitting-run (read {φ = φ} k) f at e h = let (r, t) = fitting-run (k (getD f at 0)) f (at + 1) e h in (r, ap (λ es. seen φ at ∷ es) t)
   fitting-run {c} (moved {w = w} {n} {o = o} k) f at e h =
       let (r, t) = fitting-run k f (at + n) e (λ κ. rw (plus-on (makes κ w) (c κ) (count (trace o f (at + n)) κ)) (h κ)) in (r, ap (λ es. passed w at n ∷ es) t)
+
+-- ---- each run is the same; or it is refused for want of a row, at the place that it came to
+
+-- A run that gave o, with events es, where under the larger limits it gave v, with events fs, and c rows were made before: these begin with es, and go on at the
+-- refusal's place, unless v is a refusal there.
+pub record Early {A : Type 0} (lim c : Rows) (o v : Out A) (es fs : Events) : Type 0 where
+  pub place : ℕ
+  pub refuses : o ≡ refused noRowLeft place
+  pub rest : Events
+  pub goes-on : fs ≡ es ++ rest
+  pub next : FirstAt place rest
+  pub some : {a : A} {q : ℕ} → v ≡ ok a q → rest ≡ [] → ⊥
+  pub kind : Kind
+  pub none-left : lim kind ≤ c kind + count es kind
+
+first-at : {A : Type 0} (m : P A) (f : List ℕ) (at : ℕ) → FirstAt at (trace m f at)
+unfolding trace
+first-at (ret a) f at = tt
+first-at (refuse n p) f at = tt
+first-at (here k) f at = first-at (k at) f at
+first-at (byte κ k) f at = refl
+first-at (pass w n m) f at = refl
+
+abbrev pub Either : {A : Type 0} → (lim c : Rows) (o v : Out A) (es fs : Events) → Type 0
+Either lim c o v es fs = ((o ≡ v) × (es ≡ fs)) ⊎ Early lim c o v es fs
+
+module _ {A : Type 0} {lim : Rows} where
+  one-seen : {c : Rows} {o v : Out A} {es fs : Events} (φ : Frame) (at : ℕ) → Either lim c o v es fs → Either lim c o v (seen φ at ∷ es) (seen φ at ∷ fs)
+  one-seen φ at (inl w) = inl (w .0, ap (λ es. seen φ at ∷ es) (w .1))
+  one-seen φ at (inr w) =
+      inr (record { place = w .place; refuses = w .refuses; rest = w .rest; goes-on = ap (λ es. seen φ at ∷ es) (w .goes-on); next = w .next; some = w .some; kind = w .kind; none-left = w .none-left })
+
+  one-passed : {c : Rows} {o v : Out A} {es fs : Events} (p : Part) (at n : ℕ) → Either lim (more p c) o v es fs → Either lim c o v (passed p at n ∷ es) (passed p at n ∷ fs)
+  one-passed p at n (inl w) = inl (w .0, ap (λ es. passed p at n ∷ es) (w .1))
+  one-passed {c} {es = es} p at n (inr w) = inr (record {
+    place = w .place;
+    refuses = w .refuses;
+    rest = w .rest;
+    goes-on = ap (λ es. passed p at n ∷ es) (w .goes-on);
+    next = w .next;
+    some = w .some;
+    kind = w .kind;
+    none-left = subst (λ v. lim (w .kind) ≤ v) (plus-on (makes (w .kind) p) (c (w .kind)) (count es (w .kind))) (w .none-left);
+  })
+
+  pub limited-either : {Q : A → Rows → Type 0} {c : Rows} {m o : P A} → Limited lim Q c m o → (f : List ℕ) (at : ℕ) → Either lim c (run m f at) (run o f at) (trace m f at) (trace o f at)
+  unfolding run trace
+  limited-either (answer q) f at = inl (refl, refl)
+  limited-either same f at = inl (refl, refl)
+  limited-either (full κ {o} l w) f at = inr (record {
+    place = at;
+    refuses = refl;
+    rest = trace (o at) f at;
+    goes-on = refl;
+    next = first-at (o at) f at;
+    some = λ e z. let s = some-row κ (o at) f at (w at .row) e in let c : count (trace (o at) f at) κ ≡ 0 = ap (λ (es : Events). count es κ) z in absurd (omega arith);
+    kind = κ;
+    none-left = omega arith;
+  })
+  limited-either (asked h) f at = limited-either (h at) f at
+  limited-either (read {φ = φ} h) f at = one-seen φ at (limited-either (h (getD f at 0)) f (at + 1))
+  limited-either (moved {w = w} {n} h) f at = one-passed w at n (limited-either h f (at + n))
 
 -- ---- the rules
 
@@ -159,7 +222,7 @@ module _ {lim : Rows} where
   unfolding _>>=_
   after (answer {c = c} {a} q) k = k a c q
   after same k = same
-  after {h = h} (full κ l w) k = full κ l (makes-first h w)
+  after {h = h} (full κ l w) k = full κ l (λ at. makes-first h (w at))
   after (asked w) k = asked (λ at. after (w at) k)
   after (read w) k = read (λ b. after (w b) k)
   after (moved w) k = moved (after w k)
@@ -209,16 +272,16 @@ module _ {lim : Rows} where
     checks false n p w = same
 
     -- the check that a row is left, when n were made; `most` is the larger limit
-    pub row-checks : {Q : A → Rows → Type 0} {c : Rows} (κ : Kind) (n most p : ℕ) {m o : P A} → n ≡ c κ → lim κ ≤ most → Makes κ o → (c κ < lim κ → Limited lim Q c m o)
-        → Limited lim Q c (check (ltb n (lim κ)) noRowLeft p >> m) (check (ltb n most) noRowLeft p >> o)
-    unfolding _>>=_ _>>_ check
-    row-checks {Q} {c} κ n most p {m} {o} x l w k = by (ltb n (lim κ)) (ltb n most) refl refl
+    pub row-checks : {Q : A → Rows → Type 0} {c : Rows} (κ : Kind) (n most : ℕ) {m o : ℕ → P A} → n ≡ c κ → lim κ ≤ most → ((p : ℕ) → Makes κ (o p)) → (c κ < lim κ → (p : ℕ) → Limited lim Q c (m p) (o p))
+        → Limited lim Q c (place >>= λ p. check (ltb n (lim κ)) noRowLeft p >> m p) (place >>= λ p. check (ltb n most) noRowLeft p >> o p)
+    unfolding _>>=_ _>>_ check place
+    row-checks {Q} {c} κ n most {m} {o} x l w k = by (ltb n (lim κ)) (ltb n most) refl refl
       where
-        by : (s t : Bool) → ltb n (lim κ) ≡ s → ltb n most ≡ t → Limited lim Q c (check s noRowLeft p >> m) (check t noRowLeft p >> o)
-        by true true a b = k (omega (arith, ltb-true n (lim κ) a))
+        by : (s t : Bool) → ltb n (lim κ) ≡ s → ltb n most ≡ t → Limited lim Q c (place >>= λ p. check s noRowLeft p >> m p) (place >>= λ p. check t noRowLeft p >> o p)
+        by true true a b = asked (k (omega (arith, ltb-true n (lim κ) a)))
         by true false a b = absurd (omega (arith, ltb-true n (lim κ) a, ltb-false n most b))
         by false true a b = let z : lim κ ≤ c κ = omega (arith, ltb-false n (lim κ) a) in full κ z w
-        by false false a b = same
+        by false false a b = asked (λ p. same)
 
     pub passes : {Q : A → Rows → Type 0} {c : Rows} (w : Part) (n : ℕ) {m o : P A} → Limited lim Q (more w c) m o → Limited lim Q c (skip w n >> m) (skip w n >> o)
     unfolding _>>=_ _>>_ skip

@@ -1,5 +1,6 @@
 -- The reading machine. A definition of the format is a program: it says what it asks for, and what the bytes are that it passes over. Knows nothing of a format.
 -- Assumes nothing.
+use mathlib.Core.Path.{_≡_}
 use mathlib.Core.Bool.{Bool, true, false, cond}
 use mathlib.Core.List.{List, [], _∷_, _++_}
 use Prim.Native.Nat.{ℕ, zero, suc, _+_, _-_}
@@ -24,6 +25,12 @@ pub data Out (A : Type 0) : Type 0 where
 pub data Event (K W : Type 0) : Type 0 where
   seen : K → ℕ → Event K W
   passed : W → ℕ → ℕ → Event K W
+
+-- the first of them, if there is one, is at p
+abbrev pub FirstAt : {K W : Type 0} → (p : ℕ) → List (Event K W) → Type 0
+FirstAt p [] = Unit {0}
+FirstAt p (seen κ q ∷ es) = q ≡ p
+FirstAt p (passed w q n ∷ es) = q ≡ p
 
 -- ---- three ways to run a program on a file from a place
 

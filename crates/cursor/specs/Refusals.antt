@@ -150,6 +150,10 @@ placeless =
     tooLarge ∷ noSuchRow ∷ endsAtFolder ∷ endsAtUri ∷ tooManyHops ∷ noRoom ∷ noSuchItem ∷ noSuchCard ∷ noFreeCard ∷ alreadyThere
     ∷ sheetTooLong ∷ tooManyFiles ∷ refersElsewhere ∷ notATitle ∷ resultTooLarge ∷ damagedShelf ∷ []
 
+-- those that are placed in the file, at most at its length (17 at 0). The rest are placed in other data: 26 in a text, 31 in a sheet (a line), 33 to 35 in a tag.
+abbrev pub inFile : List ℕ
+inFile = badDescription ∷ ofReader
+
 -- ---- membership
 
 -- whether n is one of these

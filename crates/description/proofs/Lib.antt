@@ -3,3 +3,4 @@ pub mod Ways
 pub mod Exits
 pub mod Depends
 pub mod Listed
+pub mod Stays

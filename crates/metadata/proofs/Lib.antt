@@ -5,3 +5,4 @@ pub mod Ends
 pub mod Ways
 pub mod Order
 pub mod Limited
+pub mod Stays

@@ -1,7 +1,7 @@
 -- A node's metadata under smaller limits.
 -- Assumes nothing.
 use mathlib.Core.Path.{_≡_}
-use Prim.Native.Nat.{ℕ, _+_, _-_, _≤_}
+use Prim.Native.Nat.{ℕ, _+_, _≤_}
 use native.Mathlib.Omega.{arith}
 use Rattle.cursor.specs.Machine.{place}
 use Rattle.cursor.proofs.Uses.{number-uses, block-uses, block-with}
@@ -39,16 +39,16 @@ module _ {lim most : Limits} (less : Less lim most) (x : Context) (k : ℕ) wher
     universal-limited : (m : Made) (c : Rows) → Items lim k m c → Limited (room lim) (Items lim k) c (universal (under x lim) l end m) (universal (under x most) l end m)
     unfolding universal
     universal-limited m c i =
-        places λ p. row-checks item (m .items) (most .items) p (i .2) (less .items)
-        (makes-then _ λ n. makes-check _ _ _ (makes-then place λ q. makes-then _ λ format. makes-then place λ r. makes-row _ _ _ tt)) λ left.
+        row-checks item (m .items) (most .items) (i .2) (less .items)
+        (λ p. makes-then _ λ n. makes-check _ _ _ (makes-then place λ q. makes-then _ λ format. makes-then place λ r. makes-row _ _ _ tt)) λ left p.
         (then-rowless (block-uses _ tt end) λ n d a b. checks _ _ _ (places λ q. then-rowless (number-uses _ tt (q + n)) λ format e a′ b′. places λ r.
         passes _ _ (ends (omega arith, omega arith, omega arith, omega arith))))
 
     version-limited : (before : ℕ) (m : Made) (c : Rows) → Items lim k m c → Limited (room lim) (Items lim k) c (version (under x lim) l end before m) (version (under x most) l end before m)
     unfolding version
     version-limited before m c i =
-        places λ p. row-checks item (m .items) (most .items) p (i .2) (less .items)
-        (makes-then _ λ t. makes-then _ λ format. makes-then _ λ n. makes-then place λ q. makes-row _ _ _ tt) λ left.
+        row-checks item (m .items) (most .items) (i .2) (less .items)
+        (λ p. makes-then _ λ t. makes-then _ λ format. makes-then _ λ n. makes-then place λ q. makes-row _ _ _ tt) λ left p.
         (then-rowless (number-uses _ tt end) λ t d a b. then-rowless (format-uses p (formatOf (x .types) t)) λ format d₁ a₁ b₁. then-rowless (block-uses _ tt end) λ n d₂ a₂ b₂. places λ q.
         passes _ _ (ends (omega arith, omega arith, omega arith, omega arith)))
 

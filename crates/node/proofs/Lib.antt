@@ -4,3 +4,4 @@ pub mod Ends
 pub mod Ways
 pub mod Order
 pub mod Limited
+pub mod Stays

@@ -5,7 +5,7 @@ use mathlib.Core.Path.{_≡_, refl, sym, ap, _∙_, subst}
 use mathlib.Core.Bool.{Bool, true, false, cond, not, _&&_, _||_}
 use mathlib.Core.Logic.{_⊎_, inl, inr}
 use mathlib.Core.List.{List, [], _∷_, _++_, map}
-use Prim.Native.Nat.{ℕ, _+_, _%_, _<_, _-_, _^_}
+use Prim.Native.Nat.{ℕ, _+_, _%_, _≤_, _<_, _-_, _^_}
 use native.Mathlib.Nat.{sub-zero}
 use native.Mathlib.Decide.{decLt}
 use native.Mathlib.Omega.{arith}
@@ -13,7 +13,7 @@ use lib.Dec.{T, eqb, ltb, leb}
 use lib.ListN.{length, getD, replicate, take, drop, length-append, length-take, length-drop}
 use lib.Seq.{getD-take, getD-drop, take-append-seam, take-append-add, drop-append-add, getD-append-add, take-at, drop-at}
 use borrow.Author.Tests.{ne-eqb, leb-false}
-use Rattle.cursor.specs.Refusals.{ofReader, isAllowed}
+use Rattle.cursor.specs.Refusals.{ofReader, inFile, isAllowed}
 use Rattle.cursor.specs.Vlq.{part}
 use Rattle.cursor.specs.declared.Node.{Node}
 use Rattle.cursor.specs.declared.Item.{Item}
@@ -28,8 +28,11 @@ use Rattle.tree.specs.Told as tree
 use Rattle.tree.specs.Asking.{Result, good, bad, ask, keptNodes, keptItems, writtenNodes, writtenItems, Asks, counts}
 use Rattle.tree.specs.Hidden.{isHidden, mayDiffer, DifferInPrivate}
 use Rattle.tree.proofs.Demand.{Alike, RowAlike, privateData, private-alike, rows-alike}
-use Rattle.tree.proofs.Limited.{no-less, to-wider, to-narrower, to-either}
+use Rattle.tree.proofs.Limited.{no-less, to-wider, to-narrower}
+use Rattle.tree.proofs.First.{steps-made, to-either}
 use Rattle.tree.proofs.Listed.{refusal-listed}
+use Rattle.tree.proofs.Stays.{refusal-inside}
+use Rattle.tree.proofs.Rows.{accepted}
 use Rattle.find.specs.Find as find
 use Rattle.find.proofs.Listed.{find-listed, find-own-listed}
 use Rattle.find.proofs.Depends.{find-same, find-own-same}
@@ -38,6 +41,7 @@ use Rattle.resolve.specs.Told.{Given}
 use Rattle.resolve.proofs.Listed.{resolve-listed, copy-listed}
 use Rattle.description.specs.Count as count
 use Rattle.description.proofs.Listed.{count-listed}
+use Rattle.description.proofs.Stays.{count-placed}
 use Rattle.description.proofs.Depends.{count-same}
 use Rattle.mobile.specs.Mobile as mobile
 use Rattle.mobile.proofs.Depends.{verdict-depends}
@@ -49,14 +53,14 @@ use Rattle.title.proofs.Again.{corrected, correct-says, correct-least, correct-
 use Rattle.title.proofs.Listed.{title-listed}
 use Rattle.title.proofs.Demand as titles
 use Rattle.room.specs.Room as room
-use Rattle.room.specs.Room.{Among}
-use Rattle.room.proofs.Listed.{allowed-front, among-back, fitted, fitting-among}
+use Rattle.room.specs.Room.{Among, PlacedIn}
+use Rattle.room.proofs.Listed.{allowed-front, among-back, areApart, apart-placed, fitted, fitting-among}
 use Rattle.unicode.specs.Unicode as unicode
 use Rattle.unicode.proofs.Listed.{utf8-listed, utf16-listed}
 use Rattle.unicode.proofs.Back.{placed8, placed16}
 use Rattle.promises.specs.Promises.{Question, readTree, findItem, findOwn, resolveRow, copyResource, countFor, judgeMobile, writeSheet, correctTitle, toUtf8, toUtf16, Sizes, size, reads}
 use Rattle.promises.specs.Promises.{Tables, noTables, ofFile, ofWritten, Lent, filled, copied, given, changed, About, overRows, rowsIntoRoom, dataIntoRoom, treeValues, resourceValues, oneValue, sizeValue, bytes, about}
-use Rattle.promises.specs.Promises.{Outcome, saying, rowTables, tablesLent, lent, holding, answerTo, leaves, outcome, resource, IsRefusal, Accepted, InTables, newFile, AnsweredOf, Shows, IsAnswer, Demand1, FitsExactly, FirstApplies}
+use Rattle.promises.specs.Promises.{Outcome, saying, rowTables, tablesLent, lent, holding, answerTo, leaves, outcome, resource, IsRefusal, Accepted, InTables, newFile, AnsweredOf, Shows, IsAnswer, Demand1, FitsExactly, StepsMake, FirstApplies}
 use Rattle.promises.specs.Promises.{OnlyThere, PrivateAlone, AlikeIn, EachAlike, OutcomesAlike, Demand3, InTurn, Correction, Corrects}
 use Rattle.promises.specs.Calls.{Called, left, Over, Fills, read-tree, find-item, find-own, resolve-row, copy-resource, count-for, judge, write-sheet, to-utf8, to-utf16, correct-title, EachLeaves, CallsAlike, PartsAlike}
 
@@ -403,9 +407,16 @@ fits-exactly ls f h ns is = (
   λ e l. let w = to-wider (no-less (limits fullNodes fullItems)) f e in to-narrower (less ls) f e (omega (arith, w .1)) (omega (arith, w .2)),
 )
 
+pub steps-make : StepsMake
+unfolding reads
+steps-make ls f h ns is e = steps-made (limits (size ls 0) (size ls 1)) f e
+
 pub first-applies : FirstApplies
 unfolding reads
-first-applies ls f = to-either (less ls) f
+first-applies ls f = elim (to-either (less ls) f) [
+  | inl w ↦ inl w
+  | inr w ↦ inr (record { place = w .place; refused = w .refuses; none-left = w .none-left; rest = w .rest; goes-on = w .goes-on; next = w .next })
+]
 
 -- ---- a refusal or an answer
 
@@ -420,44 +431,75 @@ unfolding ask
 asked-listed own (rows h ns is) q a b = among-back ofReader own (q h ns is) (b h ns is)
 asked-listed own (refusal n p) q a b = allowed-front ofReader own n p (a n p refl)
 
+-- the reader's refusal is placed in the file; so is the question's own
+asked-placed : {A : Type 0} (f : List ℕ) (o : Reading) (q : Header → List Node → List Item → Result A) → ((n p : ℕ) → o ≡ refusal n p → p ≤ length f)
+    → ((h : Header) (ns : List Node) (is : List Item) → o ≡ rows h ns is → PlacedIn (length f) (q h ns is)) → PlacedIn (length f) (ask o q)
+unfolding ask
+asked-placed f (rows h ns is) q a b = b h ns is refl
+asked-placed f (refusal n p) q a b = λ i. a n p refl
+
+rows-placed : {A : Type 0} (question : Asks A) (ls : Sizes) (f : List ℕ) → ((h : Header) (ns : List Node) (is : List Item) → reads ls f ≡ rows h ns is → PlacedIn (length f) (question f h ns is))
+    → PlacedIn (length f) (ask (reads ls f) (question f))
+unfolding reads
+rows-placed question ls f k = asked-placed f (reads ls f) (question f) (λ n p e. refusal-inside (limits (size ls 0) (size ls 1)) f e) k
+
 -- where a question answers, the file has rows
 answered : {A : Type 0} (o : Reading) (q : Header → List Node → List Item → Result A) {a : A} → ask o q ≡ good a → (h : Header) × (ns : List Node) × (is : List Item) × (o ≡ rows h ns is)
 unfolding ask
 answered (rows h ns is) q e = (h, ns, is, refl)
 answered (refusal n p) q e = let z : _≡_ {A = ℕ} 0 1 = cc in absurd (omega arith)
 
--- what each entry has to show: its refusals are its own, its answers have as many values as it says, and the tables hold what it says
+-- what each entry has to show: its refusals are its own and in their places, its answers have as many values as it says, and the tables hold what it says
 record Meets (q : About) : Type 0 where
   listed : (ls : Sizes) (f : List ℕ) → Among (q .refusals) (answerTo ls f (q .asks ls))
+  placed : (ls : Sizes) (f : List ℕ) → PlacedIn (length f) (answerTo ls f (q .asks ls))
   wide : (a : q .Answer) → length (q .values a) ≡ q .number
   shown : (ls : Sizes) (f : List ℕ) (a : q .Answer) → answerTo ls f (q .asks ls) ≡ good a → AnsweredOf (q .asks ls) ls f × Shows (q .tables) ls f (leaves q ls f (good a))
 
-choice-by : (q : About) → Meets q → (ls : Sizes) (f : List ℕ) (r : Result (q .Answer)) → answerTo ls f (q .asks ls) ≡ r → Among (q .refusals) r → IsRefusal q ls f (leaves q ls f r) ⊎ IsAnswer q ls f (leaves q ls f r)
+choice-by : (q : About) → Meets q → (ls : Sizes) (f : List ℕ) (r : Result (q .Answer)) → answerTo ls f (q .asks ls) ≡ r → Among (q .refusals) r → PlacedIn (length f) r → IsRefusal q ls f (leaves q ls f r) ⊎ IsAnswer q ls f (leaves q ls f r)
 unfolding leaves
-choice-by q m ls f (good a) e k = let s = m .shown ls f a e in inr (q .values a, refl, m .wide a, s .0, s .1)
-choice-by q m ls f (bad n p) e k = inl (n, p, refl, k, refl)
+choice-by q m ls f (good a) e k i = let s = m .shown ls f a e in inr (q .values a, refl, m .wide a, s .0, s .1)
+choice-by q m ls f (bad n p) e k i = inl (n, p, refl, k, i, refl)
 
 -- a question of a file's rows
 rows-listed : {A : Type 0} (own : List ℕ) (question : Asks A) → ((f : List ℕ) (h : Header) (ns : List Node) (is : List Item) → Among own (question f h ns is))
     → (ls : Sizes) (f : List ℕ) → Among (ofReader ++ own) (ask (reads ls f) (question f))
 rows-listed own question k ls f = asked-listed own (reads ls f) (question f) (reader-listed ls f) (k f)
 
-over-meets : {A : Type 0} (question : Asks A) (values : A → List ℕ) (number : ℕ) (own : List ℕ)
-    → ((f : List ℕ) (h : Header) (ns : List Node) (is : List Item) → Among own (question f h ns is)) → ((a : A) → length (values a) ≡ number) → Meets (overRows question values number own)
+rows-meet : {A : Type 0} (question : Asks A) (values : A → List ℕ) (number : ℕ) (own : List ℕ) → ((f : List ℕ) (h : Header) (ns : List Node) (is : List Item) → Among own (question f h ns is))
+    → ((ls : Sizes) (f : List ℕ) (h : Header) (ns : List Node) (is : List Item) → reads ls f ≡ rows h ns is → PlacedIn (length f) (question f h ns is))
+    → ((a : A) → length (values a) ≡ number) → Meets (overRows question values number own)
 unfolding leaves
-over-meets question values number own k w = record { listed = rows-listed own question k; wide = w; shown = λ ls f a e. let x = answered (reads ls f) (question f) e in (x, (x, refl)) }
+rows-meet question values number own k i w = record {
+  listed = rows-listed own question k;
+  placed = λ ls f. rows-placed question ls f (i ls f);
+  wide = w;
+  shown = λ ls f a e. let x = answered (reads ls f) (question f) e in (x, (x, refl));
+}
 
-room-meets : (question : (room : ℕ) → Asks (List ℕ)) (own : List ℕ) → ((n : ℕ) (f : List ℕ) (h : Header) (ns : List Node) (is : List Item) → Among own (question n f h ns is)) → Meets (rowsIntoRoom question own)
+-- one whose own refusals name no place of the file
+over-meets : {A : Type 0} (question : Asks A) (values : A → List ℕ) (number : ℕ) (own : List ℕ) → T (areApart own inFile)
+    → ((f : List ℕ) (h : Header) (ns : List Node) (is : List Item) → Among own (question f h ns is)) → ((a : A) → length (values a) ≡ number) → Meets (overRows question values number own)
+over-meets question values number own t k w = rows-meet question values number own k (λ ls f h ns is e. apart-placed own t (length f) (question f h ns is) (k f h ns is)) w
+
+room-meets : (question : (room : ℕ) → Asks (List ℕ)) (own : List ℕ) → T (areApart own inFile)
+    → ((n : ℕ) (f : List ℕ) (h : Header) (ns : List Node) (is : List Item) → Among own (question n f h ns is)) → Meets (rowsIntoRoom question own)
 unfolding leaves
-room-meets question own k = record {
+room-meets question own t k = record {
   listed = λ ls. rows-listed own (question (size ls 2)) (k (size ls 2)) ls;
+  placed = λ ls f. rows-placed (question (size ls 2)) ls f (λ h ns is e. apart-placed own t (length f) (question (size ls 2) f h ns is) (k (size ls 2) f h ns is));
   wide = λ a. refl;
   shown = λ ls f a e. let x = answered (reads ls f) (question (size ls 2) f) e in (x, (x, refl));
 }
 
 -- a question of lent data alone
-data-meets : (text : Result (List ℕ)) (own : List ℕ) → T (isAllowed own 22 0) → Among own text → Meets (dataIntoRoom text own)
-data-meets text own t k = record { listed = λ ls f. fitting-among own t (size ls 0) text k; wide = λ a. refl; shown = λ ls f a e. (tt, tt) }
+data-meets : (text : Result (List ℕ)) (own : List ℕ) → T (areApart own inFile) → T (isAllowed own 22 0) → Among own text → Meets (dataIntoRoom text own)
+data-meets text own a t k = record {
+  listed = λ ls f. fitting-among own t (size ls 0) text k;
+  placed = λ ls f. apart-placed own a (length f) (room.fitting (size ls 0) text) (fitting-among own t (size ls 0) text k);
+  wide = λ a. refl;
+  shown = λ ls f a e. (tt, tt);
+}
 
 -- ---- the correction of a title
 
@@ -506,7 +548,12 @@ title-shows i text ls f g e =
     ((h, ns, is, z), subst (λ v. InTables ls v (leaves (about (correctTitle i text)) ls f (good g))) (sym (new-is i text ls f g)) ((s .header, s .nodes, s .items, s .reads), refl))
 
 title-meets : (i : ℕ) (text : List ℕ) → Meets (about (correctTitle i text))
-title-meets i text = record { listed = λ ls. rows-listed title.refusals (title.correctTitle i text (size ls 2)) (title-listed i text (size ls 2)) ls; wide = λ a. refl; shown = title-shows i text }
+title-meets i text = record {
+  listed = λ ls. rows-listed title.refusals (title.correctTitle i text (size ls 2)) (title-listed i text (size ls 2)) ls;
+  placed = λ ls f. rows-placed (title.correctTitle i text (size ls 2)) ls f (λ h ns is e. apart-placed title.refusals tt (length f) (title.correctTitle i text (size ls 2) f h ns is) (title-listed i text (size ls 2) f h ns is));
+  wide = λ a. refl;
+  shown = title-shows i text;
+}
 
 -- ---- demand 1
 
@@ -519,27 +566,33 @@ mobile-listed : (f : List ℕ) (h : Header) (ns : List Node) (is : List Item) �
 unfolding mobile.mobile
 mobile-listed f h ns is = tt
 
+-- the rows of an accepted file lie in it, so 25 does
+count-rows : (item channel resource : ℕ) (ls : Sizes) (f : List ℕ) (h : Header) (ns : List Node) (is : List Item) → reads ls f ≡ rows h ns is → PlacedIn (length f) (count.countFor item channel resource f h ns is)
+unfolding reads
+count-rows item channel resource ls f h ns is e = count-placed f channel resource item h ns is (accepted (limits (size ls 0) (size ls 1)) f e .items-inside)
+
 meets : (q : Question) → Meets (about q)
 unfolding leaves
-meets readTree = over-meets _ _ _ _ counts-listed (λ a. refl)
-meets (findItem w row) = over-meets _ _ _ _ (find-listed w row) (λ a. refl)
-meets (findOwn w row) = over-meets _ _ _ _ (find-own-listed w row) (λ a. refl)
-meets (resolveRow row) = over-meets _ _ _ _ (resolve-listed row) (λ a. refl)
+meets readTree = over-meets _ _ _ _ tt counts-listed (λ a. refl)
+meets (findItem w row) = over-meets _ _ _ _ tt (find-listed w row) (λ a. refl)
+meets (findOwn w row) = over-meets _ _ _ _ tt (find-own-listed w row) (λ a. refl)
+meets (resolveRow row) = over-meets _ _ _ _ tt (resolve-listed row) (λ a. refl)
 meets (copyResource row) = record {
   listed = λ ls. rows-listed resolve.copyRefusals (resolve.copyInto row (size ls 2)) (copy-listed row (size ls 2)) ls;
+  placed = λ ls f. rows-placed (resolve.copyInto row (size ls 2)) ls f (λ h ns is e. apart-placed resolve.copyRefusals tt (length f) (resolve.copyInto row (size ls 2) f h ns is) (copy-listed row (size ls 2) f h ns is));
   wide = λ a. refl;
   shown = λ ls f a e. let x = answered (reads ls f) (resolve.copyInto row (size ls 2) f) e in (x, (x, refl));
 }
-meets (countFor item channel resource) = over-meets _ _ _ _ (count-listed item channel resource) (λ a. refl)
-meets judgeMobile = over-meets _ _ _ _ mobile-listed (λ a. refl)
-meets writeSheet = room-meets sheet.write _ sheet-listed
+meets (countFor item channel resource) = rows-meet _ _ _ _ (count-listed item channel resource) (count-rows item channel resource) (λ a. refl)
+meets judgeMobile = over-meets _ _ _ _ tt mobile-listed (λ a. refl)
+meets writeSheet = room-meets sheet.write _ tt sheet-listed
 meets (correctTitle i text) = title-meets i text
-meets (toUtf8 units) = data-meets _ _ tt (utf8-listed units)
-meets (toUtf16 text) = data-meets _ _ tt (utf16-listed text)
+meets (toUtf8 units) = data-meets _ _ tt tt (utf8-listed units)
+meets (toUtf16 text) = data-meets _ _ tt tt (utf16-listed text)
 
 choice : (q : Question) (ls : Sizes) (f : List ℕ) → IsRefusal (about q) ls f (outcome q ls f) ⊎ IsAnswer (about q) ls f (outcome q ls f)
 unfolding outcome
-choice q ls f = choice-by (about q) (meets q) ls f _ refl (meets q .listed ls f)
+choice q ls f = choice-by (about q) (meets q) ls f _ refl (meets q .listed ls f) (meets q .placed ls f)
 
 -- where resolve is refused, there is no part
 no-part : (row : ℕ) (ls : Sizes) (f : List ℕ) (r : Result resolve.Resource) → IsRefusal (about (resolveRow row)) ls f (leaves (about (resolveRow row)) ls f r) → resolve.part f r ≡ []
@@ -589,7 +642,7 @@ in-turn i text q ls f g h ns is r d =
     let w = outcome-alike ls f g h ns is r d (correctTitle i text) in
     let y : take (getD (o .answer) 2 0) (getD (o′ .holds) 2 []) ≡ newFile o′ = ap (λ (v : List ℕ). take (getD v 2 0) (getD (o′ .holds) 2 [])) (sym (w .0)) in
     elim (choice (correctTitle i text) ls f) [
-      | inl (n, p, e, t, u) ↦
+      | inl (n, p, e, t, _, u) ↦
           let z : newFile o′ ≡ newFile o = none-written o′ (w .0 ∙ e) ∙ sym (none-written o e) in
           subst (λ v. OutcomesAlike (about q) ls (newFile o) v (outcome q ls (newFile o)) (outcome q ls v)) (sym z) (same-alike (about q) ls (newFile o) (newFile o) refl refl refl)
       | inr (vs, e, l, _, k) ↦

@@ -7,13 +7,16 @@ use mathlib.Core.List.{List, [], _∷_, _++_, map}
 use Prim.Native.Nat.{ℕ, _+_, _*_, _≤_, _<_}
 use lib.Dec.{T}
 use lib.ListN.{length, getD, replicate, take, drop}
-use Rattle.cursor.specs.Refusals.{noRowLeft, badText, ofReader, isAllowed}
+use Rattle.cursor.specs.Machine.{FirstAt}
+use Rattle.cursor.specs.Rows.{Events}
+use Rattle.cursor.specs.Refusals.{noRowLeft, badText, ofReader, inFile, isOneOf, isAllowed}
 use Rattle.cursor.specs.Vlq.{part}
 use Rattle.cursor.specs.declared.Node.{Node}
 use Rattle.cursor.specs.declared.Item.{Item}
 use Rattle.header.specs.Header.{Header}
 use Rattle.metadata.specs.Tables.{limits, nodeWidth, itemWidth, mostNodes, mostItems, itemWords}
-use Rattle.tree.specs.Reading.{Reading, rows, refusal, readFile, nodeTable, itemTable}
+use Rattle.tree.specs.Reading.{Reading, rows, refusal, readFile, nodesOf, itemsOf, nodeTable, itemTable}
+use Rattle.tree.specs.Steps.{steps}
 use Rattle.tree.specs.Asking.{Asks, Result, good, bad, ask, Counts, counts}
 use Rattle.tree.specs.Hidden.{DifferInPrivate}
 use Rattle.tree.specs.Own.{Numbered}
@@ -222,9 +225,11 @@ resource row ls f = resolve.part f (ask (reads ls f) (resolve.resolve row f))
 
 -- ---- Demand 1. Whatever the bytes, the sizes and the question, a call's outcome is a refusal or an answer.
 
--- a refusal: number and place, of those the question may give, with place 0 where no field is named; every table and buffer is cleared, or left as its entry says
+-- a refusal: number and place, of those the question may give, with place 0 where no field is named, and a place of the file or its end where one of its fields is;
+-- every table and buffer is cleared, or left as its entry says
 abbrev pub IsRefusal : About → Sizes → (file : List ℕ) → Outcome → Type 0
-IsRefusal q ls f o = (n : ℕ) × (p : ℕ) × (o .answer ≡ n ∷ p ∷ []) × T (isAllowed (q .refusals) n p) × (o .holds ≡ map (onRefusal n) (lent q ls f))
+IsRefusal q ls f o =
+    (n : ℕ) × (p : ℕ) × (o .answer ≡ n ∷ p ∷ []) × T (isAllowed (q .refusals) n p) × (T (isOneOf n inFile) → p ≤ length f) × (o .holds ≡ map (onRefusal n) (lent q ls f))
 
 -- the file is accepted
 abbrev pub Accepted : Sizes → (file : List ℕ) → Type 0
@@ -274,9 +279,27 @@ abbrev pub FitsExactly : Type 0
 FitsExactly = (ls : Sizes) (f : List ℕ) (h : Header) (ns : List Node) (is : List Item)
     → (reads ls f ≡ rows h ns is → (reads full f ≡ rows h ns is) × Fit ls ns is) × (reads full f ≡ rows h ns is → Fit ls ns is → reads ls f ≡ rows h ns is)
 
--- And what is refused is refused for the first thing that applies: with the tables lent a file reads as with full ones, or a row is to be made and none is left.
+-- And what is refused is refused for the first thing that applies. With the tables lent a file is read step by step as with full ones: every byte that is read and
+-- everything that is passed over are the same, to the end or the refusal; or up to the first row for which none is left.
+abbrev pub stepsOf : Sizes → List ℕ → Events
+stepsOf ls f = steps (limits (size ls 0) (size ls 1)) f
+
+-- the rows of an accepted file are those that these steps make
+abbrev pub StepsMake : Type 0
+StepsMake = (ls : Sizes) (f : List ℕ) (h : Header) (ns : List Node) (is : List Item) → reads ls f ≡ rows h ns is → (nodesOf (stepsOf ls f) ≡ ns) × (itemsOf (stepsOf ls f) ≡ is)
+
+-- There 10 comes first, at the place that the reading came to: as many rows were made as there is room for, and with full tables the reading goes on at that place,
+-- or is refused there.
+pub record OutOfRows (ls : Sizes) (f : List ℕ) : Type 0 where
+  pub place : ℕ
+  pub refused : reads ls f ≡ refusal noRowLeft place
+  pub none-left : (limits (size ls 0) (size ls 1) .nodes ≤ length (nodesOf (stepsOf ls f))) ⊎ (limits (size ls 0) (size ls 1) .items ≤ length (itemsOf (stepsOf ls f)))
+  pub rest : Events
+  pub goes-on : stepsOf full f ≡ stepsOf ls f ++ rest
+  pub next : FirstAt place rest
+
 abbrev pub FirstApplies : Type 0
-FirstApplies = (ls : Sizes) (f : List ℕ) → (reads ls f ≡ reads full f) ⊎ ((p : ℕ) × (reads ls f ≡ refusal noRowLeft p))
+FirstApplies = (ls : Sizes) (f : List ℕ) → ((reads ls f ≡ reads full f) × (stepsOf ls f ≡ stepsOf full f)) ⊎ OutOfRows ls f
 
 -- ---- Demand 3. Two files of equal length, the first accepted with the tables lent, alike but for data bytes of its hidden contents in custom fields or in
 -- standard fields other than 0, 3 and 13, inline data of its file nodes, and bytes outside header, tree and detached nodes: the second is accepted too, every

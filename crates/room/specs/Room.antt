@@ -2,10 +2,10 @@
 -- Assumes nothing.
 use mathlib.Core.Bool.{cond}
 use mathlib.Core.List.{List, _++_}
-use Prim.Native.Nat.{ℕ, _-_}
+use Prim.Native.Nat.{ℕ, _-_, _≤_}
 use lib.Dec.{T, leb}
 use lib.ListN.{length, replicate}
-use Rattle.cursor.specs.Refusals.{noRoom, isAllowed}
+use Rattle.cursor.specs.Refusals.{noRoom, inFile, isOneOf, isAllowed}
 
 -- an answer, or a refusal's number and place
 pub data Result (A : Type 0) : Type 0 where
@@ -16,6 +16,11 @@ pub data Result (A : Type 0) : Type 0 where
 abbrev pub Among : {A : Type 0} → List ℕ → Result A → Type 0
 Among ns (good a) = Unit {0}
 Among ns (bad n p) = T (isAllowed ns n p)
+
+-- its refusal, if it is one that names a place of a file, names one of a file of `size` bytes
+abbrev pub PlacedIn : {A : Type 0} → (size : ℕ) → Result A → Type 0
+PlacedIn size (good a) = Unit {0}
+PlacedIn size (bad n p) = T (isOneOf n inFile) → p ≤ size
 
 -- what is written, and then zeros to the room's end
 unfoldable pub padded : ℕ → List ℕ → List ℕ

@@ -16,5 +16,7 @@ pub mod Parents
 pub mod Apart
 pub mod Own
 pub mod Limited
+pub mod First
 pub mod Links
 pub mod Listed
+pub mod Stays

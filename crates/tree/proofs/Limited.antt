@@ -2,21 +2,19 @@
 -- Assumes nothing.
 use mathlib.Core.Path.{_≡_, refl, sym, ap, ap₂, _∙_, subst}
 use mathlib.Core.Bool.{Bool, true, false, cond}
-use mathlib.Core.Logic.{_⊎_, inl, inr}
 use mathlib.Core.List.{List, [], _∷_, _++_, append-nil, append-assoc}
 use Prim.Native.Nat.{ℕ, zero, suc, _+_, _-_, _≤_, _<_}
 use native.Mathlib.Omega.{arith}
 use borrow.Author.Tests.{ltb-true, ltb-false, lt-ltb, le-ltb}
 use lib.Dec.{ltb}
-use lib.ListN.{length, length-append, getD}
-use Rattle.cursor.specs.Machine.{Out, ok, refused, seen, passed, run, trace, rowsOf}
-use Rattle.cursor.specs.Refusals.{noRowLeft}
+use lib.ListN.{length, length-append}
+use Rattle.cursor.specs.Machine.{ok, seen, passed, run, trace, rowsOf}
 use Rattle.cursor.specs.Rows.{nodeRow, itemRow, plain, P, Events}
 use Rattle.cursor.specs.declared.Node.{Node}
 use Rattle.cursor.specs.declared.Item.{Item}
 use Rattle.cursor.proofs.Laws.{rows-on}
 use Rattle.cursor.proofs.Limited as limited
-use Rattle.cursor.proofs.Limited.{Kind, item, Rows, count, makes-then, makes-row, Limited, answer, same, full, asked, read, moved, limited-ends, limited-run, fitting-run, after, ends, at-place, places, checks, row-checks, passes, counts}
+use Rattle.cursor.proofs.Limited.{Kind, item, Rows, count, makes-then, makes-row, Limited, same, limited-ends, limited-run, fitting-run, after, ends, at-place, places, checks, row-checks, passes, counts}
 use Rattle.header.specs.Header.{Header, header}
 use Rattle.metadata.specs.Metadata.{Context}
 use Rattle.metadata.specs.declared.Limits.{Limits}
@@ -26,7 +24,7 @@ use Rattle.node.specs.Node.{inTree}
 use Rattle.node.specs.declared.Standing.{Standing}
 use Rattle.node.proofs.Limited.{front-limited}
 use Rattle.tree.specs.Tree.{folder, node, tree, detached}
-use Rattle.tree.specs.Reading.{nodeOf, itemOf, nodesOf, itemsOf, Result, good, bad, rows, refusal, madeBy, logged, lost, outside, offsetAt, detachedAt, reach, follow, context, reading, readTree, readFile}
+use Rattle.tree.specs.Reading.{nodeOf, itemOf, nodesOf, itemsOf, Result, good, bad, rows, madeBy, logged, lost, outside, detachedAt, reach, follow, context, reading, readTree, readFile}
 use Rattle.tree.specs.Rows.{nodeAt}
 use Rattle.tree.proofs.Follow.{treeOf, target, stepped, Reached, known, added, reached, followed, ReadAs, read-back, stops}
 
@@ -45,13 +43,13 @@ module _ {lim most : Limits} (less : Less lim most) (x : Context) where
   unfolding node
   node-limited zero parent s m c i = at-place λ p. same
   node-limited (suc d) parent s m c i =
-      places λ p. row-checks limited.node (m .nodes) (most .nodes) p (i .0) (less .nodes) (makes-then _ λ w. makes-row _ _ _ tt) λ left.
+      row-checks limited.node (m .nodes) (most .nodes) (i .0) (less .nodes) (λ p. makes-then _ λ w. makes-row _ _ _ tt) λ left p.
       after (front-limited less x parent (16 - d) s m c (refl, omega arith, omega arith, omega arith)) λ w e j. passes _ _
       (folder-limited _ (counts (Is lim) (w .row .contained) _ (λ t g k. node-limited d (m .nodes) (inTree 0 (p + w .row .size)) t g k) (omega arith, omega arith, omega arith, omega arith)))
 
 -- ---- rows of a log
 
-count-nodes : (es : Events) → count es limited.node ≡ length (nodesOf es)
+pub count-nodes : (es : Events) → count es limited.node ≡ length (nodesOf es)
 unfolding rowsOf
 count-nodes [] = refl
 count-nodes (seen κ p ∷ es) = count-nodes es
@@ -59,7 +57,7 @@ count-nodes (passed (nodeRow r) p n ∷ es) = let e = count-nodes es in omega ar
 count-nodes (passed (itemRow r) p n ∷ es) = count-nodes es
 count-nodes (passed (plain x) p n ∷ es) = count-nodes es
 
-count-items : (es : Events) → count es item ≡ length (itemsOf es)
+pub count-items : (es : Events) → count es item ≡ length (itemsOf es)
 unfolding rowsOf
 count-items [] = refl
 count-items (seen κ p ∷ es) = count-items es
@@ -67,10 +65,10 @@ count-items (passed (nodeRow r) p n ∷ es) = count-items es
 count-items (passed (itemRow r) p n ∷ es) = let e = count-items es in omega arith
 count-items (passed (plain x) p n ∷ es) = count-items es
 
-nodes-on : (log es : Events) → length (nodesOf (log ++ es)) ≡ length (nodesOf log) + length (nodesOf es)
+pub nodes-on : (log es : Events) → length (nodesOf (log ++ es)) ≡ length (nodesOf log) + length (nodesOf es)
 nodes-on log es = ap length (rows-on nodeOf log es) ∙ length-append (nodesOf log) (nodesOf es)
 
-items-on : (log es : Events) → length (itemsOf (log ++ es)) ≡ length (itemsOf log) + length (itemsOf es)
+pub items-on : (log es : Events) → length (itemsOf (log ++ es)) ≡ length (itemsOf log) + length (itemsOf es)
 items-on log es = ap length (rows-on itemOf log es) ∙ length-append (itemsOf log) (itemsOf es)
 
 abbrev pub Fits : Limits → Events → Type 0
@@ -79,7 +77,7 @@ Fits lim log = (length (nodesOf log) ≤ lim .nodes) × (length (itemsOf log) �
 fits-before : {lim : Limits} (log es : Events) → Fits lim (log ++ es) → Fits lim log
 fits-before log es h = let a = nodes-on log es in let b = items-on log es in (omega arith, omega arith)
 
-abbrev rowsIn : Events → Rows
+abbrev pub rowsIn : Events → Rows
 rowsIn log limited.node = length (nodesOf log)
 rowsIn log item = length (itemsOf log)
 
@@ -153,11 +151,11 @@ module _ {lim most : Limits} (less : Less lim most) (f : List ℕ) (h : Header) 
   abbrev none : Rows
   none κ = 0
 
-  tree-limited : Limited (room lim) (Is lim) none (treeOf lim (length f) h) (treeOf most (length f) h)
+  pub tree-limited : Limited (room lim) (Is lim) none (treeOf lim (length f) h) (treeOf most (length f) h)
   unfolding tree
   tree-limited = node-limited less (context most h (length f)) 16 0 (inTree (h .extent .last + 1) (h .extent .last + 1)) (record { nodes = 0; items = 0 }) none (refl, refl, omega arith, omega arith)
 
-  target-limited : (log : Events) (r : Node) → Fits lim log → Limited (room lim) (Is lim) (rowsIn log) (target lim f h log r) (target most f h log r)
+  pub target-limited : (log : Events) (r : Node) → Fits lim log → Limited (room lim) (Is lim) (rowsIn log) (target lim f h log r) (target most f h log r)
   unfolding detachedAt detached
   target-limited log r l = node-limited less (context most h (length f)) 17 _ _ (madeBy log) (rowsIn log) (refl, refl, l .0, l .1)
 
@@ -230,98 +228,3 @@ module _ {lim most : Limits} (less : Less lim most) (f : List ℕ) {h : Header} 
       both : (es : Events) → Fits lim es → (κ : Kind) → 0 + count es κ ≤ room lim κ
       both es l limited.node = let b = count-nodes es in omega arith
       both es l item = let b = count-items es in omega arith
-
--- ---- a file reads as under larger limits, or is refused for want of a row
-
-module _ {A : Type 0} where
-  -- two runs with the same answer and trace; or the first is refused for want of a row
-  abbrev Either : (m o : P A) → List ℕ → ℕ → Type 0
-  Either m o f at = ((run m f at ≡ run o f at) × (trace m f at ≡ trace o f at)) ⊎ ((p : ℕ) × (run m f at ≡ refused noRowLeft p))
-
-  along : {X : Type 0} {a b : Out A} {es fs : Events} (k : Events → Events) → ((a ≡ b) × (es ≡ fs)) ⊎ X → ((a ≡ b) × (k es ≡ k fs)) ⊎ X
-  along k (inl w) = inl (w .0, ap k (w .1))
-  along k (inr x) = inr x
-
-  limited-either : {lim : Rows} {Q : A → Rows → Type 0} {c : Rows} {m o : P A} → Limited lim Q c m o → (f : List ℕ) (at : ℕ) → Either m o f at
-  unfolding run trace
-  limited-either (answer q) f at = inl (refl, refl)
-  limited-either same f at = inl (refl, refl)
-  limited-either (full κ {p} l w) f at = inr (p, refl)
-  limited-either (asked h) f at = limited-either (h at) f at
-  limited-either (read {φ = φ} h) f at = along (λ es. seen φ at ∷ es) (limited-either (h (getD f at 0)) f (at + 1))
-  limited-either (moved {w = w} {n} h) f at = along (λ es. passed w at n ∷ es) (limited-either h f (at + n))
-
--- the same log; or refusal 10
-abbrev OrFull : (x y : Result Events) → Type 0
-OrFull x y = (x ≡ y) ⊎ ((p : ℕ) × (x ≡ bad noRowLeft p))
-
-logged-either : (f : List ℕ) (log : Events) (m o : P Made) (at : ℕ) → Either m o f at → OrFull (logged log (run m f at) (trace m f at)) (logged log (run o f at) (trace o f at))
-unfolding logged
-logged-either f log m o at (inl w) = inl (ap₂ (logged log) (w .0) (w .1))
-logged-either f log m o at (inr w) = inr (w .0, ap (λ v. logged log v (trace m f at)) (w .1))
-
-module _ {lim most : Limits} (less : Less lim most) (f : List ℕ) (h : Header) where
-  reach-either : (log : Events) (r : Node) → Fits lim log → OrFull (reach lim f h log r) (reach most f h log r)
-  unfolding reach
-  reach-either log r l = by (lost (nodesOf log) r) (outside h (length f) (r .target)) (logged-either f log _ _ (r .target) (limited-either (target-limited less f h log r l) f (r .target)))
-    where
-      by : (a b : Bool) {x y : Result Events} → OrFull x y → OrFull (cond a (cond b x (bad 16 (offsetAt f r))) (good log)) (cond a (cond b y (bad 16 (offsetAt f r))) (good log))
-      by true true w = w
-      by true false w = inl refl
-      by false b w = inl refl
-
-  follow-bad : (to : Limits) (k i n p : ℕ) → follow k to f h i (bad n p) ≡ bad n p
-  unfolding follow
-  follow-bad to zero i n p = refl
-  follow-bad to (suc k) i n p = refl
-
-  no-more : (to : Limits) (k i : ℕ) (log : Events) → length (nodesOf log) ≤ i → follow k to f h i (good log) ≡ good log
-  unfolding follow
-  no-more to zero i log l = refl
-  no-more to (suc k) i log l = rw (le-ltb i (length (nodesOf log)) l)
-
-  follow-either : (k k′ i : ℕ) (log : Events) → Fits lim log → lim .nodes ≤ i + k → lim .nodes ≤ i + k′ → OrFull (follow k lim f h i (good log)) (follow k′ most f h i (good log))
-  unfolding follow
-  follow-either zero k′ i log l a b = inl (sym (no-more most k′ i log (let z = l .0 in omega arith)))
-  follow-either (suc k) zero i log l a b = inl (no-more lim (suc k) i log (let z = l .0 in omega arith))
-  follow-either (suc k) (suc k′) i log l a b =
-      by (ltb i (length (nodesOf log)))
-      (next (reach lim f h log (nodeAt (nodesOf log) i)) refl (reach-either log (nodeAt (nodesOf log) i) l) (λ log₁ g. follow-either k k′ (i + 1) log₁ g (omega arith) (omega arith)))
-    where
-      by : (s : Bool) {x y : Result Events} → OrFull x y → OrFull (cond s x (good log)) (cond s y (good log))
-      by true w = w
-      by false w = inl refl
-
-      next : (x : Result Events) {y : Result Events} → reach lim f h log (nodeAt (nodesOf log) i) ≡ x → OrFull x y
-          → ((log₁ : Events) → Fits lim log₁ → OrFull (follow k lim f h (i + 1) (good log₁)) (follow k′ most f h (i + 1) (good log₁)))
-          → OrFull (follow k lim f h (i + 1) x) (follow k′ most f h (i + 1) y)
-      next (good log₁) {y} e (inl w) rest = subst (λ v. OrFull (follow k lim f h (i + 1) (good log₁)) (follow k′ most f h (i + 1) v)) w (rest log₁ (more-fits less f h log log₁ _ l (reached lim f h log _ e)))
-      next (bad n p) {y} e (inl w) rest = inl (follow-bad lim k (i + 1) n p ∙ sym (follow-bad most k′ (i + 1) n p) ∙ ap (follow k′ most f h (i + 1)) w)
-      next x e (inr w) rest = inr (w .0, ap (follow k lim f h (i + 1)) (w .1) ∙ follow-bad lim k (i + 1) noRowLeft (w .0))
-
-  tree-either : (o : Out Made) → run (treeOf lim (length f) h) f (h .extent .start) ≡ o
-      → OrFull (follow (lim .nodes) lim f h 0 (logged [] (run (treeOf lim (length f) h) f (h .extent .start)) (trace (treeOf lim (length f) h) f (h .extent .start))))
-      (follow (most .nodes) most f h 0 (logged [] (run (treeOf most (length f) h) f (h .extent .start)) (trace (treeOf most (length f) h) f (h .extent .start))))
-  unfolding logged
-  tree-either (ok m p) e =
-      let (r, t) = limited-run (tree-limited less f h) f (h .extent .start) e in
-      rw (e, r, t) (follow-either (lim .nodes) (most .nodes) 0 _ (tree-fits less f h e) (omega arith) (let b = less .nodes in omega arith))
-  tree-either (refused n p) e = by (limited-either (tree-limited less f h) f (h .extent .start))
-    where
-      by : Either (treeOf lim (length f) h) (treeOf most (length f) h) f (h .extent .start)
-          → OrFull (follow (lim .nodes) lim f h 0 (logged [] (run (treeOf lim (length f) h) f (h .extent .start)) (trace (treeOf lim (length f) h) f (h .extent .start))))
-          (follow (most .nodes) most f h 0 (logged [] (run (treeOf most (length f) h) f (h .extent .start)) (trace (treeOf most (length f) h) f (h .extent .start))))
-      by (inl w) = inl (rw (← w .0, e) (follow-bad lim (lim .nodes) 0 n p ∙ sym (follow-bad most (most .nodes) 0 n p)))
-      by (inr w) = inr (w .0, rw (w .1) (follow-bad lim (lim .nodes) 0 noRowLeft (w .0)))
-
-pub to-either : {lim most : Limits} → Less lim most → (f : List ℕ) → (readFile lim f ≡ readFile most f) ⊎ ((p : ℕ) × (readFile lim f ≡ refusal noRowLeft p))
-unfolding readFile readTree reading
-to-either {lim} {most} less f = by (run (header (length f)) f 0)
-  where
-    as-reading : (h : Header) {x y : Result Events} → OrFull x y → (reading h x ≡ reading h y) ⊎ ((p : ℕ) × (reading h x ≡ refusal noRowLeft p))
-    as-reading h (inl w) = inl (ap (reading h) w)
-    as-reading h (inr w) = inr (w .0, ap (reading h) (w .1))
-
-    by : (o : Out Header) → (readTree lim f o ≡ readTree most f o) ⊎ ((p : ℕ) × (readTree lim f o ≡ refusal noRowLeft p))
-    by (ok h q) = as-reading h (tree-either less f h _ refl)
-    by (refused n p) = inl refl
