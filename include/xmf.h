@@ -32,8 +32,8 @@
  * buffer gets the words that fit.
  *
  * After an answer the tables hold the file's rows, and zeros past the last row; a call that writes a
- * file leaves the rows of that one. After a refusal both tables, and the buffer for a sheet or a file,
- * hold zeros only. Each call reads the file afresh. Nothing is
+ * file leaves the rows of that one. After a refusal both tables, and the buffer for a resource, a sheet
+ * or a file, hold zeros only. Each call reads the file afresh. Nothing is
  * allocated and nothing is kept between calls. Places count from 0 at the file's first byte.
  *
  * Refusals
@@ -57,12 +57,12 @@
  *   16  a reference leads outside the file or into the header, or one to a node leads into the tree
  *       where no node starts
  *   17  more than 268,435,455 bytes
- *   18  the row asked for is not there: a node row (find and find own, resolve), an item row (voice count,
- *       correct title)
+ *   18  the row asked for is not there: a node row (find and find own, resolve and resource), an item row
+ *       (voice count, correct title)
  *   19  resolving ends at a folder
  *   20  resolving ends at a URI
  *   21  a fifth reference would be followed
- *   22  the sheet, a converted text or the new file is longer than its buffer
+ *   22  the sheet, a resource, a converted text or the new file is longer than its buffer
  *   23  no such item: on the node and above it (find), on the node itself (find own); the item row is no
  *       universal field 13 in format 6 or 7, or has no such channel or resource (voice count)
  *   24  a detached node overlaps another one, or is a folder
@@ -187,6 +187,19 @@ void xmf_resolve(const uint8_t *file, size_t file_length,
                  uint64_t *items, size_t item_words,
                  size_t row,
                  uint64_t *answer, size_t answer_words);
+
+/* Resolves as xmf_resolve does, and copies the bytes of the resource into a lent buffer. The answer is
+ * that of xmf_resolve.
+ *
+ * Bytes of the buffer past the resource are 0; after a refusal all are. Refused as xmf_resolve is, then
+ * with 22. The bytes may include hidden data, as said there. Do not put them into a ticket.
+ */
+void xmf_resource(const uint8_t *file, size_t file_length,
+                  uint64_t *nodes, size_t node_words,
+                  uint64_t *items, size_t item_words,
+                  size_t row,
+                  uint8_t *out, size_t out_length,
+                  uint64_t *answer, size_t answer_words);
 
 /* Gives what an item row, a content description (standard field 13), says that the tune needs: the count
  * for a channel and a resource, both numbered from 0. Channels stand in the order of the tune's MIP

@@ -35,6 +35,8 @@ int main(int argc, char **argv) {
     expect("find in nothing", 1);
     xmf_resolve(NULL, 0, NULL, 0, NULL, 0, 0, answer, XMF_ANSWER_WORDS);
     expect("resolve in nothing", 1);
+    xmf_resource(NULL, 0, NULL, 0, NULL, 0, 0, NULL, 0, answer, XMF_ANSWER_WORDS);
+    expect("resource in nothing", 1);
     xmf_voice_count(NULL, 0, NULL, 0, NULL, 0, 0, 0, 0, answer, XMF_ANSWER_WORDS);
     expect("voice_count in nothing", 1);
     xmf_judge(NULL, 0, NULL, 0, NULL, 0, answer, XMF_ANSWER_WORDS);
@@ -51,6 +53,8 @@ int main(int argc, char **argv) {
     expect("find without tables", 10);
     xmf_resolve(file, length, NULL, 0, NULL, 0, 0, answer, XMF_ANSWER_WORDS);
     expect("resolve without tables", 10);
+    xmf_resource(file, length, NULL, 0, NULL, 0, 1, sheet, sizeof sheet, answer, XMF_ANSWER_WORDS);
+    expect("resource without tables", 10);
     xmf_voice_count(file, length, NULL, 0, NULL, 0, 0, 0, 0, answer, XMF_ANSWER_WORDS);
     expect("voice_count without tables", 10);
     xmf_judge(file, length, NULL, 0, NULL, 0, answer, XMF_ANSWER_WORDS);
@@ -60,10 +64,13 @@ int main(int argc, char **argv) {
     xmf_correct_title(file, length, NULL, 0, NULL, 0, 0, NULL, 0, sheet, sizeof sheet, answer, XMF_ANSWER_WORDS);
     expect("correct_title without tables", 10);
 
-    /* no name: 23, no such item; no buffer for the sheet or the new file: 22; no title: taken */
+    /* no name: 23, no such item; no buffer for the resource, the sheet or the new file: 22; no title: taken */
     xmf_find(file, length, nodes, XMF_ALL_NODE_WORDS, items, XMF_ALL_ITEM_WORDS, 0, XMF_CUSTOM, 0, NULL, 0, answer,
              XMF_ANSWER_WORDS);
     expect("find without a name", 23);
+    xmf_resource(file, length, nodes, XMF_ALL_NODE_WORDS, items, XMF_ALL_ITEM_WORDS, 1, NULL, 0, answer,
+                 XMF_ANSWER_WORDS);
+    expect("resource without a buffer", 22);
     xmf_write_sheet(file, length, nodes, XMF_ALL_NODE_WORDS, items, XMF_ALL_ITEM_WORDS, NULL, 0, answer,
                     XMF_ANSWER_WORDS);
     expect("write_sheet without a buffer", 22);
@@ -78,6 +85,7 @@ int main(int argc, char **argv) {
     xmf_read_tree(file, length, nodes, XMF_ALL_NODE_WORDS, items, XMF_ALL_ITEM_WORDS, NULL, 0);
     xmf_find(file, length, nodes, XMF_ALL_NODE_WORDS, items, XMF_ALL_ITEM_WORDS, 0, XMF_CUSTOM, 0, NULL, 0, NULL, 0);
     xmf_resolve(file, length, nodes, XMF_ALL_NODE_WORDS, items, XMF_ALL_ITEM_WORDS, 0, NULL, 0);
+    xmf_resource(file, length, nodes, XMF_ALL_NODE_WORDS, items, XMF_ALL_ITEM_WORDS, 1, sheet, sizeof sheet, NULL, 0);
     xmf_voice_count(file, length, nodes, XMF_ALL_NODE_WORDS, items, XMF_ALL_ITEM_WORDS, 0, 0, 0, NULL, 0);
     xmf_judge(file, length, nodes, XMF_ALL_NODE_WORDS, items, XMF_ALL_ITEM_WORDS, NULL, 0);
     xmf_correct_title(file, length, nodes, XMF_ALL_NODE_WORDS, items, XMF_ALL_ITEM_WORDS, 0, NULL, 0, sheet, sizeof sheet,

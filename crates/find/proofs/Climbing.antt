@@ -42,7 +42,7 @@ enough ns (suc m) (suc n) k a b = elim (decLt (nodeAt ns k .parent) k) [
 
 module _ (ns : List Node) (k : ℕ) where
   -- the path of a row whose parent is itself
-  path-top : k ≤ nodeAt ns k .parent → path ns k ≡ k ∷ []
+  pub path-top : k ≤ nodeAt ns k .parent → path ns k ≡ k ∷ []
   unfolding path rowsUp
   path-top h =
       let s : k + 1 ≡ suc k = omega arith in
@@ -50,7 +50,7 @@ module _ (ns : List Node) (k : ℕ) where
       ap (λ (n : ℕ). rowsUp ns n k) s ∙ simp e
 
   -- the path of any other: the row, and its parent's path
-  path-up : nodeAt ns k .parent < k → path ns k ≡ k ∷ path ns (nodeAt ns k .parent)
+  pub path-up : nodeAt ns k .parent < k → path ns k ≡ k ∷ path ns (nodeAt ns k .parent)
   unfolding path rowsUp
   path-up h =
       let q = nodeAt ns k .parent in

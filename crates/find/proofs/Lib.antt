@@ -3,3 +3,4 @@ pub mod Looking
 pub mod Climbing
 pub mod Depends
 pub mod Listed
+pub mod Path

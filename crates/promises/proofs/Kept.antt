@@ -7,12 +7,12 @@ use mathlib.Core.Logic.{_⊎_, inl, inr}
 use mathlib.Core.List.{List, [], _∷_, _++_, map}
 use Prim.Native.Nat.{ℕ, _+_, _%_, _≤_, _<_, _-_, _^_}
 use native.Mathlib.Nat.{sub-zero}
-use native.Mathlib.Decide.{decLt}
+use native.Mathlib.Decide.{decLt, decLe}
 use native.Mathlib.Omega.{arith}
 use lib.Dec.{T, eqb, ltb, leb}
 use lib.ListN.{length, getD, replicate, take, drop, length-append, length-take, length-drop}
 use lib.Seq.{getD-take, getD-drop, take-append-seam, take-append-add, drop-append-add, getD-append-add, take-at, drop-at}
-use borrow.Author.Tests.{ne-eqb, leb-false}
+use borrow.Author.Tests.{ne-eqb, leb-false, le-leb, lt-leb}
 use Rattle.cursor.specs.Refusals.{ofReader, inFile, isAllowed}
 use Rattle.cursor.specs.Vlq.{part}
 use Rattle.cursor.specs.declared.Node.{Node}
@@ -33,9 +33,12 @@ use Rattle.tree.proofs.First.{steps-made, to-either}
 use Rattle.tree.proofs.Listed.{refusal-listed}
 use Rattle.tree.proofs.Stays.{refusal-inside}
 use Rattle.tree.proofs.Rows.{accepted}
+use Rattle.tree.proofs.Parents.{all-rooted}
+use Rattle.tree.proofs.Apart.{all-apart}
 use Rattle.find.specs.Find as find
 use Rattle.find.proofs.Listed.{find-listed, find-own-listed}
 use Rattle.find.proofs.Depends.{find-same, find-own-same}
+use Rattle.find.proofs.Path as path
 use Rattle.resolve.specs.Resolve as resolve
 use Rattle.resolve.specs.Told.{Given}
 use Rattle.resolve.proofs.Listed.{resolve-listed, copy-listed}
@@ -57,11 +60,11 @@ use Rattle.room.specs.Room.{Among, PlacedIn}
 use Rattle.room.proofs.Listed.{allowed-front, among-back, areApart, apart-placed, fitted, fitting-among}
 use Rattle.unicode.specs.Unicode as unicode
 use Rattle.unicode.proofs.Listed.{utf8-listed, utf16-listed}
-use Rattle.unicode.proofs.Back.{placed8, placed16}
+use Rattle.unicode.proofs.Back.{placed8, placed16, there-and-back, back-and-there}
 use Rattle.promises.specs.Promises.{Question, readTree, findItem, findOwn, resolveRow, copyResource, countFor, judgeMobile, writeSheet, correctTitle, toUtf8, toUtf16, Sizes, size, reads}
 use Rattle.promises.specs.Promises.{Tables, noTables, ofFile, ofWritten, Lent, filled, copied, given, changed, About, overRows, rowsIntoRoom, dataIntoRoom, treeValues, resourceValues, oneValue, sizeValue, bytes, about}
-use Rattle.promises.specs.Promises.{Outcome, saying, rowTables, tablesLent, lent, holding, answerTo, leaves, outcome, resource, IsRefusal, Accepted, InTables, newFile, AnsweredOf, Shows, IsAnswer, Demand1, FitsExactly, StepsMake, FirstApplies}
-use Rattle.promises.specs.Promises.{OnlyThere, PrivateAlone, AlikeIn, EachAlike, OutcomesAlike, Demand3, InTurn, Correction, Corrects}
+use Rattle.promises.specs.Promises.{Outcome, saying, rowTables, tablesLent, lent, holding, answerTo, leaves, outcome, resource, IsRefusal, Accepted, InTables, newFile, AnsweredOf, Shows, IsAnswer, Demand1, FitsExactly, StepsMake, FirstApplies, UntilRoot, LieApart}
+use Rattle.promises.specs.Promises.{OnlyThere, PrivateAlone, AlikeIn, EachAlike, OutcomesAlike, Demand3, InTurn, Correction, Corrects, textOf, ButForMark, Undone, ThereAndBack, BackAndThere}
 use Rattle.promises.specs.Calls.{Called, left, Over, Fills, read-tree, find-item, find-own, resolve-row, copy-resource, count-for, judge, write-sheet, to-utf8, to-utf16, correct-title, EachLeaves, CallsAlike, PartsAlike}
 
 -- ---- which data may not differ
@@ -418,6 +421,16 @@ first-applies ls f = elim (to-either (less ls) f) [
   | inr w ↦ inr (record { place = w .place; refused = w .refuses; none-left = w .none-left; rest = w .rest; goes-on = w .goes-on; next = w .next })
 ]
 
+-- ---- the rows of an accepted file
+
+pub until-root : UntilRoot
+unfolding reads
+until-root ls f h ns is r = path.until-root ns (all-rooted (limits (size ls 0) (size ls 1)) f r)
+
+pub lie-apart : LieApart
+unfolding reads
+lie-apart ls f h ns is r row k b = let w = all-apart (limits (size ls 0) (size ls 1)) f r in let o = w .out row k b in (o .0, o .1, λ other c. w .one other row k c b)
+
 -- ---- a refusal or an answer
 
 reader-listed : (ls : Sizes) (f : List ℕ) (n p : ℕ) → reads ls f ≡ refusal n p → T (isAllowed ofReader n p)
@@ -650,3 +663,53 @@ in-turn i text q ls f g h ns is r d =
           let b : DifferInPrivate h′ ns′ is′ (newFile o) (newFile o′) = subst (DifferInPrivate h′ ns′ is′ (newFile o)) y (written-part i text ls f g w h′ ns′ is′ a) in
           outcome-alike ls (newFile o) (newFile o′) h′ ns′ is′ a b q
     ]
+
+-- ---- the conversions undo each other
+
+fits : (n : ℕ) (s : List ℕ) → length s ≤ n → room.fitting n (good s) ≡ good s
+unfolding room.fitting
+fits n s l = simp (le-leb (length s) n l)
+
+-- a conversion that is answered wrote the text
+converts : (n : ℕ) (r : Result (List ℕ)) {k : ℕ} → saying sizeValue (room.fitting n r) ≡ 0 ∷ 0 ∷ k ∷ [] → (s : List ℕ) × (r ≡ good s) × (room.fitting n r ≡ good s)
+unfolding room.fitting
+converts n (good s) {k} e = elim (decLe (length s) n) [
+  | yes l ↦ (s, refl, fits n s l)
+  | no l ↦ (let q : room.fitting n (good s) ≡ bad 22 0 = simp (lt-leb (length s) n (omega arith)) in
+      let w : (22 ∷ 0 ∷ []) ≡ 0 ∷ 0 ∷ k ∷ [] = ap (saying sizeValue) (sym q) ∙ e in
+      let z : _≡_ {A = ℕ} 22 0 = cc in absurd (omega arith))
+]
+converts n (bad m p) e = let z : _≡_ {A = ℕ} 0 1 = cc (ap length e) in absurd (omega arith)
+
+text-is : (text : Result (List ℕ)) (own : List ℕ) (n : ℕ) (f s : List ℕ) → textOf (leaves (dataIntoRoom text own) (n ∷ []) f (good s)) ≡ s
+unfolding leaves room.padded
+text-is text own n f s = take-append-seam s (replicate (n - length s) 0)
+
+-- what is shorter fits where the text does
+mark-shorter : (mark a b : List ℕ) {m : ℕ} → ButForMark mark a b → length a ≤ m → length b ≤ m
+mark-shorter mark a b (inl e) l = let z : length a ≡ length mark + length b = ap length e ∙ length-append mark b in omega arith
+mark-shorter mark a b (inr (e, _)) l = let z : length a ≡ length b = ap length e in omega arith
+
+undone : (text : Result (List ℕ)) (own : List ℕ) (m : ℕ) (f mark a b : List ℕ) → text ≡ good b → ButForMark mark a b → length a ≤ m
+    → Undone mark a (leaves (dataIntoRoom text own) (m ∷ []) f (room.fitting m text))
+unfolding leaves
+undone text own m f mark a b c d l =
+    let e : room.fitting m text ≡ good b = ap (room.fitting m) c ∙ fits m b (mark-shorter mark a b d l) in
+    let t = text-is text own m f b in
+    subst (λ r. Undone mark a (leaves (dataIntoRoom text own) (m ∷ []) f r)) (sym e) (ap (λ (v : List ℕ). 0 ∷ 0 ∷ length v ∷ []) (sym t), subst (ButForMark mark a) (sym t) d)
+
+pub there-back : ThereAndBack
+unfolding outcome leaves
+there-back units h n m f k e l =
+    let (s, r, w) = converts n (unicode.toUtf8 units) e in
+    let t : textOf (outcome (toUtf8 units) (n ∷ []) f) ≡ s = ap (λ (v : Result (List ℕ)). textOf (leaves (about (toUtf8 units)) (n ∷ []) f v)) w ∙ text-is (unicode.toUtf8 units) unicode.refusals n f s in
+    let (b, c, d) = there-and-back units h r in
+    subst (λ v. Undone (0xFE ∷ 0xFF ∷ []) units (outcome (toUtf16 v) (m ∷ []) f)) (sym t) (undone (unicode.toUtf16 s) unicode.refusals m f (0xFE ∷ 0xFF ∷ []) units b c d l)
+
+pub back-there : BackAndThere
+unfolding outcome leaves
+back-there text n m f k e l =
+    let (s, r, w) = converts n (unicode.toUtf16 text) e in
+    let t : textOf (outcome (toUtf16 text) (n ∷ []) f) ≡ s = ap (λ (v : Result (List ℕ)). textOf (leaves (about (toUtf16 text)) (n ∷ []) f v)) w ∙ text-is (unicode.toUtf16 text) unicode.refusals n f s in
+    let (b, c, d) = back-and-there text r in
+    subst (λ v. Undone (0xEF ∷ 0xBB ∷ 0xBF ∷ []) text (outcome (toUtf8 v) (m ∷ []) f)) (sym t) (undone (unicode.toUtf8 s) unicode.refusals m f (0xEF ∷ 0xBB ∷ 0xBF ∷ []) text b c d l)

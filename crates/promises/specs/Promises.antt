@@ -19,6 +19,7 @@ use Rattle.tree.specs.Reading.{Reading, rows, refusal, readFile, nodesOf, items
 use Rattle.tree.specs.Steps.{steps}
 use Rattle.tree.specs.Asking.{Asks, Result, good, bad, ask, Counts, counts}
 use Rattle.tree.specs.Hidden.{DifferInPrivate}
+use Rattle.tree.specs.Rows.{nodeAt}
 use Rattle.tree.specs.Own.{Numbered}
 use Rattle.find.specs.Find as find
 use Rattle.resolve.specs.Resolve as resolve
@@ -301,10 +302,25 @@ pub record OutOfRows (ls : Sizes) (f : List ℕ) : Type 0 where
 abbrev pub FirstApplies : Type 0
 FirstApplies = (ls : Sizes) (f : List ℕ) → ((reads ls f ≡ reads full f) × (stepsOf ls f ≡ stepsOf full f)) ⊎ OutOfRows ls f
 
+-- Of the rows of an accepted file: the path of find ends at the root, row 0, since a row of the tree other than the root has a smaller parent; that of a detached
+-- row is the row alone.
+abbrev pub UntilRoot : Type 0
+UntilRoot = (ls : Sizes) (f : List ℕ) (h : Header) (ns : List Node) (is : List Item) → reads ls f ≡ rows h ns is → (row : ℕ) → row < length ns
+    → ((nodeAt ns row .detached ≡ 0) × ((row ≡ 0) ⊎ (nodeAt ns row .parent < row)) × ((above : List ℕ) × (find.path ns row ≡ above ++ 0 ∷ [])))
+    ⊎ ((nodeAt ns row .detached ≡ 1) × (find.path ns row ≡ row ∷ []))
+
+-- And a byte of a detached node is none of the header, none of the tree and none of another detached node.
+abbrev pub ByteOf : List Node → (row k : ℕ) → Type 0
+ByteOf ns row k = (row < length ns) × (nodeAt ns row .detached ≡ 1) × (nodeAt ns row .start ≤ k) × (k < nodeAt ns row .start + nodeAt ns row .size)
+
+abbrev pub LieApart : Type 0
+LieApart = (ls : Sizes) (f : List ℕ) (h : Header) (ns : List Node) (is : List Item) → reads ls f ≡ rows h ns is → (row k : ℕ) → ByteOf ns row k
+    → (h .extent .end ≤ k) × ((k < h .extent .start) ⊎ (h .extent .last < k)) × ((other : ℕ) → ByteOf ns other k → other ≡ row)
+
 -- ---- Demand 3. Two files of equal length, the first accepted with the tables lent, alike but for data bytes of its hidden contents in custom fields or in
 -- standard fields other than 0, 3 and 13, inline data of its file nodes, and bytes outside header, tree and detached nodes: the second is accepted too, every
 -- question leaves the same of both, to the last word and byte, and the part that the second call of resolve gives, whose place is the third word of
--- resolve's answer, differs only where the files do. The file that the correction of a title writes holds the file's hidden bytes, so for two files alike but
+-- resolve's answer, differs only where the files do, also where it is copied. The file that the correction of a title writes holds the file's hidden bytes, so for two files alike but
 -- for those the answer, the tables and the length agree, and the written files differ at private places of the first of them alone.
 
 -- two parts of equal length, which stand in the files f and g at the same place, differ only where the files do
@@ -363,3 +379,26 @@ pub record Correction (i : ℕ) (text : List ℕ) (ls : Sizes) (f g : List ℕ) 
 
 abbrev pub Corrects : Type 0
 Corrects = (i : ℕ) (text : List ℕ) (ls : Sizes) (f : List ℕ) (n : ℕ) → outcome (correctTitle i text) ls f .answer ≡ 0 ∷ 0 ∷ n ∷ [] → Correction i text ls f (newFile (outcome (correctTitle i text) ls f))
+
+-- ---- The two conversions of text (02, E6). Going there and back returns the same units, and back and there the same bytes, but for one leading mark, which is
+-- FE FF in the one and EF BB BF in the other: where the first conversion is answered, and the room for the second is as large as what was given, the second is answered.
+
+-- the text that a conversion wrote: of its buffer as many bytes as the answer says
+abbrev pub textOf : Outcome → List ℕ
+textOf o = take (getD (o .answer) 2 0) (getD (o .holds) 0 [])
+
+-- b is a without one leading mark; where there is none it is the same
+abbrev pub ButForMark : (mark a b : List ℕ) → Type 0
+ButForMark mark a b = (a ≡ mark ++ b) ⊎ ((a ≡ b) × ((rest : List ℕ) → a ≡ mark ++ rest → ⊥))
+
+-- the second conversion is answered, and returns what was given, but for that mark
+abbrev pub Undone : (mark text : List ℕ) → Outcome → Type 0
+Undone mark text o = (o .answer ≡ 0 ∷ 0 ∷ length (textOf o) ∷ []) × ButForMark mark text (textOf o)
+
+abbrev pub ThereAndBack : Type 0
+ThereAndBack = (units : List ℕ) → ((i : ℕ) → getD units i 0 < 256) → (n m : ℕ) (f : List ℕ) (k : ℕ) → outcome (toUtf8 units) (n ∷ []) f .answer ≡ 0 ∷ 0 ∷ k ∷ [] → length units ≤ m
+    → Undone (0xFE ∷ 0xFF ∷ []) units (outcome (toUtf16 (textOf (outcome (toUtf8 units) (n ∷ []) f))) (m ∷ []) f)
+
+abbrev pub BackAndThere : Type 0
+BackAndThere = (text : List ℕ) (n m : ℕ) (f : List ℕ) (k : ℕ) → outcome (toUtf16 text) (n ∷ []) f .answer ≡ 0 ∷ 0 ∷ k ∷ [] → length text ≤ m
+    → Undone (0xEF ∷ 0xBB ∷ 0xBF ∷ []) text (outcome (toUtf8 (textOf (outcome (toUtf16 text) (n ∷ []) f))) (m ∷ []) f)

@@ -3,7 +3,7 @@
 use mathlib.Core.Path.{_≡_, refl}
 use mathlib.Core.List.{List, [], _∷_, _++_}
 use Prim.Native.Nat.{ℕ}
-use lib.ListN.{length, take, drop}
+use lib.ListN.{length, getD, take, drop}
 use Rattle.cursor.specs.Machine.{Out, ok, refused, run, trace, rowsOf, _>>=_, _>>_, if_then_else_, place, skip, check, turns, many, times}
 use Rattle.cursor.specs.Rows.{fileFrame}
 use Rattle.cursor.specs.Leaves.{next, digits, number, block, manufacturer, guid}
@@ -30,7 +30,7 @@ use Rattle.room.specs.Room as room
 use Rattle.room.specs.Decimal as decimal
 use Rattle.unicode.specs.Unicode as unicode
 use Rattle.promises.specs.Promises as promises
-use Rattle.promises.specs.Promises.{Question, findItem, findOwn, resolveRow, countFor, judgeMobile, writeSheet, Sizes, full, reads, leaves, outcome}
+use Rattle.promises.specs.Promises.{Question, findItem, findOwn, resolveRow, copyResource, countFor, judgeMobile, writeSheet, Sizes, full, reads, leaves, outcome}
 
 -- the number that the bytes begin with
 unfoldable pub first : List ℕ → Out ℕ
@@ -206,6 +206,9 @@ cases : (first (0x7F ∷ []) ≡ ok 127 1)
     × (answer (countFor 2 0 0) full worked ≡ 23 ∷ 0 ∷ [])
     × (promises.resource 2 full chained ≡ 0xAA ∷ [])
     × (promises.resource 1 full chained ≡ [])
+    × (answer (copyResource 1) (28 ∷ 33 ∷ 4 ∷ []) worked ≡ 0 ∷ 0 ∷ 54 ∷ 2 ∷ 1 ∷ 0 ∷ [])
+    × (getD (outcome (copyResource 1) (28 ∷ 33 ∷ 4 ∷ []) worked .holds) 2 [] ≡ 0xAA ∷ 0xBB ∷ 0 ∷ 0 ∷ [])
+    × (answer (copyResource 1) (28 ∷ 33 ∷ 1 ∷ []) worked ≡ 22 ∷ 0 ∷ [])
     × (reads full (withInline 0x00 0xFF) ≡ reads full worked)
     × (ask (reads full (withInline 0x00 0xFF)) (sheet.write 100 (withInline 0x00 0xFF)) ≡ good workedSheet)
     × (reads full (withTail 0x00) ≡ reads full (withTail 0xFF))
@@ -236,5 +239,5 @@ cases : (first (0x7F ∷ []) ≡ ok 127 1)
     × (unicode.toUtf16 (0x41 ∷ 0xC1 ∷ 0x81 ∷ []) ≡ bad 26 1)
     × (unicode.toUtf16 (0xED ∷ 0xA0 ∷ 0x80 ∷ []) ≡ bad 26 0)
     × (unicode.toUtf16 (0xF4 ∷ 0x90 ∷ 0x80 ∷ 0x80 ∷ []) ≡ bad 26 0)
-unfolding run trace rowsOf _>>=_ _>>_ if_then_else_ place skip check turns many times next digits number block manufacturer guid formatOf four opening edition fileLength entry typesTable extent header field contents itemFrame universal declaredFormat version rowsFor item nextItem metaItems metadata headerLength head value identifier unpacker entries unpackers resource nodePlace uriPlace target reference rest front folder node tree.tree startsAt offsetAt lost logged outside partEnd takenFrom detachedAt reach follow tree.detached reading readTree readFile first answer reads leaves outcome counts nodeTable itemTable ask promises.resource isHidden find.sameBytes find.matches find.among own.numbered own.those own.own find.look find.rowsUp find.path find.orElse find.firstAnswer find.nearest find.find find.findOwn resolve.rowStarting resolve.resourceOf resolve.reached resolve.chain resolve.resolveRow resolve.resolve resolve.part row.isField row.isBinary row.isDescription description.value description.aByte description.guid description.identifier description.resource description.numbers description.lists description.table description.description count.dataRead count.isRead count.isReadable count.countAt count.countOf count.countIn count.countRow count.countFor mobile.all mobile.isEmpty mobile.roleOfType mobile.roleOfNumber mobile.roleOfRow mobile.roleOfRows mobile.roleOf mobile.besides mobile.child mobile.childrenFrom mobile.children mobile.rightEdition mobile.isFile mobile.filesOnly mobile.isPlain mobile.plainReferences mobile.isUnpacked mobile.noUnpackers mobile.oneTune mobile.isNeed mobile.areNeeds mobile.tuneNeeds mobile.isShort mobile.fieldSize mobile.isSmall mobile.smallFields mobile.check mobile.verdictBy mobile.verdict mobile.mobile sheet.hexDigit sheet.plain sheet.escaped sheet.escapedPart sheet.tabbed sheet.number sheet.versionText sheet.firstLine sheet.nodeLine sheet.label sheet.textOf sheet.itemLine sheet.visibleLine sheet.nodeLines sheet.itemLines sheet.linesOf sheet.sheetOf sheet.fitting sheet.write sheet.counted sheet.kept room.padded sheet.shownByte sheet.shown sheet.shownOr sheet.unicodeText unicode.units unicode.bytesOf unicode.utf16 unicode.bytes16 unicode.utf8 unicode.paired unicode.ofUnits unicode.first16 unicode.tails unicode.first8 unicode.before unicode.next unicode.chars unicode.bytesAll unicode.unmark unicode.written unicode.converted unicode.toUtf8 unicode.toUtf16 places nodesRead decimal.digits decimal.decimal sheet.hexDigits sheet.hexed
-cases = (refl, refl, refl, refl, refl, refl, refl, refl, refl, refl, refl, refl, refl, refl, refl, refl, refl, refl, refl, refl, refl, refl, refl, refl, refl, refl, refl, refl, refl, refl, refl, refl, refl, refl, refl, refl, refl, refl, refl, refl, refl, refl, refl, refl, refl, refl, refl, refl, refl, refl, refl, refl, refl, refl, refl, refl, refl, refl, refl, refl, refl, refl, refl, refl, refl, refl, refl, refl, refl, refl, refl)
+unfolding run trace rowsOf _>>=_ _>>_ if_then_else_ place skip check turns many times next digits number block manufacturer guid formatOf four opening edition fileLength entry typesTable extent header field contents itemFrame universal declaredFormat version rowsFor item nextItem metaItems metadata headerLength head value identifier unpacker entries unpackers resource nodePlace uriPlace target reference rest front folder node tree.tree startsAt offsetAt lost logged outside partEnd takenFrom detachedAt reach follow tree.detached reading readTree readFile first answer reads leaves outcome counts nodeTable itemTable ask promises.resource isHidden find.sameBytes find.matches find.among own.numbered own.those own.own find.look find.rowsUp find.path find.orElse find.firstAnswer find.nearest find.find find.findOwn resolve.rowStarting resolve.resourceOf resolve.reached resolve.chain resolve.resolveRow resolve.resolve resolve.part resolve.fitting resolve.copyInto row.isField row.isBinary row.isDescription description.value description.aByte description.guid description.identifier description.resource description.numbers description.lists description.table description.description count.dataRead count.isRead count.isReadable count.countAt count.countOf count.countIn count.countRow count.countFor mobile.all mobile.isEmpty mobile.roleOfType mobile.roleOfNumber mobile.roleOfRow mobile.roleOfRows mobile.roleOf mobile.besides mobile.child mobile.childrenFrom mobile.children mobile.rightEdition mobile.isFile mobile.filesOnly mobile.isPlain mobile.plainReferences mobile.isUnpacked mobile.noUnpackers mobile.oneTune mobile.isNeed mobile.areNeeds mobile.tuneNeeds mobile.isShort mobile.fieldSize mobile.isSmall mobile.smallFields mobile.check mobile.verdictBy mobile.verdict mobile.mobile sheet.hexDigit sheet.plain sheet.escaped sheet.escapedPart sheet.tabbed sheet.number sheet.versionText sheet.firstLine sheet.nodeLine sheet.label sheet.textOf sheet.itemLine sheet.visibleLine sheet.nodeLines sheet.itemLines sheet.linesOf sheet.sheetOf sheet.fitting sheet.write sheet.counted sheet.kept room.padded sheet.shownByte sheet.shown sheet.shownOr sheet.unicodeText unicode.units unicode.bytesOf unicode.utf16 unicode.bytes16 unicode.utf8 unicode.paired unicode.ofUnits unicode.first16 unicode.tails unicode.first8 unicode.before unicode.next unicode.chars unicode.bytesAll unicode.unmark unicode.written unicode.converted unicode.toUtf8 unicode.toUtf16 places nodesRead decimal.digits decimal.decimal sheet.hexDigits sheet.hexed
+cases = (refl, refl, refl, refl, refl, refl, refl, refl, refl, refl, refl, refl, refl, refl, refl, refl, refl, refl, refl, refl, refl, refl, refl, refl, refl, refl, refl, refl, refl, refl, refl, refl, refl, refl, refl, refl, refl, refl, refl, refl, refl, refl, refl, refl, refl, refl, refl, refl, refl, refl, refl, refl, refl, refl, refl, refl, refl, refl, refl, refl, refl, refl, refl, refl, refl, refl, refl, refl, refl, refl, refl, refl, refl, refl)

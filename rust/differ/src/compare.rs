@@ -141,6 +141,9 @@ impl Comparer {
                 });
             }
             self.answer(question, &left, &right)?;
+            if question == Question::Resource {
+                self.copies(first, second, &left)?;
+            }
             self.left(question)?;
             if question == Question::Resolve {
                 self.fill(question, !number, number);
@@ -178,11 +181,38 @@ impl Comparer {
         self.left(Question::Resolve)
     }
 
+    /// Each buffer must begin with the part of its file that the answer names, so they differ only where
+    /// the files do. The parts are cleared here, and what is then left is compared as any buffer is.
+    fn copies(
+        &mut self,
+        first: Subject,
+        second: Subject,
+        answer: &Answer,
+    ) -> Result<(), Difference> {
+        let [_, _, place, length, ..] = answer.map(|word| word as usize);
+        self.count(length);
+        self.count(length);
+        for (buffers, about) in [(&mut self.first, first), (&mut self.second, second)] {
+            let named = about.file.get(place..).and_then(|rest| rest.get(..length));
+            let copied = buffers.lend().sheet.get_mut(..length);
+            match (named, copied) {
+                (Some(named), Some(copied)) if named == copied => copied.fill(0),
+                _ => {
+                    return Err(Difference {
+                        asked: format!("{:?}", Question::Resource),
+                        what: format!("a copy is not what the answer names: {answer:?}"),
+                    })
+                }
+            }
+        }
+        Ok(())
+    }
+
     /// Sets what a question finds in the first and in the second buffers.
     fn fill(&mut self, question: Question, first: u64, second: u64) {
         self.first.fill_tables(&self.noise, first);
         self.second.fill_tables(&self.noise, second);
-        if question == Question::Sheet {
+        if question.fills_room() {
             self.first.fill_sheet(&self.noise, first);
             self.second.fill_sheet(&self.noise, second);
         }
@@ -393,8 +423,8 @@ impl Comparer {
         let (first, second) = (&self.first, &self.second);
         equal(question, "node table", first.nodes(), second.nodes())?;
         equal(question, "item table", first.items(), second.items())?;
-        if question == Question::Sheet {
-            equal(question, "sheet", first.sheet(), second.sheet())?;
+        if question.fills_room() {
+            equal(question, "buffer", first.sheet(), second.sheet())?;
             self.count(self.first.sheet().len());
         }
         if !(self.first.are_guards_kept() && self.second.are_guards_kept()) {

@@ -19,6 +19,8 @@ pub enum Question {
     FindOwn,
     /// Resolve a resource.
     Resolve,
+    /// Resolve a resource and copy it.
+    Resource,
     /// Give a content description's count.
     Count,
     /// Judge Mobile XMF.
@@ -27,12 +29,20 @@ pub enum Question {
     Sheet,
 }
 
+impl Question {
+    /// Whether it fills a buffer besides the tables.
+    pub fn fills_room(self) -> bool {
+        matches!(self, Question::Resource | Question::Sheet)
+    }
+}
+
 /// All questions.
-pub const QUESTIONS: [Question; 7] = [
+pub const QUESTIONS: [Question; 8] = [
     Question::Tree,
     Question::Find,
     Question::FindOwn,
     Question::Resolve,
+    Question::Resource,
     Question::Count,
     Question::Judge,
     Question::Sheet,
@@ -57,7 +67,7 @@ pub struct Lent<'a> {
     pub nodes: &'a mut [u64],
     /// The words for item rows.
     pub items: &'a mut [u64],
-    /// The bytes for a sheet.
+    /// The bytes for a sheet or a resource.
     pub sheet: &'a mut [u8],
 }
 
@@ -73,14 +83,10 @@ pub fn ask_proved(question: Question, about: Subject, lent: Lent) -> Answer {
             .map(|found| item_words(found.row as u64, found.words)),
         Question::FindOwn => xmf::find_own(file, nodes, items, row, xmf_field(about.field))
             .map(|found| item_words(found.row as u64, found.words)),
-        Question::Resolve => xmf::resolve(file, nodes, items, row).map(|found| {
-            words(&[
-                found.place as u64,
-                found.length as u64,
-                found.row as u64,
-                found.hops,
-            ])
-        }),
+        Question::Resolve => xmf::resolve(file, nodes, items, row).map(resource_words),
+        Question::Resource => {
+            xmf::copy_resource(file, nodes, items, row, lent.sheet).map(resource_words)
+        }
         Question::Count => {
             let [channel, resource] = about.count;
             xmf::voice_count(file, nodes, items, row, channel, resource)
@@ -117,6 +123,9 @@ pub fn ask_words(question: Question, about: Subject, lent: Lent, answer: &mut [u
             xmf::words::find_own(file, nodes, items, row, xmf_field(field), answer)
         }
         Question::Resolve => xmf::words::resolve(file, nodes, items, row, answer),
+        Question::Resource => {
+            xmf::words::copy_resource(file, nodes, items, row, lent.sheet, answer)
+        }
         Question::Count => {
             xmf::words::voice_count(file, nodes, items, row, channel, resource, answer)
         }
@@ -141,6 +150,8 @@ pub fn ask_plain(question: Question, about: Subject, lent: Lent) -> Answer {
         Question::FindOwn => plain::find_own(file, nodes, items, row, field)
             .map(|found| item_words(found.row, found.words)),
         Question::Resolve => plain::resolve(file, nodes, items, row)
+            .map(|found| words(&[found.place, found.length, found.row, found.hops])),
+        Question::Resource => plain::copy_resource(file, nodes, items, row, lent.sheet)
             .map(|found| words(&[found.place, found.length, found.row, found.hops])),
         Question::Count => {
             let [channel, resource] = about.count;
@@ -174,6 +185,16 @@ fn item_words(row: u64, item: [u64; xmf::item::WORDS]) -> Answer {
     let mut answer = words(&[row]);
     answer[3..].copy_from_slice(&item);
     answer
+}
+
+/// The words of an answer with a resource.
+fn resource_words(found: xmf::Resource) -> Answer {
+    words(&[
+        found.place as u64,
+        found.length as u64,
+        found.row as u64,
+        found.hops,
+    ])
 }
 
 /// The words of a refusal.

@@ -236,6 +236,27 @@ pub fn resource<'a>(file: &'a [u8], nodes: &mut [u64], items: &mut [u64], row: u
     }
 }
 
+/// Resolves as [`resolve`] does, and copies the resource into lent room.
+///
+/// Bytes of the room past the resource are 0; after a refusal all are. Refused as [`resolve`] is, then
+/// with 22 when the room is too short.
+pub fn copy_resource(
+    file: &[u8],
+    nodes: &mut [u64],
+    items: &mut [u64],
+    row: u64,
+    out: &mut [u8],
+) -> Result<Resource, Refusal> {
+    out.fill(0);
+    ask(file, nodes, items, |rows, _| {
+        let found = questions::resolve(rows, row)?;
+        let part = questions::part(file, found.place, found.length);
+        let room = out.get_mut(..part.len()).ok_or(Refusal::at(22, 0))?;
+        room.copy_from_slice(part);
+        Ok(found)
+    })
+}
+
 /// The count that an item row, a content description, gives for a channel and a resource, both
 /// numbered from 0.
 ///

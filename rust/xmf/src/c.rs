@@ -67,6 +67,21 @@ extern "C" {
         answer_words: usize,
     );
 
+    /// Resolves a resource and copies it. Answer: place, length, row, references followed.
+    pub fn xmf_resource(
+        file: *const u8,
+        file_length: usize,
+        nodes: *mut u64,
+        node_words: usize,
+        items: *mut u64,
+        item_words: usize,
+        row: usize,
+        out: *mut u8,
+        out_length: usize,
+        answer: *mut u64,
+        answer_words: usize,
+    );
+
     /// Reads the content description that is the item row. Answer: its count for a channel and a
     /// resource.
     pub fn xmf_voice_count(

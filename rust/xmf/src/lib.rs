@@ -4,7 +4,7 @@
 //! |---|---|
 //! | read the tree | [`read_tree`] |
 //! | find the nearest metadata item, or a node's own | [`find`], [`find_own`] |
-//! | resolve a resource | [`resolve`], and [`resource`] for its bytes |
+//! | resolve a resource | [`resolve`], and for its bytes [`resource`] or [`copy_resource`] |
 //! | say what the tune needs | [`voice_count`] |
 //! | judge Mobile XMF | [`judge`] |
 //! | write the support sheet | [`write_sheet`] |
@@ -281,6 +281,11 @@ pub fn resolve(
 ) -> Result<Resource, Refusal> {
     let mut answer = [0; 6];
     words::resolve(file, nodes, items, row, &mut answer);
+    resolved(answer)
+}
+
+/// The resource in the words of an answer.
+fn resolved(answer: [u64; 6]) -> Result<Resource, Refusal> {
     let [place, length, row, hops] = values(answer)?;
     Ok(Resource {
         place: place as usize,
@@ -302,6 +307,38 @@ pub fn resource<'a>(
 ) -> Result<&'a [u8], Refusal> {
     let found = resolve(file, nodes, items, row)?;
     Ok(&file[found.place..][..found.length])
+}
+
+/// Resolves as [`resolve`] does, and copies the resource into a lent buffer.
+///
+/// Bytes of the buffer past the resource are 0; after a refusal all are. Refused as [`resolve`] is, then
+/// with 22 when the resource is longer than the buffer. The bytes may include hidden data, as those of
+/// [`resource`] may.
+///
+/// ```
+/// use xmf::{ALL_ITEM_WORDS, ALL_NODE_WORDS};
+///
+/// let file = std::fs::read("../../samples/worked.xmf").unwrap();
+/// let mut nodes = vec![0; ALL_NODE_WORDS];
+/// let mut items = vec![0; ALL_ITEM_WORDS];
+/// let mut out = [1; 4];
+/// let found = xmf::copy_resource(&file, &mut nodes, &mut items, 1, &mut out).unwrap();
+/// assert_eq!((found.place, found.length), (54, 2));
+/// assert_eq!(out, [0xAA, 0xBB, 0, 0]);
+/// let short = xmf::copy_resource(&file, &mut nodes, &mut items, 1, &mut out[..1]);
+/// assert_eq!(short.unwrap_err().number, 22);
+/// assert_eq!(out, [0, 0xBB, 0, 0]);
+/// ```
+pub fn copy_resource(
+    file: &[u8],
+    nodes: &mut [u64],
+    items: &mut [u64],
+    row: usize,
+    out: &mut [u8],
+) -> Result<Resource, Refusal> {
+    let mut answer = [0; 6];
+    words::copy_resource(file, nodes, items, row, out, &mut answer);
+    resolved(answer)
 }
 
 /// The count that an item row, a content description, gives for a channel and a resource, both

@@ -86,6 +86,25 @@ pub fn resolve(file: &[u8], nodes: &mut [u64], items: &mut [u64], row: usize, an
     ask!(xmf_resolve(file, nodes, items, [row], answer))
 }
 
+/// Resolves a resource and copies it. Values: place, length, row, references followed.
+pub fn copy_resource(
+    file: &[u8],
+    nodes: &mut [u64],
+    items: &mut [u64],
+    row: usize,
+    out: &mut [u8],
+    answer: &mut [u64],
+) {
+    let (room, length) = (out.as_mut_ptr(), out.len());
+    ask!(xmf_resource(
+        file,
+        nodes,
+        items,
+        [row, room, length],
+        answer
+    ))
+}
+
 /// Reads the content description that is the item row. Values: its count for a channel and a resource.
 pub fn voice_count(
     file: &[u8],
