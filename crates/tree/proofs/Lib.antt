@@ -16,3 +16,4 @@ pub mod Own
 pub mod Limited
 pub mod Links
 pub mod Listed
+pub mod EachNode

@@ -1,0 +1,5 @@
+pub mod Account
+pub mod ByRows
+pub mod Totals
+pub mod Told
+pub mod Worked
