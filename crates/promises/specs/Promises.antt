@@ -2,12 +2,14 @@
 -- the proofs in proofs/Kept.antt.
 -- Assumes nothing.
 use mathlib.Core.Path.{_≡_}
+use mathlib.Core.Bool.{true, false}
 use mathlib.Core.Logic.{_⊎_}
 use mathlib.Core.List.{List, [], _∷_, _++_, map}
 use Prim.Native.Nat.{ℕ, _+_, _*_, _≤_, _<_}
 use lib.Dec.{T}
 use lib.ListN.{length, getD, replicate, take, drop}
 use Rattle.cursor.specs.Refusals.{noRowLeft, badText, ofReader, isAllowed}
+use Rattle.cursor.specs.Rows.{inlineSize, Events}
 use Rattle.cursor.specs.declared.Node.{Node}
 use Rattle.cursor.specs.declared.Item.{Item}
 use Rattle.header.specs.Header.{Header}
@@ -18,6 +20,12 @@ use Rattle.tree.specs.Hidden.{DifferInPrivate}
 use Rattle.tree.specs.Own.{Numbered}
 use Rattle.find.specs.Find as find
 use Rattle.resolve.specs.Resolve as resolve
+use Rattle.account.specs.Account.{kindAt, IsOf, placesOf, eventsOf, kindsOf, sumOver, dataOf}
+use Rattle.account.specs.Totals as totals
+use Rattle.account.specs.Totals.{added, afterRefusal, allowed}
+use Rattle.account.specs.Told.{kindWords, totalWords}
+use Rattle.account.specs.declared.Kinds.{Kinds}
+use Rattle.account.specs.declared.Totals.{Totals}
 use Rattle.description.specs.Count as count
 use Rattle.mobile.specs.Mobile as mobile
 use Rattle.sheet.specs.Sheet as sheet
@@ -37,6 +45,7 @@ pub data Question : Type 0 where
   resolveRow : (row : ℕ) → Question
   countFor : (item channel resource : ℕ) → Question
   judgeMobile : Question
+  accountBytes : Totals → Question
   writeSheet : Question
   correctTitle : (item : ℕ) → (title : List ℕ) → Question
   toUtf8 : (units : List ℕ) → Question
@@ -140,6 +149,15 @@ about (findOwn w row) = overRows (find.findOwn w row) itemValues 11 find.refusal
 about (resolveRow row) = overRows (resolve.resolve row) resourceValues 4 resolve.refusals
 about (countFor item channel resource) = overRows (count.countFor item channel resource) oneValue 1 count.refusals
 about judgeMobile = overRows mobile.mobile oneValue 1 []
+about (accountBytes t) = record {
+  Answer = Kinds;
+  asks = λ ls. ofBytes (λ f. allowed t (ask (reads ls f) (kindsOf (limits (size ls 0) (size ls 1)) f)));
+  values = kindWords;
+  number = 9;
+  refusals = ofReader ++ totals.refusals;
+  tables = ofFile;
+  buffers = λ ls. changed (λ n. totalWords (afterRefusal t n)) (λ k. totalWords (added t k)) ∷ [];
+}
 about writeSheet = rowsIntoRoom sheet.write sheet.refusals
 about (correctTitle i text) = record {
   Answer = List ℕ;
@@ -239,10 +257,12 @@ Shows (ofWritten file) ls f o = InTables ls (newFile o) o
 abbrev pub IsAnswer : About → Sizes → (file : List ℕ) → Outcome → Type 0
 IsAnswer q ls f o = (vs : List ℕ) × (o .answer ≡ 0 ∷ 0 ∷ vs) × (length vs ≡ q .number) × AnsweredOf (q .asks ls) ls f × Shows (q .tables) ls f o
 
--- Where resolve is refused, its second call gives an empty part. Refusal 26 of a conversion is placed in the text that was given.
+-- Where resolve is refused, its second call gives an empty part. No refusal clears the totals: 32 keeps them, any other counts one more file and one more refused.
+-- Refusal 26 of a conversion is placed in the text that was given.
 abbrev pub Demand1 : Type 0
 Demand1 = ((q : Question) (ls : Sizes) (f : List ℕ) → IsRefusal (about q) ls f (outcome q ls f) ⊎ IsAnswer (about q) ls f (outcome q ls f))
     × ((row : ℕ) (ls : Sizes) (f : List ℕ) → IsRefusal (about (resolveRow row)) ls f (outcome (resolveRow row) ls f) → resource row ls f ≡ [])
+    × ((t : Totals) (ls : Sizes) (f : List ℕ) (n p : ℕ) → outcome (accountBytes t) ls f .answer ≡ n ∷ p ∷ [] → getD (outcome (accountBytes t) ls f .holds) 2 [] ≡ totalWords (afterRefusal t n))
     × ((units : List ℕ) (ls : Sizes) (f : List ℕ) (p : ℕ) → outcome (toUtf8 units) ls f .answer ≡ badText ∷ p ∷ [] → p < length units)
     × ((text : List ℕ) (ls : Sizes) (f : List ℕ) (p : ℕ) → outcome (toUtf16 text) ls f .answer ≡ badText ∷ p ∷ [] → p < length text)
 
@@ -322,3 +342,22 @@ pub record Correction (i : ℕ) (text : List ℕ) (ls : Sizes) (f g : List ℕ) 
 
 abbrev pub Corrects : Type 0
 Corrects = (i : ℕ) (text : List ℕ) (ls : Sizes) (f : List ℕ) (n : ℕ) → outcome (correctTitle i text) ls f .answer ≡ 0 ∷ 0 ∷ n ∷ [] → Correction i text ls f (newFile (outcome (correctTitle i text) ls f))
+
+-- ---- Where the bytes go. Where it is answered, f was accepted. Each place of f has exactly one kind: that of the part of header, tree or detached nodes which has its
+-- byte, and all else where none has. Each of the nine counts is the number of places of its kind, and together they are the file's length. Of four kinds the rows tell
+-- the count: the file header's is its end, those of data are the sizes of the rows that are not hidden and that are, and inline data is that of file nodes.
+
+pub record Account (ls : Sizes) (f counts : List ℕ) : Type 0 where
+  pub header : Header
+  pub nodes : List Node
+  pub items : List Item
+  pub accepted : reads ls f ≡ rows header nodes items
+  pub one-kind : (k : ℕ) → let es : Events = eventsOf (limits (size ls 0) (size ls 1)) f header in (kindAt es k < 9) × IsOf es k (kindAt es k) × ((κ : ℕ) → IsOf es k κ → κ ≡ kindAt es k)
+  pub each : (κ : ℕ) → κ < 9 → getD counts κ 0 ≡ placesOf κ (eventsOf (limits (size ls 0) (size ls 1)) f header) (length f)
+  pub total : sumOver (λ n. n) counts ≡ length f
+  pub in-header : getD counts 0 0 ≡ header .extent .end
+  pub in-data : (getD counts 3 0 ≡ sumOver (dataOf false) items) × (getD counts 4 0 ≡ sumOver (dataOf true) items)
+  pub in-nodes : getD counts 7 0 ≡ sumOver inlineSize nodes
+
+abbrev pub Accounts : Type 0
+Accounts = (t : Totals) (ls : Sizes) (f counts : List ℕ) → outcome (accountBytes t) ls f .answer ≡ 0 ∷ 0 ∷ counts → Account ls f counts
