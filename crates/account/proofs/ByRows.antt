@@ -4,41 +4,38 @@ use mathlib.Core.Path.{_≡_, refl, sym, ap, _∙_, subst}
 use mathlib.Core.Bool.{Bool, true, false, cond, _&&_, _||_}
 use mathlib.Core.Logic.{_⊎_, inl, inr}
 use borrow.Author.Tests.{eqb-true, eq-eqb, ne-eqb, leb-true}
-use mathlib.Core.List.{List, [], _∷_, _++_, append-assoc}
-use Prim.Native.Nat.{ℕ, zero, suc, _+_, _-_, _≤_, _<_}
+use mathlib.Core.List.{List, [], _∷_, _++_}
+use Prim.Native.Nat.{ℕ, _+_, _-_, _≤_, _<_}
 use native.Mathlib.Omega.{arith}
 use lib.Dec.{eqb}
-use lib.ListN.{length}
-use Rattle.cursor.specs.Machine.{Out, ret, refuse, here, ok, passed, run, trace, rowsOf, _>>=_, _>>_, place, skip, check, times}
-use Rattle.cursor.specs.Rows.{Frame, Part, nodeRow, sizeIf, inlineSize, P, Events}
+use Rattle.cursor.specs.Machine.{Out, ret, ok, passed, run, trace, rowsOf, place, skip, check, times}
+use Rattle.cursor.specs.Rows.{nodeRow, sizeIf, inlineSize, P, Events}
 use Rattle.cursor.specs.declared.Node.{Node}
 use Rattle.cursor.specs.declared.Item.{Item}
-use Rattle.cursor.proofs.Laws.{rows-on, run-timed, Split, split}
+use Rattle.cursor.proofs.Laws.{rows-on, run-timed, split}
 use Rattle.cursor.proofs.Leaves.{Any, any-free, number-on, block-on}
 use Rattle.cursor.proofs.Wp.{Wp, at-end, wp-after, wp-ret, wp-if, wp-check, wp-place, wp-skip}
-use Rattle.cursor.proofs.Order.{Orders, in-order}
 use Rattle.header.specs.Header.{Header}
 use Rattle.metadata.specs.Metadata.{Context}
 use Rattle.metadata.specs.Tables.{plusNode}
 use Rattle.metadata.specs.declared.Limits.{Limits}
 use Rattle.metadata.specs.declared.Made.{Made}
-use Rattle.node.specs.Node.{inTree, outsideTree, resource, nodePlace, uriPlace, target, reference, rowOf, front}
+use Rattle.node.specs.Node.{resource, nodePlace, uriPlace, target, reference, rowOf, front}
 use Rattle.node.specs.declared.Head.{Head}
 use Rattle.node.specs.declared.Unpackers.{Unpackers}
 use Rattle.node.specs.declared.Reference.{Reference}
 use Rattle.node.specs.declared.Standing.{Standing}
 use Rattle.node.specs.declared.Front.{Front}
-use Rattle.node.proofs.Order.{front-orders}
-use Rattle.tree.specs.Tree.{folder, node, tree, detached}
-use Rattle.tree.specs.Reading.{nodeOf, nodesOf, good, rows, detachedAt, readFile}
+use Rattle.tree.specs.Tree.{folder, detached}
+use Rattle.tree.specs.Reading.{nodeOf, nodesOf, rows}
 use Rattle.tree.proofs.Follow.{ReadAs}
-use Rattle.tree.proofs.EachNode.{ownEvents, OfRow, own-row, by-nodes}
+use Rattle.tree.proofs.EachNode.{OfRow, own-row, by-nodes}
 use Rattle.account.specs.Account.{sumOver}
 use Rattle.account.specs.ByRows.{metaAt, metaEnd, contentsAt}
 use Rattle.account.proofs.Places.{count}
 use Rattle.account.proofs.Spent.{count-on}
 use Rattle.cursor.proofs.Apart.{at-place, at-check}
-use Rattle.account.proofs.Front.{Spent, ofMeta, front-is, front-spends}
+use Rattle.account.proofs.Front.{ofMeta, front-is, front-spends}
 
 sum-on : (c : Node → ℕ) (ns ms : List Node) → sumOver c (ns ++ ms) ≡ sumOver c ns + sumOver c ms
 sum-on c [] ms = let e : sumOver c ms ≡ 0 + sumOver c ms = omega arith in e
@@ -138,6 +135,16 @@ front-reference x parent depth s m f at {w} {q} e body {b} {v} r =
         let j = nothing-left (h .contained) (k .0) (at + h .size .0) body (plusNode made) f _ r′ in
         subst (λ i. Behind f i q) z (other (k .1) (omega arith))
 
+-- so it ends where the contents begin
+pub contents-at : (x : Context) (parent depth : ℕ) (s : Standing) (m : Made) (f : List ℕ) (at : ℕ) {w : Front} {q : ℕ} → run (front x parent depth s m) f at ≡ ok w q
+    → (body : Made → P Made) {b : Made} {v : ℕ} → run (folder (at + w .row .size) (times (w .row .contained) body (plusNode (w .made)))) f (q + inlineSize (w .row)) ≡ ok b v → contentsAt (w .row) ≡ q
+unfolding contentsAt
+contents-at x parent depth s m f at {w} {q} e body r = by (front-reference x parent depth s m f at e body r)
+  where
+    by : Behind f (w .row) q → (cond (eqb (w .row .reference) 1) (w .row .target) (w .row .start + w .row .size)) ≡ q
+    by (one i j) = rw (eq-eqb (w .row .reference) 1 i) j
+    by (other i j) = rw (ne-eqb (w .row .reference) 1 (λ z. omega arith)) j
+
 -- ---- the kinds, by rows
 
 module _ (f : List ℕ) where
@@ -157,19 +164,7 @@ module _ (f : List ℕ) where
   files-own x parent depth s m at v q e body b z r = let w = front-spends x parent depth s m f at e in let a = w .files in omega arith
 
   refs-own : Says (eqb 6) (λ r. contentsAt r - (r .start + r .header)) f
-  unfolding contentsAt
-  refs-own x parent depth s m at v q e body b z r =
-      let w = front-spends x parent depth s m f at e in
-      let a = w .refs in
-      let k = front-reference x parent depth s m f at e body r in
-      by (eqb (v .row .reference) 1) refl k _ a
-    where
-      by : (c : Bool) → eqb (v .row .reference) 1 ≡ c → Behind f (v .row) q → (n : ℕ) → v .row .start + v .row .header + n ≡ q
-          → n + 0 ≡ (cond c (v .row .target) (v .row .start + v .row .size)) - (v .row .start + v .row .header)
-      by true t (one i j) n a = omega arith
-      by true t (other i j) n a = let l = eqb-true (v .row .reference) 1 t in absurd (omega arith)
-      by false t (one i j) n a = absurd (no (sym t ∙ eq-eqb _ _ i))
-      by false t (other i j) n a = omega arith
+  refs-own x parent depth s m at v q e body b z r = let a = front-spends x parent depth s m f at e .refs in let c = contents-at x parent depth s m f at e body r in omega arith
 
   pub record ByRows (ns : List Node) (log : Events) : Type 0 where
     pub files : count (eqb 0) log ≡ sumOver (λ r. 0) ns

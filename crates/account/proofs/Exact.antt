@@ -1,13 +1,12 @@
 -- The code's way gives the counts of the definition: no sum stays at the greatest number, since all of them together are the file's length.
 -- Assumes nothing.
-use mathlib.Core.Path.{_≡_, refl, sym, ap, _∙_, subst}
+use mathlib.Core.Path.{_≡_, refl, _∙_}
 use mathlib.Core.Bool.{Bool, true, false, cond}
 use mathlib.Core.List.{List, [], _∷_}
-use Prim.Native.Nat.{ℕ, _+_, _-_, _^_, _≤_, _<_, min}
+use Prim.Native.Nat.{ℕ, _+_, _-_, _^_, _<_}
 use native.Mathlib.Omega.{arith}
-use lib.Dec.{eqb}
 use lib.ListN.{length}
-use Rattle.cursor.specs.Rows.{inlineSize, Events}
+use Rattle.cursor.specs.Rows.{inlineSize}
 use Rattle.cursor.specs.declared.Node.{Node}
 use Rattle.cursor.specs.declared.Item.{Item}
 use Rattle.header.specs.Header.{Header}
@@ -15,12 +14,12 @@ use Rattle.metadata.specs.declared.Limits.{Limits}
 use Rattle.tree.specs.Reading.{rows, readFile}
 use Rattle.tree.specs.Hidden.{isHidden}
 use Rattle.tree.proofs.Rows.{accepted}
-use Rattle.account.specs.Account.{counts, eventsOf, sumOver, dataOf}
-use Rattle.account.specs.ByRows.{plus, metaAt, metaEnd, contentsAt, withNode, withItem, folded, none, nothing, inNodes, inItems, together, kindsBy}
+use Rattle.account.specs.Account.{counts, eventsOf, sumOver}
+use Rattle.account.specs.ByRows.{plus, withNode, withItem, folded, none, nothing, inNodes, inItems, together, kindsBy}
 use Rattle.account.specs.declared.Kinds.{Kinds}
 use Rattle.account.specs.declared.Frames.{Frames}
 use Rattle.account.specs.declared.Data.{Data}
-use Rattle.account.proofs.Whole.{RowsCount, rows-count}
+use Rattle.account.proofs.Whole.{dataOf, RowsCount, rows-count}
 
 plus-exact : (a b : ℕ) → a + b < 2 ^ 28 → plus a b ≡ a + b
 plus-exact a b l = omega arith

@@ -3,13 +3,11 @@
 use mathlib.Core.Path.{_≡_, refl, sym, ap, ap₂, _∙_, subst}
 use mathlib.Core.Bool.{true, false}
 use mathlib.Core.List.{List}
-use Prim.Native.Nat.{ℕ, _+_, _*_, _≤_, _<_}
+use Prim.Native.Nat.{ℕ, _*_, _≤_, _<_}
 use lib.Dec.{leb}
 use lib.ListN.{length, replicate}
 use borrow.Author.Tests.{le-leb, lt-leb}
 use Rattle.cursor.specs.declared.FilePlace.{FilePlace}
-use Rattle.cursor.specs.declared.Node.{Node}
-use Rattle.cursor.specs.declared.Item.{Item}
 use Rattle.metadata.specs.Tables.{nodeWidth, itemWidth, limits}
 use Rattle.tree.specs.Reading.{readFile, readOf, nodeTable, itemTable}
 use Rattle.tree.specs.Rows.{nodesIn, itemsIn, nodeAt, nodeFrom}

@@ -1,9 +1,9 @@
 -- The account of an accepted file: its counts are the numbers of its places, and sum to its length. Two files that differ in what is private have one account.
 -- Assumes nothing.
 use mathlib.Core.Path.{_≡_, refl, sym, ap, _∙_, subst}
-use mathlib.Core.Logic.{_⊎_, inl, inr}
+use mathlib.Core.Logic.{inl, inr}
 use mathlib.Core.List.{List, [], _∷_, _++_}
-use Prim.Native.Nat.{ℕ, zero, suc, _+_, _≤_, _<_}
+use Prim.Native.Nat.{ℕ, _<_}
 use native.Mathlib.Omega.{arith}
 use lib.ListN.{length}
 use Rattle.cursor.specs.Machine.{seen, passed, trace, rowsOf}
@@ -11,17 +11,16 @@ use Rattle.cursor.specs.Rows.{nodeRow, itemRow, plain, Events}
 use Rattle.cursor.specs.declared.Node.{Node}
 use Rattle.cursor.specs.declared.Item.{Item}
 use Rattle.cursor.proofs.Stable.{Separate, stable}
-use Rattle.cursor.proofs.Log.{Sound}
 use Rattle.cursor.proofs.Wp.{All}
 use Rattle.header.specs.Header.{Header, header}
 use Rattle.metadata.specs.declared.Limits.{Limits}
 use Rattle.metadata.proofs.Ends.{Nothing, Inside}
-use Rattle.tree.specs.Reading.{nodesOf, good, rows, logFrom, readFile}
+use Rattle.tree.specs.Reading.{nodesOf, rows, logFrom, readFile}
 use Rattle.tree.specs.Hidden.{DifferInPrivate}
 use Rattle.tree.proofs.Follow.{ReadAs, read-back, log-is}
 use Rattle.tree.proofs.Shown.{header-of, log-inside}
-use Rattle.tree.proofs.Demand.{Taken, Parts, all-sound, Alike, private-alike, privateData}
-use Rattle.account.specs.Account.{logged, eventsOf, kindsOf, counts}
+use Rattle.tree.proofs.Demand.{Taken, Parts, all-sound, private-alike, privateData}
+use Rattle.account.specs.Account.{logged, eventsOf, kindsOf}
 use Rattle.account.proofs.Places.{Counted, all-counted}
 
 taken-inside : (es : Events) (size k : ℕ) → All (Inside Nothing size size .asks) es → Taken (nodesOf es) k → k < size

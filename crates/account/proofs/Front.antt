@@ -3,37 +3,35 @@
 -- Assumes nothing.
 use mathlib.Core.Path.{_≡_, refl, sym, ap, _∙_, subst}
 use mathlib.Core.Bool.{Bool, true, false, cond, _||_}
-use mathlib.Core.List.{List, [], _∷_, _++_}
-use Prim.Native.Nat.{ℕ, zero, suc, _+_, _-_, _≤_, _<_}
+use mathlib.Core.List.{List, _++_, append-nil}
+use Prim.Native.Nat.{ℕ, _+_, _-_, _≤_}
 use native.Mathlib.Omega.{arith}
 use borrow.Author.Tests.{leb-true}
 use lib.Dec.{T, eqb, leb}
-use Rattle.cursor.specs.Machine.{Out, ok, refused, run, trace, ret, _>>=_, _>>_, place, check}
-use Rattle.cursor.specs.Rows.{Frame, nodeFrame, metaFrame, Part, itemRow, plain, P, Events}
+use Rattle.cursor.specs.Machine.{ok, run, trace, ret, _>>=_, place, check}
+use Rattle.cursor.specs.Rows.{nodeFrame, metaFrame, itemRow, P, Events}
 use Rattle.cursor.specs.Leaves.{number, block}
 use Rattle.cursor.specs.declared.Node.{Node}
 use Rattle.cursor.specs.declared.Item.{Item}
 use Rattle.cursor.proofs.Laws.{Split, split}
-use Rattle.cursor.proofs.Uses.{Uses}
 use Rattle.cursor.proofs.Wider.{number-wider}
-use Rattle.cursor.proofs.Wp.{Wp, Rule, at-end, wp-after, wp-weaken, wp-ret, wp-check, wp-place, wp-many}
-use Rattle.cursor.proofs.Leaves.{number-inside, block-inside, block-on}
-use Rattle.metadata.specs.Metadata.{Context, metaItems, metadata}
+use Rattle.cursor.proofs.Wp.{at-end}
+use Rattle.cursor.proofs.Leaves.{number-inside}
+use Rattle.metadata.specs.Metadata.{Context, metadata}
 use Rattle.metadata.specs.declared.Made.{Made}
 use Rattle.metadata.proofs.Uses.{metadata-uses}
-use Rattle.metadata.proofs.Ends.{Nothing, Inside, inside-free, items-on}
-use Rattle.node.specs.Node.{headerLength, head, entries, unpackers, reference, Rest, rest, rowOf, front}
+use Rattle.metadata.proofs.Ends.{Nothing, inside-free, items-on}
+use Rattle.node.specs.Node.{headerLength, head, unpackers, reference, Rest, rest, rowOf, front}
 use Rattle.node.specs.declared.Standing.{Standing}
 use Rattle.node.specs.declared.Head.{Head}
-use Rattle.node.specs.declared.Reference.{Reference}
 use Rattle.node.specs.declared.Front.{Front}
 use Rattle.node.proofs.Uses.{head-uses, unpackers-use, reference-uses}
 use Rattle.node.proofs.Ends.{unpackers-on, head-inside}
 use Rattle.tree.specs.Hidden.{isHidden}
 use Rattle.account.specs.Account.{kindOf}
-use Rattle.account.specs.ByRows.{behind, spanned, numberAt, metaAt, metaEnd}
+use Rattle.account.specs.ByRows.{metaAt, metaEnd}
 use Rattle.account.proofs.Places.{count}
-use Rattle.account.proofs.Spent.{only, others, spends, spends-none, count-on}
+use Rattle.account.proofs.Spent.{others, spends, spends-none, count-on}
 use Rattle.cursor.proofs.Apart.{at-place, at-check, at-ret, block-number}
 
 -- ---- the three numbers, read again
@@ -89,7 +87,7 @@ meta-ends x node end m f at e =
 abbrev pub ofMeta : ℕ → Bool
 ofMeta κ = eqb 2 κ || (eqb 3 κ || eqb 4 κ)
 
-item-kind : (t : ℕ → Bool) → T (t 3) → T (t 4) → (r : Item) → T (t (kindOf (itemRow r)))
+pub item-kind : (t : ℕ → Bool) → T (t 3) → T (t 4) → (r : Item) → T (t (kindOf (itemRow r)))
 item-kind t a b r = by (isHidden r)
   where
     by : (c : Bool) → T (t (cond c 4 3))
@@ -104,23 +102,19 @@ pub record Spent (f : List ℕ) (r : Node) (q : ℕ) (es : Events) : Type 0 wher
   pub files : count (eqb 0) es ≡ 0
   pub inlines : count (eqb 7) es ≡ 0
 
--- ---- the parts, and what they spend
+-- ---- the parts
 
-ret-none : {A : Type 0} (t : ℕ → Bool) (a : A) (f : List ℕ) (at : ℕ) → count t (trace {K = Frame} {W = Part} (ret a) f at) ≡ 0
-unfolding trace count
-ret-none t a f at = refl
-
--- what m spends, and what follows it
-joint : (t : ℕ → Bool) {A B : Type 0} (m : P A) (g : A → P B) (f : List ℕ) (at : ℕ) {b : B} {q : ℕ} (x : Split m g f at b q)
-    → count t (trace (m >>= g) f at) ≡ count t (trace m f at) + count t (trace (g (x .a)) f (x .p))
-joint t m g f at x = ap (count t) (x .joined) ∙ count-on t (trace m f at) (trace (g (x .a)) f (x .p))
+-- what is read last, and then answered
+last : {A B : Type 0} (m : P A) (g : A → B) (f : List ℕ) (at : ℕ) {b : B} {q : ℕ} → Split m (λ a. ret (g a)) f at b q → trace (m >>= λ a. ret (g a)) f at ≡ trace m f at
+unfolding trace
+last m g f at x = x .joined ∙ append-nil (trace m f at)
 
 pub record RestIs (headerEnd size contained inner stop : ℕ) (f : List ℕ) (at : ℕ) (o : Rest) (q : ℕ) : Type 0 where
   pub p : ℕ
   pub unpacked : run (unpackers contained inner) f at ≡ ok (o .unpackers) p
   pub reached : inner ≤ p
   pub referred : run (reference headerEnd size contained stop) f p ≡ ok (o .reference) q
-  pub sum : (t : ℕ → Bool) → count t (trace (rest headerEnd size contained inner stop) f at) ≡ count t (trace (unpackers contained inner) f at) + count t (trace (reference headerEnd size contained stop) f p)
+  pub joined : trace (rest headerEnd size contained inner stop) f at ≡ trace (unpackers contained inner) f at ++ trace (reference headerEnd size contained stop) f p
 
 rest-is : (headerEnd size contained inner stop : ℕ) (f : List ℕ) (at : ℕ) {o : Rest} {q : ℕ} → run (rest headerEnd size contained inner stop) f at ≡ ok o q → RestIs headerEnd size contained inner stop f at o q
 unfolding rest
@@ -135,12 +129,7 @@ rest-is headerEnd size contained inner stop f at {o} {q} e =
       unpacked = d .first ∙ ap (λ (v : Rest). ok (v .unpackers) (d .p)) (r .0);
       reached = leb-true inner (d .p) (c .0);
       referred = g .first ∙ ap (λ (v : Rest). ok (v .reference) (g .p)) (r .0) ∙ ap (ok (o .reference)) (r .1);
-      sum = λ t.
-          let a = joint t (unpackers contained inner) _ f at d in
-          let b = ap (count t) (k .1 ∙ c .2) in
-          let h = joint t (reference headerEnd size contained stop) (λ r. ret (record { unpackers = d .a; reference = r })) f (d .p) g in
-          let z = ret-none {A = Rest} t (record { unpackers = d .a; reference = g .a }) f (g .p) in
-          omega arith;
+      joined = d .joined ∙ ap (λ v. trace (unpackers contained inner) f at ++ v) (k .1 ∙ c .2 ∙ last (reference headerEnd size contained stop) (λ r. record { unpackers = d .a; reference = r }) f (d .p) g);
     }
 
 pub record FrontIs (x : Context) (parent depth : ℕ) (s : Standing) (m : Made) (f : List ℕ) (at : ℕ) (w : Front) (q : ℕ) : Type 0 where
@@ -153,8 +142,8 @@ pub record FrontIs (x : Context) (parent depth : ℕ) (s : Standing) (m : Made) 
   pub o : Rest
   pub left : RestIs (x .headerEnd) (x .size) (h .contained) (at + h .header .0) (at + h .size .0) f p′ o q
   pub row-is : rowOf at h parent depth (s .detached) (o .reference) (o .unpackers) (m′ .items - m .items) ≡ w .row
-  pub sum : (t : ℕ → Bool) → count t (trace (front x parent depth s m) f at)
-      ≡ count t (trace (head s) f at) + (count t (trace (metadata x (m .nodes) (at + h .header .0) m) f p) + count t (trace (rest (x .headerEnd) (x .size) (h .contained) (at + h .header .0) (at + h .size .0)) f p′))
+  pub joined : trace (front x parent depth s m) f at
+      ≡ trace (head s) f at ++ (trace (metadata x (m .nodes) (at + h .header .0) m) f p ++ trace (rest (x .headerEnd) (x .size) (h .contained) (at + h .header .0) (at + h .size .0)) f p′)
 
 pub front-is : (x : Context) (parent depth : ℕ) (s : Standing) (m : Made) (f : List ℕ) (at : ℕ) {w : Front} {q : ℕ} → run (front x parent depth s m) f at ≡ ok w q → FrontIs x parent depth s m f at w q
 unfolding front
@@ -175,21 +164,24 @@ front-is x parent depth s m f at {w} {q} e =
       o = c .a;
       left = rest-is (x .headerEnd) (x .size) (a .a .contained) (at + a .a .header .0) (at + a .a .size .0) f (b .p) (c .first ∙ ap (ok (c .a)) (r .1));
       row-is = ap (λ (v : Front). v .row) (r .0);
-      sum = λ t.
-          let u = ap (count t) (k .1) in
-          let v = joint t (head s) _ f at a in
-          let y = joint t (metadata x (m .nodes) (at + a .a .header .0) m) _ f (a .p) b in
-          let z = joint t (rest (x .headerEnd) (x .size) (a .a .contained) (at + a .a .header .0) (at + a .a .size .0)) _ f (b .p) c in
-          let i = ret-none {A = Front} t (record { row = rowOf at (a .a) parent depth (s .detached) (c .a .reference) (c .a .unpackers) (b .a .items - m .items); made = b .a }) f (c .p) in
-          omega arith;
+      joined =
+          let z = last (rest (x .headerEnd) (x .size) (a .a .contained) (at + a .a .header .0) (at + a .a .size .0))
+          (λ o. record { row = rowOf at (a .a) parent depth (s .detached) (o .reference) (o .unpackers) (b .a .items - m .items); made = b .a }) f (b .p) c in
+          k .1 ∙ a .joined ∙ ap (λ v. trace (head s) f at ++ v) (b .joined ∙ ap (λ v. trace (metadata x (m .nodes) (at + a .a .header .0) m) f (a .p) ++ v) z);
     }
 
--- ---- the law
+-- ---- where they are, by the row
 
-pub front-spends : (x : Context) (parent depth : ℕ) (s : Standing) (m : Made) (f : List ℕ) (at : ℕ) {w : Front} {q : ℕ} → run (front x parent depth s m) f at ≡ ok w q
-    → Spent f (w .row) q (trace (front x parent depth s m) f at)
+pub record Ordered (x : Context) (parent depth : ℕ) (s : Standing) (m : Made) (f : List ℕ) (at : ℕ) (w : Front) (q : ℕ) : Type 0 where
+  pub is : FrontIs x parent depth s m f at w q
+  pub begins : w .row .start ≡ at
+  pub meta-at : metaAt f (w .row) ≡ is .p
+  pub meta-end : metaEnd f (w .row) ≡ is .p′
+  pub header-end : w .row .start + w .row .header ≡ is .left .p
+
+pub front-ordered : (x : Context) (parent depth : ℕ) (s : Standing) (m : Made) (f : List ℕ) (at : ℕ) {w : Front} {q : ℕ} → run (front x parent depth s m) f at ≡ ok w q → Ordered x parent depth s m f at w q
 unfolding metaAt metaEnd
-front-spends x parent depth s m f at {w} {q} e =
+front-ordered x parent depth s m f at {w} {q} e =
     let y = front-is x parent depth s m f at e in
     let h = y .h in
     let inner = at + h .header .0 in
@@ -203,21 +195,53 @@ front-spends x parent depth s m f at {w} {q} e =
     let k = t .ends-at in
     let b = number-inside metaFrame 8 (t .end) f (y .p) (t .length-is) in
     let again = number-wider metaFrame 8 3 (t .end) stop f (y .p) (t .length-is) (omega arith) in
-    let r₁ : metaAt f (rowOf at h parent depth (s .detached) (y .o .reference) (y .o .unpackers) (y .m′ .items - m .items)) ≡ y .p = rw (n .first, n .second, n .third) refl in
-    let r₂ : metaEnd f (rowOf at h parent depth (s .detached) (y .o .reference) (y .o .unpackers) (y .m′ .items - m .items)) ≡ y .p′ = rw (n .first, n .second, n .third, again) (sym k) in
+    let row = rowOf at h parent depth (s .detached) (y .o .reference) (y .o .unpackers) (y .m′ .items - m .items) in
+    let r₁ : metaAt f row ≡ y .p = rw (n .first, n .second, n .third) refl in
+    let r₂ : metaEnd f row ≡ y .p′ = rw (n .first, n .second, n .third, again) (sym k) in
+    record {
+      is = y;
+      begins = subst (λ (v : Node). v .start ≡ at) (y .row-is) refl;
+      meta-at = subst (λ (v : Node). metaAt f v ≡ y .p) (y .row-is) r₁;
+      meta-end = subst (λ (v : Node). metaEnd f v ≡ y .p′) (y .row-is) r₂;
+      header-end = subst (λ (v : Node). v .start + v .header ≡ l .p) (y .row-is) (omega arith);
+    }
+
+-- ---- what they spend
+
+pub front-spends : (x : Context) (parent depth : ℕ) (s : Standing) (m : Made) (f : List ℕ) (at : ℕ) {w : Front} {q : ℕ} → run (front x parent depth s m) f at ≡ ok w q
+    → Spent f (w .row) q (trace (front x parent depth s m) f at)
+front-spends x parent depth s m f at {w} {q} e =
+    let z = front-ordered x parent depth s m f at e in
+    let y = z .is in
+    let l = y .left in
+    let h = y .h in
+    let inner = at + h .header .0 in
+    let stop = at + h .size .0 in
     let meta = metadata x (m .nodes) inner m in
     let unpack = unpackers (h .contained) inner in
     let refer = reference (x .headerEnd) (x .size) (h .contained) stop in
+    let others-of = rest (x .headerEnd) (x .size) (h .contained) inner stop in
+    let i = z .begins in
+    let j = z .meta-at in
+    let k = z .meta-end in
+    let n = z .header-end in
     let sum : (t : ℕ → Bool) → count t (trace (front x parent depth s m) f at)
     ≡ count t (trace (head s) f at) + (count t (trace meta f (y .p)) + (count t (trace unpack f (y .p′)) + count t (trace refer f (l .p)))) =
-    λ t. let a = y .sum t in let c = l .sum t in omega arith in
+    λ t. omega (
+      arith,
+      ap (count t) (y .joined),
+      count-on t (trace (head s) f at) (trace meta f (y .p) ++ trace others-of f (y .p′)),
+      count-on t (trace meta f (y .p)) (trace others-of f (y .p′)),
+      ap (count t) (l .joined),
+      count-on t (trace unpack f (y .p′)) (trace refer f (l .p)),
+    ) in
     let no-head : (t : ℕ → Bool) → T (others t 1) → count t (trace (head s) f at) ≡ 0 = λ t a. spends-none t {m = head s} (head-uses a s) f at in
     let no-meta : (t : ℕ → Bool) → T (others t 2) → T (others t 3) → T (others t 4) → count t (trace meta f (y .p)) ≡ 0 =
     λ t a b c. spends-none t {m = meta} (metadata-uses a a (item-kind (others t) b c) x (m .nodes) inner m) f (y .p) in
     let no-unpackers : (t : ℕ → Bool) → T (others t 5) → count t (trace unpack f (y .p′)) ≡ 0 = λ t a. spends-none t {m = unpack} (unpackers-use a (h .contained) inner) f (y .p′) in
     let no-reference : (t : ℕ → Bool) → T (others t 6) → count t (trace refer f (l .p)) ≡ 0 =
     λ t a. spends-none t {m = refer} (reference-uses a a (x .headerEnd) (x .size) (h .contained) stop) f (l .p) in
-    subst (λ (v : Node). Spent f v q (trace (front x parent depth s m) f at)) (y .row-is) (record {
+    record {
       frames =
           let a = spends (eqb 1) (head-uses tt s) f at (y .headed) in
           omega (arith, sum (eqb 1), no-meta (eqb 1) tt tt tt, no-unpackers (eqb 1) tt, no-reference (eqb 1) tt);
@@ -232,4 +256,4 @@ front-spends x parent depth s m f at {w} {q} e =
           omega (arith, sum (eqb 6), no-head (eqb 6) tt, no-meta (eqb 6) tt tt tt, no-unpackers (eqb 6) tt);
       files = omega (arith, sum (eqb 0), no-head (eqb 0) tt, no-meta (eqb 0) tt tt tt, no-unpackers (eqb 0) tt, no-reference (eqb 0) tt);
       inlines = omega (arith, sum (eqb 7), no-head (eqb 7) tt, no-meta (eqb 7) tt tt tt, no-unpackers (eqb 7) tt, no-reference (eqb 7) tt);
-    })
+    }

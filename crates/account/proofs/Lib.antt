@@ -10,3 +10,4 @@ pub mod Ways
 pub mod Exits
 pub mod Listed
 pub mod Words
+pub mod ByPlace

@@ -3,17 +3,17 @@
 use mathlib.Core.Path.{_≡_, refl, sym, ap, ap₂, _∙_}
 use mathlib.Core.Bool.{Bool, true, false, cond, not, _&&_}
 use mathlib.Core.Logic.{_⊎_, inl, inr}
-use mathlib.Core.List.{List, [], _∷_, _++_}
+use mathlib.Core.List.{[], _∷_}
 use Prim.Native.Nat.{ℕ, zero, suc, _+_, _-_, _≤_, _<_, min}
 use native.Mathlib.Nat.{lt-of-not-le}
 use native.Mathlib.Decide.{decLe, decLt}
 use native.Mathlib.Omega.{arith}
-use borrow.Author.Tests.{ne-eqb, ltb-true, ltb-false, leb-true, le-leb, lt-leb, lt-ltb, le-ltb}
+use borrow.Author.Tests.{ne-eqb, ltb-true, leb-true, le-leb, lt-leb, lt-ltb, le-ltb}
 use lib.Dec.{T, eqb, ltb, leb}
 use Rattle.cursor.specs.Machine.{Event, seen, passed}
 use Rattle.cursor.specs.Rows.{Frame, fileFrame, nodeFrame, metaFrame, unpackFrame, referenceFrame, language, name, uri, Part, nodeRow, itemRow, plain, Events}
 use Rattle.tree.specs.Hidden.{isHidden}
-use Rattle.account.specs.Account.{kindOf, kind, first, size, hasByte, kindAt, Had, IsOf, places, placesOf}
+use Rattle.account.specs.Account.{kind, first, size, hasByte, kindAt, Had, IsOf, places, placesOf}
 use Rattle.cursor.proofs.Stable.{Has, Covers, Separate}
 
 -- the bytes of events whose kind passes the test
@@ -57,7 +57,7 @@ event-has : (e : Event Frame Part) (k : ℕ) → first e ≤ k → k < first e +
 event-has (seen κ p) k l m = (l, m)
 event-has (passed w p n) k l m = (l, m)
 
-in-event : (e : Event Frame Part) (k : ℕ) → T (hasByte e k) → Has e k
+pub in-event : (e : Event Frame Part) (k : ℕ) → T (hasByte e k) → Has e k
 in-event e k t = by (leb (first e) k) (ltb k (first e + size e)) refl refl t
   where
     by : (b c : Bool) → leb (first e) k ≡ b → ltb k (first e + size e) ≡ c → T (b && c) → Has e k
@@ -189,7 +189,7 @@ all-counted n es s l =
 
 -- ---- each place has exactly one kind
 
-had-covers : (es : Events) (k κ : ℕ) → Had es k κ → Covers es k
+pub had-covers : (es : Events) (k κ : ℕ) → Had es k κ → Covers es k
 had-covers [] k κ h = absurd h
 had-covers (e ∷ es) k κ (inl x) = inl (in-event e k (x .0))
 had-covers (e ∷ es) k κ (inr y) = inr (had-covers es k κ y)

@@ -2,13 +2,12 @@
 -- Assumes nothing.
 use mathlib.Core.Path.{_≡_, refl, sym, ap, _∙_, subst}
 use mathlib.Core.Bool.{Bool, true, false, cond}
-use mathlib.Core.Logic.{_⊎_, inl, inr}
 use mathlib.Core.List.{List, [], _∷_, _++_}
-use Prim.Native.Nat.{ℕ, zero, suc, _+_, _-_, _≤_, _<_}
+use Prim.Native.Nat.{ℕ, _+_, _-_, _<_}
 use native.Mathlib.Omega.{arith}
 use lib.Dec.{T, eqb}
 use lib.ListN.{length}
-use Rattle.cursor.specs.Machine.{Event, seen, passed, run, trace, rowsOf}
+use Rattle.cursor.specs.Machine.{Event, seen, passed, trace, rowsOf}
 use Rattle.cursor.specs.Rows.{Frame, fileFrame, nodeFrame, metaFrame, unpackFrame, referenceFrame, language, name, uri, Part, nodeRow, itemRow, plain, inlineSize, Events}
 use Rattle.cursor.specs.declared.Node.{Node}
 use Rattle.cursor.specs.declared.Item.{Item}
@@ -16,11 +15,11 @@ use Rattle.cursor.proofs.Wp.{All}
 use Rattle.header.specs.Header.{Header, header}
 use Rattle.metadata.specs.declared.Limits.{Limits}
 use Rattle.metadata.proofs.Ends.{Nothing, Inside}
-use Rattle.tree.specs.Reading.{nodesOf, itemsOf, good, rows, readFile}
+use Rattle.tree.specs.Reading.{itemsOf, rows, readFile}
 use Rattle.tree.specs.Hidden.{isHidden}
-use Rattle.tree.proofs.Follow.{ReadAs, read-back}
+use Rattle.tree.proofs.Follow.{read-back}
 use Rattle.tree.proofs.Shown.{header-of, log-inside}
-use Rattle.account.specs.Account.{kind, size, placesOf, counts, eventsOf, sumOver, dataOf}
+use Rattle.account.specs.Account.{kind, size, placesOf, counts, eventsOf, sumOver}
 use Rattle.account.specs.ByRows.{metaAt, metaEnd, contentsAt}
 use Rattle.account.specs.declared.Kinds.{Kinds}
 use Rattle.account.proofs.Places.{count, Counted}
@@ -31,6 +30,11 @@ use Rattle.account.proofs.ByRows.{by-rows}
 use Rattle.account.proofs.File.{events-are, file-counted}
 
 -- ---- data, by item rows
+
+-- visible or hidden data of a row
+unfoldable pub dataOf : (hidden : Bool) → Item → ℕ
+dataOf true r = cond (isHidden r) (r .size) 0
+dataOf false r = cond (isHidden r) 0 (r .size)
 
 -- what an event that is no item's data has of kinds 3 and 4: nothing; what an item's has
 data-sums : (es : Events) (top : ℕ) → All (Inside Nothing top top .asks) es

@@ -1,7 +1,7 @@
 -- Where the bytes of a file go (02, E9). Each place has a kind: that of what header, tree or detached nodes read or pass over there; any other place is all else.
 -- Assumes nothing.
 use mathlib.Core.Path.{_≡_}
-use mathlib.Core.Bool.{Bool, true, false, cond, _&&_}
+use mathlib.Core.Bool.{Bool, cond, _&&_}
 use mathlib.Core.Logic.{_⊎_}
 use mathlib.Core.List.{List, [], _∷_, _++_}
 use Prim.Native.Nat.{ℕ, zero, suc, _+_}
@@ -9,8 +9,6 @@ use lib.Dec.{T, eqb, ltb, leb}
 use lib.ListN.{length}
 use Rattle.cursor.specs.Machine.{Event, seen, passed, trace}
 use Rattle.cursor.specs.Rows.{Frame, fileFrame, nodeFrame, metaFrame, unpackFrame, referenceFrame, Plain, language, name, uri, Part, nodeRow, itemRow, plain, Events}
-use Rattle.cursor.specs.declared.Node.{Node}
-use Rattle.cursor.specs.declared.Item.{Item}
 use Rattle.header.specs.Header.{Header, header}
 use Rattle.metadata.specs.declared.Limits.{Limits}
 use Rattle.tree.specs.Hidden.{isHidden}
@@ -134,13 +132,8 @@ eventsOf lim f h = trace (header (length f)) f 0 ++ logged (logFrom lim f h)
 unfoldable pub kindsOf : Limits → Asks Kinds
 kindsOf lim f h ns is = good (counts (length f) (eventsOf lim f h))
 
--- ---- sums over rows
+-- ---- sums
 
 abbrev pub sumOver : {A : Type 0} → (A → ℕ) → List A → ℕ
 sumOver c [] = 0
 sumOver c (r ∷ rs) = c r + sumOver c rs
-
--- the data of a row that is hidden, or of one that is not
-unfoldable pub dataOf : (hidden : Bool) → Item → ℕ
-dataOf true r = cond (isHidden r) (r .size) 0
-dataOf false r = cond (isHidden r) 0 (r .size)

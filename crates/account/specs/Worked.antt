@@ -9,7 +9,7 @@ use Rattle.cursor.specs.Machine.{run, trace, rowsOf, _>>=_, _>>_, if_then_else_
 use Rattle.cursor.specs.Leaves.{next, digits, number, block, manufacturer, guid}
 use Rattle.cursor.specs.Rows.{Events}
 use Rattle.header.specs.Types.{formatOf}
-use Rattle.header.specs.Header.{Header, four, opening, edition, fileLength, entry, typesTable, extent, header}
+use Rattle.header.specs.Header.{four, opening, edition, fileLength, entry, typesTable, extent, header}
 use Rattle.metadata.specs.Tables.{limits, fullNodes, fullItems}
 use Rattle.metadata.specs.Metadata.{field, contents, itemFrame, universal, declaredFormat, version, rowsFor, item, nextItem, metaItems, metadata}
 use Rattle.node.specs.Node.{headerLength, head, value, identifier, unpacker, entries, unpackers, resource, nodePlace, uriPlace, target, reference, rest, front}

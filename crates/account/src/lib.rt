@@ -1,14 +1,14 @@
 // Where the bytes of a file go, and sums over files.
 ghost use mathlib.Core.Path.{_≡_};
-ghost use Prim.Native.Nat.{_+_, _-_, _*_, _^_, _≤_, _<_, ℕ};
+ghost use Prim.Native.Nat.{_+_, _*_, _^_, _≤_, _<_};
 ghost use lib.ListN.{length};
 ghost use Rattle.cursor.specs.Machine.{run};
 ghost use Rattle.cursor.specs.Rows.{Frame, inlineSize};
 ghost use Rattle.cursor.specs.Refusals.{cutShort};
 ghost use Rattle.cursor.specs.Leaves.{number};
 ghost use Rattle.cursor.specs.Told.{Readable};
-ghost use Rattle.metadata.specs.Tables.{nodeWidth, itemWidth};
-ghost use Rattle.tree.specs.Rows.{nodeFrom, nodesIn, itemsIn};
+ghost use Rattle.metadata.specs.Tables.{itemWidth};
+ghost use Rattle.tree.specs.Rows.{nodesIn, itemsIn};
 ghost use Rattle.account.specs.ByRows.{behind, spanned, metaAt, contentsAt, withNode, inNodes, withItem, inItems, together, kindsBy, Inside, NodesInside};
 ghost use Rattle.account.specs.Totals.{plusKinds, added, refusedOne};
 ghost use Rattle.account.specs.Told.{told, totalsIn, answer, totalsAfter, nodesAfter, itemsAfter};

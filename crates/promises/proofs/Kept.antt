@@ -43,8 +43,9 @@ use Rattle.account.specs.declared.Kinds.{Kinds}
 use Rattle.account.specs.declared.Totals.{Totals}
 use Rattle.account.proofs.Places.{kind-is, kind-only, one-of-nine}
 use Rattle.account.proofs.File.{file-separate, kinds-alike}
-use Rattle.account.proofs.Whole.{RowsCount, rows-count}
+use Rattle.account.proofs.Whole.{rows-count}
 use Rattle.account.proofs.Words.{count-at}
+use Rattle.account.proofs.ByPlace.{by-place}
 use Rattle.account.proofs.Listed.{account-listed, left-is, allowed-good}
 use Rattle.mobile.proofs.Depends.{verdict-depends}
 use Rattle.sheet.specs.Sheet as sheet
@@ -548,7 +549,6 @@ unfolding reads
 account-of ls f h ns is r =
     let lim : Limits = limits (size ls 0) (size ls 1) in
     let es = eventsOf lim f h in
-    let c = rows-count lim f r in
     record {
       header = h;
       nodes = ns;
@@ -556,10 +556,8 @@ account-of ls f h ns is r =
       accepted = r;
       one-kind = λ k. (one-of-nine es k, kind-is es k, kind-only es (file-separate lim f r) k);
       each = count-at (length f) es;
-      total = omega (arith, c .total);
-      in-header = c .headers;
-      in-data = (c .visible, c .hidden);
-      in-nodes = c .inlines;
+      total = omega (arith, rows-count lim f r .total);
+      by-rows = by-place lim f r;
     }
 
 account-says : (t : Totals) (ls : Sizes) (f counts : List ℕ) (r : Result Kinds) → answerTo ls f (about (accountBytes t) .asks ls) ≡ r → Among (about (accountBytes t) .refusals) r

@@ -1,22 +1,17 @@
 -- Sums over files: what one call adds, and what calls one after the other do.
 -- Assumes nothing.
 use mathlib.Core.Path.{_≡_, refl, sym, ap, _∙_, subst}
-use mathlib.Core.Bool.{Bool, true, false, cond, _||_}
+use mathlib.Core.Bool.{true, false}
 use mathlib.Core.List.{List, [], _∷_, map}
 use Prim.Native.Nat.{ℕ, zero, suc, _+_, _*_, _≤_, _<_, _^_, min}
 use native.Mathlib.Decide.{decLe}
 use native.Mathlib.Omega.{arith}
 use lib.Dec.{T, eqb, leb}
-use lib.ListN.{length, getD, drop}
+use lib.ListN.{length, getD}
 use borrow.Author.Tests.{ne-eqb, le-leb, lt-leb}
-use Rattle.cursor.specs.Refusals.{ofReader, tooManyFiles, isAllowed}
-use Rattle.cursor.specs.declared.Node.{Node}
-use Rattle.cursor.specs.declared.Item.{Item}
-use Rattle.header.specs.Header.{Header}
+use Rattle.cursor.specs.Refusals.{ofReader, isAllowed}
 use Rattle.metadata.specs.Tables.{limits}
-use Rattle.metadata.specs.declared.Limits.{Limits}
 use Rattle.room.specs.Room.{Among}
-use Rattle.tree.specs.Reading.{rows}
 use Rattle.tree.specs.Asking.{Result, good, bad, ask}
 use Rattle.tree.proofs.Rows.{accepted}
 use Rattle.account.specs.Account.{kindsOf}
@@ -26,8 +21,8 @@ use Rattle.account.specs.declared.Kinds.{Kinds}
 use Rattle.account.specs.declared.Totals.{Totals}
 use Rattle.account.proofs.Words.{plus-at, at-most}
 use Rattle.account.proofs.Listed.{alone-listed}
-use Rattle.promises.specs.Promises.{accountBytes, Sizes, size, about, Outcome, answerTo, leaves, outcome, reads, Account}
-use Rattle.promises.specs.Calls.{Called, InSum, none, next, sumOf, unread, Sum, Sums}
+use Rattle.promises.specs.Promises.{accountBytes, Sizes, size, about, Outcome, answerTo, leaves, outcome, reads}
+use Rattle.promises.specs.Calls.{Called, InSum, none, next, sumOf, unread, Sums}
 use Rattle.promises.proofs.Kept.{in-totals, called, accounts}
 
 -- ---- one call

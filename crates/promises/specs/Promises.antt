@@ -2,14 +2,13 @@
 -- the proofs in proofs/Kept.antt.
 -- Assumes nothing.
 use mathlib.Core.Path.{_≡_}
-use mathlib.Core.Bool.{true, false}
 use mathlib.Core.Logic.{_⊎_}
 use mathlib.Core.List.{List, [], _∷_, _++_, map}
 use Prim.Native.Nat.{ℕ, _+_, _*_, _≤_, _<_}
 use lib.Dec.{T}
 use lib.ListN.{length, getD, replicate, take, drop}
 use Rattle.cursor.specs.Refusals.{noRowLeft, badText, ofReader, isAllowed}
-use Rattle.cursor.specs.Rows.{inlineSize, Events}
+use Rattle.cursor.specs.Rows.{Events}
 use Rattle.cursor.specs.declared.Node.{Node}
 use Rattle.cursor.specs.declared.Item.{Item}
 use Rattle.header.specs.Header.{Header}
@@ -20,7 +19,8 @@ use Rattle.tree.specs.Hidden.{DifferInPrivate}
 use Rattle.tree.specs.Own.{Numbered}
 use Rattle.find.specs.Find as find
 use Rattle.resolve.specs.Resolve as resolve
-use Rattle.account.specs.Account.{kindAt, IsOf, placesOf, eventsOf, kindsOf, sumOver, dataOf}
+use Rattle.account.specs.Account.{kindAt, IsOf, placesOf, eventsOf, kindsOf, sumOver}
+use Rattle.account.specs.ByPlace.{kindByRows}
 use Rattle.account.specs.Totals as totals
 use Rattle.account.specs.Totals.{added, afterRefusal, allowed}
 use Rattle.account.specs.Told.{kindWords, totalWords}
@@ -344,8 +344,8 @@ abbrev pub Corrects : Type 0
 Corrects = (i : ℕ) (text : List ℕ) (ls : Sizes) (f : List ℕ) (n : ℕ) → outcome (correctTitle i text) ls f .answer ≡ 0 ∷ 0 ∷ n ∷ [] → Correction i text ls f (newFile (outcome (correctTitle i text) ls f))
 
 -- ---- Where the bytes go. Where it is answered, f was accepted. Each place of f has exactly one kind: that of the part of header, tree or detached nodes which has its
--- byte, and all else where none has. Each of the nine counts is the number of places of its kind, and together they are the file's length. Of four kinds the rows tell
--- the count: the file header's is its end, those of data are the sizes of the rows that are not hidden and that are, and inline data is that of file nodes.
+-- byte, and all else where none has. Each of the nine counts is the number of places of its kind, and together they are the file's length. And the rows tell the kind of
+-- each place: up to the header's end, then each node's numbers, metadata, unpackers, reference and inline data, and in the metadata the data of items.
 
 pub record Account (ls : Sizes) (f counts : List ℕ) : Type 0 where
   pub header : Header
@@ -355,9 +355,7 @@ pub record Account (ls : Sizes) (f counts : List ℕ) : Type 0 where
   pub one-kind : (k : ℕ) → let es : Events = eventsOf (limits (size ls 0) (size ls 1)) f header in (kindAt es k < 9) × IsOf es k (kindAt es k) × ((κ : ℕ) → IsOf es k κ → κ ≡ kindAt es k)
   pub each : (κ : ℕ) → κ < 9 → getD counts κ 0 ≡ placesOf κ (eventsOf (limits (size ls 0) (size ls 1)) f header) (length f)
   pub total : sumOver (λ n. n) counts ≡ length f
-  pub in-header : getD counts 0 0 ≡ header .extent .end
-  pub in-data : (getD counts 3 0 ≡ sumOver (dataOf false) items) × (getD counts 4 0 ≡ sumOver (dataOf true) items)
-  pub in-nodes : getD counts 7 0 ≡ sumOver inlineSize nodes
+  pub by-rows : (k : ℕ) → kindAt (eventsOf (limits (size ls 0) (size ls 1)) f header) k ≡ kindByRows f (header .extent .end) nodes items k
 
 abbrev pub Accounts : Type 0
 Accounts = (t : Totals) (ls : Sizes) (f counts : List ℕ) → outcome (accountBytes t) ls f .answer ≡ 0 ∷ 0 ∷ counts → Account ls f counts

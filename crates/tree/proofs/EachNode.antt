@@ -10,9 +10,9 @@ use Rattle.cursor.specs.Machine.{ret, refuse, here, ok, passed, run, trace, row
 use Rattle.cursor.specs.Rows.{Frame, Part, nodeRow, inlineSize, P, Events}
 use Rattle.cursor.specs.declared.Node.{Node}
 use Rattle.cursor.specs.declared.Item.{Item}
-use Rattle.cursor.proofs.Laws.{rows-on, Split, split}
+use Rattle.cursor.proofs.Laws.{rows-on, split}
 use Rattle.cursor.proofs.Apart.{at-place, at-check}
-use Rattle.cursor.proofs.Order.{Orders, in-order}
+use Rattle.cursor.proofs.Order.{in-order}
 use Rattle.header.specs.Header.{Header}
 use Rattle.metadata.specs.Metadata.{Context}
 use Rattle.metadata.specs.Tables.{plusNode}

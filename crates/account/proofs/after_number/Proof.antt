@@ -1,7 +1,6 @@
 -- `after_number` gives the place behind a number.
 -- Assumes nothing.
 use mathlib.Core.Path.{sym, ap}
-use Rattle.cursor.specs.Rows.{nodeFrame}
 use Rattle.cursor.specs.Told.{numberTold}
 use Rattle.cursor.proofs.Laws.{was}
 use Rattle.account.specs.ByRows.{behind}
