@@ -33,7 +33,7 @@
  *
  * After an answer the tables hold the file's rows, and zeros past the last row; a call that writes a
  * file leaves the rows of that one. After a refusal both tables, and the buffer for a resource, a sheet
- * or a file, hold zeros only. Each call reads the file afresh. Nothing is
+ * or a file, hold zeros only; totals are never cleared. Each call reads the file afresh. Nothing is
  * allocated and nothing is kept between calls. Places count from 0 at the file's first byte.
  *
  * Refusals
@@ -70,6 +70,7 @@
  *       of an unknown kind, or bytes are left over
  *   26  UTF-16 of odd length or with half of a surrogate pair, or bad UTF-8; the place counts in what
  *       was to be converted
+ *   32  the totals have 1,000 files already
  *   36  a node has reference 2 or 3, so no title is corrected
  *   37  the content to be corrected is hidden, or one of several versions
  *   38  the new file would have more than 268,435,455 bytes
@@ -94,6 +95,9 @@ extern "C" {
 
 /* The words of the longest answer, that of xmf_find and xmf_find_own. */
 #define XMF_ANSWER_WORDS 13
+
+/* The words of totals. */
+#define XMF_TOTAL_WORDS 11
 
 /* The words of a node row. The rows of the tree's nodes come first, in file order. The rows of the
  * detached nodes, which are outside the tree, follow in the order in which references first lead to
@@ -128,6 +132,26 @@ enum xmf_item {
     XMF_ITEM_FORMAT = 7,      /* string format; an odd one is hidden */
     XMF_ITEM_DATA = 8,        /* place of the data */
     XMF_ITEM_DATA_LENGTH = 9  /* length of the data */
+};
+
+/* The kinds of bytes: the count of a kind is answer[2 + kind], and its sum totals[2 + kind]. A
+ * content's length and format are metadata frames; any other block's length goes with the block. */
+enum xmf_kind {
+    XMF_FILE_HEADER = 0,     /* the file header, the types table among it */
+    XMF_NODE_FRAMES = 1,     /* length, contained items and header length of each node */
+    XMF_METADATA_FRAMES = 2, /* all of the metadata but its data */
+    XMF_VISIBLE_DATA = 3,    /* data of contents that are not hidden */
+    XMF_HIDDEN_DATA = 4,     /* data of hidden contents */
+    XMF_UNPACKER_BYTES = 5,  /* unpackers, with their length */
+    XMF_REFERENCE_BYTES = 6, /* references, with their contents other than inline data */
+    XMF_INLINE_DATA = 7,     /* inline data of file nodes */
+    XMF_ALL_ELSE = 8         /* bytes outside header, tree and detached nodes */
+};
+
+/* The words of totals before the sums. */
+enum xmf_totals {
+    XMF_TOTAL_FILES = 0,  /* the number of files, refused ones too */
+    XMF_TOTAL_REFUSED = 1 /* the number of files that were refused */
 };
 
 /* The kinds of fields. */
@@ -225,6 +249,24 @@ void xmf_judge(const uint8_t *file, size_t file_length,
                uint64_t *nodes, size_t node_words,
                uint64_t *items, size_t item_words,
                uint64_t *answer, size_t answer_words);
+
+/* Counts the bytes of the file by kind. Each byte is of one kind by its place, and the counts sum to
+ * the file's length.
+ *
+ *   answer[2..10]  the bytes of each kind, in the order of enum xmf_kind
+ *
+ * The totals go in and come back: the number of files, the number refused, and the nine sums. Begin
+ * with XMF_TOTAL_WORDS words of 0, and hand the same words to the next call. An accepted file is one
+ * more file, and its counts are added; a refused one is one more file and one more refused. No refusal
+ * clears the totals. Refused with 32, before the file is read, when there are 1,000 files: the totals
+ * are kept then. Of fewer words the missing ones are 0 and are not stored; more are not touched. A sum
+ * that would not fit stays at the greatest number, which no totals that begin all zero come to.
+ */
+void xmf_account(const uint8_t *file, size_t file_length,
+                 uint64_t *nodes, size_t node_words,
+                 uint64_t *items, size_t item_words,
+                 uint64_t *totals, size_t total_words,
+                 uint64_t *answer, size_t answer_words);
 
 /* Writes the support sheet into a lent buffer. Hidden items have no line in it.
  *

@@ -41,6 +41,8 @@ int main(int argc, char **argv) {
     expect("voice_count in nothing", 1);
     xmf_judge(NULL, 0, NULL, 0, NULL, 0, answer, XMF_ANSWER_WORDS);
     expect("judge nothing", 1);
+    xmf_account(NULL, 0, NULL, 0, NULL, 0, NULL, 0, answer, XMF_ANSWER_WORDS);
+    expect("account of nothing", 1);
     xmf_write_sheet(NULL, 0, NULL, 0, NULL, 0, NULL, 0, answer, XMF_ANSWER_WORDS);
     expect("write_sheet of nothing", 1);
     xmf_correct_title(NULL, 0, NULL, 0, NULL, 0, 0, NULL, 0, NULL, 0, answer, XMF_ANSWER_WORDS);
@@ -59,6 +61,8 @@ int main(int argc, char **argv) {
     expect("voice_count without tables", 10);
     xmf_judge(file, length, NULL, 0, NULL, 0, answer, XMF_ANSWER_WORDS);
     expect("judge without tables", 10);
+    xmf_account(file, length, NULL, 0, NULL, 0, NULL, 0, answer, XMF_ANSWER_WORDS);
+    expect("account without tables", 10);
     xmf_write_sheet(file, length, NULL, 0, NULL, 0, sheet, sizeof sheet, answer, XMF_ANSWER_WORDS);
     expect("write_sheet without tables", 10);
     xmf_correct_title(file, length, NULL, 0, NULL, 0, 0, NULL, 0, sheet, sizeof sheet, answer, XMF_ANSWER_WORDS);
@@ -88,6 +92,7 @@ int main(int argc, char **argv) {
     xmf_resource(file, length, nodes, XMF_ALL_NODE_WORDS, items, XMF_ALL_ITEM_WORDS, 1, sheet, sizeof sheet, NULL, 0);
     xmf_voice_count(file, length, nodes, XMF_ALL_NODE_WORDS, items, XMF_ALL_ITEM_WORDS, 0, 0, 0, NULL, 0);
     xmf_judge(file, length, nodes, XMF_ALL_NODE_WORDS, items, XMF_ALL_ITEM_WORDS, NULL, 0);
+    xmf_account(file, length, nodes, XMF_ALL_NODE_WORDS, items, XMF_ALL_ITEM_WORDS, NULL, 0, NULL, 0);
     xmf_correct_title(file, length, nodes, XMF_ALL_NODE_WORDS, items, XMF_ALL_ITEM_WORDS, 0, NULL, 0, sheet, sizeof sheet,
                       NULL, 0);
     xmf_write_sheet(file, length, nodes, XMF_ALL_NODE_WORDS, items, XMF_ALL_ITEM_WORDS, sheet, sizeof sheet, NULL, 0);

@@ -1,37 +1,45 @@
 -- How a buffer comes to hold the words of an answer, and what a call leaves.
 -- Assumes nothing.
 use mathlib.Core.Path.{_≡_, refl, sym, ap, ap₂, _∙_, subst}
-use mathlib.Core.List.{List, map}
+use mathlib.Core.List.{List, [], _∷_, map}
 use Prim.Native.Nat.{ℕ, zero, suc, _-_, _≤_}
 use native.Mathlib.Omega.{arith}
-use lib.ListN.{length, take, replicate}
-use lib.Seq.{sets, take-all, length-take-le}
+use lib.ListN.{length, take, replicate, length-take, length-replicate}
+use lib.Seq.{sets, take-all}
 use Rattle.cursor.specs.declared.Node.{Node}
 use Rattle.cursor.specs.declared.Item.{Item}
 use Rattle.header.specs.Header.{Header}
-use Rattle.room.specs.Room.{Result, padded}
+use Rattle.room.specs.Room.{Result}
 use Rattle.room.proofs.Sets.{sets-zeros}
 use Rattle.tree.specs.Reading.{rows}
 use Rattle.tree.specs.Hidden.{DifferInPrivate}
 use Rattle.find.specs.Find.{Wanted, standard, custom}
-use Rattle.promises.specs.Promises.{Question, about, Outcome, saying, lent, reads, outcome, EachAlike}
-use Rattle.promises.specs.Calls.{Called}
+use Rattle.account.specs.Told as accounted
+use Rattle.account.specs.Told.{told, totalsIn, kindWords, totalWords, totalsAfter, nodesAfter, itemsAfter}
+use Rattle.account.specs.declared.Totals.{Totals}
+use Rattle.account.specs.declared.Accounted.{Accounted}
+use Rattle.promises.specs.Promises.{Question, accountBytes, about, Outcome, saying, lent, reads, outcome, EachAlike}
+use Rattle.promises.specs.Calls.{Called, account}
 use Rattle.promises.proofs.Kept.{called, demand3}
-use Rattle.capi.specs.Fit.{fit, asked, Leaves}
+use Rattle.capi.specs.Fit.{fit, stored, asked, Leaves, totalsOf, LeavesTotals}
 
 -- ---- the words in the buffer
 
-module _ (size : ℕ) (ws : List ℕ) {t t′ : List ℕ} (zeros : t ≡ replicate size 0) where
-  pub all-fits : length ws ≤ size → t′ ≡ sets t 0 ws → t′ ≡ fit size ws
-  unfolding fit
-  all-fits l e = e ∙ ap (λ v. sets v 0 ws) zeros ∙ sets-zeros size ws l ∙ ap (padded size) (sym (take-all size ws l))
+module _ (t ws : List ℕ) {t′ : List ℕ} where
+  pub all-stored : length ws ≤ length t → t′ ≡ sets t 0 ws → t′ ≡ stored t ws
+  unfolding stored
+  all-stored l e = e ∙ ap (sets t 0) (sym (take-all (length t) ws l))
 
-  pub part-fits : size ≤ length ws → {part : List ℕ} → t′ ≡ sets t 0 part → part ≡ take size ws → t′ ≡ fit size ws
-  unfolding fit
-  part-fits l e r = e ∙ ap (sets t 0) r ∙ ap (λ v. sets v 0 (take size ws)) zeros ∙ sets-zeros size (take size ws) (let z = length-take-le size ws l in omega arith)
+  pub part-stored : t′ ≡ sets t 0 (take (length t - 0) ws) → t′ ≡ stored t ws
+  unfolding stored
+  part-stored e = e ∙ ap (λ n. sets t 0 (take n ws)) (let z : length t - 0 ≡ length t = omega arith in z)
 
-pub part-is : (room size : ℕ) (ws : List ℕ) → room ≡ size → take (room - 0) ws ≡ take size ws
-part-is room size ws e = ap (λ k. take k ws) (let z : room - 0 ≡ size = omega arith in z)
+-- over zeros
+pub fits : (size : ℕ) (ws : List ℕ) {t t′ : List ℕ} → t ≡ replicate size 0 → t′ ≡ stored t ws → t′ ≡ fit size ws
+unfolding fit stored
+fits size ws z e =
+    let n : length (take size ws) ≤ size = omega (arith, length-take size ws) in
+    e ∙ ap (λ v. sets v 0 (take (length v) ws)) z ∙ ap (λ n. sets (replicate size 0) 0 (take n ws)) (length-replicate size 0) ∙ sets-zeros size (take size ws) n
 
 -- the answer's words, once its case is known
 pub put-as : {A E : Type 0} (values : A → List ℕ) (told : E → Result A) (size : ℕ) {a : List ℕ} (r : E) {r′ : E} → r ≡ r′ → a ≡ fit size (saying values (told r′)) → a ≡ fit size (saying values (told r))
@@ -55,6 +63,16 @@ module _ (q : Wanted → (row : ℕ) → Question) (kind number : ℕ) (name : L
       by zero n h = absurd (n refl)
       by (suc k) n h = h
 
+-- the account, with totals in words
+pub account-leaves : {nodes items f answer′ t u totals′ : List ℕ} {before after : Totals} (totals answer : List ℕ) (r : Accounted) → before ≡ totalsOf totals
+    → (told r ≡ accounted.answer before nodes items f) × ((totalsIn r ≡ totalsAfter before nodes items f) × ((t ≡ nodesAfter before nodes items f) × (u ≡ itemsAfter before nodes items f)))
+    → after ≡ totalsIn r → totals′ ≡ stored totals (totalWords after) → answer′ ≡ fit (length answer) (saying kindWords (told r)) → LeavesTotals f nodes items t u totals totals′ answer answer′
+account-leaves {nodes} {items} {f} {answer′} {t} {u} totals answer r b k a s e = record {
+  words = totalWords (totalsIn r);
+  leaves = subst (λ v. Leaves (accountBytes v) f (nodes ∷ items ∷ []) (t ∷ u ∷ totalWords (totalsIn r) ∷ []) answer answer′) b (leaves answer (account _ r (k .0) (k .1 .0) (k .1 .1 .0) (k .1 .1 .1)) e);
+  in-totals = s ∙ ap (λ v. stored totals (totalWords v)) a;
+}
+
 -- ---- demand 3 of two calls, whatever their tables and buffers held
 
 pub calls-alike : (q : Question) (lends lends′ : List (List ℕ)) → map length lends′ ≡ map length lends → (f g : List ℕ) (h : Header) (ns : List Node) (is : List Item)
@@ -67,3 +85,11 @@ calls-alike q lends lends′ e f g h ns is r d {a} z {left} {left′} l k =
       k .answers ∙ ap₂ (λ n (v : Outcome). fit n (v .answer)) z o ∙ ap (fit (length a)) same ∙ sym (l .answers),
       subst (λ v. Alike v left′) (sym (l .holding)) (subst (Alike (outcome q (map length lends) f .holds)) (sym (k .holding ∙ ap (λ (v : Outcome). v .holds) o)) alike),
     )
+
+-- and of two with the same totals: the answer, both tables and the totals are the same
+pub totals-alike : (nodes items nodes₁ items₁ : List ℕ) → length nodes₁ ≡ length nodes → length items₁ ≡ length items → (f g totals : List ℕ) (h : Header) (ns : List Node) (is : List Item)
+    → reads (length nodes ∷ length items ∷ []) f ≡ rows h ns is → DifferInPrivate h ns is f g → {a a′ b b′ t t₁ u u₁ v v₁ : List ℕ} → length b ≡ length a
+    → LeavesTotals f nodes items t u totals v a a′ → LeavesTotals g nodes₁ items₁ t₁ u₁ totals v₁ b b′ → (b′ ≡ a′) × (t₁ ≡ t) × (u₁ ≡ u) × (v₁ ≡ v)
+totals-alike nodes items nodes₁ items₁ en ei f g totals h ns is r d z l k =
+    let w = calls-alike (accountBytes (totalsOf totals)) (nodes ∷ items ∷ []) (nodes₁ ∷ items₁ ∷ []) (rw (en, ei) refl) f g h ns is r d z (l .leaves) (k .leaves) in
+    (w .0, w .1 .0, w .1 .1 .0, k .in-totals ∙ ap (stored totals) (w .1 .1 .1 .0) ∙ sym (l .in-totals))

@@ -1,16 +1,22 @@
 -- What a call for C and Rust leaves: its question's outcome, the answer's words in a lent buffer.
 -- Assumes nothing.
 use mathlib.Core.Path.{_≡_}
-use mathlib.Core.List.{List, map}
+use mathlib.Core.List.{List, [], _∷_, map}
 use Prim.Native.Nat.{ℕ, zero, suc}
-use lib.ListN.{length, take}
+use lib.ListN.{length, getD, take}
+use lib.Seq.{sets}
 use Rattle.room.specs.Room.{padded}
 use Rattle.find.specs.Find.{Wanted, standard, custom}
-use Rattle.promises.specs.Promises.{Question, outcome}
+use Rattle.account.specs.declared.Totals.{Totals}
+use Rattle.promises.specs.Promises.{Question, accountBytes, outcome}
 
 -- the words that a buffer of so many holds, and zeros to its end
 unfoldable pub fit : ℕ → List ℕ → List ℕ
 fit size ws = padded size (take size ws)
+
+-- a buffer that the words are stored in, from its first word on, as many as it holds; what is behind them stays
+unfoldable pub stored : (buffer words : List ℕ) → List ℕ
+stored ws new = sets ws 0 (take (length ws) new)
 
 -- a call with such a file, such tables and buffers lent and such a buffer for the answer: what is left in them is as the question's outcome says
 pub record Leaves (q : Question) (file : List ℕ) (lent left : List (List ℕ)) (answer answer′ : List ℕ) : Type 0 where
@@ -21,3 +27,27 @@ pub record Leaves (q : Question) (file : List ℕ) (lent left : List (List ℕ))
 unfoldable pub asked : (kind number : ℕ) → List ℕ → Wanted
 asked zero number name = standard number
 asked (suc k) number name = custom name
+
+-- totals in words: files, refused, nine sums; a word that is not there is 0
+abbrev pub totalsOf : List ℕ → Totals
+totalsOf ws = record {
+  files = getD ws 0 0;
+  refused = getD ws 1 0;
+  kinds = record {
+    header = getD ws 2 0;
+    nodes = getD ws 3 0;
+    metadata = getD ws 4 0;
+    visible = getD ws 5 0;
+    hidden = getD ws 6 0;
+    unpackers = getD ws 7 0;
+    references = getD ws 8 0;
+    inline = getD ws 9 0;
+    rest = getD ws 10 0;
+  };
+}
+
+-- a call with totals in a buffer of words: those that the outcome has for them are stored in it
+pub record LeavesTotals (file nodes items nodes′ items′ totals totals′ answer answer′ : List ℕ) : Type 0 where
+  pub words : List ℕ
+  pub leaves : Leaves (accountBytes (totalsOf totals)) file (nodes ∷ items ∷ []) (nodes′ ∷ items′ ∷ words ∷ []) answer answer′
+  pub in-totals : totals′ ≡ stored totals words

@@ -2,15 +2,20 @@
 // number (0: none), place, then the answer's values, and zeros; a short buffer gets what fits.
 ghost use mathlib.Core.Path.{_≡_};
 ghost use mathlib.Core.List.{_∷_, []};
-ghost use lib.ListN.{length};
+ghost use lib.ListN.{length, getD};
 ghost use Rattle.tree.specs.Told as told_tree;
 ghost use Rattle.find.specs.Told as told_find;
 ghost use Rattle.resolve.specs.Told as told_resolve;
 ghost use Rattle.description.specs.Told as told_description;
 ghost use Rattle.mobile.specs.Told as told_mobile;
+ghost use Rattle.account.specs.Told as told_account;
+ghost use Rattle.account.specs.Told.{kindWords, totalWords, totalsIn};
 ghost use Rattle.room.specs.Told as told_room;
 ghost use Rattle.promises.specs.Promises.{readTree, findItem, findOwn, resolveRow, copyResource, countFor, judgeMobile, writeSheet, correctTitle, toUtf8, toUtf16, saying, treeValues, itemValues, resourceValues, oneValue};
-ghost use Rattle.capi.specs.Fit.{fit, asked, Leaves};
+ghost use Rattle.capi.specs.Fit.{fit, stored, asked, Leaves, totalsOf, LeavesTotals};
+use account::Accounted;
+use account::Kinds;
+use account::Totals;
 use description::Counted;
 use find::Found;
 use mobile::Judged;
@@ -18,17 +23,24 @@ use resolve::Resolved;
 use room::Written;
 use tree::Answer;
 
+// Stores the words from the buffer's first word on, as many as fit.
+fn put_front(buffer: &mut [u64], words: &[u64])
+    ensures { λ _. ⌜ now (buffer .exit) ≡ stored (now (buffer .entry)) (now (words .entry)) ⌝ }
+{
+    let room = buffer.len();
+    if words.len() <= room {
+        room::store(buffer, 0, words);
+    } else {
+        room::store(buffer, 0, &words[0..room]);
+    }
+}
+
 // Sets the buffer to the words, as many as fit, and zeros.
 fn put_answer(answer: &mut [u64], words: &[u64])
     ensures { λ _. ⌜ now (answer .exit) ≡ fit (length (now (answer .entry))) (now (words .entry)) ⌝ }
 {
     room::clear(answer);
-    let room = answer.len();
-    if words.len() <= room {
-        room::store(answer, 0, words);
-    } else {
-        room::store(answer, 0, &words[0..room]);
-    }
+    put_front(answer, words);
 }
 
 // A refusal's number and place.
@@ -115,6 +127,96 @@ fn put_judged(answer: &mut [u64], said: Judged)
             let words = [0, 0, v];
             put_answer(answer, &words);
         }
+    }
+}
+
+// The nine counts.
+fn put_accounted(answer: &mut [u64], said: Accounted)
+    ensures { λ _. ⌜ now (answer .exit) ≡ fit (length (now (answer .entry))) (saying kindWords (told_account.told said)) ⌝ }
+{
+    match said {
+        Accounted::Refused(n, p, _) => put_refusal(answer, n, p),
+        Accounted::Is(k, _) => {
+            let words = [
+                0,
+                0,
+                k.header as u64,
+                k.nodes as u64,
+                k.metadata as u64,
+                k.visible as u64,
+                k.hidden as u64,
+                k.unpackers as u64,
+                k.references as u64,
+                k.inline as u64,
+                k.rest as u64,
+            ];
+            put_answer(answer, &words);
+        }
+    }
+}
+
+// The totals that an answer has.
+fn totals_in(said: Accounted) -> Totals
+    ensures { λ r. ⌜ r ≡ totalsIn said ⌝ }
+{
+    match said {
+        Accounted::Refused(_, _, t) => t,
+        Accounted::Is(_, t) => t,
+    }
+}
+
+// Stores totals in words, as many as fit.
+fn put_totals(buffer: &mut [u64], t: Totals)
+    ensures { λ _. ⌜ now (buffer .exit) ≡ stored (now (buffer .entry)) (totalWords t) ⌝ }
+{
+    let k = t.kinds;
+    let words = [
+        t.files as u64,
+        t.refused as u64,
+        k.header as u64,
+        k.nodes as u64,
+        k.metadata as u64,
+        k.visible as u64,
+        k.hidden as u64,
+        k.unpackers as u64,
+        k.references as u64,
+        k.inline as u64,
+        k.rest as u64,
+    ];
+    put_front(buffer, &words);
+}
+
+// A word of a buffer, or 0 where it has none.
+fn word_at(words: &[u64], i: usize) -> usize
+    ensures { λ r. ⌜ r ≡ getD (now (words .entry)) i 0 ⌝ }
+{
+    if i < words.len() {
+        return words[i] as usize;
+    }
+    0
+}
+
+// The totals that a buffer holds.
+fn read_totals(words: &[u64]) -> Totals
+    ensures { λ r. ⌜ r ≡ totalsOf (now (words .entry)) ⌝ }
+{
+    let files = word_at(words, 0);
+    let refused = word_at(words, 1);
+    let kinds = Kinds {
+        header: word_at(words, 2),
+        nodes: word_at(words, 3),
+        metadata: word_at(words, 4),
+        visible: word_at(words, 5),
+        hidden: word_at(words, 6),
+        unpackers: word_at(words, 7),
+        references: word_at(words, 8),
+        inline: word_at(words, 9),
+        rest: word_at(words, 10),
+    };
+    Totals {
+        files,
+        refused,
+        kinds,
     }
 }
 
@@ -243,6 +345,23 @@ pub extern "C" fn xmf_judge(file: &[u8], nodes: &mut [u64], items: &mut [u64], a
     ensures { λ _. ⌜ Leaves judgeMobile (now (file .entry)) (now (nodes .entry) ∷ now (items .entry) ∷ []) (now (nodes .exit) ∷ now (items .exit) ∷ []) (now (answer .entry)) (now (answer .exit)) ⌝ }
 {
     put_judged(answer, mobile::judge(file, nodes, items));
+}
+
+// Counts the file's bytes by kind. Answer: the nine counts. `totals` goes in and comes back: files, refused, nine sums; words that are missing are 0 and are not stored.
+#[no_mangle]
+pub extern "C" fn xmf_account(
+    file: &[u8],
+    nodes: &mut [u64],
+    items: &mut [u64],
+    totals: &mut [u64],
+    answer: &mut [u64],
+)
+    ensures { λ _. ⌜ LeavesTotals (now (file .entry)) (now (nodes .entry)) (now (items .entry)) (now (nodes .exit)) (now (items .exit)) (now (totals .entry)) (now (totals .exit)) (now (answer .entry)) (now (answer .exit)) ⌝ }
+{
+    let before = read_totals(totals);
+    let said = account::account(file, nodes, items, before);
+    put_totals(totals, totals_in(said));
+    put_accounted(answer, said);
 }
 
 // Writes the support sheet. Answer: bytes written.

@@ -1,4 +1,5 @@
 pub mod Laws
+pub mod Apart
 pub mod Stable
 pub mod Log
 pub mod Near

@@ -83,7 +83,7 @@ module _ (N : OfNames) (top size : ℕ) where
       (wp-after (wp-many (λ _. Unit {0}) 0 (λ n p l i. wp-weaken (unpacker-on end n p) (λ k q x. (tt, omega arith, omega arith))) tt l) λ k q x.
       wp-ret (refl, x .1))
 
-  unpackers-on : (contained end at : ℕ) → Wp (Inside N top size) (unpackers contained end) (λ _ q. (at < q) × (q ≤ end)) at
+  pub unpackers-on : (contained end at : ℕ) → Wp (Inside N top size) (unpackers contained end) (λ _ q. (at < q) × (q ≤ end)) at
   unfolding unpackers
   unpackers-on contained end at =
       wp-place _ at

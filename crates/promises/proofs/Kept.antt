@@ -47,6 +47,17 @@ use Rattle.description.proofs.Listed.{count-listed}
 use Rattle.description.proofs.Stays.{count-placed}
 use Rattle.description.proofs.Depends.{count-same}
 use Rattle.mobile.specs.Mobile as mobile
+use Rattle.account.specs.Account.{counts as countsOf, eventsOf, kindsOf}
+use Rattle.account.specs.Totals.{mostFiles, added, afterRefusal, byAnswer, allowed}
+use Rattle.account.specs.Told.{kindWords, totalWords}
+use Rattle.account.specs.declared.Kinds.{Kinds}
+use Rattle.account.specs.declared.Totals.{Totals}
+use Rattle.account.proofs.Places.{kind-is, kind-only, one-of-nine}
+use Rattle.account.proofs.File.{file-separate, kinds-alike}
+use Rattle.account.proofs.Whole.{rows-count}
+use Rattle.account.proofs.Words.{count-at}
+use Rattle.account.proofs.ByPlace.{by-place}
+use Rattle.account.proofs.Listed.{account-listed, left-is, allowed-good}
 use Rattle.mobile.proofs.Depends.{verdict-depends}
 use Rattle.sheet.specs.Sheet as sheet
 use Rattle.sheet.proofs.Listed.{sheet-listed}
@@ -57,15 +68,15 @@ use Rattle.title.proofs.Listed.{title-listed}
 use Rattle.title.proofs.Demand as titles
 use Rattle.room.specs.Room as room
 use Rattle.room.specs.Room.{Among, PlacedIn}
-use Rattle.room.proofs.Listed.{allowed-front, among-back, areApart, apart-placed, fitted, fitting-among}
+use Rattle.room.proofs.Listed.{allowed-front, among-back, areApart, apart-placed, placed-if, fitted, fitting-among}
 use Rattle.unicode.specs.Unicode as unicode
 use Rattle.unicode.proofs.Listed.{utf8-listed, utf16-listed}
 use Rattle.unicode.proofs.Back.{placed8, placed16, there-and-back, back-and-there}
-use Rattle.promises.specs.Promises.{Question, readTree, findItem, findOwn, resolveRow, copyResource, countFor, judgeMobile, writeSheet, correctTitle, toUtf8, toUtf16, Sizes, size, reads}
+use Rattle.promises.specs.Promises.{Question, readTree, findItem, findOwn, resolveRow, copyResource, countFor, judgeMobile, accountBytes, writeSheet, correctTitle, toUtf8, toUtf16, Sizes, size, reads}
 use Rattle.promises.specs.Promises.{Tables, noTables, ofFile, ofWritten, Lent, filled, copied, given, changed, About, overRows, rowsIntoRoom, dataIntoRoom, treeValues, resourceValues, oneValue, sizeValue, bytes, about}
 use Rattle.promises.specs.Promises.{Outcome, saying, rowTables, tablesLent, lent, holding, answerTo, leaves, outcome, resource, IsRefusal, Accepted, InTables, newFile, AnsweredOf, Shows, IsAnswer, Demand1, FitsExactly, StepsMake, FirstApplies, UntilRoot, LieApart}
-use Rattle.promises.specs.Promises.{OnlyThere, PrivateAlone, AlikeIn, EachAlike, OutcomesAlike, Demand3, InTurn, Correction, Corrects, textOf, ButForMark, Undone, ThereAndBack, BackAndThere}
-use Rattle.promises.specs.Calls.{Called, left, Over, Fills, read-tree, find-item, find-own, resolve-row, copy-resource, count-for, judge, write-sheet, to-utf8, to-utf16, correct-title, EachLeaves, CallsAlike, PartsAlike}
+use Rattle.promises.specs.Promises.{OnlyThere, PrivateAlone, AlikeIn, EachAlike, OutcomesAlike, Demand3, InTurn, Correction, Corrects, textOf, ButForMark, Undone, ThereAndBack, BackAndThere, Account, Accounts}
+use Rattle.promises.specs.Calls.{Called, left, Over, Fills, read-tree, find-item, find-own, resolve-row, copy-resource, count-for, judge, account, write-sheet, to-utf8, to-utf16, correct-title, EachLeaves, CallsAlike, PartsAlike}
 
 -- ---- which data may not differ
 
@@ -250,14 +261,18 @@ module _ (ls : Sizes) (f g : List ℕ) (h : Header) (ns : List Node) (is : List 
   unfolding mobile.mobile
   mobile-alike = ap good (sym (verdict-depends f g h ns is (fields-alike 3 tt) (fields-alike 13 tt)))
 
-  sheet-alike : (n : ℕ) → sheet.write n g h ns is ≡ sheet.write n f h ns is
-  unfolding sheet.write
-  sheet-alike n = ap (λ (s : List ℕ). sheet.fitting n (good s)) (sym (sheet-same f g h ns is (d .same-length) (λ i m. (λ e. data-alike i m (even-kept (itemAt is i) e), name-alike i m))))
-
   -- a question that answers the same of the rows
   asks-alike : {A : Type 0} (x y : Header → List Node → List Item → Result A) → x h ns is ≡ y h ns is → ask (reads ls g) x ≡ ask (reads ls f) y
   unfolding ask
   asks-alike x y e = rw (reads-same, r) e
+
+  account-alike : (t : Totals) → let lim : Limits = limits (size ls 0) (size ls 1) in allowed t (ask (reads ls g) (kindsOf lim g)) ≡ allowed t (ask (reads ls f) (kindsOf lim f))
+  unfolding reads
+  account-alike t = ap (allowed t) (asks-alike _ _ (kinds-alike (limits (size ls 0) (size ls 1)) f g r d))
+
+  sheet-alike : (n : ℕ) → sheet.write n g h ns is ≡ sheet.write n f h ns is
+  unfolding sheet.write
+  sheet-alike n = ap (λ (s : List ℕ). sheet.fitting n (good s)) (sym (sheet-same f g h ns is (d .same-length) (λ i m. (λ e. data-alike i m (even-kept (itemAt is i) e), name-alike i m))))
 
   same : (q : Question) → answerTo ls g (about q .asks ls) ≡ answerTo ls f (about q .asks ls) → Alike₂ (about q) ls f g (answerTo ls f (about q .asks ls)) (answerTo ls g (about q .asks ls))
   same q e = same-alike (about q) ls f g (d .same-length) reads-same e
@@ -274,6 +289,7 @@ module _ (ls : Sizes) (f g : List ℕ) (h : Header) (ns : List Node) (is : List 
   outcome-alike (copyResource k) = same (copyResource k) (asks-alike _ _ (copy-alike k (size ls 2)))
   outcome-alike (countFor item channel resource) = same (countFor item channel resource) (asks-alike _ _ (count-alike item channel resource))
   outcome-alike judgeMobile = same judgeMobile (asks-alike _ _ mobile-alike)
+  outcome-alike (accountBytes t) = same (accountBytes t) (account-alike t)
   outcome-alike writeSheet = same writeSheet (asks-alike _ _ (sheet-alike (size ls 2)))
   outcome-alike (correctTitle i text) = title-leaves i text ls f g (title-alike i text)
   outcome-alike (toUtf8 units) = same (toUtf8 units) refl
@@ -339,6 +355,10 @@ unfolding resolve.part room.padded
 in-given f n (good a) = refl
 in-given f n (bad k p) = rw sub-zero
 
+pub in-totals : (f ws : List ℕ) (t : Totals) (r : Result Kinds) → totalWords (byAnswer t r) ≡ holding f ws r (changed (λ n. totalWords (afterRefusal t n)) (λ k. totalWords (added t k)))
+in-totals f ws t (good k) = refl
+in-totals f ws t (bad n p) = refl
+
 tree-says : (o : Reading) (f : List ℕ) → tree.told (answerOf o) ≡ ask o (counts f)
 unfolding answerOf ask counts
 tree-says (rows h ns is) f = refl
@@ -368,6 +388,10 @@ called (resolve-row row r k) = over-called _ _ k
 called (copy-resource {f = f} row r k v) = made (ap (saying resourceValues) (k .answers)) (two (k .in-nodes ∙ in-nodes _ _ _ _ _) (k .in-items ∙ in-items _ _ _ _ _) (one (v ∙ in-given f _ _)))
 called (count-for item channel resource r k) = over-called _ _ k
 called (judge r k) = over-called _ _ k
+called (account {nodes} {items} {f} totals r a b t u) =
+    let lim = limits (length nodes) (length items) in
+    let w = ap totalWords (b ∙ left-is lim f totals) ∙ in-totals f _ totals (allowed totals (ask (readFile lim f) (kindsOf lim f))) in
+    made (ap (saying kindWords) a) (two (t ∙ in-nodes _ _ _ _ _) (u ∙ in-items _ _ _ _ _) (one w))
 called (write-sheet {sheet = s} r k t u) = let w = in-buffer _ _ (length s) _ in made (ap (saying oneValue) (k .answers) ∙ w .0) (two (t ∙ in-nodes _ _ _ _ _) (u ∙ in-items _ _ _ _ _) (one (k .in-buffer ∙ w .1)))
 called (correct-title {out = s} item text r k t u) =
     let w = in-buffer _ _ (length s) _ in let x = in-written _ _ _ _ _ _ in made (ap (saying oneValue) (k .answers) ∙ w .0) (two (t ∙ x .0) (u ∙ x .1) (one (k .in-buffer ∙ w .2)))
@@ -584,6 +608,15 @@ count-rows : (item channel resource : ℕ) (ls : Sizes) (f : List ℕ) (h : Head
 unfolding reads
 count-rows item channel resource ls f h ns is e = count-placed f channel resource item h ns is (accepted (limits (size ls 0) (size ls 1)) f e .items-inside)
 
+account-meets : (t : Totals) → Meets (about (accountBytes t))
+unfolding leaves reads allowed kindsOf
+account-meets t = record {
+  listed = λ ls f. account-listed (limits (size ls 0) (size ls 1)) f t;
+  placed = λ ls f. let lim = limits (size ls 0) (size ls 1) in placed-if (length f) (leb mostFiles (t .files)) _ _ (λ i. omega arith) (rows-placed (kindsOf lim) ls f (λ h ns is e. tt));
+  wide = λ a. refl;
+  shown = λ ls f a e. let x = answered (reads ls f) (kindsOf (limits (size ls 0) (size ls 1)) f) (allowed-good t _ e) in (tt, (x, refl));
+}
+
 meets : (q : Question) → Meets (about q)
 unfolding leaves
 meets readTree = over-meets _ _ _ _ tt counts-listed (λ a. refl)
@@ -598,6 +631,7 @@ meets (copyResource row) = record {
 }
 meets (countFor item channel resource) = rows-meet _ _ _ _ (count-listed item channel resource) (count-rows item channel resource) (λ a. refl)
 meets judgeMobile = over-meets _ _ _ _ tt mobile-listed (λ a. refl)
+meets (accountBytes t) = account-meets t
 meets writeSheet = room-meets sheet.write _ tt sheet-listed
 meets (correctTitle i text) = title-meets i text
 meets (toUtf8 units) = data-meets _ _ tt tt (utf8-listed units)
@@ -612,6 +646,13 @@ no-part : (row : ℕ) (ls : Sizes) (f : List ℕ) (r : Result resolve.Resource) 
 unfolding leaves resolve.part
 no-part row ls f (good a) w = let z : _≡_ {A = ℕ} 0 1 = cc in absurd (omega arith)
 no-part row ls f (bad n p) w = refl
+
+-- a refusal leaves the totals by its number
+totals-kept : (t : Totals) (ls : Sizes) (f : List ℕ) (r : Result Kinds) (n p : ℕ) → leaves (about (accountBytes t)) ls f r .answer ≡ n ∷ p ∷ []
+    → getD (leaves (about (accountBytes t)) ls f r .holds) 2 [] ≡ totalWords (afterRefusal t n)
+unfolding leaves
+totals-kept t ls f (good k) n p e = let z : _≡_ {A = ℕ} 0 1 = cc (ap length e) in absurd (omega arith)
+totals-kept t ls f (bad m q) n p e = let z : m ≡ n = cc in rw z refl
 
 -- a conversion that answers 26 comes to a text that is refused so
 placed : (n size p : ℕ) (r : Result (List ℕ)) → ((m q : ℕ) → r ≡ bad m q → (m ≡ 26) × (q < size)) → saying sizeValue (room.fitting n r) ≡ 26 ∷ p ∷ [] → p < size
@@ -628,6 +669,7 @@ unfolding outcome leaves resource
 demand1 = (
   choice,
   λ row ls f w. no-part row ls f (ask (reads ls f) (resolve.resolve row f)) w,
+  λ t ls f n p e. totals-kept t ls f (answerTo ls f (about (accountBytes t) .asks ls)) n p e,
   λ units ls f p e. placed (size ls 0) (length units) p (unicode.toUtf8 units) (λ m q. placed8 units) e,
   λ text ls f p e. placed (size ls 0) (length text) p (unicode.toUtf16 text) (λ m q. placed16 text) e,
 )
@@ -635,6 +677,39 @@ demand1 = (
 pub corrects : Corrects
 unfolding outcome
 corrects i text ls f n a = title-corrects ls f i text _ refl a
+
+-- ---- where the bytes go
+
+account-of : (ls : Sizes) (f : List ℕ) (h : Header) (ns : List Node) (is : List Item) → reads ls f ≡ rows h ns is → Account ls f (kindWords (countsOf (length f) (eventsOf (limits (size ls 0) (size ls 1)) f h)))
+unfolding reads
+account-of ls f h ns is r =
+    let lim : Limits = limits (size ls 0) (size ls 1) in
+    let es = eventsOf lim f h in
+    record {
+      header = h;
+      nodes = ns;
+      items = is;
+      accepted = r;
+      one-kind = λ k. (one-of-nine es k, kind-is es k, kind-only es (file-separate lim f r) k);
+      each = count-at (length f) es;
+      total = omega (arith, rows-count lim f r .total);
+      by-rows = by-place lim f r;
+    }
+
+account-says : (t : Totals) (ls : Sizes) (f counts : List ℕ) (r : Result Kinds) → answerTo ls f (about (accountBytes t) .asks ls) ≡ r → Among (about (accountBytes t) .refusals) r
+    → leaves (about (accountBytes t)) ls f r .answer ≡ 0 ∷ 0 ∷ counts → Account ls f counts
+unfolding leaves ask kindsOf
+account-says t ls f counts (good k) e l a =
+    let lim : Limits = limits (size ls 0) (size ls 1) in
+    let (h, ns, is, z) = answered (reads ls f) (kindsOf lim f) (allowed-good t _ e) in
+    let x : countsOf (length f) (eventsOf lim f h) ≡ k = let y = rw z at (allowed-good t _ e) in cc in
+    let w : kindWords k ≡ counts = cc in
+    subst (Account ls f) (ap kindWords x ∙ w) (account-of ls f h ns is z)
+account-says t ls f counts (bad n p) e l a = let z : n ≡ 0 = cc in absurd (subst (λ m. T (isAllowed (about (accountBytes t) .refusals) m p)) z l)
+
+pub accounts : Accounts
+unfolding outcome
+accounts t ls f counts e = account-says t ls f counts _ refl (meets (accountBytes t) .listed ls f) e
 
 -- ---- demand 3 of what was written
 

@@ -2,9 +2,12 @@
 -- before. f is the file; t, u and v are what the tables and the buffer finally hold.
 -- Assumes nothing.
 use mathlib.Core.Path.{_≡_}
+use mathlib.Core.Bool.{cond, _||_}
 use mathlib.Core.List.{List, [], _∷_, map}
-use Prim.Native.Nat.{ℕ}
-use lib.ListN.{length, getD}
+use Prim.Native.Nat.{ℕ, _+_, _≤_, _<_, _^_, min}
+use lib.Dec.{eqb}
+use lib.ListN.{length, getD, drop}
+use Rattle.cursor.specs.Refusals.{tooManyFiles}
 use Rattle.cursor.specs.declared.Node.{Node}
 use Rattle.cursor.specs.declared.Item.{Item}
 use Rattle.header.specs.Header.{Header}
@@ -26,6 +29,11 @@ use Rattle.description.specs.declared.Counted.{Counted}
 use Rattle.mobile.specs.Mobile.{mobile}
 use Rattle.mobile.specs.Told as judged
 use Rattle.mobile.specs.declared.Judged.{Judged}
+use Rattle.account.specs.Totals.{mostFiles, zeros}
+use Rattle.account.specs.Told as accounted
+use Rattle.account.specs.Told.{kindWords, totalWords, totalsIn}
+use Rattle.account.specs.declared.Totals.{Totals}
+use Rattle.account.specs.declared.Accounted.{Accounted}
 use Rattle.sheet.specs.Sheet.{write}
 use Rattle.title.specs.Title as title
 use Rattle.room.specs.Room as room
@@ -33,7 +41,7 @@ use Rattle.room.specs.Told as written
 use Rattle.room.specs.declared.Written.{Written}
 use Rattle.unicode.specs.Unicode as unicode
 use Rattle.promises.specs.Promises as promises
-use Rattle.promises.specs.Promises.{Question, readTree, findItem, resolveRow, copyResource, judgeMobile, writeSheet, correctTitle, toUtf8, toUtf16, Outcome, saying, treeValues, itemValues, resourceValues, oneValue, about, outcome, OnlyThere, OutcomesAlike}
+use Rattle.promises.specs.Promises.{Question, readTree, findItem, resolveRow, copyResource, judgeMobile, accountBytes, writeSheet, correctTitle, toUtf8, toUtf16, Outcome, saying, treeValues, itemValues, resourceValues, oneValue, about, outcome, OnlyThere, OutcomesAlike}
 
 -- what a call left: the answer's words, and the tables and buffers
 abbrev pub left : {A : Type 0} → (values : A → List ℕ) → Result A → List (List ℕ) → Outcome
@@ -81,6 +89,11 @@ pub data Called : Question → (lent : List (List ℕ)) → (file : List ℕ) �
   judge : {nodes items f t u : List ℕ} (r : Judged)
       → Over mobile nodes items f (judged.told r) t u
       → Called judgeMobile (nodes ∷ items ∷ []) f (left oneValue (judged.told r) (t ∷ u ∷ []))
+  -- account::account
+  account : {nodes items f t u : List ℕ} (totals : Totals) (r : Accounted)
+      → accounted.told r ≡ accounted.answer totals nodes items f → totalsIn r ≡ accounted.totalsAfter totals nodes items f
+      → t ≡ accounted.nodesAfter totals nodes items f → u ≡ accounted.itemsAfter totals nodes items f
+      → Called (accountBytes totals) (nodes ∷ items ∷ []) f (left kindWords (accounted.told r) (t ∷ u ∷ totalWords (totalsIn r) ∷ []))
   -- sheet::write_sheet
   write-sheet : {nodes items sheet f t u v : List ℕ} (r : Written)
       → Fills (answered nodes items f (write (length sheet))) sheet (written.told r) v
@@ -118,3 +131,33 @@ abbrev pub PartsAlike : Type 0
 PartsAlike = (row : ℕ) (nodes items nodes′ items′ : List ℕ) → length nodes′ ≡ length nodes → length items′ ≡ length items → (f g x y t t′ u u′ : List ℕ) (h : Header) (ns : List Node) (is : List Item)
     → promises.reads (length nodes ∷ length items ∷ []) f ≡ rows h ns is → DifferInPrivate h ns is f g → Given row nodes items f x t u → Given row nodes′ items′ g y t′ u′
     → (t′ ≡ t) × (u′ ≡ u) × OnlyThere f g (getD (outcome (resolveRow row) (length nodes ∷ length items ∷ []) f .answer) 2 0) x y
+
+-- ---- Sums over files: calls of account::account one after the other, each handed the totals that the one before left; what each left, and the totals that the last left.
+
+pub data InSum : Totals → List Outcome → Totals → Type 0 where
+  none : {t : Totals} → InSum t [] t
+  next : {t t′ t″ : Totals} {lends : List (List ℕ)} {f : List ℕ} {o : Outcome} {os : List Outcome}
+      → Called (accountBytes t) lends f o → getD (o .holds) 2 [] ≡ totalWords t′ → InSum t′ os t″ → InSum t (o ∷ os) t″
+
+-- the counts of a kind in the answers, added up; a refusal has none
+abbrev pub sumOf : (kind : ℕ) → List Outcome → ℕ
+sumOf κ [] = 0
+sumOf κ (o ∷ os) = getD (drop 2 (o .answer)) κ 0 + sumOf κ os
+
+-- how many of them are refusals of the reader
+abbrev pub unread : List Outcome → ℕ
+unread [] = 0
+unread (o ∷ os) = cond (eqb (getD (o .answer) 0 0) 0 || eqb (getD (o .answer) 0 0) tooManyFiles) 0 1 + unread os
+
+-- From totals that are all zero: the number of files is that of the calls, up to 1,000; the number refused is that of the reader's refusals; each sum is that of the counts
+-- that were answered; every number fits a word; and a further call is refused with 32 if there were 1,000, and not otherwise.
+pub record Sum (os : List Outcome) (t : Totals) : Type 0 where
+  pub files : t .files ≡ min (length os) mostFiles
+  pub refused : t .refused ≡ unread os
+  pub sums : (κ : ℕ) → getD (kindWords (t .kinds)) κ 0 ≡ sumOf κ os
+  pub fits : (i : ℕ) → getD (totalWords t) i 0 < 2 ^ 64
+  pub full : (lends : List (List ℕ)) (f : List ℕ) (o : Outcome) → Called (accountBytes t) lends f o
+      → (mostFiles ≤ length os → o .answer ≡ tooManyFiles ∷ 0 ∷ []) × (length os < mostFiles → (getD (o .answer) 0 0 ≡ tooManyFiles) → ⊥)
+
+abbrev pub Sums : Type 0
+Sums = (os : List Outcome) (t : Totals) → InSum zeros os t → Sum os t

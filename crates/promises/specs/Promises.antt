@@ -23,6 +23,13 @@ use Rattle.tree.specs.Rows.{nodeAt}
 use Rattle.tree.specs.Own.{Numbered}
 use Rattle.find.specs.Find as find
 use Rattle.resolve.specs.Resolve as resolve
+use Rattle.account.specs.Account.{kindAt, IsOf, placesOf, eventsOf, kindsOf, sumOver}
+use Rattle.account.specs.ByPlace.{kindByRows}
+use Rattle.account.specs.Totals as totals
+use Rattle.account.specs.Totals.{added, afterRefusal, allowed}
+use Rattle.account.specs.Told.{kindWords, totalWords}
+use Rattle.account.specs.declared.Kinds.{Kinds}
+use Rattle.account.specs.declared.Totals.{Totals}
 use Rattle.description.specs.Count as count
 use Rattle.mobile.specs.Mobile as mobile
 use Rattle.sheet.specs.Sheet as sheet
@@ -43,6 +50,7 @@ pub data Question : Type 0 where
   copyResource : (row : ℕ) → Question
   countFor : (item channel resource : ℕ) → Question
   judgeMobile : Question
+  accountBytes : Totals → Question
   writeSheet : Question
   correctTitle : (item : ℕ) → (title : List ℕ) → Question
   toUtf8 : (units : List ℕ) → Question
@@ -157,6 +165,15 @@ about (copyResource row) = record {
 }
 about (countFor item channel resource) = overRows (count.countFor item channel resource) oneValue 1 count.refusals
 about judgeMobile = overRows mobile.mobile oneValue 1 []
+about (accountBytes t) = record {
+  Answer = Kinds;
+  asks = λ ls. ofBytes (λ f. allowed t (ask (reads ls f) (kindsOf (limits (size ls 0) (size ls 1)) f)));
+  values = kindWords;
+  number = 9;
+  refusals = ofReader ++ totals.refusals;
+  tables = ofFile;
+  buffers = λ ls. changed (λ n. totalWords (afterRefusal t n)) (λ k. totalWords (added t k)) ∷ [];
+}
 about writeSheet = rowsIntoRoom sheet.write sheet.refusals
 about (correctTitle i text) = record {
   Answer = List ℕ;
@@ -260,10 +277,12 @@ Shows (ofWritten file) ls f o = InTables ls (newFile o) o
 abbrev pub IsAnswer : About → Sizes → (file : List ℕ) → Outcome → Type 0
 IsAnswer q ls f o = (vs : List ℕ) × (o .answer ≡ 0 ∷ 0 ∷ vs) × (length vs ≡ q .number) × AnsweredOf (q .asks ls) ls f × Shows (q .tables) ls f o
 
--- Where resolve is refused, its second call gives an empty part. Refusal 26 of a conversion is placed in the text that was given.
+-- Where resolve is refused, its second call gives an empty part. No refusal clears the totals: 32 keeps them, any other counts one more file and one more refused.
+-- Refusal 26 of a conversion is placed in the text that was given.
 abbrev pub Demand1 : Type 0
 Demand1 = ((q : Question) (ls : Sizes) (f : List ℕ) → IsRefusal (about q) ls f (outcome q ls f) ⊎ IsAnswer (about q) ls f (outcome q ls f))
     × ((row : ℕ) (ls : Sizes) (f : List ℕ) → IsRefusal (about (resolveRow row)) ls f (outcome (resolveRow row) ls f) → resource row ls f ≡ [])
+    × ((t : Totals) (ls : Sizes) (f : List ℕ) (n p : ℕ) → outcome (accountBytes t) ls f .answer ≡ n ∷ p ∷ [] → getD (outcome (accountBytes t) ls f .holds) 2 [] ≡ totalWords (afterRefusal t n))
     × ((units : List ℕ) (ls : Sizes) (f : List ℕ) (p : ℕ) → outcome (toUtf8 units) ls f .answer ≡ badText ∷ p ∷ [] → p < length units)
     × ((text : List ℕ) (ls : Sizes) (f : List ℕ) (p : ℕ) → outcome (toUtf16 text) ls f .answer ≡ badText ∷ p ∷ [] → p < length text)
 
@@ -402,3 +421,20 @@ ThereAndBack = (units : List ℕ) → ((i : ℕ) → getD units i 0 < 256) → (
 abbrev pub BackAndThere : Type 0
 BackAndThere = (text : List ℕ) (n m : ℕ) (f : List ℕ) (k : ℕ) → outcome (toUtf16 text) (n ∷ []) f .answer ≡ 0 ∷ 0 ∷ k ∷ [] → length text ≤ m
     → Undone (0xEF ∷ 0xBB ∷ 0xBF ∷ []) text (outcome (toUtf8 (textOf (outcome (toUtf16 text) (n ∷ []) f))) (m ∷ []) f)
+
+-- ---- Where the bytes go. Where it is answered, f was accepted. Each place of f has exactly one kind: that of the part of header, tree or detached nodes which has its
+-- byte, and all else where none has. Each of the nine counts is the number of places of its kind, and together they are the file's length. And the rows tell the kind of
+-- each place: up to the header's end, then each node's numbers, metadata, unpackers, reference and inline data, and in the metadata the data of items.
+
+pub record Account (ls : Sizes) (f counts : List ℕ) : Type 0 where
+  pub header : Header
+  pub nodes : List Node
+  pub items : List Item
+  pub accepted : reads ls f ≡ rows header nodes items
+  pub one-kind : (k : ℕ) → let es : Events = eventsOf (limits (size ls 0) (size ls 1)) f header in (kindAt es k < 9) × IsOf es k (kindAt es k) × ((κ : ℕ) → IsOf es k κ → κ ≡ kindAt es k)
+  pub each : (κ : ℕ) → κ < 9 → getD counts κ 0 ≡ placesOf κ (eventsOf (limits (size ls 0) (size ls 1)) f header) (length f)
+  pub total : sumOver (λ n. n) counts ≡ length f
+  pub by-rows : (k : ℕ) → kindAt (eventsOf (limits (size ls 0) (size ls 1)) f header) k ≡ kindByRows f (header .extent .end) nodes items k
+
+abbrev pub Accounts : Type 0
+Accounts = (t : Totals) (ls : Sizes) (f counts : List ℕ) → outcome (accountBytes t) ls f .answer ≡ 0 ∷ 0 ∷ counts → Account ls f counts

@@ -32,7 +32,7 @@ use Rattle.metadata.specs.declared.Made.{Made}
 use Rattle.metadata.proofs.Ends.{OfNames, Nothing, Given, Inside}
 use Rattle.node.specs.Node.{headerLength, head, front, outsideTree}
 use Rattle.tree.specs.Tree.{tree, node, detached}
-use Rattle.tree.specs.Reading.{nodeOf, nodesOf, itemsOf, Result, good, bad, Reading, rows, refusal, madeBy, logged, lost, offsetAt, outside, partEnd, takenFrom, detachedAt, reach, follow, reading, context, readTree, readFile}
+use Rattle.tree.specs.Reading.{nodeOf, nodesOf, itemsOf, Result, good, bad, Reading, rows, refusal, madeBy, logged, lost, offsetAt, outside, partEnd, takenFrom, detachedAt, reach, follow, logFrom, reading, context, readTree, readFile}
 use Rattle.tree.specs.Rows.{nodeAt, itemAt}
 use Rattle.tree.specs.Hidden.{mayDiffer, HiddenData, InlineData, InDetached, InParts, Private, DifferInPrivate, DifferInHidden}
 use Rattle.tree.proofs.Ends.{tree-ends, detached-ends}
@@ -111,6 +111,7 @@ module _ (free : Part → Bool) where
     pub header : Header
     pub read-as : ReadAs lim f header ns is
     pub same-reading : readFile lim g ≡ readFile lim f
+    pub same-log : logFrom lim g header ≡ logFrom lim f header
     pub keeps-header : HeaderKept free f g
     pub keeps : Kept free f g (read-as .log)
 
@@ -128,6 +129,7 @@ module _ (free : Part → Bool) where
         header = h;
         read-as = a;
         same-reading = rw (r, ← l, ← b, a .header-is, ← l, ← d, ← e, a .tree-is, z, a .nodes-are, a .items-are) refl;
+        same-log = rw (← l, ← d, ← e, a .tree-is, z, a .follows) refl;
         keeps-header = x;
         keeps = y;
       }

@@ -19,7 +19,7 @@ use Rattle.metadata.specs.Metadata.{Context}
 use Rattle.metadata.specs.declared.Limits.{Limits}
 use Rattle.metadata.specs.declared.Made.{Made}
 use Rattle.tree.specs.Tree.{tree, detached}
-use Rattle.tree.specs.Reading.{nodesOf, itemsOf, Result, good, bad, Reading, rows, refusal, madeBy, logged, lost, offsetAt, outside, partEnd, takenFrom, detachedAt, reach, follow, context, reading, readTree, readFile}
+use Rattle.tree.specs.Reading.{nodesOf, itemsOf, Result, good, bad, Reading, rows, refusal, madeBy, logged, lost, offsetAt, outside, partEnd, takenFrom, detachedAt, reach, follow, context, logFrom, reading, readTree, readFile}
 use Rattle.tree.specs.Rows.{nodeAt}
 
 no : {A B : Type 0} {n p : ℕ} {a : A} → bad n p ≡ good a → B
@@ -134,3 +134,8 @@ module _ (lim : Limits) (f : List ℕ) {h : Header} {ns : List Node} {is : List 
   pub read-back : readFile lim f ≡ rows h ns is → ReadAs lim f h ns is
   unfolding readFile
   read-back e = of-header (run (header (length f)) f 0) refl e
+
+-- the log that its rows were taken off
+pub log-is : {lim : Limits} {f : List ℕ} {h : Header} {ns : List Node} {is : List Item} (a : ReadAs lim f h ns is) → logFrom lim f h ≡ good (a .log)
+unfolding logged
+log-is a = rw (a .tree-is) (a .follows)

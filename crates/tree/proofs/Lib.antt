@@ -20,3 +20,4 @@ pub mod First
 pub mod Links
 pub mod Listed
 pub mod Stays
+pub mod EachNode

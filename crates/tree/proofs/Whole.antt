@@ -150,13 +150,13 @@ module _ (file t u : List ℕ) where
             by (bad a b) x y = let v : n ≡ a = cc in let w : p .0 ≡ b = cc in rw (x, ← v, ← w) (refl, ct ∙ ap (λ i. replicate i 0) (lt′ ∙ lt), cu ∙ ap (λ i. replicate i 0) (lu′ ∙ lu))
 
         pub whole-good : {t‴ u‴ : List ℕ} {n : Made} {p : Cursor} → r′ ≡ Done n p → t‴ ≡ take (n .nodes * nodeWidth) t″ ++ replicate (length t″ - n .nodes * nodeWidth) 0 → u‴ ≡ take (n .items * itemWidth) u″ ++ replicate (length u″ - n .items * itemWidth) 0
-            → Says (read.Is (record { version = h .version; edition = record { kind = h .edition .type; revision = h .edition .revision }; tree = m .nodes; nodes = n .nodes; items = n .items })) t‴ u‴
+            → Says (read.Is (record { version = h .version; edition = record { kind = h .edition .type; revision = h .edition .revision }; headerEnd = record { 0 = h .extent .end }; tree = m .nodes; nodes = n .nodes; items = n .items })) t‴ u‴
         unfolding readOf nodeTable itemTable reading
         whole-good {t‴} {u‴} {n} {p} e ct cu =
             by (follow (room .nodes) room file h 0 (good (trace (treeOf room (length file) h) file (h .extent .start)))) refl (whole-log (ran-tree d)) (ap (λ v. said v t″ u″) (sym e) ∙ left-is .answer) (subst (Fits room) e (left-is .fits))
           where
             by : (o : Result Events) → follow (room .nodes) room file h 0 (good (trace (treeOf room (length file) h) file (h .extent .start))) ≡ o → readFile room file ≡ reading h o → good (state t″ u″ n) ≡ left start o
-                → (n .nodes ≤ room .nodes) × (n .items ≤ room .items) → Says (read.Is (record { version = h .version; edition = record { kind = h .edition .type; revision = h .edition .revision }; tree = m .nodes; nodes = n .nodes; items = n .items })) t‴ u‴
+                → (n .nodes ≤ room .nodes) × (n .items ≤ room .items) → Says (read.Is (record { version = h .version; edition = record { kind = h .edition .type; revision = h .edition .revision }; headerEnd = record { 0 = h .extent .end }; tree = m .nodes; nodes = n .nodes; items = n .items })) t‴ u‴
             by (bad a b) q x y fits = let z : _≡_ {A = ℕ} 0 1 = cc in absurd (omega arith)
             by (good log) q x y fits =
                 let w = at-end any-free file (header-on (length file)) e₀ in
@@ -169,7 +169,7 @@ module _ (file t u : List ℕ) where
                 let tn : t″ ≡ allNodes (nodesOf log) ++ drop (length (allNodes (nodesOf log))) t = sym (ap (λ (σ : State). σ .nodes) z) ∙ sets-front t (allNodes (nodesOf log)) (omega arith) in
                 let ui : u″ ≡ allItems (itemsOf log) ++ drop (length (allItems (itemsOf log))) u = sym (ap (λ (σ : State). σ .items) z) ∙ sets-front u (allItems (itemsOf log)) (omega arith) in
                 rw x (
-                  ap (λ (a : ℕ). read.Is (record { version = h .version; edition = record { kind = h .edition .type; revision = h .edition .revision }; tree = a; nodes = n .nodes; items = n .items })) (sym (first .tree-is)) ∙ ap₂ (λ (a : ℕ) (b : ℕ). read.Is (record { version = h .version; edition = record { kind = h .edition .type; revision = h .edition .revision }; tree = treeRows (nodesOf log); nodes = a; items = b })) cn ci,
+                  ap (λ (a : ℕ). read.Is (record { version = h .version; edition = record { kind = h .edition .type; revision = h .edition .revision }; headerEnd = record { 0 = h .extent .end }; tree = a; nodes = n .nodes; items = n .items })) (sym (first .tree-is)) ∙ ap₂ (λ (a : ℕ) (b : ℕ). read.Is (record { version = h .version; edition = record { kind = h .edition .type; revision = h .edition .revision }; headerEnd = record { 0 = h .extent .end }; tree = treeRows (nodesOf log); nodes = a; items = b })) cn ci,
                   ct ∙ padded-behind (allNodes (nodesOf log)) _ tn (ap (λ a. a * nodeWidth) cn ∙ sym ln) ∙ ap (λ a. padded a (allNodes (nodesOf log))) (lt′ ∙ lt),
                   cu ∙ padded-behind (allItems (itemsOf log)) _ ui (ap (λ a. a * itemWidth) ci ∙ sym li) ∙ ap (λ a. padded a (allItems (itemsOf log))) (lu′ ∙ lu),
                 )

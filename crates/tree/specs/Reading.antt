@@ -129,10 +129,13 @@ unfoldable pub reading : Header → Result Events → Reading
 reading h (good log) = rows h (nodesOf log) (itemsOf log)
 reading h (bad n p) = refusal n p
 
--- the tree, where the header says that it is, and what is referred to from there
+-- the log of the tree, where the header says that it is, and of what is referred to from there
+abbrev pub logFrom : Limits → List ℕ → Header → Result Events
+logFrom lim f h =
+    follow (lim .nodes) lim f h 0 (logged [] (run (tree (context lim h (length f)) (h .extent .last + 1)) f (h .extent .start)) (trace (tree (context lim h (length f)) (h .extent .last + 1)) f (h .extent .start)))
+
 unfoldable pub readTree : Limits → List ℕ → Out Header → Reading
-readTree lim f (ok h p) =
-    reading h (follow (lim .nodes) lim f h 0 (logged [] (run (tree (context lim h (length f)) (h .extent .last + 1)) f (h .extent .start)) (trace (tree (context lim h (length f)) (h .extent .last + 1)) f (h .extent .start))))
+readTree lim f (ok h p) = reading h (logFrom lim f h)
 readTree lim f (refused n p) = refusal n p
 
 unfoldable pub readFile : Limits → List ℕ → Reading
@@ -145,6 +148,7 @@ abbrev pub summary : Header → List Node → List Item → Summary
 summary h ns is = record {
   version = h .version;
   edition = record { kind = h .edition .type; revision = h .edition .revision };
+  headerEnd = record { 0 = h .extent .end };
   tree = treeRows ns;
   nodes = length ns;
   items = length is;

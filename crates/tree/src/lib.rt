@@ -34,10 +34,11 @@ use metadata::Walked;
 use node::Fronted;
 use node::Standing;
 
-// What is kept of an accepted file besides its rows: how many rows there are, and how many of the node rows are the tree's.
+// What is kept of an accepted file besides its rows: where its header ends, how many rows there are, and how many of the node rows are the tree's.
 pub struct Summary {
     pub version: u64,
     pub edition: Edition,
+    pub headerEnd: FilePlace,
     pub tree: usize,
     pub nodes: usize,
     pub items: usize,
@@ -558,9 +559,12 @@ pub fn read_file(file: &[u8], nodes: &mut [u64], items: &mut [u64]) -> Read
                         room::clear_from(nodes, m.nodes * cursor::NODE_WIDTH);
                         room::clear_from(items, m.items * cursor::ITEM_WIDTH);
                         let edition = h.edition;
+                        let extent = h.extent;
+                        let headerEnd = extent.end;
                         let is = Summary {
                             version: h.version,
                             edition,
+                            headerEnd,
                             tree: tree.nodes,
                             nodes: m.nodes,
                             items: m.items,

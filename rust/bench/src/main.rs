@@ -27,22 +27,27 @@ const LEAST: Duration = Duration::from_micros(200);
 /// What is asked about each file. The verdict is asked where the file is judged to its end, or
 /// nearly so; a file that fails the first check tells nothing of it.
 const ASKED: [(&str, &[&str]); 13] = [
-    ("large", &["tree", "find", "resolve", "sheet"]),
-    ("padded", &["tree", "sheet"]),
+    ("large", &["tree", "find", "resolve", "account", "sheet"]),
+    ("padded", &["tree", "account", "sheet"]),
     ("common", &["tree", "sheet"]),
-    ("bare", &["tree", "sheet"]),
+    ("bare", &["tree", "account", "sheet"]),
     ("late", &["tree"]),
     ("unpackers", &["tree"]),
     ("types", &["tree", "sheet"]),
     ("text", &["sheet"]),
     ("escapes", &["sheet"]),
     ("children", &["tree", "verdict", "sheet"]),
-    ("contents", &["tree", "verdict", "sheet"]),
+    ("contents", &["tree", "verdict", "account", "sheet"]),
     (
         "worked",
-        &["tree", "find", "resolve", "verdict", "sheet", "title"],
+        &[
+            "tree", "find", "resolve", "verdict", "account", "sheet", "title",
+        ],
     ),
-    ("resource", &["tree", "find", "resolve", "sheet", "title"]),
+    (
+        "resource",
+        &["tree", "find", "resolve", "account", "sheet", "title"],
+    ),
 ];
 
 /// A file and what is asked about it.
@@ -88,7 +93,7 @@ const TITLE: &[u8] = b"The same tune with another title";
 type Ask = fn(&Subject, &mut Lent) -> Result<u64, u64>;
 
 /// The questions, each to the proved and to the plain reader.
-const QUESTIONS: [(&str, Ask, Ask); 6] = [
+const QUESTIONS: [(&str, Ask, Ask); 7] = [
     (
         "tree",
         |about, lent| match xmf::read_tree(&about.file, &mut lent.nodes, &mut lent.items) {
@@ -147,6 +152,25 @@ const QUESTIONS: [(&str, Ask, Ask); 6] = [
         |about, lent| {
             plain::judge(&about.file, &mut lent.nodes, &mut lent.items)
                 .map_err(|refusal| refusal.number)
+        },
+    ),
+    (
+        "account",
+        |about, lent| {
+            let mut totals = xmf::Totals::default();
+            let (nodes, items) = (&mut lent.nodes, &mut lent.items);
+            match xmf::account(&about.file, nodes, items, &mut totals) {
+                Ok(counts) => Ok(counts.metadata),
+                Err(refusal) => Err(refusal.number),
+            }
+        },
+        |about, lent| {
+            let mut totals = plain::Totals::default();
+            let (nodes, items) = (&mut lent.nodes, &mut lent.items);
+            match plain::account(&about.file, nodes, items, &mut totals) {
+                Ok(counts) => Ok(counts[2]),
+                Err(refusal) => Err(refusal.number),
+            }
         },
     ),
     (

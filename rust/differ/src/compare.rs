@@ -1,6 +1,7 @@
 //! Comparing two readers on a case, a text or a title, and two files of a pair on one reader.
 
 use crate::buffers::{Buffers, Noise};
+use crate::readers::{account_plain, account_proved, Sums};
 use crate::readers::{ask_plain, ask_proved, ask_words, resource_proved};
 use crate::readers::{convert_plain, convert_proved, convert_words};
 use crate::readers::{known, Answer, Question, Subject, QUESTIONS};
@@ -22,6 +23,10 @@ const ANSWER_GUARD: usize = 4;
 const TEXT_GUARD: usize = 16;
 /// What is said when something else than what is lent has changed.
 const NOT_LENT: &str = "a word or byte that was not lent has changed";
+/// The account of a file's bytes, in reports.
+const ACCOUNT: &str = "Account";
+/// The number of files after which totals begin anew: more than there may be.
+const MOST_SUMMED: u64 = 1_100;
 /// The correction of a title, in reports.
 const TITLE: &str = "Title";
 /// What answer buffers and their guards hold before.
@@ -47,6 +52,11 @@ pub struct Comparer {
     pub texts: [u64; 27],
     /// For each refusal number, how many counts are refused so; at 0 how many are given.
     pub counts: [u64; 27],
+    /// The totals of the files so far, and how many there were.
+    totals: Sums,
+    summed: u64,
+    /// For each refusal number, how many accounts are refused so; at 0 how many are given.
+    pub accounts: [u64; 33],
     /// For each refusal number, how many titles are refused so; at 0 how many are corrected.
     pub titles: [u64; 39],
     /// How many pairs have a title corrected, and how many of those results differ.
@@ -76,6 +86,9 @@ impl Comparer {
             resources: 0,
             texts: [0; 27],
             counts: [0; 27],
+            totals: [0; 11],
+            summed: 0,
+            accounts: [0; 33],
             titles: [0; 39],
             title_pairs: [0; 2],
         }
@@ -210,12 +223,17 @@ impl Comparer {
 
     /// Sets what a question finds in the first and in the second buffers.
     fn fill(&mut self, question: Question, first: u64, second: u64) {
-        self.first.fill_tables(&self.noise, first);
-        self.second.fill_tables(&self.noise, second);
+        self.fill_tables(first, second);
         if question.fills_room() {
             self.first.fill_sheet(&self.noise, first);
             self.second.fill_sheet(&self.noise, second);
         }
+    }
+
+    /// Sets the tables of both readers to values that are fixed by two numbers.
+    fn fill_tables(&mut self, first: u64, second: u64) {
+        self.first.fill_tables(&self.noise, first);
+        self.second.fill_tables(&self.noise, second);
     }
 
     /// Asks the proved reader again, with a buffer of so many words for the answer.
@@ -256,6 +274,86 @@ impl Comparer {
             Some(answer) => self.answer(question, &answer, &plain),
             None => Ok(()),
         }
+    }
+
+    /// Counts the bytes of a file by both readers, with the same totals, and once more with the totals
+    /// and the answer in 0 to 16 words. The totals run on from file to file, past as many as may be
+    /// summed, and then begin anew; for some files they are any others.
+    pub fn account(&mut self, case: &Case, number: u64) -> Result<(), Difference> {
+        let given = self.totals_for(number);
+        self.first.resize(&case.lent);
+        self.second.resize(&case.lent);
+        self.fill_tables(number, number);
+        let mut sums = [given; 2];
+        let [left, right] = &mut sums;
+        let proved = account_proved(&case.file, self.first.lend(), left);
+        let plain = account_plain(&case.file, self.second.lend(), right);
+        self.accounts[plain[0] as usize] += 1;
+        self.answer(ACCOUNT, &proved, &plain)?;
+        self.answer(ACCOUNT, &sums[0], &sums[1])?;
+        self.tables(ACCOUNT)?;
+        let total: u64 = proved[2..].iter().sum();
+        if proved[0] == 0 && total != case.file.len() as u64 {
+            return Err(Difference {
+                asked: ACCOUNT.to_string(),
+                what: format!("the counts sum to {total}"),
+            });
+        }
+
+        let words = number as usize % (MOST_ANSWER_WORDS as usize + 1);
+        let lent = number as usize / 17 % (MOST_ANSWER_WORDS as usize + 1);
+        let mut answer = [MARK; MOST_ANSWER_WORDS as usize + ANSWER_GUARD];
+        let mut totals = answer;
+        totals[..lent.min(11)].copy_from_slice(&given[..lent.min(11)]);
+        let mut wanted = totals;
+        let mut fewer = [0; 11];
+        fewer[..lent.min(11)].copy_from_slice(&given[..lent.min(11)]);
+        let expected = account_plain(&case.file, self.second.lend(), &mut fewer);
+        wanted[..lent.min(11)].copy_from_slice(&fewer[..lent.min(11)]);
+        let tables = self.first.lend();
+        xmf::words::account(
+            &case.file,
+            tables.nodes,
+            tables.items,
+            &mut totals[..lent],
+            &mut answer[..words],
+        );
+        self.answer(ACCOUNT, &answer, &fitted(&expected, words))?;
+        self.answer(ACCOUNT, &totals, &wanted)?;
+        self.tables(ACCOUNT)?;
+        if number % 8 != 3 {
+            self.totals = sums[0];
+        }
+        Ok(())
+    }
+
+    /// The totals that a file is asked about with: those so far, or for one of eight any others.
+    fn totals_for(&mut self, number: u64) -> Sums {
+        if number % 8 == 3 {
+            let mut sums = [u64::MAX - number % 40; 11];
+            sums[0] = [0, 998, 999, 1000, 1001, u64::MAX][number as usize / 8 % 6];
+            return sums;
+        }
+        self.summed += 1;
+        if self.summed > MOST_SUMMED {
+            self.summed = 1;
+            self.totals = [0; 11];
+        }
+        self.totals
+    }
+
+    /// Counts the bytes of both files of a pair by the proved reader, with the same totals.
+    pub fn account_pair(&mut self, pair: &Pair, number: u64) -> Result<(), Difference> {
+        self.first.resize(&pair.lent);
+        self.second.resize(&pair.lent);
+        self.fill_tables(number, !number);
+        let mut sums = [[number % 1001; 11]; 2];
+        let [left, right] = &mut sums;
+        let first = account_proved(&pair.first, self.first.lend(), left);
+        let second = account_proved(&pair.second, self.second.lend(), right);
+        self.answer(ACCOUNT, &first, &second)?;
+        self.answer(ACCOUNT, &sums[0], &sums[1])?;
+        self.tables(ACCOUNT)
     }
 
     /// Converts a text by both readers, with the same bytes in the room before, and once more with an
@@ -418,13 +516,22 @@ impl Comparer {
 
     /// Compares what is left in the buffers.
     fn left(&mut self, question: Question) -> Result<(), Difference> {
+        if question == Question::Sheet {
+            equal(question, "sheet", self.first.sheet(), self.second.sheet())?;
+            self.count(self.first.sheet().len());
+        }
+        self.tables(question)
+    }
+
+    /// Compares what is left in the tables, and sees that nothing else has changed.
+    fn tables(&mut self, question: impl Debug) -> Result<(), Difference> {
         self.count(self.first.nodes().len());
         self.count(self.first.items().len());
         let (first, second) = (&self.first, &self.second);
-        equal(question, "node table", first.nodes(), second.nodes())?;
-        equal(question, "item table", first.items(), second.items())?;
+        equal(&question, "node table", first.nodes(), second.nodes())?;
+        equal(&question, "item table", first.items(), second.items())?;
         if question.fills_room() {
-            equal(question, "buffer", first.sheet(), second.sheet())?;
+            equal(&question, "buffer", first.sheet(), second.sheet())?;
             self.count(self.first.sheet().len());
         }
         if !(self.first.are_guards_kept() && self.second.are_guards_kept()) {

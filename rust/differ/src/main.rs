@@ -10,6 +10,9 @@
 //! readers, and compares the answers and each byte of the room lent. And it asks both for the count of
 //! a generated content description, good or with a fault, whose answer is mostly known.
 //!
+//! It counts the bytes of each case's file by kind with both readers, and compares the counts and the
+//! totals, which run on over more than a thousand files, and the counts' sum with the file's length.
+//!
 //! It also corrects the title of a generated file by both readers and compares the answers, both tables
 //! and each byte of the room. Where the right result is known, it must be that one. The result is read
 //! back: its rows must be those in the tables, and it must say what the file says but for that data. The
@@ -20,7 +23,7 @@
 //! data of file nodes, and outside header, tree and detached nodes. It asks the proved reader all
 //! questions about both, with different contents of tables and buffers before, and compares in
 //! the same way. A resource must be the part of its file that the answer names, and this place and
-//! length are the same for both files. It corrects a title of both, with equal answers and tables; the
+//! length are the same for both files. It counts their bytes by kind. It corrects a title of both, with equal answers and tables; the
 //! results may differ at private places of the first only.
 //!
 //! Before all that it compares the readers on the samples and their padded copies: each of them, each
@@ -90,9 +93,12 @@ fn compare_samples(comparer: &mut Comparer) -> Result<(), String> {
     changed::for_each(|case| {
         let number = count;
         count += 1;
-        comparer.case(case, number).map_err(|difference| {
-            case_report(&format!("changed sample {number}"), case, &difference)
-        })
+        comparer
+            .case(case, number)
+            .and_then(|()| comparer.account(case, number))
+            .map_err(|difference| {
+                case_report(&format!("changed sample {number}"), case, &difference)
+            })
     })?;
     println!("changed samples: {count}");
     Ok(())
@@ -120,9 +126,12 @@ fn compare_cases(comparer: &mut Comparer, cases: u64, seed: u64, first: u64) -> 
     let start = Instant::now();
     for number in first..first.saturating_add(cases) {
         let case = generate::case(seed, number);
-        comparer.case(&case, number).map_err(|difference| {
-            case_report(&format!("case {number} of seed {seed}"), &case, &difference)
-        })?;
+        comparer
+            .case(&case, number)
+            .and_then(|()| comparer.account(&case, number))
+            .map_err(|difference| {
+                case_report(&format!("case {number} of seed {seed}"), &case, &difference)
+            })?;
         let text = texts::text(seed, number);
         comparer.text(&text, number).map_err(|difference| {
             text_report(&format!("text {number} of seed {seed}"), &text, &difference)
@@ -160,9 +169,12 @@ fn compare_pairs(comparer: &mut Comparer, pairs: u64, seed: u64, first: u64) -> 
         comparer.pair(&pair, number).map_err(|difference| {
             pair_report(&format!("pair {number} of seed {seed}"), &pair, &difference)
         })?;
-        comparer.title_pair(&pair, number).map_err(|difference| {
-            pair_report(&format!("pair {number} of seed {seed}"), &pair, &difference)
-        })?;
+        comparer
+            .title_pair(&pair, number)
+            .and_then(|()| comparer.account_pair(&pair, number))
+            .map_err(|difference| {
+                pair_report(&format!("pair {number} of seed {seed}"), &pair, &difference)
+            })?;
     }
     let seconds = start.elapsed().as_secs_f64();
     let rate = pairs as f64 / seconds;
@@ -197,6 +209,11 @@ fn print_counts(comparer: &Comparer) {
         "counts: {} given; refused, by number: {}",
         comparer.counts[0],
         by_number(&comparer.counts)
+    );
+    println!(
+        "accounts: {} given; refused, by number: {}",
+        comparer.accounts[0],
+        by_number(&comparer.accounts)
     );
     println!(
         "titles: {} corrected; refused, by number: {}",

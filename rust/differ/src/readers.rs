@@ -253,3 +253,40 @@ pub fn convert_plain(text: &Text, room: &mut [u8]) -> Answer {
     };
     counted(converted.map_err(|refusal| (refusal.number, refusal.place)))
 }
+
+/// Totals as words: files, refused, nine sums.
+pub type Sums = [u64; 11];
+
+/// Counts the bytes of a file by the proved function.
+pub fn account_proved(file: &[u8], lent: Lent, sums: &mut Sums) -> Answer {
+    let [files, refused, kinds @ ..] = *sums;
+    let mut totals = xmf::Totals {
+        files,
+        refused,
+        kinds: kinds.into(),
+    };
+    let counts = xmf::account(file, lent.nodes, lent.items, &mut totals);
+    sums[..2].copy_from_slice(&[totals.files, totals.refused]);
+    sums[2..].copy_from_slice(&totals.kinds.counts());
+    match counts {
+        Ok(counts) => words(&counts.counts()),
+        Err(refusal) => self::refused(refusal.number, refusal.place),
+    }
+}
+
+/// Counts the bytes of a file by the plain function.
+pub fn account_plain(file: &[u8], lent: Lent, sums: &mut Sums) -> Answer {
+    let [files, refused, kinds @ ..] = *sums;
+    let mut totals = plain::Totals {
+        files,
+        refused,
+        kinds,
+    };
+    let counts = plain::account(file, lent.nodes, lent.items, &mut totals);
+    sums[..2].copy_from_slice(&[totals.files, totals.refused]);
+    sums[2..].copy_from_slice(&totals.kinds);
+    match counts {
+        Ok(counts) => words(&counts),
+        Err(refusal) => self::refused(refusal.number, refusal.place),
+    }
+}

@@ -3,16 +3,19 @@
 //! It answers five questions about a file's bytes: read the tree ([`read_tree`]), find a metadata
 //! item ([`find`], or [`find_own`] on the node itself), resolve a resource ([`resolve`], with
 //! [`resource`] for its bytes), judge Mobile XMF ([`judge`]) and write the support sheet
-//! ([`write_sheet`]). It gives what a tune needs, as a content description says ([`voice_count`]). It writes a file anew with a title corrected ([`correct_title`]). And it converts
+//! ([`write_sheet`]). It gives what a tune needs, as a content description says ([`voice_count`]). It counts where the bytes of a file go
+//! ([`account`]). It writes a file anew with a title corrected ([`correct_title`]). And it converts
 //! texts from UTF-16 into UTF-8 ([`utf16_to_utf8`]) and back ([`utf8_to_utf16`]).
 //!
 //! Each question takes the file and two lent tables of words, one for node rows and one for item
 //! rows, of any size and whatever they hold before. It reads the file afresh. After an answer the
 //! tables hold the file's rows (those of the new file, where one is written), and zeros past the last
-//! row; after a refusal they hold zeros only. Nothing is allocated but for a corrected title.
+//! row; after a refusal they hold zeros only. Nothing is allocated but for a corrected title and for
+//! the kinds of bytes.
 //!
 //! Every place is counted from the file's first byte.
 
+mod account;
 mod cursor;
 mod description;
 mod questions;
@@ -95,7 +98,7 @@ pub type ItemRow = [u64; item::WORDS];
 /// Why a question is refused.
 #[derive(Clone, Copy, Debug, PartialEq, Eq)]
 pub struct Refusal {
-    /// The number in the refusal list: 1 to 26, or 36 to 38.
+    /// The number in the refusal list: 1 to 26, 32, or 36 to 38.
     pub number: u64,
     /// The place of the refused field's first byte, or 0 where the list names none.
     pub place: u64,
@@ -151,6 +154,21 @@ pub struct Resource {
     pub row: u64,
     /// The number of references followed.
     pub hops: u64,
+}
+
+/// Bytes by kind: file header, node frames, metadata frames, visible data, hidden data, unpackers,
+/// references with what belongs to them, inline data, all else.
+pub type Kinds = [u64; 9];
+
+/// Sums over files.
+#[derive(Clone, Copy, Debug, Default, PartialEq, Eq)]
+pub struct Totals {
+    /// The number of files, refused ones too.
+    pub files: u64,
+    /// The number of files that were refused.
+    pub refused: u64,
+    /// The bytes of the others by kind.
+    pub kinds: Kinds,
 }
 
 /// The rows of a file that has been read.
@@ -282,6 +300,37 @@ pub fn judge(file: &[u8], nodes: &mut [u64], items: &mut [u64]) -> Result<u64, R
     ask(file, nodes, items, |rows, tree| {
         Ok(questions::judge(rows, tree.version))
     })
+}
+
+/// Counts the bytes of a file by kind, and adds them to the totals. A refused file is one more file and
+/// one more refused.
+///
+/// Refused with 32, before the file is read, when there were 1,000 files; the totals are kept then.
+/// A sum that would not fit stays at the greatest number.
+pub fn account(
+    file: &[u8],
+    nodes: &mut [u64],
+    items: &mut [u64],
+    totals: &mut Totals,
+) -> Result<Kinds, Refusal> {
+    if totals.files >= account::FILE_LIMIT {
+        nodes.fill(0);
+        items.fill(0);
+        return Err(Refusal::at(32, 0));
+    }
+    totals.files += 1;
+    let answer = ask(file, nodes, items, |rows, tree| {
+        Ok(account::count(&account::kinds(rows, tree.version)?))
+    });
+    match answer {
+        Ok(counts) => {
+            for (sum, count) in totals.kinds.iter_mut().zip(counts) {
+                *sum = sum.saturating_add(count);
+            }
+        }
+        Err(_) => totals.refused = totals.refused.saturating_add(1),
+    }
+    answer
 }
 
 /// Writes the support sheet of a file into a lent buffer and answers the number of bytes written.

@@ -10,7 +10,7 @@ use crate::tree::FILE_BYTES;
 use crate::{item, node, Refusal, Rows};
 
 /// The number of bytes before FileLength: `XMF_`, the version, and in 2.00 type and revision.
-fn opening_length(version: u64) -> usize {
+pub fn opening_length(version: u64) -> usize {
     match version {
         200 => 16,
         _ => 8,

@@ -110,6 +110,21 @@ extern "C" {
         answer_words: usize,
     );
 
+    /// Counts the file's bytes by kind. Answer: the nine counts. The totals go in and come back: files,
+    /// refused, nine sums; words that are missing are 0 and are not stored.
+    pub fn xmf_account(
+        file: *const u8,
+        file_length: usize,
+        nodes: *mut u64,
+        node_words: usize,
+        items: *mut u64,
+        item_words: usize,
+        totals: *mut u64,
+        total_words: usize,
+        answer: *mut u64,
+        answer_words: usize,
+    );
+
     /// Writes the support sheet. Answer: bytes written.
     pub fn xmf_write_sheet(
         file: *const u8,

@@ -7,6 +7,7 @@
 //! | resolve a resource | [`resolve`], and for its bytes [`resource`] or [`copy_resource`] |
 //! | say what the tune needs | [`voice_count`] |
 //! | judge Mobile XMF | [`judge`] |
+//! | count where the bytes go, and sum over files | [`account`] |
 //! | write the support sheet | [`write_sheet`] |
 //! | correct a title | [`correct_title`] |
 //!
@@ -115,7 +116,7 @@ pub mod item {
 /// Why a question is refused.
 #[derive(Clone, Copy, Debug, PartialEq, Eq)]
 pub struct Refusal {
-    /// The number in the refusal list: 1 to 26, or 36 to 38.
+    /// The number in the refusal list: 1 to 26, 32, or 36 to 38.
     pub number: u64,
     /// The place of the refused field's first byte, or 0 where the list names none. For 26 the place
     /// of the first bad character in what was to be converted.
@@ -158,6 +159,7 @@ impl Refusal {
                  unknown kind, or bytes left over"
             }
             26 => "UTF-16 of odd length or with half of a surrogate pair, or bad UTF-8",
+            32 => "1,000 files were summed already",
             36 => "a node has reference 2 or 3, so no title is corrected",
             37 => "the content to be corrected is hidden, or one of several versions",
             38 => "the new file would have more than 268,435,455 bytes",
@@ -215,6 +217,75 @@ pub struct Resource {
     pub row: usize,
     /// The number of references followed.
     pub hops: u64,
+}
+
+/// The bytes of a file by kind, or sums of them over files.
+#[derive(Clone, Copy, Debug, Default, PartialEq, Eq)]
+pub struct Kinds {
+    /// The file header, the types table among it.
+    pub header: u64,
+    /// Node frames: the length, the contained items and the header length of each node.
+    pub nodes: u64,
+    /// Metadata frames: all of the metadata but its data.
+    pub metadata: u64,
+    /// The data of contents that are not hidden.
+    pub visible: u64,
+    /// The data of hidden contents.
+    pub hidden: u64,
+    /// Unpackers, with their length.
+    pub unpackers: u64,
+    /// References, with their contents other than inline data.
+    pub references: u64,
+    /// Inline data of file nodes.
+    pub inline: u64,
+    /// All else: bytes outside header, tree and detached nodes.
+    pub rest: u64,
+}
+
+impl Kinds {
+    /// The counts, in the order of the fields.
+    pub fn counts(&self) -> [u64; 9] {
+        [
+            self.header,
+            self.nodes,
+            self.metadata,
+            self.visible,
+            self.hidden,
+            self.unpackers,
+            self.references,
+            self.inline,
+            self.rest,
+        ]
+    }
+}
+
+impl From<[u64; 9]> for Kinds {
+    fn from(counts: [u64; 9]) -> Self {
+        let [header, nodes, metadata, visible, hidden, unpackers, references, inline, rest] =
+            counts;
+        Kinds {
+            header,
+            nodes,
+            metadata,
+            visible,
+            hidden,
+            unpackers,
+            references,
+            inline,
+            rest,
+        }
+    }
+}
+
+/// Sums over files. They begin all zero, which is their default.
+#[derive(Clone, Copy, Debug, Default, PartialEq, Eq)]
+pub struct Totals {
+    /// The number of files, refused ones too.
+    pub files: u64,
+    /// The number of files that were refused.
+    pub refused: u64,
+    /// The bytes of the others by kind.
+    pub kinds: Kinds,
 }
 
 /// Reads the tree of a file, and the detached nodes that references lead to, into the lent tables.
@@ -380,6 +451,46 @@ pub fn judge(file: &[u8], nodes: &mut [u64], items: &mut [u64]) -> Result<u64, R
     words::judge(file, nodes, items, &mut answer);
     let [verdict] = values(answer)?;
     Ok(verdict)
+}
+
+/// Counts the bytes of a file by kind, and adds them to the totals. Each byte is of one kind by its
+/// place, and the counts sum to the file's length.
+///
+/// A refused file is one more file and one more refused. Refused with 32, before the file is read, when
+/// the totals have 1,000 files; they are kept then. A sum that would not fit stays at the greatest
+/// number, which no totals that begin all zero come to.
+///
+/// ```
+/// use xmf::{Totals, ALL_ITEM_WORDS, ALL_NODE_WORDS};
+///
+/// let mut nodes = vec![0; ALL_NODE_WORDS];
+/// let mut items = vec![0; ALL_ITEM_WORDS];
+/// let mut totals = Totals::default();
+/// for name in ["mobile", "cut"] {
+///     let file = std::fs::read(format!("../../samples/{name}.xmf")).unwrap();
+///     let _ = xmf::account(&file, &mut nodes, &mut items, &mut totals);
+/// }
+/// assert_eq!((totals.files, totals.refused), (2, 1));
+/// assert_eq!((totals.kinds.inline, totals.kinds.rest), (63, 0));
+/// ```
+pub fn account(
+    file: &[u8],
+    nodes: &mut [u64],
+    items: &mut [u64],
+    totals: &mut Totals,
+) -> Result<Kinds, Refusal> {
+    let mut sums = [0; 11];
+    sums[..2].copy_from_slice(&[totals.files, totals.refused]);
+    sums[2..].copy_from_slice(&totals.kinds.counts());
+    let mut answer = [0; 11];
+    words::account(file, nodes, items, &mut sums, &mut answer);
+    let [files, refused, kinds @ ..] = sums;
+    *totals = Totals {
+        files,
+        refused,
+        kinds: kinds.into(),
+    };
+    values::<11, 9>(answer).map(Kinds::from)
 }
 
 /// Writes the support sheet of a file into a lent buffer and answers the number of bytes written.

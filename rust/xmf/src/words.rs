@@ -129,6 +129,19 @@ pub fn judge(file: &[u8], nodes: &mut [u64], items: &mut [u64], answer: &mut [u6
     ask!(xmf_judge(file, nodes, items, [], answer))
 }
 
+/// Counts the file's bytes by kind. Values: the nine counts. The totals go in and come back: files,
+/// refused, nine sums. Of fewer words the missing ones are 0 and are not stored.
+pub fn account(
+    file: &[u8],
+    nodes: &mut [u64],
+    items: &mut [u64],
+    totals: &mut [u64],
+    answer: &mut [u64],
+) {
+    let (sums, length) = (totals.as_mut_ptr(), totals.len());
+    ask!(xmf_account(file, nodes, items, [sums, length], answer))
+}
+
 /// Writes the support sheet. Values: bytes written.
 pub fn write_sheet(
     file: &[u8],

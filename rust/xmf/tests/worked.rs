@@ -1,7 +1,7 @@
 //! The questions about the worked file and one with detached nodes, and what the interface says of odd
 //! arguments.
 
-use xmf::{c, item, node, Field, Refusal, Resource, Tree};
+use xmf::{c, item, node, Field, Kinds, Refusal, Resource, Totals, Tree};
 use xmf::{ALL_ITEM_WORDS, ALL_NODE_WORDS, ANSWER_WORDS};
 
 const WORKED: &[u8] = include_bytes!("../../../samples/worked.xmf");
@@ -160,6 +160,94 @@ fn a_title_is_corrected() {
         assert!(nodes.iter().chain(&items).all(|&word| word == 0));
         assert!(out.iter().all(|&byte| byte == 0));
     }
+}
+
+/// The bytes of the worked file by kind.
+const WORKED_KINDS: [u64; 9] = [21, 6, 17, 4, 2, 2, 2, 2, 0];
+/// Those of the file with detached nodes.
+const DETACHED_KINDS: [u64; 9] = [22, 21, 44, 28, 6, 7, 12, 25, 6];
+
+#[test]
+fn bytes_are_summed_over_a_thousand_files() {
+    let (mut nodes, mut items) = tables();
+    let mut totals = Totals::default();
+    for number in 0..1000 {
+        let counts = match number % 4 {
+            0 => xmf::account(WORKED, &mut nodes, &mut items, &mut totals),
+            3 => xmf::account(DETACHED, &mut nodes, &mut items, &mut totals),
+            _ => {
+                let counts = xmf::account(&WORKED[..55], &mut nodes, &mut items, &mut totals);
+                assert_eq!(counts, refusal(5, 16));
+                assert!(nodes.iter().chain(&items).all(|&word| word == 0));
+                continue;
+            }
+        };
+        let wanted = if number % 4 == 0 {
+            WORKED_KINDS
+        } else {
+            DETACHED_KINDS
+        };
+        assert_eq!(counts, Ok(Kinds::from(wanted)));
+    }
+    let kinds = std::array::from_fn(|kind| 250 * (WORKED_KINDS[kind] + DETACHED_KINDS[kind]));
+    let wanted = Totals {
+        files: 1000,
+        refused: 500,
+        kinds: kinds.into(),
+    };
+    assert_eq!(totals, wanted);
+    assert_eq!(
+        totals.kinds.counts().iter().sum::<u64>(),
+        250 * (WORKED.len() + DETACHED.len()) as u64
+    );
+    // The next one is refused, whatever it is, and the totals are kept.
+    for file in [WORKED, &[]] {
+        (nodes, items) = tables();
+        let counts = xmf::account(file, &mut nodes, &mut items, &mut totals);
+        assert_eq!(counts, refusal(32, 0));
+        assert!(nodes.iter().chain(&items).all(|&word| word == 0));
+        assert_eq!(totals, wanted);
+    }
+}
+
+#[test]
+fn totals_may_have_any_number_of_words() {
+    let (mut nodes, mut items) = tables();
+    for room in 0..14 {
+        let mut totals = [7; 16];
+        let mut answer = [7; ANSWER_WORDS];
+        xmf::words::account(
+            WORKED,
+            &mut nodes,
+            &mut items,
+            &mut totals[..room],
+            &mut answer,
+        );
+        assert_eq!(answer[2..11], WORKED_KINDS);
+        let mut wanted = [7; 16];
+        for (word, more) in wanted[..room.min(11)]
+            .iter_mut()
+            .zip([1, 0].iter().chain(&WORKED_KINDS))
+        {
+            *word += more;
+        }
+        assert_eq!(totals, wanted);
+    }
+    // A sum that would not fit stays at the greatest number.
+    let mut totals = [u64::MAX - 3; 11];
+    totals[0] = 999;
+    xmf::words::account(WORKED, &mut nodes, &mut items, &mut totals, &mut []);
+    assert_eq!(totals[..3], [1000, u64::MAX - 3, u64::MAX]);
+    assert_eq!(
+        totals[6..],
+        [
+            u64::MAX - 1,
+            u64::MAX - 1,
+            u64::MAX - 1,
+            u64::MAX - 1,
+            u64::MAX - 3
+        ]
+    );
 }
 
 #[test]

@@ -3,7 +3,7 @@
 //! The path of the vectors file is the first argument. The lent tables and buffers hold other values
 //! before each call, and what they hold afterwards is checked as well.
 
-use plain::write_sheet;
+use plain::{account, write_sheet, Totals};
 use plain::{correct_title, find, find_own, judge, read_tree, resolve, resource, voice_count};
 use plain::{utf16_to_utf8, utf8_to_utf16};
 use plain::{Field, Refusal};
@@ -54,6 +54,9 @@ fn run(line: &str) -> Option<String> {
     let (case, _) = line.split_once(" => ")?;
     let mut words = case.split_whitespace();
     let command = words.next()?;
+    if command == "bytessum" {
+        return sum(words);
+    }
     let mut file = bytes(words.next()?)?;
     if command.starts_with("utf") {
         let room = words.next()?.parse().ok()?;
@@ -121,6 +124,8 @@ fn run(line: &str) -> Option<String> {
                 .map(|count| format!("ok {count}"))
         }
         "verdict" => judge(&file, &mut nodes, &mut items).map(|verdict| format!("ok {verdict}")),
+        "bytes" => account(&file, &mut nodes, &mut items, &mut Totals::default())
+            .map(|counts| format!("ok {}", joined(&counts).replace(',', " "))),
         "sheet" => {
             let mut sheet = vec![0xEE; words.next()?.parse().ok()?];
             let written = write_sheet(&file, &mut nodes, &mut items, &mut sheet);
@@ -159,6 +164,38 @@ fn run(line: &str) -> Option<String> {
             false => "the tables aren't cleared".to_string(),
         },
     })
+}
+
+/// Runs one case of sums over files: the words lent, the totals, and the files.
+fn sum<'a>(mut words: impl Iterator<Item = &'a str>) -> Option<String> {
+    let node_words = words.next()?.parse().ok()?;
+    let item_words = words.next()?.parse().ok()?;
+    let mut totals = Totals::default();
+    let given = words.next()?;
+    if given != "-" {
+        let given: Option<Vec<u64>> = given.split(',').map(|word| word.parse().ok()).collect();
+        let [files, refused, kinds @ ..]: [u64; 11] = given?.try_into().ok()?;
+        totals = Totals {
+            files,
+            refused,
+            kinds,
+        };
+    }
+    let mut answer = "ok".to_string();
+    for file in words {
+        let mut nodes = vec![STALE; node_words];
+        let mut items = vec![STALE; item_words];
+        let counts = account(&bytes(file)?, &mut nodes, &mut items, &mut totals);
+        answer += &match counts {
+            Ok(counts) => format!(" ok:{}", joined(&counts)),
+            Err(Refusal { number, place }) => format!(" R:{number}:{place}"),
+        };
+    }
+    let left = joined(&totals.kinds).replace(',', " ");
+    Some(format!(
+        "{answer} T {} {} {left}",
+        totals.files, totals.refused
+    ))
 }
 
 /// Runs one case of a conversion.

@@ -1,0 +1,13 @@
+pub mod Places
+pub mod Spent
+pub mod Front
+pub mod File
+pub mod ByRows
+pub mod Whole
+pub mod Exact
+pub mod Folding
+pub mod Ways
+pub mod Exits
+pub mod Listed
+pub mod Words
+pub mod ByPlace

@@ -1,0 +1,6 @@
+pub mod Account
+pub mod ByRows
+pub mod ByPlace
+pub mod Totals
+pub mod Told
+pub mod Worked

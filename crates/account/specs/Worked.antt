@@ -1,0 +1,80 @@
+-- The account of two files, computed in one test: the worked file, and one with nodes and bytes outside the tree, which has all nine kinds, place by place; what is
+-- refused; and the totals.
+-- Assumes nothing.
+use mathlib.Core.Path.{_≡_, refl}
+use mathlib.Core.List.{List, [], _∷_, _++_}
+use Prim.Native.Nat.{ℕ, zero, suc, _+_}
+use lib.ListN.{length, take, replicate}
+use Rattle.cursor.specs.Machine.{run, trace, rowsOf, _>>=_, _>>_, if_then_else_, place, skip, check, turns, many, times}
+use Rattle.cursor.specs.Leaves.{next, digits, number, block, manufacturer, guid}
+use Rattle.cursor.specs.Rows.{Events}
+use Rattle.header.specs.Types.{formatOf}
+use Rattle.header.specs.Header.{four, opening, edition, fileLength, entry, typesTable, extent, header}
+use Rattle.metadata.specs.Tables.{limits, fullNodes, fullItems}
+use Rattle.metadata.specs.Metadata.{field, contents, itemFrame, universal, declaredFormat, version, rowsFor, item, nextItem, metaItems, metadata}
+use Rattle.node.specs.Node.{headerLength, head, value, identifier, unpacker, entries, unpackers, resource, nodePlace, uriPlace, target, reference, rest, front}
+use Rattle.tree.specs.Tree as tree
+use Rattle.tree.specs.Tree.{folder, node}
+use Rattle.tree.specs.Reading.{Reading, rows, refusal, logged, startsAt, offsetAt, lost, outside, partEnd, takenFrom, detachedAt, reach, follow, reading, readTree, readFile}
+use Rattle.tree.specs.Asking.{Result, good, bad, ask}
+use Rattle.tree.specs.Hidden.{isHidden}
+use Rattle.account.specs.Account.{kindAt, places, eventsOf, kindsOf}
+use Rattle.account.specs.Totals.{allowed, totalsLeft}
+use Rattle.account.specs.Told.{totalWords}
+use Rattle.account.specs.declared.Kinds.{Kinds}
+use Rattle.account.specs.declared.Totals.{Totals}
+
+-- what a file gives with full tables
+unfoldable pub given : List ℕ → Result Kinds
+given f = ask (readFile (limits fullNodes fullItems) f) (kindsOf (limits fullNodes fullItems) f)
+
+-- the kinds of its places, in file order
+unfoldable pub kindsFrom : Events → (k n : ℕ) → List ℕ
+kindsFrom es k zero = []
+kindsFrom es k (suc n) = kindAt es k ∷ kindsFrom es (k + 1) n
+
+unfoldable pub kindsRead : Reading → List ℕ → List ℕ
+kindsRead (rows h ns is) f = kindsFrom (eventsOf (limits fullNodes fullItems) f h) 0 (length f)
+kindsRead (refusal n p) f = []
+
+unfoldable pub kindsIn : List ℕ → List ℕ
+kindsIn f = kindsRead (readFile (limits fullNodes fullItems) f) f
+
+-- totals of so many files, with no byte
+abbrev pub after : ℕ → Totals
+after n = record { files = n; refused = n; kinds = record { header = 0; nodes = 0; metadata = 0; visible = 0; hidden = 0; unpackers = 0; references = 0; inline = 0; rest = 0 } }
+
+-- document 01's file, mended
+abbrev pub worked : List ℕ
+worked =
+    0x58 ∷ 0x4D ∷ 0x46 ∷ 0x5F ∷ 0x32 ∷ 0x2E ∷ 0x30 ∷ 0x30 ∷ 0x00 ∷ 0x00 ∷ 0x00 ∷ 0x02 ∷ 0x00 ∷ 0x00 ∷ 0x00 ∷ 0x01 ∷ 0x38 ∷ 0x01 ∷ 0x00 ∷ 0x15 ∷ 0x37 ∷ 0x23 ∷ 0x01 ∷ 0x05 ∷ 0x00 ∷ 0x00 ∷ 0x01 ∷ 0x1D
+    ∷ 0x00 ∷ 0x1A ∷ 0x15 ∷ 0x01 ∷ 0x61 ∷ 0x00 ∷ 0x03 ∷ 0x00 ∷ 0x48 ∷ 0x69 ∷ 0x01 ∷ 0x74 ∷ 0x00 ∷ 0x03 ∷ 0x07 ∷ 0x11 ∷ 0x22 ∷ 0x00 ∷ 0x03 ∷ 0x00 ∷ 0x03 ∷ 0x06 ∷ 0x00 ∷ 0x00 ∷ 0x00 ∷ 0x01 ∷ 0xAA ∷ 0xBB ∷ []
+
+-- with two nodes outside the tree, one before it and one after it, bytes around them, and all nine kinds
+abbrev pub headerPart : List ℕ
+headerPart = 0x58 ∷ 0x4D ∷ 0x46 ∷ 0x5F ∷ 0x31 ∷ 0x2E ∷ 0x30 ∷ 0x30 ∷ 0x4C ∷ 0x06 ∷ 0x01 ∷ 0x48 ∷ 0x00 ∷ 0x02 ∷ 0x64 ∷ 0x65 ∷ 0x26 ∷ 0x39 ∷ []
+
+abbrev pub nodeBefore : List ℕ
+nodeBefore = 0x11 ∷ 0x00 ∷ 0x0E ∷ 0x06 ∷ 0x01 ∷ 0x74 ∷ 0x00 ∷ 0x02 ∷ 0x07 ∷ 0x11 ∷ 0x03 ∷ 0x00 ∷ 0x05 ∷ 0x10 ∷ 0x01 ∷ 0xCC ∷ 0xDD ∷ []
+
+abbrev pub treePart : List ℕ
+treePart = 0x14 ∷ 0x02 ∷ 0x05 ∷ 0x00 ∷ 0x00 ∷ 0x01 ∷ 0x07 ∷ 0x00 ∷ 0x05 ∷ 0x00 ∷ 0x00 ∷ 0x03 ∷ 0x14 ∷ 0x07 ∷ 0x00 ∷ 0x05 ∷ 0x00 ∷ 0x00 ∷ 0x03 ∷ 0x3B ∷ []
+
+abbrev pub nodeAfter : List ℕ
+nodeAfter = 0x10 ∷ 0x00 ∷ 0x0C ∷ 0x07 ∷ 0x00 ∷ 0x03 ∷ 0x00 ∷ 0x03 ∷ 0x06 ∷ 0x00 ∷ 0x00 ∷ 0x00 ∷ 0x04 ∷ 0x02 ∷ 0x61 ∷ 0x62 ∷ []
+
+abbrev pub around : List ℕ
+around = headerPart ++ (0xAA ∷ 0xBB ∷ []) ++ nodeBefore ++ (0xEE ∷ []) ++ treePart ++ (0xFF ∷ []) ++ nodeAfter ++ (0x99 ∷ [])
+
+cases : (given worked ≡ good (record { header = 21; nodes = 6; metadata = 17; visible = 4; hidden = 2; unpackers = 2; references = 2; inline = 2; rest = 0 }))
+    × (given around ≡ good (record { header = 18; nodes = 15; metadata = 15; visible = 2; hidden = 1; unpackers = 8; references = 10; inline = 2; rest = 5 }))
+    × (kindsIn around ≡ replicate 18 0 ++ (8 ∷ 8 ∷ []) ++ (1 ∷ 1 ∷ 1 ∷ 2 ∷ 2 ∷ 2 ∷ 2 ∷ 2 ∷ 2 ∷ 4 ∷ 5 ∷ 5 ∷ 5 ∷ 5 ∷ 6 ∷ 7 ∷ 7 ∷ []) ++ (8 ∷ [])
+    ++ (1 ∷ 1 ∷ 1 ∷ 2 ∷ 5 ∷ 6 ∷ 1 ∷ 1 ∷ 1 ∷ 2 ∷ 5 ∷ 6 ∷ 6 ∷ 1 ∷ 1 ∷ 1 ∷ 2 ∷ 5 ∷ 6 ∷ 6 ∷ []) ++ (8 ∷ []) ++ (1 ∷ 1 ∷ 1 ∷ 2 ∷ 2 ∷ 2 ∷ 2 ∷ 2 ∷ 2 ∷ 3 ∷ 3 ∷ 5 ∷ 6 ∷ 6 ∷ 6 ∷ 6 ∷ []) ++ (8 ∷ []))
+    × (given (take 55 worked) ≡ bad 5 16)
+    × (allowed (after 999) (given worked) ≡ given worked)
+    × (allowed (after 1000) (given worked) ≡ bad 32 0)
+    × (totalWords (totalsLeft (after 0) (given worked)) ≡ 1 ∷ 0 ∷ 21 ∷ 6 ∷ 17 ∷ 4 ∷ 2 ∷ 2 ∷ 2 ∷ 2 ∷ 0 ∷ [])
+    × (totalWords (totalsLeft (after 1) (given (take 55 worked))) ≡ 2 ∷ 2 ∷ 0 ∷ 0 ∷ 0 ∷ 0 ∷ 0 ∷ 0 ∷ 0 ∷ 0 ∷ 0 ∷ [])
+    × (totalWords (totalsLeft (after 1000) (given worked)) ≡ 1000 ∷ 1000 ∷ 0 ∷ 0 ∷ 0 ∷ 0 ∷ 0 ∷ 0 ∷ 0 ∷ 0 ∷ 0 ∷ [])
+unfolding run trace rowsOf _>>=_ _>>_ if_then_else_ place skip check turns many times next digits number block manufacturer guid formatOf four opening edition fileLength entry typesTable extent header field contents itemFrame universal declaredFormat version rowsFor item nextItem metaItems metadata headerLength head value identifier unpacker entries unpackers resource nodePlace uriPlace target reference rest front folder node tree.tree startsAt offsetAt lost logged outside partEnd takenFrom detachedAt reach follow tree.detached reading readTree readFile ask isHidden kindAt places eventsOf kindsOf allowed totalsLeft given kindsFrom kindsRead kindsIn
+cases = (refl, refl, refl, refl, refl, refl, refl, refl, refl)

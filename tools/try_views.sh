@@ -1,0 +1,59 @@
+#!/bin/sh
+# Tries the views of the account of a file's bytes: share/chart.awk (bars) and share/map.awk (a picture). Status 0 only if every try went well.
+set -u
+root=$(CDPATH= cd -- "$(dirname -- "$0")/.." && pwd -P) || exit 1
+work=$(mktemp -d) || exit 1
+trap 'rm -rf "$work"' EXIT
+failed=0
+
+# expect WHAT: the status of the command before it must be 0
+expect() {
+    if [ "$2" -eq 0 ]; then
+        echo "ok: $1"
+    else
+        echo "FAILED: $1" >&2
+        failed=1
+    fi
+}
+
+# the counts and the runs of samples/mobile.xmf
+printf '%s\t%s\n' 'file header' 21 'node frames' 6 'metadata frames' 12 'visible data' 9 'hidden data' 0 'unpackers' 2 'references' 2 'inline resources' 63 'all else' 0 'total' 115 >"$work/bytes"
+printf 'K\t%s\t%s\t%s\n' 0 21 'file header' 21 3 'node frames' 24 1 'metadata frames' 25 1 'unpackers' 26 1 'references' 27 3 'node frames' 30 6 'metadata frames' \
+    36 2 'visible data' 38 5 'metadata frames' 43 7 'visible data' 50 1 'unpackers' 51 1 'references' 52 63 'inline resources' >"$work/runs"
+
+cat >"$work/expected" <<'END'
+file header             21  18.3 % ███████
+node frames              6   5.2 % ██
+metadata frames         12  10.4 % ████
+visible data             9   7.8 % ███
+hidden data              0   0.0 %
+unpackers                2   1.7 % ▌
+references               2   1.7 % ▌
+inline resources        63  54.8 % █████████████████████▌
+all else                 0   0.0 %
+total                  115
+END
+awk -v utf8=1 -f "$root/share/chart.awk" "$work/bytes" | cmp -s - "$work/expected"
+expect 'bars' $?
+awk -v utf8=0 -f "$root/share/chart.awk" "$work/bytes" | sed 's/█/x/' | grep -q '^inline resources        63  54.8 % #####################$'
+expect 'bars without blocks' $?
+printf 'files\t2\nrefused\t2\n%s\t0\ntotal\t0\nR\t5\t16\n' 'file header' | awk -v utf8=1 -f "$root/share/chart.awk" >"$work/none" && grep -q '^file header              0   0.0 %$' "$work/none" && grep -q '^R	5	16$' "$work/none"
+expect 'a sum of no bytes, and a refusal' $?
+
+awk -v name='a <b> & c' -f "$root/share/map.awk" "$work/runs" >"$work/map.svg"
+expect 'a picture' $?
+# a run's rectangles are as wide as it has places, ten a place, and together they are the file
+grep '^<rect x="[0-9]*" y="[0-9]*" width="[0-9]*" height="14"/>$' "$work/map.svg" | sed 's/.*width="\([0-9]*\)".*/\1/' | awk '{ s += $1 } END { exit s != 1150 }'
+expect 'its rectangles add up to the file' $?
+# no rectangle lies over another, or past a row's end
+grep '^<rect x="[0-9]*" y="[0-9]*" width="[0-9]*" height="14"/>$' "$work/map.svg" | sed 's/[^0-9]*\([0-9]*\)[^0-9]*\([0-9]*\)[^0-9]*\([0-9]*\).*/\1 \2 \3/' |
+    awk '{ for (x = $1; x < $1 + $3; x += 10) if (seen[$2, x]++ || x < 64 || x >= 704) bad = 1 } END { exit bad }'
+expect 'no rectangle lies over another' $?
+grep -q '<title>places 52 to 114: inline resources, 63 bytes</title>' "$work/map.svg" && grep -q '>a &lt;b&gt; &amp; c: 115 bytes, 64 a row<' "$work/map.svg"
+expect 'titles, and a name with signs' $?
+for line in 'K	1	3	node frames' 'K	0	0	node frames' 'K	0	3	tokens' 'R	5	16' ''; do
+    printf '%s\n' "$line" | awk -f "$root/share/map.awk" >"$work/out"
+    [ $? -eq 1 ] && [ ! -s "$work/out" ]
+    expect "no picture of '$line'" $?
+done
+exit "$failed"
