@@ -1,0 +1,13 @@
+# The lines of `check` with colours (variable color) and with the meanings of refusals (variable verbose); share is the folder of the tables.
+BEGIN {
+    FS = OFS = "\t"
+    while ((getline line <(share "/refusals.tsv")) > 0) if (split(line, part, "\t") == 4) meaning[part[1]] = part[3]
+    code["ok"] = 32
+    code["R"] = 31
+    code["too long"] = 33
+}
+{
+    tag = $1
+    if (color) $1 = "\033[" code[tag] "m" tag "\033[0m"
+    print verbose && tag == "R" ? $0 OFS meaning[$2] : $0
+}
