@@ -82,33 +82,38 @@ built_stale() { # CRATES
 # Reads what `rt` prints, and last its status; says which crate is being proved, how many are, and how long it takes about; ends with that
 # status. A crate that `rt` finds unchanged is not counted. share/seconds.tsv has the seconds; the pace is that of the crates that are done.
 built_follow() { # CRATES
-    awk -v prefix="$prefix" -v crates="$1" -v terminal="$([ -t 2 ] && echo 1)" '
-        function now(t) { "date +%s" | getline t; close("date +%s"); return t }
-        function about(s) { return s < 90 ? int(s / 10 + 1) * 10 " s" : int(s / 60 + 0.5) " min" }
-        function tell(k, rest, name) {
-            for (k = count; k > 0; k--) if (list[k] in left) { name = list[k]; rest += seconds[name] }
-            if (name == "") return
-            printf terminal ? "\r%s: proving %s, %d of %d, about %s left\033[K" : "%s: proving %s, %d of %d, about %s left\n", \
-                prefix, name, finished + 1, total, about(gone ? rest * (now() - began) / gone : rest / 2) >"/dev/stderr"
-        }
-        BEGIN {
-            total = count = split(crates, list, " ")
-            for (k = 1; k <= count; k++) { left[list[k]] = 1; seconds[list[k]] = 20 }
-            while ((getline line <"share/seconds.tsv") > 0) if (split(line, part, "\t") == 2) seconds[part[1]] = part[2]
-            began = now()
-            tell()
-        }
-        /^rt: .* proved/ && $2 in left {
-            delete left[$2]
-            if (/unchanged/) total--
-            else { finished++; gone += seconds[$2] }
-            tell()
-        }
-        /^status / { status = $2; ended = 1 }
-        END {
-            if (terminal) printf "\r\033[K" >"/dev/stderr"
-            exit ended ? status : 1
-        }'
+    left=" $1 " finished=0 gone=0 began=$(date +%s)
+    built_tell
+    while IFS= read -r line; do
+        case $line in
+        'rt: '*' proved'*)
+            name=${line#rt: } && name=${name%% *}
+            case $left in *" $name "*) ;; *) continue ;; esac
+            left="${left%%" $name "*} ${left#*" $name "}"
+            case $line in *unchanged*) ;; *) finished=$((finished + 1)) gone=$((gone + $(built_seconds "$name"))) ;; esac
+            built_tell
+            ;;
+        'status '*)
+            [ ! -t 2 ] || printf '\r\033[K' >&2
+            return "${line#status }"
+            ;;
+        esac
+    done
+    return 1
+}
+
+built_seconds() { awk -v names="$1" 'BEGIN { n = split(names, name, " ") } { s[$1] = $2 } END { for (; n; n--) t += s[name[n]] ? s[name[n]] : 20; print t + 0 }' share/seconds.tsv; } # CRATES
+
+# One line, on a terminal the same one again.
+built_tell() {
+    # shellcheck disable=SC2086
+    set -- $left
+    [ $# -gt 0 ] || return
+    rest=$(built_seconds "$left")
+    if [ "$gone" -gt 0 ]; then rest=$((rest * ($(date +%s) - began) / gone)); else rest=$((rest / 2)); fi
+    if [ "$rest" -lt 90 ]; then rest="$((rest / 10 * 10 + 10)) s"; else rest="$(((rest + 30) / 60)) min"; fi
+    line="proving $1, $((finished + 1)) of $((finished + $#)), about $rest left"
+    if [ -t 2 ]; then printf '\r%s: %s\033[K' "$prefix" "$line" >&2; else built_say "$line"; fi
 }
 
 # Makes it, in the repository's folder.
@@ -125,7 +130,7 @@ built_make() { # NAME
     stale=$(built_stale "$crates")
     built_say "$why: building"
     if {
-        rt "$command" "$1" 2>&1 </dev/null
+        rt "$verb" "$1" 2>&1 </dev/null
         echo "status $?"
     } | tee "$mark.log" | built_follow "$stale" && [ -f "$result" ]; then
         # what changed meanwhile was perhaps not built
@@ -142,15 +147,16 @@ built_make() { # NAME
 
 built() { # NAME
     case $1 in
-    capi) result=target/staticlib/libcapi.a command=staticlib ;;
-    *) result=target/bin/$1 command=check ;;
+    capi) result=target/staticlib/libcapi.a verb=staticlib ;;
+    *) result=target/bin/$1 verb=check ;;
     esac
     mark=target/built/$1
     IFS= read -r pinned <"$root/share/kit" || return 1
     built_look
     [ -n "$why" ] || return 0
+    root=$(CDPATH='' cd -- "$root" && pwd -P) || return 1
     (
-        CDPATH='' cd -- "$root" && root=$(pwd -P) || exit 1
+        cd -- "$root" || exit 1
         if ! mkdir -p target/built 2>/dev/null || [ ! -w target ] || [ ! -w target/built ]; then
             built_say "$why, and you may not write to $root/target: $(stat -c %U .) has to run $root/tools/build.sh $1"
             exit 1

@@ -83,6 +83,7 @@ function finish(k) {
     if (hidden) print many(hidden, "item") (hidden == 1 ? " is" : " are") " hidden and not shown"
     if (verdict != "") print verdict == 0 ? paint(32, "Mobile XMF: all checks hold") : paint(33, "not Mobile XMF") ": " check[verdict]
     needs()
+    if (unreadable != "") print "what the tune needs is not readable: refusal " unreadable
     begun = 0
 }
 
@@ -96,7 +97,7 @@ $1 == "XMF" {
     hidden = $5
     verdict = ""
     descriptions = next_described = 0
-    last = ""
+    last = unreadable = ""
     split("", holds)
     split("", items_of)
     split("", needed)
@@ -125,6 +126,11 @@ $1 == "C" {
         needed[next_described] = 1
     }
     count[next_described, $4] = $5
+}
+# what the tune needs may be refused of a file that is shown
+$1 == "R" && begun {
+    unreadable = $2 " at " $3
+    next
 }
 $1 == "R" {
     print paint(31, "refused " $2 " at " $3) ": " meaning[$2]

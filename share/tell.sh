@@ -5,9 +5,7 @@ unwritten() { fail 'standard output: the answer could not be written'; }
 case ${command?} in
 '') fail 'no command; xmf help lists them' ;;
 help | --help | -h)
-    [ "$command" != help ] || [ "${1-}" != help ] || shift
-    [ "${1-}" != --help ] || shift
-    awk -v command="${1-}" -f "${share?}/help.awk" "$share/help.txt"
+    awk -v command="${1-}" -f "${share?}/help.awk" "$share/help.txt" 2>/dev/null
     case $? in
     0) ;;
     1) fail "no such command: $(shown "$1"); xmf help lists them" ;;
@@ -16,11 +14,12 @@ help | --help | -h)
     ;;
 --version)
     if [ -f "$share/VERSION" ]; then
-        cat "$share/VERSION" || unwritten
+        text=$(cat "$share/VERSION") || exit 1
     else
         . "$share/build.sh"
-        text=$(built_version) && printf '%s\n' "$text" || unwritten
+        text=$(built_version) || exit 1
     fi
+    { printf '%s\n' "$text"; } 2>/dev/null || unwritten
     ;;
 why)
     [ "${1-}" != -- ] || shift
@@ -39,7 +38,7 @@ why)
     if [ "$kind" = R ] && [ -f "$share/why-$1.txt" ]; then
         text=$(printf '%s\n' "$text" && cat "$share/why-$1.txt") || exit 1
     fi
-    printf '%s\n' "$text" || unwritten
+    { printf '%s\n' "$text"; } 2>/dev/null || unwritten
     ;;
 *) fail "no such command: $(shown "$command"); xmf help lists them" ;;
 esac

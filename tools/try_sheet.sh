@@ -292,8 +292,8 @@ try_one_write 'a sheet of 65,536 bytes' "$work/longest"
 
 # eight runs side by side, again and again
 eight='1 2 3 4 5 6 7 8'
-for i in $eight $eight $eight; do
-    for j in $eight; do "$sheet" "$root/samples/cut.xmf" & done
+for _ in $eight $eight $eight; do
+    for _ in $eight; do "$sheet" "$root/samples/cut.xmf" & done
     wait
 done >"$work/lines"
 [ "$(wc -l <"$work/lines")" -eq 192 ] && [ "$(sort -u "$work/lines")" = "R${tab}5${tab}16" ]
@@ -451,7 +451,7 @@ touch "$copy/crates/tree/src/lib.rt"
 cp -p "$copy/target/built/xmf_sheet" "$work/mark"
 run_copy
 judge 'times alone' '' 0
-[ "$copy/target/built/xmf_sheet" -nt "$work/mark" ]
+[ -n "$(find "$copy/target/built/xmf_sheet" -newer "$work/mark")" ]
 count $? 'times alone, the mark is renewed'
 rm "$copy/target/built/xmf_sheet"
 run_copy
