@@ -1,10 +1,10 @@
 # The sheet for people; after share/safe.awk. Over what `xmf` prints for `show`: of each file F with its name, the sheet, the verdict (V) and what the
-# tune needs (C), or one line. Variables: share, the folder of the tables; several, 1 if there is more than one file; color, 1 for colours.
+# tune needs (C), or one line. The environment's XMF_SHARE is the folder of the tables. Variables: several, 1 if there is more than one file; color, 1 for colours.
 BEGIN {
     FS = "\t"
-    while ((getline line <(share "/fields.tsv")) > 0) if (split(line, part, "\t") == 2) field[part[1]] = part[2]
-    while ((getline line <(share "/checks.tsv")) > 0) if (split(line, part, "\t") == 2) check[part[1]] = part[2]
-    while ((getline line <(share "/refusals.tsv")) > 0) if (split(line, part, "\t") == 4) { meaning[part[1]] = part[3]; advice[part[1]] = part[4] }
+    while ((getline line <(ENVIRON["XMF_SHARE"] "/fields.tsv")) > 0) if (split(line, part, "\t") == 2) field[part[1]] = part[2]
+    while ((getline line <(ENVIRON["XMF_SHARE"] "/checks.tsv")) > 0) if (split(line, part, "\t") == 2) check[part[1]] = part[2]
+    while ((getline line <(ENVIRON["XMF_SHARE"] "/refusals.tsv")) > 0) if (split(line, part, "\t") == 4) { meaning[part[1]] = part[3]; advice[part[1]] = part[4] }
     split("General MIDI voices,Mobile DLS voices,Mobile DLS voices with filter and vibrato,KB of wavetable memory,KB of uncompressed wavetable memory", standard, ",")
     for (i = 0; i < 16; i++) hex[substr("0123456789abcdef", i + 1, 1)] = i
     for (i = 32; i < 127; i++) byte[sprintf("%c", i)] = i

@@ -375,9 +375,8 @@ done
 echo 'R~18~0' | ask 2 '' resolve worked.xmf 99999999999999999999
 ask_unmade 'xmf: --bytes: no even number of hex digits' title worked.xmf 0 --bytes 123
 ask_unmade 'xmf: --bytes: no even number of hex digits' title worked.xmf 0 --bytes 0g
-run "$xmf" find worked.xmf 0 X 1
-[ "$status" -eq 1 ] && [ ! -s "$work/got" ] && [ -s "$work/error" ]
-count $? 'find, a kind of field that there is not'
+ask_none 1 "$(usage find 'a field is S and a number, or C and a name')" find worked.xmf 0 X 1
+ask_none 1 "$(usage find 'a field is S and a number, or C and a name')" find worked.xmf 0 S ''
 
 # ---- help: every command has one, of at most 20 lines; the manual and the completions have every command
 
