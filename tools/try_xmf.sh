@@ -779,7 +779,7 @@ if [ "$(id -u)" -eq 0 ] && mkdir "$work/disk" && mount -t tmpfs -o size=16k tmpf
     [ $? -eq 1 ] && [ -s "$work/error" ]
     count $? 'a full disk at standard output'
     rm "$work/disk/out"
-    # a full TMPDIR changes nothing
+    # a full TMPDIR changes nothing, but for show of what is no regular file
     "$xmf" sheet worked.xmf >"$work/wanted"
     run env TMPDIR="$work/disk" "$xmf" sheet worked.xmf
     judge 'a full TMPDIR, sheet' '' 0
@@ -791,8 +791,10 @@ if [ "$(id -u)" -eq 0 ] && mkdir "$work/disk" && mount -t tmpfs -o size=16k tmpf
     "$xmf" show mobile.xmf >"$work/wanted"
     run env TMPDIR="$work/disk" "$xmf" show mobile.xmf
     judge 'a full TMPDIR, show' '' 0
+    # what can be read only once is held there
     run env TMPDIR="$work/disk" "$xmf" show - <mobile.xmf
-    judge 'a full TMPDIR, show of standard input' '' 0
+    [ "$status" -eq 1 ] && grep -qx 'xmf: -: could not be held in a temporary file' "$work/error" && [ "$(ls "$work/disk")" = full ]
+    count $? 'a full TMPDIR, show of standard input'
     rm "$work/disk/full"
     ask_none 0 "$changed" title worked.xmf 0 Hello -o "$work/disk/new"
     umount "$work/disk"
@@ -829,6 +831,10 @@ run_copy
 judge 'the first use' "$(building target/bin/xmf "$crates" 'target/bin/xmf is not there' xmf)" 0
 run_copy
 judge 'the second use' '' 0
+echo '// changed' >>"$copy/crates/tree/src/lib.rt"
+on_terminal env PATH="$work/bin:$PATH" "$copy/xmf" check worked.xmf
+[ "$status" -eq 0 ] && grep -q "$(printf '\r')xmf: proving tree, 1 of [0-9]*, about [0-9]* [a-z]* left" "$work/got" && [ "$(grep -c proving "$work/got")" -eq 1 ]
+count $? 'a build on a terminal is one line that is redrawn'
 for command in 'why 8' help --version; do
     rm -f "$work/calls"
     # shellcheck disable=SC2086
@@ -872,7 +878,7 @@ if [ -f "$root/target/staticlib/libcapi.a" ]; then
     judge 'install --check' '' 0
     # the same answers, with no rt, from a place that is read-only, by every user
     mkdir "$work/usual"
-    for command in sh awk cat cmp env dirname ln mv readlink rm; do ln -s "$(command -v "$command")" "$work/usual"; done
+    for command in sh awk cat cmp env dirname head ln mktemp mv readlink rm; do ln -s "$(command -v "$command")" "$work/usual"; done
     chmod -R a-w "$prefix"
     user=
     if [ "$(id -u)" -eq 0 ] && command -v setpriv >/dev/null; then user=other; fi
