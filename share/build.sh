@@ -9,12 +9,13 @@
 
 built_say() { printf '%s: %s\n' "${prefix?}" "$1" >&2; }
 
-# Looks among all that a build of these crates depends on.
+# Looks among all that a build of these crates depends on; becomes find, so it stands in $(..) or in a pipeline.
 built_find() { # CRATES TEST..
     list=$1
     shift
-    # shellcheck disable=SC2046,SC2086
-    (CDPATH='' cd -- "${root?}" && exec find crates.txt $(printf 'crates/%s ' $list) -name must-fail -prune -o "$@") 2>&1
+    set -- -name must-fail -prune -o "$@"
+    for crate in $list; do set -- "crates/$crate" "$@"; done
+    CDPATH='' cd -- "${root?}" && exec find crates.txt "$@" 2>&1
 }
 
 built_newer() { built_find "$1" \( -newer "$2" -o -cnewer "$2" \) -print -quit; } # CRATES FILE
