@@ -1,5 +1,5 @@
 # shellcheck shell=sh
-# Sourced by xmf: how the program is run. Each of these ends with the command's status: run, view, tell, make.
+# Sourced by xmf: how the program is run. `tell`, `view`, `give` and `make` end with the command's status.
 
 # Runs the program and ends with its status, which is the digit that it writes to descriptor 3.
 run() { # WORD..
@@ -24,8 +24,17 @@ view() { # FILTER WORD..
         printf ,%s $? >&5
     } 5>&1)"
 }
-# A text: on a terminal with the meaning of a refusal.
+# A text, on a terminal with the meaning of a refusal.
 tell() { if [ -t 1 ]; then view meaning.awk "$@"; else run "$@"; fi; } # WORD..
+# Bytes; a refusal's line is on standard error, on a terminal with its meaning.
+give() { # WORD..
+    [ -t 2 ] || run "$@"
+    exec 4>&1 6>&2
+    finish "$({
+        { "$core" --status=3 "$@" 3>&5 2>&1 >&4 4>&- 5>&- 6>&-; printf ,%s $? >&5; } | XMF_SHARE=$share LC_ALL=C awk -f "$share/meaning.awk" >&6 2>&6 4>&- 5>&- 6>&-
+        printf ,%s $? >&5
+    } 5>&1)"
+}
 finish() { # STATUS,PROGRAM,FILTER
     case $1 in
     [0-3],0,0) exit "${1%%,*}" ;;
@@ -42,17 +51,17 @@ make() { # FILE WORD..
         [ "$file" != - ] || file=/dev/stdin
         # shellcheck disable=SC3013 # dash, bash and busybox have -ef
         if [ -f /dev/stdout ] && [ "$file" -ef /dev/stdout ]; then fail 'standard output is the file itself: nothing was written'; fi
-        run "$@" out -
+        give "$@" out -
     fi
     [ -n "$new" ] || usage 'the name after -o is missing or empty'
     if has -f; then
         if [ -h "$new" ] || { [ -e "$new" ] && [ ! -f "$new" ]; }; then fail "$(shown "$new"): not a regular file: nothing was written"; fi
-        run "$@" over "$new"
+        give "$@" over "$new"
     fi
     if [ -h "$new" ] || [ -e "$new" ]; then fail "$(shown "$new"): File exists"; fi
     part=$new.xmf-$$
     trap 'rm -f -- "$part" "$part".xmf-*; exit 1' HUP INT TERM
-    (run "$@" over "$part")
+    (give "$@" over "$part")
     status=$?
     if [ "$status" -eq 0 ] && ! ln -T -- "$part" "$new" 2>/dev/null; then
         # the name is taken by now, or this file system has no links

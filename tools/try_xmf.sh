@@ -326,6 +326,14 @@ END
 printf 'R\t5\t16\nxmf: refusal 5: the length in the header is not the number of bytes received (xmf why 5)\n' >"$work/wanted"
 on_terminal "$xmf" sheet cut.xmf
 judge 'a refusal on a terminal' '' 2
+printf 'R\t37\t0\nxmf: refusal 37: the content to be corrected is hidden, or one of several versions (xmf why 37)\n' >"$work/wanted"
+on_terminal "$xmf" title worked.xmf 1 x -o "$work/none"
+judge 'a refusal of bytes on a terminal' '' 2
+printf 'title\tHi\tHello\nlength\t56\t59\n' >"$work/wanted"
+on_terminal "$xmf" title worked.xmf 0 Hello -o "$work/on-terminal"
+judge 'a new file on a terminal' '' 0
+cmp -s "$work/hello" "$work/on-terminal"
+count $? 'a new file on a terminal, what is in it'
 "$xmf" sheet worked.xmf >"$work/wanted"
 on_terminal "$xmf" sheet worked.xmf
 judge 'a sheet on a terminal' '' 0
@@ -795,6 +803,11 @@ if [ "$(id -u)" -eq 0 ] && mkdir "$work/disk" && mount -t tmpfs -o size=16k tmpf
     run env TMPDIR="$work/disk" "$xmf" show - <mobile.xmf
     [ "$status" -eq 1 ] && grep -qx 'xmf: -: could not be held in a temporary file' "$work/error" && [ "$(ls "$work/disk")" = full ]
     count $? 'a full TMPDIR, show of standard input'
+    if [ -f "$root/target/staticlib/libcapi.a" ]; then
+        run "$root/install" "$work/disk/prefix"
+        [ "$status" -eq 1 ] && [ -s "$work/error" ] && [ -z "$(find "$work/disk" -type f ! -name full)" ]
+        count $? 'a full disk at an installation: no half of a file is left'
+    fi
     rm "$work/disk/full"
     ask_none 0 "$changed" title worked.xmf 0 Hello -o "$work/disk/new"
     umount "$work/disk"
