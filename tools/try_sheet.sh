@@ -2,51 +2,15 @@
 # Tries ./sheet and the program `xmf_sheet` that it runs: files of each kind, statuses, names, several files, links, a terminal, and
 # builds. Needs python3, which makes some of the files. The program is built first if need be. The last line is `N passed, M failed`.
 #
-# The builds are tried in a copy of the repository with a stand-in for `rt`, since a real one proves for minutes: the stand-in
-# prints what `rt` prints and copies the program and the archive that are built here.
+# The builds are tried in a copy of the repository with a stand-in for `rt` (tools/harness.sh).
 set -u
 
-root=$(CDPATH= cd -- "$(dirname -- "$0")/.." && pwd -P) || exit 1
+root=$(CDPATH='' cd -- "$(dirname -- "$0")/.." && pwd -P) || exit 1
 sheet=$root/sheet
 program=$root/target/bin/xmf_sheet
 archive=$root/target/staticlib/libcapi.a
 "$root/tools/build.sh" xmf_sheet || exit 1
-work=$(mktemp -d) || exit 1
-trap 'rm -rf "$work"' EXIT
-passed=0
-failed=0
-tab=$(printf '\t')
-# errno's text in English
-LC_ALL=C
-export LC_ALL
-
-# Counts a check by its status.
-count() { # STATUS NAME
-    if [ "$1" -eq 0 ]; then
-        passed=$((passed + 1))
-    else
-        failed=$((failed + 1))
-        echo "$2: failed"
-    fi
-}
-
-# Runs a command: standard output to the file `got`, standard error to `error`, and its status.
-run() { # COMMAND..
-    "$@" >"$work/got" 2>"$work/error"
-    status=$?
-}
-
-# Counts a run: standard output must be as the file `wanted`, standard error as these lines, and the status this one.
-judge() { # NAME ERROR STATUS
-    if cmp -s "$work/wanted" "$work/got" && [ "$(cat "$work/error")" = "$2" ] && [ "$status" -eq "$3" ]; then
-        passed=$((passed + 1))
-    else
-        failed=$((failed + 1))
-        echo "$1: failed, status $status"
-        diff "$work/wanted" "$work/got" | cut -c1-200 | head -5
-        cat "$work/error"
-    fi
-}
+. "$root/tools/harness.sh"
 
 # Tries a file by its name and on standard input, with the program, whose status is 0, and with the command.
 try() { # NAME FILE STATUS
@@ -328,8 +292,8 @@ try_one_write 'a sheet of 65,536 bytes' "$work/longest"
 
 # eight runs side by side, again and again
 eight='1 2 3 4 5 6 7 8'
-for i in $eight $eight $eight; do
-    for j in $eight; do "$sheet" "$root/samples/cut.xmf" & done
+for _ in $eight $eight $eight; do
+    for _ in $eight; do "$sheet" "$root/samples/cut.xmf" & done
     wait
 done >"$work/lines"
 [ "$(wc -l <"$work/lines")" -eq 192 ] && [ "$(sort -u "$work/lines")" = "R${tab}5${tab}16" ]
@@ -349,8 +313,6 @@ try_several() { # NAME ERROR STATUS FILE..
     judge "$label" "$lines" "$wanted"
 }
 
-nl='
-'
 try_several 'two sheets' "worked.xmf:${nl}mobile.xmf:" 0 worked.xmf mobile.xmf
 try_several 'a sheet and a refusal' "worked.xmf:${nl}cut.xmf:" 2 worked.xmf cut.xmf
 try_several 'a refusal and a sheet' "cut.xmf:${nl}worked.xmf:" 2 cut.xmf worked.xmf
@@ -381,16 +343,15 @@ cp worked.xmf "$work/-x"
 run sh -c 'cd "$1" && "$2" -- -x' sh "$work" "$sheet"
 judge 'a name after --' '' 0
 
-# every row of README.md's table of refusals
-sed -n '/^## Refusals/,/^## How/s/^| \([0-9]*\) |.*/\1/p' ../README.md >"$work/numbers"
-[ "$(wc -l <"$work/numbers")" -ge 24 ]
-count $? 'the table has at least 24 rows'
-while read -r number; do
-    row=$(sed -n "/^## Refusals/,/^## How/s/^| $number | \\(.*\\) |\$/\\1/p" ../README.md)
-    printf 'refusal %s: %s\nwhat to do: %s\n' "$number" "${row%% | *}" "${row#* | }" >"$work/wanted"
+# every row of the table of refusals
+grep -v '^#' ../share/refusals.tsv >"$work/rows"
+[ "$(wc -l <"$work/rows")" -eq 39 ]
+count $? 'the table has 39 rows'
+while IFS="$tab" read -r number _ meaning advice; do
+    printf 'refusal %s: %s\nwhat to do: %s\n' "$number" "$meaning" "$advice" >"$work/wanted"
     run "$sheet" --why "$number" </dev/null
     judge "why $number" '' 0
-done <"$work/numbers"
+done <"$work/rows"
 printf '%s\n' 'refusal 9: a node at depth 17' 'what to do: Ask the maker for a file with at most 16 levels.' >"$work/wanted"
 run "$sheet" --why 9
 judge 'why 9, word for word' '' 0
@@ -444,127 +405,120 @@ done
 
 # ---- builds, in a copy with a stand-in for rt
 
-# The crates that one is made of, each after those that it needs.
-crates_of() { # NAME
-    python3 - "$root/crates.txt" "$1" <<'END'
-import sys
-
-needs = {}
-for line in open(sys.argv[1]):
-    name, colon, rest = line.split("#")[0].partition(":")
-    if colon:
-        needs[name.strip()] = rest.split()
-order = []
-
-
-def visit(name):
-    if name in needs and name not in order:
-        for other in needs[name]:
-            visit(other)
-        order.append(name)
-
-
-visit(sys.argv[2])
-print(*order)
-END
-}
 program_crates=$(crates_of xmf_sheet)
 archive_crates=$(crates_of capi)
-
-# What a build says on standard error.
-building() { # RESULT CRATES REASON
-    echo "build: $3: building, which takes some minutes if much is to be proved"
-    i=0
-    for crate in $2; do
-        i=$((i + 1))
-        echo "build: proving $crate, $i of $(echo "$2" | wc -w)"
-    done
-    echo "build: $1 is built"
-}
-building_program() { building target/bin/xmf_sheet "$program_crates" "$1"; } # REASON
-building_archive() { building target/staticlib/libcapi.a "$archive_crates" "$1"; } # REASON
-
-copy=$work/copy
-mkdir "$copy" "$work/bin"
-cp -R "$root/sheet" "$root/tools" "$root/samples" "$root/examples" "$root/include" "$root/crates.txt" "$root/crates" "$root/README.md" "$copy"
-cat >"$work/bin/rt" <<END
-#!/bin/sh
-cat >/dev/null # would take a file on standard input away
-echo "\$*" >>"$work/calls"
-[ ! -f "$work/slow" ] || sleep 2
-if [ -f "$work/broken" ]; then
-    echo 'rt: tree NOT PROVED'
-    exit 1
-fi
-case \$1 in
-check)
-    for name in $program_crates; do echo "rt: \$name proved (1 s)"; done
-    mkdir -p target/bin && cp "$program" target/bin
-    ;;
-staticlib)
-    for name in $archive_crates; do [ "\$name" = capi ] || echo "rt: \$name proved (1 s)"; done
-    mkdir -p target/staticlib
-    if [ -f "$archive" ]; then cp "$archive" target/staticlib; else : >target/staticlib/libcapi.a; fi
-    ;;
-esac
-END
-chmod +x "$work/bin/rt"
+building_program() { building target/bin/xmf_sheet "${2-$program_crates}" "$1"; }             # REASON [CRATES]
+building_archive() { building target/staticlib/libcapi.a "${2-$archive_crates}" "$1"; } # REASON [CRATES]
+make_copy sheet examples include
 ln -s "$copy/sheet" "$work/links/copied"
 
 # Runs the copy's command, from its link, on the worked file on standard input.
-run_copy() { run env PATH="$work/bin:$PATH" "$work/links/copied" <worked.xmf; }
+run_copy() {
+    run copied "$work/links/copied" <worked.xmf
+    untimed
+}
 
 "$program" worked.xmf >"$work/wanted"
 run_copy
 judge 'the first use' "$(building_program 'target/bin/xmf_sheet is not there')" 0
 run_copy
 judge 'the second use' '' 0
-touch "$copy/crates/tree/src/lib.rt"
+newer='is newer than target/bin/xmf_sheet'
+above_tree=$(crates_of xmf_sheet tree)
+echo '// changed' >>"$copy/crates/tree/src/lib.rt"
 run_copy
-judge 'a newer source' "$(building_program 'crates/tree/src/lib.rt is newer than target/bin/xmf_sheet')" 0
+judge 'a changed source' "$(building_program "crates/tree/src/lib.rt $newer" "$above_tree")" 0
+# as cp -p, tar x and rsync -a leave it
+echo '// changed again' >>"$copy/crates/tree/src/lib.rt"
+touch -d 2001-01-01 "$copy/crates/tree/src/lib.rt"
+run_copy
+judge 'a changed source with an old time' "$(building_program "crates/tree/src/lib.rt $newer" "$above_tree")" 0
 : >"$copy/crates/cursor/proofs/New.antt"
 run_copy
-judge 'a new proof' "$(building_program 'crates/cursor/proofs is newer than target/bin/xmf_sheet')" 0
+judge 'a new proof' "$(building_program "crates/cursor/proofs $newer")" 0
 rm "$copy/crates/cursor/proofs/New.antt"
 run_copy
-judge 'a file that is gone' "$(building_program 'crates/cursor/proofs is newer than target/bin/xmf_sheet')" 0
-touch "$copy/crates.txt"
+judge 'a file that is gone' "$(building_program "crates/cursor/proofs $newer")" 0
+echo '# changed' >>"$copy/crates.txt"
 run_copy
-judge 'a newer list of crates' "$(building_program 'crates.txt is newer than target/bin/xmf_sheet')" 0
-touch "$copy/crates/find/src/lib.rt" "$copy/README.md"
+judge 'a changed list of crates' "$(building_program "crates.txt $newer" '')" 0
+echo '// changed' >>"$copy/crates/find/src/lib.rt"
+: >"$copy/crates/tree/must-fail/new.edit"
+echo changed >>"$copy/README.md"
 run_copy
 judge 'what the program is not made of' '' 0
+touch "$copy/crates/tree/src/lib.rt"
+cp -p "$copy/target/built/xmf_sheet" "$work/mark"
+run_copy
+judge 'times alone' '' 0
+[ -n "$(find "$copy/target/built/xmf_sheet" -newer "$work/mark")" ]
+count $? 'times alone, the mark is renewed'
 rm "$copy/target/built/xmf_sheet"
 run_copy
-judge 'built by hand' "$(building_program 'it is not known what target/bin/xmf_sheet was built from')" 0
+judge 'built by hand' "$(building_program 'it is not known what target/bin/xmf_sheet was built from' "$above_tree")" 0
 rm "$copy/target/bin/xmf_sheet"
 run_copy
-judge 'the program is gone' "$(building_program 'target/bin/xmf_sheet is not there')" 0
-[ "$(sort -u "$work/calls")" = 'check xmf_sheet' ] && [ "$(wc -l <"$work/calls")" -eq 7 ]
+judge 'the program is gone' "$(building_program 'target/bin/xmf_sheet is not there' xmf_sheet)" 0
+[ "$(sort -u "$work/calls")" = 'check xmf_sheet' ] && [ "$(wc -l <"$work/calls")" -eq 8 ]
 count $? 'the calls of rt'
 
-touch "$copy/crates/tree/src/lib.rt" "$work/broken"
+# another kit: the program of the pinned one goes on; a build is refused, and so is a program of another kit
+echo 'another kit' >"$work/kit"
+run_copy
+judge 'another kit, a current program' '' 0
+echo '// changed for another kit' >>"$copy/crates/tree/src/lib.rt"
+cp "$work/wanted" "$work/sheet"
+: >"$work/wanted"
+run_copy
+judge 'another kit, a build' "build: crates/tree/src/lib.rt $newer, and this rt does not build it: rt version prints 'another kit', and '$(cat ../share/kit)' is needed" 1
+rm "$work/kit"
+cp "$work/sheet" "$work/wanted"
+run_copy
+judge 'the kit is back' "$(building_program "crates/tree/src/lib.rt $newer" "$above_tree")" 0
+sed -i '1s/.*/another kit/' "$copy/target/built/xmf_sheet"
+run_copy
+judge 'a program of another kit' "$(building_program 'target/bin/xmf_sheet was built with another kit, another kit' '')" 0
+
+# a user who may not write, and who has no rt: a current program answers, also where times alone changed; a stale one does not
+if [ "$(id -u)" -eq 0 ] && command -v setpriv >/dev/null; then
+    chmod 755 "$work"
+    run setpriv --reuid 65534 --regid 65534 --clear-groups "$copy/sheet" "$copy/samples/worked.xmf"
+    judge 'another user' '' 0
+    touch "$copy/crates/tree/src/lib.rt"
+    run setpriv --reuid 65534 --regid 65534 --clear-groups "$copy/sheet" "$copy/samples/worked.xmf"
+    judge 'another user, times alone' '' 0
+    echo '// changed for another user' >>"$copy/crates/tree/src/lib.rt"
+    : >"$work/wanted"
+    run setpriv --reuid 65534 --regid 65534 --clear-groups "$copy/sheet" "$copy/samples/worked.xmf"
+    judge 'another user, a stale program' "build: crates/tree/src/lib.rt $newer, and you may not write to $copy/target: $(id -un) has to run $copy/tools/build.sh xmf_sheet" 1
+else
+    echo 'not tried: another user (needs root and setpriv)'
+fi
+
+echo '// changed for a failure' >>"$copy/crates/tree/src/lib.rt"
+: >"$work/broken"
 : >"$work/wanted"
 for use in first second; do
     run_copy
-    judge "a build that fails, $use use" "build: crates/tree/src/lib.rt is newer than target/bin/xmf_sheet: building, which takes some minutes if much is to be proved
-build: proving cursor, 1 of $(echo "$program_crates" | wc -w)
-build: not built; target/built/xmf_sheet.log says why" 1
+    judge "a build that fails, $use use" "build: crates/tree/src/lib.rt $newer: building
+build: proving tree, 1 of $(echo "$above_tree" | wc -w)
+build: not built: crates/tree/src/lib.rt:1:1: error: the goal is false
+build: $copy/target/built/xmf_sheet.log has all that rt printed" 1
 done
-grep -q 'tree NOT PROVED' "$copy/target/built/xmf_sheet.log"
+grep -q 'the goal is false' "$copy/target/built/xmf_sheet.log"
 count $? 'the log of a build that fails'
 rm "$work/broken"
 
 # the usual commands but rt
 mkdir "$work/usual"
-for command in sh awk cat dd dirname env find head mkdir od readlink; do ln -s "$(command -v "$command")" "$work/usual"; done
+for command in sh awk cat cut dd dirname env find head id mkdir mv od readlink rm sed sha256sum sort stat; do ln -s "$(command -v "$command")" "$work/usual"; done
 run env PATH="$work/usual" "$copy/sheet" <worked.xmf
-judge 'no rt' "build: crates/tree/src/lib.rt is newer than target/bin/xmf_sheet, and there is no command rt to build it; README.md, 'What it needs', has what rt is" 1
+judge 'no rt' "build: crates/tree/src/lib.rt $newer, and there is no command rt to build it; README.md, 'What it needs', has what rt is" 1
 
 if command -v flock >/dev/null; then
     : >"$work/slow"
     : >"$work/calls"
-    for i in $eight; do env PATH="$work/bin:$PATH" "$copy/sheet" worked.xmf >"$work/got.$i" 2>/dev/null & done
+    for i in $eight; do copied "$copy/sheet" worked.xmf >"$work/got.$i" 2>/dev/null & done
     wait
     rm "$work/slow"
     "$program" worked.xmf >"$work/wanted"
@@ -578,18 +532,24 @@ fi
 [ ! -e "$work/links/target" ] && [ "$(find "$work/links" | wc -l)" -eq 5 ]
 count $? 'a build makes nothing beside a link'
 
-# the archive: for the example in C and for the Rust crate
+# the archive: for the example in C and for the Rust crate. What the program shares with it is proved already.
+left=
+for crate in $archive_crates; do
+    case " $program_crates " in *" $crate "*) ;; *) left="$left $crate" ;; esac
+done
 : >"$work/wanted"
-run env PATH="$work/bin:$PATH" "$copy/tools/build.sh" capi
-judge 'the archive' "$(building_archive 'target/staticlib/libcapi.a is not there')" 0
-run env PATH="$work/bin:$PATH" "$copy/tools/build.sh" capi
+run copied "$copy/tools/build.sh" capi
+untimed
+judge 'the archive' "$(building_archive 'target/staticlib/libcapi.a is not there' "$left")" 0
+run copied "$copy/tools/build.sh" capi
 judge 'the archive, second use' '' 0
 if [ -f "$archive" ] && command -v gcc >/dev/null; then
-    touch "$copy/crates/capi/src/lib.rt"
-    run env PATH="$work/bin:$PATH" "$copy/examples/c/run.sh"
+    echo '// changed' >>"$copy/crates/capi/src/lib.rt"
+    run copied "$copy/examples/c/run.sh"
+    untimed
     cp "$work/got" "$work/wanted"
-    judge 'the example in C after a change' "$(building_archive 'crates/capi/src/lib.rt is newer than target/staticlib/libcapi.a')" 0
-    run env PATH="$work/bin:$PATH" "$copy/examples/c/run.sh"
+    judge 'the example in C after a change' "$(building_archive 'crates/capi/src/lib.rt is newer than target/staticlib/libcapi.a' capi)" 0
+    run copied "$copy/examples/c/run.sh"
     judge 'the example in C again' '' 0
 else
     echo 'not tried: the example in C (needs gcc and target/staticlib/libcapi.a)'
@@ -598,7 +558,7 @@ if [ -f "$archive" ] && command -v cargo >/dev/null; then
     mkdir "$copy/rust"
     cp -R "$root/rust/Cargo.toml" "$root/rust/Cargo.lock" "$root/rust/xmf" "$root/rust/plain" "$root/rust/generate" "$root/rust/differ" "$root/rust/bench" "$copy/rust"
     for use in first second; do
-        touch "$copy/crates/capi/src/lib.rt"
+        echo '// changed' >>"$copy/crates/capi/src/lib.rt"
         run sh -c 'cd "$1/rust" && PATH=$2:$PATH cargo build --offline -p xmf' sh "$copy" "$work/bin"
         [ "$status" -eq 0 ] && grep -q 'warning: .*build: crates/capi/src/lib.rt is newer than target/staticlib/libcapi.a' "$work/error"
         count $? "the Rust crate after a change, $use use"
@@ -610,5 +570,4 @@ else
     echo 'not tried: the Rust crate (needs cargo and target/staticlib/libcapi.a)'
 fi
 
-echo "$passed passed, $failed failed"
-[ "$failed" -eq 0 ]
+summary

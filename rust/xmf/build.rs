@@ -6,9 +6,10 @@ use std::path::Path;
 use std::process::Command;
 
 /// What the archive is made from, and the archive.
-const PARTS: [&str; 4] = [
+const PARTS: [&str; 5] = [
     "crates.txt",
     "crates",
+    "share/build.sh",
     "tools/build.sh",
     "target/staticlib/libcapi.a",
 ];

@@ -1,0 +1,130 @@
+# shellcheck shell=sh
+# What the tests of the commands share; sourced by tools/try_*.sh, which set `root`, the repository's folder. They end with `summary`, whose last
+# line is `N passed, M failed`. The folder `work` is removed at the end.
+
+work=$(mktemp -d) || exit 1
+trap 'chmod -R u+w "$work"; rm -rf "$work"' EXIT
+passed=0
+failed=0
+# shellcheck disable=SC2034 # used by the tests
+tab=$(printf '\t') nl='
+'
+# errno's text in English
+LC_ALL=C
+export LC_ALL
+
+# Counts a check by its status.
+count() { # STATUS NAME
+    if [ "$1" -eq 0 ]; then
+        passed=$((passed + 1))
+    else
+        failed=$((failed + 1))
+        echo "$2: failed"
+    fi
+}
+
+# Runs a command: standard output to the file `got`, standard error to `error`, and its status.
+run() { # COMMAND..
+    "$@" >"$work/got" 2>"$work/error"
+    status=$?
+}
+
+# Counts a run: standard output must be as the file `wanted`, standard error as these lines, and the status this one.
+judge() { # NAME ERROR STATUS
+    if cmp -s "$work/wanted" "$work/got" && [ "$(cat "$work/error")" = "$2" ] && [ "$status" -eq "$3" ]; then
+        passed=$((passed + 1))
+    else
+        failed=$((failed + 1))
+        echo "$1: failed, status $status"
+        diff -a "$work/wanted" "$work/got" | cut -c1-200 | head -5
+        cat "$work/error"
+    fi
+}
+
+# A refusal line without its end.
+refused() { printf 'R\t%s\t%s' "$@"; } # NUMBER PLACE
+
+# The crates that one is made of, each after those that it needs; or only CHANGED and those of them that need it.
+crates_of() { # NAME [CHANGED]
+    python3 - "${root?}/crates.txt" "$@" <<'PYTHON'
+import sys
+
+needs = {}
+for line in open(sys.argv[1]):
+    name, colon, rest = line.split("#")[0].partition(":")
+    if colon:
+        needs[name.strip()] = rest.split()
+order = []
+
+
+def visit(name):
+    if name in needs and name not in order:
+        for other in needs[name]:
+            visit(other)
+        order.append(name)
+
+
+visit(sys.argv[2])
+changed = set(sys.argv[3:] or order)
+for name in order:
+    if changed & set(needs[name]):
+        changed.add(name)
+print(*(name for name in order if name in changed))
+PYTHON
+}
+
+# Makes a copy of the repository for builds, $work/copy, and a stand-in for `rt`, which is first on the PATH of `copied`: a real one proves for
+# minutes. It prints what `rt` prints, and copies what is built here. Files in $work steer it: `slow`, `broken`, `kit` (what it says for version).
+make_copy() { # FILE..
+    copy=$work/copy
+    mkdir -p "$copy" "$work/bin"
+    (cd "$root" && cp -R "$@" samples crates crates.txt share tools README.md "$copy") || exit 1
+    {
+        echo "#!/bin/sh"
+        echo "work='$work' root='$root'"
+        for name in xmf xmf_sheet capi; do echo "$name='$(crates_of "$name")'"; done
+        cat <<'RT'
+if [ "$1" = version ]; then
+    cat "$work/kit" 2>/dev/null || cat "$root/share/kit"
+    exit
+fi
+cat >/dev/null # would take a file on standard input away
+echo "$*" >>"$work/calls"
+[ ! -f "$work/slow" ] || sleep 2
+if [ -f "$work/broken" ]; then
+    echo 'crates/tree/src/lib.rt:1:1: error: the goal is false'
+    echo 'rt: cursor proved (unchanged since it was last proved)'
+    exit 1
+fi
+eval "crates=\$$2"
+mkdir -p target/stamp target/bin target/staticlib
+for crate in $crates; do
+    echo "rt: $crate proved (1 s)"
+    : >"target/stamp/$crate"
+done
+case $1 in
+check) cp "$root/target/bin/$2" target/bin ;;
+staticlib) cp "$root/target/staticlib/libcapi.a" target/staticlib 2>/dev/null || : >target/staticlib/libcapi.a ;;
+esac
+RT
+    } >"$work/bin/rt"
+    chmod +x "$work/bin/rt"
+}
+copied() { env PATH="$work/bin:$PATH" "$@"; } # COMMAND..
+
+# What a build says on standard error, without estimates of time.
+building() { # RESULT CRATES REASON [PREFIX]
+    echo "${4-build}: $3: building"
+    i=0
+    for crate in $2; do
+        i=$((i + 1))
+        echo "${4-build}: proving $crate, $i of $(echo "$2" | wc -w)"
+    done
+    echo "${4-build}: $1 is built"
+}
+untimed() { sed -i 's/, about [0-9]* [a-z]* left$//' "$work/error"; }
+
+summary() {
+    echo "$passed passed, $failed failed"
+    [ "$failed" -eq 0 ]
+}
