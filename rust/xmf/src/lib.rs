@@ -157,7 +157,9 @@ impl Refusal {
             19 => "resolving ends at a folder",
             20 => "resolving ends at a URI",
             21 => "a fifth reference would be followed",
-            22 => "the sheet, a resource, a converted text or the new file is longer than its buffer",
+            22 => {
+                "the sheet, a resource, a converted text or the new file is longer than its buffer"
+            }
             23 => "no such item",
             24 => {
                 "a detached node is a folder, or shares a byte with another detached node; \
