@@ -3,7 +3,7 @@
 //! `differ [CASES [SEED [FIRST [PAIRS]]]]` takes the cases from number FIRST on (a million from number
 //! 0, with seed 1, when nothing is said). For each it asks both readers all questions, with the
 //! same contents of tables and buffers before, and compares the answers, each word of both tables
-//! and each byte of the sheet. Each case also asks one question through the interface of words, with
+//! and each byte of the sheet and of a copied resource. Each case also asks one question through the interface of words, with
 //! an answer buffer of 0 to 16 words.
 //!
 //! Beside each case it converts a generated text, in UTF-16 or UTF-8, good or with a fault, by both
