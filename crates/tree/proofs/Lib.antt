@@ -16,3 +16,5 @@ pub mod Own
 pub mod Limited
 pub mod Links
 pub mod Listed
+pub mod Small
+pub mod Words

@@ -51,7 +51,7 @@ module _ {lim most : Limits} (less : Less lim most) (x : Context) where
 
 -- ---- rows of a log
 
-count-nodes : (es : Events) → count es limited.node ≡ length (nodesOf es)
+pub count-nodes : (es : Events) → count es limited.node ≡ length (nodesOf es)
 unfolding rowsOf
 count-nodes [] = refl
 count-nodes (seen κ p ∷ es) = count-nodes es
@@ -59,7 +59,7 @@ count-nodes (passed (nodeRow r) p n ∷ es) = let e = count-nodes es in omega ar
 count-nodes (passed (itemRow r) p n ∷ es) = count-nodes es
 count-nodes (passed (plain x) p n ∷ es) = count-nodes es
 
-count-items : (es : Events) → count es item ≡ length (itemsOf es)
+pub count-items : (es : Events) → count es item ≡ length (itemsOf es)
 unfolding rowsOf
 count-items [] = refl
 count-items (seen κ p ∷ es) = count-items es
@@ -67,10 +67,10 @@ count-items (passed (nodeRow r) p n ∷ es) = count-items es
 count-items (passed (itemRow r) p n ∷ es) = let e = count-items es in omega arith
 count-items (passed (plain x) p n ∷ es) = count-items es
 
-nodes-on : (log es : Events) → length (nodesOf (log ++ es)) ≡ length (nodesOf log) + length (nodesOf es)
+pub nodes-on : (log es : Events) → length (nodesOf (log ++ es)) ≡ length (nodesOf log) + length (nodesOf es)
 nodes-on log es = ap length (rows-on nodeOf log es) ∙ length-append (nodesOf log) (nodesOf es)
 
-items-on : (log es : Events) → length (itemsOf (log ++ es)) ≡ length (itemsOf log) + length (itemsOf es)
+pub items-on : (log es : Events) → length (itemsOf (log ++ es)) ≡ length (itemsOf log) + length (itemsOf es)
 items-on log es = ap length (rows-on itemOf log es) ∙ length-append (itemsOf log) (itemsOf es)
 
 abbrev pub Fits : Limits → Events → Type 0
@@ -153,11 +153,11 @@ module _ {lim most : Limits} (less : Less lim most) (f : List ℕ) (h : Header) 
   abbrev none : Rows
   none κ = 0
 
-  tree-limited : Limited (room lim) (Is lim) none (treeOf lim (length f) h) (treeOf most (length f) h)
+  pub tree-limited : Limited (room lim) (Is lim) none (treeOf lim (length f) h) (treeOf most (length f) h)
   unfolding tree
   tree-limited = node-limited less (context most h (length f)) 16 0 (inTree (h .extent .last + 1) (h .extent .last + 1)) (record { nodes = 0; items = 0 }) none (refl, refl, omega arith, omega arith)
 
-  target-limited : (log : Events) (r : Node) → Fits lim log → Limited (room lim) (Is lim) (rowsIn log) (target lim f h log r) (target most f h log r)
+  pub target-limited : (log : Events) (r : Node) → Fits lim log → Limited (room lim) (Is lim) (rowsIn log) (target lim f h log r) (target most f h log r)
   unfolding detachedAt detached
   target-limited log r l = node-limited less (context most h (length f)) 17 _ _ (madeBy log) (rowsIn log) (refl, refl, l .0, l .1)
 
