@@ -32,7 +32,8 @@ sheet-is : (second : Bool) {f : List ℕ} {o : Reading} {s : Summary} {t u : Lis
 sheet-is second {f} {s = s} st =
     ap₂ (λ (ns : List Node) (is : List Item). linesIn second (s .version) f ns is) (st .nodes-are) (st .items-are) ∙ ap (λ (x : Summary). linesIn second (x .version) f (st .ns) (st .is)) (st .summed)
 
-question-is : (second : Bool) (room : ℕ) (f : List ℕ) (h : Header) (ns : List Node) (is : List Item) → writeIn second room f h ns is ≡ fitting room (good (linesIn second (h .version) f ns is))
+-- what either question asks, in one
+pub question-is : (second : Bool) (room : ℕ) (f : List ℕ) (h : Header) (ns : List Node) (is : List Item) → writeIn second room f h ns is ≡ fitting room (good (linesIn second (h .version) f ns is))
 unfolding write write2 sheetOf
 question-is true room f h ns is = refl
 question-is false room f h ns is = refl
