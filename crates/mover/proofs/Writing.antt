@@ -10,7 +10,7 @@ use lib.Dec.{eqb}
 use lib.ListN.{length, drop, take, replicate, length-append, drop-of-length-le}
 use lib.Seq.{slice, length-slice}
 use borrow.Author.Tests.{eq-eqb, ne-eqb, le-leb, lt-leb}
-use Rattle.room.specs.Room.{good, bad, fitting, counted, kept}
+use Rattle.room.specs.Room.{Result, good, bad, fitting, counted, kept}
 use Rattle.room.specs.Counts.{Counts, tooMany}
 use Rattle.room.proofs.Counting.{counts-then, counts-as, Going, going-on, going-end, wrote-all, wrote-past}
 use Rattle.mover.specs.declared.State.{State}
@@ -281,22 +281,17 @@ module _ (s : List ℕ) {e : Bool} {stop : ℕ} (w : Well s e stop) where
 -- ---- the answer and the room
 
 module _ (s : List ℕ) where
+  -- what the call says of its answer, and of the room that it leaves
+  abbrev Says : ℕ → Result ℕ → List ℕ → Type 0
+  Says room a o = (a ≡ counted (fitting room (move s))) × (o ≡ kept room (fitting room (move s)))
+
   move-by : move s ≡ answered (λ (t : State). written (movedLines (isSecond s) (parted 0x0A s))) (judged (isSecond s) (parted 0x0A s))
   unfolding move
   move-by = refl
 
-  module _ (room : ℕ) where
-    no-sheet : {n : ℕ} → judged (isSecond s) (parted 0x0A s) ≡ bad 31 n → fitting room (move s) ≡ bad 31 n
-    unfolding fitting
-    no-sheet {n} e = let w : move s ≡ bad 31 n = move-by ∙ rw e refl in rw w refl
-
-    pub refused-sheet : {n : ℕ} → judged (isSecond s) (parted 0x0A s) ≡ bad 31 n → bad 31 n ≡ counted (fitting room (move s))
-    unfolding counted
-    refused-sheet e = rw (no-sheet e) refl
-
-    pub cleared-sheet : {n : ℕ} → judged (isSecond s) (parted 0x0A s) ≡ bad 31 n → {o : List ℕ} → o ≡ replicate room 0 → o ≡ kept room (fitting room (move s))
-    unfolding kept
-    cleared-sheet e h = rw (no-sheet e) h
+  pub says-no-sheet : (room : ℕ) {n : ℕ} → judged (isSecond s) (parted 0x0A s) ≡ bad 31 n → {o : List ℕ} → o ≡ replicate room 0 → Says room (bad 31 n) o
+  unfolding fitting counted kept
+  says-no-sheet room {n} e z = let w : move s ≡ bad 31 n = move-by ∙ rw e refl in rw w (refl, z)
 
   module _ {e : Bool} {stop : ℕ} (w : Well s e stop) where
     abbrev bytes : List ℕ
@@ -305,29 +300,11 @@ module _ (s : List ℕ) where
     moves : move s ≡ good bytes
     moves = move-by ∙ rw (w .says, w .judges) refl
 
-    module _ (room : ℕ) where
-      past : room < length bytes → fitting room (move s) ≡ bad 22 0
-      unfolding fitting
-      past l = rw (moves, lt-leb (length bytes) room l) refl
-
-      fits-in : length bytes ≤ room → fitting room (move s) ≡ good bytes
-      unfolding fitting
-      fits-in l = rw (moves, le-leb (length bytes) room l) refl
-
     module _ {o o₁ : List ℕ} {r : ℕ} (p : Counts o o₁ 0 bytes r) where
-      pub refused-room : length o < r → bad 22 0 ≡ counted (fitting (length o) (move s))
-      unfolding counted
-      refused-room l = rw (past (length o) (wrote-past p l)) refl
+      pub says-no-room : length o < r → {o₂ : List ℕ} → o₂ ≡ replicate (length o₁) 0 → Says (length o) (bad 22 0) o₂
+      unfolding fitting counted kept
+      says-no-room l z = rw (moves, lt-leb (length bytes) (length o) (wrote-past p l)) (refl, z ∙ ap (λ n. replicate n 0) (p .long))
 
-      pub cleared-room : length o < r → {o₂ : List ℕ} → o₂ ≡ replicate (length o₁) 0 → o₂ ≡ kept (length o) (fitting (length o) (move s))
-      unfolding kept
-      cleared-room l h = rw (past (length o) (wrote-past p l)) (h ∙ ap (λ n. replicate n 0) (p .long))
-
-      module _ (l : r ≤ length o) (m : length o < tooMany) {o₂ : List ℕ} (h : o₂ ≡ take r o₁ ++ replicate (length o₁ - r) 0) where
-        pub put-answer : good r ≡ counted (fitting (length o) (move s))
-        unfolding counted
-        put-answer = let (a, b, c) = wrote-all p l m h in rw (fits-in (length o) a) (ap good b)
-
-        pub put-room : o₂ ≡ kept (length o) (fitting (length o) (move s))
-        unfolding kept
-        put-room = let (a, b, c) = wrote-all p l m h in rw (fits-in (length o) a) c
+      pub says-moved : r ≤ length o → length o < tooMany → {o₂ : List ℕ} → o₂ ≡ take r o₁ ++ replicate (length o₁ - r) 0 → Says (length o) (good r) o₂
+      unfolding fitting counted kept
+      says-moved l m z = let (a, b, c) = wrote-all p l m z in rw (moves, le-leb (length bytes) (length o) a) (ap good b, c)

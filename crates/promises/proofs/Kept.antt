@@ -38,8 +38,9 @@ use Rattle.description.proofs.Depends.{count-same}
 use Rattle.mobile.specs.Mobile as mobile
 use Rattle.mobile.proofs.Depends.{verdict-depends}
 use Rattle.sheet.specs.Sheet as sheet
-use Rattle.sheet.proofs.Listed.{sheet-listed}
-use Rattle.sheet.proofs.Depends.{sheet-same}
+use Rattle.sheet.proofs.Listed.{sheet-listed, sheet2-listed}
+use Rattle.sheet.proofs.Depends.{Shown, sheet-same, sheet2-same}
+use Rattle.mover.proofs.Listed.{move-listed}
 use Rattle.title.specs.Title as title
 use Rattle.title.proofs.Again.{corrected, correct-says, correct-least, correct-again}
 use Rattle.title.proofs.Listed.{title-listed}
@@ -50,11 +51,11 @@ use Rattle.room.proofs.Listed.{allowed-front, among-back, fitted, fitting-among
 use Rattle.unicode.specs.Unicode as unicode
 use Rattle.unicode.proofs.Listed.{utf8-listed, utf16-listed}
 use Rattle.unicode.proofs.Back.{placed8, placed16}
-use Rattle.promises.specs.Promises.{Question, readTree, findItem, findOwn, resolveRow, countFor, judgeMobile, writeSheet, correctTitle, toUtf8, toUtf16, Sizes, size, reads}
+use Rattle.promises.specs.Promises.{Question, readTree, findItem, findOwn, resolveRow, countFor, judgeMobile, writeSheet, writeSheet2, correctTitle, toUtf8, toUtf16, moveSheet, Sizes, size, reads}
 use Rattle.promises.specs.Promises.{Tables, noTables, ofFile, ofWritten, Lent, filled, copied, changed, About, overRows, rowsIntoRoom, dataIntoRoom, resourceValues, oneValue, sizeValue, bytes, about}
 use Rattle.promises.specs.Promises.{Outcome, saying, rowTables, tablesLent, lent, holding, answerTo, leaves, outcome, resource, IsRefusal, Accepted, InTables, newFile, AnsweredOf, Shows, IsAnswer, Demand1, FitsExactly, FirstApplies}
 use Rattle.promises.specs.Promises.{OnlyThere, PrivateAlone, AlikeIn, EachAlike, OutcomesAlike, Demand3, InTurn, Correction, Corrects}
-use Rattle.promises.specs.Calls.{Called, left, Over, Fills, read-tree, find-item, find-own, resolve-row, count-for, judge, write-sheet, to-utf8, to-utf16, correct-title, Given, EachLeaves, CallsAlike, PartsAlike}
+use Rattle.promises.specs.Calls.{Called, left, Over, Fills, read-tree, find-item, find-own, resolve-row, count-for, judge, write-sheet, write-sheet2, to-utf8, to-utf16, move-sheet, correct-title, Given, EachLeaves, CallsAlike, PartsAlike}
 
 -- ---- which data may not differ
 
@@ -188,9 +189,16 @@ module _ (ls : Sizes) (f g : List ℕ) (h : Header) (ns : List Node) (is : List 
   unfolding mobile.mobile
   mobile-alike = ap good (sym (verdict-depends f g h ns is (fields-alike 3 tt) (fields-alike 13 tt)))
 
+  shown-alike : (i : ℕ) → i < length is → Shown f g (itemAt is i)
+  shown-alike i m = (λ e. data-alike i m (even-kept (itemAt is i) e), name-alike i m)
+
   sheet-alike : (n : ℕ) → sheet.write n g h ns is ≡ sheet.write n f h ns is
   unfolding sheet.write
-  sheet-alike n = ap (λ (s : List ℕ). sheet.fitting n (good s)) (sym (sheet-same f g h ns is (d .same-length) (λ i m. (λ e. data-alike i m (even-kept (itemAt is i) e), name-alike i m))))
+  sheet-alike n = ap (λ (s : List ℕ). sheet.fitting n (good s)) (sym (sheet-same f g h ns is (d .same-length) shown-alike))
+
+  sheet2-alike : (n : ℕ) → sheet.write2 n g h ns is ≡ sheet.write2 n f h ns is
+  unfolding sheet.write2
+  sheet2-alike n = ap (λ (s : List ℕ). sheet.fitting n (good s)) (sym (sheet2-same f g (d .same-length) (h .version) ns is shown-alike))
 
   -- a question that answers the same of the rows
   asks-alike : {A : Type 0} (x y : Header → List Node → List Item → Result A) → x h ns is ≡ y h ns is → ask (reads ls g) x ≡ ask (reads ls f) y
@@ -212,9 +220,11 @@ module _ (ls : Sizes) (f g : List ℕ) (h : Header) (ns : List Node) (is : List 
   outcome-alike (countFor item channel resource) = same (countFor item channel resource) (asks-alike _ _ (count-alike item channel resource))
   outcome-alike judgeMobile = same judgeMobile (asks-alike _ _ mobile-alike)
   outcome-alike writeSheet = same writeSheet (asks-alike _ _ (sheet-alike (size ls 2)))
+  outcome-alike writeSheet2 = same writeSheet2 (asks-alike _ _ (sheet2-alike (size ls 2)))
   outcome-alike (correctTitle i text) = title-leaves i text ls f g (title-alike i text)
   outcome-alike (toUtf8 units) = same (toUtf8 units) refl
   outcome-alike (toUtf16 text) = same (toUtf16 text) refl
+  outcome-alike (moveSheet s) = same (moveSheet s) refl
 
 -- ---- the resource itself
 
@@ -306,10 +316,12 @@ called (resolve-row row r k) = over-called _ _ k
 called (count-for item channel resource r k) = over-called _ _ k
 called (judge r k) = over-called _ _ k
 called (write-sheet {sheet = s} r k t u) = let w = in-buffer (length s) _ in made (ap (saying oneValue) (k .answers) ∙ w .0) (two (t ∙ in-nodes _ _ _) (u ∙ in-items _ _ _) (one (k .in-buffer ∙ w .1)))
+called (write-sheet2 {sheet = s} r k t u) = let w = in-buffer (length s) _ in made (ap (saying oneValue) (k .answers) ∙ w .0) (two (t ∙ in-nodes _ _ _) (u ∙ in-items _ _ _) (one (k .in-buffer ∙ w .1)))
 called (correct-title {out = s} item text r k t u) =
     let w = in-buffer (length s) _ in let x = in-written _ _ _ _ in made (ap (saying oneValue) (k .answers) ∙ w .0) (two (t ∙ x .0) (u ∙ x .1) (one (k .in-buffer ∙ w .2)))
 called (to-utf8 r k) = room-called _ k
 called (to-utf16 r k) = room-called _ k
+called (move-sheet r k) = room-called _ k
 
 pub each-leaves : EachLeaves
 each-leaves q lends f o k = called k
@@ -464,9 +476,11 @@ meets (resolveRow row) = over-meets _ _ _ _ (resolve-listed row) (λ a. refl)
 meets (countFor item channel resource) = over-meets _ _ _ _ (count-listed item channel resource) (λ a. refl)
 meets judgeMobile = over-meets _ _ _ _ mobile-listed (λ a. refl)
 meets writeSheet = room-meets sheet.write _ sheet-listed
+meets writeSheet2 = room-meets sheet.write2 _ sheet2-listed
 meets (correctTitle i text) = title-meets i text
 meets (toUtf8 units) = data-meets _ _ tt (utf8-listed units)
 meets (toUtf16 text) = data-meets _ _ tt (utf16-listed text)
+meets (moveSheet s) = data-meets _ _ tt (move-listed s)
 
 choice : (q : Question) (ls : Sizes) (f : List ℕ) → IsRefusal (about q) ls f (outcome q ls f) ⊎ IsAnswer (about q) ls f (outcome q ls f)
 unfolding outcome

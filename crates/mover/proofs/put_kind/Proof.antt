@@ -50,7 +50,15 @@ loop-less : tie.Need-loop-less Inv-loop μ-loop
 loop-less c = omega (arith, c .before .before .before .before .before .before .before .before .piece-end .ensures .1)
 
 loop-again : tie.Need-loop-again Inv-loop μ-loop
-loop-again c = going-on (put-kind-one (c .before .before .before .before .before .before .before .before .before .before .before .before .before .args .sheet .now) (c .before .before .before .before .before .before .before .before .before .before .before .before .before .args .items) (c .before .before .before .before .before .before .before .before .before .before .loop .at) (next-piece 0x0A (c .before .before .before .before .before .before .before .before .before .before .before .before .before .args .sheet .now) (c .before .before .before .before .before .before .before .before .before .before .loop .at) (omega arith) (c .before .before .before .before .before .before .before .before .piece-end .ensures .1)) (c .before .before .before .before .before .before .before .before .piece-end .ensures .0) (lent (c .before .before .before .before .before .before .before .before .before .before .before .before .before .args .sheet .now) (c .before .before .before .before .before .before .before .before .before .before .loop .at) (c .before .before .before .before .before .before .before .before .piece-end .result) (omega (arith, c .before .before .before .before .before .before .before .before .piece-end .ensures .1)) (c .before .before .before .before .before .before .before .before .piece-end .ensures .0)) (c .before .before .before .before .before .before .read-line .ensures) (c .before .before .before .before .before .is-kind .ensures) (c .before .before .before .before .if1 .taken)) (c .before .before .before .before .before .before .before .before .before .before .loop .inv) (c .before .before .put-line .ensures)
+loop-again c =
+    let a = c .before .before .before .before .before .before .before .before .before .before .before .before .before .args in
+    let loop = c .before .before .before .before .before .before .before .before .before .before .loop in
+    let piece-end = c .before .before .before .before .before .before .before .before .piece-end in
+    let read-line = c .before .before .before .before .before .before .read-line in
+    let is-kind = c .before .before .before .before .before .is-kind in
+    let line = lent (a .sheet .now) (loop .at) (piece-end .result) (omega (arith, piece-end .ensures .1)) (piece-end .ensures .0) in
+    let piece = next-piece 0x0A (a .sheet .now) (loop .at) (omega arith) (piece-end .ensures .1) in
+    going-on (put-kind-one (a .sheet .now) (a .items) (loop .at) piece (piece-end .ensures .0) line (read-line .ensures) (is-kind .ensures) (c .before .before .before .before .if1 .taken)) (loop .inv) (c .before .before .put-line .ensures)
 
 add-at-2 : tie.Need-add-at-2 Inv-loop μ-loop
 add-at-2 c = omega (arith, c .before .before .before .before .piece-end .ensures .0)
@@ -59,7 +67,13 @@ loop-less-2 : tie.Need-loop-less-2 Inv-loop μ-loop
 loop-less-2 c = omega (arith, c .before .before .before .before .piece-end .ensures .1)
 
 loop-again-2 : tie.Need-loop-again-2 Inv-loop μ-loop
-loop-again-2 c = going-as (put-kind-past (c .before .before .before .before .before .before .before .before .before .args .sheet .now) (c .before .before .before .before .before .before .before .before .before .args .items) (c .before .before .before .before .before .before .loop .at) (next-piece 0x0A (c .before .before .before .before .before .before .before .before .before .args .sheet .now) (c .before .before .before .before .before .before .loop .at) (omega arith) (c .before .before .before .before .piece-end .ensures .1)) (c .before .before .before .before .piece-end .ensures .0) (lent (c .before .before .before .before .before .before .before .before .before .args .sheet .now) (c .before .before .before .before .before .before .loop .at) (c .before .before .before .before .piece-end .result) (omega (arith, c .before .before .before .before .piece-end .ensures .1)) (c .before .before .before .before .piece-end .ensures .0)) (c .before .before .read-line .ensures) (c .before .is-kind .ensures) (c .if1 .left)) (c .before .before .before .before .before .before .loop .inv)
+loop-again-2 c =
+    let a = c .before .before .before .before .before .before .before .before .before .args in
+    let loop = c .before .before .before .before .before .before .loop in
+    let piece-end = c .before .before .before .before .piece-end in
+    let line = lent (a .sheet .now) (loop .at) (piece-end .result) (omega (arith, piece-end .ensures .1)) (piece-end .ensures .0) in
+    let piece = next-piece 0x0A (a .sheet .now) (loop .at) (omega arith) (piece-end .ensures .1) in
+    going-as (put-kind-past (a .sheet .now) (a .items) (loop .at) piece (piece-end .ensures .0) line (c .before .before .read-line .ensures) (c .before .is-kind .ensures) (c .if1 .left)) (loop .inv)
 
 same-length : tie.Need-same-length Inv-loop μ-loop
 same-length c = going-length (c .before .loop .inv)

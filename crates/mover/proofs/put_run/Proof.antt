@@ -38,19 +38,35 @@ returns-2 : tie.Need-returns-2 Inv-loop μ-loop
 returns-2 c = run-over (c .before .before .before .before .before .before .before .args .sheet .now) (c .before .before .before .before .before .before .before .args .row) (c .before .before .before .before .loop .inv) (c .before .before .item .given .1) (c .if1 .taken)
 
 put-line-requires : tie.Need-put-line-requires Inv-loop μ-loop
-put-line-requires c κs = ((as-told (Right (c .before .before .before .before .before .before .before .before .args .sheet .now) 0) (c .before .before .before .before .before .loop .inv .right) (c .before .before .before .item .given .1)) .2, (as-told (Right (c .before .before .before .before .before .before .before .before .args .sheet .now) 0) (c .before .before .before .before .before .loop .inv .right) (c .before .before .before .item .given .1)) .3)
+put-line-requires c κs =
+    let a = c .before .before .before .before .before .before .before .before .args in
+    let loop = c .before .before .before .before .before .loop in
+    ((as-told (Right (a .sheet .now) 0) (loop .inv .right) (c .before .before .before .item .given .1)) .2, (as-told (Right (a .sheet .now) 0) (loop .inv .right) (c .before .before .before .item .given .1)) .3)
 
 add-next-item : tie.Need-add-next-item Inv-loop μ-loop
-add-next-item c = omega (arith, (as-told (Right (c .before .before .before .before .before .before .before .before .before .before .before .args .sheet .now) 0) (c .before .before .before .before .before .before .before .before .loop .inv .right) (c .before .before .before .before .before .before .item .given .1)) .3)
+add-next-item c =
+    let a = c .before .before .before .before .before .before .before .before .before .before .before .args in
+    let loop = c .before .before .before .before .before .before .before .before .loop in
+    let item = c .before .before .before .before .before .before .item in
+    omega (arith, (as-told (Right (a .sheet .now) 0) (loop .inv .right) (item .given .1)) .3)
 
 next-item-requires : tie.Need-next-item-requires Inv-loop μ-loop
 next-item-requires c κs = search needs
 
 loop-less : tie.Need-loop-less Inv-loop μ-loop
-loop-less c = run-less (c .before .before .before .before .before .before .before .before .before .before .before .before .args .sheet .now) (c .before .before .before .before .before .before .before .before .before .before .before .before .args .row) (c .before .before .before .before .before .before .before .before .before .loop .inv) (c .before .before .before .before .before .before .before .item .given .1) (c .next-item .result) (c .next-item .ensures)
+loop-less c =
+    let a = c .before .before .before .before .before .before .before .before .before .before .before .before .args in
+    let loop = c .before .before .before .before .before .before .before .before .before .loop in
+    let item = c .before .before .before .before .before .before .before .item in
+    run-less (a .sheet .now) (a .row) (loop .inv) (item .given .1) (c .next-item .result) (c .next-item .ensures)
 
 loop-again : tie.Need-loop-again Inv-loop μ-loop
-loop-again c = run-turn (c .before .before .before .before .before .before .before .before .before .before .before .before .args .sheet .now) (c .before .before .before .before .before .before .before .before .before .before .before .before .args .row) (c .before .before .before .before .before .before .before .before .before .loop .inv) (c .before .before .before .before .before .before .before .item .given .1) (c .before .before .before .before .before .if1 .left) (c .before .before .before .put-line .ensures) (c .next-item .result) (c .next-item .ensures)
+loop-again c =
+    let a = c .before .before .before .before .before .before .before .before .before .before .before .before .args in
+    let loop = c .before .before .before .before .before .before .before .before .before .loop in
+    let item = c .before .before .before .before .before .before .before .item in
+    let test = c .before .before .before .before .before .if1 in
+    run-turn (a .sheet .now) (a .row) (loop .inv) (item .given .1) (test .left) (c .before .before .before .put-line .ensures) (c .next-item .result) (c .next-item .ensures)
 
 pub put-run-spec : {M : Type 1} → statement M
 put-run-spec =
