@@ -1,10 +1,12 @@
 -- Fields of a line, one after the other as the code reads them: tests that are passed, fail, or find no field.
 -- Assumes nothing.
 use mathlib.Core.Path.{_≡_, refl, sym, ap, ap₂, _∙_}
+use mathlib.Core.Logic.{inl, inr}
 use mathlib.Core.Bool.{Bool, true, false, cond, not, _&&_, _||_}
 use mathlib.Core.List.{List, [], _∷_, _++_}
 use Prim.{tt}
 use Prim.Native.Nat.{ℕ, suc, _+_, _-_, _%_, _≤_, _<_}
+use native.Mathlib.Decide.{ℕ-discrete}
 use native.Mathlib.Omega.{arith}
 use native.Mathlib.Numerals.{add-one}
 use lib.Dec.{eqb, leb}
@@ -12,8 +14,8 @@ use lib.ListN.{length, getD, drop, replicate, length-drop}
 use lib.Seq.{slice, drop-cons, getD-drop}
 use borrow.Author.Tests.{eq-eqb, ne-eqb, eqb-true, leb-true}
 use Rattle.room.specs.Decimal.{decimal, digits}
-use Rattle.mover.specs.Sheets.{Lines, parted, fields, field, same, value, isNumber, isEven, isText, isName, fits, node, item, other, isNode, isItem, kind}
-use Rattle.mover.specs.Reads.{numberOf, fieldsAt, FieldIs, NoField, NumberIs, NameIs, LetterIs, isTail, isLabelled}
+use Rattle.mover.specs.Sheets.{Lines, parted, fields, field, same, value, isNumber, isEven, isText, isName, fits, node, item, other, isNode, isItem, kind, isKind}
+use Rattle.mover.specs.Reads.{numberOf, fieldsAt, FieldIs, NoField, NumberIs, NameIs, LetterIs, isTail, isLabelled, Known}
 use Rattle.mover.proofs.Bytes.{piece, some-piece, split}
 use Rattle.mover.proofs.Shape.{both-true}
 use Rattle.mover.proofs.Back.{same-is}
@@ -439,3 +441,67 @@ module _ (l : List ℕ) {b : ℕ} (i : LetterIs l 0 b) where
 
       pub item-is : a ≡ true → item v ≡ kind l
       item-is f = sym (kind-by l false true v no-node (item-rest ∙ f) (row-is of-m w))
+
+-- ---- a line whose kind is known by its first letter
+
+pub item-same : {n k : ℕ} → item n ≡ item k → n ≡ k
+item-same e = cc
+
+none-item : {A : Type 0} {k : ℕ} → other ≡ item k → A
+none-item e = let z : _≡_ {A = ℕ} 0 1 = cc in absurd (omega arith)
+
+kind-cases : (l : List ℕ) {a b : Bool} → isNode l ≡ a → isItem l ≡ b → kind l ≡ cond a (node (value 0 (field 1 l))) (cond b (item (value 0 (field 1 l))) other)
+kind-cases l e f = kind-by l _ _ _ e f refl
+
+-- a blank line has no letter
+known-here : (l : List ℕ) {x : ℕ} → FieldIs l 0 (x ∷ []) 2 → kind l ≡ other → Known l → {A : Type 0} → A
+known-here l f e (inl z) = let a = f .inside in let b = ap length z in absurd (omega arith)
+known-here l f e (inr h) = absurd (h e)
+
+module _ (l : List ℕ) {b : ℕ} (i : LetterIs l 0 b) (k : Known l) where
+  pub item-letter : {c : Bool} → c ≡ true → eqb b 0x4D ≡ isKind c (kind l)
+  item-letter h = rw h (elim (ℕ-discrete b 0x4D) [
+    | yes m ↦ eq-eqb b 0x4D m ∙ by m (isItem l) refl
+    | no n ↦ ne-eqb b 0x4D n ∙ none (isNode l) (kind-cases l refl (not-item l i n))
+  ])
+    where
+      by : b ≡ 0x4D → (c : Bool) → isItem l ≡ c → true ≡ isKind true (kind l)
+      by m true e = rw (kind-cases l (no-node l i m) e) refl
+      by m false e = known-here l (of-m l i m) (kind-cases l (no-node l i m) e) k
+
+      none : (c : Bool) → kind l ≡ cond c (node (value 0 (field 1 l))) other → false ≡ isKind true (kind l)
+      none true e = rw e refl
+      none false e = rw e refl
+
+  pub node-letter : {c : Bool} → c ≡ false → eqb b 0x4E ≡ isKind c (kind l)
+  node-letter h = rw h (elim (ℕ-discrete b 0x4E) [
+    | yes n ↦ eq-eqb b 0x4E n ∙ by n (isNode l) refl
+    | no m ↦ ne-eqb b 0x4E m ∙ none (isItem l) (kind-cases l (not-node l i m) refl)
+  ])
+    where
+      by : b ≡ 0x4E → (c : Bool) → isNode l ≡ c → true ≡ isKind false (kind l)
+      by n true e = rw (kind-cases l e (no-item l i n)) refl
+      by n false e = known-here l (of-n l i n) (kind-cases l e (no-item l i n)) k
+
+      none : (c : Bool) → kind l ≡ cond c (item (value 0 (field 1 l))) other → false ≡ isKind false (kind l)
+      none true e = rw e refl
+      none false e = rw e refl
+
+-- the node that an item line names
+module _ (l : List ℕ) {b : ℕ} (i : LetterIs l 0 b) where
+  pub node-of-none : (b ≡ 0x4D → ⊥) → {n k : ℕ} → kind l ≡ item k → n ≡ k
+  node-of-none n e = by (isNode l) (kind-cases l refl (not-item l i n))
+    where
+      by : (c : Bool) → kind l ≡ cond c (node (value 0 (field 1 l))) other → {n k : ℕ} → n ≡ k
+      by true h = let z : _≡_ {A = ℕ} 0 1 = cc in absurd (omega arith)
+      by false h = none-item (sym h ∙ e)
+
+  pub node-of-no : b ≡ 0x4D → NoField isNumber l 2 → {n k : ℕ} → kind l ≡ item k → n ≡ k
+  node-of-no m w e = none-item (item-no l i m w ∙ e)
+
+  pub node-of-is : b ≡ 0x4D → {v q : ℕ} → NumberIs l 2 v q → {k : ℕ} → kind l ≡ item k → v ≡ k
+  node-of-is m {v} {q} w {k} e = by (isLabelled (fieldsAt l q)) refl
+    where
+      by : (c : Bool) → c ≡ isLabelled (fieldsAt l q) → v ≡ k
+      by true f = item-same (item-is l i m w f refl ∙ e)
+      by false f = none-item (item-bad l i m w f refl ∙ e)

@@ -19,7 +19,7 @@ use Rattle.mover.specs.Reads.{numberOf}
 use Rattle.mover.proofs.Back.{same-is}
 use Rattle.mover.proofs.Bytes.{some-piece}
 
--- ---- of crates/sheet/proofs/Lines.antt: decimal-one, decimal-more
+-- ---- decimals, digit by digit
 
 enough : (k n : ℕ) → n < 10 ^ suc k → digits (suc k) n ≡ digits (suc (suc k)) n
 unfolding digits

@@ -1,6 +1,7 @@
 -- Lines that are put one after the other: those of one kind, those of a row, each node line with its items, the whole sheet.
 -- Assumes nothing.
-use mathlib.Core.Path.{_≡_, refl, sym, ap, ap₂, _∙_}
+use mathlib.Core.Path.{_≡_, refl, sym, ap, ap₂, _∙_, subst}
+use mathlib.Core.Logic.{inl, inr}
 use mathlib.Core.Bool.{Bool, true, false, cond, not}
 use mathlib.Core.List.{List, [], _∷_, _++_, append-assoc, tail-eq-of-cons-eq}
 use Prim.Native.Nat.{ℕ, _+_, _-_, _≤_, _<_}
@@ -17,11 +18,12 @@ use Rattle.mover.specs.declared.State.{State}
 use Rattle.mover.specs.declared.ItemAt.{ItemAt}
 use Rattle.mover.specs.declared.ItemAt.the-variants as standing
 use Rattle.mover.specs.Sheets.{Lines, parted, written, word, Kind, node, item, other, kind, picked, isKind, isOf, nodesOf, itemsOf, reordered, renamed, lead, behind, movedLines, judged, isSecond, answered, move}
-use Rattle.mover.specs.Reads.{runOf, pastRun, walk}
+use Rattle.mover.specs.Reads.{Known, AllKnown, runOf, pastRun, walk}
 use Rattle.mover.specs.Told.{Well, itemLines, Right, leftOf}
-use Rattle.mover.proofs.Order.{to-second, first-nodes, first-items, walk-spreads}
-use Rattle.mover.proofs.Back.{lead-shape, blank, picked-end, reordered-end, Whole, judged-shape}
+use Rattle.mover.proofs.Order.{Rows, Items, Groups, to-second, first-nodes, first-items, walk-spreads}
+use Rattle.mover.proofs.Back.{lead-shape, blank, picked-end, reordered-end, Body, Whole, judged-shape}
 use Rattle.mover.proofs.Places.{Next}
+use Rattle.mover.proofs.Judging.{lent}
 
 abbrev rest : List ℕ → ℕ → Lines
 rest s at = parted 0x0A (drop at s)
@@ -65,6 +67,20 @@ no-rest : (c : ℕ) → parted c [] ≡ [] ∷ []
 unfolding parted
 no-rest c = refl
 
+-- known lines, one after the other
+known-none : (s : List ℕ) (at : ℕ) → length s ≤ at → AllKnown (rest s at)
+known-none s at h = subst AllKnown (sym (ap (parted 0x0A) (drop-of-length-le s h) ∙ no-rest 0x0A)) (inl refl, tt)
+
+pub known-on : (s : List ℕ) (at : ℕ) {end : ℕ} → Next 0x0A s at end → end ≤ length s → AllKnown (rest s at) → Known (slice at end s) × AllKnown (rest s (end + 1))
+known-on s at {end} k m a = elim (decLt end (length s)) [
+  | yes h ↦ subst AllKnown (k .more h) a
+  | no h ↦ (subst AllKnown (k .last (omega arith)) a .0, known-none s (end + 1) (omega arith))
+]
+
+-- the part that is lent of one
+pub known-line : (s : List ℕ) (at : ℕ) {end : ℕ} → Next 0x0A s at end → at ≤ end → end ≤ length s → AllKnown (rest s at) → Known (take (end - at) (drop at s))
+known-line s at {end} k l m a = rw (lent s at end l m) (known-on s at k m a .0)
+
 module _ (s : List ℕ) (b : Bool) (at : ℕ) where
   pub kind-end : length s ≤ at → picked (isKind b) (rest s at) ≡ []
   kind-end h = ap (λ v. picked (isKind b) (parted 0x0A v)) (drop-of-length-le s h) ∙ ap (picked (isKind b)) (no-rest 0x0A) ∙ kind-blank b
@@ -81,9 +97,9 @@ module _ (s : List ℕ) (b : Bool) (at : ℕ) {end : ℕ} (k : Next 0x0A s at en
         ∙ sym (picked-cons (isKind b) (slice at end s) (rest s (end + 1)))
   ]
 
-  module _ (m : end ≤ length s) {x : List ℕ} (xe : x ≡ slice at end s) {l : Kind} (le : l ≡ kind x) {d : Bool} (de : d ≡ isKind b l) where
+  module _ (m : end ≤ length s) {x : List ℕ} (xe : x ≡ slice at end s) {d : Bool} (de : d ≡ isKind b (kind x)) where
     kind-by : picked (isKind b) (rest s at) ≡ cond d (slice at end s ∷ picked (isKind b) (rest s (end + 1))) (picked (isKind b) (rest s (end + 1)))
-    kind-by = kind-line m ∙ picked-cons (isKind b) (slice at end s) (rest s (end + 1)) ∙ rw (← xe, ← le, ← de) refl
+    kind-by = kind-line m ∙ picked-cons (isKind b) (slice at end s) (rest s (end + 1)) ∙ rw (← xe, ← de) refl
 
     pub kind-one : d ≡ true → picked (isKind b) (rest s at) ≡ slice at end s ∷ picked (isKind b) (rest s (end + 1))
     kind-one f = kind-by ∙ rw f refl
@@ -102,17 +118,8 @@ put-kind-end s b at h = ap written (kind-end s b at h) ∙ written-none
 
 -- ---- the next item line
 
-pub item-same : {n k : ℕ} → item n ≡ item k → n ≡ k
-item-same e = cc
-
-pub not-item : {n k m : ℕ} → node n ≡ item k → m ≡ k
-not-item e = let z : _≡_ {A = ℕ} 0 1 = cc in absurd (omega arith)
-
-pub no-item : {k m : ℕ} → other ≡ item k → m ≡ k
-no-item e = let z : _≡_ {A = ℕ} 0 1 = cc in absurd (omega arith)
-
 pub right-low : (s : List ℕ) (low : ℕ) (i : ItemAt) → Right s low i → Right s 0 i
-right-low s low (standing.Is at end k) (a, b, c, d, e) = (omega arith, b, c, d, e)
+right-low s low (standing.Is at end k) (a, b, c, d, e, f) = (omega arith, b, c, d, e, f)
 right-low s low (standing.Nothing) r = tt
 
 item-of : (k : Kind) → isKind true k ≡ true → (n : ℕ) × (k ≡ item n)
@@ -124,15 +131,15 @@ module _ (s : List ℕ) (from at : ℕ) (g : itemsOf (rest s from) ≡ itemsOf (
   pub item-none : length s ≤ at → [] ≡ itemsOf (rest s from)
   item-none h = sym (g ∙ kind-end s true at h)
 
-  module _ {end : ℕ} (k : Next 0x0A s at end) (m : end ≤ length s) {x : List ℕ} (xe : x ≡ slice at end s) {l : Kind} (le : l ≡ kind x) {d : Bool} (de : d ≡ isKind true l) where
+  module _ {end : ℕ} (k : Next 0x0A s at end) (m : end ≤ length s) {x : List ℕ} (xe : x ≡ slice at end s) {d : Bool} (de : d ≡ isKind true (kind x)) where
     pub item-past : d ≡ false → itemsOf (rest s from) ≡ itemsOf (rest s (end + 1))
-    item-past f = g ∙ kind-past s true at k m xe le de f
+    item-past f = g ∙ kind-past s true at k m xe de f
 
-    pub item-here : d ≡ true → from ≤ at → at < length s → at ≤ end → {n : ℕ} → ((j : ℕ) → l ≡ item j → n ≡ j)
+    pub item-here : d ≡ true → from ≤ at → at < length s → at ≤ end → {n : ℕ} → ((j : ℕ) → kind x ≡ item j → n ≡ j) → AllKnown (rest s (end + 1))
         → (itemLines s (standing.Is at end n) ≡ itemsOf (rest s from)) × Right s from (standing.Is at end n)
-    item-here f a h c w =
-        let (j, q) = item-of l (sym de ∙ f) in
-        (sym (g ∙ kind-one s true at k m xe le de f), (a, h, c, m, ap kind (sym xe) ∙ sym le ∙ q ∙ ap item (sym (w j q))))
+    item-here f a h c w v =
+        let (j, q) = item-of (kind x) (sym de ∙ f) in
+        (sym (g ∙ kind-one s true at k m xe de f), (a, h, c, m, ap kind (sym xe) ∙ q ∙ ap item (sym (w j q)), v))
 
 -- ---- the lines of a row
 
@@ -182,7 +189,7 @@ module _ (s : List ℕ) (row : ℕ) {o o′ : List ℕ} {t r : ℕ} {first i : I
     run-less j n = rw e (by j (n .1))
       where
         by : (j : ItemAt) → Right s (end + 1) j → leftOf s j < leftOf s (standing.Is at end k)
-        by (standing.Is a b c) (u, v, w, x, y) = let h = here .1 in let m = here .2 in omega arith
+        by (standing.Is a b c) (u, v, w, x, y, z) = let h = here .1 in let m = here .2 in omega arith
         by (standing.Nothing) u = omega arith
 
     pub run-turn : k ≡ row → {o″ : List ℕ} {r′ : ℕ} → Counts o′ o″ r (slice at end s ++ 0x0A ∷ []) r′
@@ -205,12 +212,12 @@ module _ (s : List ℕ) (row at : ℕ) (ms : Lines) where
   pub walk-end : length s ≤ at → written (walk row (nodesOf (rest s at)) ms) ≡ []
   walk-end h = ap (λ ns. written (walk row ns ms)) (kind-end s false at h) ∙ written-none
 
-  module _ {end : ℕ} (k : Next 0x0A s at end) (m : end ≤ length s) {x : List ℕ} (xe : x ≡ slice at end s) {l : Kind} (le : l ≡ kind x) {d : Bool} (de : d ≡ isKind false l) where
+  module _ {end : ℕ} (k : Next 0x0A s at end) (m : end ≤ length s) {x : List ℕ} (xe : x ≡ slice at end s) {d : Bool} (de : d ≡ isKind false (kind x)) where
     pub walk-past : d ≡ false → written (walk row (nodesOf (rest s at)) ms) ≡ written (walk row (nodesOf (rest s (end + 1))) ms)
-    walk-past f = ap (λ ns. written (walk row ns ms)) (kind-past s false at k m xe le de f)
+    walk-past f = ap (λ ns. written (walk row ns ms)) (kind-past s false at k m xe de f)
 
     pub walk-one : d ≡ true → written (walk row (nodesOf (rest s at)) ms) ≡ (slice at end s ++ 0x0A ∷ []) ++ (written (runOf row ms) ++ written (walk (row + 1) (nodesOf (rest s (end + 1))) (pastRun row ms)))
-    walk-one f = ap (λ ns. written (walk row ns ms)) (kind-one s false at k m xe le de f) ∙ walk-node row (slice at end s) (nodesOf (rest s (end + 1))) ms
+    walk-one f = ap (λ ns. written (walk row ns ms)) (kind-one s false at k m xe de f) ∙ walk-node row (slice at end s) (nodesOf (rest s (end + 1))) ms
 
     pub walk-turn : d ≡ true → {o o₁ o₂ o₃ : List ℕ} {t t₁ t₂ t₃ : ℕ} {whole : List ℕ} → Going o o₁ t t₁ whole (written (walk row (nodesOf (rest s at)) ms))
         → Counts o₁ o₂ t₁ (slice at end s ++ 0x0A ∷ []) t₂ → Counts o₂ o₃ t₂ (written (runOf row ms)) t₃
@@ -220,12 +227,43 @@ module _ (s : List ℕ) (row at : ℕ) (ms : Lines) where
 
 -- ---- the whole sheet
 
+known-kind : {l : List ℕ} {k : Kind} → kind l ≡ k → (k ≡ other → ⊥) → Known l
+known-kind e h = inr (λ z. h (sym e ∙ z))
+
+node-other : {k : ℕ} → node k ≡ other → ⊥
+node-other e = let z : _≡_ {A = ℕ} 0 1 = cc in omega arith
+
+item-other : {k : ℕ} → item k ≡ other → ⊥
+item-other e = let z : _≡_ {A = ℕ} 0 1 = cc in omega arith
+
+known-rows : (n : ℕ) (ns rest : Lines) (n′ : ℕ) → Rows n ns n′ → AllKnown rest → AllKnown (ns ++ rest)
+known-rows n [] rest n′ r k = k
+known-rows n (l ∷ ns) rest n′ (e, r) k = (known-kind e node-other, known-rows (n + 1) ns rest n′ r k)
+
+known-items : (low high : ℕ) (ms rest : Lines) → Items low high ms → AllKnown rest → AllKnown (ms ++ rest)
+known-items low high [] rest m k = k
+known-items low high (l ∷ ms) rest (n, e, a, b, m) k = (known-kind e item-other, known-items n high ms rest m k)
+
+known-groups : (n : ℕ) (ls rest : Lines) (n′ : ℕ) → Groups n ls n′ → AllKnown rest → AllKnown (ls ++ rest)
+known-groups n [] rest n′ g k = k
+known-groups n (l ∷ ls) rest n′ (inl (e, g)) k = (known-kind e node-other, known-groups (n + 1) ls rest n′ g k)
+known-groups n (l ∷ ls) rest n′ (inr (i, e, d, g)) k = (known-kind e item-other, known-groups n ls rest n′ g k)
+
+known-body : (e : Bool) (body : Lines) (n m : ℕ) → Body e body n m → AllKnown (body ++ [] ∷ [])
+known-body false body n m b = rw (b .whole, append-assoc) (known-rows 0 (b .ns) _ n (b .rows) (known-items 0 n (b .ms) _ (b .low) (inl refl, tt)))
+known-body true body n m (g, c) = known-groups 0 body _ n g (inl refl, tt)
+
 module _ (s : List ℕ) {e : Bool} {stop : ℕ} (w : Well s e stop) where
   abbrev f : List ℕ
   f = slice 0 stop s
 
   abbrev body : Lines
   body = rest s (stop + 1)
+
+  pub body-known : AllKnown body
+  body-known =
+      let v = judged-shape e (parted 0x0A s) (w .end) (w .judges) in
+      subst AllKnown (sym (tail-eq-of-cons-eq (sym (w .lines) ∙ v .whole))) (known-body e (v .body) (v .nodes) (v .items) (v .stands))
 
   -- the first line is longer than its word
   pub long-lead : length (word e) + 1 ≤ stop

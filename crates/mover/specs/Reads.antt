@@ -1,11 +1,12 @@
 -- What the code reads of a sheet, in the terms of its contracts: fields of a line by their places, the rest of an item line, the order of lines as it is put.
 -- Assumes nothing.
 use mathlib.Core.Path.{_≡_}
+use mathlib.Core.Logic.{_⊎_}
 use mathlib.Core.Bool.{Bool, true, false, cond, _||_}
 use mathlib.Core.List.{List, [], _∷_, _++_}
 use Prim.Native.Nat.{ℕ, _+_, _≤_}
 use lib.ListN.{length, getD, drop}
-use Rattle.mover.specs.Sheets.{Lines, parted, same, value, isNumber, isEven, isText, isName, fits, kind, isOf}
+use Rattle.mover.specs.Sheets.{Lines, parted, same, value, isNumber, isEven, isText, isName, fits, other, kind, isOf}
 
 -- a field's number; one more than the greatest where it is none
 unfoldable pub numberOf : List ℕ → ℕ
@@ -51,6 +52,15 @@ unfoldable pub isLabelled : Lines → Bool
 isLabelled ts =
     let rest = isNumber ∷ isEven ∷ isText (same (getD ts 3 []) (0x32 ∷ [])) ∷ [] in
     fits (same (0x53 ∷ []) ∷ isNumber ∷ rest) ts || fits (same (0x43 ∷ []) ∷ isName ∷ rest) ts
+
+-- ---- lines of a well-formed sheet: each is a node's, an item's or blank
+
+abbrev pub Known : List ℕ → Type 0
+Known l = (l ≡ []) ⊎ (kind l ≡ other → ⊥)
+
+abbrev pub AllKnown : Lines → Type 0
+AllKnown [] = Unit {0}
+AllKnown (l ∷ ls) = Known l × AllKnown ls
 
 -- ---- the order of the second edition, in one walk with two cursors
 

@@ -8,7 +8,7 @@ use lib.ListN.{length, drop}
 use lib.Seq.{slice}
 use Rattle.room.specs.Room.{Result, good, bad}
 use Rattle.mover.specs.Sheets.{parted, value, field, same, word, isFirst, isNumber, isName, Kind, node, item, other, kind, itemsOf, isSecond, judged}
-use Rattle.mover.specs.Reads.{FieldIs, NoField, NumberIs, NameIs}
+use Rattle.mover.specs.Reads.{FieldIs, NoField, NumberIs, NameIs, AllKnown}
 use Rattle.mover.specs.declared.Found.{Found}
 use Rattle.mover.specs.declared.Found.the-variants as found
 use Rattle.mover.specs.declared.Passed.{Passed}
@@ -81,13 +81,13 @@ abbrev pub JudgedAs : List ℕ → Judged → Type 0
 JudgedAs s (judging.Is e stop) = Well s e stop
 JudgedAs s (judging.Bad n) = judged (isSecond s) (parted 0x0A s) ≡ bad 31 n
 
--- the item lines from one that was found on; its places are right
+-- the item lines from one that was found on; its places are right, and the lines behind it known
 abbrev pub itemLines : List ℕ → ItemAt → List (List ℕ)
 itemLines s (standing.Is at end k) = slice at end s ∷ itemsOf (parted 0x0A (drop (end + 1) s))
 itemLines s (standing.Nothing) = []
 
 abbrev pub Right : List ℕ → (low : ℕ) → ItemAt → Type 0
-Right s low (standing.Is at end k) = (low ≤ at) × (at < length s) × (at ≤ end) × (end ≤ length s) × (kind (slice at end s) ≡ item k)
+Right s low (standing.Is at end k) = (low ≤ at) × (at < length s) × (at ≤ end) × (end ≤ length s) × (kind (slice at end s) ≡ item k) × AllKnown (parted 0x0A (drop (end + 1) s))
 Right s low (standing.Nothing) = Unit {0}
 
 -- how many bytes of the sheet are left where it begins

@@ -10,7 +10,7 @@ ghost use Rattle.room.specs.Counts.{Counts};
 ghost use Rattle.sheet.specs.Sheet.{hexDigits};
 ghost use Rattle.room.specs.Told.{told};
 ghost use Rattle.mover.specs.Sheets.{parted, lead, written, isNumber, nibble, isEscape, itself, isText, isVersion, fits, word, item, kind, stands, after, start, judge, picked, isKind, nodesOf, itemsOf, movedLines, move};
-ghost use Rattle.mover.specs.Reads.{numberOf, fieldsAt, FieldIs, LetterIs, isTail, isLabelled, runOf, pastRun, walk};
+ghost use Rattle.mover.specs.Reads.{numberOf, fieldsAt, FieldIs, LetterIs, isTail, isLabelled, Known, AllKnown, runOf, pastRun, walk};
 ghost use Rattle.mover.specs.Told.{NumberAt, NameAt, lineTold, WordAt, LeadAt, stepTold, bodyTold, Well, JudgedAs, itemLines, Right};
 use room::Written;
 
@@ -567,15 +567,14 @@ fn put_line(out: &mut [u8], to: usize, sheet: &[u8], at: usize, end: usize) -> u
 
 // Puts all lines of one kind from a place on: item lines or node lines.
 fn put_kind(out: &mut [u8], to: usize, sheet: &[u8], from: usize, items: bool) -> usize
-    requires { ⌜ from ≤ length (now sheet) ⌝ }
+    requires { ⌜ (from ≤ length (now sheet)) × AllKnown (parted 0x0A (drop from (now sheet))) ⌝ }
     ensures { λ r. ⌜ Counts (now (out .entry)) (now (out .exit)) to (written (picked (isKind items) (parted 0x0A (drop from (now (sheet .entry)))))) r ⌝ }
 {
     let mut next = to;
     let mut at = from;
     while at < sheet.len() {
         let end = piece_end(sheet, at, 0x0a);
-        let line = read_line(&sheet[at..end]);
-        if is_kind(line, items) {
+        if is_kind(&sheet[at..end], items) {
             next = put_line(out, next, sheet, at, end);
             at = end + 1;
         } else {
@@ -585,38 +584,41 @@ fn put_kind(out: &mut [u8], to: usize, sheet: &[u8], from: usize, items: bool) -
     next
 }
 
-// Whether a line is of one kind: an item's or a node's.
-fn is_kind(line: Line, items: bool) -> bool
-    ensures { λ r. ⌜ r ≡ isKind items (lineTold line) ⌝ }
+// Whether a line of a well-formed sheet is an item's, or else a node's: its first letter says it.
+fn is_kind(line: &[u8], items: bool) -> bool
+    requires { ⌜ Known (now line) ⌝ }
+    ensures { λ r. ⌜ r ≡ isKind items (kind (now (line .entry))) ⌝ }
 {
-    match line {
-        Line::Other => false,
-        Line::Node(_) => !items,
-        Line::Item(_) => items,
+    let b = letter(line, 0);
+    if items {
+        return b == b'M';
     }
+    b == b'N'
 }
 
 // The node of an item line.
-fn node_of(line: Line) -> u64
-    ensures { λ r. ⌜ ((k : ℕ) → lineTold line ≡ item k → r ≡ k) ⌝ }
+fn node_of(line: &[u8]) -> u64
+    ensures { λ r. ⌜ ((k : ℕ) → kind (now (line .entry)) ≡ item k → r ≡ k) ⌝ }
 {
-    match line {
-        Line::Item(k) => k,
-        Line::Node(_) => 0,
-        Line::Other => 0,
+    if letter(line, 0) != b'M' {
+        return 0;
+    }
+    match number_field(line, 2) {
+        Found::No => 0,
+        Found::Is(row, _) => row,
     }
 }
 
 // The first item line from a place on.
 fn next_item(sheet: &[u8], from: usize) -> ItemAt
+    requires { ⌜ AllKnown (parted 0x0A (drop from (now sheet))) ⌝ }
     ensures { λ r. ⌜ (itemLines (now (sheet .entry)) r ≡ itemsOf (parted 0x0A (drop from (now (sheet .entry))))) × Right (now (sheet .entry)) from r ⌝ }
 {
     let mut at = from;
     while at < sheet.len() {
         let end = piece_end(sheet, at, 0x0a);
-        let line = read_line(&sheet[at..end]);
-        if is_kind(line, true) {
-            return ItemAt::Is(at, end, node_of(line));
+        if is_kind(&sheet[at..end], true) {
+            return ItemAt::Is(at, end, node_of(&sheet[at..end]));
         }
         at = end + 1;
     }
@@ -653,7 +655,7 @@ fn put_run(out: &mut [u8], to: usize, sheet: &[u8], first: ItemAt, row: u64) -> 
 
 // Puts each node line from a place on, and behind it the item lines of its row: one cursor goes over the node lines, one over the item lines.
 fn put_groups(out: &mut [u8], to: usize, sheet: &[u8], from: usize) -> usize
-    requires { ⌜ from ≤ length (now sheet) ⌝ }
+    requires { ⌜ (from ≤ length (now sheet)) × AllKnown (parted 0x0A (drop from (now sheet))) ⌝ }
     ensures { λ r. ⌜ Counts (now (out .entry)) (now (out .exit)) to (written (walk 0 (nodesOf (parted 0x0A (drop from (now (sheet .entry))))) (itemsOf (parted 0x0A (drop from (now (sheet .entry))))))) r ⌝ }
 {
     let mut next = to;
@@ -662,8 +664,7 @@ fn put_groups(out: &mut [u8], to: usize, sheet: &[u8], from: usize) -> usize
     let mut item = next_item(sheet, from);
     while at < sheet.len() {
         let end = piece_end(sheet, at, 0x0a);
-        let line = read_line(&sheet[at..end]);
-        if is_kind(line, false) {
+        if is_kind(&sheet[at..end], false) {
             next = put_line(out, next, sheet, at, end);
             let run = put_run(out, next, sheet, item, row);
             next = run.to;

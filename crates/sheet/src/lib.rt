@@ -2,7 +2,7 @@
 ghost use mathlib.Core.Path.{_≡_};
 ghost use mathlib.Core.Bool.{true};
 ghost use mathlib.Core.List.{[]};
-ghost use Prim.Native.Nat.{ℕ, _≤_, _<_, _*_, _+_, _-_, min};
+ghost use Prim.Native.Nat.{_≤_, _<_, _*_, _+_, _-_, min};
 ghost use lib.ListN.{length};
 ghost use Rattle.metadata.specs.Tables.{nodeWidth, itemWidth};
 ghost use Rattle.tree.specs.Rows.{itemFrom, nodesIn, itemsFrom, itemsIn, ItemIn, ItemRows};

@@ -51,7 +51,7 @@ add-next-item c =
     omega (arith, (as-told (Right (a .sheet .now) 0) (loop .inv .right) (item .given .1)) .3)
 
 next-item-requires : tie.Need-next-item-requires Inv-loop μ-loop
-next-item-requires c κs = search needs
+next-item-requires c κs = as-told (Right (c .before .before .before .before .before .before .before .before .before .before .before .args .sheet .now) 0) (c .before .before .before .before .before .before .before .before .loop .inv .right) (c .before .before .before .before .before .before .item .given .1) .5
 
 loop-less : tie.Need-loop-less Inv-loop μ-loop
 loop-less c =

@@ -88,7 +88,8 @@ returns-3 c =
     let w = standing (a .file .now) _ _ _ (f .0) (f .1 .0) (f .1 .1) (c .before .before .before .before .before .before .before .before .before .before .before .before .s .given .1) in
     let p = c .before .before .before .before .before .before .before .put-sheet in
     let fits = c .before .before .before .before .if1 .left in
-    asked-good (a .second) (a .file .now) _ _ (a .sheet .now) _ (f .1 .0) (f .1 .1) w (p .ensures) (omega (arith, fits, p .kept .0)) (omega (arith, c .before .before .before .before .before .before .before .before .before .before .before .before .before .before .before .before .before .before .before .before .before .before .before .before .before .good)) (c .before .before .clear-bytes-from .ensures)
+    let good = c .before .before .before .before .before .before .before .before .before .before .before .before .before .before .before .before .before .before .before .before .before .before .before .before .before .good in
+    asked-good (a .second) (a .file .now) _ _ (a .sheet .now) _ (f .1 .0) (f .1 .1) w (p .ensures) (omega (arith, fits, p .kept .0)) (omega (arith, good)) (c .before .before .clear-bytes-from .ensures)
 
 pub write-edition-spec : {M : Type 1} → statement M
 write-edition-spec =
