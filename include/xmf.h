@@ -1,5 +1,5 @@
-/* Questions about XMF files (versions 1.00, 1.01 and 2.00), the correction of a title, and two
- * conversions of a text.
+/* Questions about XMF files (versions 1.00, 1.01 and 2.00), the correction of a title, two
+ * conversions of a text, and the mover between the two editions of a sheet.
  *
  * The functions are in target/staticlib/libcapi.a, which `rt staticlib capi` proves and writes;
  * `./install` has them in libxmf.a and libxmf.so.0. They are for x86-64 Linux and need no other library.
@@ -16,7 +16,8 @@
  *
  *   - each pointer is aligned for its type; it may be null only where there are 0 elements, and then
  *     nothing is read or written there (examples/c/empty.c tries this with every function);
- *   - so many elements can be read there, and but for file, name and title also written;
+ *   - so many elements can be read there, and but for file, name, title and what is converted or
+ *     moved also written;
  *   - what is written overlaps nothing else that is lent in the same call;
  *   - no other thread writes what is lent, or reads what is written, until the call returns.
  *
@@ -287,6 +288,17 @@ void xmf_write_sheet(const uint8_t *file, size_t file_length,
                      uint8_t *sheet, size_t sheet_length,
                      uint64_t *answer, size_t answer_words);
 
+/* Writes the support sheet in its second edition: the first word is XMF2, and the lines of a row's
+ * items stand right after the row's own line. Otherwise it is as xmf_write_sheet.
+ *
+ *   answer[2]  the number of bytes written
+ */
+void xmf_write_sheet2(const uint8_t *file, size_t file_length,
+                      uint64_t *nodes, size_t node_words,
+                      uint64_t *items, size_t item_words,
+                      uint8_t *sheet, size_t sheet_length,
+                      uint64_t *answer, size_t answer_words);
+
 /* Replaces the data of an item row, which must be visible and universal, by a title, and writes the
  * whole file anew into a lent buffer. Every number outside data is written in its shortest form, each
  * length and place the least that fits the others; all else is copied. The tables hold the new file's
@@ -330,6 +342,20 @@ void xmf_utf16_to_utf8(const uint8_t *data, size_t data_length,
 void xmf_utf8_to_utf16(const uint8_t *text, size_t text_length,
                        uint8_t *data, size_t data_length,
                        uint64_t *answer, size_t answer_words);
+
+/* Moves a sheet to its other edition; the first line says which one it is of. It takes lent data and
+ * lent room alone, no file and no tables. Moving a sheet over and back gives the same bytes, and what
+ * xmf_write_sheet writes of a file moves to what xmf_write_sheet2 writes of it.
+ *
+ *   answer[2]  the number of bytes written
+ *
+ * Bytes of the buffer past the sheet are 0; after a refusal all are. Refused with 31, placed at the
+ * number, from 1, of the first line that cannot stand after those before it, or at 1 where only the
+ * counts of the first line disagree; then with 22.
+ */
+void xmf_move_sheet(const uint8_t *sheet, size_t sheet_length,
+                    uint8_t *out, size_t out_length,
+                    uint64_t *answer, size_t answer_words);
 
 #ifdef __cplusplus
 }

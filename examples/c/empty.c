@@ -45,6 +45,10 @@ int main(int argc, char **argv) {
     expect("account of nothing", 1);
     xmf_write_sheet(NULL, 0, NULL, 0, NULL, 0, NULL, 0, answer, XMF_ANSWER_WORDS);
     expect("write_sheet of nothing", 1);
+    xmf_write_sheet2(NULL, 0, NULL, 0, NULL, 0, NULL, 0, answer, XMF_ANSWER_WORDS);
+    expect("write_sheet2 of nothing", 1);
+    xmf_move_sheet(NULL, 0, NULL, 0, answer, XMF_ANSWER_WORDS);
+    expect("move_sheet of nothing", 31);
     xmf_correct_title(NULL, 0, NULL, 0, NULL, 0, 0, NULL, 0, NULL, 0, answer, XMF_ANSWER_WORDS);
     expect("correct_title of nothing", 1);
 
@@ -65,6 +69,8 @@ int main(int argc, char **argv) {
     expect("account without tables", 10);
     xmf_write_sheet(file, length, NULL, 0, NULL, 0, sheet, sizeof sheet, answer, XMF_ANSWER_WORDS);
     expect("write_sheet without tables", 10);
+    xmf_write_sheet2(file, length, NULL, 0, NULL, 0, sheet, sizeof sheet, answer, XMF_ANSWER_WORDS);
+    expect("write_sheet2 without tables", 10);
     xmf_correct_title(file, length, NULL, 0, NULL, 0, 0, NULL, 0, sheet, sizeof sheet, answer, XMF_ANSWER_WORDS);
     expect("correct_title without tables", 10);
 
@@ -78,6 +84,9 @@ int main(int argc, char **argv) {
     xmf_write_sheet(file, length, nodes, XMF_ALL_NODE_WORDS, items, XMF_ALL_ITEM_WORDS, NULL, 0, answer,
                     XMF_ANSWER_WORDS);
     expect("write_sheet without a buffer", 22);
+    xmf_write_sheet2(file, length, nodes, XMF_ALL_NODE_WORDS, items, XMF_ALL_ITEM_WORDS, NULL, 0, answer,
+                     XMF_ANSWER_WORDS);
+    expect("write_sheet2 without a buffer", 22);
     xmf_correct_title(file, length, nodes, XMF_ALL_NODE_WORDS, items, XMF_ALL_ITEM_WORDS, 0, NULL, 0, NULL, 0, answer,
                       XMF_ANSWER_WORDS);
     expect("correct_title without a buffer", 22);
@@ -95,6 +104,8 @@ int main(int argc, char **argv) {
     xmf_account(file, length, nodes, XMF_ALL_NODE_WORDS, items, XMF_ALL_ITEM_WORDS, NULL, 0, NULL, 0);
     xmf_correct_title(file, length, nodes, XMF_ALL_NODE_WORDS, items, XMF_ALL_ITEM_WORDS, 0, NULL, 0, sheet, sizeof sheet,
                       NULL, 0);
+    xmf_write_sheet2(file, length, nodes, XMF_ALL_NODE_WORDS, items, XMF_ALL_ITEM_WORDS, sheet, sizeof sheet, NULL, 0);
+    xmf_move_sheet(sheet, sizeof sheet, NULL, 0, NULL, 0);
     xmf_write_sheet(file, length, nodes, XMF_ALL_NODE_WORDS, items, XMF_ALL_ITEM_WORDS, sheet, sizeof sheet, NULL, 0);
     if (sheet[0] != 'X') {
         printf("write_sheet without an answer: no sheet\n");

@@ -11,7 +11,7 @@ ghost use Rattle.mobile.specs.Told as told_mobile;
 ghost use Rattle.account.specs.Told as told_account;
 ghost use Rattle.account.specs.Told.{kindWords, totalWords, totalsIn};
 ghost use Rattle.room.specs.Told as told_room;
-ghost use Rattle.promises.specs.Promises.{readTree, findItem, findOwn, resolveRow, copyResource, countFor, judgeMobile, writeSheet, correctTitle, toUtf8, toUtf16, saying, treeValues, itemValues, resourceValues, oneValue};
+ghost use Rattle.promises.specs.Promises.{readTree, findItem, findOwn, resolveRow, copyResource, countFor, judgeMobile, writeSheet, writeSheet2, correctTitle, toUtf8, toUtf16, moveSheet, saying, treeValues, itemValues, resourceValues, oneValue};
 ghost use Rattle.capi.specs.Fit.{fit, stored, asked, Leaves, totalsOf, LeavesTotals};
 use account::Accounted;
 use account::Kinds;
@@ -378,6 +378,20 @@ pub extern "C" fn xmf_write_sheet(
     put_written(answer, sheet::write_sheet(file, nodes, items, sheet));
 }
 
+// Writes the support sheet in its second edition. Answer: bytes written.
+#[no_mangle]
+pub extern "C" fn xmf_write_sheet2(
+    file: &[u8],
+    nodes: &mut [u64],
+    items: &mut [u64],
+    sheet: &mut [u8],
+    answer: &mut [u64],
+)
+    ensures { λ _. ⌜ Leaves writeSheet2 (now (file .entry)) (now (nodes .entry) ∷ now (items .entry) ∷ now (sheet .entry) ∷ []) (now (nodes .exit) ∷ now (items .exit) ∷ now (sheet .exit) ∷ []) (now (answer .entry)) (now (answer .exit)) ⌝ }
+{
+    put_written(answer, sheet::write_sheet2(file, nodes, items, sheet));
+}
+
 // Writes the file anew with a title as the data of an item row. Answer: bytes written. The new file holds the hidden bytes of the old one.
 #[no_mangle]
 pub extern "C" fn xmf_correct_title(
@@ -412,4 +426,12 @@ pub extern "C" fn xmf_utf8_to_utf16(text: &[u8], units: &mut [u8], answer: &mut 
     ensures { λ _. ⌜ Leaves (toUtf16 (now (text .entry))) [] (now (units .entry) ∷ []) (now (units .exit) ∷ []) (now (answer .entry)) (now (answer .exit)) ⌝ }
 {
     put_written(answer, unicode::to_utf16(text, units));
+}
+
+// Moves a sheet to the other edition. Answer: bytes written.
+#[no_mangle]
+pub extern "C" fn xmf_move_sheet(sheet: &[u8], out: &mut [u8], answer: &mut [u64])
+    ensures { λ _. ⌜ Leaves (moveSheet (now (sheet .entry))) [] (now (out .entry) ∷ []) (now (out .exit) ∷ []) (now (answer .entry)) (now (answer .exit)) ⌝ }
+{
+    put_written(answer, mover::move_sheet(sheet, out));
 }

@@ -4,8 +4,9 @@ ghost use lib.ListN.{length};
 use libc::STDIN_FILENO;
 use room::Written;
 
-// Lends the first `n` node words, the first `m` item words and the first `room` bytes.
+// Lends the first `n` node words, the first `m` item words and the first `room` bytes; `second`: for the second edition.
 fn write(
+    second: bool,
     file: &[u8],
     nodes: &mut [u64],
     n: usize,
@@ -16,6 +17,14 @@ fn write(
 ) -> Written
     requires { ⌜ (n ≤ length (now nodes)) × (m ≤ length (now items)) × (room ≤ length (now bytes)) ⌝ }
 {
+    if second {
+        return sheet::write_sheet2(
+            file,
+            &mut nodes[0..n],
+            &mut items[0..m],
+            &mut bytes[0..room],
+        );
+    }
     sheet::write_sheet(
         file,
         &mut nodes[0..n],
@@ -57,7 +66,9 @@ fn run_case(
     }
     let k = case.bytes;
     let size = room.value;
+    let second = casetext::field(line, 0).len() == 6;
     let answer = write(
+        second,
         &file[..k],
         nodes,
         case.nodes,

@@ -60,8 +60,9 @@ use Rattle.account.proofs.ByPlace.{by-place}
 use Rattle.account.proofs.Listed.{account-listed, left-is, allowed-good}
 use Rattle.mobile.proofs.Depends.{verdict-depends}
 use Rattle.sheet.specs.Sheet as sheet
-use Rattle.sheet.proofs.Listed.{sheet-listed}
-use Rattle.sheet.proofs.Depends.{sheet-same}
+use Rattle.sheet.proofs.Listed.{sheet-listed, sheet2-listed}
+use Rattle.sheet.proofs.Depends.{Shown, sheet-same, sheet2-same}
+use Rattle.mover.proofs.Listed.{move-listed}
 use Rattle.title.specs.Title as title
 use Rattle.title.proofs.Again.{corrected, correct-says, correct-least, correct-only, correct-again}
 use Rattle.title.proofs.Listed.{title-listed}
@@ -72,11 +73,11 @@ use Rattle.room.proofs.Listed.{allowed-front, among-back, areApart, apart-place
 use Rattle.unicode.specs.Unicode as unicode
 use Rattle.unicode.proofs.Listed.{utf8-listed, utf16-listed}
 use Rattle.unicode.proofs.Back.{placed8, placed16, there-and-back, back-and-there}
-use Rattle.promises.specs.Promises.{Question, readTree, findItem, findOwn, resolveRow, copyResource, countFor, judgeMobile, accountBytes, writeSheet, correctTitle, toUtf8, toUtf16, Sizes, size, reads}
+use Rattle.promises.specs.Promises.{Question, readTree, findItem, findOwn, resolveRow, copyResource, countFor, judgeMobile, accountBytes, writeSheet, writeSheet2, correctTitle, toUtf8, toUtf16, moveSheet, Sizes, size, reads}
 use Rattle.promises.specs.Promises.{Tables, noTables, ofFile, ofWritten, Lent, filled, copied, given, changed, About, overRows, rowsIntoRoom, dataIntoRoom, treeValues, resourceValues, oneValue, sizeValue, bytes, about}
 use Rattle.promises.specs.Promises.{Outcome, saying, rowTables, tablesLent, lent, holding, answerTo, leaves, outcome, resource, IsRefusal, Accepted, InTables, newFile, AnsweredOf, Shows, IsAnswer, Demand1, FitsExactly, StepsMake, FirstApplies, UntilRoot, LieApart}
 use Rattle.promises.specs.Promises.{OnlyThere, PrivateAlone, AlikeIn, EachAlike, OutcomesAlike, Demand3, InTurn, Correction, Corrects, textOf, ButForMark, Undone, ThereAndBack, BackAndThere, Account, Accounts}
-use Rattle.promises.specs.Calls.{Called, left, Over, Fills, read-tree, find-item, find-own, resolve-row, copy-resource, count-for, judge, account, write-sheet, to-utf8, to-utf16, correct-title, EachLeaves, CallsAlike, PartsAlike}
+use Rattle.promises.specs.Calls.{Called, left, Over, Fills, read-tree, find-item, find-own, resolve-row, copy-resource, count-for, judge, account, write-sheet, write-sheet2, to-utf8, to-utf16, move-sheet, correct-title, EachLeaves, CallsAlike, PartsAlike}
 
 -- ---- which data may not differ
 
@@ -261,6 +262,17 @@ module _ (ls : Sizes) (f g : List ℕ) (h : Header) (ns : List Node) (is : List 
   unfolding mobile.mobile
   mobile-alike = ap good (sym (verdict-depends f g h ns is (fields-alike 3 tt) (fields-alike 13 tt)))
 
+  shown-alike : (i : ℕ) → i < length is → Shown f g (itemAt is i)
+  shown-alike i m = (λ e. data-alike i m (even-kept (itemAt is i) e), name-alike i m)
+
+  sheet-alike : (n : ℕ) → sheet.write n g h ns is ≡ sheet.write n f h ns is
+  unfolding sheet.write
+  sheet-alike n = ap (λ (s : List ℕ). sheet.fitting n (good s)) (sym (sheet-same f g h ns is (d .same-length) shown-alike))
+
+  sheet2-alike : (n : ℕ) → sheet.write2 n g h ns is ≡ sheet.write2 n f h ns is
+  unfolding sheet.write2
+  sheet2-alike n = ap (λ (s : List ℕ). sheet.fitting n (good s)) (sym (sheet2-same f g (d .same-length) (h .version) ns is shown-alike))
+
   -- a question that answers the same of the rows
   asks-alike : {A : Type 0} (x y : Header → List Node → List Item → Result A) → x h ns is ≡ y h ns is → ask (reads ls g) x ≡ ask (reads ls f) y
   unfolding ask
@@ -269,10 +281,6 @@ module _ (ls : Sizes) (f g : List ℕ) (h : Header) (ns : List Node) (is : List 
   account-alike : (t : Totals) → let lim : Limits = limits (size ls 0) (size ls 1) in allowed t (ask (reads ls g) (kindsOf lim g)) ≡ allowed t (ask (reads ls f) (kindsOf lim f))
   unfolding reads
   account-alike t = ap (allowed t) (asks-alike _ _ (kinds-alike (limits (size ls 0) (size ls 1)) f g r d))
-
-  sheet-alike : (n : ℕ) → sheet.write n g h ns is ≡ sheet.write n f h ns is
-  unfolding sheet.write
-  sheet-alike n = ap (λ (s : List ℕ). sheet.fitting n (good s)) (sym (sheet-same f g h ns is (d .same-length) (λ i m. (λ e. data-alike i m (even-kept (itemAt is i) e), name-alike i m))))
 
   same : (q : Question) → answerTo ls g (about q .asks ls) ≡ answerTo ls f (about q .asks ls) → Alike₂ (about q) ls f g (answerTo ls f (about q .asks ls)) (answerTo ls g (about q .asks ls))
   same q e = same-alike (about q) ls f g (d .same-length) reads-same e
@@ -291,9 +299,11 @@ module _ (ls : Sizes) (f g : List ℕ) (h : Header) (ns : List Node) (is : List 
   outcome-alike judgeMobile = same judgeMobile (asks-alike _ _ mobile-alike)
   outcome-alike (accountBytes t) = same (accountBytes t) (account-alike t)
   outcome-alike writeSheet = same writeSheet (asks-alike _ _ (sheet-alike (size ls 2)))
+  outcome-alike writeSheet2 = same writeSheet2 (asks-alike _ _ (sheet2-alike (size ls 2)))
   outcome-alike (correctTitle i text) = title-leaves i text ls f g (title-alike i text)
   outcome-alike (toUtf8 units) = same (toUtf8 units) refl
   outcome-alike (toUtf16 text) = same (toUtf16 text) refl
+  outcome-alike (moveSheet s) = same (moveSheet s) refl
 
 -- ---- the resource itself
 
@@ -393,10 +403,12 @@ called (account {nodes} {items} {f} totals r a b t u) =
     let w = ap totalWords (b ∙ left-is lim f totals) ∙ in-totals f _ totals (allowed totals (ask (readFile lim f) (kindsOf lim f))) in
     made (ap (saying kindWords) a) (two (t ∙ in-nodes _ _ _ _ _) (u ∙ in-items _ _ _ _ _) (one w))
 called (write-sheet {sheet = s} r k t u) = let w = in-buffer _ _ (length s) _ in made (ap (saying oneValue) (k .answers) ∙ w .0) (two (t ∙ in-nodes _ _ _ _ _) (u ∙ in-items _ _ _ _ _) (one (k .in-buffer ∙ w .1)))
+called (write-sheet2 {sheet = s} r k t u) = let w = in-buffer _ _ (length s) _ in made (ap (saying oneValue) (k .answers) ∙ w .0) (two (t ∙ in-nodes _ _ _ _ _) (u ∙ in-items _ _ _ _ _) (one (k .in-buffer ∙ w .1)))
 called (correct-title {out = s} item text r k t u) =
     let w = in-buffer _ _ (length s) _ in let x = in-written _ _ _ _ _ _ in made (ap (saying oneValue) (k .answers) ∙ w .0) (two (t ∙ x .0) (u ∙ x .1) (one (k .in-buffer ∙ w .2)))
 called (to-utf8 r k) = room-called _ _ k
 called (to-utf16 r k) = room-called _ _ k
+called (move-sheet r k) = room-called _ _ k
 
 pub each-leaves : EachLeaves
 each-leaves q lends f o k = called k
@@ -633,9 +645,11 @@ meets (countFor item channel resource) = rows-meet _ _ _ _ (count-listed item ch
 meets judgeMobile = over-meets _ _ _ _ tt mobile-listed (λ a. refl)
 meets (accountBytes t) = account-meets t
 meets writeSheet = room-meets sheet.write _ tt sheet-listed
+meets writeSheet2 = room-meets sheet.write2 _ tt sheet2-listed
 meets (correctTitle i text) = title-meets i text
 meets (toUtf8 units) = data-meets _ _ tt tt (utf8-listed units)
 meets (toUtf16 text) = data-meets _ _ tt tt (utf16-listed text)
+meets (moveSheet s) = data-meets _ _ tt tt (move-listed s)
 
 choice : (q : Question) (ls : Sizes) (f : List ℕ) → IsRefusal (about q) ls f (outcome q ls f) ⊎ IsAnswer (about q) ls f (outcome q ls f)
 unfolding outcome

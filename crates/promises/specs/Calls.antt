@@ -34,14 +34,15 @@ use Rattle.account.specs.Told as accounted
 use Rattle.account.specs.Told.{kindWords, totalWords, totalsIn}
 use Rattle.account.specs.declared.Totals.{Totals}
 use Rattle.account.specs.declared.Accounted.{Accounted}
-use Rattle.sheet.specs.Sheet.{write}
+use Rattle.sheet.specs.Sheet.{write, write2}
+use Rattle.mover.specs.Sheets.{move}
 use Rattle.title.specs.Title as title
 use Rattle.room.specs.Room as room
 use Rattle.room.specs.Told as written
 use Rattle.room.specs.declared.Written.{Written}
 use Rattle.unicode.specs.Unicode as unicode
 use Rattle.promises.specs.Promises as promises
-use Rattle.promises.specs.Promises.{Question, readTree, findItem, resolveRow, copyResource, judgeMobile, accountBytes, writeSheet, correctTitle, toUtf8, toUtf16, Outcome, saying, treeValues, itemValues, resourceValues, oneValue, about, outcome, OnlyThere, OutcomesAlike}
+use Rattle.promises.specs.Promises.{Question, readTree, findItem, resolveRow, copyResource, judgeMobile, accountBytes, writeSheet, writeSheet2, correctTitle, toUtf8, toUtf16, moveSheet, Outcome, saying, treeValues, itemValues, resourceValues, oneValue, about, outcome, OnlyThere, OutcomesAlike}
 
 -- what a call left: the answer's words, and the tables and buffers
 abbrev pub left : {A : Type 0} → (values : A → List ℕ) → Result A → List (List ℕ) → Outcome
@@ -99,6 +100,11 @@ pub data Called : Question → (lent : List (List ℕ)) → (file : List ℕ) �
       → Fills (answered nodes items f (write (length sheet))) sheet (written.told r) v
       → t ≡ nodesLeft nodes items f (write (length sheet)) → u ≡ itemsLeft nodes items f (write (length sheet))
       → Called writeSheet (nodes ∷ items ∷ sheet ∷ []) f (left oneValue (written.told r) (t ∷ u ∷ v ∷ []))
+  -- sheet::write_sheet2
+  write-sheet2 : {nodes items sheet f t u v : List ℕ} (r : Written)
+      → Fills (answered nodes items f (write2 (length sheet))) sheet (written.told r) v
+      → t ≡ nodesLeft nodes items f (write2 (length sheet)) → u ≡ itemsLeft nodes items f (write2 (length sheet))
+      → Called writeSheet2 (nodes ∷ items ∷ sheet ∷ []) f (left oneValue (written.told r) (t ∷ u ∷ v ∷ []))
   -- retitle::correct_title
   correct-title : {nodes items out f t u v : List ℕ} (item : ℕ) (text : List ℕ) (r : Written)
       → Fills (answered nodes items f (title.correctTitle item text (length out))) out (written.told r) v
@@ -113,6 +119,10 @@ pub data Called : Question → (lent : List (List ℕ)) → (file : List ℕ) �
   to-utf16 : {buffer f text v : List ℕ} (r : Written)
       → Fills (room.fitting (length buffer) (unicode.toUtf16 text)) buffer (written.told r) v
       → Called (toUtf16 text) (buffer ∷ []) f (left oneValue (written.told r) (v ∷ []))
+  -- mover::move_sheet
+  move-sheet : {buffer f sheet v : List ℕ} (r : Written)
+      → Fills (room.fitting (length buffer) (move sheet)) buffer (written.told r) v
+      → Called (moveSheet sheet) (buffer ∷ []) f (left oneValue (written.told r) (v ∷ []))
 
 -- ---- What is promised of calls, whatever their tables and buffers held.
 

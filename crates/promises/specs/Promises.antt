@@ -2,6 +2,7 @@
 -- the proofs in proofs/Kept.antt.
 -- Assumes nothing.
 use mathlib.Core.Path.{_≡_}
+use mathlib.Core.Bool.{Bool, true, false, not}
 use mathlib.Core.Logic.{_⊎_}
 use mathlib.Core.List.{List, [], _∷_, _++_, map}
 use Prim.Native.Nat.{ℕ, _+_, _*_, _≤_, _<_}
@@ -9,7 +10,7 @@ use lib.Dec.{T}
 use lib.ListN.{length, getD, replicate, take, drop}
 use Rattle.cursor.specs.Machine.{FirstAt}
 use Rattle.cursor.specs.Rows.{Events}
-use Rattle.cursor.specs.Refusals.{noRowLeft, badText, ofReader, inFile, isOneOf, isAllowed}
+use Rattle.cursor.specs.Refusals.{noRowLeft, badText, badSheet, ofReader, inFile, isOneOf, isAllowed}
 use Rattle.cursor.specs.Vlq.{part}
 use Rattle.cursor.specs.declared.Node.{Node}
 use Rattle.cursor.specs.declared.Item.{Item}
@@ -33,6 +34,8 @@ use Rattle.account.specs.declared.Totals.{Totals}
 use Rattle.description.specs.Count as count
 use Rattle.mobile.specs.Mobile as mobile
 use Rattle.sheet.specs.Sheet as sheet
+use Rattle.mover.specs.Sheets as mover
+use Rattle.mover.specs.Sheets.{WellFormed, OtherEdition}
 use Rattle.title.specs.Description.{described, retitled}
 use Rattle.title.specs.Title as title
 use Rattle.title.specs.Title.{Bytes, Says, NowhereLonger}
@@ -41,7 +44,7 @@ use Rattle.unicode.specs.Unicode as unicode
 
 -- ---- questions
 
--- what a call is asked, besides the file: every argument that is no table and no buffer to be filled. The last two have no file.
+-- what a call is asked, besides the file: every argument that is no table and no buffer to be filled. The last three have no file.
 pub data Question : Type 0 where
   readTree : Question
   findItem : find.Wanted → (row : ℕ) → Question
@@ -52,9 +55,11 @@ pub data Question : Type 0 where
   judgeMobile : Question
   accountBytes : Totals → Question
   writeSheet : Question
+  writeSheet2 : Question
   correctTitle : (item : ℕ) → (title : List ℕ) → Question
   toUtf8 : (units : List ℕ) → Question
   toUtf16 : (text : List ℕ) → Question
+  moveSheet : (sheet : List ℕ) → Question
 
 -- The sizes of what is lent, in the order of the call: with a file the node table and the item table, in words; then buffers, in bytes.
 abbrev pub Sizes : Type 0
@@ -175,6 +180,7 @@ about (accountBytes t) = record {
   buffers = λ ls. changed (λ n. totalWords (afterRefusal t n)) (λ k. totalWords (added t k)) ∷ [];
 }
 about writeSheet = rowsIntoRoom sheet.write sheet.refusals
+about writeSheet2 = rowsIntoRoom sheet.write2 sheet.refusals
 about (correctTitle i text) = record {
   Answer = List ℕ;
   asks = λ ls. ofRows (title.correctTitle i text (size ls 2));
@@ -186,6 +192,7 @@ about (correctTitle i text) = record {
 }
 about (toUtf8 units) = dataIntoRoom (unicode.toUtf8 units) unicode.refusals
 about (toUtf16 text) = dataIntoRoom (unicode.toUtf16 text) unicode.refusals
+about (moveSheet s) = dataIntoRoom (mover.move s) mover.refusals
 
 -- ---- what a call leaves
 
@@ -438,3 +445,34 @@ pub record Account (ls : Sizes) (f counts : List ℕ) : Type 0 where
 
 abbrev pub Accounts : Type 0
 Accounts = (t : Totals) (ls : Sizes) (f counts : List ℕ) → outcome (accountBytes t) ls f .answer ≡ 0 ∷ 0 ∷ counts → Account ls f counts
+
+-- ---- The two editions of the sheet. A sheet that is well formed, of either edition, has another edition, which is well formed too: the same first line but for its word, the
+-- same node lines and the same item lines, each in their order. Moving the one leaves the other, and moving that leaves the same bytes again. No other sheet is moved, and where
+-- one is not well formed, the refusal is placed at one of its lines, numbered from 1.
+
+-- what is left in room of so many bytes by a call that wrote these
+abbrev pub wrote : (room : ℕ) → List ℕ → Outcome
+wrote n t = record { answer = 0 ∷ 0 ∷ length t ∷ []; holds = room.padded n t ∷ [] }
+
+pub record Moves (second : Bool) (s : List ℕ) : Type 0 where
+  pub moved : List ℕ
+  pub edition : OtherEdition second s moved
+  pub over : (n : ℕ) (f : List ℕ) → length moved ≤ n → outcome (moveSheet s) (n ∷ []) f ≡ wrote n moved
+  pub back : (n : ℕ) (f : List ℕ) → length s ≤ n → outcome (moveSheet moved) (n ∷ []) f ≡ wrote n s
+
+abbrev pub OverAndBack : Type 0
+OverAndBack = ((second : Bool) (s : List ℕ) → WellFormed second s → Moves second s)
+    × ((s f : List ℕ) (ls : Sizes) (n : ℕ) → outcome (moveSheet s) ls f .answer ≡ 0 ∷ 0 ∷ n ∷ [] → (second : Bool) × WellFormed second s)
+    × ((s f : List ℕ) (ls : Sizes) (p : ℕ) → outcome (moveSheet s) ls f .answer ≡ badSheet ∷ p ∷ [] → (1 ≤ p) × (p ≤ length (mover.lines s)))
+
+-- And of every file: the sheet that is written of it, in either edition, is well formed; and moving it, with whatever room, answers and leaves what writing the other edition
+-- of that file with as much room does.
+abbrev pub writes : (second : Bool) → Question
+writes false = writeSheet
+writes true = writeSheet2
+
+abbrev pub SheetsMove : Type 0
+SheetsMove = (second : Bool) (ls : Sizes) (f : List ℕ) → ((i : ℕ) → getD f i 0 < 256) → (n : ℕ) → outcome (writes second) ls f .answer ≡ 0 ∷ 0 ∷ n ∷ []
+    → let s : List ℕ = newFile (outcome (writes second) ls f) in
+    WellFormed second s
+    × ((m : ℕ) → let o : Outcome = outcome (writes (not second)) (size ls 0 ∷ size ls 1 ∷ m ∷ []) f in outcome (moveSheet s) (m ∷ []) f ≡ record { answer = o .answer; holds = drop 2 (o .holds) })

@@ -3,10 +3,10 @@
 use mathlib.Core.Path.{_≡_, refl, ap, ap₂}
 use mathlib.Core.Bool.{Bool, true, false, cond}
 use mathlib.Core.List.{List, [], _∷_, _++_}
-use Prim.Native.Nat.{ℕ, suc, _%_, _<_}
+use Prim.Native.Nat.{ℕ, zero, suc, _+_, _%_, _<_}
 use native.Mathlib.Omega.{arith}
 use lib.Dec.{eqb}
-use lib.ListN.{length}
+use lib.ListN.{length, take, drop}
 use borrow.Author.Tests.{eqb-true, eqb-false}
 use Rattle.cursor.specs.declared.Node.{Node}
 use Rattle.cursor.specs.declared.Item.{Item}
@@ -15,7 +15,7 @@ use Rattle.header.specs.Header.{Header}
 use Rattle.tree.specs.Rows.{itemAt}
 use Rattle.tree.specs.Hidden.{isHidden}
 use Rattle.unicode.specs.Unicode.{bytesAll}
-use Rattle.sheet.specs.Sheet.{escaped, escapedPart, unicodeText, tabbed, number, label, textOf, itemLine, visibleLine, itemLines, linesOf, sheetOf}
+use Rattle.sheet.specs.Sheet.{escaped, escapedPart, unicodeText, tabbed, number, label, textOf, itemLine, visibleLine, itemLines, linesOf, sheetOf, groupLines, lines2Of}
 
 -- the files agree on a row's data where its format is even, and on its custom name
 abbrev pub Shown : List ℕ → List ℕ → Item → Type 0
@@ -58,3 +58,29 @@ items-same f g e (r ∷ is) h = ap₂ (λ (a : List ℕ) (b : List ℕ). a ++ b)
 pub sheet-same : (f g : List ℕ) (h : Header) (ns : List Node) (is : List Item) → length f ≡ length g → ((i : ℕ) → i < length is → Shown f g (itemAt is i)) → sheetOf f h ns is ≡ sheetOf g h ns is
 unfolding sheetOf linesOf
 sheet-same f g h ns is e s = rw (e, items-same f g e is s)
+
+-- ---- the second edition, which shows the same rows in another order
+
+module _ (f g : List ℕ) (e : length f ≡ length g) where
+  abbrev AllShown : List Item → Type 0
+  AllShown is = (i : ℕ) → i < length is → Shown f g (itemAt is i)
+
+  taken-shown : (c : ℕ) (is : List Item) → AllShown is → AllShown (take c is)
+  taken-shown zero is h i l = absurd (omega arith)
+  taken-shown (suc c) [] h i l = absurd (omega arith)
+  taken-shown (suc c) (r ∷ is) h zero l = h 0 (omega arith)
+  taken-shown (suc c) (r ∷ is) h (suc i) l = taken-shown c is (λ j m. h (suc j) (omega arith)) i (omega arith)
+
+  dropped-shown : (c : ℕ) (is : List Item) → AllShown is → AllShown (drop c is)
+  dropped-shown zero is h = h
+  dropped-shown (suc c) [] h = h
+  dropped-shown (suc c) (r ∷ is) h = dropped-shown c is (λ j m. h (suc j) (omega arith))
+
+  groups-same : (k : ℕ) (ns : List Node) (is : List Item) → AllShown is → groupLines f k ns is ≡ groupLines g k ns is
+  unfolding groupLines
+  groups-same k [] is h = refl
+  groups-same k (r ∷ ns) is h = rw (items-same f g e (take (r .rows) is) (taken-shown (r .rows) is h), groups-same (k + 1) ns (drop (r .rows) is) (dropped-shown (r .rows) is h))
+
+  pub sheet2-same : (version : ℕ) (ns : List Node) (is : List Item) → AllShown is → lines2Of version f ns is ≡ lines2Of version g ns is
+  unfolding lines2Of
+  sheet2-same version ns is h = rw (e, groups-same 0 ns is h)

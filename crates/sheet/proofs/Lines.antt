@@ -1,20 +1,20 @@
 -- The definitions of the sheet, step by step as the code takes them.
 -- Assumes nothing.
-use mathlib.Core.Path.{_≡_, refl}
-use mathlib.Core.Logic.{inl, inr}
+use mathlib.Core.Path.{_≡_, refl, sym, ap, ap₂, _∙_}
+use mathlib.Core.Bool.{Bool, true, false}
 use mathlib.Core.List.{List, [], _∷_, _++_, append-assoc}
-use Prim.Native.Nat.{ℕ, suc, _+_, _*_, _-_, _/_, _%_, _≤_, _<_}
+use Prim.Native.Nat.{ℕ, zero, suc, _+_, _*_, _-_, _/_, _%_, _≤_, _<_, min}
 use native.Mathlib.Omega.{arith}
-use lib.ListN.{length}
+use lib.ListN.{length, take, drop}
 use borrow.Author.Tests.{eq-eqb, ne-eqb}
 use Rattle.cursor.specs.declared.Node.{Node}
 use Rattle.cursor.specs.declared.Item.{Item}
 use Rattle.metadata.specs.Tables.{nodeWidth, itemWidth}
-use Rattle.tree.specs.Rows.{nodeFrom, itemFrom, nodesFrom, itemsFrom, nodesIn, itemsIn, ItemIn, rowsFrom}
+use Rattle.tree.specs.Rows.{nodeFrom, itemFrom, nodesFrom, itemsFrom, nodesIn, itemsIn, rowsFrom}
 use Rattle.tree.proofs.Rows.{nodes-in-length, items-in-length}
 use Rattle.tree.specs.Hidden.{isHidden}
 use Rattle.room.specs.Decimal.{decimal}
-use Rattle.sheet.specs.Sheet.{escapedPart, unicodeText, tabbed, number, versionText, firstLine, nodeLine, label, textOf, itemLine, visibleLine, nodeLines, itemLines, linesOf}
+use Rattle.sheet.specs.Sheet.{escapedPart, unicodeText, tabbed, number, versionText, headFields, firstLine, nodeLine, label, textOf, itemLine, visibleLine, nodeLines, itemLines, linesOf, firstLine2, groupLines, lines2Of, linesIn}
 
 -- ---- lines, as the bytes that are put one after the other
 
@@ -25,11 +25,6 @@ number-is n = refl
 pub version-is : (v : ℕ) → decimal (v / 100) ++ (0x2E ∷ []) ++ decimal (v / 10 % 10) ++ decimal (v % 10) ≡ versionText v
 unfolding versionText
 version-is v = simp append-assoc
-
-pub first-is : (v size n m : ℕ)
-    → (0x58 ∷ 0x4D ∷ 0x46 ∷ 0x09 ∷ []) ++ versionText v ++ number size ++ number n ++ number m ++ (0x0A ∷ []) ≡ firstLine v size n m
-unfolding firstLine tabbed
-first-is v size n m = refl
 
 pub node-is : (i : ℕ) (r : Node)
     → (0x4E ∷ []) ++ number i ++ number (r .parent) ++ number (r .depth) ++ number (r .reference) ++ number (r .target) ++ number (r .extent) ++ (0x0A ∷ []) ≡ nodeLine i r
@@ -54,9 +49,22 @@ pub text-plain : (f : List ℕ) (r : Item) → (r .format ≡ 2 → ⊥) → esc
 unfolding textOf
 text-plain f r n = simp (ne-eqb (r .format) 2 n)
 
-pub lines-are : (v n m : ℕ) (f ws us : List ℕ) → firstLine v (length f) n m ++ nodeLines 0 (nodesIn n ws) ++ itemLines f (itemsIn m us) ≡ linesOf v f (nodesIn n ws) (itemsIn m us)
-unfolding linesOf
-lines-are v n m f ws us = rw (nodes-in-length ws n, items-in-length us m)
+-- the sheet of rows that stand in tables, in either edition
+module _ (v n m : ℕ) (f ws us : List ℕ) where
+  abbrev ns : List Node
+  ns = nodesIn n ws
+
+  abbrev is : List Item
+  is = itemsIn m us
+
+  pub put-first : {second : Bool} → second ≡ false
+      → (0x58 ∷ 0x4D ∷ 0x46 ∷ 0x09 ∷ []) ++ headFields v (length f) n m ++ nodeLines 0 ns ++ itemLines f (itemsFrom 0 (m - 0) us) ≡ linesIn second v f ns is
+  unfolding linesOf firstLine tabbed itemsIn
+  put-first e = let z : m - 0 ≡ m = omega arith in rw (e, z, nodes-in-length ws n, items-in-length us m)
+
+  pub put-second : {second : Bool} → second ≡ true → (0x58 ∷ 0x4D ∷ 0x46 ∷ 0x32 ∷ 0x09 ∷ []) ++ headFields v (length f) n m ++ groupLines f 0 ns is ≡ linesIn second v f ns is
+  unfolding lines2Of firstLine2 tabbed
+  put-second e = rw (e, nodes-in-length ws n, items-in-length us m)
 
 -- ---- rows
 
@@ -82,10 +90,6 @@ module _ (ws : List ℕ) (count : ℕ) where
     unfolding rowsFrom itemLines
     items-end i l = let e : count - i ≡ 0 = omega arith in rw e
 
-    pub items-start : itemLines f (itemsIn count ws) ≡ itemLines f (itemsFrom 0 (count - 0) ws)
-    unfolding itemsIn
-    items-start = let e : count - 0 ≡ count = omega arith in rw e
-
 module _ (f : List ℕ) (r : Item) where
   pub label-custom : r .kind ≡ 1 → (0x09 ∷ []) ++ (0x43 ∷ []) ++ (0x09 ∷ []) ++ escapedPart f (r .field) (r .nameLength) ≡ label f r
   unfolding label tabbed
@@ -102,3 +106,52 @@ module _ (f : List ℕ) (r : Item) where
   pub line-shown : {x : Item} → x ≡ r → (x .format % 2 ≡ 1 → ⊥) → itemLine f r ≡ visibleLine f r
   unfolding visibleLine isHidden
   line-shown h n = simp (ne-eqb (r .format % 2) 1 (rw h at n))
+
+-- ---- the second edition
+
+-- of rows from i on, the first so many, and those behind them
+take-rows : (us : List ℕ) (c i n m : ℕ) → m ≡ min c n → take c (itemsFrom i n us) ≡ itemsFrom i m us
+unfolding rowsFrom
+take-rows us zero i n m e = let z : 0 ≡ m = omega arith in ap (λ k. itemsFrom i k us) z
+take-rows us (suc c) i zero m e = let z : 0 ≡ m = omega arith in ap (λ k. itemsFrom i k us) z
+take-rows us (suc c) i (suc n) m e =
+    let z : suc (m - 1) ≡ m = omega arith in
+    ap (λ v. itemFrom us (i * itemWidth) ∷ v) (take-rows us c (i + 1) n (m - 1) (omega arith)) ∙ ap (λ k. itemsFrom i k us) z
+
+drop-rows : (us : List ℕ) (c i n m : ℕ) → m ≡ min c n → drop c (itemsFrom i n us) ≡ itemsFrom (i + m) (n - m) us
+unfolding rowsFrom
+drop-rows us zero i n m e =
+    let x : i ≡ i + m = omega arith in
+    let y : n ≡ n - m = omega arith in
+    ap₂ (λ j k. itemsFrom j k us) x y
+drop-rows us (suc c) i zero m e =
+    let y : 0 ≡ 0 - m = omega arith in
+    ap (λ k. itemsFrom (i + m) k us) y
+drop-rows us (suc c) i (suc n) m e =
+    let x : i + 1 + (m - 1) ≡ i + m = omega arith in
+    let y : n - (m - 1) ≡ suc n - m = omega arith in
+    drop-rows us c (i + 1) n (m - 1) (omega arith) ∙ ap₂ (λ j k. itemsFrom j k us) x y
+
+module _ (f ws us : List ℕ) (rows contents : ℕ) where
+  abbrev groups : (i first : ℕ) → List ℕ
+  groups i first = groupLines f i (nodesFrom i (rows - i) ws) (itemsFrom first (contents - first) us)
+
+  pub groups-start : groups 0 0 ≡ groupLines f 0 (nodesIn rows ws) (itemsIn contents us)
+  unfolding nodesIn itemsIn
+  groups-start = let x : rows - 0 ≡ rows = omega arith in let y : contents - 0 ≡ contents = omega arith in rw (x, y) refl
+
+  pub groups-end : (i first : ℕ) → rows ≤ i → groups i first ≡ []
+  unfolding rowsFrom groupLines
+  groups-end i first l = let e : rows - i ≡ 0 = omega arith in rw e refl
+
+  pub groups-on : (i first end : ℕ) → i < rows → first ≤ contents → {r : Node} → r ≡ nodeFrom ws (i * nodeWidth) → end ≡ first + min (r .rows) (contents - first)
+      → groups i first ≡ nodeLine i r ++ (itemLines f (itemsFrom first (end - first) us) ++ groups (i + 1) end)
+  unfolding rowsFrom groupLines
+  groups-on i first end l h {r} e w =
+      let n : rows - i ≡ suc (rows - (i + 1)) = omega arith in
+      let m : end - first ≡ min (r .rows) (contents - first) = omega arith in
+      let x : first + (end - first) ≡ end = omega arith in
+      let y : contents - first - (end - first) ≡ contents - end = omega arith in
+      ap (λ k. groupLines f i (nodesFrom i k ws) (itemsFrom first (contents - first) us)) n
+      ∙ ap (λ (v : Node). groupLines f i (v ∷ nodesFrom (i + 1) (rows - (i + 1)) ws) (itemsFrom first (contents - first) us)) (sym e)
+      ∙ rw (take-rows us (r .rows) first (contents - first) (end - first) m, drop-rows us (r .rows) first (contents - first) (end - first) m, x, y, append-assoc)

@@ -1,10 +1,10 @@
--- The support sheet (01, Support sheet; 02, E6): lines of fields, written with bytes. And what the question answers.
+-- The support sheet (01, Support sheet; 02, E6 and E8): lines of fields, written with bytes, in two editions. And what the questions answer.
 -- Assumes nothing.
 use mathlib.Core.Bool.{Bool, cond, not, _&&_}
 use mathlib.Core.List.{List, [], _∷_, _++_}
 use Prim.Native.Nat.{ℕ, _+_, _/_, _%_}
 use lib.Dec.{ltb, leb, eqb}
-use lib.ListN.{length, getD}
+use lib.ListN.{length, getD, take, drop}
 use Rattle.cursor.specs.Vlq.{part}
 use Rattle.cursor.specs.declared.Node.{Node}
 use Rattle.cursor.specs.declared.Item.{Item}
@@ -72,9 +72,13 @@ number n = tabbed (decimal n)
 unfoldable pub versionText : ℕ → List ℕ
 versionText v = decimal (v / 100) ++ 0x2E ∷ decimal (v / 10 % 10) ++ decimal (v % 10)
 
--- `XMF`, version, the file's length, node count, item row count
+-- version, the file's length, node count, item row count
+abbrev pub headFields : (version size nodes items : ℕ) → List ℕ
+headFields version size nodes items = versionText version ++ number size ++ number nodes ++ number items ++ 0x0A ∷ []
+
+-- `XMF` and these
 unfoldable pub firstLine : (version size nodes items : ℕ) → List ℕ
-firstLine version size nodes items = 0x58 ∷ 0x4D ∷ 0x46 ∷ tabbed (versionText version) ++ number size ++ number nodes ++ number items ++ 0x0A ∷ []
+firstLine version size nodes items = 0x58 ∷ 0x4D ∷ 0x46 ∷ tabbed (headFields version size nodes items)
 
 -- `N`, row, parent, depth, reference, target, extent
 unfoldable pub nodeLine : ℕ → Node → List ℕ
@@ -114,12 +118,37 @@ linesOf version f ns is = firstLine version (length f) (length ns) (length is) +
 unfoldable pub sheetOf : List ℕ → Header → List Node → List Item → List ℕ
 sheetOf f h ns is = linesOf (h .version) f ns is
 
--- ---- the question
+-- ---- its second edition (02, E8): the lines of a row's items stand behind the row's own line
+
+-- `XMF2`, and the rest as in the first edition
+unfoldable pub firstLine2 : (version size nodes items : ℕ) → List ℕ
+firstLine2 version size nodes items = 0x58 ∷ 0x4D ∷ 0x46 ∷ 0x32 ∷ tabbed (headFields version size nodes items)
+
+-- from row k on, each row's line and the lines of as many items as the row counts
+unfoldable pub groupLines : List ℕ → ℕ → List Node → List Item → List ℕ
+groupLines f k [] is = []
+groupLines f k (r ∷ rs) is = nodeLine k r ++ itemLines f (take (r .rows) is) ++ groupLines f (k + 1) rs (drop (r .rows) is)
+
+unfoldable pub lines2Of : ℕ → List ℕ → List Node → List Item → List ℕ
+lines2Of version f ns is = firstLine2 version (length f) (length ns) (length is) ++ groupLines f 0 ns is
+
+-- either edition
+abbrev pub linesIn : (second : Bool) → ℕ → List ℕ → List Node → List Item → List ℕ
+linesIn second = cond second lines2Of linesOf
+
+-- ---- the questions
 
 -- the sheet, if a buffer of `room` bytes holds it
 unfoldable pub write : (room : ℕ) → Asks (List ℕ)
 write room f h ns is = fitting room (good (sheetOf f h ns is))
 
--- its own refusals, after the reader's
+-- its second edition
+unfoldable pub write2 : (room : ℕ) → Asks (List ℕ)
+write2 room f h ns is = fitting room (good (lines2Of (h .version) f ns is))
+
+abbrev pub writeIn : (second : Bool) (room : ℕ) → Asks (List ℕ)
+writeIn second = cond second write2 write
+
+-- their own refusals, after the reader's
 abbrev pub refusals : List ℕ
 refusals = noRoom ∷ []

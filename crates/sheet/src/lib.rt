@@ -1,13 +1,13 @@
-// Writes the support sheet of a file: its nodes and its visible metadata, as lines of text.
+// Writes the support sheet of a file: its nodes and its visible metadata, as lines of text, in two editions.
 ghost use mathlib.Core.Path.{_≡_};
 ghost use mathlib.Core.Bool.{true};
 ghost use mathlib.Core.List.{[]};
-ghost use Prim.Native.Nat.{ℕ, _≤_, _<_, _*_, _+_, _-_};
+ghost use Prim.Native.Nat.{_≤_, _<_, _*_, _+_, _-_, min};
 ghost use lib.ListN.{length};
 ghost use Rattle.metadata.specs.Tables.{nodeWidth, itemWidth};
-ghost use Rattle.tree.specs.Rows.{itemFrom, nodesIn, itemsIn, ItemIn, ItemRows};
+ghost use Rattle.tree.specs.Rows.{itemFrom, nodesIn, itemsFrom, itemsIn, ItemIn, ItemRows};
 ghost use Rattle.tree.specs.Asking.{answered, nodesLeft, itemsLeft};
-ghost use Rattle.sheet.specs.Sheet.{hexDigits, plain, hexed, escaped, escapedPart, shown, shownOr, unicodeText, number, versionText, firstLine, nodeLine, label, textOf, itemLine, visibleLine, nodeLines, itemLines, linesOf, write, counted, kept};
+ghost use Rattle.sheet.specs.Sheet.{hexDigits, plain, hexed, escaped, escapedPart, shown, shownOr, unicodeText, number, versionText, headFields, nodeLine, label, textOf, itemLine, visibleLine, nodeLines, itemLines, groupLines, linesIn, write, write2, writeIn, counted, kept};
 ghost use Rattle.room.specs.Counts.{Counts};
 ghost use Rattle.room.specs.Told.{told};
 ghost use Rattle.unicode.specs.Unicode.{utf8, toUtf8, isGood};
@@ -27,7 +27,7 @@ pub fn put_number(out: &mut [u8], to: usize, n: u64) -> usize
 }
 
 // Whether a byte stands for itself.
-fn is_plain(byte: u8) -> bool
+pub fn is_plain(byte: u8) -> bool
     ensures { λ r. ⌜ r ≡ plain byte ⌝ }
 {
     if byte < 0x20 {
@@ -43,7 +43,7 @@ fn is_plain(byte: u8) -> bool
 }
 
 // The lower-case hex digits.
-fn hex_digits() -> [u8; 16]
+pub fn hex_digits() -> [u8; 16]
     ensures { λ r. ⌜ r ≡ hexDigits ⌝ }
 {
     *b"0123456789abcdef"
@@ -122,8 +122,8 @@ pub fn put_version(out: &mut [u8], to: usize, version: u64) -> usize
     room::put_decimal(out, three, version % 10)
 }
 
-// Puts the first line.
-fn put_first(
+// Puts the first line behind its word and a tab: version, the file's length, the counts of rows.
+fn put_head_fields(
     out: &mut [u8],
     to: usize,
     version: u64,
@@ -131,14 +131,13 @@ fn put_first(
     nodes: usize,
     items: usize,
 ) -> usize
-    ensures { λ r. ⌜ Counts (now (out .entry)) (now (out .exit)) to (firstLine version size nodes items) r ⌝ }
+    ensures { λ r. ⌜ Counts (now (out .entry)) (now (out .exit)) to (headFields version size nodes items) r ⌝ }
 {
-    let a = room::put_bytes(out, to, b"XMF\t");
-    let b = put_version(out, a, version);
-    let c = put_number(out, b, size as u64);
-    let d = put_number(out, c, nodes as u64);
-    let e = put_number(out, d, items as u64);
-    room::put_byte(out, e, 0x0a)
+    let a = put_version(out, to, version);
+    let b = put_number(out, a, size as u64);
+    let c = put_number(out, b, nodes as u64);
+    let d = put_number(out, c, items as u64);
+    room::put_byte(out, d, 0x0a)
 }
 
 // Puts the line of a node row, which is row i.
@@ -265,21 +264,66 @@ pub fn put_visible_line(out: &mut [u8], to: usize, file: &[u8], items: &[u64], i
     put_item_line(out, to, file, items, i)
 }
 
-// Puts the lines of the visible item rows.
-fn put_item_lines(out: &mut [u8], to: usize, file: &[u8], items: &[u64], count: usize) -> usize
-    requires { ⌜ ItemRows (length (now file)) count (now items) ⌝ }
-    ensures { λ r. ⌜ Counts (now (out .entry)) (now (out .exit)) to (itemLines (now (file .entry)) (itemsIn count (now (items .entry)))) r ⌝ }
+// Puts the lines of the visible item rows from one row up to another.
+fn put_item_lines(
+    out: &mut [u8],
+    to: usize,
+    file: &[u8],
+    items: &[u64],
+    from: usize,
+    end: usize,
+) -> usize
+    requires { ⌜ (from ≤ end) × ItemRows (length (now file)) end (now items) ⌝ }
+    ensures { λ r. ⌜ Counts (now (out .entry)) (now (out .exit)) to (itemLines (now (file .entry)) (itemsFrom from (end - from) (now (items .entry)))) r ⌝ }
 {
     let mut next = to;
-    let mut i = 0;
-    while i < count {
+    let mut i = from;
+    while i < end {
         next = put_visible_line(out, next, file, items, i);
         i = i + 1;
     }
     next
 }
 
-// Puts the whole sheet of the rows that stand in the tables.
+// The end of so many rows from one row on, of which there are `count`.
+fn rows_end(from: usize, rows: u64, count: usize) -> usize
+    requires { ⌜ from ≤ count ⌝ }
+    ensures { λ r. ⌜ r ≡ from + min rows (count - from) ⌝ }
+{
+    if (count - from) as u64 <= rows {
+        return count;
+    }
+    from + rows as usize
+}
+
+// Puts the line of each node row, and behind it the lines of its visible item rows.
+fn put_group_lines(
+    out: &mut [u8],
+    to: usize,
+    file: &[u8],
+    nodes: &[u64],
+    items: &[u64],
+    rows: usize,
+    contents: usize,
+) -> usize
+    requires { ⌜ (rows * nodeWidth ≤ length (now nodes)) × ItemRows (length (now file)) contents (now items) ⌝ }
+    ensures { λ r. ⌜ Counts (now (out .entry)) (now (out .exit)) to (groupLines (now (file .entry)) 0 (nodesIn rows (now (nodes .entry))) (itemsIn contents (now (items .entry)))) r ⌝ }
+{
+    let mut next = to;
+    let mut i = 0;
+    let mut first = 0;
+    while i < rows {
+        let row = tree::node_at(nodes, i);
+        let end = rows_end(first, row.rows, contents);
+        next = put_node_line(out, next, i, row);
+        next = put_item_lines(out, next, file, items, first, end);
+        first = end;
+        i = i + 1;
+    }
+    next
+}
+
+// Puts the whole sheet of the rows that stand in the tables, in either edition.
 fn put_sheet(
     out: &mut [u8],
     file: &[u8],
@@ -288,21 +332,34 @@ fn put_sheet(
     version: u64,
     rows: usize,
     contents: usize,
+    second: bool,
 ) -> usize
     requires { ⌜ (rows * nodeWidth ≤ length (now nodes)) × ItemRows (length (now file)) contents (now items) ⌝ }
-    ensures { λ r. ⌜ Counts (now (out .entry)) (now (out .exit)) 0 (linesOf version (now (file .entry)) (nodesIn rows (now (nodes .entry))) (itemsIn contents (now (items .entry)))) r ⌝ }
+    ensures { λ r. ⌜ Counts (now (out .entry)) (now (out .exit)) 0 (linesIn second version (now (file .entry)) (nodesIn rows (now (nodes .entry))) (itemsIn contents (now (items .entry)))) r ⌝ }
 {
-    let one = put_first(out, 0, version, file.len(), rows, contents);
-    let two = put_node_lines(out, one, nodes, rows);
-    put_item_lines(out, two, file, items, contents)
+    if second {
+        let word = room::put_bytes(out, 0, b"XMF2\t");
+        let head = put_head_fields(out, word, version, file.len(), rows, contents);
+        return put_group_lines(out, head, file, nodes, items, rows, contents);
+    }
+    let word = room::put_bytes(out, 0, b"XMF\t");
+    let head = put_head_fields(out, word, version, file.len(), rows, contents);
+    let lines = put_node_lines(out, head, nodes, rows);
+    put_item_lines(out, lines, file, items, 0, contents)
 }
 
-// Reads a file and writes its support sheet.
-pub fn write_sheet(file: &[u8], nodes: &mut [u64], items: &mut [u64], sheet: &mut [u8]) -> Written
-    ensures answer { λ r. ⌜ told r ≡ counted (answered (now (nodes .entry)) (now (items .entry)) (now (file .entry)) (write (length (now (sheet .entry))))) ⌝ }
-    ensures nodes { λ _. ⌜ now (nodes .exit) ≡ nodesLeft (now (nodes .entry)) (now (items .entry)) (now (file .entry)) (write (length (now (sheet .entry)))) ⌝ }
-    ensures items { λ _. ⌜ now (items .exit) ≡ itemsLeft (now (nodes .entry)) (now (items .entry)) (now (file .entry)) (write (length (now (sheet .entry)))) ⌝ }
-    ensures sheet { λ _. ⌜ now (sheet .exit) ≡ kept (length (now (sheet .entry))) (answered (now (nodes .entry)) (now (items .entry)) (now (file .entry)) (write (length (now (sheet .entry))))) ⌝ }
+// Reads a file and writes its support sheet in either edition.
+fn write_edition(
+    file: &[u8],
+    nodes: &mut [u64],
+    items: &mut [u64],
+    sheet: &mut [u8],
+    second: bool,
+) -> Written
+    ensures answer { λ r. ⌜ told r ≡ counted (answered (now (nodes .entry)) (now (items .entry)) (now (file .entry)) (writeIn second (length (now (sheet .entry))))) ⌝ }
+    ensures nodes { λ _. ⌜ now (nodes .exit) ≡ nodesLeft (now (nodes .entry)) (now (items .entry)) (now (file .entry)) (writeIn second (length (now (sheet .entry)))) ⌝ }
+    ensures items { λ _. ⌜ now (items .exit) ≡ itemsLeft (now (nodes .entry)) (now (items .entry)) (now (file .entry)) (writeIn second (length (now (sheet .entry)))) ⌝ }
+    ensures sheet { λ _. ⌜ now (sheet .exit) ≡ kept (length (now (sheet .entry))) (answered (now (nodes .entry)) (now (items .entry)) (now (file .entry)) (writeIn second (length (now (sheet .entry))))) ⌝ }
 {
     match tree::read_file(file, nodes, items) {
         Read::Refused(n, p) => {
@@ -310,7 +367,16 @@ pub fn write_sheet(file: &[u8], nodes: &mut [u64], items: &mut [u64], sheet: &mu
             Written::Refused(n, p.0)
         }
         Read::Is(s) => {
-            let end = put_sheet(sheet, file, nodes, items, s.version, s.nodes, s.items);
+            let end = put_sheet(
+                sheet,
+                file,
+                nodes,
+                items,
+                s.version,
+                s.nodes,
+                s.items,
+                second,
+            );
             if sheet.len() < end {
                 tree::clear_all(nodes, items);
                 room::clear_bytes(sheet);
@@ -320,4 +386,24 @@ pub fn write_sheet(file: &[u8], nodes: &mut [u64], items: &mut [u64], sheet: &mu
             Written::Bytes(end)
         }
     }
+}
+
+// Reads a file and writes its support sheet.
+pub fn write_sheet(file: &[u8], nodes: &mut [u64], items: &mut [u64], sheet: &mut [u8]) -> Written
+    ensures answer { λ r. ⌜ told r ≡ counted (answered (now (nodes .entry)) (now (items .entry)) (now (file .entry)) (write (length (now (sheet .entry))))) ⌝ }
+    ensures nodes { λ _. ⌜ now (nodes .exit) ≡ nodesLeft (now (nodes .entry)) (now (items .entry)) (now (file .entry)) (write (length (now (sheet .entry)))) ⌝ }
+    ensures items { λ _. ⌜ now (items .exit) ≡ itemsLeft (now (nodes .entry)) (now (items .entry)) (now (file .entry)) (write (length (now (sheet .entry)))) ⌝ }
+    ensures sheet { λ _. ⌜ now (sheet .exit) ≡ kept (length (now (sheet .entry))) (answered (now (nodes .entry)) (now (items .entry)) (now (file .entry)) (write (length (now (sheet .entry))))) ⌝ }
+{
+    write_edition(file, nodes, items, sheet, false)
+}
+
+// Reads a file and writes its support sheet in the second edition.
+pub fn write_sheet2(file: &[u8], nodes: &mut [u64], items: &mut [u64], sheet: &mut [u8]) -> Written
+    ensures answer { λ r. ⌜ told r ≡ counted (answered (now (nodes .entry)) (now (items .entry)) (now (file .entry)) (write2 (length (now (sheet .entry))))) ⌝ }
+    ensures nodes { λ _. ⌜ now (nodes .exit) ≡ nodesLeft (now (nodes .entry)) (now (items .entry)) (now (file .entry)) (write2 (length (now (sheet .entry)))) ⌝ }
+    ensures items { λ _. ⌜ now (items .exit) ≡ itemsLeft (now (nodes .entry)) (now (items .entry)) (now (file .entry)) (write2 (length (now (sheet .entry)))) ⌝ }
+    ensures sheet { λ _. ⌜ now (sheet .exit) ≡ kept (length (now (sheet .entry))) (answered (now (nodes .entry)) (now (items .entry)) (now (file .entry)) (write2 (length (now (sheet .entry))))) ⌝ }
+{
+    write_edition(file, nodes, items, sheet, true)
 }

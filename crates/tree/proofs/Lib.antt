@@ -21,3 +21,5 @@ pub mod Links
 pub mod Listed
 pub mod Stays
 pub mod EachNode
+pub mod Small
+pub mod Words

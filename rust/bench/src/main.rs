@@ -9,9 +9,11 @@
 //! of a title is timed on files without reference 2 and 3.
 //!
 //! Then it times the proved reader on files of growing size, with tables and room of just the size
-//! that each file needs, and prints the nanoseconds per byte of the file.
+//! that each file needs, and prints the nanoseconds per byte of the file. At last it times both on moving
+//! sheets of growing size, of either edition, and prints the nanoseconds per byte of the sheet.
 
 use generate::cases::{ALL_ITEM_WORDS, ALL_NODE_WORDS, ALL_ROOM};
+use generate::sheets::growing;
 use generate::titles::folders_title;
 use generate::{folders_file, timed};
 use std::hint::black_box;
@@ -27,7 +29,7 @@ const LEAST: Duration = Duration::from_micros(200);
 /// What is asked about each file. The verdict is asked where the file is judged to its end, or
 /// nearly so; a file that fails the first check tells nothing of it.
 const ASKED: [(&str, &[&str]); 13] = [
-    ("large", &["tree", "find", "resolve", "account", "sheet"]),
+    ("large", &["tree", "find", "resolve", "account", "sheet", "sheet2"]),
     ("padded", &["tree", "account", "sheet"]),
     ("common", &["tree", "sheet"]),
     ("bare", &["tree", "account", "sheet"]),
@@ -191,6 +193,23 @@ const QUESTIONS: [(&str, Ask, Ask); 7] = [
         },
     ),
     (
+        "sheet2",
+        |about, lent| {
+            let (nodes, items) = (&mut lent.nodes, &mut lent.items);
+            match xmf::write_sheet2(&about.file, nodes, items, &mut lent.sheet) {
+                Ok(size) => Ok(size as u64),
+                Err(refusal) => Err(refusal.number),
+            }
+        },
+        |about, lent| {
+            let (nodes, items) = (&mut lent.nodes, &mut lent.items);
+            match plain::write_sheet2(&about.file, nodes, items, &mut lent.sheet) {
+                Ok(size) => Ok(size as u64),
+                Err(refusal) => Err(refusal.number),
+            }
+        },
+    ),
+    (
         "title",
         |about, lent| {
             let row = about.title as usize;
@@ -253,6 +272,7 @@ fn main() -> ExitCode {
     let [.., question] = QUESTIONS;
     print_times("folders", &about, &mut lent, question, repetitions);
     growth(repetitions);
+    sheets(repetitions);
     ExitCode::SUCCESS
 }
 
@@ -305,7 +325,7 @@ fn growth(repetitions: usize) {
         );
         lent.sheet.truncate(sheet.expect("a well-formed file"));
         let bytes = about.file.len();
-        let [(_, tree, _), .., (_, sheet, _), (_, correct, _)] = QUESTIONS;
+        let [(_, tree, _), .., (_, sheet, _), _, (_, correct, _)] = QUESTIONS;
         let taken = times(&about, &mut lent, [tree, sheet], repetitions);
         let [tree, sheet] = taken.map(|time| time / bytes as f64);
 
@@ -320,6 +340,44 @@ fn growth(repetitions: usize) {
         let [title] = times(&about, &mut lent, [correct], repetitions);
         let title = title / about.file.len() as f64;
         println!("{nodes:>8}{bytes:>8}{tree:>8.2}{sheet:>8.2}{title:>8.2}");
+    }
+}
+
+/// Times moving sheets of growing size by both, with the room that each needs.
+fn sheets(repetitions: usize) {
+    println!("\nmoving a sheet with four items on each node, nanoseconds per byte of the sheet");
+    println!(
+        "{:>8}{:>8}{:>8}{:>8}{:>8}",
+        "edition", "nodes", "bytes", "proved", "plain"
+    );
+    const MOVES: [Ask; 2] = [
+        |about, lent| match xmf::move_sheet(&about.file, &mut lent.sheet) {
+            Ok(size) => Ok(size as u64),
+            Err(refusal) => Err(refusal.number),
+        },
+        |about, lent| match plain::move_sheet(&about.file, &mut lent.sheet) {
+            Ok(size) => Ok(size as u64),
+            Err(refusal) => Err(refusal.number),
+        },
+    ];
+    for nodes in [32, 64, 128, 256] {
+        let [first, second] = growing(SEED, nodes);
+        for (edition, sheet, room) in [
+            ("first", first.clone(), second.len()),
+            ("second", second.clone(), first.len()),
+        ] {
+            let bytes = sheet.len();
+            let about = Subject::new("sheet", sheet);
+            let mut lent = Lent {
+                nodes: Vec::new(),
+                items: Vec::new(),
+                sheet: vec![0; room],
+            };
+            let [proved, plain] = times(&about, &mut lent, MOVES, repetitions);
+            assert_eq!(MOVES[0](&about, &mut lent), Ok(room as u64), "{edition}");
+            let [proved, plain] = [proved, plain].map(|time| time / bytes as f64);
+            println!("{edition:>8}{nodes:>8}{bytes:>8}{proved:>8.2}{plain:>8.2}");
+        }
     }
 }
 

@@ -1,15 +1,17 @@
-//! Comparing two readers on a case, a text or a title, and two files of a pair on one reader.
+//! Comparing two readers on a case, a text, a sheet or a title, and two files of a pair on one reader.
 
 use crate::buffers::{Buffers, Noise};
 use crate::readers::{account_plain, account_proved, Sums};
 use crate::readers::{ask_plain, ask_proved, ask_words, resource_proved};
 use crate::readers::{convert_plain, convert_proved, convert_words};
 use crate::readers::{known, Answer, Question, Subject, QUESTIONS};
+use crate::readers::{move_plain, move_proved};
 use crate::titles::{private, says, Desk};
-use generate::cases::KINDS;
+use generate::cases::{ALL_ROOM, KINDS};
 use generate::descriptions::Described;
 use generate::encode::PRIVATE_KINDS;
 use generate::model::Field;
+use generate::sheets::Sheet;
 use generate::texts::Text;
 use generate::titles::Title;
 use generate::{Case, Lent, Pair};
@@ -29,6 +31,8 @@ const ACCOUNT: &str = "Account";
 const MOST_SUMMED: u64 = 1_100;
 /// The correction of a title, in reports.
 const TITLE: &str = "Title";
+/// The mover of sheets, in reports.
+const MOVE: &str = "Move";
 /// What answer buffers and their guards hold before.
 const MARK: u64 = 0x5A5A_5A5A_5A5A_5A5A;
 
@@ -50,6 +54,10 @@ pub struct Comparer {
     pub resources: u64,
     /// For each refusal number, how many texts are refused so; at 0 how many are converted.
     pub texts: [u64; 27],
+    /// For each refusal number, how many sheets are refused so; at 0 how many are moved.
+    pub sheets: [u64; 32],
+    /// How many files have both editions of their sheet moved.
+    pub editions: u64,
     /// For each refusal number, how many counts are refused so; at 0 how many are given.
     pub counts: [u64; 27],
     /// The totals of the files so far, and how many there were.
@@ -85,6 +93,8 @@ impl Comparer {
             private: [0; PRIVATE_KINDS.len()],
             resources: 0,
             texts: [0; 27],
+            sheets: [0; 32],
+            editions: 0,
             counts: [0; 27],
             totals: [0; 11],
             summed: 0,
@@ -356,33 +366,108 @@ impl Comparer {
         self.tables(ACCOUNT)
     }
 
-    /// Converts a text by both readers, with the same bytes in the room before, and once more with an
-    /// answer buffer of 0 to 16 words.
+    /// Converts a text by both readers, and once more with an answer buffer of 0 to 16 words.
     pub fn text(&mut self, text: &Text, number: u64) -> Result<(), Difference> {
-        let lent = self.noise.bytes(number, text.room + TEXT_GUARD).to_vec();
+        let (answer, _) = self.written(
+            text.into,
+            text.room,
+            number,
+            |room| convert_proved(text, room),
+            |room| convert_plain(text, room),
+            |room, answer| convert_words(text, room, answer),
+        )?;
+        self.texts[answer[0] as usize] += 1;
+        Ok(())
+    }
+
+    /// Moves a sheet by both readers, and once more with an answer buffer of 0 to 16 words. A sheet
+    /// that is well formed must move to its other edition, and what it moves to must move back to it.
+    pub fn sheet(&mut self, sheet: &Sheet, number: u64) -> Result<(), Difference> {
+        let given = &sheet.given;
+        let (answer, room) = self.written(
+            MOVE,
+            sheet.room,
+            number,
+            |room| move_proved(given, room),
+            |room| move_plain(given, room),
+            |room, answer| xmf::words::move_sheet(given, room, answer),
+        )?;
+        self.sheets[answer[0] as usize] += 1;
+        if let Some(other) = &sheet.other {
+            let expected = match other.len() <= sheet.room {
+                true => [0, 0, other.len() as u64],
+                false => [22, 0, 0],
+            };
+            self.answer(MOVE, &answer[..3], &expected)?;
+            if answer[0] == 0 {
+                self.count(other.len());
+                equal(MOVE, "other edition", &room[..other.len()], other)?;
+            }
+        }
+        match answer[0] {
+            0 => self.moves(&room[..answer[2] as usize], given),
+            _ => Ok(()),
+        }
+    }
+
+    /// Moves a sheet by the proved function, with just the room it needs: it must move to the other one.
+    fn moves(&mut self, sheet: &[u8], other: &[u8]) -> Result<(), Difference> {
+        let mut room = vec![MARK as u8; other.len()];
+        let answer = move_proved(sheet, &mut room);
+        self.answer(MOVE, &answer[..3], &[0, 0, other.len() as u64])?;
+        self.count(other.len());
+        equal(MOVE, "sheet moved", &room, other)
+    }
+
+    /// Writes both editions of a case's sheet by the proved reader: each must move to the other.
+    pub fn editions(&mut self, case: &Case) -> Result<(), Difference> {
+        let mut nodes = vec![MARK; case.lent.node_words];
+        let mut items = vec![MARK; case.lent.item_words];
+        let [mut first, mut second] = [(); 2].map(|()| vec![MARK as u8; ALL_ROOM]);
+        let one = xmf::write_sheet(&case.file, &mut nodes, &mut items, &mut first);
+        let two = xmf::write_sheet2(&case.file, &mut nodes, &mut items, &mut second);
+        if let (Ok(one), Ok(two)) = (one, two) {
+            self.editions += 1;
+            self.moves(&first[..one], &second[..two])?;
+            self.moves(&second[..two], &first[..one])?;
+        }
+        Ok(())
+    }
+
+    /// Writes into room by both readers, with the same bytes in it before, and once more with an answer
+    /// buffer of 0 to 16 words. Gives the answer and the room.
+    fn written(
+        &mut self,
+        asked: impl Debug + Copy,
+        size: usize,
+        number: u64,
+        proved: impl Fn(&mut [u8]) -> Answer,
+        plain: impl Fn(&mut [u8]) -> Answer,
+        words: impl Fn(&mut [u8], &mut [u64]),
+    ) -> Result<(Answer, Vec<u8>), Difference> {
+        let lent = self.noise.bytes(number, size + TEXT_GUARD).to_vec();
         let mut rooms = [lent.clone(), lent.clone(), lent.clone()];
         let [first, second, third] = &mut rooms;
-        let proved = convert_proved(text, &mut first[..text.room]);
-        let plain = convert_plain(text, &mut second[..text.room]);
-        let words = (number % (MOST_ANSWER_WORDS + 1)) as usize;
-        let mut answer = [MARK; MOST_ANSWER_WORDS as usize + ANSWER_GUARD];
-        convert_words(text, &mut third[..text.room], &mut answer[..words]);
+        let answer = proved(&mut first[..size]);
+        let expected = plain(&mut second[..size]);
+        let fitting = (number % (MOST_ANSWER_WORDS + 1)) as usize;
+        let mut short = [MARK; MOST_ANSWER_WORDS as usize + ANSWER_GUARD];
+        words(&mut third[..size], &mut short[..fitting]);
 
-        self.texts[plain[0] as usize] += 1;
-        self.answer(text.into, &proved, &plain)?;
-        self.answer(text.into, &answer, &fitted(&plain, words))?;
-        let [first, second, third] = &rooms;
+        self.answer(asked, &answer, &expected)?;
+        self.answer(asked, &short, &fitted(&expected, fitting))?;
+        let [first, second, third] = rooms;
         for other in [second, third] {
             self.count(other.len());
-            equal(text.into, "text", first, other)?;
+            equal(asked, "room", &first, &other)?;
         }
-        if first[text.room..] != lent[text.room..] {
+        if first[size..] != lent[size..] {
             return Err(Difference {
-                asked: format!("{:?}", text.into),
+                asked: format!("{asked:?}"),
                 what: NOT_LENT.to_string(),
             });
         }
-        Ok(())
+        Ok((answer, first))
     }
 
     /// Corrects a title by both readers, with the same values lent, and once more with an answer buffer

@@ -13,6 +13,11 @@
 //! It counts the bytes of each case's file by kind with both readers, and compares the counts and the
 //! totals, which run on over more than a thousand files, and the counts' sum with the file's length.
 //!
+//! It moves a generated sheet, of either edition, good or with a fault (lines lost, doubled, swapped,
+//! bytes changed and so on), to the other edition by both. What a sheet moves to must move back to the
+//! same bytes; the other edition of a good one is known. And of each file that is read both editions of
+//! the sheet are written, and each must move to the other.
+//!
 //! It also corrects the title of a generated file by both readers and compares the answers, both tables
 //! and each byte of the room. Where the right result is known, it must be that one. The result is read
 //! back: its rows must be those in the tables, and it must say what the file says but for that data. The
@@ -41,6 +46,7 @@ mod titles;
 use compare::{Comparer, Difference};
 use generate::descriptions::{self, Described};
 use generate::model::Field;
+use generate::sheets::{sheet, Sheet};
 use generate::texts::{self, Text};
 use generate::titles::{title, Title};
 use generate::{Case, Lent, Pair};
@@ -136,6 +142,17 @@ fn compare_cases(comparer: &mut Comparer, cases: u64, seed: u64, first: u64) -> 
         comparer.text(&text, number).map_err(|difference| {
             text_report(&format!("text {number} of seed {seed}"), &text, &difference)
         })?;
+        comparer.editions(&case).map_err(|difference| {
+            case_report(&format!("case {number} of seed {seed}"), &case, &difference)
+        })?;
+        let sheet = sheet(seed, number);
+        comparer.sheet(&sheet, number).map_err(|difference| {
+            sheet_report(
+                &format!("sheet {number} of seed {seed}"),
+                &sheet,
+                &difference,
+            )
+        })?;
         let described = descriptions::description(seed, number);
         comparer
             .description(&described, number)
@@ -206,6 +223,12 @@ fn print_counts(comparer: &Comparer) {
     let [converted, .., no_room, _, _, _, bad] = comparer.texts;
     println!("texts: {converted} converted, {no_room} refused with 22, {bad} with 26");
     println!(
+        "sheets: {} moved; refused, by number: {}; files whose two editions move to each other: {}",
+        comparer.sheets[0],
+        by_number(&comparer.sheets),
+        comparer.editions
+    );
+    println!(
         "counts: {} given; refused, by number: {}",
         comparer.counts[0],
         by_number(&comparer.counts)
@@ -248,6 +271,16 @@ fn text_report(name: &str, text: &Text, difference: &Difference) -> String {
         "difference in {name}, proved and plain\ninto: {asked}\n{what}\nroom {}\ngiven: {}\n",
         text.room,
         hex(&text.given)
+    )
+}
+
+/// Tells a difference between the readers on a sheet.
+fn sheet_report(name: &str, sheet: &Sheet, difference: &Difference) -> String {
+    let Difference { what, .. } = difference;
+    format!(
+        "difference in {name}, proved and plain\n{what}\nroom {}\nsheet: {}\n",
+        sheet.room,
+        hex(&sheet.given)
     )
 }
 

@@ -27,17 +27,22 @@ pub enum Question {
     Judge,
     /// Write the support sheet.
     Sheet,
+    /// Write the support sheet in its second edition.
+    Sheet2,
 }
 
 impl Question {
     /// Whether it fills a buffer besides the tables.
     pub fn fills_room(self) -> bool {
-        matches!(self, Question::Resource | Question::Sheet)
+        matches!(
+            self,
+            Question::Resource | Question::Sheet | Question::Sheet2
+        )
     }
 }
 
 /// All questions.
-pub const QUESTIONS: [Question; 8] = [
+pub const QUESTIONS: [Question; 9] = [
     Question::Tree,
     Question::Find,
     Question::FindOwn,
@@ -46,6 +51,7 @@ pub const QUESTIONS: [Question; 8] = [
     Question::Count,
     Question::Judge,
     Question::Sheet,
+    Question::Sheet2,
 ];
 
 /// What the questions are about.
@@ -93,9 +99,8 @@ pub fn ask_proved(question: Question, about: Subject, lent: Lent) -> Answer {
                 .map(|count| words(&[count]))
         }
         Question::Judge => xmf::judge(file, nodes, items).map(|verdict| words(&[verdict])),
-        Question::Sheet => {
-            xmf::write_sheet(file, nodes, items, lent.sheet).map(|length| words(&[length as u64]))
-        }
+        Question::Sheet => xmf::write_sheet(file, nodes, items, lent.sheet).map(size),
+        Question::Sheet2 => xmf::write_sheet2(file, nodes, items, lent.sheet).map(size),
     };
     answer.unwrap_or_else(|refusal| refused(refusal.number, refusal.place))
 }
@@ -131,6 +136,7 @@ pub fn ask_words(question: Question, about: Subject, lent: Lent, answer: &mut [u
         }
         Question::Judge => xmf::words::judge(file, nodes, items, answer),
         Question::Sheet => xmf::words::write_sheet(file, nodes, items, lent.sheet, answer),
+        Question::Sheet2 => xmf::words::write_sheet2(file, nodes, items, lent.sheet, answer),
     }
 }
 
@@ -159,9 +165,8 @@ pub fn ask_plain(question: Question, about: Subject, lent: Lent) -> Answer {
                 .map(|count| words(&[count]))
         }
         Question::Judge => plain::judge(file, nodes, items).map(|verdict| words(&[verdict])),
-        Question::Sheet => {
-            plain::write_sheet(file, nodes, items, lent.sheet).map(|length| words(&[length as u64]))
-        }
+        Question::Sheet => plain::write_sheet(file, nodes, items, lent.sheet).map(size),
+        Question::Sheet2 => plain::write_sheet2(file, nodes, items, lent.sheet).map(size),
     };
     answer.unwrap_or_else(|refusal| refused(refusal.number, refusal.place))
 }
@@ -178,6 +183,11 @@ fn words(values: &[u64]) -> Answer {
     let mut answer = [0; xmf::ANSWER_WORDS];
     answer[2..][..values.len()].copy_from_slice(values);
     answer
+}
+
+/// The words of a number of bytes written.
+fn size(length: usize) -> Answer {
+    words(&[length as u64])
 }
 
 /// The words of an answer with an item row.
@@ -223,7 +233,7 @@ pub fn known(case: &Described) -> Option<Answer> {
 /// The words of a number of bytes written, or of a refusal's number and place.
 pub fn counted(written: Result<usize, (u64, u64)>) -> Answer {
     match written {
-        Ok(length) => words(&[length as u64]),
+        Ok(length) => size(length),
         Err((number, place)) => refused(number, place),
     }
 }
@@ -289,4 +299,14 @@ pub fn account_plain(file: &[u8], lent: Lent, sums: &mut Sums) -> Answer {
         Ok(counts) => words(&counts),
         Err(refusal) => self::refused(refusal.number, refusal.place),
     }
+}
+
+/// Moves a sheet by the proved function.
+pub fn move_proved(sheet: &[u8], room: &mut [u8]) -> Answer {
+    counted(xmf::move_sheet(sheet, room).map_err(|refusal| (refusal.number, refusal.place)))
+}
+
+/// Moves a sheet by the plain function.
+pub fn move_plain(sheet: &[u8], room: &mut [u8]) -> Answer {
+    counted(plain::move_sheet(sheet, room).map_err(|refusal| (refusal.number, refusal.place)))
 }

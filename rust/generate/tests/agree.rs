@@ -6,11 +6,13 @@ use generate::descriptions::{description, Counted};
 use generate::encode::{encode, Encoded, MarkKind, PrivateKind, PRIVATE_KINDS};
 use generate::model::{Field as Wanted, File, Item, Node, Version, Widths};
 use generate::random::Random;
+use generate::sheets;
 use generate::texts::{text, Into, Text};
 use generate::titles::{title, Title, BORDERS, LENGTHS};
 use generate::{case, large_file, large_resource, mobile, pair, samples, shapes, Lent};
 use plain::{correct_title, find, judge, read_tree, resolve, resource, voice_count, write_sheet};
 use plain::{item, node, Field, Refusal};
+use plain::{move_sheet, write_sheet2};
 use plain::{utf16_to_utf8, utf8_to_utf16};
 
 const SEED: u64 = 1;
@@ -249,6 +251,54 @@ fn cases_are_what_they_are_said_to_be() {
     assert!(verdicts.iter().all(|&count| count > 0), "{verdicts:?}");
     assert!(hops.iter().all(|&count| count > 0), "{hops:?}");
     assert!(detached > 0);
+}
+
+#[test]
+fn sheets_move_to_their_other_edition_and_back() {
+    let [mut moved, mut refused] = [0; 2];
+    for number in 0..4 * CASES {
+        let made = sheets::sheet(SEED, number);
+        let mut room = vec![0xEE; made.given.len() + 1];
+        match move_sheet(&made.given, &mut room) {
+            Ok(length) => {
+                let other = &room[..length];
+                if let Some(known) = &made.other {
+                    assert_eq!(other, known, "sheet {number}");
+                }
+                let mut back = vec![0xEE; made.given.len()];
+                assert_eq!(move_sheet(other, &mut back), Ok(back.len()), "{number}");
+                assert_eq!(back, made.given, "sheet {number}");
+                moved += 1;
+            }
+            Err(refusal) => {
+                assert!(made.other.is_none(), "sheet {number}");
+                let lines = made.given.split(|&byte| byte == b'\n').count() as u64;
+                assert_eq!(refusal.number, 31, "sheet {number}");
+                assert!((1..=lines).contains(&refusal.place), "sheet {number}");
+                refused += 1;
+            }
+        }
+    }
+    assert!(moved > CASES && refused > CASES, "{moved} and {refused}");
+}
+
+#[test]
+fn the_two_editions_of_a_file_move_to_each_other() {
+    for number in 0..CASES {
+        let file = case(SEED, number).file;
+        let lent = Lent::full();
+        let (mut nodes, mut items) = (lent.nodes(), lent.items());
+        let [mut first, mut second, mut moved] = [(); 3].map(|()| vec![0; lent.room]);
+        let one = write_sheet(&file, &mut nodes, &mut items, &mut first);
+        let two = write_sheet2(&file, &mut nodes, &mut items, &mut second);
+        assert_eq!(one.map(|length| length + 1), two, "case {number}");
+        if let (Ok(one), Ok(two)) = (one, two) {
+            assert_eq!(move_sheet(&first[..one], &mut moved), Ok(two));
+            assert_eq!(moved, second, "case {number}");
+            assert_eq!(move_sheet(&second[..two], &mut moved), Ok(one));
+            assert_eq!(moved, first, "case {number}");
+        }
+    }
 }
 
 #[test]

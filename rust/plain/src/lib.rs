@@ -3,26 +3,30 @@
 //! It answers five questions about a file's bytes: read the tree ([`read_tree`]), find a metadata
 //! item ([`find`], or [`find_own`] on the node itself), resolve a resource ([`resolve`], with
 //! [`resource`] for its bytes), judge Mobile XMF ([`judge`]) and write the support sheet
-//! ([`write_sheet`]). It gives what a tune needs, as a content description says ([`voice_count`]). It counts where the bytes of a file go
+//! ([`write_sheet`], or [`write_sheet2`] in its second edition). It moves a sheet from one edition to the
+//! other ([`move_sheet`]). It gives what a tune needs, as a content description says ([`voice_count`]). It counts where the bytes of a file go
 //! ([`account`]). It writes a file anew with a title corrected ([`correct_title`]). And it converts
 //! texts from UTF-16 into UTF-8 ([`utf16_to_utf8`]) and back ([`utf8_to_utf16`]).
 //!
 //! Each question takes the file and two lent tables of words, one for node rows and one for item
 //! rows, of any size and whatever they hold before. It reads the file afresh. After an answer the
 //! tables hold the file's rows (those of the new file, where one is written), and zeros past the last
-//! row; after a refusal they hold zeros only. Nothing is allocated but for a corrected title and for
-//! the kinds of bytes.
+//! row; after a refusal they hold zeros only. Nothing is allocated but for a corrected title, a moved
+//! sheet and the kinds of bytes.
 //!
 //! Every place is counted from the file's first byte.
 
 mod account;
 mod cursor;
 mod description;
+mod mover;
 mod questions;
 mod sheet;
 mod title;
 mod tree;
 mod unicode;
+
+use sheet::Edition;
 
 /// The columns of a node row.
 pub mod node {
@@ -98,7 +102,7 @@ pub type ItemRow = [u64; item::WORDS];
 /// Why a question is refused.
 #[derive(Clone, Copy, Debug, PartialEq, Eq)]
 pub struct Refusal {
-    /// The number in the refusal list: 1 to 26, 32, or 36 to 38.
+    /// The number in the refusal list: 1 to 26, 31, 32, or 36 to 38.
     pub number: u64,
     /// The place of the refused field's first byte, or 0 where the list names none.
     pub place: u64,
@@ -343,10 +347,42 @@ pub fn write_sheet(
     items: &mut [u64],
     sheet: &mut [u8],
 ) -> Result<usize, Refusal> {
+    write_edition(file, nodes, items, sheet, Edition::First)
+}
+
+/// Writes the support sheet in its second edition, as [`write_sheet`] does in the first.
+pub fn write_sheet2(
+    file: &[u8],
+    nodes: &mut [u64],
+    items: &mut [u64],
+    sheet: &mut [u8],
+) -> Result<usize, Refusal> {
+    write_edition(file, nodes, items, sheet, Edition::Second)
+}
+
+/// Writes the support sheet in an edition.
+fn write_edition(
+    file: &[u8],
+    nodes: &mut [u64],
+    items: &mut [u64],
+    sheet: &mut [u8],
+    edition: Edition,
+) -> Result<usize, Refusal> {
     let written = ask(file, nodes, items, |rows, tree| {
-        sheet::write(rows, tree.version, sheet)
+        sheet::write(rows, tree.version, edition, sheet)
     });
     sheet[written.unwrap_or(0)..].fill(0);
+    written
+}
+
+/// Moves a sheet to the other edition in lent room, and answers the number of bytes written.
+///
+/// Bytes of the room past the sheet are 0; after a refusal all are. Refused with 31 when the sheet is
+/// not well formed, placed at the number, from 1, of the first line that cannot stand after those
+/// before it, or at 1 where only the counts disagree; with 22 when the room is too short.
+pub fn move_sheet(sheet: &[u8], out: &mut [u8]) -> Result<usize, Refusal> {
+    let written = mover::move_sheet(sheet, out);
+    out[written.unwrap_or(0)..].fill(0);
     written
 }
 

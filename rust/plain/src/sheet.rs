@@ -1,7 +1,7 @@
-//! The support sheet.
+//! The support sheet, in two editions.
 
 use crate::questions::{data, name};
-use crate::{item, node, unicode, Refusal, Rows};
+use crate::{item, node, unicode, ItemRow, Refusal, Rows};
 
 /// The string format of visible UTF-16.
 const UTF16: u64 = 2;
@@ -15,21 +15,54 @@ const NODE_COLUMNS: [usize; 5] = [
     node::EXTENT,
 ];
 
+/// The editions of the sheet.
+#[derive(Clone, Copy, Debug, PartialEq, Eq)]
+pub enum Edition {
+    /// All node lines, then all item lines.
+    First,
+    /// Each node line, and after it the item lines of its row.
+    Second,
+}
+
+impl Edition {
+    /// The first word of a sheet of this edition.
+    pub fn word(self) -> &'static [u8] {
+        match self {
+            Edition::First => b"XMF",
+            Edition::Second => b"XMF2",
+        }
+    }
+
+    /// The other edition.
+    pub fn other(self) -> Self {
+        match self {
+            Edition::First => Edition::Second,
+            Edition::Second => Edition::First,
+        }
+    }
+}
+
 /// Writes the sheet into lent room. The answer is the number of bytes written; bytes past them are
 /// left as they were.
-pub fn write(rows: &Rows, version: u64, room: &mut [u8]) -> Result<usize, Refusal> {
+pub fn write(
+    rows: &Rows,
+    version: u64,
+    edition: Edition,
+    room: &mut [u8],
+) -> Result<usize, Refusal> {
     let mut sheet = Sheet { room, used: 0 };
-    sheet.bytes(b"XMF\t")?;
+    sheet.bytes(edition.word())?;
     sheet.bytes(match version {
-        100 => b"1.00",
-        101 => b"1.01",
-        _ => b"2.00",
+        100 => b"\t1.00",
+        101 => b"\t1.01",
+        _ => b"\t2.00",
     })?;
     sheet.column(rows.file.len() as u64)?;
     sheet.column(rows.nodes.len() as u64)?;
     sheet.column(rows.items.len() as u64)?;
     sheet.bytes(b"\n")?;
 
+    let mut items = rows.items.iter().peekable();
     for (row, words) in (0..).zip(rows.nodes) {
         sheet.bytes(b"N")?;
         sheet.column(row)?;
@@ -37,31 +70,14 @@ pub fn write(rows: &Rows, version: u64, room: &mut [u8]) -> Result<usize, Refusa
             sheet.column(words[column])?;
         }
         sheet.bytes(b"\n")?;
+        if edition == Edition::Second {
+            while let Some(words) = items.next_if(|words| words[item::NODE] == row) {
+                sheet.item(rows.file, words)?;
+            }
+        }
     }
-
-    for words in rows.items {
-        if words[item::FORMAT] % 2 == 1 {
-            continue;
-        }
-        sheet.bytes(b"M")?;
-        sheet.column(words[item::NODE])?;
-        if words[item::KIND] == item::STANDARD {
-            sheet.bytes(b"\tS")?;
-            sheet.column(words[item::FIELD])?;
-        } else {
-            sheet.bytes(b"\tC\t")?;
-            sheet.text(name(rows.file, words))?;
-        }
-        sheet.column(words[item::VERSION])?;
-        sheet.column(words[item::FORMAT])?;
-        sheet.bytes(b"\t")?;
-        let text = data(rows.file, words);
-        let is_utf16 = words[item::FORMAT] == UTF16;
-        match is_utf16.then(|| unicode::characters(text)).flatten() {
-            Some(characters) => sheet.converted(characters)?,
-            None => sheet.text(text)?,
-        }
-        sheet.bytes(b"\n")?;
+    for words in items {
+        sheet.item(rows.file, words)?;
     }
     Ok(sheet.used)
 }
@@ -83,6 +99,32 @@ impl Sheet<'_> {
         room.copy_from_slice(bytes);
         self.used = end;
         Ok(())
+    }
+
+    /// Adds the line of an item row, if the row is visible.
+    fn item(&mut self, file: &[u8], words: &ItemRow) -> Result<(), Refusal> {
+        if words[item::FORMAT] % 2 == 1 {
+            return Ok(());
+        }
+        self.bytes(b"M")?;
+        self.column(words[item::NODE])?;
+        if words[item::KIND] == item::STANDARD {
+            self.bytes(b"\tS")?;
+            self.column(words[item::FIELD])?;
+        } else {
+            self.bytes(b"\tC\t")?;
+            self.text(name(file, words))?;
+        }
+        self.column(words[item::VERSION])?;
+        self.column(words[item::FORMAT])?;
+        self.bytes(b"\t")?;
+        let text = data(file, words);
+        let is_utf16 = words[item::FORMAT] == UTF16;
+        match is_utf16.then(|| unicode::characters(text)).flatten() {
+            Some(characters) => self.converted(characters)?,
+            None => self.text(text)?,
+        }
+        self.bytes(b"\n")
     }
 
     /// Adds a tab and a decimal number.
@@ -140,6 +182,6 @@ impl Sheet<'_> {
 }
 
 /// Whether a byte stands for itself in a name or a text that isn't converted.
-fn is_plain(byte: u8) -> bool {
+pub fn is_plain(byte: u8) -> bool {
     (0x20..=0x7E).contains(&byte) && byte != b'\\'
 }

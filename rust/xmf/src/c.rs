@@ -139,6 +139,20 @@ extern "C" {
         answer_words: usize,
     );
 
+    /// Writes the support sheet in its second edition. Answer: bytes written.
+    pub fn xmf_write_sheet2(
+        file: *const u8,
+        file_length: usize,
+        nodes: *mut u64,
+        node_words: usize,
+        items: *mut u64,
+        item_words: usize,
+        sheet: *mut u8,
+        sheet_length: usize,
+        answer: *mut u64,
+        answer_words: usize,
+    );
+
     /// Writes the file anew with other data in an item row. Answer: bytes written.
     pub fn xmf_correct_title(
         file: *const u8,
@@ -172,6 +186,16 @@ extern "C" {
         text_length: usize,
         data: *mut u8,
         data_length: usize,
+        answer: *mut u64,
+        answer_words: usize,
+    );
+
+    /// Moves a sheet to the other edition. Answer: bytes written.
+    pub fn xmf_move_sheet(
+        sheet: *const u8,
+        sheet_length: usize,
+        out: *mut u8,
+        out_length: usize,
         answer: *mut u64,
         answer_words: usize,
     );

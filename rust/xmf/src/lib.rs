@@ -8,10 +8,11 @@
 //! | say what the tune needs | [`voice_count`] |
 //! | judge Mobile XMF | [`judge`] |
 //! | count where the bytes go, and sum over files | [`account`] |
-//! | write the support sheet | [`write_sheet`] |
+//! | write the support sheet, or its second edition | [`write_sheet`], [`write_sheet2`] |
 //! | correct a title | [`correct_title`] |
 //!
-//! Two more functions convert a text and take no file: [`utf16_to_utf8`] and [`utf8_to_utf16`].
+//! Three more functions take no file: [`utf16_to_utf8`] and [`utf8_to_utf16`] convert a text, and
+//! [`move_sheet`] moves a sheet from one edition to the other.
 //!
 //! Each question takes the file and two lent tables of words, one for node rows and one for item
 //! rows, of any size and whatever they hold before. It reads the file afresh. After an answer the
@@ -116,7 +117,7 @@ pub mod item {
 /// Why a question is refused.
 #[derive(Clone, Copy, Debug, PartialEq, Eq)]
 pub struct Refusal {
-    /// The number in the refusal list: 1 to 39, of which no call gives 27 to 31, 33 to 35 and 39 yet.
+    /// The number in the refusal list: 1 to 39, of which no call gives 27 to 30, 33 to 35 and 39 yet.
     pub number: u64,
     /// The place of the refused field's first byte, or 0 where the list names none. For 26 the place
     /// of the first bad character in what was to be converted.
@@ -532,6 +533,34 @@ pub fn write_sheet(
     Ok(written as usize)
 }
 
+/// Writes the support sheet in its second edition, as [`write_sheet`] does in the first: the first word
+/// is `XMF2`, and the lines of a row's items stand right after the row's own line.
+///
+/// ```
+/// use xmf::{ALL_ITEM_WORDS, ALL_NODE_WORDS};
+///
+/// let file = std::fs::read("../../samples/folders.xmf").unwrap();
+/// let mut nodes = vec![0; ALL_NODE_WORDS];
+/// let mut items = vec![0; ALL_ITEM_WORDS];
+/// let [mut first, mut second, mut moved] = [[0; 1000]; 3];
+/// let length = xmf::write_sheet(&file, &mut nodes, &mut items, &mut first).unwrap();
+/// let length2 = xmf::write_sheet2(&file, &mut nodes, &mut items, &mut second).unwrap();
+/// assert!(second.starts_with(b"XMF2\t1.01\t237\t6\t8\nN\t0\t0\t1\t1\t61\t155\nM\t0\tS\t9\t0\t0\t"));
+/// assert_eq!(xmf::move_sheet(&first[..length], &mut moved), Ok(length2));
+/// assert_eq!(moved, second);
+/// ```
+pub fn write_sheet2(
+    file: &[u8],
+    nodes: &mut [u64],
+    items: &mut [u64],
+    sheet: &mut [u8],
+) -> Result<usize, Refusal> {
+    let mut answer = [0; 3];
+    words::write_sheet2(file, nodes, items, sheet, &mut answer);
+    let [written] = values(answer)?;
+    Ok(written as usize)
+}
+
 /// Replaces the data of an item row, which must be visible and universal, by a title, writes the whole
 /// file anew into a lent buffer, and answers the number of bytes written.
 ///
@@ -583,6 +612,20 @@ pub fn utf16_to_utf8(data: &[u8], text: &mut [u8]) -> Result<usize, Refusal> {
 pub fn utf8_to_utf16(text: &[u8], data: &mut [u8]) -> Result<usize, Refusal> {
     let mut answer = [0; 3];
     words::utf8_to_utf16(text, data, &mut answer);
+    let [written] = values(answer)?;
+    Ok(written as usize)
+}
+
+/// Moves a sheet to the other edition in a lent buffer, and answers the number of bytes written. The
+/// first line says which edition it is of. Moving it over and back gives the same bytes.
+///
+/// Bytes of the buffer past the sheet are 0; after a refusal all are. Refused with 31 when the sheet is
+/// not well formed, placed at the number, from 1, of the first line that cannot stand after those
+/// before it, or at 1 where only the counts disagree; then with 22 when the sheet is longer than the
+/// buffer.
+pub fn move_sheet(sheet: &[u8], out: &mut [u8]) -> Result<usize, Refusal> {
+    let mut answer = [0; 3];
+    words::move_sheet(sheet, out, &mut answer);
     let [written] = values(answer)?;
     Ok(written as usize)
 }

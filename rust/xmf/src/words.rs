@@ -154,6 +154,18 @@ pub fn write_sheet(
     ask!(xmf_write_sheet(file, nodes, items, [text, length], answer))
 }
 
+/// Writes the support sheet in its second edition. Values: bytes written.
+pub fn write_sheet2(
+    file: &[u8],
+    nodes: &mut [u64],
+    items: &mut [u64],
+    sheet: &mut [u8],
+    answer: &mut [u64],
+) {
+    let (text, length) = (sheet.as_mut_ptr(), sheet.len());
+    ask!(xmf_write_sheet2(file, nodes, items, [text, length], answer))
+}
+
 /// Writes the file anew with a title as the data of an item row. Values: bytes written.
 pub fn correct_title(
     file: &[u8],
@@ -200,4 +212,9 @@ pub fn utf16_to_utf8(data: &[u8], text: &mut [u8], answer: &mut [u64]) {
 /// Converts UTF-8 into UTF-16. Values: bytes written.
 pub fn utf8_to_utf16(text: &[u8], data: &mut [u8], answer: &mut [u64]) {
     convert!(xmf_utf8_to_utf16(text, data, answer))
+}
+
+/// Moves a sheet to the other edition. Values: bytes written.
+pub fn move_sheet(sheet: &[u8], out: &mut [u8], answer: &mut [u64]) {
+    convert!(xmf_move_sheet(sheet, out, answer))
 }

@@ -61,6 +61,35 @@ fn each_question_is_answered() {
 }
 
 #[test]
+fn a_sheet_moves_over_and_back() {
+    let (mut nodes, mut items) = tables();
+    let [mut first, mut second, mut moved] = [[7; 500]; 3];
+    let one = xmf::write_sheet(DETACHED, &mut nodes, &mut items, &mut first).unwrap();
+    let two = xmf::write_sheet2(DETACHED, &mut nodes, &mut items, &mut second).unwrap();
+    let text = String::from_utf8_lossy(&second[..two]);
+    assert!(text.starts_with("XMF2\t2.00\t171\t7\t7\nN\t0\t0\t1\t1\t58\t51\nN\t1\t0\t2\t3\t109\t0\nM\t1\tS\t8\t0\t0\tWaltz\n"));
+    assert_eq!(xmf::move_sheet(&first[..one], &mut moved), Ok(two));
+    assert_eq!(moved, second);
+    assert_eq!(xmf::move_sheet(&second[..two], &mut moved), Ok(one));
+    assert_eq!(moved, first);
+
+    for (sheet, line) in [
+        (String::new(), 1),
+        (SHEET.replace("N\t1", "N\t2"), 3),
+        (SHEET.replace("\\00\n", "\\5C\n"), 5),
+        (SHEET.replace("\t3\nN", "\t1\nN"), 1),
+    ] {
+        let answer = xmf::move_sheet(sheet.as_bytes(), &mut moved);
+        assert_eq!(answer, refusal(31, line), "{sheet}");
+        assert!(moved.iter().all(|&byte| byte == 0));
+    }
+    assert_eq!(
+        xmf::move_sheet(&first[..one], &mut moved[..two - 1]),
+        refusal(22, 0)
+    );
+}
+
+#[test]
 fn detached_nodes_have_rows() {
     let (mut nodes, mut items) = tables();
     let tree = xmf::read_tree(DETACHED, &mut nodes, &mut items).unwrap();

@@ -1,26 +1,26 @@
 -- `put_item_lines` puts the lines of the visible rows. The invariant: of the whole, the lines from row i on are still to be put.
 -- Assumes nothing.
 use Prim.Native.Nat.{_-_, _≤_}
-use mathlib.Core.Path.{sym}
-use Rattle.tree.specs.Rows.{itemsFrom, itemsIn}
+use mathlib.Core.Path.{refl}
+use Rattle.tree.specs.Rows.{itemsFrom}
 use Rattle.sheet.specs.Sheet.{itemLines}
 use Rattle.room.proofs.Counting.{Going, going-start, going-on, going-end, going-length}
-use Rattle.sheet.proofs.Lines.{items-on, items-end, items-start}
 use native.Mathlib.Omega.{arith}
+use Rattle.sheet.proofs.Lines.{items-on, items-end}
 use Rattle.sheet.proofs.put_item_lines.Statement.{statement}
 use Rattle.sheet.proofs.put_item_lines.Tie as tie
 
 abbrev Inv-loop : tie.InvT-loop
-Inv-loop out₀ to file items count next₀ i₀ out next i = (i ≤ count) × Going out₀ out next₀ next (itemLines file (itemsIn count items)) (itemLines file (itemsFrom i (count - i) items))
+Inv-loop out₀ to file items from end next₀ i₀ out next i = (i ≤ end) × Going out₀ out next₀ next (itemLines file (itemsFrom from (end - from) items)) (itemLines file (itemsFrom i (end - i) items))
 
 abbrev μ-loop : tie.MeasureT-loop
-μ-loop out₀ to file items count next₀ i₀ out next i = count - i
+μ-loop out₀ to file items from end next₀ i₀ out next i = end - i
 
 loop-holds : tie.Need-loop-holds Inv-loop μ-loop
-loop-holds c = (omega arith, going-start _ (omega arith) (sym (items-start _ _ _)))
+loop-holds c = (c .before .before .before .pre .0, going-start _ (omega arith) refl)
 
 put-visible-line-requires : tie.Need-put-visible-line-requires Inv-loop μ-loop
-put-visible-line-requires c κs = (omega (arith, c .before .before .before .before .before .before .pre .0), c .before .before .before .before .before .before .pre .1 _ (c .before .loop-test .taken))
+put-visible-line-requires c κs = (omega (arith, c .before .before .before .before .before .before .pre .1 .0), c .before .before .before .before .before .before .pre .1 .1 _ (c .before .loop-test .taken))
 
 add-i : tie.Need-add-i Inv-loop μ-loop
 add-i c = omega arith

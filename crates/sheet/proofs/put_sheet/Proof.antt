@@ -1,32 +1,73 @@
--- `put_sheet` puts all lines.
+-- `put_sheet` puts all lines of an edition.
 -- Assumes nothing.
+use native.Mathlib.Omega.{arith}
 use Rattle.room.proofs.Counting.{counts-then, counts-as}
-use Rattle.sheet.proofs.Lines.{lines-are}
+use Rattle.sheet.proofs.Lines.{put-second, put-first}
 use borrow.Author.Needs.{needs}
 use Rattle.sheet.proofs.put_sheet.Statement.{statement}
 use Rattle.sheet.proofs.put_sheet.Tie as tie
 
-put-first-requires : tie.Need-put-first-requires
-put-first-requires c κs = search needs
+slice-aggregate-put-bytes : tie.Need-slice-aggregate-put-bytes
+slice-aggregate-put-bytes c = search needs
 
-put-node-lines-requires : tie.Need-put-node-lines-requires
-put-node-lines-requires c κs = search needs
+put-bytes-requires : tie.Need-put-bytes-requires
+put-bytes-requires c κs = search needs
 
-put-item-lines-requires : tie.Need-put-item-lines-requires
-put-item-lines-requires c κs = search needs
+put-head-fields-requires : tie.Need-put-head-fields-requires
+put-head-fields-requires c κs = search needs
+
+put-group-lines-requires : tie.Need-put-group-lines-requires
+put-group-lines-requires c κs = c .before .before .before .before .before .before .before .before .before .before .before .before .before .before .before .pre
 
 same-length : tie.Need-same-length
 same-length c = search needs
 
 returns : tie.Need-returns
-returns c = counts-as (lines-are _ _ _ _ _ _) (counts-then (counts-then (c .before .before .before .before .before .before .before .before .before .before .put-first .ensures) (c .before .before .before .before .before .before .put-node-lines .ensures)) (c .before .before .put-item-lines .ensures))
+returns c =
+    let a = c .before .before .before .before .before .before .before .before .before .before .before .before .before .before .before .before .before .before .args in
+    let head = counts-then (c .before .before .before .before .before .before .before .before .before .before .put-bytes .ensures) (c .before .before .before .before .before .before .put-head-fields .ensures) in
+    counts-as (put-second (a .version) (a .rows) (a .contents) (a .file .now) (a .nodes .now) (a .items .now) (c .before .before .before .before .before .before .before .before .before .before .before .before .before .if1 .taken))
+    (counts-then head (c .before .before .put-group-lines .ensures))
+
+slice-aggregate-put-bytes-2 : tie.Need-slice-aggregate-put-bytes-2
+slice-aggregate-put-bytes-2 c = search needs
+
+put-bytes-requires-2 : tie.Need-put-bytes-requires-2
+put-bytes-requires-2 c κs = search needs
+
+put-head-fields-requires-2 : tie.Need-put-head-fields-requires-2
+put-head-fields-requires-2 c κs = search needs
+
+put-node-lines-requires : tie.Need-put-node-lines-requires
+put-node-lines-requires c κs = c .before .before .before .before .before .before .before .before .before .before .before .before .before .before .before .pre .0
+
+put-item-lines-requires : tie.Need-put-item-lines-requires
+put-item-lines-requires c κs = (omega arith, c .before .before .before .before .before .before .before .before .before .before .before .before .before .before .before .before .before .before .before .pre .1)
+
+same-length-2 : tie.Need-same-length-2
+same-length-2 c = search needs
+
+returns-2 : tie.Need-returns-2
+returns-2 c =
+    let a = c .before .before .before .before .before .before .before .before .before .before .before .before .before .before .before .before .before .before .before .before .before .before .args in
+    let head = counts-then (c .before .before .before .before .before .before .before .before .before .before .before .before .before .before .put-bytes2 .ensures) (c .before .before .before .before .before .before .before .before .before .before .put-head-fields2 .ensures) in
+    counts-as (put-first (a .version) (a .rows) (a .contents) (a .file .now) (a .nodes .now) (a .items .now) (c .before .before .before .before .before .before .before .before .before .before .before .before .before .before .before .before .before .if1 .left))
+    (counts-then (counts-then head (c .before .before .before .before .before .before .put-node-lines .ensures)) (c .before .before .put-item-lines .ensures))
 
 pub put-sheet-spec : {M : Type 1} → statement M
 put-sheet-spec =
     tie.close
     (tie.spec
-    put-first-requires
+    slice-aggregate-put-bytes
+    put-bytes-requires
+    put-head-fields-requires
+    put-group-lines-requires
+    same-length
+    returns
+    slice-aggregate-put-bytes-2
+    put-bytes-requires-2
+    put-head-fields-requires-2
     put-node-lines-requires
     put-item-lines-requires
-    same-length
-    returns)
+    same-length-2
+    returns-2)

@@ -3,8 +3,9 @@
 //! The path of the vectors file is the first argument. The lent tables and buffers hold other values
 //! before each call, and what they hold afterwards is checked as well.
 
-use plain::{account, write_sheet, Totals};
+use plain::{account, Totals};
 use plain::{correct_title, find, find_own, judge, read_tree, resolve, resource, voice_count};
+use plain::{move_sheet, write_sheet, write_sheet2};
 use plain::{utf16_to_utf8, utf8_to_utf16};
 use plain::{Field, Refusal};
 use std::process::ExitCode;
@@ -58,7 +59,7 @@ fn run(line: &str) -> Option<String> {
         return sum(words);
     }
     let mut file = bytes(words.next()?)?;
-    if command.starts_with("utf") {
+    if command.starts_with("utf") || command == "move" {
         let room = words.next()?.parse().ok()?;
         return match words.next() {
             None => convert(command, &file, room),
@@ -126,9 +127,13 @@ fn run(line: &str) -> Option<String> {
         "verdict" => judge(&file, &mut nodes, &mut items).map(|verdict| format!("ok {verdict}")),
         "bytes" => account(&file, &mut nodes, &mut items, &mut Totals::default())
             .map(|counts| format!("ok {}", joined(&counts).replace(',', " "))),
-        "sheet" => {
+        "sheet" | "sheet2" => {
+            let write = match command {
+                "sheet" => write_sheet,
+                _ => write_sheet2,
+            };
             let mut sheet = vec![0xEE; words.next()?.parse().ok()?];
-            let written = write_sheet(&file, &mut nodes, &mut items, &mut sheet);
+            let written = write(&file, &mut nodes, &mut items, &mut sheet);
             if sheet[written.unwrap_or(0)..].iter().any(|&byte| byte != 0) {
                 return Some("the buffer isn't cleared".to_string());
             }
@@ -198,12 +203,13 @@ fn sum<'a>(mut words: impl Iterator<Item = &'a str>) -> Option<String> {
     ))
 }
 
-/// Runs one case of a conversion.
+/// Runs one case of a conversion, or of the mover.
 fn convert(command: &str, given: &[u8], room: usize) -> Option<String> {
     let mut text = vec![0xEE; room];
     let written = match command {
         "utf8" => utf16_to_utf8(given, &mut text),
         "utf16" => utf8_to_utf16(given, &mut text),
+        "move" => move_sheet(given, &mut text),
         _ => return None,
     };
     if text[written.unwrap_or(0)..].iter().any(|&byte| byte != 0) {
