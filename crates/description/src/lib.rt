@@ -130,7 +130,7 @@ fn read_numbers(c: Cursor, file: &[u8], end: FilePlace, count: u64, index: u64) 
 }
 
 // The resource list and the group list.
-fn read_lists(c: Cursor, file: &[u8], end: FilePlace, resources: u64) -> Passed
+pub fn read_lists(c: Cursor, file: &[u8], end: FilePlace, resources: u64) -> Passed
     requires { ⌜ end .0 ≤ length (now file) ⌝ }
     ensures { λ r. ⌜ passTold r ≡ run (lists resources (end .0)) (now (file .entry)) (c .at .0) ⌝ }
 {
@@ -256,7 +256,7 @@ pub fn is_binary(row: Item) -> bool
 }
 
 // The answer for a row whose data lies in the file.
-fn count_in(file: &[u8], row: Item, channel: u64, resource: u64) -> Counted
+pub fn count_in(file: &[u8], row: Item, channel: u64, resource: u64) -> Counted
     requires { ⌜ ItemIn (length (now file)) row ⌝ }
     ensures { λ r. ⌜ told r ≡ countIn (now (file .entry)) channel resource row ⌝ }
 {

@@ -113,7 +113,7 @@ pub fn put_escaped(out: &mut [u8], to: usize, file: &[u8], from: usize, size: us
 }
 
 // Puts the version: 100 is `1.00`.
-fn put_version(out: &mut [u8], to: usize, version: u64) -> usize
+pub fn put_version(out: &mut [u8], to: usize, version: u64) -> usize
     ensures { λ r. ⌜ Counts (now (out .entry)) (now (out .exit)) to (versionText version) r ⌝ }
 {
     let one = room::put_decimal(out, to, version / 100);
@@ -255,7 +255,7 @@ pub fn put_item_line(out: &mut [u8], to: usize, file: &[u8], items: &[u64], i: u
 }
 
 // Puts the line of item row i, if the row is visible.
-fn put_visible_line(out: &mut [u8], to: usize, file: &[u8], items: &[u64], i: usize) -> usize
+pub fn put_visible_line(out: &mut [u8], to: usize, file: &[u8], items: &[u64], i: usize) -> usize
     requires { ⌜ (i * itemWidth + itemWidth ≤ length (now items)) × ItemIn (length (now file)) (itemFrom (now items) (i * itemWidth)) ⌝ }
     ensures { λ r. ⌜ Counts (now (out .entry)) (now (out .exit)) to (visibleLine (now (file .entry)) (itemFrom (now (items .entry)) (i * itemWidth))) r ⌝ }
 {

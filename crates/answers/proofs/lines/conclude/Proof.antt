@@ -1,0 +1,36 @@
+-- `conclude` answers what was put, or the refusal for want of room.
+-- Assumes nothing.
+use native.Mathlib.Omega.{arith}
+use Rattle.answers.proofs.Ending.{gives-as, gives-room, fitted-room, fitted-over}
+use borrow.Author.Needs.{needs}
+use Rattle.answers.proofs.lines.conclude.Statement.{statement}
+use Rattle.answers.proofs.lines.conclude.Tie as tie
+
+refuse-requires : tie.Need-refuse-requires
+refuse-requires c κs = search needs
+
+same-length : tie.Need-same-length
+same-length c = search needs
+
+returns : tie.Need-returns
+returns c =
+    let good-c = c .before .before .before .before .before .before .before .good in
+    let if1 = c .before .before .before .before .if1 in
+    let refuse = c .before .before .refuse in
+    λ o w p. gives-as (fitted-over p (omega (arith, good-c)) _ _ (if1 .taken)) (gives-room (p .long) (refuse .ensures))
+
+close-requires : tie.Need-close-requires
+close-requires c κs = search needs
+
+same-length-2 : tie.Need-same-length-2
+same-length-2 c = search needs
+
+returns-2 : tie.Need-returns-2
+returns-2 c =
+    let good-c = c .before .before .before .before .before .before .before .good in
+    let if1 = c .before .before .before .before .if1 in
+    let close = c .before .before .close in
+    λ o w p. gives-as (fitted-room p (omega (arith, good-c)) _ _ (omega (arith, if1 .left))) (close .ensures o w p)
+
+pub conclude-spec : {M : Type 1} → statement M
+conclude-spec = tie.close (tie.spec refuse-requires same-length returns close-requires same-length-2 returns-2)

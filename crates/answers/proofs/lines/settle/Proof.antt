@@ -1,0 +1,32 @@
+-- `settle` answers what a call wrote or refused.
+-- Assumes nothing.
+use Rattle.answers.proofs.Ending.{gives-as, refuse-room, settle-bad, settle-good}
+use borrow.Author.Needs.{needs}
+use Rattle.answers.proofs.lines.settle.Statement.{statement}
+use Rattle.answers.proofs.lines.settle.Tie as tie
+
+enum-known-written : tie.Need-enum-known-written
+enum-known-written c = search needs
+
+refuse-requires : tie.Need-refuse-requires
+refuse-requires c κs = search needs
+
+enum-known-written-2 : tie.Need-enum-known-written-2
+enum-known-written-2 c = search needs
+
+same-length : tie.Need-same-length
+same-length c = search needs
+
+returns : tie.Need-returns
+returns c =
+    let written = c .before .before .before .before .before .written in
+    let refuse = c .before .before .refuse in
+    λ room x z e t. gives-as (settle-bad room _ x e (written .given .1)) (refuse-room _ _ _ z (refuse .ensures))
+
+returns-2 : tie.Need-returns-2
+returns-2 c =
+    let written2 = c .before .written2 in
+    λ room x z e t. settle-good room _ x _ z e (written2 .given .1) t
+
+pub settle-spec : {M : Type 1} → statement M
+settle-spec = tie.close (tie.spec enum-known-written refuse-requires enum-known-written-2 same-length returns returns-2)

@@ -1,0 +1,30 @@
+-- `is_description` tests for a content description.
+-- Assumes nothing.
+use mathlib.Core.Path.{sym, _∙_}
+use borrow.Author.Tests.{not-true, not-false}
+use Rattle.answers.proofs.Needing.{described-no, described-by}
+use borrow.Author.Needs.{needs}
+use Rattle.answers.proofs.needs.is_description.Statement.{statement}
+use Rattle.answers.proofs.needs.is_description.Tie as tie
+
+is-field-requires : tie.Need-is-field-requires
+is-field-requires c κs = search needs
+
+returns : tie.Need-returns
+returns c =
+    let if1 = c .if1 in
+    let is-field = c .before .is-field in
+    described-no _ (sym (not-true _ (if1 .taken)) ∙ is-field .ensures)
+
+is-binary-requires : tie.Need-is-binary-requires
+is-binary-requires c κs = search needs
+
+returns-2 : tie.Need-returns-2
+returns-2 c =
+    let if1 = c .before .if1 in
+    let is-field = c .before .before .is-field in
+    let is-binary = c .is-binary in
+    described-by _ (sym (not-false _ (if1 .left)) ∙ is-field .ensures) (is-binary .ensures)
+
+pub is-description-spec : {M : Type 1} → statement M
+is-description-spec = tie.close (tie.spec is-field-requires returns is-binary-requires returns-2)

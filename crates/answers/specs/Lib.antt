@@ -1,0 +1,4 @@
+pub mod Answer
+pub mod Printed
+pub mod Needed
+pub mod Questions

@@ -1,0 +1,59 @@
+// Every question that the command asks of a file, and the answer.
+ghost use lib.ListN.{length};
+ghost use Rattle.io.specs.Counts.{Counts};
+ghost use Rattle.answers.specs.Answer.{Gives};
+ghost use Rattle.answers.specs.Questions.{answerOf};
+use crate::lines::Made;
+use find::Field;
+
+// A question. Its numbers are rows, but for the channel and the resource of `Count`. The name or the title that a question has is lent beside it.
+pub enum Asked {
+    Sheet,
+    Check,
+    Rows,
+    Verdict,
+    Near(usize, Field),
+    Own(usize, Field),
+    Place(usize),
+    Resource(usize),
+    Origin(usize),
+    Needs,
+    RowNeeds(usize),
+    Count(usize, u64, u64),
+    Titles,
+    Corrected(usize),
+    Retitled(usize),
+    Utf8,
+    Utf16,
+}
+
+// Makes the answer for a file, whose line ends in the field that is lent.
+pub fn make(asked: Asked, word: &[u8], file: &[u8], tail: &[u8], text: &mut [u8]) -> Made
+    ensures { λ r. ⌜ Counts (r .size) (now (text .exit)) ⌝ }
+    ensures { λ r. ⌜ Gives (length (now (text .entry))) r (now (text .exit)) (answerOf (now (word .entry)) (now (tail .entry)) (length (now (text .entry))) (now (file .entry)) asked) ⌝ }
+{
+    if file.len() > program::LONGEST {
+        return crate::lines::refuse_long(text, tail);
+    }
+    match asked {
+        Asked::Sheet => crate::sheets::make_sheet(file, tail, text),
+        Asked::Check => crate::checks::make_check(file, tail, text),
+        Asked::Rows => crate::rows::make_rows(file, text),
+        Asked::Verdict => crate::verdicts::make_verdict(file, tail, text),
+        Asked::Near(row, field) => crate::finds::make_found(file, true, row, field, word, text),
+        Asked::Own(row, field) => crate::finds::make_found(file, false, row, field, word, text),
+        Asked::Place(row) => crate::places::make_place(file, row, text),
+        Asked::Resource(row) => crate::places::make_resource(file, row, text),
+        Asked::Origin(row) => crate::places::make_origin(file, row, text),
+        Asked::Needs => crate::needs::make_needs(file, text),
+        Asked::RowNeeds(row) => crate::needs::make_row_needs(file, row, text),
+        Asked::Count(row, channel, resource) => {
+            crate::needs::make_count(file, row, channel, resource, text)
+        }
+        Asked::Titles => crate::titles::make_titles(file, text),
+        Asked::Corrected(row) => crate::titles::make_corrected(file, row, word, text),
+        Asked::Retitled(row) => crate::titles::make_retitled(file, row, word, text),
+        Asked::Utf8 => crate::texts::make_utf8(file, text),
+        Asked::Utf16 => crate::texts::make_utf16(file, text),
+    }
+}
