@@ -360,7 +360,7 @@ fn sheets(repetitions: usize) {
             Err(refusal) => Err(refusal.number),
         },
     ];
-    for nodes in [32, 64, 128, 256] {
+    for nodes in [64, 128, 256, 512, 1024] {
         let [first, second] = growing(SEED, nodes);
         for (edition, sheet, room) in [
             ("first", first.clone(), second.len()),
