@@ -198,7 +198,11 @@ fn one(asked: Asked, count: usize) -> u64 {
 }
 
 fn find_asked(own: bool, row: usize, field: Field) -> Asked {
-    if own { Asked::Own(row, field) } else { Asked::Near(row, field) }
+    if own {
+        Asked::Own(row, field)
+    } else {
+        Asked::Near(row, field)
+    }
 }
 
 fn find_number(own: bool, row: usize) -> u64 {
