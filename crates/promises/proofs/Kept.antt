@@ -50,11 +50,16 @@ use Rattle.room.proofs.Listed.{allowed-front, among-back, fitted, fitting-among
 use Rattle.unicode.specs.Unicode as unicode
 use Rattle.unicode.proofs.Listed.{utf8-listed, utf16-listed}
 use Rattle.unicode.proofs.Back.{placed8, placed16}
-use Rattle.promises.specs.Promises.{Question, readTree, findItem, findOwn, resolveRow, countFor, judgeMobile, writeSheet, correctTitle, toUtf8, toUtf16, Sizes, size, reads}
-use Rattle.promises.specs.Promises.{Tables, noTables, ofFile, ofWritten, Lent, filled, copied, changed, About, overRows, rowsIntoRoom, dataIntoRoom, resourceValues, oneValue, sizeValue, bytes, about}
+use Rattle.id3.specs.Frames as id3
+use Rattle.id3.specs.declared.TagFrame.{TagFrame}
+use Rattle.id3.proofs.Listed as tag
+use Rattle.id3.proofs.Inside.{frame-inside, frames-apart, count-frames, count-refused}
+use Rattle.promises.specs.Promises.{Question, readTree, findItem, findOwn, resolveRow, countFor, judgeMobile, writeSheet, correctTitle, toUtf8, toUtf16, countFrames, tagFrame, Sizes, size, reads}
+use Rattle.promises.specs.Promises.{Tables, noTables, ofFile, ofWritten, Lent, filled, copied, changed, About, overRows, rowsIntoRoom, dataIntoRoom, overData, resourceValues, frameValues, oneValue, sizeValue, bytes, about}
 use Rattle.promises.specs.Promises.{Outcome, saying, rowTables, tablesLent, lent, holding, answerTo, leaves, outcome, resource, IsRefusal, Accepted, InTables, newFile, AnsweredOf, Shows, IsAnswer, Demand1, FitsExactly, FirstApplies}
-use Rattle.promises.specs.Promises.{OnlyThere, PrivateAlone, AlikeIn, EachAlike, OutcomesAlike, Demand3, InTurn, Correction, Corrects}
-use Rattle.promises.specs.Calls.{Called, left, Over, Fills, read-tree, find-item, find-own, resolve-row, count-for, judge, write-sheet, to-utf8, to-utf16, correct-title, Given, EachLeaves, CallsAlike, PartsAlike}
+use Rattle.promises.specs.Promises.{OnlyThere, PrivateAlone, AlikeIn, EachAlike, OutcomesAlike, Demand3, InTurn, Correction, Corrects, FrameIs, CountsFrames, FramesApart}
+use Rattle.promises.specs.Calls as calls
+use Rattle.promises.specs.Calls.{Called, left, Over, Fills, read-tree, find-item, find-own, resolve-row, count-for, judge, write-sheet, to-utf8, to-utf16, correct-title, tag-frame, Given, EachLeaves, CallsAlike, PartsAlike}
 
 -- ---- which data may not differ
 
@@ -215,6 +220,8 @@ module _ (ls : Sizes) (f g : List ℕ) (h : Header) (ns : List Node) (is : List 
   outcome-alike (correctTitle i text) = title-leaves i text ls f g (title-alike i text)
   outcome-alike (toUtf8 units) = same (toUtf8 units) refl
   outcome-alike (toUtf16 text) = same (toUtf16 text) refl
+  outcome-alike (countFrames tag) = same (countFrames tag) refl
+  outcome-alike (tagFrame tag i) = same (tagFrame tag i) refl
 
 -- ---- the resource itself
 
@@ -310,6 +317,8 @@ called (correct-title {out = s} item text r k t u) =
     let w = in-buffer (length s) _ in let x = in-written _ _ _ _ in made (ap (saying oneValue) (k .answers) ∙ w .0) (two (t ∙ x .0) (u ∙ x .1) (one (k .in-buffer ∙ w .2)))
 called (to-utf8 r k) = room-called _ k
 called (to-utf16 r k) = room-called _ k
+called (calls.count-frames t r k) = made (ap (saying oneValue) k) refl
+called (tag-frame t i r k) = made (ap (saying frameValues) k) refl
 
 pub each-leaves : EachLeaves
 each-leaves q lends f o k = called k
@@ -403,6 +412,9 @@ room-meets question own k = record {
 data-meets : (text : Result (List ℕ)) (own : List ℕ) → T (isAllowed own 22 0) → Among own text → Meets (dataIntoRoom text own)
 data-meets text own t k = record { listed = λ ls f. fitting-among own t (size ls 0) text k; wide = λ a. refl; shown = λ ls f a e. (tt, tt) }
 
+over-data-meets : {A : Type 0} (answer : Result A) (values : A → List ℕ) (number : ℕ) (own : List ℕ) → Among own answer → ((a : A) → length (values a) ≡ number) → Meets (overData answer values number own)
+over-data-meets answer values number own k w = record { listed = λ ls f. k; wide = w; shown = λ ls f a e. (tt, tt) }
+
 -- ---- the correction of a title
 
 -- the file that was written
@@ -467,6 +479,8 @@ meets writeSheet = room-meets sheet.write _ sheet-listed
 meets (correctTitle i text) = title-meets i text
 meets (toUtf8 units) = data-meets _ _ tt (utf8-listed units)
 meets (toUtf16 text) = data-meets _ _ tt (utf16-listed text)
+meets (countFrames t) = over-data-meets _ _ _ _ (tag.count-listed t) (λ a. refl)
+meets (tagFrame t i) = over-data-meets _ _ _ _ (tag.frame-listed t i) (λ a. refl)
 
 choice : (q : Question) (ls : Sizes) (f : List ℕ) → IsRefusal (about q) ls f (outcome q ls f) ⊎ IsAnswer (about q) ls f (outcome q ls f)
 unfolding outcome
@@ -528,3 +542,35 @@ in-turn i text q ls f g h ns is r d =
           let b : DifferInPrivate h′ ns′ is′ (newFile o) (newFile o′) = subst (DifferInPrivate h′ ns′ is′ (newFile o)) y (written-part i text ls f g w h′ ns′ is′ a) in
           outcome-alike ls (newFile o) (newFile o′) h′ ns′ is′ a b q
     ]
+
+-- ---- the walk of a tag
+
+-- what the words of an answer say
+count-said : (r : Result ℕ) {n : ℕ} → saying oneValue r ≡ 0 ∷ 0 ∷ n ∷ [] → r ≡ good n
+count-said (good m) {n} e = let z : m ≡ n = cc in ap good z
+count-said (bad m p) e = let z : _≡_ {A = ℕ} 0 1 = cc (ap length e) in absurd (omega arith)
+
+count-not : (r : Result ℕ) {n p : ℕ} → saying oneValue r ≡ n ∷ p ∷ [] → r ≡ bad n p
+count-not (good m) e = let z : _≡_ {A = ℕ} 0 1 = cc (ap length e) in absurd (omega arith)
+count-not (bad m q) e = cc
+
+frame-said : (r : Result TagFrame) {name place size : ℕ} → saying frameValues r ≡ 0 ∷ 0 ∷ name ∷ place ∷ size ∷ [] → (x : TagFrame) × (r ≡ good x) × (x .place ≡ place) × (x .size ≡ size)
+frame-said (good x) e = (x, refl, cc, cc)
+frame-said (bad m p) e = let z : _≡_ {A = ℕ} 0 1 = cc (ap length e) in absurd (omega arith)
+
+pub counts-frames : CountsFrames
+unfolding outcome leaves
+counts-frames t ls f = (
+  λ n e i. let w = count-frames t (count-said (id3.frameCount t) e) i in (λ l. let (x, k) = w .0 l in (x .name, x .place, x .size, λ ls f. ap (saying frameValues) k), λ l. ap (saying frameValues) (w .1 l)),
+  λ n p e i. ap (saying frameValues) (count-refused t (count-not (id3.frameCount t) e) i),
+)
+
+pub frames-are-apart : FramesApart
+unfolding outcome leaves
+frames-are-apart t i name place size h =
+    let (x, e, p, s) = frame-said (id3.frameAt i t) (h [] []) in
+    let w = frame-inside t i e in (
+      omega (arith, w .0, p),
+      omega (arith, w .1, p, s),
+      λ j name′ place′ size′ l k. let (y, d, q, z) = frame-said (id3.frameAt j t) (k [] []) in omega (arith, frames-apart t i j l e d, p, s, q),
+    )
