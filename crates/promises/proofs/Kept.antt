@@ -73,11 +73,16 @@ use Rattle.room.proofs.Listed.{allowed-front, among-back, areApart, apart-place
 use Rattle.unicode.specs.Unicode as unicode
 use Rattle.unicode.proofs.Listed.{utf8-listed, utf16-listed}
 use Rattle.unicode.proofs.Back.{placed8, placed16, there-and-back, back-and-there}
-use Rattle.promises.specs.Promises.{Question, readTree, findItem, findOwn, resolveRow, copyResource, countFor, judgeMobile, accountBytes, writeSheet, writeSheet2, correctTitle, toUtf8, toUtf16, moveSheet, Sizes, size, reads}
-use Rattle.promises.specs.Promises.{Tables, noTables, ofFile, ofWritten, Lent, filled, copied, given, changed, About, overRows, rowsIntoRoom, dataIntoRoom, treeValues, resourceValues, oneValue, sizeValue, bytes, about}
+use Rattle.id3.specs.Frames as id3
+use Rattle.id3.specs.declared.TagFrame.{TagFrame}
+use Rattle.id3.proofs.Listed as tag
+use Rattle.id3.proofs.Inside.{frame-inside, frames-apart, count-frames, count-refused}
+use Rattle.promises.specs.Promises.{Question, readTree, findItem, findOwn, resolveRow, copyResource, countFor, judgeMobile, accountBytes, writeSheet, writeSheet2, correctTitle, toUtf8, toUtf16, moveSheet, countFrames, tagFrame, Sizes, size, reads}
+use Rattle.promises.specs.Promises.{Tables, noTables, ofFile, ofWritten, Lent, filled, copied, given, changed, About, overRows, rowsIntoRoom, dataIntoRoom, overData, treeValues, resourceValues, frameValues, oneValue, sizeValue, bytes, about}
 use Rattle.promises.specs.Promises.{Outcome, saying, rowTables, tablesLent, lent, holding, answerTo, leaves, outcome, resource, IsRefusal, Accepted, InTables, newFile, AnsweredOf, Shows, IsAnswer, Demand1, FitsExactly, StepsMake, FirstApplies, UntilRoot, LieApart}
-use Rattle.promises.specs.Promises.{OnlyThere, PrivateAlone, AlikeIn, EachAlike, OutcomesAlike, Demand3, InTurn, Correction, Corrects, textOf, ButForMark, Undone, ThereAndBack, BackAndThere, Account, Accounts}
-use Rattle.promises.specs.Calls.{Called, left, Over, Fills, read-tree, find-item, find-own, resolve-row, copy-resource, count-for, judge, account, write-sheet, write-sheet2, to-utf8, to-utf16, move-sheet, correct-title, EachLeaves, CallsAlike, PartsAlike}
+use Rattle.promises.specs.Promises.{OnlyThere, PrivateAlone, AlikeIn, EachAlike, OutcomesAlike, Demand3, InTurn, Correction, Corrects, textOf, ButForMark, Undone, ThereAndBack, BackAndThere, Account, Accounts, FrameIs, CountsFrames, FramesApart}
+use Rattle.promises.specs.Calls as calls
+use Rattle.promises.specs.Calls.{Called, left, Over, Fills, read-tree, find-item, find-own, resolve-row, copy-resource, count-for, judge, account, write-sheet, write-sheet2, to-utf8, to-utf16, move-sheet, tag-frame, correct-title, EachLeaves, CallsAlike, PartsAlike}
 
 -- ---- which data may not differ
 
@@ -304,6 +309,8 @@ module _ (ls : Sizes) (f g : List ℕ) (h : Header) (ns : List Node) (is : List 
   outcome-alike (toUtf8 units) = same (toUtf8 units) refl
   outcome-alike (toUtf16 text) = same (toUtf16 text) refl
   outcome-alike (moveSheet s) = same (moveSheet s) refl
+  outcome-alike (countFrames tag) = same (countFrames tag) refl
+  outcome-alike (tagFrame tag i) = same (tagFrame tag i) refl
 
 -- ---- the resource itself
 
@@ -409,6 +416,8 @@ called (correct-title {out = s} item text r k t u) =
 called (to-utf8 r k) = room-called _ _ k
 called (to-utf16 r k) = room-called _ _ k
 called (move-sheet r k) = room-called _ _ k
+called (calls.count-frames t r k) = made (ap (saying oneValue) k) refl
+called (tag-frame t i r k) = made (ap (saying frameValues) k) refl
 
 pub each-leaves : EachLeaves
 each-leaves q lends f o k = called k
@@ -550,6 +559,9 @@ data-meets text own a t k = record {
   shown = λ ls f a e. (tt, tt);
 }
 
+over-data-meets : {A : Type 0} (answer : Result A) (values : A → List ℕ) (number : ℕ) (own : List ℕ) → T (areApart own inFile) → Among own answer → ((a : A) → length (values a) ≡ number) → Meets (overData answer values number own)
+over-data-meets answer values number own t k w = record { listed = λ ls f. k; placed = λ ls f. apart-placed own t (length f) answer k; wide = w; shown = λ ls f a e. (tt, tt) }
+
 -- ---- the correction of a title
 
 -- the file that was written
@@ -650,6 +662,8 @@ meets (correctTitle i text) = title-meets i text
 meets (toUtf8 units) = data-meets _ _ tt tt (utf8-listed units)
 meets (toUtf16 text) = data-meets _ _ tt tt (utf16-listed text)
 meets (moveSheet s) = data-meets _ _ tt tt (move-listed s)
+meets (countFrames t) = over-data-meets _ _ _ _ tt (tag.count-listed t) (λ a. refl)
+meets (tagFrame t i) = over-data-meets _ _ _ _ tt (tag.frame-listed t i) (λ a. refl)
 
 choice : (q : Question) (ls : Sizes) (f : List ℕ) → IsRefusal (about q) ls f (outcome q ls f) ⊎ IsAnswer (about q) ls f (outcome q ls f)
 unfolding outcome
@@ -802,3 +816,35 @@ back-there text n m f k e l =
     let t : textOf (outcome (toUtf16 text) (n ∷ []) f) ≡ s = ap (λ (v : Result (List ℕ)). textOf (leaves (about (toUtf16 text)) (n ∷ []) f v)) w ∙ text-is (unicode.toUtf16 text) unicode.refusals n f s in
     let (b, c, d) = back-and-there text r in
     subst (λ v. Undone (0xEF ∷ 0xBB ∷ 0xBF ∷ []) text (outcome (toUtf8 v) (m ∷ []) f)) (sym t) (undone (unicode.toUtf8 s) unicode.refusals m f (0xEF ∷ 0xBB ∷ 0xBF ∷ []) text b c d l)
+
+-- ---- the walk of a tag
+
+-- what the words of an answer say
+count-said : (r : Result ℕ) {n : ℕ} → saying oneValue r ≡ 0 ∷ 0 ∷ n ∷ [] → r ≡ good n
+count-said (good m) {n} e = let z : m ≡ n = cc in ap good z
+count-said (bad m p) e = let z : _≡_ {A = ℕ} 0 1 = cc (ap length e) in absurd (omega arith)
+
+count-not : (r : Result ℕ) {n p : ℕ} → saying oneValue r ≡ n ∷ p ∷ [] → r ≡ bad n p
+count-not (good m) e = let z : _≡_ {A = ℕ} 0 1 = cc (ap length e) in absurd (omega arith)
+count-not (bad m q) e = cc
+
+frame-said : (r : Result TagFrame) {name place size : ℕ} → saying frameValues r ≡ 0 ∷ 0 ∷ name ∷ place ∷ size ∷ [] → (x : TagFrame) × (r ≡ good x) × (x .place ≡ place) × (x .size ≡ size)
+frame-said (good x) e = (x, refl, cc, cc)
+frame-said (bad m p) e = let z : _≡_ {A = ℕ} 0 1 = cc (ap length e) in absurd (omega arith)
+
+pub counts-frames : CountsFrames
+unfolding outcome leaves
+counts-frames t ls f = (
+  λ n e i. let w = count-frames t (count-said (id3.frameCount t) e) i in (λ l. let (x, k) = w .0 l in (x .name, x .place, x .size, λ ls f. ap (saying frameValues) k), λ l. ap (saying frameValues) (w .1 l)),
+  λ n p e i. ap (saying frameValues) (count-refused t (count-not (id3.frameCount t) e) i),
+)
+
+pub frames-are-apart : FramesApart
+unfolding outcome leaves
+frames-are-apart t i name place size h =
+    let (x, e, p, s) = frame-said (id3.frameAt i t) (h [] []) in
+    let w = frame-inside t i e in (
+      omega (arith, w .0, p),
+      omega (arith, w .1, p, s),
+      λ j name′ place′ size′ l k. let (y, d, q, z) = frame-said (id3.frameAt j t) (k [] []) in omega (arith, frames-apart t i j l e d, p, s, q),
+    )

@@ -41,8 +41,12 @@ use Rattle.room.specs.Room as room
 use Rattle.room.specs.Told as written
 use Rattle.room.specs.declared.Written.{Written}
 use Rattle.unicode.specs.Unicode as unicode
+use Rattle.id3.specs.Frames as id3
+use Rattle.id3.specs.Told as tag
+use Rattle.id3.specs.declared.Counted as counting
+use Rattle.id3.specs.declared.Framed.{Framed}
 use Rattle.promises.specs.Promises as promises
-use Rattle.promises.specs.Promises.{Question, readTree, findItem, resolveRow, copyResource, judgeMobile, accountBytes, writeSheet, writeSheet2, correctTitle, toUtf8, toUtf16, moveSheet, Outcome, saying, treeValues, itemValues, resourceValues, oneValue, about, outcome, OnlyThere, OutcomesAlike}
+use Rattle.promises.specs.Promises.{Question, readTree, findItem, resolveRow, copyResource, judgeMobile, accountBytes, writeSheet, writeSheet2, correctTitle, toUtf8, toUtf16, moveSheet, countFrames, tagFrame, Outcome, saying, treeValues, itemValues, resourceValues, oneValue, frameValues, about, outcome, OnlyThere, OutcomesAlike}
 
 -- what a call left: the answer's words, and the tables and buffers
 abbrev pub left : {A : Type 0} → (values : A → List ℕ) → Result A → List (List ℕ) → Outcome
@@ -123,6 +127,10 @@ pub data Called : Question → (lent : List (List ℕ)) → (file : List ℕ) �
   move-sheet : {buffer f sheet v : List ℕ} (r : Written)
       → Fills (room.fitting (length buffer) (move sheet)) buffer (written.told r) v
       → Called (moveSheet sheet) (buffer ∷ []) f (left oneValue (written.told r) (v ∷ []))
+  -- id3::frame_count
+  count-frames : {f : List ℕ} (t : List ℕ) (r : counting.Counted) → tag.countTold r ≡ id3.frameCount t → Called (countFrames t) [] f (left oneValue (tag.countTold r) [])
+  -- id3::frame
+  tag-frame : {f : List ℕ} (t : List ℕ) (i : ℕ) (r : Framed) → tag.frameTold r ≡ id3.frameAt i t → Called (tagFrame t i) [] f (left frameValues (tag.frameTold r) [])
 
 -- ---- What is promised of calls, whatever their tables and buffers held.
 

@@ -10,7 +10,7 @@ use lib.Dec.{T}
 use lib.ListN.{length, getD, replicate, take, drop}
 use Rattle.cursor.specs.Machine.{FirstAt}
 use Rattle.cursor.specs.Rows.{Events}
-use Rattle.cursor.specs.Refusals.{noRowLeft, badText, badSheet, ofReader, inFile, isOneOf, isAllowed}
+use Rattle.cursor.specs.Refusals.{noRowLeft, noSuchRow, badText, badSheet, ofReader, inFile, isOneOf, isAllowed}
 use Rattle.cursor.specs.Vlq.{part}
 use Rattle.cursor.specs.declared.Node.{Node}
 use Rattle.cursor.specs.declared.Item.{Item}
@@ -41,10 +41,12 @@ use Rattle.title.specs.Title as title
 use Rattle.title.specs.Title.{Bytes, Says, NowhereLonger}
 use Rattle.room.specs.Room as room
 use Rattle.unicode.specs.Unicode as unicode
+use Rattle.id3.specs.Frames as id3
+use Rattle.id3.specs.declared.TagFrame.{TagFrame}
 
 -- ---- questions
 
--- what a call is asked, besides the file: every argument that is no table and no buffer to be filled. The last three have no file.
+-- what a call is asked, besides the file: every argument that is no table and no buffer to be filled. The last five have no file.
 pub data Question : Type 0 where
   readTree : Question
   findItem : find.Wanted → (row : ℕ) → Question
@@ -60,6 +62,8 @@ pub data Question : Type 0 where
   toUtf8 : (units : List ℕ) → Question
   toUtf16 : (text : List ℕ) → Question
   moveSheet : (sheet : List ℕ) → Question
+  countFrames : (tag : List ℕ) → Question
+  tagFrame : (tag : List ℕ) → (number : ℕ) → Question
 
 -- The sizes of what is lent, in the order of the call: with a file the node table and the item table, in words; then buffers, in bytes.
 abbrev pub Sizes : Type 0
@@ -110,7 +114,8 @@ abbrev pub overRows : {A : Type 0} → Asks A → (A → List ℕ) → ℕ → L
 overRows {A} question values number own =
     record { Answer = A; asks = λ ls. ofRows question; values = values; number = number; refusals = ofReader ++ own; tables = ofFile; buffers = λ ls. [] }
 
--- the values of answers: version, node rows, item rows; the item row's number and its ten words; place, length, row, references followed; one number; the number of bytes
+-- the values of answers: version, node rows, item rows; the item row's number and its ten words; place, length, row, references followed; one number; the number of bytes;
+-- a frame's name, place and length
 abbrev pub treeValues : Counts → List ℕ
 treeValues c = c .version ∷ c .nodes ∷ c .items ∷ []
 
@@ -125,6 +130,9 @@ oneValue n = n ∷ []
 
 abbrev pub sizeValue : List ℕ → List ℕ
 sizeValue s = oneValue (length s)
+
+abbrev pub frameValues : TagFrame → List ℕ
+frameValues x = x .name ∷ x .place ∷ x .size ∷ []
 
 -- a buffer for the bytes that a call writes, with zeros to its end
 abbrev pub bytes : ℕ → Lent (List ℕ)
@@ -153,6 +161,10 @@ dataIntoRoom text own = record {
   tables = noTables;
   buffers = λ ls. bytes (size ls 0) ∷ [];
 }
+
+-- a question of lent data alone, with no room: the answer, its values, how many, and its refusals
+abbrev pub overData : {A : Type 0} → Result A → (A → List ℕ) → ℕ → List ℕ → About
+overData {A} answer values number own = record { Answer = A; asks = λ ls. ofData answer; values = values; number = number; refusals = own; tables = noTables; buffers = λ ls. [] }
 
 abbrev pub about : Question → About
 about readTree = overRows counts treeValues 3 []
@@ -193,6 +205,8 @@ about (correctTitle i text) = record {
 about (toUtf8 units) = dataIntoRoom (unicode.toUtf8 units) unicode.refusals
 about (toUtf16 text) = dataIntoRoom (unicode.toUtf16 text) unicode.refusals
 about (moveSheet s) = dataIntoRoom (mover.move s) mover.refusals
+about (countFrames tag) = overData (id3.frameCount tag) oneValue 1 id3.countRefusals
+about (tagFrame tag i) = overData (id3.frameAt i tag) frameValues 3 id3.frameRefusals
 
 -- ---- what a call leaves
 
@@ -476,3 +490,21 @@ SheetsMove = (second : Bool) (ls : Sizes) (f : List ℕ) → ((i : ℕ) → getD
     → let s : List ℕ = newFile (outcome (writes second) ls f) in
     WellFormed second s
     × ((m : ℕ) → let o : Outcome = outcome (writes (not second)) (size ls 0 ∷ size ls 1 ∷ m ∷ []) f in outcome (moveSheet s) (m ∷ []) f ≡ record { answer = o .answer; holds = drop 2 (o .holds) })
+
+-- ---- The walk of a tag, whatever it holds. It reads whatever it is given, hidden contents too, and stands outside demand 3.
+
+-- frame i of the tag, asked for
+abbrev pub FrameIs : (tag : List ℕ) → (i name place size : ℕ) → Type 0
+FrameIs tag i name place size = (ls : Sizes) (f : List ℕ) → outcome (tagFrame tag i) ls f .answer ≡ 0 ∷ 0 ∷ name ∷ place ∷ size ∷ []
+
+-- The count is the number of frames that can be asked for, and where there is none, each frame is refused as the count is.
+abbrev pub CountsFrames : Type 0
+CountsFrames = (tag : List ℕ) (ls : Sizes) (f : List ℕ)
+    → ((n : ℕ) → outcome (countFrames tag) ls f .answer ≡ 0 ∷ 0 ∷ n ∷ [] → (i : ℕ)
+        → (i < n → (name : ℕ) × (place : ℕ) × (size : ℕ) × FrameIs tag i name place size) × (n ≤ i → outcome (tagFrame tag i) ls f .answer ≡ noSuchRow ∷ 0 ∷ []))
+    × ((n p : ℕ) → outcome (countFrames tag) ls f .answer ≡ n ∷ p ∷ [] → (i : ℕ) → outcome (tagFrame tag i) ls f .answer ≡ n ∷ p ∷ [])
+
+-- A frame's contents lie in the tag, behind its header's ten bytes and ten of its own; and the frames lie one after the other, so that they share no byte.
+abbrev pub FramesApart : Type 0
+FramesApart = (tag : List ℕ) (i name place size : ℕ) → FrameIs tag i name place size
+    → (20 ≤ place) × (place + size ≤ length tag) × ((j name′ place′ size′ : ℕ) → i < j → FrameIs tag j name′ place′ size′ → place + size + 10 ≤ place′)

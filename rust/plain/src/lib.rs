@@ -6,7 +6,8 @@
 //! ([`write_sheet`], or [`write_sheet2`] in its second edition). It moves a sheet from one edition to the
 //! other ([`move_sheet`]). It gives what a tune needs, as a content description says ([`voice_count`]). It counts where the bytes of a file go
 //! ([`account`]). It writes a file anew with a title corrected ([`correct_title`]). And it converts
-//! texts from UTF-16 into UTF-8 ([`utf16_to_utf8`]) and back ([`utf8_to_utf16`]).
+//! texts from UTF-16 into UTF-8 ([`utf16_to_utf8`]) and back ([`utf8_to_utf16`]). It walks an ID3
+//! tag ([`frame_count`], [`frame`]).
 //!
 //! Each question takes the file and two lent tables of words, one for node rows and one for item
 //! rows, of any size and whatever they hold before. It reads the file afresh. After an answer the
@@ -19,6 +20,7 @@
 mod account;
 mod cursor;
 mod description;
+mod id3;
 mod mover;
 mod questions;
 mod sheet;
@@ -102,7 +104,7 @@ pub type ItemRow = [u64; item::WORDS];
 /// Why a question is refused.
 #[derive(Clone, Copy, Debug, PartialEq, Eq)]
 pub struct Refusal {
-    /// The number in the refusal list: 1 to 26, 31, 32, or 36 to 38.
+    /// The number in the refusal list: 1 to 26, or 31 to 38.
     pub number: u64,
     /// The place of the refused field's first byte, or 0 where the list names none.
     pub place: u64,
@@ -173,6 +175,17 @@ pub struct Totals {
     pub refused: u64,
     /// The bytes of the others by kind.
     pub kinds: Kinds,
+}
+
+/// A frame of an ID3 tag.
+#[derive(Clone, Copy, Debug, PartialEq, Eq)]
+pub struct Frame {
+    /// The four bytes of its name.
+    pub name: [u8; 4],
+    /// Place of its contents' first byte, in the tag.
+    pub place: u64,
+    /// The number of its contents' bytes.
+    pub length: u64,
 }
 
 /// The rows of a file that has been read.
@@ -435,6 +448,23 @@ pub fn utf8_to_utf16(text: &[u8], data: &mut [u8]) -> Result<usize, Refusal> {
     let written = unicode::from_utf8(text, data);
     data[written.unwrap_or(0)..].fill(0);
     written
+}
+
+/// The number of frames in an ID3v2.4 tag.
+///
+/// Refused with 33 when it is no such tag, with 34 when something of it is cut short or a size is bad,
+/// with 35 when it is unsynchronised.
+pub fn frame_count(tag: &[u8]) -> Result<u64, Refusal> {
+    Ok(id3::frames(tag)?.len() as u64)
+}
+
+/// A frame of an ID3v2.4 tag, by its number from 0 in file order.
+///
+/// Refused as [`frame_count`] is, then with 18 when there is no such frame.
+pub fn frame(tag: &[u8], number: u64) -> Result<Frame, Refusal> {
+    let frames = id3::frames(tag)?;
+    let number = usize::try_from(number).unwrap_or(usize::MAX);
+    frames.get(number).copied().ok_or(Refusal::at(18, 0))
 }
 
 /// Reads the tree and asks about its rows. Every refusal clears the tables.
