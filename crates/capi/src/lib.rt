@@ -11,13 +11,16 @@ ghost use Rattle.mobile.specs.Told as told_mobile;
 ghost use Rattle.account.specs.Told as told_account;
 ghost use Rattle.account.specs.Told.{kindWords, totalWords, totalsIn};
 ghost use Rattle.room.specs.Told as told_room;
-ghost use Rattle.promises.specs.Promises.{readTree, findItem, findOwn, resolveRow, copyResource, countFor, judgeMobile, writeSheet, writeSheet2, correctTitle, toUtf8, toUtf16, moveSheet, saying, treeValues, itemValues, resourceValues, oneValue};
+ghost use Rattle.id3.specs.Told as told_tag;
+ghost use Rattle.promises.specs.Promises.{readTree, findItem, findOwn, resolveRow, copyResource, countFor, judgeMobile, writeSheet, writeSheet2, correctTitle, toUtf8, toUtf16, moveSheet, countFrames, tagFrame, saying, treeValues, itemValues, resourceValues, oneValue, frameValues};
 ghost use Rattle.capi.specs.Fit.{fit, stored, asked, Leaves, totalsOf, LeavesTotals};
 use account::Accounted;
 use account::Kinds;
 use account::Totals;
 use description::Counted;
 use find::Found;
+use id3::FrameCount;
+use id3::Framed;
 use mobile::Judged;
 use resolve::Resolved;
 use room::Written;
@@ -233,6 +236,32 @@ fn put_written(answer: &mut [u64], said: Written)
     }
 }
 
+// The number of a tag's frames.
+fn put_frame_count(answer: &mut [u64], said: FrameCount)
+    ensures { λ _. ⌜ now (answer .exit) ≡ fit (length (now (answer .entry))) (saying oneValue (told_tag.countTold said)) ⌝ }
+{
+    match said {
+        FrameCount::Refused(n, p) => put_refusal(answer, n, p),
+        FrameCount::Is(n) => {
+            let words = [0, 0, n as u64];
+            put_answer(answer, &words);
+        }
+    }
+}
+
+// A frame's name, and its contents' place and length.
+fn put_frame(answer: &mut [u64], said: Framed)
+    ensures { λ _. ⌜ now (answer .exit) ≡ fit (length (now (answer .entry))) (saying frameValues (told_tag.frameTold said)) ⌝ }
+{
+    match said {
+        Framed::Refused(n, p) => put_refusal(answer, n, p),
+        Framed::Is(x) => {
+            let words = [0, 0, x.name, x.place as u64, x.size as u64];
+            put_answer(answer, &words);
+        }
+    }
+}
+
 // Reads the tree. Answer: version (100, 101, 200), nodes, item rows.
 #[no_mangle]
 pub extern "C" fn xmf_read_tree(
@@ -434,4 +463,20 @@ pub extern "C" fn xmf_move_sheet(sheet: &[u8], out: &mut [u8], answer: &mut [u64
     ensures { λ _. ⌜ Leaves (moveSheet (now (sheet .entry))) [] (now (out .entry) ∷ []) (now (out .exit) ∷ []) (now (answer .entry)) (now (answer .exit)) ⌝ }
 {
     put_written(answer, mover::move_sheet(sheet, out));
+}
+
+// Counts the frames of an ID3v2.4 tag. Answer: how many there are. It walks what it is given, hidden contents too, and stands outside demand 3.
+#[no_mangle]
+pub extern "C" fn xmf_id3_count(tag: &[u8], answer: &mut [u64])
+    ensures { λ _. ⌜ Leaves (countFrames (now (tag .entry))) [] [] [] (now (answer .entry)) (now (answer .exit)) ⌝ }
+{
+    put_frame_count(answer, id3::frame_count(tag));
+}
+
+// Gives the tag's frame of a number, from 0 in file order. Answer: the name's four bytes as one number, the first one highest; its contents' place in the tag, and length.
+#[no_mangle]
+pub extern "C" fn xmf_id3_frame(tag: &[u8], number: usize, answer: &mut [u64])
+    ensures { λ _. ⌜ Leaves (tagFrame (now (tag .entry)) number) [] [] [] (now (answer .entry)) (now (answer .exit)) ⌝ }
+{
+    put_frame(answer, id3::frame(tag, number));
 }

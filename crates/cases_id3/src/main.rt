@@ -1,5 +1,5 @@
 // Runs the cases of `id3` that standard input holds, a line each, and writes an answer line for each.
-use id3::Counted;
+use id3::FrameCount;
 use id3::Framed;
 use libc::STDIN_FILENO;
 
@@ -15,10 +15,10 @@ fn put_name(out: &mut [u8], at: usize, name: u64) -> usize {
 }
 
 // Puts a count.
-fn put_count(out: &mut [u8], answer: Counted) -> usize {
+fn put_count(out: &mut [u8], answer: FrameCount) -> usize {
     match answer {
-        Counted::Refused(number, place) => casetext::put_refusal(out, 0, number, place),
-        Counted::Count(count) => {
+        FrameCount::Refused(number, place) => casetext::put_refusal(out, 0, number, place),
+        FrameCount::Is(count) => {
             let end = casetext::put(out, 0, b"ok");
             casetext::put_spaced(out, end, count as u64)
         }

@@ -8,8 +8,8 @@ use Rattle.room.specs.Room.{Result, good, bad}
 use Rattle.id3.specs.Tag.{Head}
 use Rattle.id3.specs.Frames.{noFrame}
 use Rattle.id3.specs.declared.TagFrame.{TagFrame}
-use Rattle.id3.specs.declared.Counted.{Counted}
-use Rattle.id3.specs.declared.Counted.the-variants as counted
+use Rattle.id3.specs.declared.FrameCount.{FrameCount}
+use Rattle.id3.specs.declared.FrameCount.the-variants as counted
 use Rattle.id3.specs.declared.Framed.{Framed}
 use Rattle.id3.specs.declared.Framed.the-variants as framed
 use Rattle.id3.specs.declared.Headed.{Headed}
@@ -21,8 +21,8 @@ use Rattle.id3.specs.declared.Walked.the-variants as walk
 
 -- ---- the public answers
 
-abbrev pub countTold : Counted → Result ℕ
-countTold (counted.Count n) = good n
+abbrev pub countTold : FrameCount → Result ℕ
+countTold (counted.Is n) = good n
 countTold (counted.Refused n p) = bad n p
 
 abbrev pub frameTold : Framed → Result TagFrame

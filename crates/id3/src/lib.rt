@@ -21,8 +21,8 @@ pub struct TagFrame {
 }
 
 // How many frames; or a refusal, as number and place.
-pub enum Counted {
-    Count(usize),
+pub enum FrameCount {
+    Is(usize),
     Refused(u64, usize),
 }
 
@@ -245,12 +245,12 @@ fn walk(tag: &[u8], want: usize) -> Walked
 }
 
 // How many frames the tag has.
-pub fn frame_count(tag: &[u8]) -> Counted
+pub fn frame_count(tag: &[u8]) -> FrameCount
     ensures { λ r. ⌜ countTold r ≡ frameCount (now (tag .entry)) ⌝ }
 {
     match walk(tag, 0) {
-        Walked::Refused(n, p) => Counted::Refused(n, p.0),
-        Walked::Is(count, _) => Counted::Count(count),
+        Walked::Refused(n, p) => FrameCount::Refused(n, p.0),
+        Walked::Is(count, _) => FrameCount::Is(count),
     }
 }
 

@@ -43,7 +43,7 @@ use Rattle.room.specs.declared.Written.{Written}
 use Rattle.unicode.specs.Unicode as unicode
 use Rattle.id3.specs.Frames as id3
 use Rattle.id3.specs.Told as tag
-use Rattle.id3.specs.declared.Counted as counting
+use Rattle.id3.specs.declared.FrameCount.{FrameCount}
 use Rattle.id3.specs.declared.Framed.{Framed}
 use Rattle.promises.specs.Promises as promises
 use Rattle.promises.specs.Promises.{Question, readTree, findItem, resolveRow, copyResource, judgeMobile, accountBytes, writeSheet, writeSheet2, correctTitle, toUtf8, toUtf16, moveSheet, countFrames, tagFrame, Outcome, saying, treeValues, itemValues, resourceValues, oneValue, frameValues, about, outcome, OnlyThere, OutcomesAlike}
@@ -128,7 +128,7 @@ pub data Called : Question → (lent : List (List ℕ)) → (file : List ℕ) �
       → Fills (room.fitting (length buffer) (move sheet)) buffer (written.told r) v
       → Called (moveSheet sheet) (buffer ∷ []) f (left oneValue (written.told r) (v ∷ []))
   -- id3::frame_count
-  count-frames : {f : List ℕ} (t : List ℕ) (r : counting.Counted) → tag.countTold r ≡ id3.frameCount t → Called (countFrames t) [] f (left oneValue (tag.countTold r) [])
+  count-frames : {f : List ℕ} (t : List ℕ) (r : FrameCount) → tag.countTold r ≡ id3.frameCount t → Called (countFrames t) [] f (left oneValue (tag.countTold r) [])
   -- id3::frame
   tag-frame : {f : List ℕ} (t : List ℕ) (i : ℕ) (r : Framed) → tag.frameTold r ≡ id3.frameAt i t → Called (tagFrame t i) [] f (left frameValues (tag.frameTold r) [])
 
