@@ -2,8 +2,8 @@
 # Tries ./xmf: every line of its table of commands on samples/*, words, names, statuses, what cannot be read or written, terminals, builds, and the
 # installation. Needs python3; some parts need root, gcc, groff or shellcheck, and say so where they are not tried. The last line is `N passed, M failed`.
 #
-# That no way ends in status 0 without the whole answer is tried in four ways: each command with standard output, or NEW, that takes k bytes and no
-# more, for every k below the answer's length; /dev/full and a closed pipe; a program that ends without its digit, or is killed; and NEW while the
+# That no way ends in status 0 without the whole answer is tried in four ways: each command with standard output that takes k bytes and no more,
+# for every k below the answer's length if that is under 70, else for about 40 of them, and with NEW for every k; /dev/full and a closed pipe; a program that ends without its digit, or is killed; and NEW while the
 # program is killed at many moments.
 # shellcheck disable=SC2016,SC2094 # sh -c '..' has its own variables; a file is appended to itself on purpose
 set -u
@@ -575,7 +575,7 @@ count $? 'the digit is the status'
 
 # ---- what cannot be written: no status 0 without the whole answer
 
-# Each command with room for k bytes, for every k below what it writes; at that many it is 0 and whole. RLIMIT_FSIZE makes a write past k fail; the
+# Each command with room for k bytes, for k below what it writes (all of them, or about 40 of 70 and more); at that many it is 0 and whole. RLIMIT_FSIZE makes a write past k fail; the
 # signal is ignored, so that the write itself answers (EFBIG). With -o the same of NEW, of which nothing may be left, nor of a temporary file.
 python3 - "$xmf" "$work" >"$work/room" <<'END'
 import os
