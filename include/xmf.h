@@ -357,6 +357,31 @@ void xmf_move_sheet(const uint8_t *sheet, size_t sheet_length,
                     uint8_t *out, size_t out_length,
                     uint64_t *answer, size_t answer_words);
 
+/* Counts the frames of an ID3v2.4 tag. It takes the tag's bytes alone, no file and no tables. Bytes
+ * behind the tag's size are not read.
+ *
+ *   answer[2]  the number of frames
+ *
+ * Refused with 33, 34 and 35, placed in the tag.
+ *
+ * The walk reads whatever it is given, hidden contents too, and what it gives of them is outside
+ * demand 3. Do not put it into a ticket.
+ */
+void xmf_id3_count(const uint8_t *tag, size_t tag_length,
+                   uint64_t *answer, size_t answer_words);
+
+/* Gives a frame of an ID3v2.4 tag, by its number from 0 in file order.
+ *
+ *   answer[2]  the four bytes of its name as one number, the first byte highest
+ *   answer[3]  the place of its contents, counted from the tag's first byte
+ *   answer[4]  the length of its contents
+ *
+ * Refused as xmf_id3_count is, then with 18 when there is no such frame.
+ */
+void xmf_id3_frame(const uint8_t *tag, size_t tag_length,
+                   size_t number,
+                   uint64_t *answer, size_t answer_words);
+
 #ifdef __cplusplus
 }
 #endif

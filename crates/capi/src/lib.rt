@@ -242,8 +242,8 @@ fn put_frame_count(answer: &mut [u64], said: FrameCount)
 {
     match said {
         FrameCount::Refused(n, p) => put_refusal(answer, n, p),
-        FrameCount::Is(n) => {
-            let words = [0, 0, n as u64];
+        FrameCount::Is(frames) => {
+            let words = [0, 0, frames as u64];
             put_answer(answer, &words);
         }
     }

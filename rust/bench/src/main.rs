@@ -29,7 +29,10 @@ const LEAST: Duration = Duration::from_micros(200);
 /// What is asked about each file. The verdict is asked where the file is judged to its end, or
 /// nearly so; a file that fails the first check tells nothing of it.
 const ASKED: [(&str, &[&str]); 13] = [
-    ("large", &["tree", "find", "resolve", "account", "sheet", "sheet2"]),
+    (
+        "large",
+        &["tree", "find", "resolve", "account", "sheet", "sheet2"],
+    ),
     ("padded", &["tree", "account", "sheet"]),
     ("common", &["tree", "sheet"]),
     ("bare", &["tree", "account", "sheet"]),
@@ -95,7 +98,7 @@ const TITLE: &[u8] = b"The same tune with another title";
 type Ask = fn(&Subject, &mut Lent) -> Result<u64, u64>;
 
 /// The questions, each to the proved and to the plain reader.
-const QUESTIONS: [(&str, Ask, Ask); 7] = [
+const QUESTIONS: [(&str, Ask, Ask); 8] = [
     (
         "tree",
         |about, lent| match xmf::read_tree(&about.file, &mut lent.nodes, &mut lent.items) {

@@ -4,6 +4,7 @@ use crate::buffers::{Buffers, Noise};
 use crate::readers::{account_plain, account_proved, Sums};
 use crate::readers::{ask_plain, ask_proved, ask_words, resource_proved};
 use crate::readers::{convert_plain, convert_proved, convert_words};
+use crate::readers::{frame_plain, frame_proved, frames_plain, frames_proved};
 use crate::readers::{known, Answer, Question, Subject, QUESTIONS};
 use crate::readers::{move_plain, move_proved};
 use crate::titles::{private, says, Desk};
@@ -12,6 +13,7 @@ use generate::descriptions::Described;
 use generate::encode::PRIVATE_KINDS;
 use generate::model::Field;
 use generate::sheets::Sheet;
+use generate::tags::Tag;
 use generate::texts::Text;
 use generate::titles::Title;
 use generate::{Case, Lent, Pair};
@@ -31,6 +33,8 @@ const ACCOUNT: &str = "Account";
 const MOST_SUMMED: u64 = 1_100;
 /// The correction of a title, in reports.
 const TITLE: &str = "Title";
+/// The walk of a tag, in reports.
+const TAG: &str = "Tag";
 /// The mover of sheets, in reports.
 const MOVE: &str = "Move";
 /// What answer buffers and their guards hold before.
@@ -56,6 +60,8 @@ pub struct Comparer {
     pub texts: [u64; 27],
     /// For each refusal number, how many sheets are refused so; at 0 how many are moved.
     pub sheets: [u64; 32],
+    /// For each refusal number, how many tags are refused so; at 0 how many are walked.
+    pub tags: [u64; 36],
     /// How many files have both editions of their sheet moved.
     pub editions: u64,
     /// For each refusal number, how many counts are refused so; at 0 how many are given.
@@ -94,6 +100,7 @@ impl Comparer {
             resources: 0,
             texts: [0; 27],
             sheets: [0; 32],
+            tags: [0; 36],
             editions: 0,
             counts: [0; 27],
             totals: [0; 11],
@@ -380,6 +387,24 @@ impl Comparer {
         Ok(())
     }
 
+    /// Walks a tag by both readers, for the number of its frames and for one of them, and both once more
+    /// with an answer buffer of 0 to 16 words.
+    pub fn tag(&mut self, tag: &Tag, number: u64) -> Result<(), Difference> {
+        let Tag { bytes, frame } = tag;
+        let words = (number % (MOST_ANSWER_WORDS + 1)) as usize;
+        let count = frames_plain(bytes);
+        self.tags[count[0] as usize] += 1;
+        self.answer(TAG, &frames_proved(bytes), &count)?;
+        let mut answer = [MARK; MOST_ANSWER_WORDS as usize + ANSWER_GUARD];
+        xmf::words::id3_count(bytes, &mut answer[..words]);
+        self.answer(TAG, &answer, &fitted(&count, words))?;
+        let one = frame_plain(bytes, *frame);
+        self.answer(TAG, &frame_proved(bytes, *frame), &one)?;
+        let mut answer = [MARK; MOST_ANSWER_WORDS as usize + ANSWER_GUARD];
+        xmf::words::id3_frame(bytes, *frame as usize, &mut answer[..words]);
+        self.answer(TAG, &answer, &fitted(&one, words))
+    }
+
     /// Moves a sheet by both readers, and once more with an answer buffer of 0 to 16 words. A sheet
     /// that is well formed must move to its other edition, and what it moves to must move back to it.
     pub fn sheet(&mut self, sheet: &Sheet, number: u64) -> Result<(), Difference> {
@@ -601,8 +626,8 @@ impl Comparer {
 
     /// Compares what is left in the buffers.
     fn left(&mut self, question: Question) -> Result<(), Difference> {
-        if question == Question::Sheet {
-            equal(question, "sheet", self.first.sheet(), self.second.sheet())?;
+        if question.fills_room() {
+            equal(question, "buffer", self.first.sheet(), self.second.sheet())?;
             self.count(self.first.sheet().len());
         }
         self.tables(question)
@@ -615,10 +640,6 @@ impl Comparer {
         let (first, second) = (&self.first, &self.second);
         equal(&question, "node table", first.nodes(), second.nodes())?;
         equal(&question, "item table", first.items(), second.items())?;
-        if question.fills_room() {
-            equal(&question, "buffer", first.sheet(), second.sheet())?;
-            self.count(self.first.sheet().len());
-        }
         if !(self.first.are_guards_kept() && self.second.are_guards_kept()) {
             return Err(Difference {
                 asked: format!("{question:?}"),

@@ -18,6 +18,8 @@
 //! same bytes; the other edition of a good one is known. And of each file that is read both editions of
 //! the sheet are written, and each must move to the other.
 //!
+//! It walks a generated ID3 tag, good or with a fault, by both.
+//!
 //! It also corrects the title of a generated file by both readers and compares the answers, both tables
 //! and each byte of the room. Where the right result is known, it must be that one. The result is read
 //! back: its rows must be those in the tables, and it must say what the file says but for that data. The
@@ -47,6 +49,7 @@ use compare::{Comparer, Difference};
 use generate::descriptions::{self, Described};
 use generate::model::Field;
 use generate::sheets::{sheet, Sheet};
+use generate::tags::{self, Tag};
 use generate::texts::{self, Text};
 use generate::titles::{title, Title};
 use generate::{Case, Lent, Pair};
@@ -160,6 +163,10 @@ fn compare_cases(comparer: &mut Comparer, cases: u64, seed: u64, first: u64) -> 
                 let name = format!("description {number} of seed {seed}");
                 description_report(&name, &described, &difference)
             })?;
+        let tag = tags::tag(seed, number);
+        comparer.tag(&tag, number).map_err(|difference| {
+            tag_report(&format!("tag {number} of seed {seed}"), &tag, &difference)
+        })?;
         let title = title(seed, number);
         comparer.title(&title, number).map_err(|difference| {
             title_report(
@@ -239,6 +246,11 @@ fn print_counts(comparer: &Comparer) {
         by_number(&comparer.accounts)
     );
     println!(
+        "tags: {} walked; refused, by number: {}",
+        comparer.tags[0],
+        by_number(&comparer.tags)
+    );
+    println!(
         "titles: {} corrected; refused, by number: {}",
         comparer.titles[0],
         by_number(&comparer.titles)
@@ -295,6 +307,16 @@ fn description_report(name: &str, case: &Described, difference: &Difference) -> 
         case.resource,
         case.lent,
         hex(&case.file)
+    )
+}
+
+/// Tells a difference between the readers on a tag.
+fn tag_report(name: &str, tag: &Tag, difference: &Difference) -> String {
+    let Difference { what, .. } = difference;
+    format!(
+        "difference in {name}, proved and plain\n{what}\nframe {}\ntag: {}\n",
+        tag.frame,
+        hex(&tag.bytes)
     )
 }
 

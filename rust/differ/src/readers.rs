@@ -310,3 +310,37 @@ pub fn move_proved(sheet: &[u8], room: &mut [u8]) -> Answer {
 pub fn move_plain(sheet: &[u8], room: &mut [u8]) -> Answer {
     counted(plain::move_sheet(sheet, room).map_err(|refusal| (refusal.number, refusal.place)))
 }
+
+/// Counts a tag's frames by the proved function.
+pub fn frames_proved(tag: &[u8]) -> Answer {
+    counted(xmf::id3_count(tag).map_err(|refusal| (refusal.number, refusal.place)))
+}
+
+/// Counts a tag's frames by the plain function.
+pub fn frames_plain(tag: &[u8]) -> Answer {
+    match plain::frame_count(tag) {
+        Ok(count) => words(&[count]),
+        Err(refusal) => refused(refusal.number, refusal.place),
+    }
+}
+
+/// Gives a tag's frame by the proved function.
+pub fn frame_proved(tag: &[u8], number: u64) -> Answer {
+    match xmf::id3_frame(tag, number as usize) {
+        Ok(frame) => frame_words(frame.name, frame.place as u64, frame.length as u64),
+        Err(refusal) => refused(refusal.number, refusal.place),
+    }
+}
+
+/// Gives a tag's frame by the plain function.
+pub fn frame_plain(tag: &[u8], number: u64) -> Answer {
+    match plain::frame(tag, number) {
+        Ok(frame) => frame_words(frame.name, frame.place, frame.length),
+        Err(refusal) => refused(refusal.number, refusal.place),
+    }
+}
+
+/// The words of an answer with a frame.
+fn frame_words(name: [u8; 4], place: u64, length: u64) -> Answer {
+    words(&[u32::from_be_bytes(name).into(), place, length])
+}

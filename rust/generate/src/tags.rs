@@ -8,7 +8,7 @@ pub struct Tag {
     /// The bytes of the tag, and perhaps some behind it.
     pub bytes: Vec<u8>,
     /// The number of the frame.
-    pub number: u64,
+    pub frame: u64,
 }
 
 /// Makes a tag. One in three is good; the others have bytes changed, or are cut.
@@ -39,12 +39,12 @@ pub fn tag(seed: u64, number: u64) -> Tag {
             }
         }
     }
-    let number = match random.below(4) {
+    let frame = match random.below(4) {
         0 => frames as u64,
         1 => random.pick(&[u64::MAX, 1 << 32, 1 << 63]),
         _ => random.below(frames + 1) as u64,
     };
-    Tag { bytes, number }
+    Tag { bytes, frame }
 }
 
 /// A good tag of some frames, perhaps with an extended header, padding, and bytes behind it.

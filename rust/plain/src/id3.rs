@@ -43,9 +43,9 @@ pub fn frames(tag: &[u8]) -> Result<Vec<Frame>, Refusal> {
 fn size(tag: &[u8], at: usize) -> Result<usize, Refusal> {
     let bytes = tag.get(at..).and_then(|rest| rest.first_chunk::<4>());
     match bytes {
-        Some(bytes) if bytes.iter().all(|byte| *byte <= SEVEN) => {
-            Ok(bytes.iter().fold(0, |sum, byte| sum << 7 | usize::from(*byte)))
-        }
+        Some(bytes) if bytes.iter().all(|byte| *byte <= SEVEN) => Ok(bytes
+            .iter()
+            .fold(0, |sum, byte| sum << 7 | usize::from(*byte))),
         _ => Err(Refusal::at(34, at)),
     }
 }

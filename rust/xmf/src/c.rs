@@ -199,4 +199,16 @@ extern "C" {
         answer: *mut u64,
         answer_words: usize,
     );
+
+    /// Counts the frames of an ID3v2.4 tag. Answer: how many.
+    pub fn xmf_id3_count(tag: *const u8, tag_length: usize, answer: *mut u64, answer_words: usize);
+
+    /// Gives a frame of an ID3v2.4 tag. Answer: name, place, length.
+    pub fn xmf_id3_frame(
+        tag: *const u8,
+        tag_length: usize,
+        number: usize,
+        answer: *mut u64,
+        answer_words: usize,
+    );
 }

@@ -12,7 +12,8 @@
 //! | correct a title | [`correct_title`] |
 //!
 //! Three more functions take no file: [`utf16_to_utf8`] and [`utf8_to_utf16`] convert a text, and
-//! [`move_sheet`] moves a sheet from one edition to the other.
+//! [`move_sheet`] moves a sheet from one edition to the other. [`id3_count`] and [`id3_frame`] walk an
+//! ID3 tag.
 //!
 //! Each question takes the file and two lent tables of words, one for node rows and one for item
 //! rows, of any size and whatever they hold before. It reads the file afresh. After an answer the
@@ -117,7 +118,7 @@ pub mod item {
 /// Why a question is refused.
 #[derive(Clone, Copy, Debug, PartialEq, Eq)]
 pub struct Refusal {
-    /// The number in the refusal list: 1 to 39, of which no call gives 27 to 30, 33 to 35 and 39 yet.
+    /// The number in the refusal list: 1 to 39, of which no call gives 27 to 30 and 39 yet.
     pub number: u64,
     /// The place of the refused field's first byte, or 0 where the list names none. For 26 the place
     /// of the first bad character in what was to be converted.
@@ -628,6 +629,53 @@ pub fn move_sheet(sheet: &[u8], out: &mut [u8]) -> Result<usize, Refusal> {
     words::move_sheet(sheet, out, &mut answer);
     let [written] = values(answer)?;
     Ok(written as usize)
+}
+
+/// A frame of an ID3 tag.
+#[derive(Clone, Copy, Debug, PartialEq, Eq)]
+pub struct Id3Frame {
+    /// The four bytes of its name.
+    pub name: [u8; 4],
+    /// Place of its contents' first byte, in the tag.
+    pub place: usize,
+    /// The number of its contents' bytes.
+    pub length: usize,
+}
+
+/// The number of frames of an ID3v2.4 tag. Bytes behind the tag's size are not read.
+///
+/// Refused with 33 when it is no such tag, with 34 when something of it is cut short or a size is bad,
+/// with 35 when it is unsynchronised, placed in the tag.
+///
+/// The walk reads whatever it is given, hidden contents too, and what it gives of them is outside
+/// demand 3. Do not put it into a ticket.
+///
+/// ```
+/// let tag = b"ID3\x04\0\0\0\0\0\x0CTIT2\0\0\0\x02\0\0Hi";
+/// assert_eq!(xmf::id3_count(tag), Ok(1));
+/// let frame = xmf::id3_frame(tag, 0).unwrap();
+/// assert_eq!(&frame.name, b"TIT2");
+/// assert_eq!(&tag[frame.place..][..frame.length], b"Hi");
+/// ```
+pub fn id3_count(tag: &[u8]) -> Result<usize, Refusal> {
+    let mut answer = [0; 3];
+    words::id3_count(tag, &mut answer);
+    let [frames] = values(answer)?;
+    Ok(frames as usize)
+}
+
+/// A frame of an ID3v2.4 tag, by its number from 0 in file order.
+///
+/// Refused as [`id3_count`] is, then with 18 when there is no such frame.
+pub fn id3_frame(tag: &[u8], number: usize) -> Result<Id3Frame, Refusal> {
+    let mut answer = [0; 5];
+    words::id3_frame(tag, number, &mut answer);
+    let [name, place, length] = values(answer)?;
+    Ok(Id3Frame {
+        name: (name as u32).to_be_bytes(),
+        place: place as usize,
+        length: length as usize,
+    })
 }
 
 /// The values of an answer, or its refusal. There are two words more than values.

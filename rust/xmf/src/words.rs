@@ -218,3 +218,23 @@ pub fn utf8_to_utf16(text: &[u8], data: &mut [u8], answer: &mut [u64]) {
 pub fn move_sheet(sheet: &[u8], out: &mut [u8], answer: &mut [u64]) {
     convert!(xmf_move_sheet(sheet, out, answer))
 }
+
+/// Counts the frames of an ID3v2.4 tag. Values: how many.
+pub fn id3_count(tag: &[u8], answer: &mut [u64]) {
+    // Safety: as for the questions.
+    unsafe { c::xmf_id3_count(tag.as_ptr(), tag.len(), answer.as_mut_ptr(), answer.len()) }
+}
+
+/// Gives a frame of an ID3v2.4 tag. Values: name, place, length.
+pub fn id3_frame(tag: &[u8], number: usize, answer: &mut [u64]) {
+    // Safety: as for the questions.
+    unsafe {
+        c::xmf_id3_frame(
+            tag.as_ptr(),
+            tag.len(),
+            number,
+            answer.as_mut_ptr(),
+            answer.len(),
+        )
+    }
+}

@@ -3,7 +3,7 @@
 //! The path of the vectors file is the first argument. The lent tables and buffers hold other values
 //! before each call, and what they hold afterwards is checked as well.
 
-use plain::{account, Totals};
+use plain::{account, frame, frame_count, Totals};
 use plain::{correct_title, find, find_own, judge, read_tree, resolve, resource, voice_count};
 use plain::{move_sheet, write_sheet, write_sheet2};
 use plain::{utf16_to_utf8, utf8_to_utf16};
@@ -65,6 +65,9 @@ fn run(line: &str) -> Option<String> {
             None => convert(command, &file, room),
             Some(_) => None,
         };
+    }
+    if command.starts_with("id3") {
+        return walk(command, &file, words.next());
     }
     let mut nodes = vec![STALE; words.next()?.parse().ok()?];
     let mut items = vec![STALE; words.next()?.parse().ok()?];
@@ -219,6 +222,17 @@ fn convert(command: &str, given: &[u8], room: usize) -> Option<String> {
         Ok(length) => format!("ok {}", hex(&text[..length])),
         Err(Refusal { number, place }) => format!("R {number} {place}"),
     })
+}
+
+/// Runs one case of the walk of a tag.
+fn walk(command: &str, tag: &[u8], number: Option<&str>) -> Option<String> {
+    let answer = match (command, number) {
+        ("id3", None) => frame_count(tag).map(|count| format!("ok {count}")),
+        ("id3frame", Some(number)) => frame(tag, number.parse().ok()?)
+            .map(|frame| format!("ok {} {} {}", hex(&frame.name), frame.place, frame.length)),
+        _ => return None,
+    };
+    Some(answer.unwrap_or_else(|Refusal { number, place }| format!("R {number} {place}")))
 }
 
 /// Whether the tables hold what reading the tree into cleared tables gives.
