@@ -19,3 +19,4 @@ pub mod Wider
 pub mod Post
 pub mod Runs
 pub mod Stays
+pub mod Triple

@@ -104,7 +104,7 @@ fn read_four(c: Cursor, file: &[u8], end: FilePlace, past: u64) -> Numbered
 }
 
 // `XMF_` and the version: 100, 101 or 200.
-fn read_opening(file: &[u8]) -> Numbered
+pub fn read_opening(file: &[u8]) -> Numbered
     ensures { λ r. ⌜ numberTold r ≡ run (opening (length (now (file .entry)))) (now (file .entry)) 0 ⌝ }
 {
     let size = file.len();
@@ -142,7 +142,7 @@ fn read_opening(file: &[u8]) -> Numbered
 }
 
 // The type and the revision, which 2.00 has.
-fn read_edition(c: Cursor, file: &[u8], version: u64) -> Editioned
+pub fn read_edition(c: Cursor, file: &[u8], version: u64) -> Editioned
     requires { ⌜ c .at .0 ≤ length (now file) ⌝ }
     ensures { λ r. ⌜ editionTold r ≡ run (edition (length (now (file .entry))) version) (now (file .entry)) (c .at .0) ⌝ }
 {
@@ -235,7 +235,7 @@ fn read_entries(c: Cursor, file: &[u8], types: &mut [u64], count: u64, end: File
 }
 
 // MetaDataTypesTable.
-fn read_types(c: Cursor, file: &[u8], types: &mut [u64]) -> Typed
+pub fn read_types(c: Cursor, file: &[u8], types: &mut [u64]) -> Typed
     requires { ⌜ (length (now file) < 2 ^ 28) × (64 ≤ length (now types)) ⌝ }
     ensures { λ r. ⌜ typesTold r (now (types .exit)) ≡ run (typesTable (length (now (file .entry)))) (now (file .entry)) (c .at .0) ⌝ }
     ensures { λ r. ⌜ Listed r ⌝ }

@@ -1,20 +1,21 @@
--- Where a tag's frames lie: in the tag, one after the other, each behind its own ten bytes.
+-- Where a tag's frames lie: in the tag, one after the other, each behind its own ten bytes. Where a refusal is placed: in the tag.
 -- Assumes nothing.
 use mathlib.Core.Path.{_≡_, refl, sym, _∙_, subst}
 use mathlib.Core.Bool.{Bool, true, false, cond}
 use mathlib.Core.List.{List, [], _∷_, _++_}
 use Prim.Native.Nat.{ℕ, zero, suc, _+_, _-_, _≤_, _<_}
 use native.Mathlib.Omega.{arith}
-use lib.Dec.{ltb}
+use lib.Dec.{T, ltb}
 use lib.ListN.{length, getD}
 use borrow.Author.Tests.{leb-true, ltb-true, lt-ltb, le-ltb}
-use Rattle.cursor.specs.Machine.{Prog, Out, ok, refused, run, ret, skip, _>>=_, _>>_, turns, many}
-use Rattle.cursor.proofs.Wp.{Rule, Wp, at-end, wp-after, wp-then, wp-weaken, wp-ret, wp-here, wp-if, wp-check, wp-place, wp-skip}
+use Rattle.cursor.specs.Machine.{Out, ok, refused, ret, _>>=_}
+use Rattle.cursor.specs.Refusals.{isAllowed}
+use Rattle.cursor.proofs.Triple.{Triple, where-ends, where-refused, after, followed, weaken, returns, places, either, checks, skips, skipped, repeats}
 use Rattle.room.specs.Room.{Result, good, bad}
 use Rattle.id3.specs.declared.TagFrame.{TagFrame}
-use Rattle.id3.specs.Tag.{TagByte, Piece, extension, extended, front, frame, frameOrPadding, frames, tag}
-use Rattle.id3.specs.Frames.{framesOf, noFrame, countIn, frameIn, frameCount, frameAt}
-use Rattle.id3.proofs.Ends.{Any, any-free, next-on, size-on, head-on, FrameIn, frame-on}
+use Rattle.id3.specs.Tag.{extension, extended, front, frame, frameOrPadding, frames, tag}
+use Rattle.id3.specs.Frames.{framesOf, noFrame, countIn, frameIn, frameCount, frameAt, countRefusals}
+use Rattle.id3.proofs.Ends.{UpTo, next-on, size-on, head-on, FrameIn, frame-on}
 
 -- frames from `at` to `end`, each behind ten bytes of its own
 abbrev InOrder : (at : ℕ) → List TagFrame → (end : ℕ) → Type 0
@@ -44,64 +45,56 @@ order-two at (x ∷ xs) i zero end o l m = absurd (omega arith)
 order-two at (x ∷ xs) zero (suc j) end o l m = order-at (x .place + x .size) xs j (o .1) (omega arith) .0
 order-two at (x ∷ xs) (suc i) (suc j) end o l m = order-two (x .place + x .size) xs i j end (o .1) (omega arith) (omega arith)
 
--- where each turn moves on, stays in the part, and keeps what is said of the place and the answer so far, the turns do
-turns-on : {A : Type 0} (I : A → ℕ → Type 0) (k : ℕ) {end : ℕ} {body : A → Prog TagByte Piece A} (s : A) (at : ℕ)
-    → ((t : A) (p : ℕ) → p < end → I t p → Wp Any (body t) (λ t′ q. I t′ q × (p < q) × (q ≤ end)) p)
-    → I s at → end ≤ at + k → at ≤ end → Wp Any (turns k end body s) (λ t p. I t p × (p ≤ end)) at
-unfolding turns
-turns-on I zero s at step i h l = wp-ret (i, l)
-turns-on I (suc k) {end} s at step i h l =
-    wp-here
-    (wp-if
-    (λ t. wp-after (step s at (ltb-true at end t) i) (λ r p q. turns-on I k r p step (q .0) (omega arith) (q .2)))
-    (λ t. wp-ret (i, l)))
+-- ---- the tag
 
-many-on : {A : Type 0} (I : A → ℕ → Type 0) {end : ℕ} {body : A → Prog TagByte Piece A} (s : A) {at : ℕ}
-    → ((t : A) (p : ℕ) → p < end → I t p → Wp Any (body t) (λ t′ q. I t′ q × (p < q) × (q ≤ end)) p)
-    → I s at → at ≤ end → Wp Any (many end body s) (λ t p. I t p × (p ≤ end)) at
-unfolding many
-many-on I {end} s {at} step i l = wp-here (turns-on I (end - at) s at step i (omega arith) l)
+module _ {F : ℕ → ℕ → Type 0} where
+  front-on : (flags end at : ℕ) → UpTo F end → at ≤ end → Triple F (front flags end) (λ _ q. (at ≤ q) × (q ≤ end)) at
+  unfolding front extended
+  front-on flags end at r l =
+      either
+      (λ t.
+      places _ at
+      (after (size-on end at (r at l .1)) λ n q e. checks _ _ (r at l .1) λ t₁. checks _ _ (r at l .1) λ t₂.
+      skipped extension (n - 4) (omega (arith, e .0), omega (arith, e .0, leb-true 6 n t₁, leb-true (at + n) end t₂))))
+      (λ t. returns (omega arith, l))
 
--- a skip with nothing after it
-skips : {U : Rule Piece} (w : Piece) (n : ℕ) {R : Unit {0} → ℕ → Type 0} (at : ℕ) → U .asks w at n → R tt (at + n) → Wp {K = TagByte} U (skip w n) R at
-unfolding _>>=_ _>>_ skip
-skips w n at a r = wp-skip w n {m = ret tt} a (λ _. wp-ret r)
+  one-on : (end : ℕ) → UpTo F end → (xs : List TagFrame) (p : ℕ) → p < end → InOrder 10 xs p → Triple F (frameOrPadding end xs) (λ ys q. InOrder 10 ys q × (p < q) × (q ≤ end)) p
+  unfolding frameOrPadding
+  one-on end r xs p l o =
+      places _ p
+      (after (next-on p) λ a q e.
+      either
+      (λ t. skips _ _ (returns (order-wider 10 xs (omega arith) o, omega arith, omega arith)))
+      (λ t. moved a q e))
+    where
+      moved : (a q : ℕ) → q ≡ p + 1 → Triple F (frame end p a >>= λ x. ret (xs ++ x ∷ [])) (λ ys s. InOrder 10 ys s × (p < s) × (s ≤ end)) q
+      moved a q e = rw e (after (frame-on end p a (r p (omega arith) .1) r) λ x s h. returns (order-more 10 xs x o h, omega (arith, h .place, h .ends), h .inside))
 
-front-on : (flags end at : ℕ) → at ≤ end → Wp Any (front flags end) (λ _ q. (at ≤ q) × (q ≤ end)) at
-unfolding front extended
-front-on flags end at l =
-    wp-if
-    (λ t.
-    wp-place _ at
-    (wp-after (size-on end at) λ n q e. wp-check _ _ λ t₁. wp-check _ _ λ t₂.
-    skips extension (n - 4) q tt (omega (arith, e .0), omega (arith, e .0, leb-true 6 n t₁, leb-true (at + n) end t₂))))
-    (λ t. wp-ret (omega arith, l))
+  tag-on : (lent : ℕ) → UpTo F lent → Triple F (tag lent) (λ xs q. InOrder 10 xs lent) 0
+  unfolding tag frames
+  tag-on lent r =
+      after (head-on lent r) λ h q e. let u : UpTo F (h .end) = λ p l. r p (omega (arith, e .2)) in
+      followed (front-on (h .flags) (h .end) q u (omega (arith, e .0, e .1))) λ _ p i.
+      weaken
+      (repeats (InOrder 10) [] (one-on (h .end) u) (omega (arith, e .0, i .0)) (i .1))
+      (λ xs s k. order-wider 10 xs (omega (arith, k .1, e .2)) (k .0))
 
-one-on : (end : ℕ) (xs : List TagFrame) (p : ℕ) → p < end → InOrder 10 xs p → Wp Any (frameOrPadding end xs) (λ ys q. InOrder 10 ys q × (p < q) × (q ≤ end)) p
-unfolding frameOrPadding
-one-on end xs p l o =
-    wp-place _ p
-    (wp-after (next-on p) λ a q e.
-    wp-if
-    (λ t. wp-skip _ _ tt λ u. wp-ret (order-wider 10 xs (omega arith) o, omega arith, omega arith))
-    (λ t. moved a q e))
-  where
-    moved : (a q : ℕ) → q ≡ p + 1 → Wp Any (frame end p a >>= λ x. ret (xs ++ x ∷ [])) (λ ys r. InOrder 10 ys r × (p < r) × (r ≤ end)) q
-    moved a q e = rw e (wp-after (frame-on end p a) λ x r h. wp-ret (order-more 10 xs x o h, omega (arith, h .place, h .ends), h .inside))
+-- a refusal: of the list, and placed in the tag
+abbrev Stops : (lent n p : ℕ) → Type 0
+Stops lent n p = T (isAllowed countRefusals n p) × (p ≤ lent)
 
-tag-on : (lent : ℕ) → Wp Any (tag lent) (λ xs q. InOrder 10 xs lent) 0
-unfolding tag frames
-tag-on lent =
-    wp-after (head-on lent) λ h q e. wp-then (front-on (h .flags) (h .end) q (omega (arith, e .0, e .1))) λ _ r i.
-    wp-weaken
-    (many-on (InOrder 10) [] (one-on (h .end)) (omega (arith, e .0, i .0)) (i .1))
-    (λ xs s k. order-wider 10 xs (omega (arith, k .1, e .2)) (k .0))
+tag-stops : (lent : ℕ) → Triple (Stops lent) (tag lent) (λ xs q. InOrder 10 xs lent) 0
+tag-stops lent = tag-on lent (λ q l. ((tt, l), (tt, l), (tt, l)))
 
 -- ---- the questions
 
 in-order : (s : List ℕ) {xs : List TagFrame} {q : ℕ} → framesOf s ≡ ok xs q → InOrder 10 xs (length s)
 unfolding framesOf
-in-order s e = at-end any-free s (tag-on (length s)) e
+in-order s e = where-ends (tag-stops (length s)) s e
+
+pub refused-tag : (s : List ℕ) {n p : ℕ} → framesOf s ≡ refused n p → T (isAllowed countRefusals n p) × (p ≤ length s)
+unfolding framesOf
+refused-tag s e = where-refused (tag-stops (length s)) s e
 
 -- a frame that is answered is one of those of the tag
 asked : (s : List ℕ) (i : ℕ) {x : TagFrame} → frameAt i s ≡ good x → (xs : List TagFrame) × (q : ℕ) × (framesOf s ≡ ok xs q) × (i < length xs) × (getD xs i noFrame ≡ x)

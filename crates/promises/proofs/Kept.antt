@@ -80,7 +80,7 @@ use Rattle.id3.proofs.Inside.{frame-inside, frames-apart, count-frames, count-r
 use Rattle.promises.specs.Promises.{Question, readTree, findItem, findOwn, resolveRow, copyResource, countFor, judgeMobile, accountBytes, writeSheet, writeSheet2, correctTitle, toUtf8, toUtf16, moveSheet, countFrames, tagFrame, Sizes, size, reads}
 use Rattle.promises.specs.Promises.{Tables, noTables, ofFile, ofWritten, Lent, filled, copied, given, changed, About, overRows, rowsIntoRoom, dataIntoRoom, overData, treeValues, resourceValues, frameValues, oneValue, sizeValue, bytes, about}
 use Rattle.promises.specs.Promises.{Outcome, saying, rowTables, tablesLent, lent, holding, answerTo, leaves, outcome, resource, IsRefusal, Accepted, InTables, newFile, AnsweredOf, Shows, IsAnswer, Demand1, FitsExactly, StepsMake, FirstApplies, UntilRoot, LieApart}
-use Rattle.promises.specs.Promises.{OnlyThere, PrivateAlone, AlikeIn, EachAlike, OutcomesAlike, Demand3, InTurn, Correction, Corrects, textOf, ButForMark, Undone, ThereAndBack, BackAndThere, Account, Accounts, FrameIs, CountsFrames, FramesApart}
+use Rattle.promises.specs.Promises.{OnlyThere, PrivateAlone, AlikeIn, EachAlike, OutcomesAlike, Demand3, InTurn, Correction, Corrects, textOf, ButForMark, Undone, ThereAndBack, BackAndThere, Account, Accounts, FrameIs, CountsFrames, FramesApart, StaysInTag}
 use Rattle.promises.specs.Calls as calls
 use Rattle.promises.specs.Calls.{Called, left, Over, Fills, read-tree, find-item, find-own, resolve-row, copy-resource, count-for, judge, account, write-sheet, write-sheet2, to-utf8, to-utf16, move-sheet, tag-frame, correct-title, EachLeaves, CallsAlike, PartsAlike}
 
@@ -828,6 +828,10 @@ count-not : (r : Result ℕ) {n p : ℕ} → saying oneValue r ≡ n ∷ p ∷ [
 count-not (good m) e = let z : _≡_ {A = ℕ} 0 1 = cc (ap length e) in absurd (omega arith)
 count-not (bad m q) e = cc
 
+frame-not : (r : Result TagFrame) {n p : ℕ} → saying frameValues r ≡ n ∷ p ∷ [] → r ≡ bad n p
+frame-not (good x) e = let z : _≡_ {A = ℕ} 0 1 = cc (ap length e) in absurd (omega arith)
+frame-not (bad m q) e = cc
+
 frame-said : (r : Result TagFrame) {name place size : ℕ} → saying frameValues r ≡ 0 ∷ 0 ∷ name ∷ place ∷ size ∷ [] → (x : TagFrame) × (r ≡ good x) × (x .place ≡ place) × (x .size ≡ size)
 frame-said (good x) e = (x, refl, cc, cc)
 frame-said (bad m p) e = let z : _≡_ {A = ℕ} 0 1 = cc (ap length e) in absurd (omega arith)
@@ -848,3 +852,7 @@ frames-are-apart t i name place size h =
       omega (arith, w .1, p, s),
       λ j name′ place′ size′ l k. let (y, d, q, z) = frame-said (id3.frameAt j t) (k [] []) in omega (arith, frames-apart t i j l e d, p, s, q),
     )
+
+pub stays-in-tag : StaysInTag
+unfolding outcome leaves
+stays-in-tag t i n p ls f = (λ e. tag.count-stays t (count-not (id3.frameCount t) e), λ e. tag.frame-stays t i (frame-not (id3.frameAt i t) e))

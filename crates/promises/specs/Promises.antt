@@ -501,10 +501,15 @@ FrameIs tag i name place size = (ls : Sizes) (f : List ℕ) → outcome (tagFram
 abbrev pub CountsFrames : Type 0
 CountsFrames = (tag : List ℕ) (ls : Sizes) (f : List ℕ)
     → ((n : ℕ) → outcome (countFrames tag) ls f .answer ≡ 0 ∷ 0 ∷ n ∷ [] → (i : ℕ)
-        → (i < n → (name : ℕ) × (place : ℕ) × (size : ℕ) × FrameIs tag i name place size) × (n ≤ i → outcome (tagFrame tag i) ls f .answer ≡ noSuchRow ∷ 0 ∷ []))
+    → (i < n → (name : ℕ) × (place : ℕ) × (size : ℕ) × FrameIs tag i name place size) × (n ≤ i → outcome (tagFrame tag i) ls f .answer ≡ noSuchRow ∷ 0 ∷ []))
     × ((n p : ℕ) → outcome (countFrames tag) ls f .answer ≡ n ∷ p ∷ [] → (i : ℕ) → outcome (tagFrame tag i) ls f .answer ≡ n ∷ p ∷ [])
 
 -- A frame's contents lie in the tag, behind its header's ten bytes and ten of its own; and the frames lie one after the other, so that they share no byte.
 abbrev pub FramesApart : Type 0
 FramesApart = (tag : List ℕ) (i name place size : ℕ) → FrameIs tag i name place size
     → (20 ≤ place) × (place + size ≤ length tag) × ((j name′ place′ size′ : ℕ) → i < j → FrameIs tag j name′ place′ size′ → place + size + 10 ≤ place′)
+
+-- A refusal of either is placed in the tag, or at its end.
+abbrev pub StaysInTag : Type 0
+StaysInTag = (tag : List ℕ) (i n p : ℕ) (ls : Sizes) (f : List ℕ)
+    → (outcome (countFrames tag) ls f .answer ≡ n ∷ p ∷ [] → p ≤ length tag) × (outcome (tagFrame tag i) ls f .answer ≡ n ∷ p ∷ [] → p ≤ length tag)

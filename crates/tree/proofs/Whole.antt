@@ -71,28 +71,36 @@ none = record { nodes = 0; items = 0 }
 
 module _ (file t u : List ℕ) where
   -- what the call that is lent the tables t and u says of its answer and of the tables that it leaves
-  abbrev pub Says : Read → List ℕ → List ℕ → Type 0
-  Says a t′ u′ = (a ≡ readOf (readFile (limits (length t) (length u)) file)) × (t′ ≡ nodeTable (length t) (readFile (limits (length t) (length u)) file)) × (u′ ≡ itemTable (length u) (readFile (limits (length t) (length u)) file))
+  abbrev pub SaysOf : Reading → Read → List ℕ → List ℕ → Type 0
+  SaysOf o a t′ u′ = (a ≡ readOf o) × (t′ ≡ nodeTable (length t) o) × (u′ ≡ itemTable (length u) o)
 
-  pub whole-header : {t′ u′ : List ℕ} {n : ℕ} {p : FilePlace} → t′ ≡ replicate (length t) 0 → u′ ≡ replicate (length u) 0 → run (header (length file)) file 0 ≡ refused n (p .0) → Says (read.Refused n p) t′ u′
+  pub whole-header : {t′ u′ : List ℕ} {n : ℕ} {p : FilePlace} → t′ ≡ replicate (length t) 0 → u′ ≡ replicate (length u) 0 → run (header (length file)) file 0 ≡ refused n (p .0) → SaysOf (readFile (limits (length t) (length u)) file) (read.Refused n p) t′ u′
   unfolding readFile readTree readOf nodeTable itemTable
   whole-header zt zu e = simp e (refl, zt, zu)
 
-  module _ {h : Header} {q : ℕ} (e₀ : run (header (length file)) file 0 ≡ ok h q) where
+  -- behind a header
+  pub whole-behind : {h : Header} {q : ℕ} → run (header (length file)) file 0 ≡ ok h q → {a : Read} {t′ u′ : List ℕ} → SaysOf (readTree (limits (length t) (length u)) file (ok h q)) a t′ u′ → SaysOf (readFile (limits (length t) (length u)) file) a t′ u′
+  unfolding readFile
+  whole-behind e s = rw e s
+
+  module _ (h : Header) (q : ℕ) (w : (h .extent .start ≤ h .extent .last) × (h .extent .last < length file) × (length file < 2 ^ 28)) where
     abbrev room : Limits
     room = limits (length t) (length u)
+
+    abbrev Says : Read → List ℕ → List ℕ → Type 0
+    Says a t′ u′ = SaysOf (readTree room file (ok h q)) a t′ u′
 
     abbrev start : State
     start = state t u none
 
     whole-log : {m : Made} {p : ℕ} → run (treeOf room (length file) h) file (h .extent .start) ≡ ok m p
-        → readFile room file ≡ reading h (follow (room .nodes) room file h 0 (good (trace (treeOf room (length file) h) file (h .extent .start))))
-    unfolding readFile readTree logged
-    whole-log e = rw (e₀, e) refl
+        → readTree room file (ok h q) ≡ reading h (follow (room .nodes) room file h 0 (good (trace (treeOf room (length file) h) file (h .extent .start))))
+    unfolding readTree logged
+    whole-log e = rw e refl
 
-    whole-refusal : {n p : ℕ} → run (treeOf room (length file) h) file (h .extent .start) ≡ refused n p → readFile room file ≡ refusal n p
-    unfolding readFile readTree logged reading
-    whole-refusal {n} {p} e = rw (e₀, e, bad-is room file h 0 (room .nodes) n p) refl
+    whole-refusal : {n p : ℕ} → run (treeOf room (length file) h) file (h .extent .start) ≡ refused n p → readTree room file (ok h q) ≡ refusal n p
+    unfolding readTree logged reading
+    whole-refusal {n} {p} e = rw (e, bad-is room file h 0 (room .nodes) n p) refl
 
     module _ {t′ u′ : List ℕ} {lim : Limits} (is : lim ≡ room) {r : Walked} (g : Gives lim r t′ u′ (exec put (treeOf lim (length file) h) file (h .extent .start) start)) (lt : length t′ ≡ length t) (lu : length u′ ≡ length u) where
       gives : Gives room r t′ u′ (exec put (treeOf room (length file) h) file (h .extent .start) start)
@@ -108,7 +116,6 @@ module _ (file t u : List ℕ) where
           let mt = treeOf room (length file) h in
           let es = trace mt file (h .extent .start) in
           let e = ran-tree d in
-          let w = at-end any-free file (header-on (length file)) e₀ in
           let f : _≡_ {A = Out (Made × State)} (ok (m, puts put es start) (c .at .0)) (ok (m, state t′ u′ m) (c .at .0)) =
           ap (λ o. still o (puts put es start)) (sym e) ∙ sym (exec-puts put mt file (h .extent .start) start) ∙ done gives d in
           let k : puts put es start ≡ state t′ u′ m = ap (λ (y : Made × State). y .1) (same f) in
@@ -120,7 +127,7 @@ module _ (file t u : List ℕ) where
             fits = fitting gives d;
             long = (lt, lu);
             inside = λ i l. (v i l .0, v i l .1);
-            first = subst (λ n. TreeFirst n es) (sym cn) (tree-first room file h (w .3) e);
+            first = subst (λ n. TreeFirst n es) (sym cn) (tree-first room file h (w .1) e);
           }
 
       pub whole-stands : {m : Made} {c : Cursor} → r ≡ Done m c → (σ : State) × (log : Events) × Stands lim (length file) σ log (m .nodes) t′ u′ m
@@ -145,7 +152,7 @@ module _ (file t u : List ℕ) where
         unfolding readOf nodeTable itemTable reading
         whole-lost {t‴} {u‴} {n} {p} e ct cu = by (follow (room .nodes) room file h 0 (good (trace (treeOf room (length file) h) file (h .extent .start)))) (whole-log (ran-tree d)) (ap (λ v. said v t″ u″) (sym e) ∙ left-is .answer)
           where
-            by : (o : Result Events) → readFile room file ≡ reading h o → bad n (p .0) ≡ left start o → Says (read.Refused n p) t‴ u‴
+            by : (o : Result Events) → readTree room file (ok h q) ≡ reading h o → bad n (p .0) ≡ left start o → Says (read.Refused n p) t‴ u‴
             by (good log) x y = let z : _≡_ {A = ℕ} 0 1 = cc in absurd (omega arith)
             by (bad a b) x y = let v : n ≡ a = cc in let w : p .0 ≡ b = cc in rw (x, ← v, ← w) (refl, ct ∙ ap (λ i. replicate i 0) (lt′ ∙ lt), cu ∙ ap (λ i. replicate i 0) (lu′ ∙ lu))
 
@@ -155,11 +162,10 @@ module _ (file t u : List ℕ) where
         whole-good {t‴} {u‴} {n} {p} e ct cu =
             by (follow (room .nodes) room file h 0 (good (trace (treeOf room (length file) h) file (h .extent .start)))) refl (whole-log (ran-tree d)) (ap (λ v. said v t″ u″) (sym e) ∙ left-is .answer) (subst (Fits room) e (left-is .fits))
           where
-            by : (o : Result Events) → follow (room .nodes) room file h 0 (good (trace (treeOf room (length file) h) file (h .extent .start))) ≡ o → readFile room file ≡ reading h o → good (state t″ u″ n) ≡ left start o
+            by : (o : Result Events) → follow (room .nodes) room file h 0 (good (trace (treeOf room (length file) h) file (h .extent .start))) ≡ o → readTree room file (ok h q) ≡ reading h o → good (state t″ u″ n) ≡ left start o
                 → (n .nodes ≤ room .nodes) × (n .items ≤ room .items) → Says (read.Is (record { version = h .version; edition = record { kind = h .edition .type; revision = h .edition .revision }; headerEnd = record { 0 = h .extent .end }; tree = m .nodes; nodes = n .nodes; items = n .items })) t‴ u‴
             by (bad a b) q x y fits = let z : _≡_ {A = ℕ} 0 1 = cc in absurd (omega arith)
             by (good log) q x y fits =
-                let w = at-end any-free file (header-on (length file)) e₀ in
                 let first = tree-followed room file h (room .nodes) 0 _ (omega arith) (whole-stand d .first) q in
                 let z : filled log start ≡ state t″ u″ n = sym (puts-fills log start) ∙ sym (same-state y) in
                 let cn : n .nodes ≡ length (nodesOf log) = sym (ap (λ (σ : State). σ .made .nodes) z) ∙ zero-add _ in
@@ -174,9 +180,9 @@ module _ (file t u : List ℕ) where
                   cu ∙ padded-behind (allItems (itemsOf log)) _ ui (ap (λ a. a * itemWidth) ci ∙ sym li) ∙ ap (λ a. padded a (allItems (itemsOf log))) (lu′ ∙ lu),
                 )
 
--- what the call of the tree's root asks for
-pub whole-within : (file : List ℕ) {h : Header} {q : ℕ} → run (header (length file)) file 0 ≡ ok h q → (h .extent .last < length file) × (length file < 2 ^ 28) × (h .extent .start ≤ length file)
-whole-within file e = let w = at-end any-free file (header-on (length file)) e in (w .3, w .4, omega arith)
+-- what a header that was read says of the tree's extent
+pub whole-within : (file : List ℕ) {h : Header} {q : ℕ} → run (header (length file)) file 0 ≡ ok h q → (h .extent .start ≤ h .extent .last) × (h .extent .last < length file) × (length file < 2 ^ 28)
+whole-within file e = let w = at-end any-free file (header-on (length file)) e in (w .2, w .3, w .4)
 
 pub whole-room : {lim : Limits} {n i : ℕ} → lim ≡ limits n i → (lim .nodes * nodeWidth ≤ n) × (lim .items * itemWidth ≤ i) × (lim .nodes ≤ mostNodes) × (lim .items ≤ mostItems)
 whole-room e = rw e (omega arith)

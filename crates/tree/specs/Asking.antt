@@ -5,11 +5,12 @@ use Prim.Native.Nat.{ℕ}
 use lib.ListN.{length, replicate}
 use Rattle.cursor.specs.declared.Node.{Node}
 use Rattle.cursor.specs.declared.Item.{Item}
+use Rattle.cursor.specs.Machine.{ok}
 use Rattle.header.specs.Header.{Header}
 use Rattle.metadata.specs.Tables.{limits}
 use Rattle.metadata.specs.declared.Limits.{Limits}
 pub use Rattle.tree.specs.Reading.{Result, good, bad}
-use Rattle.tree.specs.Reading.{Reading, rows, refusal, readFile, nodeTable, itemTable}
+use Rattle.tree.specs.Reading.{Reading, rows, refusal, readTree, readFile, nodeTable, itemTable}
 
 -- what a question answers, of what a file reads as
 unfoldable pub ask : {A : Type 0} → Reading → (Header → List Node → List Item → Result A) → Result A
@@ -43,6 +44,10 @@ Asks A = List ℕ → Header → List Node → List Item → Result A
 -- what the file reads as, with these tables
 abbrev pub reads : (nodes items file : List ℕ) → Reading
 reads nodes items file = readFile (limits (length nodes) (length items)) file
+
+-- what it reads as behind a header h, whatever stands in the header's own bytes
+abbrev pub readsBehind : (nodes items file : List ℕ) → Header → Reading
+readsBehind nodes items file h = readTree (limits (length nodes) (length items)) file (ok h (h .extent .end))
 
 -- the tables after it was read
 abbrev pub nodesRead : (nodes items file : List ℕ) → List ℕ

@@ -13,9 +13,9 @@ ghost use Rattle.metadata.specs.Told.{Room, contextOf, Gives};
 ghost use Rattle.node.specs.declared.Standing.{Standing};
 ghost use Rattle.cursor.specs.Rows.{inlineSize, Events};
 ghost use Rattle.tree.specs.Tree.{mostDepth, folder, node, tree};
-ghost use Rattle.tree.specs.Reading.{nodesOf, good, context, offsetAt, outside, partEnd, takenFrom, reach, follow, readOf, answerOf};
+ghost use Rattle.tree.specs.Reading.{nodesOf, good, context, offsetAt, outside, partEnd, takenFrom, reach, follow, readOf, answerOf, nodeTable, itemTable};
 ghost use Rattle.tree.specs.Rows.{nodeFrom, itemFrom, nodeAt, nodesIn, rowStarting, Rising};
-ghost use Rattle.tree.specs.Asking.{reads, nodesRead, itemsRead};
+ghost use Rattle.tree.specs.Asking.{reads, readsBehind, nodesRead, itemsRead};
 ghost use Rattle.tree.specs.Told.{Lent, Stands, Leaves};
 use cursor::Cursor;
 use cursor::FilePlace;
@@ -523,6 +523,50 @@ fn follow_all(
     Walked::Done(m, Cursor { at: FilePlace(0) })
 }
 
+// Reads what follows the header h into the two tables: the tree, and what is referred to from there.
+pub fn read_behind(
+    file: &[u8],
+    types: &[u64],
+    nodes: &mut [u64],
+    items: &mut [u64],
+    h: Header,
+) -> Read
+    requires { ⌜ (h .extent .start .0 ≤ h .extent .last .0) × (h .extent .last .0 < length (now file)) × (length (now file) < 2 ^ 28) × (h .types * 2 ≤ length (now types)) ⌝ }
+    ensures answer { λ r. ⌜ r ≡ readOf (readsBehind (now (nodes .entry)) (now (items .entry)) (now (file .entry)) (headerOf h (now (types .entry)))) ⌝ }
+    ensures nodes { λ _. ⌜ now (nodes .exit) ≡ nodeTable (length (now (nodes .entry))) (readsBehind (now (nodes .entry)) (now (items .entry)) (now (file .entry)) (headerOf h (now (types .entry)))) ⌝ }
+    ensures items { λ _. ⌜ now (items .exit) ≡ itemTable (length (now (items .entry))) (readsBehind (now (nodes .entry)) (now (items .entry)) (now (file .entry)) (headerOf h (now (types .entry)))) ⌝ }
+{
+    let lim = room_of(nodes.len(), items.len());
+    match read_root(file, types, nodes, items, h, lim) {
+        Walked::Refused(n, p) => {
+            clear_all(nodes, items);
+            Read::Refused(n, p)
+        }
+        Walked::Done(tree, _) => match follow_all(file, types, nodes, items, h, lim, tree) {
+            Walked::Refused(n, p) => {
+                clear_all(nodes, items);
+                Read::Refused(n, p)
+            }
+            Walked::Done(m, _) => {
+                room::clear_from(nodes, m.nodes * cursor::NODE_WIDTH);
+                room::clear_from(items, m.items * cursor::ITEM_WIDTH);
+                let edition = h.edition;
+                let extent = h.extent;
+                let headerEnd = extent.end;
+                let is = Summary {
+                    version: h.version,
+                    edition,
+                    headerEnd,
+                    tree: tree.nodes,
+                    nodes: m.nodes,
+                    items: m.items,
+                };
+                Read::Is(is)
+            }
+        },
+    }
+}
+
 // Reads a file into the two tables: the start of every question.
 pub fn read_file(file: &[u8], nodes: &mut [u64], items: &mut [u64]) -> Read
     ensures answer { λ r. ⌜ r ≡ readOf (reads (now (nodes .entry)) (now (items .entry)) (now (file .entry))) ⌝ }
@@ -535,45 +579,7 @@ pub fn read_file(file: &[u8], nodes: &mut [u64], items: &mut [u64]) -> Read
             clear_all(nodes, items);
             Read::Refused(n, p)
         }
-        Headed::Is(h) => {
-            let lim = room_of(nodes.len(), items.len());
-            match read_root(file, &types, nodes, items, h, lim) {
-                Walked::Refused(n, p) => {
-                    clear_all(nodes, items);
-                    Read::Refused(n, p)
-                }
-                Walked::Done(tree, _) => match follow_all(
-                    file,
-                    &types,
-                    nodes,
-                    items,
-                    h,
-                    lim,
-                    tree,
-                ) {
-                    Walked::Refused(n, p) => {
-                        clear_all(nodes, items);
-                        Read::Refused(n, p)
-                    }
-                    Walked::Done(m, _) => {
-                        room::clear_from(nodes, m.nodes * cursor::NODE_WIDTH);
-                        room::clear_from(items, m.items * cursor::ITEM_WIDTH);
-                        let edition = h.edition;
-                        let extent = h.extent;
-                        let headerEnd = extent.end;
-                        let is = Summary {
-                            version: h.version,
-                            edition,
-                            headerEnd,
-                            tree: tree.nodes,
-                            nodes: m.nodes,
-                            items: m.items,
-                        };
-                        Read::Is(is)
-                    }
-                },
-            }
-        }
+        Headed::Is(h) => read_behind(file, &types, nodes, items, h),
     }
 }
 

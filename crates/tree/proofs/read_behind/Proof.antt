@@ -1,0 +1,165 @@
+-- `read_behind` leaves answer and tables as `readTree` says, under a header that was read: filled, and cleared behind the rows; on a refusal, cleared.
+-- Assumes nothing.
+use mathlib.Core.Path.{_∙_}
+use Rattle.header.specs.Told.{headerOf}
+use Rattle.tree.proofs.Whole.{whole-stands, whole-fits, whole-good, whole-lost, whole-refused, whole-room}
+use native.Mathlib.Omega.{arith}
+use borrow.Author.Needs.{needs}
+use Rattle.tree.proofs.read_behind.Statement.{statement}
+use Rattle.tree.proofs.read_behind.Tie as tie
+
+room-of-requires : tie.Need-room-of-requires
+room-of-requires c κs = search needs
+
+read-root-requires : tie.Need-read-root-requires
+read-root-requires c κs = omega (arith, c .before .before .before .before .before .before .before .pre, whole-room (c .before .before .room-of .ensures))
+
+enum-known-n : tie.Need-enum-known-n
+enum-known-n c = search needs
+
+clear-all-requires : tie.Need-clear-all-requires
+clear-all-requires c κs = search needs
+
+enum-known-tree : tie.Need-enum-known-tree
+enum-known-tree c = search needs
+
+follow-all-requires : tie.Need-follow-all-requires
+follow-all-requires c κs =
+    let rooted-as = c .before .before .before in
+    let rooted = rooted-as .before .before .before .before .before .before in
+    let root = rooted .read-root in
+    let bounded = rooted .before .before .before in
+    let entry = bounded .before .before .before .before .before in
+    let lent = entry .args in
+    let asked = entry .pre in
+    let w = whole-stands (lent .file .now) (lent .nodes .now) (lent .items .now) (headerOf (lent .h) (lent .types .now)) (lent .h .extent .end .0) (asked .0, asked .1, asked .2) (bounded .room-of .ensures) (root .ensures) (root .kept .1 .1 .0) (root .kept .1 .1 .1 .0) (rooted-as .tree .given .1) in
+    let z = whole-room (bounded .room-of .ensures) in
+    let a = root .kept .1 .1 .0 in
+    let b = root .kept .1 .1 .1 .0 in (omega arith, w)
+
+enum-known-n-2 : tie.Need-enum-known-n-2
+enum-known-n-2 c = search needs
+
+clear-all-requires-2 : tie.Need-clear-all-requires-2
+clear-all-requires-2 c κs = search needs
+
+enum-known-m : tie.Need-enum-known-m
+enum-known-m c = search needs
+
+mul-clear-from : tie.Need-mul-clear-from
+mul-clear-from c =
+    let followed-as = c .before .before .before in
+    let followed = followed-as .before .before .before .before .before .before in
+    let rest = followed .follow-all in
+    let rooted-as = followed .before .before .before .before in
+    let rooted = rooted-as .before .before .before .before .before .before in
+    let root = rooted .read-root in
+    let bounded = rooted .before .before .before in
+    let entry = bounded .before .before .before .before .before in
+    let lent = entry .args in
+    let asked = entry .pre in
+    let f = whole-fits (lent .file .now) (lent .nodes .now) (lent .items .now) (headerOf (lent .h) (lent .types .now)) (lent .h .extent .end .0) (asked .0, asked .1, asked .2) (bounded .room-of .ensures)
+    (root .ensures) (root .kept .1 .1 .0) (root .kept .1 .1 .1 .0) (rooted-as .tree .given .1) (rest .ensures) (rest .kept .1 .1 .0) (rest .kept .1 .1 .1 .0) (followed-as .m .given .1) in omega (arith, f, whole-room (bounded .room-of .ensures))
+
+clear-from-requires : tie.Need-clear-from-requires
+clear-from-requires c κs = search needs
+
+mul-clear-from-2 : tie.Need-mul-clear-from-2
+mul-clear-from-2 c =
+    let followed-as = c .before .before .before .before .before .before .before .before in
+    let followed = followed-as .before .before .before .before .before .before in
+    let rest = followed .follow-all in
+    let rooted-as = followed .before .before .before .before in
+    let rooted = rooted-as .before .before .before .before .before .before in
+    let root = rooted .read-root in
+    let bounded = rooted .before .before .before in
+    let entry = bounded .before .before .before .before .before in
+    let lent = entry .args in
+    let asked = entry .pre in
+    let f = whole-fits (lent .file .now) (lent .nodes .now) (lent .items .now) (headerOf (lent .h) (lent .types .now)) (lent .h .extent .end .0) (asked .0, asked .1, asked .2) (bounded .room-of .ensures)
+    (root .ensures) (root .kept .1 .1 .0) (root .kept .1 .1 .1 .0) (rooted-as .tree .given .1) (rest .ensures) (rest .kept .1 .1 .0) (rest .kept .1 .1 .1 .0) (followed-as .m .given .1) in omega (arith, f, whole-room (bounded .room-of .ensures))
+
+clear-from-requires-2 : tie.Need-clear-from-requires-2
+clear-from-requires-2 c κs = search needs
+
+same-length : tie.Need-same-length
+same-length c = c .before .before .before .before .clear-all .kept .0 ∙ c .before .before .before .before .before .before .before .before .before .before .before .before .before .before .read-root .kept .1 .1 .0
+
+same-length-2 : tie.Need-same-length-2
+same-length-2 c = c .before .before .before .before .clear-all .kept .1 .0 ∙ c .before .before .before .before .before .before .before .before .before .before .before .before .before .before .read-root .kept .1 .1 .1 .0
+
+returns : tie.Need-returns
+returns c =
+    let cleared = c .before .before .before .before in
+    let refused-as = cleared .before .before .before .before in
+    let rooted = refused-as .before .before .before .before .before .before in
+    let root = rooted .read-root in
+    let bounded = rooted .before .before .before in
+    let entry = bounded .before .before .before .before .before in
+    let lent = entry .args in
+    let asked = entry .pre in
+    let w = whole-refused (lent .file .now) (lent .nodes .now) (lent .items .now) (headerOf (lent .h) (lent .types .now)) (lent .h .extent .end .0) (asked .0, asked .1, asked .2) (bounded .room-of .ensures) (root .ensures) (root .kept .1 .1 .0) (root .kept .1 .1 .1 .0) (refused-as .n .given .1) (cleared .clear-all .ensures .0) (cleared .clear-all .ensures .1) in (w .0, (w .1, w .2))
+
+same-length-3 : tie.Need-same-length-3
+same-length-3 c =
+    let cleared = c .before .before .before .before in
+    let followed = cleared .before .before .before .before .before .before .before .before .before .before in
+    let rooted = followed .before .before .before .before .before .before .before .before .before .before in
+    cleared .clear-all2 .kept .0 ∙ followed .follow-all .kept .1 .1 .0 ∙ rooted .read-root .kept .1 .1 .0
+
+same-length-4 : tie.Need-same-length-4
+same-length-4 c =
+    let cleared = c .before .before .before .before in
+    let followed = cleared .before .before .before .before .before .before .before .before .before .before in
+    let rooted = followed .before .before .before .before .before .before .before .before .before .before in
+    cleared .clear-all2 .kept .1 .0 ∙ followed .follow-all .kept .1 .1 .1 .0 ∙ rooted .read-root .kept .1 .1 .1 .0
+
+returns-2 : tie.Need-returns-2
+returns-2 c =
+    let cleared = c .before .before .before .before in
+    let past = cleared .before .before .before .before in
+    let followed = past .before .before .before .before .before .before in
+    let rest = followed .follow-all in
+    let rooted-as = followed .before .before .before .before in
+    let rooted = rooted-as .before .before .before .before .before .before in
+    let root = rooted .read-root in
+    let bounded = rooted .before .before .before in
+    let entry = bounded .before .before .before .before .before in
+    let lent = entry .args in
+    let asked = entry .pre in
+    let w = whole-lost (lent .file .now) (lent .nodes .now) (lent .items .now) (headerOf (lent .h) (lent .types .now)) (lent .h .extent .end .0) (asked .0, asked .1, asked .2) (bounded .room-of .ensures)
+    (root .ensures) (root .kept .1 .1 .0) (root .kept .1 .1 .1 .0) (rooted-as .tree .given .1) (rest .ensures) (rest .kept .1 .1 .0) (rest .kept .1 .1 .1 .0) (past .n2 .given .1) (cleared .clear-all2 .ensures .0) (cleared .clear-all2 .ensures .1) in (w .0, (w .1, w .2))
+
+same-length-5 : tie.Need-same-length-5
+same-length-5 c =
+    let first-cleared = c .before .before .before .before .before .before .before .before .before .before in
+    let followed = first-cleared .before .before .before .before .before .before .before .before .before .before in
+    let rooted = followed .before .before .before .before .before .before .before .before .before .before in
+    first-cleared .clear-from .kept .0 ∙ followed .follow-all .kept .1 .1 .0 ∙ rooted .read-root .kept .1 .1 .0
+
+same-length-6 : tie.Need-same-length-6
+same-length-6 c =
+    let second-cleared = c .before .before .before .before .before in
+    let followed = second-cleared .before .before .before .before .before .before .before .before .before .before .before .before .before .before .before in
+    let rooted = followed .before .before .before .before .before .before .before .before .before .before in
+    second-cleared .clear-from2 .kept .0 ∙ followed .follow-all .kept .1 .1 .1 .0 ∙ rooted .read-root .kept .1 .1 .1 .0
+
+returns-3 : tie.Need-returns-3
+returns-3 c =
+    let second-cleared = c .before .before .before .before .before in
+    let first-cleared = second-cleared .before .before .before .before .before in
+    let followed-as = first-cleared .before .before .before .before in
+    let followed = followed-as .before .before .before .before .before .before in
+    let rest = followed .follow-all in
+    let rooted-as = followed .before .before .before .before in
+    let rooted = rooted-as .before .before .before .before .before .before in
+    let root = rooted .read-root in
+    let bounded = rooted .before .before .before in
+    let entry = bounded .before .before .before .before .before in
+    let lent = entry .args in
+    let asked = entry .pre in
+    let w = whole-good (lent .file .now) (lent .nodes .now) (lent .items .now) (headerOf (lent .h) (lent .types .now)) (lent .h .extent .end .0) (asked .0, asked .1, asked .2) (bounded .room-of .ensures)
+    (root .ensures) (root .kept .1 .1 .0) (root .kept .1 .1 .1 .0) (rooted-as .tree .given .1) (rest .ensures) (rest .kept .1 .1 .0) (rest .kept .1 .1 .1 .0) (followed-as .m .given .1) (first-cleared .clear-from .ensures) (second-cleared .clear-from2 .ensures) in (w .0, (w .1, w .2))
+
+pub read-behind-spec : {M : Type 1} → statement M
+read-behind-spec = tie.close (tie.spec room-of-requires read-root-requires enum-known-n clear-all-requires enum-known-tree follow-all-requires enum-known-n-2 clear-all-requires-2 enum-known-m mul-clear-from clear-from-requires mul-clear-from-2 clear-from-requires-2 same-length same-length-2 returns same-length-3 same-length-4 returns-2 same-length-5 same-length-6 returns-3)
