@@ -22,19 +22,28 @@ built_newer() { built_find "$1" \( -newer "$2" -o -cnewer "$2" \) -print -quit; 
 
 built_sum() { built_find "$1" -type f -exec sha256sum {} + | LC_ALL=C sort | sha256sum | cut -d ' ' -f 1; } # CRATES
 
-# The crates that one is made of, each after those that it needs.
+# The crates that one is made of, in the order in which `rt` proves them: each after those that it needs.
 built_crates() { # NAME
     awk -v name="$1" '
-        function visit(n, words, k, count) {
-            if (!(n in needs) || n in seen) return
-            seen[n] = 1
+        function visit(n, words, k, count, high) {
+            if (!(n in needs) || n in level) return
+            level[n] = high = 0
             count = split(needs[n], words, " ")
-            for (k = 1; k <= count; k++) visit(words[k])
-            printf "%s ", n
+            for (k = 1; k <= count; k++) {
+                visit(words[k])
+                if (words[k] in needs && level[words[k]] + 1 > high) high = level[words[k]] + 1
+            }
+            level[n] = high
+            if (high > most) most = high
+            list[++last] = n
         }
         { sub(/#.*/, "") }
         /:/ { needs[substr($0, 1, index($0, ":") - 1)] = substr($0, index($0, ":") + 1) }
-        END { visit(name) }' "$root/crates.txt"
+        END {
+            visit(name)
+            for (high = 0; high <= most; high++)
+                for (k = 1; k <= last; k++) if (level[list[k]] == high) printf "%s ", list[k]
+        }' "$root/crates.txt"
 }
 
 # Sets `why`: the reason to build, or nothing.
@@ -65,17 +74,28 @@ built_look() {
     rm -f "$root/$mark.$$" 2>/dev/null
 }
 
-# The crates that are to be proved as far as times tell: without a stamp, with a newer file, or in need of such a one.
-built_stale() { # CRATES
-    stale=' '
-    for crate in $1; do
-        stamp=target/stamp/$crate changed=
-        if [ ! -f "$stamp" ] || [ -n "$(find "crates/$crate" -name must-fail -prune -o \( -newer "$stamp" -o -cnewer "$stamp" \) -print -quit)" ]; then changed=1; fi
+# The crates that `rt` is going to prove: those whose stamp is not the one that they will have. `rt` of the pinned kit leaves in target/stamp the
+# sum of a crate's contents and of the stamps of what it needs; times do not count. An archive has no stamp.
+built_stale() { # NAME CRATES
+    archive='' stale=' ' stamps=' ' machine=$(uname -m)
+    [ "$verb" = check ] || archive=$1
+    for crate in $2; do
         needs=$(sed -n "s/#.*//; s/^$crate:\(.*\)/\1/p" crates.txt)
-        for need in $needs; do
-            case $stale in *" $need "*) changed=1 ;; esac
-        done
-        [ -z "$changed" ] || stale="$stale$crate "
+        stamp=$(
+            {
+                printf '%s\nmachine %s\n' "$version" "$machine"
+                (cd "crates/$crate" && find src specs proofs stdin stdout args data -type f -exec sha256sum {} + 2>/dev/null | sort)
+                echo "deps: $needs"
+                for need in $needs; do
+                    case $stamps in
+                    *" $need="*) need=${stamps#*" $need="} && echo "${need%% *}" ;;
+                    *) echo "kit $need" ;;
+                    esac
+                done
+            } | sha256sum | cut -d ' ' -f 1
+        )
+        stamps="$stamps$crate=$stamp "
+        if [ "$crate" = "$archive" ] || [ "$(cat "target/stamp/$crate" 2>/dev/null)" != "$stamp" ]; then stale="$stale$crate "; fi
     done
     echo "$stale"
 }
@@ -117,6 +137,13 @@ built_tell() {
     if [ -t 2 ]; then printf '\r%s: %s\033[K' "$prefix" "$line" >&2; else built_say "$line"; fi
 }
 
+# The last error in what `rt` printed; or else the first line that says that something is not proved or failed, or the last line.
+built_reason() { # LOG
+    reason=$(grep '^[^ ]*: error' "$1" | tail -n 1)
+    [ -n "$reason" ] || reason=$(grep -m 1 -e error -e NOT -e FAILED "$1") || reason=$(sed '$d' "$1" | tail -n 1)
+    printf '%.400s\n' "$reason"
+}
+
 # Makes it, in the repository's folder.
 built_make() { # NAME
     version=$(rt version 2>/dev/null)
@@ -125,10 +152,10 @@ built_make() { # NAME
         return 1
     fi
     crates=$(built_crates "$1") && : >"$mark.new" && : >"$mark.log" || return 1
-    # without the program its stamp is stale: rt would not link it again; an archive has none
-    if [ "$1" = capi ] || [ ! -f "$result" ]; then rm -f "target/stamp/$1"; fi
+    # without the program its stamp is stale: rt would not link it again
+    [ "$verb" != check ] || [ -f "$result" ] || rm -f "target/stamp/$1"
     sum=$(built_sum "$crates")
-    stale=$(built_stale "$crates")
+    stale=$(built_stale "$1" "$crates")
     built_say "$why: building"
     if {
         rt "$verb" "$1" 2>&1 </dev/null
@@ -140,7 +167,7 @@ built_make() { # NAME
         rm -f "$mark.old" && mv "$mark.new" "$mark" || return 1
         built_say "$result is built"
     else
-        built_say "not built: $(grep -e error -e NOT -e FAILED "$mark.log" | tail -n 1)"
+        built_say "not built: $(built_reason "$mark.log")"
         built_say "$root/$mark.log has all that rt printed"
         return 1
     fi

@@ -44,7 +44,7 @@ judge() { # NAME ERROR STATUS
 # A refusal line without its end.
 refused() { printf 'R\t%s\t%s' "$@"; } # NUMBER PLACE
 
-# The crates that one is made of, each after those that it needs; or only CHANGED and those of them that need it.
+# The crates that one is made of, in the order in which `rt` proves them; or only CHANGED and those of them that need it.
 crates_of() { # NAME [CHANGED]
     python3 - "${root?}/crates.txt" "$@" <<'PYTHON'
 import sys
@@ -54,17 +54,18 @@ for line in open(sys.argv[1]):
     name, colon, rest = line.split("#")[0].partition(":")
     if colon:
         needs[name.strip()] = rest.split()
-order = []
+level = {}
 
 
 def visit(name):
-    if name in needs and name not in order:
+    if name in needs and name not in level:
         for other in needs[name]:
             visit(other)
-        order.append(name)
+        level[name] = 1 + max((level[other] for other in needs[name] if other in needs), default=0)
 
 
 visit(sys.argv[2])
+order = sorted(level, key=level.get)
 changed = set(sys.argv[3:] or order)
 for name in order:
     if changed & set(needs[name]):
@@ -73,42 +74,50 @@ print(*(name for name in order if name in changed))
 PYTHON
 }
 
-# Makes a copy of the repository for builds, $work/copy, and a stand-in for `rt`, which is first on the PATH of `copied`: a real one proves for
-# minutes. It prints what `rt` prints, and copies what is built here. Files in $work steer it: `slow`, `broken`, `kit` (what it says for version).
+# Makes a copy of the repository for builds, $work/copy, and a kit whose prover proves nothing, since the real one takes minutes: `rt` and its
+# stamps are the real ones, and a stand-in for the prover gives what is built here. It is first on the PATH of `copied`. Files in $work steer it:
+# `slow`, `broken`, `kit` (what it says for version). The file `calls` has the builds that were asked of it.
 make_copy() { # FILE..
     copy=$work/copy
-    mkdir -p "$copy" "$work/bin"
+    guide=$(rt doc) && rt=$(command -v rt) || exit 1
+    kit=${guide%/docs/*} bin=on/$(uname -m)/bin
+    mkdir -p "$copy" "$work/bin" "$work/home/$bin"
     (cd "$root" && cp -R "$@" samples crates crates.txt share tools README.md "$copy") || exit 1
-    {
-        echo "#!/bin/sh"
-        echo "work='$work' root='$root'"
-        for name in xmf xmf_sheet capi; do echo "$name='$(crates_of "$name")'"; done
-        cat <<'RT'
-if [ "$1" = version ]; then
-    cat "$work/kit" 2>/dev/null || cat "$root/share/kit"
-    exit
-fi
-cat >/dev/null # would take a file on standard input away
-echo "$*" >>"$work/calls"
-[ ! -f "$work/slow" ] || sleep 2
-if [ -f "$work/broken" ]; then
+    for file in "$kit"/* "$kit/${bin%/*}"/*; do
+        [ -e "$work/home/${file#"$kit/"}" ] || ln -s "$file" "$work/home/${file#"$kit/"}"
+    done
+    cat >"$work/bin/rt" <<RT
+#!/bin/sh
+if [ "\$1" = version ] && [ -f '$work/kit' ]; then exec cat '$work/kit'; fi
+case \$1 in
+check | staticlib)
+    cat >/dev/null # would take a file on standard input away
+    echo "\$*" >>'$work/calls'
+    [ ! -f '$work/slow' ] || sleep 2
+    ;;
+esac
+RATTLE_HOME='$work/home' exec '$rt' "\$@"
+RT
+    cat >"$work/home/$bin/rattle" <<PROVER
+#!/bin/sh
+if [ -f '$work/broken' ]; then
     echo 'crates/tree/src/lib.rt:1:1: error: the goal is false'
-    echo 'rt: cursor proved (unchanged since it was last proved)'
+    echo 'logic=not-proved'
     exit 1
 fi
-eval "crates=\$$2"
-mkdir -p target/stamp target/bin target/staticlib
-for crate in $crates; do
-    echo "rt: $crate proved (1 s)"
-    : >"target/stamp/$crate"
-done
-case $1 in
-check) cp "$root/target/bin/$2" target/bin ;;
-staticlib) cp "$root/target/staticlib/libcapi.a" target/staticlib 2>/dev/null || : >target/staticlib/libcapi.a ;;
+while [ "\$1" != -o ]; do shift; done
+case \$2 in
+*.rlib) mkdir -p "\$2" ;;
+*.a) cp '$root/target/staticlib/libcapi.a' "\$2" 2>/dev/null || : >"\$2" ;;
+*) : >"\$2" ;;
 esac
-RT
-    } >"$work/bin/rt"
-    chmod +x "$work/bin/rt"
+PROVER
+    cat >"$work/home/$bin/rattle-link" <<LINK
+#!/bin/sh
+while [ "\$1" != -o ]; do shift; done
+cp "$root/target/bin/\${2##*/}" "\$2"
+LINK
+    chmod +x "$work/bin/rt" "$work/home/$bin/rattle" "$work/home/$bin/rattle-link"
 }
 copied() { env PATH="$work/bin:$PATH" "$@"; } # COMMAND..
 

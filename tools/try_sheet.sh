@@ -2,7 +2,7 @@
 # Tries ./sheet and the program `xmf_sheet` that it runs: files of each kind, statuses, names, several files, links, a terminal, and
 # builds. Needs python3, which makes some of the files. The program is built first if need be. The last line is `N passed, M failed`.
 #
-# The builds are tried in a copy of the repository with a stand-in for `rt` (tools/harness.sh).
+# The builds are tried in a copy of the repository with a stand-in for the prover (tools/harness.sh).
 set -u
 
 root=$(CDPATH='' cd -- "$(dirname -- "$0")/.." && pwd -P) || exit 1
@@ -403,7 +403,7 @@ END
     judge "at a terminal, with '$arguments'" 'sheet: waiting for a file on standard input' 2
 done
 
-# ---- builds, in a copy with a stand-in for rt
+# ---- builds, in a copy with a stand-in for the prover
 
 program_crates=$(crates_of xmf_sheet)
 archive_crates=$(crates_of capi)
@@ -453,13 +453,23 @@ run_copy
 judge 'times alone' '' 0
 [ -n "$(find "$copy/target/built/xmf_sheet" -newer "$work/mark")" ]
 count $? 'times alone, the mark is renewed'
+# what rt finds unchanged is not counted: times do not make a crate stale, and what was proved by hand is proved
 rm "$copy/target/built/xmf_sheet"
 run_copy
-judge 'built by hand' "$(building_program 'it is not known what target/bin/xmf_sheet was built from' "$above_tree")" 0
+judge 'built by hand' "$(building_program 'it is not known what target/bin/xmf_sheet was built from' '')" 0
+find "$copy/crates" -exec touch {} +
+echo '// changed' >>"$copy/crates/sheet/src/lib.rt"
+(cd "$copy" && copied rt check sheet) >/dev/null 2>&1 </dev/null
+rm "$copy/target/built/xmf_sheet"
+run_copy
+judge 'one crate is proved by hand, all times are new' "$(building_program 'it is not known what target/bin/xmf_sheet was built from' "$(crates_of xmf_sheet sheet | cut -d ' ' -f 2-)")" 0
+cat "$root/crates/sheet/src/lib.rt" >"$copy/crates/sheet/src/lib.rt"
+run_copy
+judge 'a change that is taken back' "$(building_program "crates/sheet/src/lib.rt $newer" "$(crates_of xmf_sheet sheet)")" 0
 rm "$copy/target/bin/xmf_sheet"
 run_copy
 judge 'the program is gone' "$(building_program 'target/bin/xmf_sheet is not there' xmf_sheet)" 0
-[ "$(sort -u "$work/calls")" = 'check xmf_sheet' ] && [ "$(wc -l <"$work/calls")" -eq 8 ]
+[ "$(sort -u "$work/calls" | paste -s -d ,)" = 'check sheet,check xmf_sheet' ] && [ "$(wc -l <"$work/calls")" -eq 11 ]
 count $? 'the calls of rt'
 
 # another kit: the program of the pinned one goes on; a build is refused, and so is a program of another kit

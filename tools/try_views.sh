@@ -1,7 +1,7 @@
 #!/bin/sh
 # Tries the views of the account of a file's bytes: share/chart.awk (bars) and share/map.awk (a picture). Status 0 only if every try went well.
 set -u
-root=$(CDPATH= cd -- "$(dirname -- "$0")/.." && pwd -P) || exit 1
+root=$(CDPATH='' cd -- "$(dirname -- "$0")/.." && pwd -P) || exit 1
 work=$(mktemp -d) || exit 1
 trap 'rm -rf "$work"' EXIT
 failed=0

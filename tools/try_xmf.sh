@@ -831,7 +831,7 @@ else
     echo 'not tried: another user (needs root and setpriv)'
 fi
 
-# ---- builds, in a copy with a stand-in for rt
+# ---- builds, in a copy with a stand-in for the prover
 
 make_copy xmf
 crates=$(crates_of xmf)

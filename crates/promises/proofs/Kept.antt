@@ -228,7 +228,7 @@ module _ (ls : Sizes) (f g : List ℕ) (h : Header) (ns : List Node) (is : List 
   row : (i : ℕ) → i < length is → RowAlike privateData f g (itemAt is i)
   row = rows-alike privateData f g (limits (size ls 0) (size ls 1)) tt alike
 
-  reads-same : reads ls g ≡ reads ls f
+  pub reads-same : reads ls g ≡ reads ls f
   unfolding reads
   reads-same = alike .same-reading
 
@@ -243,10 +243,10 @@ module _ (ls : Sizes) (f g : List ℕ) (h : Header) (ns : List Node) (is : List 
   unfolding counts
   counts-alike = refl
 
-  find-alike : (w : find.Wanted) (k : ℕ) → find.find w k g h ns is ≡ find.find w k f h ns is
+  pub find-alike : (w : find.Wanted) (k : ℕ) → find.find w k g h ns is ≡ find.find w k f h ns is
   find-alike w k = sym (find-same f g w is name-alike k h ns)
 
-  find-own-alike : (w : find.Wanted) (k : ℕ) → find.findOwn w k g h ns is ≡ find.findOwn w k f h ns is
+  pub find-own-alike : (w : find.Wanted) (k : ℕ) → find.findOwn w k g h ns is ≡ find.findOwn w k f h ns is
   find-own-alike w k = sym (find-own-same f g w is name-alike k h ns)
 
   resolve-alike : (k : ℕ) → resolve.resolve k g h ns is ≡ resolve.resolve k f h ns is
@@ -257,20 +257,20 @@ module _ (ls : Sizes) (f g : List ℕ) (h : Header) (ns : List Node) (is : List 
   unfolding resolve.copyInto
   copy-alike k n = ap (resolve.fitting n) (resolve-alike k)
 
-  fields-alike : (n : ℕ) → T (eqb n 0 || eqb n 3 || eqb n 13) → (i : ℕ) → i < length is → itemAt is i .kind ≡ 0 → itemAt is i .field ≡ n → Agree f g (itemAt is i .place) (itemAt is i .size)
+  pub fields-alike : (n : ℕ) → T (eqb n 0 || eqb n 3 || eqb n 13) → (i : ℕ) → i < length is → itemAt is i .kind ≡ 0 → itemAt is i .field ≡ n → Agree f g (itemAt is i .place) (itemAt is i .size)
   fields-alike n t i m a b = data-alike i m (field-kept n t (itemAt is i) a b)
 
   count-alike : (item channel resource : ℕ) → count.countFor item channel resource g h ns is ≡ count.countFor item channel resource f h ns is
   count-alike item channel resource = sym (count-same f g item channel resource h ns is (fields-alike 13 tt))
 
-  mobile-alike : mobile.mobile g h ns is ≡ mobile.mobile f h ns is
+  pub mobile-alike : mobile.mobile g h ns is ≡ mobile.mobile f h ns is
   unfolding mobile.mobile
   mobile-alike = ap good (sym (verdict-depends f g h ns is (fields-alike 3 tt) (fields-alike 13 tt)))
 
-  shown-alike : (i : ℕ) → i < length is → Shown f g (itemAt is i)
+  pub shown-alike : (i : ℕ) → i < length is → Shown f g (itemAt is i)
   shown-alike i m = (λ e. data-alike i m (even-kept (itemAt is i) e), name-alike i m)
 
-  sheet-alike : (n : ℕ) → sheet.write n g h ns is ≡ sheet.write n f h ns is
+  pub sheet-alike : (n : ℕ) → sheet.write n g h ns is ≡ sheet.write n f h ns is
   unfolding sheet.write
   sheet-alike n = ap (λ (s : List ℕ). sheet.fitting n (good s)) (sym (sheet-same f g h ns is (d .same-length) shown-alike))
 
@@ -279,7 +279,7 @@ module _ (ls : Sizes) (f g : List ℕ) (h : Header) (ns : List Node) (is : List 
   sheet2-alike n = ap (λ (s : List ℕ). sheet.fitting n (good s)) (sym (sheet2-same f g (d .same-length) (h .version) ns is shown-alike))
 
   -- a question that answers the same of the rows
-  asks-alike : {A : Type 0} (x y : Header → List Node → List Item → Result A) → x h ns is ≡ y h ns is → ask (reads ls g) x ≡ ask (reads ls f) y
+  pub asks-alike : {A : Type 0} (x y : Header → List Node → List Item → Result A) → x h ns is ≡ y h ns is → ask (reads ls g) x ≡ ask (reads ls f) y
   unfolding ask
   asks-alike x y e = rw (reads-same, r) e
 

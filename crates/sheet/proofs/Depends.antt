@@ -32,11 +32,11 @@ module _ (f g : List ℕ) (same : length f ≡ length g) (r : Item) (h : Shown f
   unfolding label
   label-same = label-by (eqb (r .kind) 1) refl
 
-  text-same : r .format % 2 ≡ 0 → textOf f r ≡ textOf g r
+  pub text-same : r .format % 2 ≡ 0 → textOf f r ≡ textOf g r
   unfolding textOf unicodeText escapedPart
   text-same e = rw (part-same f g same (r .place) (r .size) (h .0 e))
 
-  line-same : r .format % 2 ≡ 0 → itemLine f r ≡ itemLine g r
+  pub line-same : r .format % 2 ≡ 0 → itemLine f r ≡ itemLine g r
   unfolding itemLine
   line-same e =
       ap₂ (λ (l : List ℕ) (t : List ℕ). 0x4D ∷ number (r .node) ++ l ++ number (r .version) ++ number (r .format) ++ tabbed t ++ 0x0A ∷ []) label-same (text-same e)
@@ -45,7 +45,7 @@ module _ (f g : List ℕ) (same : length f ≡ length g) (r : Item) (h : Shown f
   line-by true e = refl
   line-by false e = let n = eqb-false (r .format % 2) 1 e in line-same (omega arith)
 
-  visible-same : visibleLine f r ≡ visibleLine g r
+  pub visible-same : visibleLine f r ≡ visibleLine g r
   unfolding visibleLine isHidden
   visible-same = line-by (eqb (r .format % 2) 1) refl
 

@@ -1,0 +1,61 @@
+-- Demand 3 of what the command prints. The demand is that of the questions (promises, Promises.antt, Demand3), with the same private places.
+-- Assumes nothing.
+use mathlib.Core.Path.{_≡_}
+use mathlib.Core.Bool.{Bool, true, false, not}
+use mathlib.Core.List.{List, []}
+use Prim.Native.Nat.{ℕ}
+use lib.Dec.{T}
+use Rattle.cursor.specs.declared.Node.{Node}
+use Rattle.cursor.specs.declared.Item.{Item}
+use Rattle.header.specs.Header.{Header}
+use Rattle.room.specs.Room.{good}
+use Rattle.tree.specs.Reading.{rows}
+use Rattle.tree.specs.Hidden.{isHidden, DifferInPrivate}
+use Rattle.answers.specs.Answer.{nothing, reads}
+use Rattle.answers.specs.Printed.{itemRow, foundLines, titleLine, rowText, titleFormat}
+use Rattle.answers.specs.Needed.{rowNeeds, shownNeeds, shownCount}
+use Rattle.answers.specs.Questions.{answerOf}
+use Rattle.answers.specs.declared.asked.Asked.{Asked}
+use Rattle.answers.specs.declared.asked.Asked.the-variants as asked
+
+-- The questions whose answer hands out bytes: a resource, the file with another content, and a text that is converted, where there is no file at all. Whoever asks them
+-- wants the bytes.
+unfoldable pub handsOut : Asked → Bool
+handsOut asked.Sheet = false
+handsOut asked.Check = false
+handsOut asked.Rows = false
+handsOut asked.Verdict = false
+handsOut (asked.Near row field) = false
+handsOut (asked.Own row field) = false
+handsOut (asked.Place row) = false
+handsOut (asked.Resource row) = true
+handsOut (asked.Origin row) = false
+handsOut asked.Needs = false
+handsOut (asked.RowNeeds row) = false
+handsOut (asked.Count row channel resource) = false
+handsOut asked.Titles = false
+handsOut (asked.Corrected row) = true
+handsOut (asked.Retitled row) = true
+handsOut asked.Utf8 = true
+handsOut asked.Utf16 = true
+
+-- Two files of equal length, the first accepted, alike but for its private places
+abbrev pub OfAlike : ((f g : List ℕ) → Type 0) → Type 0
+OfAlike P = (f g : List ℕ) (h : Header) (ns : List Node) (is : List Item) → reads f ≡ rows h ns is → DifferInPrivate h ns is f g → P f g
+
+-- have the same answer to every other question, status and text, whatever word is asked for, whatever ends the line and whatever room there is.
+abbrev pub SameAnswers : Type 0
+SameAnswers = OfAlike (λ f g. (word tail : List ℕ) (room : ℕ) (a : Asked) → T (not (handsOut a)) → answerOf word tail room g a ≡ answerOf word tail room f a)
+
+-- So has what is said beside the file with another title: the old title, and the format by which a title is taken.
+abbrev pub SameTitles : Type 0
+SameTitles = OfAlike (λ f g. (row : ℕ) → (rowText row g (reads g) ≡ rowText row f (reads f)) × (titleFormat row (reads g) ≡ titleFormat row (reads f)))
+
+-- And the data of a hidden row, of whatever field, is not shown: the row stands there with its words alone where it is found, it is no title, and what it needs is not told.
+abbrev pub Unseen : Type 0
+Unseen = (f : List ℕ) (k : ℕ) (r : Item) → T (isHidden r)
+    → (foundLines f (record { row = k; item = r }) ≡ itemRow 0x49 k r)
+    × (titleLine f k r ≡ [])
+    × (rowNeeds f k r ≡ good [])
+    × (shownNeeds f k r ≡ good nothing)
+    × ((channel resource : ℕ) → shownCount f k channel resource r ≡ good nothing)
