@@ -1,5 +1,5 @@
-/* Questions about XMF files (versions 1.00, 1.01 and 2.00), the correction of a title, two
- * conversions of a text, and the mover between the two editions of a sheet.
+/* Questions about XMF files (versions 1.00, 1.01 and 2.00), the correction of a title, the mending of
+ * a header, two conversions of a text, and the mover between the two editions of a sheet.
  *
  * The functions are in target/staticlib/libcapi.a, which `rt staticlib capi` proves and writes;
  * `./install` has them in libxmf.a and libxmf.so.0. They are for x86-64 Linux and need no other library.
@@ -33,8 +33,8 @@
  * buffer gets the words that fit.
  *
  * After an answer the tables hold the file's rows, and zeros past the last row; a call that writes a
- * file leaves the rows of that one. After a refusal both tables, and the buffer for a resource, a sheet
- * or a file, hold zeros only; totals are never cleared. Each call reads the file afresh. Nothing is
+ * file leaves the rows of that one. After a refusal both tables, and the buffer for a resource, a sheet,
+ * a file or lines, hold zeros only; totals are never cleared. Each call reads the file afresh. Nothing is
  * allocated and nothing is kept between calls. Places count from 0 at the file's first byte.
  *
  * Refusals (share/refusals.tsv; no call gives 27 to 35 and 39 yet)
@@ -316,6 +316,27 @@ void xmf_correct_title(const uint8_t *file, size_t file_length,
                        const uint8_t *title, size_t title_length,
                        uint8_t *out, size_t out_length,
                        uint64_t *answer, size_t answer_words);
+
+/* Copies the file into a lent buffer, with FileLength and TreeEnd set right in the bytes that they already
+ * have: FileLength to the number of bytes lent, TreeEnd to the place of the root's last byte. No other
+ * byte differs. Writes one line, ended by 0Ah, for each field that changed, in file order: FileLength or
+ * TreeEnd, its place, its old and its new value, with tabs between. The tables hold the mended file's
+ * rows. A file that is accepted as it is gives its copy and no line.
+ *
+ *   answer[2]  the number of bytes of the copy
+ *   answer[3]  the number of bytes of the lines
+ *
+ * Bytes of either buffer past what is written are 0. Refused, as the unchanged file is, when either
+ * field cannot be read as a number, or when no values of the two, in their bytes, make a file that is
+ * accepted with these tables; then with 22 for either buffer. A file whose bytes are missing cannot be
+ * mended. The copy holds the hidden bytes of the file.
+ */
+void xmf_mend(const uint8_t *file, size_t file_length,
+              uint64_t *nodes, size_t node_words,
+              uint64_t *items, size_t item_words,
+              uint8_t *copy, size_t copy_length,
+              uint8_t *lines, size_t lines_length,
+              uint64_t *answer, size_t answer_words);
 
 /* Converts UTF-16, high byte first, into UTF-8. It takes lent data and lent room alone, no file and no
  * tables. One leading FEFF is dropped.

@@ -51,6 +51,8 @@ int main(int argc, char **argv) {
     expect("move_sheet of nothing", 31);
     xmf_correct_title(NULL, 0, NULL, 0, NULL, 0, 0, NULL, 0, NULL, 0, answer, XMF_ANSWER_WORDS);
     expect("correct_title of nothing", 1);
+    xmf_mend(NULL, 0, NULL, 0, NULL, 0, NULL, 0, NULL, 0, answer, XMF_ANSWER_WORDS);
+    expect("mend of nothing", 1);
 
     /* no tables: 10, no row left */
     xmf_read_tree(file, length, NULL, 0, NULL, 0, answer, XMF_ANSWER_WORDS);
@@ -73,8 +75,11 @@ int main(int argc, char **argv) {
     expect("write_sheet2 without tables", 10);
     xmf_correct_title(file, length, NULL, 0, NULL, 0, 0, NULL, 0, sheet, sizeof sheet, answer, XMF_ANSWER_WORDS);
     expect("correct_title without tables", 10);
+    xmf_mend(file, length, NULL, 0, NULL, 0, sheet, sizeof sheet, NULL, 0, answer, XMF_ANSWER_WORDS);
+    expect("mend without tables", 10);
 
-    /* no name: 23, no such item; no buffer for the resource, the sheet or the new file: 22; no title: taken */
+    /* no name: 23, no such item; no buffer for the resource, the sheet or the new file: 22; no title: taken;
+     * no buffer for lines: taken, where there is none */
     xmf_find(file, length, nodes, XMF_ALL_NODE_WORDS, items, XMF_ALL_ITEM_WORDS, 0, XMF_CUSTOM, 0, NULL, 0, answer,
              XMF_ANSWER_WORDS);
     expect("find without a name", 23);
@@ -93,6 +98,12 @@ int main(int argc, char **argv) {
     xmf_correct_title(file, length, nodes, XMF_ALL_NODE_WORDS, items, XMF_ALL_ITEM_WORDS, 0, NULL, 0, sheet, sizeof sheet,
                       answer, XMF_ANSWER_WORDS);
     expect("correct_title without a title", 0);
+    xmf_mend(file, length, nodes, XMF_ALL_NODE_WORDS, items, XMF_ALL_ITEM_WORDS, NULL, 0, NULL, 0, answer,
+             XMF_ANSWER_WORDS);
+    expect("mend without a buffer", 22);
+    xmf_mend(file, length, nodes, XMF_ALL_NODE_WORDS, items, XMF_ALL_ITEM_WORDS, sheet, sizeof sheet, NULL, 0, answer,
+             XMF_ANSWER_WORDS);
+    expect("mend without a buffer for lines", 0);
 
     /* no words for the answer: the tables and the sheet are filled all the same */
     xmf_read_tree(file, length, nodes, XMF_ALL_NODE_WORDS, items, XMF_ALL_ITEM_WORDS, NULL, 0);
@@ -104,6 +115,7 @@ int main(int argc, char **argv) {
     xmf_account(file, length, nodes, XMF_ALL_NODE_WORDS, items, XMF_ALL_ITEM_WORDS, NULL, 0, NULL, 0);
     xmf_correct_title(file, length, nodes, XMF_ALL_NODE_WORDS, items, XMF_ALL_ITEM_WORDS, 0, NULL, 0, sheet, sizeof sheet,
                       NULL, 0);
+    xmf_mend(file, length, nodes, XMF_ALL_NODE_WORDS, items, XMF_ALL_ITEM_WORDS, sheet, sizeof sheet, NULL, 0, NULL, 0);
     xmf_write_sheet2(file, length, nodes, XMF_ALL_NODE_WORDS, items, XMF_ALL_ITEM_WORDS, sheet, sizeof sheet, NULL, 0);
     xmf_move_sheet(sheet, sizeof sheet, NULL, 0, NULL, 0);
     xmf_write_sheet(file, length, nodes, XMF_ALL_NODE_WORDS, items, XMF_ALL_ITEM_WORDS, sheet, sizeof sheet, NULL, 0);

@@ -10,9 +10,11 @@ ghost use Rattle.description.specs.Told as told_description;
 ghost use Rattle.mobile.specs.Told as told_mobile;
 ghost use Rattle.account.specs.Told as told_account;
 ghost use Rattle.account.specs.Told.{kindWords, totalWords, totalsIn};
+ghost use Rattle.mend.specs.Told as told_mend;
+ghost use Rattle.mend.specs.Told.{sizeWords};
 ghost use Rattle.room.specs.Told as told_room;
 ghost use Rattle.id3.specs.Told as told_tag;
-ghost use Rattle.promises.specs.Promises.{readTree, findItem, findOwn, resolveRow, copyResource, countFor, judgeMobile, writeSheet, writeSheet2, correctTitle, toUtf8, toUtf16, moveSheet, countFrames, tagFrame, saying, treeValues, itemValues, resourceValues, oneValue, frameValues};
+ghost use Rattle.promises.specs.Promises.{readTree, findItem, findOwn, resolveRow, copyResource, countFor, judgeMobile, writeSheet, writeSheet2, correctTitle, mendHeader, toUtf8, toUtf16, moveSheet, countFrames, tagFrame, saying, treeValues, itemValues, resourceValues, oneValue, frameValues};
 ghost use Rattle.capi.specs.Fit.{fit, stored, asked, Leaves, totalsOf, LeavesTotals};
 use account::Accounted;
 use account::Kinds;
@@ -21,6 +23,7 @@ use description::Counted;
 use find::Found;
 use id3::FrameCount;
 use id3::Framed;
+use mend::Mending;
 use mobile::Judged;
 use resolve::Resolved;
 use room::Written;
@@ -236,6 +239,19 @@ fn put_written(answer: &mut [u64], said: Written)
     }
 }
 
+// The bytes of the copy, and of the lines.
+fn put_mended(answer: &mut [u64], said: Mending)
+    ensures { λ _. ⌜ now (answer .exit) ≡ fit (length (now (answer .entry))) (saying sizeWords (told_mend.told said)) ⌝ }
+{
+    match said {
+        Mending::Refused(n, p) => put_refusal(answer, n, p),
+        Mending::Is(copy, lines) => {
+            let words = [0, 0, copy as u64, lines as u64];
+            put_answer(answer, &words);
+        }
+    }
+}
+
 // The number of a tag's frames.
 fn put_frame_count(answer: &mut [u64], said: FrameCount)
     ensures { λ _. ⌜ now (answer .exit) ≡ fit (length (now (answer .entry))) (saying oneValue (told_tag.countTold said)) ⌝ }
@@ -438,6 +454,22 @@ pub extern "C" fn xmf_correct_title(
         answer,
         retitle::correct_title(file, nodes, items, row, title, out),
     );
+}
+
+// Copies the file with FileLength and TreeEnd set right, in the bytes that they have, and writes a line for each that changed. Answer: bytes of the copy, bytes of the
+// lines. The copy holds the hidden bytes of the file.
+#[no_mangle]
+pub extern "C" fn xmf_mend(
+    file: &[u8],
+    nodes: &mut [u64],
+    items: &mut [u64],
+    copy: &mut [u8],
+    lines: &mut [u8],
+    answer: &mut [u64],
+)
+    ensures { λ _. ⌜ Leaves mendHeader (now (file .entry)) (now (nodes .entry) ∷ now (items .entry) ∷ now (copy .entry) ∷ now (lines .entry) ∷ []) (now (nodes .exit) ∷ now (items .exit) ∷ now (copy .exit) ∷ now (lines .exit) ∷ []) (now (answer .entry)) (now (answer .exit)) ⌝ }
+{
+    put_mended(answer, mend::mend(file, nodes, items, copy, lines));
 }
 
 // Converts UTF-16, high byte first, into UTF-8; one leading mark FEFF is dropped. Answer: bytes written. It converts what it is given, hidden text too, and

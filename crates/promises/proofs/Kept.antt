@@ -67,6 +67,12 @@ use Rattle.title.specs.Title as title
 use Rattle.title.proofs.Again.{corrected, correct-says, correct-least, correct-only, correct-again}
 use Rattle.title.proofs.Listed.{title-listed}
 use Rattle.title.proofs.Demand as titles
+use Rattle.mend.specs.Mend as mend
+use Rattle.mend.specs.Mend.{mended, changes, repair}
+use Rattle.mend.specs.Told.{sizeWords, sizesOf, copyIn, linesIn, asked}
+use Rattle.mend.proofs.Theorem.{read-rows, mended-length, still, mended-is, mend-good, mend-answered}
+use Rattle.mend.proofs.Alike.{mended-alike}
+use Rattle.mend.proofs.Listed.{mend-listed, mend-placed}
 use Rattle.room.specs.Room as room
 use Rattle.room.specs.Room.{Among, PlacedIn}
 use Rattle.room.proofs.Listed.{allowed-front, among-back, areApart, apart-placed, placed-if, fitted, fitting-among}
@@ -77,12 +83,12 @@ use Rattle.id3.specs.Frames as id3
 use Rattle.id3.specs.declared.TagFrame.{TagFrame}
 use Rattle.id3.proofs.Listed as tag
 use Rattle.id3.proofs.Inside.{frame-inside, frames-apart, count-frames, count-refused}
-use Rattle.promises.specs.Promises.{Question, readTree, findItem, findOwn, resolveRow, copyResource, countFor, judgeMobile, accountBytes, writeSheet, writeSheet2, correctTitle, toUtf8, toUtf16, moveSheet, countFrames, tagFrame, Sizes, size, reads}
-use Rattle.promises.specs.Promises.{Tables, noTables, ofFile, ofWritten, Lent, filled, copied, given, changed, About, overRows, rowsIntoRoom, dataIntoRoom, overData, treeValues, resourceValues, frameValues, oneValue, sizeValue, bytes, about}
+use Rattle.promises.specs.Promises.{Question, readTree, findItem, findOwn, resolveRow, copyResource, countFor, judgeMobile, accountBytes, writeSheet, writeSheet2, correctTitle, mendHeader, toUtf8, toUtf16, moveSheet, countFrames, tagFrame, Sizes, size, reads}
+use Rattle.promises.specs.Promises.{Tables, noTables, ofFile, ofWritten, Lent, filled, copied, given, changed, About, overRows, rowsIntoRoom, dataIntoRoom, overData, treeValues, resourceValues, mendedValues, frameValues, oneValue, sizeValue, bytes, about}
 use Rattle.promises.specs.Promises.{Outcome, saying, rowTables, tablesLent, lent, holding, answerTo, leaves, outcome, resource, IsRefusal, Accepted, InTables, newFile, AnsweredOf, Shows, IsAnswer, Demand1, FitsExactly, StepsMake, FirstApplies, UntilRoot, LieApart}
-use Rattle.promises.specs.Promises.{OnlyThere, PrivateAlone, AlikeIn, EachAlike, OutcomesAlike, Demand3, InTurn, Correction, Corrects, textOf, ButForMark, Undone, ThereAndBack, BackAndThere, Account, Accounts, FrameIs, CountsFrames, FramesApart, StaysInTag}
+use Rattle.promises.specs.Promises.{OnlyThere, PrivateAlone, AlikeIn, EachAlike, OutcomesAlike, Demand3, InTurn, Correction, Corrects, textOf, ButForMark, Undone, ExactlyThere, ThereAndBack, BackAndThere, Account, Accounts, CountsFrames, FramesApart, StaysInTag}
 use Rattle.promises.specs.Calls as calls
-use Rattle.promises.specs.Calls.{Called, left, Over, Fills, read-tree, find-item, find-own, resolve-row, copy-resource, count-for, judge, account, write-sheet, write-sheet2, to-utf8, to-utf16, move-sheet, tag-frame, correct-title, EachLeaves, CallsAlike, PartsAlike}
+use Rattle.promises.specs.Calls.{Called, left, Over, Fills, read-tree, find-item, find-own, resolve-row, copy-resource, count-for, judge, account, write-sheet, write-sheet2, to-utf8, to-utf16, move-sheet, tag-frame, correct-title, mend-header, EachLeaves, CallsAlike, PartsAlike}
 
 -- ---- which data may not differ
 
@@ -218,6 +224,57 @@ title-leaves i text ls f g (files-alike {x} {y} e r d) =
     let v : drop n (y ++ zs) ≡ zs = drop-at y zs n (sym e) in
     (rw e, rw (r, ← e, a, b, c, v) (refl, (refl, ((d, refl), refl))))
 
+-- two copies whose header is mended
+
+same-rows : {h h′ : Header} {ns ns′ : List Node} {is is′ : List Item} → rows h ns is ≡ rows h′ ns′ is′ → (h ≡ h′) × (ns ≡ ns′) × (is ≡ is′)
+same-rows e = (cc, cc, cc)
+
+-- the file that was written
+new-copy : (ls : Sizes) (f : List ℕ) (m : mend.Mended) → newFile (leaves (about mendHeader) ls f (good m)) ≡ m .copy
+unfolding leaves room.padded
+new-copy ls f m = take-append-seam (m .copy) (replicate (size ls 2 - length (m .copy)) 0)
+
+module _ (ls : Sizes) (f g : List ℕ) {h : Header} {ns : List Node} {is : List Item} (r : reads ls (mended f) ≡ rows h ns is) (d : DifferInPrivate h ns is f g) where
+  abbrev lim : Limits
+  lim = limits (size ls 0) (size ls 1)
+
+  copies-differ : PrivateAlone ls (mended f) (mended g)
+  unfolding reads
+  copies-differ h′ ns′ is′ q = let (a, b, c) = same-rows (sym r ∙ q) in rw (← a, ← b, ← c) (mended-alike lim f g r d .differ)
+
+  -- with room for them, and without
+  copies-alike : (b : Bool) → let x : Result mend.Mended = cond b (good (repair f)) (bad 22 0) in let y : Result mend.Mended = cond b (good (repair g)) (bad 22 0) in
+      Alike₂ (about mendHeader) ls f g x y × ExactlyThere f g (newFile (leaves (about mendHeader) ls f x)) (newFile (leaves (about mendHeader) ls g y))
+  unfolding leaves reads room.padded
+  copies-alike true =
+      let w = mended-alike lim f g r d in
+      let e = w .differ .same-length in
+      let n : ℕ = length (mended f) in
+      let zs : List ℕ = replicate (size ls 2 - n) 0 in
+      let a : take n (mended f ++ zs) ≡ mended f = take-at (mended f) zs n refl in
+      let b : take n (mended g ++ zs) ≡ mended g = take-at (mended g) zs n (sym e) in
+      let c : drop n (mended f ++ zs) ≡ zs = drop-at (mended f) zs n refl in
+      let v : drop n (mended g ++ zs) ≡ zs = drop-at (mended g) zs n (sym e) in
+      let l = mended-length f in (
+        (rw (← e, w .lines) refl, rw (w .reads, r, ← e, w .lines, a, b, c, v) (refl, (refl, ((copies-differ, refl), (refl, refl))))),
+        rw (new-copy ls f (repair f), new-copy ls g (repair g)) (e, λ k m. (w .only-there k (omega arith), w .there k (omega arith))),
+      )
+  copies-alike false = ((refl, (refl, (refl, ((λ h ns is e. record { same-length = refl; elsewhere = λ k l o. refl }, refl), (refl, refl))))), (refl, λ k l. absurd (omega arith)))
+
+  mends-as : (f : List ℕ) {h : Header} {ns : List Node} {is : List Item} → reads ls (mended f) ≡ rows h ns is → mend.mend lim (size ls 2) (size ls 3) f ≡ mend.fitting (size ls 2) (size ls 3) (repair f)
+  unfolding reads
+  mends-as f e = mend-good lim f (mended-is lim f (ap mend.accepted e)) (size ls 2) (size ls 3)
+
+  pub mend-alike : Alike₂ (about mendHeader) ls f g (answerTo ls f (about mendHeader .asks ls)) (answerTo ls g (about mendHeader .asks ls))
+      × ExactlyThere f g (newFile (leaves (about mendHeader) ls f (answerTo ls f (about mendHeader .asks ls)))) (newFile (leaves (about mendHeader) ls g (answerTo ls g (about mendHeader .asks ls))))
+  unfolding reads mend.fitting
+  mend-alike =
+      let w = mended-alike lim f g r d in
+      let e = w .differ .same-length in
+      let x = mends-as f r in
+      let y : mend.mend lim (size ls 2) (size ls 3) g ≡ cond (leb (length (mended f)) (size ls 2) && leb (length (changes f)) (size ls 3)) (good (repair g)) (bad 22 0) = mends-as g (w .reads) ∙ rw (← e, w .lines) refl in
+      rw (x, y) (copies-alike (leb (length (mended f)) (size ls 2) && leb (length (changes f)) (size ls 3)))
+
 -- ---- the questions of two files that differ in what is private
 
 module _ (ls : Sizes) (f g : List ℕ) (h : Header) (ns : List Node) (is : List Item) (r : reads ls f ≡ rows h ns is) (d : DifferInPrivate h ns is f g) where
@@ -294,6 +351,11 @@ module _ (ls : Sizes) (f g : List ℕ) (h : Header) (ns : List Node) (is : List 
   unfolding ask
   title-alike i text = rw (reads-same, r) (title-twins ls f g r d i text (size ls 2))
 
+  -- the mended file reads as the file does
+  still-reads : reads ls (mended f) ≡ rows h ns is
+  unfolding reads
+  still-reads = still (limits (size ls 0) (size ls 1)) f r
+
   pub outcome-alike : (q : Question) → Alike₂ (about q) ls f g (answerTo ls f (about q .asks ls)) (answerTo ls g (about q .asks ls))
   outcome-alike readTree = same readTree (asks-alike _ _ counts-alike)
   outcome-alike (findItem w k) = same (findItem w k) (asks-alike _ _ (find-alike w k))
@@ -306,6 +368,7 @@ module _ (ls : Sizes) (f g : List ℕ) (h : Header) (ns : List Node) (is : List 
   outcome-alike writeSheet = same writeSheet (asks-alike _ _ (sheet-alike (size ls 2)))
   outcome-alike writeSheet2 = same writeSheet2 (asks-alike _ _ (sheet2-alike (size ls 2)))
   outcome-alike (correctTitle i text) = title-leaves i text ls f g (title-alike i text)
+  outcome-alike mendHeader = mend-alike ls f g still-reads d .0
   outcome-alike (toUtf8 units) = same (toUtf8 units) refl
   outcome-alike (toUtf16 text) = same (toUtf16 text) refl
   outcome-alike (moveSheet s) = same (moveSheet s) refl
@@ -366,6 +429,14 @@ unfolding writtenNodes writtenItems
 in-written f ws n m lim (good g) = (refl, refl)
 in-written f ws n m lim (bad k p) = (refl, refl)
 
+-- all that mending leaves
+in-mended : (f ws : List ℕ) (n m c l : ℕ) (lim : Limits) (r : Result mend.Mended) → (saying sizeWords (sizesOf r) ≡ saying mendedValues r)
+    × (writtenNodes n lim (copyIn r) ≡ holding f ws r (filled n (λ g. nodeTable n (readFile lim (g .copy))))) × (writtenItems m lim (copyIn r) ≡ holding f ws r (filled m (λ g. itemTable m (readFile lim (g .copy)))))
+    × (room.kept c (copyIn r) ≡ holding f ws r (copied c (λ g. g .copy))) × (room.kept l (linesIn r) ≡ holding f ws r (filled l (λ g. room.padded l (g .lines))))
+unfolding writtenNodes writtenItems room.kept
+in-mended f ws n m c l lim (good g) = (refl, refl, refl, refl, refl)
+in-mended f ws n m c l lim (bad k p) = (refl, refl, refl, refl, refl)
+
 -- and a buffer after a call that copies a part of the file
 in-given : (f : List ℕ) (n : ℕ) (r : Result resolve.Resource) → room.padded n (resolve.part f r) ≡ holding f (saying resourceValues r) r (given n)
 unfolding resolve.part room.padded
@@ -413,6 +484,9 @@ called (write-sheet {sheet = s} r k t u) = let w = in-buffer _ _ (length s) _ in
 called (write-sheet2 {sheet = s} r k t u) = let w = in-buffer _ _ (length s) _ in made (ap (saying oneValue) (k .answers) ∙ w .0) (two (t ∙ in-nodes _ _ _ _ _) (u ∙ in-items _ _ _ _ _) (one (k .in-buffer ∙ w .1)))
 called (correct-title {out = s} item text r k t u) =
     let w = in-buffer _ _ (length s) _ in let x = in-written _ _ _ _ _ _ in made (ap (saying oneValue) (k .answers) ∙ w .0) (two (t ∙ x .0) (u ∙ x .1) (one (k .in-buffer ∙ w .2)))
+called (mend-header {nodes} {items} {copy} {lines} {f} r a t u v w) =
+    let x = in-mended f _ (length nodes) (length items) (length copy) (length lines) (limits (length nodes) (length items)) (asked nodes items copy lines f) in
+    made (ap (saying sizeWords) a ∙ x .0) (two (t ∙ x .1) (u ∙ x .2) (two (v ∙ x .3) (w ∙ x .4) refl))
 called (to-utf8 r k) = room-called _ _ k
 called (to-utf16 r k) = room-called _ _ k
 called (move-sheet r k) = room-called _ _ k
@@ -641,6 +715,23 @@ account-meets t = record {
   shown = λ ls f a e. let x = answered (reads ls f) (kindsOf (limits (size ls 0) (size ls 1)) f) (allowed-good t _ e) in (tt, (x, refl));
 }
 
+mend-shows : (ls : Sizes) (f : List ℕ) (m : mend.Mended) → answerTo ls f (about mendHeader .asks ls) ≡ good m → InTables ls (newFile (leaves (about mendHeader) ls f (good m))) (leaves (about mendHeader) ls f (good m))
+unfolding leaves reads
+mend-shows ls f m e =
+    let lim = limits (size ls 0) (size ls 1) in
+    let (same, taken) = mend-answered lim (size ls 2) (size ls 3) f e in
+    let taken′ : mend.accepted (readFile lim (m .copy)) ≡ true = subst (λ (v : mend.Mended). mend.accepted (readFile lim (v .copy)) ≡ true) same taken in
+    subst (λ v. InTables ls v (leaves (about mendHeader) ls f (good m))) (sym (new-copy ls f m)) (read-rows (readFile lim (m .copy)) taken′, refl)
+
+mend-meets : Meets (about mendHeader)
+unfolding leaves reads
+mend-meets = record {
+  listed = λ ls f. mend-listed (limits (size ls 0) (size ls 1)) (size ls 2) (size ls 3) f;
+  placed = λ ls f. mend-placed (limits (size ls 0) (size ls 1)) (size ls 2) (size ls 3) f;
+  wide = λ a. refl;
+  shown = λ ls f m e. (tt, mend-shows ls f m e);
+}
+
 meets : (q : Question) → Meets (about q)
 unfolding leaves
 meets readTree = over-meets _ _ _ _ tt counts-listed (λ a. refl)
@@ -659,6 +750,7 @@ meets (accountBytes t) = account-meets t
 meets writeSheet = room-meets sheet.write _ tt sheet-listed
 meets writeSheet2 = room-meets sheet.write2 _ tt sheet2-listed
 meets (correctTitle i text) = title-meets i text
+meets mendHeader = mend-meets
 meets (toUtf8 units) = data-meets _ _ tt tt (utf8-listed units)
 meets (toUtf16 text) = data-meets _ _ tt tt (utf16-listed text)
 meets (moveSheet s) = data-meets _ _ tt tt (move-listed s)

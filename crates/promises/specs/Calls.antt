@@ -37,6 +37,9 @@ use Rattle.account.specs.declared.Accounted.{Accounted}
 use Rattle.sheet.specs.Sheet.{write, write2}
 use Rattle.mover.specs.Sheets.{move}
 use Rattle.title.specs.Title as title
+use Rattle.mend.specs.Told as mended
+use Rattle.mend.specs.Told.{sizeWords, sizesOf, copyIn, linesIn, asked}
+use Rattle.mend.specs.declared.Mending.{Mending}
 use Rattle.room.specs.Room as room
 use Rattle.room.specs.Told as written
 use Rattle.room.specs.declared.Written.{Written}
@@ -46,7 +49,7 @@ use Rattle.id3.specs.Told as tag
 use Rattle.id3.specs.declared.FrameCount.{FrameCount}
 use Rattle.id3.specs.declared.Framed.{Framed}
 use Rattle.promises.specs.Promises as promises
-use Rattle.promises.specs.Promises.{Question, readTree, findItem, resolveRow, copyResource, judgeMobile, accountBytes, writeSheet, writeSheet2, correctTitle, toUtf8, toUtf16, moveSheet, countFrames, tagFrame, Outcome, saying, treeValues, itemValues, resourceValues, oneValue, frameValues, about, outcome, OnlyThere, OutcomesAlike}
+use Rattle.promises.specs.Promises.{Question, readTree, findItem, resolveRow, copyResource, judgeMobile, accountBytes, writeSheet, writeSheet2, correctTitle, mendHeader, toUtf8, toUtf16, moveSheet, countFrames, tagFrame, Outcome, saying, treeValues, itemValues, resourceValues, oneValue, frameValues, about, outcome, OnlyThere, OutcomesAlike}
 
 -- what a call left: the answer's words, and the tables and buffers
 abbrev pub left : {A : Type 0} → (values : A → List ℕ) → Result A → List (List ℕ) → Outcome
@@ -115,6 +118,12 @@ pub data Called : Question → (lent : List (List ℕ)) → (file : List ℕ) �
       → t ≡ nodesWritten nodes items (answered nodes items f (title.correctTitle item text (length out)))
       → u ≡ itemsWritten nodes items (answered nodes items f (title.correctTitle item text (length out)))
       → Called (correctTitle item text) (nodes ∷ items ∷ out ∷ []) f (left oneValue (written.told r) (t ∷ u ∷ v ∷ []))
+  -- mend::mend
+  mend-header : {nodes items copy lines f t u v w : List ℕ} (r : Mending)
+      → mended.told r ≡ sizesOf (asked nodes items copy lines f)
+      → t ≡ nodesWritten nodes items (copyIn (asked nodes items copy lines f)) → u ≡ itemsWritten nodes items (copyIn (asked nodes items copy lines f))
+      → v ≡ room.kept (length copy) (copyIn (asked nodes items copy lines f)) → w ≡ room.kept (length lines) (linesIn (asked nodes items copy lines f))
+      → Called mendHeader (nodes ∷ items ∷ copy ∷ lines ∷ []) f (left sizeWords (mended.told r) (t ∷ u ∷ v ∷ w ∷ []))
   -- unicode::to_utf8
   to-utf8 : {buffer f units v : List ℕ} (r : Written)
       → Fills (room.fitting (length buffer) (unicode.toUtf8 units)) buffer (written.told r) v

@@ -8,9 +8,9 @@ use mathlib.Core.List.{List, [], _∷_, _++_, map}
 use Prim.Native.Nat.{ℕ, _+_, _*_, _≤_, _<_}
 use lib.Dec.{T}
 use lib.ListN.{length, getD, replicate, take, drop}
-use Rattle.cursor.specs.Machine.{FirstAt}
+use Rattle.cursor.specs.Machine.{ok, run, FirstAt}
 use Rattle.cursor.specs.Rows.{Events}
-use Rattle.cursor.specs.Refusals.{noRowLeft, noSuchRow, badText, badSheet, ofReader, inFile, isOneOf, isAllowed}
+use Rattle.cursor.specs.Refusals.{noRowLeft, noSuchRow, noRoom, badText, badSheet, ofReader, inFile, isOneOf, isAllowed}
 use Rattle.cursor.specs.Vlq.{part}
 use Rattle.cursor.specs.declared.Node.{Node}
 use Rattle.cursor.specs.declared.Item.{Item}
@@ -39,6 +39,9 @@ use Rattle.mover.specs.Sheets.{WellFormed, OtherEdition}
 use Rattle.title.specs.Description.{described, retitled}
 use Rattle.title.specs.Title as title
 use Rattle.title.specs.Title.{Bytes, Says, NowhereLonger}
+use Rattle.mend.specs.Fields.{Fields, fields, Hold, Elsewhere}
+use Rattle.mend.specs.Mend as mend
+use Rattle.mend.specs.Mend.{withField, setTo, lastOf, mended, changes}
 use Rattle.room.specs.Room as room
 use Rattle.unicode.specs.Unicode as unicode
 use Rattle.id3.specs.Frames as id3
@@ -59,6 +62,7 @@ pub data Question : Type 0 where
   writeSheet : Question
   writeSheet2 : Question
   correctTitle : (item : ℕ) → (title : List ℕ) → Question
+  mendHeader : Question
   toUtf8 : (units : List ℕ) → Question
   toUtf16 : (text : List ℕ) → Question
   moveSheet : (sheet : List ℕ) → Question
@@ -115,7 +119,7 @@ overRows {A} question values number own =
     record { Answer = A; asks = λ ls. ofRows question; values = values; number = number; refusals = ofReader ++ own; tables = ofFile; buffers = λ ls. [] }
 
 -- the values of answers: version, node rows, item rows; the item row's number and its ten words; place, length, row, references followed; one number; the number of bytes;
--- a frame's name, place and length
+-- of a copy and of its lines; a frame's name, place and length
 abbrev pub treeValues : Counts → List ℕ
 treeValues c = c .version ∷ c .nodes ∷ c .items ∷ []
 
@@ -130,6 +134,9 @@ oneValue n = n ∷ []
 
 abbrev pub sizeValue : List ℕ → List ℕ
 sizeValue s = oneValue (length s)
+
+abbrev pub mendedValues : mend.Mended → List ℕ
+mendedValues m = length (m .copy) ∷ length (m .lines) ∷ []
 
 abbrev pub frameValues : TagFrame → List ℕ
 frameValues x = x .name ∷ x .place ∷ x .size ∷ []
@@ -201,6 +208,15 @@ about (correctTitle i text) = record {
   refusals = ofReader ++ title.refusals;
   tables = ofWritten (λ g. g);
   buffers = λ ls. copied (size ls 2) (λ g. g) ∷ [];
+}
+about mendHeader = record {
+  Answer = mend.Mended;
+  asks = λ ls. ofBytes (mend.mend (limits (size ls 0) (size ls 1)) (size ls 2) (size ls 3));
+  values = mendedValues;
+  number = 2;
+  refusals = ofReader ++ mend.refusals;
+  tables = ofWritten (λ m. m .copy);
+  buffers = λ ls. copied (size ls 2) (λ m. m .copy) ∷ filled (size ls 3) (λ m. room.padded (size ls 3) (m .lines)) ∷ [];
 }
 about (toUtf8 units) = dataIntoRoom (unicode.toUtf8 units) unicode.refusals
 about (toUtf16 text) = dataIntoRoom (unicode.toUtf16 text) unicode.refusals
@@ -360,8 +376,8 @@ LieApart = (ls : Sizes) (f : List ℕ) (h : Header) (ns : List Node) (is : List 
 -- ---- Demand 3. Two files of equal length, the first accepted with the tables lent, alike but for data bytes of its hidden contents in custom fields or in
 -- standard fields other than 0, 3 and 13, inline data of its file nodes, and bytes outside header, tree and detached nodes: the second is accepted too, every
 -- question leaves the same of both, to the last word and byte, and the part that the second call of resolve gives, whose place is the third word of
--- resolve's answer, differs only where the files do, also where it is copied. The file that the correction of a title writes holds the file's hidden bytes, so for two files alike but
--- for those the answer, the tables and the length agree, and the written files differ at private places of the first of them alone.
+-- resolve's answer, differs only where the files do, also where it is copied. The file that the correction of a title writes, and the copy whose header is mended, hold the file's
+-- hidden bytes, so for two files alike but for those the answer, the lines, the tables and the length agree, and the written files differ at private places of the first of them alone.
 
 -- two parts of equal length, which stand in the files f and g at the same place, differ only where the files do
 abbrev pub OnlyThere : (f g : List ℕ) (place : ℕ) (x y : List ℕ) → Type 0
@@ -419,6 +435,66 @@ pub record Correction (i : ℕ) (text : List ℕ) (ls : Sizes) (f g : List ℕ) 
 
 abbrev pub Corrects : Type 0
 Corrects = (i : ℕ) (text : List ℕ) (ls : Sizes) (f : List ℕ) (n : ℕ) → outcome (correctTitle i text) ls f .answer ≡ 0 ∷ 0 ∷ n ∷ [] → Correction i text ls f (newFile (outcome (correctTitle i text) ls f))
+
+-- ---- Mending the header (02, E11). The fields FileLength and TreeEnd are wrong; `mended f` is f with the number of bytes lent in the one and the place of the root's last byte in the
+-- other, in the bytes that they have, and `changes f` is a line for each that changed.
+
+-- both can be read as numbers, and some values of them, which their bytes hold, make a file that is accepted with the tables lent
+pub record Mendable (ls : Sizes) (f : List ℕ) : Type 0 where
+  pub read : Fields
+  pub next : ℕ
+  pub reads-so : run (fields (length f)) f 0 ≡ ok read next
+  pub a : ℕ
+  pub b : ℕ
+  pub hold : Hold read a b
+  pub accepted : Accepted ls (setTo f read a b)
+
+-- what is left by a call that wrote this copy and these lines
+abbrev pub wroteCopy : Sizes → (copy lines : List ℕ) → Outcome
+wroteCopy ls g l = record {
+  answer = 0 ∷ 0 ∷ length g ∷ length l ∷ [];
+  holds = nodeTable (size ls 0) (reads ls g) ∷ itemTable (size ls 1) (reads ls g) ∷ room.padded (size ls 2) g ∷ room.padded (size ls 3) l ∷ [];
+}
+
+-- Then the mended file is accepted, and is the only one that such values give; it differs from f at the two fields alone. With room for it and for its lines the call leaves them, and
+-- otherwise it is refused with 22. And mending again changes nothing and gives no line.
+pub record Mends (ls : Sizes) (f : List ℕ) (w : Fields) : Type 0 where
+  pub accepted : Accepted ls (mended f)
+  pub right : (mended f ≡ setTo f w (length f) (lastOf f w)) × Hold w (length f) (lastOf f w)
+  pub only : (a b : ℕ) → Hold w a b → Accepted ls (setTo f w a b) → setTo f w a b ≡ mended f
+  pub same-length : length (mended f) ≡ length f
+  pub elsewhere : (k : ℕ) → Elsewhere w k → getD (mended f) k 0 ≡ getD f k 0
+  pub written : length f ≤ size ls 2 → length (changes f) ≤ size ls 3 → outcome mendHeader ls f ≡ wroteCopy ls (mended f) (changes f)
+  pub short : (size ls 2 < length f) ⊎ (size ls 3 < length (changes f)) → outcome mendHeader ls f .answer ≡ noRoom ∷ 0 ∷ []
+  pub again : length f ≤ size ls 2 → outcome mendHeader ls (mended f) ≡ wroteCopy ls (mended f) []
+
+-- Otherwise it is refused, as the unchanged file is. So apart from room it is refused exactly when either field cannot be read or no values of them make an accepted file.
+abbrev pub RefusedAsIs : Sizes → (file : List ℕ) → Type 0
+RefusedAsIs ls f = (n : ℕ) × (p : ℕ) × (reads ls f ≡ refusal n p) × (outcome mendHeader ls f .answer ≡ n ∷ p ∷ [])
+
+abbrev pub MendsExactly : Type 0
+MendsExactly = (ls : Sizes) (f : List ℕ) → ((m : Mendable ls f) × Mends ls f (m .read)) ⊎ ((Mendable ls f → ⊥) × RefusedAsIs ls f)
+
+-- A file of bytes that is accepted is mended to itself, with no line; and whatever values, which their bytes hold, were written over its two fields, to the very file. A field that says
+-- what is right keeps its bytes: setting it to that changes nothing.
+pub record Restored (ls : Sizes) (g : List ℕ) (w : Fields) : Type 0 where
+  pub itself : length g ≤ size ls 2 → outcome mendHeader ls g ≡ wroteCopy ls g []
+  pub back : (a b : ℕ) → Hold w a b → let f : List ℕ = setTo g w a b in length g ≤ size ls 2 → length (changes f) ≤ size ls 3 → outcome mendHeader ls f ≡ wroteCopy ls g (changes f)
+
+abbrev pub MendsBack : Type 0
+MendsBack = (ls : Sizes) (g : List ℕ) → Bytes g → Accepted ls g → (w : Fields) (next : ℕ) → run (fields (length g)) g 0 ≡ ok w next → Restored ls g w
+
+abbrev pub KeepsRight : Type 0
+KeepsRight = (f : List ℕ) → Bytes f → (w : Fields) (next : ℕ) → run (fields (length f)) f 0 ≡ ok w next → (withField f (w .length) (w .length .value) ≡ f) × (withField f (w .last) (w .last .value) ≡ f)
+
+-- Demand 3 of files that are mended: where two files differ at private places of the first one's mended file alone, the answer, the lines and the tables agree, and the copies differ
+-- exactly where the files do.
+abbrev pub ExactlyThere : (f g x y : List ℕ) → Type 0
+ExactlyThere f g x y = (length x ≡ length y) × ((k : ℕ) → k < length x → (getD f k 0 ≡ getD g k 0 → getD x k 0 ≡ getD y k 0) × (getD x k 0 ≡ getD y k 0 → getD f k 0 ≡ getD g k 0))
+
+abbrev pub MendsAlike : Type 0
+MendsAlike = (ls : Sizes) (f g : List ℕ) (h : Header) (ns : List Node) (is : List Item) → reads ls (mended f) ≡ rows h ns is → DifferInPrivate h ns is f g
+    → OutcomesAlike (about mendHeader) ls f g (outcome mendHeader ls f) (outcome mendHeader ls g) × ExactlyThere f g (newFile (outcome mendHeader ls f)) (newFile (outcome mendHeader ls g))
 
 -- ---- The two conversions of text (02, E6). Going there and back returns the same units, and back and there the same bytes, but for one leading mark, which is
 -- FE FF in the one and EF BB BF in the other: where the first conversion is answered, and the room for the second is as large as what was given, the second is answered.

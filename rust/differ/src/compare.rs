@@ -1,6 +1,7 @@
-//! Comparing two readers on a case, a text, a sheet or a title, and two files of a pair on one reader.
+//! Comparing two readers on a case, a text, a sheet, a title or a header, and two files of a pair on one reader.
 
 use crate::buffers::{Buffers, Noise};
+use crate::mends::Bench;
 use crate::readers::{account_plain, account_proved, Sums};
 use crate::readers::{ask_plain, ask_proved, ask_words, resource_proved};
 use crate::readers::{convert_plain, convert_proved, convert_words};
@@ -11,6 +12,7 @@ use crate::titles::{private, says, Desk};
 use generate::cases::{ALL_ROOM, KINDS};
 use generate::descriptions::Described;
 use generate::encode::PRIVATE_KINDS;
+use generate::mends::{fields, mend_pair, Mend};
 use generate::model::Field;
 use generate::sheets::Sheet;
 use generate::tags::Tag;
@@ -33,6 +35,8 @@ const ACCOUNT: &str = "Account";
 const MOST_SUMMED: u64 = 1_100;
 /// The correction of a title, in reports.
 const TITLE: &str = "Title";
+/// The mending of a header, in reports.
+const MEND: &str = "Mend";
 /// The walk of a tag, in reports.
 const TAG: &str = "Tag";
 /// The mover of sheets, in reports.
@@ -75,6 +79,14 @@ pub struct Comparer {
     pub titles: [u64; 39],
     /// How many pairs have a title corrected, and how many of those results differ.
     pub title_pairs: [u64; 2],
+    /// For each refusal number, how many files are refused so when they are mended; at 0 how many are
+    /// mended.
+    pub mends: [u64; 25],
+    /// How many mended files have no line, and how many are what they were before.
+    pub unchanged: u64,
+    pub restored: u64,
+    /// How many pairs are mended, and how many of those copies differ.
+    pub mend_pairs: [u64; 2],
 }
 
 /// Two values that should be equal.
@@ -108,6 +120,10 @@ impl Comparer {
             accounts: [0; 33],
             titles: [0; 39],
             title_pairs: [0; 2],
+            mends: [0; 25],
+            unchanged: 0,
+            restored: 0,
+            mend_pairs: [0; 2],
         }
     }
 
@@ -604,6 +620,123 @@ impl Comparer {
         Ok(())
     }
 
+    /// Mends a header by both readers, with the same values lent, and once more with an answer buffer of
+    /// 0 to 16 words. The copy must differ from the file at the two fields only, and be read into the
+    /// same tables; it must be what the file was before its fields were overwritten, if that is read;
+    /// and mending it again must change nothing and give no line.
+    pub fn mend(&mut self, mend: &Mend, number: u64) -> Result<(), Difference> {
+        let bench = Bench::new(&mend.lent, mend.space);
+        let mut benches = [bench.clone(), bench.clone(), bench];
+        let [first, second, third] = &mut benches;
+        let proved = first.proved(&mend.file);
+        let plain = second.plain(mend);
+        let words = (number % (MOST_ANSWER_WORDS + 1)) as usize;
+        let mut answer = [MARK; MOST_ANSWER_WORDS as usize + ANSWER_GUARD];
+        third.words(&mend.file, &mut answer[..words]);
+
+        self.mends[plain[0] as usize] += 1;
+        self.answer(MEND, &proved, &plain)?;
+        self.answer(MEND, &answer, &fitted(&plain, words))?;
+        let [first, second, third] = &benches;
+        self.benches(first, second)?;
+        self.benches(first, third)?;
+        if !first.are_guards_kept(mend.lent.stale) {
+            return Err(mend_difference(NOT_LENT.to_string()));
+        }
+        let mut rows = Bench::new(&mend.lent, mend.space);
+        let was_read = rows.reads(&mend.before);
+        // a file that is read, whose two fields have the bytes that they had: only their values were overwritten
+        let is_known = was_read && fields(&mend.before) == fields(&mend.file);
+        if proved[0] != 0 {
+            if is_known && proved[0] != 22 {
+                return Err(mend_difference("a file is not mended back".to_string()));
+            }
+            return Ok(());
+        }
+        let copy = &first.copy[..proved[2] as usize];
+        self.count(copy.len());
+        if is_known {
+            equal(MEND, "file before", copy, &mend.before)?;
+            self.restored += 1;
+        }
+        self.unchanged += u64::from(proved[3] == 0);
+        if (proved[3] == 0) != (copy == mend.file) {
+            return Err(mend_difference(
+                "the lines do not tell of a change".to_string(),
+            ));
+        }
+        let places = fields(&mend.file).ok_or_else(|| mend_difference("no fields".to_string()))?;
+        let differs = |at: &usize| copy[*at] != mend.file[*at];
+        if (0..copy.len())
+            .filter(differs)
+            .any(|at| places.iter().all(|field| !field.contains(&at)))
+        {
+            return Err(mend_difference("another byte has changed".to_string()));
+        }
+        if !rows.reads(copy) {
+            return Err(mend_difference("the copy is not read".to_string()));
+        }
+        self.count(rows.nodes.len() + rows.items.len());
+        equal(MEND, "node table of the copy", &first.nodes, &rows.nodes)?;
+        equal(MEND, "item table of the copy", &first.items, &rows.items)?;
+
+        let mut again = Bench::new(&mend.lent, 0);
+        let answer = again.proved(copy);
+        let length = copy.len();
+        self.count(length);
+        equal(MEND, "answer", &answer[..4], &[0, 0, length as u64, 0])?;
+        equal(MEND, "file mended again", copy, &again.copy[..length])
+    }
+
+    /// Mends both files of a pair, with their fields overwritten in the same way, by the proved reader: the
+    /// answers, the lines and the tables must be equal, and the copies differ exactly where the files do.
+    pub fn mend_pair(&mut self, pair: &Pair, seed: u64, number: u64) -> Result<(), Difference> {
+        let [left, right] = mend_pair(pair, seed, number);
+        let lent = Lent {
+            room: left.len() + number as usize % 3,
+            ..pair.lent
+        };
+        let mut benches = [Bench::new(&lent, 80), Bench::new(&lent, 80)];
+        let [first, second] = &mut benches;
+        let answer = first.proved(&left);
+        self.answer(MEND, &answer, &second.proved(&right))?;
+        let [first, second] = &benches;
+        self.count(first.nodes.len() + first.items.len() + first.lines.len());
+        equal(MEND, "node table", &first.nodes, &second.nodes)?;
+        equal(MEND, "item table", &first.items, &second.items)?;
+        equal(MEND, "lines", &first.lines, &second.lines)?;
+        if answer[0] != 0 {
+            self.count(first.copy.len());
+            return equal(MEND, "copy", &first.copy, &second.copy);
+        }
+        let length = answer[2] as usize;
+        self.count(length);
+        let there: Vec<bool> = (0..length).map(|at| left[at] != right[at]).collect();
+        let copies: Vec<bool> = (0..length)
+            .map(|at| first.copy[at] != second.copy[at])
+            .collect();
+        equal(MEND, "places where the copies differ", &there, &copies)?;
+        equal(
+            MEND,
+            "bytes behind the copy",
+            &first.copy[length..],
+            &second.copy[length..],
+        )?;
+        self.mend_pairs[0] += 1;
+        self.mend_pairs[1] += u64::from(first.copy != second.copy);
+        Ok(())
+    }
+
+    /// Compares the tables and the buffers that two calls of mending leave.
+    fn benches(&mut self, first: &Bench, second: &Bench) -> Result<(), Difference> {
+        self.count(first.nodes.len() + first.items.len());
+        equal(MEND, "node table", &first.nodes, &second.nodes)?;
+        equal(MEND, "item table", &first.items, &second.items)?;
+        self.count(first.copy.len() + first.lines.len());
+        equal(MEND, "copy", &first.copy, &second.copy)?;
+        equal(MEND, "lines", &first.lines, &second.lines)
+    }
+
     /// Compares the tables and the room that two calls leave.
     fn desks(&mut self, first: &Desk, second: &Desk) -> Result<(), Difference> {
         for (left, right) in first.tables().iter().zip(second.tables()) {
@@ -664,6 +797,14 @@ fn counted(number: u64) -> [u64; 2] {
 fn title_difference(what: String) -> Difference {
     Difference {
         asked: TITLE.to_string(),
+        what,
+    }
+}
+
+/// A difference in the mending of a header.
+fn mend_difference(what: String) -> Difference {
+    Difference {
+        asked: MEND.to_string(),
         what,
     }
 }

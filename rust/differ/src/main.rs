@@ -25,13 +25,20 @@
 //! back: its rows must be those in the tables, and it must say what the file says but for that data. The
 //! same title is written into it once more, which must change nothing.
 //!
+//! It mends the header of a generated file, whose FileLength and TreeEnd are overwritten, by both readers
+//! and compares the answers, both tables and each byte of both buffers. The copy must be what the file
+//! was before, if that is read, and must differ from the file at the two fields only; mending it again
+//! must change nothing and give no line.
+//!
 //! Then it takes PAIRS pairs of files, from number FIRST on (a tenth of the number of cases when
 //! nothing is said). The files of a pair differ at private places only: in hidden data, in inline
 //! data of file nodes, and outside header, tree and detached nodes. It asks the proved reader all
 //! questions about both, with different contents of tables and buffers before, and compares in
 //! the same way. A resource must be the part of its file that the answer names, and this place and
 //! length are the same for both files. It counts their bytes by kind. It corrects a title of both, with equal answers and tables; the
-//! results may differ at private places of the first only.
+//! results may differ at private places of the first only. And it mends the headers of both, overwritten in
+//! the same way: the answers, the lines and the tables are equal, and the copies differ exactly where the
+//! files do.
 //!
 //! Before all that it compares the readers on the samples and their padded copies: each of them, each
 //! of its cuts, each file that differs from it in one byte, and two very long files. Then on some
@@ -42,11 +49,13 @@
 mod buffers;
 mod changed;
 mod compare;
+mod mends;
 mod readers;
 mod titles;
 
 use compare::{Comparer, Difference};
 use generate::descriptions::{self, Described};
+use generate::mends::{mend, Mend};
 use generate::model::Field;
 use generate::sheets::{sheet, Sheet};
 use generate::tags::{self, Tag};
@@ -167,6 +176,14 @@ fn compare_cases(comparer: &mut Comparer, cases: u64, seed: u64, first: u64) -> 
         comparer.tag(&tag, number).map_err(|difference| {
             tag_report(&format!("tag {number} of seed {seed}"), &tag, &difference)
         })?;
+        let mend = mend(seed, number);
+        comparer.mend(&mend, number).map_err(|difference| {
+            mend_report(
+                &format!("mended file {number} of seed {seed}"),
+                &mend,
+                &difference,
+            )
+        })?;
         let title = title(seed, number);
         comparer.title(&title, number).map_err(|difference| {
             title_report(
@@ -196,6 +213,7 @@ fn compare_pairs(comparer: &mut Comparer, pairs: u64, seed: u64, first: u64) -> 
         comparer
             .title_pair(&pair, number)
             .and_then(|()| comparer.account_pair(&pair, number))
+            .and_then(|()| comparer.mend_pair(&pair, seed, number))
             .map_err(|difference| {
                 pair_report(&format!("pair {number} of seed {seed}"), &pair, &difference)
             })?;
@@ -213,6 +231,8 @@ fn compare_pairs(comparer: &mut Comparer, pairs: u64, seed: u64, first: u64) -> 
     );
     let [corrected, differ] = comparer.title_pairs;
     println!("pairs with a title corrected: {corrected}, with results that differ: {differ}");
+    let [mended, differ] = comparer.mend_pairs;
+    println!("pairs mended: {mended}, with copies that differ: {differ}");
     Ok(())
 }
 
@@ -254,6 +274,13 @@ fn print_counts(comparer: &Comparer) {
         "titles: {} corrected; refused, by number: {}",
         comparer.titles[0],
         by_number(&comparer.titles)
+    );
+    println!(
+        "headers: {} mended, {} of them with no line, {} to what the file was before; refused, by number: {}",
+        comparer.mends[0],
+        comparer.unchanged,
+        comparer.restored,
+        by_number(&comparer.mends)
     );
 }
 
@@ -329,6 +356,18 @@ fn title_report(name: &str, title: &Title, difference: &Difference) -> String {
         title.lent,
         hex(&title.file),
         hex(&title.data)
+    )
+}
+
+/// Tells a difference between the readers on a file that is mended.
+fn mend_report(name: &str, mend: &Mend, difference: &Difference) -> String {
+    let Difference { what, .. } = difference;
+    format!(
+        "difference in {name}, proved and plain\n{what}\nbytes for lines {}, {:?}\nfile: {}\nbefore: {}\n",
+        mend.space,
+        mend.lent,
+        hex(&mend.file),
+        hex(&mend.before)
     )
 }
 

@@ -238,6 +238,14 @@ pub fn counted(written: Result<usize, (u64, u64)>) -> Answer {
     }
 }
 
+/// The words of the bytes of a copy and of its lines, or of a refusal's number and place.
+pub fn mended(written: Result<[usize; 2], (u64, u64)>) -> Answer {
+    match written {
+        Ok([copy, lines]) => words(&[copy as u64, lines as u64]),
+        Err((number, place)) => refused(number, place),
+    }
+}
+
 /// Converts by the proved function.
 pub fn convert_proved(text: &Text, room: &mut [u8]) -> Answer {
     let converted = match text.into {

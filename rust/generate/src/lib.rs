@@ -5,6 +5,7 @@
 //! [`large_resource`] make the largest files, [`folders_file`] makes files of growing size,
 //! [`texts::text`] makes a text to be converted, [`sheets::sheet`] makes a sheet to be moved, [`tags::tag`] makes an ID3 tag,
 //! [`titles::title`] and [`titles::folders_title`] make files whose title is to be corrected,
+//! [`mends::mend`] makes a file whose header is to be mended,
 //! [`descriptions::description`] makes a file with a content description, and [`timed::all`] makes the
 //! files that are timed. The modules hold the parts they are
 //! made of.
@@ -13,6 +14,7 @@ pub mod cases;
 pub mod damage;
 pub mod descriptions;
 pub mod encode;
+pub mod mends;
 pub mod mobile;
 pub mod model;
 pub mod random;

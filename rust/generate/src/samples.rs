@@ -35,6 +35,7 @@ fn with_widths(widths: Widths) -> Vec<(&'static str, Vec<u8>)> {
         ("detached.xmf", encode(&detached_file(widths)).bytes),
         ("unicode.xmf", encode(&unicode_file(widths)).bytes),
         ("cut.xmf", cut(widths)),
+        ("mendable.xmf", mendable(widths)),
         ("header.xmf", long_header(widths)),
         ("type.xmf", undeclared_type(widths)),
         ("versions000.xmf", encode(&listed_file(widths)).bytes),
@@ -158,6 +159,18 @@ fn unicode_file(widths: Widths) -> File {
 fn cut(widths: Widths) -> Vec<u8> {
     let mut bytes = encode(&worked_file(widths)).bytes;
     bytes.pop();
+    bytes
+}
+
+/// The worked file with a FileLength and a TreeEnd that are too great.
+fn mendable(widths: Widths) -> Vec<u8> {
+    let file = worked_file(widths);
+    let mut bytes = encode(&file).bytes;
+    for (kind, more) in [(MarkKind::FileLength, 1), (MarkKind::TreeEnd, 5)] {
+        let mark = last(&file, kind);
+        let wrong = padded_bytes(mark.value + more, mark.size);
+        bytes[mark.place..][..mark.size].copy_from_slice(&wrong);
+    }
     bytes
 }
 

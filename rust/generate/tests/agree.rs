@@ -9,8 +9,10 @@ use generate::random::Random;
 use generate::sheets;
 use generate::texts::{text, Into, Text};
 use generate::titles::{title, Title, BORDERS, LENGTHS};
-use generate::{case, large_file, large_resource, mobile, pair, samples, shapes, Lent};
-use plain::{correct_title, find, judge, read_tree, resolve, resource, voice_count, write_sheet};
+use generate::{case, large_file, large_resource, mends, mobile, pair, samples, shapes, Lent};
+use plain::{
+    correct_title, find, judge, mend, read_tree, resolve, resource, voice_count, write_sheet,
+};
 use plain::{item, node, Field, Refusal};
 use plain::{move_sheet, write_sheet2};
 use plain::{utf16_to_utf8, utf8_to_utf16};
@@ -505,6 +507,7 @@ fn samples_have_their_answers() {
     let refused = |number, place| Err(Refusal { number, place });
     let refusal = |name| sheet(&sample(samples::all(), name));
     assert_eq!(refusal("cut.xmf"), refused(5, 16));
+    assert_eq!(refusal("mendable.xmf"), refused(5, 16));
     assert_eq!(refusal("header.xmf"), refused(8, 29));
     assert_eq!(
         refusal("type.xmf").map_err(|refusal| refusal.number),
@@ -689,6 +692,61 @@ fn titles_are_corrected_or_refused() {
         "{borders:?}"
     );
     assert!(shorter > 50);
+}
+
+#[test]
+fn headers_are_mended_or_refused() {
+    let mended = |file: &[u8], lent: &Lent, space: usize| {
+        let (mut nodes, mut items) = (lent.nodes(), lent.items());
+        let (mut copy, mut lines) = (lent.sheet(), vec![0xEE; space]);
+        let written = mend(file, &mut nodes, &mut items, &mut copy, &mut lines);
+        let [length, told] = written.unwrap_or_default();
+        assert!(copy[length..]
+            .iter()
+            .chain(&lines[told..])
+            .all(|&byte| byte == 0));
+        if written.is_err() {
+            assert!(nodes.iter().chain(&items).all(|&word| word == 0));
+        }
+        copy.truncate(length);
+        lines.truncate(told);
+        written.map(|_| (copy, lines))
+    };
+    let lent = Lent::full();
+    assert_eq!(
+        mended(&sample(samples::all(), "mendable.xmf"), &lent, 80),
+        Ok((
+            WORKED.to_vec(),
+            b"FileLength\t16\t57\t56\nTreeEnd\t20\t60\t55\n".to_vec()
+        ))
+    );
+    assert_eq!(mended(&WORKED, &lent, 0), Ok((WORKED.to_vec(), Vec::new())));
+    let cut = mended(&sample(samples::all(), "cut.xmf"), &lent, 80);
+    assert_eq!(cut.map_err(|refusal| refusal.number), Err(5));
+
+    let (mut restored, mut refusals) = (0, [0; 25]);
+    for number in 0..3000 {
+        let made = mends::mend(SEED, number);
+        let was_read = read_tree(&made.before, &mut made.lent.nodes(), &mut made.lent.items());
+        match mended(&made.file, &made.lent, made.space) {
+            Ok((copy, lines)) => {
+                assert_eq!(lines.is_empty(), copy == made.file, "file {number}");
+                // the two fields have the bytes that they had: only their values were overwritten
+                let are_same = mends::fields(&made.before) == mends::fields(&made.file);
+                if was_read.is_ok() && are_same {
+                    assert_eq!(copy, made.before, "file {number}");
+                    restored += 1;
+                }
+                let again = mended(&copy, &made.lent, 0);
+                assert_eq!(again, Ok((copy, Vec::new())), "file {number}");
+            }
+            Err(refusal) => refusals[refusal.number as usize] += 1,
+        }
+    }
+    assert!(restored > 500, "{restored}");
+    for number in [1, 3, 4, 5, 7, 8, 10, 11, 22] {
+        assert!(refusals[number] > 0, "{refusals:?}");
+    }
 }
 
 #[test]

@@ -5,15 +5,16 @@
 //! [`resource`] for its bytes), judge Mobile XMF ([`judge`]) and write the support sheet
 //! ([`write_sheet`], or [`write_sheet2`] in its second edition). It moves a sheet from one edition to the
 //! other ([`move_sheet`]). It gives what a tune needs, as a content description says ([`voice_count`]). It counts where the bytes of a file go
-//! ([`account`]). It writes a file anew with a title corrected ([`correct_title`]). And it converts
+//! ([`account`]). It writes a file anew with a title corrected ([`correct_title`]), and copies one with its
+//! header mended ([`mend`]). And it converts
 //! texts from UTF-16 into UTF-8 ([`utf16_to_utf8`]) and back ([`utf8_to_utf16`]). It walks an ID3
 //! tag ([`frame_count`], [`frame`]).
 //!
 //! Each question takes the file and two lent tables of words, one for node rows and one for item
 //! rows, of any size and whatever they hold before. It reads the file afresh. After an answer the
 //! tables hold the file's rows (those of the new file, where one is written), and zeros past the last
-//! row; after a refusal they hold zeros only. Nothing is allocated but for a corrected title, a moved
-//! sheet and the kinds of bytes.
+//! row; after a refusal they hold zeros only. Nothing is allocated but for a corrected title, a mended
+//! file, a moved sheet and the kinds of bytes.
 //!
 //! Every place is counted from the file's first byte.
 
@@ -21,6 +22,7 @@ mod account;
 mod cursor;
 mod description;
 mod id3;
+mod mend;
 mod mover;
 mod questions;
 mod sheet;
@@ -424,6 +426,39 @@ pub fn correct_title(
     let length = written?;
     read_tree(&out[..length], nodes, items).expect("what has been written can be read");
     Ok(length)
+}
+
+/// Copies a file into lent room with FileLength and TreeEnd set right, in the bytes that they have, and
+/// writes a line for each that changed into another: its name, its place, its old and its new value. The
+/// answer is the number of bytes of each.
+///
+/// The tables hold the mended file's rows. Bytes past what is written are 0; after a refusal all are.
+///
+/// Refused, as the unchanged file is, when no values of the two, in their bytes, make a file that is
+/// accepted with these tables; with 22 when either room is too short.
+pub fn mend(
+    file: &[u8],
+    nodes: &mut [u64],
+    items: &mut [u64],
+    copy: &mut [u8],
+    lines: &mut [u8],
+) -> Result<[usize; 2], Refusal> {
+    copy.fill(0);
+    lines.fill(0);
+    let mended = mend::mended(file);
+    let mended = mended.filter(|(mended, _)| read_tree(mended, nodes, items).is_ok());
+    let Some((mended, told)) = mended else {
+        let refusal = read_tree(file, nodes, items).map(|_| ());
+        return Err(refusal.expect_err("a file that is accepted is mended to itself"));
+    };
+    if copy.len() < mended.len() || lines.len() < told.len() {
+        nodes.fill(0);
+        items.fill(0);
+        return Err(Refusal::at(22, 0));
+    }
+    copy[..mended.len()].copy_from_slice(&mended);
+    lines[..told.len()].copy_from_slice(&told);
+    Ok([mended.len(), told.len()])
 }
 
 /// Converts UTF-16, high byte first, into UTF-8 in lent room, and answers the number of bytes written.

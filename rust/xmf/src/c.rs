@@ -170,6 +170,23 @@ extern "C" {
         answer_words: usize,
     );
 
+    /// Copies the file with its header's two fields set right. Answer: bytes of the copy, bytes of the
+    /// lines.
+    pub fn xmf_mend(
+        file: *const u8,
+        file_length: usize,
+        nodes: *mut u64,
+        node_words: usize,
+        items: *mut u64,
+        item_words: usize,
+        copy: *mut u8,
+        copy_length: usize,
+        lines: *mut u8,
+        lines_length: usize,
+        answer: *mut u64,
+        answer_words: usize,
+    );
+
     /// Converts UTF-16, high byte first, into UTF-8. Answer: bytes written.
     pub fn xmf_utf16_to_utf8(
         data: *const u8,

@@ -10,6 +10,7 @@
 //! | count where the bytes go, and sum over files | [`account`] |
 //! | write the support sheet, or its second edition | [`write_sheet`], [`write_sheet2`] |
 //! | correct a title | [`correct_title`] |
+//! | mend a header | [`mend`] |
 //!
 //! Three more functions take no file: [`utf16_to_utf8`] and [`utf8_to_utf16`] convert a text, and
 //! [`move_sheet`] moves a sheet from one edition to the other. [`id3_count`] and [`id3_frame`] walk an
@@ -18,7 +19,7 @@
 //! Each question takes the file and two lent tables of words, one for node rows and one for item
 //! rows, of any size and whatever they hold before. It reads the file afresh. After an answer the
 //! tables hold the file's rows, and zeros past the last row. After a refusal they hold zeros only.
-//! [`correct_title`] writes a file, and the tables then hold the rows of that one.
+//! [`correct_title`] and [`mend`] write a file, and the tables then hold the rows of that one.
 //! Nothing is allocated and nothing panics.
 //!
 //! Every place is counted from the file's first byte.
@@ -586,6 +587,59 @@ pub fn correct_title(
     words::correct_title(file, nodes, items, item_row, title, out, &mut answer);
     let [written] = values(answer)?;
     Ok(written as usize)
+}
+
+/// What was written of a mended file.
+#[derive(Clone, Copy, Debug, PartialEq, Eq)]
+pub struct Mended {
+    /// The number of bytes of the copy, which is that of the file.
+    pub copy: usize,
+    /// The number of bytes of the lines; 0 when nothing was changed.
+    pub lines: usize,
+}
+
+/// Copies the file into a lent buffer, with FileLength and TreeEnd set right in the bytes that they
+/// already have: FileLength to the number of bytes lent, TreeEnd to the place of the root's last byte.
+/// No other byte differs.
+///
+/// Another buffer gets one line, ended by 0Ah, for each field that changed, in file order: `FileLength`
+/// or `TreeEnd`, its place, its old and its new value, with tabs between. The tables hold the mended
+/// file's rows. Bytes of either buffer past what is written are 0; after a refusal all are. A file that
+/// is accepted as it is gives its copy and no line.
+///
+/// Refused, as the unchanged file is, when either field cannot be read as a number, or when no values of
+/// the two, in their bytes, make a file that is accepted with these tables; then with 22 for either
+/// buffer. A file whose bytes are missing cannot be mended.
+///
+/// The copy holds the hidden bytes of the file.
+///
+/// ```
+/// use xmf::{ALL_ITEM_WORDS, ALL_NODE_WORDS};
+///
+/// let worked = std::fs::read("../../samples/worked.xmf").unwrap();
+/// let mut file = worked.clone();
+/// file[16] = 5;
+/// let mut nodes = vec![0; ALL_NODE_WORDS];
+/// let mut items = vec![0; ALL_ITEM_WORDS];
+/// let (mut copy, mut lines) = (vec![0; file.len()], [0; 100]);
+/// let mended = xmf::mend(&file, &mut nodes, &mut items, &mut copy, &mut lines).unwrap();
+/// assert_eq!(copy, worked);
+/// assert_eq!(&lines[..mended.lines], b"FileLength\t16\t5\t56\n");
+/// ```
+pub fn mend(
+    file: &[u8],
+    nodes: &mut [u64],
+    items: &mut [u64],
+    copy: &mut [u8],
+    lines: &mut [u8],
+) -> Result<Mended, Refusal> {
+    let mut answer = [0; 4];
+    words::mend(file, nodes, items, copy, lines, &mut answer);
+    let [copy, lines] = values(answer)?;
+    Ok(Mended {
+        copy: copy as usize,
+        lines: lines as usize,
+    })
 }
 
 /// Converts UTF-16, high byte first, into UTF-8 in a lent buffer, and answers the number of bytes

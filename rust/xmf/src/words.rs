@@ -187,6 +187,27 @@ pub fn correct_title(
     ))
 }
 
+/// Copies the file with FileLength and TreeEnd set right, and writes a line for each that changed.
+/// Values: bytes of the copy, bytes of the lines.
+pub fn mend(
+    file: &[u8],
+    nodes: &mut [u64],
+    items: &mut [u64],
+    copy: &mut [u8],
+    lines: &mut [u8],
+    answer: &mut [u64],
+) {
+    let (room, length) = (copy.as_mut_ptr(), copy.len());
+    let (text, text_length) = (lines.as_mut_ptr(), lines.len());
+    ask!(xmf_mend(
+        file,
+        nodes,
+        items,
+        [room, length, text, text_length],
+        answer
+    ))
+}
+
 /// Converts by a function of the C interface: what is given, the room, answer.
 macro_rules! convert {
     ($conversion:ident($given:ident, $room:ident, $answer:ident)) => {

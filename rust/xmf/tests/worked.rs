@@ -191,6 +191,44 @@ fn a_title_is_corrected() {
     }
 }
 
+#[test]
+fn a_header_is_mended() {
+    let (mut nodes, mut items) = tables();
+    let mut file = WORKED.to_vec();
+    (file[16], file[20]) = (57, 60);
+    let (mut copy, mut lines) = ([7; 60], [7; 40]);
+    let mended = xmf::mend(&file, &mut nodes, &mut items, &mut copy, &mut lines).unwrap();
+    assert_eq!(&copy[..mended.copy], WORKED);
+    assert_eq!(
+        &lines[..mended.lines],
+        b"FileLength\t16\t57\t56\nTreeEnd\t20\t60\t55\n"
+    );
+    let behind = copy[mended.copy..].iter().chain(&lines[mended.lines..]);
+    assert!(behind.copied().all(|byte| byte == 0));
+    // The tables hold the mended file's rows.
+    let (mut new_nodes, mut new_items) = tables();
+    xmf::read_tree(WORKED, &mut new_nodes, &mut new_items).unwrap();
+    assert_eq!((&nodes, &items), (&new_nodes, &new_items));
+    // Mending again changes nothing and gives no line.
+    let again = xmf::mend(WORKED, &mut nodes, &mut items, &mut copy, &mut []).unwrap();
+    assert_eq!(&copy[..again.copy], WORKED);
+    assert_eq!(again.lines, 0);
+
+    for (file, room, space, number, place) in [
+        (&file[..], 56, 36, 22, 0),
+        (&file, 55, 37, 22, 0),
+        (&file[..55], 0, 0, 5, 16),
+        (&WORKED[..7], 0, 0, 1, 0),
+    ] {
+        let (mut nodes, mut items) = tables();
+        let (mut copy, mut lines) = (vec![7; room], vec![7; space]);
+        let mended = xmf::mend(file, &mut nodes, &mut items, &mut copy, &mut lines);
+        assert_eq!(mended, refusal(number, place));
+        assert!(nodes.iter().chain(&items).all(|&word| word == 0));
+        assert!(copy.iter().chain(&lines).all(|&byte| byte == 0));
+    }
+}
+
 /// The bytes of the worked file by kind.
 const WORKED_KINDS: [u64; 9] = [21, 6, 17, 4, 2, 2, 2, 2, 0];
 /// Those of the file with detached nodes.

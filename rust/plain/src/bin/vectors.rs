@@ -4,7 +4,9 @@
 //! before each call, and what they hold afterwards is checked as well.
 
 use plain::{account, frame, frame_count, Totals};
-use plain::{correct_title, find, find_own, judge, read_tree, resolve, resource, voice_count};
+use plain::{
+    correct_title, find, find_own, judge, mend, read_tree, resolve, resource, voice_count,
+};
 use plain::{move_sheet, write_sheet, write_sheet2};
 use plain::{utf16_to_utf8, utf8_to_utf16};
 use plain::{Field, Refusal};
@@ -154,6 +156,24 @@ fn run(line: &str) -> Option<String> {
                 // the tables hold the new file's rows
                 file = out[..length].to_vec();
                 format!("ok {}", hex(&file))
+            })
+        }
+        "mend" => {
+            let mut copy = vec![0xEE; words.next()?.parse().ok()?];
+            let mut lines = vec![0xEE; words.next()?.parse().ok()?];
+            let written = mend(&file, &mut nodes, &mut items, &mut copy, &mut lines);
+            let [length, told] = written.unwrap_or_default();
+            if copy[length..]
+                .iter()
+                .chain(&lines[told..])
+                .any(|&byte| byte != 0)
+            {
+                return Some("a room isn't cleared".to_string());
+            }
+            written.map(|_| {
+                // the tables hold the mended file's rows
+                file = copy[..length].to_vec();
+                format!("ok {} {}", hex(&file), hex(&lines[..told]))
             })
         }
         _ => return None,

@@ -1,0 +1,12 @@
+pub mod Sets
+pub mod Bytes
+pub mod Parts
+pub mod Values
+pub mod Exact
+pub mod Agree
+pub mod Theorem
+pub mod Alike
+pub mod Listed
+pub mod Ways
+pub mod Exits
+pub mod Asked

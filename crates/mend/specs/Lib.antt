@@ -1,0 +1,4 @@
+pub mod Fields
+pub mod Mend
+pub mod Told
+pub mod Worked
