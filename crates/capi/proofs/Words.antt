@@ -9,7 +9,7 @@ use lib.Seq.{sets, take-all}
 use Rattle.cursor.specs.declared.Node.{Node}
 use Rattle.cursor.specs.declared.Item.{Item}
 use Rattle.header.specs.Header.{Header}
-use Rattle.room.specs.Room.{Result}
+use Rattle.room.specs.Room.{Result, counted, kept}
 use Rattle.room.proofs.Sets.{sets-zeros}
 use Rattle.tree.specs.Reading.{rows}
 use Rattle.tree.specs.Hidden.{DifferInPrivate}
@@ -18,10 +18,20 @@ use Rattle.account.specs.Told as accounted
 use Rattle.account.specs.Told.{told, totalsIn, kindWords, totalWords, totalsAfter, nodesAfter, itemsAfter}
 use Rattle.account.specs.declared.Totals.{Totals}
 use Rattle.account.specs.declared.Accounted.{Accounted}
-use Rattle.promises.specs.Promises.{Question, accountBytes, about, Outcome, saying, lent, reads, outcome, EachAlike}
+use Rattle.shelf.specs.Shelf.{Label}
+use Rattle.shelf.specs.Runs as runs
+use Rattle.shelf.specs.Runs.{Call, getting, next}
+use Rattle.shelf.specs.Words.{shelfOf, wordsWith}
+use Rattle.shelf.specs.Told.{toldOutcome, toldGot}
+use Rattle.shelf.specs.declared.Outcome as shelf
+use Rattle.shelf.specs.declared.Got.{Got}
+use Rattle.promises.specs.Promises.{Question, accountBytes, about, Outcome, saying, oneValue, lent, reads, outcome, EachAlike}
+use Rattle.promises.specs.Shelf as page
+use Rattle.promises.specs.Shelf.{Left, noValue, values, get-words}
 use Rattle.promises.specs.Calls.{Called, account}
 use Rattle.promises.proofs.Kept.{called, demand3}
-use Rattle.capi.specs.Fit.{fit, stored, asked, Leaves, totalsOf, LeavesTotals}
+use Rattle.promises.proofs.Shelf.{each-leaves}
+use Rattle.capi.specs.Fit.{fit, stored, asked, Leaves, totalsOf, LeavesTotals, LeavesShelf, LeavesSheet}
 
 -- ---- the words in the buffer
 
@@ -72,6 +82,28 @@ account-leaves {nodes} {items} {f} {answer′} {t} {u} totals answer r b k a s e
   leaves = subst (λ v. Leaves (accountBytes v) f (nodes ∷ items ∷ []) (t ∷ u ∷ totalWords (totalsIn r) ∷ []) answer answer′) b (leaves answer (account _ r (k .0) (k .1 .0) (k .1 .1 .0) (k .1 .1 .1)) e);
   in-totals = s ∙ ap (λ v. stored totals (totalWords v)) a;
 }
+
+-- ---- the shelf
+
+-- put and drop, which answer no value
+pub shelf-leaves : (c : Call) → values c ≡ noValue → {cards cards′ text text′ answer′ : List ℕ} (answer : List ℕ) (r : shelf.Outcome)
+    → (toldOutcome r ≡ runs.answer c (shelfOf cards text)) × ((cards′ ≡ wordsWith cards (next c (shelfOf cards text) .cards)) × (text′ ≡ next c (shelfOf cards text) .text))
+    → answer′ ≡ fit (length answer) (saying noValue (toldOutcome r)) → LeavesShelf c cards cards′ text text′ answer answer′
+unfolding page.leaves
+shelf-leaves c v {cards} {text = text} answer r k e = record {
+  answers = e ∙ ap (λ x. fit (length answer) (saying noValue x)) (k .0) ∙ ap (λ u. fit (length answer) (saying u (runs.answer c (shelfOf cards text)))) (sym v);
+  in-cards = k .1 .0;
+  in-text = k .1 .1;
+}
+
+-- get
+pub sheet-leaves : (l : Label) {cards text out′ answer′ : List ℕ} (out answer : List ℕ) (r : Got)
+    → (toldGot r ≡ counted (runs.answer (getting l (length out)) (shelfOf cards text))) × (out′ ≡ kept (length out) (runs.answer (getting l (length out)) (shelfOf cards text)))
+    → answer′ ≡ fit (length answer) (saying oneValue (toldGot r)) → LeavesSheet l cards text out out′ answer answer′
+unfolding page.leaves
+sheet-leaves l {cards} {text} out answer r k e =
+    let o = each-leaves _ _ _ (get-words cards text out l r (k .0) (k .1)) in
+    record { answers = e ∙ ap (λ (v : Left). fit (length answer) (v .answer)) o; in-buffer = ap (λ (v : Left). v .buffer) o }
 
 -- ---- demand 3 of two calls, whatever their tables and buffers held
 

@@ -1,4 +1,4 @@
--- What a call for C and Rust leaves: its question's outcome, the answer's words in a lent buffer.
+-- What a call for C and Rust leaves: its question's outcome, or what a call of the shelf leaves; the answer's words in a lent buffer.
 -- Assumes nothing.
 use mathlib.Core.Path.{_≡_}
 use mathlib.Core.List.{List, [], _∷_, map}
@@ -8,7 +8,11 @@ use lib.Seq.{sets}
 use Rattle.room.specs.Room.{padded}
 use Rattle.find.specs.Find.{Wanted, standard, custom}
 use Rattle.account.specs.declared.Totals.{Totals}
+use Rattle.shelf.specs.Shelf.{Label}
+use Rattle.shelf.specs.Runs.{Call, getting}
+use Rattle.shelf.specs.Words.{shelfOf, wordsWith}
 use Rattle.promises.specs.Promises.{Question, accountBytes, outcome}
+use Rattle.promises.specs.Shelf.{leaves}
 
 -- the words that a buffer of so many holds, and zeros to its end
 unfoldable pub fit : ℕ → List ℕ → List ℕ
@@ -51,3 +55,14 @@ pub record LeavesTotals (file nodes items nodes′ items′ totals totals′ ans
   pub words : List ℕ
   pub leaves : Leaves (accountBytes (totalsOf totals)) file (nodes ∷ items ∷ []) (nodes′ ∷ items′ ∷ words ∷ []) answer answer′
   pub in-totals : totals′ ≡ stored totals words
+
+-- a call that changes a shelf whose cards are words: the cards that are left are in the words of the old ones, and words that are no card stay
+pub record LeavesShelf (c : Call) (cards cards′ text text′ answer answer′ : List ℕ) : Type 0 where
+  pub answers : answer′ ≡ fit (length answer) (leaves c (shelfOf cards text) .answer)
+  pub in-cards : cards′ ≡ wordsWith cards (leaves c (shelfOf cards text) .shelf .cards)
+  pub in-text : text′ ≡ leaves c (shelfOf cards text) .shelf .text
+
+-- a call that gets a sheet from it into a buffer
+pub record LeavesSheet (l : Label) (cards text out out′ answer answer′ : List ℕ) : Type 0 where
+  pub answers : answer′ ≡ fit (length answer) (leaves (getting l (length out)) (shelfOf cards text) .answer)
+  pub in-buffer : out′ ≡ leaves (getting l (length out)) (shelfOf cards text) .buffer

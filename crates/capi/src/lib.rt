@@ -1,4 +1,4 @@
-// The questions and the conversions of text for C and Rust. Each slice passes as a pointer and a length. The last one is a lent buffer of words for the answer: refusal
+// The questions, the conversions of text and the shelf for C and Rust. Each slice passes as a pointer and a length. The last one is a lent buffer of words for the answer: refusal
 // number (0: none), place, then the answer's values, and zeros; a short buffer gets what fits.
 ghost use mathlib.Core.Path.{_≡_};
 ghost use mathlib.Core.List.{_∷_, []};
@@ -14,8 +14,12 @@ ghost use Rattle.mend.specs.Told as told_mend;
 ghost use Rattle.mend.specs.Told.{sizeWords};
 ghost use Rattle.room.specs.Told as told_room;
 ghost use Rattle.id3.specs.Told as told_tag;
+ghost use Rattle.shelf.specs.Shelf.{label};
+ghost use Rattle.shelf.specs.Runs.{putting, dropping};
+ghost use Rattle.shelf.specs.Told.{toldOutcome, toldGot};
 ghost use Rattle.promises.specs.Promises.{readTree, findItem, findOwn, resolveRow, copyResource, countFor, judgeMobile, writeSheet, writeSheet2, correctTitle, mendHeader, toUtf8, toUtf16, moveSheet, countFrames, tagFrame, saying, treeValues, itemValues, resourceValues, oneValue, frameValues};
-ghost use Rattle.capi.specs.Fit.{fit, stored, asked, Leaves, totalsOf, LeavesTotals};
+ghost use Rattle.promises.specs.Shelf.{noValue};
+ghost use Rattle.capi.specs.Fit.{fit, stored, asked, Leaves, totalsOf, LeavesTotals, LeavesShelf, LeavesSheet};
 use account::Accounted;
 use account::Kinds;
 use account::Totals;
@@ -27,6 +31,8 @@ use mend::Mending;
 use mobile::Judged;
 use resolve::Resolved;
 use room::Written;
+use shelf::Got;
+use shelf::Outcome;
 use tree::Answer;
 
 // Stores the words from the buffer's first word on, as many as fit.
@@ -278,6 +284,29 @@ fn put_frame(answer: &mut [u64], said: Framed)
     }
 }
 
+// No value: put and drop answer none.
+fn put_outcome(answer: &mut [u64], said: Outcome)
+    ensures { λ _. ⌜ now (answer .exit) ≡ fit (length (now (answer .entry))) (saying noValue (toldOutcome said)) ⌝ }
+{
+    match said {
+        Outcome::Refused(n, p) => put_refusal(answer, n, p),
+        Outcome::Done => put_refusal(answer, 0, 0),
+    }
+}
+
+// The number of bytes of a sheet.
+fn put_got(answer: &mut [u64], said: Got)
+    ensures { λ _. ⌜ now (answer .exit) ≡ fit (length (now (answer .entry))) (saying oneValue (toldGot said)) ⌝ }
+{
+    match said {
+        Got::Refused(n, p) => put_refusal(answer, n, p),
+        Got::Sheet(n) => {
+            let words = [0, 0, n as u64];
+            put_answer(answer, &words);
+        }
+    }
+}
+
 // Reads the tree. Answer: version (100, 101, 200), nodes, item rows.
 #[no_mangle]
 pub extern "C" fn xmf_read_tree(
@@ -511,4 +540,54 @@ pub extern "C" fn xmf_id3_frame(tag: &[u8], number: usize, answer: &mut [u64])
     ensures { λ _. ⌜ Leaves (tagFrame (now (tag .entry)) number) [] [] [] (now (answer .entry)) (now (answer .exit)) ⌝ }
 {
     put_frame(answer, id3::frame(tag, number));
+}
+
+// Puts a sheet on a shelf under a desk, a call and a boat. The cards are words, four a card: desk, call, boat, length. Answer: no value.
+#[no_mangle]
+pub extern "C" fn xmf_shelf_put(
+    cards: &mut [u64],
+    text: &mut [u8],
+    desk: u64,
+    call: u64,
+    boat: u64,
+    sheet: &[u8],
+    answer: &mut [u64],
+)
+    ensures { λ _. ⌜ LeavesShelf (putting (label desk call boat) (now (sheet .entry))) (now (cards .entry)) (now (cards .exit)) (now (text .entry)) (now (text .exit)) (now (answer .entry)) (now (answer .exit)) ⌝ }
+{
+    put_outcome(
+        answer,
+        shelf::put_words(cards, text, desk, call, boat, sheet),
+    );
+}
+
+// Gets a sheet from a shelf. Answer: its length in bytes.
+#[no_mangle]
+pub extern "C" fn xmf_shelf_get(
+    cards: &[u64],
+    text: &[u8],
+    desk: u64,
+    call: u64,
+    boat: u64,
+    out: &mut [u8],
+    answer: &mut [u64],
+)
+    ensures { λ _. ⌜ LeavesSheet (label desk call boat) (now (cards .entry)) (now (text .entry)) (now (out .entry)) (now (out .exit)) (now (answer .entry)) (now (answer .exit)) ⌝ }
+{
+    put_got(answer, shelf::get_words(cards, text, desk, call, boat, out));
+}
+
+// Drops a sheet from a shelf: its card and its part of the text are cleared. Answer: no value.
+#[no_mangle]
+pub extern "C" fn xmf_shelf_drop(
+    cards: &mut [u64],
+    text: &mut [u8],
+    desk: u64,
+    call: u64,
+    boat: u64,
+    answer: &mut [u64],
+)
+    ensures { λ _. ⌜ LeavesShelf (dropping (label desk call boat)) (now (cards .entry)) (now (cards .exit)) (now (text .entry)) (now (text .exit)) (now (answer .entry)) (now (answer .exit)) ⌝ }
+{
+    put_outcome(answer, shelf::drop_words(cards, text, desk, call, boat));
 }

@@ -1,0 +1,13 @@
+pub mod Words
+pub mod Search
+pub mod Judging
+pub mod Parts
+pub mod Ways
+pub mod Sound
+pub mod Apart
+pub mod Listed
+pub mod Cards
+pub mod Rows
+pub mod Calls
+pub mod Shared
+pub mod Turns
