@@ -331,7 +331,7 @@ module _ (ls : Sizes) (f g : List ℕ) (h : Header) (ns : List Node) (is : List 
   unfolding sheet.write
   sheet-alike n = ap (λ (s : List ℕ). sheet.fitting n (good s)) (sym (sheet-same f g h ns is (d .same-length) shown-alike))
 
-  sheet2-alike : (n : ℕ) → sheet.write2 n g h ns is ≡ sheet.write2 n f h ns is
+  pub sheet2-alike : (n : ℕ) → sheet.write2 n g h ns is ≡ sheet.write2 n f h ns is
   unfolding sheet.write2
   sheet2-alike n = ap (λ (s : List ℕ). sheet.fitting n (good s)) (sym (sheet2-same f g (d .same-length) (h .version) ns is shown-alike))
 

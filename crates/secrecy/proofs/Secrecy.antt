@@ -11,9 +11,10 @@ use borrow.Author.Tests.{eqb-false, leb-false}
 use Rattle.cursor.specs.declared.Node.{Node}
 use Rattle.cursor.specs.declared.Item.{Item}
 use Rattle.cursor.specs.Refusals.{noSuchRow, noSuchItem, refersElsewhere}
-use Rattle.cursor.proofs.Agree.{Agree}
+use Rattle.cursor.proofs.Agree.{Agree, part-same}
 use Rattle.cursor.proofs.Within.{same}
 use Rattle.header.specs.Header.{Header}
+use Rattle.metadata.specs.Tables.{fullNodes, fullItems, limits}
 use Rattle.room.specs.Room.{Result, good, bad}
 use Rattle.room.specs.Decimal.{decimal}
 use Rattle.tree.specs.Reading.{rows}
@@ -29,21 +30,28 @@ use Rattle.description.specs.Count.{dataRead, countOf, countIn}
 use Rattle.description.proofs.Tests.{description-is}
 use Rattle.description.proofs.Depends.{description-within}
 use Rattle.mobile.specs.Mobile.{mobile}
-use Rattle.sheet.specs.Sheet.{tabbed, textOf, visibleLine, write}
+use Rattle.account.specs.Account.{kindsOf}
+use Rattle.account.specs.Totals.{refusedOne, oneMore}
+use Rattle.account.specs.declared.Kinds.{Kinds}
+use Rattle.account.proofs.File.{kinds-alike}
+use Rattle.sheet.specs.Sheet.{tabbed, textOf, visibleLine, write, write2}
 use Rattle.sheet.proofs.Depends.{Shown, text-same, line-same, visible-same}
 use Rattle.title.specs.Title.{elsewhere, isNoTitle}
 use Rattle.promises.specs.Promises as page
 use Rattle.promises.specs.Promises.{full}
-use Rattle.promises.proofs.Kept.{reads-same, asks-alike, find-alike, find-own-alike, fields-alike, mobile-alike, sheet-alike, shown-alike}
+use Rattle.promises.proofs.Kept.{reads-same, asks-alike, find-alike, find-own-alike, fields-alike, mobile-alike, sheet-alike, sheet2-alike, shown-alike}
 use Rattle.answers.specs.Answer.{Answer, answer, plainly, nothing, tooLongLine, closed, fitted, printed, reads}
 use Rattle.answers.specs.Printed.{sheetAnswer, okLine, checked, checkAnswer, judged, verdictAnswer, placed, placeAnswer, origin, originAnswer, allRows, rowsAnswer, itemRow, foundLines, foundBy, foundAnswer}
 use Rattle.answers.specs.Printed.{titleLine, titleLines, titles, titlesAnswer, rowText, titleFormat}
 use Rattle.answers.specs.Needed.{countLine, needsIn, itemNeeds, rowNeeds, both, needsFrom, needs, needsAnswer, answers, shownNeeds, shownCount, ofRow, rowNeedsAnswer, countAnswer}
+use Rattle.answers.specs.Bytes.{kindsIn, lined, bytesAnswer, inLine, bytesLineAnswer, plusFile}
+use Rattle.answers.specs.Tags.{tagLines, withheld, shownTag, rowTagAnswer}
 use Rattle.answers.specs.Questions.{answerTo, answerOf}
 use Rattle.answers.specs.declared.asked.Asked.{Asked}
 use Rattle.answers.specs.declared.asked.Asked.the-variants as asked
+use Rattle.answers.specs.declared.tags.Frames.{Frames}
 use Rattle.answers.proofs.Found.{stands}
-use Rattle.secrecy.specs.Private.{handsOut, SameAnswers, SameTitles, Unseen}
+use Rattle.secrecy.specs.Private.{handsOut, SameAnswers, SameTitles, SameSums, Unseen}
 
 -- ---- where a test holds, and where it does not
 
@@ -88,6 +96,12 @@ module _ (f g : List ℕ) (long : length f ≡ length g) where
     text-alike : cond (isNoTitle r) [] (textOf g r) ≡ cond (isNoTitle r) [] (textOf f r)
     unfolding isNoTitle isHidden
     text-alike = untitled (eqb (r .format % 2) 1) _ [] (λ e. sym (text-same f g long r s (even e)))
+
+    -- the tag of a row that is not hidden
+    tag-same : (which : Frames) (k : ℕ) → shownTag false which g k r ≡ shownTag false which f k r
+    unfolding shownTag withheld isHidden
+    tag-same which k =
+        where-false (eqb (r .format % 2) 1) (good nothing) (λ e. ap (λ (v : List ℕ). answers plainly (tagLines which v)) (sym (part-same f g long (r .place) (r .size) (s .0 (even e)))))
 
   titles-same : (k : ℕ) (is : List Item) → ((i : ℕ) → i < length is → Shown f g (itemAt is i)) → titleLines g k is ≡ titleLines f k is
   unfolding titleLines
@@ -153,6 +167,12 @@ module _ (f g : List ℕ) (h : Header) (ns : List Node) (is : List Item) (r : re
   prints room tail q u v e s =
       ap (printed room tail u) (asks-alike full f g h ns is on-page d (q g) (q f) e) ∙ printed-same room tail u v (ask (reads f) (q f)) (λ a z. s a (sym (asked-of (q f)) ∙ z))
 
+  -- the bytes of each kind
+  kinds-same : kindsIn g ≡ kindsIn f
+  unfolding kindsIn reads page.reads
+  kinds-same =
+      let lim = limits fullNodes fullItems in asks-alike full f g h ns is on-page d (kindsOf lim g) (kindsOf lim f) (kinds-alike lim f g r d)
+
   module _ (room : ℕ) where
     check-same : (tail : List ℕ) → checkAnswer room tail g ≡ checkAnswer room tail f
     unfolding checkAnswer counts
@@ -162,9 +182,18 @@ module _ (f g : List ℕ) (h : Header) (ns : List Node) (is : List Item) (r : re
     unfolding verdictAnswer
     verdict-same tail = prints room tail mobile (judged tail) (judged tail) (mobile-alike full f g h ns is on-page d) (λ _ _. refl)
 
-    sheet-same : (tail : List ℕ) → sheetAnswer room tail g ≡ sheetAnswer room tail f
+    sheet-same : (second : Bool) (tail : List ℕ) → sheetAnswer room second tail g ≡ sheetAnswer room second tail f
     unfolding sheetAnswer
-    sheet-same tail = prints room tail (write room) plainly plainly (sheet-alike full f g h ns is on-page d room) (λ _ _. refl)
+    sheet-same true tail = prints room tail (write2 room) plainly plainly (sheet2-alike full f g h ns is on-page d room) (λ _ _. refl)
+    sheet-same false tail = prints room tail (write room) plainly plainly (sheet-alike full f g h ns is on-page d room) (λ _ _. refl)
+
+    bytes-same : (tail : List ℕ) → bytesAnswer room tail g ≡ bytesAnswer room tail f
+    unfolding bytesAnswer
+    bytes-same tail = ap (printed room tail lined) kinds-same
+
+    bytes-line-same : (tail : List ℕ) → bytesLineAnswer room tail g ≡ bytesLineAnswer room tail f
+    unfolding bytesLineAnswer
+    bytes-line-same tail = ap (printed room tail (inLine tail)) kinds-same
 
     rows-same : rowsAnswer room g ≡ rowsAnswer room f
     unfolding rowsAnswer allRows
@@ -200,24 +229,30 @@ module _ (f g : List ℕ) (h : Header) (ns : List Node) (is : List Item) (r : re
     unfolding needsAnswer needs
     needs-alike = prints room [] needs plainly plainly (from-same f g 0 is described) (λ _ _. refl)
 
-    -- of one item row
-    row-same : (row : ℕ) (shows : List ℕ → ℕ → Item → Result Answer) → ((x : Item) → Described f g x → shows g row x ≡ shows f row x)
+    -- of one item row, by what is known of each
+    row-same : (row : ℕ) (shows : List ℕ → ℕ → Item → Result Answer) (Known : Item → Type 0) → ((i : ℕ) → i < length is → Known (itemAt is i)) → ((x : Item) → Known x → shows g row x ≡ shows f row x)
         → printed room [] (λ a. a) (ask (reads g) (ofRow row shows g)) ≡ printed room [] (λ a. a) (ask (reads f) (ofRow row shows f))
     unfolding ofRow
-    row-same row shows s =
-        prints room [] (ofRow row shows) (λ a. a) (λ a. a) (where-false (leb (length is) row) (bad noSuchRow 0) (λ e. s (itemAt is row) (described row (leb-false (length is) row e)))) (λ _ _. refl)
+    row-same row shows Known k s =
+        prints room [] (ofRow row shows) (λ a. a) (λ a. a) (where-false (leb (length is) row) (bad noSuchRow 0) (λ e. s (itemAt is row) (k row (leb-false (length is) row e)))) (λ _ _. refl)
 
     row-needs-alike : (row : ℕ) → rowNeedsAnswer room row g ≡ rowNeedsAnswer room row f
     unfolding rowNeedsAnswer
-    row-needs-alike row = row-same row shownNeeds (λ x s. shown-needs-same f g x s row)
+    row-needs-alike row = row-same row shownNeeds (Described f g) described (λ x s. shown-needs-same f g x s row)
 
     count-alike : (row c n : ℕ) → countAnswer room row c n g ≡ countAnswer room row c n f
     unfolding countAnswer
-    count-alike row c n = row-same row (λ f k x. shownCount f k c n x) (λ x s. shown-count-same f g x s row c n)
+    count-alike row c n = row-same row (λ f k x. shownCount f k c n x) (Described f g) described (λ x s. shown-count-same f g x s row c n)
+
+    row-tag-alike : (row : ℕ) (which : Frames) → rowTagAnswer room row false which g ≡ rowTagAnswer room row false which f
+    unfolding rowTagAnswer
+    row-tag-alike row which = row-same row (shownTag false which) (Shown f g) shown (λ x s. tag-same f g (d .same-length) x s which row)
 
   to-same : (word tail : List ℕ) (room : ℕ) (a : Asked) → T (not (handsOut a)) → answerTo word tail room g a ≡ answerTo word tail room f a
   unfolding answerTo handsOut
-  to-same word tail room asked.Sheet t = sheet-same room tail
+  to-same word tail room asked.Sheet t = sheet-same room false tail
+  to-same word tail room asked.Sheet2 t = sheet-same room true tail
+  to-same word tail room asked.Moved t = absurd t
   to-same word tail room asked.Check t = check-same room tail
   to-same word tail room asked.Rows t = rows-same room
   to-same word tail room asked.Verdict t = verdict-same room tail
@@ -230,6 +265,11 @@ module _ (f g : List ℕ) (h : Header) (ns : List Node) (is : List Item) (r : re
   to-same word tail room (asked.RowNeeds row) t = row-needs-alike room row
   to-same word tail room (asked.Count row c n) t = count-alike room row c n
   to-same word tail room asked.Titles t = titles-alike room
+  to-same word tail room asked.Bytes t = bytes-same room tail
+  to-same word tail room asked.BytesLine t = bytes-line-same room tail
+  to-same word tail room (asked.RowTag row true which) t = absurd t
+  to-same word tail room (asked.RowTag row false which) t = row-tag-alike room row which
+  to-same word tail room (asked.Tag which) t = absurd t
   to-same word tail room (asked.Corrected row) t = absurd t
   to-same word tail room (asked.Retitled row) t = absurd t
   to-same word tail room asked.Utf8 t = absurd t
@@ -247,6 +287,10 @@ same-answers f g h ns is r d word tail room a t =
 pub same-titles : SameTitles
 same-titles f g h ns is r d row = (old-title f g h ns is r d row, ap (titleFormat row) (read-same f g h ns is r d))
 
+pub same-sums : SameSums
+unfolding plusFile
+same-sums f g h ns is r d t = ap₂ (λ (n : ℕ) (x : Result Kinds). cond (ltb 65536 n) (refusedOne t) (oneMore t x)) (sym (d .same-length)) (kinds-same f g h ns is r d)
+
 -- ---- hidden rows
 
 hides : (b : Bool) → T b → b ≡ true
@@ -254,5 +298,5 @@ hides true t = refl
 hides false t = absurd t
 
 pub unseen : Unseen
-unfolding foundLines visibleLine titleLine isNoTitle rowNeeds shownNeeds shownCount
-unseen f k r t = let e : isHidden r ≡ true = hides (isHidden r) t in rw e (append-nil (itemRow 0x49 k r), refl, refl, refl, λ c n. refl)
+unfolding foundLines visibleLine titleLine isNoTitle rowNeeds shownNeeds shownCount shownTag withheld
+unseen f k r t = let e : isHidden r ≡ true = hides (isHidden r) t in rw e (append-nil (itemRow 0x49 k r), refl, refl, refl, λ c n. refl, λ w. refl)

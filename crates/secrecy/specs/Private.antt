@@ -11,17 +11,23 @@ use Rattle.header.specs.Header.{Header}
 use Rattle.room.specs.Room.{good}
 use Rattle.tree.specs.Reading.{rows}
 use Rattle.tree.specs.Hidden.{isHidden, DifferInPrivate}
+use Rattle.account.specs.declared.Totals.{Totals}
 use Rattle.answers.specs.Answer.{nothing, reads}
 use Rattle.answers.specs.Printed.{itemRow, foundLines, titleLine, rowText, titleFormat}
 use Rattle.answers.specs.Needed.{rowNeeds, shownNeeds, shownCount}
+use Rattle.answers.specs.Bytes.{plusFile}
+use Rattle.answers.specs.Tags.{shownTag}
 use Rattle.answers.specs.Questions.{answerOf}
 use Rattle.answers.specs.declared.asked.Asked.{Asked}
 use Rattle.answers.specs.declared.asked.Asked.the-variants as asked
+use Rattle.answers.specs.declared.tags.Frames.{Frames}
 
--- The questions whose answer hands out bytes: a resource, the file with another content, and a text that is converted, where there is no file at all. Whoever asks them
--- wants the bytes.
+-- The questions whose answer hands out bytes: a resource, and the file with another content; those where there is no file at all, but a sheet, a tag or a text that is
+-- converted; and the tag of a hidden row, where it is asked for as such. Whoever asks them wants the bytes.
 unfoldable pub handsOut : Asked → Bool
 handsOut asked.Sheet = false
+handsOut asked.Sheet2 = false
+handsOut asked.Moved = true
 handsOut asked.Check = false
 handsOut asked.Rows = false
 handsOut asked.Verdict = false
@@ -34,6 +40,10 @@ handsOut asked.Needs = false
 handsOut (asked.RowNeeds row) = false
 handsOut (asked.Count row channel resource) = false
 handsOut asked.Titles = false
+handsOut asked.Bytes = false
+handsOut asked.BytesLine = false
+handsOut (asked.RowTag row hidden which) = hidden
+handsOut (asked.Tag which) = true
 handsOut (asked.Corrected row) = true
 handsOut (asked.Retitled row) = true
 handsOut asked.Utf8 = true
@@ -51,7 +61,11 @@ SameAnswers = OfAlike (λ f g. (word tail : List ℕ) (room : ℕ) (a : Asked) �
 abbrev pub SameTitles : Type 0
 SameTitles = OfAlike (λ f g. (row : ℕ) → (rowText row g (reads g) ≡ rowText row f (reads f)) × (titleFormat row (reads g) ≡ titleFormat row (reads f)))
 
--- And the data of a hidden row, of whatever field, is not shown: the row stands there with its words alone where it is found, it is no title, and what it needs is not told.
+-- The sums over files are the same with the one file as with the other.
+abbrev pub SameSums : Type 0
+SameSums = OfAlike (λ f g. (t : Totals) → plusFile t g ≡ plusFile t f)
+
+-- And the data of a hidden row, of whatever field, is not shown: the row stands there with its words alone where it is found, it is no title, and neither what it needs nor its tag is told.
 abbrev pub Unseen : Type 0
 Unseen = (f : List ℕ) (k : ℕ) (r : Item) → T (isHidden r)
     → (foundLines f (record { row = k; item = r }) ≡ itemRow 0x49 k r)
@@ -59,3 +73,4 @@ Unseen = (f : List ℕ) (k : ℕ) (r : Item) → T (isHidden r)
     × (rowNeeds f k r ≡ good [])
     × (shownNeeds f k r ≡ good nothing)
     × ((channel resource : ℕ) → shownCount f k channel resource r ≡ good nothing)
+    × ((which : Frames) → shownTag false which f k r ≡ good nothing)
