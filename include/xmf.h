@@ -1,5 +1,6 @@
 /* Questions about XMF files (versions 1.00, 1.01 and 2.00), the correction of a title, the mending of
- * a header, two conversions of a text, and the mover between the two editions of a sheet.
+ * a header, two conversions of a text, the mover between the two editions of a sheet, and the shelf
+ * that desks share.
  *
  * The functions are in target/staticlib/libcapi.a, which `rt staticlib capi` proves and writes;
  * `./install` has them in libxmf.a and libxmf.so.0. They are for x86-64 Linux and need no other library.
@@ -16,8 +17,8 @@
  *
  *   - each pointer is aligned for its type; it may be null only where there are 0 elements, and then
  *     nothing is read or written there (examples/c/empty.c tries this with every function);
- *   - so many elements can be read there, and but for file, name, title and what is converted or
- *     moved also written;
+ *   - that number of elements can be read there, and but for file, name, title, what is converted,
+ *     moved or put, and the shelf that a sheet is got from, also written;
  *   - what is written overlaps nothing else that is lent in the same call;
  *   - no other thread writes what is lent, or reads what is written, until the call returns.
  *
@@ -37,7 +38,7 @@
  * a file or lines, hold zeros only; totals are never cleared. Each call reads the file afresh. Nothing is
  * allocated and nothing is kept between calls. Places count from 0 at the file's first byte.
  *
- * Refusals (share/refusals.tsv; no call gives 27 to 35 and 39 yet)
+ * Refusals (share/refusals.tsv)
  *
  *    1  fewer than 8 bytes, or not an XMF file
  *    2  the version is not 1.00, 1.01 or 2.00
@@ -106,6 +107,10 @@ extern "C" {
 
 /* The words of totals. */
 #define XMF_TOTAL_WORDS 11
+
+/* The words of a card of a shelf, and the most cards that a shelf may have. */
+#define XMF_CARD_WORDS 4
+#define XMF_MOST_CARDS 16
 
 /* The words of a node row. The rows of the tree's nodes come first, in file order. The rows of the
  * detached nodes, which are outside the tree, follow in the order in which references first lead to
@@ -402,6 +407,54 @@ void xmf_id3_count(const uint8_t *tag, size_t tag_length,
 void xmf_id3_frame(const uint8_t *tag, size_t tag_length,
                    size_t number,
                    uint64_t *answer, size_t answer_words);
+
+/* Puts a sheet on a shelf that desks share, under a desk, a call and a boat. It takes no file and no
+ * tables, but
+ *
+ *   cards   the words of the shelf's cards, XMF_CARD_WORDS each: desk, call, boat, and the length of the
+ *           sheet; a card with call 0 is free, and words that are left over are no card
+ *   text    the bytes of the sheets, in 16 equal parts: the sheet of a card is in the part with the
+ *           card's number. A part has a sixteenth of the bytes, rounded down
+ *
+ * Both are read and changed by the calls of the shelf alone; a fresh shelf is all zero and has at most
+ * XMF_MOST_CARDS cards. The sheet goes into the lowest free card, and the rest of its part is 0.
+ *
+ * There is no value. Refused with 39 when there are more than 16 cards, or a taken card has a sheet longer
+ * than its part or the desk, call and boat of another; with 27 for call 0; with 29 when there is a card
+ * with this desk, call and boat; with 30 when the sheet is longer than a part; with 28 when no card is
+ * free. A refusal leaves cards and text as they were.
+ *
+ * What a desk is answered depends on its own calls, and on which of them meet 28, alone. From a fresh
+ * shelf no calls lead to 39, and what was put and not dropped is got back byte for byte.
+ */
+void xmf_shelf_put(uint64_t *cards, size_t card_words,
+                   uint8_t *text, size_t text_length,
+                   uint64_t desk, uint64_t call, uint64_t boat,
+                   const uint8_t *sheet, size_t sheet_length,
+                   uint64_t *answer, size_t answer_words);
+
+/* Gets a sheet from a shelf; cards and text are only read.
+ *
+ *   answer[2]  the number of bytes of the sheet
+ *
+ * Bytes of the buffer past the sheet are 0; after a refusal all are. Refused with 39 as xmf_shelf_put is;
+ * with 27 for call 0, or when there is no card with this desk, call and boat; then with 22.
+ */
+void xmf_shelf_get(const uint64_t *cards, size_t card_words,
+                   const uint8_t *text, size_t text_length,
+                   uint64_t desk, uint64_t call, uint64_t boat,
+                   uint8_t *out, size_t out_length,
+                   uint64_t *answer, size_t answer_words);
+
+/* Drops a sheet from a shelf: its card and its part are 0.
+ *
+ * There is no value. Refused with 39 and 27 as xmf_shelf_get is. A refusal leaves cards and text as they
+ * were.
+ */
+void xmf_shelf_drop(uint64_t *cards, size_t card_words,
+                    uint8_t *text, size_t text_length,
+                    uint64_t desk, uint64_t call, uint64_t boat,
+                    uint64_t *answer, size_t answer_words);
 
 #ifdef __cplusplus
 }

@@ -53,6 +53,19 @@ int main(int argc, char **argv) {
     expect("correct_title of nothing", 1);
     xmf_mend(NULL, 0, NULL, 0, NULL, 0, NULL, 0, NULL, 0, answer, XMF_ANSWER_WORDS);
     expect("mend of nothing", 1);
+    xmf_id3_count(NULL, 0, answer, XMF_ANSWER_WORDS);
+    expect("id3_count of nothing", 33);
+    xmf_id3_frame(NULL, 0, 0, answer, XMF_ANSWER_WORDS);
+    expect("id3_frame of nothing", 33);
+
+    /* no cards and no text: 28, no free card; 27, no such card */
+    xmf_shelf_put(NULL, 0, NULL, 0, 1, 4711, 12, NULL, 0, answer, XMF_ANSWER_WORDS);
+    expect("shelf_put on nothing", 28);
+    xmf_shelf_get(NULL, 0, NULL, 0, 1, 4711, 12, NULL, 0, answer, XMF_ANSWER_WORDS);
+    expect("shelf_get from nothing", 27);
+    xmf_shelf_drop(NULL, 0, NULL, 0, 1, 4711, 12, answer, XMF_ANSWER_WORDS);
+    expect("shelf_drop from nothing", 27);
+    xmf_shelf_put(NULL, 0, NULL, 0, 1, 4711, 12, NULL, 0, NULL, 0);
 
     /* no tables: 10, no row left */
     xmf_read_tree(file, length, NULL, 0, NULL, 0, answer, XMF_ANSWER_WORDS);

@@ -1,4 +1,5 @@
-//! Comparing two readers on a case, a text, a sheet, a title or a header, and two files of a pair on one reader.
+//! Comparing two readers on a case, a text, a sheet, a title, a header or a run of calls on a shelf, and
+//! two files of a pair on one reader.
 
 use crate::buffers::{Buffers, Noise};
 use crate::mends::Bench;
@@ -8,6 +9,7 @@ use crate::readers::{convert_plain, convert_proved, convert_words};
 use crate::readers::{frame_plain, frame_proved, frames_plain, frames_proved};
 use crate::readers::{known, Answer, Question, Subject, QUESTIONS};
 use crate::readers::{move_plain, move_proved};
+use crate::shelves::{answers, Lent as OnShelf, Sheets};
 use crate::titles::{private, says, Desk};
 use generate::cases::{ALL_ROOM, KINDS};
 use generate::descriptions::Described;
@@ -15,6 +17,7 @@ use generate::encode::PRIVATE_KINDS;
 use generate::mends::{fields, mend_pair, Mend};
 use generate::model::Field;
 use generate::sheets::Sheet;
+use generate::shelves::{Run, CARD_WORDS};
 use generate::tags::Tag;
 use generate::texts::Text;
 use generate::titles::Title;
@@ -39,6 +42,8 @@ const TITLE: &str = "Title";
 const MEND: &str = "Mend";
 /// The walk of a tag, in reports.
 const TAG: &str = "Tag";
+/// The shelf, in reports.
+const SHELF: &str = "Shelf";
 /// The mover of sheets, in reports.
 const MOVE: &str = "Move";
 /// What answer buffers and their guards hold before.
@@ -66,6 +71,11 @@ pub struct Comparer {
     pub sheets: [u64; 32],
     /// For each refusal number, how many tags are refused so; at 0 how many are walked.
     pub tags: [u64; 36],
+    /// For each refusal number, how many calls on a shelf are refused so; at 0 how many are answered.
+    pub shelf_calls: [u64; 40],
+    /// How many desks of runs were asked again with other calls of the others, and of how many of them the
+    /// same calls met 28.
+    pub apart: [u64; 2],
     /// How many files have both editions of their sheet moved.
     pub editions: u64,
     /// For each refusal number, how many counts are refused so; at 0 how many are given.
@@ -113,6 +123,8 @@ impl Comparer {
             texts: [0; 27],
             sheets: [0; 32],
             tags: [0; 36],
+            shelf_calls: [0; 40],
+            apart: [0; 2],
             editions: 0,
             counts: [0; 27],
             totals: [0; 11],
@@ -419,6 +431,64 @@ impl Comparer {
         let mut answer = [MARK; MOST_ANSWER_WORDS as usize + ANSWER_GUARD];
         xmf::words::id3_frame(bytes, *frame as usize, &mut answer[..words]);
         self.answer(TAG, &answer, &fitted(&one, words))
+    }
+
+    /// Makes a run of calls on a shelf by both readers, each call once more with an answer buffer of 0 to 16
+    /// words. Where the calls alone change the shelf, the answers must be those that follow from what was
+    /// put and not dropped. Then the run is made again with some of the others' calls left out: a desk that
+    /// meets 28 at the same calls must be answered the same.
+    pub fn shelf(&mut self, run: &Run, number: u64) -> Result<(), Difference> {
+        let (mut first, mut second) = (OnShelf::new(run), OnShelf::new(run));
+        let known = run.calls_alone && run.words / CARD_WORDS <= 16;
+        let mut sheets = Sheets::default();
+        for (index, step) in run.steps.iter().enumerate() {
+            let mut third = first.clone();
+            let proved = first.proved(step);
+            let plain = second.plain(step);
+            if let (Some(proved), Some(plain)) = (proved, plain) {
+                self.shelf_calls[plain[0] as usize] += 1;
+                self.answer(SHELF, &proved, &plain)?;
+                let room = (number as usize + index) % (MOST_ANSWER_WORDS as usize + 1);
+                let mut answer = [MARK; MOST_ANSWER_WORDS as usize + ANSWER_GUARD];
+                third.words(step, &mut answer[..room]);
+                self.answer(SHELF, &answer, &fitted(&plain, room))?;
+                self.on_shelf(&third, &second)?;
+                if known && !sheets.allow(run, step, &proved, &first.room) {
+                    return Err(Difference {
+                        asked: SHELF.to_string(),
+                        what: format!("step {index}, {step:?}: answer {proved:?}"),
+                    });
+                }
+            }
+            self.on_shelf(&first, &second)?;
+        }
+        if !run.calls_alone {
+            return Ok(());
+        }
+        for desk in 1..=3 {
+            let all = answers(run, desk, |_| true);
+            let some = answers(run, desk, |index| (index as u64 ^ number) % 3 == 0);
+            self.apart[0] += 1;
+            let full = |answers: &[(Answer, Vec<u8>)]| -> Vec<bool> {
+                answers.iter().map(|(answer, _)| answer[0] == 28).collect()
+            };
+            if full(&all) == full(&some) {
+                self.apart[1] += 1;
+                self.count(all.len());
+                equal(SHELF, "answers of a desk", &all, &some)?;
+            }
+        }
+        Ok(())
+    }
+
+    /// Compares what is left of two shelves, with what is behind them, and in the room of get.
+    fn on_shelf(&mut self, first: &OnShelf, second: &OnShelf) -> Result<(), Difference> {
+        self.count(first.cards.len());
+        equal(SHELF, "cards", &first.cards, &second.cards)?;
+        self.count(first.text.len());
+        equal(SHELF, "text", &first.text, &second.text)?;
+        self.count(first.room.len());
+        equal(SHELF, "buffer", &first.room, &second.room)
     }
 
     /// Moves a sheet by both readers, and once more with an answer buffer of 0 to 16 words. A sheet

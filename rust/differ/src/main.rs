@@ -20,6 +20,10 @@
 //!
 //! It walks a generated ID3 tag, good or with a fault, by both.
 //!
+//! It makes a long run of calls of two or three desks on a shelf by both, and compares every answer, word
+//! and byte after each call. What was put and not dropped must be got back, and a desk must be answered
+//! the same when some of the others' calls are left out, if it meets 28 at the same calls.
+//!
 //! It also corrects the title of a generated file by both readers and compares the answers, both tables
 //! and each byte of the room. Where the right result is known, it must be that one. The result is read
 //! back: its rows must be those in the tables, and it must say what the file says but for that data. The
@@ -51,6 +55,7 @@ mod changed;
 mod compare;
 mod mends;
 mod readers;
+mod shelves;
 mod titles;
 
 use compare::{Comparer, Difference};
@@ -58,6 +63,7 @@ use generate::descriptions::{self, Described};
 use generate::mends::{mend, Mend};
 use generate::model::Field;
 use generate::sheets::{sheet, Sheet};
+use generate::shelves::{run as shelf_run, Run};
 use generate::tags::{self, Tag};
 use generate::texts::{self, Text};
 use generate::titles::{title, Title};
@@ -184,6 +190,10 @@ fn compare_cases(comparer: &mut Comparer, cases: u64, seed: u64, first: u64) -> 
                 &difference,
             )
         })?;
+        let run = shelf_run(seed, number);
+        comparer.shelf(&run, number).map_err(|difference| {
+            shelf_report(&format!("run {number} of seed {seed}"), &run, &difference)
+        })?;
         let title = title(seed, number);
         comparer.title(&title, number).map_err(|difference| {
             title_report(
@@ -271,6 +281,13 @@ fn print_counts(comparer: &Comparer) {
         by_number(&comparer.tags)
     );
     println!(
+        "calls on a shelf: {} answered; refused, by number: {}",
+        comparer.shelf_calls[0],
+        by_number(&comparer.shelf_calls)
+    );
+    let [again, alike] = comparer.apart;
+    println!("desks asked again: {again}, with 28 at the same calls: {alike}");
+    println!(
         "titles: {} corrected; refused, by number: {}",
         comparer.titles[0],
         by_number(&comparer.titles)
@@ -345,6 +362,12 @@ fn tag_report(name: &str, tag: &Tag, difference: &Difference) -> String {
         tag.frame,
         hex(&tag.bytes)
     )
+}
+
+/// Tells a difference between the readers on a run of calls on a shelf.
+fn shelf_report(name: &str, run: &Run, difference: &Difference) -> String {
+    let Difference { what, .. } = difference;
+    format!("difference in {name}, proved and plain\n{what}\n{run:?}\n")
 }
 
 /// Tells a difference between the readers on a title.

@@ -179,7 +179,7 @@ fn xmf_field(field: &Field) -> xmf::Field<'_> {
 }
 
 /// The words of an answer with these values.
-fn words(values: &[u64]) -> Answer {
+pub fn words(values: &[u64]) -> Answer {
     let mut answer = [0; xmf::ANSWER_WORDS];
     answer[2..][..values.len()].copy_from_slice(values);
     answer
@@ -208,7 +208,7 @@ fn resource_words(found: xmf::Resource) -> Answer {
 }
 
 /// The words of a refusal.
-fn refused(number: u64, place: u64) -> Answer {
+pub fn refused(number: u64, place: u64) -> Answer {
     let mut answer = [0; xmf::ANSWER_WORDS];
     answer[..2].copy_from_slice(&[number, place]);
     answer

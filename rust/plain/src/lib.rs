@@ -8,13 +8,14 @@
 //! ([`account`]). It writes a file anew with a title corrected ([`correct_title`]), and copies one with its
 //! header mended ([`mend`]). And it converts
 //! texts from UTF-16 into UTF-8 ([`utf16_to_utf8`]) and back ([`utf8_to_utf16`]). It walks an ID3
-//! tag ([`frame_count`], [`frame`]).
+//! tag ([`frame_count`], [`frame`]). It keeps sheets on a shelf ([`shelf_put`], [`shelf_get`],
+//! [`shelf_drop`]).
 //!
 //! Each question takes the file and two lent tables of words, one for node rows and one for item
 //! rows, of any size and whatever they hold before. It reads the file afresh. After an answer the
 //! tables hold the file's rows (those of the new file, where one is written), and zeros past the last
 //! row; after a refusal they hold zeros only. Nothing is allocated but for a corrected title, a mended
-//! file, a moved sheet and the kinds of bytes.
+//! file, a moved sheet, the kinds of bytes and the cards of a shelf.
 //!
 //! Every place is counted from the file's first byte.
 
@@ -26,11 +27,14 @@ mod mend;
 mod mover;
 mod questions;
 mod sheet;
+mod shelf;
 mod title;
 mod tree;
 mod unicode;
 
 use sheet::Edition;
+
+pub use shelf::Label;
 
 /// The columns of a node row.
 pub mod node {
@@ -106,7 +110,7 @@ pub type ItemRow = [u64; item::WORDS];
 /// Why a question is refused.
 #[derive(Clone, Copy, Debug, PartialEq, Eq)]
 pub struct Refusal {
-    /// The number in the refusal list: 1 to 26, or 31 to 38.
+    /// The number in the refusal list.
     pub number: u64,
     /// The place of the refused field's first byte, or 0 where the list names none.
     pub place: u64,
@@ -500,6 +504,45 @@ pub fn frame(tag: &[u8], number: u64) -> Result<Frame, Refusal> {
     let frames = id3::frames(tag)?;
     let number = usize::try_from(number).unwrap_or(usize::MAX);
     frames.get(number).copied().ok_or(Refusal::at(18, 0))
+}
+
+/// Puts a sheet on a shelf. The words are cards, four words each: desk, call, boat, and the length of the
+/// sheet, which is in the part of the text with the card's number; there are sixteen equal parts.
+///
+/// A refusal changes nothing. Refused with 39 when the shelf is damaged, with 27 for call 0, with 29 when
+/// the sheet's card is there already, with 30 when it is longer than a part, with 28 when no card is free.
+pub fn shelf_put(
+    cards: &mut [u64],
+    text: &mut [u8],
+    label: Label,
+    sheet: &[u8],
+) -> Result<(), Refusal> {
+    shelf::put(cards, text, label, sheet)
+}
+
+/// Gets a sheet from a shelf into lent room, and answers its length.
+///
+/// Bytes of the room past the sheet are 0; after a refusal all are. Refused with 39 when the shelf is
+/// damaged, with 27 when there is no such card, with 22 when the room is too short.
+pub fn shelf_get(
+    cards: &[u64],
+    text: &[u8],
+    label: Label,
+    room: &mut [u8],
+) -> Result<usize, Refusal> {
+    room.fill(0);
+    let sheet = shelf::get(cards, text, label)?;
+    let place = room.get_mut(..sheet.len()).ok_or(Refusal::at(22, 0))?;
+    place.copy_from_slice(sheet);
+    Ok(sheet.len())
+}
+
+/// Drops a sheet from a shelf: its card and its part of the text are 0.
+///
+/// A refusal changes nothing. Refused with 39 when the shelf is damaged, with 27 when there is no such
+/// card.
+pub fn shelf_drop(cards: &mut [u64], text: &mut [u8], label: Label) -> Result<(), Refusal> {
+    shelf::drop(cards, text, label)
 }
 
 /// Reads the tree and asks about its rows. Every refusal clears the tables.

@@ -228,4 +228,47 @@ extern "C" {
         answer: *mut u64,
         answer_words: usize,
     );
+
+    /// Puts a sheet on a shelf. Answer: no value.
+    pub fn xmf_shelf_put(
+        cards: *mut u64,
+        card_words: usize,
+        text: *mut u8,
+        text_length: usize,
+        desk: u64,
+        call: u64,
+        boat: u64,
+        sheet: *const u8,
+        sheet_length: usize,
+        answer: *mut u64,
+        answer_words: usize,
+    );
+
+    /// Gets a sheet from a shelf. Answer: its number of bytes.
+    pub fn xmf_shelf_get(
+        cards: *const u64,
+        card_words: usize,
+        text: *const u8,
+        text_length: usize,
+        desk: u64,
+        call: u64,
+        boat: u64,
+        out: *mut u8,
+        out_length: usize,
+        answer: *mut u64,
+        answer_words: usize,
+    );
+
+    /// Drops a sheet from a shelf. Answer: no value.
+    pub fn xmf_shelf_drop(
+        cards: *mut u64,
+        card_words: usize,
+        text: *mut u8,
+        text_length: usize,
+        desk: u64,
+        call: u64,
+        boat: u64,
+        answer: *mut u64,
+        answer_words: usize,
+    );
 }

@@ -14,7 +14,7 @@
 //!
 //! Three more functions take no file: [`utf16_to_utf8`] and [`utf8_to_utf16`] convert a text, and
 //! [`move_sheet`] moves a sheet from one edition to the other. [`id3_count`] and [`id3_frame`] walk an
-//! ID3 tag.
+//! ID3 tag. A [`Shelf`] keeps the sheets of desks that share it.
 //!
 //! Each question takes the file and two lent tables of words, one for node rows and one for item
 //! rows, of any size and whatever they hold before. It reads the file afresh. After an answer the
@@ -119,7 +119,7 @@ pub mod item {
 /// Why a question is refused.
 #[derive(Clone, Copy, Debug, PartialEq, Eq)]
 pub struct Refusal {
-    /// The number in the refusal list: 1 to 39, of which no call gives 27 to 30 and 39 yet.
+    /// The number in the refusal list: 1 to 39.
     pub number: u64,
     /// The place of the refused field's first byte, or 0 where the list names none. For 26 the place
     /// of the first bad character in what was to be converted.
@@ -730,6 +730,108 @@ pub fn id3_frame(tag: &[u8], number: usize) -> Result<Id3Frame, Refusal> {
         place: place as usize,
         length: length as usize,
     })
+}
+
+/// Which sheet on a shelf is meant: the desk, the call and the boat that it is for.
+#[derive(Clone, Copy, Debug, PartialEq, Eq)]
+pub struct Label {
+    /// The number of the desk.
+    pub desk: u64,
+    /// The call number; 0 is none.
+    pub call: u64,
+    /// The boat number.
+    pub boat: u64,
+}
+
+/// The columns of a card of a [`Shelf`].
+pub mod card {
+    /// The number of words of a card.
+    pub const WORDS: usize = 4;
+    /// The number of the desk.
+    pub const DESK: usize = 0;
+    /// The call number; 0 where the card is free.
+    pub const CALL: usize = 1;
+    /// The boat number.
+    pub const BOAT: usize = 2;
+    /// The number of bytes of the sheet.
+    pub const LENGTH: usize = 3;
+}
+
+/// The most cards that a [`Shelf`] may have, and the number of parts of its text.
+pub const MOST_CARDS: usize = 16;
+
+/// A shelf that desks share: cards, four words each, and a text of 16 equal parts that holds their
+/// sheets. The sheet of a card is in the part with the card's number; a part has a sixteenth of the
+/// text's bytes, rounded down. Both are borrowed, so that they can be kept and sent as they are.
+///
+/// A fresh shelf is all zero. It has at most 16 cards; words that are left over are no card, and bytes
+/// behind the sixteen parts belong to none: they are never changed.
+///
+/// What a desk is answered depends on its own calls, and on which of them meet 28 (no free card), alone.
+/// A call that is refused changes nothing. With 39 every call refuses a shelf of more than 16 cards, and
+/// one with a taken card whose sheet is longer than a part or that has the label of another; no calls on
+/// a fresh shelf lead to one.
+///
+/// ```
+/// use xmf::{Label, Shelf};
+///
+/// let mut cards = [0; xmf::card::WORDS * xmf::MOST_CARDS];
+/// let mut text = vec![0; xmf::MOST_CARDS * 65_536];
+/// let mut shelf = Shelf::new(&mut cards, &mut text);
+/// let label = Label { desk: 1, call: 4711, boat: 12 };
+/// shelf.put(label, b"XMF\t2.00").unwrap();
+/// assert_eq!(shelf.put(label, b"").unwrap_err().number, 29);
+///
+/// let mut sheet = [0; 65_536];
+/// let length = shelf.get(label, &mut sheet).unwrap();
+/// assert_eq!(&sheet[..length], b"XMF\t2.00");
+/// shelf.drop(label).unwrap();
+/// assert_eq!(shelf.get(label, &mut sheet).unwrap_err().number, 27);
+/// ```
+#[derive(Debug)]
+pub struct Shelf<'a> {
+    cards: &'a mut [u64],
+    text: &'a mut [u8],
+}
+
+impl<'a> Shelf<'a> {
+    /// The shelf of these cards and this text, as they are.
+    pub fn new(cards: &'a mut [u64], text: &'a mut [u8]) -> Self {
+        Shelf { cards, text }
+    }
+
+    /// Puts a sheet, in the lowest free card; the rest of its part is 0.
+    ///
+    /// Refused with 39 when the shelf is damaged, with 27 for call 0, with 29 when there is a sheet with
+    /// this label already, with 30 when the sheet is longer than a part, with 28 when no card is free.
+    pub fn put(&mut self, label: Label, sheet: &[u8]) -> Result<(), Refusal> {
+        let mut answer = [0; 2];
+        words::shelf_put(self.cards, self.text, label, sheet, &mut answer);
+        let [] = values(answer)?;
+        Ok(())
+    }
+
+    /// Gets a sheet into the buffer, and answers its number of bytes. Bytes of the buffer past the sheet
+    /// are 0; after a refusal all are.
+    ///
+    /// Refused with 39 when the shelf is damaged, with 27 when there is no such sheet, with 22 when the
+    /// buffer is shorter than the sheet.
+    pub fn get(&self, label: Label, out: &mut [u8]) -> Result<usize, Refusal> {
+        let mut answer = [0; 3];
+        words::shelf_get(self.cards, self.text, label, out, &mut answer);
+        let [length] = values(answer)?;
+        Ok(length as usize)
+    }
+
+    /// Drops a sheet: its card and its part are 0.
+    ///
+    /// Refused with 39 when the shelf is damaged, with 27 when there is no such sheet.
+    pub fn drop(&mut self, label: Label) -> Result<(), Refusal> {
+        let mut answer = [0; 2];
+        words::shelf_drop(self.cards, self.text, label, &mut answer);
+        let [] = values(answer)?;
+        Ok(())
+    }
 }
 
 /// The values of an answer, or its refusal. There are two words more than values.

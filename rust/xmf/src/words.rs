@@ -1,10 +1,10 @@
-//! The questions and the conversions with the answer as words, in the order of the C
+//! The questions, the conversions and the shelf with the answer as words, in the order of the C
 //! interface: refusal number (0: none), place, then the answer's values, and zeros. A short buffer
 //! gets the words that fit.
 //!
 //! The functions of the crate's root give the same answers as values.
 
-use crate::{c, item, Field};
+use crate::{c, item, Field, Label};
 
 /// Asks a question of the C interface: file, tables, what the question itself takes, answer.
 macro_rules! ask {
@@ -254,6 +254,70 @@ pub fn id3_frame(tag: &[u8], number: usize, answer: &mut [u64]) {
             tag.as_ptr(),
             tag.len(),
             number,
+            answer.as_mut_ptr(),
+            answer.len(),
+        )
+    }
+}
+
+/// Puts a sheet on a shelf of cards in words. Values: none.
+pub fn shelf_put(
+    cards: &mut [u64],
+    text: &mut [u8],
+    label: Label,
+    sheet: &[u8],
+    answer: &mut [u64],
+) {
+    // Safety: as for the questions.
+    unsafe {
+        c::xmf_shelf_put(
+            cards.as_mut_ptr(),
+            cards.len(),
+            text.as_mut_ptr(),
+            text.len(),
+            label.desk,
+            label.call,
+            label.boat,
+            sheet.as_ptr(),
+            sheet.len(),
+            answer.as_mut_ptr(),
+            answer.len(),
+        )
+    }
+}
+
+/// Gets a sheet from a shelf of cards in words. Values: bytes of the sheet.
+pub fn shelf_get(cards: &[u64], text: &[u8], label: Label, out: &mut [u8], answer: &mut [u64]) {
+    // Safety: as for the questions.
+    unsafe {
+        c::xmf_shelf_get(
+            cards.as_ptr(),
+            cards.len(),
+            text.as_ptr(),
+            text.len(),
+            label.desk,
+            label.call,
+            label.boat,
+            out.as_mut_ptr(),
+            out.len(),
+            answer.as_mut_ptr(),
+            answer.len(),
+        )
+    }
+}
+
+/// Drops a sheet from a shelf of cards in words. Values: none.
+pub fn shelf_drop(cards: &mut [u64], text: &mut [u8], label: Label, answer: &mut [u64]) {
+    // Safety: as for the questions.
+    unsafe {
+        c::xmf_shelf_drop(
+            cards.as_mut_ptr(),
+            cards.len(),
+            text.as_mut_ptr(),
+            text.len(),
+            label.desk,
+            label.call,
+            label.boat,
             answer.as_mut_ptr(),
             answer.len(),
         )
