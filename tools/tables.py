@@ -1,5 +1,5 @@
 #!/usr/bin/env python3
-"""Writes what is made of share/version and share/refusals.tsv into include/xmf.h, rust/xmf/src/kind.rs and python/xmf.py.
+"""Writes what is made of share/version, share/refusals.tsv and share/checks.tsv into include/xmf.h, rust/xmf/src/kind.rs and python/xmf.py.
 
 tools/tables.py           writes the parts anew
 tools/tables.py --check   says which parts are not as they would be written; status 1 if there is one
@@ -15,6 +15,7 @@ import textwrap
 root = pathlib.Path(__file__).resolve().parent.parent
 version = (root / "share/version").read_text(encoding="utf-8").strip()
 rows = [line.split("\t") for line in (root / "share/refusals.tsv").read_text(encoding="utf-8").splitlines() if not line.startswith("#")]
+checks = [line.split("\t")[1] for line in (root / "share/checks.tsv").read_text(encoding="utf-8").splitlines() if not line.startswith("#")]
 refusals = [(int(number), name, meaning) for number, name, meaning, _ in rows]
 
 
@@ -83,6 +84,11 @@ def rust():
         *(f'    (RefusalKind::{variant(name)}, "{name}"),' for _, name, _ in refusals),
         "];",
         "",
+        "/// The checks of the verdict; at 0 that all hold.",
+        f"const CHECKS: [&str; {len(checks)}] = [",
+        *(f"    {json.dumps(check)}," for check in checks),
+        "];",
+        "",
         "/// The version of the interface.",
         f'pub const VERSION: &str = "{version}";',
     ]
@@ -93,7 +99,8 @@ def python():
     out = [f'__version__ = "{version}"', "", "#: The refusals: number, then name and meaning.", "REFUSALS = {"]
     for number, name, meaning in refusals:
         out.append(f"    {number}: ({json.dumps(name)}, {json.dumps(meaning)}),")
-    return [*out, "}"]
+    out += ["}", "", "#: The checks of the verdict; at 0 that all hold.", "CHECKS = ("]
+    return [*out, *(f"    {json.dumps(check)}," for check in checks), ")"]
 
 
 parts = {"include/xmf.h": header, "rust/xmf/src/kind.rs": rust, "python/xmf.py": python}
@@ -113,4 +120,4 @@ cargo = (root / "rust/xmf/Cargo.toml").read_text(encoding="utf-8")
 if f'\nversion = "{version}"\n' not in cargo:
     sys.exit(f"tables.py: rust/xmf/Cargo.toml does not have the version {version} of share/version")
 if "--check" in sys.argv and wrong:
-    sys.exit(f"tables.py: not as share/version and share/refusals.tsv would have it: {', '.join(wrong)}; tools/tables.py writes it")
+    sys.exit(f"tables.py: not as share/version, share/refusals.tsv and share/checks.tsv would have it: {', '.join(wrong)}; tools/tables.py writes it")
