@@ -72,6 +72,7 @@ fn build(root: &Path) -> Result<(), String> {
     let mut child = Command::new(&script)
         .arg("capi")
         .stdin(Stdio::null())
+        .stdout(Stdio::null())
         .stderr(Stdio::piped())
         .spawn()
         .map_err(failed)?;
