@@ -5,6 +5,30 @@
  * The functions are in target/staticlib/libcapi.a, which `rt staticlib capi` proves and writes;
  * `./install` has them in libxmf.a and libxmf.so.0. They are for x86-64 Linux and need no other library.
  *
+ * In short
+ *
+ * The functions with structs, at the end of this file, return 0 or the number of a refusal. They are for
+ * C99 and newer, and for C++:
+ *
+ *   #include <stdio.h>
+ *   #include <xmf.h>
+ *   static uint8_t file[65536], text[65536];
+ *   static struct xmf_tables tables;
+ *   int main(void) {
+ *       struct xmf_written sheet;
+ *       size_t size = fread(file, 1, sizeof file, stdin);
+ *       int refusal = xmf_sheet(file, size, &tables, text, sizeof text, &sheet);
+ *       return refusal ? puts(xmf_refusal_text(refusal)), 2 : fwrite(text, 1, sheet.length, stdout) < sheet.length;
+ *   }
+ *
+ * The functions of words, declared before them, are what is proved; the ones with structs only call them.
+ *
+ * Stack
+ *
+ * A call that takes a file needs at most 12 kB of stack, xmf_correct_title 19 kB, any other call 1 kB
+ * (tools/stack.sh measures it; 1 kB is 1,024 bytes). What the dynamic linker needs when it first looks up
+ * memset or memcpy, the two functions that the library takes from the C library, is not counted.
+ *
  * What is lent
  *
  *   file    the bytes of the file; they are only read
@@ -458,6 +482,474 @@ void xmf_shelf_drop(uint64_t *cards, size_t card_words,
 
 #ifdef __cplusplus
 }
+#endif
+
+/* ==== The functions with structs ====
+ *
+ * They take the file with its size, and struct xmf_tables, which has room for all rows there may be. Each
+ * returns 0, or the number of the refusal (enum xmf_refusal), and sets all of the answer: after a refusal
+ * its first member is the refusal's place and the others are 0; after an answer the first member is 0.
+ * No pointer to an answer, to tables or to sums may be null. For the rest the rules are those of the
+ * functions of words, which they call: a pointer may be null only where there are 0 elements.
+ */
+
+/* Whether this compiler gets them: it has to know `inline`. */
+#if defined __cplusplus || (defined __STDC_VERSION__ && __STDC_VERSION__ >= 199901L)
+#define XMF_STRUCTS 1
+#endif
+
+/* tables.py: begin (made of share/version and share/refusals.tsv) */
+#define XMF_VERSION "0.1.0"
+
+/* The refusals by name; share/refusals.tsv has what to do about each. */
+enum xmf_refusal {
+    XMF_ANSWERED = 0,
+    XMF_REFUSED_NOT_XMF = 1,
+    XMF_REFUSED_BAD_VERSION = 2,
+    XMF_REFUSED_CUT_SHORT = 3,
+    XMF_REFUSED_BAD_NUMBER = 4,
+    XMF_REFUSED_WRONG_LENGTH = 5,
+    XMF_REFUSED_BAD_TYPE = 6,
+    XMF_REFUSED_BAD_TREE = 7,
+    XMF_REFUSED_BAD_NODE = 8,
+    XMF_REFUSED_TOO_DEEP = 9,
+    XMF_REFUSED_NO_ROW_LEFT = 10,
+    XMF_REFUSED_BAD_CONTENTS = 11,
+    XMF_REFUSED_BAD_UNPACKER = 12,
+    XMF_REFUSED_BAD_REFERENCE = 13,
+    XMF_REFUSED_BAD_FOLDER = 14,
+    XMF_REFUSED_BYTES_LEFT = 15,
+    XMF_REFUSED_BAD_TARGET = 16,
+    XMF_REFUSED_TOO_LARGE = 17,
+    XMF_REFUSED_NO_SUCH_ROW = 18,
+    XMF_REFUSED_ENDS_AT_FOLDER = 19,
+    XMF_REFUSED_ENDS_AT_URI = 20,
+    XMF_REFUSED_TOO_MANY_HOPS = 21,
+    XMF_REFUSED_NO_ROOM = 22,
+    XMF_REFUSED_NO_SUCH_ITEM = 23,
+    XMF_REFUSED_BAD_DETACHED = 24,
+    XMF_REFUSED_BAD_DESCRIPTION = 25,
+    XMF_REFUSED_BAD_TEXT = 26,
+    XMF_REFUSED_NO_SUCH_CARD = 27,
+    XMF_REFUSED_NO_FREE_CARD = 28,
+    XMF_REFUSED_ALREADY_THERE = 29,
+    XMF_REFUSED_SHEET_TOO_LONG = 30,
+    XMF_REFUSED_BAD_SHEET = 31,
+    XMF_REFUSED_TOO_MANY_FILES = 32,
+    XMF_REFUSED_NOT_A_TAG = 33,
+    XMF_REFUSED_BAD_TAG = 34,
+    XMF_REFUSED_UNSYNCHRONISED = 35,
+    XMF_REFUSED_REFERS_ELSEWHERE = 36,
+    XMF_REFUSED_NOT_A_TITLE = 37,
+    XMF_REFUSED_RESULT_TOO_LARGE = 38,
+    XMF_REFUSED_DAMAGED_SHELF = 39
+};
+
+#ifdef XMF_STRUCTS
+/* Gives the meaning of a refusal's number: "answered" for 0, "not in the list" for a number that is
+ * not there. It is never null. */
+static inline const char *xmf_refusal_text(int number) {
+    static const char *const texts[] = {
+        "answered",
+        "fewer than 8 bytes, or not an XMF file",
+        "the version is not 1.00, 1.01 or 2.00",
+        "a field runs past the part that holds it",
+        "a number has more than four bytes, or a GUID more than nineteen",
+        "the length in the header is not the number of bytes received",
+        "the types table has a type twice, or more than 32 entries",
+        "the tree begins inside the header, or ends before it begins or past the file",
+        "a node does not fit its holder (the root: does not fill the tree), its header does not fit the node, "
+        "or metadata or unpackers run past the header",
+        "a node at depth 17",
+        "no row left: more than 256 nodes or 1,024 item rows, or the lent tables are smaller",
+        "a universal content of length 0, or a type that the file does not declare",
+        "an unpacker of an unknown kind",
+        "reference 0, or above 4",
+        "a folder that is packed, or whose contents do not follow in it",
+        "bytes left between a part's last field and its end",
+        "a reference leads into the header, past the file's end, or into the tree where no node starts",
+        "more than 268,435,455 bytes",
+        "the row asked for is not there",
+        "resolving ends at a folder",
+        "resolving ends at a URI",
+        "a fifth reference would be followed",
+        "the sheet, a resource, a converted text or the new file is longer than its buffer",
+        "no such item",
+        "a detached node is a folder, or shares a byte with another detached node; placed at the number that "
+        "refers to it",
+        "a content description is not readable: a field is cut short, a number has more than four bytes, a "
+        "kind is above 5, or bytes are left over",
+        "UTF-16 of odd length or with half of a surrogate pair, or bad UTF-8",
+        "call 0, or the shelf has no card with this desk, call and boat",
+        "all cards of the shelf are taken",
+        "the shelf has a card with this desk, call and boat already",
+        "the sheet is longer than a part of the shelf",
+        "the sheet is not well formed; the place is a line's number, counted from 1",
+        "a 1,001st file",
+        "fewer than ten bytes, not an ID3 tag, or not version 4 of it",
+        "the tag is cut short, has a size byte of 80h or more, or too small an extended size",
+        "the tag or a frame is unsynchronised",
+        "a node has reference 2 or 3",
+        "the content to be corrected is hidden, or one of several versions",
+        "the file with the new title would have more than 268,435,455 bytes",
+        "the shelf has more than 16 cards, or a taken card that is faulty",
+    };
+    return number < 0 || number > 39 ? "not in the list" : texts[number];
+}
+#endif
+/* tables.py: end */
+
+/* Both tables at full size, 108,544 bytes: better static or allocated than on a small stack. They may hold
+ * anything before a call. */
+struct xmf_tables {
+    uint64_t nodes[XMF_ALL_NODE_WORDS];
+    uint64_t items[XMF_ALL_ITEM_WORDS];
+};
+
+/* A node row; enum xmf_node explains its words. */
+struct xmf_node_row {
+    uint64_t start, length, header_length, contained, parent, depth, reference;
+    uint64_t target, extent, unpackers, unpacker_count, items, detached;
+};
+
+/* An item row; enum xmf_item explains its words. */
+struct xmf_item_row {
+    uint64_t node, number, kind, field, name_length, version, type, format, data, data_length;
+};
+
+/* A field to be found: XMF_STANDARD with a number, or XMF_CUSTOM with a name. */
+struct xmf_field {
+    uint64_t kind, number;
+    const uint8_t *name;
+    size_t name_length;
+};
+
+/* Sums over files; they begin all zero. */
+struct xmf_sums {
+    uint64_t files, refused, bytes[9];
+};
+
+/* The answers. The first member of each is the place of a refusal. */
+struct xmf_shape {
+    uint64_t refused_at;
+    uint64_t version;    /* 100, 101 or 200 */
+    size_t nodes, items; /* the number of rows; xmf_node_at and xmf_item_at give one */
+};
+struct xmf_found {
+    uint64_t refused_at;
+    size_t row; /* the number of the item row */
+    struct xmf_item_row item;
+};
+struct xmf_located {
+    uint64_t refused_at;
+    size_t place, length;
+    size_t row;          /* the node row whose unpackers apply */
+    uint64_t references; /* the number of references followed */
+};
+struct xmf_count {
+    uint64_t refused_at;
+    uint64_t count;
+};
+struct xmf_judged {
+    uint64_t refused_at;
+    uint64_t check; /* 0: it is a Mobile XMF file; otherwise the first check that fails, 1 to 8 */
+};
+struct xmf_kinds {
+    uint64_t refused_at;
+    uint64_t bytes[9]; /* by enum xmf_kind */
+};
+struct xmf_written {
+    uint64_t refused_at;
+    size_t length; /* the number of bytes written */
+};
+struct xmf_frame {
+    uint64_t refused_at;
+    char name[5]; /* the four bytes of its name, and a 0 */
+    size_t place, length;
+};
+
+#ifdef XMF_STRUCTS
+
+#ifdef __cplusplus
+#define XMF_AS(type, value) (static_cast<type>(value))
+#else
+#define XMF_AS(type, value) ((type)(value))
+#endif
+
+/* Gives the version of this header, XMF_VERSION. The number in the name libxmf.so.0 changes when programs
+ * have to be built anew. */
+static inline const char *xmf_version(void) {
+    return XMF_VERSION;
+}
+
+/* Gives a node row that is in the tables; all 0 for a number of 256 or more. */
+static inline struct xmf_node_row xmf_node_at(const struct xmf_tables *tables, size_t row) {
+    static const uint64_t none[XMF_NODE_WORDS] = {0};
+    const uint64_t *words = row < 256 ? tables->nodes + row * XMF_NODE_WORDS : none;
+    struct xmf_node_row node;
+    node.start = words[XMF_NODE_START];
+    node.length = words[XMF_NODE_LENGTH];
+    node.header_length = words[XMF_NODE_HEADER_LENGTH];
+    node.contained = words[XMF_NODE_CONTAINED];
+    node.parent = words[XMF_NODE_PARENT];
+    node.depth = words[XMF_NODE_DEPTH];
+    node.reference = words[XMF_NODE_REFERENCE];
+    node.target = words[XMF_NODE_TARGET];
+    node.extent = words[XMF_NODE_EXTENT];
+    node.unpackers = words[XMF_NODE_UNPACKERS];
+    node.unpacker_count = words[XMF_NODE_UNPACKER_COUNT];
+    node.items = words[XMF_NODE_ITEMS];
+    node.detached = words[XMF_NODE_DETACHED];
+    return node;
+}
+
+/* Gives the item row that ten words are. */
+static inline struct xmf_item_row xmf_item_of(const uint64_t *words) {
+    struct xmf_item_row item;
+    item.node = words[XMF_ITEM_NODE];
+    item.number = words[XMF_ITEM_NUMBER];
+    item.kind = words[XMF_ITEM_KIND];
+    item.field = words[XMF_ITEM_FIELD];
+    item.name_length = words[XMF_ITEM_NAME_LENGTH];
+    item.version = words[XMF_ITEM_VERSION];
+    item.type = words[XMF_ITEM_TYPE];
+    item.format = words[XMF_ITEM_FORMAT];
+    item.data = words[XMF_ITEM_DATA];
+    item.data_length = words[XMF_ITEM_DATA_LENGTH];
+    return item;
+}
+
+/* Gives an item row that is in the tables; all 0 for a number of 1,024 or more. */
+static inline struct xmf_item_row xmf_item_at(const struct xmf_tables *tables, size_t row) {
+    static const uint64_t none[XMF_ITEM_WORDS] = {0};
+    return xmf_item_of(row < 1024 ? tables->items + row * XMF_ITEM_WORDS : none);
+}
+
+/* Gives the standard field of a number. */
+static inline struct xmf_field xmf_standard(uint64_t number) {
+    struct xmf_field field;
+    field.kind = XMF_STANDARD;
+    field.number = number;
+    field.name = NULL;
+    field.name_length = 0;
+    return field;
+}
+
+/* Gives the custom field of a name that ends with a 0; its bytes must stay until it is used. A name that
+ * holds a 0 is put into the struct by hand. */
+static inline struct xmf_field xmf_custom(const char *name) {
+    struct xmf_field field;
+    field.kind = XMF_CUSTOM;
+    field.number = 0;
+    field.name = XMF_AS(const uint8_t *, XMF_AS(const void *, name));
+    field.name_length = 0;
+    while (name[field.name_length] != 0) {
+        field.name_length++;
+    }
+    return field;
+}
+
+/* Reads the tree, and the detached nodes that references lead to, into the tables (xmf_read_tree). */
+static inline int xmf_tree(const uint8_t *file, size_t size, struct xmf_tables *tables,
+                           struct xmf_shape *answer) {
+    uint64_t words[5];
+    xmf_read_tree(file, size, tables->nodes, XMF_ALL_NODE_WORDS, tables->items, XMF_ALL_ITEM_WORDS, words,
+                  5);
+    answer->refused_at = words[1];
+    answer->version = words[2];
+    answer->nodes = words[3];
+    answer->items = words[4];
+    return XMF_AS(int, words[0]);
+}
+
+/* Finds the first item of a field on the node of a row, or on the nearest node above it that has one
+ * (xmf_find). */
+static inline int xmf_nearest(const uint8_t *file, size_t size, struct xmf_tables *tables, size_t row,
+                              struct xmf_field field, struct xmf_found *answer) {
+    uint64_t words[XMF_ANSWER_WORDS];
+    xmf_find(file, size, tables->nodes, XMF_ALL_NODE_WORDS, tables->items, XMF_ALL_ITEM_WORDS, row,
+             field.kind, field.number, field.name, field.name_length, words, XMF_ANSWER_WORDS);
+    answer->refused_at = words[1];
+    answer->row = words[2];
+    answer->item = xmf_item_of(words + 3);
+    return XMF_AS(int, words[0]);
+}
+
+/* Finds the first item of a field on the node of a row itself (xmf_find_own). */
+static inline int xmf_own(const uint8_t *file, size_t size, struct xmf_tables *tables, size_t row,
+                          struct xmf_field field, struct xmf_found *answer) {
+    uint64_t words[XMF_ANSWER_WORDS];
+    xmf_find_own(file, size, tables->nodes, XMF_ALL_NODE_WORDS, tables->items, XMF_ALL_ITEM_WORDS, row,
+                 field.kind, field.number, field.name, field.name_length, words, XMF_ANSWER_WORDS);
+    answer->refused_at = words[1];
+    answer->row = words[2];
+    answer->item = xmf_item_of(words + 3);
+    return XMF_AS(int, words[0]);
+}
+
+/* Says where the resource of a row's node lies (xmf_resolve). */
+static inline int xmf_locate(const uint8_t *file, size_t size, struct xmf_tables *tables, size_t row,
+                             struct xmf_located *answer) {
+    uint64_t words[6];
+    xmf_resolve(file, size, tables->nodes, XMF_ALL_NODE_WORDS, tables->items, XMF_ALL_ITEM_WORDS, row,
+                words, 6);
+    answer->refused_at = words[1];
+    answer->place = words[2];
+    answer->length = words[3];
+    answer->row = words[4];
+    answer->references = words[5];
+    return XMF_AS(int, words[0]);
+}
+
+/* Copies the resource of a row's node (xmf_resource). It may hold hidden data: not for a ticket. */
+static inline int xmf_extract(const uint8_t *file, size_t size, struct xmf_tables *tables, size_t row,
+                              uint8_t *out, size_t room, struct xmf_located *answer) {
+    uint64_t words[6];
+    xmf_resource(file, size, tables->nodes, XMF_ALL_NODE_WORDS, tables->items, XMF_ALL_ITEM_WORDS, row, out,
+                 room, words, 6);
+    answer->refused_at = words[1];
+    answer->place = words[2];
+    answer->length = words[3];
+    answer->row = words[4];
+    answer->references = words[5];
+    return XMF_AS(int, words[0]);
+}
+
+/* Gives the count of a content description, an item row, for a channel and a resource (xmf_voice_count). */
+static inline int xmf_needs(const uint8_t *file, size_t size, struct xmf_tables *tables, size_t item_row,
+                            uint64_t channel, uint64_t resource, struct xmf_count *answer) {
+    uint64_t words[3];
+    xmf_voice_count(file, size, tables->nodes, XMF_ALL_NODE_WORDS, tables->items, XMF_ALL_ITEM_WORDS,
+                    item_row, channel, resource, words, 3);
+    answer->refused_at = words[1];
+    answer->count = words[2];
+    return XMF_AS(int, words[0]);
+}
+
+/* Judges whether the file is a Mobile XMF file (xmf_judge). */
+static inline int xmf_verdict(const uint8_t *file, size_t size, struct xmf_tables *tables,
+                              struct xmf_judged *answer) {
+    uint64_t words[3];
+    xmf_judge(file, size, tables->nodes, XMF_ALL_NODE_WORDS, tables->items, XMF_ALL_ITEM_WORDS, words, 3);
+    answer->refused_at = words[1];
+    answer->check = words[2];
+    return XMF_AS(int, words[0]);
+}
+
+/* Counts the bytes of the file by kind, and adds them to the sums (xmf_account). */
+static inline int xmf_bytes(const uint8_t *file, size_t size, struct xmf_tables *tables,
+                            struct xmf_sums *sums, struct xmf_kinds *answer) {
+    uint64_t words[11];
+    uint64_t totals[XMF_TOTAL_WORDS];
+    size_t kind;
+    totals[0] = sums->files;
+    totals[1] = sums->refused;
+    for (kind = 0; kind < 9; kind++) {
+        totals[kind + 2] = sums->bytes[kind];
+    }
+    xmf_account(file, size, tables->nodes, XMF_ALL_NODE_WORDS, tables->items, XMF_ALL_ITEM_WORDS, totals,
+                XMF_TOTAL_WORDS, words, 11);
+    answer->refused_at = words[1];
+    for (kind = 0; kind < 9; kind++) {
+        answer->bytes[kind] = words[kind + 2];
+        sums->bytes[kind] = totals[kind + 2];
+    }
+    sums->files = totals[0];
+    sums->refused = totals[1];
+    return XMF_AS(int, words[0]);
+}
+
+/* Writes the support sheet (xmf_write_sheet). */
+static inline int xmf_sheet(const uint8_t *file, size_t size, struct xmf_tables *tables, uint8_t *sheet,
+                            size_t room, struct xmf_written *answer) {
+    uint64_t words[3];
+    xmf_write_sheet(file, size, tables->nodes, XMF_ALL_NODE_WORDS, tables->items, XMF_ALL_ITEM_WORDS, sheet,
+                    room, words, 3);
+    answer->refused_at = words[1];
+    answer->length = words[2];
+    return XMF_AS(int, words[0]);
+}
+
+/* Writes the support sheet in its second edition (xmf_write_sheet2). */
+static inline int xmf_sheet2(const uint8_t *file, size_t size, struct xmf_tables *tables, uint8_t *sheet,
+                             size_t room, struct xmf_written *answer) {
+    uint64_t words[3];
+    xmf_write_sheet2(file, size, tables->nodes, XMF_ALL_NODE_WORDS, tables->items, XMF_ALL_ITEM_WORDS,
+                     sheet, room, words, 3);
+    answer->refused_at = words[1];
+    answer->length = words[2];
+    return XMF_AS(int, words[0]);
+}
+
+/* Writes the file with a title as the data of an item row (xmf_correct_title). The tables hold the new
+ * file's rows. */
+static inline int xmf_retitle(const uint8_t *file, size_t size, struct xmf_tables *tables, size_t item_row,
+                              const uint8_t *title, size_t title_length, uint8_t *out, size_t room,
+                              struct xmf_written *answer) {
+    uint64_t words[3];
+    xmf_correct_title(file, size, tables->nodes, XMF_ALL_NODE_WORDS, tables->items, XMF_ALL_ITEM_WORDS,
+                      item_row, title, title_length, out, room, words, 3);
+    answer->refused_at = words[1];
+    answer->length = words[2];
+    return XMF_AS(int, words[0]);
+}
+
+/* Converts UTF-16, high byte first, into UTF-8 (xmf_utf16_to_utf8). */
+static inline int xmf_to_utf8(const uint8_t *data, size_t size, uint8_t *text, size_t room,
+                              struct xmf_written *answer) {
+    uint64_t words[3];
+    xmf_utf16_to_utf8(data, size, text, room, words, 3);
+    answer->refused_at = words[1];
+    answer->length = words[2];
+    return XMF_AS(int, words[0]);
+}
+
+/* Converts UTF-8 into UTF-16, high byte first (xmf_utf8_to_utf16). */
+static inline int xmf_to_utf16(const uint8_t *text, size_t size, uint8_t *data, size_t room,
+                               struct xmf_written *answer) {
+    uint64_t words[3];
+    xmf_utf8_to_utf16(text, size, data, room, words, 3);
+    answer->refused_at = words[1];
+    answer->length = words[2];
+    return XMF_AS(int, words[0]);
+}
+
+/* Moves a sheet to its other edition (xmf_move_sheet). */
+static inline int xmf_other_edition(const uint8_t *sheet, size_t size, uint8_t *out, size_t room,
+                                    struct xmf_written *answer) {
+    uint64_t words[3];
+    xmf_move_sheet(sheet, size, out, room, words, 3);
+    answer->refused_at = words[1];
+    answer->length = words[2];
+    return XMF_AS(int, words[0]);
+}
+
+/* Counts the frames of an ID3v2.4 tag (xmf_id3_count). */
+static inline int xmf_tag_count(const uint8_t *tag, size_t size, struct xmf_count *answer) {
+    uint64_t words[3];
+    xmf_id3_count(tag, size, words, 3);
+    answer->refused_at = words[1];
+    answer->count = words[2];
+    return XMF_AS(int, words[0]);
+}
+
+/* Gives a frame of an ID3v2.4 tag by its number from 0 (xmf_id3_frame). */
+static inline int xmf_tag_frame(const uint8_t *tag, size_t size, size_t number, struct xmf_frame *answer) {
+    uint64_t words[5];
+    int i;
+    xmf_id3_frame(tag, size, number, words, 5);
+    answer->refused_at = words[1];
+    for (i = 0; i < 4; i++) {
+        answer->name[i] = XMF_AS(char, words[2] >> (24 - 8 * i) & 255);
+    }
+    answer->name[4] = 0;
+    answer->place = words[3];
+    answer->length = words[4];
+    return XMF_AS(int, words[0]);
+}
+
+/* The functions with structs for more groups of calls stand here. */
+
 #endif
 
 #endif

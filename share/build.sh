@@ -212,3 +212,13 @@ built_version() {
     sum=$(built_sum "$(built_crates xmf)") || return 1
     printf 'xmf %s\ncommit %s\nsources %s\nkit %s\n' "$number" "$commit" "$sum" "$pinned"
 }
+
+# Makes the shared library of the archive, in which only xmf_* is visible.
+built_shared() { # FILE
+    echo '{ global: xmf_*; local: *; };' >"$1.map" || return 1
+    gcc -shared -Wl,-soname,libxmf.so.0 -Wl,--version-script,"$1.map" -Wl,-z,defs -Wl,-z,now -Wl,-z,relro -o "$1" \
+        -Wl,--whole-archive "$root/target/staticlib/libcapi.a" -Wl,--no-whole-archive
+    set -- "$1" $?
+    rm -f "$1.map"
+    return "$2"
+}

@@ -39,9 +39,17 @@ def body(comment, headings=False):
     return [x for i, x in enumerate(out) if not (x == ".Pp" and i and out[i - 1].startswith(".Ss"))]
 
 
+def inline(part):
+    """The functions with structs: comment, type, name and parameters."""
+    return re.findall(r"/\*((?:(?!\*/).)*)\*/\s*\nstatic inline (\w[\w ]*?[ *]+)(xmf_\w+)\(([^)]*)\) \{", part, re.S)
+
+
 first, rest = re.match(r"/\*(.*?)\*/(.*)", text, re.S).groups()
+# the functions with structs stand in the last part, behind a comment of their own
+rest, about, last = re.fullmatch(r"(.*?)/\* ==== The functions with structs ====\n \*\n(.*?)\*/(.*)", rest, re.S).groups()
+structs = inline(last)
 functions = re.findall(r"/\*((?:(?!\*/).)*)\*/\s*\n(\w[\w ]*?[ *]+)(xmf_\w+)\(([^)]*)\);", rest, re.S)
-names = [name for _, _, name, _ in functions]
+names = [name for _, _, name, _ in [*functions, *structs]]
 out = [
     '.\\" Made of include/xmf.h by tools/manual3.py.',
     ".Dd November 17, 2026",
@@ -55,7 +63,7 @@ out = [
     ".Sh SYNOPSIS",
     ".In xmf.h",
 ]
-for _, kind, name, words in functions:
+for _, kind, name, words in [*functions, *structs]:
     out += [f".Ft {kind.strip()}", f".Fo {name}"]
     out += [f'.Fa "{" ".join(word.split())}"' for word in words.split(",")]
     out.append(".Fc")
@@ -66,6 +74,12 @@ declared = declared[: re.search(r"/\*[^*]*\*/\s*\n\w[\w ]*?[ *]+xmf_\w+\(|/\* Re
 out += [roff(line.rstrip()) for line in declared.strip().split("\n")]
 out += [".Ed", ".Sh FUNCTIONS"]
 for comment, _, name, _ in functions:
+    out += [f".Ss {name}", *body(comment)[0 if body(comment)[0] != ".Pp" else 1 :]]
+out += [".Sh FUNCTIONS WITH STRUCTS", *body(about)]
+declared = last[last.index("/* tables.py: begin") : last.index("#ifdef XMF_STRUCTS\n\n")]
+declared = re.sub(r"/\* tables\.py: \w+.*?\*/\n|#ifdef XMF_STRUCTS\n.*?#endif\n\n?", "", declared, flags=re.S)
+out += [".Ss Refusals and structs", ".Bd -literal", *(roff(line.rstrip()) for line in declared.strip().split("\n")), ".Ed"]
+for comment, _, name, _ in structs:
     out += [f".Ss {name}", *body(comment)[0 if body(comment)[0] != ".Pp" else 1 :]]
 out += [".Sh SEE ALSO", ".Xr xmf 1"]
 print("\n".join(out))

@@ -1,12 +1,15 @@
 #!/bin/sh
 # Compares every list of refusals with share/refusals.tsv: README.md, man/xmf.1, include/xmf.h, rust/xmf, and the names in crates/cursor; and the
-# checks of the verdict in man/xmf.1 with share/checks.tsv. Needs python3. The last line is `N passed, M failed`.
+# checks of the verdict in man/xmf.1 with share/checks.tsv. Runs tools/tables.py --check, which compares what is made of the table and of
+# share/version, and tools/declarations.py, which compares the declarations of the calls. Needs python3. The last line is `N passed, M failed`.
 set -u
 
 root=$(CDPATH='' cd -- "$(dirname -- "$0")/.." && pwd -P) || exit 1
 cd -- "$root" || exit 1
 exec python3 - <<'PYTHON'
 import re
+import subprocess
+import sys
 
 
 def read(name):
@@ -69,6 +72,11 @@ text = read("crates/cursor/specs/Refusals.antt")
 compare("Refusals.antt", names, sorted((int(n), a) for a, n in re.findall(r"^(\w+) = (\d+)$", text, re.M)))
 text = read("crates/cursor/src/lib.rt")
 compare("cursor", constants, [(int(n), a) for a, n in re.findall(r"^pub const (\w+): u64 = (\d+);$", text, re.M)])
+
+for script in (["tools/tables.py", "--check"], ["tools/declarations.py"]):
+    results.append(subprocess.run([sys.executable, *script], stdout=subprocess.DEVNULL).returncode == 0)
+    if not results[-1]:
+        print(*script, "failed")
 
 print(f"{sum(results)} passed, {len(results) - sum(results)} failed")
 raise SystemExit(not all(results))

@@ -1,6 +1,6 @@
 //! Compares the proved reader with the plain one on generated cases.
 //!
-//! `differ [CASES [SEED [FIRST [PAIRS]]]]` takes the cases from number FIRST on (a million from number
+//! `differ [--quick] [CASES [SEED [FIRST [PAIRS]]]]` takes the cases from number FIRST on (a million from number
 //! 0, with seed 1, when nothing is said). For each it asks both readers all questions, with the
 //! same contents of tables and buffers before, and compares the answers, each word of both tables
 //! and each byte of the sheet and of a copied resource. Each case also asks one question through the interface of words, with
@@ -48,18 +48,27 @@
 //! of its cuts, each file that differs from it in one byte, and two very long files. Then on some
 //! content descriptions, each cut at every byte and changed at every byte to every other value.
 //!
-//! It stops at the first difference, with exit status 1.
+//! Every ten seconds it says on standard error how far it is.
+//!
+//! It stops at the first difference, with exit status 1. Before it prints the file, it makes it as short as
+//! it can in some seconds, as long as the readers differ.
+//!
+//! `--quick` is for a look that takes less than a minute: 3,000 cases when nothing is said, one in 16 of the
+//! changed samples, and no very long files.
 
 mod buffers;
 mod changed;
 mod compare;
 mod mends;
+mod progress;
 mod readers;
 mod shelves;
+mod shrink;
 mod titles;
 
 use compare::{Comparer, Difference};
 use generate::descriptions::{self, Described};
+use generate::encode::LARGEST_NUMBER;
 use generate::mends::{mend, Mend};
 use generate::model::Field;
 use generate::sheets::{sheet, Sheet};
@@ -76,26 +85,36 @@ use std::{env, fmt::Write};
 const CASES_FOR_A_PAIR: u64 = 10;
 /// So many content descriptions are changed at every byte.
 const CHANGED_DESCRIPTIONS: u64 = 24;
+/// The cases, when nothing is said; and those of a quick run, with the changed descriptions and the changed
+/// samples, of which it takes one in this many.
+const CASES: u64 = 1_000_000;
+const QUICK_CASES: u64 = 3_000;
+const QUICK_DESCRIPTIONS: u64 = 4;
+const QUICK_SAMPLES: u64 = 16;
 /// The most bytes of a file that a report shows.
 const MOST_SHOWN: usize = 70_000;
 
 fn main() -> ExitCode {
-    let arguments: Result<Vec<u64>, _> = env::args().skip(1).map(|word| word.parse()).collect();
+    let mut words: Vec<String> = env::args().skip(1).collect();
+    let is_quick = words.iter().any(|word| word == "--quick");
+    words.retain(|word| word != "--quick");
+    let arguments: Result<Vec<u64>, _> = words.iter().map(|word| word.parse()).collect();
     let arguments = match arguments {
         Ok(arguments) if arguments.len() <= 4 => arguments,
         _ => {
-            eprintln!("usage: differ [CASES [SEED [FIRST [PAIRS]]]]");
+            eprintln!("usage: differ [--quick] [CASES [SEED [FIRST [PAIRS]]]]");
             return ExitCode::from(2);
         }
     };
     let argument = |index: usize, unsaid| arguments.get(index).copied().unwrap_or(unsaid);
-    let cases = argument(0, 1_000_000);
+    let cases = argument(0, if is_quick { QUICK_CASES } else { CASES });
     let seed = argument(1, 1);
     let first = argument(2, 0);
     let pairs = argument(3, cases / CASES_FOR_A_PAIR);
     let mut comparer = Comparer::new(seed);
-    let compared = compare_samples(&mut comparer)
-        .and_then(|()| compare_descriptions(&mut comparer, seed))
+    progress::begin();
+    let compared = compare_samples(&mut comparer, seed, is_quick)
+        .and_then(|()| compare_descriptions(&mut comparer, seed, is_quick))
         .and_then(|()| compare_cases(&mut comparer, cases, seed, first))
         .and_then(|()| compare_pairs(&mut comparer, pairs, seed, first));
     match compared {
@@ -112,29 +131,44 @@ fn main() -> ExitCode {
 }
 
 /// Compares on all changed samples, and prints how many there are, or reports a difference.
-fn compare_samples(comparer: &mut Comparer) -> Result<(), String> {
-    let mut count = 0;
+fn compare_samples(comparer: &mut Comparer, seed: u64, is_quick: bool) -> Result<(), String> {
+    progress::stage("changed samples", 0);
+    let (mut count, mut compared) = (0, 0);
     changed::for_each(|case| {
         let number = count;
         count += 1;
+        progress::step();
+        if is_quick && (number % QUICK_SAMPLES != 0 || case.file.len() >= LARGEST_NUMBER) {
+            return Ok(());
+        }
+        compared += 1;
         comparer
             .case(case, number)
             .and_then(|()| comparer.account(case, number))
             .map_err(|difference| {
-                case_report(&format!("changed sample {number}"), case, &difference)
+                let (case, difference) = shrink::case(seed, number, case, difference);
+                case_report(&format!("changed sample {number}"), &case, &difference)
             })
     })?;
-    println!("changed samples: {count}");
+    println!("changed samples: {compared}");
     Ok(())
 }
 
 /// Compares on all changes of some content descriptions, and prints how many there are, or reports a
 /// difference.
-fn compare_descriptions(comparer: &mut Comparer, seed: u64) -> Result<(), String> {
+fn compare_descriptions(comparer: &mut Comparer, seed: u64, is_quick: bool) -> Result<(), String> {
+    progress::stage("changed descriptions", 0);
+    let descriptions = if is_quick {
+        QUICK_DESCRIPTIONS
+    } else {
+        CHANGED_DESCRIPTIONS
+    };
     let mut count = 0;
-    for number in 0..CHANGED_DESCRIPTIONS {
+    for number in 0..descriptions {
         for case in descriptions::every_change(seed, number) {
+            progress::step();
             comparer.description(&case, count).map_err(|difference| {
+                let (case, difference) = shrink::description(seed, count, &case, difference);
                 let name = format!("changed description {count} of seed {seed}");
                 description_report(&name, &case, &difference)
             })?;
@@ -147,24 +181,30 @@ fn compare_descriptions(comparer: &mut Comparer, seed: u64) -> Result<(), String
 
 /// Compares on generated cases and texts, and prints how many there are, or reports a difference.
 fn compare_cases(comparer: &mut Comparer, cases: u64, seed: u64, first: u64) -> Result<(), String> {
+    progress::stage("cases", cases);
     let start = Instant::now();
     for number in first..first.saturating_add(cases) {
+        progress::step();
         let case = generate::case(seed, number);
         comparer
             .case(&case, number)
             .and_then(|()| comparer.account(&case, number))
             .map_err(|difference| {
+                let (case, difference) = shrink::case(seed, number, &case, difference);
                 case_report(&format!("case {number} of seed {seed}"), &case, &difference)
             })?;
         let text = texts::text(seed, number);
         comparer.text(&text, number).map_err(|difference| {
+            let (text, difference) = shrink::text(seed, number, &text, difference);
             text_report(&format!("text {number} of seed {seed}"), &text, &difference)
         })?;
         comparer.editions(&case).map_err(|difference| {
+            let (case, difference) = shrink::case(seed, number, &case, difference);
             case_report(&format!("case {number} of seed {seed}"), &case, &difference)
         })?;
         let sheet = sheet(seed, number);
         comparer.sheet(&sheet, number).map_err(|difference| {
+            let (sheet, difference) = shrink::sheet(seed, number, &sheet, difference);
             sheet_report(
                 &format!("sheet {number} of seed {seed}"),
                 &sheet,
@@ -175,11 +215,14 @@ fn compare_cases(comparer: &mut Comparer, cases: u64, seed: u64, first: u64) -> 
         comparer
             .description(&described, number)
             .map_err(|difference| {
+                let (described, difference) =
+                    shrink::description(seed, number, &described, difference);
                 let name = format!("description {number} of seed {seed}");
                 description_report(&name, &described, &difference)
             })?;
         let tag = tags::tag(seed, number);
         comparer.tag(&tag, number).map_err(|difference| {
+            let (tag, difference) = shrink::tag(seed, number, &tag, difference);
             tag_report(&format!("tag {number} of seed {seed}"), &tag, &difference)
         })?;
         let mend = mend(seed, number);
@@ -196,6 +239,7 @@ fn compare_cases(comparer: &mut Comparer, cases: u64, seed: u64, first: u64) -> 
         })?;
         let title = title(seed, number);
         comparer.title(&title, number).map_err(|difference| {
+            let (title, difference) = shrink::title(seed, number, &title, difference);
             title_report(
                 &format!("title {number} of seed {seed}"),
                 &title,
@@ -214,10 +258,13 @@ fn compare_cases(comparer: &mut Comparer, cases: u64, seed: u64, first: u64) -> 
 /// Compares on generated pairs, and prints how many there are and in what kinds of private places
 /// they differ, or reports a difference.
 fn compare_pairs(comparer: &mut Comparer, pairs: u64, seed: u64, first: u64) -> Result<(), String> {
+    progress::stage("pairs", pairs);
     let start = Instant::now();
     for number in first..first.saturating_add(pairs) {
+        progress::step();
         let pair = generate::pair(seed, number);
         comparer.pair(&pair, number).map_err(|difference| {
+            let (pair, difference) = shrink::pair(seed, number, &pair, difference);
             pair_report(&format!("pair {number} of seed {seed}"), &pair, &difference)
         })?;
         comparer
@@ -225,6 +272,7 @@ fn compare_pairs(comparer: &mut Comparer, pairs: u64, seed: u64, first: u64) -> 
             .and_then(|()| comparer.account_pair(&pair, number))
             .and_then(|()| comparer.mend_pair(&pair, seed, number))
             .map_err(|difference| {
+                let (pair, difference) = shrink::pair(seed, number, &pair, difference);
                 pair_report(&format!("pair {number} of seed {seed}"), &pair, &difference)
             })?;
     }

@@ -27,7 +27,7 @@ impl Desk {
 
     /// Corrects the title of a file by the proved reader.
     pub fn proved(&mut self, file: &[u8], row: u64, data: &[u8]) -> Answer {
-        let [nodes, items] = [&mut self.nodes, &mut self.items].map(lent);
+        let [nodes, items] = [&mut self.nodes, &mut self.items].map(|words| lent(words));
         let room = lent(&mut self.room);
         let answer = xmf::correct_title(file, nodes, items, row as usize, data, room);
         crate::readers::counted(answer.map_err(|refusal| (refusal.number, refusal.place)))
@@ -35,14 +35,14 @@ impl Desk {
 
     /// The same with the answer as words, in a buffer of any size.
     pub fn words(&mut self, title: &Title, answer: &mut [u64]) {
-        let [nodes, items] = [&mut self.nodes, &mut self.items].map(lent);
+        let [nodes, items] = [&mut self.nodes, &mut self.items].map(|words| lent(words));
         let (row, room) = (title.row as usize, lent(&mut self.room));
         xmf::words::correct_title(&title.file, nodes, items, row, &title.data, room, answer);
     }
 
     /// Corrects the title of a file by the plain reader.
     pub fn plain(&mut self, title: &Title) -> Answer {
-        let [nodes, items] = [&mut self.nodes, &mut self.items].map(lent);
+        let [nodes, items] = [&mut self.nodes, &mut self.items].map(|words| lent(words));
         let room = lent(&mut self.room);
         let answer = plain::correct_title(&title.file, nodes, items, title.row, &title.data, room);
         crate::readers::counted(answer.map_err(|refusal| (refusal.number, refusal.place)))
@@ -50,7 +50,7 @@ impl Desk {
 
     /// Reads a file into the tables by the proved reader.
     pub fn read(&mut self, file: &[u8]) -> Option<xmf::Tree> {
-        let [nodes, items] = [&mut self.nodes, &mut self.items].map(lent);
+        let [nodes, items] = [&mut self.nodes, &mut self.items].map(|words| lent(words));
         xmf::read_tree(file, nodes, items).ok()
     }
 
@@ -79,7 +79,7 @@ impl Desk {
 }
 
 /// What is lent of words or bytes with a guard.
-fn lent<T>(all: &mut Vec<T>) -> &mut [T] {
+fn lent<T>(all: &mut [T]) -> &mut [T] {
     let length = all.len() - GUARD;
     &mut all[..length]
 }

@@ -582,7 +582,7 @@ fn sheets_have_converted_texts() {
         let tree = read_tree(&file, &mut nodes, &mut items).expect("a well-formed file");
         for row in items.chunks(item::WORDS).take(tree.items as usize) {
             let data = &file[row[item::DATA] as usize..][..row[item::DATA_LENGTH] as usize];
-            let is_good = utf16_to_utf8(data, &mut vec![0; 200]).is_ok();
+            let is_good = utf16_to_utf8(data, &mut [0; 200]).is_ok();
             match (row[item::FORMAT], is_good) {
                 (2, true) if data.len() > 2 => converted += 1,
                 (2, false) => escaped += 1,

@@ -120,9 +120,9 @@ impl Sheet<'_> {
         self.bytes(b"\t")?;
         let text = data(file, words);
         let is_utf16 = words[item::FORMAT] == UTF16;
-        match is_utf16.then(|| unicode::characters(text)).flatten() {
-            Some(characters) => self.converted(characters)?,
-            None => self.text(text)?,
+        match is_utf16.then(|| unicode::text(text)) {
+            Some(Ok(converted)) => self.converted(&converted)?,
+            _ => self.text(text)?,
         }
         self.bytes(b"\n")
     }
@@ -168,13 +168,14 @@ impl Sheet<'_> {
     }
 
     /// Adds a converted text: UTF-8 as itself, but what is below 80h as in any text.
-    fn converted(&mut self, characters: impl Iterator<Item = u32>) -> Result<(), Refusal> {
-        for value in characters {
-            let bytes = unicode::utf8(value);
-            if value < 0x80 {
-                self.text(bytes.as_slice())?;
+    fn converted(&mut self, text: &str) -> Result<(), Refusal> {
+        for character in text.chars() {
+            let bytes = &mut [0; 4];
+            let bytes = character.encode_utf8(bytes).as_bytes();
+            if character.is_ascii() {
+                self.text(bytes)?;
             } else {
-                self.bytes(bytes.as_slice())?;
+                self.bytes(bytes)?;
             }
         }
         Ok(())

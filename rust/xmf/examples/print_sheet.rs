@@ -2,6 +2,7 @@
 
 use std::io::{self, Write};
 use std::{env, fs, process};
+use xmf::{File, Tables};
 
 /// The room for a sheet.
 const ROOM: usize = 65_536;
@@ -11,12 +12,12 @@ fn main() -> io::Result<()> {
         eprintln!("usage: print_sheet FILE");
         process::exit(2);
     };
-    let file = fs::read(path)?;
-    let mut nodes = vec![0; xmf::ALL_NODE_WORDS];
-    let mut items = vec![0; xmf::ALL_ITEM_WORDS];
-    let mut sheet = vec![0; ROOM];
-    match xmf::write_sheet(&file, &mut nodes, &mut items, &mut sheet) {
-        Ok(length) => io::stdout().write_all(&sheet[..length]),
+    let bytes = fs::read(path)?;
+    let mut tables = Box::new(Tables::default());
+    let mut room = vec![0; ROOM];
+    let sheet = File::read(&bytes, &mut tables).and_then(|mut file| file.write_sheet(&mut room));
+    match sheet {
+        Ok(sheet) => io::stdout().write_all(sheet),
         Err(refusal) => writeln!(io::stdout(), "R\t{}\t{}", refusal.number, refusal.place),
     }
 }

@@ -24,25 +24,54 @@
 //!
 //! Every place is counted from the file's first byte.
 //!
+//! [`File`] puts names on all this: it reads a file into [`Tables`], has [`Node`]s and [`Item`]s, and asks
+//! the questions.
+//!
+//! ```
+//! use xmf::{Field, File, Tables, Version};
+//!
+//! let mut tables = Tables::default();
+//! let mut file = File::read(include_bytes!("../../../samples/worked.xmf"), &mut tables)?;
+//! assert_eq!(file.version(), Version::V200);
+//! for node in file.nodes() {
+//!     println!("node {} at {}, depth {}", node.row, node.start, node.depth);
+//! }
+//! assert_eq!(file.find(1, Field::Custom(b"a"))?.data(), b"Hi");
+//! # Ok::<(), xmf::Refusal>(())
+//! ```
+//!
+//! The functions below take tables of any size, and give rows as words: [`node`] and [`item`] name their
+//! columns.
+//!
 //! ```
 //! use xmf::{Field, ALL_ITEM_WORDS, ALL_NODE_WORDS};
 //!
-//! let file = std::fs::read("../../samples/worked.xmf").unwrap();
-//! let mut nodes = vec![0; ALL_NODE_WORDS];
-//! let mut items = vec![0; ALL_ITEM_WORDS];
-//! let tree = xmf::read_tree(&file, &mut nodes, &mut items).unwrap();
+//! let file = include_bytes!("../../../samples/worked.xmf");
+//! let mut nodes = [0; ALL_NODE_WORDS];
+//! let mut items = [0; ALL_ITEM_WORDS];
+//! let tree = xmf::read_tree(file, &mut nodes, &mut items).unwrap();
 //! assert_eq!((tree.version, tree.nodes, tree.items), (200, 2, 3));
 //!
-//! let found = xmf::find(&file, &mut nodes, &mut items, 1, Field::Custom(b"a")).unwrap();
+//! let found = xmf::find(file, &mut nodes, &mut items, 1, Field::Custom(b"a")).unwrap();
 //! let data = found.words[xmf::item::DATA] as usize;
 //! let length = found.words[xmf::item::DATA_LENGTH] as usize;
 //! assert_eq!(&file[data..data + length], b"Hi");
 //! ```
+//!
+//! The crate needs no standard library and no allocation.
 
-use std::{error, fmt};
+#![no_std]
+
+use core::{error, fmt};
 
 pub mod c;
+mod kind;
+mod typed;
 pub mod words;
+
+pub use kind::{RefusalKind, Verdict, VERSION};
+pub use typed::{other_edition, to_utf16, to_utf8, Content, File, Format, Frame, Item, Node};
+pub use typed::{Reference, Tables, Tag, Version};
 
 /// The words of a table with as many node rows as there may be.
 pub const ALL_NODE_WORDS: usize = 256 * node::WORDS;
@@ -128,6 +157,7 @@ pub struct Refusal {
 
 impl Refusal {
     /// What the number means.
+    #[must_use]
     pub fn meaning(&self) -> &'static str {
         match self.number {
             1 => "fewer than 8 bytes, or not an XMF file",
@@ -214,8 +244,9 @@ pub struct Tree {
     pub items: usize,
 }
 
-/// A field to be found.
-#[derive(Clone, Copy, Debug, PartialEq, Eq)]
+/// A field of an item, as it is found and as it is given.
+#[derive(Clone, Copy, Debug, PartialEq, Eq, Hash)]
+#[non_exhaustive]
 pub enum Field<'a> {
     /// A standard field, by its number.
     Standard(u64),
@@ -270,6 +301,7 @@ pub struct Kinds {
 
 impl Kinds {
     /// The counts, in the order of the fields.
+    #[must_use]
     pub fn counts(&self) -> [u64; 9] {
         [
             self.header,
@@ -315,6 +347,10 @@ pub struct Totals {
 }
 
 /// Reads the tree of a file, and the detached nodes that references lead to, into the lent tables.
+///
+/// # Errors
+///
+/// The reader's refusals: 1 to 17 and 24.
 pub fn read_tree(file: &[u8], nodes: &mut [u64], items: &mut [u64]) -> Result<Tree, Refusal> {
     let mut answer = [0; 5];
     words::read_tree(file, nodes, items, &mut answer);
@@ -329,7 +365,10 @@ pub fn read_tree(file: &[u8], nodes: &mut [u64], items: &mut [u64]) -> Result<Tr
 /// Finds the first item of a field on the node of a row, or on the nearest node above it that has
 /// one. From a detached node it looks at that node only. Hidden items are found too.
 ///
-/// Refused with 18 when there is no such row, with 23 when there is no such item.
+/// # Errors
+///
+/// Those of [`read_tree`]. Refused with 18 when there is no such row, with 23 when there is no such
+/// item.
 pub fn find(
     file: &[u8],
     nodes: &mut [u64],
@@ -344,7 +383,10 @@ pub fn find(
 
 /// Finds the first item of a field on the node of a row itself. Hidden items are found too.
 ///
-/// Refused with 18 when there is no such row, with 23 when the node has no such item.
+/// # Errors
+///
+/// Those of [`read_tree`]. Refused with 18 when there is no such row, with 23 when the node has no
+/// such item.
 pub fn find_own(
     file: &[u8],
     nodes: &mut [u64],
@@ -368,8 +410,10 @@ fn found(answer: [u64; ANSWER_WORDS]) -> Result<Found, Refusal> {
 
 /// Resolves the resource of a row's node, following at most four references.
 ///
-/// Refused with 18 when there is no such row, with 19 when it ends at a folder, with 20 when it
-/// ends at a URI, with 21 when a fifth reference would be followed.
+/// # Errors
+///
+/// Those of [`read_tree`]. Refused with 18 when there is no such row, with 19 when it ends at a
+/// folder, with 20 when it ends at a URI, with 21 when a fifth reference would be followed.
 pub fn resolve(
     file: &[u8],
     nodes: &mut [u64],
@@ -396,6 +440,10 @@ fn resolved(answer: [u64; 6]) -> Result<Resource, Refusal> {
 ///
 /// A reference 2 may lead to any place after the file header, so these bytes may include hidden
 /// data. Do not put them into a ticket.
+///
+/// # Errors
+///
+/// Those of [`resolve`].
 pub fn resource<'a>(
     file: &'a [u8],
     nodes: &mut [u64],
@@ -408,24 +456,27 @@ pub fn resource<'a>(
 
 /// Resolves as [`resolve`] does, and copies the resource into a lent buffer.
 ///
-/// Bytes of the buffer past the resource are 0; after a refusal all are. Refused as [`resolve`] is, then
-/// with 22 when the resource is longer than the buffer. The bytes may include hidden data, as those of
-/// [`resource`] may.
+/// Bytes of the buffer past the resource are 0; after a refusal all are. The bytes may include hidden
+/// data, as those of [`resource`] may.
 ///
 /// ```
 /// use xmf::{ALL_ITEM_WORDS, ALL_NODE_WORDS};
 ///
-/// let file = std::fs::read("../../samples/worked.xmf").unwrap();
+/// let file = include_bytes!("../../../samples/worked.xmf");
 /// let mut nodes = vec![0; ALL_NODE_WORDS];
 /// let mut items = vec![0; ALL_ITEM_WORDS];
 /// let mut out = [1; 4];
-/// let found = xmf::copy_resource(&file, &mut nodes, &mut items, 1, &mut out).unwrap();
+/// let found = xmf::copy_resource(file, &mut nodes, &mut items, 1, &mut out).unwrap();
 /// assert_eq!((found.place, found.length), (54, 2));
 /// assert_eq!(out, [0xAA, 0xBB, 0, 0]);
-/// let short = xmf::copy_resource(&file, &mut nodes, &mut items, 1, &mut out[..1]);
+/// let short = xmf::copy_resource(file, &mut nodes, &mut items, 1, &mut out[..1]);
 /// assert_eq!(short.unwrap_err().number, 22);
 /// assert_eq!(out, [0, 0xBB, 0, 0]);
 /// ```
+///
+/// # Errors
+///
+/// Those of [`resolve`], then 22 when the resource is longer than the buffer.
 pub fn copy_resource(
     file: &[u8],
     nodes: &mut [u64],
@@ -441,21 +492,23 @@ pub fn copy_resource(
 /// The count that an item row, a content description, gives for a channel and a resource, both
 /// numbered from 0.
 ///
-/// Refused with 18 when there is no such item row, with 23 when it is no universal field 13 in format 6
-/// or 7, with 25 when its data is not readable, placed at the first fault, then with 23 when it describes
-/// no such channel or resource.
-///
 /// ```
 /// use xmf::{item, ALL_ITEM_WORDS, ALL_NODE_WORDS};
 ///
-/// let file = std::fs::read("../../samples/mobile.xmf").unwrap();
+/// let file = include_bytes!("../../../samples/mobile.xmf");
 /// let mut nodes = vec![0; ALL_NODE_WORDS];
 /// let mut items = vec![0; ALL_ITEM_WORDS];
-/// let tune = xmf::find_own(&file, &mut nodes, &mut items, 1, xmf::Field::Standard(13)).unwrap();
+/// let tune = xmf::find_own(file, &mut nodes, &mut items, 1, xmf::Field::Standard(13)).unwrap();
 /// assert_eq!(tune.words[item::FORMAT], 6);
-/// let voices = xmf::voice_count(&file, &mut nodes, &mut items, tune.row, 0, 0);
+/// let voices = xmf::voice_count(file, &mut nodes, &mut items, tune.row, 0, 0);
 /// assert_eq!(voices, Ok(4));
 /// ```
+///
+/// # Errors
+///
+/// Those of [`read_tree`]. Refused with 18 when there is no such item row, with 23 when it is no
+/// universal field 13 in format 6 or 7, with 25 when its data is not readable, placed at the first
+/// fault, then with 23 when it describes no such channel or resource.
 pub fn voice_count(
     file: &[u8],
     nodes: &mut [u64],
@@ -472,6 +525,10 @@ pub fn voice_count(
 
 /// Judges whether a file is a Mobile XMF file: 0, or the number 1 to 8 of the first check that
 /// fails.
+///
+/// # Errors
+///
+/// Those of [`read_tree`].
 pub fn judge(file: &[u8], nodes: &mut [u64], items: &mut [u64]) -> Result<u64, Refusal> {
     let mut answer = [0; 3];
     words::judge(file, nodes, items, &mut answer);
@@ -482,9 +539,8 @@ pub fn judge(file: &[u8], nodes: &mut [u64], items: &mut [u64]) -> Result<u64, R
 /// Counts the bytes of a file by kind, and adds them to the totals. Each byte is of one kind by its
 /// place, and the counts sum to the file's length.
 ///
-/// A refused file is one more file and one more refused. Refused with 32, before the file is read, when
-/// the totals have 1,000 files; they are kept then. A sum that would not fit stays at the greatest
-/// number, which no totals that begin all zero come to.
+/// A refused file is one more file and one more refused. A sum that would not fit stays at the
+/// greatest number, which no totals that begin all zero come to.
 ///
 /// ```
 /// use xmf::{Totals, ALL_ITEM_WORDS, ALL_NODE_WORDS};
@@ -492,13 +548,21 @@ pub fn judge(file: &[u8], nodes: &mut [u64], items: &mut [u64]) -> Result<u64, R
 /// let mut nodes = vec![0; ALL_NODE_WORDS];
 /// let mut items = vec![0; ALL_ITEM_WORDS];
 /// let mut totals = Totals::default();
-/// for name in ["mobile", "cut"] {
-///     let file = std::fs::read(format!("../../samples/{name}.xmf")).unwrap();
-///     let _ = xmf::account(&file, &mut nodes, &mut items, &mut totals);
+/// let files: [&[u8]; 2] = [
+///     include_bytes!("../../../samples/mobile.xmf"),
+///     include_bytes!("../../../samples/cut.xmf"),
+/// ];
+/// for file in files {
+///     let _ = xmf::account(file, &mut nodes, &mut items, &mut totals);
 /// }
 /// assert_eq!((totals.files, totals.refused), (2, 1));
 /// assert_eq!((totals.kinds.inline, totals.kinds.rest), (63, 0));
 /// ```
+///
+/// # Errors
+///
+/// Those of [`read_tree`]. Refused with 32, before the file is read, when the totals have 1,000
+/// files; they are kept then.
 pub fn account(
     file: &[u8],
     nodes: &mut [u64],
@@ -521,8 +585,11 @@ pub fn account(
 
 /// Writes the support sheet of a file into a lent buffer and answers the number of bytes written.
 ///
-/// Bytes of the buffer past the sheet are 0; after a refusal all are. Refused with 22 when the
-/// sheet is longer than the buffer.
+/// Bytes of the buffer past the sheet are 0; after a refusal all are.
+///
+/// # Errors
+///
+/// Those of [`read_tree`]. Refused with 22 when the sheet is longer than the buffer.
 pub fn write_sheet(
     file: &[u8],
     nodes: &mut [u64],
@@ -541,16 +608,20 @@ pub fn write_sheet(
 /// ```
 /// use xmf::{ALL_ITEM_WORDS, ALL_NODE_WORDS};
 ///
-/// let file = std::fs::read("../../samples/folders.xmf").unwrap();
+/// let file = include_bytes!("../../../samples/folders.xmf");
 /// let mut nodes = vec![0; ALL_NODE_WORDS];
 /// let mut items = vec![0; ALL_ITEM_WORDS];
 /// let [mut first, mut second, mut moved] = [[0; 1000]; 3];
-/// let length = xmf::write_sheet(&file, &mut nodes, &mut items, &mut first).unwrap();
-/// let length2 = xmf::write_sheet2(&file, &mut nodes, &mut items, &mut second).unwrap();
+/// let length = xmf::write_sheet(file, &mut nodes, &mut items, &mut first).unwrap();
+/// let length2 = xmf::write_sheet2(file, &mut nodes, &mut items, &mut second).unwrap();
 /// assert!(second.starts_with(b"XMF2\t1.01\t237\t6\t8\nN\t0\t0\t1\t1\t61\t155\nM\t0\tS\t9\t0\t0\t"));
 /// assert_eq!(xmf::move_sheet(&first[..length], &mut moved), Ok(length2));
 /// assert_eq!(moved, second);
 /// ```
+///
+/// # Errors
+///
+/// Those of [`write_sheet`].
 pub fn write_sheet2(
     file: &[u8],
     nodes: &mut [u64],
@@ -570,11 +641,13 @@ pub fn write_sheet2(
 /// the others; all else is copied. The tables hold the new file's rows. Bytes of the buffer past the
 /// new file are 0; after a refusal all are. The same title again gives the same file.
 ///
-/// Refused with 18 when there is no such item row, with 36 when a node has reference 2 or 3, with 37
-/// when the content is hidden or not universal, with 38 when the new file would be longer than a file
-/// may be, with 22 when it is longer than the buffer.
-///
 /// The new file holds the hidden bytes of the old one.
+///
+/// # Errors
+///
+/// Those of [`read_tree`]. Refused with 18 when there is no such item row, with 36 when a node has
+/// reference 2 or 3, with 37 when the content is hidden or not universal, with 38 when the new file
+/// would be longer than a file may be, with 22 when it is longer than the buffer.
 pub fn correct_title(
     file: &[u8],
     nodes: &mut [u64],
@@ -645,12 +718,15 @@ pub fn mend(
 /// Converts UTF-16, high byte first, into UTF-8 in a lent buffer, and answers the number of bytes
 /// written. One leading FEFF is dropped.
 ///
-/// Bytes of the buffer past the text are 0; after a refusal all are. Refused with 26 when the data has
-/// an odd length or half of a surrogate pair, placed in the data where the first bad character begins,
-/// then with 22 when the text is longer than the buffer.
+/// Bytes of the buffer past the text are 0; after a refusal all are.
 ///
 /// Hidden text is converted only here, on request: the sheet never shows it, and what this function
 /// gives of it is outside demand 3. Do not put it into a ticket.
+///
+/// # Errors
+///
+/// Refused with 26 when the data has an odd length or half of a surrogate pair, placed in the data
+/// where the first bad character begins, then with 22 when the text is longer than the buffer.
 pub fn utf16_to_utf8(data: &[u8], text: &mut [u8]) -> Result<usize, Refusal> {
     let mut answer = [0; 3];
     words::utf16_to_utf8(data, text, &mut answer);
@@ -661,9 +737,12 @@ pub fn utf16_to_utf8(data: &[u8], text: &mut [u8]) -> Result<usize, Refusal> {
 /// Converts UTF-8 into UTF-16, high byte first, in a lent buffer, and answers the number of bytes
 /// written. Nothing is dropped.
 ///
-/// Bytes of the buffer past the data are 0; after a refusal all are. Refused with 26 when the text is
-/// no UTF-8, placed in the text where the first bad character begins, then with 22 when the data is
-/// longer than the buffer.
+/// Bytes of the buffer past the data are 0; after a refusal all are.
+///
+/// # Errors
+///
+/// Refused with 26 when the text is no UTF-8, placed in the text where the first bad character
+/// begins, then with 22 when the data is longer than the buffer.
 pub fn utf8_to_utf16(text: &[u8], data: &mut [u8]) -> Result<usize, Refusal> {
     let mut answer = [0; 3];
     words::utf8_to_utf16(text, data, &mut answer);
@@ -674,10 +753,13 @@ pub fn utf8_to_utf16(text: &[u8], data: &mut [u8]) -> Result<usize, Refusal> {
 /// Moves a sheet to the other edition in a lent buffer, and answers the number of bytes written. The
 /// first line says which edition it is of. Moving it over and back gives the same bytes.
 ///
-/// Bytes of the buffer past the sheet are 0; after a refusal all are. Refused with 31 when the sheet is
-/// not well formed, placed at the number, from 1, of the first line that cannot stand after those
-/// before it, or at 1 where only the counts disagree; then with 22 when the sheet is longer than the
-/// buffer.
+/// Bytes of the buffer past the sheet are 0; after a refusal all are.
+///
+/// # Errors
+///
+/// Refused with 31 when the sheet is not well formed, placed at the number, from 1, of the first line
+/// that cannot stand after those before it, or at 1 where only the counts disagree; then with 22 when
+/// the sheet is longer than the buffer.
 pub fn move_sheet(sheet: &[u8], out: &mut [u8]) -> Result<usize, Refusal> {
     let mut answer = [0; 3];
     words::move_sheet(sheet, out, &mut answer);
@@ -698,9 +780,6 @@ pub struct Id3Frame {
 
 /// The number of frames of an ID3v2.4 tag. Bytes behind the tag's size are not read.
 ///
-/// Refused with 33 when it is no such tag, with 34 when something of it is cut short or a size is bad,
-/// with 35 when it is unsynchronised, placed in the tag.
-///
 /// The walk reads whatever it is given, hidden contents too, and what it gives of them is outside
 /// demand 3. Do not put it into a ticket.
 ///
@@ -711,6 +790,11 @@ pub struct Id3Frame {
 /// assert_eq!(&frame.name, b"TIT2");
 /// assert_eq!(&tag[frame.place..][..frame.length], b"Hi");
 /// ```
+///
+/// # Errors
+///
+/// Refused with 33 when it is no such tag, with 34 when something of it is cut short or a size is
+/// bad, with 35 when it is unsynchronised, placed in the tag.
 pub fn id3_count(tag: &[u8]) -> Result<usize, Refusal> {
     let mut answer = [0; 3];
     words::id3_count(tag, &mut answer);
@@ -719,6 +803,8 @@ pub fn id3_count(tag: &[u8]) -> Result<usize, Refusal> {
 }
 
 /// A frame of an ID3v2.4 tag, by its number from 0 in file order.
+///
+/// # Errors
 ///
 /// Refused as [`id3_count`] is, then with 18 when there is no such frame.
 pub fn id3_frame(tag: &[u8], number: usize) -> Result<Id3Frame, Refusal> {
@@ -840,7 +926,7 @@ fn values<const WORDS: usize, const VALUES: usize>(
 ) -> Result<[u64; VALUES], Refusal> {
     const { assert!(WORDS == VALUES + 2) };
     match answer[0] {
-        0 => Ok(std::array::from_fn(|value| answer[value + 2])),
+        0 => Ok(core::array::from_fn(|value| answer[value + 2])),
         number => Err(Refusal {
             number,
             place: answer[1],
