@@ -3,4 +3,5 @@ pub mod Printed
 pub mod Needed
 pub mod Bytes
 pub mod Tags
+pub mod Runs
 pub mod Questions
