@@ -11,3 +11,4 @@ pub mod Rows
 pub mod Calls
 pub mod Shared
 pub mod Turns
+pub mod Walk

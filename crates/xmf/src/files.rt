@@ -66,7 +66,7 @@ fn put_part_name(out: &mut [u8], name: &[u8]) -> usize {
 }
 
 // Writes all bytes to a new file, and closes it; answers whether they reached the device.
-fn fill(fd: i32, name: &[u8], bytes: &[u8]) -> bool {
+pub fn fill(fd: i32, name: &[u8], bytes: &[u8]) -> bool {
     if !io::write_all(fd, bytes) {
         messages::failed(name);
         libc::close(fd);

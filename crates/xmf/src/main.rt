@@ -5,6 +5,7 @@
 
 mod files;
 mod messages;
+mod shelves;
 mod sums;
 mod tags;
 mod words;
@@ -347,6 +348,9 @@ fn run(count: usize) -> u64 {
     }
     if words::is_word(2, b"to-utf16") {
         return files::convert(Asked::Utf16, count);
+    }
+    if words::is_word(2, b"shelf") {
+        return shelves::run(count);
     }
     messages::usage()
 }
