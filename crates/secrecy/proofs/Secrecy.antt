@@ -33,7 +33,8 @@ use Rattle.mobile.specs.Mobile.{mobile}
 use Rattle.account.specs.Account.{kindsOf}
 use Rattle.account.specs.Totals.{refusedOne, oneMore}
 use Rattle.account.specs.declared.Kinds.{Kinds}
-use Rattle.account.proofs.File.{kinds-alike}
+use Rattle.account.specs.Marks.{marksOf}
+use Rattle.account.proofs.File.{kinds-alike, marks-alike}
 use Rattle.sheet.specs.Sheet.{tabbed, textOf, visibleLine, write, write2}
 use Rattle.sheet.proofs.Depends.{Shown, text-same, line-same, visible-same}
 use Rattle.title.specs.Title.{elsewhere, isNoTitle}
@@ -44,6 +45,7 @@ use Rattle.answers.specs.Answer.{Answer, answer, plainly, nothing, tooLongLine,
 use Rattle.answers.specs.Printed.{sheetAnswer, okLine, checked, checkAnswer, judged, verdictAnswer, placed, placeAnswer, origin, originAnswer, allRows, rowsAnswer, itemRow, foundLines, foundBy, foundAnswer}
 use Rattle.answers.specs.Printed.{titleLine, titleLines, titles, titlesAnswer, rowText, titleFormat}
 use Rattle.answers.specs.Needed.{countLine, needsIn, itemNeeds, rowNeeds, both, needsFrom, needs, needsAnswer, answers, shownNeeds, shownCount, ofRow, rowNeedsAnswer, countAnswer}
+use Rattle.answers.specs.Runs.{runsShown, runsAnswer}
 use Rattle.answers.specs.Bytes.{kindsIn, lined, bytesAnswer, inLine, bytesLineAnswer, plusFile}
 use Rattle.answers.specs.Tags.{tagLines, withheld, shownTag, rowTagAnswer}
 use Rattle.answers.specs.Questions.{answerTo, answerOf}
@@ -191,6 +193,12 @@ module _ (f g : List ℕ) (h : Header) (ns : List Node) (is : List Item) (r : re
     unfolding bytesAnswer
     bytes-same tail = ap (printed room tail lined) kinds-same
 
+    runs-same : runsAnswer room g ≡ runsAnswer room f
+    unfolding runsAnswer reads page.reads
+    runs-same =
+        let lim = limits fullNodes fullItems in
+        ap (printed room [] runsShown) (asks-alike full f g h ns is on-page d (marksOf lim 65537 g) (marksOf lim 65537 f) (marks-alike lim 65537 f g r d))
+
     bytes-line-same : (tail : List ℕ) → bytesLineAnswer room tail g ≡ bytesLineAnswer room tail f
     unfolding bytesLineAnswer
     bytes-line-same tail = ap (printed room tail (inLine tail)) kinds-same
@@ -267,6 +275,7 @@ module _ (f g : List ℕ) (h : Header) (ns : List Node) (is : List Item) (r : re
   to-same word tail room asked.Titles t = titles-alike room
   to-same word tail room asked.Bytes t = bytes-same room tail
   to-same word tail room asked.BytesLine t = bytes-line-same room tail
+  to-same word tail room asked.Runs t = runs-same room
   to-same word tail room (asked.RowTag row true which) t = absurd t
   to-same word tail room (asked.RowTag row false which) t = row-tag-alike room row which
   to-same word tail room (asked.Tag which) t = absurd t
