@@ -2,19 +2,21 @@
 _xmf() {
     local word=${COMP_WORDS[COMP_CWORD]} before=${COMP_WORDS[COMP_CWORD - 1]} command=${COMP_WORDS[1]-} options=
     if [ "$COMP_CWORD" -eq 1 ]; then
-        mapfile -t COMPREPLY < <(compgen -W 'sheet check show why rows verdict find resolve extract needs title to-utf8 to-utf16 help --help --version' -- "$word")
+        mapfile -t COMPREPLY < <(compgen -W 'sheet reorder check show why rows verdict find resolve extract needs bytes map id3 title to-utf8 to-utf16 help --help --version' -- "$word")
         return
     fi
     case $command in
-    sheet) options='-H' ;;
+    sheet) options='-2 -H' ;;
     check) options='-v --color=auto --color=always --color=never' ;;
     show) options='--color=auto --color=always --color=never' ;;
     verdict) options='-q' ;;
     find) options='--own' ;;
-    extract) options='-o -f' ;;
+    extract | map) options='-o -f' ;;
+    bytes) options='--sum --chart --runs -l -H --color=auto --color=always --color=never' ;;
+    id3) options='--hidden --tag' ;;
     title) options='-o -f --stdin --bytes' ;;
     help)
-        mapfile -t COMPREPLY < <(compgen -W 'sheet check show why rows verdict find resolve extract needs title to-utf8 to-utf16' -- "$word")
+        mapfile -t COMPREPLY < <(compgen -W 'sheet reorder check show why rows verdict find resolve extract needs bytes map id3 title to-utf8 to-utf16' -- "$word")
         return
         ;;
     why)

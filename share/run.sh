@@ -9,18 +9,19 @@ run() { # WORD..
 }
 # The same through a filter, whose status counts as well.
 view() { # FILTER WORD..
-    filter=$1 paint='' program=$core
+    filter=$1 paint='' utf8='' program=$core
     shift
     [ "$1" != show ] || program=show_lines
     case ${color?} in
     always) paint=1 ;;
     auto) [ ! -t 1 ] || [ -n "${NO_COLOR-}" ] || [ "${TERM-dumb}" = dumb ] || paint=1 ;;
     esac
+    case ${LC_ALL:-${LC_CTYPE:-${LANG-}}} in *[Uu][Tt][Ff]8* | *[Uu][Tt][Ff]-8*) utf8=1 ;; esac
     exec 4>&1 6>/dev/null
     [ "$filter" != meaning.awk ] || exec 6>&2
     finish "$({
         { "$program" --status=3 "$@" 3>&5 4>&- 5>&- 6>&-; printf ,%s $? >&5; } |
-            XMF_SHARE=${share?} LC_ALL=C awk -v color="$paint" -v flags="${flags?}" -v several=$(($# > 2)) -f "${share?}/safe.awk" -f "$share/$filter" >&4 2>&6 4>&- 5>&- 6>&-
+            XMF_SHARE=${share?} LC_ALL=C awk -v color="$paint" -v utf8="$utf8" -v flags="${flags?}" -v several=$(($# > 2)) -f "${share?}/safe.awk" -f "$share/$filter" >&4 2>&6 4>&- 5>&- 6>&-
         printf ,%s $? >&5
     } 5>&1)"
 }

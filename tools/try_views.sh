@@ -40,7 +40,7 @@ expect 'bars without blocks' $?
 printf 'files\t2\nrefused\t2\n%s\t0\ntotal\t0\nR\t5\t16\n' 'file header' | awk -v utf8=1 -f "$root/share/chart.awk" >"$work/none" && grep -q '^file header              0   0.0 %$' "$work/none" && grep -q '^R	5	16$' "$work/none"
 expect 'a sum of no bytes, and a refusal' $?
 
-awk -v name='a <b> & c' -f "$root/share/map.awk" "$work/runs" >"$work/map.svg"
+NAME='a <b> & c' LC_ALL=C awk -f "$root/share/map.awk" "$work/runs" >"$work/map.svg"
 expect 'a picture' $?
 # a run's rectangles are as wide as it has places, ten a place, and together they are the file
 grep '^<rect x="[0-9]*" y="[0-9]*" width="[0-9]*" height="14"/>$' "$work/map.svg" | sed 's/.*width="\([0-9]*\)".*/\1/' | awk '{ s += $1 } END { exit s != 1150 }'
@@ -52,7 +52,7 @@ expect 'no rectangle lies over another' $?
 grep -q '<title>places 52 to 114: inline resources, 63 bytes</title>' "$work/map.svg" && grep -q '>a &lt;b&gt; &amp; c: 115 bytes, 64 a row<' "$work/map.svg"
 expect 'titles, and a name with signs' $?
 for line in 'K	1	3	node frames' 'K	0	0	node frames' 'K	0	3	tokens' 'R	5	16' ''; do
-    printf '%s\n' "$line" | awk -f "$root/share/map.awk" >"$work/out"
+    printf '%s\n' "$line" | LC_ALL=C awk -f "$root/share/map.awk" >"$work/out"
     [ $? -eq 1 ] && [ ! -s "$work/out" ]
     expect "no picture of '$line'" $?
 done

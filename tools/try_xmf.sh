@@ -67,6 +67,67 @@ judge 'sheet -H' '' 2
 run "$xmf" sheet -H worked.xmf
 judge 'sheet -H, one file' '' 0
 
+# ---- sheet -2, reorder
+
+ask 0 '' sheet -2 folders.xmf <<'END'
+XMF2~1.01~237~6~8
+N~0~0~1~1~61~155
+M~0~S~9~0~0~\a9 2004 \5c example
+N~1~0~2~1~99~60
+M~1~S~8~1~0~Tunes
+M~1~S~8~2~4~Airs
+N~2~1~3~1~142~10
+M~2~S~1~0~0~first
+M~2~C~rating~0~0~five
+N~3~1~3~3~99~0
+N~4~0~2~2~216~21
+M~4~S~7~0~0~audio/midi
+N~5~0~2~4~189~27
+END
+for sample in *.xmf; do
+    "$xmf" sheet "$sample" >"$work/first"
+    wanted=$?
+    "$xmf" sheet -2 "$sample" >"$work/second"
+    [ $? -eq "$wanted" ]
+    count $? "sheet -2 $sample, the status"
+    if [ "$wanted" -ne 0 ]; then
+        cmp -s "$work/first" "$work/second"
+        count $? "sheet -2 $sample, the refusal"
+        continue
+    fi
+    cp "$work/first" "$work/wanted"
+    run "$xmf" reorder "$work/second"
+    judge "reorder, the second edition of $sample" '' 0
+    run "$xmf" reorder <"$work/second"
+    judge "reorder, standard input, $sample" '' 0
+    cp "$work/second" "$work/wanted"
+    run "$xmf" reorder - <"$work/first"
+    judge "reorder, the first edition of $sample" '' 0
+done
+{
+    "$xmf" sheet -2 worked.xmf
+    printf 'R\t5\t16\tcut.xmf\n'
+    "$xmf" sheet -2 mobile.xmf
+} >"$work/wanted"
+run "$xmf" sheet -2 worked.xmf cut.xmf mobile.xmf
+judge 'sheet -2, several files' "worked.xmf:${nl}mobile.xmf:" 2
+{
+    printf 'F\tworked.xmf\n'
+    "$xmf" sheet -2 worked.xmf
+} >"$work/wanted"
+run "$xmf" sheet -H worked.xmf -2
+judge 'sheet -2 -H' '' 0
+echo 'R~31~1' | ask 2 '' reorder worked.xmf
+echo 'R~31~1' | ask 2 '' reorder /dev/null
+"$xmf" sheet folders.xmf | sed 3d >"$work/lost"
+echo 'R~31~3' | ask 2 '' reorder "$work/lost"
+"$xmf" sheet folders.xmf | sed '2s/61/\\61/;$s/\\n$//' >"$work/spelt"
+echo 'R~31~2' | ask 2 '' reorder "$work/spelt"
+"$xmf" sheet folders.xmf | sed '1s/6/7/' >"$work/counted"
+echo 'R~31~1' | ask 2 '' reorder "$work/counted"
+dd if=/dev/zero of="$work/long" bs=1024 count=65 2>/dev/null
+echo 'too long' | ask 2 '' reorder "$work/long"
+
 # ---- check, show, why
 
 echo 'ok~2.00~56~worked.xmf' | ask 0 '' check worked.xmf
@@ -79,7 +140,6 @@ ask 2 '' check --color=always worked.xmf cut.xmf <<END
 $(printf '\033[32mok\033[0m')~2.00~56~worked.xmf
 $(printf '\033[31mR\033[0m')~5~16~cut.xmf
 END
-dd if=/dev/zero of="$work/long" bs=1024 count=65 2>/dev/null
 echo "too long~$work/long" | ask 2 '' check "$work/long"
 ask 2 '' sheet "$work/long" <<'END'
 too long
@@ -183,6 +243,127 @@ echo 'C~1~0~0~4' | ask 0 '' needs mobile.xmf 1 0 0
 echo 'R~23~0' | ask 2 '' needs mobile.xmf 1 1 0
 echo 'R~23~0' | ask 2 '' needs mobile.xmf 0
 echo 'R~18~0' | ask 2 '' needs mobile.xmf 9
+ask_none 1 'xmf: worked.xmf: the item row is hidden' needs worked.xmf 1
+ask_none 1 'xmf: worked.xmf: the item row is hidden' needs worked.xmf 1 0 0
+
+# ---- bytes
+
+kinds() { # NUMBER..
+    printf '%s~%s\n' 'file header' "$1" 'node frames' "$2" 'metadata frames' "$3" 'visible data' "$4" 'hidden data' "$5" unpackers "$6" references "$7" 'inline resources' "$8" 'all else' "$9" total "${10}"
+}
+mobile='21 6 12 9 0 2 2 63 0 115' worked='21 6 17 4 2 2 2 2 0 56'
+# shellcheck disable=SC2086
+{
+    kinds $mobile | ask 0 '' bytes mobile.xmf
+    kinds $mobile | ask 0 '' bytes --color=never mobile.xmf
+    kinds $worked | ask 0 '' bytes worked.xmf
+    kinds 22 21 44 28 6 7 12 25 6 171 | ask 0 '' bytes detached.xmf
+    { kinds $worked && kinds $mobile; } | ask 0 "worked.xmf:${nl}mobile.xmf:" bytes worked.xmf mobile.xmf
+    { echo 'F~worked.xmf' && kinds $worked && printf 'F~cut.xmf\nR~5~16\n'; } | ask 2 '' bytes -H worked.xmf cut.xmf
+    { kinds $worked && printf 'R~5~16~cut.xmf\n'; } | ask 2 'worked.xmf:' bytes worked.xmf cut.xmf
+}
+echo 'R~5~16' | ask 2 '' bytes cut.xmf
+echo 'too long' | ask 2 '' bytes "$work/long"
+{
+    echo "B $worked worked.xmf" && echo 'R 5 16 cut.xmf' && echo "B $mobile mobile.xmf"
+} | tr ' ' '~' | ask 2 '' bytes -l worked.xmf cut.xmf mobile.xmf
+echo "B $mobile mobile.xmf" | tr ' ' '~' | ask 0 '' bytes -l mobile.xmf
+for sample in *.xmf; do
+    "$xmf" bytes "$sample" 2>/dev/null | awk -F "$tab" -v size="$(wc -c <"$sample")" '$1 == "total" { total = $2 } $1 != "total" { sum += $2 } $1 == "R" { exit } END { exit $1 != "R" && (sum != total || total != size) }'
+    count $? "bytes $sample, the sum"
+done
+# one answer for all: a refused file and one that is too long count as refused, one that cannot be read does not count
+{ printf 'files~4\nrefused~2\n' && kinds 42 12 29 13 2 4 4 65 0 171; } | ask 0 '' bytes --sum worked.xmf cut.xmf mobile.xmf "$work/long"
+{ printf 'files~1\nrefused~1\n' && kinds 0 0 0 0 0 0 0 0 0 0; } | ask 0 '' bytes --sum cut.xmf
+# shellcheck disable=SC2086
+{ printf 'files~1\nrefused~0\n' && kinds $worked; } | ask 1 'xmf: none: No such file or directory' bytes --sum none worked.xmf
+# shellcheck disable=SC2086
+{ printf 'files~1\nrefused~0\n' && kinds $worked; } | ask 0 '' bytes --sum worked.xmf
+for language in C.UTF-8 C; do
+    cell=█ half=▌
+    [ "$language" != C ] || cell='#' half=
+    full=$(printf '%021d' 0 | sed "s/0/$cell/g")
+    cat >"$work/wanted" <<END
+file header             21  18.3 % $cell$cell$cell$cell$cell$cell$cell
+node frames              6   5.2 % $cell$cell
+metadata frames         12  10.4 % $cell$cell$cell$cell
+visible data             9   7.8 % $cell$cell$cell
+hidden data              0   0.0 %
+unpackers                2   1.7 %${half:+ }$half
+references               2   1.7 %${half:+ }$half
+inline resources        63  54.8 % $full$half
+all else                 0   0.0 %
+total                  115
+END
+    run env LC_ALL="$language" "$xmf" bytes --chart mobile.xmf
+    judge "bytes --chart, $language" '' 0
+    cp "$work/wanted" "$work/chart"
+    { echo mobile.xmf: && cat "$work/chart" && echo cut.xmf: && printf 'R\t5\t16\n'; } >"$work/wanted"
+    run env LC_ALL="$language" "$xmf" bytes --chart mobile.xmf cut.xmf
+    judge "bytes --chart, several files, $language" '' 2
+    { printf '%-16s %9d\n' files 2 refused 1 && cat "$work/chart"; } >"$work/wanted"
+    run env LC_ALL="$language" "$xmf" bytes --sum --chart mobile.xmf cut.xmf
+    judge "bytes --sum --chart, $language" '' 0
+done
+run env LC_ALL=C "$xmf" bytes --chart --color=always mobile.xmf
+[ "$status" -eq 0 ] && grep -q "^node frames              6   5.2 % $(printf '\033')\[36m##$(printf '\033')\[0m\$" "$work/got"
+count $? 'bytes --chart --color=always'
+
+# ---- id3
+
+ask 0 '' id3 id3.xmf 0 <<'END'
+F~0~TIT2~20~14
+F~1~TPE1~44~17
+END
+echo 'F~1~TPE1~44~17' | ask 0 '' id3 id3.xmf 0 1
+echo 'R~18~0' | ask 2 '' id3 id3.xmf 0 2
+echo 'R~18~0' | ask 2 '' id3 id3.xmf 2
+# nothing of a hidden row is read out unasked
+ask_none 1 'xmf: id3.xmf: the item row is hidden: --hidden' id3 id3.xmf 1
+ask_none 1 'xmf: id3.xmf: the item row is hidden: --hidden' id3 id3.xmf 1 0
+ask_none 1 'xmf: id3.xmf: the item row is hidden: --hidden' id3 id3.xmf 1 7
+ask_none 1 'xmf: worked.xmf: the item row is hidden: --hidden' id3 worked.xmf 1
+warned='xmf: id3.xmf: the item row is hidden: what stands here is not for tickets'
+echo 'F~0~TXXX~20~17' | ask 0 "$warned" id3 --hidden id3.xmf 1
+echo 'F~0~TXXX~20~17' | ask 0 "$warned" id3 id3.xmf 1 0 --hidden
+echo 'R~18~0' | ask 2 "$warned" id3 id3.xmf 1 1 --hidden
+echo 'F~1~TPE1~44~17' | ask 0 '' id3 --hidden id3.xmf 0 1
+echo 'R~33~0' | ask 2 '' id3 worked.xmf 0
+echo 'R~33~0' | ask 2 '' id3 worked.xmf 2 5
+echo 'R~5~16' | ask 2 '' id3 cut.xmf 0
+echo 'too long' | ask 2 '' id3 "$work/long" 0
+tail -c +25 id3.xmf | head -c 64 >"$work/tag"
+ask 0 '' id3 --tag "$work/tag" <<'END'
+F~0~TIT2~20~14
+F~1~TPE1~44~17
+END
+echo 'F~0~TIT2~20~14' | ask 0 '' id3 "$work/tag" 0 --tag
+echo 'R~18~0' | ask 2 '' id3 --tag "$work/tag" 99999999999999999999
+"$xmf" id3 --tag "$work/tag" >"$work/wanted"
+run "$xmf" id3 --tag - <"$work/tag"
+judge 'id3 --tag, standard input' '' 0
+head -c 63 "$work/tag" >"$work/damaged"
+echo 'R~34~6' | ask 2 '' id3 --tag "$work/damaged"
+{ head -c 5 "$work/tag" && printf '\200' && tail -c +7 "$work/tag"; } >"$work/damaged"
+echo 'R~35~5' | ask 2 '' id3 --tag "$work/damaged" 0
+echo 'R~33~0' | ask 2 '' id3 --tag worked.xmf
+# a name of any bytes, in the sheet's spelling
+printf 'ID3\004\000\000\000\000\000\012\001\\\tz\000\000\000\000\000\000' >"$work/named"
+printf 'F~0~\\01\\5c\\09z~20~0\n' | ask 0 '' id3 --tag "$work/named"
+# as many frames as a list has room for, and more: 22, and each by its number
+python3 - "$work/many" 1900 "$work/most" 6552 <<'END'
+import sys
+
+for name, count in zip(sys.argv[1::2], map(int, sys.argv[2::2])):
+    size = count * 10
+    header = b"ID3\4\0\0" + bytes(size >> shift & 0x7F for shift in (21, 14, 7, 0))
+    open(name, "wb").write(header + b"TIT2\0\0\0\0\0\0" * count)
+END
+run "$xmf" id3 --tag "$work/many"
+[ "$status" -eq 0 ] && [ "$(wc -l <"$work/got")" -eq 1900 ] && [ "$(tail -n 1 "$work/got")" = "F${tab}1899${tab}TIT2${tab}19010${tab}0" ]
+count $? 'id3, 1,900 frames'
+echo 'R~22~0' | ask 2 '' id3 --tag "$work/most"
+echo 'F~6551~TIT2~65530~0' | ask 0 '' id3 --tag "$work/most" 6551
 
 # ---- extract
 
@@ -353,12 +534,12 @@ count $? 'no bytes to a terminal'
 
 ask_none 1 'xmf: no command; xmf help lists them'
 ask_none 1 'xmf: no such command: shet; xmf help lists them' shet worked.xmf
-for command in sheet check show verdict rows find resolve extract needs title; do
+for command in sheet check show verdict rows find resolve extract needs bytes id3 title; do
     ask_none 1 "$(usage "$command" 'too few or too many words')" "$command"
     ask_none 1 "$(usage "$command" 'no such option: --wy')" "$command" --wy worked.xmf 0 0 0
 done
-for command in to-utf8 to-utf16 rows; do ask_none 1 "$(usage "$command" 'too few or too many words')" "$command" worked.xmf worked.xmf; done
-for command in sheet check show verdict rows to-utf8 to-utf16 needs title; do ask_none 1 "$(usage "$command" 'an empty word where a file or a number belongs')" "$command" ''; done
+for command in to-utf8 to-utf16 rows reorder; do ask_none 1 "$(usage "$command" 'too few or too many words')" "$command" worked.xmf worked.xmf; done
+for command in sheet check show verdict rows to-utf8 to-utf16 needs reorder bytes id3 title; do ask_none 1 "$(usage "$command" 'an empty word where a file or a number belongs')" "$command" ''; done
 ask_none 1 "$(usage sheet 'an empty word where a file or a number belongs')" sheet worked.xmf '' cut.xmf
 ask_none 1 "$(usage resolve 'an empty word where a file or a number belongs')" resolve worked.xmf ''
 ask_none 1 "$(usage find 'an empty word where a file or a number belongs')" find worked.xmf '' S 1
@@ -375,6 +556,16 @@ ask_none 1 "$(usage title 'a title as a word, or --stdin, or --bytes')" title wo
 ask_none 1 "$(usage title 'a file; or a file, an item row and a title')" title worked.xmf 0 -o "$work/none"
 ask_none 1 "$(usage title 'a file; or a file, an item row and a title')" title worked.xmf -o "$work/none"
 ask_none 1 "$(usage needs 'a channel and a resource go together')" needs mobile.xmf 1 0
+ask_none 1 "$(usage bytes '-l goes with no other option')" bytes -l --sum worked.xmf
+ask_none 1 "$(usage bytes '-l goes with no other option')" bytes --chart -l worked.xmf
+ask_none 1 "$(usage bytes '--sum or -H, not both')" bytes -H --sum worked.xmf
+ask_none 1 "$(usage id3 '--hidden or --tag, not both')" id3 --hidden --tag "$work/tag"
+ask_none 1 "$(usage id3 'a file and an item row, or --tag and a file; then a frame')" id3 id3.xmf
+ask_none 1 "$(usage id3 'a file and an item row, or --tag and a file; then a frame')" id3 --tag id3.xmf 0 0
+ask_none 1 "$(usage id3 'an empty word where a file or a number belongs')" id3 id3.xmf 0 ''
+ask_none 1 'xmf: x: no decimal number' id3 id3.xmf x
+ask_none 1 'xmf: x: no decimal number' id3 id3.xmf 0 x
+ask_none 1 'xmf: x: no decimal number' id3 --tag "$work/tag" x
 ask_none 1 "$(usage check 'no such option: --color=red')" check --color=red worked.xmf
 for word in x -1 1x ' 1' 0x1 +1; do
     ask_none 1 "xmf: $word: no decimal number" resolve worked.xmf -- "$word"
@@ -390,7 +581,7 @@ ask_none 1 "$(usage find 'a field is S and a number, or C and a name')" find wor
 
 run "$xmf" help
 commands=$(sed -n 's/^  xmf \([a-z0-9-]*\).*/\1/p' "$work/got")
-[ "$status" -eq 0 ] && [ "$(echo "$commands" | wc -l)" -ge 14 ]
+[ "$status" -eq 0 ] && [ "$(echo "$commands" | wc -l)" -ge 17 ]
 count $? 'help lists the commands'
 cp "$work/got" "$work/wanted"
 for words in --help -h; do
@@ -538,6 +729,14 @@ count $? 'a thousand files'
 run "$xmf" verdict -q $(cat "$work/thousand") cut.xmf
 [ "$status" -eq 2 ]
 count $? 'a thousand files, the status alone'
+{ printf 'files~1000\nrefused~0\n' && kinds 21000 6000 17000 4000 2000 2000 2000 2000 0 56000; } | sed "s/~/$tab/g" >"$work/wanted"
+# shellcheck disable=SC2046
+run "$xmf" bytes --sum $(cat "$work/thousand")
+judge 'bytes --sum, a thousand files' '' 0
+printf 'R\t32\t0\n' >"$work/wanted"
+# shellcheck disable=SC2046
+run "$xmf" bytes --sum $(cat "$work/thousand") cut.xmf
+judge 'bytes --sum, 1,001 files' '' 2
 
 # ---- an installed layout with a stand-in for the program, which tells how it is run or fails
 
@@ -593,6 +792,8 @@ commands = [
     ["sheet", "cut.xmf"], ["sheet", "worked.xmf"], ["sheet", "-H", "worked.xmf", "cut.xmf"], ["check", "worked.xmf", "cut.xmf"],
     ["check", "-v", "cut.xmf"], ["show", "worked.xmf"], ["why", "8"], ["why", "11"], ["rows", "worked.xmf"], ["verdict", "mobile.xmf"],
     ["find", "folders.xmf", "2", "S", "9"], ["resolve", "detached.xmf", "3"], ["needs", "mobile.xmf"], ["title", "worked.xmf"],
+    ["sheet", "-2", "worked.xmf"], ["reorder", work + "/second"], ["bytes", "mobile.xmf"], ["bytes", "-l", "mobile.xmf", "cut.xmf"],
+    ["bytes", "--sum", "mobile.xmf", "cut.xmf"], ["bytes", "--chart", "mobile.xmf"], ["id3", "id3.xmf", "0"], ["id3", "--tag", work + "/tag"],
     ["extract", "mobile.xmf", "1", "-o", "-"], ["title", "worked.xmf", "0", "Hello", "-o", "-"], ["to-utf8", work + "/units"],
     ["to-utf16", work + "/text"], ["help"], ["help", "sheet"], ["--version"],
 ]
@@ -636,7 +837,7 @@ count $? "room for k bytes: $(cat "$work/room")"
 
 if [ -c /dev/full ]; then
     for words in 'sheet worked.xmf' 'sheet cut.xmf' 'check worked.xmf' 'check -v cut.xmf' 'show worked.xmf' 'why 8' 'rows worked.xmf' 'verdict mobile.xmf' 'find folders.xmf 2 S 9' \
-        'resolve detached.xmf 3' 'needs mobile.xmf' 'title worked.xmf' 'title worked.xmf 0 x -o -' 'extract mobile.xmf 1 -o -' help 'help sheet' --version; do
+        'resolve detached.xmf 3' 'needs mobile.xmf' 'sheet -2 worked.xmf' 'bytes mobile.xmf' 'bytes -l mobile.xmf' 'bytes --sum mobile.xmf' 'bytes --chart mobile.xmf' 'id3 id3.xmf 0' 'title worked.xmf' 'title worked.xmf 0 x -o -' 'extract mobile.xmf 1 -o -' help 'help sheet' --version; do
         # shellcheck disable=SC2086
         "$xmf" $words >/dev/full 2>"$work/error"
         [ $? -eq 1 ] && [ -s "$work/error" ]
@@ -896,7 +1097,7 @@ if [ -f "$root/target/staticlib/libcapi.a" ]; then
     user=
     if [ "$(id -u)" -eq 0 ] && command -v setpriv >/dev/null; then user=other; fi
     for words in 'sheet worked.xmf' 'sheet cut.xmf' 'check worked.xmf cut.xmf' 'show mobile.xmf' 'why 11' 'rows worked.xmf' 'verdict worked.xmf' 'find folders.xmf 2 S 9' 'resolve detached.xmf 3' \
-        'needs mobile.xmf' 'title worked.xmf' 'extract mobile.xmf 1 -o -' 'title worked.xmf 0 Hello -o -' help 'help title'; do
+        'needs mobile.xmf' 'sheet -2 folders.xmf' 'bytes mobile.xmf' 'bytes --sum --chart mobile.xmf cut.xmf' 'id3 id3.xmf 0' 'id3 id3.xmf 1' 'id3 --hidden id3.xmf 1' 'title worked.xmf' 'extract mobile.xmf 1 -o -' 'title worked.xmf 0 Hello -o -' help 'help title'; do
         # shellcheck disable=SC2086
         {
             "$xmf" $words >"$work/wanted" 2>"$work/error.wanted"

@@ -6,6 +6,8 @@
 mod files;
 mod messages;
 mod runs;
+mod sums;
+mod tags;
 mod words;
 
 use answers::Asked;
@@ -108,6 +110,10 @@ fn answer(asked: Asked, mode: Mode, word: &[u8], name: &[u8], file: &[u8]) -> En
     let t = messages::within(end, &tail);
     let mut text = io::large_buffer();
     let made = answers::make(asked, word, file, &tail[..t], &mut text);
+    if made.status == 1 {
+        messages::trouble(name, b"the item row is hidden");
+        return Ended::Status(1);
+    }
     let n = made.size;
     write_answer(mode, name, &text[..n], made.status)
 }
@@ -136,7 +142,7 @@ fn answer_file(asked: Asked, mode: Mode, word: &[u8], i: usize) -> Ended {
 }
 
 // The worse of two statuses: 1, then 2, then 3, then 0.
-fn worse(a: u64, b: u64) -> u64 {
+pub fn worse(a: u64, b: u64) -> u64 {
     if a == 0 {
         return b;
     }
@@ -161,7 +167,7 @@ fn answer_files(asked: Asked, mode: Mode, first: usize, count: usize) -> u64 {
 }
 
 // Answers for one file.
-fn answer_one(asked: Asked, word: &[u8], i: usize) -> u64 {
+pub fn answer_one(asked: Asked, word: &[u8], i: usize) -> u64 {
     match answer_file(asked, Mode::Plain, word, i) {
         Ended::Stopped => 1,
         Ended::Status(s) => s,
@@ -182,16 +188,16 @@ fn named_mode() -> Mode {
     Mode::Plain
 }
 
-// MODE FILE..
-fn sheets(count: usize) -> u64 {
+// MODE FILE..; an answer of several lines
+fn longer(asked: Asked, count: usize) -> u64 {
     if words::is_word(3, b"names") {
-        return answer_files(Asked::Sheet, Mode::Above, 4, count);
+        return answer_files(asked, Mode::Above, 4, count);
     }
-    answer_files(Asked::Sheet, named_mode(), 4, count)
+    answer_files(asked, named_mode(), 4, count)
 }
 
 // FILE
-fn one(asked: Asked, count: usize) -> u64 {
+pub fn one(asked: Asked, count: usize) -> u64 {
     if count != 4 {
         return messages::usage();
     }
@@ -287,7 +293,13 @@ fn needs(count: usize) -> u64 {
 // Runs the command that the second argument is; its words follow.
 fn run(count: usize) -> u64 {
     if words::is_word(2, b"sheet") {
-        return sheets(count);
+        return longer(Asked::Sheet, count);
+    }
+    if words::is_word(2, b"sheet2") {
+        return longer(Asked::Sheet2, count);
+    }
+    if words::is_word(2, b"reorder") {
+        return one(Asked::Moved, count);
     }
     if words::is_word(2, b"check") {
         return answer_files(Asked::Check, Mode::Field, 3, count);
@@ -309,6 +321,21 @@ fn run(count: usize) -> u64 {
     }
     if words::is_word(2, b"needs") {
         return needs(count);
+    }
+    if words::is_word(2, b"bytes") {
+        return longer(Asked::Bytes, count);
+    }
+    if words::is_word(2, b"bytes-line") {
+        return answer_files(Asked::BytesLine, Mode::Field, 3, count);
+    }
+    if words::is_word(2, b"bytes-sum") {
+        return sums::sum_files(3, count);
+    }
+    if words::is_word(2, b"id3") {
+        return tags::tags(count);
+    }
+    if words::is_word(2, b"id3-tag") {
+        return tags::own_tag(count);
     }
     if words::is_word(2, b"title") {
         return one(Asked::Titles, count);

@@ -4,6 +4,7 @@ use crate::encode::{encode, encode_changed, padded_bytes, Mark, MarkKind};
 use crate::mobile::{tune, tune_items};
 use crate::model::{Contents, Field, File, Item, Node, Part, Place};
 use crate::model::{TypeEntry, Values, Version, Widths};
+use crate::tags;
 
 /// Version 2.00, with type and revision of Mobile XMF.
 const MOBILE: Version = Version::V200 {
@@ -34,6 +35,7 @@ fn with_widths(widths: Widths) -> Vec<(&'static str, Vec<u8>)> {
         ("folders.xmf", encode(&folders_file(widths)).bytes),
         ("detached.xmf", encode(&detached_file(widths)).bytes),
         ("unicode.xmf", encode(&unicode_file(widths)).bytes),
+        ("id3.xmf", encode(&id3_file(widths)).bytes),
         ("cut.xmf", cut(widths)),
         ("header.xmf", long_header(widths)),
         ("type.xmf", undeclared_type(widths)),
@@ -150,6 +152,24 @@ fn unicode_file(widths: Widths) -> File {
     ]);
     let mut file = File::new(Version::V100, node);
     file.types = vec![type_entry(1, 2, b"da"), type_entry(2, 0, b"en")];
+    file.widths = widths;
+    file
+}
+
+/// A file with two ID3 tags, fields 14 of binary data: a visible one of two frames and three bytes of
+/// padding, and a hidden one of one frame.
+fn id3_file(widths: Widths) -> File {
+    let frames = [
+        tags::frame(b"TIT2", b"\x03Harbour waltz"),
+        tags::frame(b"TPE1", b"\x03The chime studio"),
+        vec![0; 3],
+    ];
+    let hidden = tags::frame(b"TXXX", b"\x03pairing\0token-42");
+    let node = Node::inline(b"tune").with_items(vec![
+        Item::standard(14, 6, &tags::with_body(&frames.concat())),
+        Item::standard(14, 7, &tags::with_body(&hidden)),
+    ]);
+    let mut file = File::new(Version::V100, node);
     file.widths = widths;
     file
 }

@@ -47,6 +47,23 @@ pub fn tag(seed: u64, number: u64) -> Tag {
     Tag { bytes, frame }
 }
 
+/// A tag of these bytes behind its header, without flags.
+pub fn with_body(body: &[u8]) -> Vec<u8> {
+    let mut tag = b"ID3\x04\0\0".to_vec();
+    tag.extend(size(body.len()));
+    tag.extend(body);
+    tag
+}
+
+/// A frame without flags.
+pub fn frame(name: &[u8; 4], contents: &[u8]) -> Vec<u8> {
+    let mut frame = name.to_vec();
+    frame.extend(size(contents.len()));
+    frame.extend([0, 0]);
+    frame.extend(contents);
+    frame
+}
+
 /// A good tag of some frames, perhaps with an extended header, padding, and bytes behind it.
 fn good(random: &mut Random, frames: usize) -> Vec<u8> {
     let mut body = Vec::new();

@@ -11,7 +11,7 @@ use generate::texts::{text, Into, Text};
 use generate::titles::{title, Title, BORDERS, LENGTHS};
 use generate::{case, large_file, large_resource, mobile, pair, samples, shapes, Lent};
 use plain::{correct_title, find, judge, read_tree, resolve, resource, voice_count, write_sheet};
-use plain::{item, node, Field, Refusal};
+use plain::{frame_count, item, node, Field, Refusal};
 use plain::{move_sheet, write_sheet2};
 use plain::{utf16_to_utf8, utf8_to_utf16};
 
@@ -501,6 +501,22 @@ fn samples_have_their_answers() {
     let key = Field::Custom(b"key");
     assert!(find(&file, &mut nodes, &mut items, 4, key).is_ok());
     assert!(find(&file, &mut nodes, &mut items, 5, key).is_err());
+
+    // two tags, of which the second is hidden
+    let file = sample(samples::all(), "id3.xmf");
+    let tree = read_tree(&file, &mut nodes, &mut items).expect("a well-formed file");
+    assert_eq!((tree.nodes, tree.items), (1, 2));
+    let tags = items.chunks(item::WORDS).take(2).map(|row| {
+        let place = row[item::DATA] as usize;
+        (
+            row[item::FORMAT],
+            &file[place..][..row[item::DATA_LENGTH] as usize],
+        )
+    });
+    let frames: Vec<_> = tags
+        .map(|(format, tag)| (format, frame_count(tag).expect("a good tag")))
+        .collect();
+    assert_eq!(frames, [(6, 2), (7, 1)]);
 
     let refused = |number, place| Err(Refusal { number, place });
     let refusal = |name| sheet(&sample(samples::all(), name));

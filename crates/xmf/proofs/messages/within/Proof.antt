@@ -2,7 +2,6 @@
 -- Assumes nothing.
 use native.Mathlib.Omega.{arith}
 use Rattle.io.proofs.Counting.{counts}
-use borrow.Author.Needs.{needs}
 use Rattle.xmf.proofs.messages.within.Statement.{statement}
 use Rattle.xmf.proofs.messages.within.Tie as tie
 
