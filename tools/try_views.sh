@@ -40,7 +40,7 @@ expect 'bars without blocks' $?
 printf 'files\t2\nrefused\t2\n%s\t0\ntotal\t0\nR\t5\t16\n' 'file header' | awk -v utf8=1 -f "$root/share/chart.awk" >"$work/none" && grep -q '^file header              0   0.0 %$' "$work/none" && grep -q '^R	5	16$' "$work/none"
 expect 'a sum of no bytes, and a refusal' $?
 
-awk -v name='a <b> & c' -f "$root/share/map.awk" "$work/runs" >"$work/map.svg"
+NAME='a <b> & c' LC_ALL=C awk -f "$root/share/map.awk" "$work/runs" >"$work/map.svg"
 expect 'a picture' $?
 # a run's rectangles are as wide as it has places, ten a place, and together they are the file
 grep '^<rect x="[0-9]*" y="[0-9]*" width="[0-9]*" height="14"/>$' "$work/map.svg" | sed 's/.*width="\([0-9]*\)".*/\1/' | awk '{ s += $1 } END { exit s != 1150 }'
@@ -51,8 +51,51 @@ grep '^<rect x="[0-9]*" y="[0-9]*" width="[0-9]*" height="14"/>$' "$work/map.svg
 expect 'no rectangle lies over another' $?
 grep -q '<title>places 52 to 114: inline resources, 63 bytes</title>' "$work/map.svg" && grep -q '>a &lt;b&gt; &amp; c: 115 bytes, 64 a row<' "$work/map.svg"
 expect 'titles, and a name with signs' $?
+NAME=$(printf 'a\357\277\277b') LC_ALL=C awk -f "$root/share/map.awk" "$work/runs" | grep -q '>a?b: 115 bytes, 64 a row<'
+expect 'a name with what XML has not' $?
+# the nine colours as readers see them who have all kinds of cones, or lack one (matrices of Machado, Oliveira and Fernandes 2009): no two nearer than 15 in CIE L*a*b*
+sed -n 's/.*split("\(#[^"]*\)", colours.*/\1/p' "$root/share/map.awk" | awk '
+    function hex(h) { return (index("0123456789ABCDEF", substr(h, 1, 1)) - 1) * 16 + index("0123456789ABCDEF", substr(h, 2, 1)) - 1 }
+    function linear(c) { c /= 255; return c <= 0.04045 ? c / 12.92 : exp(2.4 * log((c + 0.055) / 1.055)) }
+    function within(c) { return c < 0 ? 0 : c > 1 ? 1 : c }
+    function root3(t) { return t > 0.008856 ? exp(log(t) / 3) : 7.787 * t + 16 / 116 }
+    function see(i, m, r, g, b, x, y, z) {
+        r = within(m[1] * red[i] + m[2] * green[i] + m[3] * blue[i])
+        g = within(m[4] * red[i] + m[5] * green[i] + m[6] * blue[i])
+        b = within(m[7] * red[i] + m[8] * green[i] + m[9] * blue[i])
+        x = root3((0.4125 * r + 0.3576 * g + 0.1804 * b) / 0.9505)
+        y = root3(0.2127 * r + 0.7152 * g + 0.0722 * b)
+        z = root3((0.0193 * r + 0.1192 * g + 0.9503 * b) / 1.0888)
+        light[i] = 116 * y - 16
+        across[i] = 500 * (x - y)
+        down[i] = 200 * (y - z)
+    }
+    { n = split($0, colour, ",") }
+    END {
+        for (i = 1; i <= n; i++) {
+            red[i] = linear(hex(substr(colour[i], 2, 2)))
+            green[i] = linear(hex(substr(colour[i], 4, 2)))
+            blue[i] = linear(hex(substr(colour[i], 6, 2)))
+        }
+        eye[1] = "1 0 0 0 1 0 0 0 1"
+        eye[2] = "0.152286 1.052583 -0.204868 0.114503 0.786281 0.099216 -0.003882 -0.048116 1.051998"
+        eye[3] = "0.367322 0.860646 -0.227968 0.280085 0.672501 0.047413 -0.011820 0.042940 0.968881"
+        eye[4] = "1.255528 -0.076749 -0.178779 -0.078411 0.930809 0.147602 0.004733 0.691367 0.303900"
+        least = 1000
+        for (e = 1; e <= 4; e++) {
+            split(eye[e], m, " ")
+            for (i = 1; i <= n; i++) see(i, m)
+            for (i = 1; i <= n; i++)
+                for (k = 1; k < i; k++) {
+                    d = sqrt((light[i] - light[k]) ^ 2 + (across[i] - across[k]) ^ 2 + (down[i] - down[k]) ^ 2)
+                    if (d < least) least = d
+                }
+        }
+        exit n != 9 || least < 15
+    }'
+expect 'nine colours that a colour-blind reader tells apart' $?
 for line in 'K	1	3	node frames' 'K	0	0	node frames' 'K	0	3	tokens' 'R	5	16' ''; do
-    printf '%s\n' "$line" | awk -f "$root/share/map.awk" >"$work/out"
+    printf '%s\n' "$line" | LC_ALL=C awk -f "$root/share/map.awk" >"$work/out"
     [ $? -eq 1 ] && [ ! -s "$work/out" ]
     expect "no picture of '$line'" $?
 done

@@ -308,6 +308,112 @@ done
 run env LC_ALL=C "$xmf" bytes --chart --color=always mobile.xmf
 [ "$status" -eq 0 ] && grep -q "^node frames              6   5.2 % $(printf '\033')\[36m##$(printf '\033')\[0m\$" "$work/got"
 count $? 'bytes --chart --color=always'
+ask 0 '' bytes --runs worked.xmf <<'END'
+K~0~21~file header
+K~21~3~node frames
+K~24~1~metadata frames
+K~25~1~unpackers
+K~26~1~references
+K~27~3~node frames
+K~30~6~metadata frames
+K~36~2~visible data
+K~38~5~metadata frames
+K~43~2~hidden data
+K~45~5~metadata frames
+K~50~2~visible data
+K~52~1~unpackers
+K~53~1~references
+K~54~2~inline resources
+END
+echo 'R~5~16' | ask 2 '' bytes cut.xmf --runs
+echo 'too long' | ask 2 '' bytes --runs "$work/long"
+ask_none 1 'xmf: none: No such file or directory' bytes --runs none
+# the runs of a file follow each other, differ from their neighbours, and have the bytes that are counted for each kind
+for sample in *.xmf; do
+    { "$xmf" bytes "$sample" && "$xmf" bytes --runs "$sample"; } 2>/dev/null | awk -F "$tab" -v size="$(wc -c <"$sample")" '
+        $1 == "R" { refused++ }
+        NF == 2 && $1 != "total" { count[$1] = $2 }
+        NF == 4 { if ($2 != at || $4 == before || $3 < 1) bad = 1; at += $3; sum[$4] += $3; before = $4 }
+        END { for (kind in count) if (sum[kind] + 0 != count[kind]) bad = 1; exit refused != 2 && (bad || at != size) }'
+    count $? "bytes --runs $sample"
+done
+"$xmf" bytes --runs mobile.xmf >"$work/wanted"
+run "$xmf" bytes --runs - <mobile.xmf
+judge 'bytes --runs, standard input' '' 0
+# a file with as many nodes and items as there may be: all runs are told
+python3 - "$work/most.xmf" <<'END'
+import sys
+
+
+def number(n):
+    groups = [n & 0x7F]
+    while n := n >> 7:
+        groups.append(n & 0x7F | 0x80)
+    return bytes(reversed(groups))
+
+
+def node(contained, items, rest):
+    fields = number(len(items)) + items + b"\0"
+    for widths in ((1, 1), (2, 1), (2, 2), (3, 1)):
+        header = sum(widths) + len(number(contained)) + len(fields)
+        whole = header + 1 + len(rest)
+        if (len(number(whole)), len(number(header))) == widths:
+            return number(whole) + number(contained) + number(header) + fields + b"\1" + rest
+
+
+item = b"\0\x08\0\2\0a"
+leaves = b"".join(node(0, item * (5 if i == 0 else 4 if i < 254 else 3), b"x" * 100) for i in range(255))
+root = node(255, b"", leaves)
+for a in (1, 2, 3):
+    for b in (1, 2, 3):
+        start = 8 + a + 2 + 1 + b
+        size = start + len(root)
+        if len(number(size)) == a and len(number(size - 1)) == b and start < 128:
+            open(sys.argv[1], "wb").write(b"XMF_1.00" + number(size) + b"\1\0" + number(start) + number(size - 1) + root)
+END
+run "$xmf" bytes --runs "$work/most.xmf"
+[ "$status" -eq 0 ] && awk -F "$tab" -v size="$(wc -c <"$work/most.xmf")" '$2 != at { bad = 1 } { at += $3 } END { exit bad || at != size || NR < 3000 }' "$work/got"
+count $? 'bytes --runs of a file with 256 nodes'
+
+# ---- map
+
+ask_none 0 '' map mobile.xmf -o "$work/map.svg"
+python3 - mobile.xmf "$work/map.svg" <<'END'
+import sys
+import xml.etree.ElementTree
+
+size = len(open(sys.argv[1], "rb").read())
+root = xml.etree.ElementTree.parse(sys.argv[2]).getroot()
+space = "{http://www.w3.org/2000/svg}"
+cells = []
+for run in root.iter(space + "g"):
+    assert run.find(space + "title").text.startswith("place")
+    for rect in run.iter(space + "rect"):
+        x, y, width, height = (int(rect.get(key)) for key in ("x", "y", "width", "height"))
+        assert height == 14 and (x - 64) % 10 == 0 and (y - 44) % 14 == 0 and width % 10 == 0
+        cells += [(y - 44) // 14 * 64 + (x - 64) // 10 + i for i in range(width // 10)]
+assert cells == list(range(size))
+END
+count $? 'map: its rectangles are the places of the file, each once, in file order'
+cp "$work/map.svg" "$work/wanted"
+run "$xmf" map mobile.xmf -o -
+judge 'map to standard output' '' 0
+sed 's/>mobile.xmf: />/' "$work/map.svg" >"$work/wanted"
+run "$xmf" map - -o - <mobile.xmf
+judge 'map of standard input' '' 0
+ask_none 1 "xmf: $work/map.svg: File exists" map worked.xmf -o "$work/map.svg"
+ask_none 0 '' map worked.xmf -f -o "$work/map.svg"
+grep -q '>worked.xmf: 56 bytes, 64 a row<' "$work/map.svg"
+count $? 'map -f writes over a file'
+ask_none 2 "$(refused 5 16)" map cut.xmf -o "$work/none"
+ask_none 2 'too long' map "$work/long" -o "$work/none"
+ask_none 2 "$(refused 5 16)" map -f cut.xmf -o "$work/map.svg"
+ask_unmade 'xmf: none: No such file or directory' map none
+run "$xmf" map worked.xmf -o "$work/absent/none"
+[ "$status" -eq 1 ] && grep -q ': not made$' "$work/error"
+count $? 'map into a folder that is not there'
+grep -q '>worked.xmf: 56 bytes, 64 a row<' "$work/map.svg" && [ ! -e "$work/none" ] && [ -z "$(find "$work" -name '*.xmf-*')" ]
+count $? 'map, nothing is made of a refusal, and nothing is left'
 
 # ---- id3
 
@@ -510,6 +616,12 @@ judge 'a refusal on a terminal' '' 2
 printf 'R\t37\t0\nxmf: refusal 37: the content to be corrected is hidden, or one of several versions (xmf why 37)\n' >"$work/wanted"
 on_terminal "$xmf" title worked.xmf 1 x -o "$work/none"
 judge 'a refusal of bytes on a terminal' '' 2
+printf 'R\t5\t16\nxmf: refusal 5: the length in the header is not the number of bytes received (xmf why 5)\n' >"$work/wanted"
+on_terminal "$xmf" map cut.xmf -o "$work/none"
+judge 'a refusal of a picture on a terminal' '' 2
+printf 'xmf: standard output: a terminal, which shows no picture\n' >"$work/wanted"
+on_terminal "$xmf" map worked.xmf -o -
+judge 'no picture to a terminal' '' 1
 printf 'title\tHi\tHello\nlength\t56\t59\n' >"$work/wanted"
 on_terminal "$xmf" title worked.xmf 0 Hello -o "$work/on-terminal"
 judge 'a new file on a terminal' '' 0
@@ -534,12 +646,12 @@ count $? 'no bytes to a terminal'
 
 ask_none 1 'xmf: no command; xmf help lists them'
 ask_none 1 'xmf: no such command: shet; xmf help lists them' shet worked.xmf
-for command in sheet check show verdict rows find resolve extract needs bytes id3 title; do
+for command in sheet check show verdict rows find resolve extract needs bytes map id3 title; do
     ask_none 1 "$(usage "$command" 'too few or too many words')" "$command"
     ask_none 1 "$(usage "$command" 'no such option: --wy')" "$command" --wy worked.xmf 0 0 0
 done
-for command in to-utf8 to-utf16 rows reorder; do ask_none 1 "$(usage "$command" 'too few or too many words')" "$command" worked.xmf worked.xmf; done
-for command in sheet check show verdict rows to-utf8 to-utf16 needs reorder bytes id3 title; do ask_none 1 "$(usage "$command" 'an empty word where a file or a number belongs')" "$command" ''; done
+for command in to-utf8 to-utf16 rows reorder map; do ask_none 1 "$(usage "$command" 'too few or too many words')" "$command" worked.xmf worked.xmf; done
+for command in sheet check show verdict rows to-utf8 to-utf16 needs reorder bytes map id3 title; do ask_none 1 "$(usage "$command" 'an empty word where a file or a number belongs')" "$command" ''; done
 ask_none 1 "$(usage sheet 'an empty word where a file or a number belongs')" sheet worked.xmf '' cut.xmf
 ask_none 1 "$(usage resolve 'an empty word where a file or a number belongs')" resolve worked.xmf ''
 ask_none 1 "$(usage find 'an empty word where a file or a number belongs')" find worked.xmf '' S 1
@@ -548,6 +660,9 @@ ask_none 1 "$(usage title 'an empty word where a file or a number belongs')" tit
 ask_none 1 "$(usage title 'the name after -o is missing or empty')" title worked.xmf 0 x -o ''
 ask_none 1 "$(usage title 'the name after -o is missing or empty')" title worked.xmf 0 x
 ask_none 1 "$(usage extract 'the name after -o is missing or empty')" extract mobile.xmf 1
+ask_none 1 "$(usage map 'the name after -o is missing or empty')" map mobile.xmf
+ask_none 1 "$(usage bytes 'too few or too many words')" bytes --runs mobile.xmf worked.xmf
+for option in --sum --chart -H --color=never; do ask_none 1 "$(usage bytes '--runs goes with no other option')" bytes --runs "$option" mobile.xmf; done
 ask_none 1 "$(usage title 'a word is missing after -o')" title worked.xmf 0 x -o
 ask_none 1 "$(usage title 'a word is missing after --bytes')" title worked.xmf 0 -o "$work/none" --bytes
 ask_none 1 "$(usage title '--stdin or --bytes, not both')" title worked.xmf 0 --stdin --bytes 00 -o "$work/none"
@@ -793,11 +908,11 @@ commands = [
     ["check", "-v", "cut.xmf"], ["show", "worked.xmf"], ["why", "8"], ["why", "11"], ["rows", "worked.xmf"], ["verdict", "mobile.xmf"],
     ["find", "folders.xmf", "2", "S", "9"], ["resolve", "detached.xmf", "3"], ["needs", "mobile.xmf"], ["title", "worked.xmf"],
     ["sheet", "-2", "worked.xmf"], ["reorder", work + "/second"], ["bytes", "mobile.xmf"], ["bytes", "-l", "mobile.xmf", "cut.xmf"],
-    ["bytes", "--sum", "mobile.xmf", "cut.xmf"], ["bytes", "--chart", "mobile.xmf"], ["id3", "id3.xmf", "0"], ["id3", "--tag", work + "/tag"],
+    ["bytes", "--sum", "mobile.xmf", "cut.xmf"], ["bytes", "--chart", "mobile.xmf"], ["bytes", "--runs", "mobile.xmf"], ["map", "mobile.xmf", "-o", "-"], ["id3", "id3.xmf", "0"], ["id3", "--tag", work + "/tag"],
     ["extract", "mobile.xmf", "1", "-o", "-"], ["title", "worked.xmf", "0", "Hello", "-o", "-"], ["to-utf8", work + "/units"],
     ["to-utf16", work + "/text"], ["help"], ["help", "sheet"], ["--version"],
 ]
-made = [["extract", "mobile.xmf", "1", "-o", new], ["title", "worked.xmf", "0", "Hello", "-o", new]]
+made = [["extract", "mobile.xmf", "1", "-o", new], ["title", "worked.xmf", "0", "Hello", "-o", new], ["map", "worked.xmf", "-o", new]]
 
 
 def ask(words, k):
@@ -823,7 +938,7 @@ for words in made:
     ask(words, resource.RLIM_INFINITY)
     whole = open(new, "rb").read()
     os.remove(new)
-    for k in range(len(whole)):
+    for k in some(len(whole)) if words[0] == "map" else range(len(whole)):
         status, _, error = ask(words, k)
         if status != 1 or not error.endswith(b"xmf: " + os.fsencode(new) + b": not made\n") or os.listdir(folder):
             print("NEW with room for", k, *words, status, error, os.listdir(folder))
@@ -837,7 +952,7 @@ count $? "room for k bytes: $(cat "$work/room")"
 
 if [ -c /dev/full ]; then
     for words in 'sheet worked.xmf' 'sheet cut.xmf' 'check worked.xmf' 'check -v cut.xmf' 'show worked.xmf' 'why 8' 'rows worked.xmf' 'verdict mobile.xmf' 'find folders.xmf 2 S 9' \
-        'resolve detached.xmf 3' 'needs mobile.xmf' 'sheet -2 worked.xmf' 'bytes mobile.xmf' 'bytes -l mobile.xmf' 'bytes --sum mobile.xmf' 'bytes --chart mobile.xmf' 'id3 id3.xmf 0' 'title worked.xmf' 'title worked.xmf 0 x -o -' 'extract mobile.xmf 1 -o -' help 'help sheet' --version; do
+        'resolve detached.xmf 3' 'needs mobile.xmf' 'sheet -2 worked.xmf' 'bytes mobile.xmf' 'bytes -l mobile.xmf' 'bytes --sum mobile.xmf' 'bytes --chart mobile.xmf' 'bytes --runs mobile.xmf' 'map mobile.xmf -o -' 'id3 id3.xmf 0' 'title worked.xmf' 'title worked.xmf 0 x -o -' 'extract mobile.xmf 1 -o -' help 'help sheet' --version; do
         # shellcheck disable=SC2086
         "$xmf" $words >/dev/full 2>"$work/error"
         [ $? -eq 1 ] && [ -s "$work/error" ]
@@ -1092,12 +1207,12 @@ if [ -f "$root/target/staticlib/libcapi.a" ]; then
     judge 'install --check' '' 0
     # the same answers, with no rt, from a place that is read-only, by every user
     mkdir "$work/usual"
-    for command in sh awk cat cmp env dirname head ln mktemp mv readlink rm; do ln -s "$(command -v "$command")" "$work/usual"; done
+    for command in sh awk cat cmp env dirname head ln mktemp mv readlink rm sync; do ln -s "$(command -v "$command")" "$work/usual"; done
     chmod -R a-w "$prefix"
     user=
     if [ "$(id -u)" -eq 0 ] && command -v setpriv >/dev/null; then user=other; fi
     for words in 'sheet worked.xmf' 'sheet cut.xmf' 'check worked.xmf cut.xmf' 'show mobile.xmf' 'why 11' 'rows worked.xmf' 'verdict worked.xmf' 'find folders.xmf 2 S 9' 'resolve detached.xmf 3' \
-        'needs mobile.xmf' 'sheet -2 folders.xmf' 'bytes mobile.xmf' 'bytes --sum --chart mobile.xmf cut.xmf' 'id3 id3.xmf 0' 'id3 id3.xmf 1' 'id3 --hidden id3.xmf 1' 'title worked.xmf' 'extract mobile.xmf 1 -o -' 'title worked.xmf 0 Hello -o -' help 'help title'; do
+        'needs mobile.xmf' 'sheet -2 folders.xmf' 'bytes mobile.xmf' 'bytes --sum --chart mobile.xmf cut.xmf' 'bytes --runs mobile.xmf' 'map mobile.xmf -o -' 'map cut.xmf -o -' 'id3 id3.xmf 0' 'id3 id3.xmf 1' 'id3 --hidden id3.xmf 1' 'title worked.xmf' 'extract mobile.xmf 1 -o -' 'title worked.xmf 0 Hello -o -' help 'help title'; do
         # shellcheck disable=SC2086
         {
             "$xmf" $words >"$work/wanted" 2>"$work/error.wanted"

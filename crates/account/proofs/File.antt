@@ -1,4 +1,4 @@
--- The account of an accepted file: its counts are the numbers of its places, and sum to its length. Two files that differ in what is private have one account.
+-- The account of an accepted file: its counts are the numbers of its places, and sum to its length. Two files that differ in what is private have one account, and the same kinds at the same places.
 -- Assumes nothing.
 use mathlib.Core.Path.{_≡_, refl, sym, ap, _∙_, subst}
 use mathlib.Core.Logic.{inl, inr}
@@ -54,25 +54,23 @@ module _ (lim : Limits) (f : List ℕ) {h : Header} {ns : List Node} {is : List 
 
 -- ---- demand 3
 
--- the same events, so the same counts and the same kind at each place
-pub events-alike : (lim : Limits) (f g : List ℕ) {h : Header} {ns : List Node} {is : List Item} → readFile lim f ≡ rows h ns is → DifferInPrivate h ns is f g → eventsOf lim g h ≡ eventsOf lim f h
-unfolding eventsOf
-events-alike lim f g {h} {ns} {is} r d =
-    let x = private-alike lim f g r d in
-    let e = header-same (read-back lim f r) (x .read-as) in
-    let l = subst (λ v. logFrom lim g v ≡ logFrom lim f v) (sym e) (x .same-log) in
-    let t = stable privateData (header (length f)) f g 0 (x .keeps-header) .1 in
-    rw (l, ← d .same-length, ← t) refl
-  where
-    header-same : {h′ : Header} (a : ReadAs lim f h ns is) (b : ReadAs lim f h′ ns is) → h ≡ h′
-    header-same a b = let e = sym (a .header-is) ∙ b .header-is in cc
+module _ (lim : Limits) (f g : List ℕ) {h : Header} {ns : List Node} {is : List Item} (r : readFile lim f ≡ rows h ns is) (d : DifferInPrivate h ns is f g) where
+  events-alike : eventsOf lim g h ≡ eventsOf lim f h
+  unfolding eventsOf
+  events-alike =
+      let x = private-alike lim f g r d in
+      let e = header-same (read-back lim f r) (x .read-as) in
+      let l = subst (λ v. logFrom lim g v ≡ logFrom lim f v) (sym e) (x .same-log) in
+      let t = stable privateData (header (length f)) f g 0 (x .keeps-header) .1 in
+      rw (l, ← d .same-length, ← t) refl
+    where
+      header-same : {h′ : Header} (a : ReadAs lim f h ns is) (b : ReadAs lim f h′ ns is) → h ≡ h′
+      header-same a b = let e = sym (a .header-is) ∙ b .header-is in cc
 
-pub kinds-alike : (lim : Limits) (f g : List ℕ) {h : Header} {ns : List Node} {is : List Item} → readFile lim f ≡ rows h ns is → DifferInPrivate h ns is f g
-    → kindsOf lim g h ns is ≡ kindsOf lim f h ns is
-unfolding kindsOf
-kinds-alike lim f g r d = rw (events-alike lim f g r d, ← d .same-length) refl
+  pub kinds-alike : kindsOf lim g h ns is ≡ kindsOf lim f h ns is
+  unfolding kindsOf
+  kinds-alike = rw (events-alike, ← d .same-length) refl
 
-pub marks-alike : (lim : Limits) (room : ℕ) (f g : List ℕ) {h : Header} {ns : List Node} {is : List Item} → readFile lim f ≡ rows h ns is → DifferInPrivate h ns is f g
-    → marksOf lim room g h ns is ≡ marksOf lim room f h ns is
-unfolding marksOf
-marks-alike lim room f g r d = rw (events-alike lim f g r d, ← d .same-length) refl
+  pub marks-alike : (room : ℕ) → marksOf lim room g h ns is ≡ marksOf lim room f h ns is
+  unfolding marksOf
+  marks-alike room = rw (events-alike, ← d .same-length) refl

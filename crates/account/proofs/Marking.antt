@@ -1,9 +1,7 @@
 -- Marks that are painted over: a span, spans one after the other, and the rows of a table. At the end each mark is the kind of its place.
 -- Assumes nothing.
 use mathlib.Core.Path.{_≡_, refl, sym, ap, ap₂, _∙_, subst}
-use mathlib.Core.Bool.{cond, _&&_}
-use mathlib.Core.Logic.{_⊎_, inl, inr}
-use mathlib.Core.List.{List, [], _∷_, _++_}
+use mathlib.Core.List.{List, _++_}
 use Prim.Native.Nat.{ℕ, zero, suc, _+_, _*_, _-_, _≤_, _<_, _%_, min, max}
 use native.Mathlib.Decide.{decLe, decLt}
 use native.Mathlib.Nat.{lt-of-not-le}
@@ -32,7 +30,7 @@ use Rattle.tree.proofs.Rows.{Standing, standing}
 use Rattle.tree.proofs.Exits as exits
 use Rattle.account.specs.Account.{kindAt, kindsFrom, eventsOf}
 use Rattle.account.specs.ByRows.{metaAt, metaEnd, contentsAt, folded}
-use Rattle.account.specs.ByPlace.{Span, over, headerSpan, overNode, overItem, kindByRows}
+use Rattle.account.specs.ByPlace.{overNode, overItem, kindByRows}
 use Rattle.account.specs.Marks.{marksOf, Shows, Becomes, spanned}
 use Rattle.account.proofs.Folding.{Folding, folding-begun, folding-on, folding-done}
 use Rattle.account.proofs.ByPlace.{by-place}

@@ -1,9 +1,9 @@
 -- The runs of a file: together they are its kinds, each begins where the one before it ends, has a place, and is of another kind than the one before it. And the lines
 -- of runs, as the code comes to them.
 -- Assumes nothing.
-use mathlib.Core.Path.{_≡_, refl, sym, ap, ap₂, _∙_}
+use mathlib.Core.Path.{_≡_, refl, sym, ap, _∙_}
 use mathlib.Core.Bool.{Bool, true, false, cond}
-use mathlib.Core.List.{List, [], _∷_, _++_, append-assoc, append-nil}
+use mathlib.Core.List.{List, [], _∷_, _++_, append-assoc}
 use Prim.Native.Nat.{ℕ, zero, suc, _+_, _-_, _≤_, _<_}
 use native.Mathlib.Numerals.{add-one}
 use native.Mathlib.Omega.{arith}
@@ -12,7 +12,7 @@ use lib.ListN.{length, length-append, getD, take, drop, drop-of-length-le, repli
 use lib.Seq.{drop-cons, take-at, length-take-le}
 use borrow.Author.Tests.{eq-eqb, ne-eqb, eqb-true, eqb-false}
 use Rattle.metadata.specs.Tables.{fullNodes, fullItems, limits}
-use Rattle.room.specs.Room.{Result, good, bad, padded, fitting, counted, kept}
+use Rattle.room.specs.Room.{Result, good, bad, padded, counted, kept}
 use Rattle.room.specs.Told.{told}
 use Rattle.room.specs.declared.Written.{Written}
 use Rattle.room.specs.declared.Written.the-variants as written
@@ -20,7 +20,7 @@ use Rattle.tree.specs.Reading.{readFile}
 use Rattle.tree.specs.Asking.{ask}
 use Rattle.sheet.specs.Sheet.{tabbed, number}
 use Rattle.account.specs.Marks.{marksOf}
-use Rattle.answers.specs.Answer.{Answer, plainly, refusedBy, fitted, reads}
+use Rattle.answers.specs.Answer.{plainly, refusedBy, fitted, reads}
 use Rattle.answers.specs.Runs.{Run, begun, longer, runsOn, runsFrom, runsOf, names, nameOf, runLine, runLines, runsAt, Ends, runsShown, runsAnswer}
 use Rattle.answers.proofs.Ending.{printed-good, printed-bad}
 

@@ -197,7 +197,7 @@ module _ (f g : List ℕ) (h : Header) (ns : List Node) (is : List Item) (r : re
     unfolding runsAnswer reads page.reads
     runs-same =
         let lim = limits fullNodes fullItems in
-        ap (printed room [] runsShown) (asks-alike full f g h ns is on-page d (marksOf lim 65537 g) (marksOf lim 65537 f) (marks-alike lim 65537 f g r d))
+        ap (printed room [] runsShown) (asks-alike full f g h ns is on-page d (marksOf lim 65537 g) (marksOf lim 65537 f) (marks-alike lim f g r d 65537))
 
     bytes-line-same : (tail : List ℕ) → bytesLineAnswer room tail g ≡ bytesLineAnswer room tail f
     unfolding bytesLineAnswer

@@ -1,7 +1,7 @@
 -- `fill` marks a span. The invariant: the places from `from` up to `at` are marked, the others as they were.
 -- Assumes nothing.
 use Prim.Native.Nat.{_-_, _≤_, max}
-use lib.ListN.{length, length-set}
+use lib.ListN.{length}
 use native.Mathlib.Omega.{arith}
 use Rattle.account.proofs.Marking.{Filling, filling-none, filling-more, filling-all}
 use borrow.Author.Needs.{needs}

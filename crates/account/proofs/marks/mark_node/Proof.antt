@@ -49,10 +49,21 @@ same-length c = search needs
 
 returns : tie.Need-returns
 returns c =
-    let meta = c .before .before .before .before .before .before .before .before .before .before .before .before .before .before .before .before .before .before .before .before .before .before .before .before .meta-at .ensures in
-    let unpackers = spans _ _ meta (c .before .before .before .before .before .before .before .before .before .before .before .before .before .before .before .before .before .before .before .before .before .before .before .after-block .ensures metaFrame) in
-    let inline = past _ _ _ (omega (arith, c .before .before .before .before .before .before .before .before .before .before .before .before .before .before .before .before .before .before .before .before .before .before .before .before .before .before .before .good, c .before .before .before .before .before .before .before .before .before .before .before .before .before .before .before .before .before .before .fill .ensures .same, c .before .before .before .before .before .before .before .before .before .before .before .before .before .before .fill2 .ensures .same, c .before .before .before .before .before .before .before .before .before .before .fill3 .ensures .same, c .before .before .before .before .before .before .fill4 .ensures .same)) (rw (c .before .before .before .before .before .before .before .before .before .before .before .before .before .before .before .before .before .before .before .before .on .ensures, c .before .before .before .before .before .before .before .before .before .before .before .before .before .before .before .before .before .before .before .before .before .inline-size .ensures) at (c .before .before .fill5 .ensures)) in
-    node-spans _ _ meta unpackers (c .before .before .before .before .before .before .before .before .before .before .before .before .before .before .before .before .before .before .before .before .before .before .contents-at .ensures) (c .before .before .before .before .before .before .before .before .before .before .before .before .before .before .before .before .before .before .fill .ensures) (c .before .before .before .before .before .before .before .before .before .before .before .before .before .before .fill2 .ensures) (c .before .before .before .before .before .before .before .before .before .before .fill3 .ensures) (c .before .before .before .before .before .before .fill4 .ensures) inline
+    let after-fill5 = c .before .before in
+    let after-fill4 = after-fill5 .before .before .before .before in
+    let after-fill3 = after-fill4 .before .before .before .before in
+    let after-fill2 = after-fill3 .before .before .before .before in
+    let after-fill = after-fill2 .before .before .before .before in
+    let after-on = after-fill .before .before in
+    let after-inline-size = after-on .before in
+    let after-contents-at = after-inline-size .before in
+    let after-after-block = after-contents-at .before in
+    let after-meta-at = after-after-block .before in
+    let entry = after-meta-at .before .before .before in
+    let meta = after-meta-at .meta-at .ensures in
+    let unpackers = spans _ _ meta (after-after-block .after-block .ensures metaFrame) in
+    let inline = past _ _ _ (omega (arith, entry .good, after-fill .fill .ensures .same, after-fill2 .fill2 .ensures .same, after-fill3 .fill3 .ensures .same, after-fill4 .fill4 .ensures .same)) (rw (after-on .on .ensures, after-inline-size .inline-size .ensures) at (after-fill5 .fill5 .ensures)) in
+    node-spans _ _ meta unpackers (after-contents-at .contents-at .ensures) (after-fill .fill .ensures) (after-fill2 .fill2 .ensures) (after-fill3 .fill3 .ensures) (after-fill4 .fill4 .ensures) inline
 
 pub mark-node-spec : {M : Type 1} → statement M
 mark-node-spec =

@@ -21,7 +21,12 @@ same-length : tie.Need-same-length
 same-length c = search needs
 
 returns : tie.Need-returns
-returns c = all-painted _ _ _ _ (c .before .before .before .before .before .before .before .before .before .before .before .before .before .before .fill .ensures) (c .before .before .before .before .before .before .before .before .before .before .fill2 .ensures) (c .before .before .before .before .before .before .mark-nodes .ensures) (c .before .before .mark-items .ensures)
+returns c =
+    let after-mark-items = c .before .before in
+    let after-mark-nodes = after-mark-items .before .before .before .before in
+    let after-fill2 = after-mark-nodes .before .before .before .before in
+    let after-fill = after-fill2 .before .before .before .before in
+    all-painted _ _ _ _ (after-fill .fill .ensures) (after-fill2 .fill2 .ensures) (after-mark-nodes .mark-nodes .ensures) (after-mark-items .mark-items .ensures)
 
 pub mark-rows-spec : {M : Type 1} → statement M
 mark-rows-spec =

@@ -40,10 +40,24 @@ enum-known-n-2 : tie.Need-enum-known-n-2
 enum-known-n-2 c = search needs
 
 array-share-prefix-kinds : tie.Need-array-share-prefix-kinds
-array-share-prefix-kinds c = stored _ (c .before .before .before .before .before .before .before .before .before .before .before .before .before .node-table .ensures) (c .before .before .before .before .before .before .before .before .before .before .before .before .item-table .ensures) (c .before .before .before .before .before .before .before .before .before .before .before .file-buffer .ensures) (c .before .before .before .before .before .before .before .mark .ensures .0) (c .before .before .n2 .given .1) (c .before .before .before .before .before .before .before .mark .ensures .1 .1 .1) .0
+array-share-prefix-kinds c =
+    let after-n2 = c .before .before in
+    let after-mark = after-n2 .before .before .before .before .before in
+    let after-file-buffer = after-mark .before .before .before .before in
+    let after-item-table = after-file-buffer .before in
+    let after-node-table = after-item-table .before in
+    stored _ (after-node-table .node-table .ensures) (after-item-table .item-table .ensures) (after-file-buffer .file-buffer .ensures) (after-mark .mark .ensures .0) (after-n2 .n2 .given .1)
+    (after-mark .mark .ensures .1 .1 .1) .0
 
 slice-aggregate-put-runs : tie.Need-slice-aggregate-put-runs
-slice-aggregate-put-runs c = stored _ (c .before .before .before .before .before .before .before .before .before .before .before .before .before .before .node-table .ensures) (c .before .before .before .before .before .before .before .before .before .before .before .before .before .item-table .ensures) (c .before .before .before .before .before .before .before .before .before .before .before .before .file-buffer .ensures) (c .before .before .before .before .before .before .before .before .mark .ensures .0) (c .before .before .before .n2 .given .1) (c .before .before .before .before .before .before .before .before .mark .ensures .1 .1 .1) .1
+slice-aggregate-put-runs c =
+    let after-n2 = c .before .before .before in
+    let after-mark = after-n2 .before .before .before .before .before in
+    let after-file-buffer = after-mark .before .before .before .before in
+    let after-item-table = after-file-buffer .before in
+    let after-node-table = after-item-table .before in
+    stored _ (after-node-table .node-table .ensures) (after-item-table .item-table .ensures) (after-file-buffer .file-buffer .ensures) (after-mark .mark .ensures .0) (after-n2 .n2 .given .1)
+    (after-mark .mark .ensures .1 .1 .1) .1
 
 put-runs-requires : tie.Need-put-runs-requires
 put-runs-requires c κs = search needs
@@ -58,13 +72,34 @@ same-length : tie.Need-same-length
 same-length c = search needs
 
 returns : tie.Need-returns
-returns c = gives-as (runs-bad _ (c .before .before .before .before .before .before .before .before .before .before .before .before .before .before .before .before .before .node-table .ensures) (c .before .before .before .before .before .before .before .before .before .before .before .before .before .before .before .before .item-table .ensures) (c .before .before .before .before .before .before .before .before .before .before .before .before .before .before .before .file-buffer .ensures) (c .before .before .before .before .before .before .before .before .before .before .before .mark .ensures .0) (c .before .before .before .before .before .before .n .given .1) _) (c .before .before .refuse .ensures)
+returns c =
+    let after-refuse = c .before .before in
+    let after-n = after-refuse .before .before .before .before in
+    let after-mark = after-n .before .before .before .before .before in
+    let after-file-buffer = after-mark .before .before .before .before in
+    let after-item-table = after-file-buffer .before in
+    let after-node-table = after-item-table .before in
+    gives-as
+    (runs-bad _ (after-node-table .node-table .ensures) (after-item-table .item-table .ensures) (after-file-buffer .file-buffer .ensures) (after-mark .mark .ensures .0) (after-n .n .given .1) _)
+    (after-refuse .refuse .ensures)
 
 same-length-2 : tie.Need-same-length-2
 same-length-2 c = search needs
 
 returns-2 : tie.Need-returns-2
-returns-2 c = gives-as (runs-good _ (c .before .before .before .before .before .before .before .before .before .before .before .before .before .before .before .before .before .before .before .before .before .before .node-table .ensures) (c .before .before .before .before .before .before .before .before .before .before .before .before .before .before .before .before .before .before .before .before .before .item-table .ensures) (c .before .before .before .before .before .before .before .before .before .before .before .before .before .before .before .before .before .before .before .before .file-buffer .ensures) (c .before .before .before .before .before .before .before .before .before .before .before .before .before .before .before .before .mark .ensures .0) (c .before .before .before .before .before .before .before .before .before .before .before .n2 .given .1) (c .before .before .before .before .before .before .before .before .before .before .before .before .before .before .before .before .mark .ensures .1 .1 .1) _) (c .before .before .conclude .ensures _ _ (c .before .before .before .before .before .before .before .put-runs .ensures))
+returns-2 c =
+    let after-conclude = c .before .before in
+    let after-put-runs = after-conclude .before .before .before .before .before in
+    let after-n2 = after-put-runs .before .before .before .before in
+    let after-mark = after-n2 .before .before .before .before .before in
+    let after-file-buffer = after-mark .before .before .before .before in
+    let after-item-table = after-file-buffer .before in
+    let after-node-table = after-item-table .before in
+    gives-as
+    (runs-good _ (after-node-table .node-table .ensures) (after-item-table .item-table .ensures) (after-file-buffer .file-buffer .ensures) (after-mark .mark .ensures .0) (after-n2 .n2 .given .1) (after-mark .mark .ensures .1 .1 .1) _)
+    (after-conclude .conclude .ensures _ _ (after-put-runs .put-runs .ensures))
 
 pub make-runs-spec : {M : Type 1} → statement M
-make-runs-spec = tie.close (tie.spec node-table-requires item-table-requires file-buffer-requires slice-aggregate-mark slice-aggregate-mark-2 slice-aggregate-mark-3 mark-requires enum-known-n slice-aggregate-refuse refuse-requires enum-known-n-2 array-share-prefix-kinds slice-aggregate-put-runs put-runs-requires slice-aggregate-conclude conclude-requires same-length returns same-length-2 returns-2)
+make-runs-spec =
+    tie.close
+    (tie.spec node-table-requires item-table-requires file-buffer-requires slice-aggregate-mark slice-aggregate-mark-2 slice-aggregate-mark-3 mark-requires enum-known-n slice-aggregate-refuse refuse-requires enum-known-n-2 array-share-prefix-kinds slice-aggregate-put-runs put-runs-requires slice-aggregate-conclude conclude-requires same-length returns same-length-2 returns-2)

@@ -25,7 +25,14 @@ same-length : tie.Need-same-length
 same-length c = search needs
 
 returns : tie.Need-returns
-returns c = counts-as (run-is _ _ _) (counts-then (counts-then (counts-then (counts-then (c .before .before .before .before .before .before .before .before .before .before .before .before .before .before .before .before .before .before .put-byte .ensures) (c .before .before .before .before .before .before .before .before .before .before .before .before .before .before .put-number .ensures)) (c .before .before .before .before .before .before .before .before .before .before .put-number2 .ensures)) (c .before .before .before .before .before .before .put-name .ensures)) (c .before .before .put-byte2 .ensures))
+returns c =
+    let after-put-byte2 = c .before .before in
+    let after-put-name = after-put-byte2 .before .before .before .before in
+    let after-put-number2 = after-put-name .before .before .before .before in
+    let after-put-number = after-put-number2 .before .before .before .before in
+    let after-put-byte = after-put-number .before .before .before .before in
+    counts-as (run-is _ _ _)
+    (counts-then (counts-then (counts-then (counts-then (after-put-byte .put-byte .ensures) (after-put-number .put-number .ensures)) (after-put-number2 .put-number2 .ensures)) (after-put-name .put-name .ensures)) (after-put-byte2 .put-byte2 .ensures))
 
 pub put-run-spec : {M : Type 1} → statement M
 put-run-spec =
