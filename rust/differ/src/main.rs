@@ -60,15 +60,16 @@ mod buffers;
 mod changed;
 mod compare;
 mod mends;
-mod progress;
 mod readers;
 mod shelves;
-mod shrink;
 mod titles;
+
+// What is said meanwhile, and what is printed of a difference.
+mod progress;
+mod shrink;
 
 use compare::{Comparer, Difference};
 use generate::descriptions::{self, Described};
-use generate::encode::LARGEST_NUMBER;
 use generate::mends::{mend, Mend};
 use generate::model::Field;
 use generate::sheets::{sheet, Sheet};
@@ -138,7 +139,9 @@ fn compare_samples(comparer: &mut Comparer, seed: u64, is_quick: bool) -> Result
         let number = count;
         count += 1;
         progress::step();
-        if is_quick && (number % QUICK_SAMPLES != 0 || case.file.len() >= LARGEST_NUMBER) {
+        if is_quick
+            && (number % QUICK_SAMPLES != 0 || case.file.len() >= generate::encode::LARGEST_NUMBER)
+        {
             return Ok(());
         }
         compared += 1;
