@@ -1,39 +1,38 @@
 -- What is asked of a file with full tables; the lines of rows that stand in a table; and each answer, as its function comes to it.
 -- Assumes nothing.
 use mathlib.Core.Path.{_≡_, refl, sym, ap, _∙_}
-use mathlib.Core.Bool.{Bool, true, false}
-use mathlib.Core.List.{List, [], _∷_, _++_, append-assoc}
+use mathlib.Core.Bool.{Bool}
+use mathlib.Core.List.{List, [], _∷_, _++_}
 use Prim.Native.Nat.{ℕ, suc, _+_, _*_, _-_, _≤_, _<_}
 use native.Mathlib.Omega.{arith}
 use lib.Dec.{eqb}
 use lib.ListN.{length}
-use borrow.Author.Tests.{eq-eqb, ne-eqb, le-leb, lt-leb}
+use borrow.Author.Tests.{eq-eqb, ne-eqb}
 use Rattle.cursor.specs.Vlq.{part}
 use Rattle.cursor.specs.declared.FilePlace.{FilePlace}
 use Rattle.cursor.specs.declared.Node.{Node}
 use Rattle.cursor.specs.declared.Item.{Item}
 use Rattle.header.specs.Header.{Header}
 use Rattle.metadata.specs.Tables.{fullNodes, fullItems, nodeWidth, itemWidth, limits}
-use Rattle.room.specs.Room.{Result, good, bad, fitting}
-use Rattle.room.specs.Decimal.{decimal}
+use Rattle.room.specs.Room.{Result, good, bad}
 use Rattle.tree.specs.Rows.{nodeFrom, nodesIn, itemFrom, itemsIn, rowsFrom}
 use Rattle.tree.specs.Reading.{Reading, rows, refusal, readOf, readFile}
 use Rattle.tree.specs.Asking.{ask, counts}
 use Rattle.tree.specs.declared.Read.{Read}
 use Rattle.tree.specs.declared.Read.the-variants as read
 use Rattle.tree.specs.declared.Summary.{Summary}
-use Rattle.tree.proofs.Rows.{Standing, ask-refused, ask-is, item-at, items-in-length}
-use Rattle.sheet.specs.Sheet.{tabbed, number, versionText, itemLine, write}
+use Rattle.tree.proofs.Rows.{Standing, ask-refused, ask-is}
+use Rattle.sheet.specs.Sheet.{tabbed, number, versionText, writeIn}
 use Rattle.mobile.specs.Mobile.{mobile}
 use Rattle.mobile.specs.Told as verdict
 use Rattle.mobile.specs.declared.Judged.{Judged}
 use Rattle.mobile.specs.declared.Judged.the-variants as judgement
-use Rattle.resolve.specs.Resolve.{Resource, resolve}
+use Rattle.resolve.specs.Resolve.{resolve}
 use Rattle.resolve.specs.Told as resolution
 use Rattle.resolve.specs.declared.Resolved.{Resolved}
 use Rattle.resolve.specs.declared.Resolved.the-variants as resolved
 use Rattle.resolve.proofs.Accepted.{resolved-in}
-use Rattle.answers.specs.Answer.{Answer, answer, plainly, ended, refusedBy, fitted, printed, reads, Gives}
+use Rattle.answers.specs.Answer.{answer, plainly, ended, refusedBy, fitted, printed, reads}
 use Rattle.answers.specs.Printed.{okLine, checked, checkAnswer, verdictLine, verdictStatus, judged, verdictAnswer, placeLine, placed, placeAnswer, resourceBytes, resourceAnswer, nodeNumbers, itemNumbers, nodeRow, itemRow, nodeRows, itemRows, allRows, rowsAnswer, sheetAnswer}
 use Rattle.answers.proofs.Ending.{printed-good, printed-bad}
 
@@ -130,9 +129,9 @@ module _ (f : List ℕ) {n i : ℕ} (en : fullNodes ≡ n) (ei : fullItems ≡ i
   known st q = sym (full q) ∙ ask-is (st .reads) q
 
   module _ (room : ℕ) (tail : List ℕ) where
-    pub sheet-as : printed room tail plainly (ask (readFile (limits n i) f) (write room f)) ≡ sheetAnswer room tail f
+    pub sheet-as : (second : Bool) → printed room tail plainly (ask (readFile (limits n i) f) (writeIn second room f)) ≡ sheetAnswer room second tail f
     unfolding sheetAnswer
-    sheet-as = ap (printed room tail plainly) (full (write room f))
+    sheet-as second = ap (printed room tail plainly) (full (writeIn second room f))
 
     pub check-bad : {r : Read} → r ≡ readOf (readFile (limits n i) f) → {m : ℕ} {p : FilePlace} → r ≡ read.Refused m p → refusedBy room tail m (p .0) ≡ checkAnswer room tail f
     unfolding checkAnswer

@@ -15,7 +15,7 @@ use Rattle.room.specs.declared.Written.{Written}
 use Rattle.room.specs.declared.Written.the-variants as written
 use Rattle.room.proofs.Counting.{wrote-all, wrote-past}
 use Rattle.sheet.specs.Sheet.{tabbed, number, escapedPart}
-use Rattle.answers.specs.Answer.{Answer, answer, plainly, nothing, nameField, ended, headLine, refusalLine, tooLongLine, closed, refusedBy, fitted, printed, Gives}
+use Rattle.answers.specs.Answer.{Answer, answer, plainly, nameField, ended, headLine, refusalLine, tooLongLine, closed, refusedBy, fitted, printed, Gives}
 use Rattle.answers.specs.declared.lines.Made.{Made}
 
 -- ---- lines, as the bytes that are put one after the other

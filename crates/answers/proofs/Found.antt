@@ -10,11 +10,10 @@ use lib.ListN.{length}
 use Rattle.cursor.specs.declared.Node.{Node}
 use Rattle.cursor.specs.declared.Item.{Item}
 use Rattle.header.specs.Header.{Header}
-use Rattle.metadata.specs.declared.Limits.{Limits}
 use Rattle.metadata.specs.Tables.{fullNodes, fullItems, itemWidth, limits}
 use Rattle.room.specs.Room.{Result, good, bad}
 use Rattle.tree.specs.Rows.{itemFrom, itemAt, ItemIn}
-use Rattle.tree.specs.Reading.{Reading, rows, refusal, readOf, readFile, summary, nodeTable, itemTable}
+use Rattle.tree.specs.Reading.{Reading, rows, readOf, readFile, summary, nodeTable, itemTable}
 use Rattle.tree.specs.Asking.{ask, keptItems}
 use Rattle.tree.specs.Own.{Numbered, numbered, those, own}
 use Rattle.tree.proofs.Rows.{Standing, standing, item-at, items-in-length}

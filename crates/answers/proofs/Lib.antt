@@ -4,4 +4,7 @@ pub mod Origin
 pub mod Found
 pub mod Retitling
 pub mod Needing
+pub mod Accounting
+pub mod Totalled
+pub mod Tagging
 pub mod Questioned

@@ -27,11 +27,10 @@ use Rattle.tree.specs.declared.Summary.{Summary}
 use Rattle.tree.proofs.Rows.{Standing, item-at, items-in-length}
 use Rattle.sheet.specs.Sheet as sheet
 use Rattle.description.specs.Row.{isField, isBinary, isDescription}
-use Rattle.description.specs.Description.{numbers, lists, Description, table, description}
+use Rattle.description.specs.Description.{numbers, lists, table, description}
 use Rattle.description.specs.Count.{dataRead, countIn}
 use Rattle.answers.specs.Answer.{Answer, plainly, nothing, refusedBy, fitted, printed, reads, Gives}
-use Rattle.answers.specs.Needed.{countLine, countLines, needsIn, itemNeeds, rowNeeds, both, needsFrom, needs, needsAnswer, answers, shownNeeds, shownCount, ofRow, rowNeedsAnswer, countAnswer, Puts}
-use Rattle.answers.specs.declared.lines.Made.{Made}
+use Rattle.answers.specs.Needed.{countLine, countLines, needsIn, itemNeeds, rowNeeds, both, needsFrom, needs, needsAnswer, answers, shownNeeds, shownCount, ofRow, Puts}
 use Rattle.answers.specs.declared.needs.Put.{Put}
 use Rattle.answers.specs.declared.needs.Put.the-variants as put
 use Rattle.answers.proofs.Ending.{padded-none, printed-bad}

@@ -1,6 +1,6 @@
 -- Where a resource comes from: the row that it was found at is one of the file's.
 -- Assumes nothing.
-use mathlib.Core.Path.{_≡_, refl, sym, ap, subst, _∙_}
+use mathlib.Core.Path.{_≡_, refl, sym, ap, _∙_}
 use mathlib.Core.Bool.{Bool, true, false, cond, not}
 use mathlib.Core.List.{List, [], _∷_, _++_}
 use Prim.Native.Nat.{ℕ, zero, suc, _+_, _*_, _≤_, _<_}
@@ -18,7 +18,7 @@ use Rattle.room.specs.Decimal.{decimal}
 use Rattle.tree.specs.Rows.{nodeFrom, nodeAt}
 use Rattle.tree.specs.Reading.{Reading, rows, refusal, readOf, readFile, summary, nodeTable, itemTable}
 use Rattle.tree.specs.Asking.{ask, keptNodes}
-use Rattle.tree.proofs.Rows.{Standing, standing, ask-is, node-at, nodes-in-length}
+use Rattle.tree.proofs.Rows.{standing, ask-is, node-at}
 use Rattle.resolve.specs.Resolve.{Resource, rowStarting, resourceOf, reached, chain, resolveRow, resolve}
 use Rattle.resolve.specs.Told as resolution
 use Rattle.resolve.specs.declared.Resolved.{Resolved}

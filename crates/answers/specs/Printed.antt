@@ -1,6 +1,6 @@
 -- The text of each answer: lines of fields, or bytes.
 -- Assumes nothing.
-use mathlib.Core.Bool.{Bool, true, false, cond, not}
+use mathlib.Core.Bool.{Bool, cond}
 use mathlib.Core.List.{List, [], _∷_, _++_}
 use Prim.Native.Nat.{ℕ, _+_}
 use lib.Dec.{eqb, leb}
@@ -15,7 +15,8 @@ use Rattle.tree.specs.Rows.{nodeAt, itemAt}
 use Rattle.tree.specs.Reading.{Reading, rows, refusal}
 use Rattle.tree.specs.Asking.{Asks, Counts, counts, ask}
 use Rattle.tree.specs.Own.{Numbered}
-use Rattle.sheet.specs.Sheet.{tabbed, number, versionText, textOf, itemLine, visibleLine, write}
+use Rattle.sheet.specs.Sheet.{tabbed, number, versionText, textOf, itemLine, visibleLine, writeIn}
+use Rattle.mover.specs.Sheets.{move}
 use Rattle.mobile.specs.Mobile.{mobile}
 use Rattle.find.specs.Find.{Wanted}
 use Rattle.find.specs.Told.{question}
@@ -24,10 +25,14 @@ use Rattle.title.specs.Title.{elsewhere, isNoTitle, correctTitle}
 use Rattle.unicode.specs.Unicode.{toUtf8, toUtf16}
 use Rattle.answers.specs.Answer.{Answer, answer, plainly, ended, refusedBy, printed, reads}
 
--- ---- the support sheet
+-- ---- the support sheet, in either edition
 
-unfoldable pub sheetAnswer : (room : ℕ) → (tail f : List ℕ) → Answer
-sheetAnswer room tail f = printed room tail plainly (ask (reads f) (write room f))
+unfoldable pub sheetAnswer : (room : ℕ) → (second : Bool) → (tail f : List ℕ) → Answer
+sheetAnswer room second tail f = printed room tail plainly (ask (reads f) (writeIn second room f))
+
+-- a sheet in its other edition
+unfoldable pub movedAnswer : (room : ℕ) → List ℕ → Answer
+movedAnswer room sheet = printed room [] plainly (fitting room (move sheet))
 
 -- ---- whether a file is accepted: `ok`, version, length
 

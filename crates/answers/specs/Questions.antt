@@ -7,7 +7,9 @@ use lib.Dec.{ltb}
 use lib.ListN.{length}
 use Rattle.find.specs.Told.{wantedOf}
 use Rattle.answers.specs.Answer.{Answer, answer, tooLongLine, closed}
-use Rattle.answers.specs.Printed.{sheetAnswer, checkAnswer, verdictAnswer, placeAnswer, resourceAnswer, originAnswer, rowsAnswer, foundAnswer, titlesAnswer, correctedAnswer, retitledAnswer, utf8Answer, utf16Answer}
+use Rattle.answers.specs.Printed.{sheetAnswer, movedAnswer, checkAnswer, verdictAnswer, placeAnswer, resourceAnswer, originAnswer, rowsAnswer, foundAnswer, titlesAnswer, correctedAnswer, retitledAnswer, utf8Answer, utf16Answer}
+use Rattle.answers.specs.Bytes.{bytesAnswer, bytesLineAnswer}
+use Rattle.answers.specs.Tags.{rowTagAnswer, tagAnswer}
 use Rattle.answers.specs.Needed.{needsAnswer, rowNeedsAnswer, countAnswer}
 use Rattle.answers.specs.declared.asked.Asked.{Asked}
 use Rattle.answers.specs.declared.asked.Asked.the-variants as asked
@@ -15,7 +17,9 @@ use Rattle.answers.specs.declared.asked.Asked.the-variants as asked
 -- The answer to a question: `word` is the name or the bytes that the question has, `tail` the field that ends the answer's line, and the text has
 -- `room` bytes.
 unfoldable pub answerTo : (word tail : List ℕ) → (room : ℕ) → (f : List ℕ) → Asked → Answer
-answerTo word tail room f asked.Sheet = sheetAnswer room tail f
+answerTo word tail room f asked.Sheet = sheetAnswer room false tail f
+answerTo word tail room f asked.Sheet2 = sheetAnswer room true tail f
+answerTo word tail room f asked.Moved = movedAnswer room f
 answerTo word tail room f asked.Check = checkAnswer room tail f
 answerTo word tail room f asked.Rows = rowsAnswer room f
 answerTo word tail room f asked.Verdict = verdictAnswer room tail f
@@ -27,6 +31,10 @@ answerTo word tail room f (asked.Origin row) = originAnswer room row f
 answerTo word tail room f asked.Needs = needsAnswer room f
 answerTo word tail room f (asked.RowNeeds row) = rowNeedsAnswer room row f
 answerTo word tail room f (asked.Count row channel resource) = countAnswer room row channel resource f
+answerTo word tail room f asked.Bytes = bytesAnswer room tail f
+answerTo word tail room f asked.BytesLine = bytesLineAnswer room tail f
+answerTo word tail room f (asked.RowTag row hidden which) = rowTagAnswer room row hidden which f
+answerTo word tail room f (asked.Tag which) = tagAnswer room which f
 answerTo word tail room f asked.Titles = titlesAnswer room f
 answerTo word tail room f (asked.Corrected row) = correctedAnswer room row word f
 answerTo word tail room f (asked.Retitled row) = retitledAnswer room row word f

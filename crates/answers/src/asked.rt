@@ -4,11 +4,15 @@ ghost use Rattle.io.specs.Counts.{Counts};
 ghost use Rattle.answers.specs.Answer.{Gives};
 ghost use Rattle.answers.specs.Questions.{answerOf};
 use crate::lines::Made;
+use crate::tags::Frames;
 use find::Field;
 
-// A question. Its numbers are rows, but for the channel and the resource of `Count`. The name or the title that a question has is lent beside it.
+// A question. Its numbers are rows, but for the channel and the resource of `Count`. The name or the title that a question has is lent beside it. What is asked
+// of a sheet (`Moved`), of a tag (`Tag`) or of a text (the conversions) is lent as the file.
 pub enum Asked {
     Sheet,
+    Sheet2,
+    Moved,
     Check,
     Rows,
     Verdict,
@@ -20,6 +24,10 @@ pub enum Asked {
     Needs,
     RowNeeds(usize),
     Count(usize, u64, u64),
+    Bytes,
+    BytesLine,
+    RowTag(usize, bool, Frames),
+    Tag(Frames),
     Titles,
     Corrected(usize),
     Retitled(usize),
@@ -36,7 +44,9 @@ pub fn make(asked: Asked, word: &[u8], file: &[u8], tail: &[u8], text: &mut [u8]
         return crate::lines::refuse_long(text, tail);
     }
     match asked {
-        Asked::Sheet => crate::sheets::make_sheet(file, tail, text),
+        Asked::Sheet => crate::sheets::make_sheet(file, false, tail, text),
+        Asked::Sheet2 => crate::sheets::make_sheet(file, true, tail, text),
+        Asked::Moved => crate::sheets::make_moved(file, text),
         Asked::Check => crate::checks::make_check(file, tail, text),
         Asked::Rows => crate::rows::make_rows(file, text),
         Asked::Verdict => crate::verdicts::make_verdict(file, tail, text),
@@ -50,6 +60,12 @@ pub fn make(asked: Asked, word: &[u8], file: &[u8], tail: &[u8], text: &mut [u8]
         Asked::Count(row, channel, resource) => {
             crate::needs::make_count(file, row, channel, resource, text)
         }
+        Asked::Bytes => crate::kinds::make_bytes(file, tail, text),
+        Asked::BytesLine => crate::kinds::make_bytes_line(file, tail, text),
+        Asked::RowTag(row, meant, which) => {
+            crate::tags::make_row_tag(file, row, meant, which, text)
+        }
+        Asked::Tag(which) => crate::tags::make_tag(file, which, text),
         Asked::Titles => crate::titles::make_titles(file, text),
         Asked::Corrected(row) => crate::titles::make_corrected(file, row, word, text),
         Asked::Retitled(row) => crate::titles::make_retitled(file, row, word, text),

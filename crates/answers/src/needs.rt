@@ -10,7 +10,7 @@ ghost use Rattle.tree.specs.Rows.{itemsIn, ItemIn, ItemRows};
 ghost use Rattle.description.specs.Row.{isDescription};
 ghost use Rattle.description.specs.Description.{table, description};
 ghost use Rattle.answers.specs.Answer.{nothing, plainly, printed, Gives};
-ghost use Rattle.answers.specs.Needed.{countLine, needsIn, itemNeeds, rowNeeds, needsFrom, needsAnswer, shownNeeds, shownCount, rowNeedsAnswer, countAnswer, Puts};
+ghost use Rattle.answers.specs.Needed.{countLine, needsIn, rowNeeds, needsFrom, needsAnswer, shownNeeds, shownCount, rowNeedsAnswer, countAnswer, Puts};
 use crate::lines::Made;
 use crate::lines::conclude;
 use crate::lines::refuse;
@@ -23,7 +23,7 @@ use description::Counted;
 use tree::Read;
 
 // The place after what was put; or a refusal's number and place.
-enum Put {
+pub enum Put {
     To(usize),
     Refused(u64, usize),
 }
@@ -48,7 +48,7 @@ fn put_count(
 }
 
 // The answer for a hidden row: no text. Nothing is asked of its data.
-fn hidden(text: &mut [u8]) -> Made
+pub fn hidden(text: &mut [u8]) -> Made
     ensures { λ r. ⌜ Gives (length (now (text .entry))) r (now (text .exit)) (nothing) ⌝ }
 {
     room::clear_bytes(text);
@@ -202,7 +202,7 @@ fn put_needs(out: &mut [u8], file: &[u8], items: &[u64], count: usize) -> Put
 }
 
 // The answer for lines that were put.
-fn put_answered(text: &mut [u8], put: Put) -> Made
+pub fn put_answered(text: &mut [u8], put: Put) -> Made
     ensures { λ r. ⌜ ((o : List ℕ) (x : Result (List ℕ)) → Puts o (now (text .entry)) 0 x put → Gives (length o) r (now (text .exit)) (printed (length o) [] plainly x)) ⌝ }
 {
     match put {

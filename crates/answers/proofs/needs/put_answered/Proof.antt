@@ -1,6 +1,6 @@
 -- `put_answered` answers the lines that were put, or the refusal.
 -- Assumes nothing.
-use Rattle.answers.proofs.Ending.{gives-as, gives-room, refuse-room, printed-good, printed-bad}
+use Rattle.answers.proofs.Ending.{gives-as, refuse-room, printed-good, printed-bad}
 use Rattle.answers.specs.Answer.{plainly}
 use Rattle.answers.proofs.Needing.{puts-bad, puts-good}
 use borrow.Author.Needs.{needs}

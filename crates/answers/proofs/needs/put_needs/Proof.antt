@@ -1,7 +1,7 @@
 -- `put_needs` puts the lines of all visible content descriptions. The invariant: of the whole, the rows from row i on are still to be put.
 -- Assumes nothing.
 use Prim.Native.Nat.{_-_, _≤_}
-use mathlib.Core.Path.{_≡_, _∙_}
+use mathlib.Core.Path.{_∙_}
 use native.Mathlib.Omega.{arith}
 use lib.ListN.{length}
 use Rattle.tree.specs.Rows.{itemsFrom, itemsIn}

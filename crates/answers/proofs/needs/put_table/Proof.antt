@@ -1,7 +1,6 @@
 -- `put_table` puts the lines of a count table. The invariant: so many counts were read, and their lines were put. The measure is what is left of the item.
 -- Assumes nothing.
-use Prim.Native.Nat.{_-_, _*_, _≤_}
-use mathlib.Core.Path.{_≡_, _∙_}
+use Prim.Native.Nat.{_-_, _*_}
 use native.Mathlib.Omega.{arith}
 use Rattle.cursor.specs.Rows.{metaFrame}
 use Rattle.cursor.specs.Told.{numberTold}

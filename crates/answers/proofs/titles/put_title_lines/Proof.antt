@@ -8,7 +8,6 @@ use Rattle.tree.specs.Rows.{itemsFrom, itemsIn}
 use Rattle.answers.specs.Printed.{titleLines}
 use Rattle.answers.proofs.Answering.{lines-on, lines-end}
 use Rattle.answers.proofs.Retitling.{titles-lined, titles-start}
-use borrow.Author.Needs.{needs}
 use Rattle.answers.proofs.titles.put_title_lines.Statement.{statement}
 use Rattle.answers.proofs.titles.put_title_lines.Tie as tie
 

@@ -2,7 +2,6 @@
 -- Assumes nothing.
 use native.Mathlib.Omega.{arith}
 use Rattle.tree.proofs.Rows.{standing}
-use Rattle.tree.proofs.Own.{item-rows}
 use Rattle.answers.proofs.Retitling.{format-refused, format-past, format-none, format-is}
 use borrow.Author.Needs.{needs}
 use Rattle.answers.proofs.titles.title_format.Statement.{statement}

@@ -1,7 +1,6 @@
 -- `verdict_status` is 3 where a check fails.
 -- Assumes nothing.
 use Rattle.answers.proofs.Answering.{status-none, status-some}
-use borrow.Author.Needs.{needs}
 use Rattle.answers.proofs.verdicts.verdict_status.Statement.{statement}
 use Rattle.answers.proofs.verdicts.verdict_status.Tie as tie
 
