@@ -1,7 +1,9 @@
 # The picture of a file as SVG, from the lines of `bytes --runs`: K, place, length, kind, in file order. 64 bytes a row, one rectangle a run and row, with its places as a
-# title; beside it the bytes of each kind. Only kinds and places are in it, never a byte's value. The variable name is the file's name. Status 1: the lines are not runs.
+# title; beside it the bytes of each kind. Only kinds and places are in it, never a byte's value. The environment's NAME is the file's name, as a message has it.
+# Status 1: the lines are not runs, and nothing is printed. With LC_ALL=C.
 BEGIN {
     FS = "\t"
+    name = ENVIRON["NAME"]
     columns = 64
     cell = 10
     tall = 14
@@ -13,8 +15,9 @@ BEGIN {
     for (i = 1; i <= 9; i++) colour[kinds[i]] = colours[i]
 }
 
-# A text as XML has it.
+# A text as XML has it, which has no U+FFFE and U+FFFF.
 function xml(text) {
+    gsub(/\357\277[\276\277]/, "?", text)
     gsub(/&/, "\\&amp;", text)
     gsub(/</, "\\&lt;", text)
     gsub(/>/, "\\&gt;", text)

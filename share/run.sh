@@ -44,6 +44,7 @@ finish() { # STATUS,PROGRAM,FILTER
 }
 # Runs the program with what becomes of the bytes that it makes of FILE: standard output; a file, also over one that is there; or a new one. That
 # is made under another name and takes its own by a link, which is never over a file that is there, and is made whole or not at all.
+# `maker` hands them out: `give`, by the program itself, or `draw`.
 make() { # FILE WORD..
     file=$1
     shift
@@ -51,17 +52,17 @@ make() { # FILE WORD..
         [ "$file" != - ] || file=/dev/stdin
         # shellcheck disable=SC3013 # dash, bash and busybox have -ef
         if [ -f /dev/stdout ] && [ "$file" -ef /dev/stdout ]; then fail 'standard output is the file itself: nothing was written'; fi
-        give "$@" out -
+        "${maker?}" "$@" out -
     fi
     [ -n "$new" ] || usage 'the name after -o is missing or empty'
     if has -f; then
         if [ -h "$new" ] || { [ -e "$new" ] && [ ! -f "$new" ]; }; then fail "$(shown "$new"): not a regular file: nothing was written"; fi
-        give "$@" over "$new"
+        "$maker" "$@" over "$new"
     fi
     if [ -h "$new" ] || [ -e "$new" ]; then fail "$(shown "$new"): File exists"; fi
     part=$new.xmf-$$
     trap 'rm -f -- "$part" "$part".xmf-*; exit 1' HUP INT TERM
-    (give "$@" over "$part")
+    ("$maker" "$@" over "$part")
     status=$?
     if [ "$status" -eq 0 ] && ! ln -T -- "$part" "$new" 2>/dev/null; then
         # the name is taken by now, or this file system has no links

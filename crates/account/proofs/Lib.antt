@@ -11,3 +11,4 @@ pub mod Exits
 pub mod Listed
 pub mod Words
 pub mod ByPlace
+pub mod Marking

@@ -86,6 +86,11 @@ unfoldable pub kindAt : Events → ℕ → ℕ
 kindAt [] k = allElse
 kindAt (e ∷ es) k = cond (hasByte e k) (kind e) (kindAt es k)
 
+-- those of n places from k on, in file order
+unfoldable pub kindsFrom : Events → (k n : ℕ) → List ℕ
+kindsFrom es k zero = []
+kindsFrom es k (suc n) = kindAt es k ∷ kindsFrom es (k + 1) n
+
 -- the same with no order: an event of that kind has the byte; or none of any kind has it, and it is all else
 abbrev pub Had : Events → (k kind : ℕ) → Type 0
 Had [] k κ = ⊥

@@ -3,11 +3,10 @@
 -- Assumes nothing.
 use mathlib.Core.Path.{_≡_, refl}
 use mathlib.Core.List.{List, [], _∷_, _++_}
-use Prim.Native.Nat.{ℕ, zero, suc, _+_}
-use lib.ListN.{length, take, replicate}
+use Prim.Native.Nat.{ℕ}
+use lib.ListN.{take, replicate}
 use Rattle.cursor.specs.Machine.{run, trace, rowsOf, _>>=_, _>>_, if_then_else_, place, skip, check, turns, many, times}
 use Rattle.cursor.specs.Leaves.{next, digits, number, block, manufacturer, guid}
-use Rattle.cursor.specs.Rows.{Events}
 use Rattle.header.specs.Types.{formatOf}
 use Rattle.header.specs.Header.{four, opening, edition, fileLength, entry, typesTable, extent, header}
 use Rattle.metadata.specs.Tables.{limits, fullNodes, fullItems}
@@ -15,10 +14,12 @@ use Rattle.metadata.specs.Metadata.{field, contents, itemFrame, universal, decl
 use Rattle.node.specs.Node.{headerLength, head, value, identifier, unpacker, entries, unpackers, resource, nodePlace, uriPlace, target, reference, rest, front}
 use Rattle.tree.specs.Tree as tree
 use Rattle.tree.specs.Tree.{folder, node}
-use Rattle.tree.specs.Reading.{Reading, rows, refusal, logged, startsAt, offsetAt, lost, outside, partEnd, takenFrom, detachedAt, reach, follow, reading, readTree, readFile}
+use Rattle.tree.specs.Reading.{logged, startsAt, offsetAt, lost, outside, partEnd, takenFrom, detachedAt, reach, follow, reading, readTree, readFile}
+use Rattle.room.specs.Room.{padded, fitting, kept}
 use Rattle.tree.specs.Asking.{Result, good, bad, ask}
 use Rattle.tree.specs.Hidden.{isHidden}
-use Rattle.account.specs.Account.{kindAt, places, eventsOf, kindsOf}
+use Rattle.account.specs.Account.{kindAt, kindsFrom, places, eventsOf, kindsOf}
+use Rattle.account.specs.Marks.{marksOf}
 use Rattle.account.specs.Totals.{allowed, totalsLeft}
 use Rattle.account.specs.Told.{totalWords}
 use Rattle.account.specs.declared.Kinds.{Kinds}
@@ -28,17 +29,12 @@ use Rattle.account.specs.declared.Totals.{Totals}
 unfoldable pub given : List ℕ → Result Kinds
 given f = ask (readFile (limits fullNodes fullItems) f) (kindsOf (limits fullNodes fullItems) f)
 
--- the kinds of its places, in file order
-unfoldable pub kindsFrom : Events → (k n : ℕ) → List ℕ
-kindsFrom es k zero = []
-kindsFrom es k (suc n) = kindAt es k ∷ kindsFrom es (k + 1) n
+-- the kinds of its places, and what a buffer of so many bytes holds after the call
+unfoldable pub kindsIn : (room : ℕ) → List ℕ → Result (List ℕ)
+kindsIn room f = ask (readFile (limits fullNodes fullItems) f) (marksOf (limits fullNodes fullItems) room f)
 
-unfoldable pub kindsRead : Reading → List ℕ → List ℕ
-kindsRead (rows h ns is) f = kindsFrom (eventsOf (limits fullNodes fullItems) f h) 0 (length f)
-kindsRead (refusal n p) f = []
-
-unfoldable pub kindsIn : List ℕ → List ℕ
-kindsIn f = kindsRead (readFile (limits fullNodes fullItems) f) f
+unfoldable pub marksIn : (room : ℕ) → List ℕ → List ℕ
+marksIn room f = kept room (kindsIn room f)
 
 -- totals of so many files, with no byte
 abbrev pub after : ℕ → Totals
@@ -68,13 +64,17 @@ around = headerPart ++ (0xAA ∷ 0xBB ∷ []) ++ nodeBefore ++ (0xEE ∷ []) ++ 
 
 cases : (given worked ≡ good (record { header = 21; nodes = 6; metadata = 17; visible = 4; hidden = 2; unpackers = 2; references = 2; inline = 2; rest = 0 }))
     × (given around ≡ good (record { header = 18; nodes = 15; metadata = 15; visible = 2; hidden = 1; unpackers = 8; references = 10; inline = 2; rest = 5 }))
-    × (kindsIn around ≡ replicate 18 0 ++ (8 ∷ 8 ∷ []) ++ (1 ∷ 1 ∷ 1 ∷ 2 ∷ 2 ∷ 2 ∷ 2 ∷ 2 ∷ 2 ∷ 4 ∷ 5 ∷ 5 ∷ 5 ∷ 5 ∷ 6 ∷ 7 ∷ 7 ∷ []) ++ (8 ∷ [])
-    ++ (1 ∷ 1 ∷ 1 ∷ 2 ∷ 5 ∷ 6 ∷ 1 ∷ 1 ∷ 1 ∷ 2 ∷ 5 ∷ 6 ∷ 6 ∷ 1 ∷ 1 ∷ 1 ∷ 2 ∷ 5 ∷ 6 ∷ 6 ∷ []) ++ (8 ∷ []) ++ (1 ∷ 1 ∷ 1 ∷ 2 ∷ 2 ∷ 2 ∷ 2 ∷ 2 ∷ 2 ∷ 3 ∷ 3 ∷ 5 ∷ 6 ∷ 6 ∷ 6 ∷ 6 ∷ []) ++ (8 ∷ []))
+    × (kindsIn 76 around ≡ good (replicate 18 0 ++ (8 ∷ 8 ∷ []) ++ (1 ∷ 1 ∷ 1 ∷ 2 ∷ 2 ∷ 2 ∷ 2 ∷ 2 ∷ 2 ∷ 4 ∷ 5 ∷ 5 ∷ 5 ∷ 5 ∷ 6 ∷ 7 ∷ 7 ∷ []) ++ (8 ∷ [])
+    ++ (1 ∷ 1 ∷ 1 ∷ 2 ∷ 5 ∷ 6 ∷ 1 ∷ 1 ∷ 1 ∷ 2 ∷ 5 ∷ 6 ∷ 6 ∷ 1 ∷ 1 ∷ 1 ∷ 2 ∷ 5 ∷ 6 ∷ 6 ∷ []) ++ (8 ∷ []) ++ (1 ∷ 1 ∷ 1 ∷ 2 ∷ 2 ∷ 2 ∷ 2 ∷ 2 ∷ 2 ∷ 3 ∷ 3 ∷ 5 ∷ 6 ∷ 6 ∷ 6 ∷ 6 ∷ []) ++ (8 ∷ [])))
+    × (marksIn 58 worked ≡ replicate 21 0 ++ (1 ∷ 1 ∷ 1 ∷ 2 ∷ 5 ∷ 6 ∷ 1 ∷ 1 ∷ 1 ∷ []) ++ replicate 6 2 ++ (3 ∷ 3 ∷ []) ++ replicate 5 2 ++ (4 ∷ 4 ∷ []) ++ replicate 5 2 ++ (3 ∷ 3 ∷ 5 ∷ 6 ∷ 7 ∷ 7 ∷ 0 ∷ 0 ∷ []))
+    × (kindsIn 55 worked ≡ bad 22 0)
+    × (marksIn 55 worked ≡ replicate 55 0)
+    × (kindsIn 55 (take 55 worked) ≡ bad 5 16)
     × (given (take 55 worked) ≡ bad 5 16)
     × (allowed (after 999) (given worked) ≡ given worked)
     × (allowed (after 1000) (given worked) ≡ bad 32 0)
     × (totalWords (totalsLeft (after 0) (given worked)) ≡ 1 ∷ 0 ∷ 21 ∷ 6 ∷ 17 ∷ 4 ∷ 2 ∷ 2 ∷ 2 ∷ 2 ∷ 0 ∷ [])
     × (totalWords (totalsLeft (after 1) (given (take 55 worked))) ≡ 2 ∷ 2 ∷ 0 ∷ 0 ∷ 0 ∷ 0 ∷ 0 ∷ 0 ∷ 0 ∷ 0 ∷ 0 ∷ [])
     × (totalWords (totalsLeft (after 1000) (given worked)) ≡ 1000 ∷ 1000 ∷ 0 ∷ 0 ∷ 0 ∷ 0 ∷ 0 ∷ 0 ∷ 0 ∷ 0 ∷ 0 ∷ [])
-unfolding run trace rowsOf _>>=_ _>>_ if_then_else_ place skip check turns many times next digits number block manufacturer guid formatOf four opening edition fileLength entry typesTable extent header field contents itemFrame universal declaredFormat version rowsFor item nextItem metaItems metadata headerLength head value identifier unpacker entries unpackers resource nodePlace uriPlace target reference rest front folder node tree.tree startsAt offsetAt lost logged outside partEnd takenFrom detachedAt reach follow tree.detached reading readTree readFile ask isHidden kindAt places eventsOf kindsOf allowed totalsLeft given kindsFrom kindsRead kindsIn
-cases = (refl, refl, refl, refl, refl, refl, refl, refl, refl)
+unfolding run trace rowsOf _>>=_ _>>_ if_then_else_ place skip check turns many times next digits number block manufacturer guid formatOf four opening edition fileLength entry typesTable extent header field contents itemFrame universal declaredFormat version rowsFor item nextItem metaItems metadata headerLength head value identifier unpacker entries unpackers resource nodePlace uriPlace target reference rest front folder node tree.tree startsAt offsetAt lost logged outside partEnd takenFrom detachedAt reach follow tree.detached reading readTree readFile ask isHidden kindAt kindsFrom places eventsOf kindsOf allowed totalsLeft padded fitting kept marksOf given kindsIn marksIn
+cases = (refl, refl, refl, refl, refl, refl, refl, refl, refl, refl, refl, refl, refl)

@@ -19,6 +19,10 @@ use cursor::Node;
 use cursor::Numbered;
 use tree::Read;
 
+mod marks;
+
+pub use marks::mark;
+
 // The bytes of a file by kind; `rest` is all else.
 pub struct Kinds {
     pub header: usize,

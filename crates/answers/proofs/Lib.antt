@@ -8,4 +8,5 @@ pub mod Needing
 pub mod Accounting
 pub mod Totalled
 pub mod Tagging
+pub mod Running
 pub mod Questioned

@@ -4,4 +4,5 @@ pub mod Mended
 pub mod Needed
 pub mod Bytes
 pub mod Tags
+pub mod Runs
 pub mod Questions

@@ -33,6 +33,7 @@ pub enum Asked {
     Retitled(usize),
     Utf8,
     Utf16,
+    Runs,
 }
 
 // Makes the answer for a file, whose line ends in the field that is lent.
@@ -71,5 +72,6 @@ pub fn make(asked: Asked, word: &[u8], file: &[u8], tail: &[u8], text: &mut [u8]
         Asked::Retitled(row) => crate::titles::make_retitled(file, row, word, text),
         Asked::Utf8 => crate::texts::make_utf8(file, text),
         Asked::Utf16 => crate::texts::make_utf16(file, text),
+        Asked::Runs => crate::runs::make_runs(file, text),
     }
 }

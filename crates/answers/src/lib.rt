@@ -9,6 +9,7 @@ mod needs;
 mod notes;
 mod places;
 mod rows;
+mod runs;
 mod sheets;
 mod sums;
 mod tags;

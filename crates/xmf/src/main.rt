@@ -5,6 +5,7 @@
 
 mod files;
 mod messages;
+mod runs;
 mod words;
 
 use answers::Asked;
@@ -293,6 +294,9 @@ fn run(count: usize) -> u64 {
     }
     if words::is_word(2, b"rows") {
         return one(Asked::Rows, count);
+    }
+    if words::is_word(2, b"runs") {
+        return runs::runs(count);
     }
     if words::is_word(2, b"verdict") {
         return answer_files(Asked::Verdict, named_mode(), 4, count);

@@ -1,0 +1,54 @@
+-- `fill` marks a span. The invariant: the places from `from` up to `at` are marked, the others as they were.
+-- Assumes nothing.
+use Prim.Native.Nat.{_-_, _≤_, max}
+use lib.ListN.{length}
+use native.Mathlib.Omega.{arith}
+use Rattle.account.proofs.Marking.{Filling, filling-none, filling-more, filling-all}
+use borrow.Author.Needs.{needs}
+use Rattle.account.proofs.marks.fill.Statement.{statement}
+use Rattle.account.proofs.marks.fill.Tie as tie
+
+abbrev Inv-loop : tie.InvT-loop
+Inv-loop marks₀ from to kind end at₀ marks at = (at ≤ max from end) × Filling marks₀ from kind at marks
+
+abbrev μ-loop : tie.MeasureT-loop
+μ-loop marks₀ from to kind end at₀ marks at = end - at
+
+lesser-requires : tie.Need-lesser-requires Inv-loop μ-loop
+lesser-requires c κs = search needs
+
+loop-holds : tie.Need-loop-holds Inv-loop μ-loop
+loop-holds c = (omega arith, filling-none _ _ _)
+
+slice-write-marks : tie.Need-slice-write-marks Inv-loop μ-loop
+slice-write-marks c = omega (arith, c .before .loop .inv .1 .same, c .before .before .lesser .ensures)
+
+add-at : tie.Need-add-at Inv-loop μ-loop
+add-at c = omega arith
+
+loop-less : tie.Need-loop-less Inv-loop μ-loop
+loop-less c = omega arith
+
+loop-again : tie.Need-loop-again Inv-loop μ-loop
+loop-again c = (omega arith, filling-more _ _ _ _ _ (omega (arith, c .before .loop .inv .1 .same, c .before .before .lesser .ensures)) (c .before .loop .inv .1))
+
+same-length : tie.Need-same-length Inv-loop μ-loop
+same-length c = c .before .loop .inv .1 .same
+
+returns : tie.Need-returns Inv-loop μ-loop
+returns c = filling-all _ _ _ _ _ _ (omega (arith, c .before .loop .inv .0, c .before .before .lesser .ensures)) (omega (arith, c .loop-test .left, c .before .before .lesser .ensures)) (c .before .loop .inv .1)
+
+pub fill-spec : {M : Type 1} → statement M
+fill-spec =
+    tie.close
+    (tie.spec
+    Inv-loop
+    μ-loop
+    lesser-requires
+    loop-holds
+    slice-write-marks
+    add-at
+    loop-less
+    loop-again
+    same-length
+    returns)

@@ -1,0 +1,56 @@
+-- `mark_items` marks row after row. The invariant: what is left to do is what the rows from row i on give.
+-- Assumes nothing.
+use Prim.Native.Nat.{_-_, _≤_}
+use native.Mathlib.Omega.{arith}
+use Rattle.metadata.specs.Tables.{itemWidth}
+use Rattle.tree.specs.Rows.{itemFrom}
+use Rattle.account.specs.ByPlace.{overItem}
+use Rattle.account.proofs.Marking.{Painting, painting-begun, painting-on, items-painted}
+use borrow.Author.Needs.{needs}
+use Rattle.account.proofs.marks.mark_items.Statement.{statement}
+use Rattle.account.proofs.marks.mark_items.Tie as tie
+
+abbrev Inv-loop : tie.InvT-loop
+Inv-loop marks₀ items count i₀ marks i = (i ≤ count) × Painting overItem itemWidth itemFrom items count marks₀ i marks
+
+abbrev μ-loop : tie.MeasureT-loop
+μ-loop marks₀ items count i₀ marks i = count - i
+
+loop-holds : tie.Need-loop-holds Inv-loop μ-loop
+loop-holds c = (omega arith, painting-begun _ _ _ _ _ _)
+
+item-at-requires : tie.Need-item-at-requires Inv-loop μ-loop
+item-at-requires c κs = omega (arith, c .before .before .before .before .before .pre)
+
+mark-item-requires : tie.Need-mark-item-requires Inv-loop μ-loop
+mark-item-requires c κs = search needs
+
+add-i : tie.Need-add-i Inv-loop μ-loop
+add-i c = omega arith
+
+loop-less : tie.Need-loop-less Inv-loop μ-loop
+loop-less c = omega arith
+
+loop-again : tie.Need-loop-again Inv-loop μ-loop
+loop-again c = (omega arith, painting-on _ _ _ _ _ _ (omega arith) (c .before .before .before .before .before .before .loop .inv .1) (c .before .before .before .item-at .ensures) (c .before .before .mark-item .ensures))
+
+same-length : tie.Need-same-length Inv-loop μ-loop
+same-length c = c .before .loop .inv .1 .same
+
+returns : tie.Need-returns Inv-loop μ-loop
+returns c = items-painted _ _ (omega arith) (c .before .loop .inv .1)
+
+pub mark-items-spec : {M : Type 1} → statement M
+mark-items-spec =
+    tie.close
+    (tie.spec
+    Inv-loop
+    μ-loop
+    loop-holds
+    item-at-requires
+    mark-item-requires
+    add-i
+    loop-less
+    loop-again
+    same-length
+    returns)

@@ -1,0 +1,85 @@
+-- `mark_node` marks the parts of a node.
+-- Assumes nothing.
+use native.Mathlib.Omega.{arith}
+use Rattle.cursor.specs.Rows.{metaFrame}
+use Rattle.account.proofs.Ways.{spans}
+use Rattle.account.proofs.Marking.{past, node-spans}
+use borrow.Author.Needs.{needs}
+use Rattle.account.proofs.marks.mark_node.Statement.{statement}
+use Rattle.account.proofs.marks.mark_node.Tie as tie
+
+add-end : tie.Need-add-end
+add-end c = search needs
+
+meta-at-requires : tie.Need-meta-at-requires
+meta-at-requires c κs = search needs
+
+after-block-requires : tie.Need-after-block-requires
+after-block-requires c κs = search needs
+
+add-reference : tie.Need-add-reference
+add-reference c = search needs
+
+contents-at-requires : tie.Need-contents-at-requires
+contents-at-requires c κs = search needs
+
+inline-size-requires : tie.Need-inline-size-requires
+inline-size-requires c κs = search needs
+
+on-requires : tie.Need-on-requires
+on-requires c κs = search needs
+
+fill-requires : tie.Need-fill-requires
+fill-requires c κs = search needs
+
+fill-requires-2 : tie.Need-fill-requires-2
+fill-requires-2 c κs = search needs
+
+fill-requires-3 : tie.Need-fill-requires-3
+fill-requires-3 c κs = search needs
+
+fill-requires-4 : tie.Need-fill-requires-4
+fill-requires-4 c κs = search needs
+
+fill-requires-5 : tie.Need-fill-requires-5
+fill-requires-5 c κs = search needs
+
+same-length : tie.Need-same-length
+same-length c = search needs
+
+returns : tie.Need-returns
+returns c =
+    let after-fill5 = c .before .before in
+    let after-fill4 = after-fill5 .before .before .before .before in
+    let after-fill3 = after-fill4 .before .before .before .before in
+    let after-fill2 = after-fill3 .before .before .before .before in
+    let after-fill = after-fill2 .before .before .before .before in
+    let after-on = after-fill .before .before in
+    let after-inline-size = after-on .before in
+    let after-contents-at = after-inline-size .before in
+    let after-after-block = after-contents-at .before in
+    let after-meta-at = after-after-block .before in
+    let entry = after-meta-at .before .before .before in
+    let meta = after-meta-at .meta-at .ensures in
+    let unpackers = spans _ _ meta (after-after-block .after-block .ensures metaFrame) in
+    let inline = past _ _ _ (omega (arith, entry .good, after-fill .fill .ensures .same, after-fill2 .fill2 .ensures .same, after-fill3 .fill3 .ensures .same, after-fill4 .fill4 .ensures .same)) (rw (after-on .on .ensures, after-inline-size .inline-size .ensures) at (after-fill5 .fill5 .ensures)) in
+    node-spans _ _ meta unpackers (after-contents-at .contents-at .ensures) (after-fill .fill .ensures) (after-fill2 .fill2 .ensures) (after-fill3 .fill3 .ensures) (after-fill4 .fill4 .ensures) inline
+
+pub mark-node-spec : {M : Type 1} → statement M
+mark-node-spec =
+    tie.close
+    (tie.spec
+    add-end
+    meta-at-requires
+    after-block-requires
+    add-reference
+    contents-at-requires
+    inline-size-requires
+    on-requires
+    fill-requires
+    fill-requires-2
+    fill-requires-3
+    fill-requires-4
+    fill-requires-5
+    same-length
+    returns)
