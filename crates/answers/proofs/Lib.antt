@@ -3,6 +3,7 @@ pub mod Answering
 pub mod Origin
 pub mod Found
 pub mod Retitling
+pub mod Mended
 pub mod Needing
 pub mod Accounting
 pub mod Totalled

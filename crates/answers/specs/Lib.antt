@@ -1,5 +1,6 @@
 pub mod Answer
 pub mod Printed
+pub mod Mended
 pub mod Needed
 pub mod Bytes
 pub mod Tags

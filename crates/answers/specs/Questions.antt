@@ -11,6 +11,7 @@ use Rattle.answers.specs.Printed.{sheetAnswer, movedAnswer, checkAnswer,
 use Rattle.answers.specs.Bytes.{bytesAnswer, bytesLineAnswer}
 use Rattle.answers.specs.Tags.{rowTagAnswer, tagAnswer}
 use Rattle.answers.specs.Runs.{runsAnswer}
+use Rattle.answers.specs.Mended.{mendedAnswer, mendLinesAnswer}
 use Rattle.answers.specs.Needed.{needsAnswer, rowNeedsAnswer, countAnswer}
 use Rattle.answers.specs.declared.asked.Asked.{Asked}
 use Rattle.answers.specs.declared.asked.Asked.the-variants as asked
@@ -42,6 +43,8 @@ answerTo word tail room f (asked.Retitled row) = retitledAnswer room row word f
 answerTo word tail room f asked.Utf8 = utf8Answer room f
 answerTo word tail room f asked.Utf16 = utf16Answer room f
 answerTo word tail room f asked.Runs = runsAnswer room f
+answerTo word tail room f asked.Mended = mendedAnswer room f
+answerTo word tail room f asked.MendLines = mendLinesAnswer room f
 
 -- a file of more than 65,536 bytes is too long
 unfoldable pub answerOf : (word tail : List ℕ) → (room : ℕ) → (f : List ℕ) → Asked → Answer

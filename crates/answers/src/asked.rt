@@ -34,6 +34,8 @@ pub enum Asked {
     Utf8,
     Utf16,
     Runs,
+    Mended,
+    MendLines,
 }
 
 // Makes the answer for a file, whose line ends in the field that is lent.
@@ -73,5 +75,7 @@ pub fn make(asked: Asked, word: &[u8], file: &[u8], tail: &[u8], text: &mut [u8]
         Asked::Utf8 => crate::texts::make_utf8(file, text),
         Asked::Utf16 => crate::texts::make_utf16(file, text),
         Asked::Runs => crate::runs::make_runs(file, text),
+        Asked::Mended => crate::mending::make_mended(file, text),
+        Asked::MendLines => crate::mending::make_mend_lines(file, text),
     }
 }

@@ -4,6 +4,7 @@ mod checks;
 mod finds;
 mod kinds;
 mod lines;
+mod mending;
 mod needs;
 mod notes;
 mod places;

@@ -135,7 +135,7 @@ fn change(random: &mut Random, file: &mut Vec<u8>) {
     }
 }
 
-/// Room for a copy of so many bytes, which is often just enough or one byte too little.
+/// Room for a copy of this length, often just enough or one byte too little.
 fn any_room(random: &mut Random, length: usize) -> usize {
     match random.below(6) {
         0 => length.saturating_sub(1),
