@@ -1,7 +1,7 @@
 -- The command's answers keep demand 3: what is asked answers alike (promises, Kept.antt), and what is printed beside it depends on public bytes alone.
 -- Assumes nothing.
 use mathlib.Core.Path.{_≡_, refl, sym, ap, ap₂, _∙_, subst}
-use mathlib.Core.Bool.{Bool, true, false, cond, not, _||_}
+use mathlib.Core.Bool.{Bool, true, false, cond, not, _&&_, _||_}
 use mathlib.Core.List.{List, [], _∷_, _++_, append-nil}
 use Prim.Native.Nat.{ℕ, suc, _+_, _%_, _<_}
 use native.Mathlib.Omega.{arith}
@@ -15,9 +15,10 @@ use Rattle.cursor.proofs.Agree.{Agree, part-same}
 use Rattle.cursor.proofs.Within.{same}
 use Rattle.header.specs.Header.{Header}
 use Rattle.metadata.specs.Tables.{fullNodes, fullItems, limits}
+use Rattle.metadata.specs.declared.Limits.{Limits}
 use Rattle.room.specs.Room.{Result, good, bad}
 use Rattle.room.specs.Decimal.{decimal}
-use Rattle.tree.specs.Reading.{rows}
+use Rattle.tree.specs.Reading.{rows, readFile}
 use Rattle.tree.specs.Rows.{itemAt}
 use Rattle.tree.specs.Asking.{Asks, counts, ask}
 use Rattle.tree.specs.Own.{Numbered}
@@ -35,6 +36,10 @@ use Rattle.account.specs.Totals.{refusedOne, oneMore}
 use Rattle.account.specs.declared.Kinds.{Kinds}
 use Rattle.account.specs.Marks.{marksOf}
 use Rattle.account.proofs.File.{kinds-alike, marks-alike}
+use Rattle.mend.specs.Mend.{mended, changes, repair, fitting, mend}
+use Rattle.mend.specs.Told.{linesIn}
+use Rattle.mend.proofs.Theorem.{mended-length, still}
+use Rattle.mend.proofs.Alike.{mended-alike}
 use Rattle.sheet.specs.Sheet.{tabbed, textOf, visibleLine, write, write2}
 use Rattle.sheet.proofs.Depends.{Shown, text-same, line-same, visible-same}
 use Rattle.title.specs.Title.{elsewhere, isNoTitle}
@@ -45,6 +50,7 @@ use Rattle.answers.specs.Answer.{Answer, answer, plainly, nothing, tooLongLine,
 use Rattle.answers.specs.Printed.{sheetAnswer, okLine, checked, checkAnswer, judged, verdictAnswer, placed, placeAnswer, origin, originAnswer, allRows, rowsAnswer, itemRow, foundLines, foundBy, foundAnswer}
 use Rattle.answers.specs.Printed.{titleLine, titleLines, titles, titlesAnswer, rowText, titleFormat}
 use Rattle.answers.specs.Needed.{countLine, needsIn, itemNeeds, rowNeeds, both, needsFrom, needs, needsAnswer, answers, shownNeeds, shownCount, ofRow, rowNeedsAnswer, countAnswer}
+use Rattle.answers.specs.Mended.{mendLinesAnswer}
 use Rattle.answers.specs.Runs.{runsShown, runsAnswer}
 use Rattle.answers.specs.Bytes.{kindsIn, lined, bytesAnswer, inLine, bytesLineAnswer, plusFile}
 use Rattle.answers.specs.Tags.{tagLines, withheld, shownTag, rowTagAnswer}
@@ -69,6 +75,20 @@ where-false false z h = h refl
 untitled : {A : Type 0} (b c : Bool) {x y : A} (z : A) → (b ≡ false → x ≡ y) → cond (b || c) z x ≡ cond (b || c) z y
 untitled true c z h = refl
 untitled false c z h = where-false c z (λ _. h refl)
+
+-- the lines that tell of a mended header: an accepted file and one that differs from it in private places have the same
+lines-alike : (lim : Limits) (room space : ℕ) (f g : List ℕ) {h : Header} {ns : List Node} {is : List Item} → readFile lim f ≡ rows h ns is → DifferInPrivate h ns is f g
+    → linesIn (mend lim room space g) ≡ linesIn (mend lim room space f)
+unfolding mend fitting
+lines-alike lim room space f g {h} {ns} {is} r d =
+    let x : readFile lim (mended f) ≡ rows h ns is = still lim f r in
+    let w = mended-alike lim f g x d in
+    let e : length (mended g) ≡ length (mended f) = mended-length g ∙ sym (d .same-length) ∙ sym (mended-length f) in
+    rw (w .reads, x, e, w .lines) (by (leb (length (mended f)) room && leb (length (changes f)) space))
+  where
+    by : (b : Bool) → linesIn (cond b (good (record { copy = mended g; lines = changes f })) (bad 22 0)) ≡ linesIn (cond b (good (repair f)) (bad 22 0))
+    by true = refl
+    by false = refl
 
 -- what is printed of one outcome
 printed-same : {A : Type 0} (room : ℕ) (tail : List ℕ) (u v : A → Answer) (x : Result A) → ((a : A) → x ≡ good a → u a ≡ v a) → printed room tail u x ≡ printed room tail v x
@@ -199,6 +219,10 @@ module _ (f g : List ℕ) (h : Header) (ns : List Node) (is : List Item) (r : re
         let lim = limits fullNodes fullItems in
         ap (printed room [] runsShown) (asks-alike full f g h ns is on-page d (marksOf lim 65537 g) (marksOf lim 65537 f) (marks-alike lim f g r d 65537))
 
+    mend-lines-same : mendLinesAnswer room g ≡ mendLinesAnswer room f
+    unfolding mendLinesAnswer reads
+    mend-lines-same = ap (printed room [] plainly) (lines-alike (limits fullNodes fullItems) 65536 room f g r d)
+
     bytes-line-same : (tail : List ℕ) → bytesLineAnswer room tail g ≡ bytesLineAnswer room tail f
     unfolding bytesLineAnswer
     bytes-line-same tail = ap (printed room tail (inLine tail)) kinds-same
@@ -276,6 +300,8 @@ module _ (f g : List ℕ) (h : Header) (ns : List Node) (is : List Item) (r : re
   to-same word tail room asked.Bytes t = bytes-same room tail
   to-same word tail room asked.BytesLine t = bytes-line-same room tail
   to-same word tail room asked.Runs t = runs-same room
+  to-same word tail room asked.Mended t = absurd t
+  to-same word tail room asked.MendLines t = mend-lines-same room
   to-same word tail room (asked.RowTag row true which) t = absurd t
   to-same word tail room (asked.RowTag row false which) t = row-tag-alike room row which
   to-same word tail room (asked.Tag which) t = absurd t

@@ -49,6 +49,8 @@ handsOut (asked.Retitled row) = true
 handsOut asked.Utf8 = true
 handsOut asked.Utf16 = true
 handsOut asked.Runs = false
+handsOut asked.Mended = true
+handsOut asked.MendLines = false
 
 -- Two files of equal length, the first accepted, alike but for its private places
 abbrev pub OfAlike : ((f g : List ℕ) → Type 0) → Type 0
