@@ -2,7 +2,7 @@
 _xmf() {
     local word=${COMP_WORDS[COMP_CWORD]} before=${COMP_WORDS[COMP_CWORD - 1]} command=${COMP_WORDS[1]-} options=
     if [ "$COMP_CWORD" -eq 1 ]; then
-        mapfile -t COMPREPLY < <(compgen -W 'sheet check show why rows verdict find resolve extract needs title to-utf8 to-utf16 help --help --version' -- "$word")
+        mapfile -t COMPREPLY < <(compgen -W 'sheet check show why rows verdict find resolve extract needs title mend to-utf8 to-utf16 help --help --version' -- "$word")
         return
     fi
     case $command in
@@ -13,8 +13,9 @@ _xmf() {
     find) options='--own' ;;
     extract) options='-o -f' ;;
     title) options='-o -f --stdin --bytes' ;;
+    mend) options='-o -f' ;;
     help)
-        mapfile -t COMPREPLY < <(compgen -W 'sheet check show why rows verdict find resolve extract needs title to-utf8 to-utf16' -- "$word")
+        mapfile -t COMPREPLY < <(compgen -W 'sheet check show why rows verdict find resolve extract needs title mend to-utf8 to-utf16' -- "$word")
         return
         ;;
     why)

@@ -262,6 +262,43 @@ ask_none 2 'too long' title "$work/long" 0 x -o "$work/none"
 [ ! -e "$work/none" ]
 count $? 'title, nothing is made of a refusal'
 
+# ---- mend
+
+told="FileLength${tab}16${tab}57${tab}56${nl}TreeEnd${tab}20${tab}60${tab}55"
+ask 0 '' mend mendable.xmf <<END
+$told
+END
+echo "$told" >"$work/wanted"
+run "$xmf" mend - <mendable.xmf
+judge 'mend, standard input' '' 0
+ask_none 0 '' mend worked.xmf
+ask 2 '' mend cut.xmf <<'END'
+R~5~16
+END
+ask 2 '' mend header.xmf <<'END'
+R~8~29
+END
+ask_none 0 "$told" mend mendable.xmf -o "$work/mended"
+cmp -s worked.xmf "$work/mended"
+count $? 'mend, the copy'
+ask_none 0 '' mend -o "$work/same" folders.xmf
+cmp -s folders.xmf "$work/same"
+count $? 'mend, the copy of a file that is right'
+cp worked.xmf "$work/wanted"
+run "$xmf" mend mendable.xmf -o -
+judge 'mend to standard output' "$told" 0
+run "$xmf" mend - -o - <mendable.xmf
+judge 'mend, standard input and output' "$told" 0
+ask_none 2 "$(refused 5 16)" mend cut.xmf -o "$work/unmended"
+[ ! -e "$work/unmended" ]
+count $? 'mend, nothing is made of a refusal'
+ask_none 1 "xmf: $work/mended: File exists" mend mendable.xmf -o "$work/mended"
+ask_none 0 "$told" mend mendable.xmf -f -o "$work/same"
+cmp -s worked.xmf "$work/same"
+count $? 'mend over a file that is there'
+ask_none 1 "$(usage mend '-f goes with -o')" mend -f mendable.xmf
+ask_none 1 "$(usage mend 'too few or too many words')" mend mendable.xmf worked.xmf
+
 # ---- conversions
 
 printf Hi >"$work/wanted"
@@ -353,7 +390,7 @@ count $? 'no bytes to a terminal'
 
 ask_none 1 'xmf: no command; xmf help lists them'
 ask_none 1 'xmf: no such command: shet; xmf help lists them' shet worked.xmf
-for command in sheet check show verdict rows find resolve extract needs title; do
+for command in sheet check show verdict rows find resolve extract needs title mend; do
     ask_none 1 "$(usage "$command" 'too few or too many words')" "$command"
     ask_none 1 "$(usage "$command" 'no such option: --wy')" "$command" --wy worked.xmf 0 0 0
 done
@@ -593,10 +630,10 @@ commands = [
     ["sheet", "cut.xmf"], ["sheet", "worked.xmf"], ["sheet", "-H", "worked.xmf", "cut.xmf"], ["check", "worked.xmf", "cut.xmf"],
     ["check", "-v", "cut.xmf"], ["show", "worked.xmf"], ["why", "8"], ["why", "11"], ["rows", "worked.xmf"], ["verdict", "mobile.xmf"],
     ["find", "folders.xmf", "2", "S", "9"], ["resolve", "detached.xmf", "3"], ["needs", "mobile.xmf"], ["title", "worked.xmf"],
-    ["extract", "mobile.xmf", "1", "-o", "-"], ["title", "worked.xmf", "0", "Hello", "-o", "-"], ["to-utf8", work + "/units"],
+    ["extract", "mobile.xmf", "1", "-o", "-"], ["title", "worked.xmf", "0", "Hello", "-o", "-"], ["mend", "mendable.xmf"], ["mend", "mendable.xmf", "-o", "-"], ["to-utf8", work + "/units"],
     ["to-utf16", work + "/text"], ["help"], ["help", "sheet"], ["--version"],
 ]
-made = [["extract", "mobile.xmf", "1", "-o", new], ["title", "worked.xmf", "0", "Hello", "-o", new]]
+made = [["extract", "mobile.xmf", "1", "-o", new], ["title", "worked.xmf", "0", "Hello", "-o", new], ["mend", "mendable.xmf", "-o", new]]
 
 
 def ask(words, k):
@@ -636,7 +673,7 @@ count $? "room for k bytes: $(cat "$work/room")"
 
 if [ -c /dev/full ]; then
     for words in 'sheet worked.xmf' 'sheet cut.xmf' 'check worked.xmf' 'check -v cut.xmf' 'show worked.xmf' 'why 8' 'rows worked.xmf' 'verdict mobile.xmf' 'find folders.xmf 2 S 9' \
-        'resolve detached.xmf 3' 'needs mobile.xmf' 'title worked.xmf' 'title worked.xmf 0 x -o -' 'extract mobile.xmf 1 -o -' help 'help sheet' --version; do
+        'resolve detached.xmf 3' 'needs mobile.xmf' 'title worked.xmf' 'title worked.xmf 0 x -o -' 'mend mendable.xmf' 'mend mendable.xmf -o -' 'extract mobile.xmf 1 -o -' help 'help sheet' --version; do
         # shellcheck disable=SC2086
         "$xmf" $words >/dev/full 2>"$work/error"
         [ $? -eq 1 ] && [ -s "$work/error" ]

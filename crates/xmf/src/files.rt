@@ -439,6 +439,54 @@ pub fn correct(count: usize) -> u64 {
     }
 }
 
+// Says what was mended: the lines of the fields that changed.
+fn say_mended(file: &[u8]) {
+    let mut text = io::large_buffer();
+    let made = answers::make(Asked::MendLines, b"", file, b"", &mut text);
+    let n = made.size;
+    io::write_all(STDERR_FILENO, &text[..n]);
+}
+
+// Makes the copy whose header is mended.
+fn mend_from(file: &[u8]) -> u64 {
+    let mut text = io::large_buffer();
+    let made = answers::make(Asked::Mended, b"", file, b"", &mut text);
+    let n = made.size;
+    if made.status != 0 {
+        return say_refusal(&text[..n], made.status);
+    }
+    if hand_out(&text[..n], 4, 5) != 0 {
+        return 1;
+    }
+    say_mended(file);
+    0
+}
+
+fn mend_named(name: &[u8]) -> u64 {
+    let mut file = program::file_buffer();
+    let got = read_named(name, &mut file);
+    if !got.right {
+        messages::failed(name);
+        return 1;
+    }
+    let n = got.size;
+    mend_from(&file[..n])
+}
+
+// FILE OUT NEW
+pub fn mend(count: usize) -> u64 {
+    if count != 6 {
+        return messages::usage();
+    }
+    let mut name = io::buffer();
+    let n = os::arg(3, &mut name);
+    if os::errno() != 0 {
+        messages::failed(b"the file's name");
+        return 1;
+    }
+    mend_named(&name[..n])
+}
+
 fn convert_from(asked: Asked, file: &[u8]) -> u64 {
     let mut text = io::large_buffer();
     let made = answers::make(asked, b"", file, b"", &mut text);

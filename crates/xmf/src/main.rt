@@ -319,6 +319,12 @@ fn run(count: usize) -> u64 {
     if words::is_word(2, b"correct") {
         return files::correct(count);
     }
+    if words::is_word(2, b"mend") {
+        return one(Asked::MendLines, count);
+    }
+    if words::is_word(2, b"mended") {
+        return files::mend(count);
+    }
     if words::is_word(2, b"to-utf8") {
         return files::convert(Asked::Utf8, count);
     }
