@@ -552,13 +552,19 @@ count $? 'title, nothing is made of a refusal'
 # ---- mend
 
 told="FileLength${tab}16${tab}57${tab}56${nl}TreeEnd${tab}20${tab}60${tab}55"
-echo "$told" | ask 0 '' mend mendable.xmf
+ask 0 '' mend mendable.xmf <<END
+$told
+END
 echo "$told" >"$work/wanted"
 run "$xmf" mend - <mendable.xmf
 judge 'mend, standard input' '' 0
 ask_none 0 '' mend worked.xmf
-echo 'R~5~16' | ask 2 '' mend cut.xmf
-echo 'R~8~29' | ask 2 '' mend header.xmf
+ask 2 '' mend cut.xmf <<'END'
+R~5~16
+END
+ask 2 '' mend header.xmf <<'END'
+R~8~29
+END
 ask_none 0 "$told" mend mendable.xmf -o "$work/mended"
 cmp -s worked.xmf "$work/mended"
 count $? 'mend, the copy'
