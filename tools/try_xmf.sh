@@ -330,7 +330,7 @@ echo 'too long' | ask 2 '' bytes --runs "$work/long"
 ask_none 1 'xmf: none: No such file or directory' bytes --runs none
 # the runs of a file follow each other, differ from their neighbours, and have the bytes that are counted for each kind
 for sample in *.xmf; do
-    { "$xmf" bytes "$sample" && "$xmf" bytes --runs "$sample"; } 2>/dev/null | awk -F "$tab" -v size="$(wc -c <"$sample")" '
+    { "$xmf" bytes "$sample"; "$xmf" bytes --runs "$sample"; } 2>/dev/null | awk -F "$tab" -v size="$(wc -c <"$sample")" '
         $1 == "R" { refused++ }
         NF == 2 && $1 != "total" { count[$1] = $2 }
         NF == 4 { if ($2 != at || $4 == before || $3 < 1) bad = 1; at += $3; sum[$4] += $3; before = $4 }
