@@ -3,9 +3,10 @@
 # line is `N passed, M failed`. The folder `work` is removed at the end.
 
 work=$(mktemp -d) || exit 1
-trap 'chmod -R u+w "$work"; rm -rf "$work"' EXIT
-passed=0
-failed=0
+# each check is a line of this file, so that one in a pipe, which is a shell of its own, counts too
+counts=$work.counts
+: >"$counts" || exit 1
+trap 'chmod -R u+w "$work"; rm -rf "$work" "$counts"' EXIT
 # shellcheck disable=SC2034 # used by the tests
 tab=$(printf '\t') nl='
 '
@@ -16,9 +17,9 @@ export LC_ALL
 # Counts a check by its status.
 count() { # STATUS NAME
     if [ "$1" -eq 0 ]; then
-        passed=$((passed + 1))
+        echo passed >>"$counts"
     else
-        failed=$((failed + 1))
+        echo failed >>"$counts"
         echo "$2: failed"
     fi
 }
@@ -32,9 +33,9 @@ run() { # COMMAND..
 # Counts a run: standard output must be as the file `wanted`, standard error as these lines, and the status this one.
 judge() { # NAME ERROR STATUS
     if cmp -s "$work/wanted" "$work/got" && [ "$(cat "$work/error")" = "$2" ] && [ "$status" -eq "$3" ]; then
-        passed=$((passed + 1))
+        echo passed >>"$counts"
     else
-        failed=$((failed + 1))
+        echo failed >>"$counts"
         echo "$1: failed, status $status"
         diff -a "$work/wanted" "$work/got" | cut -c1-200 | head -5
         cat "$work/error"
@@ -134,6 +135,8 @@ building() { # RESULT CRATES REASON [PREFIX]
 untimed() { sed -i 's/, about [0-9]* [a-z]* left$//' "$work/error"; }
 
 summary() {
+    passed=$(grep -c passed "$counts")
+    failed=$(grep -c failed "$counts")
     echo "$passed passed, $failed failed"
-    [ "$failed" -eq 0 ]
+    [ "$passed" -gt 0 ] && [ "$failed" -eq 0 ]
 }

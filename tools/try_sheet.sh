@@ -161,9 +161,7 @@ try cut.xmf "$root/samples/cut.xmf" 2
 } | {
     run "$sheet" -
     judge 'cut.xmf, in two parts' '' 2
-    echo "$passed $failed" >"$work/counts"
 }
-read -r passed failed <"$work/counts"
 
 printf 'R\t8\t29\n' >"$work/wanted"
 try header.xmf "$root/samples/header.xmf" 2
