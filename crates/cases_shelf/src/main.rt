@@ -1,5 +1,8 @@
-// Runs the cases of `shelf` that standard input holds, a line each, and writes an answer line for each. A case is a number of cards, a number of bytes and
-// operations on a fresh shelf.
+// Runs the cases of `shelf` that standard input holds, a line each, and writes two answer lines for each: with cards lent as words, and with cards lent as structs. A case
+// is a number of cards, a number of bytes and operations on a fresh shelf.
+
+mod rows;
+
 ghost use Prim.Native.Nat.{_≤_};
 ghost use lib.ListN.{length};
 use libc::STDIN_FILENO;
@@ -65,53 +68,89 @@ fn word(op: &[u8], index: usize) -> u64 {
     number(op, index) as u64
 }
 
+// The two forms of the calls.
+fn put(structs: bool, op: &[u8], words: &mut [u64], text: &mut [u8], sheet: &[u8]) -> Outcome {
+    if structs {
+        return rows::put(words, text, word(op, 1), word(op, 2), word(op, 3), sheet);
+    }
+    shelf::put_words(words, text, word(op, 1), word(op, 2), word(op, 3), sheet)
+}
+
+fn get(structs: bool, op: &[u8], words: &[u64], text: &[u8], out: &mut [u8]) -> Got {
+    if structs {
+        return rows::get(words, text, word(op, 1), word(op, 2), word(op, 3), out);
+    }
+    shelf::get_words(words, text, word(op, 1), word(op, 2), word(op, 3), out)
+}
+
+fn drop(structs: bool, op: &[u8], words: &mut [u64], text: &mut [u8]) -> Outcome {
+    if structs {
+        return rows::drop(words, text, word(op, 1), word(op, 2), word(op, 3));
+    }
+    shelf::drop_words(words, text, word(op, 1), word(op, 2), word(op, 3))
+}
+
 // Puts a sheet.
-fn run_put(op: &[u8], words: &mut [u64], text: &mut [u8], out: &mut [u8], at: usize) -> usize {
+fn run_put(
+    structs: bool,
+    op: &[u8],
+    words: &mut [u64],
+    text: &mut [u8],
+    out: &mut [u8],
+    at: usize,
+) -> usize {
     let mut sheet = io::large_buffer();
     let decoded = casetext::read_hex(part(op, 4), &mut sheet);
     let k = decoded.count;
     if k > sheet.len() {
         return at;
     }
-    let answer = shelf::put_words(
-        words,
-        text,
-        word(op, 1),
-        word(op, 2),
-        word(op, 3),
-        &sheet[..k],
-    );
+    let answer = put(structs, op, words, text, &sheet[..k]);
     put_outcome(out, at, answer)
 }
 
 // Lends the first `room` bytes to get.
-fn get(op: &[u8], words: &[u64], text: &[u8], bytes: &mut [u8], room: usize) -> Got
+fn get_in(
+    structs: bool,
+    op: &[u8],
+    words: &[u64],
+    text: &[u8],
+    bytes: &mut [u8],
+    room: usize,
+) -> Got
     requires { ⌜ room ≤ length (now bytes) ⌝ }
 {
-    shelf::get_words(
-        words,
-        text,
-        word(op, 1),
-        word(op, 2),
-        word(op, 3),
-        &mut bytes[0..room],
-    )
+    get(structs, op, words, text, &mut bytes[0..room])
 }
 
 // Gets a sheet.
-fn run_get(op: &[u8], words: &[u64], text: &[u8], out: &mut [u8], at: usize) -> usize {
+fn run_get(
+    structs: bool,
+    op: &[u8],
+    words: &[u64],
+    text: &[u8],
+    out: &mut [u8],
+    at: usize,
+) -> usize {
     let mut bytes = io::large_buffer();
     let size = number(op, 4);
     if size > bytes.len() {
         return at;
     }
-    let answer = get(op, words, text, &mut bytes, size);
+    let answer = get_in(structs, op, words, text, &mut bytes, size);
     put_got(out, at, answer, &bytes[0..size])
 }
 
 // Drops a sheet.
-fn run_drop(op: &[u8], words: &mut [u64], text: &mut [u8], out: &mut [u8], at: usize) -> usize {
-    let answer = shelf::drop_words(words, text, word(op, 1), word(op, 2), word(op, 3));
+fn run_drop(
+    structs: bool,
+    op: &[u8],
+    words: &mut [u64],
+    text: &mut [u8],
+    out: &mut [u8],
+    at: usize,
+) -> usize {
+    let answer = drop(structs, op, words, text);
     put_outcome(out, at, answer)
 }
 
@@ -197,7 +236,14 @@ fn skip(line: &[u8], count: usize) -> usize
 }
 
 // Runs one operation and puts its answer, if it has one.
-fn run_op(op: &[u8], words: &mut [u64], text: &mut [u8], out: &mut [u8], at: usize) -> usize {
+fn run_op(
+    structs: bool,
+    op: &[u8],
+    words: &mut [u64],
+    text: &mut [u8],
+    out: &mut [u8],
+    at: usize,
+) -> usize {
     if op.len() < 2 {
         return at;
     }
@@ -211,31 +257,31 @@ fn run_op(op: &[u8], words: &mut [u64], text: &mut [u8], out: &mut [u8], at: usi
     }
     let end = casetext::put_byte(out, at, b' ');
     if op[0] == b'p' {
-        return run_put(op, words, text, out, end);
+        return run_put(structs, op, words, text, out, end);
     }
     if op[0] == b'g' {
-        return run_get(op, words, text, out, end);
+        return run_get(structs, op, words, text, out, end);
     }
     if op[1] == b'r' {
-        return run_drop(op, words, text, out, end);
+        return run_drop(structs, op, words, text, out, end);
     }
     put_all(out, end, words, text)
 }
 
 // Runs the operations of a line: they are its fields from 3 on.
-fn run_ops(line: &[u8], words: &mut [u64], text: &mut [u8], out: &mut [u8]) {
+fn run_ops(structs: bool, line: &[u8], words: &mut [u64], text: &mut [u8], out: &mut [u8]) {
     let mut end = casetext::put(out, 0, b"ok");
     let mut at = skip(line, 3);
     while at < line.len() {
         let next = casetext::find_mark(line, at, b' ');
-        end = run_op(&line[at..next], words, text, out, end);
+        end = run_op(structs, &line[at..next], words, text, out, end);
         at = next + 1;
     }
     casetext::write_line(out, end);
 }
 
 // Runs one case on a fresh shelf.
-fn run_case(line: &[u8], words: &mut [u64], text: &mut [u8], out: &mut [u8]) {
+fn run_case(structs: bool, line: &[u8], words: &mut [u64], text: &mut [u8], out: &mut [u8]) {
     let cards = casetext::read_number(line, 1, 64);
     let bytes = casetext::read_number(line, 2, text.len());
     let n = cards.value * 4;
@@ -245,15 +291,16 @@ fn run_case(line: &[u8], words: &mut [u64], text: &mut [u8], out: &mut [u8]) {
     }
     room::clear(words);
     room::clear_bytes(text);
-    run_ops(line, &mut words[0..n], &mut text[0..size], out);
+    run_ops(structs, line, &mut words[0..n], &mut text[0..size], out);
 }
 
-// Runs one case.
+// Runs one case, in both forms.
 fn run(line: &[u8]) {
     let mut words = casetext::node_buffer();
     let mut text = io::large_buffer();
     let mut out = casetext::answer_buffer();
-    run_case(line, &mut words, &mut text, &mut out);
+    run_case(false, line, &mut words, &mut text, &mut out);
+    run_case(true, line, &mut words, &mut text, &mut out);
 }
 
 // Runs the cases of a text.

@@ -1,4 +1,4 @@
--- What the five walks of functions over slices of cards take from the logic, brought together.
+-- What the walks of functions over slices of cards take from the logic, brought together.
 pub use mathlib.Core.Path.{_≡_, refl, _∙_, ap, sym, subst}
 pub use Prim.Native.Nat.{ℕ, _<_, _^_, suc, _+_, _≤_}
 pub use mathlib.Core.List.{[], _∷_, List}
@@ -39,7 +39,6 @@ pub use denote.Triple.Table.{entered, cited}
 pub use denote.Triple.Walked.{says, Stays, stay-none, stay-none-slice, gave-slice, walkOf, goes-none, goes-none-slice, goes-gave-slice, Walks, ends-at, walked, walk-meets, needs, stay-slice, goes-slice}
 pub use denote.Exit.{yes}
 pub use denote.Signature.{plain}
-pub use Rattle.room.specs.Room.{counted, kept}
 pub use types.Share.{arr-parts}
 pub use denote.Shadow.{pureI}
 pub use denote.Memory.{pointee, shares}
