@@ -132,6 +132,9 @@ extern "C" {
 /* The words of totals. */
 #define XMF_TOTAL_WORDS 11
 
+/* Bytes that are enough for the lines of xmf_mend: two, in which a number has at most nine digits. */
+#define XMF_LINES_ROOM 80
+
 /* The words of a card of a shelf, and the most cards that a shelf may have. */
 #define XMF_CARD_WORDS 4
 #define XMF_MOST_CARDS 16
@@ -489,8 +492,9 @@ void xmf_shelf_drop(uint64_t *cards, size_t card_words,
  * They take the file with its size, and struct xmf_tables, which has room for all rows there may be. Each
  * returns 0, or the number of the refusal (enum xmf_refusal), and sets all of the answer: after a refusal
  * its first member is the refusal's place and the others are 0; after an answer the first member is 0.
- * No pointer to an answer, to tables or to sums may be null. For the rest the rules are those of the
- * functions of words, which they call: a pointer may be null only where there are 0 elements.
+ * Where a function has no answer, there is no value, and the place is always 0. No pointer to an answer, to
+ * tables, to sums or to a shelf may be null. For the rest the rules are those of the functions of words,
+ * which they call: a pointer may be null only where there are 0 elements.
  */
 
 /* Whether this compiler gets them: it has to know `inline`. */
@@ -629,6 +633,22 @@ struct xmf_sums {
     uint64_t files, refused, bytes[9];
 };
 
+/* Which sheet on a shelf is meant: the desk, the call and the boat that it is for. */
+struct xmf_label {
+    uint64_t desk, call, boat;
+};
+
+/* A shelf with all cards there may be, and its text, which is lent. A fresh one is all zero, text and cards:
+ *
+ *   static uint8_t text[XMF_MOST_CARDS * 65536];
+ *   static struct xmf_shelf shelf = {{0}, text, sizeof text};
+ */
+struct xmf_shelf {
+    uint64_t cards[XMF_MOST_CARDS * XMF_CARD_WORDS];
+    uint8_t *text;
+    size_t text_length; /* a sheet may have a sixteenth of it */
+};
+
 /* The answers. The first member of each is the place of a refusal. */
 struct xmf_shape {
     uint64_t refused_at;
@@ -661,6 +681,11 @@ struct xmf_kinds {
 struct xmf_written {
     uint64_t refused_at;
     size_t length; /* the number of bytes written */
+};
+struct xmf_mended {
+    uint64_t refused_at;
+    size_t length; /* the number of bytes of the copy, which is that of the file */
+    size_t lines;  /* the number of bytes of the lines; 0 when nothing was changed */
 };
 struct xmf_frame {
     uint64_t refused_at;
@@ -894,6 +919,21 @@ static inline int xmf_retitle(const uint8_t *file, size_t size, struct xmf_table
     return XMF_AS(int, words[0]);
 }
 
+/* Copies the file with its header set right, and writes a line for each field that changed (xmf_mend);
+ * XMF_LINES_ROOM bytes hold the lines of any file. The tables hold the mended file's rows. The copy holds the
+ * hidden bytes of the file. */
+static inline int xmf_mend_header(const uint8_t *file, size_t size, struct xmf_tables *tables, uint8_t *copy,
+                                  size_t room, uint8_t *lines, size_t lines_room,
+                                  struct xmf_mended *answer) {
+    uint64_t words[4];
+    xmf_mend(file, size, tables->nodes, XMF_ALL_NODE_WORDS, tables->items, XMF_ALL_ITEM_WORDS, copy, room,
+             lines, lines_room, words, 4);
+    answer->refused_at = words[1];
+    answer->length = words[2];
+    answer->lines = words[3];
+    return XMF_AS(int, words[0]);
+}
+
 /* Converts UTF-16, high byte first, into UTF-8 (xmf_utf16_to_utf8). */
 static inline int xmf_to_utf8(const uint8_t *data, size_t size, uint8_t *text, size_t room,
                               struct xmf_written *answer) {
@@ -948,7 +988,33 @@ static inline int xmf_tag_frame(const uint8_t *tag, size_t size, size_t number, 
     return XMF_AS(int, words[0]);
 }
 
-/* The functions with structs for more groups of calls stand here. */
+/* Puts a sheet on a shelf (xmf_shelf_put). A refusal leaves the shelf as it was. */
+static inline int xmf_put_sheet(struct xmf_shelf *shelf, struct xmf_label label, const uint8_t *sheet,
+                                size_t size) {
+    uint64_t words[2];
+    xmf_shelf_put(shelf->cards, XMF_MOST_CARDS * XMF_CARD_WORDS, shelf->text, shelf->text_length, label.desk,
+                  label.call, label.boat, sheet, size, words, 2);
+    return XMF_AS(int, words[0]);
+}
+
+/* Gets a sheet from a shelf (xmf_shelf_get). */
+static inline int xmf_get_sheet(const struct xmf_shelf *shelf, struct xmf_label label, uint8_t *sheet,
+                                size_t room, struct xmf_written *answer) {
+    uint64_t words[3];
+    xmf_shelf_get(shelf->cards, XMF_MOST_CARDS * XMF_CARD_WORDS, shelf->text, shelf->text_length, label.desk,
+                  label.call, label.boat, sheet, room, words, 3);
+    answer->refused_at = words[1];
+    answer->length = words[2];
+    return XMF_AS(int, words[0]);
+}
+
+/* Drops a sheet from a shelf (xmf_shelf_drop). A refusal leaves the shelf as it was. */
+static inline int xmf_drop_sheet(struct xmf_shelf *shelf, struct xmf_label label) {
+    uint64_t words[2];
+    xmf_shelf_drop(shelf->cards, XMF_MOST_CARDS * XMF_CARD_WORDS, shelf->text, shelf->text_length, label.desk,
+                   label.call, label.boat, words, 2);
+    return XMF_AS(int, words[0]);
+}
 
 #endif
 

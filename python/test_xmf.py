@@ -3,8 +3,10 @@
 Without XMF_LIBRARY the checkout's library is used, which tools/build.sh so makes first if it is not current.
 """
 
+import array
 import os
 import pathlib
+import struct
 import subprocess
 import sys
 import tempfile
@@ -189,7 +191,89 @@ class Answers(unittest.TestCase):
                 self.assertEqual(told(question, data).encode(), command(name, file.name)[2])
 
 
+    def test_shelf(self):
+        """Calls on a shelf and on the command's shelf file, whose words have the high byte first."""
+        shelf = xmf.Shelf()
+        sheets = [xmf.sheet(WORKED), xmf.sheet(SAMPLES["folders"], 2), "", "x" * 65536, "x" * 65537]
+        with tempfile.TemporaryDirectory() as folder:
+            file = pathlib.Path(folder) / "shelf"
+            self.assertEqual(command("shelf", "-s", file, "new")[0], 0)
+            for number in range(60):
+                label = (number % 7, number % 5, number % 11)
+                sheet = sheets[number % len(sheets)]
+                with self.subTest(number=number):
+                    (pathlib.Path(folder) / "sheet").write_text(sheet, encoding="utf-8")
+                    answers = told(shelf.put, *label, sheet), told(shelf.get, *label)
+                    got = [command("shelf", "-s", file, "put", *label, pathlib.Path(folder) / "sheet"), command("shelf", "-s", file, "get", *label)]
+                    if number % 3 == 0:
+                        answers += (told(shelf.drop, *label),)
+                        got.append(command("shelf", "-s", file, "drop", *label))
+                    for answer, (status, out, said) in zip(answers, got, strict=True):
+                        self.assertEqual((answer or "").encode(), out if status == 0 else said)
+            cards = struct.pack(f">{len(shelf.cards)}Q", *shelf.cards)
+            self.assertEqual(cards + shelf.text, file.read_bytes())
+
+
 class Others(unittest.TestCase):
+    def test_mend(self):
+        mended = xmf.mend(SAMPLES["mendable"])
+        self.assertEqual((mended.data, mended.lines), (WORKED, line("FileLength", 16, 57, 56) + line("TreeEnd", 20, 60, 55)))
+        self.assertEqual(mended.changes, (xmf.Change("FileLength", 16, 57, 56), xmf.Change("TreeEnd", 20, 60, 55)))
+        self.assertNotIn("data", repr(mended))
+        for name, data in SAMPLES.items():
+            with self.subTest(name):
+                file, mended = told(xmf.read, data), told(xmf.mend, data)
+                if isinstance(file, xmf.File):
+                    self.assertEqual(mended, xmf.Mended(data, ""))
+                    wrong = bytearray(data)
+                    # FileLength, a number: after XMF_, the version, and in version 2.00 type and revision
+                    wrong[16 if file.version == 200 else 8] ^= 1
+                    self.assertEqual(xmf.mend(wrong).data, data)
+                    self.assertEqual([change.field for change in xmf.mend(wrong).changes], ["FileLength"])
+                elif name != "mendable":
+                    self.assertEqual(mended, file)
+        self.assertEqual(told(xmf.mend, WORKED[:-1]), line("R", 5, 16))
+        self.assertEqual(told(xmf.mend, b""), line("R", 1, 0))
+
+    def test_shelf_of_given_words(self):
+        shelf = xmf.Shelf(array.array("Q", [0] * 8), bytearray(16 * 8))
+        shelf.put(1, 4711, 12, b"XMF\xff2.00")
+        shelf.put(2, 4711, 12, "æ")
+        self.assertEqual(list(shelf.cards), [1, 4711, 12, 8, 2, 4711, 12, 2])
+        self.assertEqual(shelf.get(1, 4711, 12), "XMF\udcff2.00")
+        again = xmf.Shelf(shelf.cards[:], shelf.text[:])
+        shelf.drop(1, 4711, 12)
+        self.assertEqual(told(shelf.get, 1, 4711, 12), line("R", 27, 0))
+        self.assertEqual((again.get(1, 4711, 12), again.get(2, 4711, 12)), ("XMF\udcff2.00", "æ"))
+        for label, sheet, number in [((3, 1, 1), "", 28), ((3, 0, 1), "", 27), ((2, 4711, 12), "", 29), ((3, 1, 1), "123456789", 30)]:
+            self.assertEqual(told(again.put, *label, sheet), line("R", number, 0))
+        again.cards[3] = 9
+        self.assertEqual(told(again.drop, 1, 4711, 12), line("R", 39, 0))
+        none = xmf.Shelf(array.array("Q"), bytearray())
+        self.assertEqual([told(none.put, 1, 1, 1, ""), told(none.get, 1, 1, 1)], [line("R", 28, 0), line("R", 27, 0)])
+        for desk in (-1, 2**64):
+            with self.assertRaises(ValueError):
+                shelf.put(desk, 1, 1, "")
+        with self.assertRaises(ValueError):
+            xmf.Shelf(array.array("I", [0] * 64))
+        shelf.text.append(0)
+
+    def test_shelf_of_threads(self):
+        shelf, wrong = xmf.Shelf(), []
+
+        def work(desk):
+            for call in range(1, 100):
+                shelf.put(desk, call, 0, f"{desk} {call}")
+                wrong.extend([call] * (shelf.get(desk, call, 0) != f"{desk} {call}"))
+                shelf.drop(desk, call, 0)
+
+        threads = [threading.Thread(target=work, args=(desk,)) for desk in range(8)]
+        for thread in threads:
+            thread.start()
+        for thread in threads:
+            thread.join()
+        self.assertEqual((wrong, any(shelf.cards), any(shelf.text)), ([], False, False))
+
     def test_rows_have_names(self):
         file = xmf.read(WORKED)
         self.assertEqual((file.version, len(file.nodes), len(file.items)), (200, 2, 3))
@@ -225,7 +309,8 @@ class Others(unittest.TestCase):
             kinds = told(xmf.account, data, totals)
             if isinstance(kinds, xmf.Kinds):
                 self.assertEqual(sum(vars(kinds).values()), len(data))
-        self.assertEqual((totals.files, totals.refused), (9, 3))
+        refused = sum(not isinstance(told(xmf.read, data), xmf.File) for data in SAMPLES.values())
+        self.assertEqual((totals.files, totals.refused), (len(SAMPLES), refused))
         self.assertEqual(xmf.account(WORKED).inline, 2)
         totals.files = 1000
         with self.assertRaises(xmf.Refusal) as caught:

@@ -8,9 +8,9 @@ Python 3.10 or newer.
     except xmf.Refusal as refusal:
         print(refusal.number, refusal.place, refusal.meaning)
 
-Each function takes the bytes of a file and reads it afresh; nothing is kept between calls, and threads may call at the same time. What is
-refused raises Refusal. Places count from 0 at the first byte. What resource, retitle, to_utf8 and frames give may hold hidden data: it is
-not for a ticket.
+Each function takes the bytes of a file and reads it afresh; nothing is kept between calls but on a Shelf, and threads may call at the same
+time. What is refused raises Refusal. Places count from 0 at the first byte. What resource, retitle, mend, to_utf8 and frames give may hold
+hidden data: it is not for a ticket.
 
 The library is the one that XMF_LIBRARY names; that of the installation that this file belongs to; or, in a checkout, target/lib/libxmf.so.0,
 which `tools/build.sh so` makes. A copy of this file elsewhere takes the one that the dynamic linker finds.
@@ -18,10 +18,12 @@ which `tools/build.sh so` makes. A copy of this file elsewhere takes the one tha
 
 from __future__ import annotations
 
+import array
 import ctypes
 import functools
 import os
 import pathlib
+import threading
 from dataclasses import dataclass, field
 from typing import Iterator, Optional, Union
 
@@ -102,16 +104,23 @@ _CALLS = {
     "xmf_write_sheet": "file: &[u8], nodes: &mut [u64], items: &mut [u64], sheet: &mut [u8], answer: &mut [u64]",
     "xmf_write_sheet2": "file: &[u8], nodes: &mut [u64], items: &mut [u64], sheet: &mut [u8], answer: &mut [u64]",
     "xmf_correct_title": "file: &[u8], nodes: &mut [u64], items: &mut [u64], item_row: usize, title: &[u8], out: &mut [u8], answer: &mut [u64]",
+    "xmf_mend": "file: &[u8], nodes: &mut [u64], items: &mut [u64], copy: &mut [u8], lines: &mut [u8], answer: &mut [u64]",
     "xmf_utf16_to_utf8": "data: &[u8], text: &mut [u8], answer: &mut [u64]",
     "xmf_utf8_to_utf16": "text: &[u8], data: &mut [u8], answer: &mut [u64]",
     "xmf_move_sheet": "sheet: &[u8], out: &mut [u8], answer: &mut [u64]",
     "xmf_id3_count": "tag: &[u8], answer: &mut [u64]",
     "xmf_id3_frame": "tag: &[u8], number: usize, answer: &mut [u64]",
+    "xmf_shelf_put": "cards: &mut [u64], text: &mut [u8], desk: u64, call: u64, boat: u64, sheet: &[u8], answer: &mut [u64]",
+    "xmf_shelf_get": "cards: &[u64], text: &[u8], desk: u64, call: u64, boat: u64, out: &mut [u8], answer: &mut [u64]",
+    "xmf_shelf_drop": "cards: &mut [u64], text: &mut [u8], desk: u64, call: u64, boat: u64, answer: &mut [u64]",
 }
 
 _NODE_WORDS, _ITEM_WORDS, _ANSWER_WORDS, _TOTAL_WORDS = 13, 10, 13, 11
 _ALL_NODES, _ALL_ITEMS = 256, 1024
+_MOST_CARDS, _CARD_WORDS = 16, 4
 _NO_ROOM, _NO_SUCH_ITEM = 22, 23
+#: Enough for the lines of mend: two, in which a number has at most nine digits.
+_LINES_ROOM = 80
 #: The longest file there may be, which is also more than any other result can have.
 _LONGEST = 268_435_455
 
@@ -246,6 +255,32 @@ class Totals:
     files: int = 0
     refused: int = 0
     kinds: Kinds = Kinds()
+
+
+@dataclass(frozen=True)
+class Change:
+    """A field of the header that was changed: its name (FileLength or TreeEnd), its place, its old and its new value."""
+
+    field: str
+    place: int
+    old: int
+    new: int
+
+
+@dataclass(frozen=True)
+class Mended:
+    """A file whose header is mended, and a line for each field that was changed: its name, its place, its old and its new value, with tabs
+    between. A file that is accepted as it is has no line. The file, which holds the hidden data of the old one, is not in the representation.
+    """
+
+    data: bytes = field(repr=False)
+    lines: str
+
+    @property
+    def changes(self) -> tuple[Change, ...]:
+        """The fields that were changed, in file order."""
+        words = (text.split("\t") for text in self.lines.splitlines())
+        return tuple(Change(name, *map(int, numbers)) for name, *numbers in words)
 
 
 @dataclass(frozen=True)
@@ -455,6 +490,18 @@ def retitle(data: Bytes, item_row: int, title: Union[str, Bytes]) -> bytes:
     return _written(lambda room: tables.ask("xmf_correct_title", data, item_row, new, room)[0], len(data) + len(new) + 64)
 
 
+def mend(data: Bytes) -> Mended:
+    """The file with FileLength and TreeEnd set right in the bytes that they have, and what was changed. No other byte differs.
+
+    Refused, as the unchanged file is, where either cannot be read as a number, or where no values of the two, in their bytes, make a file
+    that is accepted. A file whose bytes are missing cannot be mended.
+    """
+    data = bytes(data)
+    copy, lines = (ctypes.c_uint8 * len(data))(), (ctypes.c_uint8 * _LINES_ROOM)()
+    length, of_lines = _Tables().ask("xmf_mend", data, copy, lines)[:2]
+    return Mended(ctypes.string_at(copy, length), ctypes.string_at(lines, of_lines).decode("ascii"))
+
+
 # ---- without a file
 
 
@@ -485,4 +532,41 @@ def frames(tag: Bytes) -> list[Frame]:
     return found
 
 
-# ---- more groups of calls stand here
+class Shelf:
+    """A shelf that desks share. It keeps sheets, each under a desk, a call and a boat, all numbers; call 0 is none.
+
+    The cards are words, four for each card: desk, call (0 where the card is free), boat, and the length of the sheet. The text has 16 equal
+    parts, and the sheet of a card is in the part with the card's number. Without either, the shelf is fresh: 16 free cards, and 65,536 bytes
+    for each. With both it is that of these, which are changed in place: keep them, or send them, to have the shelf again. One that has more
+    than 16 cards, or whose cards do not fit together, is refused with 39; no calls on a fresh one lead there.
+
+    What a desk is answered depends on its own calls, and on which of them meet 28 (no free card), alone. What is refused changes nothing.
+    Threads may share a shelf: one call is made at a time.
+    """
+
+    def __init__(self, cards: Optional[array.array[int]] = None, text: Optional[bytearray] = None):
+        self.cards = array.array("Q", bytes(8 * _MOST_CARDS * _CARD_WORDS)) if cards is None else cards
+        self.text = bytearray(_MOST_CARDS << 16) if text is None else text
+        if self.cards.typecode != "Q":
+            raise ValueError("cards are words: an array of type Q")
+        self._lock = threading.Lock()
+
+    def put(self, desk: int, call: int, boat: int, sheet: Union[str, Bytes]) -> None:
+        """Puts a sheet into the lowest free card. Refused where there is one already (29), it is longer than a part (30), or no card is free."""
+        data = sheet.encode("utf-8", "surrogateescape") if isinstance(sheet, str) else bytes(sheet)
+        self._ask("xmf_shelf_put", desk, call, boat, data)
+
+    def get(self, desk: int, call: int, boat: int) -> str:
+        """The sheet that was put; 27 where there is none. Bytes that are no UTF-8 come back as other_edition has them, by surrogateescape."""
+        got = _written(lambda room: self._ask("xmf_shelf_get", desk, call, boat, room)[0], len(self.text) // _MOST_CARDS)
+        return got.decode("utf-8", "surrogateescape")
+
+    def drop(self, desk: int, call: int, boat: int) -> None:
+        """Drops a sheet; 27 where there is none."""
+        self._ask("xmf_shelf_drop", desk, call, boat)
+
+    def _ask(self, name: str, *arguments) -> list[int]:
+        with self._lock:
+            cards = (ctypes.c_uint64 * len(self.cards)).from_buffer(self.cards)
+            text = (ctypes.c_uint8 * len(self.text)).from_buffer(self.text)
+            return _call(name, cards, text, *arguments)

@@ -17,11 +17,13 @@
 static unsigned char stack[STACK] __attribute__((aligned(64)));
 static ucontext_t here, there;
 static uint64_t nodes[XMF_ALL_NODE_WORDS], items[XMF_ALL_ITEM_WORDS], answer[XMF_ANSWER_WORDS], totals[XMF_TOTAL_WORDS];
-static uint8_t file[1 << 20], sheet[1 << 20], out[1 << 20];
+static uint64_t cards[XMF_MOST_CARDS * XMF_CARD_WORDS];
+static uint8_t file[1 << 20], sheet[1 << 20], out[1 << 20], text[1 << 20], lines[XMF_LINES_ROOM];
 static size_t length, sheet_length, row;
 
 #define TABLES nodes, XMF_ALL_NODE_WORDS, items, XMF_ALL_ITEM_WORDS
 #define ANSWER answer, XMF_ANSWER_WORDS
+#define SHELF cards, XMF_MOST_CARDS * XMF_CARD_WORDS, text, sizeof text
 
 static void nothing(void) {}
 static void read_tree(void) { xmf_read_tree(file, length, TABLES, ANSWER); }
@@ -36,11 +38,16 @@ static void account(void) { xmf_account(file, length, TABLES, totals, XMF_TOTAL_
 static void write_sheet(void) { xmf_write_sheet(file, length, TABLES, out, sizeof out, ANSWER); }
 static void write_sheet2(void) { xmf_write_sheet2(file, length, TABLES, out, sizeof out, ANSWER); }
 static void correct_title(void) { xmf_correct_title(file, length, TABLES, row, (const uint8_t *)"A longer title", 14, out, sizeof out, ANSWER); }
+static void mend(void) { xmf_mend(file, length, TABLES, out, sizeof out, lines, sizeof lines, ANSWER); }
 static void to_utf8(void) { xmf_utf16_to_utf8(file, length, out, sizeof out, ANSWER); }
 static void to_utf16(void) { xmf_utf8_to_utf16(file, length, out, sizeof out, ANSWER); }
 static void move_sheet(void) { xmf_move_sheet(sheet, sheet_length, out, sizeof out, ANSWER); }
 static void id3_count(void) { xmf_id3_count(file, length, ANSWER); }
 static void id3_frame(void) { xmf_id3_frame(file, length, 0, ANSWER); }
+/* The sheets of odd rows are not dropped: the shelf fills over the first files, and refuses those of the others. */
+static void shelf_put(void) { xmf_shelf_put(SHELF, row / 2, 4711, length, sheet, sheet_length, ANSWER); }
+static void shelf_get(void) { xmf_shelf_get(SHELF, row / 2, 4711, length, out, sizeof out, ANSWER); }
+static void shelf_drop(void) { xmf_shelf_drop(SHELF, row / 2, 4711 + row % 2, length, ANSWER); }
 
 static const struct {
     const char *name;
@@ -52,6 +59,8 @@ static const struct {
     {"xmf_account", account},     {"xmf_write_sheet", write_sheet},   {"xmf_write_sheet2", write_sheet2},
     {"xmf_utf16_to_utf8", to_utf8}, {"xmf_utf8_to_utf16", to_utf16},  {"xmf_move_sheet", move_sheet},
     {"xmf_id3_count", id3_count}, {"xmf_id3_frame", id3_frame},       {"xmf_correct_title", correct_title},
+    {"xmf_mend", mend},           {"xmf_shelf_put", shelf_put},       {"xmf_shelf_get", shelf_get},
+    {"xmf_shelf_drop", shelf_drop},
 };
 #define CALLS (sizeof calls / sizeof calls[0])
 

@@ -1,6 +1,7 @@
 #!/bin/sh
-# Measures the stack that each call needs, on the samples and on files of 16 and 17 levels, and compares it with what include/xmf.h says under
-# "Stack". Needs gcc and python3. If the archive is not current it is built first. A call that is new in the header has to be added to tools/stack.c.
+# Measures the stack that each call needs, on the samples and on files of 16 and 17 levels, whose header is right or wrong, and compares it with what
+# include/xmf.h says under "Stack". Needs gcc and python3. If the archive is not current it is built first. A call that is new in the header has to
+# be added to tools/stack.c.
 set -eu
 
 root=$(CDPATH='' cd -- "$(dirname -- "$0")/.." && pwd -P)
@@ -32,20 +33,21 @@ def node(contained, contents):
     return number(size + 5 + len(contents)) + bytes([contained, size + 4, 0, 0, 1]) + contents
 
 
-def deep(levels):
-    """A file of version 1.00 whose tree has this number of levels."""
+def deep(levels, wrong):
+    """A file of version 1.00 whose tree has this number of levels; FileLength and TreeEnd are too small by this."""
     tree = node(0, b"\xaa")
     for _ in range(levels - 1):
         tree = node(1, tree)
     start = 13
     assert start + len(tree) < 128
-    return b"XMF_1.00" + bytes([start + len(tree), 1, 0, start, start + len(tree) - 1]) + tree
+    return b"XMF_1.00" + bytes([start + len(tree) - wrong, 1, 0, start, start + len(tree) - 1 - wrong]) + tree
 
 
 files = sorted((root / "samples").glob("*.xmf"))
 for levels in (16, 17):
-    files.append(work / f"deep{levels}.xmf")
-    files[-1].write_bytes(deep(levels))
+    for wrong in (0, 1):
+        files.append(work / f"deep{levels}-{wrong}.xmf")
+        files[-1].write_bytes(deep(levels, wrong))
 lines = subprocess.run([work / "stack", *files], check=True, capture_output=True, text=True).stdout
 most = {}
 for line in lines.splitlines():

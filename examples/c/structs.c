@@ -6,7 +6,7 @@
 static int failed;
 static uint64_t words[XMF_ANSWER_WORDS];
 static uint64_t nodes[XMF_ALL_NODE_WORDS], items[XMF_ALL_ITEM_WORDS];
-static uint8_t out[ROOM], other[ROOM];
+static uint8_t out[ROOM], other[ROOM], lines[XMF_LINES_ROOM], other_lines[XMF_LINES_ROOM];
 
 static void expect(const char *what, int holds) {
     if (!holds) {
@@ -28,6 +28,15 @@ static void find(size_t size, size_t row, struct xmf_field field) {
     refusal = xmf_own(file, size, &tables, row, field, &found);
     xmf_find_own(LENT, row, field.kind, field.number, field.name, field.name_length, ANSWER);
     expect("own", SAME(refusal, found) && found.row == words[2] && found.item.format == words[10] && found.item.data == words[11]);
+}
+
+static void mend(size_t size) {
+    struct xmf_mended mended;
+    int refusal = xmf_mend_header(file, size, &tables, out, sizeof out, lines, sizeof lines, &mended);
+    xmf_mend(LENT, other, sizeof other, other_lines, sizeof other_lines, ANSWER);
+    expect("mend_header", SAME(refusal, mended) && mended.length == words[2] && mended.lines == words[3]);
+    expect("mended", memcmp(out, other, sizeof out) == 0 && memcmp(lines, other_lines, sizeof lines) == 0);
+    expect("rows of the mended", memcmp(tables.nodes, nodes, sizeof nodes) == 0 && memcmp(tables.items, items, sizeof items) == 0);
 }
 
 static void try_file(size_t size) {
@@ -69,6 +78,7 @@ static void try_file(size_t size) {
         xmf_correct_title(LENT, row, file, 5, other, sizeof other, ANSWER);
         expect("retitle", SAME(refusal, written) && written.length == words[2] && memcmp(out, other, sizeof out) == 0);
     }
+    mend(size);
     refusal = xmf_verdict(file, size, &tables, &judged);
     xmf_judge(LENT, ANSWER);
     expect("verdict", SAME(refusal, judged) && judged.check == words[2]);
@@ -109,6 +119,36 @@ static void try_texts(void) {
     expect("cut tag", xmf_tag_count(tag, sizeof tag - 1, &count) == XMF_REFUSED_BAD_TAG);
 }
 
+/* The same calls by the functions of words, on a shelf of their own, must leave the same. */
+static void try_shelf(void) {
+    static const uint8_t sheet[] = "XMF\t2.00";
+    static uint8_t text[XMF_MOST_CARDS * 8], other_text[sizeof text];
+    static uint64_t cards[XMF_MOST_CARDS * XMF_CARD_WORDS];
+    const size_t card_words = XMF_MOST_CARDS * XMF_CARD_WORDS;
+    struct xmf_shelf shelf = {{0}, text, sizeof text};
+    struct xmf_label label = {0, 4711, 12}, no_call = {0, 0, 12};
+    struct xmf_written written;
+    for (label.desk = 0; label.desk < XMF_MOST_CARDS; label.desk++) {
+        expect("put_sheet", xmf_put_sheet(&shelf, label, sheet, label.desk % 9) == 0);
+        xmf_shelf_put(cards, card_words, other_text, sizeof other_text, label.desk, 4711, 12, sheet, label.desk % 9, ANSWER);
+    }
+    expect("full", xmf_put_sheet(&shelf, label, sheet, 8) == XMF_REFUSED_NO_FREE_CARD);
+    expect("too long", xmf_put_sheet(&shelf, label, sheet, 9) == XMF_REFUSED_SHEET_TOO_LONG);
+    label.desk = 8;
+    expect("there already", xmf_put_sheet(&shelf, label, NULL, 0) == XMF_REFUSED_ALREADY_THERE);
+    expect("call 0", xmf_put_sheet(&shelf, no_call, sheet, 8) == XMF_REFUSED_NO_SUCH_CARD);
+    expect("shelf", memcmp(shelf.cards, cards, sizeof cards) == 0 && memcmp(text, other_text, sizeof text) == 0);
+    expect("get_sheet", xmf_get_sheet(&shelf, label, out, 9, &written) == 0 && written.length == 8 && memcmp(out, sheet, 9) == 0);
+    expect("no room on a desk", xmf_get_sheet(&shelf, label, out, 7, &written) == XMF_REFUSED_NO_ROOM && written.length == 0 && out[0] == 0);
+    expect("drop_sheet", xmf_drop_sheet(&shelf, label) == 0);
+    xmf_shelf_drop(cards, card_words, other_text, sizeof other_text, 8, 4711, 12, ANSWER);
+    expect("dropped", xmf_drop_sheet(&shelf, label) == XMF_REFUSED_NO_SUCH_CARD);
+    expect("not there", xmf_get_sheet(&shelf, label, out, 9, &written) == XMF_REFUSED_NO_SUCH_CARD && written.refused_at == 0);
+    expect("shelf after a drop", memcmp(shelf.cards, cards, sizeof cards) == 0 && memcmp(text, other_text, sizeof text) == 0);
+    shelf.cards[3] = 9;
+    expect("damaged", xmf_drop_sheet(&shelf, label) == XMF_REFUSED_DAMAGED_SHELF);
+}
+
 int main(int argc, char **argv) {
     int i;
     if (argc < 2) {
@@ -122,6 +162,7 @@ int main(int argc, char **argv) {
         try_file(size - 1);
     }
     try_texts();
+    try_shelf();
     expect("version", strcmp(xmf_version(), XMF_VERSION) == 0);
     expect("texts", strcmp(xmf_refusal_text(XMF_REFUSED_NO_SUCH_ITEM), "no such item") == 0 && strcmp(xmf_refusal_text(0), "answered") == 0 &&
                         strcmp(xmf_refusal_text(-1), xmf_refusal_text(1000)) == 0);

@@ -467,7 +467,7 @@ impl Comparer {
         }
         for desk in 1..=3 {
             let all = answers(run, desk, |_| true);
-            let some = answers(run, desk, |index| (index as u64 ^ number) % 3 == 0);
+            let some = answers(run, desk, |index| (index as u64 ^ number).is_multiple_of(3));
             self.apart[0] += 1;
             let full = |answers: &[(Answer, Vec<u8>)]| -> Vec<bool> {
                 answers.iter().map(|(answer, _)| answer[0] == 28).collect()

@@ -35,8 +35,8 @@ impl Bench {
 
     /// Mends a file by the proved reader.
     pub fn proved(&mut self, file: &[u8]) -> Answer {
-        let [nodes, items] = [&mut self.nodes, &mut self.items].map(lent);
-        let [copy, lines] = [&mut self.copy, &mut self.lines].map(lent);
+        let [nodes, items] = [&mut self.nodes[..], &mut self.items[..]].map(lent);
+        let [copy, lines] = [&mut self.copy[..], &mut self.lines[..]].map(lent);
         let answer = xmf::mend(file, nodes, items, copy, lines);
         mended(
             answer
@@ -47,22 +47,22 @@ impl Bench {
 
     /// The same with the answer as words, in a buffer of any size.
     pub fn words(&mut self, file: &[u8], answer: &mut [u64]) {
-        let [nodes, items] = [&mut self.nodes, &mut self.items].map(lent);
-        let [copy, lines] = [&mut self.copy, &mut self.lines].map(lent);
+        let [nodes, items] = [&mut self.nodes[..], &mut self.items[..]].map(lent);
+        let [copy, lines] = [&mut self.copy[..], &mut self.lines[..]].map(lent);
         xmf::words::mend(file, nodes, items, copy, lines, answer);
     }
 
     /// Mends a file by the plain reader.
     pub fn plain(&mut self, mend: &Mend) -> Answer {
-        let [nodes, items] = [&mut self.nodes, &mut self.items].map(lent);
-        let [copy, lines] = [&mut self.copy, &mut self.lines].map(lent);
+        let [nodes, items] = [&mut self.nodes[..], &mut self.items[..]].map(lent);
+        let [copy, lines] = [&mut self.copy[..], &mut self.lines[..]].map(lent);
         let answer = plain::mend(&mend.file, nodes, items, copy, lines);
         mended(answer.map_err(|refusal| (refusal.number, refusal.place)))
     }
 
     /// Whether the proved reader reads a file into the tables.
     pub fn reads(&mut self, file: &[u8]) -> bool {
-        let [nodes, items] = [&mut self.nodes, &mut self.items].map(lent);
+        let [nodes, items] = [&mut self.nodes[..], &mut self.items[..]].map(lent);
         xmf::read_tree(file, nodes, items).is_ok()
     }
 
@@ -75,7 +75,7 @@ impl Bench {
 }
 
 /// What is lent of words or bytes with a guard.
-fn lent<T>(all: &mut Vec<T>) -> &mut [T] {
+fn lent<T>(all: &mut [T]) -> &mut [T] {
     let length = all.len() - GUARD;
     &mut all[..length]
 }

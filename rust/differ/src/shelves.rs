@@ -73,11 +73,10 @@ impl Lent {
         let mut shelf = xmf::Shelf::new(cards, text);
         let answer = match step {
             Step::Put(label, sheet) => done(shelf.put(proved(label), sheet).map_err(numbers)),
-            Step::Get(label, size) => counted(
-                shelf
-                    .get(proved(label), &mut room[..*size])
-                    .map_err(numbers),
-            ),
+            Step::Get(label, size) => {
+                let got = shelf.get(proved(label), &mut room[..*size]);
+                counted(got.map(<[u8]>::len).map_err(numbers))
+            }
             Step::Drop(label) => done(shelf.drop(proved(label)).map_err(numbers)),
             Step::Word(..) | Step::Byte(..) => {
                 self.set(step);

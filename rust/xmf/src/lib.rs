@@ -25,7 +25,7 @@
 //! Every place is counted from the file's first byte.
 //!
 //! [`File`] puts names on all this: it reads a file into [`Tables`], has [`Node`]s and [`Item`]s, and asks
-//! the questions.
+//! the questions. A file that is not read may be mended: [`Tables::mend`] gives a [`MendedFile`].
 //!
 //! ```
 //! use xmf::{Field, File, Tables, Version};
@@ -70,8 +70,8 @@ mod typed;
 pub mod words;
 
 pub use kind::{RefusalKind, Verdict, VERSION};
-pub use typed::{other_edition, to_utf16, to_utf8, Content, File, Format, Frame, Item, Node};
-pub use typed::{Reference, Tables, Tag, Version};
+pub use typed::{other_edition, to_utf16, to_utf8, Change, Content, File, Format, Frame};
+pub use typed::{HeaderField, Item, MendedFile, Node, Reference, Tables, Tag, Version};
 
 /// The words of a table with as many node rows as there may be.
 pub const ALL_NODE_WORDS: usize = 256 * node::WORDS;
@@ -79,6 +79,9 @@ pub const ALL_NODE_WORDS: usize = 256 * node::WORDS;
 pub const ALL_ITEM_WORDS: usize = 1024 * item::WORDS;
 /// The words of the longest answer, that of [`find`] and [`find_own`].
 pub const ANSWER_WORDS: usize = 3 + item::WORDS;
+
+/// Bytes that are enough for the lines of [`mend`]: two, in which a number has at most nine digits.
+pub const LINES_ROOM: usize = 80;
 
 /// The columns of a node row.
 pub mod node {
@@ -671,34 +674,36 @@ pub struct Mended {
     pub lines: usize,
 }
 
-/// Copies the file into a lent buffer, with FileLength and TreeEnd set right in the bytes that they
-/// already have: FileLength to the number of bytes lent, TreeEnd to the place of the root's last byte.
-/// No other byte differs.
+/// Copies the file into a lent buffer, with `FileLength` and `TreeEnd` set right in the bytes that they
+/// already have: `FileLength` to the number of bytes lent, `TreeEnd` to the place of the root's last
+/// byte. No other byte differs.
 ///
 /// Another buffer gets one line, ended by 0Ah, for each field that changed, in file order: `FileLength`
 /// or `TreeEnd`, its place, its old and its new value, with tabs between. The tables hold the mended
 /// file's rows. Bytes of either buffer past what is written are 0; after a refusal all are. A file that
-/// is accepted as it is gives its copy and no line.
-///
-/// Refused, as the unchanged file is, when either field cannot be read as a number, or when no values of
-/// the two, in their bytes, make a file that is accepted with these tables; then with 22 for either
-/// buffer. A file whose bytes are missing cannot be mended.
+/// is accepted as it is gives its copy and no line. [`LINES_ROOM`] bytes hold the lines of any file.
 ///
 /// The copy holds the hidden bytes of the file.
 ///
 /// ```
-/// use xmf::{ALL_ITEM_WORDS, ALL_NODE_WORDS};
+/// use xmf::{ALL_ITEM_WORDS, ALL_NODE_WORDS, LINES_ROOM};
 ///
-/// let worked = std::fs::read("../../samples/worked.xmf").unwrap();
-/// let mut file = worked.clone();
+/// let worked = include_bytes!("../../../samples/worked.xmf");
+/// let mut file = *worked;
 /// file[16] = 5;
 /// let mut nodes = vec![0; ALL_NODE_WORDS];
 /// let mut items = vec![0; ALL_ITEM_WORDS];
-/// let (mut copy, mut lines) = (vec![0; file.len()], [0; 100]);
+/// let (mut copy, mut lines) = ([0; 56], [0; LINES_ROOM]);
 /// let mended = xmf::mend(&file, &mut nodes, &mut items, &mut copy, &mut lines).unwrap();
-/// assert_eq!(copy, worked);
+/// assert_eq!(&copy, worked);
 /// assert_eq!(&lines[..mended.lines], b"FileLength\t16\t5\t56\n");
 /// ```
+///
+/// # Errors
+///
+/// Those of [`read_tree`], as the unchanged file has them, when either field cannot be read as a number,
+/// or when no values of the two, in their bytes, make a file that is accepted with these tables; then 22
+/// when either buffer is too short. A file whose bytes are missing cannot be mended.
 pub fn mend(
     file: &[u8],
     nodes: &mut [u64],
@@ -845,6 +850,8 @@ pub mod card {
 
 /// The most cards that a [`Shelf`] may have, and the number of parts of its text.
 pub const MOST_CARDS: usize = 16;
+/// The words of that many cards.
+pub const ALL_CARD_WORDS: usize = MOST_CARDS * card::WORDS;
 
 /// A shelf that desks share: cards, four words each, and a text of 16 equal parts that holds their
 /// sheets. The sheet of a card is in the part with the card's number; a part has a sixteenth of the
@@ -859,22 +866,21 @@ pub const MOST_CARDS: usize = 16;
 /// a fresh shelf lead to one.
 ///
 /// ```
-/// use xmf::{Label, Shelf};
+/// use xmf::{Label, RefusalKind, Shelf, ALL_CARD_WORDS, MOST_CARDS};
 ///
-/// let mut cards = [0; xmf::card::WORDS * xmf::MOST_CARDS];
-/// let mut text = vec![0; xmf::MOST_CARDS * 65_536];
+/// let mut cards = [0; ALL_CARD_WORDS];
+/// let mut text = vec![0; MOST_CARDS * 65_536];
 /// let mut shelf = Shelf::new(&mut cards, &mut text);
 /// let label = Label { desk: 1, call: 4711, boat: 12 };
-/// shelf.put(label, b"XMF\t2.00").unwrap();
-/// assert_eq!(shelf.put(label, b"").unwrap_err().number, 29);
+/// shelf.put(label, b"XMF\t2.00")?;
+/// assert_eq!(shelf.put(label, b"").unwrap_err().kind(), RefusalKind::AlreadyThere);
 ///
-/// let mut sheet = [0; 65_536];
-/// let length = shelf.get(label, &mut sheet).unwrap();
-/// assert_eq!(&sheet[..length], b"XMF\t2.00");
-/// shelf.drop(label).unwrap();
-/// assert_eq!(shelf.get(label, &mut sheet).unwrap_err().number, 27);
+/// let mut room = [0; 65_536];
+/// assert_eq!(shelf.get(label, &mut room)?, b"XMF\t2.00");
+/// shelf.drop(label)?;
+/// assert_eq!(shelf.get(label, &mut room).unwrap_err().kind(), RefusalKind::NoSuchCard);
+/// # Ok::<(), xmf::Refusal>(())
 /// ```
-#[derive(Debug)]
 pub struct Shelf<'a> {
     cards: &'a mut [u64],
     text: &'a mut [u8],
@@ -888,8 +894,10 @@ impl<'a> Shelf<'a> {
 
     /// Puts a sheet, in the lowest free card; the rest of its part is 0.
     ///
-    /// Refused with 39 when the shelf is damaged, with 27 for call 0, with 29 when there is a sheet with
-    /// this label already, with 30 when the sheet is longer than a part, with 28 when no card is free.
+    /// # Errors
+    ///
+    /// 39 when the shelf is damaged, 27 for call 0, 29 when there is a sheet with this label already, 30
+    /// when the sheet is longer than a part, 28 when no card is free. The shelf is then as it was.
     pub fn put(&mut self, label: Label, sheet: &[u8]) -> Result<(), Refusal> {
         let mut answer = [0; 2];
         words::shelf_put(self.cards, self.text, label, sheet, &mut answer);
@@ -897,26 +905,36 @@ impl<'a> Shelf<'a> {
         Ok(())
     }
 
-    /// Gets a sheet into the buffer, and answers its number of bytes. Bytes of the buffer past the sheet
-    /// are 0; after a refusal all are.
+    /// Gets a sheet into a buffer, and gives it. Bytes of the buffer past the sheet are 0; after a refusal
+    /// all are.
     ///
-    /// Refused with 39 when the shelf is damaged, with 27 when there is no such sheet, with 22 when the
-    /// buffer is shorter than the sheet.
-    pub fn get(&self, label: Label, out: &mut [u8]) -> Result<usize, Refusal> {
+    /// # Errors
+    ///
+    /// 39 when the shelf is damaged, 27 when there is no such sheet, 22 when it is longer than the buffer.
+    pub fn get<'o>(&self, label: Label, room: &'o mut [u8]) -> Result<&'o [u8], Refusal> {
         let mut answer = [0; 3];
-        words::shelf_get(self.cards, self.text, label, out, &mut answer);
+        words::shelf_get(self.cards, self.text, label, room, &mut answer);
         let [length] = values(answer)?;
-        Ok(length as usize)
+        Ok(&room[..length as usize])
     }
 
     /// Drops a sheet: its card and its part are 0.
     ///
-    /// Refused with 39 when the shelf is damaged, with 27 when there is no such sheet.
+    /// # Errors
+    ///
+    /// 39 when the shelf is damaged, 27 when there is no such sheet. The shelf is then as it was.
     pub fn drop(&mut self, label: Label) -> Result<(), Refusal> {
         let mut answer = [0; 2];
         words::shelf_drop(self.cards, self.text, label, &mut answer);
         let [] = values(answer)?;
         Ok(())
+    }
+}
+
+impl fmt::Debug for Shelf<'_> {
+    /// Without cards and text, which are those of all desks.
+    fn fmt(&self, out: &mut fmt::Formatter) -> fmt::Result {
+        out.debug_struct("Shelf").finish_non_exhaustive()
     }
 }
 

@@ -1,7 +1,7 @@
 //! A file, its rows and the answers with names.
 
 use crate::{item, node, Field, Found, Kinds, Refusal, Resource, Totals, Verdict};
-use crate::{ALL_ITEM_WORDS, ALL_NODE_WORDS};
+use crate::{ALL_ITEM_WORDS, ALL_NODE_WORDS, LINES_ROOM};
 use core::fmt;
 
 /// The two tables that a file is read into, with room for all rows there may be: 256 nodes and 1,024
@@ -47,6 +47,42 @@ impl Tables {
     /// The reader's refusals; 32 when the totals have 1,000 files.
     pub fn account(&mut self, file: &[u8], totals: &mut Totals) -> Result<Kinds, Refusal> {
         crate::account(file, &mut self.nodes, &mut self.items, totals)
+    }
+
+    /// Copies a file, whose header may be wrong, into a buffer, with `FileLength` and `TreeEnd` set right
+    /// in the bytes that they have, as [`crate::mend`] does, and gives the copy and what was changed. No
+    /// other byte differs. Bytes of the buffer past the copy are 0; after a refusal all are.
+    ///
+    /// ```
+    /// use xmf::{File, HeaderField, Tables};
+    ///
+    /// let file = include_bytes!("../../../samples/mendable.xmf");
+    /// let mut tables = Tables::default();
+    /// assert!(File::read(file, &mut tables).is_err());
+    ///
+    /// let mut room = [0; 1000];
+    /// let mended = tables.mend(file, &mut room)?;
+    /// assert_eq!(mended.lines(), "FileLength\t16\t57\t56\nTreeEnd\t20\t60\t55\n");
+    /// let change = mended.changes().next().unwrap();
+    /// assert_eq!(change.field, HeaderField::FileLength);
+    /// assert_eq!((change.place, change.old, change.new), (16, 57, 56));
+    /// File::read(mended.bytes(), &mut tables)?;
+    /// # Ok::<(), xmf::Refusal>(())
+    /// ```
+    ///
+    /// # Errors
+    ///
+    /// The reader's refusals, as the unchanged file has them, when either field cannot be read as a number,
+    /// or when no values of the two, in their bytes, make a file that is accepted; then 22 when the file is
+    /// longer than the buffer. A file whose bytes are missing cannot be mended.
+    pub fn mend<'o>(&mut self, file: &[u8], copy: &'o mut [u8]) -> Result<MendedFile<'o>, Refusal> {
+        let mut lines = [0; LINES_ROOM];
+        let mended = crate::mend(file, &mut self.nodes, &mut self.items, copy, &mut lines)?;
+        Ok(MendedFile {
+            bytes: &copy[..mended.copy],
+            lines,
+            length: mended.lines,
+        })
     }
 }
 
@@ -724,6 +760,105 @@ impl<'f, 't> File<'f, 't> {
         let Tables { nodes, items } = &mut *self.tables;
         let tree = crate::read_tree(self.bytes, nodes, items);
         debug_assert!(tree.is_ok());
+    }
+}
+
+/// A field of the file header that can be mended.
+#[derive(Clone, Copy, Debug, PartialEq, Eq, Hash)]
+#[non_exhaustive]
+pub enum HeaderField {
+    /// `FileLength`: the number of bytes of the file.
+    FileLength,
+    /// `TreeEnd`: the place of the tree's last byte.
+    TreeEnd,
+}
+
+impl HeaderField {
+    /// Its name, as it is in the lines.
+    #[must_use]
+    pub fn name(self) -> &'static str {
+        match self {
+            HeaderField::FileLength => "FileLength",
+            HeaderField::TreeEnd => "TreeEnd",
+        }
+    }
+}
+
+/// A field of the file header that was changed.
+#[derive(Clone, Copy, Debug, PartialEq, Eq, Hash)]
+#[non_exhaustive]
+pub struct Change {
+    /// Which one.
+    pub field: HeaderField,
+    /// Place of its first byte.
+    pub place: usize,
+    /// What it was.
+    pub old: u64,
+    /// What it is now.
+    pub new: u64,
+}
+
+impl Change {
+    /// The change that a line tells of.
+    fn of(line: &str) -> Option<Self> {
+        let mut words = line.split('\t');
+        let name = words.next()?;
+        let fields = [HeaderField::FileLength, HeaderField::TreeEnd];
+        Some(Change {
+            field: fields.into_iter().find(|field| field.name() == name)?,
+            place: words.next()?.parse().ok()?,
+            old: words.next()?.parse().ok()?,
+            new: words.next()?.parse().ok()?,
+        })
+    }
+}
+
+/// A file whose header is mended, and what was changed: what [`Tables::mend`] gives.
+#[derive(Clone, Copy)]
+pub struct MendedFile<'o> {
+    bytes: &'o [u8],
+    lines: [u8; LINES_ROOM],
+    length: usize,
+}
+
+impl<'o> MendedFile<'o> {
+    /// The bytes of the mended file. They hold the hidden bytes of the file.
+    #[must_use]
+    pub fn bytes(&self) -> &'o [u8] {
+        self.bytes
+    }
+
+    /// Whether anything was changed; a file that is accepted as it is stays as it is.
+    #[must_use]
+    pub fn is_changed(&self) -> bool {
+        self.length > 0
+    }
+
+    /// A line for each field that was changed, in file order: its name, its place, its old and its new
+    /// value, with tabs between.
+    ///
+    /// # Panics
+    ///
+    /// Never: the proved call writes names of fields, digits, tabs and line ends.
+    #[must_use]
+    pub fn lines(&self) -> &str {
+        core::str::from_utf8(&self.lines[..self.length]).expect("the lines are ASCII")
+    }
+
+    /// The fields that were changed, in file order.
+    #[must_use]
+    pub fn changes(&self) -> impl DoubleEndedIterator<Item = Change> + '_ {
+        self.lines().lines().filter_map(Change::of)
+    }
+}
+
+impl fmt::Debug for MendedFile<'_> {
+    /// Without the bytes of the file, some of which may be hidden.
+    fn fmt(&self, out: &mut fmt::Formatter) -> fmt::Result {
+        out.debug_struct("MendedFile")
+            .field("length", &self.bytes.len())
+            .field("lines", &self.lines())
+            .finish()
     }
 }
 

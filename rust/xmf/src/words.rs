@@ -187,7 +187,7 @@ pub fn correct_title(
     ))
 }
 
-/// Copies the file with FileLength and TreeEnd set right, and writes a line for each that changed.
+/// Copies the file with `FileLength` and `TreeEnd` set right, and writes a line for each that changed.
 /// Values: bytes of the copy, bytes of the lines.
 pub fn mend(
     file: &[u8],

@@ -1,8 +1,8 @@
-//! What `File`, `Node`, `Item` and `Tag` give, beside the words of the same file.
+//! What `File`, `Node`, `Item`, `MendedFile`, `Tag` and `Shelf` give, beside the words of the same call.
 
-use xmf::{item, node, Content, Field, File, Format, Item, Node, Reference};
-use xmf::{Refusal, RefusalKind, Tables, Tag, Totals, Verdict, Version};
-use xmf::{ALL_ITEM_WORDS, ALL_NODE_WORDS};
+use xmf::{card, item, node, Content, Field, File, Format, HeaderField, Item, Label, Node};
+use xmf::{Reference, Refusal, RefusalKind, Shelf, Tables, Tag, Totals, Verdict, Version};
+use xmf::{ALL_CARD_WORDS, ALL_ITEM_WORDS, ALL_NODE_WORDS, LINES_ROOM, MOST_CARDS};
 
 const SAMPLES: [&[u8]; 9] = [
     include_bytes!("../../../samples/cut.xmf"),
@@ -17,6 +17,7 @@ const SAMPLES: [&[u8]; 9] = [
 ];
 const WORKED: &[u8] = SAMPLES[8];
 const DETACHED: &[u8] = SAMPLES[1];
+const MENDABLE: &[u8] = include_bytes!("../../../samples/mendable.xmf");
 const REFUSALS: &str = include_str!("../../../share/refusals.tsv");
 const CHECKS: &str = include_str!("../../../share/checks.tsv");
 const FIELDS: &str = include_str!("../../../share/fields.tsv");
@@ -182,6 +183,89 @@ fn each_answer_is_that_of_the_words() {
         compare_rows(&file, &nodes, &items);
     }
     assert_eq!(read, 6);
+}
+
+#[test]
+fn a_mended_file_is_that_of_the_words() {
+    let mut tables = Box::new(Tables::new());
+    let (mut nodes, mut items) = (vec![0; ALL_NODE_WORDS], vec![0; ALL_ITEM_WORDS]);
+    let [mut room, mut copy] = [[7; 1000]; 2];
+    let mut changed = 0;
+    for bytes in SAMPLES.into_iter().chain([MENDABLE]) {
+        let mut lines = [7; LINES_ROOM];
+        let words = xmf::mend(bytes, &mut nodes, &mut items, &mut copy, &mut lines);
+        let mended = tables.mend(bytes, &mut room);
+        assert_eq!(mended.map(|file| file.bytes().len()), words.map(|w| w.copy));
+        if let (Ok(mended), Ok(words)) = (mended, words) {
+            assert_eq!(mended.bytes(), &copy[..words.copy]);
+            assert_eq!(mended.lines().as_bytes(), &lines[..words.lines]);
+            let told = mended.changes().map(|change| {
+                let (name, place) = (change.field.name(), change.place);
+                format!("{name}\t{place}\t{}\t{}\n", change.old, change.new)
+            });
+            assert_eq!(told.collect::<String>(), mended.lines());
+            assert_eq!(mended.is_changed(), mended.bytes() != bytes);
+            assert_eq!(mended.is_changed(), !mended.lines().is_empty());
+            changed += usize::from(mended.is_changed());
+            assert!(!format!("{mended:?}").contains("170"), "{mended:?}");
+            assert!(File::read(mended.bytes(), &mut tables).is_ok());
+        }
+        assert_eq!(room, copy);
+    }
+    assert_eq!(changed, 1);
+    let mended = tables.mend(MENDABLE, &mut room).unwrap();
+    assert_eq!(mended.bytes(), WORKED);
+    let fields: Vec<_> = mended.changes().map(|change| change.field).collect();
+    assert_eq!(fields, [HeaderField::FileLength, HeaderField::TreeEnd]);
+    let no_room = tables.mend(MENDABLE, &mut [0; 55]).unwrap_err();
+    assert_eq!(no_room.kind(), RefusalKind::NoRoom);
+}
+
+#[test]
+fn a_shelf_keeps_what_is_put() {
+    let (mut cards, mut text) = ([0; ALL_CARD_WORDS], [0; MOST_CARDS * 8]);
+    let label = |desk| Label {
+        desk,
+        call: 4711,
+        boat: 12,
+    };
+    let refused = |kind: RefusalKind| -> Result<(), Refusal> {
+        Err(Refusal {
+            number: kind.number(),
+            place: 0,
+        })
+    };
+    let mut shelf = Shelf::new(&mut cards, &mut text);
+    let mut room = [7; 9];
+    for desk in 0..16 {
+        assert_eq!(shelf.put(label(desk), b"XMF\t2.00"), Ok(()));
+    }
+    assert_eq!(shelf.put(label(16), b""), refused(RefusalKind::NoFreeCard));
+    assert_eq!(
+        shelf.put(label(16), b"XMF\t2.00\t"),
+        refused(RefusalKind::SheetTooLong)
+    );
+    assert_eq!(shelf.put(label(3), b""), refused(RefusalKind::AlreadyThere));
+    assert_eq!(shelf.get(label(3), &mut room), Ok(&b"XMF\t2.00"[..]));
+    assert_eq!(room[8], 0);
+    assert_eq!(shelf.drop(label(3)), Ok(()));
+    assert_eq!(shelf.drop(label(3)), refused(RefusalKind::NoSuchCard));
+    assert_eq!(shelf.put(label(16), b"XMF"), Ok(()));
+    assert_eq!(shelf.get(label(16), &mut room), Ok(&b"XMF"[..]));
+    assert_eq!(
+        shelf.get(label(16), &mut room[..2]).unwrap_err().kind(),
+        RefusalKind::NoRoom
+    );
+    assert!(!format!("{shelf:?}").contains("4711"), "{shelf:?}");
+    // The sheet of desk 16 has the card and the part that desk 3 had.
+    assert_eq!(cards[3 * card::WORDS..][..card::WORDS], [16, 4711, 12, 3]);
+    assert_eq!(&text[3 * 8..][..8], b"XMF\0\0\0\0\0");
+    cards[card::LENGTH] = 9;
+    let shelf = Shelf::new(&mut cards, &mut text);
+    assert_eq!(
+        shelf.get(label(1), &mut room).unwrap_err().kind(),
+        RefusalKind::DamagedShelf
+    );
 }
 
 #[test]
