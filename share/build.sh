@@ -107,6 +107,7 @@ built_follow() { # CRATES
     built_tell
     while IFS= read -r line; do
         case $line in
+        'rt: '*' NOT PROVED'*) ;; # also where a crate that it needs is not
         'rt: '*' proved'*)
             name=${line#rt: } && name=${name%% *}
             case $left in *" $name "*) ;; *) continue ;; esac

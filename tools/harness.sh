@@ -83,6 +83,7 @@ make_copy() { # FILE..
     guide=$(rt doc) && rt=$(command -v rt) || exit 1
     kit=${guide%/docs/*} bin=on/$(uname -m)/bin
     mkdir -p "$copy" "$work/bin" "$work/home/$bin"
+    chmod 755 "$work" # rt runs programs as nobody, who has to reach the kit
     (cd "$root" && cp -R "$@" samples crates crates.txt share tools README.md "$copy") || exit 1
     for file in "$kit"/* "$kit/${bin%/*}"/*; do
         [ -e "$work/home/${file#"$kit/"}" ] || ln -s "$file" "$work/home/${file#"$kit/"}"
