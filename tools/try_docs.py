@@ -1,5 +1,6 @@
 #!/usr/bin/env python3
 """What tools/try_docs.sh looks at: try_docs.py FOLDER, with an installed copy of the command in FOLDER/to. A line for each check: passed, or NAME: failed."""
+import fnmatch
 import glob
 import os
 import pathlib
@@ -76,9 +77,14 @@ every = set().union(*words.values()) | {pathlib.Path(name).stem for name in text
 commands = set(re.findall(r"^:(\S+)$", read("share/help.txt"), re.M)) | {"help", "why", "--version", "COMMAND"}
 
 
+everything = [str(path) for top in sorted(pathlib.Path().iterdir()) if top.name not in (".git", "target") for path in (top, *top.rglob("*")) if "target" not in path.parts]
+
+
 def places(path, folder):
-    """The files that a path of a document may mean: from the repository's folder, from crates/, or beside the path before it."""
-    return [name for start in ("", "crates/", "docs/", "samples/", "rust/", f"{folder}/") for name in glob.glob(start + path.rstrip("/"))]
+    """The files that a path of a document may mean: beside the path before it, from the repository's folder, or at the end of a longer path."""
+    path = path.removeprefix("./").rstrip("/")
+    there = glob.glob(f"{folder}/{path}") if folder else []
+    return there or [name for name in everything if fnmatch.fnmatchcase(name, path)] or [name for name in everything if fnmatch.fnmatchcase(name, f"*/{path}")] or glob.glob(f"{work}/*/{path}")
 
 
 def is_path(text):
