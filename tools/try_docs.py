@@ -71,9 +71,23 @@ def words_of(text):
     return set(re.findall(r"[A-Za-z_][\w'-]*", text)) | set(re.findall(r"[A-Za-z_]\w*", text))
 
 
+def defined_in(name, text):
+    """The names that a source defines: what stands before a colon or an equals sign at a line's beginning, types, functions, cases, fields, constants."""
+    found = set(re.findall(r"\b(?:record|data|fn|struct|enum|const|class|def)\s+([\w'-]+)", text))
+    for names in re.findall(r"^\s*((?:[\w'′-]+\s+)*[\w'′-]+)\s*(?:\(.*)?[:=]", text, re.M):
+        found |= set(names.split())
+    found |= set(re.findall(r"^\s*([A-Z]\w*)\s*(?:\(.*\))?\s*(?:\{.*)?,?$", text, re.M))
+    if name.endswith(".h"):
+        found |= set(re.findall(r"\b(\w+)\(", text)) | set(re.findall(r"^#define (\w+)", text, re.M))
+    return found
+
+
+# words that are no names of this repository: of the language, of the system, of samples and of sheets
+others = set("requires ensures do rt sha256sum python3 groff shellcheck flock libxmf libsonivox4 XMF_ XMF2 Hi key token-42 XMF_SHELF".split())
+
 texts = sources()
+defined = set().union(*(defined_in(name, text) for name, text in texts.items()))
 words = {name: words_of(text) for name, text in texts.items()}
-every = set().union(*words.values()) | {pathlib.Path(name).stem for name in texts} | {part for name in texts for part in name.split("/")}
 commands = set(re.findall(r"^:(\S+)$", read("share/help.txt"), re.M)) | {"help", "why", "--version", "COMMAND"}
 
 
@@ -107,6 +121,11 @@ def names(name):
                 folder = os.path.dirname(found[0]) if found else folder
             known = set().union(*(words[file] for file in files if file in words))
             missing += [f"{name}, line {number}: {word} is not in {', '.join(files)}" for word in re.findall(r"`([^`]+)`", cells[1]) if word not in known]
+        # `name` and `name` in `FILE`
+        for found in re.finditer(r"((?:`[\w'-]+`(?:, and |, | and )?)+) in `([\w./-]+\.(?:antt|rt))`", line):
+            files = places(found[2], "")
+            known = set().union(*(words[file] for file in files if file in words))
+            missing += [f"{name}, line {number}: {word} is not in {found[2]}" for word in re.findall(r"`([^`]+)`", found[1]) if word not in known]
         folder = ""
         for found in re.finditer(r"`([^`]+)`(:?)", line):
             word = found[1]
@@ -122,11 +141,11 @@ def names(name):
                     missing.append(f"{name}, line {number}: there is no command {word}")
             elif re.fullmatch(r"[A-Za-z_]\w*(::[A-Za-z_]\w*)+(\(.*)?", word):
                 last = re.match(r"[\w:]+", word)[0].split("::")
-                missing += [f"{name}, line {number}: {part} of {word} is nowhere" for part in last if part not in every]
+                missing += [f"{name}, line {number}: {part} of {word} is nowhere" for part in last if part not in defined and not places(part, folder)]
             elif re.fullmatch(r"[A-Za-z_][\w'-]+", word):
                 if held and name.endswith("TRACE.md") and word not in words[held]:
                     missing.append(f"{name}, line {number}: {word} is not in {held}")
-                elif word not in every and not places(word, folder):
+                elif word not in defined | others and not places(word, folder) and not places(f"{word}.*", folder):
                     missing.append(f"{name}, line {number}: {word} is nowhere")
     judge(not missing, f"{here}: names", missing)
 
