@@ -13,7 +13,18 @@ unset XMF_SHELF
 mkdir -p "$work/to/bin" "$work/to/libexec/xmf" "$work/to/share"
 cp "$root/xmf" "$work/to/bin/xmf" && cp "$root/target/bin/xmf" "$work/to/libexec/xmf/xmf" && cp -R "$root/share" "$work/to/share/xmf" || exit 1
 cd -- "$root" || exit 1
-python3 "$root/tools/try_docs.py" "$work" >>"$work/said"
+# what README.md says that a first build says, and how many crates ./sheet takes
+first=$(
+    prefix=xmf
+    . "$root/share/build.sh"
+    left=" $(built_crates xmf) " finished=0 gone=0 began=0
+    built_tell 2>&1
+)
+tr '\n' ' ' <README.md | grep -Fq "\`$first\`"
+count $? "README.md: $first"
+grep -Fq ": $(crates_of xmf_sheet | wc -w) crates." README.md
+count $? 'README.md: the crates of ./sheet'
+python3 tools/try_docs.py "$work" >>"$work/said"
 status=$?
 sed -n '/^passed$/!p' "$work/said"
 grep -x passed "$work/said" >>"$counts"
