@@ -105,12 +105,28 @@ def is_path(text):
     return bool(re.fullmatch(r"[\w./*-]+", text)) and ("/" in text.strip("/") and not text.startswith(("/", "-")) or bool(re.search(r"\.(antt|rt|rs|md|sh|py|h|tsv|awk|txt|xmf|tsv)$", text)))
 
 
+def logical(text):
+    """The rows of tables, and paragraphs and items of lists as one line each, with the number of the first line."""
+    lines = []
+    for number, line in enumerate(text.splitlines(), 1):
+        if lines and line.strip() and not re.match(r"\||#|    |\s*([-*]|\d+\.) ", line) and lines[-1][1].strip() and not re.match(r"\||#|    \S", lines[-1][1]):
+            lines[-1] = (lines[-1][0], f"{lines[-1][1]} {line.strip()}")
+        else:
+            lines.append((number, line))
+    return lines
+
+
 def names(name):
     here = pathlib.Path(name)
     text = re.sub(r"^```\n.*?^```$", lambda found: "\n" * found[0].count("\n"), read(name), flags=re.M | re.S)
     missing = []
-    for number, line in enumerate(text.splitlines(), 1):
+    for number, line in logical(text):
         folder, held = "", None
+        if line.startswith("    "):
+            # a block of commands: its paths
+            for word in re.findall(r"[\w./-]+", line):
+                if "/" in word.strip("/.") and not word.startswith(("/", "target/", "PREFIX/", "../")) and not places(word, ""):
+                    missing.append(f"{name}, line {number}: there is no {word}")
         # in a row of a table the names behind `FILE`: are words of that file; in `| name | FILE |` of that file too
         cells = line.split("|") if line.startswith("|") else [line]
         if line.startswith("|") and len(cells) == 5 and re.fullmatch(r"(\s*`[\w'-]+`,?)+\s*", cells[1]) and re.match(r"\s*`[\w./-]+\.antt`", cells[2]):
