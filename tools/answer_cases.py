@@ -9,7 +9,7 @@ cases that it can answer. Run it in the repository's folder: python3 tools/answe
 FULL = ["3328", "10240"]
 ROOM = 65536
 
-# the samples, with their verdicts or refusals (README, Try it)
+# the samples, with their verdicts or refusals (docs/HELPDESK.md, The samples)
 SAMPLES = {
     "worked": 7,
     "mobile": 0,

@@ -1,5 +1,5 @@
 #!/bin/sh
-# Compares every list of refusals with share/refusals.tsv: README.md, man/xmf.1, include/xmf.h, rust/xmf, and the names in crates/cursor; and the
+# Compares every list of refusals with share/refusals.tsv: docs/REFUSALS.md, man/xmf.1, include/xmf.h, rust/xmf, and the names in crates/cursor; and the
 # checks of the verdict in man/xmf.1 with share/checks.tsv. Runs tools/tables.py --check, which compares what is made of the table and of
 # share/version, and tools/declarations.py, which compares the declarations of the calls. Needs python3. The last line is `N passed, M failed`.
 set -u
@@ -48,10 +48,10 @@ compare("the numbers are 1 to 39", list(range(1, 40)), [n for n, _ in meanings])
 compare("the checks are 0 to 8", list(range(9)), [int(n) for n, _ in checks])
 compare("the fields are 0 to 14", list(range(15)), [int(n) for n, _ in fields])
 
-text = read("README.md")
-text = text[text.index("\n## Refusals\n") :]
+text = read("docs/REFUSALS.md")
+text = text[text.index("\n## The table\n") :]
 text = text[: text.index("\n## ", 1)]
-compare("README.md", [(int(n), m, t) for n, _, m, t in rows], [(int(n), m, t) for n, m, t in re.findall(r"^\| (\d+) \| (.*?) \| (.*) \|$", text, re.M)])
+compare("docs/REFUSALS.md", [(int(n), m, t) for n, _, m, t in rows], [(int(n), m, t) for n, m, t in re.findall(r"^\| (\d+) \| (.*?) \| (.*) \|$", text, re.M)])
 
 text = read("man/xmf.1")
 text = text[text.index(".Sh DIAGNOSTICS") : text.index(".Sh SEE ALSO")]

@@ -780,7 +780,7 @@ fi
 python3 ../tools/manual3.py <../include/xmf.h | cmp -s - ../man/xmf.3
 count $? 'man/xmf.3 is made of the header'
 if command -v shellcheck >/dev/null; then
-    for script in xmf sheet title install tools/build.sh tools/harness.sh tools/try_sheet.sh tools/try_title.sh tools/try_xmf.sh tools/try_refusals.sh tools/stack.sh examples/c/run.sh completion/xmf.bash; do
+    for script in xmf sheet title install tools/build.sh tools/harness.sh tools/try_sheet.sh tools/try_title.sh tools/try_xmf.sh tools/try_refusals.sh tools/try_docs.sh tools/stack.sh examples/c/run.sh completion/xmf.bash; do
         (cd .. && LC_ALL=C.UTF-8 shellcheck "$script" >/dev/null)
         count $? "shellcheck $script"
     done
