@@ -60,7 +60,8 @@ module _ (t : ℕ → Bool) where
   ]
 
   -- a program of such kinds has one at each place that it moves over, and no other
-  run-had : {A : Type 0} {m : P A} → Uses (only t) m → (f : List ℕ) (at : ℕ) {a : A} {q : ℕ} → run m f at ≡ ok a q → (k : ℕ) → at ≤ k → k < q → (κ : ℕ) × T (t κ) × Had (trace m f at) k κ
+  run-had : {A : Type 0} {m : P A} → Uses (only t) m → (f : List ℕ) (at : ℕ) {a : A} {q : ℕ} → run m f at ≡ ok a q → (k : ℕ) → at ≤ k → k <
+      q → (κ : ℕ) × T (t κ) × Had (trace m f at) k κ
   run-had {m = m} u f at e k l h = chain-had (trace m f at) at k (used f at u) (chain m f at) l (rw (ends m f at e) h)
 
   only-had : (es : Events) (k κ : ℕ) → Only (only t) es → Had es k κ → T (t κ)
@@ -217,7 +218,8 @@ module _ (f : List ℕ) where
         inl (in-front k κ (had-left k κ H (M ++ (U ++ R)) (subst (Had H k) (is-one 1 κ′ u ∙ t) v)))
     own-sound k κ (inr (inl (l, h, t))) =
         let a = z .meta-at in let b = z .meta-end in
-        let (κ′, u, v) = run-had ofMeta (metadata-uses tt tt (item-kind ofMeta tt tt) x (m .nodes) (at + z .is .h .header .0) m) f (z .is .p) (z .is .told) k (omega arith) (omega arith) in
+        let (κ′, u, v) = run-had ofMeta (metadata-uses tt tt (item-kind ofMeta tt tt) x (m .nodes) (at + z .is .h .header .0) m) f (z .is .p)
+        (z .is .told) k (omega arith) (omega arith) in
         elim (of-meta κ′ u) [
           | inl y ↦ inl (in-meta k κ (subst (Had M k) (y ∙ t) v))
           | inr (inl y) ↦ inr (sym t, inl (in-meta k 3 (subst (Had M k) y v)))
@@ -229,10 +231,12 @@ module _ (f : List ℕ) where
         inl (in-front k κ (had-right k κ H (M ++ (U ++ R)) (had-right k κ M (U ++ R) (had-left k κ U R (subst (Had U k) (is-one 5 κ′ u ∙ t) v)))))
     own-sound k κ (inr (inr (inr (inl (l, h, t))))) =
         let d = z .header-end in
-        let (κ′, u, v) = run-had (eqb 6) (reference-uses tt tt (x .headerEnd) (x .size) (z .is .h .contained) (at + z .is .h .size .0)) f (z .is .left .p) (z .is .left .referred) k (omega arith) (omega arith) in
+        let (κ′, u, v) = run-had (eqb 6) (reference-uses tt tt (x .headerEnd) (x .size) (z .is .h .contained) (at + z .is .h .size .0)) f
+        (z .is .left .p) (z .is .left .referred) k (omega arith) (omega arith) in
         inl (in-front k κ (had-right k κ H (M ++ (U ++ R)) (had-right k κ M (U ++ R) (had-right k κ U R (subst (Had R k) (is-one 6 κ′ u ∙ t) v)))))
     own-sound k κ (inr (inr (inr (inr (inl (l, h, t)))))) =
-        inl (had-right k κ (trace (front x parent depth s m) f at) (passed (nodeRow (w .row)) q (inlineSize (w .row)) ∷ []) (inl (has-byte q (inlineSize (w .row)) k (omega arith) (omega arith), t)))
+        inl (had-right k κ (trace (front x parent depth s m) f at) (passed (nodeRow (w .row)) q (inlineSize (w .row)) ∷ [])
+        (inl (has-byte q (inlineSize (w .row)) k (omega arith) (omega arith), t)))
     own-sound k κ (inr (inr (inr (inr (inr o))))) = absurd o
 
     own-complete : (k κ : ℕ) → Had own k κ → (κ′ : ℕ) × OfNode f (w .row) k κ′
@@ -355,7 +359,9 @@ module _ (lim : Limits) (f : List ℕ) {h : Header} {ns : List Node} {is : List 
   by-parts n (inr (e, m)) = by-header m (span-put (λ k. 8) (headerSpan (h .extent .end)) k) ∙ sym e
 
   by-all : Put (Some OfItem is k) (kindByRows f (h .extent .end) ns is k) (nodesPut k) → kindAt (eventsOf lim f h) k ≡ kindByRows f (h .extent .end) ns is k
-  by-all (inl (κ, s, e)) = is-kind κ (inl (had-right k κ top (read .log) (data-had (read .log) (length f) (log-inside read) k κ (subst (λ v. Some OfItem v k κ) (sym (read .items-are)) s)))) ∙ sym e
+  by-all (inl (κ, s, e)) = is-kind κ
+      (inl (had-right k κ top (read .log)
+      (data-had (read .log) (length f) (log-inside read) k κ (subst (λ v. Some OfItem v k κ) (sym (read .items-are)) s)))) ∙ sym e
   by-all (inr (e, n)) = by-parts n (folded-put (OfNode f) (overNode f) (λ m r. folded-put InSpan over span-put (nodeSpans f r) m) ns _ k) ∙ sym e
 
   pub by-place : kindAt (eventsOf lim f h) k ≡ kindByRows f (h .extent .end) ns is k

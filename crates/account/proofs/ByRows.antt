@@ -106,7 +106,8 @@ ok-place : {A : Type 0} {a b : A} {p q : ℕ} → _≡_ {A = Out A} (ok a p) (ok
 ok-place e = cc
 
 -- what follows a row with no children: nothing
-nothing-left : (n : ℕ) → n ≡ 0 → (stop : ℕ) (body : Made → P Made) (m : Made) (f : List ℕ) (at : ℕ) {b : Made} {v : ℕ} → run (folder stop (times n body m)) f at ≡ ok b v → stop ≤ at
+nothing-left : (n : ℕ) → n ≡ 0 → (stop : ℕ) (body : Made → P Made) (m : Made) (f : List ℕ) (at : ℕ) {b : Made} {v : ℕ} → run
+    (folder stop (times n body m)) f at ≡ ok b v → stop ≤ at
 unfolding folder
 nothing-left n z stop body m f at e =
     let x = split (times n body m) _ f at e in
@@ -120,13 +121,15 @@ never-inline true n = refl
 never-inline false n = refl
 
 front-reference : (x : Context) (parent depth : ℕ) (s : Standing) (m : Made) (f : List ℕ) (at : ℕ) {w : Front} {q : ℕ} → run (front x parent depth s m) f at ≡ ok w q
-    → (body : Made → P Made) {b : Made} {v : ℕ} → run (folder (at + w .row .size) (times (w .row .contained) body (plusNode (w .made)))) f (q + inlineSize (w .row)) ≡ ok b v → Behind f (w .row) q
+    → (body : Made → P Made) {b : Made} {v : ℕ} → run (folder (at + w .row .size) (times (w .row .contained) body (plusNode (w .made)))) f
+    (q + inlineSize (w .row)) ≡ ok b v → Behind f (w .row) q
 front-reference x parent depth s m f at {w} {q} e body {b} {v} r =
     let y = front-is x parent depth s m f at e in
     let t = at-end any-free f (reference-told (x .headerEnd) (x .size) (y .h .contained) (at + y .h .size .0) (y .left .p)) (y .left .referred) in
     by (y .h) parent depth (s .detached) (y .o .reference) (y .o .unpackers) (y .m′ .items - m .items) (w .row) (w .made) (y .row-is) t r
   where
-    by : (h : Head) (parent depth d : ℕ) (o : Reference) (u : Unpackers) (n : ℕ) (row : Node) (made : Made) → rowOf at h parent depth d o u n ≡ row → Told (h .contained) (at + h .size .0) o q
+    by : (h : Head) (parent depth d : ℕ) (o : Reference) (u : Unpackers) (n : ℕ) (row : Node) (made : Made) → rowOf at h parent depth d o u n ≡
+        row → Told (h .contained) (at + h .size .0) o q
         → run (folder (at + row .size) (times (row .contained) body (plusNode made))) f (q + inlineSize row) ≡ ok b v → Behind f row q
     by h parent depth d o u n row made z (l, inl k) r = subst (λ i. Behind f i q) z (one (k .0) (k .1))
     by h parent depth d o u n row made z (l, inr k) r =
@@ -137,7 +140,8 @@ front-reference x parent depth s m f at {w} {q} e body {b} {v} r =
 
 -- so it ends where the contents begin
 pub contents-at : (x : Context) (parent depth : ℕ) (s : Standing) (m : Made) (f : List ℕ) (at : ℕ) {w : Front} {q : ℕ} → run (front x parent depth s m) f at ≡ ok w q
-    → (body : Made → P Made) {b : Made} {v : ℕ} → run (folder (at + w .row .size) (times (w .row .contained) body (plusNode (w .made)))) f (q + inlineSize (w .row)) ≡ ok b v → contentsAt (w .row) ≡ q
+    → (body : Made → P Made) {b : Made} {v : ℕ} → run (folder (at + w .row .size) (times (w .row .contained) body (plusNode (w .made)))) f
+    (q + inlineSize (w .row)) ≡ ok b v → contentsAt (w .row) ≡ q
 unfolding contentsAt
 contents-at x parent depth s m f at {w} {q} e body r = by (front-reference x parent depth s m f at e body r)
   where

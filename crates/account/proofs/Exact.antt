@@ -41,12 +41,15 @@ in-frames : (f : List ℕ) (ns : List Node) (get : Frames → ℕ) (n : Node →
 in-frames f ns get n step z e l = from-none (withNode f) get n (λ k r l. step k r ∙ plus-exact (get k) (n r) l) ns none z e l
 
 data-step : (d : Data) (r : Item)
-    → (d .visible + dataOf false r < 2 ^ 28 → withItem d r .visible ≡ d .visible + dataOf false r) × (d .hidden + dataOf true r < 2 ^ 28 → withItem d r .hidden ≡ d .hidden + dataOf true r)
+    → (d .visible + dataOf false r < 2 ^ 28 → withItem d r .visible ≡ d .visible + dataOf false r) ×
+    (d .hidden + dataOf true r < 2 ^ 28 → withItem d r .hidden ≡ d .hidden + dataOf true r)
 unfolding withItem dataOf
 data-step d r = by (isHidden r)
   where
-    by : (b : Bool) → let e : Data = cond b (record { visible = d .visible; hidden = plus (d .hidden) (r .size) }) (record { visible = plus (d .visible) (r .size); hidden = d .hidden }) in
-        (d .visible + cond b 0 (r .size) < 2 ^ 28 → e .visible ≡ d .visible + cond b 0 (r .size)) × (d .hidden + cond b (r .size) 0 < 2 ^ 28 → e .hidden ≡ d .hidden + cond b (r .size) 0)
+    by : (b : Bool) → let e : Data = cond b (record { visible = d .visible; hidden = plus (d .hidden) (r .size) })
+        (record { visible = plus (d .visible) (r .size); hidden = d .hidden }) in
+        (d .visible + cond b 0 (r .size) < 2 ^ 28 → e .visible ≡ d .visible + cond b 0 (r .size)) ×
+        (d .hidden + cond b (r .size) 0 < 2 ^ 28 → e .hidden ≡ d .hidden + cond b (r .size) 0)
     by true = (λ l. omega arith, plus-exact (d .hidden) (r .size))
     by false = (plus-exact (d .visible) (r .size), λ l. omega arith)
 
@@ -64,7 +67,14 @@ less m v h e l = rw (plus-exact v h (omega arith)) (omega arith)
 -- all else
 left : (a b c d e f : ℕ) {n i : ℕ} → a + (b + (c + (d + (e + f)))) + i ≡ n → n < 2 ^ 28 → n - plus a (plus b (plus c (plus d (plus e f)))) ≡ i
 left a b c d e f w l =
-    rw (plus-exact e f (omega arith), plus-exact d (e + f) (omega arith), plus-exact c (d + (e + f)) (omega arith), plus-exact b (c + (d + (e + f))) (omega arith), plus-exact a (b + (c + (d + (e + f)))) (omega arith)) (omega arith)
+    rw (
+      plus-exact e f (omega arith),
+      plus-exact d (e + f) (omega arith),
+      plus-exact c (d + (e + f)) (omega arith),
+      plus-exact b
+          (c + (d + (e + f))) (omega arith),
+      plus-exact a (b + (c + (d + (e + f)))) (omega arith),
+    ) (omega arith)
 
 module _ (lim : Limits) (f : List ℕ) {h : Header} {ns : List Node} {is : List Item} (r : readFile lim f ≡ rows h ns is) where
   pub kinds-are : kindsBy f (h .extent .end) ns is ≡ counts (length f) (eventsOf lim f h)
@@ -82,4 +92,6 @@ module _ (lim : Limits) (f : List ℕ) {h : Header} {ns : List Node} {is : List 
           let k₅ = in-frames f ns (λ k. k .unpackers) _ (λ k r. refl) refl (R .unpacks) (omega arith) in
           let k₆ = in-frames f ns (λ k. k .references) _ (λ k r. refl) refl (R .refs) (omega arith) in
           let k₇ = in-frames f ns (λ k. k .inline) inlineSize (λ k r. refl) refl (R .inlines) (omega arith) in
-          rw (k₁, k₂, k₃, k₄, k₅, k₆, k₇, ← R .headers) (nine refl refl (less m (c .visible) (c .hidden) refl (omega arith)) refl refl refl refl refl (left (c .header) (c .nodes) m (c .unpackers) (c .references) (c .inline) (omega arith) l))
+          rw (k₁, k₂, k₃, k₄, k₅, k₆, k₇, ← R .headers)
+          (nine refl refl (less m (c .visible) (c .hidden) refl (omega arith)) refl refl refl refl refl
+          (left (c .header) (c .nodes) m (c .unpackers) (c .references) (c .inline) (omega arith) l))

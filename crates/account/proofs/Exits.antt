@@ -53,7 +53,9 @@ module _ (f : List ℕ) (nsize isize : ℕ) (t : Totals) where
 
   -- the answer, the totals, and both tables
   abbrev pub Ends : Result Kinds → Totals → (u v : List ℕ) → Type 0
-  Ends a s u v = (a ≡ allowed t alone) × ((s ≡ totalsLeft t alone) × ((u ≡ keptNodes nsize (readFile (limits nsize isize) f) (allowed t alone)) × (v ≡ keptItems isize (readFile (limits nsize isize) f) (allowed t alone))))
+  Ends a s u v = (a ≡ allowed t alone) ×
+      ((s ≡ totalsLeft t alone) × ((u ≡ keptNodes nsize (readFile (limits nsize isize) f) (allowed t alone)) ×
+      (v ≡ keptItems isize (readFile (limits nsize isize) f) (allowed t alone))))
 
   pub ends-full : mostFiles ≤ t .files → {u v : List ℕ} → u ≡ replicate nsize 0 → v ≡ replicate isize 0 → Ends (bad 32 0) t u v
   unfolding allowed totalsLeft keptNodes keptItems

@@ -22,7 +22,10 @@ module _ {S A : Type 0} (add : S → A → S) (width : ℕ) (row : List ℕ → 
   one-more i m p k e = rw e refl
 
   pub folding-on : {i : ℕ} {k : S} → i < n → Folding i k → {r : A} {k′ : S} → r ≡ row ws (i * width) → k′ ≡ add k r → Folding (i + 1) k′
-  folding-on {i} {k} l w {r} {k′} a b = record { left = ap (λ v. folded add v (rowsFrom width row (i + 1) (n - (i + 1)) ws)) (b ∙ ap (add k) a) ∙ sym (one-more i (n - i) (n - (i + 1)) k (omega arith)) ∙ w .left }
+  folding-on {i} {k} l w {r} {k′} a b = record {
+    left = ap (λ v. folded add v (rowsFrom width row (i + 1) (n - (i + 1)) ws)) (b ∙ ap (add k) a) ∙ sym
+        (one-more i (n - i) (n - (i + 1)) k (omega arith)) ∙ w .left;
+  }
 
   none-left : (i m : ℕ) (k : S) → m ≡ 0 → folded add k (rowsFrom width row i m ws) ≡ k
   unfolding folded rowsFrom

@@ -78,7 +78,8 @@ meta-ends : (x : Context) (node end : ℕ) (m : Made) (f : List ℕ) (at : ℕ) 
 unfolding metadata
 meta-ends x node end m f at e =
     let y = split (block metaFrame 8 end) _ f at e in
-    let w = at-end (inside-free (y .p + y .a) 0) f (items-on Nothing (y .p + y .a) 0 x node (y .p + y .a) (omega arith) m (y .p) (omega arith)) (at-place f (y .p) _ (y .second) .0) in
+    let w = at-end (inside-free (y .p + y .a) 0) f (items-on Nothing (y .p + y .a) 0 x node (y .p + y .a) (omega arith) m (y .p) (omega arith))
+    (at-place f (y .p) _ (y .second) .0) in
     record { n = y .a; p = y .p; end = end; length-is = block-number f metaFrame 8 end at (y .first); ends-at = w .1 }
 
 -- ---- the whole
@@ -116,7 +117,8 @@ pub record RestIs (headerEnd size contained inner stop : ℕ) (f : List ℕ) (at
   pub referred : run (reference headerEnd size contained stop) f p ≡ ok (o .reference) q
   pub joined : trace (rest headerEnd size contained inner stop) f at ≡ trace (unpackers contained inner) f at ++ trace (reference headerEnd size contained stop) f p
 
-rest-is : (headerEnd size contained inner stop : ℕ) (f : List ℕ) (at : ℕ) {o : Rest} {q : ℕ} → run (rest headerEnd size contained inner stop) f at ≡ ok o q → RestIs headerEnd size contained inner stop f at o q
+rest-is : (headerEnd size contained inner stop : ℕ) (f : List ℕ) (at : ℕ) {o : Rest} {q : ℕ} → run
+    (rest headerEnd size contained inner stop) f at ≡ ok o q → RestIs headerEnd size contained inner stop f at o q
 unfolding rest
 rest-is headerEnd size contained inner stop f at {o} {q} e =
     let d = split (unpackers contained inner) _ f at e in
@@ -129,7 +131,8 @@ rest-is headerEnd size contained inner stop f at {o} {q} e =
       unpacked = d .first ∙ ap (λ (v : Rest). ok (v .unpackers) (d .p)) (r .0);
       reached = leb-true inner (d .p) (c .0);
       referred = g .first ∙ ap (λ (v : Rest). ok (v .reference) (g .p)) (r .0) ∙ ap (ok (o .reference)) (r .1);
-      joined = d .joined ∙ ap (λ v. trace (unpackers contained inner) f at ++ v) (k .1 ∙ c .2 ∙ last (reference headerEnd size contained stop) (λ r. record { unpackers = d .a; reference = r }) f (d .p) g);
+      joined = d .joined ∙ ap (λ v. trace (unpackers contained inner) f at ++ v)
+          (k .1 ∙ c .2 ∙ last (reference headerEnd size contained stop) (λ r. record { unpackers = d .a; reference = r }) f (d .p) g);
     }
 
 pub record FrontIs (x : Context) (parent depth : ℕ) (s : Standing) (m : Made) (f : List ℕ) (at : ℕ) (w : Front) (q : ℕ) : Type 0 where
@@ -143,9 +146,11 @@ pub record FrontIs (x : Context) (parent depth : ℕ) (s : Standing) (m : Made) 
   pub left : RestIs (x .headerEnd) (x .size) (h .contained) (at + h .header .0) (at + h .size .0) f p′ o q
   pub row-is : rowOf at h parent depth (s .detached) (o .reference) (o .unpackers) (m′ .items - m .items) ≡ w .row
   pub joined : trace (front x parent depth s m) f at
-      ≡ trace (head s) f at ++ (trace (metadata x (m .nodes) (at + h .header .0) m) f p ++ trace (rest (x .headerEnd) (x .size) (h .contained) (at + h .header .0) (at + h .size .0)) f p′)
+      ≡ trace (head s) f at ++ (trace (metadata x (m .nodes) (at + h .header .0) m) f p ++ trace
+      (rest (x .headerEnd) (x .size) (h .contained) (at + h .header .0) (at + h .size .0)) f p′)
 
-pub front-is : (x : Context) (parent depth : ℕ) (s : Standing) (m : Made) (f : List ℕ) (at : ℕ) {w : Front} {q : ℕ} → run (front x parent depth s m) f at ≡ ok w q → FrontIs x parent depth s m f at w q
+pub front-is : (x : Context) (parent depth : ℕ) (s : Standing) (m : Made) (f : List ℕ) (at : ℕ) {w : Front} {q : ℕ} → run
+    (front x parent depth s m) f at ≡ ok w q → FrontIs x parent depth s m f at w q
 unfolding front
 front-is x parent depth s m f at {w} {q} e =
     let k = at-place f at _ e in
@@ -179,7 +184,8 @@ pub record Ordered (x : Context) (parent depth : ℕ) (s : Standing) (m : Made) 
   pub meta-end : metaEnd f (w .row) ≡ is .p′
   pub header-end : w .row .start + w .row .header ≡ is .left .p
 
-pub front-ordered : (x : Context) (parent depth : ℕ) (s : Standing) (m : Made) (f : List ℕ) (at : ℕ) {w : Front} {q : ℕ} → run (front x parent depth s m) f at ≡ ok w q → Ordered x parent depth s m f at w q
+pub front-ordered : (x : Context) (parent depth : ℕ) (s : Standing) (m : Made) (f : List ℕ) (at : ℕ) {w : Front} {q : ℕ} → run
+    (front x parent depth s m) f at ≡ ok w q → Ordered x parent depth s m f at w q
 unfolding metaAt metaEnd
 front-ordered x parent depth s m f at {w} {q} e =
     let y = front-is x parent depth s m f at e in
@@ -238,7 +244,8 @@ front-spends x parent depth s m f at {w} {q} e =
     let no-head : (t : ℕ → Bool) → T (others t 1) → count t (trace (head s) f at) ≡ 0 = λ t a. spends-none t {m = head s} (head-uses a s) f at in
     let no-meta : (t : ℕ → Bool) → T (others t 2) → T (others t 3) → T (others t 4) → count t (trace meta f (y .p)) ≡ 0 =
     λ t a b c. spends-none t {m = meta} (metadata-uses a a (item-kind (others t) b c) x (m .nodes) inner m) f (y .p) in
-    let no-unpackers : (t : ℕ → Bool) → T (others t 5) → count t (trace unpack f (y .p′)) ≡ 0 = λ t a. spends-none t {m = unpack} (unpackers-use a (h .contained) inner) f (y .p′) in
+    let no-unpackers : (t : ℕ → Bool) → T (others t 5) → count t (trace unpack f (y .p′)) ≡ 0 = λ t a. spends-none t {m = unpack}
+    (unpackers-use a (h .contained) inner) f (y .p′) in
     let no-reference : (t : ℕ → Bool) → T (others t 6) → count t (trace refer f (l .p)) ≡ 0 =
     λ t a. spends-none t {m = refer} (reference-uses a a (x .headerEnd) (x .size) (h .contained) stop) f (l .p) in
     record {

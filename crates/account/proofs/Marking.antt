@@ -51,7 +51,8 @@ module _ (m : ℕ → ℕ) (from to kind : ℕ) {k : ℕ} where
   behind-span l h = simp (le-leb _ _ l, le-ltb _ _ h)
 
 -- two spans say the same of a place that is in both or in neither, if what is below says the same
-same-span : (m m′ : ℕ → ℕ) (from to to′ kind k : ℕ) → m k ≡ m′ k → (from ≤ k → k < to → k < to′) → (from ≤ k → k < to′ → k < to) → spanned from to kind m k ≡ spanned from to′ kind m′ k
+same-span : (m m′ : ℕ → ℕ) (from to to′ kind k : ℕ) → m k ≡ m′ k → (from ≤ k → k < to → k < to′) → (from ≤ k → k < to′ → k < to) → spanned
+    from to kind m k ≡ spanned from to′ kind m′ k
 same-span m m′ from to to′ kind k e a b = elim (decLe from k) [
   | yes l ↦ elim (decLt k to) [
     | yes h ↦ in-span m from to kind l h ∙ sym (in-span m′ from to′ kind l (a l h))
@@ -118,8 +119,10 @@ past from to kind l x = let s = x .same in record {
 }
 
 module _ (f : List ℕ) (r : Node) where
-  pub node-spans : {t t₁ t₂ t₃ t₄ t₅ : List ℕ} {a b c : ℕ} → a ≡ metaAt f r → b ≡ metaEnd f r → c ≡ contentsAt r → Becomes t t₁ (spanned (r .start) a 1) → Becomes t₁ t₂ (spanned a b 2)
-      → Becomes t₂ t₃ (spanned b (r .start + r .header) 5) → Becomes t₃ t₄ (spanned (r .start + r .header) c 6) → Becomes t₄ t₅ (spanned c (c + inlineSize r) 7) → Becomes t t₅ (λ m. overNode f m r)
+  pub node-spans : {t t₁ t₂ t₃ t₄ t₅ : List ℕ} {a b c : ℕ} → a ≡ metaAt f r → b ≡ metaEnd f r → c ≡ contentsAt r → Becomes t t₁
+      (spanned (r .start) a 1) → Becomes t₁ t₂ (spanned a b 2)
+      → Becomes t₂ t₃ (spanned b (r .start + r .header) 5) → Becomes t₃ t₄ (spanned (r .start + r .header) c 6) → Becomes t₄ t₅
+      (spanned c (c + inlineSize r) 7) → Becomes t t₅ (λ m. overNode f m r)
   unfolding folded spanned
   node-spans ea eb ec v w x y z = rw (← ea, ← eb, ← ec) (becomes-then (becomes-then (becomes-then (becomes-then v w) x) y) z)
 
@@ -151,7 +154,8 @@ module _ {A : Type 0} (add : (ℕ → ℕ) → A → ℕ → ℕ) (width : ℕ) 
   pub painting-done : {i : ℕ} {t′ : List ℕ} → n ≤ i → Painting i t′ → Becomes t t′ (λ m. folded add m (rowsFrom width row 0 n ws))
   painting-done {t′ = t′} l w = record { same = w .same; shows = λ m h. let (m′, g, s) = w .reached m h in subst (Shows t′) (folding-done add width row ws n m l g) s }
 
-pub nodes-painted : (f ws : List ℕ) (n : ℕ) {t t′ : List ℕ} {i : ℕ} → n ≤ i → Painting (overNode f) nodeWidth nodeFrom ws n t i t′ → Becomes t t′ (λ m. folded (overNode f) m (nodesIn n ws))
+pub nodes-painted : (f ws : List ℕ) (n : ℕ) {t t′ : List ℕ} {i : ℕ} → n ≤ i → Painting (overNode f) nodeWidth nodeFrom ws n t i t′ → Becomes
+    t t′ (λ m. folded (overNode f) m (nodesIn n ws))
 unfolding nodesIn
 nodes-painted f ws n l w = painting-done (overNode f) nodeWidth nodeFrom ws n _ l w
 
@@ -181,13 +185,16 @@ kinds-at es k (suc n) zero l = let e : k + 0 ≡ k = omega arith in ap (kindAt e
 kinds-at es k (suc n) (suc i) l = let e : k + 1 + i ≡ k + suc i = omega arith in kinds-at es (k + 1) n i (omega arith) ∙ ap (kindAt es) e
 
 -- marks that are the kinds of their places are what the file's places are in order, and zeros
-marks-are : (es : Events) (size : ℕ) (t : List ℕ) → size ≤ length t → ((k : ℕ) → k < size → getD t k 0 ≡ kindAt es k) → {t′ : List ℕ} → t′ ≡ take size t ++ replicate (length t - size) 0
+marks-are : (es : Events) (size : ℕ) (t : List ℕ) → size ≤ length t → ((k : ℕ) → k < size → getD t k 0 ≡ kindAt es k) → {t′ : List ℕ} → t′ ≡
+    take size t ++ replicate (length t - size) 0
     → t′ ≡ padded (length t) (kindsFrom es 0 size)
 unfolding padded
 marks-are es size t l h e =
     let n = length-take-le size t l in
     let z = kinds-length es 0 size in
-    let same : take size t ≡ kindsFrom es 0 size = ext-getD 0 _ _ (n ∙ sym z) (λ i m. let j : i < size = omega arith in let o : 0 + i ≡ i = omega arith in getD-take size t i 0 j ∙ h i j ∙ ap (kindAt es) (sym o) ∙ sym (kinds-at es 0 size i j)) in
+    let same : take size t ≡ kindsFrom es 0 size = ext-getD 0 _ _ (n ∙ sym z)
+    (λ i m. let j : i < size = omega arith in let o : 0 + i ≡ i = omega arith in getD-take size t i 0 j ∙ h i j ∙ ap (kindAt es) (sym o) ∙
+    sym (kinds-at es 0 size i j)) in
     e ∙ rw (same, z)
 
 -- ---- the ways out of the call: the reader's refusal, too few marks, and the marks
@@ -211,7 +218,8 @@ module _ (f : List ℕ) (nsize isize room : ℕ) where
   abbrev pub Ends : Written → (u v marks : List ℕ) → Type 0
   Ends a u v marks = (told a ≡ counted asked) × ((u ≡ keptNodes nsize o asked) × ((v ≡ keptItems isize o asked) × (marks ≡ kept room asked)))
 
-  ends-by : (a : Written) {x : Result (List ℕ)} {u v marks : List ℕ} → exits.Says nsize isize o (marksOf (limits nsize isize) room f) x u v → told a ≡ counted x → marks ≡ kept room x → Ends a u v marks
+  ends-by : (a : Written) {x : Result (List ℕ)} {u v marks : List ℕ} → exits.Says nsize isize o (marksOf (limits nsize isize) room f) x u v →
+      told a ≡ counted x → marks ≡ kept room x → Ends a u v marks
   ends-by a w e z = (e ∙ ap counted (w .0), (w .1, (w .2, z ∙ ap (kept room) (w .0))))
 
   module _ {r : Read} {u v : List ℕ} (e : r ≡ readOf o) (a : u ≡ nodeTable nsize o) (b : v ≡ itemTable isize o) where
@@ -239,9 +247,12 @@ module _ (f : List ℕ) (nsize isize room : ℕ) where
           let z = kinds-length es 0 (length f) in
           let at : (i : ℕ) → i < length f → getD t i 0 ≡ kindAt es i = λ i h. w i (omega arith)
           ∙ ap (λ (y : Summary). kindByRows f (y .headerEnd .0) (nodesIn (s .nodes) u) (itemsIn (s .items) v) i) (st .summed)
-          ∙ ap₂ (λ (ns : List Node) (is : List Item). kindByRows f (st .h .extent .end) ns is i) (st .nodes-are) (st .items-are) ∙ sym (by-place (limits nsize isize) f (st .reads) i) in
+          ∙ ap₂ (λ (ns : List Node) (is : List Item). kindByRows f (st .h .extent .end) ns is i) (st .nodes-are) (st .items-are) ∙ sym
+          (by-place (limits nsize isize) f (st .reads) i) in
           let y = marks-are es (length f) t (omega arith) at c in
-          ends-by (written.Bytes (length f)) (exits.says-answer nsize isize o (marksOf (limits nsize isize) room f) (st .reads) (fitting-good room _ (omega arith)) a b) (ap good (sym z)) (y ∙ ap (λ v. padded v (kindsFrom es 0 (length f))) n)
+          ends-by (written.Bytes (length f))
+          (exits.says-answer nsize isize o (marksOf (limits nsize isize) room f) (st .reads) (fitting-good room _ (omega arith)) a b)
+          (ap good (sym z)) (y ∙ ap (λ v. padded v (kindsFrom es 0 (length f))) n)
 
 -- zeros of a length that was kept
 pub zeros : {n m : ℕ} {t : List ℕ} → t ≡ replicate m 0 → m ≡ n → t ≡ replicate n 0

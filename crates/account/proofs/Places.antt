@@ -102,7 +102,8 @@ counted t z n (e ∷ es) s l =
     let h = counted t z n es (s .1) (λ k x. l k (inr x)) in
     let none : (k : ℕ) → first e ≤ k → k < first e + size e → t (kindAt es k) ≡ false = λ k a b. ap t (uncovered es k (s .0 k (event-has e k a b))) ∙ z in
     let w = one-event (first e) (size e) (t (kind e)) (λ k. t (kindAt es k)) none n in
-    let v = places-same (λ k. t (cond (hasByte e k) (kind e) (kindAt es k))) (λ k. cond (hasByte e k) (t (kind e)) (t (kindAt es k))) n (λ k. test-if t (hasByte e k) (kind e) (kindAt es k)) in
+    let v = places-same (λ k. t (cond (hasByte e k) (kind e) (kindAt es k))) (λ k. cond (hasByte e k) (t (kind e)) (t (kindAt es k))) n
+    (λ k. test-if t (hasByte e k) (kind e) (kindAt es k)) in
     by (t (kind e)) _ _ _ (first e) (size e) (fits e (size e) refl (λ k x. l k (inl x))) h (v ∙ w)
   where
     fits : (e : Event Frame Part) (s : ℕ) → size e ≡ s → ((k : ℕ) → Has e k → k < n) → (s ≡ 0) ⊎ (first e + s ≤ n)
@@ -136,7 +137,8 @@ eight (passed (plain language) p n) s = omega arith
 eight (passed (plain name) p n) s = omega arith
 eight (passed (plain uri) p n) s = omega arith
 
-pub eight-kinds : (es : Events) → count (eqb 0) es + count (eqb 1) es + count (eqb 2) es + count (eqb 3) es + count (eqb 4) es + count (eqb 5) es + count (eqb 6) es + count (eqb 7) es ≡ count (λ κ. true) es
+pub eight-kinds : (es : Events) → count (eqb 0) es + count (eqb 1) es + count (eqb 2) es + count (eqb 3) es + count (eqb 4) es + count
+    (eqb 5) es + count (eqb 6) es + count (eqb 7) es ≡ count (λ κ. true) es
 unfolding count
 eight-kinds [] = refl
 eight-kinds (e ∷ es) = let h = eight-kinds es in let k = eight e (size e) in omega arith
@@ -177,7 +179,8 @@ all-kinds (e ∷ es) = let h = all-kinds es in let k = some-kind e (size e) in o
 pub record Counted (n : ℕ) (es : Events) : Type 0 where
   pub each : (κ : ℕ) → κ < 8 → count (eqb κ) es ≡ placesOf κ es n
   pub all-else : n - count (λ κ. true) es ≡ placesOf 8 es n
-  pub total : count (eqb 0) es + count (eqb 1) es + count (eqb 2) es + count (eqb 3) es + count (eqb 4) es + count (eqb 5) es + count (eqb 6) es + count (eqb 7) es + (n - count (λ κ. true) es) ≡ n
+  pub total : count (eqb 0) es + count (eqb 1) es + count (eqb 2) es + count (eqb 3) es + count (eqb 4) es + count (eqb 5) es + count (eqb 6)
+      es + count (eqb 7) es + (n - count (λ κ. true) es) ≡ n
 
 pub all-counted : (n : ℕ) (es : Events) → Separate es → ((k : ℕ) → Covers es k → k < n) → Counted n es
 all-counted n es s l =

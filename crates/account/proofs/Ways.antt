@@ -26,7 +26,8 @@ module _ (f : List ℕ) (r : Node) where
   spans x y = y ∙ ap (λ v. spanned (numberAt metaFrame f r v)) x
 
   -- the sums of one node
-  pub one-node : (k : Frames) {n m u p i : ℕ} → n ≡ plus (k .nodes) (metaAt f r - r .start) → m ≡ plus (k .metadata) (metaEnd f r - metaAt f r) → u ≡ plus (k .unpackers) (r .start + r .header - metaEnd f r)
+  pub one-node : (k : Frames) {n m u p i : ℕ} → n ≡ plus (k .nodes) (metaAt f r - r .start) → m ≡ plus (k .metadata)
+      (metaEnd f r - metaAt f r) → u ≡ plus (k .unpackers) (r .start + r .header - metaEnd f r)
       → p ≡ plus (k .references) (contentsAt r - (r .start + r .header)) → i ≡ plus (k .inline) (inlineSize r)
       → _≡_ {A = Frames} (record { nodes = n; metadata = m; unpackers = u; references = p; inline = i }) (withNode f k r)
   one-node k a b c d e = rw (a, b, c, d, e) refl
@@ -50,6 +51,7 @@ module _ (d : Data) (r : Item) where
   item-visible e h = rw (ne-eqb (r .format % 2) 1 e, h) refl
 
 -- the counts of a file, in three calls
-pub in-turn : (f : List ℕ) (end : ℕ) (ns : List Node) (is : List Item) {a : Frames} {b : Data} {c : Kinds} → a ≡ inNodes f ns → b ≡ inItems is → c ≡ together (length f) end a b → c ≡ kindsBy f end ns is
+pub in-turn : (f : List ℕ) (end : ℕ) (ns : List Node) (is : List Item) {a : Frames} {b : Data} {c : Kinds} → a ≡ inNodes f ns → b ≡ inItems
+    is → c ≡ together (length f) end a b → c ≡ kindsBy f end ns is
 unfolding kindsBy
 in-turn f end ns is x y z = z ∙ ap₂ (together (length f) end) x y

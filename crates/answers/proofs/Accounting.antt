@@ -46,7 +46,9 @@ pub total-is : (k : Kinds) {a b c d e f g h : ℕ} → a ≡ plus (k .inline) (k
 unfolding total
 total-is k i r u hi v m n he = rw (he, n, m, v, hi, u, r, i) refl
 
-pub in-line-is : (tail : List ℕ) (k : Kinds) {all : ℕ} → all ≡ total k → (0x42 ∷ []) ++ number (k .header) ++ number (k .nodes) ++ number (k .metadata) ++ number (k .visible) ++ number (k .hidden) ++ number (k .unpackers) ++ number (k .references) ++ number (k .inline) ++ number (k .rest)
+pub in-line-is : (tail : List ℕ) (k : Kinds) {all : ℕ} → all ≡ total k → (0x42 ∷ []) ++ number (k .header) ++ number (k .nodes) ++ number
+    (k .metadata) ++ number (k .visible) ++ number (k .hidden) ++ number (k .unpackers) ++ number (k .references) ++ number (k .inline) ++
+    number (k .rest)
     ++ number all ++ ended tail ≡ bytesLine tail k
 unfolding bytesLine
 in-line-is tail k e = rw e refl

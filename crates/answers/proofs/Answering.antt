@@ -58,12 +58,14 @@ pub place-is : (p s r h : ℕ) → (0x50 ∷ []) ++ number p ++ number s ++ numb
 unfolding placeLine
 place-is p s r h = refl
 
-pub node-numbers-are : (r : Node) → number (r .start) ++ number (r .size) ++ number (r .header) ++ number (r .contained) ++ number (r .parent) ++ number (r .depth) ++ number (r .reference)
+pub node-numbers-are : (r : Node) → number (r .start) ++ number (r .size) ++ number (r .header) ++ number (r .contained) ++ number
+    (r .parent) ++ number (r .depth) ++ number (r .reference)
     ++ number (r .target) ++ number (r .extent) ++ number (r .unpackers) ++ number (r .unpackerCount) ++ number (r .rows) ++ number (r .detached) ≡ nodeNumbers r
 unfolding nodeNumbers
 node-numbers-are r = refl
 
-pub item-numbers-are : (r : Item) → number (r .node) ++ number (r .item) ++ number (r .kind) ++ number (r .field) ++ number (r .nameLength) ++ number (r .version) ++ number (r .declared)
+pub item-numbers-are : (r : Item) → number (r .node) ++ number (r .item) ++ number (r .kind) ++ number (r .field) ++ number (r .nameLength)
+    ++ number (r .version) ++ number (r .declared)
     ++ number (r .format) ++ number (r .place) ++ number (r .size) ≡ itemNumbers r
 unfolding itemNumbers
 item-numbers-are r = refl
@@ -83,7 +85,8 @@ pub record Lined {A : Type 0} (line : ℕ → A → List ℕ) (lines : ℕ → L
   pub next : (k : ℕ) (r : A) (rs : List A) → lines k (r ∷ rs) ≡ line k r ++ lines (k + 1) rs
 
 module _ {A : Type 0} {line : ℕ → A → List ℕ} {lines : ℕ → List A → List ℕ} (by : Lined line lines) (width : ℕ) (row : List ℕ → ℕ → A) (ws : List ℕ) (count : ℕ) where
-  pub lines-on : (i : ℕ) → i < count → lines i (rowsFrom width row i (count - i) ws) ≡ line i (row ws (i * width)) ++ lines (i + 1) (rowsFrom width row (i + 1) (count - (i + 1)) ws)
+  pub lines-on : (i : ℕ) → i < count → lines i (rowsFrom width row i (count - i) ws) ≡ line i (row ws (i * width)) ++ lines (i + 1)
+      (rowsFrom width row (i + 1) (count - (i + 1)) ws)
   unfolding rowsFrom
   lines-on i l = let e : count - i ≡ suc (count - (i + 1)) = omega arith in rw e (by .next i (row ws (i * width)) (rowsFrom width row (i + 1) (count - (i + 1)) ws))
 
@@ -108,7 +111,8 @@ unfolding itemsIn
 items-start ws count = let e : count - 0 ≡ count = omega arith in rw e
 
 -- a question that is answered was asked of a file's rows
-pub asked-rows : {A : Type 0} (o : Reading) (q : Header → List Node → List Item → Result A) {a : A} → ask o q ≡ good a → (h : Header) × (ns : List Node) × (is : List Item) × (o ≡ rows h ns is) × (q h ns is ≡ good a)
+pub asked-rows : {A : Type 0} (o : Reading) (q : Header → List Node → List Item → Result A) {a : A} → ask o q ≡ good a → (h : Header) ×
+    (ns : List Node) × (is : List Item) × (o ≡ rows h ns is) × (q h ns is ≡ good a)
 unfolding ask
 asked-rows (rows h ns is) q e = (h, ns, is, refl, e)
 asked-rows (refusal n p) q e = let z : _≡_ {A = ℕ} 0 1 = cc in absurd (omega arith)
@@ -121,11 +125,13 @@ module _ (f : List ℕ) {n i : ℕ} (en : fullNodes ≡ n) (ei : fullItems ≡ i
   full q = rw (← en, ← ei)
 
   -- the file is refused
-  pub unread : {r : Read} → r ≡ readOf (readFile (limits n i) f) → {m : ℕ} {p : FilePlace} → r ≡ read.Refused m p → {A : Type 0} (q : Header → List Node → List Item → Result A) → ask (reads f) q ≡ bad m (p .0)
+  pub unread : {r : Read} → r ≡ readOf (readFile (limits n i) f) → {m : ℕ} {p : FilePlace} → r ≡ read.Refused m p → {A : Type 0}
+      (q : Header → List Node → List Item → Result A) → ask (reads f) q ≡ bad m (p .0)
   unread e k q = sym (full q) ∙ ask-refused (readFile (limits n i) f) e k q
 
   -- its rows stand in the tables
-  pub known : {s : Summary} {t u : List ℕ} (st : Standing f (readFile (limits n i) f) s t u) {A : Type 0} (q : Header → List Node → List Item → Result A) → ask (reads f) q ≡ q (st .h) (st .ns) (st .is)
+  pub known : {s : Summary} {t u : List ℕ} (st : Standing f (readFile (limits n i) f) s t u) {A : Type 0}
+      (q : Header → List Node → List Item → Result A) → ask (reads f) q ≡ q (st .h) (st .ns) (st .is)
   known st q = sym (full q) ∙ ask-is (st .reads) q
 
   module _ (room : ℕ) (tail : List ℕ) where
@@ -137,7 +143,8 @@ module _ (f : List ℕ) {n i : ℕ} (en : fullNodes ≡ n) (ei : fullItems ≡ i
     unfolding checkAnswer
     check-bad e k = printed-bad (checked tail f) _ _ (unread e k (counts f))
 
-    pub check-good : {s : Summary} {t u : List ℕ} → Standing f (readFile (limits n i) f) s t u → fitted room tail (plainly (okLine tail (s .version) (length f))) ≡ checkAnswer room tail f
+    pub check-good : {s : Summary} {t u : List ℕ} → Standing f (readFile (limits n i) f) s t u → fitted room tail
+        (plainly (okLine tail (s .version) (length f))) ≡ checkAnswer room tail f
     unfolding checkAnswer counts
     check-good st = ap (λ (x : Summary). fitted room tail (plainly (okLine tail (x .version) (length f)))) (st .summed) ∙ printed-good (checked tail f) _ _ (known st (counts f))
 
@@ -179,6 +186,7 @@ module _ (f : List ℕ) {n i : ℕ} (en : fullNodes ≡ n) (ei : fullItems ≡ i
     unfolding rowsAnswer
     rows-bad e k = printed-bad plainly _ _ (unread e k (allRows f))
 
-    pub rows-good : {s : Summary} {t u : List ℕ} → Standing f (readFile (limits n i) f) s t u → fitted room [] (plainly (nodeRows 0 (nodesIn (s .nodes) t) ++ itemRows 0 (itemsIn (s .items) u))) ≡ rowsAnswer room f
+    pub rows-good : {s : Summary} {t u : List ℕ} → Standing f (readFile (limits n i) f) s t u → fitted room []
+        (plainly (nodeRows 0 (nodesIn (s .nodes) t) ++ itemRows 0 (itemsIn (s .items) u))) ≡ rowsAnswer room f
     unfolding rowsAnswer allRows
     rows-good st = rw (st .nodes-are, st .items-are) (printed-good plainly _ _ (known st (allRows f)))

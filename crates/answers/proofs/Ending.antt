@@ -53,7 +53,8 @@ module _ {o o′ w : List ℕ} {end : ℕ} (p : Counts o o′ 0 w end) (m : leng
   no-room : length o′ < end → length o < length w
   no-room l = let z = p .long in wrote-past p (omega arith)
 
-  pub close-all : end ≤ length o′ → {t : List ℕ} → t ≡ take end o′ ++ replicate (length o′ - end) 0 → Gives (length o) (record { status = status; size = end }) t (closed (length o) (answer status w))
+  pub close-all : end ≤ length o′ → {t : List ℕ} → t ≡ take end o′ ++ replicate (length o′ - end) 0 → Gives (length o)
+      (record { status = status; size = end }) t (closed (length o) (answer status w))
   unfolding closed
   close-all l c =
       let z = p .long in
@@ -62,7 +63,8 @@ module _ {o o′ w : List ℕ} {end : ℕ} (p : Counts o o′ 0 w end) (m : leng
 
   pub close-none : length o′ < end → {t : List ℕ} → t ≡ replicate (length o′) 0 → Gives (length o) (record { status = 1; size = 0 }) t (closed (length o) (answer status w))
   unfolding closed
-  close-none l c = rw (lt-leb (length w) (length o) (no-room l)) (record { status-is = refl; size-is = refl; text-is = c ∙ ap (λ (n : ℕ). replicate n 0) (p .long) ∙ padded-none (length o) })
+  close-none l c = rw (lt-leb (length w) (length o) (no-room l))
+      (record { status-is = refl; size-is = refl; text-is = c ∙ ap (λ (n : ℕ). replicate n 0) (p .long) ∙ padded-none (length o) })
 
   pub fitted-room : (tail : List ℕ) → end ≤ length o′ → closed (length o) (answer status w) ≡ fitted (length o) tail (answer status w)
   unfolding closed fitted
@@ -80,7 +82,8 @@ gives-as e g = rw e at g
 
 -- ---- a text that a call wrote
 
-pub refuse-room : (tail : List ℕ) (n p : ℕ) {room room′ : ℕ} {r : Made} {t : List ℕ} → room ≡ room′ → Gives room r t (refusedBy room tail n p) → Gives room′ r t (refusedBy room′ tail n p)
+pub refuse-room : (tail : List ℕ) (n p : ℕ) {room room′ : ℕ} {r : Made} {t : List ℕ} → room ≡ room′ → Gives room r t
+    (refusedBy room tail n p) → Gives room′ r t (refusedBy room′ tail n p)
 refuse-room tail n p e g = rw e at g
 
 padded-room : (room : ℕ) (s text : List ℕ) → length text ≡ room → text ≡ padded room s → length s ≤ room
@@ -93,7 +96,8 @@ module _ (room : ℕ) (tail : List ℕ) where
   bad-is (good s) e = let z : _≡_ {A = ℕ} 0 1 = cc in absurd (omega arith)
   bad-is {n} {p} (bad m q) e = let a : n ≡ m = cc in let b : p ≡ q = cc in rw (a, b)
 
-  good-is : {n : ℕ} (text : List ℕ) (x : Result (List ℕ)) → length text ≡ room → good n ≡ counted x → text ≡ kept room x → Gives room (record { status = 0; size = n }) text (printed room tail plainly x)
+  good-is : {n : ℕ} (text : List ℕ) (x : Result (List ℕ)) → length text ≡ room → good n ≡ counted x → text ≡ kept room x → Gives room
+      (record { status = 0; size = n }) text (printed room tail plainly x)
   unfolding counted kept printed fitted
   good-is {n} text (good s) z e t = let a : n ≡ length s = cc in rw (le-leb (length s) room (padded-room room s text z t)) (record { status-is = refl; size-is = a; text-is = t })
   good-is text (bad m q) z e t = let z : _≡_ {A = ℕ} 0 1 = cc in absurd (omega arith)

@@ -79,8 +79,11 @@ unfolding numbered
 each-numbered is i [] h = tt
 each-numbered is i (r ∷ rs) h =
     let z : i + 0 ≡ i = omega arith in
-    let a = h 0 (omega arith) in
-    ((rw z at (a .0), rw z at (a .1)), each-numbered is (i + 1) rs (λ j l. let y : i + 1 + j ≡ i + suc j = omega arith in let b = h (suc j) (omega arith) in (rw y (b .0), rw y (b .1))))
+    let a = h 0 (omega arith) in (
+      (rw z at (a .0), rw z at (a .1)),
+      each-numbered is (i + 1) rs
+          (λ j l. let y : i + 1 + j ≡ i + suc j = omega arith in let b = h (suc j) (omega arith) in (rw y (b .0), rw y (b .1))),
+    )
 
 own-stand : (is : List Item) (k : ℕ) → Each (Stands is) (own is k)
 unfolding own
@@ -90,7 +93,8 @@ look-stands : (f : List ℕ) (w : Wanted) (is : List Item) (k : ℕ) (n : Number
 unfolding look
 look-stands f w is k n e = each-among (Stands is) f w (own is k) n (own-stand is k) e
 
-pub stands : (climbs : Bool) (w : Wanted) (row : ℕ) (f : List ℕ) (h : Header) (ns : List Node) (is : List Item) (n : Numbered) → question climbs w row f h ns is ≡ good n → Stands is n
+pub stands : (climbs : Bool) (w : Wanted) (row : ℕ) (f : List ℕ) (h : Header) (ns : List Node) (is : List Item) (n : Numbered) → question
+    climbs w row f h ns is ≡ good n → Stands is n
 unfolding find findOwn nearest
 stands true w row f h ns is n e = of-cond (Stands is) (ltb row (length ns)) _ _ _ n (of-first (Stands is) (look f w is) (path ns row) n (λ k. look-stands f w is k n)) e
 stands false w row f h ns is n e = of-cond (Stands is) (ltb row (length ns)) _ _ _ n (look-stands f w is row n) e
@@ -101,12 +105,14 @@ kept-good : {A : Type 0} (size : ℕ) (o : Reading) {x : Result A} {a : A} → x
 unfolding keptItems
 kept-good size o e = rw e
 
-module _ (f : List ℕ) {n i : ℕ} (en : fullNodes ≡ n) (ei : fullItems ≡ i) (room : ℕ) (climbs : Bool) (w : Wanted) (row : ℕ) {r : Found} (e : told r ≡ ask (readFile (limits n i) f) (question climbs w row f)) where
+module _ (f : List ℕ) {n i : ℕ} (en : fullNodes ≡ n) (ei : fullItems ≡ i) (room : ℕ) (climbs : Bool) (w : Wanted) (row : ℕ) {r : Found}
+    (e : told r ≡ ask (readFile (limits n i) f) (question climbs w row f)) where
   pub found-bad : {m p : ℕ} → r ≡ found.Refused m p → refusedBy room [] m p ≡ foundAnswer room climbs w row f
   unfolding foundAnswer
   found-bad k = printed-bad (foundBy f) _ _ (sym (full f en ei (question climbs w row f)) ∙ sym e ∙ ap told k)
 
-  module _ {k : ℕ} {item : Item} (g : r ≡ found.Item k item) {u : List ℕ} (t : u ≡ keptItems i (readFile (limits n i) f) (ask (readFile (limits n i) f) (question climbs w row f))) where
+  module _ {k : ℕ} {item : Item} (g : r ≡ found.Item k item) {u : List ℕ}
+      (t : u ≡ keptItems i (readFile (limits n i) f) (ask (readFile (limits n i) f) (question climbs w row f))) where
     outcome : ask (readFile (limits n i) f) (question climbs w row f) ≡ good (record { row = k; item = item })
     outcome = sym e ∙ ap told g
 
@@ -124,14 +130,16 @@ module _ (f : List ℕ) {n i : ℕ} (en : fullNodes ≡ n) (ei : fullItems ≡ i
         let ns = a .1 in
         let is = a .2 in
         let z = stands climbs w row f h ns is (record { row = k; item = item }) (a .4) in
-        let st = standing f (limits n i) n i {s = summary h ns is} {r = readOf (readFile (limits n i) f)} refl {t = nodeTable n (readFile (limits n i) f)} {u = u} refl (t ∙ kept-good i (readFile (limits n i) f) outcome) (ap readOf (a .3)) in
+        let st = standing f (limits n i) n i {s = summary h ns is} {r = readOf (readFile (limits n i) f)} refl
+        {t = nodeTable n (readFile (limits n i) f)} {u = u} refl (t ∙ kept-good i (readFile (limits n i) f) outcome) (ap readOf (a .3)) in
         let rs = item-rows st in
         let c : length is ≡ length (st .is) = sym (items-in-length u (length is)) ∙ ap length (st .items-are) in
         let l : k < length is = z .0 in
         let x = item-at u (length is) k l in
         record { inside = omega (arith, rs .0); good-row = rs .1 k l; same = sym x ∙ ap (λ v. itemAt v k) (st .items-are) ∙ rest h ns is (a .3) st ∙ z .1 }
       where
-        rest : (h : Header) (ns : List Node) (is : List Item) → readFile (limits n i) f ≡ rows h ns is → (st : Standing f (readFile (limits n i) f) (summary h ns is) (nodeTable n (readFile (limits n i) f)) u) → itemAt (st .is) k ≡ itemAt is k
+        rest : (h : Header) (ns : List Node) (is : List Item) → readFile (limits n i) f ≡ rows h ns is →
+            (st : Standing f (readFile (limits n i) f) (summary h ns is) (nodeTable n (readFile (limits n i) f)) u) → itemAt (st .is) k ≡ itemAt is k
         rest h ns is e st = ap (λ v. itemAt v k) (same-items (sym (st .reads) ∙ e))
           where
             same-items : {h h′ : Header} {ns ns′ : List Node} {is is′ : List Item} → rows h ns is ≡ rows h′ ns′ is′ → is ≡ is′

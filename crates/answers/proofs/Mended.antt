@@ -23,7 +23,8 @@ module _ (x : Result Mended) where
   sizes-good {a} {b} e = by x e
     where
       by : (x : Result Mended) → good (record { copy = a; lines = b }) ≡ sizesOf x → (good a ≡ counted (copyIn x)) × (good b ≡ counted (linesIn x))
-      by (good m) e = let y : _≡_ {A = Sizes} (record { copy = a; lines = b }) (record { copy = length (m .copy); lines = length (m .lines) }) = cc in (ap (λ (s : Sizes). good (s .copy)) y, ap (λ (s : Sizes). good (s .lines)) y)
+      by (good m) e = let y : _≡_ {A = Sizes} (record { copy = a; lines = b }) (record { copy = length (m .copy); lines = length (m .lines) }) =
+          cc in (ap (λ (s : Sizes). good (s .copy)) y, ap (λ (s : Sizes). good (s .lines)) y)
       by (bad n p) e = let z : _≡_ {A = ℕ} 0 1 = cc in absurd (omega arith)
 
   sizes-bad : {n p : ℕ} → bad n p ≡ sizesOf x → (bad n p ≡ counted (copyIn x)) × (bad n p ≡ counted (linesIn x))
@@ -55,7 +56,8 @@ module _ (f : List ℕ) {n i : ℕ} (en : fullNodes ≡ n) (ei : fullItems ≡ i
 pub copy-settles : (f : List ℕ) {n i room space : ℕ} → fullNodes ≡ n → fullItems ≡ i → 256 ≡ space → (v : List ℕ) → length v ≡ room
     → (said : Mending) → told said ≡ sizesOf (mend (limits n i) room space f) → v ≡ kept room (copyIn (mend (limits n i) room space f))
     → {bytes : Result ℕ} → ((x : Result Mended) → told said ≡ sizesOf x → bytes ≡ counted (copyIn x)) → {r : Made} {text : List ℕ}
-    → ((room : ℕ) (x : Result (List ℕ)) → length v ≡ room → bytes ≡ counted x → v ≡ kept room x → Gives room r text (printed room [] plainly x)) → Gives room r text (mendedAnswer room f)
+    → ((room : ℕ) (x : Result (List ℕ)) → length v ≡ room → bytes ≡ counted x → v ≡ kept room x → Gives room r text
+    (printed room [] plainly x)) → Gives room r text (mendedAnswer room f)
 copy-settles f {n} {i} {room} {space} en ei es v long said says holds counts ends =
     let x = mend (limits n i) room space f in
     gives-as (copy-as f en ei room es) (ends room (copyIn x) long (counts x says) holds)
@@ -63,7 +65,8 @@ copy-settles f {n} {i} {room} {space} en ei es v long said says holds counts end
 pub lines-settle : (f : List ℕ) {n i room space : ℕ} → fullNodes ≡ n → fullItems ≡ i → 65536 ≡ room → (v : List ℕ) → length v ≡ space
     → (said : Mending) → told said ≡ sizesOf (mend (limits n i) room space f) → v ≡ kept space (linesIn (mend (limits n i) room space f))
     → {bytes : Result ℕ} → ((x : Result Mended) → told said ≡ sizesOf x → bytes ≡ counted (linesIn x)) → {r : Made} {text : List ℕ}
-    → ((room : ℕ) (x : Result (List ℕ)) → length v ≡ room → bytes ≡ counted x → v ≡ kept room x → Gives room r text (printed room [] plainly x)) → Gives space r text (mendLinesAnswer space f)
+    → ((room : ℕ) (x : Result (List ℕ)) → length v ≡ room → bytes ≡ counted x → v ≡ kept room x → Gives room r text
+    (printed room [] plainly x)) → Gives space r text (mendLinesAnswer space f)
 lines-settle f {n} {i} {room} {space} en ei er v long said says holds counts ends =
     let x = mend (limits n i) room space f in
     gives-as (lines-as f en ei space er) (ends space (linesIn x) long (counts x says) holds)

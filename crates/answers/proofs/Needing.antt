@@ -36,7 +36,8 @@ use Rattle.answers.specs.declared.needs.Put.the-variants as put
 use Rattle.answers.proofs.Ending.{padded-none, printed-bad}
 use Rattle.answers.proofs.Answering.{unread, known}
 
-pub count-is : (row channel resource count : ℕ) → (0x43 ∷ []) ++ sheet.number row ++ sheet.number channel ++ sheet.number resource ++ sheet.number count ++ (0x0A ∷ []) ≡ countLine row channel resource count
+pub count-is : (row channel resource count : ℕ) → (0x43 ∷ []) ++ sheet.number row ++ sheet.number channel ++ sheet.number resource ++
+    sheet.number count ++ (0x0A ∷ []) ≡ countLine row channel resource count
 unfolding countLine
 count-is row channel resource count = refl
 
@@ -67,13 +68,16 @@ more-behind : (done : List ℕ) (v : ℕ) (o : Out (List ℕ)) → behind done (
 more-behind done v (ok vs q) = ap (λ w. ok w q) (sym (append-assoc done (v ∷ []) vs))
 more-behind done v (refused n p) = refl
 
-lines-more : (row resources j : ℕ) (xs : List ℕ) (v : ℕ) → countLines row resources j (xs ++ (v ∷ [])) ≡ countLines row resources j xs ++ countLine row ((j + length xs) / resources) ((j + length xs) % resources) v
+lines-more : (row resources j : ℕ) (xs : List ℕ) (v : ℕ) → countLines row resources j (xs ++ (v ∷ [])) ≡ countLines row resources j xs ++
+    countLine row ((j + length xs) / resources) ((j + length xs) % resources) v
 unfolding countLines
 lines-more row resources j [] v = let z : j + 0 ≡ j = omega arith in rw (z, append-nil)
 lines-more row resources j (x ∷ xs) v =
     let z : j + 1 + length xs ≡ j + suc (length xs) = omega arith in
     let w = lines-more row resources (j + 1) xs v in
-    ap (λ u. countLine row (j / resources) (j % resources) x ++ u) (rw z at w) ∙ sym (append-assoc (countLine row (j / resources) (j % resources) x) (countLines row resources (j + 1) xs) (countLine row ((j + suc (length xs)) / resources) ((j + suc (length xs)) % resources) v))
+    ap (λ u. countLine row (j / resources) (j % resources) x ++ u) (rw z at w) ∙ sym
+    (append-assoc (countLine row (j / resources) (j % resources) x) (countLines row resources (j + 1) xs)
+    (countLine row ((j + suc (length xs)) / resources) ((j + suc (length xs)) % resources) v))
 
 -- of so many numbers from `from` on, i were read, up to `at`, and their lines were put
 pub record Listing (f : List ℕ) (end count from row resources : ℕ) (o o′ : List ℕ) (to next i at : ℕ) : Type 0 where
@@ -88,12 +92,14 @@ some a (suc b) i l = omega arith
 
 pub listing-begun : (f : List ℕ) (end count from row resources : ℕ) (o : List ℕ) (to : ℕ) → to ≤ tooMany → Listing f end count from row resources o o to to 0 from
 unfolding countLines
-listing-begun f end count from row resources o to l = let e : count - 0 ≡ count = omega arith in record { done = []; many = refl; same = rw e (sym (none-behind (run (numbers count end) f from))); puts = counts-none o l }
+listing-begun f end count from row resources o to l = let e : count - 0 ≡ count = omega arith in record
+    { done = []; many = refl; same = rw e (sym (none-behind (run (numbers count end) f from))); puts = counts-none o l }
 
 module _ {f : List ℕ} {end from : ℕ} (channels resources row : ℕ) {o : List ℕ} {to : ℕ} where
   module _ {o′ : List ℕ} {next i at : ℕ} (g : Listing f end (channels * resources) from row resources o o′ to next i at) where
     module _ (l : i < channels * resources) where
-      first : run (numbers (channels * resources - i) end) f at ≡ andThen (run (number metaFrame 3 end) f at) (λ v q. behind (v ∷ []) (run (numbers (channels * resources - (i + 1)) end) f q))
+      first : run (numbers (channels * resources - i) end) f at ≡ andThen (run (number metaFrame 3 end) f at)
+          (λ v q. behind (v ∷ []) (run (numbers (channels * resources - (i + 1)) end) f q))
       first = let e : channels * resources - i ≡ suc (channels * resources - (i + 1)) = omega arith in rw e (run-numbers f end (channels * resources - (i + 1)) at)
 
       pub listing-cut : {n p : ℕ} → run (number metaFrame 3 end) f at ≡ refused n p → needsIn row (run (table channels resources end) f from) ≡ bad 25 p
@@ -200,7 +206,8 @@ rest f ws count i = needsFrom f i (rowsFrom itemWidth itemFrom i (count - i) ws)
 module _ (f ws : List ℕ) (count : ℕ) where
   pub needing-start : (o : List ℕ) → Needing o o 0 (needsFrom f 0 (itemsIn count ws)) (rest f ws count 0)
   unfolding itemsIn
-  needing-start o = let e : count - 0 ≡ count = omega arith in record { done = []; puts = counts-none o (omega arith); left = rw e (sym (both-none (needsFrom f 0 (rowsFrom itemWidth itemFrom 0 count ws)))) }
+  needing-start o = let e : count - 0 ≡ count = omega arith in record
+      { done = []; puts = counts-none o (omega arith); left = rw e (sym (both-none (needsFrom f 0 (rowsFrom itemWidth itemFrom 0 count ws)))) }
 
   module _ {o o′ : List ℕ} {next i : ℕ} {whole : Result (List ℕ)} (g : Needing o o′ next whole (rest f ws count i)) where
     module _ (l : i < count) {r : Item} (z : r ≡ itemFrom ws (i * itemWidth)) where
@@ -304,7 +311,8 @@ module _ (f : List ℕ) {n i : ℕ} (en : fullNodes ≡ n) (ei : fullItems ≡ i
   needs-good st = rw (st .items-are) (ap (printed room [] plainly) (sym (known f en ei st (needs f))))
 
   module _ (row : ℕ) (shows : List ℕ → ℕ → Item → Result Answer) where
-    pub of-unread : {r : Read} → r ≡ readOf (readFile (limits n i) f) → {m : ℕ} {p : FilePlace} → r ≡ read.Refused m p → refusedBy room [] m (p .0) ≡ printed room [] (λ a. a) (ask (reads f) (ofRow row shows f))
+    pub of-unread : {r : Read} → r ≡ readOf (readFile (limits n i) f) → {m : ℕ} {p : FilePlace} → r ≡ read.Refused m p → refusedBy room [] m
+        (p .0) ≡ printed room [] (λ a. a) (ask (reads f) (ofRow row shows f))
     of-unread e k = printed-bad (λ a. a) _ _ (unread f en ei e k (ofRow row shows f))
 
     module _ {s : Summary} {t u : List ℕ} (st : Standing f (readFile (limits n i) f) s t u) where
@@ -315,7 +323,8 @@ module _ (f : List ℕ) {n i : ℕ} (en : fullNodes ≡ n) (ei : fullItems ≡ i
       unfolding ofRow
       of-past l = let c = count-is-items in printed-bad (λ a. a) _ _ (known f en ei st (ofRow row shows f) ∙ rw (le-leb (length (st .is)) row (omega arith)))
 
-      pub of-row : row < s .items → {x : Item} → x ≡ itemFrom u (row * itemWidth) → printed room [] (λ a. a) (shows f row x) ≡ printed room [] (λ a. a) (ask (reads f) (ofRow row shows f))
+      pub of-row : row < s .items → {x : Item} → x ≡ itemFrom u (row * itemWidth) → printed room [] (λ a. a) (shows f row x) ≡ printed room []
+          (λ a. a) (ask (reads f) (ofRow row shows f))
       unfolding ofRow
       of-row l {x} z =
           let c = count-is-items in

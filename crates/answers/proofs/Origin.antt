@@ -39,7 +39,8 @@ module _ (P : Resource → Type 0) (r : Resource) where
   none : (m p : ℕ) → bad m p ≡ good r → P r
   none m p e = let z : _≡_ {A = ℕ} 0 1 = cc in absurd (omega arith)
 
-  of-reached : (x : Node) (k hops : ℕ) (two three : Result Resource) → (resourceOf x k hops ≡ good r → P r) → (two ≡ good r → P r) → (eqb (x .reference) 3 ≡ true → three ≡ good r → P r) → reached x k hops two three ≡ good r → P r
+  of-reached : (x : Node) (k hops : ℕ) (two three : Result Resource) → (resourceOf x k hops ≡ good r → P r) → (two ≡ good r → P r) →
+      (eqb (x .reference) 3 ≡ true → three ≡ good r → P r) → reached x k hops two three ≡ good r → P r
   unfolding reached
   of-reached x k hops two three p q s e =
       of-two (not (eqb (x .contained) 0)) _ _ (λ b. none _ _)
@@ -60,7 +61,8 @@ module _ (ns : List Node) (to : (i : ℕ) → i < length ns → nodeAt ns i .ref
   unfolding chain
   chain-row zero k hops l e = of-reached In r (nodeAt ns k) k hops _ _ (at k hops l) (none In r _ _) (λ b. none In r _ _) e
   chain-row (suc left) k hops l e =
-      of-reached In r (nodeAt ns k) k hops _ _ (at k hops l) (at k (hops + 1) l) (λ b. chain-row left (rowStarting ns (nodeAt ns k .target)) (hops + 1) (to k l (eqb-true (nodeAt ns k .reference) 3 b))) e
+      of-reached In r (nodeAt ns k) k hops _ _ (at k hops l) (at k (hops + 1) l)
+      (λ b. chain-row left (rowStarting ns (nodeAt ns k .target)) (hops + 1) (to k l (eqb-true (nodeAt ns k .reference) 3 b))) e
 
   resource-row : (row : ℕ) → resolveRow row ns ≡ good r → In r
   unfolding resolveRow
@@ -72,7 +74,8 @@ pub origin-hidden : (reference : ℕ) (r : Resource) → reference ≡ 2
     → decimal (r .size)
     ++ (0x20 ∷ 0x62 ∷ 0x79 ∷ 0x74 ∷ 0x65 ∷ 0x73 ∷ 0x20 ∷ 0x66 ∷ 0x72 ∷ 0x6F ∷ 0x6D ∷ 0x20 ∷ 0x62 ∷ 0x79 ∷ 0x74 ∷ 0x65 ∷ 0x20 ∷ [])
     ++ decimal (r .place)
-    ++ (0x2C ∷ 0x20 ∷ 0x77 ∷ 0x68 ∷ 0x69 ∷ 0x63 ∷ 0x68 ∷ 0x20 ∷ 0x6D ∷ 0x61 ∷ 0x79 ∷ 0x20 ∷ 0x68 ∷ 0x6F ∷ 0x6C ∷ 0x64 ∷ 0x20 ∷ 0x68 ∷ 0x69 ∷ 0x64 ∷ 0x64 ∷ 0x65 ∷ 0x6E ∷ 0x20 ∷ 0x64 ∷ 0x61 ∷ 0x74 ∷ 0x61 ∷ 0x0A ∷ [])
+    ++ (0x2C ∷ 0x20 ∷ 0x77 ∷ 0x68 ∷ 0x69 ∷ 0x63 ∷ 0x68 ∷ 0x20 ∷ 0x6D ∷ 0x61 ∷ 0x79 ∷ 0x20 ∷ 0x68 ∷ 0x6F ∷ 0x6C ∷ 0x64 ∷ 0x20 ∷ 0x68 ∷ 0x69 ∷
+    0x64 ∷ 0x64 ∷ 0x65 ∷ 0x6E ∷ 0x20 ∷ 0x64 ∷ 0x61 ∷ 0x74 ∷ 0x61 ∷ 0x0A ∷ [])
     ≡ originLine reference r
 unfolding originLine
 origin-hidden reference r e = rw (eq-eqb reference 2 e)
@@ -99,12 +102,14 @@ unfolding ask resolve
 refused row f (rows h ns is) k = unmade row f h ns is k
 refused row f (refusal a b) {m} {p} k = let x : a ≡ m = cc in let y : b ≡ p = cc in rw (x, y)
 
-module _ (f : List ℕ) {n i : ℕ} (en : fullNodes ≡ n) (ei : fullItems ≡ i) (room row : ℕ) {r : Resolved} (e : resolution.told r ≡ ask (readFile (limits n i) f) (resolve row f)) where
+module _ (f : List ℕ) {n i : ℕ} (en : fullNodes ≡ n) (ei : fullItems ≡ i) (room row : ℕ) {r : Resolved}
+    (e : resolution.told r ≡ ask (readFile (limits n i) f) (resolve row f)) where
   pub origin-bad : {m p : ℕ} → r ≡ resolved.Refused m p → refusedBy room [] m p ≡ originAnswer room row f
   unfolding originAnswer
   origin-bad k = printed-bad plainly _ _ (sym (full f en ei (origin row f)) ∙ refused row f (readFile (limits n i) f) (sym e ∙ ap resolution.told k))
 
-  module _ {place : FilePlace} {size last hops : ℕ} (k : r ≡ resolved.At place size last hops) {t : List ℕ} (tab : t ≡ keptNodes n (readFile (limits n i) f) (ask (readFile (limits n i) f) (resolve row f))) where
+  module _ {place : FilePlace} {size last hops : ℕ} (k : r ≡ resolved.At place size last hops) {t : List ℕ}
+      (tab : t ≡ keptNodes n (readFile (limits n i) f) (ask (readFile (limits n i) f) (resolve row f))) where
     abbrev it : Resource
     it = record { place = place .0; size = size; row = last; hops = hops }
 
@@ -126,10 +131,20 @@ module _ (f : List ℕ) {n i : ℕ} (en : fullNodes ≡ n) (ei : fullItems ≡ i
         let a = asked-rows (readFile (limits n i) f) (resolve row f) outcome in
         let ns = a .1 in
         let l : last < length ns = resource-row ns (linked (limits n i) f (a .3)) it row (a .4) in
-        let st = standing f (limits n i) n i {s = summary (a .0) ns (a .2)} {r = readOf (readFile (limits n i) f)} refl {t = t} {u = itemTable i (readFile (limits n i) f)} (tab ∙ kept-good n (readFile (limits n i) f) outcome) refl (ap readOf (a .3)) in
+        let st = standing f (limits n i) n i {s = summary (a .0) ns (a .2)} {r = readOf (readFile (limits n i) f)} refl {t = t}
+        {u = itemTable i (readFile (limits n i) f)} (tab ∙ kept-good n (readFile (limits n i) f) outcome) refl (ap readOf (a .3)) in
         let y : rows (st .h) (st .ns) (st .is) ≡ rows (a .0) ns (a .2) = sym (st .reads) ∙ a .3 in
         let same-nodes : st .ns ≡ ns = cc in
-        record { h = a .0; ns = ns; is = a .2; reads = a .3; found = a .4; inside = omega (arith, st .node-room); same = sym (node-at t (length ns) last l) ∙ ap (λ v. nodeAt v last) (st .nodes-are ∙ same-nodes) }
+        record {
+          h = a .0;
+          ns = ns;
+          is = a .2;
+          reads = a .3;
+          found = a .4;
+          inside = omega (arith, st .node-room);
+          same = sym
+              (node-at t (length ns) last l) ∙ ap (λ v. nodeAt v last) (st .nodes-are ∙ same-nodes);
+        }
 
     pub origin-room : last * nodeWidth + nodeWidth ≤ length t
     origin-room = there .inside
@@ -142,4 +157,5 @@ module _ (f : List ℕ) {n i : ℕ} (en : fullNodes ≡ n) (ei : fullItems ≡ i
     unfolding originAnswer
     origin-good z =
         let w = there in
-        ap (λ (v : Node). fitted room [] (plainly (originLine (v .reference) it))) (z ∙ w .same) ∙ printed-good plainly _ _ (sym (full f en ei (origin row f)) ∙ ask-is (w .reads) (origin row f) ∙ made w)
+        ap (λ (v : Node). fitted room [] (plainly (originLine (v .reference) it))) (z ∙ w .same) ∙ printed-good plainly _ _
+        (sym (full f en ei (origin row f)) ∙ ask-is (w .reads) (origin row f) ∙ made w)

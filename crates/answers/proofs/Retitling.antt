@@ -166,9 +166,11 @@ module _ (room row : ℕ) (title f : List ℕ) {format : ℕ} (e : format ≡ ti
     unfolding typedAnswer
     units-bad h {m} {p} g = units-are (bad-is m p (fitting size (toUtf16 title)) (sym (ap told g) ∙ h))
 
-    pub units-good : {w : Written} → told w ≡ counted (fitting size (toUtf16 title)) → {m : ℕ} → w ≡ written.Bytes m → (buf : List ℕ) → buf ≡ kept size (fitting size (toUtf16 title)) → correctedAnswer room row (take m buf) f ≡ retitledAnswer room row title f
+    pub units-good : {w : Written} → told w ≡ counted (fitting size (toUtf16 title)) → {m : ℕ} → w ≡ written.Bytes m → (buf : List ℕ) → buf ≡
+        kept size (fitting size (toUtf16 title)) → correctedAnswer room row (take m buf) f ≡ retitledAnswer room row title f
     unfolding typedAnswer
     units-good h {m} g buf v = units-are (good-is size m buf (fitting size (toUtf16 title)) (sym (ap told g) ∙ h) v .1)
 
-pub units-counted : (size : ℕ) (title : List ℕ) {w : Written} → told w ≡ counted (fitting size (toUtf16 title)) → {m : ℕ} → w ≡ written.Bytes m → (buf : List ℕ) → buf ≡ kept size (fitting size (toUtf16 title)) → Counts m buf
+pub units-counted : (size : ℕ) (title : List ℕ) {w : Written} → told w ≡ counted (fitting size (toUtf16 title)) → {m : ℕ} → w ≡
+    written.Bytes m → (buf : List ℕ) → buf ≡ kept size (fitting size (toUtf16 title)) → Counts m buf
 units-counted size title h {m} g buf v = good-is size m buf (fitting size (toUtf16 title)) (sym (ap told g) ∙ h) v .0

@@ -152,7 +152,8 @@ module _ (κs : List ℕ) where
     run-last l = record { behind = g .behind; within = g .within; runs = g .runs ∙ rw (drop-of-length-le κs l) }
 
   -- the lines from a place on
-  pub lines-next : {place end : ℕ} → Ends κs place end → runLines (runsAt κs place) ≡ runLine (record { place = place; size = end - place; kind = getD κs place 0 }) ++ runLines (runsAt κs end)
+  pub lines-next : {place end : ℕ} → Ends κs place end → runLines (runsAt κs place) ≡ runLine
+      (record { place = place; size = end - place; kind = getD κs place 0 }) ++ runLines (runsAt κs end)
   unfolding runLines
   lines-next e = rw (e .runs)
 

@@ -32,7 +32,8 @@ use Rattle.answers.proofs.Needing.{hidden-is, visible-is, told-printed}
 pub frame-is : (i : ℕ) (x : TagFrame) {name : List ℕ} → name ≡ nameBytes (x .name)
     → (0x46 ∷ []) ++ number i ++ (0x09 ∷ []) ++ escapedPart name 0 4 ++ number (x .place) ++ number (x .size) ++ (0x0A ∷ []) ≡ frameLine i x
 unfolding frameLine nameField tabbed nameBytes
-frame-is i x {name} e = rw e (ap (λ v. 0x46 ∷ (v ++ number (x .place) ++ number (x .size) ++ (0x0A ∷ []))) (append-assoc (number i) (0x09 ∷ []) (escapedPart (nameBytes (x .name)) 0 4)))
+frame-is i x {name} e = rw e (ap (λ v. 0x46 ∷ (v ++ number (x .place) ++ number (x .size) ++ (0x0A ∷ [])))
+    (append-assoc (number i) (0x09 ∷ []) (escapedPart (nameBytes (x .name)) 0 4)))
 
 -- ---- all frames, one after the other
 
@@ -133,6 +134,7 @@ module _ (f : List ℕ) (row : ℕ) (r : Item) (which : Frames) (meant : Bool) {
   tag-shown h = rw (sym e ∙ h)
 
   -- the row's data is lent as the tag
-  pub tag-lent : b ≡ false → (room : ℕ) {end : ℕ} → end ≡ r .place + r .size → tagAnswer room which (take (end - r .place) (drop (r .place) f)) ≡ printed room [] (λ a. a) (shownTag meant which f row r)
+  pub tag-lent : b ≡ false → (room : ℕ) {end : ℕ} → end ≡ r .place + r .size → tagAnswer room which
+      (take (end - r .place) (drop (r .place) f)) ≡ printed room [] (λ a. a) (shownTag meant which f row r)
   unfolding tagAnswer
   tag-lent h room z = rw (lent-part f (r .place) (r .size) z) (told-printed room (tagLines which (part f (r .place) (r .size))) (tag-shown h))

@@ -81,7 +81,8 @@ module _ {t : Totals} {n b : ℕ} (s : Sound t n b) (l : n < 1000) (f : List ℕ
   refused-too : Sound (record { files = plus (t .files) 1; refused = plus (t .refused) 1; kinds = t .kinds }) (n + 1) (b + 0)
   refused-too = let e = s .files in let c = s .small in let w = s .sum in record { files = omega arith; few = omega arith; sum = omega arith; small = omega arith }
 
-  counted-too : length f ≤ 65536 → {k : Kinds} → kindsIn f ≡ good k → Sound (record { files = plus (t .files) 1; refused = t .refused; kinds = plusKinds (t .kinds) k }) (n + 1) (b + length f)
+  counted-too : length f ≤ 65536 → {k : Kinds} → kindsIn f ≡ good k → Sound
+      (record { files = plus (t .files) 1; refused = t .refused; kinds = plusKinds (t .kinds) k }) (n + 1) (b + length f)
   counted-too m {k} h =
       let e = s .files in
       let c = s .small in

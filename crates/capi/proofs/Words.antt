@@ -52,12 +52,14 @@ fits size ws z e =
     e ∙ ap (λ v. sets v 0 (take (length v) ws)) z ∙ ap (λ n. sets (replicate size 0) 0 (take n ws)) (length-replicate size 0) ∙ sets-zeros size (take size ws) n
 
 -- the answer's words, once its case is known
-pub put-as : {A E : Type 0} (values : A → List ℕ) (told : E → Result A) (size : ℕ) {a : List ℕ} (r : E) {r′ : E} → r ≡ r′ → a ≡ fit size (saying values (told r′)) → a ≡ fit size (saying values (told r))
+pub put-as : {A E : Type 0} (values : A → List ℕ) (told : E → Result A) (size : ℕ) {a : List ℕ} (r : E) {r′ : E} → r ≡ r′ → a ≡ fit size
+    (saying values (told r′)) → a ≡ fit size (saying values (told r))
 put-as values told size r e k = k ∙ ap (λ v. fit size (saying values (told v))) (sym e)
 
 -- ---- what a call leaves
 
-pub leaves : {q : Question} {lent : List (List ℕ)} {f answer′ : List ℕ} {o : Outcome} (answer : List ℕ) → Called q lent f o → answer′ ≡ fit (length answer) (o .answer) → Leaves q f lent (o .holds) answer answer′
+pub leaves : {q : Question} {lent : List (List ℕ)} {f answer′ : List ℕ} {o : Outcome} (answer : List ℕ) → Called q lent f o → answer′ ≡ fit
+    (length answer) (o .answer) → Leaves q f lent (o .holds) answer answer′
 leaves answer k e = record { answers = e ∙ ap (λ (v : Outcome). fit (length answer) (v .answer)) (called k); holding = ap (λ (v : Outcome). v .holds) (called k) }
 
 module _ (q : Wanted → (row : ℕ) → Question) (kind number : ℕ) (name : List ℕ) (row : ℕ) {f a a′ : List ℕ} {lent left : List (List ℕ)} where
@@ -75,11 +77,14 @@ module _ (q : Wanted → (row : ℕ) → Question) (kind number : ℕ) (name : L
 
 -- the account, with totals in words
 pub account-leaves : {nodes items f answer′ t u totals′ : List ℕ} {before after : Totals} (totals answer : List ℕ) (r : Accounted) → before ≡ totalsOf totals
-    → (told r ≡ accounted.answer before nodes items f) × ((totalsIn r ≡ totalsAfter before nodes items f) × ((t ≡ nodesAfter before nodes items f) × (u ≡ itemsAfter before nodes items f)))
-    → after ≡ totalsIn r → totals′ ≡ stored totals (totalWords after) → answer′ ≡ fit (length answer) (saying kindWords (told r)) → LeavesTotals f nodes items t u totals totals′ answer answer′
+    → (told r ≡ accounted.answer before nodes items f) ×
+    ((totalsIn r ≡ totalsAfter before nodes items f) × ((t ≡ nodesAfter before nodes items f) × (u ≡ itemsAfter before nodes items f)))
+    → after ≡ totalsIn r → totals′ ≡ stored totals (totalWords after) → answer′ ≡ fit (length answer) (saying kindWords (told r)) → LeavesTotals
+    f nodes items t u totals totals′ answer answer′
 account-leaves {nodes} {items} {f} {answer′} {t} {u} totals answer r b k a s e = record {
   words = totalWords (totalsIn r);
-  leaves = subst (λ v. Leaves (accountBytes v) f (nodes ∷ items ∷ []) (t ∷ u ∷ totalWords (totalsIn r) ∷ []) answer answer′) b (leaves answer (account _ r (k .0) (k .1 .0) (k .1 .1 .0) (k .1 .1 .1)) e);
+  leaves = subst (λ v. Leaves (accountBytes v) f (nodes ∷ items ∷ []) (t ∷ u ∷ totalWords (totalsIn r) ∷ []) answer answer′) b
+      (leaves answer (account _ r (k .0) (k .1 .0) (k .1 .1 .0) (k .1 .1 .1)) e);
   in-totals = s ∙ ap (λ v. stored totals (totalWords v)) a;
 }
 
@@ -109,7 +114,8 @@ sheet-leaves l {cards} {text} out answer r k e =
 
 pub calls-alike : (q : Question) (lends lends′ : List (List ℕ)) → map length lends′ ≡ map length lends → (f g : List ℕ) (h : Header) (ns : List Node) (is : List Item)
     → reads (map length lends) f ≡ rows h ns is → DifferInPrivate h ns is f g → {a a′ b b′ : List ℕ} → length b ≡ length a → {left left′ : List (List ℕ)}
-    → Leaves q f lends left a a′ → Leaves q g lends′ left′ b b′ → (b′ ≡ a′) × EachAlike (map length lends) f g (outcome q (map length lends) f .answer) (lent (about q) (map length lends) f) left left′
+    → Leaves q f lends left a a′ → Leaves q g lends′ left′ b b′ → (b′ ≡ a′) × EachAlike (map length lends) f g
+    (outcome q (map length lends) f .answer) (lent (about q) (map length lends) f) left left′
 calls-alike q lends lends′ e f g h ns is r d {a} z {left} {left′} l k =
     let (_, (same, alike), _) = demand3 q (map length lends) f g h ns is r d in
     let o : outcome q (map length lends′) g ≡ outcome q (map length lends) g = ap (λ ls. outcome q ls g) e in
@@ -119,7 +125,8 @@ calls-alike q lends lends′ e f g h ns is r d {a} z {left} {left′} l k =
     )
 
 -- and of two with the same totals: the answer, both tables and the totals are the same
-pub totals-alike : (nodes items nodes₁ items₁ : List ℕ) → length nodes₁ ≡ length nodes → length items₁ ≡ length items → (f g totals : List ℕ) (h : Header) (ns : List Node) (is : List Item)
+pub totals-alike : (nodes items nodes₁ items₁ : List ℕ) → length nodes₁ ≡ length nodes → length items₁ ≡ length items →
+    (f g totals : List ℕ) (h : Header) (ns : List Node) (is : List Item)
     → reads (length nodes ∷ length items ∷ []) f ≡ rows h ns is → DifferInPrivate h ns is f g → {a a′ b b′ t t₁ u u₁ v v₁ : List ℕ} → length b ≡ length a
     → LeavesTotals f nodes items t u totals v a a′ → LeavesTotals g nodes₁ items₁ t₁ u₁ totals v₁ b b′ → (b′ ≡ a′) × (t₁ ≡ t) × (u₁ ≡ u) × (v₁ ≡ v)
 totals-alike nodes items nodes₁ items₁ en ei f g totals h ns is r d z l k =

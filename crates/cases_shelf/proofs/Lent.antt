@@ -81,9 +81,11 @@ module _ {M : Type 1} (𝓤 : URA M) (H : Heap 𝓤) (A : Atoms 𝓤) (W : Given
   split-row (suc n) [] b o = qed W (‵ ftrue ∷ []) ∵ nothing ! $ done !
   split-row (suc n) (x ∷ xs) b o =
       qed W (‵ (row T.the-row q (x ∷ xs) b o) ∷ []) ∵ fsplit ! $ move ! (1 ∷ []) $
-      use1 W (‵ (row T.the-row q (take n xs) b (o + mem T.the-row .size)) ⊛ ‵ (rest q n xs b (o + mem T.the-row .size))) (split-row n xs b (o + mem T.the-row .size)) $ split ! $ move ! (2 ∷ 0 ∷ []) $ fjoin ! $ done !
+      use1 W (‵ (row T.the-row q (take n xs) b (o + mem T.the-row .size)) ⊛ ‵ (rest q n xs b (o + mem T.the-row .size)))
+      (split-row n xs b (o + mem T.the-row .size)) $ split ! $ move ! (2 ∷ 0 ∷ []) $ fjoin ! $ done !
 
-  join-row : (n : ℕ) (xs zs : List Card) (b o : ℕ) → length zs ≡ length (take n xs) → ent 𝓤 (sep 𝓤 (sem 𝓤 H A (row T.the-row q zs b o)) (sem 𝓤 H A (rest q n xs b o))) (sem 𝓤 H A (row T.the-row q (zs ++ behind n xs) b o))
+  join-row : (n : ℕ) (xs zs : List Card) (b o : ℕ) → length zs ≡ length (take n xs) → ent 𝓤
+      (sep 𝓤 (sem 𝓤 H A (row T.the-row q zs b o)) (sem 𝓤 H A (rest q n xs b o))) (sem 𝓤 H A (row T.the-row q (zs ++ behind n xs) b o))
   join-row zero xs [] b o e = qed W (‵ ftrue ∷ ‵ (row T.the-row q xs b o) ∷ []) ∵ drop ! $ done !
   join-row zero xs (z ∷ zs) b o e = absurd (omega (arith, e))
   join-row (suc n) [] [] b o e = qed W (‵ ftrue ∷ ‵ ftrue ∷ []) ∵ drop ! $ done !
@@ -106,7 +108,8 @@ module _ {M : Type 1} {𝓤 : URA M} {H : Heap 𝓤} {A : Atoms 𝓤} {K : Type 
       fpack t (List Val) (λ us. fsep (cellAt fullShare (Twenty .mir) us b 0) (Twenty .own xs us)) (arr-vals xs) $
       use1 W (‵ (arr-parts (shares T.the-row) 20 .part fullShare xs b 0)) (array-apart 𝓤 H A W T.the-row fullShare tt 20 xs b 0) $ fsplit t $ drop t $ s)
 
-  array-out20 : K → (xs : List Card) (b : ℕ) → length xs ≡ 20 → (Holds20 xs → Seq K W (‵ (fat fullShare twentyTy b 0 (arr-mach xs)) ∷ Γ) G) → Seq K W (‵ (row T.the-row fullShare xs b 0) ∷ Γ) G
+  array-out20 : K → (xs : List Card) (b : ℕ) → length xs ≡ 20 → (Holds20 xs → Seq K W (‵ (fat fullShare twentyTy b 0 (arr-mach xs)) ∷ Γ) G) →
+      Seq K W (‵ (row T.the-row fullShare xs b 0) ∷ Γ) G
   unfolding partOf
   array-out20 t xs b e k = feqI t ℕ (length xs) 20 e $ fjoin t $ use1 W (‵ (partAt Twenty fullShare xs b 0)) (array-whole 𝓤 H A W T.the-row fullShare 20 xs b 0) $
       fpick t (λ vs. fsplit t $ move t (1 ∷ []) $ peeks t Twenty (Is Twenty) (shows 𝓤 H A Twenty) xs vs (λ p. drop t $
@@ -116,35 +119,47 @@ module _ {M : Type 1} {𝓤 : URA M} {H : Heap 𝓤} {A : Atoms 𝓤} {K : Type 
 
   module _ (n : ℕ) (us : List Card) (l : ℕ) (e : length us ≡ 20) (m : n ≤ 20) where
     pub lends-cards : K → Soaks G → Holds20 us
-        → ((ν : ℕ) (δ : GName) → Seq K W (‵ (flft (ν ∷ []) fullShare) ∷ ‵ (MutSlice (named 0) (ν ∷ []) T.the-row .own (lent l 0 δ (take n us)) (slice-vals (lent l 0 δ (take n us))))
+        → ((ν : ℕ) (δ : GName) → Seq K W
+        (‵ (flft (ν ∷ []) fullShare) ∷ ‵ (MutSlice (named 0) (ν ∷ []) T.the-row .own (lent l 0 δ (take n us)) (slice-vals (lent l 0 δ (take n us))))
         ∷ ‵ (flent (ν ∷ []) (Lend.Held T.the-row (length (take n us)) l 0 δ)) ∷ ‵ (rest fullShare n us l 0) ∷ Γ) G)
         → Seq K W (‵ (fat fullShare twentyTy l 0 (arr-mach us)) ∷ Γ) G
     lends-cards t a g k =
         array-in20 t us l g $ use1 W (‵ (row T.the-row fullShare (take n us) l 0) ⊛ ‵ (rest fullShare n us l 0)) (split-row 𝓤 H A W fullShare n us l 0) $ split t $
         use1 W (‵ (cells (mem T.the-row) (take n us) l 0)) (whole-in 𝓤 H A W T.the-row (take n us) l 0) $ lft-new t a (λ ν. move t (1 ∷ []) $
-        use1 W (later (some (λ (δ : GName). ‵ (MutSlice (named 0) (ν ∷ []) T.the-row .own (lent l 0 δ (take n us)) (slice-vals (lent l 0 δ (take n us)))) ⊛ ‵ (flent (ν ∷ []) (Lend.Held T.the-row (length (take n us)) l 0 δ)))))
+        use1 W (later (some (λ (δ : GName). ‵
+        (MutSlice (named 0) (ν ∷ []) T.the-row .own (lent l 0 δ (take n us)) (slice-vals (lent l 0 δ (take n us)))) ⊛ ‵
+        (flent (ν ∷ []) (Lend.Held T.the-row (length (take n us)) l 0 δ)))))
         (lends-slice 𝓤 H A W T.the-row (named 0) (ν ∷ []) (take n us) l 0 (front-room n us e m)) $ await t a $ pick t (λ δ. split t $ move t (2 ∷ 0 ∷ 1 ∷ []) $ k ν δ))
 
     pub cards-back : K → Soaks G → {ν : ℕ} {δ : GName} (zs : List Card) → length zs ≡ length (take n us)
         → (Holds20 (zs ++ behind n us) → Seq K W (‵ (fat fullShare twentyTy l 0 (arr-mach (zs ++ behind n us))) ∷ Γ) G)
-        → Seq K W (‵ (flft (ν ∷ []) fullShare) ∷ ‵ (flent (ν ∷ []) (Lend.Held T.the-row (length (take n us)) l 0 δ)) ∷ ‵ (finally T.the-row δ zs) ∷ ‵ (rest fullShare n us l 0) ∷ Γ) G
+        → Seq K W (‵ (flft (ν ∷ []) fullShare) ∷ ‵ (flent (ν ∷ []) (Lend.Held T.the-row (length (take n us)) l 0 δ)) ∷ ‵ (finally T.the-row δ zs) ∷
+        ‵ (rest fullShare n us l 0) ∷ Γ) G
     cards-back t a {ν} {δ} zs len k =
-        lft-end t a $ use3 W (later (‵ (Arr (mem T.the-row) (length (take n us)) .lies zs l 0))) (slice-back 𝓤 H A W T.the-row (ν ∷ []) δ zs (length (take n us)) l 0) $ await t a $ fsplit t $ drop t $
+        lft-end t a $ use3 W (later (‵ (Arr (mem T.the-row) (length (take n us)) .lies zs l 0)))
+        (slice-back 𝓤 H A W T.the-row (ν ∷ []) δ zs (length (take n us)) l 0) $ await t a $ fsplit t $ drop t $
         use1 W (‵ (row T.the-row fullShare zs l 0)) (whole-out 𝓤 H A W T.the-row zs l 0) $
-        use2 W (‵ (row T.the-row fullShare (zs ++ behind n us) l 0)) (join-row 𝓤 H A W fullShare n us zs l 0 len) $ array-out20 t (zs ++ behind n us) l (joined-length n us zs e m len) k
+        use2 W (‵ (row T.the-row fullShare (zs ++ behind n us) l 0)) (join-row 𝓤 H A W fullShare n us zs l 0 len) $ array-out20 t
+        (zs ++ behind n us) l (joined-length n us zs e m len) k
 
     pub shows-cards : K → Soaks G → Holds20 us
-        → ((ν : ℕ) (δ : GName) → Seq K W (‵ (flft (ν ∷ []) fullShare) ∷ ‵ (ShrSlice (named 0) (ν ∷ []) T.the-row .own (lent l 0 δ (take n us)) (slice-vals (lent l 0 δ (take n us))))
+        → ((ν : ℕ) (δ : GName) → Seq K W
+        (‵ (flft (ν ∷ []) fullShare) ∷ ‵ (ShrSlice (named 0) (ν ∷ []) T.the-row .own (lent l 0 δ (take n us)) (slice-vals (lent l 0 δ (take n us))))
         ∷ ‵ (flent (ν ∷ []) (arr-parts (shares T.the-row) (length (take n us)) .part fullShare (take n us) l 0)) ∷ ‵ (rest fullShare n us l 0) ∷ Γ) G)
         → Seq K W (‵ (fat fullShare twentyTy l 0 (arr-mach us)) ∷ Γ) G
     shows-cards t a g k =
         array-in20 t us l g $ use1 W (‵ (row T.the-row fullShare (take n us) l 0) ⊛ ‵ (rest fullShare n us l 0)) (split-row 𝓤 H A W fullShare n us l 0) $ split t $
         feqI t ℕ (length (take n us)) (length (take n us)) refl $ fjoin t $ lft-new t a (λ ν. move t (1 ∷ []) $
-        use1 W (later (some (λ (δ : GName). ‵ (ShrSlice (named 0) (ν ∷ []) T.the-row .own (lent l 0 δ (take n us)) (slice-vals (lent l 0 δ (take n us)))) ⊛ ‵ (flent (ν ∷ []) (arr-parts (shares T.the-row) (length (take n us)) .part fullShare (take n us) l 0)))))
-        (lends-shr-slice 𝓤 H A W T.the-row (named 0) (ν ∷ []) fullShare (take n us) l 0 (front-room n us e m)) $ await t a $ pick t (λ δ. split t $ move t (2 ∷ 0 ∷ 1 ∷ []) $ k ν δ))
+        use1 W (later (some (λ (δ : GName). ‵
+        (ShrSlice (named 0) (ν ∷ []) T.the-row .own (lent l 0 δ (take n us)) (slice-vals (lent l 0 δ (take n us)))) ⊛ ‵
+        (flent (ν ∷ []) (arr-parts (shares T.the-row) (length (take n us)) .part fullShare (take n us) l 0)))))
+        (lends-shr-slice 𝓤 H A W T.the-row (named 0) (ν ∷ []) fullShare (take n us) l 0 (front-room n us e m)) $ await t a $ pick t
+        (λ δ. split t $ move t (2 ∷ 0 ∷ 1 ∷ []) $ k ν δ))
 
     pub cards-shown : K → Soaks G → {ν : ℕ} → (Holds20 us → Seq K W (‵ (fat fullShare twentyTy l 0 (arr-mach us)) ∷ Γ) G)
-        → Seq K W (‵ (flft (ν ∷ []) fullShare) ∷ ‵ (flent (ν ∷ []) (arr-parts (shares T.the-row) (length (take n us)) .part fullShare (take n us) l 0)) ∷ ‵ (rest fullShare n us l 0) ∷ Γ) G
+        → Seq K W (‵ (flft (ν ∷ []) fullShare) ∷ ‵
+        (flent (ν ∷ []) (arr-parts (shares T.the-row) (length (take n us)) .part fullShare (take n us) l 0)) ∷ ‵ (rest fullShare n us l 0) ∷ Γ) G
     cards-shown t a {ν} k =
-        lft-end t a $ lent-back t a $ fsplit t $ drop t $ use2 W (‵ (row T.the-row fullShare (take n us ++ behind n us) l 0)) (join-row 𝓤 H A W fullShare n us (take n us) l 0 refl) $
+        lft-end t a $ lent-back t a $ fsplit t $ drop t $ use2 W (‵ (row T.the-row fullShare (take n us ++ behind n us) l 0))
+        (join-row 𝓤 H A W fullShare n us (take n us) l 0 refl) $
         rewrite t 0 (λ (xs : List Card). ‵ (row T.the-row fullShare xs l 0)) (front-behind n us) refl $ array-out20 t us l e k

@@ -33,7 +33,8 @@ pub put-none : (l bytes : List ℕ) (at r : ℕ) → r ≡ min at (length l) →
 put-none l bytes at r e = record { wrote = refl; fits = λ h. omega arith; over = λ h. omega arith }
 
 -- one more is
-pub put-more : (l : List ℕ) (at : ℕ) (bytes : List ℕ) (i : ℕ) {out out′ : List ℕ} {end r : ℕ} → i < length bytes → end ≤ length l → Puts l out at (take i bytes) end → Puts out out′ end (getD bytes i 0 ∷ []) r
+pub put-more : (l : List ℕ) (at : ℕ) (bytes : List ℕ) (i : ℕ) {out out′ : List ℕ} {end r : ℕ} → i < length bytes → end ≤ length l → Puts l
+    out at (take i bytes) end → Puts out out′ end (getD bytes i 0 ∷ []) r
     → Puts l out′ at (take (i + 1) bytes) r
 put-more l at bytes i {out} {out′} {end} {r} h q a b =
     let n : length (take i bytes) ≡ i = length-take-le i bytes (omega arith) in
@@ -108,7 +109,9 @@ pub value-all : (ds : List ℕ) (v i : ℕ) → length ds ≤ i → valueFrom 0 
 value-all ds v i h e = sym (e ∙ ap (valueFrom v) (drop-of-length-le ds h))
 
 -- no bytes, where digits spell none
-pub no-bytes : (digits bytes : List ℕ) → ((n : ℕ) → length digits ≡ n * 2 → n ≤ length bytes → ((k : ℕ) → k < length digits → digitOf (getD digits k 0) ≤ 15) → ⊥) → (length digits ≡ 1 → ⊥)
+pub no-bytes : (digits bytes : List ℕ) →
+    ((n : ℕ) → length digits ≡ n * 2 → n ≤ length bytes → ((k : ℕ) → k < length digits → digitOf (getD digits k 0) ≤ 15) → ⊥) →
+    (length digits ≡ 1 → ⊥)
     → SpellsBytes digits bytes 0 false
 no-bytes digits bytes none some = record {
   within = omega arith;
@@ -170,7 +173,8 @@ field-unmarked l from end h m k g q =
     m .before (from + k) (omega arith) (omega arith) (sym (part-at l from end s (m .within) k j) ∙ q)
 
 -- and of each word of a part, where it holds of each word of the whole from `a` to `e`
-pub each-part : (l : List ℕ) (a e v : ℕ) → a ≤ e → e ≤ length l → ((k : ℕ) → a ≤ k → k < e → getD l k 0 ≡ v) → (k : ℕ) → k < length (take (e - a) (drop a l)) → getD (take (e - a) (drop a l)) k 0 ≡ v
+pub each-part : (l : List ℕ) (a e v : ℕ) → a ≤ e → e ≤ length l → ((k : ℕ) → a ≤ k → k < e → getD l k 0 ≡ v) → (k : ℕ) → k < length
+    (take (e - a) (drop a l)) → getD (take (e - a) (drop a l)) k 0 ≡ v
 each-part l a e v s t all k h = let n = part-length l a e s t in part-at l a e s t k (omega arith) ∙ all (a + k) (omega arith) (omega arith)
 
 -- a test that fails and holds

@@ -23,7 +23,8 @@ use Rattle.contents.specs.Contents.{contentAt, contentsFrom, rowOf, rowT
 -- ---- a content with given data
 
 -- string format and data, whose length was counted
-pub text-sized : (format : ℕ) (bytes : List ℕ) {o o₁ o₂ : List ℕ} {m n s s₁ s₂ : ℕ} → m ≡ least (λ _. format) → n ≡ min (m + length bytes) tooMany → Counts o o₁ s (vlq n) s₁ → Counts o₁ o₂ s₁ (joined (vlq format ∷ bytes ∷ [])) s₂
+pub text-sized : (format : ℕ) (bytes : List ℕ) {o o₁ o₂ : List ℕ} {m n s s₁ s₂ : ℕ} → m ≡ least (λ _. format) → n ≡ min (m + length bytes)
+    tooMany → Counts o o₁ s (vlq n) s₁ → Counts o₁ o₂ s₁ (joined (vlq format ∷ bytes ∷ [])) s₂
     → Counts o o₂ s (sized (joined (vlq format ∷ bytes ∷ []))) s₂
 text-sized format bytes a b p q =
     let v = vlq-length format in
@@ -70,10 +71,13 @@ module _ (f : List ℕ) (row : ℕ) (title us : List ℕ) (k : ℕ) {r : Item} (
   at-field = ap fieldText content-at ∙ same-field (eqb k row) title (content f r)
 
   module _ {o o′ : List ℕ} {s n : ℕ} where
-    pub content-title : k ≡ row → Counts o o′ s (contentText (titled title (content f (itemFrom us (k * itemWidth))))) n → Counts o o′ s (contentText (contentAt f row title us k)) n
+    pub content-title : k ≡ row → Counts o o′ s (contentText (titled title (content f (itemFrom us (k * itemWidth))))) n → Counts o o′ s
+        (contentText (contentAt f row title us k)) n
     content-title h p = rw (content-at, eq-eqb k row h) (rw (← e) at p)
 
-    pub content-file : (k ≡ row → ⊥) → {end : ℕ} → end ≡ r .place + r .size → Counts o o′ s (contentText (titled (take (end - r .place) (drop (r .place) f)) (content f (itemFrom us (k * itemWidth))))) n → Counts o o′ s (contentText (contentAt f row title us k)) n
+    pub content-file : (k ≡ row → ⊥) → {end : ℕ} → end ≡ r .place + r .size → Counts o o′ s
+        (contentText (titled (take (end - r .place) (drop (r .place) f)) (content f (itemFrom us (k * itemWidth))))) n → Counts o o′ s
+        (contentText (contentAt f row title us k)) n
     unfolding titled content
     content-file h {end} l p =
         let q = subst (λ (x : Item). Counts o o′ s (contentText (titled (take (end - r .place) (drop (r .place) f)) (content f x))) n) (sym e) p in
@@ -82,7 +86,8 @@ module _ (f : List ℕ) (row : ℕ) (title us : List ℕ) (k : ℕ) {r : Item} (
 -- ---- the field
 
 module _ (f : List ℕ) (r : Item) {o o₁ o₂ : List ℕ} {s s₁ s₂ : ℕ} where
-  pub field-custom : ItemIn (length f) r → r .kind ≡ 1 → Counts o o₁ s (vlq (r .nameLength)) s₁ → Counts o₁ o₂ s₁ (part f (r .field) (r .nameLength)) s₂ → Counts o o₂ s (fieldText (content f r)) s₂
+  pub field-custom : ItemIn (length f) r → r .kind ≡ 1 → Counts o o₁ s (vlq (r .nameLength)) s₁ → Counts o₁ o₂ s₁
+      (part f (r .field) (r .nameLength)) s₂ → Counts o o₂ s (fieldText (content f r)) s₂
   unfolding fieldText content
   field-custom (a, inl z) e p q = absurd (omega arith)
   field-custom (a, inr l) e p q = rw (eq-eqb (r .kind) 1 e) (put-block (part f (r .field) (r .nameLength)) (r .nameLength) (part-length f (r .field) (r .nameLength) l) p q)
@@ -122,18 +127,33 @@ pub record Counting (us : List ℕ) (first end k : ℕ) : Type 0 where
 pub counting-start : (us : List ℕ) (first end : ℕ) → first ≤ end → Counting us first end first
 counting-start us first end l = record { within = (omega arith, l); same = λ f row title. omega arith }
 
-pub counting-on : {us : List ℕ} {first end k : ℕ} → k < end → {r : Item} → r ≡ itemFrom us (k * itemWidth) → 1 < r .version → Counting us first end k → Counting us first end (k + 1)
+pub counting-on : {us : List ℕ} {first end k : ℕ} → k < end → {r : Item} → r ≡ itemFrom us (k * itemWidth) → 1 < r .version → Counting us
+    first end k → Counting us first end (k + 1)
 counting-on {us} {first} {end} {k} l e v c =
     let w = c .within in
     record {
       within = (omega arith, omega arith);
-      same = λ f row title. omega (arith, c .same f row title, ap further (contents-on f row title us k end l), further-cons f row title us k (contentsFrom f row title us (k + 1) (end - (k + 1))) e v);
+      same = λ f row title. omega (
+        arith,
+        c .same f row title,
+        ap further (contents-on f row title us k end l),
+        further-cons f row title us k
+            (contentsFrom f row title us (k + 1) (end - (k + 1))) e v,
+      );
     }
 
-pub counting-stop : {us : List ℕ} {first end k : ℕ} → k < end → {r : Item} → r ≡ itemFrom us (k * itemWidth) → r .version ≤ 1 → Counting us first end k → (f : List ℕ) (row : ℕ) (title : List ℕ) → k - first ≡ further (contentsFrom f row title us first (end - first))
-counting-stop {us} {first} {end} {k} l e v c f row title = omega (arith, c .same f row title, ap further (contents-on f row title us k end l), further-no f row title us k (contentsFrom f row title us (k + 1) (end - (k + 1))) e v)
+pub counting-stop : {us : List ℕ} {first end k : ℕ} → k < end → {r : Item} → r ≡ itemFrom us (k * itemWidth) → r .version ≤ 1 → Counting us
+    first end k → (f : List ℕ) (row : ℕ) (title : List ℕ) → k - first ≡ further (contentsFrom f row title us first (end - first))
+counting-stop {us} {first} {end} {k} l e v c f row title = omega (
+  arith,
+  c .same f row title,
+  ap further (contents-on f row title us k end l),
+  further-no f row title us k
+      (contentsFrom f row title us (k + 1) (end - (k + 1))) e v,
+)
 
-pub counting-end : {us : List ℕ} {first end k : ℕ} → end ≤ k → Counting us first end k → (f : List ℕ) (row : ℕ) (title : List ℕ) → k - first ≡ further (contentsFrom f row title us first (end - first))
+pub counting-end : {us : List ℕ} {first end k : ℕ} → end ≤ k → Counting us first end k → (f : List ℕ) (row : ℕ) (title : List ℕ) → k - first
+    ≡ further (contentsFrom f row title us first (end - first))
 counting-end {us} {first} {end} {k} l c f row title = omega (arith, c .same f row title, ap further (contents-end f row title us k end l), further-none f row title us)
 
 -- ---- an item
@@ -142,25 +162,31 @@ module _ (f : List ℕ) (row : ℕ) (title us : List ℕ) (k : ℕ) {r : Item} (
   module _ (cs : List Content) {o o₁ o₂ : List ℕ} {s s₁ s₂ : ℕ} (p : Counts o o₁ s (fieldText (content f r)) s₁) where
     pub start-universal : r .version ≡ 0 → Counts o₁ o₂ s₁ (vlq 0) s₂ → Counts o o₂ s (itemText (contentAt f row title us k) (suc (further cs))) s₂
     unfolding itemText
-    start-universal z q = rw (eq-eqb (contentAt f row title us k .version) 0 (at-version f row title us k e ∙ z), at-field f row title us k e) (put-two (fieldText (content f r)) (vlq 0) p q)
+    start-universal z q = rw (eq-eqb (contentAt f row title us k .version) 0 (at-version f row title us k e ∙ z), at-field f row title us k e)
+        (put-two (fieldText (content f r)) (vlq 0) p q)
 
-    pub start-versions : (r .version ≡ 0 → ⊥) → {n : ℕ} → n ≡ further cs → Counts o₁ o₂ s₁ (vlq (1 + n)) s₂ → Counts o o₂ s (itemText (contentAt f row title us k) (suc (further cs))) s₂
+    pub start-versions : (r .version ≡ 0 → ⊥) → {n : ℕ} → n ≡ further cs → Counts o₁ o₂ s₁ (vlq (1 + n)) s₂ → Counts o o₂ s
+        (itemText (contentAt f row title us k) (suc (further cs))) s₂
     unfolding itemText
     start-versions z {n} h q =
         let m : 1 + n ≡ suc (further cs) = omega arith in
-        rw (ne-eqb (contentAt f row title us k .version) 0 (λ w. z (sym (at-version f row title us k e) ∙ w)), at-field f row title us k e) (put-two (fieldText (content f r)) (vlq (suc (further cs))) p (counts-as (ap vlq m) q))
+        rw (ne-eqb (contentAt f row title us k .version) 0 (λ w. z (sym (at-version f row title us k e) ∙ w)), at-field f row title us k e)
+        (put-two (fieldText (content f r)) (vlq (suc (further cs))) p (counts-as (ap vlq m) q))
 
   abbrev behind : ℕ → List Content
   behind end = contentsFrom f row title us (k + 1) (end - (k + 1))
 
   module _ (end : ℕ) {o o₂ : List ℕ} {s s₂ : ℕ} where
-    pub row-first : r .version ≤ 1 → {o₁ : List ℕ} {s₁ : ℕ} → Counts o o₁ s (itemText (contentAt f row title us k) (suc (further (behind end)))) s₁ → Counts o₁ o₂ s₁ (contentText (contentAt f row title us k)) s₂ → Counts o o₂ s (rowText f row title us k end) s₂
+    pub row-first : r .version ≤ 1 → {o₁ : List ℕ} {s₁ : ℕ} → Counts o o₁ s (itemText (contentAt f row title us k) (suc (further (behind end))))
+        s₁ → Counts o₁ o₂ s₁ (contentText (contentAt f row title us k)) s₂ → Counts o o₂ s (rowText f row title us k end) s₂
     unfolding rowText rowOf
-    row-first l p q = rw (le-leb (contentAt f row title us k .version) 1 (rw (at-version f row title us k e) l)) (put-two (itemText (contentAt f row title us k) (suc (further (behind end)))) (contentText (contentAt f row title us k)) p q)
+    row-first l p q = rw (le-leb (contentAt f row title us k .version) 1 (rw (at-version f row title us k e) l))
+        (put-two (itemText (contentAt f row title us k) (suc (further (behind end)))) (contentText (contentAt f row title us k)) p q)
 
     pub row-further : 1 < r .version → Counts o o₂ s (contentText (contentAt f row title us k)) s₂ → Counts o o₂ s (rowText f row title us k end) s₂
     unfolding rowText rowOf
-    row-further l p = rw (lt-leb (contentAt f row title us k .version) 1 (rw (at-version f row title us k e) l)) (counts-as (sym (append-nil (contentText (contentAt f row title us k)))) p)
+    row-further l p = rw (lt-leb (contentAt f row title us k .version) 1 (rw (at-version f row title us k e) l))
+        (counts-as (sym (append-nil (contentText (contentAt f row title us k)))) p)
 
 module _ (f : List ℕ) (row : ℕ) (title us : List ℕ) (end : ℕ) where
   rows-cons : (c : Content) (cs : List Content) → itemsText (c ∷ cs) ≡ rowOf c cs ++ itemsText cs
@@ -173,7 +199,8 @@ module _ (f : List ℕ) (row : ℕ) (title us : List ℕ) (end : ℕ) where
   unfolding itemsText
   rows-none = refl
 
-  pub rows-on : (k : ℕ) → k < end → itemsText (contentsFrom f row title us k (end - k)) ≡ rowText f row title us k end ++ itemsText (contentsFrom f row title us (k + 1) (end - (k + 1)))
+  pub rows-on : (k : ℕ) → k < end → itemsText (contentsFrom f row title us k (end - k)) ≡ rowText f row title us k end ++ itemsText
+      (contentsFrom f row title us (k + 1) (end - (k + 1)))
   unfolding rowText
   rows-on k l = ap itemsText (contents-on f row title us k end l) ∙ rows-cons (contentAt f row title us k) (contentsFrom f row title us (k + 1) (end - (k + 1)))
 

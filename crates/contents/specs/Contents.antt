@@ -1,14 +1,10 @@
 -- Item rows as the code takes them: contents by their row, one with another title, and their bytes.
 -- Assumes nothing.
-use mathlib.Core.Path.{_≡_}
 use mathlib.Core.Bool.{cond}
-use mathlib.Core.Logic.{_⊎_}
 use mathlib.Core.List.{List, [], _∷_}
-use Prim.Native.Nat.{ℕ, zero, suc, _+_, _-_, _*_, _≤_, _<_}
+use Prim.Native.Nat.{ℕ, zero, suc, _+_, _-_, _*_}
 use lib.Dec.{eqb, leb}
-use lib.ListN.{length}
 use Rattle.cursor.specs.Vlq.{joined}
-use Rattle.cursor.specs.declared.Item.{Item}
 use Rattle.metadata.specs.Tables.{itemWidth}
 use Rattle.tree.specs.Rows.{itemFrom}
 use Rattle.title.specs.Description.{Content, content, titled}

@@ -161,13 +161,15 @@ abbrev pub Behind : List ℕ → (List ℕ → P (List ℕ)) → Type 0
 Behind f body = (b : List ℕ) (at : ℕ) → run (body b) f at ≡ before b (run (body []) f at)
 
 module _ (f : List ℕ) (b : List ℕ) (at : ℕ) where
-  behind-size : {kind p q : ℕ} {i : List ℕ} → run (number unpackFrame 3 (length f)) f at ≡ ok kind p → run (identifierText f kind) f p ≡ ok i q → (x : Out ℕ) → run (number unpackFrame 3 (length f)) f q ≡ x
+  behind-size : {kind p q : ℕ} {i : List ℕ} → run (number unpackFrame 3 (length f)) f at ≡ ok kind p → run (identifierText f kind) f p ≡ ok i
+      q → (x : Out ℕ) → run (number unpackFrame 3 (length f)) f q ≡ x
       → run (unpackerText f b) f at ≡ before b (run (unpackerText f []) f at)
   unfolding unpackerText
   behind-size e₁ e₂ (ok v r) e₃ = simp (running, e₁, e₂, e₃)
   behind-size e₁ e₂ (refused n r) e₃ = simp (running, e₁, e₂, e₃)
 
-  behind-name : {kind p : ℕ} → run (number unpackFrame 3 (length f)) f at ≡ ok kind p → (x : Out (List ℕ)) → run (identifierText f kind) f p ≡ x → run (unpackerText f b) f at ≡ before b (run (unpackerText f []) f at)
+  behind-name : {kind p : ℕ} → run (number unpackFrame 3 (length f)) f at ≡ ok kind p → (x : Out (List ℕ)) → run (identifierText f kind) f p ≡
+      x → run (unpackerText f b) f at ≡ before b (run (unpackerText f []) f at)
   unfolding unpackerText
   behind-name e₁ (ok i q) e₂ = behind-size e₁ e₂ (run (number unpackFrame 3 (length f)) f q) refl
   behind-name e₁ (refused n q) e₂ = simp (running, e₁, e₂)
@@ -181,13 +183,15 @@ pub unpacker-behind : (f : List ℕ) → Behind f (unpackerText f)
 unpacker-behind f b at = behind-kind f b at (run (number unpackFrame 3 (length f)) f at) refl
 
 module _ (f : List ℕ) (b : List ℕ) (at : ℕ) where
-  behind-language : {t format p q : ℕ} → run (number fileFrame 3 (length f)) f at ≡ ok t p → run (number fileFrame 3 (length f)) f p ≡ ok format q → (x : Out ℕ) → run (block fileFrame 3 (length f)) f q ≡ x
+  behind-language : {t format p q : ℕ} → run (number fileFrame 3 (length f)) f at ≡ ok t p → run (number fileFrame 3 (length f)) f p ≡ ok
+      format q → (x : Out ℕ) → run (block fileFrame 3 (length f)) f q ≡ x
       → run (entryText f b) f at ≡ before b (run (entryText f []) f at)
   unfolding entryText
   behind-language e₁ e₂ (ok n r) e₃ = simp (running, e₁, e₂, e₃)
   behind-language e₁ e₂ (refused n r) e₃ = simp (running, e₁, e₂, e₃)
 
-  behind-format : {t p : ℕ} → run (number fileFrame 3 (length f)) f at ≡ ok t p → (x : Out ℕ) → run (number fileFrame 3 (length f)) f p ≡ x → run (entryText f b) f at ≡ before b (run (entryText f []) f at)
+  behind-format : {t p : ℕ} → run (number fileFrame 3 (length f)) f at ≡ ok t p → (x : Out ℕ) → run (number fileFrame 3 (length f)) f p ≡ x →
+      run (entryText f b) f at ≡ before b (run (entryText f []) f at)
   unfolding entryText
   behind-format e₁ (ok format q) e₂ = behind-language e₁ e₂ (run (block fileFrame 3 (length f)) f q) refl
   behind-format e₁ (refused n q) e₂ = simp (running, e₁, e₂)
@@ -225,11 +229,13 @@ pub record Copying (f : List ℕ) (body : List ℕ → P (List ℕ)) (o o′ : L
 pub copying-start : (f : List ℕ) (body : List ℕ → P (List ℕ)) (o : List ℕ) (to count from : ℕ) → to ≤ tooMany → Copying f body o o to count from to from count
 copying-start f body o to count from l = record { done = []; puts = counts-none o l; same = sym (before-none (run (times count body []) f from)) }
 
-module _ {f : List ℕ} {body : List ℕ → P (List ℕ)} (behind : Behind f body) {o o₁ : List ℕ} {to count from next at left : ℕ} (g : Copying f body o o₁ to count from next at left) where
+module _ {f : List ℕ} {body : List ℕ → P (List ℕ)} (behind : Behind f body) {o o₁ : List ℕ} {to count from next at left : ℕ}
+    (g : Copying f body o o₁ to count from next at left) where
   turn : 0 < left → run (times count body []) f from ≡ before (g .done) (andThen (run (body []) f at) (λ t p. run (times (left - 1) body t) f p))
   turn some = g .same ∙ ap (before (g .done)) (run-times f left at body [] (λ z. omega arith))
 
-  pub copying-on : 0 < left → {o₂ : List ℕ} {n : ℕ} {c : Cursor} → Copies o₁ o₂ next (copying.To n c) (run (body []) f at) → Copying f body o o₂ to count from n (c .at .0) (left - 1)
+  pub copying-on : 0 < left → {o₂ : List ℕ} {n : ℕ} {c : Cursor} → Copies o₁ o₂ next (copying.To n c) (run (body []) f at) → Copying f body o
+      o₂ to count from n (c .at .0) (left - 1)
   copying-on some {c = c} k = let (u, e, q) = k .is in record {
     done = g .done ++ u;
     puts = counts-then (g .puts) q;
@@ -274,7 +280,8 @@ module _ (f : List ℕ) (at : ℕ) where
       unfolding entryText
       entry-is e = simp (running, e₁, e₂, e)
 
-      pub entry-done : {n r u : ℕ} → run (block fileFrame 3 (length f)) f q ≡ ok n r → u ≡ r + n → run (entryText f []) f at ≡ ok (joined (vlq t ∷ vlq format ∷ vlq n ∷ part f r n ∷ [])) u
+      pub entry-done : {n r u : ℕ} → run (block fileFrame 3 (length f)) f q ≡ ok n r → u ≡ r + n → run (entryText f []) f at ≡ ok
+          (joined (vlq t ∷ vlq format ∷ vlq n ∷ part f r n ∷ [])) u
       entry-done {n} {r} e k = entry-is e ∙ ap (ok (joined (vlq t ∷ vlq format ∷ vlq n ∷ part f r n ∷ []))) (sym k)
 
   pub size-no : {n p : ℕ} → run (number fileFrame 3 (length f)) f at ≡ refused n p → run (tableText f) f at ≡ refused n p
@@ -296,12 +303,14 @@ module _ (f : List ℕ) (at : ℕ) where
       table-is {count} {r} e = simp (running, e₁, e₂, e) (times-behind f (entryText f) (entry-behind f) count (vlq count) r)
 
 -- an entry's four fields
-pub entry-put : {o o₁ o₂ o₃ o₄ : List ℕ} {s s₁ s₂ s₃ s₄ : ℕ} (a b c d : List ℕ) → Counts o o₁ s a s₁ → Counts o₁ o₂ s₁ b s₂ → Counts o₂ o₃ s₂ c s₃ → Counts o₃ o₄ s₃ d s₄ → Counts o o₄ s (joined (a ∷ b ∷ c ∷ d ∷ [])) s₄
+pub entry-put : {o o₁ o₂ o₃ o₄ : List ℕ} {s s₁ s₂ s₃ s₄ : ℕ} (a b c d : List ℕ) → Counts o o₁ s a s₁ → Counts o₁ o₂ s₁ b s₂ → Counts o₂ o₃
+    s₂ c s₃ → Counts o₃ o₄ s₃ d s₄ → Counts o o₄ s (joined (a ∷ b ∷ c ∷ d ∷ [])) s₄
 entry-put a b c d p q x y = counts-then p (counts-then q (counts-then x (counts-as (sym (append-nil d)) y)))
 
 -- ---- a block of what is read again
 
-pub block-copied : {z z′ o o₁ o₂ : List ℕ} {s s₁ n m : ℕ} {c d : Cursor} (x : Out (List ℕ)) → Copies z z′ 0 (copying.To n c) x → Counts o o₁ s (vlq n) s₁ → Copies o₁ o₂ s₁ (copying.To m d) x → Counts o o₂ s (sized (answer x)) m
+pub block-copied : {z z′ o o₁ o₂ : List ℕ} {s s₁ n m : ℕ} {c d : Cursor} (x : Out (List ℕ)) → Copies z z′ 0 (copying.To n c) x → Counts o o₁
+    s (vlq n) s₁ → Copies o₁ o₂ s₁ (copying.To m d) x → Counts o o₂ s (sized (answer x)) m
 block-copied x j v w =
     let (a, e, p) = j .is in
     let (b, h, q) = w .is in

@@ -1,8 +1,8 @@
 -- What was written is read back, wherever it stands: numbers, blocks, manufacturers, GUIDs.
 -- Assumes nothing.
 use mathlib.Core.Path.{_≡_, refl, sym, ap, _∙_, subst}
-use mathlib.Core.List.{List, [], _∷_, _++_}
-use Prim.Native.Nat.{ℕ, zero, suc, _+_, _-_, _*_, _/_, _%_, _^_, _≤_, _<_}
+use mathlib.Core.List.{List, [], _∷_}
+use Prim.Native.Nat.{ℕ, zero, suc, _+_, _*_, _/_, _%_, _^_, _≤_, _<_}
 use native.Mathlib.Omega.{arith}
 use native.Mathlib.Nat.{pow-succ', div-div-eq-div-mul, div-eq-of-lt, mul-comm}
 use native.Mathlib.Decide.{decLe, decLt}
@@ -10,7 +10,7 @@ use lib.ListN.{length, getD}
 use Rattle.cursor.specs.Machine.{Out, ok, refused, run}
 use Rattle.cursor.specs.Rows.{Frame}
 use Rattle.cursor.specs.Leaves.{digits, number, block, manufacturer, guid}
-use Rattle.cursor.specs.Vlq.{mark, inBytes, least, vlq}
+use Rattle.cursor.specs.Vlq.{inBytes, least, vlq}
 use Rattle.cursor.proofs.Digits.{Digits, final, further, digits-read, digits-were, begun, dropped, guid-is}
 use Rattle.cursor.proofs.Laws.{never}
 use Rattle.cursor.proofs.Leaves.{block-all, manufacturer-none, manufacturer-one, manufacturer-cut, manufacturer-three}
@@ -38,14 +38,16 @@ digits-in {g} n (suc k) (suc left) at h l =
     further {at = at} (omega arith) (rw (← e, q) at (digits-in n k left (at + 1) (lies-tail h) (omega arith)))
 
 -- n in k bytes is read back
-pub number-in : (κ : Frame) (past end : ℕ) {g : List ℕ} {at : ℕ} (n k : ℕ) → Lies g at (inBytes k n) → 1 ≤ k → k ≤ 4 → n < 128 ^ k → at + k ≤ end → run (number κ past end) g at ≡ ok n (at + k)
+pub number-in : (κ : Frame) (past end : ℕ) {g : List ℕ} {at : ℕ} (n k : ℕ) → Lies g at (inBytes k n) → 1 ≤ k → k ≤ 4 → n < 128 ^ k → at + k
+    ≤ end → run (number κ past end) g at ≡ ok n (at + k)
 number-in κ past end n zero h l m b i = absurd (omega arith)
 number-in κ past end {g} {at} n (suc k) h l m b i =
     let z : n / 128 ^ suc k ≡ 0 = div-eq-of-lt b in
     begun g past end at .same κ ∙ digits-read κ past end at (rw z at (digits-in n k 4 at h (omega arith))) i
 
 -- n in its shortest form is read back
-pub number-back : (κ : Frame) (past end : ℕ) {g : List ℕ} {at : ℕ} (n : ℕ) → Lies g at (vlq n) → n < 2 ^ 28 → at + length (vlq n) ≤ end → run (number κ past end) g at ≡ ok n (at + length (vlq n))
+pub number-back : (κ : Frame) (past end : ℕ) {g : List ℕ} {at : ℕ} (n : ℕ) → Lies g at (vlq n) → n < 2 ^ 28 → at + length (vlq n) ≤ end →
+    run (number κ past end) g at ≡ ok n (at + length (vlq n))
 unfolding vlq
 number-back κ past end {g} {at} n h l i =
     let k : ℕ = least (λ _. n) in
@@ -54,7 +56,8 @@ number-back κ past end {g} {at} n h l i =
     rw e (number-in κ past end n k h (r .0) (r .1) (least-fits (λ _. n) l) (omega arith))
 
 -- the length of a block that fits
-pub block-back : (κ : Frame) (past end : ℕ) {g : List ℕ} {at : ℕ} (n : ℕ) → Lies g at (vlq n) → n < 2 ^ 28 → at + length (vlq n) + n ≤ end → run (block κ past end) g at ≡ ok n (at + length (vlq n))
+pub block-back : (κ : Frame) (past end : ℕ) {g : List ℕ} {at : ℕ} (n : ℕ) → Lies g at (vlq n) → n < 2 ^ 28 → at + length (vlq n) + n ≤ end →
+    run (block κ past end) g at ≡ ok n (at + length (vlq n))
 block-back κ past end {g} {at} n h l i = sym (block-all κ past end g at (number-back κ past end n h l (omega arith)) i)
 
 -- ---- manufacturers and GUIDs: which bytes they are, and that these are read back
@@ -119,7 +122,13 @@ module _ (κ : Frame) (end : ℕ) (f : List ℕ) (all : end ≤ length f) where
   maker-was at e = elim (decLt at end) [
     | no n ↦ never (manufacturer-none κ end f at (omega arith) ∙ e)
     | yes i ↦ elim (decLe (getD f at 0) 0) [
-      | no z ↦ record { bytes = getD f at 0 ∷ []; is = one (λ (k : getD f at 0 ≡ 0). omega arith); lies = lies-one f at (omega arith); ends = sym (place-of (manufacturer-one κ end f at i refl (λ (k : getD f at 0 ≡ 0). omega arith) ∙ e)) }
+      | no z ↦ record {
+        bytes = getD f at 0 ∷ [];
+        is = one (λ (k : getD f at 0 ≡ 0). omega arith);
+        lies = lies-one f at (omega arith);
+        ends = sym
+            (place-of (manufacturer-one κ end f at i refl (λ (k : getD f at 0 ≡ 0). omega arith) ∙ e));
+      }
       | yes z ↦ elim (decLt end (at + 3)) [
         | yes l ↦ never (manufacturer-cut κ end f at i refl (omega arith) l ∙ e)
         | no l ↦ record {

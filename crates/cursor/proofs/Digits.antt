@@ -67,7 +67,8 @@ module _ (κ : Frame) (past end p : ℕ) {f : List ℕ} where
               let x : v * 128 + getD f at 0 ≡ w = cc in
               let y : at + 1 ≡ q = cc in
               (rw (← x, ← y) (final s), omega arith)
-          | no s ↦ let (d, l) = digits-were left (v * 128 + getD f at 0 % 128) (at + 1) (rw a at (sym (digits-more κ past end p f at v (suc left) some i (omega arith)) ∙ e)) in (further {at = at} (omega arith) d, l)
+          | no s ↦ let (d, l) = digits-were left (v * 128 + getD f at 0 % 128) (at + 1)
+              (rw a at (sym (digits-more κ past end p f at v (suc left) some i (omega arith)) ∙ e)) in (further {at = at} (omega arith) d, l)
         ]
       ]
 

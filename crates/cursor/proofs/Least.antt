@@ -2,7 +2,6 @@
 -- Assumes nothing.
 use mathlib.Core.Path.{_≡_, refl, ap}
 use mathlib.Core.Bool.{Bool, true, false, cond}
-use mathlib.Core.List.{List}
 use Prim.Native.Nat.{ℕ, zero, suc, _+_, _^_, _≤_, _<_}
 use native.Mathlib.Omega.{arith}
 use native.Mathlib.Decide.{decLe, decLt}
@@ -20,7 +19,8 @@ chosen Q false h k = k refl
 from-in : (more k : ℕ) (n : ℕ → ℕ) → (k ≤ from more k n) × (from more k n ≤ k + more)
 unfolding from
 from-in zero k n = (omega arith, omega arith)
-from-in (suc more) k n = chosen (λ v. (k ≤ v) × (v ≤ k + suc more)) (ltb (n k) (128 ^ k)) (λ t. (omega arith, omega arith)) (λ t. let i = from-in more (suc k) n in (omega arith, omega arith))
+from-in (suc more) k n = chosen (λ v. (k ≤ v) × (v ≤ k + suc more)) (ltb (n k) (128 ^ k)) (λ t. (omega arith, omega arith))
+    (λ t. let i = from-in more (suc k) n in (omega arith, omega arith))
 
 from-le : (more k : ℕ) (n : ℕ → ℕ) (j : ℕ) → k ≤ j → n j < 128 ^ j → from more k n ≤ j
 unfolding from

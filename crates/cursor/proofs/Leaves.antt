@@ -2,7 +2,7 @@
 -- Assumes nothing.
 use mathlib.Core.Path.{_≡_, sym}
 use mathlib.Core.List.{List}
-use Prim.Native.Nat.{ℕ, zero, suc, _+_, _*_, _%_, _-_, _^_, _≤_, _<_}
+use Prim.Native.Nat.{ℕ, zero, suc, _+_, _*_, _%_, _^_, _≤_, _<_}
 use native.Mathlib.Nat.{lt-of-not-le, mul-assoc, mul-le-mul-left, mul-le-mul-right, pow-succ', pow-le-pow-right}
 use native.Mathlib.Decide.{decLe}
 use native.Mathlib.Omega.{arith}
@@ -32,7 +32,8 @@ module _ {U : Rule Part} where
       wp-after (next-on κ past end p at) λ b q x.
       wp-if
       (λ t. wp-ret (omega arith, omega arith, omega arith, let l = ltb-true b 128 t in omega (arith, some (v * 128 + b) left, longer v (v * 128 + b) left (omega arith))))
-      (λ t. wp-weaken (digits-on κ past end p left (v * 128 + b % 128) q) (λ w r y. (omega arith, omega arith, omega arith, omega (arith, longer v (v * 128 + b % 128) left (omega arith)))))
+      (λ t. wp-weaken (digits-on κ past end p left (v * 128 + b % 128) q)
+      (λ w r y. (omega arith, omega arith, omega arith, omega (arith, longer v (v * 128 + b % 128) left (omega arith)))))
     where
       -- a byte more, and bytes that are left over
       longer : (v u left : ℕ) → u < suc v * 128 → suc u * 128 ^ left ≤ suc v * 128 ^ suc left

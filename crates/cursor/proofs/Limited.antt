@@ -120,7 +120,8 @@ plus-on false n k = refl
 
 module _ {A : Type 0} {lim : Rows} {Q : A → Rows → Type 0} where
   -- Q holds of what m answers and of the rows made then
-  pub limited-ends : {c : Rows} {m o : P A} → Limited lim Q c m o → (f : List ℕ) (at : ℕ) {a : A} {p : ℕ} → run m f at ≡ ok a p → (d : Rows) × Q a d × ((κ : Kind) → d κ ≡ c κ + count (trace m f at) κ)
+  pub limited-ends : {c : Rows} {m o : P A} → Limited lim Q c m o → (f : List ℕ) (at : ℕ) {a : A} {p : ℕ} → run m f at ≡ ok a p → (d : Rows) ×
+      Q a d × ((κ : Kind) → d κ ≡ c κ + count (trace m f at) κ)
   unfolding run trace
   limited-ends {c} (answer {a = b} q) f at {a} e = let z : b ≡ a = cc in (c, subst (λ v. Q v c) z q, λ κ. omega arith)
   limited-ends same f at e = let z : _≡_ {A = ℕ} 0 1 = cc in absurd (omega arith)
@@ -131,7 +132,8 @@ module _ {A : Type 0} {lim : Rows} {Q : A → Rows → Type 0} where
       let (d, q, z) = limited-ends h f (at + n) e in (d, q, λ κ. z κ ∙ plus-on (makes κ w) (c κ) (count (trace m f (at + n)) κ))
 
   -- what m accepts, o accepts, with the same trace
-  pub limited-run : {c : Rows} {m o : P A} → Limited lim Q c m o → (f : List ℕ) (at : ℕ) {a : A} {p : ℕ} → run m f at ≡ ok a p → (run o f at ≡ ok a p) × (trace o f at ≡ trace m f at)
+  pub limited-run : {c : Rows} {m o : P A} → Limited lim Q c m o → (f : List ℕ) (at : ℕ) {a : A} {p : ℕ} → run m f at ≡ ok a p →
+      (run o f at ≡ ok a p) × (trace o f at ≡ trace m f at)
   unfolding run trace
   limited-run (answer q) f at e = (e, refl)
   limited-run same f at e = (e, refl)
@@ -181,7 +183,16 @@ module _ {A : Type 0} {lim : Rows} where
   one-seen : {c : Rows} {o v : Out A} {es fs : Events} (φ : Frame) (at : ℕ) → Either lim c o v es fs → Either lim c o v (seen φ at ∷ es) (seen φ at ∷ fs)
   one-seen φ at (inl w) = inl (w .0, ap (λ es. seen φ at ∷ es) (w .1))
   one-seen φ at (inr w) =
-      inr (record { place = w .place; refuses = w .refuses; rest = w .rest; goes-on = ap (λ es. seen φ at ∷ es) (w .goes-on); next = w .next; some = w .some; kind = w .kind; none-left = w .none-left })
+      inr (record {
+        place = w .place;
+        refuses = w .refuses;
+        rest = w .rest;
+        goes-on = ap (λ es. seen φ at ∷ es) (w .goes-on);
+        next = w .next;
+        some = w .some;
+        kind = w .kind;
+        none-left = w .none-left;
+      })
 
   one-passed : {c : Rows} {o v : Out A} {es fs : Events} (p : Part) (at n : ℕ) → Either lim (more p c) o v es fs → Either lim c o v (passed p at n ∷ es) (passed p at n ∷ fs)
   one-passed p at n (inl w) = inl (w .0, ap (λ es. passed p at n ∷ es) (w .1))
@@ -196,7 +207,8 @@ module _ {A : Type 0} {lim : Rows} where
     none-left = subst (λ v. lim (w .kind) ≤ v) (plus-on (makes (w .kind) p) (c (w .kind)) (count es (w .kind))) (w .none-left);
   })
 
-  pub limited-either : {Q : A → Rows → Type 0} {c : Rows} {m o : P A} → Limited lim Q c m o → (f : List ℕ) (at : ℕ) → Either lim c (run m f at) (run o f at) (trace m f at) (trace o f at)
+  pub limited-either : {Q : A → Rows → Type 0} {c : Rows} {m o : P A} → Limited lim Q c m o → (f : List ℕ) (at : ℕ) → Either lim c
+      (run m f at) (run o f at) (trace m f at) (trace o f at)
   unfolding run trace
   limited-either (answer q) f at = inl (refl, refl)
   limited-either same f at = inl (refl, refl)
@@ -261,7 +273,8 @@ module _ {lim : Rows} where
     unfolding _>>=_ place
     places w = asked w
 
-    pub either : {Q : A → Rows → Type 0} {c : Rows} (b : Bool) {m n m′ n′ : P A} → Limited lim Q c m m′ → Limited lim Q c n n′ → Limited lim Q c (if b then m else n) (if b then m′ else n′)
+    pub either : {Q : A → Rows → Type 0} {c : Rows} (b : Bool) {m n m′ n′ : P A} → Limited lim Q c m m′ → Limited lim Q c n n′ → Limited lim Q c
+        (if b then m else n) (if b then m′ else n′)
     unfolding if_then_else_
     either true x y = x
     either false x y = y
@@ -272,7 +285,8 @@ module _ {lim : Rows} where
     checks false n p w = same
 
     -- the check that a row is left, when n were made; `most` is the larger limit
-    pub row-checks : {Q : A → Rows → Type 0} {c : Rows} (κ : Kind) (n most : ℕ) {m o : ℕ → P A} → n ≡ c κ → lim κ ≤ most → ((p : ℕ) → Makes κ (o p)) → (c κ < lim κ → (p : ℕ) → Limited lim Q c (m p) (o p))
+    pub row-checks : {Q : A → Rows → Type 0} {c : Rows} (κ : Kind) (n most : ℕ) {m o : ℕ → P A} → n ≡ c κ → lim κ ≤ most →
+        ((p : ℕ) → Makes κ (o p)) → (c κ < lim κ → (p : ℕ) → Limited lim Q c (m p) (o p))
         → Limited lim Q c (place >>= λ p. check (ltb n (lim κ)) noRowLeft p >> m p) (place >>= λ p. check (ltb n most) noRowLeft p >> o p)
     unfolding _>>=_ _>>_ check place
     row-checks {Q} {c} κ n most {m} {o} x l w k = by (ltb n (lim κ)) (ltb n most) refl refl

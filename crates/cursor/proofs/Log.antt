@@ -47,5 +47,6 @@ module _ {K W : Type 0} where
   sound-in h a = record { apart = a .apart; within = λ k x. h k (a .within k x) }
 
   -- files that agree in R outside the free bytes agree on all other bytes of the log
-  pub sound-kept : (free : W → Bool) {R : ℕ → Type 0} (f g : List ℕ) (es : List (Event K W)) → Sound R es → ((k : ℕ) → R k → (Free free es k → ⊥) → getD f k 0 ≡ getD g k 0) → Kept free f g es
+  pub sound-kept : (free : W → Bool) {R : ℕ → Type 0} (f g : List ℕ) (es : List (Event K W)) → Sound R es →
+      ((k : ℕ) → R k → (Free free es k → ⊥) → getD f k 0 ≡ getD g k 0) → Kept free f g es
   sound-kept free f g es a h = held free _ es (a .apart) (λ k x u. h k (a .within k x) u)

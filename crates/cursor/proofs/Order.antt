@@ -1,13 +1,13 @@
 -- The order in which a run makes rows: each item row names the node whose row comes next, each node row counts the item rows since the last one
 -- and names a parent whose row is not later. A rule for each form, proved once, and one for programs that make no row.
 -- Assumes nothing.
-use mathlib.Core.Path.{_≡_, refl, sym, subst}
+use mathlib.Core.Path.{_≡_, refl, subst}
 use mathlib.Core.Bool.{Bool, true, false}
 use mathlib.Core.List.{List, [], _∷_, _++_}
 use Prim.Native.Nat.{ℕ, zero, suc, _+_, _-_, _≤_}
 use native.Mathlib.Omega.{arith}
 use lib.ListN.{getD}
-use Rattle.cursor.specs.Machine.{ret, refuse, here, byte, pass, Out, ok, refused, seen, passed, run, trace, _>>=_, _>>_, if_then_else_, place, skip, check, turns, many, times}
+use Rattle.cursor.specs.Machine.{ret, refuse, here, byte, pass, ok, seen, passed, run, trace, _>>=_, _>>_, if_then_else_, place, skip, check, turns, many, times}
 use Rattle.cursor.specs.Rows.{Part, nodeRow, itemRow, plain, P, Events}
 use Rattle.cursor.specs.declared.Node.{Node}
 use Rattle.cursor.specs.declared.Item.{Item}
@@ -58,9 +58,12 @@ module _ {A : Type 0} where
   made (ret b) Q f at k c w {a} e = let z : b ≡ a = cc in record { nodes = k; items = c; ordered = (refl, refl); ends = subst (λ v. Q v k c) z w }
   made (refuse n p) Q f at k c w {a} e = let z : _≡_ {A = ℕ} 0 1 = cc in absurd (omega arith)
   made (here g) Q f at k c w e = made (g at) Q f at k c (w at) e
-  made (byte κ g) Q f at k c w e = let x = made (g (getD f at 0)) Q f (at + 1) k c (w (getD f at 0)) e in record { nodes = x .nodes; items = x .items; ordered = x .ordered; ends = x .ends }
-  made (pass (nodeRow r) n m) Q f at k c w e = let x = made m Q f (at + n) (k + 1) 0 (w .2) e in record { nodes = x .nodes; items = x .items; ordered = (w .0, w .1, x .ordered); ends = x .ends }
-  made (pass (itemRow r) n m) Q f at k c w e = let x = made m Q f (at + n) k (c + 1) (w .1) e in record { nodes = x .nodes; items = x .items; ordered = (w .0, x .ordered); ends = x .ends }
+  made (byte κ g) Q f at k c w e = let x = made (g (getD f at 0)) Q f (at + 1) k c (w (getD f at 0)) e in record
+      { nodes = x .nodes; items = x .items; ordered = x .ordered; ends = x .ends }
+  made (pass (nodeRow r) n m) Q f at k c w e = let x = made m Q f (at + n) (k + 1) 0 (w .2) e in record
+      { nodes = x .nodes; items = x .items; ordered = (w .0, w .1, x .ordered); ends = x .ends }
+  made (pass (itemRow r) n m) Q f at k c w e = let x = made m Q f (at + n) k (c + 1) (w .1) e in record
+      { nodes = x .nodes; items = x .items; ordered = (w .0, x .ordered); ends = x .ends }
   made (pass (plain y) n m) Q f at k c w e = let x = made m Q f (at + n) k c w e in record { nodes = x .nodes; items = x .items; ordered = x .ordered; ends = x .ends }
 
   pub in-order : {m : P A} {Q : A → ℕ → ℕ → Type 0} {k c : ℕ} (f : List ℕ) (at : ℕ) → Orders m Q k c → {a : A} {p : ℕ} → run m f at ≡ ok a p → Made Q k c (trace m f at) a
@@ -127,12 +130,14 @@ module _ {A : Type 0} where
   passes-item r n a h = record { orders = (a, h .orders) }
 
   -- an invariant of answer and counts
-  turned : (I : A → ℕ → ℕ → Type 0) (t end : ℕ) {body : A → P A} (s : A) {k c : ℕ} → ((s : A) (k c : ℕ) → I s k c → Orders (body s) I k c) → I s k c → Orders (turns t end body s) I k c
+  turned : (I : A → ℕ → ℕ → Type 0) (t end : ℕ) {body : A → P A} (s : A) {k c : ℕ} → ((s : A) (k c : ℕ) → I s k c → Orders (body s) I k c) → I
+      s k c → Orders (turns t end body s) I k c
   unfolding turns
   turned I zero end s step i = ends i
   turned I (suc t) end s {k} {c} step i = at-place λ at. either _ (after (step s k c i) λ r k c q. turned I t end r step q) (ends i)
 
-  pub repeats : (I : A → ℕ → ℕ → Type 0) (end : ℕ) {body : A → P A} (s : A) {k c : ℕ} → ((s : A) (k c : ℕ) → I s k c → Orders (body s) I k c) → I s k c → Orders (many end body s) I k c
+  pub repeats : (I : A → ℕ → ℕ → Type 0) (end : ℕ) {body : A → P A} (s : A) {k c : ℕ} →
+      ((s : A) (k c : ℕ) → I s k c → Orders (body s) I k c) → I s k c → Orders (many end body s) I k c
   unfolding many
   repeats I end s step i = at-place λ at. turned I (end - at) end s step i
 

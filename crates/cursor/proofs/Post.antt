@@ -7,7 +7,6 @@ use Prim.Native.Nat.{ℕ, zero, suc, _+_, _-_}
 use native.Mathlib.Omega.{arith}
 use lib.Dec.{ltb}
 use lib.ListN.{getD}
-use borrow.Author.Tests.{ltb-true, ltb-false}
 use Rattle.cursor.specs.Machine.{ret, refuse, here, byte, pass, Out, ok, refused, run, exec, _>>=_, _>>_, if_then_else_, place, skip, check, turns, many, times}
 use Rattle.cursor.specs.Rows.{Part, P}
 use Rattle.cursor.proofs.Quiet.{Quiet, still}
@@ -49,7 +48,8 @@ module _ {A S : Type 0} {put : Part → ℕ → ℕ → S → S} {f : List ℕ} 
   unfolding exec
   post-refuse = record { post = tt }
 
-  pub post-if : {b : Bool} {m n : P A} {R : A → ℕ → S → Type 0} {at : ℕ} {σ : S} → (b ≡ true → Post put f m R at σ) → (b ≡ false → Post put f n R at σ) → Post put f (if b then m else n) R at σ
+  pub post-if : {b : Bool} {m n : P A} {R : A → ℕ → S → Type 0} {at : ℕ} {σ : S} → (b ≡ true → Post put f m R at σ) →
+      (b ≡ false → Post put f n R at σ) → Post put f (if b then m else n) R at σ
   unfolding if_then_else_
   post-if {b = true} h k = h refl
   post-if {b = false} h k = k refl
@@ -82,7 +82,10 @@ module _ {A S : Type 0} {put : Part → ℕ → ℕ → S → S} {f : List ℕ} 
 pub post-step : {A B S : Type 0} {put : Part → ℕ → ℕ → S → S} {f : List ℕ} {m : P A} {k : A → P B} {R : B → ℕ → S → Type 0} {at : ℕ} {σ : S}
     → Quiet put m → ((a : A) (q : ℕ) → run m f at ≡ ok a q → Post put f (k a) R q σ) → Post put f (m >>= k) R at σ
 post-step {put = put} {f = f} {m = m} {k = k} {R = R} {at = at} {σ = σ} w h =
-    record { post = chained put f m k (λ a q τ. Meets R (exec put (k a) f q τ)) R at σ (post-run {R = λ a q τ. Meets R (exec put (k a) f q τ)} w (λ a q e. h a q e .post) .post) (λ a q τ x. x) }
+    record {
+      post = chained put f m k (λ a q τ. Meets R (exec put (k a) f q τ)) R at σ
+          (post-run {R = λ a q τ. Meets R (exec put (k a) f q τ)} w (λ a q e. h a q e .post) .post) (λ a q τ x. x);
+    }
 
 -- ---- repetitions
 

@@ -1,9 +1,8 @@
 -- What holds of an accepted run on a known file, by the rules of Post with no state.
 -- Assumes nothing.
-use mathlib.Core.Path.{_≡_, refl, sym, ap, _∙_, subst}
+use mathlib.Core.Path.{_≡_, refl, subst}
 use mathlib.Core.List.{List}
-use Prim.Native.Nat.{ℕ, zero, suc, _+_}
-use native.Mathlib.Omega.{arith}
+use Prim.Native.Nat.{ℕ, zero, suc}
 use Rattle.cursor.specs.Machine.{Out, ok, refused, run, exec, times}
 use Rattle.cursor.specs.Rows.{Part, P}
 use Rattle.cursor.proofs.Laws.{running, never}
@@ -40,6 +39,8 @@ module _ {A : Type 0} (f : List ℕ) (body : A → P A) where
       simp (running, e)
   times-more (suc k) s p {t} {u} {q} {r} e₁ e₂ = by (run (body s) f p) refl (λ s₁ p₁ e₃. times-more k s₁ p₁ e₃ e₂)
     where
-      by : (o : Out A) → run (body s) f p ≡ o → ((s₁ : A) (p₁ : ℕ) → run (times k body s₁) f p₁ ≡ ok t q → run (times (suc k) body s₁) f p₁ ≡ ok u r) → run (times (suc (suc k)) body s) f p ≡ ok u r
+      by : (o : Out A) → run (body s) f p ≡ o →
+          ((s₁ : A) (p₁ : ℕ) → run (times k body s₁) f p₁ ≡ ok t q → run (times (suc k) body s₁) f p₁ ≡ ok u r) → run (times (suc (suc k)) body s)
+          f p ≡ ok u r
       by (refused n v) x h = never (simp (running, x) at e₁)
       by (ok s₁ p₁) x h = simp (running, x) (simp running at (h s₁ p₁ (simp (running, x) at e₁)))

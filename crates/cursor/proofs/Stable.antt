@@ -1,14 +1,14 @@
 -- A program's run depends only on the bytes that it reads, and its events lie end to end. Proved once, for every program.
 -- Assumes nothing.
 use mathlib.Core.Path.{_≡_, refl, sym, ap, _∙_}
-use mathlib.Core.Bool.{Bool, true, false, not}
+use mathlib.Core.Bool.{Bool, false, not}
 use mathlib.Core.Logic.{_⊎_, inl, inr}
-use mathlib.Core.List.{List, [], _∷_, _++_}
-use Prim.Native.Nat.{ℕ, zero, suc, _+_, _-_, _≤_, _<_}
+use mathlib.Core.List.{List, [], _∷_}
+use Prim.Native.Nat.{ℕ, _+_, _≤_, _<_}
 use native.Mathlib.Omega.{arith}
 use lib.Dec.{T, T-not}
 use lib.ListN.{getD}
-use Rattle.cursor.specs.Machine.{Prog, ret, refuse, here, byte, pass, Out, ok, refused, Event, seen, passed, run, trace}
+use Rattle.cursor.specs.Machine.{Prog, ret, refuse, here, byte, pass, ok, Event, seen, passed, run, trace}
 use Rattle.cursor.proofs.Agree.{AgreeUpTo}
 
 -- its first byte, and how many bytes it has

@@ -34,11 +34,13 @@ module _ {A : Type 0} {f : List ℕ} where
 
   -- ---- the rules of a run
 
-  chained : {B : Type 0} (g : A → P B) (o : Out A) → Inside (length f) o → ((a : A) (q : ℕ) → o ≡ ok a q → q ≤ length f → StaysAt f (g a) q) → Inside (length f) (andThen o (λ a q. run (g a) f q))
+  chained : {B : Type 0} (g : A → P B) (o : Out A) → Inside (length f) o → ((a : A) (q : ℕ) → o ≡ ok a q → q ≤ length f → StaysAt f (g a) q) →
+      Inside (length f) (andThen o (λ a q. run (g a) f q))
   chained g (ok a q) w h = h a q refl w .inside
   chained g (refused n p) w h = w
 
-  pub after-at : {B : Type 0} {m : P A} {g : A → P B} {at : ℕ} → StaysAt f m at → ((a : A) (q : ℕ) → run m f at ≡ ok a q → q ≤ length f → StaysAt f (g a) q) → StaysAt f (m >>= g) at
+  pub after-at : {B : Type 0} {m : P A} {g : A → P B} {at : ℕ} → StaysAt f m at →
+      ((a : A) (q : ℕ) → run m f at ≡ ok a q → q ≤ length f → StaysAt f (g a) q) → StaysAt f (m >>= g) at
   after-at {m = m} {g} {at} w h = record { inside = subst (Inside (length f)) (sym (run-bind m g f at)) (chained g (run m f at) (w .inside) h) }
 
   pub place-at : (g : ℕ → P A) (at : ℕ) → StaysAt f (g at) at → StaysAt f (place >>= g) at

@@ -12,10 +12,13 @@ use Rattle.cursor.proofs.Laws.{never}
 use Rattle.cursor.proofs.Leaves.{block-size, block-past, block-all}
 use Rattle.cursor.proofs.Digits.{digits-read, digits-were, begun}
 
-pub number-wider : (κ : Frame) (past past′ end end′ : ℕ) (f : List ℕ) (at : ℕ) {w q : ℕ} → run (number κ past end) f at ≡ ok w q → q ≤ end′ → run (number κ past′ end′) f at ≡ ok w q
-number-wider κ past past′ end end′ f at e l = begun f past′ end′ at .same κ ∙ digits-read κ past′ end′ at (digits-were κ past end at 4 0 at (sym (begun f past end at .same κ) ∙ e) .0) l
+pub number-wider : (κ : Frame) (past past′ end end′ : ℕ) (f : List ℕ) (at : ℕ) {w q : ℕ} → run (number κ past end) f at ≡ ok w q → q ≤
+    end′ → run (number κ past′ end′) f at ≡ ok w q
+number-wider κ past past′ end end′ f at e l = begun f past′ end′ at .same κ ∙ digits-read κ past′ end′ at
+    (digits-were κ past end at 4 0 at (sym (begun f past end at .same κ) ∙ e) .0) l
 
-pub block-wider : (κ : Frame) (past past′ end end′ : ℕ) (f : List ℕ) (at : ℕ) {w q : ℕ} → run (block κ past end) f at ≡ ok w q → q + w ≤ end′ → run (block κ past′ end′) f at ≡ ok w q
+pub block-wider : (κ : Frame) (past past′ end end′ : ℕ) (f : List ℕ) (at : ℕ) {w q : ℕ} → run (block κ past end) f at ≡ ok w q → q + w ≤
+    end′ → run (block κ past′ end′) f at ≡ ok w q
 block-wider κ past past′ end end′ f at {w} {q} e l = by (run (number κ past end) f at) refl
   where
     by : (o : Out ℕ) → run (number κ past end) f at ≡ o → run (block κ past′ end′) f at ≡ ok w q

@@ -3,7 +3,7 @@
 use mathlib.Core.Path.{_≡_, refl, ap, _∙_}
 use mathlib.Core.Bool.{Bool, true, false}
 use mathlib.Core.List.{List}
-use Prim.Native.Nat.{ℕ, zero, suc, _+_, _≤_, _<_}
+use Prim.Native.Nat.{ℕ, zero, suc, _+_, _<_}
 use native.Mathlib.Omega.{arith}
 use lib.Dec.{ltb}
 use lib.ListN.{getD}
@@ -26,7 +26,8 @@ module _ (end : ℕ) where
   of-run (ret a) f g at w h = refl
   of-run (refuse n p) f g at w h = refl
   of-run (here k) f g at w h = of-run (k at) f g at w h
-  of-run (byte κ k) f g at w h = ap (λ b. run (k b) f (at + 1)) (h at (omega arith) (w .0)) ∙ of-run (k (getD g at 0)) f g (at + 1) (w .1 (getD g at 0)) (λ j lo hi. h j (omega arith) hi)
+  of-run (byte κ k) f g at w h = ap (λ b. run (k b) f (at + 1)) (h at (omega arith) (w .0)) ∙ of-run (k (getD g at 0)) f g (at + 1)
+      (w .1 (getD g at 0)) (λ j lo hi. h j (omega arith) hi)
   of-run (pass x n m) f g at w h = of-run m f g (at + n) w (λ j lo hi. h j (omega arith) hi)
 
   chained : {A B : Type 0} (m : P A) (g : A → P B) (at : ℕ) → WithinOf m at → ((a : A) (q : ℕ) → WithinOf (g a) q) → WithinOf (m >>= g) at

@@ -1,7 +1,6 @@
 -- The fields that everything is made of: numbers, a length with its block, manufacturers, GUIDs.
 -- A field is in a part that ends at `end`; where it runs past, the refusal is `past`, placed at its first byte.
 -- Assumes nothing.
-use mathlib.Core.Bool.{Bool, true, false}
 use Prim.Native.Nat.{ℕ, zero, suc, _+_, _*_, _%_}
 use lib.Dec.{ltb, leb, eqb}
 use Rattle.cursor.specs.Machine.{ret, refuse, here, byte, _>>=_, _>>_, if_then_else_, place, check}

@@ -1,6 +1,6 @@
 -- The refusal list of 01 and of 02: each number with its name. The code has the same names in capitals. The reader's list is here; a question's own stands with the question.
 -- Assumes nothing.
-use mathlib.Core.Bool.{Bool, true, false, not, _&&_, _||_}
+use mathlib.Core.Bool.{Bool, false, not, _&&_, _||_}
 use mathlib.Core.List.{List, [], _∷_}
 use Prim.Native.Nat.{ℕ}
 use lib.Dec.{eqb}

@@ -1,6 +1,6 @@
 // Places, the cursor, and the fields that everything is made of: numbers, a length with its block, manufacturers, GUIDs.
 ghost use mathlib.Core.Path.{_≡_};
-ghost use Prim.Native.Nat.{ℕ, _≤_, _<_, _^_, _+_};
+ghost use Prim.Native.Nat.{_≤_, _<_, _^_, _+_};
 ghost use lib.ListN.{length};
 ghost use Rattle.cursor.specs.Machine.{run};
 ghost use Rattle.cursor.specs.Rows.{Frame};

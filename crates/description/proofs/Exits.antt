@@ -51,7 +51,8 @@ module _ (f ws : List ℕ) (count row channel resource : ℕ) where
   unfolding countRow
   row-none l = simp (items-in-length, le-ltb _ _ l)
 
-  pub row-there : row < count → {x : Item} → x ≡ itemFrom ws (row * itemWidth) → {a : Result ℕ} → a ≡ countIn f channel resource x → a ≡ countRow f row channel resource (itemsIn count ws)
+  pub row-there : row < count → {x : Item} → x ≡ itemFrom ws (row * itemWidth) → {a : Result ℕ} → a ≡ countIn f channel resource x → a ≡
+      countRow f row channel resource (itemsIn count ws)
   unfolding countRow
   row-there l e k = simp (items-in-length, lt-ltb _ _ l, item-at ws count row l) (k ∙ ap (countIn f channel resource) e)
 
@@ -78,7 +79,8 @@ module _ (f : List ℕ) (nsize isize row channel resource : ℕ) {r : Read} {t u
       unfolding countFor
       answered = y ∙ ap (countRow f row channel resource) (stands .items-are)
 
-      pub ends-refused : {n p : ℕ} → x ≡ counted.Refused n p → {t' u' : List ℕ} → t' ≡ replicate nsize 0 → u' ≡ replicate isize 0 → Ends f nsize isize row channel resource (bad n p) t' u'
+      pub ends-refused : {n p : ℕ} → x ≡ counted.Refused n p → {t' u' : List ℕ} → t' ≡ replicate nsize 0 → u' ≡ replicate isize 0 → Ends f nsize
+          isize row channel resource (bad n p) t' u'
       ends-refused {n} {p} z c d =
           let w = stands in
           let q : countFor row channel resource f (w .h) (w .ns) (w .is) ≡ bad n p = sym answered ∙ ap told z in

@@ -76,7 +76,8 @@ module _ (kind end : ℕ) (f : List ℕ) (at : ℕ) where
       unfolding identifier
       identifier-cut k e = simp (running, ne-eqb _ _ n₃, ne-eqb _ _ n₅, eq-eqb _ _ k, e)
 
-      pub identifier-two : kind ≡ 1 → {q : ℕ} → run (manufacturer metaFrame end) f at ≡ ok tt q → {o : Out (Unit {0})} → o ≡ run (value end) f q → o ≡ run (identifier kind end) f at
+      pub identifier-two : kind ≡ 1 → {q : ℕ} → run (manufacturer metaFrame end) f at ≡ ok tt q → {o : Out (Unit {0})} → o ≡ run (value end) f q →
+          o ≡ run (identifier kind end) f at
       unfolding identifier
       identifier-two k e h = h ∙ simp (running, ne-eqb _ _ n₃, ne-eqb _ _ n₅, eq-eqb _ _ k, e)
 
@@ -203,7 +204,8 @@ module _ (i index kept v : ℕ) where
         )
   ]
 
-  picked-more : (o : Out (List ℕ)) {kept′ : ℕ} → ((i ≡ index) × (kept′ ≡ v)) ⊎ (((i ≡ index) → ⊥) × (kept′ ≡ kept)) → pickedFrom i kept index (before v o) ≡ pickedFrom (i + 1) kept′ index o
+  picked-more : (o : Out (List ℕ)) {kept′ : ℕ} → ((i ≡ index) × (kept′ ≡ v)) ⊎ (((i ≡ index) → ⊥) × (kept′ ≡ kept)) → pickedFrom i kept index
+      (before v o) ≡ pickedFrom (i + 1) kept′ index o
   picked-more (ok vs q) x = ap (λ w. ok w q) (later vs x)
   picked-more (refused n p) x = refl
 

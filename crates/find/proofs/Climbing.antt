@@ -91,7 +91,8 @@ module _ (ws : List ℕ) (n i : ℕ) (some : 0 < i) (l : i ≤ n) {r : Node} (e 
   rows-are =
       let q : i ≡ i - 1 + 1 = omega arith in
       let c = nodes-in-length ws n in
-      a ∙ ap (firstRow (nodesIn n ws)) q ∙ first-next (nodesIn n ws) (i - 1) (omega arith) ∙ ap (λ (x : Node). firstRow (nodesIn n ws) (i - 1) + x .rows) (node-at ws n (i - 1) (omega arith) ∙ sym e)
+      a ∙ ap (firstRow (nodesIn n ws)) q ∙ first-next (nodesIn n ws) (i - 1) (omega arith) ∙ ap
+      (λ (x : Node). firstRow (nodesIn n ws) (i - 1) + x .rows) (node-at ws n (i - 1) (omega arith) ∙ sym e)
 
   pub back-rows : r .rows ≤ end
   back-rows = omega (arith, rows-are)
@@ -127,7 +128,8 @@ module _ {f : List ℕ} {ws vs : List ℕ} {n m k end : ℕ} (t : Tables f ws vs
       climb-top h = sym (nearest-top f w (nodesIn n ws) (itemsIn m vs) k (sym looks ∙ ap told y) (omega (arith, parent-is)))
 
       pub climb-up : r .parent < k → {z : Result Numbered} → z ≡ nearest f w (nodesIn n ws) (itemsIn m vs) (r .parent) → z ≡ nearest f w (nodesIn n ws) (itemsIn m vs) k
-      climb-up h z = z ∙ sym (nearest-up f w (nodesIn n ws) (itemsIn m vs) k (sym looks ∙ ap told y) (omega (arith, parent-is)) ∙ ap (nearest f w (nodesIn n ws) (itemsIn m vs)) parent-is)
+      climb-up h z = z ∙ sym (nearest-up f w (nodesIn n ws) (itemsIn m vs) k (sym looks ∙ ap told y) (omega (arith, parent-is)) ∙ ap
+          (nearest f w (nodesIn n ws) (itemsIn m vs)) parent-is)
 
 -- ---- what is found from a row
 
@@ -140,7 +142,8 @@ module _ (f : List ℕ) (w : Wanted) (ns : List Node) (is : List Item) (k : ℕ)
 
 -- ---- the question over a file that the reader refuses
 
-pub says-refused : (climbs : Bool) (f : List ℕ) (w : Wanted) (row nsize isize : ℕ) (o : Reading) {r : Read} → r ≡ readOf o → {n : ℕ} {p : FilePlace} → r ≡ read.Refused n p → {t u : List ℕ} → t ≡ nodeTable nsize o → u ≡ itemTable isize o
+pub says-refused : (climbs : Bool) (f : List ℕ) (w : Wanted) (row nsize isize : ℕ) (o : Reading) {r : Read} → r ≡ readOf o → {n : ℕ}
+    {p : FilePlace} → r ≡ read.Refused n p → {t u : List ℕ} → t ≡ nodeTable nsize o → u ≡ itemTable isize o
     → exits.Says nsize isize o (question climbs w row f) (bad n (p .0)) t u
 says-refused climbs f w row nsize isize o e k a b = exits.says-unread nsize isize o (question climbs w row f) e k a b
 

@@ -1,18 +1,16 @@
 -- Where each part of the header ends: after it began, and not past the bytes lent; and what an accepted header says of the tree.
 -- Assumes nothing.
 use mathlib.Core.Path.{_≡_, refl}
-use mathlib.Core.List.{List, []}
+use mathlib.Core.List.{List}
 use Prim.Native.Nat.{ℕ, _+_, _^_, _≤_, _<_}
 use native.Mathlib.Omega.{arith}
 use lib.ListN.{length}
-use borrow.Author.Tests.{ltb-true, leb-true, eqb-true}
-use Rattle.cursor.specs.Machine.{ok, run}
-use Rattle.cursor.specs.Rows.{Part, P}
+use borrow.Author.Tests.{ltb-true, leb-true}
 use Rattle.cursor.specs.Leaves.{next, number, block}
-use Rattle.cursor.proofs.Wp.{Wp, at-end, wp-after, wp-then, wp-weaken, wp-ret, wp-refuse, wp-if, wp-check, wp-checked, wp-place, wp-skip, wp-times}
+use Rattle.cursor.proofs.Wp.{Wp, wp-after, wp-then, wp-weaken, wp-ret, wp-refuse, wp-if, wp-check, wp-checked, wp-place, wp-skip, wp-times}
 use Rattle.cursor.proofs.Leaves.{Any, next-on, number-on, block-on}
 use Rattle.header.specs.Types.{Declared}
-use Rattle.header.specs.Header.{four, opening, Edition, edition, fileLength, entry, typesTable, Extent, extent, Header, header}
+use Rattle.header.specs.Header.{four, opening, edition, fileLength, entry, typesTable, extent, header}
 
 pub four-on : (past end at : ℕ) → Wp Any (four past end) (λ _ q. (q ≡ at + 4) × (q ≤ end)) at
 unfolding four
@@ -28,7 +26,8 @@ opening-on size =
     wp-after (four-on _ size 0) λ m p x. wp-check _ _ λ v.
     wp-after (four-on _ size p) λ n q y.
     let e = ltb-true size (2 ^ 28) t in
-    wp-if (λ _. wp-ret (omega arith, omega arith, omega arith)) λ _. wp-if (λ _. wp-ret (omega arith, omega arith, omega arith)) λ _. wp-if (λ _. wp-ret (omega arith, omega arith, omega arith)) λ _. wp-refuse
+    wp-if (λ _. wp-ret (omega arith, omega arith, omega arith)) λ _. wp-if (λ _. wp-ret (omega arith, omega arith, omega arith)) λ _. wp-if
+    (λ _. wp-ret (omega arith, omega arith, omega arith)) λ _. wp-refuse
 
 pub edition-on : (size version at : ℕ) → at ≤ size → Wp Any (edition size version) (λ _ q. (at ≤ q) × (q ≤ size)) at
 unfolding edition
@@ -70,7 +69,8 @@ pub length-on : (size at : ℕ) → Wp Any (fileLength size) (λ _ q. (at < q) �
 unfolding fileLength
 length-on size at = wp-place _ at (wp-after (number-on _ _ size at) λ n q x. wp-checked _ _ λ t. (omega arith, omega arith))
 
-pub header-on : (size : ℕ) → Wp Any (header size) (λ h q. (q ≡ h .extent .end) × (q ≤ h .extent .start) × (h .extent .start ≤ h .extent .last) × (h .extent .last < size) × (size < 2 ^ 28)) 0
+pub header-on : (size : ℕ) → Wp Any (header size)
+    (λ h q. (q ≡ h .extent .end) × (q ≤ h .extent .start) × (h .extent .start ≤ h .extent .last) × (h .extent .last < size) × (size < 2 ^ 28)) 0
 unfolding header
 header-on size =
     wp-after (opening-on size) λ v p x.

@@ -7,7 +7,7 @@ use native.Mathlib.Omega.{arith}
 use lib.ListN.{length, getD, set, length-set}
 use lib.Seq.{getD-set-same, getD-set-other}
 use borrow.Author.Tests.{eq-eqb, ne-eqb}
-use Rattle.header.specs.Types.{Declared, Known, known, unknown, formatOf, typesFrom, typesOf}
+use Rattle.header.specs.Types.{known, unknown, formatOf, typesFrom, typesOf}
 
 -- what is left of the search from row i
 abbrev pub Searching : List ℕ → ℕ → ℕ → ℕ → Type 0

@@ -17,7 +17,9 @@ module _ {S : Allowed} (r : S .frame fileFrame) (w : S .part (plain language)) w
   opening-uses : (size : ℕ) → Uses S (opening size)
   unfolding opening
   opening-uses size =
-      checks _ _ _ tt (checks _ _ _ tt (after (four-uses _ _ (λ p. tt)) λ magic. checks _ _ _ tt (after (four-uses _ _ (λ p. tt)) λ version. either _ ends (either _ ends (either _ ends (stops tt))))))
+      checks _ _ _ tt (checks _ _ _ tt
+      (after (four-uses _ _ (λ p. tt)) λ magic. checks _ _ _ tt
+      (after (four-uses _ _ (λ p. tt)) λ version. either _ ends (either _ ends (either _ ends (stops tt))))))
 
   edition-uses : (size version : ℕ) → Uses S (edition size version)
   unfolding edition

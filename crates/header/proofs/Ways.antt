@@ -1,32 +1,30 @@
 -- The ways through the header: what each exit of the code comes to.
 -- Assumes nothing.
 use mathlib.Core.Path.{_≡_, refl, sym, ap, _∙_, subst}
-use mathlib.Core.Bool.{true, false}
 use mathlib.Core.List.{List, [], _∷_, _++_}
-use Prim.Native.Nat.{ℕ, zero, suc, _+_, _*_, _-_, _^_, _≤_, _<_}
+use Prim.Native.Nat.{ℕ, _+_, _*_, _-_, _^_, _≤_, _<_}
 use native.Mathlib.Nat.{lt-of-not-le}
 use native.Mathlib.Decide.{decLe}
 use native.Mathlib.Omega.{arith}
 use lib.ListN.{length, getD}
 use borrow.Author.Tests.{lt-ltb, le-ltb, le-leb, lt-leb, eq-eqb, ne-eqb}
 use Rattle.cursor.specs.Machine.{Out, ok, refused, run, times}
-use Rattle.cursor.specs.Rows.{P, fileFrame}
+use Rattle.cursor.specs.Rows.{fileFrame}
 use Rattle.cursor.specs.Leaves.{next, number, block}
-use Rattle.cursor.specs.Told.{numberTold, passTold}
 use Rattle.cursor.specs.declared.Passed.{Passed}
 use Rattle.cursor.specs.declared.Passed.the-variants as passing
 use Rattle.cursor.specs.declared.Cursor.{Cursor}
 use Rattle.cursor.specs.declared.FilePlace.{FilePlace}
-use Rattle.cursor.proofs.Laws.{running, andThen, run-times, run-timed, was}
+use Rattle.cursor.proofs.Laws.{running, andThen, run-times, run-timed}
 use Rattle.cursor.proofs.Leaves.{any-free}
 use Rattle.cursor.proofs.Wp.{at-end}
-use Rattle.header.specs.Types.{Declared, Known, known, unknown, formatOf, isUnknown, typesOf}
-use Rattle.header.specs.Header.{four, opening, Edition, edition, fileLength, entry, typesTable, Extent, extent, Header, header}
+use Rattle.header.specs.Types.{Declared, known, unknown, formatOf, typesOf}
+use Rattle.header.specs.Header.{four, opening, Edition, edition, fileLength, entry, typesTable, Extent, extent, header}
 use Rattle.header.specs.Told.{entryTold, typesTold, Listed}
 use Rattle.header.specs.declared.Typed.{Typed}
 use Rattle.header.specs.declared.Typed.the-variants as typed
 use Rattle.header.proofs.Types.{types-length, types-none}
-use Rattle.header.proofs.Ends.{four-on, opening-on, edition-on, length-on, entry-on, types-on, extent-on}
+use Rattle.header.proofs.Ends.{entry-on}
 
 -- ---- four bytes
 
@@ -42,7 +40,8 @@ module _ (past end : ℕ) (f : List ℕ) (at : ℕ) where
               | no n ↦ let l₁ : at + 1 < end = lt-of-not-le n in
                   elim (decLe end (at + 1 + 1)) [
                     | yes k ↦ simp (running, lt-ltb _ _ l₀, lt-ltb _ _ l₁, le-ltb _ _ k)
-                    | no n ↦ let l₂ : at + 1 + 1 < end = lt-of-not-le n in let l₃ : end ≤ at + 1 + 1 + 1 = omega arith in simp (running, lt-ltb _ _ l₀, lt-ltb _ _ l₁, lt-ltb _ _ l₂, le-ltb _ _ l₃)
+                    | no n ↦ let l₂ : at + 1 + 1 < end = lt-of-not-le n in let l₃ : end ≤ at + 1 + 1 + 1 = omega arith in simp
+                        (running, lt-ltb _ _ l₀, lt-ltb _ _ l₁, lt-ltb _ _ l₂, le-ltb _ _ l₃)
                   ]
             ]
       ]
@@ -173,7 +172,8 @@ module _ (end : ℕ) (ds : List Declared) (f : List ℕ) (at : ℕ) where
           unfolding entry
           entry-language e = simp (running, e₁, lt-ltb _ _ l₁, new, e₂, e)
 
-          pub entry-all : {n r s : ℕ} → run (block fileFrame 3 end) f q ≡ ok n r → s ≡ r + n → {ds′ : List Declared} → ds′ ≡ ds ++ (record { type = t; format = format } ∷ []) → ok ds′ s ≡ run (entry end ds) f at
+          pub entry-all : {n r s : ℕ} → run (block fileFrame 3 end) f q ≡ ok n r → s ≡ r + n → {ds′ : List Declared} → ds′ ≡ ds ++
+              (record { type = t; format = format } ∷ []) → ok ds′ s ≡ run (entry end ds) f at
           unfolding entry
           entry-all e h more = rw (h, more) (simp (running, e₁, lt-ltb _ _ l₁, new, e₂, e))
 

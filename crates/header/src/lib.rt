@@ -1,8 +1,7 @@
 // The file header: version, type and revision, the declared types, and where the tree lies.
 ghost use mathlib.Core.Path.{_≡_};
 ghost use mathlib.Core.List.{_∷_, [], _++_};
-ghost use mathlib.Core.Bool.{Bool, true, false};
-ghost use Prim.Native.Nat.{ℕ, _≤_, _<_, _+_, _*_, _^_};
+ghost use Prim.Native.Nat.{_≤_, _<_, _+_, _*_, _^_};
 ghost use lib.ListN.{length};
 ghost use Rattle.cursor.specs.Machine.{run, times};
 ghost use Rattle.cursor.specs.Told.{Readable, numberTold, passTold};

@@ -11,7 +11,7 @@ use borrow.Author.Tests.{leb-true, ltb-true, lt-ltb, le-ltb}
 use Rattle.cursor.specs.Machine.{Out, ok, refused, ret, _>>=_}
 use Rattle.cursor.specs.Refusals.{isAllowed}
 use Rattle.cursor.proofs.Triple.{Triple, where-ends, where-refused, after, followed, weaken, returns, places, either, checks, skips, skipped, repeats}
-use Rattle.room.specs.Room.{Result, good, bad}
+use Rattle.room.specs.Room.{good, bad}
 use Rattle.id3.specs.declared.TagFrame.{TagFrame}
 use Rattle.id3.specs.Tag.{extension, extended, front, frame, frameOrPadding, frames, tag}
 use Rattle.id3.specs.Frames.{framesOf, noFrame, countIn, frameIn, frameCount, frameAt, countRefusals}
@@ -34,12 +34,14 @@ order-ends : (at : ℕ) (xs : List TagFrame) {end : ℕ} → InOrder at xs end �
 order-ends at [] o = o
 order-ends at (x ∷ xs) o = let h = o .0 in let l = order-ends (x .place + x .size) xs (o .1) in omega arith
 
-order-at : (at : ℕ) (xs : List TagFrame) (i : ℕ) {end : ℕ} → InOrder at xs end → i < length xs → (at + 10 ≤ getD xs i noFrame .place) × (getD xs i noFrame .place + getD xs i noFrame .size ≤ end)
+order-at : (at : ℕ) (xs : List TagFrame) (i : ℕ) {end : ℕ} → InOrder at xs end → i < length xs → (at + 10 ≤ getD xs i noFrame .place) ×
+    (getD xs i noFrame .place + getD xs i noFrame .size ≤ end)
 order-at at [] i o l = absurd (omega arith)
 order-at at (x ∷ xs) zero o l = (o .0, order-ends (x .place + x .size) xs (o .1))
 order-at at (x ∷ xs) (suc i) o l = let h = order-at (x .place + x .size) xs i (o .1) (omega arith) in let b = o .0 in (let k = h .0 in omega arith, h .1)
 
-order-two : (at : ℕ) (xs : List TagFrame) (i j end : ℕ) → InOrder at xs end → i < j → j < length xs → getD xs i noFrame .place + getD xs i noFrame .size + 10 ≤ getD xs j noFrame .place
+order-two : (at : ℕ) (xs : List TagFrame) (i j end : ℕ) → InOrder at xs end → i < j → j < length xs → getD xs i noFrame .place + getD xs i
+    noFrame .size + 10 ≤ getD xs j noFrame .place
 order-two at [] i j end o l m = absurd (omega arith)
 order-two at (x ∷ xs) i zero end o l m = absurd (omega arith)
 order-two at (x ∷ xs) zero (suc j) end o l m = order-at (x .place + x .size) xs j (o .1) (omega arith) .0

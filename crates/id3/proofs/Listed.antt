@@ -5,11 +5,11 @@ use mathlib.Core.List.{List, [], _∷_}
 use mathlib.Core.Bool.{Bool, true, false, cond}
 use Prim.Native.Nat.{ℕ, _≤_}
 use native.Mathlib.Omega.{arith}
-use lib.Dec.{T, ltb}
+use lib.Dec.{ltb}
 use lib.ListN.{length, getD}
 use Rattle.cursor.specs.Machine.{Out, ok, refused}
-use Rattle.cursor.specs.Refusals.{noSuchRow, isAllowed}
-use Rattle.room.specs.Room.{Result, good, bad, Among}
+use Rattle.cursor.specs.Refusals.{noSuchRow}
+use Rattle.room.specs.Room.{good, bad, Among}
 use Rattle.room.proofs.Listed.{allowed-front, among-if}
 use Rattle.id3.specs.declared.TagFrame.{TagFrame}
 use Rattle.id3.specs.Frames.{framesOf, noFrame, countIn, frameIn, frameCount, frameAt, countRefusals, frameRefusals}

@@ -1,7 +1,7 @@
 // Walks an ID3v2.4 tag: counts its frames, and gives the name and the contents' place and length of one of them. It reads whatever it is lent, hidden contents
 // included, so its answers are no part of a sheet.
 ghost use mathlib.Core.Path.{_≡_};
-ghost use Prim.Native.Nat.{_≤_, _<_, _^_, _+_};
+ghost use Prim.Native.Nat.{_≤_, _<_, _+_};
 ghost use lib.ListN.{length, getD};
 ghost use Rattle.cursor.specs.Machine.{run};
 ghost use Rattle.cursor.specs.Told.{numberTold, passTold};

@@ -47,7 +47,8 @@ from-less : (low at : ℕ) (ns : List Node) → low ≤ at → From at ns → Fr
 from-less low at [] l a = tt
 from-less low at (r ∷ ns) l a = (let b = a .0 in omega arith, from-less low at ns l (a .1))
 
-module _ (lim : Limits) (f g : List ℕ) (long : length f ≡ length g) (h : Header) (after : h .extent .end ≤ h .extent .start) (ordered : h .extent .start ≤ h .extent .last) (inside : h .extent .last < length f)
+module _ (lim : Limits) (f g : List ℕ) (long : length f ≡ length g) (h : Header) (after : h .extent .end ≤ h .extent .start)
+    (ordered : h .extent .start ≤ h .extent .last) (inside : h .extent .last < length f)
     (same : (k : ℕ) → h .extent .end ≤ k → getD f k 0 ≡ getD g k 0) where
   offset-same : (r : Node) → h .extent .end ≤ r .start → offsetAt f r ≡ offsetAt g r
   unfolding offsetAt
@@ -79,25 +80,31 @@ module _ (lim : Limits) (f g : List ℕ) (long : length f ≡ length g) (h : Hea
       let p = part-is h (length f) (r .target) (omega arith) in
       let es = trace (target lim f h log r) f (r .target) in
       let n : nodesOf (log ++ es) ≡ nodesOf log ++ nodesOf es = rows-on nodeOf log es in
-      rw (y, n) (from-on _ (nodesOf log) (nodesOf es) s (from-less _ (r .target) (nodesOf es) (o .0) (detached-from f (context lim h (length f)) _ _ _ _ (r .target) (p .0) (t .runs))))
+      rw (y, n) (from-on _ (nodesOf log) (nodesOf es) s
+      (from-less _ (r .target) (nodesOf es) (o .0) (detached-from f (context lim h (length f)) _ _ _ _ (r .target) (p .0) (t .runs))))
 
   follow-same : (k i : ℕ) (o : Result Events) → ((log : Events) → o ≡ good log → From (h .extent .end) (nodesOf log)) → follow k lim f h i o ≡ follow k lim g h i o
   unfolding follow
   follow-same zero i o a = refl
   follow-same (suc k) i (bad n p) a = refl
-  follow-same (suc k) i (good log) a = by (ltb i (length (nodesOf log))) refl (λ t. follow-same k (i + 1) (reach lim f h log r) (λ log′ q. grown log log′ r (a log refl) (reached lim f h log r q)))
+  follow-same (suc k) i (good log) a = by (ltb i (length (nodesOf log))) refl
+      (λ t. follow-same k (i + 1) (reach lim f h log r) (λ log′ q. grown log log′ r (a log refl) (reached lim f h log r q)))
     where
       r : Node
       r = nodeAt (nodesOf log) i
 
-      by : (b : Bool) → ltb i (length (nodesOf log)) ≡ b → (ltb i (length (nodesOf log)) ≡ true → follow k lim f h (i + 1) (reach lim f h log r) ≡ follow k lim g h (i + 1) (reach lim f h log r))
+      by : (b : Bool) → ltb i (length (nodesOf log)) ≡ b →
+          (ltb i (length (nodesOf log)) ≡ true → follow k lim f h (i + 1) (reach lim f h log r) ≡ follow k lim g h (i + 1) (reach lim f h log r))
           → cond b (follow k lim f h (i + 1) (reach lim f h log r)) (good log) ≡ cond b (follow k lim g h (i + 1) (reach lim g h log r)) (good log)
       by true t rest = rest t ∙ ap (follow k lim g h (i + 1)) (reach-same log r (from-at _ (nodesOf log) (a log refl) i (ltb-true _ _ t)))
       by false t rest = refl
 
-  tree-rows : (o : Out Made) → run (treeOf lim (length f) h) f (h .extent .start) ≡ o → (log : Events) → logged [] o (trace (treeOf lim (length f) h) f (h .extent .start)) ≡ good log → From (h .extent .end) (nodesOf log)
+  tree-rows : (o : Out Made) → run (treeOf lim (length f) h) f (h .extent .start) ≡ o → (log : Events) → logged [] o
+      (trace (treeOf lim (length f) h) f (h .extent .start)) ≡ good log → From (h .extent .end) (nodesOf log)
   unfolding logged
-  tree-rows (ok m p) e log q = subst (λ (es : Events). From (h .extent .end) (nodesOf es)) (own q) (from-less _ (h .extent .start) (nodesOf (trace (treeOf lim (length f) h) f (h .extent .start))) after (tree-from f (context lim h (length f)) (h .extent .last + 1) (h .extent .start) (omega arith) e))
+  tree-rows (ok m p) e log q = subst (λ (es : Events). From (h .extent .end) (nodesOf es)) (own q)
+      (from-less _ (h .extent .start) (nodesOf (trace (treeOf lim (length f) h) f (h .extent .start))) after
+      (tree-from f (context lim h (length f)) (h .extent .last + 1) (h .extent .start) (omega arith) e))
     where
       own : {x y : Events} → good x ≡ good y → x ≡ y
       own e = cc

@@ -95,7 +95,8 @@ pub record MendedAlike (lim : Limits) (h : Header) (ns : List Node) (is : List I
 same-header : {x y : Header} {p q : ℕ} → ok x p ≡ ok y q → x ≡ y
 same-header e = cc
 
-module _ (lim : Limits) (f g : List ℕ) {h : Header} {ns : List Node} {is : List Item} {w : Fields} (x : Parts (length f) f w) (hold : Hold w (length f) (lastOf f w)) (judged : Judged (length f) (valued w (length f) (lastOf f w)))
+module _ (lim : Limits) (f g : List ℕ) {h : Header} {ns : List Node} {is : List Item} {w : Fields} (x : Parts (length f) f w)
+    (hold : Hold w (length f) (lastOf f w)) (judged : Judged (length f) (valued w (length f) (lastOf f w)))
     (e : readFile lim (setTo f w (length f) (lastOf f w)) ≡ rows h ns is) (d : DifferInPrivate h ns is f g) where
   abbrev copy₁ : List ℕ
   copy₁ = setTo f w (length f) (lastOf f w)
@@ -107,7 +108,8 @@ module _ (lim : Limits) (f g : List ℕ) {h : Header} {ns : List Node} {is : Lis
   header-was =
       let l = set-length f w (length f) (lastOf f w) in
       let r = read-back lim copy₁ e .header-is in
-      same-header (sym (subst (λ k. run (header k) copy₁ 0 ≡ ok h (read-back lim copy₁ e .next)) l r) ∙ parts-header (length f) copy₁ (valued-parts (length f) f copy₁ x (set-valued (places (length f) f x) f refl (length f) (lastOf f w) hold)) judged)
+      same-header (sym (subst (λ k. run (header k) copy₁ 0 ≡ ok h (read-back lim copy₁ e .next)) l r) ∙ parts-header (length f) copy₁
+      (valued-parts (length f) f copy₁ x (set-valued (places (length f) f x) f refl (length f) (lastOf f w) hold)) judged)
 
   -- the header is the same
   head-same : AgreeUpTo f g 0 (w .last .end)
@@ -116,7 +118,9 @@ module _ (lim : Limits) (f g : List ℕ) {h : Header} {ns : List Node} {is : Lis
       d .elsewhere k (omega arith) (header-public lim copy₁ e k (subst (λ (v : Header). k < v .extent .end) (sym header-was) hi))
 
   same-parts : Parts (length g) g w
-  same-parts = fields-parts (length g) g (subst (λ k. run (fields k) g 0 ≡ ok w (w .last .end)) (d .same-length) (depends (fields (length f)) f g 0 (parts-fields (length f) f x) head-same)) .0
+  same-parts = fields-parts (length g) g
+      (subst (λ k. run (fields k) g 0 ≡ ok w (w .last .end)) (d .same-length)
+      (depends (fields (length f)) f g 0 (parts-fields (length f) f x) head-same)) .0
 
   copies-differ : DifferInPrivate h ns is copy₁ copy₂
   copies-differ =
@@ -154,7 +158,8 @@ module _ (lim : Limits) (f g : List ℕ) {h : Header} {ns : List Node} {is : Lis
         ];
       }
 
-pub mended-alike : (lim : Limits) (f g : List ℕ) {h : Header} {ns : List Node} {is : List Item} → readFile lim (mended f) ≡ rows h ns is → DifferInPrivate h ns is f g → MendedAlike lim h ns is f g
+pub mended-alike : (lim : Limits) (f g : List ℕ) {h : Header} {ns : List Node} {is : List Item} → readFile lim (mended f) ≡ rows h ns is →
+    DifferInPrivate h ns is f g → MendedAlike lim h ns is f g
 mended-alike lim f g e d =
     let a = ap accepted e in
     let m = mended-is lim f a in

@@ -146,9 +146,12 @@ module _ (lim : Limits) (f : List ℕ) {w : Fields} {q : ℕ} (e : run (fields (
     unfolding mend changes linesOf
     asked-is d room space = let m = mended-set f (fields-parts (length f) f e .0) in rw (taken d, m, e, i) refl
 
-module _ (f : List ℕ) (nsize isize room space : ℕ) {w : Fields} {q : ℕ} (e : run (fields (length f)) f 0 ≡ ok w q) {b : ℕ} (i : b ≡ lastOf f w) (k : soundFor (length f) w b ≡ true) {r : Read}
+module _ (f : List ℕ) (nsize isize room space : ℕ) {w : Fields} {q : ℕ} (e : run (fields (length f)) f 0 ≡ ok w q) {b : ℕ}
+    (i : b ≡ lastOf f w) (k : soundFor (length f) w b ≡ true) {r : Read}
     (a : r ≡ readOf (readTree (limits nsize isize) f (ok (headerFor w b) (w .last .end)))) where
-  pub ends-set : {s : Summary} → r ≡ read.Is s → {t u : List ℕ} → t ≡ nodeTable nsize (readTree (limits nsize isize) f (ok (headerFor w b) (w .last .end))) → u ≡ itemTable isize (readTree (limits nsize isize) f (ok (headerFor w b) (w .last .end)))
+  pub ends-set : {s : Summary} → r ≡ read.Is s → {t u : List ℕ} → t ≡ nodeTable nsize
+      (readTree (limits nsize isize) f (ok (headerFor w b) (w .last .end))) → u ≡ itemTable isize
+      (readTree (limits nsize isize) f (ok (headerFor w b) (w .last .end)))
       → length t ≡ nsize → length u ≡ isize → {y : Result Sizes} {t′ u′ c l : List ℕ} → Set f w b y t u room space t′ u′ c l → Ends f nsize isize room space y t′ u′ c l
   unfolding writtenNodes writtenItems fitting
   ends-set d {t} {u} x y lt lu z =
@@ -167,7 +170,8 @@ module _ (f : List ℕ) (nsize isize room space : ℕ) {w : Fields} {q : ℕ} (e
       set = record { copy = setTo f w (length f) b; lines = bothLines (w .length) (w .last) (length f) b }
 
       reads : readTree (limits nsize isize) f (ok (headerFor w b) (w .last .end)) ≡ readFile (limits nsize isize) (setTo f w (length f) b)
-      reads = sym (reads-behind (limits nsize isize) f e i k) ∙ ap (readFile (limits nsize isize)) (mended-set f (fields-parts (length f) f e .0) ∙ ap (setTo f w (length f)) (sym i))
+      reads = sym (reads-behind (limits nsize isize) f e i k) ∙ ap (readFile (limits nsize isize))
+          (mended-set f (fields-parts (length f) f e .0) ∙ ap (setTo f w (length f)) (sym i))
 
       by : (c : Bool) → (keptAs t (cond c (good set) (bad 22 0)) ≡ writtenNodes nsize (limits nsize isize) (copyIn (cond c (good set) (bad 22 0))))
           × (keptAs u (cond c (good set) (bad 22 0)) ≡ writtenItems isize (limits nsize isize) (copyIn (cond c (good set) (bad 22 0))))

@@ -36,7 +36,8 @@ digits-top {f} (further {left} {v} {at} {w} s d) (suc k) e =
     rw (without w k) (omega arith)
 
 -- and they are w in k bytes
-digits-lie : {f : List ℕ} {left v at w q : ℕ} → q ≤ length f → ((j : ℕ) → at ≤ j → j < q → getD f j 0 < 256) → Digits f left v at w q → (k : ℕ) → q ≡ at + k → Lies f at (inBytes k w)
+digits-lie : {f : List ℕ} {left v at w q : ℕ} → q ≤ length f → ((j : ℕ) → at ≤ j → j < q → getD f j 0 < 256) → Digits f left v at w q →
+    (k : ℕ) → q ≡ at + k → Lies f at (inBytes k w)
 unfolding inBytes
 digits-lie i small (final {left} {v} {at} s) zero e = absurd (omega arith)
 digits-lie i small (final {left} {v} {at} s) (suc zero) e = lies-cons (omega arith) (omega arith) (lies-none (omega arith))
@@ -90,5 +91,9 @@ fitted (suc k) n l m =
     let a = in-bytes-length (suc k) n in
     let (v, d) = digits-some n k 4 0 0 (lies-itself s) (omega arith) in
     let b = in-bytes-length (suc k) v in
-    let h = digits-lie (omega arith) (λ j lo hi. small-bytes (suc k) n j) d (suc k) refl in
-    (v, none-above v (suc k) (digits-top d (suc k) refl), ext-getD 0 s (inBytes (suc k) v) (omega arith) (λ j i. let o : 0 + j ≡ j = omega arith in rw o at (h .same j (omega arith))))
+    let h = digits-lie (omega arith) (λ j lo hi. small-bytes (suc k) n j) d (suc k) refl in (
+      v,
+      none-above v (suc k) (digits-top d (suc k) refl),
+      ext-getD 0 s (inBytes (suc k) v) (omega arith)
+          (λ j i. let o : 0 + j ≡ j = omega arith in rw o at (h .same j (omega arith))),
+    )

@@ -70,7 +70,8 @@ pub record Right (f : List ℕ) (w : Fields) (a b : ℕ) : Type 0 where
   pub inside : b < length f
 
 module _ (lim : Limits) (f : List ℕ) {w : Fields} (x : Parts (length f) f w) where
-  pub right : (g : List ℕ) → length g ≡ length f → {a b : ℕ} → Valued (length f) f g w a b → {h : Header} {ns : List Node} {is : List Item} → readFile lim g ≡ rows h ns is → Right f w a b
+  pub right : (g : List ℕ) → length g ≡ length f → {a b : ℕ} → Valued (length f) f g w a b → {h : Header} {ns : List Node} {is : List Item} →
+      readFile lim g ≡ rows h ns is → Right f w a b
   unfolding lastOf
   right g n {a} {b} v {h} e =
       let r = read-back lim g e in
@@ -79,12 +80,14 @@ module _ (lim : Limits) (f : List ℕ) {w : Fields} (x : Parts (length f) f w) w
       let s : y ≡ valued w a b = same-fields (sym (parts-fields (length f) g z) ∙ parts-fields (length f) g (valued-parts (length f) f g x v)) in
       let d = subst (Judged (length f)) s j in
       let hs : h ≡ headerFor w b = says ∙ ap (λ u. headerFor u (u .last .value)) s in
-      let (size, q, number-is, fills) = subst (λ (u : Header). Root (u .extent .last + 1) g (u .extent .start)) hs (tree-root _ (h .extent .last + 1) g (h .extent .start) (r .tree-is)) in
+      let (size, q, number-is, fills) = subst (λ (u : Header). Root (u .extent .last + 1) g (u .extent .start)) hs
+      (tree-root _ (h .extent .last + 1) g (h .extent .start) (r .tree-is)) in
       let i = number-inside nodeFrame 3 (b + 1) g (w .start) number-is in
       let k = d .inside in
       let o = d .after in
       let own : numberAt f (w .start) ≡ size = number-value f (w .start)
-      (number-same f g nodeFrame 3 (length f) (w .start) (λ k lo hi. v .same k (inr (inr (omega arith)))) ∙ number-wider nodeFrame 3 3 (b + 1) (length f) g (w .start) number-is (omega arith)) in
+      (number-same f g nodeFrame 3 (length f) (w .start) (λ k lo hi. v .same k (inr (inr (omega arith)))) ∙ number-wider nodeFrame 3 3 (b + 1)
+      (length f) g (w .start) number-is (omega arith)) in
       record { long = d .long; last = omega arith; after = o; ordered = d .ordered; inside = k }
 
   -- values that make an accepted file: the file is the mended one

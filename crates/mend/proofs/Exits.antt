@@ -69,7 +69,8 @@ sets-within : (s f r : List ℕ) (p : ℕ) → p + length s ≤ length f → set
 sets-within [] f r p l = refl
 sets-within (b ∷ s) f r p l = ap (λ v. sets v (suc p) s) (set-append-left f r p b (omega arith)) ∙ sets-within s (set f p b) r (suc p) (omega (arith, length-set f p b))
 
-pub copied : (f : List ℕ) (w : Fields) (b : ℕ) (o : List ℕ) {o₁ o₂ o₃ o₄ : List ℕ} → FieldsIn w (length f) → length f ≤ length o → o₁ ≡ sets o 0 f → o₂ ≡ sets o₁ (w .length .place) (inBytes (width (w .length)) (length f))
+pub copied : (f : List ℕ) (w : Fields) (b : ℕ) (o : List ℕ) {o₁ o₂ o₃ o₄ : List ℕ} → FieldsIn w (length f) → length f ≤ length o → o₁ ≡ sets
+    o 0 f → o₂ ≡ sets o₁ (w .length .place) (inBytes (width (w .length)) (length f))
     → o₃ ≡ sets o₂ (w .last .place) (inBytes (width (w .last)) b) → o₄ ≡ take (length f) o₃ ++ replicate (length o₃ - length f) 0 → o₄ ≡ padded (length o) (setTo f w (length f) b)
 unfolding setTo withField
 copied f w b o {o₁} {o₂} {o₃} i l e₁ e₂ e₃ e₄ =
@@ -91,16 +92,19 @@ copied f w b o {o₁} {o₂} {o₃} i l e₁ e₂ e₃ e₄ =
 -- ---- what is set
 
 module _ (f : List ℕ) (w : Fields) (b : ℕ) {t u : List ℕ} {room space : ℕ} where
-  none : setting room space f w b ≡ bad 22 0 → {r : Result Sizes} → r ≡ bad 22 0 → {t′ u′ c l : List ℕ} → t′ ≡ replicate (length t) 0 → u′ ≡ replicate (length u) 0 → c ≡ replicate room 0 → l ≡ replicate space 0
+  none : setting room space f w b ≡ bad 22 0 → {r : Result Sizes} → r ≡ bad 22 0 → {t′ u′ c l : List ℕ} → t′ ≡ replicate (length t) 0 → u′ ≡
+      replicate (length u) 0 → c ≡ replicate room 0 → l ≡ replicate space 0
       → Set f w b r t u room space t′ u′ c l
   unfolding kept
   none e a x y z v = record { answer = rw e a; nodes = rw e x; items = rw e y; copy = rw e z; lines = rw e v }
 
-  pub set-short : room < length f → {r : Result Sizes} → r ≡ bad 22 0 → {t′ u′ c l : List ℕ} → t′ ≡ replicate (length t) 0 → u′ ≡ replicate (length u) 0 → c ≡ replicate room 0 → l ≡ replicate space 0 → Set f w b r t u room space t′ u′ c l
+  pub set-short : room < length f → {r : Result Sizes} → r ≡ bad 22 0 → {t′ u′ c l : List ℕ} → t′ ≡ replicate (length t) 0 → u′ ≡ replicate
+      (length u) 0 → c ≡ replicate room 0 → l ≡ replicate space 0 → Set f w b r t u room space t′ u′ c l
   unfolding fitting
   set-short l = let e : leb (length (setTo f w (length f) b)) room ≡ false = rw (set-length f w (length f) b) (lt-leb (length f) room l) in none (rw e refl)
 
-  pub set-narrow : length f ≤ room → space < length (bothLines (w .length) (w .last) (length f) b) → {r : Result Sizes} → r ≡ bad 22 0 → {t′ u′ c l : List ℕ} → t′ ≡ replicate (length t) 0 → u′ ≡ replicate (length u) 0 → c ≡ replicate room 0 → l ≡ replicate space 0
+  pub set-narrow : length f ≤ room → space < length (bothLines (w .length) (w .last) (length f) b) → {r : Result Sizes} → r ≡ bad 22 0 →
+      {t′ u′ c l : List ℕ} → t′ ≡ replicate (length t) 0 → u′ ≡ replicate (length u) 0 → c ≡ replicate room 0 → l ≡ replicate space 0
       → Set f w b r t u room space t′ u′ c l
   unfolding fitting
   set-narrow m l =
@@ -108,7 +112,8 @@ module _ (f : List ℕ) (w : Fields) (b : ℕ) {t u : List ℕ} {room space : �
       let k : leb (length (bothLines (w .length) (w .last) (length f) b)) space ≡ false = lt-leb _ space l in
       none (rw (e, k) refl)
 
-  pub set-good : length f ≤ room → {n : ℕ} → n ≡ length (bothLines (w .length) (w .last) (length f) b) → n ≤ space → {c l : List ℕ} → c ≡ padded room (setTo f w (length f) b) → l ≡ padded space (bothLines (w .length) (w .last) (length f) b)
+  pub set-good : length f ≤ room → {n : ℕ} → n ≡ length (bothLines (w .length) (w .last) (length f) b) → n ≤ space → {c l : List ℕ} → c ≡
+      padded room (setTo f w (length f) b) → l ≡ padded space (bothLines (w .length) (w .last) (length f) b)
       → Set f w b (good (record { copy = length f; lines = n })) t u room space t u c l
   unfolding fitting kept
   set-good m {n} e o x y =
@@ -119,12 +124,14 @@ module _ (f : List ℕ) (w : Fields) (b : ℕ) {t u : List ℕ} {room space : �
 -- ---- a file that is refused as it is
 
 module _ (f : List ℕ) (nsize isize : ℕ) (no : accepted (readFile (limits nsize isize) (mended f)) ≡ false) {r : Read} (e : r ≡ readOf (readFile (limits nsize isize) f)) where
-  pub ends-refused : {n : ℕ} {p : FilePlace} → r ≡ read.Refused n p → {t u : List ℕ} → t ≡ nodeTable nsize (readFile (limits nsize isize) f) → u ≡ itemTable isize (readFile (limits nsize isize) f)
+  pub ends-refused : {n : ℕ} {p : FilePlace} → r ≡ read.Refused n p → {t u : List ℕ} → t ≡ nodeTable nsize (readFile (limits nsize isize) f) →
+      u ≡ itemTable isize (readFile (limits nsize isize) f)
       → {room space : ℕ} {c l : List ℕ} → c ≡ replicate room 0 → l ≡ replicate space 0 → Ends f nsize isize room space (bad n (p .0)) t u c l
   unfolding readOf nodeTable itemTable writtenNodes writtenItems kept mend ask
   ends-refused {n} {p} k {t} {u} a b {room} {space} {c} {l} x y = by (readFile (limits nsize isize) f) refl (sym e ∙ k) a b
     where
-      by : (o : Reading) → readFile (limits nsize isize) f ≡ o → readOf o ≡ read.Refused n p → t ≡ nodeTable nsize o → u ≡ itemTable isize o → Ends f nsize isize room space (bad n (p .0)) t u c l
+      by : (o : Reading) → readFile (limits nsize isize) f ≡ o → readOf o ≡ read.Refused n p → t ≡ nodeTable nsize o → u ≡ itemTable isize o →
+          Ends f nsize isize room space (bad n (p .0)) t u c l
       by (rows h ns is) z q a b = let i : _≡_ {A = ℕ} 0 1 = cc in absurd (omega arith)
       by (refusal m j) z q a b =
           let v : m ≡ n = cc in

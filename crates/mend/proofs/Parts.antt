@@ -96,7 +96,8 @@ module _ (n : ℕ) (f : List ℕ) where
   unfolding fields
   fields-parts e =
       post-ran {Q = λ w q. Parts n f w × (w .last .end ≡ q)}
-      (post-step nothing-quiet λ v p o. post-step nothing-quiet λ d a₀ ed. post-step nothing-quiet λ a a₁ le. post-step nothing-quiet λ ds r ty. post-step nothing-quiet λ s b₀ st. post-step nothing-quiet λ b b₁ la.
+      (post-step nothing-quiet λ v p o. post-step nothing-quiet λ d a₀ ed. post-step nothing-quiet λ a a₁ le. post-step nothing-quiet λ ds r ty.
+      post-step nothing-quiet λ s b₀ st. post-step nothing-quiet λ b b₁ la.
       let (le′, a-at, a-end) = field-was a₀ le in
       let (st′, s-at, s-end) = field-was r st in
       let (la′, b-at, b-end) = field-was b₀ la in
@@ -139,7 +140,8 @@ module _ (n : ℕ) (f : List ℕ) where
   unfolding extent
   extent-was at e =
       post-ran {Q = λ x q. Bounds at x}
-      (post-place _ at (post-step nothing-quiet λ s m st. post-place _ m (post-step nothing-quiet λ l r la. post-place _ r (post-check _ _ λ t. post-check _ _ λ u. post-check _ _ λ v.
+      (post-place _ at (post-step nothing-quiet λ s m st. post-place _ m
+      (post-step nothing-quiet λ l r la. post-place _ r (post-check _ _ λ t. post-check _ _ λ u. post-check _ _ λ v.
       post-ret (record { middle = m; start-is = st; last-is = la; after = leb-true r s t; ordered = leb-true s l u; inside = ltb-true l n v }))))) e
 
   -- a header that was read, with its fields
@@ -153,7 +155,15 @@ module _ (n : ℕ) (f : List ℕ) where
       (post-step nothing-quiet λ v p o. post-step nothing-quiet λ d a₀ ed. post-step nothing-quiet λ u a₁ le. post-step nothing-quiet λ ds r ty. post-step nothing-quiet λ x q ex.
       let b = extent-was r ex in
       post-ret (
-        record { version = v; edition = d; length = record { place = a₀; value = n; end = a₁ }; types = ds; start = x .start; last = record { place = b .middle; value = x .last; end = x .end } },
+        record {
+          version = v;
+          edition = d;
+          length = record { place = a₀; value = n; end = a₁ };
+          types = ds;
+          start = x .start;
+          last = record
+              { place = b .middle; value = x .last; end = x .end };
+        },
         record { opened = p; opening-is = o; edition-is = ed; length-is = length-was a₀ le; typed = r; types-are = ty; start-is = b .start-is; last-is = b .last-is },
         record { long = refl; after = b .after; ordered = b .ordered; inside = b .inside },
         refl,
@@ -162,7 +172,20 @@ module _ (n : ℕ) (f : List ℕ) where
   pub parts-header : {w : Fields} → Parts n f w → Judged n w → run (header n) f 0 ≡ ok (headerFor w (w .last .value)) (w .last .end)
   unfolding header fileLength extent
   parts-header x j =
-      simp (running, x .opening-is, x .edition-is, x .length-is, eq-eqb _ _ (j .long), x .types-are, x .start-is, x .last-is, le-leb _ _ (j .after), le-leb _ _ (j .ordered), lt-ltb _ _ (j .inside))
+      simp (
+        running,
+        x .opening-is,
+        x .edition-is,
+        x .length-is,
+        eq-eqb _ _ (j .long),
+        x .types-are,
+        x .start-is,
+        x .last-is,
+        le-leb _ _
+            (j .after),
+        le-leb _ _ (j .ordered),
+        lt-ltb _ _ (j .inside),
+      )
 
 -- ---- other values
 

@@ -68,7 +68,8 @@ module _ (lim : Limits) (f : List ℕ) where
       let n = set-length f w (length f) b in
       let v = set-valued (places (length f) f x) f refl (length f) b (s .holds) in
       let j : Judged (length f) (valued w (length f) b) = record { long = refl; after = s .after; ordered = s .ordered; inside = s .inside } in
-      let h : run (header (length g)) g 0 ≡ ok (headerFor w b) (w .last .end) = subst (λ k. run (header k) g 0 ≡ ok (headerFor w b) (w .last .end)) (sym n) (parts-header (length f) g (valued-parts (length f) f g x v) j) in
+      let h : run (header (length g)) g 0 ≡ ok (headerFor w b) (w .last .end) = subst
+      (λ k. run (header k) g 0 ≡ ok (headerFor w b) (w .last .end)) (sym n) (parts-header (length f) g (valued-parts (length f) f g x v) j) in
       rw (mended-set f x) (ap (readTree lim g) h ∙ sym (agree lim f g (sym n) (headerFor w b) (s .after) (s .ordered) (s .inside) (λ k l. v .same k (inr (inr l))) (w .last .end)))
 
   -- where it is accepted, the right values are sound
@@ -161,7 +162,9 @@ module _ (lim : Limits) (f : List ℕ) where
           is true e = absurd (none (mended-is e))
           is false e = refl
 
-      by : (o : Reading) → readFile lim f ≡ o → (n : ℕ) × (p : ℕ) × (readFile lim f ≡ refusal n p) × ((room space : ℕ) → cond (accepted (readFile lim (mended f))) (fitting room space (repair f)) (ask (readFile lim f) (λ h ns is. fitting room space (repair f))) ≡ bad n p)
+      by : (o : Reading) → readFile lim f ≡ o → (n : ℕ) × (p : ℕ) × (readFile lim f ≡ refusal n p) ×
+          ((room space : ℕ) → cond (accepted (readFile lim (mended f))) (fitting room space (repair f))
+          (ask (readFile lim f) (λ h ns is. fitting room space (repair f))) ≡ bad n p)
       by (refusal n p) r = (n, p, r, λ room space. rw (no, r) refl)
       by (rows h ns is) r = absurd (none (mended-is (ap accepted (still r))))
 

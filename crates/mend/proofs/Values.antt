@@ -22,7 +22,8 @@ use Rattle.mend.proofs.Parts.{Parts, Places, Valued}
 pub set-length : (f : List ℕ) (w : Fields) (a b : ℕ) → length (setTo f w a b) ≡ length f
 unfolding setTo withField
 set-length f w a b =
-    length-sets (sets f (w .length .place) (inBytes (width (w .length)) a)) (w .last .place) (inBytes (width (w .last)) b) ∙ length-sets f (w .length .place) (inBytes (width (w .length)) a)
+    length-sets (sets f (w .length .place) (inBytes (width (w .length)) a)) (w .last .place) (inBytes (width (w .last)) b) ∙ length-sets f
+    (w .length .place) (inBytes (width (w .length)) a)
 
 -- a byte of a field
 abbrev InField : Field → ℕ → Type 0

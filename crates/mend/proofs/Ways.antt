@@ -88,7 +88,8 @@ module _ (name : List ℕ) (x : Field) (n : ℕ) {o o₁ : List ℕ} {s s₁ : �
   unfolding line
   line-same e p = rw (eq-eqb (x .value) n e) p
 
-  pub line-is : ((x .value ≡ n) → ⊥) → {o₂ o₃ o₄ o₅ : List ℕ} {s₂ s₃ s₄ s₅ : ℕ} → Counts o o₁ s name s₁ → Counts o₁ o₂ s₁ (tabbed (x .place)) s₂ → Counts o₂ o₃ s₂ (tabbed (x .value)) s₃
+  pub line-is : ((x .value ≡ n) → ⊥) → {o₂ o₃ o₄ o₅ : List ℕ} {s₂ s₃ s₄ s₅ : ℕ} → Counts o o₁ s name s₁ → Counts o₁ o₂ s₁ (tabbed (x .place))
+      s₂ → Counts o₂ o₃ s₂ (tabbed (x .value)) s₃
       → Counts o₃ o₄ s₃ (tabbed n) s₄ → Counts o₄ o₅ s₄ (10 ∷ []) s₅ → Counts o o₅ s (line name x n) s₅
   unfolding line
   line-is e p q u v w = rw (ne-eqb (x .value) n e) (counts-then (counts-then (counts-then (counts-then p q) u) v) w)

@@ -2,19 +2,15 @@
 -- Assumes nothing.
 use mathlib.Core.Path.{_≡_, refl, _∙_}
 use mathlib.Core.Logic.{_⊎_, inl, inr}
-use mathlib.Core.List.{List}
 use Prim.Native.Nat.{ℕ, _+_, _-_, _≤_, _<_}
 use native.Mathlib.Omega.{arith}
 use lib.Dec.{T}
-use borrow.Author.Tests.{ltb-true, leb-true}
-use Rattle.cursor.specs.Rows.{Part, nodeRow, itemRow, plain, Plain, language, name, uri, hasInline, inlineSize, P}
+use Rattle.cursor.specs.Rows.{Part, nodeRow, itemRow, plain, Plain, language, name, uri, hasInline, inlineSize}
 use Rattle.cursor.specs.Machine.{times, many}
-use Rattle.cursor.specs.declared.Node.{Node}
-use Rattle.cursor.specs.declared.Item.{Item}
 use Rattle.cursor.proofs.Wp.{Wp, Rule, Free, wp-after, wp-weaken, wp-ret, wp-refuse, wp-if, wp-check, wp-place, wp-skip, wp-many, wp-times}
 use Rattle.cursor.proofs.Leaves.{number-on, block-on}
 use Rattle.header.specs.Types.{Known, known, unknown, formatOf}
-use Rattle.metadata.specs.Metadata.{Context, field, contents, itemFrame, kindOf, fieldOf, nameLengthOf, rowOf, universal, declaredFormat, version, rowsFor, item, Count, nextItem, metaItems, metadata}
+use Rattle.metadata.specs.Metadata.{Context, field, contents, itemFrame, kindOf, fieldOf, nameLengthOf, rowOf, universal, declaredFormat, version, rowsFor, item, nextItem, metaItems, metadata}
 use Rattle.metadata.specs.declared.Made.{Made}
 use Rattle.metadata.specs.declared.Label.{Label}
 use Rattle.metadata.specs.declared.Field.{Field}
@@ -29,7 +25,8 @@ OfNames = ℕ → ℕ → Type 0
 -- What is shown of each thing that is passed, in a tree that ends at `top`, in a file of `size` bytes: a node's inline data and an item's
 -- data are where their rows say, and an item's custom name was passed, so that what N gives of a name that is passed holds of it.
 abbrev Shown : OfNames → (top size : ℕ) → Part → ℕ → ℕ → Type 0
-Shown N top size (nodeRow r) p n = (r .header ≤ r .size) × (r .start + r .size ≤ top) × ((r .reference ≡ 3) ⊎ (r .target + r .extent ≤ size)) × (n ≡ inlineSize r) × (T (hasInline r) → r .target ≡ p)
+Shown N top size (nodeRow r) p n = (r .header ≤ r .size) × (r .start + r .size ≤ top) ×
+    ((r .reference ≡ 3) ⊎ (r .target + r .extent ≤ size)) × (n ≡ inlineSize r) × (T (hasInline r) → r .target ≡ p)
 Shown N top size (itemRow r) p n = (r .place ≡ p) × (r .size ≡ n) × (p + n ≤ top) × ((r .kind ≡ 0) ⊎ ((r .field + r .nameLength ≤ top) × N (r .field) (r .nameLength)))
 Shown N top size (plain x) p n = p + n ≤ top
 
@@ -125,9 +122,11 @@ module _ (N : OfNames) (top size : ℕ) where
     unfolding rowsFor
     rows-on Universal m at h = wp-weaken (universal-on x l end row-in m at) (λ m′ q y. (y .0, omega arith, omega arith))
     rows-on (Versions n) m at h =
-        wp-times (Since m) n m (λ m′ p k i. wp-weaken (version-on x l end row-in (m .items) m′ p) (λ m″ q y. ((y .0 .0 ∙ i .0, omega arith), omega arith, omega arith))) (refl, omega arith) h
+        wp-times (Since m) n m (λ m′ p k i. wp-weaken (version-on x l end row-in (m .items) m′ p)
+        (λ m″ q y. ((y .0 .0 ∙ i .0, omega arith), omega arith, omega arith))) (refl, omega arith) h
 
-  pub item-on : (x : Context) (node index end : ℕ) → end ≤ top → (m : Made) (at : ℕ) → Wp (Inside N top size) (item x node index end m) (λ m′ q. Since m m′ × (at < q) × (q ≤ end)) at
+  pub item-on : (x : Context) (node index end : ℕ) → end ≤ top → (m : Made) (at : ℕ) → Wp (Inside N top size) (item x node index end m)
+      (λ m′ q. Since m m′ × (at < q) × (q ≤ end)) at
   unfolding item
   item-on x node index end o m at =
       wp-after (frame-on end at o) λ i q y.

@@ -44,12 +44,14 @@ module _ {lim most : Limits} (less : Less lim most) (x : Context) (k : ℕ) wher
         (then-rowless (block-uses _ tt end) λ n d a b. checks _ _ _ (places λ q. then-rowless (number-uses _ tt (q + n)) λ format e a′ b′. places λ r.
         passes _ _ (ends (omega arith, omega arith, omega arith, omega arith))))
 
-    version-limited : (before : ℕ) (m : Made) (c : Rows) → Items lim k m c → Limited (room lim) (Items lim k) c (version (under x lim) l end before m) (version (under x most) l end before m)
+    version-limited : (before : ℕ) (m : Made) (c : Rows) → Items lim k m c → Limited (room lim) (Items lim k) c
+        (version (under x lim) l end before m) (version (under x most) l end before m)
     unfolding version
     version-limited before m c i =
         row-checks item (m .items) (most .items) (i .2) (less .items)
         (λ p. makes-then _ λ t. makes-then _ λ format. makes-then _ λ n. makes-then place λ q. makes-row _ _ _ tt) λ left p.
-        (then-rowless (number-uses _ tt end) λ t d a b. then-rowless (format-uses p (formatOf (x .types) t)) λ format d₁ a₁ b₁. then-rowless (block-uses _ tt end) λ n d₂ a₂ b₂. places λ q.
+        (then-rowless (number-uses _ tt end) λ t d a b. then-rowless (format-uses p (formatOf (x .types) t)) λ format d₁ a₁ b₁. then-rowless
+        (block-uses _ tt end) λ n d₂ a₂ b₂. places λ q.
         passes _ _ (ends (omega arith, omega arith, omega arith, omega arith)))
 
     rows-limited : (d : Contents) (m : Made) (c : Rows) → Items lim k m c → Limited (room lim) (Items lim k) c (rowsFor (under x lim) l end d m) (rowsFor (under x most) l end d m)
@@ -57,16 +59,21 @@ module _ {lim most : Limits} (less : Less lim most) (x : Context) (k : ℕ) wher
     rows-limited Universal m c i = universal-limited m c i
     rows-limited (Versions n) m c i = counts (Items lim k) n m (λ s d j. version-limited (m .items) s d j) i
 
-  item-limited : (row index end : ℕ) (m : Made) (c : Rows) → Items lim k m c → Limited (room lim) (Items lim k) c (spec.item (under x lim) row index end m) (spec.item (under x most) row index end m)
+  item-limited : (row index end : ℕ) (m : Made) (c : Rows) → Items lim k m c → Limited (room lim) (Items lim k) c
+      (spec.item (under x lim) row index end m) (spec.item (under x most) row index end m)
   unfolding spec.item
   item-limited row index end m c i =
-      then-rowless (frame-uses tt tt end) λ j d a b. rows-limited (record { node = row; item = index; field = j .field }) end (j .contents) m d (omega arith, omega arith, omega arith, omega arith)
+      then-rowless (frame-uses tt tt end) λ j d a b. rows-limited (record { node = row; item = index; field = j .field }) end (j .contents) m d
+      (omega arith, omega arith, omega arith, omega arith)
 
-  items-limited : (row end : ℕ) (m : Made) (c : Rows) → Items lim k m c → Limited (room lim) (Items lim k) c (metaItems (under x lim) row end m) (metaItems (under x most) row end m)
+  items-limited : (row end : ℕ) (m : Made) (c : Rows) → Items lim k m c → Limited (room lim) (Items lim k) c
+      (metaItems (under x lim) row end m) (metaItems (under x most) row end m)
   unfolding metaItems nextItem
   items-limited row end m c i =
       after (repeats (λ s. Items lim k (s .made)) end _ (λ s d j. after (item-limited row (s .index) end (s .made) d j) λ m′ e v. ends v) i) λ s d j. ends j
 
-  pub metadata-limited : (row end : ℕ) (m : Made) (c : Rows) → Items lim k m c → Limited (room lim) (Items lim k) c (metadata (under x lim) row end m) (metadata (under x most) row end m)
+  pub metadata-limited : (row end : ℕ) (m : Made) (c : Rows) → Items lim k m c → Limited (room lim) (Items lim k) c
+      (metadata (under x lim) row end m) (metadata (under x most) row end m)
   unfolding metadata
-  metadata-limited row end m c i = then-rowless (block-with _ tt _ end (λ p. tt)) λ n d a b. places λ q. items-limited row (q + n) m d (omega arith, omega arith, omega arith, omega arith)
+  metadata-limited row end m c i = then-rowless (block-with _ tt _ end (λ p. tt)) λ n d a b. places λ q. items-limited row (q + n) m d
+      (omega arith, omega arith, omega arith, omega arith)

@@ -27,14 +27,16 @@ module _ (x : Context) (l : Label) (end : ℕ) where
   version-orders : (before : ℕ) (m : Made) (k c : ℕ) → l .node ≡ k → Orders (version x l end before m) (Counted k c m) k c
   unfolding version
   version-orders before m k c e =
-      places λ p. checks _ _ _ (then-rowless (number-uses _ tt end) λ t. then-rowless (format-uses p (formatOf (x .types) t)) λ format. then-rowless (block-uses _ tt end) λ n. places λ q.
+      places λ p. checks _ _ _ (then-rowless (number-uses _ tt end) λ t. then-rowless (format-uses p (formatOf (x .types) t)) λ format.
+      then-rowless (block-uses _ tt end) λ n. places λ q.
       passes-item _ _ e (ends (refl, refl, omega arith)))
 
   rows-order : (d : Contents) (m : Made) (k c : ℕ) → l .node ≡ k → Orders (rowsFor x l end d m) (Counted k c m) k c
   unfolding rowsFor
   rows-order Universal m k c e = universal-orders m k c e
   rows-order (Versions n) m k c e =
-      counts (Counted k c m) n m (λ m′ k′ c′ i. weaken (version-orders (m .items) m′ k′ c′ (e ∙ omega arith)) (λ m″ k″ c″ j. (omega arith, omega arith, omega arith))) (refl, refl, refl)
+      counts (Counted k c m) n m (λ m′ k′ c′ i. weaken (version-orders (m .items) m′ k′ c′ (e ∙ omega arith))
+      (λ m″ k″ c″ j. (omega arith, omega arith, omega arith))) (refl, refl, refl)
 
 item-orders : (x : Context) (node index end : ℕ) (m : Made) (k c : ℕ) → node ≡ k → Orders (item x node index end m) (Counted k c m) k c
 unfolding item
@@ -44,7 +46,9 @@ items-order : (x : Context) (node end : ℕ) (m : Made) (k c : ℕ) → node ≡
 unfolding metaItems nextItem
 items-order x node end m k c e =
     after
-    (repeats (λ s. Counted k c m (s .made)) end _ (λ s k′ c′ i. after (item-orders x node (s .index) end (s .made) k′ c′ (e ∙ omega arith)) λ m″ k″ c″ j. ends (omega arith, omega arith, omega arith)) (refl, refl, refl))
+    (repeats (λ s. Counted k c m (s .made)) end _
+    (λ s k′ c′ i. after (item-orders x node (s .index) end (s .made) k′ c′ (e ∙ omega arith)) λ m″ k″ c″ j. ends
+    (omega arith, omega arith, omega arith)) (refl, refl, refl))
     λ s k′ c′ i. ends i
 
 pub metadata-orders : (x : Context) (node end : ℕ) (m : Made) (k c : ℕ) → node ≡ k → Orders (metadata x node end m) (Counted k c m) k c

@@ -41,4 +41,6 @@ module _ {f : List ℕ} where
   unfolding metadata metaItems nextItem item
   metadata-stays x node end m o =
       blocks _ _ end o λ n q k. let j : q + n ≤ length f = omega arith in
-      place-at _ q ((after (repeats (q + n) _ (λ (k : Count). after (after (frame-stays (q + n) j) λ i. rows-stay (q + n) j x _ (i .contents) (k .made)) λ m′. ends)) λ k. ends) .from q (omega arith))
+      place-at _ q ((after (repeats (q + n) _
+      (λ (k : Count). after (after (frame-stays (q + n) j) λ i. rows-stay (q + n) j x _ (i .contents) (k .made)) λ m′. ends)) λ k. ends) .from
+      q (omega arith))

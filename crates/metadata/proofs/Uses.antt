@@ -30,7 +30,8 @@ module _ {S : Allowed} (r : S .frame metaFrame) (w : S .part (plain name)) where
     rows-use l end Universal m =
         places λ p. checks _ _ _ tt (after (block-uses _ r _) λ n. checks _ _ _ tt (places λ q. after (number-uses _ r _) λ format. places λ s. passes _ _ (d _) ends))
     rows-use l end (Versions n) m = counts n m λ m′.
-        places λ p. checks _ _ _ tt (after (number-uses _ r _) λ t. after (format-uses p (formatOf (x .types) t)) λ format. after (block-uses _ r _) λ n. places λ q. passes _ _ (d _) ends)
+        places λ p. checks _ _ _ tt (after (number-uses _ r _) λ t. after (format-uses p (formatOf (x .types) t)) λ format. after (block-uses _ r _)
+        λ n. places λ q. passes _ _ (d _) ends)
 
     pub metadata-uses : (node end : ℕ) (m : Made) → Uses S (metadata x node end m)
     unfolding metadata metaItems nextItem item

@@ -1,14 +1,14 @@
 -- The ways through an item, through versions, and through items end to end: what each exit of the code comes to.
 -- Assumes nothing.
-use mathlib.Core.Path.{_≡_, refl, sym, ap, _∙_, subst}
-use mathlib.Core.List.{List, [], _∷_}
-use Prim.Native.Nat.{ℕ, zero, suc, _+_, _-_, _*_, _≤_, _<_}
+use mathlib.Core.Path.{_≡_, refl, sym, _∙_, subst}
+use mathlib.Core.List.{List}
+use Prim.Native.Nat.{ℕ, zero, _+_, _-_, _*_, _≤_, _<_}
 use native.Mathlib.Omega.{arith}
 use lib.ListN.{length}
 use lib.Seq.{sets}
 use borrow.Author.Tests.{lt-ltb, le-ltb, eq-eqb, ne-eqb}
-use Rattle.cursor.specs.Machine.{Out, ok, refused, run, exec, turns, many, times}
-use Rattle.cursor.specs.Rows.{P, metaFrame}
+use Rattle.cursor.specs.Machine.{ok, refused, run, exec, turns, many, times}
+use Rattle.cursor.specs.Rows.{metaFrame}
 use Rattle.cursor.specs.Leaves.{number, block}
 use Rattle.cursor.specs.Told.{ByteTold}
 use Rattle.cursor.specs.declared.Byte.{Byte}
@@ -19,11 +19,10 @@ use Rattle.cursor.proofs.Laws.{running, executing, andThen, ran, exec-turn, exe
 use Rattle.cursor.proofs.Wp.{at-end}
 use Rattle.cursor.proofs.Leaves.{Any, any-free, number-inside, block-inside, number-short, block-all}
 use Rattle.cursor.proofs.Quiet.{exec-number, exec-block}
-use Rattle.header.specs.Types.{Known, known, unknown, formatOf}
+use Rattle.header.specs.Types.{known, unknown, formatOf}
 use Rattle.metadata.specs.Tables.{itemWidth, State, state, put, itemWords, plusItem}
 use Rattle.metadata.specs.Metadata.{Context, field, contents, itemFrame, rowOf, universal, declaredFormat, version, rowsFor, item, Count, nextItem, metaItems, metadata}
 use Rattle.metadata.specs.Told.{Reads, CommonTold, Gives}
-use Rattle.metadata.specs.declared.Limits.{Limits}
 use Rattle.metadata.specs.declared.Made.{Made}
 use Rattle.metadata.specs.declared.Label.{Label}
 use Rattle.metadata.specs.declared.Field.{Field}
@@ -35,7 +34,7 @@ use Rattle.metadata.specs.declared.Common.{Common}
 use Rattle.metadata.specs.declared.Common.the-variants.{Is}
 use Rattle.metadata.specs.declared.Walked.{Walked}
 use Rattle.metadata.specs.declared.Walked.the-variants.{Done, Refused}
-use Rattle.metadata.proofs.Quiet.{exec-frame, exec-format}
+use Rattle.metadata.proofs.Quiet.{exec-frame}
 use Rattle.metadata.proofs.Ends.{Nothing, inside-free, version-on, item-on}
 use Rattle.metadata.proofs.Gives.{done, stopped, fitting, no, yes}
 
@@ -90,11 +89,33 @@ module _ (end : ℕ) (f : List ℕ) (at : ℕ) where
 
 module _ (l : Label) (version declared format place size : ℕ) where
   pub row-standard : {k : ℕ} → l .field ≡ Standard k
-      → record { node = l .node; item = l .item; kind = 0; field = k; nameLength = 0; version = version; declared = declared; format = format; place = place; size = size } ≡ rowOf l version declared format place size
+      → record {
+        node = l .node;
+        item = l .item;
+        kind = 0;
+        field = k;
+        nameLength = 0;
+        version = version;
+        declared = declared;
+        format = format;
+        place = place;
+        size = size;
+      } ≡ rowOf l version declared format place size
   row-standard e = rw e
 
   pub row-name : {p : FilePlace} {n : ℕ} → l .field ≡ Name p n
-      → record { node = l .node; item = l .item; kind = 1; field = p .0; nameLength = n; version = version; declared = declared; format = format; place = place; size = size } ≡ rowOf l version declared format place size
+      → record {
+        node = l .node;
+        item = l .item;
+        kind = 1;
+        field = p .0;
+        nameLength = n;
+        version = version;
+        declared = declared;
+        format = format;
+        place = place;
+        size = size;
+      } ≡ rowOf l version declared format place size
   row-name e = rw e
 
 -- ---- a universal content
@@ -166,7 +187,8 @@ module _ (x : Context) (l : Label) (s u₀ : List ℕ) (end at count : ℕ) (mad
     pub nodes-fit : m .nodes ≤ x .limits .nodes
     pub items-fit : m .items ≤ x .limits .items
     pub since : made .items ≤ m .items
-    pub same : (t : List ℕ) → exec put (times count (version x l end (made .items)) made) s at (state t u₀ made) ≡ exec put (times left (version x l end (made .items)) m) s i (state t u m)
+    pub same : (t : List ℕ) → exec put (times count (version x l end (made .items)) made) s at (state t u₀ made) ≡ exec put
+        (times left (version x l end (made .items)) m) s i (state t u m)
 
   pub versions-begun : made .nodes ≤ x .limits .nodes → made .items ≤ x .limits .items → Going u₀ at count made
   versions-begun h k = record { long = refl; nodes-fit = h; items-fit = k; since = omega arith; same = λ t. refl }
@@ -181,7 +203,8 @@ module _ (x : Context) (l : Label) (s u₀ : List ℕ) (end at count : ℕ) (mad
         ≡ andThen (exec put (version x l end (made .items) m) s i (state t u m)) (λ y p. exec put (times (left - 1) (version x l end (made .items)) (y .0)) s p (y .1))
     turn t = g .same t ∙ exec-times put s left i _ m (state t u m) (λ z. omega arith)
 
-    pub versions-no : {n : ℕ} {p : FilePlace} → r ≡ Refused n p → (t : List ℕ) → Gives (x .limits) (Refused n p) t u′ (exec put (times count (version x l end (made .items)) made) s at (state t u₀ made))
+    pub versions-no : {n : ℕ} {p : FilePlace} → r ≡ Refused n p → (t : List ℕ) → Gives (x .limits) (Refused n p) t u′
+        (exec put (times count (version x l end (made .items)) made) s at (state t u₀ made))
     versions-no h t = no (sym (turn t ∙ rw (stopped (d t) h) refl))
 
     pub versions-on : {n : Made} {c : Cursor} → r ≡ Done n c → length u′ ≡ length u → Going u′ (c .at .0) (left - 1) n
@@ -249,7 +272,8 @@ pub common-inside : (end : ℕ) (f : List ℕ) (at : ℕ) {is : MetaItem} {size 
 common-inside end f at r = (omega (arith, r .some), omega (arith, block-inside metaFrame 3 end f (at + 3) (r .covers)))
 
 -- the row that is made of it at once is the one that `item` makes
-pub common-row : (x : Context) (node index end : ℕ) (m : Made) (s : List ℕ) (at : ℕ) (σ : State) {is : MetaItem} {size format : ℕ} → Reads s end at is size format → m .items < x .limits .items
+pub common-row : (x : Context) (node index end : ℕ) (m : Made) (s : List ℕ) (at : ℕ) (σ : State) {is : MetaItem} {size format : ℕ} → Reads s
+    end at is size format → m .items < x .limits .items
     → {place : ℕ} → place ≡ at + 5 → {row : Item} → row ≡ rowOf (record { node = node; item = index; field = is .field }) 0 0 format place (size - 1)
     → {u′ : List ℕ} → u′ ≡ sets (σ .items) (σ .made .items * itemWidth) (itemWords row) → {p : ℕ} → p ≡ at + (4 + size)
     → ok (plusItem m, state (σ .nodes) u′ (plusItem (σ .made))) p ≡ exec put (item x node index end m) s at σ
@@ -302,7 +326,8 @@ module _ (x : Context) (s u₀ : List ℕ) (node end at : ℕ) (made : Made) whe
     turn-no t e = sym (g .same t ∙ rw (exec-turn put s (g .left) end i (nextItem x node end) (count m k) (state t u m) l (g .enough)) (simp (executing, e)))
 
     turn-ok : {n : Made} {τ : State} {p : ℕ} (t : List ℕ) → exec put (item x node k end m) s i (state t u m) ≡ ok (n, τ) p
-        → exec put (metaItems x node end made) s at (state t u₀ made) ≡ andThen (exec put (turns (g .left - 1) end (nextItem x node end) (count n (k + 1))) s p τ) (λ y p. ok (y .0 .made, y .1) p)
+        → exec put (metaItems x node end made) s at (state t u₀ made) ≡ andThen
+        (exec put (turns (g .left - 1) end (nextItem x node end) (count n (k + 1))) s p τ) (λ y p. ok (y .0 .made, y .1) p)
     unfolding nextItem
     turn-ok t e = g .same t ∙ rw (exec-turn put s (g .left) end i (nextItem x node end) (count m k) (state t u m) l (g .enough)) (simp (executing, e))
 
@@ -310,7 +335,8 @@ module _ (x : Context) (s u₀ : List ℕ) (node end at : ℕ) (made : Made) whe
     items-no h t = no (turn-no t (stopped (d t) h))
 
     pub items-further : {n : Made} {c : Cursor} → r ≡ Done n c → (i < c .at .0) × (c .at .0 ≤ end)
-    items-further h = let w = at-end (inside-free end (length s)) s (item-on Nothing end (length s) x node k end (omega arith) m i) (ran put _ s i (state u u m) (done (d u) h)) in (w .1, w .2)
+    items-further h = let w = at-end (inside-free end (length s)) s (item-on Nothing end (length s) x node k end (omega arith) m i)
+        (ran put _ s i (state u u m) (done (d u) h)) in (w .1, w .2)
 
     pub items-on : {n : Made} {c : Cursor} → r ≡ Done n c → length u′ ≡ length u → Reading u′ (c .at .0) (k + 1) n
     items-on {n} {c} h e =
@@ -333,6 +359,7 @@ module _ (x : Context) (node end : ℕ) (m : Made) (s : List ℕ) (at : ℕ) (σ
   unfolding metadata
   metadata-length e = simp (executing, exec-block, e)
 
-  pub metadata-items : {n q : ℕ} → run (block metaFrame 8 end) s at ≡ ok n q → {stop : ℕ} → stop ≡ q + n → exec put (metadata x node end m) s at σ ≡ exec put (metaItems x node stop m) s q σ
+  pub metadata-items : {n q : ℕ} → run (block metaFrame 8 end) s at ≡ ok n q → {stop : ℕ} → stop ≡ q + n → exec put (metadata x node end m) s
+      at σ ≡ exec put (metaItems x node stop m) s q σ
   unfolding metadata
   metadata-items e is = rw is (simp (executing, exec-block, e))

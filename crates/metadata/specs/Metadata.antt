@@ -1,14 +1,12 @@
 -- Metadata (01, Nodes): a length, then items; of each item its field, its contents, and a row for each universal content or version.
 -- Assumes nothing.
-use mathlib.Core.Bool.{Bool, true, false}
 use mathlib.Core.List.{List}
-use Prim.Native.Nat.{ℕ, zero, suc, _+_, _-_}
-use lib.Dec.{ltb, leb, eqb}
+use Prim.Native.Nat.{ℕ, _+_, _-_}
+use lib.Dec.{ltb, eqb}
 use Rattle.cursor.specs.Machine.{ret, refuse, _>>=_, _>>_, if_then_else_, place, skip, check, many, times}
 use Rattle.cursor.specs.Rows.{P, metaFrame, itemRow, plain, name}
 use Rattle.cursor.specs.Refusals.{cutShort, badNode, noRowLeft, badContents}
 use Rattle.cursor.specs.Leaves.{number, block}
-use Rattle.cursor.specs.declared.FilePlace.{FilePlace}
 use Rattle.cursor.specs.declared.Item.{Item}
 use Rattle.header.specs.Types.{Declared, Known, known, unknown, formatOf}
 use Rattle.metadata.specs.Tables.{plusItem}

@@ -3,7 +3,7 @@
 use mathlib.Core.Path.{_≡_, refl, ap, ap₂, _∙_}
 use mathlib.Core.Bool.{Bool, true, false, cond, not, _&&_}
 use mathlib.Core.List.{List, [], _∷_}
-use Prim.Native.Nat.{ℕ, suc, _+_, _≤_, _<_}
+use Prim.Native.Nat.{ℕ, suc, _+_, _<_}
 use native.Mathlib.Omega.{arith}
 use native.Mathlib.Decide.{decLt}
 use lib.Dec.{ltb, eqb}
@@ -76,7 +76,8 @@ module _ (f g : List ℕ) where
         (number-same f g metaFrame 3 (r .place + r .size) (r .place + 1) (λ k lo hi. h k (omega arith) hi))
         )
     | no n ↦ simp (le-ltb 0 (r .size) (omega arith))
-        (ap (λ (o : Out ℕ). cond (isBinary r && false) (roleOfNumber (r .place + r .size) o) role.Other) (number-same f g metaFrame 3 (r .place + r .size) (r .place + 1) (λ k lo hi. absurd (omega arith))))
+        (ap (λ (o : Out ℕ). cond (isBinary r && false) (roleOfNumber (r .place + r .size) o) role.Other)
+        (number-same f g metaFrame 3 (r .place + r .size) (r .place + 1) (λ k lo hi. absurd (omega arith))))
   ]
 
   rows-same : (rs : List Item) → Each Same rs → roleOfRows f rs ≡ roleOfRows g rs
@@ -97,7 +98,8 @@ module _ (f g : List ℕ) where
   unfolding childrenFrom roleOf own
   children-same is h k [] = refl
   children-same is h k (r ∷ ns) =
-      let a : Each (λ (x : Numbered). Of 3 (x .item)) (own is k) = those-each (isOwn k) (λ (x : Numbered). Of 3 (x .item)) (λ (x : Numbered). Of 3 (x .item)) (λ x t e. t) (numbered 0 is) (each-numbered (Of 3) 0 is h) in
+      let a : Each (λ (x : Numbered). Of 3 (x .item)) (own is k) = those-each (isOwn k) (λ (x : Numbered). Of 3 (x .item))
+      (λ (x : Numbered). Of 3 (x .item)) (λ x t e. t) (numbered 0 is) (each-numbered (Of 3) 0 is h) in
       let b : Each Same (those (isField 3) (itemsOf (own is k))) = those-same 3 (itemsOf (own is k)) (each-items (Of 3) (own is k) a) in
       ap₂ (λ (x : Role) (c : Children). child x k c) (rows-same (those (isField 3) (itemsOf (own is k))) b) (children-same is h (k + 1) ns)
 

@@ -2,7 +2,7 @@
 -- Assumes nothing.
 use mathlib.Core.Path.{_≡_, sym, ap, _∙_}
 use mathlib.Core.Bool.{Bool, true, false, cond, _&&_}
-use mathlib.Core.List.{List, [], _∷_}
+use mathlib.Core.List.{List, _∷_}
 use Prim.Native.Nat.{ℕ, _+_, _*_, _≤_, _<_}
 use native.Mathlib.Omega.{arith}
 use lib.ListN.{length, getD, drop, drop-of-length-le}
@@ -60,7 +60,9 @@ module _ (p : Item → Bool) (ws : List ℕ) (n i : ℕ) {whole : Bool} (h : who
 
 -- ---- the next row of a field
 
-module _ (ws : List ℕ) (n field from end i : ℕ) (h : those (isField field) (part (itemsIn n ws) from end) ≡ those (isField field) (part (itemsIn n ws) i end)) (low : from ≤ i) (fits : end ≤ n) where
+module _ (ws : List ℕ) (n field from end i : ℕ)
+    (h : those (isField field) (part (itemsIn n ws) from end) ≡ those (isField field) (part (itemsIn n ws) i end)) (low : from ≤ i)
+    (fits : end ≤ n) where
   module _ (l : i < end) {r : Item} (e : r ≡ itemFrom ws (i * itemWidth)) {b : Bool} (t : b ≡ isField field r) where
     -- the row that is looked at, and the rest
     step : those (isField field) (part (itemsIn n ws) from end)

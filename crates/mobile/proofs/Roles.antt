@@ -2,7 +2,7 @@
 -- Assumes nothing.
 use mathlib.Core.Path.{_≡_, refl, sym, ap, ap₂, _∙_}
 use mathlib.Core.Bool.{Bool, true, false, cond, _&&_}
-use mathlib.Core.List.{List, [], _∷_}
+use mathlib.Core.List.{List, _∷_}
 use Prim.Native.Nat.{ℕ, _+_, _*_, _-_, _≤_, _<_}
 use native.Mathlib.Omega.{arith}
 use native.Mathlib.Decide.{decLt}
@@ -58,7 +58,8 @@ module _ (f : List ℕ) (r : Item) where
     unfolding roleOfRow roleOfNumber
     row-left k = simp (e, ne-eqb _ _ k, either-other)
 
-    pub row-type : {b : Bool} → b ≡ isBinary r → b ≡ true → ((r .size ≡ 0) → ⊥) → getD f (r .place) 0 ≡ 0 → q ≡ r .place + r .size → {x : Role} → x ≡ roleOfType v → x ≡ roleOfRow f r
+    pub row-type : {b : Bool} → b ≡ isBinary r → b ≡ true → ((r .size ≡ 0) → ⊥) → getD f (r .place) 0 ≡ 0 → q ≡ r .place + r .size →
+        {x : Role} → x ≡ roleOfType v → x ≡ roleOfRow f r
     unfolding roleOfRow roleOfNumber
     row-type h t s z k g =
         let b : isBinary r ≡ true = sym h ∙ t in

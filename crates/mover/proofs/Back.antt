@@ -221,7 +221,8 @@ unfolding judged
 judged-on e f [] = refl
 judged-on e f (l ∷ body) = refl
 
-pub judged-well : (e : Bool) (f : List ℕ) (body : Lines) (n m : ℕ) → isFirst e f ≡ true → Body e body n m → agrees f n m ≡ true → (s : State) × (judged e (f ∷ body ++ [] ∷ []) ≡ good s)
+pub judged-well : (e : Bool) (f : List ℕ) (body : Lines) (n m : ℕ) → isFirst e f ≡ true → Body e body n m → agrees f n m ≡ true →
+    (s : State) × (judged e (f ∷ body ++ [] ∷ []) ≡ good s)
 unfolding agreeing
 judged-well e f body n m h b c =
     let r = fine-body e body n m b in
@@ -283,7 +284,9 @@ over e ls w =
     let same-tail : f′ ≡ word (not e) ++ 0x09 ∷ l .tail = ap (renamed e) (l .whole) ∙ renamed-is e (l .tail) in
     let third : field 3 f′ ≡ field 3 f = ap (field 3) same-tail ∙ first-third (not e) (l .tail) ∙ sym (first-third e (l .tail)) ∙ ap (field 3) (sym (l .whole)) in
     let fourth : field 4 f′ ≡ field 4 f = ap (field 4) same-tail ∙ first-fourth (not e) (l .tail) ∙ sym (first-fourth e (l .tail)) ∙ ap (field 4) (sym (l .whole)) in
-    let j = judged-well (not e) f′ (reordered e body) (w .nodes) (w .items) (ap (isFirst (not e)) same-tail ∙ first-is (not e) (l .tail) (l .rest)) (moved-body e body (w .nodes) (w .items) (w .stands)) (ap₂ (λ (a b : List ℕ). eqb (w .nodes) (value 0 a) && leb (w .items) (value 0 b)) third fourth ∙ w .counts) in
+    let j = judged-well (not e) f′ (reordered e body) (w .nodes) (w .items)
+    (ap (isFirst (not e)) same-tail ∙ first-is (not e) (l .tail) (l .rest)) (moved-body e body (w .nodes) (w .items) (w .stands))
+    (ap₂ (λ (a b : List ℕ). eqb (w .nodes) (value 0 a) && leb (w .items) (value 0 b)) third fourth ∙ w .counts) in
     let again : renamed (not e) f′ ≡ f = ap (renamed (not e)) same-tail ∙ renamed-is (not e) (l .tail) ∙ ap (λ (d : Bool). word d ++ 0x09 ∷ l .tail) (not-not e) ∙ sym (l .whole) in
     record {
       first = f′;
@@ -294,15 +297,18 @@ over e ls w =
       end = j .0;
       judges = j .1;
       leads = ap (λ (v : Lines). renamed e (lead v)) (sym (w .whole));
-      nodes = picked-end _ refl (reordered e body) ∙ body-nodes e body (w .nodes) (w .items) (w .stands) ∙ sym (picked-end _ refl body) ∙ ap (λ (v : Lines). nodesOf (behind v)) (sym (w .whole));
-      items = picked-end _ refl (reordered e body) ∙ body-items e body (w .nodes) (w .items) (w .stands) ∙ sym (picked-end _ refl body) ∙ ap (λ (v : Lines). itemsOf (behind v)) (sym (w .whole));
+      nodes = picked-end _ refl (reordered e body) ∙ body-nodes e body (w .nodes) (w .items) (w .stands) ∙ sym (picked-end _ refl body) ∙ ap
+          (λ (v : Lines). nodesOf (behind v)) (sym (w .whole));
+      items = picked-end _ refl (reordered e body) ∙ body-items e body (w .nodes) (w .items) (w .stands) ∙ sym (picked-end _ refl body) ∙ ap
+          (λ (v : Lines). itemsOf (behind v)) (sym (w .whole));
       returns = λ s p.
           ap written (moved-on (not e) f′ (reordered e body) ∙ ap₂ (λ (a : List ℕ) (b : Lines). a ∷ b) again (body-back e body (w .nodes) (w .items) (w .stands)))
           ∙ parted-written (f ∷ body) s (p ∙ w .whole);
     }
   where
     over-clean : (e : Bool) (ls : Lines) (f : List ℕ) (body : Lines) → ls ≡ f ∷ body ++ [] ∷ [] → AllClean 0x0A ls → AllClean 0x0A (renamed e f ∷ reordered e body)
-    over-clean e ls f body q k = let (a, b) : AllClean 0x0A (f ∷ body ++ [] ∷ []) = rw q at k in (renamed-clean e f a, reordered-clean 0x0A e body (clean-left 0x0A body ([] ∷ []) b))
+    over-clean e ls f body q k = let (a, b) : AllClean 0x0A (f ∷ body ++ [] ∷ []) = rw q at k
+        in (renamed-clean e f a, reordered-clean 0x0A e body (clean-left 0x0A body ([] ∷ []) b))
 
 -- the edition that a well-formed sheet is of stands in its first line
 says-edition : (e : Bool) (ls : Lines) (w : Whole e ls) → isFirst true (lead ls) ≡ e

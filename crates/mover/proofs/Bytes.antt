@@ -30,7 +30,9 @@ pub record Split (c : ℕ) (f w : List ℕ) (rest : Lines) : Type 0 where
   pub whole : f ≡ w ++ c ∷ tail
   pub then : parted c tail ≡ rest
 
-split-on : (c b : ℕ) (f : List ℕ) → ((w x : List ℕ) (rest : Lines) → parted c f ≡ w ∷ x ∷ rest → Split c f w (x ∷ rest)) → (t : Bool) → eqb b c ≡ t → (ps : Lines) → parted c f ≡ ps → (w x : List ℕ) (rest : Lines) → cond t ([] ∷ ps) (onFirst b ps) ≡ w ∷ x ∷ rest → Split c (b ∷ f) w (x ∷ rest)
+split-on : (c b : ℕ) (f : List ℕ) → ((w x : List ℕ) (rest : Lines) → parted c f ≡ w ∷ x ∷ rest → Split c f w (x ∷ rest)) → (t : Bool) → eqb
+    b c ≡ t → (ps : Lines) → parted c f ≡ ps → (w x : List ℕ) (rest : Lines) → cond t ([] ∷ ps) (onFirst b ps) ≡ w ∷ x ∷ rest → Split c
+    (b ∷ f) w (x ∷ rest)
 split-on c b f ih true e ps p w x rest h = record {
   tail = f;
   whole = ap₂ (λ (v : List ℕ) (u : ℕ). v ++ u ∷ f) (head-eq-of-cons-eq h) (eqb-true b c e);

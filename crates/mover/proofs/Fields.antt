@@ -154,7 +154,8 @@ module _ (l : List ℕ) (from left : ℕ) where
 -- ---- a letter
 
 -- a field that is these bytes begins with them, and a tab is behind it
-pub prefix-no : (v u : List ℕ) → ((tail : List ℕ) → u ≡ v ++ 0x09 ∷ tail → ⊥) → (q : List ℕ → Bool) (ps : Tests) → (ts : Lines) → parted 0x09 u ≡ ts → fits (same v ∷ q ∷ ps) ts ≡ false
+pub prefix-no : (v u : List ℕ) → ((tail : List ℕ) → u ≡ v ++ 0x09 ∷ tail → ⊥) → (q : List ℕ → Bool) (ps : Tests) → (ts : Lines) → parted
+    0x09 u ≡ ts → fits (same v ∷ q ∷ ps) ts ≡ false
 unfolding fits
 prefix-no v u h q ps [] e = refl
 prefix-no v u h q ps (w ∷ []) e = and-false (same v w)
@@ -188,7 +189,11 @@ module _ (l : List ℕ) (at : ℕ) (in-line : at ≤ length l) where
 
     pub letter-is : {b : ℕ} → b ≡ getD l at 0 → LetterIs l at b
     letter-is {b} e = record {
-      field = λ n m. record { inside = omega arith; next = ap (parted 0x09) (two-first ∙ ap (λ (v : ℕ). v ∷ 0x09 ∷ drop (at + 2) l) (sym e)) ∙ piece 0x09 (b ∷ []) (drop (at + 2) l) (ne-eqb b 0x09 m, tt) };
+      field = λ n m. record {
+        inside = omega arith;
+        next = ap (parted 0x09) (two-first ∙ ap (λ (v : ℕ). v ∷ 0x09 ∷ drop (at + 2) l) (sym e)) ∙
+            piece 0x09 (b ∷ []) (drop (at + 2) l) (ne-eqb b 0x09 m, tt);
+      };
       no = λ x n q ps. prefix-no (x ∷ []) (drop at l) (λ t w. n (ap (λ (v : List ℕ). getD v 0 0) (sym w ∙ two-first) ∙ sym e)) q ps (fieldsAt l at) refl;
     }
 
@@ -364,7 +369,9 @@ standard t = same (0x53 ∷ []) ∷ isNumber ∷ tailed t
 abbrev custom : List ℕ → Tests
 custom t = same (0x43 ∷ []) ∷ isName ∷ tailed t
 
-item-tests : (l : List ℕ) → isItem l ≡ (fits (same (0x4D ∷ []) ∷ isNumber ∷ standard (getD (fieldsAt l 0) 5 [])) (fieldsAt l 0) || fits (same (0x4D ∷ []) ∷ isNumber ∷ custom (getD (fieldsAt l 0) 5 [])) (fieldsAt l 0))
+item-tests : (l : List ℕ) → isItem l ≡
+    (fits (same (0x4D ∷ []) ∷ isNumber ∷ standard (getD (fieldsAt l 0) 5 [])) (fieldsAt l 0) || fits
+    (same (0x4D ∷ []) ∷ isNumber ∷ custom (getD (fieldsAt l 0) 5 [])) (fieldsAt l 0))
 unfolding isItem field fields
 item-tests l = refl
 
@@ -432,7 +439,8 @@ module _ (l : List ℕ) {b : ℕ} (i : LetterIs l 0 b) where
       item-rest =
           item-on
           ∙ ap (λ ts. fits (isNumber ∷ standard (getD ts 4 [])) ts || fits (isNumber ∷ custom (getD ts 4 [])) ts) (w .field .next)
-          ∙ both (fits-step isNumber (standard (getD (fieldsAt l q) 3 [])) (w .text) (fieldsAt l q) (w .spelled)) (fits-step isNumber (custom (getD (fieldsAt l q) 3 [])) (w .text) (fieldsAt l q) (w .spelled))
+          ∙ both (fits-step isNumber (standard (getD (fieldsAt l q) 3 [])) (w .text) (fieldsAt l q) (w .spelled))
+          (fits-step isNumber (custom (getD (fieldsAt l q) 3 [])) (w .text) (fieldsAt l q) (w .spelled))
           ∙ sym (label-is (fieldsAt l q))
           ∙ sym e
 

@@ -61,7 +61,8 @@ some-text (b ∷ bs) l = by (plain b)
 
 module _ (f : List ℕ) (bytes : Bytes f) where
   part-bytes : (at n : ℕ) → Each (λ b. b < 0x100) (part f at n)
-  part-bytes at n = each-by _ 0 (part f at n) (λ i l. let k = length-take n (drop at f) in let b = bytes (at + i) in rw (getD-take n (drop at f) i 0 (omega arith), getD-drop at f i 0) b)
+  part-bytes at n = each-by _ 0 (part f at n)
+      (λ i l. let k = length-take n (drop at f) in let b = bytes (at + i) in rw (getD-take n (drop at f) i 0 (omega arith), getD-drop at f i 0) b)
 
   escaped-is : (two : Bool) (at n : ℕ) → Text two (escapedPart f at n)
   unfolding escapedPart
@@ -72,7 +73,8 @@ module _ (f : List ℕ) (bytes : Bytes f) where
   unfolding textOf unicodeText
   text-is r = by (eqb (r .format) 2) refl
     where
-      by : (b : Bool) → eqb (r .format) 2 ≡ b → Text (same (decimal (r .format)) (0x32 ∷ [])) (cond b (shownOr (toUtf8 (part f (r .place) (r .size))) (escapedPart f (r .place) (r .size))) (escapedPart f (r .place) (r .size)))
+      by : (b : Bool) → eqb (r .format) 2 ≡ b → Text (same (decimal (r .format)) (0x32 ∷ []))
+          (cond b (shownOr (toUtf8 (part f (r .place) (r .size))) (escapedPart f (r .place) (r .size))) (escapedPart f (r .place) (r .size)))
       by true e = rw (two-is (r .format) (eqb-true (r .format) 2 e)) (converted (toUtf8 (part f (r .place) (r .size))) _ (escaped-is true (r .place) (r .size)))
       by false e = escaped-is (same (decimal (r .format)) (0x32 ∷ [])) (r .place) (r .size)
 
@@ -109,7 +111,9 @@ unfolding itemLine label number tabbed
 item-line f r = by (eqb (r .kind) 1)
   where
     by : (b : Bool)
-        → 0x4D ∷ (0x09 ∷ decimal (r .node)) ++ cond b (0x09 ∷ 0x43 ∷ 0x09 ∷ escapedPart f (r .field) (r .nameLength)) (0x09 ∷ 0x53 ∷ 0x09 ∷ decimal (r .field)) ++ (0x09 ∷ decimal (r .version)) ++ (0x09 ∷ decimal (r .format)) ++ (0x09 ∷ textOf f r) ++ 0x0A ∷ []
+        → 0x4D ∷ (0x09 ∷ decimal (r .node)) ++ cond b (0x09 ∷ 0x43 ∷ 0x09 ∷ escapedPart f (r .field) (r .nameLength))
+        (0x09 ∷ 0x53 ∷ 0x09 ∷ decimal (r .field)) ++ (0x09 ∷ decimal (r .version)) ++ (0x09 ∷ decimal (r .format)) ++ (0x09 ∷ textOf f r) ++
+        0x0A ∷ []
         ≡ itemTextBy b f r ++ 0x0A ∷ []
     by true = simp append-assoc
     by false = simp append-assoc
@@ -139,7 +143,8 @@ module _ (f : List ℕ) where
 
   nodes-are : (k : ℕ) (ns : List Node) → k + length ns < 2 ^ 28 → Each (λ r. Below (nodeWords r)) ns → NodesAre rowsOf nodeOf nodeText (itemTexts f) k ns
   nodes-are k [] l p = tt
-  nodes-are k (r ∷ ns) l ((_, (_, (_, (_, (a, (b, (c, (d, (e, _))))))))), ps) = (node-kind k (r .parent) (r .depth) (r .reference) (r .target) (r .extent) (omega arith) a b c d e, nodes-are (k + 1) ns (omega arith) ps)
+  nodes-are k (r ∷ ns) l ((_, (_, (_, (_, (a, (b, (c, (d, (e, _))))))))), ps) =
+      (node-kind k (r .parent) (r .depth) (r .reference) (r .target) (r .extent) (omega arith) a b c d e, nodes-are (k + 1) ns (omega arith) ps)
 
   nodes-clean : (k : ℕ) (ns : List Node) → AllClean 0x0A (theNodes k ns)
   nodes-clean k [] = tt
@@ -149,13 +154,19 @@ module _ (f : List ℕ) where
     -- its kind, and no 0Ah in it
     item-is : (r : Item) → SmallItem f r → isHidden r ≡ false → (kind (itemText f r) ≡ item (r .node)) × Clean 0x0A (itemText f r)
     item-is r ((n, (_, (_, (l, (_, (v, (_, (m, _)))))))), inl k) e =
-        rw (ne-eqb (r .kind) 1 (λ z. omega arith))
-        (standard-kind (r .node) (r .version) (r .format) n v m (even r e) (textOf f r) (text-is f bytes r) (r .field) l, standard-ended (r .node) (r .version) (r .format) n v m (even r e) (textOf f r) (text-is f bytes r) (r .field) l)
+        rw (ne-eqb (r .kind) 1 (λ z. omega arith)) (
+          standard-kind (r .node) (r .version) (r .format) n v m (even r e) (textOf f r) (text-is f bytes r) (r .field) l,
+          standard-ended (r .node)
+              (r .version) (r .format) n v m (even r e) (textOf f r) (text-is f bytes r) (r .field) l,
+        )
     item-is r ((n, (_, (_, (_, (_, (v, (_, (m, _)))))))), inr (k, l, i)) e =
         let t = escaped-is f bytes false (r .field) (r .nameLength) in
         let s = some-name f (r .field) (r .nameLength) l i in
-        rw (eq-eqb (r .kind) 1 k)
-        (custom-kind (r .node) (r .version) (r .format) n v m (even r e) (textOf f r) (text-is f bytes r) _ t s, custom-ended (r .node) (r .version) (r .format) n v m (even r e) (textOf f r) (text-is f bytes r) _ t s)
+        rw (eq-eqb (r .kind) 1 k) (
+          custom-kind (r .node) (r .version) (r .format) n v m (even r e) (textOf f r) (text-is f bytes r) _ t s,
+          custom-ended (r .node) (r .version)
+              (r .format) n v m (even r e) (textOf f r) (text-is f bytes r) _ t s,
+        )
 
     item-are : (r : Item) → SmallItem f r → Items (r .node) (r .node + 1) (itemTexts f r) × AllClean 0x0A (itemTexts f r)
     item-are r p = by (isHidden r) refl
@@ -203,7 +214,9 @@ module _ (f : List ℕ) where
   groups-written k [] is = refl
   groups-written k (r ∷ ns) is =
       append-assoc (nodeLine k r) (sheet.itemLines f (take (r .rows) is)) (sheet.groupLines f (k + 1) ns (drop (r .rows) is))
-      ∙ ap₂ (λ (a b : List ℕ). a ++ b) (node-line k r) (ap₂ (λ (a b : List ℕ). a ++ b) (items-written (take (r .rows) is)) (groups-written (k + 1) ns (drop (r .rows) is)) ∙ sym (written-append (theItems f (take (r .rows) is)) (theGroups f (k + 1) ns (drop (r .rows) is))))
+      ∙ ap₂ (λ (a b : List ℕ). a ++ b) (node-line k r)
+      (ap₂ (λ (a b : List ℕ). a ++ b) (items-written (take (r .rows) is)) (groups-written (k + 1) ns (drop (r .rows) is)) ∙ sym
+      (written-append (theItems f (take (r .rows) is)) (theGroups f (k + 1) ns (drop (r .rows) is))))
       ∙ append-assoc (nodeText k r) (0x0A ∷ []) _
 
   -- no more lines than rows
@@ -236,13 +249,28 @@ module _ (v size n m : ℕ) where
   unfolding versionText
   version-clean c l =
       let t : (n : ℕ) → Clean c (decimal n) = clean-decimal c (omega arith) in
-      clean-append c (decimal (v / 100) ++ 0x2E ∷ decimal (v / 10 % 10)) (decimal (v % 10)) (clean-append c (decimal (v / 100)) (0x2E ∷ decimal (v / 10 % 10)) (t (v / 100)) (ne-eqb 0x2E c (λ e. omega arith), t (v / 10 % 10))) (t (v % 10))
+      clean-append c (decimal (v / 100) ++ 0x2E ∷ decimal (v / 10 % 10)) (decimal (v % 10))
+      (clean-append c (decimal (v / 100)) (0x2E ∷ decimal (v / 10 % 10)) (t (v / 100)) (ne-eqb 0x2E c (λ e. omega arith), t (v / 10 % 10)))
+      (t (v % 10))
 
   numbers-clean : (c : ℕ) → c < 0x20 → AllClean c (decimal size ∷ decimal n ∷ decimal m ∷ [])
   numbers-clean c l = let t : (n : ℕ) → Clean c (decimal n) = clean-decimal c (omega arith) in (t size, (t n, (t m, tt)))
 
   first-clean : Clean 0x0A (first false)
-  first-clean = (refl, (refl, (refl, (refl, clean-append 0x0A (versionText v) _ (version-clean 0x0A (omega arith)) (clean-tabs 0x0A refl (decimal size ∷ decimal n ∷ decimal m ∷ []) (numbers-clean 0x0A (omega arith)))))))
+  first-clean = (
+    refl,
+    (
+      refl,
+      (
+        refl,
+        (
+          refl,
+          clean-append 0x0A (versionText v) _ (version-clean 0x0A (omega arith))
+              (clean-tabs 0x0A refl (decimal size ∷ decimal n ∷ decimal m ∷ []) (numbers-clean 0x0A (omega arith))),
+        ),
+      ),
+    ),
+  )
 
   counts-parted : parted 0x09 counts ≡ versionText v ∷ decimal size ∷ decimal n ∷ decimal m ∷ []
   unfolding fields
@@ -278,7 +306,8 @@ module _ (f : List ℕ) (bytes : Bytes f) (h : Header) (ns : List Node) (is : Li
   unfolding linesOf
   first-written =
       append-assoc (firstLine (h .version) (length f) (length ns) (length is)) (sheet.nodeLines 0 ns) (sheet.itemLines f is)
-      ∙ ap₂ (λ (a b : List ℕ). a ++ b) (first-line (h .version) (length f) (length ns) (length is)) (ap₂ (λ (a b : List ℕ). a ++ b) (nodes-written f 0 ns) (items-written f is) ∙ sym (written-append (theNodes f 0 ns) (theItems f is)))
+      ∙ ap₂ (λ (a b : List ℕ). a ++ b) (first-line (h .version) (length f) (length ns) (length is))
+      (ap₂ (λ (a b : List ℕ). a ++ b) (nodes-written f 0 ns) (items-written f is) ∙ sym (written-append (theNodes f 0 ns) (theItems f is)))
       ∙ sym (written-cons (firstOf false) body)
 
   second-written : lines2Of (h .version) f ns is ≡ written (firstOf true ∷ theGroups f 0 ns is)
@@ -294,7 +323,11 @@ module _ (f : List ℕ) (bytes : Bytes f) (h : Header) (ns : List Node) (is : Li
   parted-is : parted 0x0A (linesOf (h .version) f ns is) ≡ firstOf false ∷ body ++ [] ∷ []
   parted-is =
       ap (parted 0x0A) first-written
-      ∙ written-parted (firstOf false ∷ body) (first-clean (h .version) (length f) (length ns) (length is), pieces.clean-append 0x0A (theNodes f 0 ns) (theItems f is) (nodes-clean f 0 ns) (items-are f bytes is (p .items) .1))
+      ∙ written-parted (firstOf false ∷ body) (
+        first-clean (h .version) (length f) (length ns) (length is),
+        pieces.clean-append 0x0A (theNodes f 0 ns) (theItems f is)
+            (nodes-clean f 0 ns) (items-are f bytes is (p .items) .1),
+      )
 
   abbrev texts : List ℕ
   texts = counts (h .version) (length f) (length ns) (length is)
@@ -329,7 +362,8 @@ module _ (f : List ℕ) (bytes : Bytes f) (h : Header) (ns : List Node) (is : Li
   over =
       let groups = first-to-second rowsOf nodeOf nodeText (itemTexts f) ns is kinds-nodes kinds-items owned in
       let there = moved-on false (firstOf false) body ∙ ap₂ (λ (x : List ℕ) (y : Lines). x ∷ y) (renamed-is false texts) groups in
-      move-is (linesOf (h .version) f ns is) false (firstOf false ∷ body ++ [] ∷ []) parted-is (first-says false texts texts-fit) ∙ rw (first-well .1) (ap good (ap written there ∙ sym second-written))
+      move-is (linesOf (h .version) f ns is) false (firstOf false ∷ body ++ [] ∷ []) parted-is (first-says false texts texts-fit) ∙ rw
+      (first-well .1) (ap good (ap written there ∙ sym second-written))
 
 -- ---- The sheet of an accepted file is well formed, in either edition, and the mover takes it to the other edition that is written of the file.
 

@@ -50,7 +50,12 @@ module _ (l : List ℕ) (from end : ℕ) (m : end ≤ length l) where
   pub version-long : (end - from ≡ 4 → ⊥) → false ≡ Version
   version-long n =
       let w = length-slice from end l m in
-      sym (versions (slice from end l) ∙ rw (same-long (slice from end l) one-zero (λ e. n (sym w ∙ e)), same-long (slice from end l) one-one (λ e. n (sym w ∙ e)), same-long (slice from end l) two-zero (λ e. n (sym w ∙ e))) refl)
+      sym (versions (slice from end l) ∙ rw (
+        same-long (slice from end l) one-zero (λ e. n (sym w ∙ e)),
+        same-long (slice from end l) one-one (λ e. n (sym w ∙ e)),
+        same-long
+            (slice from end l) two-zero (λ e. n (sym w ∙ e)),
+      ) refl)
 
   module _ (n : end - from ≡ 4) where
     abbrev a : ℕ
@@ -77,7 +82,9 @@ module _ (l : List ℕ) (from end : ℕ) (m : end ≤ length l) where
         ∙ ap (λ v. c ∷ v) (ap (λ k. slice k end l) e₃ ∙ slice-cons (from + 3) end l 0 (omega arith) m
         ∙ ap (λ v. d ∷ v) (ap (λ k. slice k end l) e₄ ∙ slice-empty end l))))
 
-    version-by : Version ≡ ((eqb a 0x31 && (eqb b 0x2E && (eqb c 0x30 && (eqb d 0x30 && true)))) || (eqb a 0x31 && (eqb b 0x2E && (eqb c 0x30 && (eqb d 0x31 && true)))) || (eqb a 0x32 && (eqb b 0x2E && (eqb c 0x30 && (eqb d 0x30 && true)))))
+    version-by : Version ≡ ((eqb a 0x31 && (eqb b 0x2E && (eqb c 0x30 && (eqb d 0x30 && true)))) ||
+        (eqb a 0x31 && (eqb b 0x2E && (eqb c 0x30 && (eqb d 0x31 && true)))) ||
+        (eqb a 0x32 && (eqb b 0x2E && (eqb c 0x30 && (eqb d 0x30 && true)))))
     unfolding same
     version-by = ap isVersion four ∙ versions (a ∷ b ∷ c ∷ d ∷ [])
 
@@ -263,7 +270,9 @@ module _ (l : List ℕ) (second : Bool) (at : ℕ) (w : FieldIs l 0 (word second
 
                 -- the fields
                 all-fields : fieldsAt l 0 ≡ word second ∷ slice at end l ∷ n₁ .text ∷ n₂ .text ∷ slice c last l ∷ []
-                all-fields = w .next ∙ ap (λ ts. word second ∷ ts) (k .more h ∙ ap (λ ts. slice at end l ∷ ts) (n₁ .field .next ∙ ap (λ ts. n₁ .text ∷ ts) (n₂ .field .next ∙ ap (λ ts. n₂ .text ∷ ts) (k₂ .last m))))
+                all-fields = w .next ∙ ap (λ ts. word second ∷ ts)
+                    (k .more h ∙ ap (λ ts. slice at end l ∷ ts)
+                    (n₁ .field .next ∙ ap (λ ts. n₁ .text ∷ ts) (n₂ .field .next ∙ ap (λ ts. n₂ .text ∷ ts) (k₂ .last m))))
 
                 pub lead-is : LeadIs l second nodes items
                 lead-is = record {

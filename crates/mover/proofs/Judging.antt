@@ -84,7 +84,8 @@ module _ {s : List ℕ} {second : Bool} {from : ℕ} {t : State} {at number : �
         some e = let a = ap length e in let b = length-slice at end s i in omega arith
 
     module _ (m : end < length s) (a : at ≤ end) {x : List ℕ} (xe : x ≡ slice at end s) {l : Kind} (le : l ≡ kind x) where
-      turn : judge second start 2 (parted 0x0A (drop from s)) ≡ cond (stands second t l) (judge second (after second t l) (number + 1) (parted 0x0A (drop (end + 1) s))) (bad 31 number)
+      turn : judge second start 2 (parted 0x0A (drop from s)) ≡ cond (stands second t l)
+          (judge second (after second t l) (number + 1) (parted 0x0A (drop (end + 1) s))) (bad 31 number)
       turn = g .same ∙ judge-turn second t number s at end k m ∙ rw (← xe, ← le) refl
 
       pub judged-no : bad 0 0 ≡ Steps second t l → bad 31 number ≡ judge second start 2 (parted 0x0A (drop from s))
@@ -119,7 +120,8 @@ second-by : (s f : List ℕ) (ps : Lines) → parted 0x0A s ≡ f ∷ ps → isS
 unfolding isSecond lead
 second-by s f ps e = rw e refl
 
-agree-by : (f : List ℕ) (t : State) {a b : Bool} → eqb (t .nodes) (value 0 (field 3 f)) ≡ a → leb (t .items) (value 0 (field 4 f)) ≡ b → agreeing f (good t) ≡ cond (a && b) (good t) (bad 31 1)
+agree-by : (f : List ℕ) (t : State) {a b : Bool} → eqb (t .nodes) (value 0 (field 3 f)) ≡ a → leb (t .items) (value 0 (field 4 f)) ≡ b →
+    agreeing f (good t) ≡ cond (a && b) (good t) (bad 31 1)
 unfolding agreeing
 agree-by f t e g = rw (e, g) refl
 

@@ -31,7 +31,8 @@ unfolding judge
 judge-at e s n l [] = at-if n (n + 1) (same l []) (good s) (omega arith) (omega arith) tt
 judge-at e s n l (m ∷ ls) =
     let s′ = after e s (kind l) in
-    at-if n _ (stands e s (kind l)) (judge e s′ (n + 1) (m ∷ ls)) (omega arith) (omega arith) (at-wider n _ (judge e s′ (n + 1) (m ∷ ls)) (omega arith) (omega arith) (judge-at e s′ (n + 1) m ls))
+    at-if n _ (stands e s (kind l)) (judge e s′ (n + 1) (m ∷ ls)) (omega arith) (omega arith)
+    (at-wider n _ (judge e s′ (n + 1) (m ∷ ls)) (omega arith) (omega arith) (judge-at e s′ (n + 1) m ls))
 
 agreeing-at : (f : List ℕ) (m : ℕ) → 1 < m → (r : Result State) → At 1 m r → At 1 m (agreeing f r)
 unfolding agreeing

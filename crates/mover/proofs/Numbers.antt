@@ -65,7 +65,8 @@ digits-chosen false a p = p
 pub digits-are : (k n : ℕ) → Digits (digits k n)
 unfolding digits
 digits-are zero n = tt
-digits-are (suc k) n = digits-append (cond (ltb n 10) [] (digits k (n / 10))) ((0x30 + n % 10) ∷ []) (digits-chosen (ltb n 10) (digits k (n / 10)) (digits-are k (n / 10))) (omega arith, omega arith, tt)
+digits-are (suc k) n = digits-append (cond (ltb n 10) [] (digits k (n / 10))) ((0x30 + n % 10) ∷ [])
+    (digits-chosen (ltb n 10) (digits k (n / 10)) (digits-are k (n / 10))) (omega arith, omega arith, tt)
 
 digit-at : (a : List ℕ) (d : ℕ) (u : List ℕ) → Digits (a ++ d ∷ u) → (0x30 ≤ d) × (d ≤ 0x39)
 digit-at [] d u (l, h, p) = (l, h)
@@ -106,7 +107,8 @@ no-number-on false b n h = refl
 -- no number: where it is not the decimal of a small one
 pub no-number : (t : List ℕ) → ((n : ℕ) → t ≡ decimal n → value 0 t ≡ n → n ≤ 0xFFFFFFF → ⊥) → 0x10000000 ≡ numberOf t
 unfolding numberOf isNumber
-no-number t h = no-number-on (same t (decimal (value 0 t))) (leb (value 0 t) 0xFFFFFFF) (value 0 t) (λ a b. h (value 0 t) (same-is t (decimal (value 0 t)) a) refl (leb-true (value 0 t) 0xFFFFFFF b))
+no-number t h = no-number-on (same t (decimal (value 0 t))) (leb (value 0 t) 0xFFFFFFF) (value 0 t)
+    (λ a b. h (value 0 t) (same-is t (decimal (value 0 t)) a) refl (leb-true (value 0 t) 0xFFFFFFF b))
 
 decimal-some : (n : ℕ) → [] ≡ decimal n → ⊥
 unfolding decimal digits
@@ -260,7 +262,8 @@ module _ (s : List ℕ) (from end : ℕ) (b : end ≤ length s) where
   field-zero l e k = number-zero (slice from end s) (field-on from l ∙ ap₂ (λ (x : ℕ) (u : List ℕ). x ∷ u) e (field-past (from + 1) (omega arith)))
 
   pub field-padded : from < end → getD s from 0 ≡ 0x30 → (end - from ≡ 1 → ⊥) → 0x10000000 ≡ numberOf (slice from end s)
-  field-padded l e k = number-padded (slice from end s) (getD s (from + 1) 0) (slice (from + 1 + 1) end s) (field-on from l ∙ ap₂ (λ (x : ℕ) (u : List ℕ). x ∷ u) e (field-on (from + 1) (more k)))
+  field-padded l e k = number-padded (slice from end s) (getD s (from + 1) 0) (slice (from + 1 + 1) end s)
+      (field-on from l ∙ ap₂ (λ (x : ℕ) (u : List ℕ). x ∷ u) e (field-on (from + 1) (more k)))
     where
       more : (end - from ≡ 1 → ⊥) → from + 1 < end
       more k = elim (decLt (from + 1) end) [
@@ -296,7 +299,14 @@ module _ {s : List ℕ} {from end v i : ℕ} (r : Digit s from end v i) (l : i <
   digit-over e k = reading-over (getD s i 0) now (rw e at k)
 
   pub digit-on : {d : ℕ} → d ≡ getD s i 0 → 0x30 ≤ d → d ≤ 0x39 → v * 10 + (d - 0x30) ≤ 0xFFFFFFF → Digit s from end (v * 10 + (d - 0x30)) (i + 1)
-  digit-on e a c k = record { some = r .some; inside = r .inside; within = omega arith; headed = r .headed; reading = rw e (reading-on (getD s i 0) now (r .headed) (omega arith) (omega arith) (rw e at k)) }
+  digit-on e a c k = record {
+    some = r .some;
+    inside = r .inside;
+    within = omega arith;
+    headed = r .headed;
+    reading = rw e
+        (reading-on (getD s i 0) now (r .headed) (omega arith) (omega arith) (rw e at k));
+  }
 
 pub digit-end : {s : List ℕ} {from end v i : ℕ} → Digit s from end v i → end ≤ i → v ≡ numberOf (slice from end s)
 digit-end {s} {from} {end} {v} {i} r k = reading-end (slice i end s) (r .reading) (field-past s from end (r .inside) i k) (field-some s from end (r .inside) (r .some))

@@ -171,7 +171,8 @@ gather-past n [] l e b ms = refl
 gather-past n (x ∷ ns) l {k} e b ms = ap₂ (λ (v w : Lines). v ++ w) (at-other l ms e n (λ d. omega arith)) (gather-past (n + 1) ns l e (omega arith) ms)
 
 -- the first of them goes first
-gather-first : (n : ℕ) (ns : Lines) (n′ : ℕ) → Rows n ns n′ → (l : List ℕ) (k : ℕ) → kind l ≡ item k → n ≤ k → k < n′ → (ms : Lines) → Items k n′ ms → gather n ns (l ∷ ms) ≡ l ∷ gather n ns ms
+gather-first : (n : ℕ) (ns : Lines) (n′ : ℕ) → Rows n ns n′ → (l : List ℕ) (k : ℕ) → kind l ≡ item k → n ≤ k → k < n′ → (ms : Lines) → Items
+    k n′ ms → gather n ns (l ∷ ms) ≡ l ∷ gather n ns ms
 unfolding gather
 gather-first n [] n′ r l k e a b ms m = absurd (omega arith)
 gather-first n (x ∷ ns) n′ (f, r) l k e a b ms m = elim (ℕ-discrete k n) [
@@ -195,7 +196,12 @@ groups-items i n′ (l ∷ ms) rest low a (k, e, b, d, m) g = inr (k, e, omega a
 
 spread-groups : (n : ℕ) (ns : Lines) (n′ : ℕ) → Rows n ns n′ → (all : Lines) → Groups n (spread ns all) n′
 spread-groups n [] n′ r all = rw none-spread r
-spread-groups n (l ∷ ns) n′ (e, r) all = rw (spread-on l ns e all) (inl (e, groups-items n n′ (itemsAt n all) (spread ns all) n (omega arith) (at-items n (n + 1) (omega arith) all) (spread-groups (n + 1) ns n′ r all)))
+spread-groups n (l ∷ ns) n′ (e, r) all = rw (spread-on l ns e all)
+    (inl (
+      e,
+      groups-items n n′ (itemsAt n all) (spread ns all) n (omega arith) (at-items n (n + 1) (omega arith) all)
+          (spread-groups (n + 1) ns n′ r all),
+    ))
 
 module _ (ns ms : Lines) (n : ℕ) (r : Rows 0 ns n) (m : Items 0 n ms) where
   pub first-nodes : nodesOf (ns ++ ms) ≡ ns

@@ -19,7 +19,8 @@ use Rattle.mover.proofs.Bytes.{some-piece, split}
 pub as-told : {E : Type 0} (P : E → Type 0) {r r′ : E} → P r → r ≡ r′ → P r′
 as-told P h e = subst P e h
 
-alone-on : (c b : ℕ) (u : List ℕ) → ((w : List ℕ) → parted c u ≡ w ∷ [] → u ≡ w) → (t : Bool) (ps : Lines) → parted c u ≡ ps → (w : List ℕ) → cond t ([] ∷ ps) (onFirst b ps) ≡ w ∷ [] → b ∷ u ≡ w
+alone-on : (c b : ℕ) (u : List ℕ) → ((w : List ℕ) → parted c u ≡ w ∷ [] → u ≡ w) → (t : Bool) (ps : Lines) → parted c u ≡ ps →
+    (w : List ℕ) → cond t ([] ∷ ps) (onFirst b ps) ≡ w ∷ [] → b ∷ u ≡ w
 alone-on c b u ih true ps p w h = absurd (some-piece c u (p ∙ tail-eq-of-cons-eq h))
 alone-on c b u ih false [] p w h = absurd (some-piece c u p)
 alone-on c b u ih false (t ∷ ts) p w h = ap (λ (v : List ℕ). b ∷ v) (ih t (p ∙ ap (λ (v : Lines). t ∷ v) (tail-eq-of-cons-eq h))) ∙ head-eq-of-cons-eq h
@@ -63,7 +64,8 @@ next-on c s at l (w ∷ x ∷ rest) p {r} e =
     let q : r ≡ at + length w = omega arith in
     let z : slice at r s ≡ w = ap (λ (n : ℕ). slice at n s) q ∙ slice-take at (length w) s l ∙ ap (take (length w)) (k .whole) ∙ take-at w (c ∷ k .tail) (length w) refl in
     let g : r + 1 ≡ at + (length w + 1) = omega arith in
-    let y : drop (r + 1) s ≡ k .tail = ap (λ (n : ℕ). drop n s) g ∙ sym (drop-drop (length w + 1) at s) ∙ ap (drop (length w + 1)) (k .whole) ∙ sym (drop-drop 1 (length w) (w ++ c ∷ k .tail)) ∙ ap (drop 1) (drop-at w (c ∷ k .tail) (length w) refl) in
+    let y : drop (r + 1) s ≡ k .tail = ap (λ (n : ℕ). drop n s) g ∙ sym (drop-drop (length w + 1) at s) ∙ ap (drop (length w + 1)) (k .whole) ∙
+    sym (drop-drop 1 (length w) (w ++ c ∷ k .tail)) ∙ ap (drop 1) (drop-at w (c ∷ k .tail) (length w) refl) in
     record {
       more = λ h. p ∙ ap₂ (λ (v : List ℕ) (o : Lines). v ∷ o) (sym z) (sym (k .then) ∙ ap (parted c) (sym y));
       last = λ h. absurd (omega arith);
@@ -75,7 +77,8 @@ next-piece c s at l e = next-on c s at l (parted c (drop at s)) refl e
 
 -- ---- one turn of the loop that judges
 
-judge-cons : (e : Bool) (t : State) (n : ℕ) (l : List ℕ) (ps : Lines) → (ps ≡ [] → ⊥) → judge e t n (l ∷ ps) ≡ cond (stands e t (kind l)) (judge e (after e t (kind l)) (n + 1) ps) (bad badSheet n)
+judge-cons : (e : Bool) (t : State) (n : ℕ) (l : List ℕ) (ps : Lines) → (ps ≡ [] → ⊥) → judge e t n (l ∷ ps) ≡ cond (stands e t (kind l))
+    (judge e (after e t (kind l)) (n + 1) ps) (bad badSheet n)
 unfolding judge
 judge-cons e t n l [] h = absurd (h refl)
 judge-cons e t n l (m ∷ ps) h = refl
@@ -86,7 +89,8 @@ judge-one e t n l = refl
 
 module _ (e : Bool) (t : State) (n : ℕ) (s : List ℕ) (at end : ℕ) (k : Next 0x0A s at end) where
   -- an ended line is judged, and then those behind it
-  pub judge-turn : end < length s → judge e t n (parted 0x0A (drop at s)) ≡ cond (stands e t (kind (slice at end s))) (judge e (after e t (kind (slice at end s))) (n + 1) (parted 0x0A (drop (end + 1) s))) (bad badSheet n)
+  pub judge-turn : end < length s → judge e t n (parted 0x0A (drop at s)) ≡ cond (stands e t (kind (slice at end s)))
+      (judge e (after e t (kind (slice at end s))) (n + 1) (parted 0x0A (drop (end + 1) s))) (bad badSheet n)
   judge-turn l = ap (judge e t n) (k .more l) ∙ judge-cons e t n (slice at end s) (parted 0x0A (drop (end + 1) s)) (some-piece 0x0A (drop (end + 1) s))
 
   -- an unended one fails at itself

@@ -52,7 +52,8 @@ module _ {N I : Type 0} (rows : N → ℕ) (owner : I → ℕ) (nodeLine : ℕ �
       again j m l = items-lower j k (k + 1) a l m
 
   -- so many items of one node
-  taken : (c k : ℕ) (is : List I) (rest : List ℕ) → ItemsAre is → map owner is ≡ replicate c k ++ rest → Items k (k + 1) (itemLines (take c is)) × (map owner (drop c is) ≡ rest) × ItemsAre (drop c is)
+  taken : (c k : ℕ) (is : List I) (rest : List ℕ) → ItemsAre is → map owner is ≡ replicate c k ++ rest → Items k (k + 1)
+      (itemLines (take c is)) × (map owner (drop c is) ≡ rest) × ItemsAre (drop c is)
   taken zero k is rest a e = (tt, e, a)
   taken (suc c) k [] rest a e = absurd (no-cons k (replicate c k ++ rest) (sym e))
   taken (suc c) k (i ∷ is) rest (o, a) e =
@@ -78,7 +79,9 @@ module _ {N I : Type 0} (rows : N → ℕ) (owner : I → ℕ) (nodeLine : ℕ �
   group-nodes k (r ∷ ns) is (n, ms) a e =
       let (m, d, b) = taken (rows r) k is (owners (k + 1) ns) a e in
       nodes-node (nodeLine k r) (itemLines (take (rows r) is) ++ groupLines (k + 1) ns (drop (rows r) is)) n
-      ∙ ap (λ (v : Lines). nodeLine k r ∷ v) (items-nodes k (k + 1) (itemLines (take (rows r) is)) m (groupLines (k + 1) ns (drop (rows r) is)) ∙ group-nodes (k + 1) ns (drop (rows r) is) ms b d)
+      ∙ ap (λ (v : Lines). nodeLine k r ∷ v)
+      (items-nodes k (k + 1) (itemLines (take (rows r) is)) m (groupLines (k + 1) ns (drop (rows r) is)) ∙ group-nodes (k + 1) ns
+      (drop (rows r) is) ms b d)
 
   no-owners : (is : List I) → map owner is ≡ [] → itemLines is ≡ []
   no-owners [] e = refl

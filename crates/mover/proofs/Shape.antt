@@ -168,7 +168,8 @@ pub record Fine (e : Bool) (s : State) (n : ℕ) (ps : Lines) (nodes items : ℕ
   pub ends : end .nodes ≡ nodes
   pub has : end .items ≡ items
 
-judge-on : (e : Bool) (s : State) (n : ℕ) (l : List ℕ) (ls : Lines) {k : Kind} → kind l ≡ k → stands e s k ≡ true → judge e s n (l ∷ ls ++ [] ∷ []) ≡ judge e (after e s k) (n + 1) (ls ++ [] ∷ [])
+judge-on : (e : Bool) (s : State) (n : ℕ) (l : List ℕ) (ls : Lines) {k : Kind} → kind l ≡ k → stands e s k ≡ true → judge e s n
+    (l ∷ ls ++ [] ∷ []) ≡ judge e (after e s k) (n + 1) (ls ++ [] ∷ [])
 unfolding judge
 judge-on e s n l [] q h = rw q (rw h refl)
 judge-on e s n l (m ∷ ls) q h = rw q (rw h refl)
@@ -177,7 +178,8 @@ fine-end : (e : Bool) (s : State) (n : ℕ) → judge e s n ([] ∷ []) ≡ good
 unfolding judge same
 fine-end e s n = refl
 
-module _ (e : Bool) (s : State) (n : ℕ) (l : List ℕ) (ls : Lines) {k : Kind} {nodes items : ℕ} (q : kind l ≡ k) (h : stands e s k ≡ true) (f : Fine e (after e s k) (n + 1) (ls ++ [] ∷ []) nodes items) where
+module _ (e : Bool) (s : State) (n : ℕ) (l : List ℕ) (ls : Lines) {k : Kind} {nodes items : ℕ} (q : kind l ≡ k) (h : stands e s k ≡ true)
+    (f : Fine e (after e s k) (n + 1) (ls ++ [] ∷ []) nodes items) where
   fine-on : Fine e s n (l ∷ ls ++ [] ∷ []) nodes items
   fine-on = record { end = f .end; judges = judge-on e s n l ls q h ∙ f .judges; ends = f .ends; has = f .has }
 

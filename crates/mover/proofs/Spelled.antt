@@ -155,7 +155,8 @@ hex-escape b l p =
     let q : b / 16 * 16 + b % 16 ≡ b = omega arith in
     rw (hex-nibble (b / 16) (omega arith), hex-nibble (b % 16) (omega arith), q, p, lt-ltb b 0x100 l) (same-self (0x5C ∷ hexDigit (b / 16) ∷ hexDigit (b % 16) ∷ []))
 
-text-on : (two : Bool) (b : ℕ) (t : List ℕ) → b < 0x100 → (p : Bool) → plain b ≡ p → isText two (cond p (b ∷ []) (0x5C ∷ hexDigit (b / 16) ∷ hexDigit (b % 16) ∷ []) ++ t) ≡ isText two t
+text-on : (two : Bool) (b : ℕ) (t : List ℕ) → b < 0x100 → (p : Bool) → plain b ≡ p → isText two
+    (cond p (b ∷ []) (0x5C ∷ hexDigit (b / 16) ∷ hexDigit (b % 16) ∷ []) ++ t) ≡ isText two t
 unfolding isText
 text-on two b t l true p = text-plain two b p t
 text-on two b t l false p = slash (hexDigit (b / 16)) (hexDigit (b % 16)) (hex-escape b l p) t

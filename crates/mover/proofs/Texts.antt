@@ -131,7 +131,12 @@ module _ {s : List ℕ} {from end : ℕ} {two : Bool} {i : ℕ} (g : Spelling s 
         spelled-bad u v = sym (g .same ∙ ap (isText two) three ∙ text-escape two x y (slice (i + 3) end s) ∙ rw (sym u ∙ v) refl)
 
         pub spelled-three : {k : Bool} → k ≡ isEscape x y → k ≡ true → Spelling s from end two (i + 3)
-        spelled-three u v = record { before = omega arith; inside = g .inside; same = g .same ∙ ap (isText two) three ∙ text-escape two x y (slice (i + 3) end s) ∙ rw (sym u ∙ v) refl }
+        spelled-three u v = record {
+          before = omega arith;
+          inside = g .inside;
+          same = g .same ∙ ap (isText two) three ∙ text-escape two x y
+              (slice (i + 3) end s) ∙ rw (sym u ∙ v) refl;
+        }
 
       module _ (n : b ≡ 0x5C → ⊥) {k : Bool} (u : k ≡ itself two b) where
         one : isText two (slice i end s) ≡ (itself two b && isText two (slice (i + 1) end s))

@@ -195,7 +195,8 @@ module _ (s : List ℕ) (row : ℕ) {o o′ : List ℕ} {t r : ℕ} {first i : I
     pub run-turn : k ≡ row → {o″ : List ℕ} {r′ : ℕ} → Counts o′ o″ r (slice at end s ++ 0x0A ∷ []) r′
         → (j : ItemAt) → (itemLines s j ≡ itemsOf (rest s (end + 1))) × Right s (end + 1) j → Running o o″ t r′ s row first j
     run-turn q p j n = record {
-      puts = going-on (ap (λ v. written (runOf row (itemLines s v))) e ∙ run-on s row at end k (here .4) q ∙ ap (λ v. (slice at end s ++ 0x0A ∷ []) ++ written (runOf row v)) (sym (n .0))) (g .puts) p;
+      puts = going-on (ap (λ v. written (runOf row (itemLines s v))) e ∙ run-on s row at end k (here .4) q ∙ ap
+          (λ v. (slice at end s ++ 0x0A ∷ []) ++ written (runOf row v)) (sym (n .0))) (g .puts) p;
       past = g .past ∙ ap (λ v. pastRun row (itemLines s v)) e ∙ past-on s row at end k (here .4) q ∙ ap (pastRun row) (sym (n .0));
       right = right-low s (end + 1) j (n .1);
     }
@@ -206,7 +207,8 @@ pub walk-start : (ns : Lines) {ms : Lines} (ls : Lines) → ls ≡ ms → writte
 walk-start ns ls e = ap (λ v. written (walk 0 ns v)) e
 
 walk-node : (row : ℕ) (l : List ℕ) (ns ms : Lines) → written (walk row (l ∷ ns) ms) ≡ (l ++ 0x0A ∷ []) ++ (written (runOf row ms) ++ written (walk (row + 1) ns (pastRun row ms)))
-walk-node row l ns ms = written-one l (runOf row ms ++ walk (row + 1) ns (pastRun row ms)) ∙ ap (λ v. (l ++ 0x0A ∷ []) ++ v) (written-both (runOf row ms) (walk (row + 1) ns (pastRun row ms)))
+walk-node row l ns ms = written-one l (runOf row ms ++ walk (row + 1) ns (pastRun row ms)) ∙ ap (λ v. (l ++ 0x0A ∷ []) ++ v)
+    (written-both (runOf row ms) (walk (row + 1) ns (pastRun row ms)))
 
 module _ (s : List ℕ) (row at : ℕ) (ms : Lines) where
   pub walk-end : length s ≤ at → written (walk row (nodesOf (rest s at)) ms) ≡ []
@@ -216,7 +218,8 @@ module _ (s : List ℕ) (row at : ℕ) (ms : Lines) where
     pub walk-past : d ≡ false → written (walk row (nodesOf (rest s at)) ms) ≡ written (walk row (nodesOf (rest s (end + 1))) ms)
     walk-past f = ap (λ ns. written (walk row ns ms)) (kind-past s false at k m xe de f)
 
-    pub walk-one : d ≡ true → written (walk row (nodesOf (rest s at)) ms) ≡ (slice at end s ++ 0x0A ∷ []) ++ (written (runOf row ms) ++ written (walk (row + 1) (nodesOf (rest s (end + 1))) (pastRun row ms)))
+    pub walk-one : d ≡ true → written (walk row (nodesOf (rest s at)) ms) ≡ (slice at end s ++ 0x0A ∷ []) ++
+        (written (runOf row ms) ++ written (walk (row + 1) (nodesOf (rest s (end + 1))) (pastRun row ms)))
     walk-one f = ap (λ ns. written (walk row ns ms)) (kind-one s false at k m xe de f) ∙ walk-node row (slice at end s) (nodesOf (rest s (end + 1))) ms
 
     pub walk-turn : d ≡ true → {o o₁ o₂ o₃ : List ℕ} {t t₁ t₂ t₃ : ℕ} {whole : List ℕ} → Going o o₁ t t₁ whole (written (walk row (nodesOf (rest s at)) ms))

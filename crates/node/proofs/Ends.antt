@@ -8,21 +8,20 @@ use Prim.Native.Nat.{ℕ, _+_, _-_, _≤_, _<_}
 use native.Mathlib.Omega.{arith}
 use lib.Dec.{T, eqb, eqb→eq}
 use lib.ListN.{length}
-use borrow.Author.Tests.{ltb-true, leb-true, eqb-true}
+use borrow.Author.Tests.{leb-true, eqb-true}
 use Rattle.cursor.specs.Machine.{ok, run, exec}
-use Rattle.cursor.specs.Rows.{Part, nodeRow, itemRow, plain, hasInline, sizeIf, inlineSize, P}
+use Rattle.cursor.specs.Rows.{hasInline, sizeIf, inlineSize}
 use Rattle.cursor.specs.declared.Node.{Node}
 use Rattle.cursor.proofs.Laws.{ran}
-use Rattle.cursor.proofs.Wp.{Wp, at-end, wp-after, wp-weaken, wp-ret, wp-refuse, wp-if, wp-check, wp-place, wp-skip, wp-many}
+use Rattle.cursor.proofs.Wp.{Wp, at-end, wp-after, wp-weaken, wp-ret, wp-if, wp-check, wp-place, wp-skip, wp-many}
 use Rattle.cursor.proofs.Leaves.{number-on, block-on, manufacturer-on, guid-on}
 use Rattle.metadata.specs.Tables.{State, put}
 use Rattle.metadata.specs.Metadata.{Context, metadata}
 use Rattle.metadata.specs.declared.Made.{Made}
 use Rattle.metadata.proofs.Ends.{OfNames, Nothing, inside-free, Inside, Since, metadata-on}
-use Rattle.node.specs.Node.{headerLength, head, value, identifier, unpacker, entries, unpackers, resource, nodePlace, uriPlace, target, reference, Rest, rest, front}
+use Rattle.node.specs.Node.{headerLength, head, value, identifier, unpacker, entries, unpackers, resource, nodePlace, uriPlace, target, reference, rest, front}
 use Rattle.node.specs.declared.Standing.{Standing}
 use Rattle.node.specs.declared.Head.{Head}
-use Rattle.node.specs.declared.Unpackers.{Unpackers}
 use Rattle.node.specs.declared.Reference.{Reference}
 use Rattle.node.specs.declared.Front.{Front}
 
@@ -43,20 +42,34 @@ no-folder contained detached t = by (eqb contained 0) refl t
     by false e z = inr (eqb-true _ _ z)
 
 module _ (N : OfNames) (top size : ℕ) where
-  pub header-length-on : (p n contained at : ℕ) → Wp (Inside N top size) (headerLength p n contained) (λ h q. (at < q) × (q ≤ p + h .header .0) × (h .header .0 ≤ h .size .0) × (h .size .0 ≡ n) × (h .contained ≡ contained)) at
+  pub header-length-on : (p n contained at : ℕ) → Wp (Inside N top size) (headerLength p n contained)
+      (λ h q. (at < q) × (q ≤ p + h .header .0) × (h .header .0 ≤ h .size .0) × (h .size .0 ≡ n) × (h .contained ≡ contained)) at
   unfolding headerLength
   header-length-on p n contained at =
       wp-place _ at
       (wp-after (number-on _ _ (p + n) at) λ header q x.
       wp-place _ q (wp-check _ _ λ t. wp-check _ _ λ u. wp-ret (omega arith, leb-true q (p + header) u, leb-true header n t, refl, refl)))
 
-  pub head-on : (s : Standing) (at : ℕ) → Wp (Inside N top size) (head s) (λ h q. (at < q) × (q ≤ at + h .header .0) × (h .header .0 ≤ h .size .0) × (at + h .size .0 ≤ s .end .0) × (s .least .0 ≤ at + h .size .0) × (at + h .size .0 ≤ s .taken .0) × ((h .contained ≡ 0) ⊎ (s .detached ≡ 0))) at
+  pub head-on : (s : Standing) (at : ℕ) → Wp (Inside N top size) (head s)
+      (λ h q. (at < q) × (q ≤ at + h .header .0) × (h .header .0 ≤ h .size .0) × (at + h .size .0 ≤ s .end .0) ×
+      (s .least .0 ≤ at + h .size .0) × (at + h .size .0 ≤ s .taken .0) × ((h .contained ≡ 0) ⊎ (s .detached ≡ 0))) at
   unfolding head
   head-on s at =
       wp-place _ at
       (wp-after (number-on _ _ (s .end .0) at) λ n p x. wp-check _ _ λ t. wp-check _ _ λ u. wp-check _ _ λ v.
       wp-after (number-on _ _ (at + n) p) λ contained q y. wp-check _ _ λ w.
-      wp-weaken (header-length-on at n contained q) (λ h r z. (omega arith, omega arith, omega arith, omega (arith, leb-true (at + n) (s .end .0) t), omega (arith, leb-true (s .least .0) (at + n) u), omega (arith, leb-true (at + n) (s .taken .0) v), elim (no-folder contained (s .detached) w) [ inl e ↦ inl (z .4 ∙ e) | inr e ↦ inr e ])))
+      wp-weaken (header-length-on at n contained q)
+      (λ h r z. (
+        omega arith,
+        omega arith,
+        omega arith,
+        omega (arith, leb-true (at + n) (s .end .0) t),
+        omega
+            (arith, leb-true (s .least .0) (at + n) u),
+        omega (arith, leb-true (at + n) (s .taken .0) v),
+        elim (no-folder contained (s .detached) w)
+            [ inl e ↦ inl (z .4 ∙ e) | inr e ↦ inr e ],
+      )))
 
   value-on : (end at : ℕ) → Wp (Inside N top size) (value end) (λ _ q. (at < q) × (q ≤ end)) at
   unfolding value
@@ -90,23 +103,27 @@ module _ (N : OfNames) (top size : ℕ) where
       (wp-after (block-on _ _ end at) λ n q x. wp-check _ _ λ t.
       wp-place _ q (wp-weaken (entries-on (q + n) q (omega arith)) (λ u r y. omega arith)))
 
-  target-on : (headerEnd r end at : ℕ) → end ≤ top → end ≤ size → at ≤ end → Wp (Inside N top size) (target headerEnd size r end) (λ r q. (at ≤ q) × (q ≤ end) × Leads size r × Follows end q r) at
+  target-on : (headerEnd r end at : ℕ) → end ≤ top → end ≤ size → at ≤ end → Wp (Inside N top size) (target headerEnd size r end)
+      (λ r q. (at ≤ q) × (q ≤ end) × Leads size r × Follows end q r) at
   unfolding target resource nodePlace uriPlace
   target-on headerEnd r end at o i l =
       wp-if (λ t. wp-place _ at (wp-ret (omega arith, l, inr (omega arith), λ k. (refl, refl))))
       λ t. wp-if
-      (λ u. wp-place _ at (wp-after (number-on _ _ end at) λ v q x. wp-check _ _ λ c. wp-check _ _ λ d. wp-ret (omega arith, omega arith, inr (omega (arith, leb-true v size d)), λ k. absurd (omega arith))))
+      (λ u. wp-place _ at (wp-after (number-on _ _ end at) λ v q x. wp-check _ _ λ c. wp-check _ _ λ d. wp-ret
+      (omega arith, omega arith, inr (omega (arith, leb-true v size d)), λ k. absurd (omega arith))))
       λ u. wp-if (λ w. wp-after (number-on _ _ end at) λ v q x. wp-ret (omega arith, omega arith, inl refl, λ k. absurd (omega arith)))
       (λ w. wp-after (block-on _ _ end at) λ n q x. wp-place _ q (wp-skip _ _ (omega arith) (λ _. wp-ret (omega arith, omega arith, inr (omega arith), λ k. absurd (omega arith)))))
 
-  reference-on : (headerEnd contained end at : ℕ) → end ≤ top → end ≤ size → Wp (Inside N top size) (reference headerEnd size contained end) (λ r q. (at < q) × (q ≤ end) × Leads size r × Follows end q r) at
+  reference-on : (headerEnd contained end at : ℕ) → end ≤ top → end ≤ size → Wp (Inside N top size) (reference headerEnd size contained end)
+      (λ r q. (at < q) × (q ≤ end) × Leads size r × Follows end q r) at
   unfolding reference
   reference-on headerEnd contained end at o i =
       wp-place _ at
       (wp-after (number-on _ _ end at) λ r q x. wp-check _ _ λ t. wp-check _ _ λ u. wp-check _ _ λ v.
       wp-weaken (target-on headerEnd r end q o i (omega arith)) (λ r p y. (omega arith, omega arith, y .2, y .3)))
 
-  rest-on : (headerEnd contained inner stop at : ℕ) → stop ≤ top → stop ≤ size → Wp (Inside N top size) (rest headerEnd size contained inner stop) (λ r q. (inner < q) × (q ≤ stop) × Leads size (r .reference) × Follows stop q (r .reference)) at
+  rest-on : (headerEnd contained inner stop at : ℕ) → stop ≤ top → stop ≤ size → Wp (Inside N top size)
+      (rest headerEnd size contained inner stop) (λ r q. (inner < q) × (q ≤ stop) × Leads size (r .reference) × Follows stop q (r .reference)) at
   unfolding rest
   rest-on headerEnd contained inner stop at o i =
       wp-after (unpackers-on contained inner at) λ u q x.
@@ -184,7 +201,8 @@ pub head-inside : (z : Standing) (s : List ℕ) (at : ℕ) {h : Head} {p : ℕ} 
     → (at < p) × (p ≤ at + h .header .0) × (h .header .0 ≤ h .size .0) × (at + h .size .0 ≤ z .end .0)
 head-inside z s at e = let w = at-end (inside-free 0 0) s (head-on Nothing 0 0 z at) e in (w .0, w .1, w .2, w .3)
 
-pub metadata-since : (x : Context) (node end : ℕ) (m : Made) (s : List ℕ) (at : ℕ) (σ : State) {m′ : Made} {τ : State} {p : ℕ} → exec put (metadata x node end m) s at σ ≡ ok (m′, τ) p → Since m m′
+pub metadata-since : (x : Context) (node end : ℕ) (m : Made) (s : List ℕ) (at : ℕ) (σ : State) {m′ : Made} {τ : State} {p : ℕ} → exec put
+    (metadata x node end m) s at σ ≡ ok (m′, τ) p → Since m m′
 metadata-since x node end m s at σ e = at-end (inside-free end end) s (metadata-on Nothing end end x node end (omega arith) m at) (ran put _ s at σ e) .0
 
 pub front-inside : (x : Context) (parent depth : ℕ) (z : Standing) (m : Made) (s : List ℕ) (at : ℕ) (σ : State) → z .end .0 ≤ x .size → {w : Front} {τ : State} {p : ℕ}

@@ -17,4 +17,5 @@ unfolding front
 front-limited less x parent depth s m c i =
     places λ p. then-rowless (head-uses tt s) λ h d a b.
     after (metadata-limited less x (m .nodes) (m .nodes) (p + h .header .0) m d (omega arith, omega arith, omega arith, omega arith)) λ m′ e j.
-    then-rowless (rest-uses tt tt tt (x .headerEnd) (x .size) (h .contained) (p + h .header .0) (p + h .size .0)) λ o g a′ b′. ends (omega arith, omega arith, omega arith, omega arith)
+    then-rowless (rest-uses tt tt tt (x .headerEnd) (x .size) (h .contained) (p + h .header .0) (p + h .size .0)) λ o g a′ b′. ends
+    (omega arith, omega arith, omega arith, omega arith)

@@ -1,7 +1,7 @@
 -- A node up to its contents: its items' rows are counted by its own row, which is yet to be made.
 -- Assumes nothing.
 use mathlib.Core.Path.{_≡_, refl}
-use Prim.Native.Nat.{ℕ, _+_, _-_}
+use Prim.Native.Nat.{ℕ, _+_}
 use native.Mathlib.Omega.{arith}
 use Rattle.cursor.proofs.Order.{Orders, after, ends, places, then-rowless}
 use Rattle.metadata.specs.Metadata.{Context}

@@ -30,5 +30,6 @@ module _ {S : Type 0} {put : Part → ℕ → ℕ → S → S} (i : IgnoresPlain
 pub exec-head : (s : Standing) (f : List ℕ) (at : ℕ) (σ : State) → exec put (head s) f at σ ≡ still (run (head s) f at) σ
 exec-head s = head-quiet put-ignores s .quiet
 
-pub exec-rest : (headerEnd size contained inner stop : ℕ) (f : List ℕ) (at : ℕ) (σ : State) → exec put (rest headerEnd size contained inner stop) f at σ ≡ still (run (rest headerEnd size contained inner stop) f at) σ
+pub exec-rest : (headerEnd size contained inner stop : ℕ) (f : List ℕ) (at : ℕ) (σ : State) → exec put
+    (rest headerEnd size contained inner stop) f at σ ≡ still (run (rest headerEnd size contained inner stop) f at) σ
 exec-rest headerEnd size contained inner stop = rest-quiet put-ignores headerEnd size contained inner stop .quiet

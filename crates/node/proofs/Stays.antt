@@ -53,10 +53,12 @@ module _ {f : List ℕ} where
 
   rest-stays : (headerEnd size contained inner stop : ℕ) → inner ≤ length f → stop ≤ length f → Stays f (rest headerEnd size contained inner stop)
   unfolding rest
-  rest-stays headerEnd size contained inner stop o i = after (unpackers-stay contained inner o) λ u. places λ e l. checks _ _ l λ t. after (reference-stays stop i headerEnd size contained) λ r. ends
+  rest-stays headerEnd size contained inner stop o i = after (unpackers-stay contained inner o) λ u. places λ e l. checks _ _ l λ t. after
+      (reference-stays stop i headerEnd size contained) λ r. ends
 
   pub front-stays : (x : Context) (parent depth : ℕ) (s : Standing) (m : Made) → s .end .0 ≤ length f → s .offset .0 ≤ length f → Stays f (front x parent depth s m)
   unfolding front
   front-stays x parent depth s m o i =
       anywhere λ at l. place-at _ at (after-at (head-stays s o i .from at l) λ h q e k. let y = head-inside s f at e in
-      (after (metadata-stays x (m .nodes) (at + h .header .0) m (omega arith)) λ m′. after (rest-stays _ _ _ (at + h .header .0) (at + h .size .0) (omega arith) (omega arith)) λ r. ends) .from q k)
+      (after (metadata-stays x (m .nodes) (at + h .header .0) m (omega arith)) λ m′. after
+      (rest-stays _ _ _ (at + h .header .0) (at + h .size .0) (omega arith) (omega arith)) λ r. ends) .from q k)

@@ -34,7 +34,8 @@ module _ {S : Allowed} (r : S .frame unpackFrame) where
   pub unpackers-use : (contained end : ℕ) → Uses S (unpackers contained end)
   unfolding unpackers entries
   unpackers-use contained end =
-      places λ p. after (block-with _ r badNode end (λ p. S .listed badNode p tt)) λ n. checks _ _ _ tt (places λ q. places λ o. after (repeats (q + n) 0 (unpacker-uses (q + n))) λ k. ends)
+      places λ p. after (block-with _ r badNode end (λ p. S .listed badNode p tt)) λ n. checks _ _ _ tt
+      (places λ q. places λ o. after (repeats (q + n) 0 (unpacker-uses (q + n))) λ k. ends)
 
 pub reference-uses : {S : Allowed} → S .frame referenceFrame → S .part (plain uri) → (headerEnd size contained end : ℕ) → Uses S (reference headerEnd size contained end)
 unfolding reference target resource nodePlace uriPlace
@@ -45,11 +46,14 @@ reference-uses r w headerEnd size contained end =
     (either _ (after (number-uses _ r _) λ o. ends)
     (after (block-uses _ r _) λ n. places λ q. passes _ _ w ends))))))
 
-pub rest-uses : {S : Allowed} → S .frame unpackFrame → S .frame referenceFrame → S .part (plain uri) → (headerEnd size contained inner stop : ℕ) → Uses S (rest headerEnd size contained inner stop)
+pub rest-uses : {S : Allowed} → S .frame unpackFrame → S .frame referenceFrame → S .part (plain uri) →
+    (headerEnd size contained inner stop : ℕ) → Uses S (rest headerEnd size contained inner stop)
 unfolding rest
-rest-uses u r w headerEnd size contained inner stop = after (unpackers-use u contained inner) λ o. places λ e. checks _ _ _ tt (after (reference-uses r w headerEnd size contained stop) λ v. ends)
+rest-uses u r w headerEnd size contained inner stop = after (unpackers-use u contained inner) λ o. places λ e. checks _ _ _ tt
+    (after (reference-uses r w headerEnd size contained stop) λ v. ends)
 
-pub front-uses : {S : Allowed} → ((κ : Frame) → S .frame κ) → ((x : Plain) → S .part (plain x)) → ((i : Item) → S .part (itemRow i)) → (x : Context) (parent depth : ℕ) (s : Standing) (m : Made)
+pub front-uses : {S : Allowed} → ((κ : Frame) → S .frame κ) → ((x : Plain) → S .part (plain x)) → ((i : Item) → S .part (itemRow i)) →
+    (x : Context) (parent depth : ℕ) (s : Standing) (m : Made)
     → Uses S (front x parent depth s m)
 unfolding front
 front-uses r w d x parent depth s m =

@@ -1,16 +1,14 @@
 -- The ways through a node up to its contents: what each exit of the code comes to.
 -- Assumes nothing.
 use mathlib.Core.Path.{_≡_, refl, sym, ap, _∙_, subst}
-use mathlib.Core.Bool.{Bool, true, false, not, _||_, or-true}
+use mathlib.Core.Bool.{true, false, not, _||_, or-true}
 use lib.Dec.{eqb}
-use mathlib.Core.Logic.{_⊎_, inl, inr}
-use mathlib.Core.List.{List, [], _∷_}
-use Prim.Native.Nat.{ℕ, zero, suc, _+_, _-_, _*_, _≤_, _<_}
+use mathlib.Core.List.{List}
+use Prim.Native.Nat.{ℕ, zero, _+_, _-_, _≤_, _<_}
 use native.Mathlib.Omega.{arith}
-use lib.ListN.{length}
 use borrow.Author.Tests.{lt-ltb, le-ltb, le-leb, lt-leb, eq-eqb, ne-eqb, not-false, not-true}
 use Rattle.cursor.specs.Machine.{Out, ok, refused, run, exec, turns, many}
-use Rattle.cursor.specs.Rows.{P, nodeFrame, unpackFrame, referenceFrame}
+use Rattle.cursor.specs.Rows.{nodeFrame, unpackFrame, referenceFrame}
 use Rattle.cursor.specs.Leaves.{number, block, manufacturer, guid}
 use Rattle.cursor.specs.Told.{passTold}
 use Rattle.cursor.specs.declared.Cursor.{Cursor}
@@ -54,7 +52,8 @@ module _ (p size contained : ℕ) (s : List ℕ) (at : ℕ) {stop : ℕ} (is : s
       unfolding headerLength
       header-short l = let e₁′ = rw is at e₁ in simp (running, e₁′, le-leb _ _ l₁, lt-leb _ _ l)
 
-      pub header-all : q ≤ p + header → ok (record { size = record { 0 = size }; contained = contained; header = record { 0 = header } }) q ≡ run (headerLength p size contained) s at
+      pub header-all : q ≤ p + header → ok (record { size = record { 0 = size }; contained = contained; header = record { 0 = header } }) q ≡ run
+          (headerLength p size contained) s at
       unfolding headerLength
       header-all l = let e₁′ = rw is at e₁ in simp (running, e₁′, le-leb _ _ l₁, le-leb _ _ l)
 
@@ -81,7 +80,8 @@ module _ (z : Standing) (s : List ℕ) (at : ℕ) where
         module _ (l₃ : stop ≤ z .taken .0) where
           pub head-contained : {n q : ℕ} → run (number nodeFrame 3 stop) s p ≡ refused n q → refused n q ≡ run (head z) s at
           unfolding head
-          head-contained e = let l₁′ = rw is at l₁ in let l₂′ = rw is at l₂ in let l₃′ = rw is at l₃ in let e′ = rw is at e in simp (running, e₁, le-leb _ _ l₁′, le-leb _ _ l₂′, le-leb _ _ l₃′, e′)
+          head-contained e = let l₁′ = rw is at l₁ in let l₂′ = rw is at l₂ in let l₃′ = rw is at l₃ in let e′ = rw is at e in simp
+              (running, e₁, le-leb _ _ l₁′, le-leb _ _ l₂′, le-leb _ _ l₃′, e′)
 
           module _ {contained q : ℕ} (e₂ : run (number nodeFrame 3 stop) s p ≡ ok contained q) where
             pub head-folder : true ≡ not (eqb contained 0 || eqb (z .detached) 0) → refused 24 (z .offset .0) ≡ run (head z) s at
@@ -119,7 +119,8 @@ module _ (kind end : ℕ) (s : List ℕ) (at : ℕ) where
     unfolding identifier
     identifier-cut k e = simp (running, ne-eqb _ _ n₁, eq-eqb _ _ k, e)
 
-    pub identifier-two : kind ≡ 1 → {q : ℕ} → run (manufacturer unpackFrame end) s at ≡ ok tt q → {o : Out (Unit {0})} → o ≡ run (value end) s q → o ≡ run (identifier kind end) s at
+    pub identifier-two : kind ≡ 1 → {q : ℕ} → run (manufacturer unpackFrame end) s at ≡ ok tt q → {o : Out (Unit {0})} → o ≡ run (value end) s
+        q → o ≡ run (identifier kind end) s at
     unfolding identifier
     identifier-two k e h = h ∙ simp (running, ne-eqb _ _ n₁, eq-eqb _ _ k, e)
 
@@ -162,7 +163,9 @@ module _ {s : List ℕ} {end at i k : ℕ} (g : Going s end at i k) where
   pub entries-done : end ≤ i → ok (record { place = record { 0 = at }; count = k }) i ≡ run (entries end) s at
   entries-done l = sym (g .same ∙ rw (run-turned s (g .left) end i (unpacker end) k l) refl)
 
-  turn : i < end → run (entries end) s at ≡ andThen (andThen (run (unpacker end k) s i) (λ t p. run (turns (g .left - 1) end (unpacker end) t) s p)) (λ n p. ok (record { place = record { 0 = at }; count = n }) p)
+  turn : i < end → run (entries end) s at ≡ andThen
+      (andThen (run (unpacker end k) s i) (λ t p. run (turns (g .left - 1) end (unpacker end) t) s p))
+      (λ n p. ok (record { place = record { 0 = at }; count = n }) p)
   turn l = g .same ∙ rw (run-turn s (g .left) end i (unpacker end) k l (g .enough)) refl
 
   module _ (l : i < end) (r : Passed) (d : (n : ℕ) → unpackerTold r n ≡ run (unpacker end n) s i) where
@@ -301,7 +304,8 @@ module _ (headerEnd size contained inner stop : ℕ) (s : List ℕ) (at : ℕ) w
       unfolding rest
       rest-reference e = simp (running, e₁, le-leb _ _ l₁, e)
 
-      pub rest-all : {r : Reference} {p : ℕ} → run (reference headerEnd size contained stop) s q ≡ ok r p → ok (record { unpackers = u; reference = r }) p ≡ run (rest headerEnd size contained inner stop) s at
+      pub rest-all : {r : Reference} {p : ℕ} → run (reference headerEnd size contained stop) s q ≡ ok r p → ok
+          (record { unpackers = u; reference = r }) p ≡ run (rest headerEnd size contained inner stop) s at
       unfolding rest
       rest-all e = simp (running, e₁, le-leb _ _ l₁, e)
 
@@ -321,7 +325,8 @@ module _ {lim : Limits} {t u : List ℕ} {o : Out (Front × State)} where
   pub front-no : {n : ℕ} {p : FilePlace} → refused n (p .0) ≡ o → Fronts lim (fronted.Refused n p) t u o
   front-no e = record { answer = e; fits = tt }
 
-  pub front-yes : {w : Front} {c : Cursor} → ok (w, state t u (w .made)) (c .at .0) ≡ o → (w .made .nodes ≤ lim .nodes) × (w .made .items ≤ lim .items) → Fronts lim (fronted.Is w c) t u o
+  pub front-yes : {w : Front} {c : Cursor} → ok (w, state t u (w .made)) (c .at .0) ≡ o → (w .made .nodes ≤ lim .nodes) ×
+      (w .made .items ≤ lim .items) → Fronts lim (fronted.Is w c) t u o
   front-yes e f = record { answer = e; fits = f }
 
 module _ (x : Context) (parent depth : ℕ) (z : Standing) (m : Made) (s : List ℕ) (at : ℕ) (σ : State) where

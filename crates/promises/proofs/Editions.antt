@@ -53,7 +53,8 @@ refused-so n p (bad m q) e = let x : m ≡ badSheet = cc in let y : q ≡ p = cc
 pub over-and-back : OverAndBack
 unfolding outcome leaves
 over-and-back = (
-  λ second s w. let (t, there, o, back) = moves second s w in record { moved = t; edition = o; over = λ n f l. moved-out s t f n there l; back = λ n f l. moved-out t s f n back l },
+  λ second s w. let (t, there, o, back) = moves second s w in record
+      { moved = t; edition = o; over = λ n f l. moved-out s t f n there l; back = λ n f l. moved-out t s f n back l },
   λ s f ls n e. let (t, h) = answered-good (size ls 0) n (move s) e in (isSecond s, moved-well s t h),
   λ s f ls p e. move-at s (refused-so (size ls 0) p (move s) e),
 )
@@ -75,7 +76,8 @@ module _ (second : Bool) (ls : Sizes) (f : List ℕ) where
   written (rows h ns is) n e =
       let t = linesIn second (h .version) f ns is in
       let w = subst (λ r. left r .answer ≡ 0 ∷ 0 ∷ n ∷ [] → newFile (left r) ≡ t) (sym (question-is second (size ls 2) f h ns is))
-      (fitted (λ r. left r .answer ≡ 0 ∷ 0 ∷ n ∷ [] → newFile (left r) ≡ t) (size ls 2) t (λ a. new-is t) (λ a. let z : _≡_ {A = ℕ} 0 1 = cc (ap length a) in absurd (omega arith))) in
+      (fitted (λ r. left r .answer ≡ 0 ∷ 0 ∷ n ∷ [] → newFile (left r) ≡ t) (size ls 2) t (λ a. new-is t)
+      (λ a. let z : _≡_ {A = ℕ} 0 1 = cc (ap length a) in absurd (omega arith))) in
       (h, ns, is, refl, w e)
   written (refusal m p) n e = let z : _≡_ {A = ℕ} 0 1 = cc (ap length e) in absurd (omega arith)
 
@@ -102,5 +104,6 @@ sheets-move second ls f bytes n e =
     let lim = limits (size ls 0) (size ls 1) in
     rw s (
       file-well lim f bytes r second,
-      λ m. same-left (not second) ls f r (linesIn second (h .version) f ns is) m (moved-as-written lim f bytes r second m) ∙ ap behindTables (sym (out-of (not second) (size ls 0 ∷ size ls 1 ∷ m ∷ []) f)),
+      λ m. same-left (not second) ls f r (linesIn second (h .version) f ns is) m (moved-as-written lim f bytes r second m) ∙ ap behindTables
+          (sym (out-of (not second) (size ls 0 ∷ size ls 1 ∷ m ∷ []) f)),
     )

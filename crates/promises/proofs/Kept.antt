@@ -135,7 +135,8 @@ unfolding title.correctTitle reads
 title-twins ls f g {h} {ns} {is} r d i text n =
     let lim : Limits = limits (size ls 0) (size ls 1) in
     unless (leb (length is) i) 18 0 (λ _. unless (title.elsewhere ns) 36 0 (λ here. unless (title.isNoTitle (itemAt is i)) 37 0
-    (λ _. let long = titles.titles-length lim f g r d here i text in fitting-twins n long (λ small. files-alike long (titles.titles-read lim f g r d here i text small) (titles.titles-differ lim f g r d here i text small)))))
+    (λ _. let long = titles.titles-length lim f g r d here i text in fitting-twins n long
+    (λ small. files-alike long (titles.titles-read lim f g r d here i text small) (titles.titles-differ lim f g r d here i text small)))))
 
 -- ---- what is lent holds alike
 
@@ -165,7 +166,8 @@ there-behind f g at x y zs w = let e = w .0 in (
   ],
 )
 
-split-there : (f g : List ℕ) (at : ℕ) (x y zs : List ℕ) (n k : ℕ) → OnlyThere f g at x y → length x + k ≡ n → length y + k ≡ n → OnlyThere f g at (take n (x ++ zs)) (take n (y ++ zs)) × (drop n (y ++ zs) ≡ drop n (x ++ zs))
+split-there : (f g : List ℕ) (at : ℕ) (x y zs : List ℕ) (n k : ℕ) → OnlyThere f g at x y → length x + k ≡ n → length y + k ≡ n → OnlyThere f
+    g at (take n (x ++ zs)) (take n (y ++ zs)) × (drop n (y ++ zs) ≡ drop n (x ++ zs))
 split-there f g at x y zs n k w a b =
     let cut : (v : List ℕ) → length v + k ≡ n → (take n (v ++ zs) ≡ v ++ take k zs) × (drop n (v ++ zs) ≡ drop k zs) =
     λ v e. (ap (λ i. take i (v ++ zs)) (sym e) ∙ take-append-add v zs k, ap (λ i. drop i (v ++ zs)) (sym e) ∙ drop-append-add v zs k) in
@@ -191,7 +193,8 @@ alike-held ls f g ws e (bad n p) (copied m w) = (λ h ns is e. record { same-len
 alike-held ls f g ws e (bad n p) (given m) = ((refl, λ k l s. refl), refl)
 alike-held ls f g ws e (bad n p) (changed w v) = refl
 
-each-alike : {A : Type 0} (ls : Sizes) (f g ws : List ℕ) → length f ≡ length g → (lends : List (Lent A)) (r : Result A) → EachAlike ls f g ws lends (map (holding f ws r) lends) (map (holding g ws r) lends)
+each-alike : {A : Type 0} (ls : Sizes) (f g ws : List ℕ) → length f ≡ length g → (lends : List (Lent A)) (r : Result A) → EachAlike ls f g
+    ws lends (map (holding f ws r) lends) (map (holding g ws r) lends)
 each-alike ls f g ws e [] r = refl
 each-alike ls f g ws e (l ∷ lends) r = (alike-held ls f g ws e r l, each-alike ls f g ws e lends r)
 
@@ -208,8 +211,12 @@ tables-same ls f g e (ofWritten w) = refl
 same-alike : (q : About) (ls : Sizes) (f g : List ℕ) → length f ≡ length g → reads ls g ≡ reads ls f → {r s : Result (q .Answer)} → s ≡ r → Alike₂ q ls f g r s
 unfolding leaves
 same-alike q ls f g m e {r} z =
-    let ws : List ℕ = saying (q .values) r in
-    (ap (saying (q .values)) z, rw z (subst (λ v. EachAlike ls f g ws (lent q ls f) (map (holding f ws r) (lent q ls f)) (map (holding g ws r) (v ++ q .buffers ls))) (sym (tables-same ls f g e (q .tables))) (each-alike ls f g ws m (lent q ls f) r)))
+    let ws : List ℕ = saying (q .values) r in (
+      ap (saying (q .values)) z,
+      rw z
+          (subst (λ v. EachAlike ls f g ws (lent q ls f) (map (holding f ws r) (lent q ls f)) (map (holding g ws r) (v ++ q .buffers ls)))
+          (sym (tables-same ls f g e (q .tables))) (each-alike ls f g ws m (lent q ls f) r)),
+    )
 
 -- two files that were written
 title-leaves : (i : ℕ) (text : List ℕ) (ls : Sizes) (f g : List ℕ) {x y : Result (List ℕ)} → Twins ls x y → Alike₂ (about (correctTitle i text)) ls f g x y
@@ -261,18 +268,21 @@ module _ (ls : Sizes) (f g : List ℕ) {h : Header} {ns : List Node} {is : List 
       )
   copies-alike false = ((refl, (refl, (refl, ((λ h ns is e. record { same-length = refl; elsewhere = λ k l o. refl }, refl), (refl, refl))))), (refl, λ k l. absurd (omega arith)))
 
-  mends-as : (f : List ℕ) {h : Header} {ns : List Node} {is : List Item} → reads ls (mended f) ≡ rows h ns is → mend.mend lim (size ls 2) (size ls 3) f ≡ mend.fitting (size ls 2) (size ls 3) (repair f)
+  mends-as : (f : List ℕ) {h : Header} {ns : List Node} {is : List Item} → reads ls (mended f) ≡ rows h ns is → mend.mend lim (size ls 2)
+      (size ls 3) f ≡ mend.fitting (size ls 2) (size ls 3) (repair f)
   unfolding reads
   mends-as f e = mend-good lim f (mended-is lim f (ap mend.accepted e)) (size ls 2) (size ls 3)
 
   pub mend-alike : Alike₂ (about mendHeader) ls f g (answerTo ls f (about mendHeader .asks ls)) (answerTo ls g (about mendHeader .asks ls))
-      × ExactlyThere f g (newFile (leaves (about mendHeader) ls f (answerTo ls f (about mendHeader .asks ls)))) (newFile (leaves (about mendHeader) ls g (answerTo ls g (about mendHeader .asks ls))))
+      × ExactlyThere f g (newFile (leaves (about mendHeader) ls f (answerTo ls f (about mendHeader .asks ls))))
+      (newFile (leaves (about mendHeader) ls g (answerTo ls g (about mendHeader .asks ls))))
   unfolding reads mend.fitting
   mend-alike =
       let w = mended-alike lim f g r d in
       let e = w .differ .same-length in
       let x = mends-as f r in
-      let y : mend.mend lim (size ls 2) (size ls 3) g ≡ cond (leb (length (mended f)) (size ls 2) && leb (length (changes f)) (size ls 3)) (good (repair g)) (bad 22 0) = mends-as g (w .reads) ∙ rw (← e, w .lines) refl in
+      let y : mend.mend lim (size ls 2) (size ls 3) g ≡ cond (leb (length (mended f)) (size ls 2) && leb (length (changes f)) (size ls 3))
+      (good (repair g)) (bad 22 0) = mends-as g (w .reads) ∙ rw (← e, w .lines) refl in
       rw (x, y) (copies-alike (leb (length (mended f)) (size ls 2) && leb (length (changes f)) (size ls 3)))
 
 -- ---- the questions of two files that differ in what is private
@@ -314,7 +324,8 @@ module _ (ls : Sizes) (f g : List ℕ) (h : Header) (ns : List Node) (is : List 
   unfolding resolve.copyInto
   copy-alike k n = ap (resolve.fitting n) (resolve-alike k)
 
-  pub fields-alike : (n : ℕ) → T (eqb n 0 || eqb n 3 || eqb n 13) → (i : ℕ) → i < length is → itemAt is i .kind ≡ 0 → itemAt is i .field ≡ n → Agree f g (itemAt is i .place) (itemAt is i .size)
+  pub fields-alike : (n : ℕ) → T (eqb n 0 || eqb n 3 || eqb n 13) → (i : ℕ) → i < length is → itemAt is i .kind ≡ 0 → itemAt is i .field ≡ n →
+      Agree f g (itemAt is i .place) (itemAt is i .size)
   fields-alike n t i m a b = data-alike i m (field-kept n t (itemAt is i) a b)
 
   count-alike : (item channel resource : ℕ) → count.countFor item channel resource g h ns is ≡ count.countFor item channel resource f h ns is
@@ -344,7 +355,8 @@ module _ (ls : Sizes) (f g : List ℕ) (h : Header) (ns : List Node) (is : List 
   unfolding reads
   account-alike t = ap (allowed t) (asks-alike _ _ (kinds-alike (limits (size ls 0) (size ls 1)) f g r d))
 
-  same : (q : Question) → answerTo ls g (about q .asks ls) ≡ answerTo ls f (about q .asks ls) → Alike₂ (about q) ls f g (answerTo ls f (about q .asks ls)) (answerTo ls g (about q .asks ls))
+  same : (q : Question) → answerTo ls g (about q .asks ls) ≡ answerTo ls f (about q .asks ls) → Alike₂ (about q) ls f g
+      (answerTo ls f (about q .asks ls)) (answerTo ls g (about q .asks ls))
   same q e = same-alike (about q) ls f g (d .same-length) reads-same e
 
   title-alike : (i : ℕ) (text : List ℕ) → Twins ls (ask (reads ls f) (title.correctTitle i text (size ls 2) f)) (ask (reads ls g) (title.correctTitle i text (size ls 2) g))
@@ -419,19 +431,23 @@ unfolding keptItems
 in-items f ws n o (good a) = refl
 in-items f ws n o (bad k p) = refl
 
-in-buffer : (f ws : List ℕ) (n : ℕ) (r : Result (List ℕ)) → (saying oneValue (room.counted r) ≡ saying sizeValue r) × (room.kept n r ≡ holding f ws r (filled n (room.padded n))) × (room.kept n r ≡ holding f ws r (copied n (λ g. g)))
+in-buffer : (f ws : List ℕ) (n : ℕ) (r : Result (List ℕ)) → (saying oneValue (room.counted r) ≡ saying sizeValue r) ×
+    (room.kept n r ≡ holding f ws r (filled n (room.padded n))) × (room.kept n r ≡ holding f ws r (copied n (λ g. g)))
 unfolding room.counted room.kept
 in-buffer f ws n (good s) = (refl, refl, refl)
 in-buffer f ws n (bad k p) = (refl, refl, refl)
 
-in-written : (f ws : List ℕ) (n m : ℕ) (lim : Limits) (r : Result (List ℕ)) → (writtenNodes n lim r ≡ holding f ws r (filled n (λ g. nodeTable n (readFile lim g)))) × (writtenItems m lim r ≡ holding f ws r (filled m (λ g. itemTable m (readFile lim g))))
+in-written : (f ws : List ℕ) (n m : ℕ) (lim : Limits) (r : Result (List ℕ)) →
+    (writtenNodes n lim r ≡ holding f ws r (filled n (λ g. nodeTable n (readFile lim g)))) ×
+    (writtenItems m lim r ≡ holding f ws r (filled m (λ g. itemTable m (readFile lim g))))
 unfolding writtenNodes writtenItems
 in-written f ws n m lim (good g) = (refl, refl)
 in-written f ws n m lim (bad k p) = (refl, refl)
 
 -- all that mending leaves
 in-mended : (f ws : List ℕ) (n m c l : ℕ) (lim : Limits) (r : Result mend.Mended) → (saying sizeWords (sizesOf r) ≡ saying mendedValues r)
-    × (writtenNodes n lim (copyIn r) ≡ holding f ws r (filled n (λ g. nodeTable n (readFile lim (g .copy))))) × (writtenItems m lim (copyIn r) ≡ holding f ws r (filled m (λ g. itemTable m (readFile lim (g .copy)))))
+    × (writtenNodes n lim (copyIn r) ≡ holding f ws r (filled n (λ g. nodeTable n (readFile lim (g .copy))))) ×
+    (writtenItems m lim (copyIn r) ≡ holding f ws r (filled m (λ g. itemTable m (readFile lim (g .copy)))))
     × (room.kept c (copyIn r) ≡ holding f ws r (copied c (λ g. g .copy))) × (room.kept l (linesIn r) ≡ holding f ws r (filled l (λ g. room.padded l (g .lines))))
 unfolding writtenNodes writtenItems room.kept
 in-mended f ws n m c l lim (good g) = (refl, refl, refl, refl, refl)
@@ -443,7 +459,8 @@ unfolding resolve.part room.padded
 in-given f n (good a) = refl
 in-given f n (bad k p) = rw sub-zero
 
-pub in-totals : (f ws : List ℕ) (t : Totals) (r : Result Kinds) → totalWords (byAnswer t r) ≡ holding f ws r (changed (λ n. totalWords (afterRefusal t n)) (λ k. totalWords (added t k)))
+pub in-totals : (f ws : List ℕ) (t : Totals) (r : Result Kinds) → totalWords (byAnswer t r) ≡ holding f ws r
+    (changed (λ n. totalWords (afterRefusal t n)) (λ k. totalWords (added t k)))
 in-totals f ws t (good k) = refl
 in-totals f ws t (bad n p) = refl
 
@@ -452,17 +469,20 @@ unfolding answerOf ask counts
 tree-says (rows h ns is) f = refl
 tree-says (refusal n p) f = refl
 
-tree-tables : (n m : ℕ) (o : Reading) (f ws : List ℕ) → (nodeTable n o ≡ holding f ws (ask o (counts f)) (filled n (λ a. nodeTable n o))) × (itemTable m o ≡ holding f ws (ask o (counts f)) (filled m (λ a. itemTable m o)))
+tree-tables : (n m : ℕ) (o : Reading) (f ws : List ℕ) → (nodeTable n o ≡ holding f ws (ask o (counts f)) (filled n (λ a. nodeTable n o))) ×
+    (itemTable m o ≡ holding f ws (ask o (counts f)) (filled m (λ a. itemTable m o)))
 unfolding ask counts nodeTable itemTable
 tree-tables n m (rows h ns is) f ws = (refl, refl)
 tree-tables n m (refusal k p) f ws = (refl, refl)
 
 over-called : {A : Type 0} (question : Asks A) (values : A → List ℕ) {nodes items f t u : List ℕ} {says : Result A} → Over question nodes items f says t u
-    → let ls : Sizes = length nodes ∷ length items ∷ [] in let r = ask (reads ls f) (question f) in left values says (t ∷ u ∷ []) ≡ left values r (map (holding f (saying values r) r) (rowTables ls (λ a. f)))
+    → let ls : Sizes = length nodes ∷ length items ∷ [] in let r = ask (reads ls f) (question f) in left values says (t ∷ u ∷ []) ≡ left values
+    r (map (holding f (saying values r) r) (rowTables ls (λ a. f)))
 unfolding reads
 over-called question values k = made (ap (saying values) (k .answers)) (two (k .in-nodes ∙ in-nodes _ _ _ _ _) (k .in-items ∙ in-items _ _ _ _ _) refl)
 
-room-called : (f : List ℕ) (r : Result (List ℕ)) {buffer v : List ℕ} {says : Result ℕ} → Fills r buffer says v → left oneValue says (v ∷ []) ≡ left sizeValue r (holding f (saying sizeValue r) r (bytes (length buffer)) ∷ [])
+room-called : (f : List ℕ) (r : Result (List ℕ)) {buffer v : List ℕ} {says : Result ℕ} → Fills r buffer says v → left oneValue says (v ∷ [])
+    ≡ left sizeValue r (holding f (saying sizeValue r) r (bytes (length buffer)) ∷ [])
 room-called f r {buffer = b} k = let w = in-buffer f _ (length b) r in made (ap (saying oneValue) (k .answers) ∙ w .0) (one (k .in-buffer ∙ w .1))
 
 pub called : {q : Question} {lent : List (List ℕ)} {f : List ℕ} {o : Outcome} → Called q lent f o → o ≡ outcome q (map length lent) f
@@ -473,15 +493,18 @@ called (read-tree {nodes} {items} {f} r a t u) =
 called (find-item w row r k) = over-called _ _ k
 called (find-own w row r k) = over-called _ _ k
 called (resolve-row row r k) = over-called _ _ k
-called (copy-resource {f = f} row r k v) = made (ap (saying resourceValues) (k .answers)) (two (k .in-nodes ∙ in-nodes _ _ _ _ _) (k .in-items ∙ in-items _ _ _ _ _) (one (v ∙ in-given f _ _)))
+called (copy-resource {f = f} row r k v) = made (ap (saying resourceValues) (k .answers))
+    (two (k .in-nodes ∙ in-nodes _ _ _ _ _) (k .in-items ∙ in-items _ _ _ _ _) (one (v ∙ in-given f _ _)))
 called (count-for item channel resource r k) = over-called _ _ k
 called (judge r k) = over-called _ _ k
 called (account {nodes} {items} {f} totals r a b t u) =
     let lim = limits (length nodes) (length items) in
     let w = ap totalWords (b ∙ left-is lim f totals) ∙ in-totals f _ totals (allowed totals (ask (readFile lim f) (kindsOf lim f))) in
     made (ap (saying kindWords) a) (two (t ∙ in-nodes _ _ _ _ _) (u ∙ in-items _ _ _ _ _) (one w))
-called (write-sheet {sheet = s} r k t u) = let w = in-buffer _ _ (length s) _ in made (ap (saying oneValue) (k .answers) ∙ w .0) (two (t ∙ in-nodes _ _ _ _ _) (u ∙ in-items _ _ _ _ _) (one (k .in-buffer ∙ w .1)))
-called (write-sheet2 {sheet = s} r k t u) = let w = in-buffer _ _ (length s) _ in made (ap (saying oneValue) (k .answers) ∙ w .0) (two (t ∙ in-nodes _ _ _ _ _) (u ∙ in-items _ _ _ _ _) (one (k .in-buffer ∙ w .1)))
+called (write-sheet {sheet = s} r k t u) = let w = in-buffer _ _ (length s) _ in made (ap (saying oneValue) (k .answers) ∙ w .0)
+    (two (t ∙ in-nodes _ _ _ _ _) (u ∙ in-items _ _ _ _ _) (one (k .in-buffer ∙ w .1)))
+called (write-sheet2 {sheet = s} r k t u) = let w = in-buffer _ _ (length s) _ in made (ap (saying oneValue) (k .answers) ∙ w .0)
+    (two (t ∙ in-nodes _ _ _ _ _) (u ∙ in-items _ _ _ _ _) (one (k .in-buffer ∙ w .1)))
 called (correct-title {out = s} item text r k t u) =
     let w = in-buffer _ _ (length s) _ in let x = in-written _ _ _ _ _ _ in made (ap (saying oneValue) (k .answers) ∙ w .0) (two (t ∙ x .0) (u ∙ x .1) (one (k .in-buffer ∙ w .2)))
 called (mend-header {nodes} {items} {copy} {lines} {f} r a t u v w) =
@@ -570,13 +593,15 @@ unfolding ask
 asked-placed f (rows h ns is) q a b = b h ns is refl
 asked-placed f (refusal n p) q a b = λ i. a n p refl
 
-rows-placed : {A : Type 0} (question : Asks A) (ls : Sizes) (f : List ℕ) → ((h : Header) (ns : List Node) (is : List Item) → reads ls f ≡ rows h ns is → PlacedIn (length f) (question f h ns is))
+rows-placed : {A : Type 0} (question : Asks A) (ls : Sizes) (f : List ℕ) →
+    ((h : Header) (ns : List Node) (is : List Item) → reads ls f ≡ rows h ns is → PlacedIn (length f) (question f h ns is))
     → PlacedIn (length f) (ask (reads ls f) (question f))
 unfolding reads
 rows-placed question ls f k = asked-placed f (reads ls f) (question f) (λ n p e. refusal-inside (limits (size ls 0) (size ls 1)) f e) k
 
 -- where a question answers, the file has rows
-answered : {A : Type 0} (o : Reading) (q : Header → List Node → List Item → Result A) {a : A} → ask o q ≡ good a → (h : Header) × (ns : List Node) × (is : List Item) × (o ≡ rows h ns is)
+answered : {A : Type 0} (o : Reading) (q : Header → List Node → List Item → Result A) {a : A} → ask o q ≡ good a → (h : Header) ×
+    (ns : List Node) × (is : List Item) × (o ≡ rows h ns is)
 unfolding ask
 answered (rows h ns is) q e = (h, ns, is, refl)
 answered (refusal n p) q e = let z : _≡_ {A = ℕ} 0 1 = cc in absurd (omega arith)
@@ -588,7 +613,8 @@ record Meets (q : About) : Type 0 where
   wide : (a : q .Answer) → length (q .values a) ≡ q .number
   shown : (ls : Sizes) (f : List ℕ) (a : q .Answer) → answerTo ls f (q .asks ls) ≡ good a → AnsweredOf (q .asks ls) ls f × Shows (q .tables) ls f (leaves q ls f (good a))
 
-choice-by : (q : About) → Meets q → (ls : Sizes) (f : List ℕ) (r : Result (q .Answer)) → answerTo ls f (q .asks ls) ≡ r → Among (q .refusals) r → PlacedIn (length f) r → IsRefusal q ls f (leaves q ls f r) ⊎ IsAnswer q ls f (leaves q ls f r)
+choice-by : (q : About) → Meets q → (ls : Sizes) (f : List ℕ) (r : Result (q .Answer)) → answerTo ls f (q .asks ls) ≡ r → Among
+    (q .refusals) r → PlacedIn (length f) r → IsRefusal q ls f (leaves q ls f r) ⊎ IsAnswer q ls f (leaves q ls f r)
 unfolding leaves
 choice-by q m ls f (good a) e k i = let s = m .shown ls f a e in inr (q .values a, refl, m .wide a, s .0, s .1)
 choice-by q m ls f (bad n p) e k i = inl (n, p, refl, k, i, refl)
@@ -598,7 +624,8 @@ rows-listed : {A : Type 0} (own : List ℕ) (question : Asks A) → ((f : List �
     → (ls : Sizes) (f : List ℕ) → Among (ofReader ++ own) (ask (reads ls f) (question f))
 rows-listed own question k ls f = asked-listed own (reads ls f) (question f) (reader-listed ls f) (k f)
 
-rows-meet : {A : Type 0} (question : Asks A) (values : A → List ℕ) (number : ℕ) (own : List ℕ) → ((f : List ℕ) (h : Header) (ns : List Node) (is : List Item) → Among own (question f h ns is))
+rows-meet : {A : Type 0} (question : Asks A) (values : A → List ℕ) (number : ℕ) (own : List ℕ) →
+    ((f : List ℕ) (h : Header) (ns : List Node) (is : List Item) → Among own (question f h ns is))
     → ((ls : Sizes) (f : List ℕ) (h : Header) (ns : List Node) (is : List Item) → reads ls f ≡ rows h ns is → PlacedIn (length f) (question f h ns is))
     → ((a : A) → length (values a) ≡ number) → Meets (overRows question values number own)
 unfolding leaves
@@ -611,7 +638,8 @@ rows-meet question values number own k i w = record {
 
 -- one whose own refusals name no place of the file
 over-meets : {A : Type 0} (question : Asks A) (values : A → List ℕ) (number : ℕ) (own : List ℕ) → T (areApart own inFile)
-    → ((f : List ℕ) (h : Header) (ns : List Node) (is : List Item) → Among own (question f h ns is)) → ((a : A) → length (values a) ≡ number) → Meets (overRows question values number own)
+    → ((f : List ℕ) (h : Header) (ns : List Node) (is : List Item) → Among own (question f h ns is)) → ((a : A) → length (values a) ≡ number) →
+    Meets (overRows question values number own)
 over-meets question values number own t k w = rows-meet question values number own k (λ ls f h ns is e. apart-placed own t (length f) (question f h ns is) (k f h ns is)) w
 
 room-meets : (question : (room : ℕ) → Asks (List ℕ)) (own : List ℕ) → T (areApart own inFile)
@@ -633,7 +661,8 @@ data-meets text own a t k = record {
   shown = λ ls f a e. (tt, tt);
 }
 
-over-data-meets : {A : Type 0} (answer : Result A) (values : A → List ℕ) (number : ℕ) (own : List ℕ) → T (areApart own inFile) → Among own answer → ((a : A) → length (values a) ≡ number) → Meets (overData answer values number own)
+over-data-meets : {A : Type 0} (answer : Result A) (values : A → List ℕ) (number : ℕ) (own : List ℕ) → T (areApart own inFile) → Among own
+    answer → ((a : A) → length (values a) ≡ number) → Meets (overData answer values number own)
 over-data-meets answer values number own t k w = record { listed = λ ls f. k; placed = λ ls f. apart-placed own t (length f) answer k; wide = w; shown = λ ls f a e. (tt, tt) }
 
 -- ---- the correction of a title
@@ -650,7 +679,8 @@ unfolding ask
 title-answered ls f i text e = let (h, ns, is, z) = answered (reads ls f) (title.correctTitle i text (size ls 2) f) e in (h, ns, is, z, rw z at e)
 
 -- what it leaves is told by what was written, whatever the file
-leaves-written : (i : ℕ) (text : List ℕ) (ls : Sizes) (f g : List ℕ) (r : Result (List ℕ)) → leaves (about (correctTitle i text)) ls g r ≡ leaves (about (correctTitle i text)) ls f r
+leaves-written : (i : ℕ) (text : List ℕ) (ls : Sizes) (f g : List ℕ) (r : Result (List ℕ)) → leaves (about (correctTitle i text)) ls g r ≡
+    leaves (about (correctTitle i text)) ls f r
 unfolding leaves
 leaves-written i text ls f g (good x) = refl
 leaves-written i text ls f g (bad n p) = refl
@@ -670,7 +700,8 @@ title-corrects ls f i text (good g) e a =
       says = correct-says lim f z i text (size ls 2) c;
       least = λ ls′ g′ other. correct-least lim f z i text (size ls 2) c other;
       only = λ ls′ g′ bytes other l. correct-only lim f z i text (size ls 2) c bytes other l;
-      again = ap (leaves (about (correctTitle i text)) ls g) (correct-again lim f z i text (size ls 2) c (size ls 2) fits ∙ sym e) ∙ leaves-written i text ls f g (ask (reads ls f) (title.correctTitle i text (size ls 2) f));
+      again = ap (leaves (about (correctTitle i text)) ls g) (correct-again lim f z i text (size ls 2) c (size ls 2) fits ∙ sym e) ∙
+          leaves-written i text ls f g (ask (reads ls f) (title.correctTitle i text (size ls 2) f));
     })
 title-corrects ls f i text (bad n p) e a = let z : _≡_ {A = ℕ} 0 1 = cc (ap length a) in absurd (omega arith)
 
@@ -685,7 +716,9 @@ title-shows i text ls f g e =
 title-meets : (i : ℕ) (text : List ℕ) → Meets (about (correctTitle i text))
 title-meets i text = record {
   listed = λ ls. rows-listed title.refusals (title.correctTitle i text (size ls 2)) (title-listed i text (size ls 2)) ls;
-  placed = λ ls f. rows-placed (title.correctTitle i text (size ls 2)) ls f (λ h ns is e. apart-placed title.refusals tt (length f) (title.correctTitle i text (size ls 2) f h ns is) (title-listed i text (size ls 2) f h ns is));
+  placed = λ ls f. rows-placed (title.correctTitle i text (size ls 2)) ls f
+      (λ h ns is e. apart-placed title.refusals tt (length f) (title.correctTitle i text (size ls 2) f h ns is)
+      (title-listed i text (size ls 2) f h ns is));
   wide = λ a. refl;
   shown = title-shows i text;
 }
@@ -702,7 +735,8 @@ unfolding mobile.mobile
 mobile-listed f h ns is = tt
 
 -- the rows of an accepted file lie in it, so 25 does
-count-rows : (item channel resource : ℕ) (ls : Sizes) (f : List ℕ) (h : Header) (ns : List Node) (is : List Item) → reads ls f ≡ rows h ns is → PlacedIn (length f) (count.countFor item channel resource f h ns is)
+count-rows : (item channel resource : ℕ) (ls : Sizes) (f : List ℕ) (h : Header) (ns : List Node) (is : List Item) → reads ls f ≡ rows h ns
+    is → PlacedIn (length f) (count.countFor item channel resource f h ns is)
 unfolding reads
 count-rows item channel resource ls f h ns is e = count-placed f channel resource item h ns is (accepted (limits (size ls 0) (size ls 1)) f e .items-inside)
 
@@ -710,12 +744,14 @@ account-meets : (t : Totals) → Meets (about (accountBytes t))
 unfolding leaves reads allowed kindsOf
 account-meets t = record {
   listed = λ ls f. account-listed (limits (size ls 0) (size ls 1)) f t;
-  placed = λ ls f. let lim = limits (size ls 0) (size ls 1) in placed-if (length f) (leb mostFiles (t .files)) _ _ (λ i. omega arith) (rows-placed (kindsOf lim) ls f (λ h ns is e. tt));
+  placed = λ ls f. let lim = limits (size ls 0) (size ls 1) in placed-if (length f) (leb mostFiles (t .files)) _ _ (λ i. omega arith)
+      (rows-placed (kindsOf lim) ls f (λ h ns is e. tt));
   wide = λ a. refl;
   shown = λ ls f a e. let x = answered (reads ls f) (kindsOf (limits (size ls 0) (size ls 1)) f) (allowed-good t _ e) in (tt, (x, refl));
 }
 
-mend-shows : (ls : Sizes) (f : List ℕ) (m : mend.Mended) → answerTo ls f (about mendHeader .asks ls) ≡ good m → InTables ls (newFile (leaves (about mendHeader) ls f (good m))) (leaves (about mendHeader) ls f (good m))
+mend-shows : (ls : Sizes) (f : List ℕ) (m : mend.Mended) → answerTo ls f (about mendHeader .asks ls) ≡ good m → InTables ls
+    (newFile (leaves (about mendHeader) ls f (good m))) (leaves (about mendHeader) ls f (good m))
 unfolding leaves reads
 mend-shows ls f m e =
     let lim = limits (size ls 0) (size ls 1) in
@@ -740,7 +776,9 @@ meets (findOwn w row) = over-meets _ _ _ _ tt (find-own-listed w row) (λ a. ref
 meets (resolveRow row) = over-meets _ _ _ _ tt (resolve-listed row) (λ a. refl)
 meets (copyResource row) = record {
   listed = λ ls. rows-listed resolve.copyRefusals (resolve.copyInto row (size ls 2)) (copy-listed row (size ls 2)) ls;
-  placed = λ ls f. rows-placed (resolve.copyInto row (size ls 2)) ls f (λ h ns is e. apart-placed resolve.copyRefusals tt (length f) (resolve.copyInto row (size ls 2) f h ns is) (copy-listed row (size ls 2) f h ns is));
+  placed = λ ls f. rows-placed (resolve.copyInto row (size ls 2)) ls f
+      (λ h ns is e. apart-placed resolve.copyRefusals tt (length f) (resolve.copyInto row (size ls 2) f h ns is)
+      (copy-listed row (size ls 2) f h ns is));
   wide = λ a. refl;
   shown = λ ls f a e. let x = answered (reads ls f) (resolve.copyInto row (size ls 2) f) e in (x, (x, refl));
 }
@@ -762,7 +800,8 @@ unfolding outcome
 choice q ls f = choice-by (about q) (meets q) ls f _ refl (meets q .listed ls f) (meets q .placed ls f)
 
 -- where resolve is refused, there is no part
-no-part : (row : ℕ) (ls : Sizes) (f : List ℕ) (r : Result resolve.Resource) → IsRefusal (about (resolveRow row)) ls f (leaves (about (resolveRow row)) ls f r) → resolve.part f r ≡ []
+no-part : (row : ℕ) (ls : Sizes) (f : List ℕ) (r : Result resolve.Resource) → IsRefusal (about (resolveRow row)) ls f
+    (leaves (about (resolveRow row)) ls f r) → resolve.part f r ≡ []
 unfolding leaves resolve.part
 no-part row ls f (good a) w = let z : _≡_ {A = ℕ} 0 1 = cc in absurd (omega arith)
 no-part row ls f (bad n p) w = refl
@@ -800,7 +839,8 @@ corrects i text ls f n a = title-corrects ls f i text _ refl a
 
 -- ---- where the bytes go
 
-account-of : (ls : Sizes) (f : List ℕ) (h : Header) (ns : List Node) (is : List Item) → reads ls f ≡ rows h ns is → Account ls f (kindWords (countsOf (length f) (eventsOf (limits (size ls 0) (size ls 1)) f h)))
+account-of : (ls : Sizes) (f : List ℕ) (h : Header) (ns : List Node) (is : List Item) → reads ls f ≡ rows h ns is → Account ls f
+    (kindWords (countsOf (length f) (eventsOf (limits (size ls 0) (size ls 1)) f h)))
 unfolding reads
 account-of ls f h ns is r =
     let lim : Limits = limits (size ls 0) (size ls 1) in
@@ -837,8 +877,10 @@ none-written : (o : Outcome) {n p : ℕ} → o .answer ≡ n ∷ p ∷ [] → ne
 none-written o e = ap (λ (v : List ℕ). take (getD v 2 0) (getD (o .holds) 2 [])) e
 
 -- of the two buffers that a correction filled
-written-part : (i : ℕ) (text : List ℕ) (ls : Sizes) (f g : List ℕ) → OutcomesAlike (about (correctTitle i text)) ls f g (outcome (correctTitle i text) ls f) (outcome (correctTitle i text) ls g)
-    → PrivateAlone ls (newFile (outcome (correctTitle i text) ls f)) (take (getD (outcome (correctTitle i text) ls f .answer) 2 0) (getD (outcome (correctTitle i text) ls g .holds) 2 []))
+written-part : (i : ℕ) (text : List ℕ) (ls : Sizes) (f g : List ℕ) → OutcomesAlike (about (correctTitle i text)) ls f g
+    (outcome (correctTitle i text) ls f) (outcome (correctTitle i text) ls g)
+    → PrivateAlone ls (newFile (outcome (correctTitle i text) ls f))
+    (take (getD (outcome (correctTitle i text) ls f .answer) 2 0) (getD (outcome (correctTitle i text) ls g .holds) 2 []))
 unfolding outcome leaves
 written-part i text ls f g w = w .1 .1 .1 .0 .0
 
@@ -897,7 +939,8 @@ pub there-back : ThereAndBack
 unfolding outcome leaves
 there-back units h n m f k e l =
     let (s, r, w) = converts n (unicode.toUtf8 units) e in
-    let t : textOf (outcome (toUtf8 units) (n ∷ []) f) ≡ s = ap (λ (v : Result (List ℕ)). textOf (leaves (about (toUtf8 units)) (n ∷ []) f v)) w ∙ text-is (unicode.toUtf8 units) unicode.refusals n f s in
+    let t : textOf (outcome (toUtf8 units) (n ∷ []) f) ≡ s = ap (λ (v : Result (List ℕ)). textOf (leaves (about (toUtf8 units)) (n ∷ []) f v)) w
+    ∙ text-is (unicode.toUtf8 units) unicode.refusals n f s in
     let (b, c, d) = there-and-back units h r in
     subst (λ v. Undone (0xFE ∷ 0xFF ∷ []) units (outcome (toUtf16 v) (m ∷ []) f)) (sym t) (undone (unicode.toUtf16 s) unicode.refusals m f (0xFE ∷ 0xFF ∷ []) units b c d l)
 
@@ -905,9 +948,11 @@ pub back-there : BackAndThere
 unfolding outcome leaves
 back-there text n m f k e l =
     let (s, r, w) = converts n (unicode.toUtf16 text) e in
-    let t : textOf (outcome (toUtf16 text) (n ∷ []) f) ≡ s = ap (λ (v : Result (List ℕ)). textOf (leaves (about (toUtf16 text)) (n ∷ []) f v)) w ∙ text-is (unicode.toUtf16 text) unicode.refusals n f s in
+    let t : textOf (outcome (toUtf16 text) (n ∷ []) f) ≡ s = ap (λ (v : Result (List ℕ)). textOf (leaves (about (toUtf16 text)) (n ∷ []) f v)) w
+    ∙ text-is (unicode.toUtf16 text) unicode.refusals n f s in
     let (b, c, d) = back-and-there text r in
-    subst (λ v. Undone (0xEF ∷ 0xBB ∷ 0xBF ∷ []) text (outcome (toUtf8 v) (m ∷ []) f)) (sym t) (undone (unicode.toUtf8 s) unicode.refusals m f (0xEF ∷ 0xBB ∷ 0xBF ∷ []) text b c d l)
+    subst (λ v. Undone (0xEF ∷ 0xBB ∷ 0xBF ∷ []) text (outcome (toUtf8 v) (m ∷ []) f)) (sym t)
+    (undone (unicode.toUtf8 s) unicode.refusals m f (0xEF ∷ 0xBB ∷ 0xBF ∷ []) text b c d l)
 
 -- ---- the walk of a tag
 
@@ -924,14 +969,16 @@ frame-not : (r : Result TagFrame) {n p : ℕ} → saying frameValues r ≡ n ∷
 frame-not (good x) e = let z : _≡_ {A = ℕ} 0 1 = cc (ap length e) in absurd (omega arith)
 frame-not (bad m q) e = cc
 
-frame-said : (r : Result TagFrame) {name place size : ℕ} → saying frameValues r ≡ 0 ∷ 0 ∷ name ∷ place ∷ size ∷ [] → (x : TagFrame) × (r ≡ good x) × (x .place ≡ place) × (x .size ≡ size)
+frame-said : (r : Result TagFrame) {name place size : ℕ} → saying frameValues r ≡ 0 ∷ 0 ∷ name ∷ place ∷ size ∷ [] → (x : TagFrame) ×
+    (r ≡ good x) × (x .place ≡ place) × (x .size ≡ size)
 frame-said (good x) e = (x, refl, cc, cc)
 frame-said (bad m p) e = let z : _≡_ {A = ℕ} 0 1 = cc (ap length e) in absurd (omega arith)
 
 pub counts-frames : CountsFrames
 unfolding outcome leaves
 counts-frames t ls f = (
-  λ n e i. let w = count-frames t (count-said (id3.frameCount t) e) i in (λ l. let (x, k) = w .0 l in (x .name, x .place, x .size, λ ls f. ap (saying frameValues) k), λ l. ap (saying frameValues) (w .1 l)),
+  λ n e i. let w = count-frames t (count-said (id3.frameCount t) e) i
+      in (λ l. let (x, k) = w .0 l in (x .name, x .place, x .size, λ ls f. ap (saying frameValues) k), λ l. ap (saying frameValues) (w .1 l)),
   λ n p e i. ap (saying frameValues) (count-refused t (count-not (id3.frameCount t) e) i),
 )
 

@@ -33,19 +33,31 @@ unfolding reads
 of-rows ls g (h, ns, is, e) = ap accepted e
 
 to-law : (ls : Sizes) (f : List ℕ) → Mendable ls f → mend.Mendable (lim ls) f
-to-law ls f m = record { w = m .read; next = m .next; reads = m .reads-so; a = m .a; b = m .b; hold = m .hold; accepts = of-rows ls (setTo f (m .read) (m .a) (m .b)) (m .accepted) }
+to-law ls f m = record {
+  w = m .read;
+  next = m .next;
+  reads = m .reads-so;
+  a = m .a;
+  b = m .b;
+  hold = m .hold;
+  accepts = of-rows ls
+      (setTo f (m .read) (m .a) (m .b)) (m .accepted);
+}
 
 -- what is left where the mended file is accepted and there is room for it and its lines
-wrote : (ls : Sizes) (f : List ℕ) → accepted (readFile (lim ls) (mended f)) ≡ true → length (mended f) ≤ size ls 2 → length (changes f) ≤ size ls 3 → outcome mendHeader ls f ≡ wroteCopy ls (mended f) (changes f)
+wrote : (ls : Sizes) (f : List ℕ) → accepted (readFile (lim ls) (mended f)) ≡ true → length (mended f) ≤ size ls 2 → length (changes f) ≤
+    size ls 3 → outcome mendHeader ls f ≡ wroteCopy ls (mended f) (changes f)
 unfolding outcome leaves
 wrote ls f e l m = rw (mend-good (lim ls) f (mended-is (lim ls) f e) (size ls 2) (size ls 3) ∙ fits-good (size ls 2) (size ls 3) (repair f) l m) refl
 
-unwritten : (ls : Sizes) (f : List ℕ) → accepted (readFile (lim ls) (mended f)) ≡ true → (size ls 2 < length (mended f)) ⊎ (size ls 3 < length (changes f)) → outcome mendHeader ls f .answer ≡ 22 ∷ 0 ∷ []
+unwritten : (ls : Sizes) (f : List ℕ) → accepted (readFile (lim ls) (mended f)) ≡ true → (size ls 2 < length (mended f)) ⊎
+    (size ls 3 < length (changes f)) → outcome mendHeader ls f .answer ≡ 22 ∷ 0 ∷ []
 unfolding outcome leaves
 unwritten ls f e l = rw (mend-good (lim ls) f (mended-is (lim ls) f e) (size ls 2) (size ls 3) ∙ fits-bad (size ls 2) (size ls 3) (repair f) l) refl
 
 -- once more
-wrote-again : (ls : Sizes) (f : List ℕ) → accepted (readFile (lim ls) (mended f)) ≡ true → length (mended f) ≤ size ls 2 → outcome mendHeader ls (mended f) ≡ wroteCopy ls (mended f) []
+wrote-again : (ls : Sizes) (f : List ℕ) → accepted (readFile (lim ls) (mended f)) ≡ true → length (mended f) ≤ size ls 2 → outcome
+    mendHeader ls (mended f) ≡ wroteCopy ls (mended f) []
 wrote-again ls f e l =
     let (same, none) = mended-again (lim ls) f e in
     let again = wrote ls (mended f) (rw same e) (rw same l) (rw none (omega arith)) in
@@ -71,7 +83,19 @@ does ls f m =
 pub mends-exactly : MendsExactly
 unfolding outcome leaves reads
 mends-exactly ls f = elim (mendable (lim ls) f) [
-  | inl m ↦ inl (record { read = m .w; next = m .next; reads-so = m .reads; a = m .a; b = m .b; hold = m .hold; accepted = rows-of ls (setTo f (m .w) (m .a) (m .b)) (m .accepts) }, does ls f m)
+  | inl m ↦ inl (
+    record {
+      read = m .w;
+      next = m .next;
+      reads-so = m .reads;
+      a = m .a;
+      b = m .b;
+      hold = m .hold;
+      accepted = rows-of ls
+          (setTo f (m .w) (m .a) (m .b)) (m .accepts);
+    },
+    does ls f m,
+  )
   | inr none ↦ (let (n, p, r, is) = mend-bad (lim ls) f none in inr (λ m. none (to-law ls f m), (n, p, r, ap (saying mendedValues) (is (size ls 2) (size ls 3)))))
 ]
 

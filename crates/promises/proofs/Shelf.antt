@@ -23,7 +23,8 @@ use Rattle.promises.specs.Shelf.{Left, noValue, values, roomOf, leaves, 
 
 -- ---- each call leaves what is said of it
 
-left-is : {a a′ b b′ : List ℕ} {s s′ : Shelf} → a ≡ a′ → s ≡ s′ → b ≡ b′ → _≡_ {A = Left} (record { answer = a; shelf = s; buffer = b }) (record { answer = a′; shelf = s′; buffer = b′ })
+left-is : {a a′ b b′ : List ℕ} {s s′ : Shelf} → a ≡ a′ → s ≡ s′ → b ≡ b′ → _≡_ {A = Left} (record { answer = a; shelf = s; buffer = b })
+    (record { answer = a′; shelf = s′; buffer = b′ })
 left-is p q r = λ t. record { answer = p t; shelf = q t; buffer = r t }
 
 shelf-is : {cs ds : List Card} {text text′ : List ℕ} → cs ≡ ds → text ≡ text′ → _≡_ {A = Shelf} (record { cards = cs; text = text }) (record { cards = ds; text = text′ })

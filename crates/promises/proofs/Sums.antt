@@ -31,7 +31,8 @@ use Rattle.promises.proofs.Kept.{in-totals, called, accounts}
 data Step (t t′ : Totals) (o : Outcome) : Type 0 where
   full : mostFiles ≤ t .files → o .answer ≡ 32 ∷ 0 ∷ [] → totalWords t′ ≡ totalWords t → Step t t′ o
   refusing : t .files < mostFiles → (n p : ℕ) → o .answer ≡ n ∷ p ∷ [] → ((n ≡ 0) → ⊥) → ((n ≡ 32) → ⊥) → totalWords t′ ≡ totalWords (refusedOne t) → Step t t′ o
-  counting : t .files < mostFiles → (k : Kinds) → o .answer ≡ 0 ∷ 0 ∷ kindWords k → ((κ : ℕ) → getD (kindWords k) κ 0 < 2 ^ 28) → totalWords t′ ≡ totalWords (added t k) → Step t t′ o
+  counting : t .files < mostFiles → (k : Kinds) → o .answer ≡ 0 ∷ 0 ∷ kindWords k → ((κ : ℕ) → getD (kindWords k) κ 0 < 2 ^ 28) → totalWords
+      t′ ≡ totalWords (added t k) → Step t t′ o
 
 below : (t : Totals) (ls : Sizes) (f : List ℕ) (k : Kinds) → outcome (accountBytes t) ls f .answer ≡ 0 ∷ 0 ∷ kindWords k → (κ : ℕ) → getD (kindWords k) κ 0 < 2 ^ 28
 unfolding reads
@@ -47,7 +48,8 @@ module _ (t t′ : Totals) (ls : Sizes) (f : List ℕ) (h : getD (outcome (accou
   unfolding outcome leaves reads allowed
   step = let lim = limits (size ls 0) (size ls 1) in elim (decLe mostFiles (t .files)) [
     | yes l ↦ (let e : leb mostFiles (t .files) ≡ true = le-leb mostFiles (t .files) l in full l (rw e refl) (sym h ∙ rw e refl))
-    | no l ↦ (let m : t .files < mostFiles = omega arith in let e : leb mostFiles (t .files) ≡ false = lt-leb mostFiles (t .files) m in by m e (ask (reads ls f) (kindsOf lim f)) refl (alone-listed lim f))
+    | no l ↦ (let m : t .files < mostFiles = omega arith in let e : leb mostFiles (t .files) ≡ false = lt-leb mostFiles (t .files) m in by m e
+        (ask (reads ls f) (kindsOf lim f)) refl (alone-listed lim f))
   ]
     where
       by : t .files < mostFiles → leb mostFiles (t .files) ≡ false → (o : Result Kinds) → ask (reads ls f) (kindsOf (limits (size ls 0) (size ls 1)) f) ≡ o → Among ofReader o
@@ -59,7 +61,8 @@ module _ (t t′ : Totals) (ls : Sizes) (f : List ℕ) (h : getD (outcome (accou
           refusing m n p (rw (e, x) refl) (not 0 (λ z. z)) d (sym h ∙ rw (e, x, ne-eqb n 32 d) refl)
 
 stepped : {t t′ : Totals} {lends : List (List ℕ)} {f : List ℕ} {o : Outcome} → Called (accountBytes t) lends f o → getD (o .holds) 2 [] ≡ totalWords t′ → Step t t′ o
-stepped {t} {t′} {lends} {f} c h = let e = called c in subst (Step t t′) (sym e) (step t t′ (map length lends) f (subst (λ (v : Outcome). getD (v .holds) 2 [] ≡ totalWords t′) e h))
+stepped {t} {t′} {lends} {f} c h = let e = called c in subst (Step t t′) (sym e)
+    (step t t′ (map length lends) f (subst (λ (v : Outcome). getD (v .holds) 2 [] ≡ totalWords t′) e h))
 
 -- ---- calls one after the other
 
@@ -96,7 +99,8 @@ one {t} {t′} s e = by e
       sums = λ κ. rw a (omega (arith, word w (suc (suc κ))));
     }
     by (counting l k a b w) = let f = s .files in let r = s .refused in let f′ = word w 0 in let r′ = word w 1 in
-        let x : (κ : ℕ) → getD (kindWords (t′ .kinds)) κ 0 ≡ getD (kindWords (t .kinds)) κ 0 + getD (kindWords k) κ 0 = λ κ. omega (arith, s .sums κ, b κ, word w (suc (suc κ)) ∙ plus-at (t .kinds) k κ) in record {
+        let x : (κ : ℕ) → getD (kindWords (t′ .kinds)) κ 0 ≡ getD (kindWords (t .kinds)) κ 0 + getD (kindWords k) κ 0 = λ κ. omega
+        (arith, s .sums κ, b κ, word w (suc (suc κ)) ∙ plus-at (t .kinds) k κ) in record {
           small = record { files = omega arith; refused = omega arith; sums = λ κ. omega (arith, s .sums κ, b κ, x κ) };
           files = omega arith;
           refused = rw a (omega arith);

@@ -1,8 +1,7 @@
 -- The correction of a title, computed: what the call leaves of the worked file, and on a refusal.
 -- Assumes nothing.
 use mathlib.Core.Path.{_≡_, refl}
-use mathlib.Core.Bool.{not, _||_}
-use mathlib.Core.List.{List, [], _∷_, _++_, map}
+use mathlib.Core.List.{List, [], _∷_, _++_}
 use Prim.Native.Nat.{ℕ}
 use lib.ListN.{drop, replicate, take}
 use Rattle.cursor.specs.Machine.{run, trace, rowsOf, _>>=_, _>>_, if_then_else_, place, skip, check, turns, many, times}

@@ -1,7 +1,7 @@
 -- The rows of an accepted file: each reference 3 leads to a row, and what a question resolves to lies in the file.
 -- Assumes nothing.
-use mathlib.Core.Path.{_≡_, refl, sym, ap, subst, _∙_}
-use mathlib.Core.Bool.{Bool, true, false, cond, not, _&&_, _||_, true≢false}
+use mathlib.Core.Path.{_≡_, refl, sym, subst}
+use mathlib.Core.Bool.{Bool, true, false, cond, _||_, true≢false}
 use mathlib.Core.Logic.{_⊎_, inl, inr}
 use mathlib.Core.List.{List, [], _∷_}
 use Prim.Native.Nat.{ℕ, zero, suc, _+_, _≤_, _<_}
@@ -9,14 +9,11 @@ use native.Mathlib.Decide.{ℕ-discrete, decLt}
 use native.Mathlib.Omega.{arith}
 use lib.Dec.{eqb}
 use lib.ListN.{length}
-use borrow.Author.Tests.{eq-eqb, not-false, lt-ltb, le-ltb}
-use Rattle.cursor.specs.Machine.{Out, ok, refused, run, trace}
-use Rattle.cursor.specs.Rows.{Events}
+use borrow.Author.Tests.{lt-ltb, le-ltb}
 use Rattle.cursor.specs.declared.Node.{Node}
 use Rattle.cursor.specs.declared.Item.{Item}
-use Rattle.header.specs.Header.{Header, header}
+use Rattle.header.specs.Header.{Header}
 use Rattle.metadata.specs.declared.Limits.{Limits}
-use Rattle.metadata.specs.declared.Made.{Made}
 use Rattle.tree.specs.Reading.{Reading, rows, refusal, startsAt, readFile}
 use Rattle.tree.specs.Rows.{nodeAt, NodeIn}
 use Rattle.tree.specs.Asking.{Result, good, bad, ask}

@@ -4,7 +4,7 @@ use mathlib.Core.Path.{_≡_, refl, sym, ap, subst, _∙_}
 use mathlib.Core.List.{List}
 use Prim.Native.Nat.{ℕ, zero, suc, _+_, _*_, _-_, _≤_, _<_}
 use native.Mathlib.Omega.{arith}
-use lib.ListN.{length, getD}
+use lib.ListN.{length}
 use borrow.Author.Tests.{eq-eqb, ne-eqb, lt-ltb, le-ltb}
 use Rattle.cursor.specs.declared.Node.{Node}
 use Rattle.metadata.specs.Tables.{nodeWidth}
@@ -100,12 +100,15 @@ module _ (ws : List ℕ) (count left k hops : ℕ) (l : k < count) {r : Node} (i
           ∙ sym (on-words ∙ reached-three _ k hops _ _ file e ∙ ap (λ n. afterThree n (nodesIn count ws) k hops) less)
 
 -- the row that a reference 3 leads to is there
-pub next-there : (ws : List ℕ) (count k : ℕ) → k < count → Linked (nodesIn count ws) → {r : Node} → r ≡ nodeFrom ws (k * nodeWidth) → r .reference ≡ 3 → {next : ℕ} → next ≡ rowStarting (nodesIn count ws) (r .target)
+pub next-there : (ws : List ℕ) (count k : ℕ) → k < count → Linked (nodesIn count ws) → {r : Node} → r ≡ nodeFrom ws (k * nodeWidth) →
+    r .reference ≡ 3 → {next : ℕ} → next ≡ rowStarting (nodesIn count ws) (r .target)
     → next < count
 next-there ws count k l h {r} is e {next} s =
     let c = nodes-in-length ws count in
     let w : nodeAt (nodesIn count ws) k .reference ≡ 3 → rowStarting (nodesIn count ws) (nodeAt (nodesIn count ws) k .target) < length (nodesIn count ws) = h k (omega arith) in
-    let v : rowStarting (nodesIn count ws) (r .target) < length (nodesIn count ws) = subst (λ (x : Node). x .reference ≡ 3 → rowStarting (nodesIn count ws) (x .target) < length (nodesIn count ws)) (node-at ws count k l ∙ sym is) w e in
+    let v : rowStarting (nodesIn count ws) (r .target) < length (nodesIn count ws) = subst
+    (λ (x : Node). x .reference ≡ 3 → rowStarting (nodesIn count ws) (x .target) < length (nodesIn count ws))
+    (node-at ws count k l ∙ sym is) w e in
     omega arith
 
 -- ---- a row

@@ -55,10 +55,12 @@ module _ (f : List ℕ) (nsize isize row : ℕ) (out : List ℕ) where
     copy-is = copy-asks o ∙ ap (fitting room) (sym y)
 
     -- resolve was refused
-    pub copy-refused : {n p : ℕ} → x ≡ resolved.Refused n p → {t u v : List ℕ} → t ≡ keptNodes nsize o (ask o (resolve row f)) → u ≡ keptItems isize o (ask o (resolve row f)) → v ≡ replicate room 0
+    pub copy-refused : {n p : ℕ} → x ≡ resolved.Refused n p → {t u v : List ℕ} → t ≡ keptNodes nsize o (ask o (resolve row f)) → u ≡ keptItems
+        isize o (ask o (resolve row f)) → v ≡ replicate room 0
         → Copies (bad n p) t u v
     unfolding fitting part
-    copy-refused z a b c = copies (copy-is ∙ ap (λ r. fitting room (told r)) z) (a ∙ ap (keptNodes nsize o) (sym y ∙ ap told z)) (b ∙ ap (keptItems isize o) (sym y ∙ ap told z)) (all-zeros room c)
+    copy-refused z a b c = copies (copy-is ∙ ap (λ r. fitting room (told r)) z) (a ∙ ap (keptNodes nsize o) (sym y ∙ ap told z))
+        (b ∙ ap (keptItems isize o) (sym y ∙ ap told z)) (all-zeros room c)
 
     module _ {place : FilePlace} {size last hops : ℕ} (z : x ≡ resolved.At place size last hops) where
       -- the buffer is too small
@@ -78,5 +80,6 @@ module _ (f : List ℕ) (nsize isize row : ℕ) (out : List ℕ) where
           let behind = length-drop (place .0) f in
           let as-long : length ws ≡ size = length-take-le size (drop (place .0) f) (omega arith) in
           let front : v ≡ ws ++ drop (length ws) out = c ∙ ap (λ k. sets out 0 (take k (drop (place .0) f))) long ∙ sets-front out ws (omega arith) in
-          copies (copy-is ∙ ap (λ r. fitting room (told r)) z ∙ simp (le-leb size room l)) (a ∙ ap (keptNodes nsize o) (sym y ∙ ap told z)) (b ∙ ap (keptItems isize o) (sym y ∙ ap told z))
+          copies (copy-is ∙ ap (λ r. fitting room (told r)) z ∙ simp (le-leb size room l)) (a ∙ ap (keptNodes nsize o) (sym y ∙ ap told z))
+          (b ∙ ap (keptItems isize o) (sym y ∙ ap told z))
           (d ∙ padded-behind ws (drop (length ws) out) front (sym as-long) ∙ ap (λ k. padded k ws) n)

@@ -142,7 +142,9 @@ module _ (f : List ℕ) (nsize isize row : ℕ) (title : List ℕ) (room : ℕ) 
   unfolding counted writtenNodes writtenItems kept
   says-bad q a b c = rw q (refl, (a, (b, c)))
 
-  pub asked-refused : {r : Read} → r ≡ readOf (readFile lim f) → {n : ℕ} {p : FilePlace} → r ≡ read.Refused n p → {t u : List ℕ} → t ≡ nodeTable nsize (readFile lim f) → u ≡ itemTable isize (readFile lim f) → {out : List ℕ} → out ≡ replicate room 0 → Says (written.Refused n (p .0)) t u out
+  pub asked-refused : {r : Read} → r ≡ readOf (readFile lim f) → {n : ℕ} {p : FilePlace} → r ≡ read.Refused n p → {t u : List ℕ} → t ≡
+      nodeTable nsize (readFile lim f) → u ≡ itemTable isize (readFile lim f) → {out : List ℕ} → out ≡ replicate room 0 → Says
+      (written.Refused n (p .0)) t u out
   unfolding keptNodes keptItems
   asked-refused e k a b c =
       let q = ask-refused (readFile lim f) e k (correctTitle row title room f) in
@@ -155,7 +157,8 @@ module _ (f : List ℕ) (nsize isize row : ℕ) (title : List ℕ) (room : ℕ) 
     result-is = ask-is (reads-as f nsize isize st) (correctTitle row title room f)
 
     module _ {out : List ℕ} {r : Written} (w : Wrote out r (correctTitle row title room f (st .h) (nodesIn (s .nodes) t) (itemsIn (s .items) u))) where
-      pub asked-bad : {n p : ℕ} → r ≡ written.Refused n p → {t′ u′ out′ : List ℕ} → t′ ≡ replicate nsize 0 → u′ ≡ replicate isize 0 → out′ ≡ replicate room 0 → Says (written.Refused n p) t′ u′ out′
+      pub asked-bad : {n p : ℕ} → r ≡ written.Refused n p → {t′ u′ out′ : List ℕ} → t′ ≡ replicate nsize 0 → u′ ≡ replicate isize 0 → out′ ≡
+          replicate room 0 → Says (written.Refused n p) t′ u′ out′
       asked-bad k a b c = says-bad (result-is ∙ wrote-was w k .is) a b c
 
       module _ {n : ℕ} (k : r ≡ written.Bytes n) where
@@ -164,7 +167,8 @@ module _ (f : List ℕ) (nsize isize row : ℕ) (title : List ℕ) (room : ℕ) 
 
         -- what is written is read again
         pub asked-good : length out ≡ room → {out′ : List ℕ} → out′ ≡ take n out ++ replicate (length out - n) 0 → length t ≡ nsize → length u ≡ isize → {t′ u′ : List ℕ}
-            → t′ ≡ nodeTable (length t) (readFile (limits (length t) (length u)) (take n out′)) → u′ ≡ itemTable (length u) (readFile (limits (length t) (length u)) (take n out′)) → Says (written.Bytes n) t′ u′ out′
+            → t′ ≡ nodeTable (length t) (readFile (limits (length t) (length u)) (take n out′)) → u′ ≡ itemTable (length u)
+            (readFile (limits (length t) (length u)) (take n out′)) → Says (written.Bytes n) t′ u′ out′
         unfolding counted writtenNodes writtenItems kept padded
         asked-good lo {out′} c lt lu a b =
             let (g, e, size, inside, front) = wrote-was w k .is in

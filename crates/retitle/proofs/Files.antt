@@ -33,9 +33,12 @@ module _ (opening types gap tree after : List ℕ) where
   pub file-stops : {r : ℕ} → r ≡ min (length tree) sizeStop → r ≡ sizeStop → {o : List ℕ} → Fills o o (fileOf opening types gap tree after) r
   file-stops e h = record { small = λ l. absurd (omega (arith, types-within)); large = λ l. omega arith }
 
-  module _ {n t first : ℕ} (m : n ≡ min (length types) sizeStop) (et : t ≡ length tree) (ef : first ≡ startAt (length opening + n + length gap) t (fileBytes (length opening + n + length gap) t (length after)))
-      {o o₁ o₂ o₃ o₄ o₅ o₆ o₇ o₈ : List ℕ} {s₁ s₂ s₃ s₄ s₅ s₆ s₇ s₈ : ℕ} (p₁ : Counts o o₁ 0 opening s₁) (p₂ : Counts o₁ o₂ s₁ (vlq (first + t + length after)) s₂) (p₃ : Counts o₂ o₃ s₂ types s₃)
-      (p₄ : Counts o₃ o₄ s₃ (vlq first) s₄) (p₅ : Counts o₄ o₅ s₄ (vlq (first + t - 1)) s₅) (p₆ : Counts o₅ o₆ s₅ gap s₆) (p₇ : Counts o₆ o₇ s₆ tree s₇) (p₈ : Counts o₇ o₈ s₇ after s₈) where
+  module _ {n t first : ℕ} (m : n ≡ min (length types) sizeStop) (et : t ≡ length tree)
+      (ef : first ≡ startAt (length opening + n + length gap) t (fileBytes (length opening + n + length gap) t (length after)))
+      {o o₁ o₂ o₃ o₄ o₅ o₆ o₇ o₈ : List ℕ} {s₁ s₂ s₃ s₄ s₅ s₆ s₇ s₈ : ℕ} (p₁ : Counts o o₁ 0 opening s₁)
+      (p₂ : Counts o₁ o₂ s₁ (vlq (first + t + length after)) s₂) (p₃ : Counts o₂ o₃ s₂ types s₃)
+      (p₄ : Counts o₃ o₄ s₃ (vlq first) s₄) (p₅ : Counts o₄ o₅ s₄ (vlq (first + t - 1)) s₅) (p₆ : Counts o₅ o₆ s₅ gap s₆)
+      (p₇ : Counts o₆ o₇ s₆ tree s₇) (p₈ : Counts o₇ o₈ s₇ after s₈) where
     abbrev all : List ℕ
     all = joined (opening ∷ vlq (first + t + length after) ∷ types ∷ vlq first ∷ vlq (first + t - 1) ∷ gap ∷ tree ∷ after ∷ [])
 
@@ -72,9 +75,12 @@ module _ (f : List ℕ) (opening end start last : ℕ) (types tree : List ℕ) (
   after-is : part f (last + 1) behind ≡ drop (last + 1) f
   after-is = take-all behind (drop (last + 1) f) (omega (arith, length-drop (last + 1) f))
 
-  pub copied-put : {n t first : ℕ} → n ≡ min (length types) sizeStop → t ≡ length tree → first ≡ startAt (opening + n + (start - end)) t (fileBytes (opening + n + (start - end)) t behind) → {o o₁ o₂ o₃ o₄ o₅ o₆ o₇ o₈ : List ℕ} {s₁ s₂ s₃ s₄ s₅ s₆ s₇ s₈ : ℕ}
-      → Counts o o₁ 0 (part f 0 opening) s₁ → Counts o₁ o₂ s₁ (vlq (first + t + behind)) s₂ → Counts o₂ o₃ s₂ types s₃ → Counts o₃ o₄ s₃ (vlq first) s₄ → Counts o₄ o₅ s₄ (vlq (first + t - 1)) s₅ → Counts o₅ o₆ s₅ (part f end (start - end)) s₆
+  pub copied-put : {n t first : ℕ} → n ≡ min (length types) sizeStop → t ≡ length tree → first ≡ startAt (opening + n + (start - end)) t
+      (fileBytes (opening + n + (start - end)) t behind) → {o o₁ o₂ o₃ o₄ o₅ o₆ o₇ o₈ : List ℕ} {s₁ s₂ s₃ s₄ s₅ s₆ s₇ s₈ : ℕ}
+      → Counts o o₁ 0 (part f 0 opening) s₁ → Counts o₁ o₂ s₁ (vlq (first + t + behind)) s₂ → Counts o₂ o₃ s₂ types s₃ → Counts o₃ o₄ s₃
+      (vlq first) s₄ → Counts o₄ o₅ s₄ (vlq (first + t - 1)) s₅ → Counts o₅ o₆ s₅ (part f end (start - end)) s₆
       → Counts o₆ o₇ s₆ tree s₇ → Counts o₇ o₈ s₇ (part f (last + 1) behind) s₈ → Fills o o₈ (fileOf (take opening f) types (part f end (start - end)) tree (drop (last + 1) f)) s₈
   copied-put {n} {t} {first} m et ef p₁ p₂ p₃ p₄ p₅ p₆ p₇ p₈ =
       let a : length (drop (last + 1) f) ≡ behind = length-drop (last + 1) f in
-      file-put (take opening f) types (part f end (start - end)) tree (drop (last + 1) f) m et (rw (front-length, gap-length, a) ef) p₁ (rw a p₂) p₃ p₄ p₅ p₆ p₇ (counts-as after-is p₈)
+      file-put (take opening f) types (part f end (start - end)) tree (drop (last + 1) f) m et (rw (front-length, gap-length, a) ef) p₁ (rw a p₂)
+      p₃ p₄ p₅ p₆ p₇ (counts-as after-is p₈)

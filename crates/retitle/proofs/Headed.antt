@@ -31,7 +31,8 @@ never e = let z : _≡_ {A = ℕ} 0 1 = cc in absurd (omega arith)
 ok-left : {A : Type 0} {a b : A} {p q : ℕ} → ok a p ≡ ok b q → a ≡ b
 ok-left e = cc
 
-module _ (lim : Limits) (f : List ℕ) {h : spec.Header} {ns : List Node} {is : List Item} (reads : readFile lim f ≡ rows h ns is) (r : Headed) (ws : List ℕ) (e : headerTold r ws ≡ run (spec.header (length f)) f 0) where
+module _ (lim : Limits) (f : List ℕ) {h : spec.Header} {ns : List Node} {is : List Item} (reads : readFile lim f ≡ rows h ns is)
+    (r : Headed) (ws : List ℕ) (e : headerTold r ws ≡ run (spec.header (length f)) f 0) where
   pub never-refused : {n : ℕ} {p : FilePlace} {B : Type 0} → r ≡ headed.Refused n p → B
   never-refused k = never (sym (ap (λ v. headerTold v ws) k) ∙ e ∙ read-back lim f reads .header-is)
 
@@ -45,12 +46,19 @@ module _ (lim : Limits) (f : List ℕ) {h : spec.Header} {ns : List Node} {is : 
           let a = read-back lim f reads in
           let b = header-of a in
           let c = header-says f (a .header-is) .long in
-          subst (λ (v : spec.Header). (openingSize (v .version) ≤ length f) → (v .extent .end ≤ v .extent .start) → (v .extent .start ≤ v .extent .last) → (v .extent .last < length f) → (o ≤ length f) × (g .extent .end .0 ≤ g .extent .start .0) × (g .extent .start .0 ≤ g .extent .last .0) × (g .extent .last .0 < length f))
+          subst (λ (v : spec.Header). (openingSize (v .version) ≤ length f) → (v .extent .end ≤ v .extent .start) →
+          (v .extent .start ≤ v .extent .last) → (v .extent .last < length f) → (o ≤ length f) × (g .extent .end .0 ≤ g .extent .start .0) ×
+          (g .extent .start .0 ≤ g .extent .last .0) × (g .extent .last .0 < length f))
           header-same (λ i j l m. (omega arith, j, l, m)) c (omega arith) (b .2) (b .3)
 
       pub file-same : (row : ℕ) (title : List ℕ) {tree : List ℕ} → joined (outer (map (shape f) ns) (titledAt row title (map (content f) is))) ≡ tree
-          → fileOf (take o f) (sized (answer (run (tableText f) f o))) (part f (g .extent .end .0) (g .extent .start .0 - g .extent .end .0)) tree (drop (g .extent .last .0 + 1) f) ≡ titledFile row title f h ns is
+          → fileOf (take o f) (sized (answer (run (tableText f) f o))) (part f (g .extent .end .0) (g .extent .start .0 - g .extent .end .0)) tree
+          (drop (g .extent .last .0 + 1) f) ≡ titledFile row title f h ns is
       file-same row title {tree} t =
-          subst (λ v. fileOf (take v f) (sized (answer (run (tableText f) f v))) (part f (g .extent .end .0) (g .extent .start .0 - g .extent .end .0)) tree (drop (g .extent .last .0 + 1) f) ≡ titledFile row title f h ns is) (sym size)
-          (subst (λ (v : spec.Header). fileOf (take (openingSize (g .version)) f) (sized (answer (run (tableText f) f (openingSize (g .version))))) (part f (g .extent .end .0) (g .extent .start .0 - g .extent .end .0)) tree (drop (g .extent .last .0 + 1) f) ≡ titledFile row title f v ns is) header-same
+          subst (λ v. fileOf (take v f) (sized (answer (run (tableText f) f v)))
+          (part f (g .extent .end .0) (g .extent .start .0 - g .extent .end .0)) tree (drop (g .extent .last .0 + 1) f) ≡ titledFile row title f h
+          ns is) (sym size)
+          (subst (λ (v : spec.Header). fileOf (take (openingSize (g .version)) f) (sized (answer (run (tableText f) f (openingSize (g .version)))))
+          (part f (g .extent .end .0) (g .extent .start .0 - g .extent .end .0)) tree (drop (g .extent .last .0 + 1) f) ≡ titledFile row title f v
+          ns is) header-same
           (same-file f (headerOf g ws) ns is row title (answer (run (tableText f) f (openingSize (g .version)))) tree refl t))

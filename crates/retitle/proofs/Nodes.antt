@@ -39,14 +39,16 @@ body-is f r = by (eqb (r .contained) 0)
     by false = refl
 
 module _ (f : List ℕ) (reference place size : ℕ) {o o₁ : List ℕ} {s s₁ : ℕ} (p : Counts o o₁ s (vlq reference) s₁) where
-  pub reference-uri : place + size ≤ length f → reference ≡ 4 → {o₂ o₃ : List ℕ} {s₂ s₃ : ℕ} → Counts o₁ o₂ s₁ (vlq size) s₂ → Counts o₂ o₃ s₂ (part f place size) s₃ → Counts o o₃ s (referenceText reference (part f place size)) s₃
+  pub reference-uri : place + size ≤ length f → reference ≡ 4 → {o₂ o₃ : List ℕ} {s₂ s₃ : ℕ} → Counts o₁ o₂ s₁ (vlq size) s₂ → Counts o₂ o₃ s₂
+      (part f place size) s₃ → Counts o o₃ s (referenceText reference (part f place size)) s₃
   reference-uri inside uri p₂ p₃ =
       rw (eq-eqb reference 4 uri) (put-two (vlq reference) (sized (part f place size)) p (put-block (part f place size) size (part-length f place size inside) p₂ p₃))
 
   pub reference-inline : (reference ≡ 4 → ⊥) → {o₂ : List ℕ} {s₂ : ℕ} → Counts o₁ o₂ s₁ (part f place size) s₂ → Counts o o₂ s (referenceText reference (part f place size)) s₂
   reference-inline other p₂ = rw (ne-eqb reference 4 other) (put-two (vlq reference) (part f place size) p p₂)
 
-pub own-put : (f : List ℕ) (r : Node) {size : ℕ} → size ≡ bodySize r → {o o′ : List ℕ} {s n : ℕ} → Counts o o′ s (referenceText (r .reference) (part f (r .target) size)) n → Counts o o′ s (ownText (shape f r)) n
+pub own-put : (f : List ℕ) (r : Node) {size : ℕ} → size ≡ bodySize r → {o o′ : List ℕ} {s n : ℕ} → Counts o o′ s
+    (referenceText (r .reference) (part f (r .target) size)) n → Counts o o′ s (ownText (shape f r)) n
 unfolding ownText shape
 own-put f r e p = counts-as (ap (referenceText (r .reference)) (ap (part f (r .target)) e ∙ body-is f r)) p
 
@@ -93,7 +95,8 @@ module _ (s : Shape) (cs : List Content) (n : ℕ) where
   header-least k a = omega arith
 
   -- each of the three measured, and stopped where it is too large
-  module _ {m : ℕ} (em : m ≡ min texts sizeStop) {u w : ℕ} (eu : u ≡ min packed sizeStop) (ew : w ≡ min own sizeStop) {a b : ℕ} (ea : a ≡ least (λ _. s .contained)) (eb : b ≡ least (λ _. m)) {h : ℕ}
+  module _ {m : ℕ} (em : m ≡ min texts sizeStop) {u w : ℕ} (eu : u ≡ min packed sizeStop) (ew : w ≡ min own sizeStop) {a b : ℕ}
+      (ea : a ≡ least (λ _. s .contained)) (eb : b ≡ least (λ _. m)) {h : ℕ}
       (eh : h ≡ headerSize (a + b + m + u) (lengthBytes (a + b + m + u) (w + n))) {size : ℕ} (es : size ≡ min (h + (w + n)) sizeStop) where
     abbrev k : ℕ
     k = a + b + m + u
@@ -107,7 +110,8 @@ module _ (s : Shape) (cs : List Content) (n : ℕ) where
         let d : k ≡ fixed = omega (arith, vlq-length (s .contained), rest-length) in
         let e : h ≡ headerOf (s .contained) (restText s cs) (own + n) = eh ∙ rw (d, c) refl in
         let t : headerOf (s .contained) (restText s cs) (own + n) + (own + n) ≤ length (nodeText s cs n) + n = framed-most (s .contained) (restText s cs) (ownText s) n in
-        let g : headerOf (s .contained) (restText s cs) (own + n) + (own + n) < sizeStop → length (nodeText s cs n) + n ≡ headerOf (s .contained) (restText s cs) (own + n) + (own + n) = framed-length (s .contained) (restText s cs) (ownText s) n in
+        let g : headerOf (s .contained) (restText s cs) (own + n) + (own + n) < sizeStop → length (nodeText s cs n) + n ≡ headerOf (s .contained)
+        (restText s cs) (own + n) + (own + n) = framed-length (s .contained) (restText s cs) (ownText s) n in
         record {
           stops = elim (decLt (headerOf (s .contained) (restText s cs) (own + n) + (own + n)) sizeStop) [
             | yes l ↦ let i = g l in omega arith
@@ -147,8 +151,10 @@ module _ (s : Shape) (cs : List Content) (n : ℕ) {r : Frame} (w : Framed s cs 
   within : r .size < sizeStop
   within = omega (arith, w .stops)
 
-  pub node-put : {m : ℕ} → m ≡ length (itemsText cs) → {o o₁ o₂ o₃ o₄ o₅ o₆ o₇ : List ℕ} {t t₁ t₂ t₃ t₄ t₅ t₆ t₇ : ℕ} → Counts o o₁ t (vlq (r .size)) t₁ → Counts o₁ o₂ t₁ (vlq (s .contained)) t₂ → Counts o₂ o₃ t₂ (vlq (r .header)) t₃
-      → Counts o₃ o₄ t₃ (vlq m) t₄ → Counts o₄ o₅ t₄ (itemsText cs) t₅ → Counts o₅ o₆ t₅ (sized (s .unpackers)) t₆ → Counts o₆ o₇ t₆ (ownText s) t₇ → Counts o o₇ t (nodeText s cs n) t₇
+  pub node-put : {m : ℕ} → m ≡ length (itemsText cs) → {o o₁ o₂ o₃ o₄ o₅ o₆ o₇ : List ℕ} {t t₁ t₂ t₃ t₄ t₅ t₆ t₇ : ℕ} → Counts o o₁ t
+      (vlq (r .size)) t₁ → Counts o₁ o₂ t₁ (vlq (s .contained)) t₂ → Counts o₂ o₃ t₂ (vlq (r .header)) t₃
+      → Counts o₃ o₄ t₃ (vlq m) t₄ → Counts o₄ o₅ t₄ (itemsText cs) t₅ → Counts o₅ o₆ t₅ (sized (s .unpackers)) t₆ → Counts o₆ o₇ t₆ (ownText s)
+      t₇ → Counts o o₇ t (nodeText s cs n) t₇
   unfolding nodeText framed
   node-put {m} e p₁ p₂ p₃ p₄ p₅ p₆ p₇ =
       counts-then (counts-as (ap vlq (w .size within)) p₁)

@@ -94,7 +94,8 @@ pub record Measuring (x : Task) (i end top : ℕ) (sizes metadata inner : List �
 gone : (l : List ℕ) {n : ℕ} → length l ≡ n → drop n l ≡ []
 gone l e = rw e at (drop-length l)
 
-pub measuring-start : {x : Task} → Sound x → {sizes metadata inner : List ℕ} → length sizes ≡ mostNodes → length metadata ≡ mostNodes → length inner ≡ mostNodes → Measuring x (x .count) (x .total) mostNodes sizes metadata inner
+pub measuring-start : {x : Task} → Sound x → {sizes metadata inner : List ℕ} → length sizes ≡ mostNodes → length metadata ≡ mostNodes →
+    length inner ≡ mostNodes → Measuring x (x .count) (x .total) mostNodes sizes metadata inner
 measuring-start s {sizes} a b c = record {
   within = omega arith;
   first = sym (s .all-items);
@@ -144,8 +145,11 @@ module _ {x : Task} (s : Sound x) {i end top : ℕ} {sizes metadata inner : List
       (omega (arith, s .items-inside .0), λ k l. s .items-inside .1 k (omega arith))
 
   -- what is known of the row
-  module _ {m n : ℕ} {f : Frame} (em : m ≡ min (length (itemsText (contentsFrom (x .file) (x .row) (x .title) (x .items) (end - nodeOf x j .rows) (end - (end - nodeOf x j .rows))))) sizeStop)
-      (en : n ≡ min (sumOf (part sizes top (top + contained - top))) sizeStop) (ef : (cs : List Content) → m ≡ min (length (itemsText cs)) sizeStop → Framed (shapeOf x j) cs n f) where
+  module _ {m n : ℕ} {f : Frame} (em : m ≡ min
+      (length (itemsText (contentsFrom (x .file) (x .row) (x .title) (x .items) (end - nodeOf x j .rows) (end - (end - nodeOf x j .rows)))))
+      sizeStop)
+      (en : n ≡ min (sumOf (part sizes top (top + contained - top))) sizeStop)
+      (ef : (cs : List Content) → m ≡ min (length (itemsText cs)) sizeStop → Framed (shapeOf x j) cs n f) where
     texts-are : m ≡ min (length (itemsText (contentsOf x j))) sizeStop
     texts-are =
         let e = first-is in
@@ -184,7 +188,8 @@ module _ {x : Task} (s : Sound x) {i end top : ℕ} {sizes metadata inner : List
           long = (length-set sizes (top + contained - 1) (f .size) ∙ l .0, length-set metadata j m ∙ l .1, length-set inner j n ∙ l .2);
           stack =
               drop-set sizes (top + contained - 1) (f .size) (omega arith)
-              ∙ ap₂ (λ (v : ℕ) (vs : List ℕ). v ∷ vs) size-is (ap (λ k. drop k sizes) p ∙ sym (drop-drop contained top sizes) ∙ ap (drop contained) stack-is ∙ drop-stops contained below)
+              ∙ ap₂ (λ (v : ℕ) (vs : List ℕ). v ∷ vs) size-is
+              (ap (λ k. drop k sizes) p ∙ sym (drop-drop contained top sizes) ∙ ap (drop contained) stack-is ∙ drop-stops contained below)
               ∙ sym (ap stops (outer-on s j here));
           measured = record {
             texts = λ k a b. elim (decLe i k) [
@@ -209,8 +214,11 @@ module _ {x : Task} (s : Sound x) {i end top : ℕ} {sizes metadata inner : List
     pub inside-row : r .target + r .extent ≤ length (x .file)
     inside-row = rw er (s .bodies-inside j here)
 
-    pub measuring-row : {m n : ℕ} {f : Frame} → m ≡ min (length (itemsText (contentsFrom (x .file) (x .row) (x .title) (x .items) (end - r .rows) (end - (end - r .rows))))) sizeStop → n ≡ min (sumOf (part sizes top (top + r .contained - top))) sizeStop
-        → ((cs : List Content) → m ≡ min (length (itemsText cs)) sizeStop → Framed (shape (x .file) r) cs n f) → Measuring x j (end - r .rows) (top + r .contained - 1) (set sizes (top + r .contained - 1) (f .size)) (set metadata j m) (set inner j n)
+    pub measuring-row : {m n : ℕ} {f : Frame} → m ≡ min
+        (length (itemsText (contentsFrom (x .file) (x .row) (x .title) (x .items) (end - r .rows) (end - (end - r .rows))))) sizeStop → n ≡ min
+        (sumOf (part sizes top (top + r .contained - top))) sizeStop
+        → ((cs : List Content) → m ≡ min (length (itemsText cs)) sizeStop → Framed (shape (x .file) r) cs n f) → Measuring x j (end - r .rows)
+        (top + r .contained - 1) (set sizes (top + r .contained - 1) (f .size)) (set metadata j m) (set inner j n)
     measuring-row em en ef = rw er (measuring-on (rw er at em) (rw er at en) (rw er at ef))
 
 -- all rows are measured
@@ -224,7 +232,8 @@ module _ {x : Task} {i end top : ℕ} {sizes metadata inner : List ℕ} (w : Mea
   pub tree-size : {r : ℕ} → r ≡ min (sumOf (part sizes top (mostNodes - top))) sizeStop → r ≡ min (length (joined (outerFrom x 0))) sizeStop
   tree-size e =
       let l = w .long .0 in
-      let a : part sizes top (mostNodes - top) ≡ stops (outerFrom x 0) = take-all (mostNodes - top) (drop top sizes) (omega (arith, length-drop top sizes)) ∙ w .stack ∙ ap (λ k. stops (outerFrom x k)) at-first in
+      let a : part sizes top (mostNodes - top) ≡ stops (outerFrom x 0) = take-all (mostNodes - top) (drop top sizes)
+      (omega (arith, length-drop top sizes)) ∙ w .stack ∙ ap (λ k. stops (outerFrom x k)) at-first in
       e ∙ ap (λ v. min (sumOf v) sizeStop) a ∙ sum-stops (outerFrom x 0)
 
 -- ---- the second pass
@@ -238,7 +247,8 @@ pub record Putting (x : Task) (o o′ : List ℕ) (to next first i : ℕ) : Type
 pub putting-start : {x : Task} (o : List ℕ) {to : ℕ} → to ≤ tooMany → Putting x o o to to 0 0
 putting-start {x} o l = record { within = omega arith; first-is = sym (first-start (x .nodes)); going = going-start o l refl }
 
-module _ {x : Task} (s : Sound x) {o o′ : List ℕ} {to next first i : ℕ} (w : Putting x o o′ to next first i) (l : i < x .count) {metadata inner : List ℕ} (measured : Measured x 0 metadata inner) (small : length (joined (outerFrom x 0)) < sizeStop) where
+module _ {x : Task} (s : Sound x) {o o′ : List ℕ} {to next first i : ℕ} (w : Putting x o o′ to next first i) (l : i < x .count)
+    {metadata inner : List ℕ} (measured : Measured x 0 metadata inner) (small : length (joined (outerFrom x 0)) < sizeStop) where
   -- the contents by the code's numbers
   abbrev contents : List Content
   contents = contentsFrom (x .file) (x .row) (x .title) (x .items) first (first + nodeOf x i .rows - first)
@@ -253,7 +263,15 @@ module _ {x : Task} (s : Sound x) {o o′ : List ℕ} {to next first i : ℕ} (w
   node-small =
       let g = w .going in
       let t : List ℕ = nodeText (shapeOf x i) (contentsOf x i) (innerOf x i) in
-      omega (arith, length-append (g .done) (joined (outerFrom x i)), ap length (g .left), ap length (text-on s i l), length-append t (joined (outerFrom x (i + 1))), inner-within s i l)
+      omega (
+        arith,
+        length-append (g .done) (joined (outerFrom x i)),
+        ap length (g .left),
+        ap length (text-on s i l),
+        length-append t
+            (joined (outerFrom x (i + 1))),
+        inner-within s i l,
+      )
 
   inner-are : getD inner i 0 ≡ innerOf x i
   inner-are = let e = measured .inners i (omega arith) l in let k = node-small in omega arith
@@ -290,10 +308,13 @@ module _ {x : Task} (s : Sound x) {o o′ : List ℕ} {to next first i : ℕ} (w
     pub texts-row : getD metadata i 0 ≡ length (itemsText (contentsFrom (x .file) (x .row) (x .title) (x .items) first (first + r .rows - first)))
     texts-row = rw er (texts-here s w l measured small)
 
-    pub small-row : length (nodeText (shape (x .file) r) (contentsFrom (x .file) (x .row) (x .title) (x .items) first (first + r .rows - first)) (getD inner i 0)) + getD inner i 0 < sizeStop
+    pub small-row : length (nodeText (shape (x .file) r) (contentsFrom (x .file) (x .row) (x .title) (x .items) first (first + r .rows - first))
+        (getD inner i 0)) + getD inner i 0 < sizeStop
     small-row = rw er (small-here s w l measured small)
 
-    pub putting-row : {o″ : List ℕ} {q : ℕ} → Counts o′ o″ next (nodeText (shape (x .file) r) (contentsFrom (x .file) (x .row) (x .title) (x .items) first (first + r .rows - first)) (getD inner i 0)) q → Putting x o o″ to q (first + r .rows) (i + 1)
+    pub putting-row : {o″ : List ℕ} {q : ℕ} → Counts o′ o″ next
+        (nodeText (shape (x .file) r) (contentsFrom (x .file) (x .row) (x .title) (x .items) first (first + r .rows - first)) (getD inner i 0))
+        q → Putting x o o″ to q (first + r .rows) (i + 1)
     putting-row p = rw er (putting-on s w l measured small (rw er at p))
 
 pub putting-end : {x : Task} (s : Sound x) {o o′ : List ℕ} {to next first i : ℕ} → Putting x o o′ to next first i → x .count ≤ i → Counts o o′ to (joined (outerFrom x 0)) next

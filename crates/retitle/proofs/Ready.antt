@@ -36,7 +36,8 @@ Follows [] cs = length cs ≡ 0
 Follows (r ∷ rs) cs = (r .rows ≤ length cs) × (r .contained ≤ length (outer rs (drop (r .rows) cs))) × Follows rs (drop (r .rows) cs)
 
 module _ {lim : Limits} {types : List Declared} where
-  nodes-follow : {d parent n : ℕ} {m : Made} {rs : List Shape} {cs : List Content} {bs : List (List ℕ)} → Nodes lim types d parent m n rs cs bs → (ss : List Shape) (ds : List Content) → Follows ss ds → Follows (rs ++ ss) (cs ++ ds)
+  nodes-follow : {d parent n : ℕ} {m : Made} {rs : List Shape} {cs : List Content} {bs : List (List ℕ)} → Nodes lim types d parent m n rs cs
+      bs → (ss : List Shape) (ds : List Content) → Follows ss ds → Follows (rs ++ ss) (cs ++ ds)
   nodes-follow none ss ds w = w
   nodes-follow (more {r = r} {rs = rs} {ss = ts} {cs = cs} {ds = es} {es = fs} {inner = inner} {bs = bs} f ys xs) ss ds w =
       let e = f .counted in
@@ -46,7 +47,8 @@ module _ {lim : Limits} {types : List Declared} where
       rw (append-assoc (cs ++ es) fs ds, append-assoc cs es (fs ++ ds), append-assoc rs ts ss, drop-at cs (es ++ (fs ++ ds)) (r .rows) e)
       (omega (arith, length-append cs (es ++ (fs ++ ds))), omega (arith, ap length i, length-append inner (outer (ts ++ ss) (fs ++ ds))), k)
 
-  nodes-few : {d parent n : ℕ} {m : Made} {rs : List Shape} {cs : List Content} {bs : List (List ℕ)} → Nodes lim types d parent m n rs cs bs → m .nodes ≤ lim .nodes → m .nodes + length rs ≤ lim .nodes
+  nodes-few : {d parent n : ℕ} {m : Made} {rs : List Shape} {cs : List Content} {bs : List (List ℕ)} → Nodes lim types d parent m n rs cs bs →
+      m .nodes ≤ lim .nodes → m .nodes + length rs ≤ lim .nodes
   nodes-few none l = omega arith
   nodes-few (more {rs = rs} {ss = ss} f ys xs) l = omega (arith, nodes-few xs (omega (arith, nodes-few ys (omega (arith, f .node-room)))), length-append rs ss)
 

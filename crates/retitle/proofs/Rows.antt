@@ -24,7 +24,8 @@ module _ (f : List ℕ) (row : ℕ) (title us : List ℕ) where
   unfolding contentsFrom
   contents-drop k zero m l = let a : k + 0 ≡ k = omega arith in let b : m - 0 ≡ m = omega arith in rw (a, b) refl
   contents-drop k (suc n) zero l = absurd (omega arith)
-  contents-drop k (suc n) (suc m) l = let a : k + 1 + n ≡ k + suc n = omega arith in let b : m - n ≡ suc m - suc n = omega arith in contents-drop (k + 1) n m (omega arith) ∙ rw (a, b) refl
+  contents-drop k (suc n) (suc m) l = let a : k + 1 + n ≡ k + suc n = omega arith in let b : m - n ≡ suc m - suc n = omega arith
+      in contents-drop (k + 1) n m (omega arith) ∙ rw (a, b) refl
 
 pub nodes-on : (ws : List ℕ) (count i : ℕ) → i < count → nodesFrom i (count - i) ws ≡ nodeFrom ws (i * nodeWidth) ∷ nodesFrom (i + 1) (count - (i + 1)) ws
 unfolding rowsFrom
@@ -51,7 +52,8 @@ joined-append : (a b : List (List ℕ)) → joined (a ++ b) ≡ joined a ++ join
 joined-append [] b = refl
 joined-append (s ∷ a) b = ap (λ v. s ++ v) (joined-append a b) ∙ sym (append-assoc s (joined a) (joined b))
 
-whole-on : (r : Shape) (cs : List Content) (n : ℕ) (os : List (List ℕ)) → joined (wholeText r cs (joined (take n os)) ∷ drop n os) ≡ nodeText r cs (length (joined (take n os))) ++ joined os
+whole-on : (r : Shape) (cs : List Content) (n : ℕ) (os : List (List ℕ)) → joined (wholeText r cs (joined (take n os)) ∷ drop n os) ≡
+    nodeText r cs (length (joined (take n os))) ++ joined os
 unfolding wholeText
 whole-on r cs n os =
     let t : List ℕ = nodeText r cs (length (joined (take n os))) in
@@ -71,14 +73,21 @@ module _ {x : Task} (s : Sound x) where
   outer-end = let e : x .count - x .count ≡ 0 = omega arith in rw e refl
 
   module _ (i : ℕ) (l : i < x .count) where
-    pub outer-on : outerFrom x i ≡ wholeText (shapeOf x i) (contentsOf x i) (joined (take (nodeOf x i .contained) (outerFrom x (i + 1)))) ∷ drop (nodeOf x i .contained) (outerFrom x (i + 1))
+    pub outer-on : outerFrom x i ≡ wholeText (shapeOf x i) (contentsOf x i) (joined (take (nodeOf x i .contained) (outerFrom x (i + 1)))) ∷ drop
+        (nodeOf x i .contained) (outerFrom x (i + 1))
     unfolding outerFrom outer shape
     outer-on =
         let a : ℕ = firstItem (x .nodes) i in
         let n : ℕ = nodeOf x i .rows in
         let fit = rows-fit i l in
         let e : x .total - a - n ≡ x .total - (a + n) = omega arith in
-        rw (nodes-on (x .nodes) (x .count) i l, contents-take (x .file) (x .row) (x .title) (x .items) a n (x .total - a) (omega arith), contents-drop (x .file) (x .row) (x .title) (x .items) a n (x .total - a) (omega arith), first-on (x .nodes) i, e) refl
+        rw (
+          nodes-on (x .nodes) (x .count) i l,
+          contents-take (x .file) (x .row) (x .title) (x .items) a n (x .total - a) (omega arith),
+          contents-drop (x .file) (x .row) (x .title) (x .items) a n (x .total - a) (omega arith),
+          first-on (x .nodes) i,
+          e,
+        ) refl
 
     -- a node's own bytes, and then those of the rows after it
     pub text-on : joined (outerFrom x i) ≡ nodeText (shapeOf x i) (contentsOf x i) (innerOf x i) ++ joined (outerFrom x (i + 1))

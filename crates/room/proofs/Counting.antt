@@ -64,7 +64,8 @@ unfolding sized
 put-block body n e p q = put-two (vlq (length body)) body (counts-as (ap vlq (sym e)) p) q
 
 -- a block whose length was counted: a count that stopped makes the whole stop
-pub put-counted : {o o₁ o₂ : List ℕ} {n s s₁ s₂ : ℕ} (body : List ℕ) → n ≡ min (length body) tooMany → Counts o o₁ s (vlq n) s₁ → Counts o₁ o₂ s₁ body s₂ → Counts o o₂ s (sized body) s₂
+pub put-counted : {o o₁ o₂ : List ℕ} {n s s₁ s₂ : ℕ} (body : List ℕ) → n ≡ min (length body) tooMany → Counts o o₁ s (vlq n) s₁ → Counts o₁
+    o₂ s₁ body s₂ → Counts o o₂ s (sized body) s₂
 unfolding sized
 put-counted {n = n} body e p q = elim (decLt (length body) tooMany) [
   | yes l ↦ put-block body n (omega arith) p q
@@ -112,7 +113,8 @@ module _ {o o′ w : List ℕ} {r : ℕ} (p : Counts o o′ 0 w r) where
       let e : length w ≤ length o = omega arith in
       (omega arith, e, p .fits (omega arith) l ∙ sets-front o w e)
 
-  pub wrote-all : r ≤ length o → length o < tooMany → {o″ : List ℕ} → o″ ≡ take r o′ ++ replicate (length o′ - r) 0 → (length w ≤ length o) × (r ≡ length w) × (o″ ≡ padded (length o) w)
+  pub wrote-all : r ≤ length o → length o < tooMany → {o″ : List ℕ} → o″ ≡ take r o′ ++ replicate (length o′ - r) 0 → (length w ≤ length o) ×
+      (r ≡ length w) × (o″ ≡ padded (length o) w)
   wrote-all l m c =
       let x = wrote-front l m in
       (x .1, x .0, c ∙ padded-behind w (drop (length w) o) (x .2) (x .0) ∙ ap (λ (n : ℕ). padded n w) (p .long))

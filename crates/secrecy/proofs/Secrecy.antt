@@ -123,7 +123,8 @@ module _ (f g : List ℕ) (long : length f ≡ length g) where
     tag-same : (which : Frames) (k : ℕ) → shownTag false which g k r ≡ shownTag false which f k r
     unfolding shownTag withheld isHidden
     tag-same which k =
-        where-false (eqb (r .format % 2) 1) (good nothing) (λ e. ap (λ (v : List ℕ). answers plainly (tagLines which v)) (sym (part-same f g long (r .place) (r .size) (s .0 (even e)))))
+        where-false (eqb (r .format % 2) 1) (good nothing)
+        (λ e. ap (λ (v : List ℕ). answers plainly (tagLines which v)) (sym (part-same f g long (r .place) (r .size) (s .0 (even e)))))
 
   titles-same : (k : ℕ) (is : List Item) → ((i : ℕ) → i < length is → Shown f g (itemAt is i)) → titleLines g k is ≡ titleLines f k is
   unfolding titleLines
@@ -262,11 +263,13 @@ module _ (f g : List ℕ) (h : Header) (ns : List Node) (is : List Item) (r : re
     needs-alike = prints room [] needs plainly plainly (from-same f g 0 is described) (λ _ _. refl)
 
     -- of one item row, by what is known of each
-    row-same : (row : ℕ) (shows : List ℕ → ℕ → Item → Result Answer) (Known : Item → Type 0) → ((i : ℕ) → i < length is → Known (itemAt is i)) → ((x : Item) → Known x → shows g row x ≡ shows f row x)
+    row-same : (row : ℕ) (shows : List ℕ → ℕ → Item → Result Answer) (Known : Item → Type 0) → ((i : ℕ) → i < length is → Known (itemAt is i)) →
+        ((x : Item) → Known x → shows g row x ≡ shows f row x)
         → printed room [] (λ a. a) (ask (reads g) (ofRow row shows g)) ≡ printed room [] (λ a. a) (ask (reads f) (ofRow row shows f))
     unfolding ofRow
     row-same row shows Known k s =
-        prints room [] (ofRow row shows) (λ a. a) (λ a. a) (where-false (leb (length is) row) (bad noSuchRow 0) (λ e. s (itemAt is row) (k row (leb-false (length is) row e)))) (λ _ _. refl)
+        prints room [] (ofRow row shows) (λ a. a) (λ a. a)
+        (where-false (leb (length is) row) (bad noSuchRow 0) (λ e. s (itemAt is row) (k row (leb-false (length is) row e)))) (λ _ _. refl)
 
     row-needs-alike : (row : ℕ) → rowNeedsAnswer room row g ≡ rowNeedsAnswer room row f
     unfolding rowNeedsAnswer

@@ -30,10 +30,12 @@ use Rattle.room.proofs.Counting.{counts-as, wrote-all, wrote-past}
 sheet-is : (second : Bool) {f : List ℕ} {o : Reading} {s : Summary} {t u : List ℕ} (st : Standing f o s t u)
     → linesIn second (s .version) f (nodesIn (s .nodes) t) (itemsIn (s .items) u) ≡ linesIn second (st .h .version) f (st .ns) (st .is)
 sheet-is second {f} {s = s} st =
-    ap₂ (λ (ns : List Node) (is : List Item). linesIn second (s .version) f ns is) (st .nodes-are) (st .items-are) ∙ ap (λ (x : Summary). linesIn second (x .version) f (st .ns) (st .is)) (st .summed)
+    ap₂ (λ (ns : List Node) (is : List Item). linesIn second (s .version) f ns is) (st .nodes-are) (st .items-are) ∙ ap
+    (λ (x : Summary). linesIn second (x .version) f (st .ns) (st .is)) (st .summed)
 
 -- what either question asks, in one
-pub question-is : (second : Bool) (room : ℕ) (f : List ℕ) (h : Header) (ns : List Node) (is : List Item) → writeIn second room f h ns is ≡ fitting room (good (linesIn second (h .version) f ns is))
+pub question-is : (second : Bool) (room : ℕ) (f : List ℕ) (h : Header) (ns : List Node) (is : List Item) → writeIn second room f h ns is ≡
+    fitting room (good (linesIn second (h .version) f ns is))
 unfolding write write2 sheetOf
 question-is true room f h ns is = refl
 question-is false room f h ns is = refl
@@ -55,15 +57,18 @@ module _ (second : Bool) (file : List ℕ) (nsize isize : ℕ) (lent : List ℕ)
   Says o a t u sheet = let x = ask o (writeIn second room file) in (told a ≡ counted x) × ((t ≡ keptNodes nsize o x) × ((u ≡ keptItems isize o x) × (sheet ≡ kept room x)))
 
   -- by what the question answers
-  says-by : (o : Reading) (a : Written) {x : Result (List ℕ)} {t u sheet : List ℕ} → exits.Says nsize isize o (writeIn second room file) x t u → told a ≡ counted x → sheet ≡ kept room x → Says o a t u sheet
+  says-by : (o : Reading) (a : Written) {x : Result (List ℕ)} {t u sheet : List ℕ} → exits.Says nsize isize o (writeIn second room file) x t
+      u → told a ≡ counted x → sheet ≡ kept room x → Says o a t u sheet
   says-by o a w e z = (e ∙ ap counted (w .0), (w .1, (w .2, z ∙ ap (kept room) (w .0))))
 
   module _ (o : Reading) {t u : List ℕ} (tn : t ≡ nodeTable nsize o) (tu : u ≡ itemTable isize o) where
-    pub asked-refused : {r : Read} → r ≡ readOf o → {n : ℕ} {p : FilePlace} → r ≡ read.Refused n p → {sheet : List ℕ} → sheet ≡ replicate room 0 → Says o (written.Refused n (p .0)) t u sheet
+    pub asked-refused : {r : Read} → r ≡ readOf o → {n : ℕ} {p : FilePlace} → r ≡ read.Refused n p → {sheet : List ℕ} → sheet ≡ replicate room
+        0 → Says o (written.Refused n (p .0)) t u sheet
     unfolding counted kept
     asked-refused e k z = says-by o (written.Refused _ _) (exits.says-unread nsize isize o (writeIn second room file) e k tn tu) refl z
 
-    module _ {s : Summary} (st : Standing file o s t u) {sheet′ : List ℕ} {r : ℕ} (p : Counts lent sheet′ 0 (linesIn second (s .version) file (nodesIn (s .nodes) t) (itemsIn (s .items) u)) r) where
+    module _ {s : Summary} (st : Standing file o s t u) {sheet′ : List ℕ} {r : ℕ}
+        (p : Counts lent sheet′ 0 (linesIn second (s .version) file (nodesIn (s .nodes) t) (itemsIn (s .items) u)) r) where
       puts : Counts lent sheet′ 0 (linesIn second (st .h .version) file (st .ns) (st .is)) r
       puts = counts-as (sheet-is second st) p
 

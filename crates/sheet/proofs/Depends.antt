@@ -23,7 +23,8 @@ Shown f g r = (r .format % 2 ≡ 0 → Agree f g (r .place) (r .size)) × (r .ki
 
 module _ (f g : List ℕ) (same : length f ≡ length g) (r : Item) (h : Shown f g r) where
   label-by : (b : Bool) → eqb (r .kind) 1 ≡ b
-      → cond b (tabbed (0x43 ∷ tabbed (escapedPart f (r .field) (r .nameLength)))) (tabbed (0x53 ∷ number (r .field))) ≡ cond b (tabbed (0x43 ∷ tabbed (escapedPart g (r .field) (r .nameLength)))) (tabbed (0x53 ∷ number (r .field)))
+      → cond b (tabbed (0x43 ∷ tabbed (escapedPart f (r .field) (r .nameLength)))) (tabbed (0x53 ∷ number (r .field))) ≡ cond b
+      (tabbed (0x43 ∷ tabbed (escapedPart g (r .field) (r .nameLength)))) (tabbed (0x53 ∷ number (r .field)))
   unfolding escapedPart
   label-by true e = ap (λ (t : List ℕ). tabbed (0x43 ∷ tabbed t)) (ap (bytesAll escaped) (part-same f g same (r .field) (r .nameLength) (h .1 (eqb-true (r .kind) 1 e))))
   label-by false e = refl
@@ -55,7 +56,8 @@ items-same f g e [] h = refl
 items-same f g e (r ∷ is) h = ap₂ (λ (a : List ℕ) (b : List ℕ). a ++ b) (visible-same f g e r (h 0 (omega arith))) (items-same f g e is (λ i l. h (suc i) (omega arith)))
 
 -- files of equal length that agree so on every row have the same sheet
-pub sheet-same : (f g : List ℕ) (h : Header) (ns : List Node) (is : List Item) → length f ≡ length g → ((i : ℕ) → i < length is → Shown f g (itemAt is i)) → sheetOf f h ns is ≡ sheetOf g h ns is
+pub sheet-same : (f g : List ℕ) (h : Header) (ns : List Node) (is : List Item) → length f ≡ length g →
+    ((i : ℕ) → i < length is → Shown f g (itemAt is i)) → sheetOf f h ns is ≡ sheetOf g h ns is
 unfolding sheetOf linesOf
 sheet-same f g h ns is e s = rw (e, items-same f g e is s)
 

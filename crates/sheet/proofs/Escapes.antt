@@ -93,9 +93,11 @@ module _ (f : List ℕ) where
   pub put-plain : (at stop end : ℕ) → stop ≤ end → PlainUpTo f at stop → escapedPart f at (end - at) ≡ part f at (stop - at) ++ escapedPart f stop (end - stop)
   put-plain at stop end l p = escaped-cut at stop end (p .within) l ∙ ap (λ (a : List ℕ). a ++ escapedPart f stop (end - stop)) (p .same)
 
-  pub put-hexed : (at end : ℕ) → at < end → at < length f → plain (getD f at 0) ≡ false → escapedPart f at (end - at) ≡ hexed (getD f at 0) ++ escapedPart f (at + 1) (end - (at + 1))
+  pub put-hexed : (at end : ℕ) → at < end → at < length f → plain (getD f at 0) ≡ false → escapedPart f at (end - at) ≡ hexed (getD f at 0) ++
+      escapedPart f (at + 1) (end - (at + 1))
   put-hexed at end l m h =
-      escaped-cut at (at + 1) end (omega arith) (omega arith) ∙ ap (λ (a : List ℕ). a ++ escapedPart f (at + 1) (end - (at + 1))) (escaped-one at m ∙ sym (escaped-hex (getD f at 0) h))
+      escaped-cut at (at + 1) end (omega arith) (omega arith) ∙ ap (λ (a : List ℕ). a ++ escapedPart f (at + 1) (end - (at + 1)))
+      (escaped-one at m ∙ sym (escaped-hex (getD f at 0) h))
 
   pub put-none : (at end : ℕ) → end ≤ at → escapedPart f at (end - at) ≡ []
   unfolding escapedPart bytesAll

@@ -69,7 +69,8 @@ module _ (v n m : ℕ) (f ws us : List ℕ) where
 -- ---- rows
 
 module _ (ws : List ℕ) (count : ℕ) where
-  pub nodes-on : (i : ℕ) → i < count → {r : Node} → r ≡ nodeFrom ws (i * nodeWidth) → nodeLines i (nodesFrom i (count - i) ws) ≡ nodeLine i r ++ nodeLines (i + 1) (nodesFrom (i + 1) (count - (i + 1)) ws)
+  pub nodes-on : (i : ℕ) → i < count → {r : Node} → r ≡ nodeFrom ws (i * nodeWidth) → nodeLines i (nodesFrom i (count - i) ws) ≡ nodeLine i r
+      ++ nodeLines (i + 1) (nodesFrom (i + 1) (count - (i + 1)) ws)
   unfolding rowsFrom nodeLines
   nodes-on i l e = let n : count - i ≡ suc (count - (i + 1)) = omega arith in rw (n, e)
 
@@ -82,7 +83,8 @@ module _ (ws : List ℕ) (count : ℕ) where
   nodes-start = let e : count - 0 ≡ count = omega arith in rw e
 
   module _ (f : List ℕ) where
-    pub items-on : (i : ℕ) → i < count → itemLines f (itemsFrom i (count - i) ws) ≡ visibleLine f (itemFrom ws (i * itemWidth)) ++ itemLines f (itemsFrom (i + 1) (count - (i + 1)) ws)
+    pub items-on : (i : ℕ) → i < count → itemLines f (itemsFrom i (count - i) ws) ≡ visibleLine f (itemFrom ws (i * itemWidth)) ++ itemLines f
+        (itemsFrom (i + 1) (count - (i + 1)) ws)
     unfolding rowsFrom itemLines
     items-on i l = let e : count - i ≡ suc (count - (i + 1)) = omega arith in rw e
 

@@ -38,7 +38,14 @@ shown-high c l = elim (decLt c 0x800) [
   | yes h ↦ rw (two8 c l h, high-shown (0xC0 + c / 64) (omega arith), high-shown (tail c) (omega arith))
   | no h ↦ elim (decLt c 0x10000) [
     | yes k ↦ rw (three8 c (omega arith) k, high-shown (0xE0 + c / 4096) (omega arith), high-shown (tail (c / 64)) (omega arith), high-shown (tail c) (omega arith))
-    | no k ↦ rw (four8 c (omega arith), high-shown (0xF0 + c / 262144) (omega arith), high-shown (tail (c / 4096)) (omega arith), high-shown (tail (c / 64)) (omega arith), high-shown (tail c) (omega arith))
+    | no k ↦ rw (
+      four8 c (omega arith),
+      high-shown (0xF0 + c / 262144) (omega arith),
+      high-shown (tail (c / 4096)) (omega arith),
+      high-shown
+          (tail (c / 64)) (omega arith),
+      high-shown (tail c) (omega arith),
+    )
   ]
 ]
 
@@ -72,7 +79,8 @@ unfolding asShown shownOr
 is-shown (good t) e = cc
 is-shown (bad n p) e = absurd (let z : _≡_ {A = ℕ} 0 1 = cc in omega arith)
 
-pub shown-end : {d o o′ : List ℕ} {base at to : ℕ} (r : Result (List ℕ)) → length d ≤ at → Converting first16 shown8 d o o′ base at to (asShown r) → Counts o o′ base (shownOr r []) to
+pub shown-end : {d o o′ : List ℕ} {base at to : ℕ} (r : Result (List ℕ)) → length d ≤ at → Converting first16 shown8 d o o′ base at to
+    (asShown r) → Counts o o′ base (shownOr r []) to
 shown-end r l k = counts-as (is-shown r (conv-end k l)) (k .puts)
 
 pub shown-never : (r : Result (List ℕ)) {n p : ℕ} → isGood r ≡ true → asShown r ≡ bad n p → {P : Type 0} → P

@@ -91,13 +91,15 @@ module _ (s : Shelf) (ok : Sound (partSize (s .text)) (s .cards)) (l : Label) (t
     after-put : Shelf
     after-put = replaced s (first isFree (s .cards)) (cardFor l (length sheet)) sheet
 
-    new-card : isFree (cardFor l (length sheet)) ≡ false → (k : ℕ) → k < length (s .cards) → (k ≡ first isFree (s .cards) → ⊥) → isFor (labelOf (cardFor l (length sheet))) (getD (s .cards) k freshCard) ≡ false
+    new-card : isFree (cardFor l (length sheet)) ≡ false → (k : ℕ) → k < length (s .cards) → (k ≡ first isFree (s .cards) → ⊥) → isFor
+        (labelOf (cardFor l (length sheet))) (getD (s .cards) k freshCard) ≡ false
     new-card z k h e = none-index (isFor l) (s .cards) n k h
 
     put-view : (m : Label) → (b : Bool) → isFor m (cardFor l 0) ≡ b → getFrom m after-put ≡ cond b (good sheet) (getFrom m s)
     unfolding after-put isFor
     put-view m b q = elim (ℕ-discrete (m .call) 0) [
-      | yes z ↦ view-zero s ok (first isFree (s .cards)) (there isFree (s .cards) f) (cardFor l (length sheet)) sheet refl g new-card m z ∙ sym (rw (sym q ∙ other-call l m 0 t z) (get-zero s ok m z))
+      | yes z ↦ view-zero s ok (first isFree (s .cards)) (there isFree (s .cards) f) (cardFor l (length sheet)) sheet refl g new-card m z ∙ sym
+          (rw (sym q ∙ other-call l m 0 t z) (get-zero s ok m z))
       | no z ↦ by b q z
     ]
       where
@@ -161,7 +163,8 @@ record Step (part : ℕ) (v : View) (c : Call) (s : Shelf) : Type 0 where
   seen : Seen part (turn part v c (isFull (answer c s))) (next c s)
 
 -- the same, from the answer and the shelf that is left
-step : {part : ℕ} {v : View} {c : Call} {s : Shelf} (r : Result (List ℕ)) → answer c s ≡ r → r ≡ says part v c (isFull r) → Seen part (turn part v c (isFull r)) (next c s) → Step part v c s
+step : {part : ℕ} {v : View} {c : Call} {s : Shelf} (r : Result (List ℕ)) → answer c s ≡ r → r ≡ says part v c (isFull r) → Seen part
+    (turn part v c (isFull r)) (next c s) → Step part v c s
 step r e k z = record { told-so = rw e k; seen = rw e z }
 
 self : (s : Shelf) → Sound (partSize (s .text)) (s .cards) → Seen (partSize (s .text)) (λ m. getFrom m s) s
@@ -293,7 +296,8 @@ answers-expected : (desk part : ℕ) (run : List Call) (v : View) (s : Shelf) �
     → answersTo desk run s ≡ expected part v (callsOf desk run) (map isFull (answersTo desk run s))
 unfolding answersTo callsOf expected
 answers-expected desk part [] v s a = refl
-answers-expected desk part (c ∷ run) v s a = by (eqb (deskOf c) desk) refl (λ d. answers-expected desk part run _ (next c s) (own-next a c d)) (λ n. answers-expected desk part run v (next c s) (other-next a c n))
+answers-expected desk part (c ∷ run) v s a = by (eqb (deskOf c) desk) refl
+    (λ d. answers-expected desk part run _ (next c s) (own-next a c d)) (λ n. answers-expected desk part run v (next c s) (other-next a c n))
   where
     by : (b : Bool) → eqb (deskOf c) desk ≡ b
         → (deskOf c ≡ desk → answersTo desk run (next c s) ≡ expected part (turn part v c (isFull (answer c s))) (callsOf desk run) (map isFull (answersTo desk run (next c s))))
@@ -405,7 +409,8 @@ module _ (part : ℕ) (v : View) (b : Bool) (l : Label) {sheet : List ℕ} (h : 
   keeps-view (dropping m) n = drop-keeps-view m (λ (e : m ≡ l). n (ap dropping e)) (isFor l (cardFor m 0)) refl
 
 -- a run that does not drop l leaves its sheet
-run-keeps : (run : List Call) (s : Shelf) → Sound (partSize (s .text)) (s .cards) → (l : Label) {sheet : List ℕ} → NeverDrops l run → getFrom l s ≡ good sheet → getFrom l (afterAll run s) ≡ good sheet
+run-keeps : (run : List Call) (s : Shelf) → Sound (partSize (s .text)) (s .cards) → (l : Label) {sheet : List ℕ} → NeverDrops l run →
+    getFrom l s ≡ good sheet → getFrom l (afterAll run s) ≡ good sheet
 unfolding afterAll
 run-keeps [] s ok l n h = h
 run-keeps (c ∷ run) s ok l n h =
@@ -415,7 +420,8 @@ run-keeps (c ∷ run) s ok l n h =
     (z .view l ∙ keeps-view (partSize (s .text)) (λ m. getFrom m s) (isFull (answer c s)) l h c (λ (e : c ≡ dropping l). n [] run (ap (λ (x : Call). x ∷ run) e)))
 
 -- a put that is answered
-put-there : (s : Shelf) → Sound (partSize (s .text)) (s .cards) → (l : Label) (sheet : List ℕ) → answer (putting l sheet) s ≡ good [] → getFrom l (next (putting l sheet) s) ≡ good sheet
+put-there : (s : Shelf) → Sound (partSize (s .text)) (s .cards) → (l : Label) (sheet : List ℕ) → answer (putting l sheet) s ≡ good [] →
+    getFrom l (next (putting l sheet) s) ≡ good sheet
 unfolding turn update isGood
 put-there s ok l sheet e =
     let z = any-step s ok (putting l sheet) in

@@ -48,7 +48,8 @@ pub short : (part : ℕ) (cs : List Card) (i : ℕ) → faulty part cs ≡ false
 unfolding faulty
 short part [] i e l t = absurd (not-suc-le-zero l)
 short part (c ∷ cs) zero e l t =
-    ltb-false part (c .length) (or-left _ (some (isFor (labelOf c)) cs) (simp t at (or-left (not (isFree c) && (ltb part (c .length) || some (isFor (labelOf c)) cs)) (faulty part cs) e)))
+    ltb-false part (c .length) (or-left _ (some (isFor (labelOf c)) cs)
+    (simp t at (or-left (not (isFree c) && (ltb part (c .length) || some (isFor (labelOf c)) cs)) (faulty part cs) e)))
 short part (c ∷ cs) (suc i) e l t = short part cs i (or-right (not (isFree c) && (ltb part (c .length) || some (isFor (labelOf c)) cs)) (faulty part cs) e) (omega arith) t
 
 -- ---- looking for a card

@@ -81,7 +81,8 @@ listed (putting l sheet) s =
     place-among (isDamaged (partSize (s .text)) (s .cards)) (eqb (l .call) 0) (some (isFor l) (s .cards)) (ltb (partSize (s .text)) (length sheet)) (some isFree (s .cards))
     (first isFree (s .cards)) (λ i. replaced s i (cardFor l (length sheet)) sheet)
 listed (getting l room) s = get-among (isDamaged (partSize (s .text)) (s .cards)) (eqb (l .call) 0) (some (isFor l) (s .cards)) (first (isFor l) (s .cards)) room (sheetOf s)
-listed (dropping l) s = drop-among (isDamaged (partSize (s .text)) (s .cards)) (eqb (l .call) 0) (some (isFor l) (s .cards)) (first (isFor l) (s .cards)) (λ i. replaced s i freshCard [])
+listed (dropping l) s = drop-among (isDamaged (partSize (s .text)) (s .cards)) (eqb (l .call) 0) (some (isFor l) (s .cards))
+    (first (isFor l) (s .cards)) (λ i. replaced s i freshCard [])
 
 pub whole-answer : (c : Call) (s : Shelf) → isDamaged (partSize (s .text)) (s .cards) ≡ false → codeOf (answer c s) ≡ 39 → ⊥
 unfolding answer putOn getFrom dropFrom place found placed seen

@@ -45,7 +45,8 @@ pub record Stored (a : List Card) (i : ℕ) (w : List ℕ) : Type 0 where
   pub size : length w ≡ 64
   pub words : w ≡ wordsOf (laid i a blank)
 
-pub stored-more : (a : List Card) (i : ℕ) {w w′ : List ℕ} {c : Card} → length a ≡ 16 → i < 16 → c ≡ getD a i freshCard → Stored a i w → w′ ≡ wordsWith w (set (cardsOf w) i c) → Stored a (i + 1) w′
+pub stored-more : (a : List Card) (i : ℕ) {w w′ : List ℕ} {c : Card} → length a ≡ 16 → i < 16 → c ≡ getD a i freshCard → Stored a i w → w′ ≡
+    wordsWith w (set (cardsOf w) i c) → Stored a (i + 1) w′
 stored-more a i {w} {w′} {c} f l k s e =
     let cs : List Card = laid i a blank in
     let n : length cs ≡ 16 = laid-length i a blank (omega arith) (omega arith) in
@@ -67,8 +68,10 @@ laid-all n xs ys e f = let h : drop n ys ≡ [] = drop-of-length-le ys {i = n} (
 pub stored-all : (a : List Card) (i : ℕ) {w : List ℕ} → length a ≡ 16 → 16 ≤ i → Stored a i w → w ≡ wordsOf a
 stored-all a i f l s = let e : i ≡ 16 = let h = s .within in omega arith in s .words ∙ ap (λ (k : ℕ). wordsOf (laid k a blank)) e ∙ ap wordsOf (laid-all 16 a blank f refl)
 
-pub read-more : (w : List ℕ) (i : ℕ) {b : List Card} {c : Card} → length (cardsOf w) ≡ 16 → i < 16 → c ≡ getD (cardsOf w) i freshCard → b ≡ laid i (cardsOf w) blank → set b i c ≡ laid (i + 1) (cardsOf w) blank
-read-more w i {b} {c} f l k e = rw (add-one i) (ap (λ (x : List Card). set x i c) e ∙ ap (set (laid i (cardsOf w) blank) i) k ∙ laid-next i (cardsOf w) blank (omega arith) (omega arith))
+pub read-more : (w : List ℕ) (i : ℕ) {b : List Card} {c : Card} → length (cardsOf w) ≡ 16 → i < 16 → c ≡ getD (cardsOf w) i freshCard → b ≡
+    laid i (cardsOf w) blank → set b i c ≡ laid (i + 1) (cardsOf w) blank
+read-more w i {b} {c} f l k e = rw (add-one i)
+    (ap (λ (x : List Card). set x i c) e ∙ ap (set (laid i (cardsOf w) blank) i) k ∙ laid-next i (cardsOf w) blank (omega arith) (omega arith))
 
 -- ---- a call on the array
 
@@ -102,17 +105,22 @@ module _ (a ys : List Card) (n : ℕ) (w : List ℕ) (text : List ℕ) (few : n 
   shelf-is = ap (λ (cs : List Card). rowOf cs text) (ap cardsOf front ∙ cards-words ys)
 
   -- what a call left in the words is laid back over the shelf
-  pub laid-back : (cs : List Card) {ws′ : List ℕ} {ds : List Card} → length cs ≡ length ys → ws′ ≡ wordsWith (take (n * 4) w) cs → ds ≡ cardsOf (ws′ ++ drop (n * 4) w) → laid (min n 16) ds ys ≡ cs
+  pub laid-back : (cs : List Card) {ws′ : List ℕ} {ds : List Card} → length cs ≡ length ys → ws′ ≡ wordsWith (take (n * 4) w) cs → ds ≡
+      cardsOf (ws′ ++ drop (n * 4) w) → laid (min n 16) ds ys ≡ cs
   laid-back cs {ws′} {ds} k f g =
       let h : ws′ ≡ wordsOf cs = f ∙ ap (λ (x : List ℕ). wordsWith x cs) front ∙ with-row ys cs k in
-      let d : ds ≡ cs ++ rest = g ∙ ap (λ (x : List ℕ). cardsOf (x ++ drop (n * 4) w)) h ∙ ap (λ (x : List ℕ). cardsOf (wordsOf cs ++ x)) behind ∙ ap cardsOf (sym (words-append cs rest)) ∙ cards-words (cs ++ rest) in
+      let d : ds ≡ cs ++ rest = g ∙ ap (λ (x : List ℕ). cardsOf (x ++ drop (n * 4) w)) h ∙ ap (λ (x : List ℕ). cardsOf (wordsOf cs ++ x)) behind ∙
+      ap cardsOf (sym (words-append cs rest)) ∙ cards-words (cs ++ rest) in
       let t : take n (cs ++ rest) ≡ cs = take-at cs rest n (k ∙ size) in
       let z : drop n ys ≡ [] = drop-of-length-le ys {i = n} (omega arith) in
       rw (min-is, d, t, z) (append-nil cs)
 
   -- put and drop
-  pub in-row : (c : Call) → length (next c (rowOf ys text) .cards) ≡ length ys → fromCode (codeOf (answer c (rowOf ys text))) ≡ answer c (rowOf ys text) → {t : Result (List ℕ)} {ws′ text′ : List ℕ} {ds : List Card} {code : ℕ}
-      → (t ≡ answer c (shelfOf (take (n * 4) w) text)) × ((ws′ ≡ wordsWith (take (n * 4) w) (next c (shelfOf (take (n * 4) w) text) .cards)) × (text′ ≡ next c (shelfOf (take (n * 4) w) text) .text))
+  pub in-row : (c : Call) → length (next c (rowOf ys text) .cards) ≡ length ys → fromCode (codeOf (answer c (rowOf ys text))) ≡ answer c
+      (rowOf ys text) → {t : Result (List ℕ)} {ws′ text′ : List ℕ} {ds : List Card} {code : ℕ}
+      → (t ≡ answer c (shelfOf (take (n * 4) w) text)) ×
+      ((ws′ ≡ wordsWith (take (n * 4) w) (next c (shelfOf (take (n * 4) w) text) .cards)) ×
+      (text′ ≡ next c (shelfOf (take (n * 4) w) text) .text))
       → ds ≡ cardsOf (ws′ ++ drop (n * 4) w) → code ≡ codeOf t
       → (fromCode code ≡ answer c (rowOf ys text)) × (laid (min n 16) ds ys ≡ next c (rowOf ys text) .cards) × (text′ ≡ next c (rowOf ys text) .text)
   in-row c k back h g e′ = (
@@ -145,7 +153,9 @@ drop-keeps l s = keeps s (λ i. freshCard) [] _
 -- ---- the answers of put and drop are told by a number
 
 module _ (l : Label) (s : Shelf) where
-  found-answer : (a b c : Bool) → (f : ℕ → Shelf) (i : ℕ) → fromCode (codeOf (told (mapped f (cond a (bad 39 0) (cond b (bad 27 0) (cond c (good i) (bad 27 0))))))) ≡ told (mapped f (cond a (bad 39 0) (cond b (bad 27 0) (cond c (good i) (bad 27 0)))))
+  found-answer : (a b c : Bool) → (f : ℕ → Shelf) (i : ℕ) → fromCode
+      (codeOf (told (mapped f (cond a (bad 39 0) (cond b (bad 27 0) (cond c (good i) (bad 27 0))))))) ≡ told
+      (mapped f (cond a (bad 39 0) (cond b (bad 27 0) (cond c (good i) (bad 27 0)))))
   unfolding fromCode told mapped
   found-answer true b c f i = refl
   found-answer false true c f i = refl
@@ -179,7 +189,8 @@ module _ (ys : List Card) (n : ℕ) (text : List ℕ) (m : 16 < n) (size : lengt
   many : 16 < length (rowOf ys text .cards)
   many = omega arith
 
-  pub many-row : (a : List Card) → a ≡ laid (min n 16) ys blank → (fromCode 39 ≡ answer c (rowOf ys text)) × (laid (min n 16) a ys ≡ next c (rowOf ys text) .cards) × (text ≡ next c (rowOf ys text) .text)
+  pub many-row : (a : List Card) → a ≡ laid (min n 16) ys blank → (fromCode 39 ≡ answer c (rowOf ys text)) ×
+      (laid (min n 16) a ys ≡ next c (rowOf ys text) .cards) × (text ≡ next c (rowOf ys text) .text)
   unfolding fromCode
   many-row a is =
       let k : min n 16 ≡ 16 = omega arith in

@@ -38,7 +38,8 @@ retitled-twice i text d = rw (titled-twice i text (d .items)) refl
 
 -- if the written file says what was written, the same title again gives the same file
 same-again : (i : ℕ) (text : List ℕ) (f : List ℕ) (h : Header) (ns : List Node) (is : List Item) (h′ : Header) (ns′ : List Node) (is′ : List Item)
-    → described (titledFile i text f h ns is) h′ ns′ is′ ≡ retitled i text (described f h ns is) → titledFile i text (titledFile i text f h ns is) h′ ns′ is′ ≡ titledFile i text f h ns is
+    → described (titledFile i text f h ns is) h′ ns′ is′ ≡ retitled i text (described f h ns is) → titledFile i text
+    (titledFile i text f h ns is) h′ ns′ is′ ≡ titledFile i text f h ns is
 unfolding titledFile
 same-again i text f h ns is h′ ns′ is′ e = ap (λ v. fileText (retitled i text v)) e ∙ ap fileText (retitled-twice i text (described f h ns is))
 
@@ -74,7 +75,8 @@ titled-length i text [] = refl
 titled-length zero text (c ∷ cs) = refl
 titled-length (suc i) text (c ∷ cs) = ap suc (titled-length i text cs)
 
-items-of : (i : ℕ) (text : List ℕ) (f g : List ℕ) (h : Header) (ns : List Node) (is : List Item) (h′ : Header) (ns′ : List Node) (is′ : List Item) → described g h′ ns′ is′ ≡ retitled i text (described f h ns is)
+items-of : (i : ℕ) (text : List ℕ) (f g : List ℕ) (h : Header) (ns : List Node) (is : List Item) (h′ : Header) (ns′ : List Node)
+    (is′ : List Item) → described g h′ ns′ is′ ≡ retitled i text (described f h ns is)
     → (map (shape g) ns′ ≡ map (shape f) ns) × (map (content g) is′ ≡ titledAt i text (map (content f) is))
 unfolding described retitled
 items-of i text f g h ns is h′ ns′ is′ e = (ap (λ (d : Description). d .nodes) e, ap (λ (d : Description). d .items) e)
@@ -93,7 +95,8 @@ unless : {A : Type 0} (b : Bool) (n p : ℕ) {o : Result A} {a : A} → cond b (
 unless true n p e = let z : _≡_ {A = ℕ} 0 1 = cc in absurd (omega arith)
 unless false n p e = (refl, e)
 
-pub corrected : (i : ℕ) (text : List ℕ) (room : ℕ) (f : List ℕ) (h : Header) (ns : List Node) (is : List Item) {g : List ℕ} → correctTitle i text room f h ns is ≡ good g → Corrected i text room f h ns is g
+pub corrected : (i : ℕ) (text : List ℕ) (room : ℕ) (f : List ℕ) (h : Header) (ns : List Node) (is : List Item) {g : List ℕ} → correctTitle i
+    text room f h ns is ≡ good g → Corrected i text room f h ns is g
 unfolding correctTitle fitting
 corrected i text room f h ns is {g} e =
     let (a, e₁) = unless (leb (length is) i) 18 0 e in
@@ -114,7 +117,8 @@ corrected i text room f h ns is {g} e =
     same : {x y : List ℕ} → good x ≡ good y → x ≡ y
     same z = cc
 
-answers : (i : ℕ) (text : List ℕ) (room : ℕ) (f : List ℕ) (h : Header) (ns : List Node) (is : List Item) {g : List ℕ} → Corrected i text room f h ns is g → correctTitle i text room f h ns is ≡ good g
+answers : (i : ℕ) (text : List ℕ) (room : ℕ) (f : List ℕ) (h : Header) (ns : List Node) (is : List Item) {g : List ℕ} → Corrected i text
+    room f h ns is g → correctTitle i text room f h ns is ≡ good g
 unfolding correctTitle fitting
 answers i text room f h ns is {g} c =
     let a = c .there in
@@ -124,7 +128,8 @@ answers i text room f h ns is {g} c =
 
 -- ---- the result of a correction
 
-module _ (lim : Limits) (f : List ℕ) {h : Header} {ns : List Node} {is : List Item} (reads : readFile lim f ≡ rows h ns is) (i : ℕ) (text : List ℕ) (room : ℕ) {g : List ℕ} (e : correctTitle i text room f h ns is ≡ good g) where
+module _ (lim : Limits) (f : List ℕ) {h : Header} {ns : List Node} {is : List Item} (reads : readFile lim f ≡ rows h ns is) (i : ℕ)
+    (text : List ℕ) (room : ℕ) {g : List ℕ} (e : correctTitle i text room f h ns is ≡ good g) where
   -- it is accepted with the same tables, and says the old description with that title
   pub correct-says : Says lim g (retitled i text (described f h ns is))
   correct-says =
@@ -151,7 +156,8 @@ module _ (lim : Limits) (f : List ℕ) {h : Header} {ns : List Node} {is : List 
       let here : elsewhere (s .nodes) ≡ false = stay-elsewhere g (s .nodes) (subst AllStay (sym (w .0)) (all-stay f ns (c .here))) in
       let file : titledFile i text g (s .header) (s .nodes) (s .items) ≡ g =
       subst (λ v. titledFile i text v (s .header) (s .nodes) (s .items) ≡ v) q
-      (same-again i text f h ns is (s .header) (s .nodes) (s .items) (subst (λ v. described v (s .header) (s .nodes) (s .items) ≡ retitled i text (described f h ns is)) (sym q) (s .says))) in
+      (same-again i text f h ns is (s .header) (s .nodes) (s .items)
+      (subst (λ v. described v (s .header) (s .nodes) (s .items) ≡ retitled i text (described f h ns is)) (sym q) (s .says))) in
       rw (s .reads) (answers i text room′ g (s .header) (s .nodes) (s .items) (record { there = in′; here = here; title = title; is-file = file; small = c .small; fits = l }))
 
   -- and is nowhere longer than any other that says the same

@@ -126,10 +126,12 @@ unfoldable pub isPrivate : Content → Bool
 isPrivate c = eqb (c .format % 2) 1 && (eqb (c .kind) 1 || not (eqb (c .field) 0 || eqb (c .field) 3 || eqb (c .field) 13))
 
 private-by : (format kind field said : ℕ) → cond (eqb kind 1) 0 field ≡ said
-    → (eqb (format % 2) 1 && (eqb kind 1 || not (eqb field 0 || eqb field 3 || eqb field 13))) ≡ (eqb (format % 2) 1 && (eqb kind 1 || not (eqb said 0 || eqb said 3 || eqb said 13)))
+    → (eqb (format % 2) 1 && (eqb kind 1 || not (eqb field 0 || eqb field 3 || eqb field 13))) ≡
+    (eqb (format % 2) 1 && (eqb kind 1 || not (eqb said 0 || eqb said 3 || eqb said 13)))
 private-by format kind field said e = by (eqb kind 1) e
   where
-    by : (b : Bool) → cond b 0 field ≡ said → (eqb (format % 2) 1 && (b || not (eqb field 0 || eqb field 3 || eqb field 13))) ≡ (eqb (format % 2) 1 && (b || not (eqb said 0 || eqb said 3 || eqb said 13)))
+    by : (b : Bool) → cond b 0 field ≡ said → (eqb (format % 2) 1 && (b || not (eqb field 0 || eqb field 3 || eqb field 13))) ≡
+        (eqb (format % 2) 1 && (b || not (eqb said 0 || eqb said 3 || eqb said 13)))
     by true e = refl
     by false e = rw e refl
 
@@ -139,7 +141,8 @@ row-private f r = private-by (r .format) (r .kind) (r .field) _ refl
 
 label-private : {g : List ℕ} {l : Label} {c : Content} → Labels g l c → (v d p n : ℕ) → mayDiffer (rowOf l v d (c .format) p n) ≡ isPrivate c
 unfolding mayDiffer isHidden isPrivate
-label-private {l = l} {c = c} lab v d p n = private-by (c .format) (kindOf (l .field)) (fieldOf (l .field)) (c .field) (lab .field) ∙ ap (λ k. eqb (c .format % 2) 1 && (eqb k 1 || not (eqb (c .field) 0 || eqb (c .field) 3 || eqb (c .field) 13))) (lab .kind)
+label-private {l = l} {c = c} lab v d p n = private-by (c .format) (kindOf (l .field)) (fieldOf (l .field)) (c .field) (lab .field) ∙ ap
+    (λ k. eqb (c .format % 2) 1 && (eqb k 1 || not (eqb (c .field) 0 || eqb (c .field) 3 || eqb (c .field) 13))) (lab .kind)
 
 is-false : (b : Bool) → T (not b) → b ≡ false
 is-false true t = absurd t
@@ -158,7 +161,8 @@ pairs none = none
 pairs (more w ws) = more (w .pair) (pairs ws)
 
 module _ {g k : List ℕ} (big : length g < 2 ^ 28) where
-  universal-runs : (x : Context) (l : Label) (end : ℕ) (m : Made) (p : ℕ) {c d : Content} → Labels g l c → Pair c d → c .format < 2 ^ 28 → Lies g p (universalText c) → Lies k p (universalText d) → p + length (universalText c) ≤ end → Runs g k (universal x l end m) p
+  universal-runs : (x : Context) (l : Label) (end : ℕ) (m : Made) (p : ℕ) {c d : Content} → Labels g l c → Pair c d → c .format < 2 ^ 28 →
+      Lies g p (universalText c) → Lies k p (universalText d) → p + length (universalText c) ≤ end → Runs g k (universal x l end m) p
   unfolding universal universalText
   universal-runs x l end m p {c} {d} lab w fm h h₂ i =
       let ss : List (List ℕ) = vlq (c .format) ∷ c .bytes ∷ [] in
@@ -187,7 +191,9 @@ module _ {g k : List ℕ} (big : length g < 2 ^ 28) where
       runs-place _ p (runs-check _ _ _ (runs-then _ e₁ (block-runs metaFrame 3 end n (t .0) a (omega (arith, h .inside)) (omega arith))
       (runs-check _ _ _ (runs-place _ q (runs-then _ e₂ (number-runs metaFrame 3 (q + n) (c .format) (s .0) b fm (omega arith)) (runs-place _ _ (runs-skip _ _ shows runs-ret)))))))
 
-  version-runs : (x : Context) (l : Label) (end before : ℕ) (m : Made) (p : ℕ) {c d : Content} → Labels g l c → Pair c d → formatOf (x .types) (c .declared) ≡ known (c .format) → c .declared < 2 ^ 28 → Lies g p (versionText c) → Lies k p (versionText d) → p + length (versionText c) ≤ end
+  version-runs : (x : Context) (l : Label) (end before : ℕ) (m : Made) (p : ℕ) {c d : Content} → Labels g l c → Pair c d → formatOf (x .types)
+      (c .declared) ≡ known (c .format) → c .declared < 2 ^ 28 → Lies g p (versionText c) → Lies k p (versionText d) → p + length
+      (versionText c) ≤ end
       → Runs g k (version x l end before m) p
   unfolding version versionText
   version-runs x l end before m p {c} {d} lab w fm dl h h₂ i =
@@ -212,21 +218,29 @@ module _ {g k : List ℕ} (big : length g < 2 ^ 28) where
       let el = ap (λ v. length (vlq v)) eb in
       agree r (c .bytes) (t₁ .1) (lies-as (sym (w .shown (sym (label-private lab (m .items + 1 - before) (c .declared) r n) ∙ is-false _ t))) (lies-at (omega arith) (t₂ .1))) in
       runs-place _ p (runs-check _ _ _ (runs-then _ e₁ (number-runs metaFrame 3 end (c .declared) (s .0) a dl (omega arith))
-      (runs-then _ (format-is g p _ fm q) (format-runs g k p _ q) (runs-then _ e₂ (block-runs metaFrame 3 end n (t₁ .0) b (omega (arith, h .inside)) (omega arith)) (runs-place _ _ (runs-skip _ _ shows runs-ret))))))
+      (runs-then _ (format-is g p _ fm q) (format-runs g k p _ q)
+      (runs-then _ e₂ (block-runs metaFrame 3 end n (t₁ .0) b (omega (arith, h .inside)) (omega arith))
+      (runs-place _ _ (runs-skip _ _ shows runs-ret))))))
 
-  versions-runs : (x : Context) (l : Label) (end before : ℕ) (b : Content) → Labels g l b → (cs ds : List Content) (m : Made) (p : ℕ) → Each Pair cs ds → Versions (x .types) b (m .items + 1 - before) cs → before ≤ m .items → m .items + length cs ≤ x .limits .items
-      → Lies g p (joined (versionTexts cs)) → Lies k p (joined (versionTexts ds)) → p + length (joined (versionTexts cs)) ≤ end → Runs g k (times (length cs) (version x l end before) m) p
+  versions-runs : (x : Context) (l : Label) (end before : ℕ) (b : Content) → Labels g l b → (cs ds : List Content) (m : Made) (p : ℕ) → Each
+      Pair cs ds → Versions (x .types) b (m .items + 1 - before) cs → before ≤ m .items → m .items + length cs ≤ x .limits .items
+      → Lies g p (joined (versionTexts cs)) → Lies k p (joined (versionTexts ds)) → p + length (joined (versionTexts cs)) ≤ end → Runs g k
+      (times (length cs) (version x l end before) m) p
   unfolding times
   versions-runs x l end before b lab [] ds m p w v o r h h₂ i = runs-ret
   versions-runs x l end before b lab (c ∷ cs) (d ∷ ds) m p (more w ws) v o r h h₂ i =
       let z = length-append (versionText c) (joined (versionTexts cs)) in
       let lc = lies-left (versionText c) (joined (versionTexts cs)) h in
       let ld = lies-left (versionText d) (joined (versionTexts ds)) h₂ in
-      let e₁ = ran (collect g) _ g p (record { nodes = []; items = [] }) (version-back x l end m g p (record { nodes = []; items = [] }) c (same-label lab (v .0)) (omega arith) big before (v .1) (v .2) (v .3) lc (omega arith)) in
+      let e₁ = ran (collect g) _ g p (record { nodes = []; items = [] })
+      (version-back x l end m g p (record { nodes = []; items = [] }) c (same-label lab (v .0)) (omega arith) big before (v .1) (v .2) (v .3)
+      lc (omega arith)) in
       let e : m .items + 1 - before + 1 ≡ m .items + 1 + 1 - before = omega arith in
       let n : length (versionText d) ≡ length (versionText c) = sym (version-pair (w .pair) .long) in
       runs-then _ e₁ (version-runs x l end before m p (same-label lab (v .0)) w (v .2) (v .3) lc ld (omega arith))
-      (versions-runs x l end before b lab cs ds (plusItem m) (p + length (versionText c)) ws (rw e at (v .4)) (omega arith) (omega arith) (lies-right (versionText c) (joined (versionTexts cs)) h) (lies-at (ap (λ j. p + j) n) (lies-right (versionText d) (joined (versionTexts ds)) h₂)) (omega arith))
+      (versions-runs x l end before b lab cs ds (plusItem m) (p + length (versionText c)) ws (rw e at (v .4)) (omega arith) (omega arith)
+      (lies-right (versionText c) (joined (versionTexts cs)) h)
+      (lies-at (ap (λ j. p + j) n) (lies-right (versionText d) (joined (versionTexts ds)) h₂)) (omega arith))
 
   -- ---- an item's field and the number of its versions
 
@@ -251,7 +265,9 @@ module _ {g k : List ℕ} (big : length g < 2 ^ 28) where
       let e₁ = block-back metaFrame 3 end n (s .0) (omega (arith, h′ .inside)) (omega arith) in
       let el = ap (λ v. length (vlq v)) (w .pair .name .long) in
       let same : Lies k (p + length (vlq n)) (c .name) = lies-as (sym (w .named kd)) (lies-at (omega arith) (s₂ .1)) in
-      runs-then _ e₁ (block-runs metaFrame 3 end n (s .0) a (omega (arith, h′ .inside)) (omega arith)) (runs-else _ (ne-eqb n 0 (λ (z : n ≡ 0). omega arith)) (runs-place _ _ (runs-skip _ _ (λ _. agree (p + length (vlq n)) (c .name) (s .1) same) runs-ret)))
+      runs-then _ e₁ (block-runs metaFrame 3 end n (s .0) a (omega (arith, h′ .inside)) (omega arith))
+      (runs-else _ (ne-eqb n 0 (λ (z : n ≡ 0). omega arith))
+      (runs-place _ _ (runs-skip _ _ (λ _. agree (p + length (vlq n)) (c .name) (s .1) same) runs-ret)))
 
   contents-runs : (end p n : ℕ) → n < 2 ^ 28 → Lies g p (vlq n) → Lies k p (vlq n) → p + length (vlq n) ≤ end → Runs g k (contents end) p
   unfolding contents if_then_else_
@@ -261,7 +277,8 @@ module _ {g k : List ℕ} (big : length g < 2 ^ 28) where
       by true = runs-ret
       by false = runs-ret
 
-  frame-runs : (end p n : ℕ) {c d : Content} → Pair c d → FieldOk c → n < 2 ^ 28 → Lies g p (fieldText c) → Lies g (p + length (fieldText c)) (vlq n) → Lies k p (fieldText d) → Lies k (p + length (fieldText d)) (vlq n)
+  frame-runs : (end p n : ℕ) {c d : Content} → Pair c d → FieldOk c → n < 2 ^ 28 → Lies g p (fieldText c) → Lies g (p + length (fieldText c))
+      (vlq n) → Lies k p (fieldText d) → Lies k (p + length (fieldText d)) (vlq n)
       → p + length (fieldText c) + length (vlq n) ≤ end → Runs g k (itemFrame end) p
   unfolding itemFrame
   frame-runs end p n {c} {d} w f l a b a₂ b₂ i =
@@ -274,7 +291,8 @@ module _ {g k : List ℕ} (big : length g < 2 ^ 28) where
 
   -- ---- an item
 
-  item-runs : (x : Context) (node index end : ℕ) (m : Made) (p : ℕ) {cs ds : List Content} → Each Pair cs ds → Entry (x .types) node index cs → Lies g p (entryText cs) → Lies k p (entryText ds) → p + length (entryText cs) ≤ end → m .items + length cs ≤ x .limits .items
+  item-runs : (x : Context) (node index end : ℕ) (m : Made) (p : ℕ) {cs ds : List Content} → Each Pair cs ds → Entry (x .types) node index
+      cs → Lies g p (entryText cs) → Lies k p (entryText ds) → p + length (entryText cs) ≤ end → m .items + length cs ≤ x .limits .items
       → Runs g k (item x node index end m) p
   unfolding item rowsFor
   item-runs x node index end m p (more {b = d} w none) (one {c} f a b v dc fm) h h₂ i r =
@@ -294,7 +312,8 @@ module _ {g k : List ℕ} (big : length g < 2 ^ 28) where
       let ef = field-pair (w .pair) .long in
       let q : ℕ = p + length (fieldText c) + length (vlq 0) in
       let u₂ : Lies k q (universalText d) = lies-at (omega arith) (s₂ .1 .1 .0) in
-      runs-then _ e₁ (frame-runs end p 0 w f (omega arith) (s .0) (s .1 .0) (s₂ .0) (s₂ .1 .0) (omega arith)) (universal-runs x _ end m q (fb .labels node index a b) w fm (s .1 .1 .0) u₂ (omega arith))
+      runs-then _ e₁ (frame-runs end p 0 w f (omega arith) (s .0) (s .1 .0) (s₂ .0) (s₂ .1 .0) (omega arith))
+      (universal-runs x _ end m q (fb .labels node index a b) w fm (s .1 .1 .0) u₂ (omega arith))
   item-runs x node index end m p (more {b = d} {t = ds} w ws) (several {c} {cs} f a b v few) h h₂ i r =
       let n : ℕ = suc (length cs) in
       let v′ : c .version ≡ 1 = sym (v .1) in
@@ -316,7 +335,8 @@ module _ {g k : List ℕ} (big : length g < 2 ^ 28) where
       let u₂ : Lies k q (joined (versionTexts (d ∷ ds))) = lies-at (omega arith) (s₂ .1 .1 .0) in
       let j : 1 ≡ m .items + 1 - m .items = omega arith in
       runs-then _ e₁ (frame-runs end p n w f few (s .0) (s .1 .0) (s₂ .0) (s₂ .1 .0) (omega arith))
-      (versions-runs x (record { node = node; item = index; field = fb .is }) end (m .items) c (fb .labels node index a b) (c ∷ cs) (d ∷ ds) m q (more w ws) (subst (λ j. Versions (x .types) c j (c ∷ cs)) j v) (omega arith) r (s .1 .1 .0) u₂ (omega arith))
+      (versions-runs x (record { node = node; item = index; field = fb .is }) end (m .items) c (fb .labels node index a b) (c ∷ cs) (d ∷ ds) m q
+      (more w ws) (subst (λ j. Versions (x .types) c j (c ∷ cs)) j v) (omega arith) r (s .1 .1 .0) u₂ (omega arith))
 
 -- ---- items end to end
 
@@ -343,24 +363,29 @@ unfolding if_then_else_
 runs-if {g} {k} {m = m} n {at} e x = subst (λ c. Runs g k (if c then m else n) at) (sym e) x
 
 module _ (g k : List ℕ) (big : length g < 2 ^ 28) (x : Context) (node end : ℕ) where
-  next-run : (index : ℕ) (m : Made) (p : ℕ) {cs : List Content} → Entry (x .types) node index cs → Lies g p (entryText cs) → p + length (entryText cs) ≤ end → m .items + length cs ≤ x .limits .items
+  next-run : (index : ℕ) (m : Made) (p : ℕ) {cs : List Content} → Entry (x .types) node index cs → Lies g p (entryText cs) → p + length
+      (entryText cs) ≤ end → m .items + length cs ≤ x .limits .items
       → run (nextItem x node end (record { made = m; index = index })) g p ≡ ok (record { made = plusItems (length cs) m; index = index + 1 }) (p + length (entryText cs))
   unfolding nextItem
   next-run index m p e h i r =
       let e₁ = ran (collect g) _ g p (record { nodes = []; items = [] }) (item-back x node index end m g big p (record { nodes = []; items = [] }) e h i r) in
       simp (running, e₁)
 
-  next-runs : (index : ℕ) (m : Made) (p : ℕ) {cs ds : List Content} → Each Pair cs ds → Entry (x .types) node index cs → Lies g p (entryText cs) → Lies k p (entryText ds) → p + length (entryText cs) ≤ end → m .items + length cs ≤ x .limits .items
+  next-runs : (index : ℕ) (m : Made) (p : ℕ) {cs ds : List Content} → Each Pair cs ds → Entry (x .types) node index cs → Lies g p
+      (entryText cs) → Lies k p (entryText ds) → p + length (entryText cs) ≤ end → m .items + length cs ≤ x .limits .items
       → Runs g k (nextItem x node end (record { made = m; index = index })) p
   unfolding nextItem
   next-runs index m p w e h h₂ i r = runs-on (item-runs big x node index end m p w e h h₂ i r) (λ a q e. runs-ret)
 
-  turns-runs : {index : ℕ} {css dss : List (List Content)} → Each (Each Pair) css dss → Entries (x .types) node index css → (t : ℕ) (m : Made) (p : ℕ) → Lies g p (joined (entryTexts css)) → Lies k p (joined (entryTexts dss))
-      → p + length (joined (entryTexts css)) ≡ end → end ≤ p + t → m .items + length (flat css) ≤ x .limits .items → Runs g k (turns t end (nextItem x node end) (record { made = m; index = index })) p
+  turns-runs : {index : ℕ} {css dss : List (List Content)} → Each (Each Pair) css dss → Entries (x .types) node index css → (t : ℕ) (m : Made)
+      (p : ℕ) → Lies g p (joined (entryTexts css)) → Lies k p (joined (entryTexts dss))
+      → p + length (joined (entryTexts css)) ≡ end → end ≤ p + t → m .items + length (flat css) ≤ x .limits .items → Runs g k
+      (turns t end (nextItem x node end) (record { made = m; index = index })) p
   unfolding turns
   turns-runs w entries.none zero m p h h₂ i l r = runs-ret
   turns-runs w entries.none (suc t) m p h h₂ i l r = runs-here _ p (runs-else _ (le-ltb p end (omega arith)) runs-ret)
-  turns-runs (more w ws) (entries.more {cs = cs} {css = css} e es) zero m p h h₂ i l r = let z = length-append (entryText cs) (joined (entryTexts css)) in absurd (omega (arith, entry-some e))
+  turns-runs (more w ws) (entries.more {cs = cs} {css = css} e es) zero m p h h₂ i l r = let z = length-append (entryText cs)
+      (joined (entryTexts css)) in absurd (omega (arith, entry-some e))
   turns-runs {index} (more {b = ds} {t = dss} w ws) (entries.more {cs = cs} {css = css} e es) (suc t) m p h h₂ i l r =
       let a : List ℕ = entryText cs in
       let b : List ℕ = entryText ds in
@@ -372,9 +397,12 @@ module _ (g k : List ℕ) (big : length g < 2 ^ 28) (x : Context) (node end : �
       let ld = lies-left b (joined (entryTexts dss)) h₂ in
       runs-here _ p (runs-if _ (lt-ltb p end (omega arith))
       (runs-then _ (next-run index m p e lc (omega arith) (omega arith)) (next-runs index m p w e lc ld (omega arith) (omega arith))
-      (turns-runs ws es t (plusItems (length cs) m) (p + length a) (lies-right a (joined (entryTexts css)) h) (lies-at (omega arith) (lies-right b (joined (entryTexts dss)) h₂)) (omega arith) (omega arith) (omega arith))))
+      (turns-runs ws es t (plusItems (length cs) m) (p + length a) (lies-right a (joined (entryTexts css)) h)
+      (lies-at (omega arith) (lies-right b (joined (entryTexts dss)) h₂)) (omega arith) (omega arith) (omega arith))))
 
-metadata-runs : (g k : List ℕ) → length g < 2 ^ 28 → (x : Context) (node end : ℕ) {css dss : List (List Content)} → Each (Each Pair) css dss → Entries (x .types) node 0 css → (m : Made) (p : ℕ) → Lies g p (sized (joined (entryTexts css))) → Lies k p (sized (joined (entryTexts dss)))
+metadata-runs : (g k : List ℕ) → length g < 2 ^ 28 → (x : Context) (node end : ℕ) {css dss : List (List Content)} → Each (Each Pair) css
+    dss → Entries (x .types) node 0 css → (m : Made) (p : ℕ) → Lies g p (sized (joined (entryTexts css))) → Lies k p
+    (sized (joined (entryTexts dss)))
     → p + length (sized (joined (entryTexts css))) ≤ end → m .items + length (flat css) ≤ x .limits .items → Runs g k (metadata x node end m) p
 unfolding metadata metaItems many
 metadata-runs g k big x node end {css} {dss} w es m p h h₂ i r =
@@ -420,7 +448,8 @@ opens-pair entries.none none = tt
 opens-pair (entries.more (one f a b v d fm) es) (more (more w none) ws) = omega (arith, w .pair .version)
 opens-pair (entries.more (several f a b v few) es) (more (more w vs) ws) = omega (arith, w .pair .version, v .1)
 
-items-text-pair : {types : List Declared} {node index : ℕ} {css dss : List (List Content)} → Entries types node index css → Each (Each Pair) css dss → itemsText (flat dss) ≡ joined (entryTexts dss)
+items-text-pair : {types : List Declared} {node index : ℕ} {css dss : List (List Content)} → Entries types node index css → Each (Each Pair)
+    css dss → itemsText (flat dss) ≡ joined (entryTexts dss)
 unfolding itemsText contentText itemText
 items-text-pair entries.none none = refl
 items-text-pair (entries.more (one {c} f a b v dc fm) es) (more (more {b = d} w none) ws) =
@@ -432,7 +461,16 @@ items-text-pair {types} (entries.more (several {c} {cs} f a b v few) es) (more {
     let l : d .version ≤ 1 = omega arith in
     let n : (d .version ≡ 0) → ⊥ = λ z. omega arith in
     let nb = numbered types c 2 vs (v .4) in
-    simp (le-leb _ _ l, ne-eqb _ _ n, further-all 2 ds (flat dss) (omega arith) nb (opens-pair es ws), numbered-text 2 ds (flat dss) (omega arith) nb, items-text-pair es ws, append-nil, append-assoc)
+    simp (
+      le-leb _ _ l,
+      ne-eqb _ _ n,
+      further-all 2 ds (flat dss) (omega arith) nb (opens-pair es ws),
+      numbered-text 2 ds (flat dss)
+          (omega arith) nb,
+      items-text-pair es ws,
+      append-nil,
+      append-assoc,
+    )
 
 pub each-by : {A : Type 0} {R Q : A → A → Type 0} → ((a b : A) → R a b → Q a b) → {s t : List A} → Each R s t → Each Q s t
 each-by h none = none
@@ -454,7 +492,9 @@ abbrev pub Shapes : Shape → Shape → Type 0
 Shapes r s = ShapePair r s × (r .unpackers ≡ s .unpackers) × (r .reference ≡ 4 → r .body ≡ s .body)
 
 module _ (g k : List ℕ) (big : length g < 2 ^ 28) where
-  reference-runs : (headerEnd size contained stop q : ℕ) {r s : Shape} → Shapes r s → (r .reference ≡ 1) ⊎ ((r .reference ≡ 4) × (contained ≡ 0)) → Lies g q (ownText r) → Lies k q (ownText s) → q + length (ownText r) ≤ stop → Runs g k (reference headerEnd size contained stop) q
+  reference-runs : (headerEnd size contained stop q : ℕ) {r s : Shape} → Shapes r s → (r .reference ≡ 1) ⊎
+      ((r .reference ≡ 4) × (contained ≡ 0)) → Lies g q (ownText r) → Lies k q (ownText s) → q + length (ownText r) ≤ stop → Runs g k
+      (reference headerEnd size contained stop) q
   unfolding reference target uriPlace
   reference-runs headerEnd size contained stop q {r} {s} w (inl e) h h₂ i =
       let t = own-inline r e in
@@ -463,7 +503,8 @@ module _ (g k : List ℕ) (big : length g < 2 ^ 28) where
       let z = joined-length (vlq 1 ∷ r .body ∷ []) in
       let y = ap length t in
       let e₁ = number-back referenceFrame 3 stop 1 (a .0) (omega arith) (omega arith) in
-      runs-place _ q (runs-then _ e₁ (number-runs referenceFrame 3 stop 1 (a .0) (b .0) (omega arith) (omega arith)) (runs-check _ _ _ (runs-check _ _ _ (runs-check _ _ _ (runs-if _ refl (runs-place _ _ runs-ret))))))
+      runs-place _ q (runs-then _ e₁ (number-runs referenceFrame 3 stop 1 (a .0) (b .0) (omega arith) (omega arith))
+      (runs-check _ _ _ (runs-check _ _ _ (runs-check _ _ _ (runs-if _ refl (runs-place _ _ runs-ret))))))
   reference-runs headerEnd size contained stop q {r} {s} w (inr (e, f)) h h₂ i =
       let n : ℕ = length (r .body) in
       let t = own-uri r e in
@@ -479,13 +520,19 @@ module _ (g k : List ℕ) (big : length g < 2 ^ 28) where
       let m : Lies k (q + length (vlq 4)) (vlq n) = lies-as (ap vlq (sym (w .0 .body .long))) (v .0) in
       let e₁ = number-back referenceFrame 3 stop 4 (a .0) (omega arith) (omega arith) in
       let e₂ = block-back referenceFrame 3 stop n (u .0) (omega (arith, h .inside)) (omega arith) in
-      runs-place _ q (runs-then _ e₁ (number-runs referenceFrame 3 stop 4 (a .0) (b .0) (omega arith) (omega arith)) (runs-check _ _ _ (runs-check _ _ _ (runs-check _ _ _ (runs-else _ refl (runs-else _ refl (runs-else _ refl
-      (runs-then _ e₂ (block-runs referenceFrame 3 stop n (u .0) m (omega (arith, h .inside)) (omega arith)) (runs-place _ _ (runs-skip _ _ (λ _. agree (q + length (vlq 4) + length (vlq n)) (r .body) (u .1) same) runs-ret))))))))))
+      runs-place _ q (runs-then _ e₁ (number-runs referenceFrame 3 stop 4 (a .0) (b .0) (omega arith) (omega arith))
+      (runs-check _ _ _ (runs-check _ _ _ (runs-check _ _ _ (runs-else _ refl (runs-else _ refl (runs-else _ refl
+      (runs-then _ e₂ (block-runs referenceFrame 3 stop n (u .0) m (omega (arith, h .inside)) (omega arith))
+      (runs-place _ _ (runs-skip _ _ (λ _. agree (q + length (vlq 4) + length (vlq n)) (r .body) (u .1) same) runs-ret))))))))))
 
-  front-runs : (x : Context) (parent depth least end : ℕ) (m : Made) (r s : Shape) (cs ds : List Content) (n p : ℕ) → Front (x .limits) (x .types) parent depth m r cs → Stays r → Shapes r s → Each Pair cs ds
+  front-runs : (x : Context) (parent depth least end : ℕ) (m : Made) (r s : Shape) (cs ds : List Content) (n p : ℕ) → Front (x .limits)
+      (x .types) parent depth m r cs → Stays r → Shapes r s → Each Pair cs ds
       → headerOf (r .contained) (joined (sized (itemsText cs) ∷ sized (r .unpackers) ∷ [])) (length (ownText r) + n) + (length (ownText r) + n) < 2 ^ 28
-      → Lies g p (nodeText r cs n) → Lies k p (nodeText s ds n) → p + (headerOf (r .contained) (joined (sized (itemsText cs) ∷ sized (r .unpackers) ∷ [])) (length (ownText r) + n) + (length (ownText r) + n)) ≤ end
-      → least ≤ p + (headerOf (r .contained) (joined (sized (itemsText cs) ∷ sized (r .unpackers) ∷ [])) (length (ownText r) + n) + (length (ownText r) + n)) → Runs g k (front x parent depth (inTree least end) m) p
+      → Lies g p (nodeText r cs n) → Lies k p (nodeText s ds n) → p +
+      (headerOf (r .contained) (joined (sized (itemsText cs) ∷ sized (r .unpackers) ∷ [])) (length (ownText r) + n) +
+      (length (ownText r) + n)) ≤ end
+      → least ≤ p + (headerOf (r .contained) (joined (sized (itemsText cs) ∷ sized (r .unpackers) ∷ [])) (length (ownText r) + n) +
+      (length (ownText r) + n)) → Runs g k (front x parent depth (inTree least end) m) p
   unfolding front nodeText framed rest
   front-runs x parent depth least end m r s cs ds n p f stays w ws small h h₂ i j =
       let rest : List ℕ = joined (sized (itemsText cs) ∷ sized (r .unpackers) ∷ []) in
@@ -518,8 +565,12 @@ module _ (g k : List ℕ) (big : length g < 2 ^ 28) where
       let si = block ip .long in
       let su = sized-length (r .unpackers) in
       let e₁ = head-back end least g p (r .contained) rest (ownText r) n (f .few) small h (omega arith) (omega arith) in
-      let chunk : AgreeUpTo g k p q = agree-on g k (agree-on g k (agree p (vlq N) (a .0) k₁) (agree (p + length (vlq N)) (vlq (r .contained)) (a .1 .0) k₂)) (agree (p + length (vlq N) + length (vlq (r .contained))) (vlq H) (a .1 .1 .0) k₃) in
-      let e₂ = ran (collect g) _ g q (record { nodes = []; items = [] }) (meta-back x (m .nodes) (p + H) g big (f .entries) cs (f .contents) m q (record { nodes = []; items = [] }) (t .0) (omega arith) (f .item-room)) in
+      let chunk : AgreeUpTo g k p q = agree-on g k
+      (agree-on g k (agree p (vlq N) (a .0) k₁) (agree (p + length (vlq N)) (vlq (r .contained)) (a .1 .0) k₂))
+      (agree (p + length (vlq N) + length (vlq (r .contained))) (vlq H) (a .1 .1 .0) k₃) in
+      let e₂ = ran (collect g) _ g q (record { nodes = []; items = [] })
+      (meta-back x (m .nodes) (p + H) g big (f .entries) cs (f .contents) m q (record { nodes = []; items = [] }) (t .0) (omega arith)
+      (f .item-room)) in
       let (dss, dq, dw) = regroup (f .groups) (subst (λ v. Each Pair v ds) (sym (f .contents)) ws) in
       let it : itemsText cs ≡ joined (entryTexts (f .groups)) = ap itemsText (sym (f .contents)) ∙ items-text (f .entries) in
       let it₂ : itemsText ds ≡ joined (entryTexts dss) = ap itemsText dq ∙ items-text-pair (f .entries) dw in
@@ -543,8 +594,11 @@ module _ (g k : List ℕ) (big : length g < 2 ^ 28) where
 -- ---- nodes
 
 -- what is left of the other side's nodes behind those that were paired
-rest-outer : {limits : Limits} {types : List Declared} {d parent n : ℕ} {m : Made} {rs : List Shape} {cs : List Content} {bs : List (List ℕ)} → Nodes limits types d parent m n rs cs bs → (ss : List Shape) (es : List Content) {rs₂ : List Shape} {cs₂ : List Content}
-    → Each Shapes (rs ++ ss) rs₂ → Each Pair (cs ++ es) cs₂ → (rs₃ : List Shape) × (cs₃ : List Content) × Each Shapes ss rs₃ × Each Pair es cs₃ × (drop n (outer rs₂ cs₂) ≡ outer rs₃ cs₃)
+rest-outer : {limits : Limits} {types : List Declared} {d parent n : ℕ} {m : Made} {rs : List Shape} {cs : List Content}
+    {bs : List (List ℕ)} → Nodes limits types d parent m n rs cs bs → (ss : List Shape) (es : List Content) {rs₂ : List Shape}
+    {cs₂ : List Content}
+    → Each Shapes (rs ++ ss) rs₂ → Each Pair (cs ++ es) cs₂ → (rs₃ : List Shape) × (cs₃ : List Content) × Each Shapes ss rs₃ × Each Pair es cs₃
+    × (drop n (outer rs₂ cs₂) ≡ outer rs₃ cs₃)
 unfolding outer
 rest-outer nodes.none ss es {rs₂} {cs₂} x y = (rs₂, cs₂, x, y, refl)
 rest-outer (nodes.more {n = n} {r = r} {rs = rs} {ss = ts} {cs = cs} {ds = ds} {es = fs} f ys xs) ss es {cs₂ = cs₂} (more {b = s} {t = rs₂} w ws) y =
@@ -568,18 +622,22 @@ unfolding outer
 outer-first s rs₂ cs₂ u v contained e l z = rw (e, take-at u v (s .rows) l, drop-at u v (s .rows) l, z) refl
 
 -- as many bytes
-inner-long : {limits : Limits} {types : List Declared} {d parent n : ℕ} {m : Made} {rs : List Shape} {cs : List Content} {bs : List (List ℕ)} → Nodes limits types d parent m n rs cs bs → (ss : List Shape) (es : List Content) {rs₂ : List Shape} {cs₂ : List Content}
+inner-long : {limits : Limits} {types : List Declared} {d parent n : ℕ} {m : Made} {rs : List Shape} {cs : List Content}
+    {bs : List (List ℕ)} → Nodes limits types d parent m n rs cs bs → (ss : List Shape) (es : List Content) {rs₂ : List Shape}
+    {cs₂ : List Content}
     → Each Shapes (rs ++ ss) rs₂ → Each Pair (cs ++ es) cs₂ → length (joined (take n (outer rs₂ cs₂))) ≡ length (joined bs)
 inner-long {n = n} {rs = rs} {cs = cs} {bs = bs} ns ss es {rs₂} {cs₂} x y =
     let o = outer-pair (each-by (λ a b w. w .0) x) (pairs y) in
     let e : take n (outer (rs ++ ss) (cs ++ es)) ≡ bs = ap (take n) (nodes-outer ns ss es) ∙ take-at bs (outer ss es) n (nodes-length ns) in
     sym (fields (subst (λ v. Each AsLong v (take n (outer rs₂ cs₂))) e (each-take n o)) .long)
 
-most : (r : Shape) (cs : List Content) (n : ℕ) → headerOf (r .contained) (joined (sized (itemsText cs) ∷ sized (r .unpackers) ∷ [])) (length (ownText r) + n) + (length (ownText r) + n) ≤ length (nodeText r cs n) + n
+most : (r : Shape) (cs : List Content) (n : ℕ) → headerOf (r .contained) (joined (sized (itemsText cs) ∷ sized (r .unpackers) ∷ []))
+    (length (ownText r) + n) + (length (ownText r) + n) ≤ length (nodeText r cs n) + n
 unfolding nodeText
 most r cs n = framed-most (r .contained) (joined (sized (itemsText cs) ∷ sized (r .unpackers) ∷ [])) (ownText r) n
 
-exact : (r : Shape) (cs : List Content) (n : ℕ) → headerOf (r .contained) (joined (sized (itemsText cs) ∷ sized (r .unpackers) ∷ [])) (length (ownText r) + n) + (length (ownText r) + n) < 2 ^ 28
+exact : (r : Shape) (cs : List Content) (n : ℕ) → headerOf (r .contained) (joined (sized (itemsText cs) ∷ sized (r .unpackers) ∷ []))
+    (length (ownText r) + n) + (length (ownText r) + n) < 2 ^ 28
     → length (nodeText r cs n) + n ≡ headerOf (r .contained) (joined (sized (itemsText cs) ∷ sized (r .unpackers) ∷ [])) (length (ownText r) + n) + (length (ownText r) + n)
 unfolding nodeText
 exact r cs n h = framed-length (r .contained) (joined (sized (itemsText cs) ∷ sized (r .unpackers) ∷ [])) (ownText r) n h
@@ -598,9 +656,12 @@ inline-private g k at r = by (hasInline r)
 
 module _ (g k : List ℕ) (big : length g < 2 ^ 28) (x : Context) where
   -- a node, where what it holds runs alike
-  node-runs : (d parent least end : ℕ) (m : Made) (p : ℕ) {r s : Shape} {cs ds : List Content} (inner inner₂ : List ℕ) → Front (x .limits) (x .types) parent (16 - d) m r cs → Stays r → Shapes r s → Each Pair cs ds → ((r .contained ≡ 0) → length inner ≡ 0)
-      → length inner₂ ≡ length inner → Lies g p (wholeText r cs inner) → Lies k p (wholeText s ds inner₂) → p + length (wholeText r cs inner) ≤ end → least ≤ p + length (wholeText r cs inner)
-      → Runs g k (times (r .contained) (node d x (m .nodes) (inTree 0 (p + length (wholeText r cs inner)))) (plusNode (plusItems (length cs) m))) (p + length (nodeText r cs (length inner)))
+  node-runs : (d parent least end : ℕ) (m : Made) (p : ℕ) {r s : Shape} {cs ds : List Content} (inner inner₂ : List ℕ) → Front (x .limits)
+      (x .types) parent (16 - d) m r cs → Stays r → Shapes r s → Each Pair cs ds → ((r .contained ≡ 0) → length inner ≡ 0)
+      → length inner₂ ≡ length inner → Lies g p (wholeText r cs inner) → Lies k p (wholeText s ds inner₂) → p + length (wholeText r cs inner) ≤
+      end → least ≤ p + length (wholeText r cs inner)
+      → Runs g k (times (r .contained) (node d x (m .nodes) (inTree 0 (p + length (wholeText r cs inner)))) (plusNode (plusItems (length cs) m)))
+      (p + length (nodeText r cs (length inner)))
       → Runs g k (node (suc d) x parent (inTree least end) m) p
   unfolding node folder
   node-runs d parent least end m p {r} {s} {cs} {ds} inner inner₂ f stays w ws alone long h h₂ i j c =
@@ -614,14 +675,21 @@ module _ (g k : List ℕ) (big : length g < 2 ^ 28) (x : Context) where
       let l₂ : Lies k p (nodeText s ds n) = lies-as (ap (nodeText s ds) long) (node-lies s ds inner₂ h₂) in
       let fr = front-runs g k big x parent (16 - d) least end m r s cs ds n p f stays w ws (omega arith) l₁ l₂ (omega arith) (omega arith) in
       let e = ran (collect g) _ g p (record { nodes = []; items = [] }) (b .ran) in
-      let cr : Runs g k (times (b .is .row .contained) (node d x (m .nodes) (inTree 0 (p + b .is .row .size))) (plusNode (b .is .made))) (b .next + inlineSize (b .is .row)) = rw (b .past, b .contained, b .size, b .made) c in
-      runs-place _ p (runs-check _ _ _ (runs-then _ e fr (runs-skip _ _ (inline-private g k (b .next) (b .is .row)) (runs-on cr (λ m q e. runs-place _ q (runs-check _ _ _ runs-ret))))))
+      let cr : Runs g k (times (b .is .row .contained) (node d x (m .nodes) (inTree 0 (p + b .is .row .size))) (plusNode (b .is .made)))
+      (b .next + inlineSize (b .is .row)) = rw (b .past, b .contained, b .size, b .made) c in
+      runs-place _ p (runs-check _ _ _
+      (runs-then _ e fr (runs-skip _ _ (inline-private g k (b .next) (b .is .row))
+      (runs-on cr (λ m q e. runs-place _ q (runs-check _ _ _ runs-ret))))))
 
-  nodes-runs : {d parent n : ℕ} {m : Made} {rs : List Shape} {cs : List Content} {bs : List (List ℕ)} → Nodes (x .limits) (x .types) d parent m n rs cs bs → AllStay rs → (ss : List Shape) (es : List Content) {rs₂ : List Shape} {cs₂ : List Content}
-      → Each Shapes (rs ++ ss) rs₂ → Each Pair (cs ++ es) cs₂ → (end p : ℕ) → Lies g p (joined bs) → Lies k p (joined (take n (outer rs₂ cs₂))) → p + length (joined bs) ≤ end → Runs g k (times n (node d x parent (inTree 0 end)) m) p
+  nodes-runs : {d parent n : ℕ} {m : Made} {rs : List Shape} {cs : List Content} {bs : List (List ℕ)} → Nodes (x .limits) (x .types) d parent
+      m n rs cs bs → AllStay rs → (ss : List Shape) (es : List Content) {rs₂ : List Shape} {cs₂ : List Content}
+      → Each Shapes (rs ++ ss) rs₂ → Each Pair (cs ++ es) cs₂ → (end p : ℕ) → Lies g p (joined bs) → Lies k p (joined (take n (outer rs₂ cs₂))) →
+      p + length (joined bs) ≤ end → Runs g k (times n (node d x parent (inTree 0 end)) m) p
   unfolding times
   nodes-runs nodes.none stay ss es x₁ y end p h h₂ i = runs-ret
-  nodes-runs {parent = parent} {m = m} (nodes.more {d = d} {n = n} {r = r} {rs = rs} {ss = ts} {cs = cs} {ds = ds} {es = fs} {inner = inner} {bs = bs} f ys xs) stay ss es {cs₂ = cs₂} (more {b = s} {t = rs₂} w ws) y end p h h₂ i =
+  nodes-runs {parent = parent} {m = m}
+      (nodes.more {d = d} {n = n} {r = r} {rs = rs} {ss = ts} {cs = cs} {ds = ds} {es = fs} {inner = inner} {bs = bs} f ys xs) stay ss es
+      {cs₂ = cs₂} (more {b = s} {t = rs₂} w ws) y end p h h₂ i =
       let y′ : Each Pair (cs ++ (ds ++ (fs ++ es))) cs₂ = rw (append-assoc (cs ++ ds) fs es, append-assoc cs ds (fs ++ es)) at y in
       let (u, v, e, a, b) = each-split cs (ds ++ (fs ++ es)) y′ in
       let n₁ : length u ≡ s .rows = sym (each-length a) ∙ f .counted ∙ w .0 .rows in
@@ -634,7 +702,8 @@ module _ (g k : List ℕ) (big : length g < 2 ^ 28) (x : Context) where
       let il = inner-long ys (ts ++ ss) (fs ++ es) ws′ b in
       let t : List ℕ = wholeText r cs (joined inner) in
       let t₂ : List ℕ = wholeText s u inner₂ in
-      let k₁ : Lies k p (t₂ ++ joined (take n (drop (r .contained) O))) = lies-as (ap joined fo ∙ ap (λ j. wholeText s u (joined (take j O)) ++ joined (take n (drop j O))) (sym hl)) h₂ in
+      let k₁ : Lies k p (t₂ ++ joined (take n (drop (r .contained) O))) = lies-as
+      (ap joined fo ∙ ap (λ j. wholeText s u (joined (take j O)) ++ joined (take n (drop j O))) (sym hl)) h₂ in
       let lt = whole-length r cs (joined inner) in
       let lt₂ = whole-length s u inner₂ in
       let np = node-pair (w .0) (pairs a) (sym il) .long in
@@ -651,14 +720,18 @@ module _ (g k : List ℕ) (big : length g < 2 ^ 28) (x : Context) where
       let fb = front-back x g big parent (16 - d) 0 end m r cs (joined inner) p σ f (stay .0) al g₁ (omega arith) (omega arith) in
       let cb = nodes-back x g big ys (stay-left rs ts (stay .1)) (p + length t) q (record { nodes = r ∷ []; items = cs }) gi (omega arith) in
       let e₁ = ran (collect g) _ g p σ (node-back x g d parent 0 end m p σ rs ds inner (f .node-room) fb cb) in
-      let k₃ : Lies k (p + length t) (joined (take n (outer rs₃ cs₃))) = lies-as (ap (λ j. joined (take n j)) z₃) (lies-at (omega arith) (lies-right t₂ (joined (take n (drop (r .contained) O))) k₁)) in
+      let k₃ : Lies k (p + length t) (joined (take n (outer rs₃ cs₃))) = lies-as (ap (λ j. joined (take n j)) z₃)
+      (lies-at (omega arith) (lies-right t₂ (joined (take n (drop (r .contained) O))) k₁)) in
       runs-then _ e₁ nr (nodes-runs xs (stay-right rs ts (stay .1)) ss es p₃ q₃ end (p + length t) (lies-right t (joined bs) h) k₃ (omega arith))
 
   -- the tree
-  pub tree-runs : {rs rs₂ : List Shape} {cs cs₂ : List Content} {b : List ℕ} → Nodes (x .limits) (x .types) 16 0 (record { nodes = 0; items = 0 }) 1 rs cs (b ∷ []) → AllStay rs → Each Shapes rs rs₂ → Each Pair cs cs₂ → (end p : ℕ) → Lies g p b → Lies k p (joined (outer rs₂ cs₂)) → p + length b ≡ end
+  pub tree-runs : {rs rs₂ : List Shape} {cs cs₂ : List Content} {b : List ℕ} → Nodes (x .limits) (x .types) 16 0
+      (record { nodes = 0; items = 0 }) 1 rs cs (b ∷ []) → AllStay rs → Each Shapes rs rs₂ → Each Pair cs cs₂ → (end p : ℕ) → Lies g p b →
+      Lies k p (joined (outer rs₂ cs₂)) → p + length b ≡ end
       → Runs g k (tree x end) p
   unfolding tree
-  tree-runs {rs₂ = rs₂} {cs₂ = cs₂} (nodes.more {r = r} {rs = rs} {ss = ts} {cs = cs} {ds = ds} {es = fs} {inner = inner} f ys nodes.none) stay (more {b = s} {t = rs₃} w ws) y end p h h₂ i =
+  tree-runs {rs₂ = rs₂} {cs₂ = cs₂} (nodes.more {r = r} {rs = rs} {ss = ts} {cs = cs} {ds = ds} {es = fs} {inner = inner} f ys nodes.none)
+      stay (more {b = s} {t = rs₃} w ws) y end p h h₂ i =
       let y′ : Each Pair (cs ++ (ds ++ [])) cs₂ = rw (append-assoc cs ds []) at y in
       let (u, v, e, a, b) = each-split cs (ds ++ []) y′ in
       let n₁ : length u ≡ s .rows = sym (each-length a) ∙ f .counted ∙ w .0 .rows in

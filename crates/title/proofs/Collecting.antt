@@ -80,14 +80,16 @@ said-plain f k (r ∷ is) = ap (λ v. content f r ∷ v) (said-plain f (k + 1) i
 
 -- ---- what is known of a run besides: its answer, and the state that it leaves
 
-pub post-known : {A S : Type 0} {put : Part → ℕ → ℕ → S → S} {f : List ℕ} {m : P A} {Q : A → ℕ → S → Type 0} {at : ℕ} {σ : S} → Post put f m Q at σ → Post put f m (λ a q τ. Q a q τ × (run m f at ≡ ok a q)) at σ
+pub post-known : {A S : Type 0} {put : Part → ℕ → ℕ → S → S} {f : List ℕ} {m : P A} {Q : A → ℕ → S → Type 0} {at : ℕ} {σ : S} → Post put f m
+    Q at σ → Post put f m (λ a q τ. Q a q τ × (run m f at ≡ ok a q)) at σ
 post-known {A} {S} {put} {f} {m} {Q} {at} {σ} w = record { post = rw (exec-puts put m f at σ) (by (run m f at) refl (rw (exec-puts put m f at σ) at (w .post))) }
   where
     by : (o : Out A) → run m f at ≡ o → Meets Q (still o (puts put (trace m f at) σ)) → Meets (λ a q τ. Q a q τ × (run m f at ≡ ok a q)) (still o (puts put (trace m f at) σ))
     by (ok a q) e x = (x, e)
     by (refused n p) e x = tt
 
-pub post-left : {A S : Type 0} {put : Part → ℕ → ℕ → S → S} {f : List ℕ} {m : P A} {Q : A → ℕ → S → Type 0} {at : ℕ} {σ : S} → Post put f m Q at σ → Post put f m (λ a q τ. Q a q τ × (τ ≡ puts put (trace m f at) σ)) at σ
+pub post-left : {A S : Type 0} {put : Part → ℕ → ℕ → S → S} {f : List ℕ} {m : P A} {Q : A → ℕ → S → Type 0} {at : ℕ} {σ : S} → Post put f m
+    Q at σ → Post put f m (λ a q τ. Q a q τ × (τ ≡ puts put (trace m f at) σ)) at σ
 post-left {A} {S} {put} {f} {m} {Q} {at} {σ} w = record { post = rw (exec-puts put m f at σ) (by (run m f at) (rw (exec-puts put m f at σ) at (w .post))) }
   where
     by : (o : Out A) → Meets Q (still o (puts put (trace m f at) σ)) → Meets (λ a q τ. Q a q τ × (τ ≡ puts put (trace m f at) σ)) (still o (puts put (trace m f at) σ))

@@ -173,7 +173,8 @@ vlq-up m n l = omega (arith, vlq-length m, vlq-length n, least-up (λ _. m) (λ 
 module _ (κ : Frame) (past end : ℕ) (f : List ℕ) (at : ℕ) {n q : ℕ} where
   pub block-covers : run (block κ past end) f at ≡ ok n q → Covers f at (vlq n) q
   unfolding block
-  block-covers e = post-ran {Q = λ v r. Covers f at (vlq v) r} (post-place _ at (post-step nothing-quiet λ size r e₁. post-place _ r (post-check _ _ λ t. post-ret (number-covers κ past end f at e₁)))) e
+  block-covers e = post-ran {Q = λ v r. Covers f at (vlq v) r}
+      (post-place _ at (post-step nothing-quiet λ size r e₁. post-place _ r (post-check _ _ λ t. post-ret (number-covers κ past end f at e₁)))) e
 
   pub sized-covers : {s : List ℕ} → run (block κ past end) f at ≡ ok n q → Covers f q s (q + n) → Covers f at (sized s) (q + n)
   unfolding sized

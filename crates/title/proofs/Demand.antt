@@ -46,7 +46,17 @@ module _ (f k : List ℕ) (long : length f ≡ length k) where
 
   content-pair : (r : Item) → ContentPair (content f r) (content k r)
   unfolding content
-  content-pair r = record { node = refl; item = refl; kind = refl; field = refl; name = parts (r .field) (r .nameLength); version = refl; declared = refl; format = refl; bytes = parts (r .place) (r .size) }
+  content-pair r = record {
+    node = refl;
+    item = refl;
+    kind = refl;
+    field = refl;
+    name = parts (r .field) (r .nameLength);
+    version = refl;
+    declared = refl;
+    format = refl;
+    bytes = parts (r .place) (r .size);
+  }
 
   contents-pair : (is : List Item) → Each ContentPair (map (content f) is) (map (content k) is)
   contents-pair [] = none
@@ -58,13 +68,21 @@ module _ (f k : List ℕ) (long : length f ≡ length k) where
 
   shape-pair : (r : Node) → Same f k long r → ShapePair (shape f r) (shape k r)
   unfolding shape
-  shape-pair r s = record { contained = refl; reference = refl; unpackers = record { long = ap length (s .0) }; rows = refl; body = body-pair (eqb (r .contained) 0) (r .target) (r .extent) }
+  shape-pair r s = record {
+    contained = refl;
+    reference = refl;
+    unpackers = record { long = ap length (s .0) };
+    rows = refl;
+    body = body-pair
+        (eqb (r .contained) 0) (r .target) (r .extent);
+  }
 
   shapes-pair : (ns : List Node) → AllSame f k long ns → Each ShapePair (map (shape f) ns) (map (shape k) ns)
   shapes-pair [] a = none
   shapes-pair (r ∷ ns) a = more (shape-pair r (a .0)) (shapes-pair ns (a .1))
 
-  described-pair : (h : Header) (ns : List Node) (is : List Item) → AllSame f k long ns → answer (run (tableText f) f (openingSize (h .version))) ≡ answer (run (tableText k) k (openingSize (h .version)))
+  described-pair : (h : Header) (ns : List Node) (is : List Item) → AllSame f k long ns → answer
+      (run (tableText f) f (openingSize (h .version))) ≡ answer (run (tableText k) k (openingSize (h .version)))
       → DescriptionPair (described f h ns is) (described k h ns is)
   unfolding described
   described-pair h ns is a t = record {
@@ -81,7 +99,8 @@ module _ (f k : List ℕ) (long : length f ≡ length k) where
 rows-same : {h h′ : Header} {ns ns′ : List Node} {is is′ : List Item} → rows h ns is ≡ rows h′ ns′ is′ → (h ≡ h′) × (ns ≡ ns′) × (is ≡ is′)
 rows-same e = (cc, cc, cc)
 
-module _ (lim : Limits) (f k : List ℕ) {h : Header} {ns : List Node} {is : List Item} (reads : readFile lim f ≡ rows h ns is) (differ : DifferInPrivate h ns is f k) (here : elsewhere ns ≡ false) (i : ℕ) (text : List ℕ) where
+module _ (lim : Limits) (f k : List ℕ) {h : Header} {ns : List Node} {is : List Item} (reads : readFile lim f ≡ rows h ns is)
+    (differ : DifferInPrivate h ns is f k) (here : elsewhere ns ≡ false) (i : ℕ) (text : List ℕ) where
   all-same : Alike privateData lim f k ns is → AllSame f k (differ .same-length) ns
   all-same a =
       let r = a .read-as in
@@ -90,7 +109,8 @@ module _ (lim : Limits) (f k : List ℕ) {h : Header} {ns : List Node} {is : Lis
       let log : Events = trace (treeOf lim (length f) g) f (g .extent .start) in
       let q : r .log ≡ log = log-is-tree lim f g log (lim .nodes) (r .follows) (ap elsewhere (r .nodes-are) ∙ here) in
       let keeps : Kept privateData f k log = subst (Kept privateData f k) q (a .keeps) in
-      subst (AllSame f k (differ .same-length)) (sym (ap nodesOf q) ∙ r .nodes-are) (tree-kept f k (differ .same-length) (context lim g (length f)) (g .extent .last + 1) (g .extent .start) (omega arith) (r .tree-is) keeps)
+      subst (AllSame f k (differ .same-length)) (sym (ap nodesOf q) ∙ r .nodes-are)
+      (tree-kept f k (differ .same-length) (context lim g (length f)) (g .extent .last + 1) (g .extent .start) (omega arith) (r .tree-is) keeps)
 
   -- the results are as long
   pub titles-length : length (titledFile i text f h ns is) ≡ length (titledFile i text k h ns is)
@@ -130,7 +150,18 @@ module _ (lim : Limits) (f k : List ℕ) {h : Header} {ns : List Node} {is : Lis
   titled-alike zero (more w ws) =
       let x = w .pair in
       more (record {
-        pair = record { node = x .node; item = x .item; kind = x .kind; field = x .field; name = x .name; version = x .version; declared = x .declared; format = x .format; bytes = alike text };
+        pair = record {
+          node = x .node;
+          item = x .item;
+          kind = x .kind;
+          field = x .field;
+          name = x .name;
+          version = x .version;
+          declared =
+              x .declared;
+          format = x .format;
+          bytes = alike text;
+        };
         named = w .named;
         shown = λ _. refl;
       }) ws
@@ -163,15 +194,19 @@ module _ (lim : Limits) (f k : List ℕ) {h : Header} {ns : List Node} {is : Lis
       let tree₂ : List ℕ = joined (outer (map (shape k) ns) (titledAt i text (map (content k) is))) in
       let gap₂ : List ℕ = part k (h .extent .end) (h .extent .start - h .extent .end) in
       let after₂ : List ℕ = drop (h .extent .last + 1) k in
-      let same₂ : fileOf (take n f) (sized types) gap₂ tree₂ after₂ ≡ titledFile i text k h ns is = ap (λ o. fileOf o (sized types) gap₂ tree₂ after₂) opens ∙ same-file k h ns is i text types tree₂ (sym (ap answer table)) refl in
+      let same₂ : fileOf (take n f) (sized types) gap₂ tree₂ after₂ ≡ titledFile i text k h ns is = ap
+      (λ o. fileOf o (sized types) gap₂ tree₂ after₂) opens ∙ same-file k h ns is i text types tree₂ (sym (ap answer table)) refl in
       let eg = parts f k long (h .extent .end) (h .extent .start - h .extent .end) .long in
       let ea = rests f k long (h .extent .last + 1) .long in
-      let t = differ-alike lim says (part f (h .extent .end) (h .extent .start - h .extent .end)) (drop (h .extent .last + 1) f) gap₂ after₂ (w .nodes) (all-stay f ns here) (all-shapes ns (all-same a)) (titled-alike i (contents-alike is (rows-alike privateData f k lim tt a))) eg ea
+      let t = differ-alike lim says (part f (h .extent .end) (h .extent .start - h .extent .end)) (drop (h .extent .last + 1) f) gap₂ after₂
+      (w .nodes) (all-stay f ns here) (all-shapes ns (all-same a)) (titled-alike i (contents-alike is (rows-alike privateData f k lim tt a)))
+      eg ea
       (subst (λ v. length v < 2 ^ 28) (sym (w .file)) small) (subst (λ v. length v < 2 ^ 28) (sym same₂) (subst (λ j. j < 2 ^ 28) titles-length small)) in
       subst (λ v. Twins lim v (titledFile i text k h ns is)) (w .file) (subst (Twins lim _) same₂ t)
 
   -- the results differ at private places of the first result alone
-  pub titles-differ : length (titledFile i text f h ns is) < 2 ^ 28 → (h′ : Header) (ns′ : List Node) (is′ : List Item) → readFile lim (titledFile i text f h ns is) ≡ rows h′ ns′ is′
+  pub titles-differ : length (titledFile i text f h ns is) < 2 ^ 28 → (h′ : Header) (ns′ : List Node) (is′ : List Item) → readFile lim
+      (titledFile i text f h ns is) ≡ rows h′ ns′ is′
       → DifferInPrivate h′ ns′ is′ (titledFile i text f h ns is) (titledFile i text k h ns is)
   titles-differ small h′ ns′ is′ e =
       let t = titles-twins small in

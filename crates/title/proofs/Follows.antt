@@ -94,7 +94,8 @@ longer lim f h first k {log} e =
         (es ++ more, b ∙ ap (λ v. v ++ more) q ∙ append-assoc first es more)
 
 -- the log of an accepted file without references 2 and 3 is the tree's
-pub log-is-tree : (lim : Limits) (f : List ℕ) (h : Header) (first : Events) (k : ℕ) {log : Events} → follow k lim f h 0 (good first) ≡ good log → elsewhere (nodesOf log) ≡ false → log ≡ first
+pub log-is-tree : (lim : Limits) (f : List ℕ) (h : Header) (first : Events) (k : ℕ) {log : Events} → follow k lim f h 0 (good first) ≡ good
+    log → elsewhere (nodesOf log) ≡ false → log ≡ first
 log-is-tree lim f h first k {log} e here =
     let (es, q) = longer lim f h first k e in
     let r : nodesOf log ≡ nodesOf first ++ nodesOf es = ap nodesOf q ∙ rows-on nodeOf first es in
@@ -103,7 +104,8 @@ log-is-tree lim f h first k {log} e here =
     cc
 
 -- a file whose header and tree are read, and whose tree has no reference 2 or 3
-pub read-whole : (lim : Limits) (g : List ℕ) {h : Header} {q : ℕ} {m : Made} {p : ℕ} → run (header (length g)) g 0 ≡ ok h q → run (treeOf lim (length g) h) g (h .extent .start) ≡ ok m p
+pub read-whole : (lim : Limits) (g : List ℕ) {h : Header} {q : ℕ} {m : Made} {p : ℕ} → run (header (length g)) g 0 ≡ ok h q → run
+    (treeOf lim (length g) h) g (h .extent .start) ≡ ok m p
     → elsewhere (nodesOf (trace (treeOf lim (length g) h) g (h .extent .start))) ≡ false
     → readFile lim g ≡ rows h (nodesOf (trace (treeOf lim (length g) h) g (h .extent .start))) (itemsOf (trace (treeOf lim (length g) h) g (h .extent .start)))
 unfolding readFile readTree logged reading

@@ -64,7 +64,8 @@ module _ (g : List ℕ) (big : length g < 2 ^ 28) (headerEnd size contained stop
       simp (running, e₁, or-true (eqb contained 0))
 
   uri-run : r .reference ≡ 4 → contained ≡ 0 → Lies g q (ownText r) → q + length (ownText r) ≤ stop
-      → run (reference headerEnd size contained stop) g q ≡ ok (record { kind = 4; target = q + length (vlq 4) + length (vlq (length (r .body))); extent = length (r .body) }) (q + length (ownText r))
+      → run (reference headerEnd size contained stop) g q ≡ ok
+      (record { kind = 4; target = q + length (vlq 4) + length (vlq (length (r .body))); extent = length (r .body) }) (q + length (ownText r))
   unfolding reference target uriPlace
   uri-run e f h i =
       let n : ℕ = length (r .body) in
@@ -111,16 +112,19 @@ pub record Front (limits : Limits) (types : List Declared) (parent depth : ℕ) 
 exec-head : (g : List ℕ) (s : Standing) (f : List ℕ) (at : ℕ) (σ : Collected) → exec (collect g) (node.head s) f at σ ≡ still (run (node.head s) f at) σ
 exec-head g s = head-quiet (collect-ignores _ g) s .quiet
 
-exec-rest : (g : List ℕ) (headerEnd size contained inner stop : ℕ) (f : List ℕ) (at : ℕ) (σ : Collected) → exec (collect g) (rest headerEnd size contained inner stop) f at σ ≡ still (run (rest headerEnd size contained inner stop) f at) σ
+exec-rest : (g : List ℕ) (headerEnd size contained inner stop : ℕ) (f : List ℕ) (at : ℕ) (σ : Collected) → exec (collect g)
+    (rest headerEnd size contained inner stop) f at σ ≡ still (run (rest headerEnd size contained inner stop) f at) σ
 exec-rest g headerEnd size contained inner stop = rest-quiet (collect-ignores _ g) headerEnd size contained inner stop .quiet
 
 -- unpackers that end where the header does, and a reference
-rest-run : (headerEnd size contained inner stop : ℕ) (g : List ℕ) (q : ℕ) {u : unpackers.Unpackers} {o : reference.Reference} {e : ℕ} → run (node.unpackers contained inner) g q ≡ ok u inner → run (reference headerEnd size contained stop) g inner ≡ ok o e
+rest-run : (headerEnd size contained inner stop : ℕ) (g : List ℕ) (q : ℕ) {u : unpackers.Unpackers} {o : reference.Reference} {e : ℕ} → run
+    (node.unpackers contained inner) g q ≡ ok u inner → run (reference headerEnd size contained stop) g inner ≡ ok o e
     → run (rest headerEnd size contained inner stop) g q ≡ ok (record { unpackers = u; reference = o }) e
 unfolding rest
 rest-run headerEnd size contained inner stop g q a b = let k : inner ≤ inner = omega arith in simp (running, a, le-leb _ _ k, b)
 
-pub meta-back : (x : Context) (node end : ℕ) (g : List ℕ) → length g < 2 ^ 28 → {css : List (List Content)} → Entries (x .types) node 0 css → (cs : List Content) → flat css ≡ cs → (m : Made) (p : ℕ) (σ : Collected)
+pub meta-back : (x : Context) (node end : ℕ) (g : List ℕ) → length g < 2 ^ 28 → {css : List (List Content)} → Entries (x .types) node 0
+    css → (cs : List Content) → flat css ≡ cs → (m : Made) (p : ℕ) (σ : Collected)
     → Lies g p (sized (itemsText cs)) → p + length (sized (itemsText cs)) ≤ end → m .items + length cs ≤ x .limits .items
     → exec (collect g) (metadata x node end m) g p σ ≡ ok (plusItems (length cs) m, withItems σ cs) (p + length (sized (itemsText cs)))
 meta-back x node end g big {css} es cs e m p σ =
@@ -128,7 +132,8 @@ meta-back x node end g big {css} es cs e m p σ =
     → exec (collect g) (metadata x node end m) g p σ ≡ ok (plusItems (length v) m, withItems σ v) (p + length (sized (itemsText v)))) e
     (λ h i r. let k = items-text es in rw k (metadata-back x node end g big es m p σ (rw k at h) (rw k at i) r))
 
-module _ (x : Context) (g : List ℕ) (big : length g < 2 ^ 28) (parent depth least end : ℕ) (m : Made) (r : Shape) (cs : List Content) (n : ℕ) (p : ℕ) (σ : Collected) (f : Front (x .limits) (x .types) parent depth m r cs) where
+module _ (x : Context) (g : List ℕ) (big : length g < 2 ^ 28) (parent depth least end : ℕ) (m : Made) (r : Shape) (cs : List Content)
+    (n : ℕ) (p : ℕ) (σ : Collected) (f : Front (x .limits) (x .types) parent depth m r cs) where
   abbrev header : List ℕ
   header = joined (sized (itemsText cs) ∷ sized (r .unpackers) ∷ [])
 
@@ -142,7 +147,15 @@ module _ (x : Context) (g : List ℕ) (big : length g < 2 ^ 28) (parent depth le
   upto : N < 2 ^ 28 → Lies g p (nodeText r cs n) → p + N ≤ end → least ≤ p + N → {o : reference.Reference} {e : ℕ}
       → run (reference (x .headerEnd) (x .size) (r .contained) (p + N)) g (p + H) ≡ ok o e
       → exec (collect g) (front x parent depth (inTree least end) m) g p σ
-      ≡ ok (record { row = node.rowOf p (record { size = record { 0 = N }; contained = r .contained; header = record { 0 = H } }) parent depth 0 o (record { place = record { 0 = p + H - length (r .unpackers) }; count = r .unpackerCount }) (m .items + length cs - m .items); made = plusItems (length cs) m }, withItems σ cs) e
+      ≡ ok (
+        record {
+          row = node.rowOf p (record { size = record { 0 = N }; contained = r .contained; header = record { 0 = H } }) parent depth 0 o
+              (record { place = record { 0 = p + H - length (r .unpackers) }; count = r .unpackerCount }) (m .items + length cs - m .items);
+          made =
+              plusItems (length cs) m;
+        },
+        withItems σ cs,
+      ) e
   unfolding front nodeText framed
   upto small h i j {o} {e} ref =
       let ss : List (List ℕ) = vlq N ∷ vlq (r .contained) ∷ vlq H ∷ header ∷ ownText r ∷ [] in
@@ -164,7 +177,8 @@ module _ (x : Context) (g : List ℕ) (big : length g < 2 ^ 28) (parent depth le
       simp (executing, exec-head, e₁, e₂, exec-rest, e₄, e₅)
 
   -- where the parts stand
-  parts-lie : N < 2 ^ 28 → Lies g p (nodeText r cs n) → Lies g (p + H - length (r .unpackers)) (r .unpackers) × Lies g (p + H) (ownText r) × (p + H + length (ownText r) ≡ p + length (nodeText r cs n)) × (length (nodeText r cs n) + n ≡ N)
+  parts-lie : N < 2 ^ 28 → Lies g p (nodeText r cs n) → Lies g (p + H - length (r .unpackers)) (r .unpackers) × Lies g (p + H) (ownText r) ×
+      (p + H + length (ownText r) ≡ p + length (nodeText r cs n)) × (length (nodeText r cs n) + n ≡ N)
   unfolding nodeText framed
   parts-lie small h =
       let ss : List (List ℕ) = vlq N ∷ vlq (r .contained) ∷ vlq H ∷ header ∷ ownText r ∷ [] in
@@ -204,11 +218,13 @@ passed-none (suc contained) n = let z : (suc contained ≡ 0) → ⊥ = λ e. om
 part-as : {g : List ℕ} {q : ℕ} {s : List ℕ} (n : ℕ) → n ≡ length s → Lies g q s → part g q n ≡ s
 part-as n e h = rw e (lies-part h)
 
-most : (r : Shape) (cs : List Content) (n : ℕ) → headerOf (r .contained) (joined (sized (itemsText cs) ∷ sized (r .unpackers) ∷ [])) (length (ownText r) + n) + (length (ownText r) + n) ≤ length (nodeText r cs n) + n
+most : (r : Shape) (cs : List Content) (n : ℕ) → headerOf (r .contained) (joined (sized (itemsText cs) ∷ sized (r .unpackers) ∷ []))
+    (length (ownText r) + n) + (length (ownText r) + n) ≤ length (nodeText r cs n) + n
 unfolding nodeText
 most r cs n = framed-most (r .contained) (joined (sized (itemsText cs) ∷ sized (r .unpackers) ∷ [])) (ownText r) n
 
-lies-whole : {g : List ℕ} {p : ℕ} (r : Shape) (cs : List Content) (inner : List ℕ) → Lies g p (wholeText r cs inner) → Lies g p (nodeText r cs (length inner)) × (length (wholeText r cs inner) ≡ length (nodeText r cs (length inner)) + length inner)
+lies-whole : {g : List ℕ} {p : ℕ} (r : Shape) (cs : List Content) (inner : List ℕ) → Lies g p (wholeText r cs inner) → Lies g p
+    (nodeText r cs (length inner)) × (length (wholeText r cs inner) ≡ length (nodeText r cs (length inner)) + length inner)
 unfolding wholeText
 lies-whole r cs inner h = (lies-left (nodeText r cs (length inner)) inner h, length-append (nodeText r cs (length inner)) inner)
 
@@ -223,8 +239,10 @@ pub record FrontBack (x : Context) (g : List ℕ) (parent depth least end : ℕ)
   pub size : is .row .size ≡ length (wholeText r cs inner)
   pub past : next + inlineSize (is .row) ≡ p + length (nodeText r cs (length inner))
 
-module _ (x : Context) (g : List ℕ) (big : length g < 2 ^ 28) (parent depth least end : ℕ) (m : Made) (r : Shape) (cs : List Content) (inner : List ℕ) (p : ℕ) (σ : Collected) (f : Front (x .limits) (x .types) parent depth m r cs) where
-  pub front-back : Stays r → ((r .contained ≡ 0) → length inner ≡ 0) → Lies g p (wholeText r cs inner) → p + length (wholeText r cs inner) ≤ end → least ≤ p + length (wholeText r cs inner) → FrontBack x g parent depth least end m r cs inner p σ
+module _ (x : Context) (g : List ℕ) (big : length g < 2 ^ 28) (parent depth least end : ℕ) (m : Made) (r : Shape) (cs : List Content)
+    (inner : List ℕ) (p : ℕ) (σ : Collected) (f : Front (x .limits) (x .types) parent depth m r cs) where
+  pub front-back : Stays r → ((r .contained ≡ 0) → length inner ≡ 0) → Lies g p (wholeText r cs inner) → p + length (wholeText r cs inner) ≤
+      end → least ≤ p + length (wholeText r cs inner) → FrontBack x g parent depth least end m r cs inner p σ
   front-back stays alone h i j =
       let n : ℕ = length inner in
       let (hn, w) = lies-whole r cs inner h in
@@ -248,7 +266,8 @@ module _ (x : Context) (g : List ℕ) (big : length g < 2 ^ 28) (parent depth le
               is = _;
               next = q;
               ran = upto x g big parent depth least end m r cs n p σ f small hn (omega arith) (omega arith) ref;
-              says = row-says g r _ p parent depth _ _ _ refl (f .parent-is) (f .depth-is) (sym one) refl rows (f .in-tree) again (body-is (r .contained) (part g q (p + N - q)) (r .body) (λ e. part-as (p + N - q) (omega (arith, alone e)) (s .1 .0)) (f .empty));
+              says = row-says g r _ p parent depth _ _ _ refl (f .parent-is) (f .depth-is) (sym one) refl rows (f .in-tree) again
+                  (body-is (r .contained) (part g q (p + N - q)) (r .body) (λ e. part-as (p + N - q) (omega (arith, alone e)) (s .1 .0)) (f .empty));
               made = refl;
               contained = refl;
               size = omega arith;
@@ -265,7 +284,8 @@ module _ (x : Context) (g : List ℕ) (big : length g < 2 ^ 28) (parent depth le
               is = _;
               next = p + H + own;
               ran = upto x g big parent depth least end m r cs n p σ f small hn (omega arith) (omega arith) ref;
-              says = row-says g r _ p parent depth _ _ _ refl (f .parent-is) (f .depth-is) (sym four) refl rows (f .in-tree) again (body-is (r .contained) (part g q (length (r .body))) (r .body) (λ e. lies-part (stand-sized (r .body) (s .1 .0) .1)) (f .empty));
+              says = row-says g r _ p parent depth _ _ _ refl (f .parent-is) (f .depth-is) (sym four) refl rows (f .in-tree) again
+                  (body-is (r .contained) (part g q (length (r .body))) (r .body) (λ e. lies-part (stand-sized (r .body) (s .1 .0) .1)) (f .empty));
               made = refl;
               contained = refl;
               size = omega arith;

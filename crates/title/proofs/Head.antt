@@ -24,7 +24,13 @@ or-true false = refl
 module _ (end least : ℕ) (g : List ℕ) (p contained : ℕ) (rest own : List ℕ) (n : ℕ) where
   pub head-back : contained < 2 ^ 28 → headerOf contained rest (length own + n) + (length own + n) < 2 ^ 28 → Lies g p (framed contained rest own n)
       → p + (length (framed contained rest own n) + n) ≤ end → least ≤ p + (length (framed contained rest own n) + n)
-      → run (head (inTree least end)) g p ≡ ok (record { size = record { 0 = headerOf contained rest (length own + n) + (length own + n) }; contained = contained; header = record { 0 = headerOf contained rest (length own + n) } })
+      → run (head (inTree least end)) g p ≡ ok
+      (record {
+        size = record { 0 = headerOf contained rest (length own + n) + (length own + n) };
+        contained = contained;
+        header = record
+            { 0 = headerOf contained rest (length own + n) };
+      })
       (p + length (vlq (headerOf contained rest (length own + n) + (length own + n))) + length (vlq contained) + length (vlq (headerOf contained rest (length own + n))))
   unfolding head headerLength framed
   head-back few small h i j =

@@ -119,7 +119,8 @@ pub length-back : (g : List ℕ) (size p : ℕ) → size < 2 ^ 28 → Lies g p (
 unfolding fileLength
 length-back g size p s h i = let e = number-back fileFrame 3 size size h s i in simp (running, e, eq-eqb size size refl)
 
-pub extent-back : (g : List ℕ) (size p start last : ℕ) → start ≤ last → last < size → size < 2 ^ 28 → Lies g p (vlq start) → Lies g (p + length (vlq start)) (vlq last) → p + length (vlq start) + length (vlq last) ≤ start
+pub extent-back : (g : List ℕ) (size p start last : ℕ) → start ≤ last → last < size → size < 2 ^ 28 → Lies g p (vlq start) → Lies g
+    (p + length (vlq start)) (vlq last) → p + length (vlq start) + length (vlq last) ≤ start
     → run (extent size) g p ≡ ok (record { start = start; last = last; end = p + length (vlq start) + length (vlq last) }) (p + length (vlq start) + length (vlq last))
 unfolding extent
 extent-back g size p start last a b s h k i =
@@ -156,7 +157,10 @@ opening-says f =
     λ u. post-if (λ w. post-ret (b .1, l, i, inr (inr (refl, sym (b .0) ∙ eqb-true version 0x322E3030 w)))) (λ w. post-refuse)
 
 edition-says : (f : List ℕ) (v at : ℕ) → at ≡ 8 → at ≤ length f
-    → Post nothing f (edition (length f) v) (Holds (λ e q. (q ≡ openingSize v) × (q ≤ length f) × (((v ≡ 200) × (e ≡ record { type = fourAt f 8; revision = fourAt f 12 })) ⊎ (((v ≡ 200) → ⊥) × (e ≡ record { type = 0; revision = 0 }))))) at tt
+    → Post nothing f (edition (length f) v)
+    (Holds (λ e q. (q ≡ openingSize v) × (q ≤ length f) ×
+    (((v ≡ 200) × (e ≡ record { type = fourAt f 8; revision = fourAt f 12 })) ⊎
+    (((v ≡ 200) → ⊥) × (e ≡ record { type = 0; revision = 0 }))))) at tt
 unfolding edition
 edition-says f v at k l =
     post-if
@@ -181,7 +185,9 @@ check-true f false n p at e = let z = simp running at e in let y : _≡_ {A = �
 
 length-says : (f : List ℕ) (at : ℕ) → Post nothing f (fileLength (length f)) (Holds (λ _ r. (v : ℕ) × (run (number fileFrame 3 (length f)) f at ≡ ok v r) × (v ≡ length f))) at tt
 unfolding fileLength
-length-says f at = post-place _ at (post-step nothing-quiet λ n q e. post-run nothing-quiet λ _ r c. (n, e ∙ ap (ok n) (check-at f _ 5 at q c), eqb-true n (length f) (check-true f _ 5 at q c)))
+length-says f at = post-place _ at
+    (post-step nothing-quiet λ n q e. post-run nothing-quiet λ _ r c.
+    (n, e ∙ ap (ok n) (check-at f _ 5 at q c), eqb-true n (length f) (check-true f _ 5 at q c)))
 
 -- TreeStart ends at c, and TreeEnd at the header's end
 abbrev ExtentIn : List ℕ → ℕ → Extent → ℕ → Type 0

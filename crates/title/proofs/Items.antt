@@ -40,11 +40,13 @@ pub record Labels (g : List ℕ) (l : Label) (c : Content) : Type 0 where
   pub field : cond (eqb (kindOf (l .field)) 1) 0 (fieldOf (l .field)) ≡ c .field
   pub name : part g (fieldOf (l .field)) (nameLengthOf (l .field)) ≡ c .name
 
-row-says : (g : List ℕ) (l : Label) (c : Content) (v d fm p n : ℕ) → Labels g l c → v ≡ c .version → d ≡ c .declared → fm ≡ c .format → part g p n ≡ c .bytes → content g (rowOf l v d fm p n) ≡ c
+row-says : (g : List ℕ) (l : Label) (c : Content) (v d fm p n : ℕ) → Labels g l c → v ≡ c .version → d ≡ c .declared → fm ≡ c .format → part
+    g p n ≡ c .bytes → content g (rowOf l v d fm p n) ≡ c
 unfolding content
 row-says g l c v d fm p n h a b e k = rw (h .field, h .name, h .kind, h .node, h .item, a, b, e, k)
 
-module _ (x : Context) (l : Label) (end : ℕ) (m : Made) (g : List ℕ) (p : ℕ) (σ : Collected) (c : Content) (lab : Labels g l c) (room : m .items < x .limits .items) (big : length g < 2 ^ 28) where
+module _ (x : Context) (l : Label) (end : ℕ) (m : Made) (g : List ℕ) (p : ℕ) (σ : Collected) (c : Content) (lab : Labels g l c)
+    (room : m .items < x .limits .items) (big : length g < 2 ^ 28) where
   pub universal-back : 0 ≡ c .version → 0 ≡ c .declared → c .format < 2 ^ 28 → Lies g p (universalText c) → p + length (universalText c) ≤ end
       → exec (collect g) (universal x l end m) g p σ ≡ ok (plusItem m, withItems σ (c ∷ [])) (p + length (universalText c))
   unfolding universal universalText
@@ -109,7 +111,8 @@ versionTexts [] = []
 versionTexts (c ∷ cs) = versionText c ∷ versionTexts cs
 
 module _ (x : Context) (l : Label) (end before : ℕ) (g : List ℕ) (big : length g < 2 ^ 28) (b : Content) (lab : Labels g l b) where
-  pub versions-back : (cs : List Content) (m : Made) (p : ℕ) (σ : Collected) → Versions (x .types) b (m .items + 1 - before) cs → before ≤ m .items → m .items + length cs ≤ x .limits .items
+  pub versions-back : (cs : List Content) (m : Made) (p : ℕ) (σ : Collected) → Versions (x .types) b (m .items + 1 - before) cs → before ≤
+      m .items → m .items + length cs ≤ x .limits .items
       → Lies g p (joined (versionTexts cs)) → p + length (joined (versionTexts cs)) ≤ end
       → exec (collect g) (times (length cs) (version x l end before) m) g p σ ≡ ok (plusItems (length cs) m, withItems σ cs) (p + length (joined (versionTexts cs)))
   unfolding times
@@ -119,9 +122,11 @@ module _ (x : Context) (l : Label) (end before : ℕ) (g : List ℕ) (big : leng
       rw (e, k, append-nil (σ .items)) (simp executing)
   versions-back (c ∷ cs) m p σ v o r h i =
       let z = length-append (versionText c) (joined (versionTexts cs)) in
-      let e₁ = version-back x l end m g p σ c (same-label lab (v .0)) (omega arith) big before (v .1) (v .2) (v .3) (lies-left (versionText c) (joined (versionTexts cs)) h) (omega arith) in
+      let e₁ = version-back x l end m g p σ c (same-label lab (v .0)) (omega arith) big before (v .1) (v .2) (v .3)
+      (lies-left (versionText c) (joined (versionTexts cs)) h) (omega arith) in
       let k : m .items + 1 - before + 1 ≡ m .items + 1 + 1 - before = omega arith in
-      let e₂ = versions-back cs (plusItem m) (p + length (versionText c)) (withItems σ (c ∷ [])) (rw k at (v .4)) (omega arith) (omega arith) (lies-right (versionText c) (joined (versionTexts cs)) h) (omega arith) in
+      let e₂ = versions-back cs (plusItem m) (p + length (versionText c)) (withItems σ (c ∷ [])) (rw k at (v .4)) (omega arith) (omega arith)
+      (lies-right (versionText c) (joined (versionTexts cs)) h) (omega arith) in
       let q : m .items + suc (length cs) ≡ m .items + 1 + length cs = omega arith in
       let t : p + length (versionText c ++ joined (versionTexts cs)) ≡ p + length (versionText c) + length (joined (versionTexts cs)) = omega arith in
       rw (q, t, ← append-assoc (σ .items) (c ∷ []) cs) (simp (executing, e₁, e₂))
@@ -178,7 +183,8 @@ exec-frame g end f at σ = frame-quiet (collect-ignores _ g) end .quiet f at σ
 -- the contents of one item, as a node of that row and an item of that number have them
 pub data Entry (types : List Declared) (node index : ℕ) : List Content → Type 0 where
   one : {c : Content} → FieldOk c → node ≡ c .node → index ≡ c .item → 0 ≡ c .version → 0 ≡ c .declared → c .format < 2 ^ 28 → Entry types node index (c ∷ [])
-  several : {c : Content} {cs : List Content} → FieldOk c → node ≡ c .node → index ≡ c .item → Versions types c 1 (c ∷ cs) → suc (length cs) < 2 ^ 28 → Entry types node index (c ∷ cs)
+  several : {c : Content} {cs : List Content} → FieldOk c → node ≡ c .node → index ≡ c .item → Versions types c 1 (c ∷ cs) → suc (length cs) <
+      2 ^ 28 → Entry types node index (c ∷ cs)
 
 abbrev pub entryText : List Content → List ℕ
 entryText [] = []
@@ -197,7 +203,8 @@ module _ (x : Context) (node index end : ℕ) (m : Made) (g : List ℕ) (big : l
       let i′ : p + length (joined ss) ≤ end = rw t at i in
       let fb = field-back g big end p c f (s .0) (omega arith) in
       let e₂ = number-back metaFrame 3 end 0 (s .1 .0) (omega arith) (omega arith) in
-      let e₃ = universal-back x (record { node = node; item = index; field = fb .is }) end m g (p + length (fieldText c) + length (vlq 0)) σ c (fb .labels node index a b) (omega arith) big v d fm (s .1 .1 .0) (omega arith) in
+      let e₃ = universal-back x (record { node = node; item = index; field = fb .is }) end m g (p + length (fieldText c) + length (vlq 0)) σ c
+      (fb .labels node index a b) (omega arith) big v d fm (s .1 .1 .0) (omega arith) in
       let e₄ : p + length (joined ss) ≡ p + length (fieldText c) + length (vlq 0) + length (universalText c) = omega arith in
       let e₁ = sym (frame-all end g p (fb .ran) (sym (contents-universal end g (p + length (fieldText c)) e₂ refl))) in
       rw (t, e₄) (simp (executing, exec-frame, e₁, e₃))
@@ -212,7 +219,9 @@ module _ (x : Context) (node index end : ℕ) (m : Made) (g : List ℕ) (big : l
       let fb = field-back g big end p c f (s .0) (omega arith) in
       let e₂ = number-back metaFrame 3 end n (s .1 .0) few (omega arith) in
       let k : 1 ≡ m .items + 1 - m .items = omega arith in
-      let e₃ = versions-back x (record { node = node; item = index; field = fb .is }) end (m .items) g big c (fb .labels node index a b) (c ∷ cs) m (p + length (fieldText c) + length (vlq n)) σ (subst (λ j. Versions (x .types) c j (c ∷ cs)) k v) (omega arith) r (s .1 .1 .0) (omega arith) in
+      let e₃ = versions-back x (record { node = node; item = index; field = fb .is }) end (m .items) g big c (fb .labels node index a b) (c ∷ cs)
+      m (p + length (fieldText c) + length (vlq n)) σ (subst (λ j. Versions (x .types) c j (c ∷ cs)) k v) (omega arith) r (s .1 .1 .0)
+      (omega arith) in
       let e₄ : p + length (joined ss) ≡ p + length (fieldText c) + length (vlq n) + length (joined (versionTexts (c ∷ cs))) = omega arith in
       let e₁ = sym (frame-all end g p (fb .ran) (sym (contents-versions end g (p + length (fieldText c)) e₂ (λ z. omega arith)))) in
       rw (t, e₄) (simp (executing, exec-frame, e₁, e₃))
@@ -232,13 +241,19 @@ flat [] = []
 flat (cs ∷ css) = cs ++ flat css
 
 pub entry-some : {types : List Declared} {node index : ℕ} {cs : List Content} → Entry types node index cs → 0 < length (entryText cs)
-entry-some {cs = cs} (one {c} f a b v d fm) = let z = joined-length (fieldText c ∷ vlq (cond (eqb (c .version) 0) 0 1) ∷ cond (eqb (c .version) 0) (universalText c) (joined (versionTexts (c ∷ []))) ∷ []) in omega (arith, vlq-some (cond (eqb (c .version) 0) 0 1))
-entry-some (several {c} {cs} f a b v few) = let z = joined-length (fieldText c ∷ vlq (cond (eqb (c .version) 0) 0 (suc (length cs))) ∷ cond (eqb (c .version) 0) (universalText c) (joined (versionTexts (c ∷ cs))) ∷ []) in omega (arith, vlq-some (cond (eqb (c .version) 0) 0 (suc (length cs))))
+entry-some {cs = cs} (one {c} f a b v d fm) = let z = joined-length
+    (fieldText c ∷ vlq (cond (eqb (c .version) 0) 0 1) ∷ cond (eqb (c .version) 0) (universalText c) (joined (versionTexts (c ∷ []))) ∷ [])
+    in omega (arith, vlq-some (cond (eqb (c .version) 0) 0 1))
+entry-some (several {c} {cs} f a b v few) = let z = joined-length
+    (fieldText c ∷ vlq (cond (eqb (c .version) 0) 0 (suc (length cs))) ∷ cond (eqb (c .version) 0) (universalText c)
+    (joined (versionTexts (c ∷ cs))) ∷ []) in omega (arith, vlq-some (cond (eqb (c .version) 0) 0 (suc (length cs))))
 
 module _ (x : Context) (node end : ℕ) (g : List ℕ) (big : length g < 2 ^ 28) where
-  pub turns-back : {index : ℕ} {css : List (List Content)} → Entries (x .types) node index css → (k : ℕ) (m : Made) (p : ℕ) (σ : Collected) → Lies g p (joined (entryTexts css)) → p + length (joined (entryTexts css)) ≡ end
+  pub turns-back : {index : ℕ} {css : List (List Content)} → Entries (x .types) node index css → (k : ℕ) (m : Made) (p : ℕ) (σ : Collected) →
+      Lies g p (joined (entryTexts css)) → p + length (joined (entryTexts css)) ≡ end
       → end ≤ p + k → m .items + length (flat css) ≤ x .limits .items
-      → exec (collect g) (turns k end (nextItem x node end) (record { made = m; index = index })) g p σ ≡ ok (record { made = plusItems (length (flat css)) m; index = index + length css }, withItems σ (flat css)) end
+      → exec (collect g) (turns k end (nextItem x node end) (record { made = m; index = index })) g p σ ≡ ok
+      (record { made = plusItems (length (flat css)) m; index = index + length css }, withItems σ (flat css)) end
   unfolding nextItem
   turns-back {index} none k m p σ h i l r =
       let a : m .items + 0 ≡ m .items = omega arith in
@@ -251,13 +266,15 @@ module _ (x : Context) (node end : ℕ) (g : List ℕ) (big : length g < 2 ^ 28)
       let y = length-append cs (flat css) in
       let s = entry-some e in
       let e₁ = item-back x node index end m g big p σ e (lies-left t (joined (entryTexts css)) h) (omega arith) (omega arith) in
-      let e₂ = turns-back es (k - 1) (plusItems (length cs) m) (p + length t) (withItems σ cs) (lies-right t (joined (entryTexts css)) h) (omega arith) (omega arith) (omega arith) in
+      let e₂ = turns-back es (k - 1) (plusItems (length cs) m) (p + length t) (withItems σ cs) (lies-right t (joined (entryTexts css)) h)
+      (omega arith) (omega arith) (omega arith) in
       let a : m .items + length (cs ++ flat css) ≡ m .items + length cs + length (flat css) = omega arith in
       let b : index + suc (length css) ≡ index + 1 + length css = omega arith in
       exec-turn (collect g) g k end p _ _ σ (omega arith) l ∙ rw (a, b, ← append-assoc (σ .items) cs (flat css)) (simp (executing, e₁, e₂))
 
 -- the metadata of a node
-pub metadata-back : (x : Context) (node end : ℕ) (g : List ℕ) (big : length g < 2 ^ 28) {css : List (List Content)} → Entries (x .types) node 0 css → (m : Made) (p : ℕ) (σ : Collected) → Lies g p (sized (joined (entryTexts css)))
+pub metadata-back : (x : Context) (node end : ℕ) (g : List ℕ) (big : length g < 2 ^ 28) {css : List (List Content)} → Entries (x .types)
+    node 0 css → (m : Made) (p : ℕ) (σ : Collected) → Lies g p (sized (joined (entryTexts css)))
     → p + length (sized (joined (entryTexts css))) ≤ end → m .items + length (flat css) ≤ x .limits .items
     → exec (collect g) (metadata x node end m) g p σ ≡ ok (plusItems (length (flat css)) m, withItems σ (flat css)) (p + length (sized (joined (entryTexts css))))
 unfolding metadata metaItems
@@ -268,7 +285,8 @@ metadata-back x node end g big {css} es m p σ h i r =
     let s = stand-sized t h in
     let z = sized-length t in
     let e₁ = block-back metaFrame 8 end n (s .0) (omega (arith, h .inside)) (omega arith) in
-    let e₂ = exec-many (collect g) g (q + n) q (nextItem x node (q + n)) (record { made = m; index = 0 }) σ ∙ turns-back x node (q + n) g big es (q + n - q) m q σ (s .1) refl (omega arith) r in
+    let e₂ = exec-many (collect g) g (q + n) q (nextItem x node (q + n)) (record { made = m; index = 0 }) σ ∙ turns-back x node (q + n) g big es
+    (q + n - q) m q σ (s .1) refl (omega arith) r in
     let e₃ : p + length (sized t) ≡ q + n = omega arith in
     rw e₃ (simp (executing, exec-block, e₁, e₂))
 
@@ -289,7 +307,8 @@ unfolding further
 further-are types b k [] ds l v o = further-none ds o
 further-are types b k (c ∷ cs) ds l v o = let h : 1 < c .version = omega (arith, v .1) in simp (lt-ltb _ _ h, further-are types b (k + 1) cs ds (omega arith) (v .4) o)
 
-versions-text : (types : List Declared) (b : Content) (k : ℕ) (cs ds : List Content) → 1 < k → Versions types b k cs → itemsText (cs ++ ds) ≡ joined (versionTexts cs) ++ itemsText ds
+versions-text : (types : List Declared) (b : Content) (k : ℕ) (cs ds : List Content) → 1 < k → Versions types b k cs → itemsText (cs ++ ds)
+    ≡ joined (versionTexts cs) ++ itemsText ds
 unfolding itemsText contentText
 versions-text types b k [] ds l v = refl
 versions-text types b k (c ∷ cs) ds l v =
@@ -314,4 +333,13 @@ items-text {types} (more {css = css} (several {c} {cs} f a b v few) es) =
     let v′ : c .version ≡ 1 = sym (v .1) in
     let l : c .version ≤ 1 = omega arith in
     let n : (c .version ≡ 0) → ⊥ = λ z. omega arith in
-    simp (le-leb _ _ l, ne-eqb _ _ n, further-are types c 2 cs (flat css) (omega arith) (v .4) (entries-open es), versions-text types c 2 cs (flat css) (omega arith) (v .4), items-text es, append-nil, append-assoc)
+    simp (
+      le-leb _ _ l,
+      ne-eqb _ _ n,
+      further-are types c 2 cs (flat css) (omega arith) (v .4) (entries-open es),
+      versions-text types c 2 cs
+          (flat css) (omega arith) (v .4),
+      items-text es,
+      append-nil,
+      append-assoc,
+    )

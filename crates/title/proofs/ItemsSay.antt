@@ -152,7 +152,10 @@ module _ (f : List ℕ) (node index end at : ℕ) where
   field-covers =
       post-step nothing-quiet λ n q b.
       post-if
-      (λ t. post-step nothing-quiet λ k r e. post-ret (covers-as (sym (standard-said k)) (covers-on (covers-as (ap vlq (eqb-true n 0 t)) (block-covers metaFrame 3 end f at b)) (covers-last (number-covers metaFrame 3 end f q e)))))
+      (λ t. post-step nothing-quiet λ k r e. post-ret
+      (covers-as (sym (standard-said k))
+      (covers-on (covers-as (ap vlq (eqb-true n 0 t)) (block-covers metaFrame 3 end f at b))
+      (covers-last (number-covers metaFrame 3 end f q e)))))
       (λ t. post-place _ q (post-skip _ _ (post-ret (covers-as (sym (name-said (record { 0 = q }) n)) (sized-covers metaFrame 3 end f at b (covers-part f q n))))))
 
   contents-covers : (p : ℕ) → Post nothing f (contents end) (Holds (λ c q. Covers f p (vlq (countOf c)) q)) p tt
@@ -165,17 +168,22 @@ module _ (f : List ℕ) (node index end at : ℕ) where
   unfolding itemFrame
   frame-covers = post-after field-covers λ g q _ a. post-after (contents-covers q) λ c r _ b. post-ret (q, a, b)
 
-  universal-covers : {n q format r : ℕ} → run (block metaFrame 3 end) f at ≡ ok n q → run (number metaFrame 3 (q + n)) f q ≡ ok format r → (c : Content) → format ≡ c .format → part f r (q + n - r) ≡ c .bytes
+  universal-covers : {n q format r : ℕ} → run (block metaFrame 3 end) f at ≡ ok n q → run (number metaFrame 3 (q + n)) f q ≡ ok format r →
+      (c : Content) → format ≡ c .format → part f r (q + n - r) ≡ c .bytes
       → Covers f at (universalText c) (r + (q + n - r))
   unfolding universalText
   universal-covers {n} {q} {format} {r} b e c i l =
       let j = number-inside metaFrame 3 (q + n) f q e in
       let z : r + (q + n - r) ≡ q + n = omega arith in
-      covers-to (sym z) (sized-covers metaFrame 3 end f at b (covers-on (covers-as (ap vlq i) (number-covers metaFrame 3 (q + n) f q e)) (covers-last (covers-to z (covers-as l (covers-part f r (q + n - r)))))))
+      covers-to (sym z) (sized-covers metaFrame 3 end f at b
+      (covers-on (covers-as (ap vlq i) (number-covers metaFrame 3 (q + n) f q e))
+      (covers-last (covers-to z (covers-as l (covers-part f r (q + n - r)))))))
 
-  version-covers : {t q n r : ℕ} → run (number metaFrame 3 end) f at ≡ ok t q → run (block metaFrame 3 end) f q ≡ ok n r → (c : Content) → t ≡ c .declared → part f r n ≡ c .bytes → Covers f at (versionText c) (r + n)
+  version-covers : {t q n r : ℕ} → run (number metaFrame 3 end) f at ≡ ok t q → run (block metaFrame 3 end) f q ≡ ok n r → (c : Content) → t ≡
+      c .declared → part f r n ≡ c .bytes → Covers f at (versionText c) (r + n)
   unfolding versionText
-  version-covers {n = n} {r} e b c i l = covers-on (covers-as (ap vlq i) (number-covers metaFrame 3 end f at e)) (covers-last (sized-covers metaFrame 3 end f _ b (covers-as l (covers-part f r n))))
+  version-covers {n = n} {r} e b c i l = covers-on (covers-as (ap vlq i) (number-covers metaFrame 3 end f at e))
+      (covers-last (sized-covers metaFrame 3 end f _ b (covers-as l (covers-part f r n))))
 
 versions-joined : (cs ds : List Content) → joined (versionTexts (cs ++ ds)) ≡ joined (versionTexts cs) ++ joined (versionTexts ds)
 versions-joined [] ds = refl
@@ -210,7 +218,8 @@ added-none {m = m} {σ = σ} a l = record {
 }
 
 -- and then others
-added-on : {x : Context} {m m₁ m₂ : Made} {σ τ υ : Collected} {A B C : List Content → ℕ → Type 0} {p q : ℕ} (s : Added x m σ A m₁ p τ) (t : Added x m₁ τ B m₂ q υ) → C (s .contents ++ t .contents) q → Added x m σ C m₂ q υ
+added-on : {x : Context} {m m₁ m₂ : Made} {σ τ υ : Collected} {A B C : List Content → ℕ → Type 0} {p q : ℕ} (s : Added x m σ A m₁ p τ)
+    (t : Added x m₁ τ B m₂ q υ) → C (s .contents ++ t .contents) q → Added x m σ C m₂ q υ
 added-on {m = m} {m₁ = m₁} {σ = σ} s t c =
     let z = length-append (s .contents) (t .contents) in
     let k : m₁ .items ≡ m .items + length (s .contents) = ap (λ (w : Made). w .items) (s .made) in
@@ -218,7 +227,9 @@ added-on {m = m} {m₁ = m₁} {σ = σ} s t c =
       contents = s .contents ++ t .contents;
       are = c;
       room = omega (arith, t .room);
-      made = t .made ∙ ap (plusItems (length (t .contents))) (s .made) ∙ (let e : m .items + length (s .contents) + length (t .contents) ≡ m .items + length (s .contents ++ t .contents) = omega arith in rw e refl);
+      made = t .made ∙ ap (plusItems (length (t .contents))) (s .made) ∙
+          (let e : m .items + length (s .contents) + length (t .contents) ≡ m .items + length (s .contents ++ t .contents) = omega arith in rw e
+          refl);
       left = t .left ∙ ap (λ w. withItems w (t .contents)) (s .left) ∙ rw (append-assoc (σ .items) (s .contents) (t .contents)) refl;
     }
 
@@ -240,7 +251,8 @@ versions-on types b k (c ∷ cs) ds v w =
     (v .0, v .1, v .2, v .3, versions-on types b (k + 1) cs ds (v .4) (subst (λ j. Versions types b j ds) e w))
 
 abbrev IsUniversal : List ℕ → (ℕ → Item → Content) → Label → ℕ → List Content → ℕ → Type 0
-IsUniversal f say l at cs q = (c : Content) × (cs ≡ c ∷ []) × SameItem (base f l) c × (0 ≡ c .version) × (0 ≡ c .declared) × (c .format < 2 ^ 28) × (Plain f say → Covers f at (universalText c) q)
+IsUniversal f say l at cs q = (c : Content) × (cs ≡ c ∷ []) × SameItem (base f l) c × (0 ≡ c .version) × (0 ≡ c .declared) ×
+    (c .format < 2 ^ 28) × (Plain f say → Covers f at (universalText c) q)
 
 abbrev AreVersions : List ℕ → (ℕ → Item → Content) → List Declared → Content → (n k at : ℕ) → List Content → ℕ → Type 0
 AreVersions f say types b n k at cs q = (length cs ≡ n) × Versions types b k cs × (Plain f say → Covers f at (joined (versionTexts cs)) q)
@@ -263,7 +275,17 @@ module _ {f : List ℕ} {say : ℕ → Item → Content} (keeps : Keeps f say) (
       let i = like-format f l 0 0 format r (q + n - r) h in
       record {
         contents = c ∷ [];
-        are = (c, refl, like-same f l 0 0 format r (q + n - r) h, like-version f l 0 0 format r (q + n - r) h, like-declared f l 0 0 format r (q + n - r) h, omega arith, λ plain. universal-covers f (l .node) (l .item) end at b e c i (plain (length (σ .items)) (rowOf l 0 0 format r (q + n - r))));
+        are = (
+          c,
+          refl,
+          like-same f l 0 0 format r (q + n - r) h,
+          like-version f l 0 0 format r (q + n - r) h,
+          like-declared f l 0 0 format r
+              (q + n - r) h,
+          omega arith,
+          λ plain. universal-covers f (l .node) (l .item) end at b e c i
+              (plain (length (σ .items)) (rowOf l 0 0 format r (q + n - r))),
+        );
         room = omega (arith, ltb-true (m .items) (x .limits .items) room);
         made = refl;
         left = refl;
@@ -297,7 +319,8 @@ module _ {f : List ℕ} {say : ℕ → Item → Content} (keeps : Keeps f say) (
         are = (
           refl,
           (like-same f l v t format r n h, like-version f l v t format r n h, rw (← j, ← k) (b .0), omega arith, tt),
-          λ plain. covers-last (version-covers f (l .node) (l .item) end at a (subst (λ p. run (block metaFrame 3 end) f p ≡ ok n r) (sym b₂) e) c j (plain (length (σ₁ .items)) (rowOf l v t format r n))),
+          λ plain. covers-last (version-covers f (l .node) (l .item) end at a (subst (λ p. run (block metaFrame 3 end) f p ≡ ok n r) (sym b₂) e) c j
+              (plain (length (σ₁ .items)) (rowOf l v t format r n))),
         );
         room = omega (arith, ltb-true (m .items) (x .limits .items) room);
         made = refl;
@@ -317,38 +340,52 @@ module _ {f : List ℕ} {say : ℕ → Item → Content} (keeps : Keeps f say) (
       let e : m₁ .items + 1 - before ≡ m .items + 1 - before + length (s .contents) = omega arith in
       added-on s t (
         omega (arith, t .are .0),
-        versions-on (x .types) (base f l) (m .items + 1 - before) (s .contents) (t .contents) (s .are .1) (subst (λ j. Versions (x .types) (base f l) j (t .contents)) e (t .are .1)),
+        versions-on (x .types) (base f l) (m .items + 1 - before) (s .contents) (t .contents) (s .are .1)
+            (subst (λ j. Versions (x .types) (base f l) j (t .contents)) e (t .are .1)),
         λ plain. covers-as (sym (versions-joined (s .contents) (t .contents))) (covers-on (s .are .2 plain) (t .are .2 plain)),
       )
 
 -- ---- an item
 
 same-flip : {b c d : Content} → SameItem b c → SameItem b d → SameItem c d
-same-flip s t = record { node = sym (s .node) ∙ t .node; item = sym (s .item) ∙ t .item; kind = sym (s .kind) ∙ t .kind; field = sym (s .field) ∙ t .field; name = sym (s .name) ∙ t .name }
+same-flip s t = record {
+  node = sym (s .node) ∙ t .node;
+  item = sym (s .item) ∙ t .item;
+  kind = sym (s .kind) ∙ t .kind;
+  field = sym
+      (s .field) ∙ t .field;
+  name = sym (s .name) ∙ t .name;
+}
 
 versions-of : (types : List Declared) {b c : Content} → SameItem b c → (k : ℕ) (cs : List Content) → Versions types b k cs → Versions types c k cs
 versions-of types s k [] v = tt
 versions-of types s k (d ∷ cs) v = (same-flip s (v .0), v .1, v .2, v .3, versions-of types s (k + 1) cs (v .4))
 
-base-label : (f : List ℕ) (node index : ℕ) (g : Field) → (node ≡ base f (record { node = node; item = index; field = g }) .node) × (index ≡ base f (record { node = node; item = index; field = g }) .item)
+base-label : (f : List ℕ) (node index : ℕ) (g : Field) → (node ≡ base f (record { node = node; item = index; field = g }) .node) ×
+    (index ≡ base f (record { node = node; item = index; field = g }) .item)
 unfolding content
 base-label f node index g = (refl, refl)
 
-entry-several : (types : List Declared) (f : List ℕ) (node index : ℕ) (g : Field) (cs : List Content) → FieldIs f g → 0 < length cs → length cs < 2 ^ 28 → Versions types (base f (record { node = node; item = index; field = g })) 1 cs → Entry types node index cs
+entry-several : (types : List Declared) (f : List ℕ) (node index : ℕ) (g : Field) (cs : List Content) → FieldIs f g → 0 < length cs → length
+    cs < 2 ^ 28 → Versions types (base f (record { node = node; item = index; field = g })) 1 cs → Entry types node index cs
 entry-several types f node index g [] h s few v = absurd (omega arith)
 entry-several types f node index g (c ∷ cs) h s few v =
     let i = base-label f node index g in
     several (same-field (v .0) (field-ok f (record { node = node; item = index; field = g }) h)) (i .0 ∙ v .0 .node) (i .1 ∙ v .0 .item) (versions-of types (v .0) 1 (c ∷ cs) v) few
 
-entry-one : (types : List Declared) (f : List ℕ) (node index : ℕ) (g : Field) (c : Content) → FieldIs f g → SameItem (base f (record { node = node; item = index; field = g })) c → 0 ≡ c .version → 0 ≡ c .declared → c .format < 2 ^ 28 → Entry types node index (c ∷ [])
+entry-one : (types : List Declared) (f : List ℕ) (node index : ℕ) (g : Field) (c : Content) → FieldIs f g → SameItem
+    (base f (record { node = node; item = index; field = g })) c → 0 ≡ c .version → 0 ≡ c .declared → c .format < 2 ^ 28 → Entry types node
+    index (c ∷ [])
 entry-one types f node index g c h s v d fm =
     let i = base-label f node index g in
     one (same-field s (field-ok f (record { node = node; item = index; field = g }) h)) (i .0 ∙ s .node) (i .1 ∙ s .item) v d fm
 
-several-is : (f : List ℕ) (types : List Declared) (node index : ℕ) (g : Field) (cs : List Content) → Versions types (base f (record { node = node; item = index; field = g })) 1 cs → 0 < length cs
+several-is : (f : List ℕ) (types : List Declared) (node index : ℕ) (g : Field) (cs : List Content) → Versions types
+    (base f (record { node = node; item = index; field = g })) 1 cs → 0 < length cs
     → entryText cs ≡ joined (fieldText (base f (record { node = node; item = index; field = g })) ∷ vlq (length cs) ∷ joined (versionTexts cs) ∷ [])
 several-is f types node index g [] v s = absurd (omega arith)
-several-is f types node index g (c ∷ cs) v s = several-said c cs (v .1) ∙ ap (λ t. joined (t ∷ vlq (suc (length cs)) ∷ joined (versionTexts (c ∷ cs)) ∷ [])) (sym (same-text (v .0)))
+several-is f types node index g (c ∷ cs) v s = several-said c cs (v .1) ∙ ap
+    (λ t. joined (t ∷ vlq (suc (length cs)) ∷ joined (versionTexts (c ∷ cs)) ∷ [])) (sym (same-text (v .0)))
 
 -- the contents of an item that began at `start`
 abbrev IsEntry : List ℕ → (ℕ → Item → Content) → List Declared → (node index start : ℕ) → List Content → ℕ → Type 0
@@ -373,10 +410,12 @@ module _ {f : List ℕ} {say : ℕ → Item → Content} (keeps : Keeps f say) (
       let v = subst (λ j. Versions (x .types) (base f (record { node = node; item = index; field = g })) j (a .contents)) e (a .are .1) in
       added-by a (
         entry-several (x .types) f node index g (a .contents) h (omega arith) (omega arith) v,
-        λ plain. covers-as (sym (several-is f (x .types) node index g (a .contents) v (omega arith))) (covers-on a₁ (covers-on (covers-as (ap vlq (sym k)) b) (covers-last (a .are .2 plain)))),
+        λ plain. covers-as (sym (several-is f (x .types) node index g (a .contents) v (omega arith)))
+            (covers-on a₁ (covers-on (covers-as (ap vlq (sym k)) b) (covers-last (a .are .2 plain)))),
       )
 
-  item-says : (index : ℕ) (m : Made) (at : ℕ) (σ : Collected) → m .items ≤ x .limits .items → Post (collectAs say f) f (item x node index end m) (Added x m σ (IsEntry f say (x .types) node index at)) at σ
+  item-says : (index : ℕ) (m : Made) (at : ℕ) (σ : Collected) → m .items ≤ x .limits .items → Post (collectAs say f) f
+      (item x node index end m) (Added x m σ (IsEntry f say (x .types) node index at)) at σ
   unfolding item
   item-says index m at σ r =
       post-step (frame-quiet (collect-ignores say f) end) λ i q e.
@@ -386,7 +425,8 @@ module _ {f : List ℕ} {say : ℕ → Item → Content} (keeps : Keeps f say) (
 
 -- ---- items end to end
 
-entries-more : {types : List Declared} {node index : ℕ} {css : List (List Content)} → Entries types node index css → (k : ℕ) (cs : List Content) → k ≡ index + length css → Entry types node k cs → Entries types node index (css ++ cs ∷ [])
+entries-more : {types : List Declared} {node index : ℕ} {css : List (List Content)} → Entries types node index css → (k : ℕ)
+    (cs : List Content) → k ≡ index + length css → Entry types node k cs → Entries types node index (css ++ cs ∷ [])
 entries-more {types} {node} {index} none k cs e n = more {index = index} (subst (λ j. Entry types node j cs) (e ∙ (omega arith)) n) none
 entries-more (more {css = css} x xs) k cs e n = more x (entries-more xs k cs (omega arith) n)
 
@@ -401,7 +441,8 @@ abbrev pub Grouped : List Declared → ℕ → List Content → Type 0
 Grouped types node cs = (css : List (List Content)) × Entries types node 0 css × (flat css ≡ cs)
 
 abbrev SoFar : List ℕ → (ℕ → Item → Content) → List Declared → (node index at : ℕ) → List Content → ℕ → Type 0
-SoFar f say types node index at cs q = (css : List (List Content)) × Entries types node 0 css × (flat css ≡ cs) × (index ≡ length css) × (Plain f say → Covers f at (joined (entryTexts css)) q)
+SoFar f say types node index at cs q = (css : List (List Content)) × Entries types node 0 css × (flat css ≡ cs) × (index ≡ length css) ×
+    (Plain f say → Covers f at (joined (entryTexts css)) q)
 
 -- items end to end; with their length before them
 abbrev AreGrouped : List ℕ → (ℕ → Item → Content) → List Declared → (node at : ℕ) → List Content → ℕ → Type 0
@@ -411,7 +452,8 @@ abbrev pub AreMetadata : List ℕ → (ℕ → Item → Content) → List Declar
 AreMetadata f say types node at cs q = Grouped types node cs × (Plain f say → Covers f at (sized (itemsText cs)) q)
 
 module _ {f : List ℕ} {say : ℕ → Item → Content} (keeps : Keeps f say) (x : Context) (node : ℕ) where
-  items-say : (end : ℕ) → end ≤ length f → (m : Made) (at : ℕ) (σ : Collected) → m .items ≤ x .limits .items → Post (collectAs say f) f (metaItems x node end m) (Added x m σ (AreGrouped f say (x .types) node at)) at σ
+  items-say : (end : ℕ) → end ≤ length f → (m : Made) (at : ℕ) (σ : Collected) → m .items ≤ x .limits .items → Post (collectAs say f) f
+      (metaItems x node end m) (Added x m σ (AreGrouped f say (x .types) node at)) at σ
   unfolding metaItems nextItem
   items-say end o m at σ r =
       post-after
@@ -421,11 +463,20 @@ module _ {f : List ℕ} {say : ℕ → Item → Content} (keeps : Keeps f say) (
       post-ret (
       let (css, es, e, i, covers) = s .are in
       let y = count-more css (t .contents) in
-      added-on s t (css ++ t .contents ∷ [], entries-more es (k .index) (t .contents) (omega arith) (t .are .0), flat-more css (t .contents) ∙ ap (λ v. v ++ t .contents) e, omega arith, λ plain. covers-as (sym (entries-joined css (t .contents))) (covers-on (covers plain) (t .are .1 plain)))))
+      added-on s t (
+        css ++ t .contents ∷ [],
+        entries-more es (k .index) (t .contents) (omega arith) (t .are .0),
+        flat-more css (t .contents) ∙ ap
+            (λ v. v ++ t .contents) e,
+        omega arith,
+        λ plain. covers-as (sym (entries-joined css (t .contents)))
+            (covers-on (covers plain) (t .are .1 plain)),
+      )))
       (added-none ([], none, refl, refl, λ plain. covers-none at) r))
       λ k q τ s. post-ret (let (css, es, e, i, covers) = s .are in added-by s ((css, es, e), λ plain. covers-as (sym (sym (ap itemsText e) ∙ items-text es)) (covers plain)))
 
-  pub metadata-says : (end : ℕ) → end ≤ length f → (m : Made) (at : ℕ) (σ : Collected) → m .items ≤ x .limits .items → Post (collectAs say f) f (metadata x node end m) (Added x m σ (AreMetadata f say (x .types) node at)) at σ
+  pub metadata-says : (end : ℕ) → end ≤ length f → (m : Made) (at : ℕ) (σ : Collected) → m .items ≤ x .limits .items → Post (collectAs say f)
+      f (metadata x node end m) (Added x m σ (AreMetadata f say (x .types) node at)) at σ
   unfolding metadata
   metadata-says end o m at σ r =
       post-step (block-quiet metaFrame 8 end) λ n q b.

@@ -51,7 +51,8 @@ reference-spans : (headerEnd size contained end at : ℕ) → Wp Any (reference 
 unfolding reference
 reference-spans headerEnd size contained end at =
     wp-place _ at
-    (wp-after (number-on _ _ end at) λ r q x. wp-check _ _ λ t. wp-check _ _ λ u. wp-check _ _ λ v. wp-weaken (target-spans headerEnd size r end q) λ o p h z. let w = h z in (omega arith, omega arith))
+    (wp-after (number-on _ _ end at) λ r q x. wp-check _ _ λ t. wp-check _ _ λ u. wp-check _ _ λ v. wp-weaken
+    (target-spans headerEnd size r end q) λ o p h z. let w = h z in (omega arith, omega arith))
 
 module _ (f k : List ℕ) (long : length f ≡ length k) where
   abbrev pub B : ℕ → Type 0
@@ -64,28 +65,35 @@ module _ (f k : List ℕ) (long : length f ≡ length k) where
   abbrev UnpackersSame : unpackers.Unpackers → Type 0
   UnpackersSame u = answer (run (times (u .count) (unpackerText f) []) f (u .place .0)) ≡ answer (run (times (u .count) (unpackerText k) []) k (u .place .0))
 
-  reread-same : (contained inner at : ℕ) → inner ≤ length f → {u : unpackers.Unpackers} {q : ℕ} → run (unpackers contained inner) f at ≡ ok u q → Held privateData B (trace (unpackers contained inner) f at) → UnpackersSame u
+  reread-same : (contained inner at : ℕ) → inner ≤ length f → {u : unpackers.Unpackers} {q : ℕ} → run (unpackers contained inner) f at ≡ ok u
+      q → Held privateData B (trace (unpackers contained inner) f at) → UnpackersSame u
   reread-same contained inner at o {u} {q} e h =
       let r = unpackers-reread f contained inner at o e in
       let a = r .after in
       let b = r .before in
-      let g : AgreeUpTo f k (u .place .0) (r .stop) = λ j lo hi. all-bytes B (unpackers contained inner) (unpackers-use tt contained inner) f at e h j (omega arith) (omega arith) in
+      let g : AgreeUpTo f k (u .place .0) (r .stop) = λ j lo hi. all-bytes B (unpackers contained inner) (unpackers-use tt contained inner) f at e
+      h j (omega arith) (omega arith) in
       ap answer (r .ran) ∙ sym (ap answer (unpackers-alike f k long (u .count) (u .place .0) (r .ran) g))
 
   abbrev UriSame : reference.Reference → Type 0
   UriSame r = r .kind ≡ 4 → Agree f k (r .target) (r .extent)
 
-  uri-same : (headerEnd size contained stop at : ℕ) {r : reference.Reference} {q : ℕ} → run (reference headerEnd size contained stop) f at ≡ ok r q → Held privateData B (trace (reference headerEnd size contained stop) f at) → UriSame r
+  uri-same : (headerEnd size contained stop at : ℕ) {r : reference.Reference} {q : ℕ} → run (reference headerEnd size contained stop) f at ≡
+      ok r q → Held privateData B (trace (reference headerEnd size contained stop) f at) → UriSame r
   uri-same headerEnd size contained stop at e h z =
       let w = at-end any-free f (reference-spans headerEnd size contained stop at) e z in
       λ j lo hi. all-bytes B (reference headerEnd size contained stop) (reference-uses tt tt headerEnd size contained stop) f at e h j (omega arith) (omega arith)
 
-  rest-kept : (headerEnd size contained inner stop at : ℕ) → inner ≤ length f → Keeping B nothing f (rest headerEnd size contained inner stop) (Holds (λ o q. UnpackersSame (o .unpackers) × UriSame (o .reference))) at tt
+  rest-kept : (headerEnd size contained inner stop at : ℕ) → inner ≤ length f → Keeping B nothing f (rest headerEnd size contained inner stop)
+      (Holds (λ o q. UnpackersSame (o .unpackers) × UriSame (o .reference))) at tt
   unfolding rest
   rest-kept headerEnd size contained inner stop at o =
-      keep-step nothing-quiet λ u q e h. keep-place _ q (keep-check _ _ λ t. keep-step nothing-quiet λ r p e₂ h₂. keep-ret (reread-same contained inner at o e h, uri-same headerEnd size contained stop q e₂ h₂))
+      keep-step nothing-quiet λ u q e h. keep-place _ q
+      (keep-check _ _ λ t. keep-step nothing-quiet λ r p e₂ h₂. keep-ret
+      (reread-same contained inner at o e h, uri-same headerEnd size contained stop q e₂ h₂))
 
-  front-kept : (x : Context) (parent depth least end : ℕ) (m : Made) (at : ℕ) → end ≤ length f → Keeping B nothing f (front x parent depth (inTree least end) m) (Holds (λ w q. Same (w .row) × (at + w .row .size ≤ end))) at tt
+  front-kept : (x : Context) (parent depth least end : ℕ) (m : Made) (at : ℕ) → end ≤ length f → Keeping B nothing f
+      (front x parent depth (inTree least end) m) (Holds (λ w q. Same (w .row) × (at + w .row .size ≤ end))) at tt
   unfolding front shape
   front-kept x parent depth least end m at o =
       keep-place _ at (keep-step nothing-quiet λ h p e _.
@@ -118,7 +126,8 @@ rows-are (passed (plain x) p n ∷ es) σ = rows-are es σ
 
 -- what is shown of n nodes with d levels left
 abbrev Keep : (f k : List ℕ) → length f ≡ length k → Context → ℕ → Type 0
-Keep f k long x d = (n parent end : ℕ) (m : Made) (at : ℕ) (σ : List Node) → end ≤ length f → AllSame f k long σ → Keeping (B f k long) nodeRows f (times n (tree.node d x parent (inTree 0 end)) m) (λ _ q τ. AllSame f k long τ) at σ
+Keep f k long x d = (n parent end : ℕ) (m : Made) (at : ℕ) (σ : List Node) → end ≤ length f → AllSame f k long σ → Keeping (B f k long)
+    nodeRows f (times n (tree.node d x parent (inTree 0 end)) m) (λ _ q τ. AllSame f k long τ) at σ
 
 meets-run : {A : Type 0} (f : List ℕ) (m : P A) (at : ℕ) (Q : A → ℕ → Type 0) {a : A} {q : ℕ} → Meets (Holds Q) (exec nothing m f at tt) → run m f at ≡ ok a q → Q a q
 meets-run f m at Q w e = subst (λ o. Meets (Holds Q) (still o tt)) e (subst (Meets (Holds Q)) (exec-puts nothing m f at tt) w)
@@ -130,7 +139,8 @@ module _ (f k : List ℕ) (long : length f ≡ length k) (x : Context) where
   node-kept d children parent least end m at σ o s =
       keep-place _ at (keep-check _ _ λ room.
       keep-step (quiet-of (front-uses (λ κ. tt) (λ v p n σ. refl) (λ r p n σ. refl) x parent (16 - d) (inTree least end) m)) λ w q e h.
-      let y = meets-run f (front x parent (16 - d) (inTree least end) m) at (λ w q. Same f k long (w .row) × (at + w .row .size ≤ end)) (front-kept f k long x parent (16 - d) least end m at o .meets h) e in
+      let y = meets-run f (front x parent (16 - d) (inTree least end) m) at (λ w q. Same f k long (w .row) × (at + w .row .size ≤ end))
+      (front-kept f k long x parent (16 - d) least end m at o .meets h) e in
       let i = y .1 in
       keep-skip _ _
       (keep-after (children (w .row .contained) (m .nodes) (at + w .row .size) (plusNode (w .made)) _ _ (omega arith) (same-on f k long σ (w .row) s (y .0))) λ m₂ p τ t.
@@ -150,7 +160,8 @@ module _ (f k : List ℕ) (long : length f ≡ length k) (x : Context) where
   nodes-kept zero = none-kept
   nodes-kept (suc d) = times-kept d (nodes-kept d)
 
-  pub tree-kept : (end at : ℕ) → end ≤ length f → {m : Made} {q : ℕ} → run (tree.tree x end) f at ≡ ok m q → Kept privateData f k (trace (tree.tree x end) f at) → AllSame f k long (nodesOf (trace (tree.tree x end) f at))
+  pub tree-kept : (end at : ℕ) → end ≤ length f → {m : Made} {q : ℕ} → run (tree.tree x end) f at ≡ ok m q → Kept privateData f k
+      (trace (tree.tree x end) f at) → AllSame f k long (nodesOf (trace (tree.tree x end) f at))
   unfolding tree.tree
   tree-kept end at o {m} {q} e h =
       let p : P Made = tree.node 16 x 0 (inTree end end) (record { nodes = 0; items = 0 }) in

@@ -82,7 +82,8 @@ node-exact : (r : Shape) (cs : List Content) (inner : List ℕ) → spanOf r cs 
 unfolding nodeText
 node-exact r cs inner h = whole-length r cs inner ∙ framed-length (r .contained) (restText r cs) (ownText r) (length inner) h
 
-module _ {f : List ℕ} (row : Node) (r : Shape) (cs : List Content) {at q : ℕ} (w : Spans f row r cs at q) (inner : List ℕ) (i : q + inlineSize row + length inner ≤ at + row .size) where
+module _ {f : List ℕ} (row : Node) (r : Shape) (cs : List Content) {at q : ℕ} (w : Spans f row r cs at q) (inner : List ℕ)
+    (i : q + inlineSize row + length inner ≤ at + row .size) where
   span-header : spanOf r cs inner .header ≤ row .header
   span-header =
       let a = w .length-is .covers .short in
@@ -94,7 +95,11 @@ module _ {f : List ℕ} (row : Node) (r : Shape) (cs : List Content) {at q : ℕ
       let n = w .header-is .fits in
       let s = vlq-some (row .size) in
       let t = vlq-some (row .header) in
-      omega (arith, header-least (r .contained) (restText r cs) (length (ownText r) + length inner) (w .a - at) (w .c - w .b) (omega arith) (omega arith) (omega arith) (omega arith))
+      omega (
+        arith,
+        header-least (r .contained) (restText r cs) (length (ownText r) + length inner) (w .a - at) (w .c - w .b) (omega arith)
+            (omega arith) (omega arith) (omega arith),
+      )
 
   span-size : spanOf r cs inner .size ≤ row .size
   span-size = let o = w .own-covers .short in let h = span-header in omega arith
@@ -103,12 +108,15 @@ module _ {f : List ℕ} (row : Node) (r : Shape) (cs : List Content) {at q : ℕ
   span-tight e = let o = w .own-covers .short in let h = span-header in (omega arith, omega arith)
 
   -- a node that is no longer than its text has these bytes
-  span-covers : Covers f (q + inlineSize row) inner (at + row .size) → spanOf r cs inner .size ≡ row .size → spanOf r cs inner .header ≡ row .header → Covers f at (wholeText r cs inner) (at + row .size)
+  span-covers : Covers f (q + inlineSize row) inner (at + row .size) → spanOf r cs inner .size ≡ row .size → spanOf r cs inner .header ≡
+      row .header → Covers f at (wholeText r cs inner) (at + row .size)
   unfolding wholeText nodeText framed
   span-covers h e e₂ =
       let own : List ℕ = ownText r in
       let front : List (List ℕ) = vlq (spanOf r cs inner .size) ∷ vlq (r .contained) ∷ vlq (spanOf r cs inner .header) ∷ restText r cs ∷ own ∷ [] in
-      covers-on {s = joined front} (covers-on (covers-as (ap vlq (sym e)) (w .length-is .covers)) (covers-on (w .contained-covers) (covers-on (covers-as (ap vlq (sym e₂)) (w .header-is .covers)) (covers-on (w .rest-covers) (covers-last (w .own-covers)))))) h
+      covers-on {s = joined front} (covers-on (covers-as (ap vlq (sym e)) (w .length-is .covers))
+      (covers-on (w .contained-covers)
+      (covers-on (covers-as (ap vlq (sym e₂)) (w .header-is .covers)) (covers-on (w .rest-covers) (covers-last (w .own-covers)))))) h
 
 -- ---- what is collected: node rows as they are, and contents
 
@@ -125,14 +133,17 @@ module _ (f : List ℕ) where
   abbrev said : Raw → Collected
   said σ = record { nodes = map (shape f) (σ .nodes); items = σ .items }
 
-  raw : {A : Type 0} (m : P A) (Q : A → ℕ → Collected → Type 0) (at : ℕ) (σ : Raw) → Meets Q (exec (collect f) m f at (said σ)) → Meets (λ a q τ. Q a q (said τ)) (exec keepAs m f at σ)
+  raw : {A : Type 0} (m : P A) (Q : A → ℕ → Collected → Type 0) (at : ℕ) (σ : Raw) → Meets Q (exec (collect f) m f at (said σ)) → Meets
+      (λ a q τ. Q a q (said τ)) (exec keepAs m f at σ)
   unfolding exec
   raw (ret a) Q at σ w = w
   raw (refuse n p) Q at σ w = tt
   raw (here k) Q at σ w = raw (k at) Q at σ w
   raw (byte κ k) Q at σ w = raw (k (getD f at 0)) Q (at + 1) σ w
   raw (pass (nodeRow r) n m) Q at σ w =
-      raw m Q (at + n) (record { nodes = σ .nodes ++ r ∷ []; items = σ .items }) (subst (λ v. Meets Q (exec (collect f) m f (at + n) (record { nodes = v; items = σ .items }))) (sym (map-append (shape f) (σ .nodes) (r ∷ []))) w)
+      raw m Q (at + n) (record { nodes = σ .nodes ++ r ∷ []; items = σ .items })
+      (subst (λ v. Meets Q (exec (collect f) m f (at + n) (record { nodes = v; items = σ .items })))
+      (sym (map-append (shape f) (σ .nodes) (r ∷ []))) w)
   raw (pass (itemRow r) n m) Q at σ w = raw m Q (at + n) (record { nodes = σ .nodes; items = σ .items ++ content f r ∷ [] }) w
   raw (pass (plain x) n m) Q at σ w = raw m Q (at + n) σ w
 
@@ -145,7 +156,8 @@ module _ (f : List ℕ) where
   keeps-rows [] σ = rw (append-nil (σ .nodes), append-nil (σ .items)) refl
   keeps-rows (seen κ p ∷ es) σ = keeps-rows es σ
   keeps-rows (passed (nodeRow r) p n ∷ es) σ = keeps-rows es (record { nodes = σ .nodes ++ r ∷ []; items = σ .items }) ∙ rw (append-assoc (σ .nodes) (r ∷ []) (nodesOf es)) refl
-  keeps-rows (passed (itemRow r) p n ∷ es) σ = keeps-rows es (record { nodes = σ .nodes; items = σ .items ++ content f r ∷ [] }) ∙ rw (append-assoc (σ .items) (content f r ∷ []) (map (content f) (itemsOf es))) refl
+  keeps-rows (passed (itemRow r) p n ∷ es) σ = keeps-rows es (record { nodes = σ .nodes; items = σ .items ++ content f r ∷ [] }) ∙ rw
+      (append-assoc (σ .items) (content f r ∷ []) (map (content f) (itemsOf es))) refl
   keeps-rows (passed (plain x) p n ∷ es) σ = keeps-rows es σ
 
 -- a front makes no node row
@@ -194,12 +206,18 @@ pub record Level (f : List ℕ) (x : Context) (end n : ℕ) (σ : Raw) (at : ℕ
 bound-none : (f : List ℕ) (at : ℕ) → Bound f [] [] [] at at
 bound-none f at = record { covers = covers-none at; over = none; tight = λ _. none }
 
-bound-on : {f : List ℕ} {rs ts : List Node} {ss us : List Span} (xs ys : List (List ℕ)) {at p q : ℕ} → Bound f rs ss xs at p → Bound f ts us ys p q → Bound f (rs ++ ts) (ss ++ us) (xs ++ ys) at q
+bound-on : {f : List ℕ} {rs ts : List Node} {ss us : List Span} (xs ys : List (List ℕ)) {at p q : ℕ} → Bound f rs ss xs at p → Bound f ts us
+    ys p q → Bound f (rs ++ ts) (ss ++ us) (xs ++ ys) at q
 bound-on xs ys x y =
     let a = x .covers .short in
     let b = y .covers .short in
     let z = ap length (joined-append xs ys) ∙ length-append (joined xs) (joined ys) in
-    record { covers = covers-as (sym (joined-append xs ys)) (covers-on (x .covers) (y .covers)); over = along-on (x .over) (y .over); tight = λ e. along-on (x .tight (omega arith)) (y .tight (omega arith)) }
+    record {
+      covers = covers-as (sym (joined-append xs ys)) (covers-on (x .covers) (y .covers));
+      over = along-on (x .over) (y .over);
+      tight =
+          λ e. along-on (x .tight (omega arith)) (y .tight (omega arith));
+    }
 
 module _ (f : List ℕ) (x : Context) (end : ℕ) where
   level-none : (m : Made) (at : ℕ) (σ : Raw) → m .items ≤ x .limits .items → at ≤ end → Level f x end 0 σ at m at σ
@@ -230,19 +248,35 @@ module _ (f : List ℕ) (x : Context) (end : ℕ) where
         items-left = t .items-left ∙ ap (λ v. v ++ t .contents) (s .items-left) ∙ append-assoc (σ .items) (s .contents) (t .contents);
         count = length-append (s .texts) (t .texts) ∙ ap₂ _+_ (s .count) (t .count);
         outer-is = λ ss ds.
-            rw (e, append-assoc (map (shape f) (s .rows)) (map (shape f) (t .rows)) ss, append-assoc (s .contents) (t .contents) ds, append-assoc (s .texts) (t .texts) (outer ss ds))
+            rw (
+              e,
+              append-assoc (map (shape f) (s .rows)) (map (shape f) (t .rows)) ss,
+              append-assoc (s .contents) (t .contents) ds,
+              append-assoc
+                  (s .texts) (t .texts) (outer ss ds),
+            )
             (s .outer-is (map (shape f) (t .rows) ++ ss) (t .contents ++ ds) ∙ ap (λ v. s .texts ++ v) (t .outer-is ss ds));
         sizes-are = λ ss ds.
-            rw (e, append-assoc (map (shape f) (s .rows)) (map (shape f) (t .rows)) ss, append-assoc (s .contents) (t .contents) ds, append-assoc (s .sizes) (t .sizes) (spans ss ds))
+            rw (
+              e,
+              append-assoc (map (shape f) (s .rows)) (map (shape f) (t .rows)) ss,
+              append-assoc (s .contents) (t .contents) ds,
+              append-assoc
+                  (s .sizes) (t .sizes) (spans ss ds),
+            )
             (s .sizes-are (map (shape f) (t .rows) ++ ss) (t .contents ++ ds) ∙ ap (λ v. s .sizes ++ v) (t .sizes-are ss ds));
-        bound = λ a. let b : AllStay (map (shape f) (s .rows) ++ map (shape f) (t .rows)) = rw e at a in bound-on (s .texts) (t .texts) (s .bound (stay-left (map (shape f) (s .rows)) (map (shape f) (t .rows)) b)) (t .bound (stay-right (map (shape f) (s .rows)) (map (shape f) (t .rows)) b));
+        bound = λ a. let b : AllStay (map (shape f) (s .rows) ++ map (shape f) (t .rows)) = rw e at a in bound-on (s .texts) (t .texts)
+            (s .bound (stay-left (map (shape f) (s .rows)) (map (shape f) (t .rows)) b))
+            (t .bound (stay-right (map (shape f) (s .rows)) (map (shape f) (t .rows)) b));
         room = t .room;
         inside = t .inside;
       }
 
   -- a node, from its front and the nodes that it holds
-  level-one : (big : length f < 2 ^ 28) (o : end ≤ length f) {at q : ℕ} {m₂ : Made} {σ υ : Raw} (τ : Raw) {limits : Limits} {types : List Declared} {parent depth : ℕ} {m : Made} (row : Node) (cs : List Content)
-      → Front limits types parent depth m (shape f row) cs → shape f row .contained ≡ row .contained → τ .nodes ≡ σ .nodes → τ .items ≡ σ .items ++ cs → (Stays (shape f row) → Spans f row (shape f row) cs at q) → at + row .size ≤ end
+  level-one : (big : length f < 2 ^ 28) (o : end ≤ length f) {at q : ℕ} {m₂ : Made} {σ υ : Raw} (τ : Raw) {limits : Limits}
+      {types : List Declared} {parent depth : ℕ} {m : Made} (row : Node) (cs : List Content)
+      → Front limits types parent depth m (shape f row) cs → shape f row .contained ≡ row .contained → τ .nodes ≡ σ .nodes → τ .items ≡ σ .items
+      ++ cs → (Stays (shape f row) → Spans f row (shape f row) cs at q) → at + row .size ≤ end
       → Level f x (at + row .size) (row .contained) (record { nodes = τ .nodes ++ row ∷ []; items = τ .items }) (q + inlineSize row) m₂ (at + row .size) υ
       → Level f x end 1 σ at m₂ (at + row .size) υ
   unfolding outer spans
@@ -260,9 +294,24 @@ module _ (f : List ℕ) (x : Context) (end : ℕ) where
         items-left = t .items-left ∙ ap (λ v. v ++ t .contents) left₂ ∙ append-assoc (σ .items) cs (t .contents);
         count = refl;
         outer-is = λ ss ds.
-            rw (append-assoc cs (t .contents) ds, take-at cs (t .contents ++ ds) (r .rows) e, drop-at cs (t .contents ++ ds) (r .rows) e, t .outer-is ss ds, take-at (t .texts) (outer ss ds) (r .contained) l, drop-at (t .texts) (outer ss ds) (r .contained) l) refl;
+            rw (
+              append-assoc cs (t .contents) ds,
+              take-at cs (t .contents ++ ds) (r .rows) e,
+              drop-at cs (t .contents ++ ds) (r .rows) e,
+              t .outer-is ss
+                  ds,
+              take-at (t .texts) (outer ss ds) (r .contained) l,
+              drop-at (t .texts) (outer ss ds) (r .contained) l,
+            ) refl;
         sizes-are = λ ss ds.
-            rw (append-assoc cs (t .contents) ds, take-at cs (t .contents ++ ds) (r .rows) e, drop-at cs (t .contents ++ ds) (r .rows) e, t .outer-is ss ds, take-at (t .texts) (outer ss ds) (r .contained) l) (ap (λ v. spanOf r cs inner ∷ v) (t .sizes-are ss ds));
+            rw (
+              append-assoc cs (t .contents) ds,
+              take-at cs (t .contents ++ ds) (r .rows) e,
+              drop-at cs (t .contents ++ ds) (r .rows) e,
+              t .outer-is ss
+                  ds,
+              take-at (t .texts) (outer ss ds) (r .contained) l,
+            ) (ap (λ v. spanOf r cs inner ∷ v) (t .sizes-are ss ds));
         bound = λ a.
             let b = t .bound (a .1) in
             let w = wide (a .0) in
@@ -294,7 +343,8 @@ module _ (f : List ℕ) (big : length f < 2 ^ 28) (x : Context) where
   -- the front of a node, from `at` to q
   abbrev FrontLevel : (parent depth : ℕ) → Standing → Made → Raw → ℕ → front.Front → ℕ → Raw → Type 0
   FrontLevel parent depth z m σ at w q τ =
-      (cs : List Content) × Front (x .limits) (x .types) parent depth m (shape f (w .row)) cs × (w .made ≡ plusItems (length cs) m) × (τ .nodes ≡ σ .nodes) × (τ .items ≡ σ .items ++ cs)
+      (cs : List Content) × Front (x .limits) (x .types) parent depth m (shape f (w .row)) cs × (w .made ≡ plusItems (length cs) m) ×
+      (τ .nodes ≡ σ .nodes) × (τ .items ≡ σ .items ++ cs)
       × (Stays (shape f (w .row)) → Spans f (w .row) (shape f (w .row)) cs at q) × FrontIn x z m at w q
 
   front-level : (parent depth least end : ℕ) (m : Made) (at : ℕ) (σ : Raw) → end ≤ length f → end ≤ x .size → m .nodes < x .limits .nodes → m .items ≤ x .limits .items
@@ -346,7 +396,8 @@ module _ (f : List ℕ) (big : length f < 2 ^ 28) (x : Context) where
   times-level d children zero parent end m at σ o i l r = post-ret (level-none f x end m at σ r l)
   times-level d children (suc n) parent end m at σ o i l r =
       post-after (node-level d children parent 0 end m at σ o i r) λ m₁ q τ s.
-      post-weaken (times-level d children n parent end m₁ q τ o i (s .inside) (s .room)) λ m₂ p υ t. let e : 1 + n ≡ suc n = omega arith in subst (λ k. Level f x end k σ at m₂ p υ) e (level-on f x end s t)
+      post-weaken (times-level d children n parent end m₁ q τ o i (s .inside) (s .room)) λ m₂ p υ t. let e : 1 + n ≡ suc n = omega arith in subst
+      (λ k. Level f x end k σ at m₂ p υ) e (level-on f x end s t)
 
   none-level : Levels 0
   unfolding times tree.node exec _>>=_

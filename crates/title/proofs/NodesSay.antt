@@ -72,7 +72,9 @@ either a b t = by (eqb a 0) refl t
 
 refers-by : (headerEnd size contained r end at : ℕ) → (contained ≡ 0) ⊎ (r ≡ 1) → Wp Any (target headerEnd size r end) (λ o q. RefersTo contained (o .kind)) at
 refers-by headerEnd size contained r end at (inl z) = wp-weaken (target-is headerEnd size r end at) (λ o q w. elim w [ inl k ↦ inl k | inr k ↦ inr (z, k) ])
-refers-by headerEnd size contained r end at (inr k) = subst (λ v. Wp Any (target headerEnd size v end) (λ o q. RefersTo contained (o .kind)) at) (sym k) (wp-weaken (target-one headerEnd size end at) (λ o q w. inl w))
+refers-by headerEnd size contained r end at (inr k) = subst
+    (λ v. Wp Any (target headerEnd size v end) (λ o q. RefersTo contained (o .kind)) at) (sym k)
+    (wp-weaken (target-one headerEnd size end at) (λ o q w. inl w))
 
 reference-is : (headerEnd size contained end at : ℕ) → Wp Any (reference headerEnd size contained end) (λ o q. RefersTo contained (o .kind)) at
 unfolding reference
@@ -101,20 +103,29 @@ reference-in : (f : List ℕ) (headerEnd size contained end at : ℕ) → Post n
 unfolding reference
 reference-in f headerEnd size contained end at =
     post-place _ at
-    (post-step nothing-quiet λ r q e. post-check _ _ λ t. post-check _ _ λ u. post-check _ _ λ v. target-in f headerEnd size r end at q (number-covers referenceFrame 3 end f at e) (ltb-true 0 r t) (leb-true r 4 u))
+    (post-step nothing-quiet λ r q e. post-check _ _ λ t. post-check _ _ λ u. post-check _ _ λ v. target-in f headerEnd size r end at q
+    (number-covers referenceFrame 3 end f at e) (ltb-true 0 r t) (leb-true r 4 u))
 
 -- unpackers up to where the header ends, and the reference
 abbrev RestSays : (f : List ℕ) (contained inner at : ℕ) → Rest → ℕ → Type 0
 RestSays f contained inner at o q = (e : ℕ) × PacksOf f contained inner at (o .unpackers) e × RefersTo contained (o .reference .kind) × (inner ≤ e) × RefersIn f e (o .reference) q
 
-rest-post : (f : List ℕ) (headerEnd size contained inner stop at : ℕ) → inner ≤ length f → Post nothing f (rest headerEnd size contained inner stop) (Holds (RestSays f contained inner at)) at tt
+rest-post : (f : List ℕ) (headerEnd size contained inner stop at : ℕ) → inner ≤ length f → Post nothing f
+    (rest headerEnd size contained inner stop) (Holds (RestSays f contained inner at)) at tt
 unfolding rest
 rest-post f headerEnd size contained inner stop at o =
     post-step (unpackers-quiet nothing-ignores contained inner) λ u q e.
     post-place _ q
     (post-check _ _ λ t.
     post-step (reference-quiet nothing-ignores headerEnd size contained stop) λ r p e₂.
-    post-ret (q, unpackers-say f contained inner at o e, at-end any-free f (reference-is headerEnd size contained stop q) e₂, leb-true inner q t, post-ran (reference-in f headerEnd size contained stop q) e₂))
+    post-ret (
+      q,
+      unpackers-say f contained inner at o e,
+      at-end any-free f (reference-is headerEnd size contained stop q) e₂,
+      leb-true inner q
+          t,
+      post-ran (reference-in f headerEnd size contained stop q) e₂,
+    ))
 
 -- ---- the three numbers
 
@@ -173,7 +184,9 @@ decEqZero (suc n) = inr (λ z. omega arith)
 
 module _ (f : List ℕ) where
   -- its own text: the reference, with what it leads to in the node
-  own-in : (row : Node) (at q : ℕ) → Stays (shape f row) → RefersTo (row .contained) (row .reference) → (row .reference ≡ 1 → Covers f at (vlq 1) q × (row .target ≡ q)) → (row .reference ≡ 4 → Covers f at (joined (vlq 4 ∷ sized (part f (row .target) (row .extent)) ∷ [])) q)
+  own-in : (row : Node) (at q : ℕ) → Stays (shape f row) → RefersTo (row .contained) (row .reference) →
+      (row .reference ≡ 1 → Covers f at (vlq 1) q × (row .target ≡ q)) →
+      (row .reference ≡ 4 → Covers f at (joined (vlq 4 ∷ sized (part f (row .target) (row .extent)) ∷ [])) q)
       → Covers f at (ownText (shape f row)) (q + inlineSize row)
   unfolding shape
   own-in row at q stays refers one four = elim (refers-stay (row .contained) (row .reference) refers stays) [
@@ -184,7 +197,8 @@ module _ (f : List ℕ) where
           | inl z ↦
               let b : part f q (row .extent) ≡ r .body = rw (z, t) refl in
               covers-as (sym (own-inline r e)) (covers-on h (covers-last (covers-to (omega (arith, inline-is row z e)) (covers-as b (covers-part f q (row .extent))))))
-          | inr n ↦ let b : r .body ≡ [] = rw (ne-eqb _ _ n) refl in covers-as (sym (own-inline r e ∙ ap (λ v. joined (vlq 1 ∷ v ∷ [])) b)) (covers-last (covers-wider (omega arith) h))
+          | inr n ↦ let b : r .body ≡ [] = rw (ne-eqb _ _ n) refl in covers-as (sym (own-inline r e ∙ ap (λ v. joined (vlq 1 ∷ v ∷ [])) b))
+              (covers-last (covers-wider (omega arith) h))
         ]
     | inr (e, z) ↦
         let r : Shape = shape f row in
@@ -192,9 +206,11 @@ module _ (f : List ℕ) where
         covers-as (ap (λ v. joined (vlq 4 ∷ sized v ∷ [])) b ∙ sym (own-uri r e)) (covers-wider (omega arith) (four e))
   ]
 
-  spans-made : (parent depth at p q v : ℕ) (h : head.Head) (m m′ : Made) (o : Rest) (cs : List Content) → HeadIn f at h p → Covers f p (sized (itemsText cs)) q → RestSays f (h .contained) (at + h .header .0) q o v
+  spans-made : (parent depth at p q v : ℕ) (h : head.Head) (m m′ : Made) (o : Rest) (cs : List Content) → HeadIn f at h p → Covers f p
+      (sized (itemsText cs)) q → RestSays f (h .contained) (at + h .header .0) q o v
       → Stays (shape f (node.rowOf at h parent depth 0 (o .reference) (o .unpackers) (m′ .items - m .items)))
-      → Spans f (node.rowOf at h parent depth 0 (o .reference) (o .unpackers) (m′ .items - m .items)) (shape f (node.rowOf at h parent depth 0 (o .reference) (o .unpackers) (m′ .items - m .items))) cs at v
+      → Spans f (node.rowOf at h parent depth 0 (o .reference) (o .unpackers) (m′ .items - m .items))
+      (shape f (node.rowOf at h parent depth 0 (o .reference) (o .unpackers) (m′ .items - m .items))) cs at v
   unfolding shape
   spans-made parent depth at p q v h m m′ o cs (a, b, size, contained, header) items (e, packs, refers, full, own) stays =
       let row : Node = node.rowOf at h parent depth 0 (o .reference) (o .unpackers) (m′ .items - m .items) in
@@ -211,7 +227,8 @@ module _ (f : List ℕ) where
       }
 
 module _ {f : List ℕ} {say : ℕ → Item → Content} (keeps : Keeps f say) (x : Context) where
-  front-made : (parent depth p : ℕ) (h : head.Head) (m m′ : Made) (o : Rest) (cs : List Content) → h .contained < 2 ^ 28 → m .nodes < x .limits .nodes → Grouped (x .types) (m .nodes) cs → m .items + length cs ≤ x .limits .items → m′ ≡ plusItems (length cs) m
+  front-made : (parent depth p : ℕ) (h : head.Head) (m m′ : Made) (o : Rest) (cs : List Content) → h .contained < 2 ^ 28 → m .nodes <
+      x .limits .nodes → Grouped (x .types) (m .nodes) cs → m .items + length cs ≤ x .limits .items → m′ ≡ plusItems (length cs) m
       → {end a e : ℕ} → PacksOf f (h .contained) end a (o .unpackers) e → RefersTo (h .contained) (o .reference .kind)
       → Front (x .limits) (x .types) parent depth m (shape f (node.rowOf p h parent depth 0 (o .reference) (o .unpackers) (m′ .items - m .items))) cs
   unfolding shape
@@ -240,7 +257,9 @@ module _ {f : List ℕ} {say : ℕ → Item → Content} (keeps : Keeps f say) (
 
   pub front-says : (parent depth least end : ℕ) (m : Made) (at : ℕ) (σ : Collected) → end ≤ length f → m .nodes < x .limits .nodes → m .items ≤ x .limits .items
       → Post (collectAs say f) f (front x parent depth (inTree least end) m)
-      (λ w q τ. (cs : List Content) × Front (x .limits) (x .types) parent depth m (shape f (w .row)) cs × (w .made ≡ plusItems (length cs) m) × (τ ≡ withItems σ cs) × (at + w .row .size ≤ end) × (Plain f say → Stays (shape f (w .row)) → Spans f (w .row) (shape f (w .row)) cs at q)) at σ
+      (λ w q τ. (cs : List Content) × Front (x .limits) (x .types) parent depth m (shape f (w .row)) cs × (w .made ≡ plusItems (length cs) m) ×
+      (τ ≡ withItems σ cs) × (at + w .row .size ≤ end) ×
+      (Plain f say → Stays (shape f (w .row)) → Spans f (w .row) (shape f (w .row)) cs at q)) at σ
   unfolding front
   front-says parent depth least end m at σ o room r =
       post-place _ at
@@ -289,7 +308,8 @@ grown-none x d parent m q σ r =
     let b : m .items + 0 ≡ m .items = omega arith in
     record { shapes = []; contents = []; texts = []; are = none; made = rw (a, b) refl; left = rw (append-nil (σ .nodes), append-nil (σ .items)) refl; room = r }
 
-grown-more : (x : Context) (d parent n : ℕ) {m m₁ m₂ : Made} {p q : ℕ} {σ τ υ : Collected} → GrownOne x d parent m σ m₁ p τ → Grown x (suc d) parent m₁ τ n m₂ q υ → Grown x (suc d) parent m σ (suc n) m₂ q υ
+grown-more : (x : Context) (d parent n : ℕ) {m m₁ m₂ : Made} {p q : ℕ} {σ τ υ : Collected} → GrownOne x d parent m σ m₁ p τ → Grown x
+    (suc d) parent m₁ τ n m₂ q υ → Grown x (suc d) parent m σ (suc n) m₂ q υ
 grown-more x d parent n {m = m} {m₁ = m₁} {m₂ = m₂} {σ = σ} s t =
     let a : ℕ = length (s .own ++ s .contents) in
     let y = length-append (s .own ++ s .contents) (t .contents) in
@@ -302,11 +322,13 @@ grown-more x d parent n {m = m} {m₁ = m₁} {m₂ = m₂} {σ = σ} s t =
       texts = wholeText (s .shape) (s .own) (joined (s .inner)) ∷ t .texts;
       are = more (s .front) (s .are) (subst (λ v. Nodes (x .limits) (x .types) (suc d) parent v n (t .shapes) (t .contents) (t .texts)) (s .made) (t .are));
       made = t .made ∙ ap (madeBy (t .shapes) (t .contents)) (s .made) ∙ rw (k₁, k₂) refl;
-      left = t .left ∙ ap (λ w. withRows w (t .shapes) (t .contents)) (s .left) ∙ rw (append-assoc (σ .nodes) (s .shape ∷ s .contained) (t .shapes), append-assoc (σ .items) (s .own ++ s .contents) (t .contents)) refl;
+      left = t .left ∙ ap (λ w. withRows w (t .shapes) (t .contents)) (s .left) ∙ rw
+          (append-assoc (σ .nodes) (s .shape ∷ s .contained) (t .shapes), append-assoc (σ .items) (s .own ++ s .contents) (t .contents)) refl;
       room = t .room;
     }
 
-grown-one : (x : Context) (d parent : ℕ) {m m₁ m₂ : Made} {q : ℕ} {σ τ υ : Collected} (r : Shape) (cs : List Content) → Front (x .limits) (x .types) parent (16 - d) m r cs → m₁ ≡ plusItems (length cs) m → τ ≡ withItems σ cs
+grown-one : (x : Context) (d parent : ℕ) {m m₁ m₂ : Made} {q : ℕ} {σ τ υ : Collected} (r : Shape) (cs : List Content) → Front (x .limits)
+    (x .types) parent (16 - d) m r cs → m₁ ≡ plusItems (length cs) m → τ ≡ withItems σ cs
     → Grown x d (m .nodes) (plusNode m₁) (record { nodes = τ .nodes ++ r ∷ []; items = τ .items }) (r .contained) m₂ q υ → GrownOne x d parent m σ m₂ q υ
 grown-one x d parent {m = m} {m₁ = m₁} {σ = σ} r cs f e l t =
     let y = length-append cs (t .contents) in
@@ -321,7 +343,8 @@ grown-one x d parent {m = m} {m₁ = m₁} {σ = σ} r cs f e l t =
       inner = t .texts;
       are = subst (λ v. Nodes (x .limits) (x .types) d (m .nodes) (plusNode v) (r .contained) (t .shapes) (t .contents) (t .texts)) e (t .are);
       made = t .made ∙ ap (λ v. madeBy (t .shapes) (t .contents) (plusNode v)) e ∙ rw (k₁, k₂) refl;
-      left = t .left ∙ ap (λ w. withRows (record { nodes = w .nodes ++ r ∷ []; items = w .items }) (t .shapes) (t .contents)) l ∙ rw (append-assoc (σ .nodes) (r ∷ []) (t .shapes), append-assoc (σ .items) cs (t .contents)) refl;
+      left = t .left ∙ ap (λ w. withRows (record { nodes = w .nodes ++ r ∷ []; items = w .items }) (t .shapes) (t .contents)) l ∙ rw
+          (append-assoc (σ .nodes) (r ∷ []) (t .shapes), append-assoc (σ .items) cs (t .contents)) refl;
       room = t .room;
     }
 
@@ -331,7 +354,8 @@ shape-contained f row = refl
 
 -- what is to be shown of n nodes with d levels left
 abbrev Say : (f : List ℕ) (say : ℕ → Item → Content) (x : Context) (d : ℕ) → Type 0
-Say f say x d = (n parent end : ℕ) (m : Made) (at : ℕ) (σ : Collected) → end ≤ length f → m .items ≤ x .limits .items → Post (collectAs say f) f (times n (tree.node d x parent (inTree 0 end)) m) (Grown x d parent m σ n) at σ
+Say f say x d = (n parent end : ℕ) (m : Made) (at : ℕ) (σ : Collected) → end ≤ length f → m .items ≤ x .limits .items → Post
+    (collectAs say f) f (times n (tree.node d x parent (inTree 0 end)) m) (Grown x d parent m σ n) at σ
 
 module _ {f : List ℕ} {say : ℕ → Item → Content} (keeps : Keeps f say) (x : Context) where
   node-says : (d : ℕ) → Say f say x d → (parent least end : ℕ) (m : Made) (at : ℕ) (σ : Collected) → end ≤ length f → m .items ≤ x .limits .items
@@ -347,7 +371,9 @@ module _ {f : List ℕ} {say : ℕ → Item → Content} (keeps : Keeps f say) (
       (post-after (children (w .row .contained) (m .nodes) (at + w .row .size) (plusNode (w .made)) _ _ (omega arith) (omega (arith, front .item-room))) λ m₂ p υ t.
       post-place _ p
       (post-check _ _ λ full.
-      post-ret (grown-one x d parent (shape f (w .row)) cs front made left (subst (λ v. Grown x d (m .nodes) (plusNode (w .made)) (record { nodes = τ .nodes ++ shape f (w .row) ∷ []; items = τ .items }) v m₂ p υ) (sym (shape-contained f (w .row))) t)))))
+      post-ret (grown-one x d parent (shape f (w .row)) cs front made left
+      (subst (λ v. Grown x d (m .nodes) (plusNode (w .made)) (record { nodes = τ .nodes ++ shape f (w .row) ∷ []; items = τ .items }) v m₂ p
+      υ) (sym (shape-contained f (w .row))) t)))))
 
   times-say : (d : ℕ) → Say f say x d → Say f say x (suc d)
   unfolding times
@@ -356,7 +382,8 @@ module _ {f : List ℕ} {say : ℕ → Item → Content} (keeps : Keeps f say) (
       post-after (node-says d children parent 0 end m at σ o r) λ m₁ q τ s.
       post-weaken (times-say d children n parent end m₁ q τ o (s .room)) λ m₂ p υ t. grown-more x d parent n s t
 
-  nodes-none : (n parent end : ℕ) (m : Made) (at : ℕ) (σ : Collected) → Post (collectAs say f) f (times (suc n) (tree.node 0 x parent (inTree 0 end)) m) (Grown x 0 parent m σ (suc n)) at σ
+  nodes-none : (n parent end : ℕ) (m : Made) (at : ℕ) (σ : Collected) → Post (collectAs say f) f
+      (times (suc n) (tree.node 0 x parent (inTree 0 end)) m) (Grown x 0 parent m σ (suc n)) at σ
   unfolding times tree.node exec _>>=_
   nodes-none n parent end m at σ = record { post = tt }
 
@@ -371,8 +398,10 @@ module _ {f : List ℕ} {say : ℕ → Item → Content} (keeps : Keeps f say) (
 
 -- ---- the tree
 
-one-node : {limits : Limits} {types : List Declared} {d parent : ℕ} {m : Made} {r : Shape} {rs : List Shape} {cs ds : List Content} {inner : List (List ℕ)} → Front limits types parent (16 - d) m r cs
-    → Nodes limits types d (m .nodes) (madeBy (r ∷ []) cs m) (r .contained) rs ds inner → Nodes limits types (suc d) parent m 1 (r ∷ rs) (cs ++ ds) (wholeText r cs (joined inner) ∷ [])
+one-node : {limits : Limits} {types : List Declared} {d parent : ℕ} {m : Made} {r : Shape} {rs : List Shape} {cs ds : List Content}
+    {inner : List (List ℕ)} → Front limits types parent (16 - d) m r cs
+    → Nodes limits types d (m .nodes) (madeBy (r ∷ []) cs m) (r .contained) rs ds inner → Nodes limits types (suc d) parent m 1 (r ∷ rs)
+    (cs ++ ds) (wholeText r cs (joined inner) ∷ [])
 one-node {limits} {types} {d} {parent} {m} {r} {rs} {cs} {ds} {inner} f ys =
     subst (λ v. Nodes limits types (suc d) parent m 1 (r ∷ v) (cs ++ ds) (wholeText r cs (joined inner) ∷ [])) (append-nil rs)
     (subst (λ v. Nodes limits types (suc d) parent m 1 (r ∷ (rs ++ [])) v (wholeText r cs (joined inner) ∷ [])) (append-nil (cs ++ ds)) (more f ys none))
@@ -389,6 +418,7 @@ tree-says keeps x end at o =
     post-weaken (node-says keeps x 15 (nodes-say keeps x 15) 0 end end (record { nodes = 0; items = 0 }) at (record { nodes = []; items = [] }) o (omega arith)) λ m q τ s.
     record {
       text = wholeText (s .shape) (s .own) (joined (s .inner));
-      are = subst (λ (v : Collected). Nodes (x .limits) (x .types) 16 0 (record { nodes = 0; items = 0 }) 1 (v .nodes) (v .items) (wholeText (s .shape) (s .own) (joined (s .inner)) ∷ [])) (sym (s .left)) (one-node (s .front) (s .are));
+      are = subst (λ (v : Collected). Nodes (x .limits) (x .types) 16 0 (record { nodes = 0; items = 0 }) 1 (v .nodes) (v .items)
+          (wholeText (s .shape) (s .own) (joined (s .inner)) ∷ [])) (sym (s .left)) (one-node (s .front) (s .are));
       made = s .made ∙ ap (λ (v : Collected). madeBy (v .nodes) (v .items) (record { nodes = 0; items = 0 })) (sym (s .left));
     }

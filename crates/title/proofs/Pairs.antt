@@ -113,18 +113,23 @@ item-pair x e = fields (more (field-pair x) (more (number (ap₂ (λ (a b : ℕ)
 pub content-pair : {c d : Content} → ContentPair c d → AsLong (contentText c) (contentText d)
 unfolding contentText universalText versionText
 content-pair x =
-    chosen (ap (λ n. eqb n 0) (x .version)) (block (fields (more (number (x .format)) (more (x .bytes) none)))) (fields (more (number (x .declared)) (more (block (x .bytes)) none)))
+    chosen (ap (λ n. eqb n 0) (x .version)) (block (fields (more (number (x .format)) (more (x .bytes) none))))
+    (fields (more (number (x .declared)) (more (block (x .bytes)) none)))
 
 pub items-pair : {cs ds : List Content} → Each ContentPair cs ds → AsLong (itemsText cs) (itemsText ds)
 unfolding itemsText
 items-pair none = alike []
-items-pair (more x xs) = fields (more (chosen (ap (λ n. leb n 1) (x .version)) (item-pair x (ap suc (further-pair xs))) (alike [])) (more (content-pair x) (more (items-pair xs) none)))
+items-pair (more x xs) = fields
+    (more (chosen (ap (λ n. leb n 1) (x .version)) (item-pair x (ap suc (further-pair xs))) (alike []))
+    (more (content-pair x) (more (items-pair xs) none)))
 
-pub header-pair : {contained contained′ n n′ : ℕ} {rest rest′ : List ℕ} → contained ≡ contained′ → AsLong rest rest′ → n ≡ n′ → headerOf contained rest n ≡ headerOf contained′ rest′ n′
+pub header-pair : {contained contained′ n n′ : ℕ} {rest rest′ : List ℕ} → contained ≡ contained′ → AsLong rest rest′ → n ≡ n′ → headerOf
+    contained rest n ≡ headerOf contained′ rest′ n′
 unfolding headerOf
 header-pair h x e = rw (h, x .long, e) refl
 
-framed-pair : {contained contained′ n n′ : ℕ} {rest rest′ own own′ : List ℕ} → contained ≡ contained′ → AsLong rest rest′ → AsLong own own′ → n ≡ n′ → AsLong (framed contained rest own n) (framed contained′ rest′ own′ n′)
+framed-pair : {contained contained′ n n′ : ℕ} {rest rest′ own own′ : List ℕ} → contained ≡ contained′ → AsLong rest rest′ → AsLong own
+    own′ → n ≡ n′ → AsLong (framed contained rest own n) (framed contained′ rest′ own′ n′)
 unfolding framed
 framed-pair h x y e =
     let c = ap₂ _+_ (y .long) e in
@@ -139,7 +144,8 @@ pub node-pair : {r s : Shape} {cs ds : List Content} {n n′ : ℕ} → ShapePai
 unfolding nodeText
 node-pair x y e = framed-pair (x .contained) (fields (more (block (items-pair y)) (more (block (x .unpackers)) none))) (own-pair x) e
 
-whole-pair : {r s : Shape} {cs ds : List Content} {inner inner′ : List ℕ} → ShapePair r s → Each ContentPair cs ds → AsLong inner inner′ → AsLong (wholeText r cs inner) (wholeText s ds inner′)
+whole-pair : {r s : Shape} {cs ds : List Content} {inner inner′ : List ℕ} → ShapePair r s → Each ContentPair cs ds → AsLong inner inner′ →
+    AsLong (wholeText r cs inner) (wholeText s ds inner′)
 unfolding wholeText
 whole-pair x y z = long-on (node-pair x y (z .long)) z
 
@@ -168,7 +174,18 @@ pub titled-pair : (i : ℕ) (text : List ℕ) {cs ds : List Content} → Each Co
 unfolding titledAt titled
 titled-pair i text none = none
 titled-pair zero text (more x xs) =
-    more (record { node = x .node; item = x .item; kind = x .kind; field = x .field; name = x .name; version = x .version; declared = x .declared; format = x .format; bytes = alike text }) xs
+    more (record {
+      node = x .node;
+      item = x .item;
+      kind = x .kind;
+      field = x .field;
+      name = x .name;
+      version = x .version;
+      declared =
+          x .declared;
+      format = x .format;
+      bytes = alike text;
+    }) xs
 titled-pair (suc i) text (more x xs) = more x (titled-pair i text xs)
 
 pub retitled-pair : (i : ℕ) (text : List ℕ) {d e : Description} → DescriptionPair d e → DescriptionPair (retitled i text d) (retitled i text e)

@@ -19,7 +19,8 @@ total (n ∷ ns) = n + total ns
 unfoldable pub sizesOf : List Shape → List Content → List ℕ
 sizesOf [] cs = []
 sizesOf (r ∷ rs) cs =
-    (length (nodeText r (take (r .rows) cs) (total (take (r .contained) (sizesOf rs (drop (r .rows) cs))))) + total (take (r .contained) (sizesOf rs (drop (r .rows) cs)))) ∷ drop (r .contained) (sizesOf rs (drop (r .rows) cs))
+    (length (nodeText r (take (r .rows) cs) (total (take (r .contained) (sizesOf rs (drop (r .rows) cs))))) + total
+    (take (r .contained) (sizesOf rs (drop (r .rows) cs)))) ∷ drop (r .contained) (sizesOf rs (drop (r .rows) cs))
 
 take-lengths : (n : ℕ) (ss : List (List ℕ)) → take n (lengths ss) ≡ lengths (take n ss)
 take-lengths zero ss = refl
@@ -41,7 +42,15 @@ unfolding outer wholeText sizesOf
 sizes-are [] cs = refl
 sizes-are (r ∷ rs) cs =
     let inner : List (List ℕ) = take (r .contained) (outer rs (drop (r .rows) cs)) in
-    rw (sizes-are rs (drop (r .rows) cs), take-lengths (r .contained) (outer rs (drop (r .rows) cs)), drop-lengths (r .contained) (outer rs (drop (r .rows) cs)), total-lengths inner, length-append (nodeText r (take (r .rows) cs) (length (joined inner))) (joined inner)) refl
+    rw (
+      sizes-are rs (drop (r .rows) cs),
+      take-lengths (r .contained) (outer rs (drop (r .rows) cs)),
+      drop-lengths (r .contained)
+          (outer rs (drop (r .rows) cs)),
+      total-lengths inner,
+      length-append (nodeText r (take (r .rows) cs) (length (joined inner)))
+          (joined inner),
+    ) refl
 
 -- ---- the second pass
 
@@ -56,4 +65,5 @@ unfolding outer wholeText sizesOf
 in-row-order r rs cs =
     let os : List (List ℕ) = outer rs (drop (r .rows) cs) in
     let t : List ℕ = nodeText r (take (r .rows) cs) (length (joined (take (r .contained) os))) in
-    append-assoc t (joined (take (r .contained) os)) (joined (drop (r .contained) os)) ∙ ap (λ v. t ++ v) (sym (joined-append (take (r .contained) os) (drop (r .contained) os)) ∙ ap joined (take-append-drop (r .contained) os))
+    append-assoc t (joined (take (r .contained) os)) (joined (drop (r .contained) os)) ∙ ap (λ v. t ++ v)
+    (sym (joined-append (take (r .contained) os) (drop (r .contained) os)) ∙ ap joined (take-append-drop (r .contained) os))

@@ -39,7 +39,8 @@ module _ (opening types gap tree after : List ℕ) (some : 0 < length tree) (sma
   unfolding fileOf assembled
   stand-all = stand (opening ∷ vlq F ∷ types ∷ vlq (S opening types gap tree after) ∷ vlq L ∷ gap ∷ tree ∷ after ∷ []) (lies-self _)
 
-  pub file-stands : FileStands opening types gap tree after (fileOf opening types gap tree after) (S opening types gap tree after) (S opening types gap tree after + length tree - 1) (front opening types gap tree after)
+  pub file-stands : FileStands opening types gap tree after (fileOf opening types gap tree after) (S opening types gap tree after)
+      (S opening types gap tree after + length tree - 1) (front opening types gap tree after)
   file-stands =
       let s = stand-all in
       let w = file-length opening types gap tree after small in

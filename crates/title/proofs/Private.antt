@@ -74,7 +74,8 @@ free-private (passed (plain x) p n ∷ es) end size k a (inr y) = free-private e
 
 -- ---- so the files differ at private places alone
 
-module _ (lim : Limits) (f g : List ℕ) (h : Header) {m : Made} (inside : h .extent .last < length f) (reads : run (treeOf lim (length f) h) f (h .extent .start) ≡ ok m (h .extent .last + 1)) where
+module _ (lim : Limits) (f g : List ℕ) (h : Header) {m : Made} (inside : h .extent .last < length f)
+    (reads : run (treeOf lim (length f) h) f (h .extent .start) ≡ ok m (h .extent .last + 1)) where
   abbrev log : Events
   log = trace (treeOf lim (length f) h) f (h .extent .start)
 
@@ -103,6 +104,8 @@ module _ (lim : Limits) (f g : List ℕ) (h : Header) {m : Made} (inside : h .ex
       in-tree k o lo hi =
           let z = ends (treeOf lim (length f) h) f (h .extent .start) reads in
           elim (held-at _ log (h .extent .start) k (chain (treeOf lim (length f) h) f (h .extent .start)) keeps lo (omega arith)) [
-            | inl x ↦ absurd (elim (free-private log (length f) (length f) k (tree-inside (context lim h (length f)) f (h .extent .start) (h .extent .last + 1) (omega arith)) x) [ inl y ↦ o (inl y) | inr y ↦ o (inr (inl y)) ])
+            | inl x ↦ absurd (elim (free-private log (length f) (length f) k
+                (tree-inside (context lim h (length f)) f (h .extent .start) (h .extent .last + 1) (omega arith)) x)
+                [ inl y ↦ o (inl y) | inr y ↦ o (inr (inl y)) ])
             | inr x ↦ x
           ]

@@ -32,7 +32,8 @@ region A (passed (plain x) p n ∷ es) at c o h k l m = elim (decLt k (at + n)) 
 ]
 
 -- what holds of what was kept holds of each byte
-pub all-bytes : {A : Type 0} (B : ℕ → Type 0) (m : P A) → Rowless m → (f : List ℕ) (at : ℕ) {a : A} {q : ℕ} → run m f at ≡ ok a q → Held privateData B (trace m f at) → (k : ℕ) → at ≤ k → k < q → B k
+pub all-bytes : {A : Type 0} (B : ℕ → Type 0) (m : P A) → Rowless m → (f : List ℕ) (at : ℕ) {a : A} {q : ℕ} → run m f at ≡ ok a q → Held
+    privateData B (trace m f at) → (k : ℕ) → at ≤ k → k < q → B k
 all-bytes B m u f at e h k l i = let z = ends m f at e in region B (trace m f at) at (chain m f at) (used f at u) h k l (omega arith)
 
 -- ---- Post, for a file of which what a run read and passed has B: a rule for each form
@@ -48,11 +49,13 @@ module _ {S : Type 0} {B : ℕ → Type 0} {put : Part → ℕ → ℕ → S →
   keep-step {A} {C} {m} {k} {R} {at} {σ} w h = record {
     meets = λ held.
         let (x, y) = held-parts privateData B (trace m f at) (afterwards k f (run m f at)) (subst (Held privateData B) (trace-bind m k f at) held) in
-        let e : exec put (m >>= k) f at σ ≡ andThen (still (run m f at) σ) (λ z p. exec put (k (z .0)) f p (z .1)) = exec-bind _ _ S A C put m k f at σ ∙ ap (λ o. andThen o (λ z p. exec put (k (z .0)) f p (z .1))) (w .quiet f at σ) in
+        let e : exec put (m >>= k) f at σ ≡ andThen (still (run m f at) σ) (λ z p. exec put (k (z .0)) f p (z .1)) = exec-bind _ _ S A C put m k f
+        at σ ∙ ap (λ o. andThen o (λ z p. exec put (k (z .0)) f p (z .1))) (w .quiet f at σ) in
         rw e (by (run m f at) refl x y);
   }
     where
-      by : (o : Out A) → run m f at ≡ o → Held privateData B (trace m f at) → Held privateData B (afterwards k f o) → Meets R (andThen (still o σ) (λ z p. exec put (k (z .0)) f p (z .1)))
+      by : (o : Out A) → run m f at ≡ o → Held privateData B (trace m f at) → Held privateData B (afterwards k f o) → Meets R
+          (andThen (still o σ) (λ z p. exec put (k (z .0)) f p (z .1)))
       by (ok a q) e x y = h a q e x .meets y
       by (refused n p) e x y = tt
 
@@ -60,7 +63,8 @@ module _ {S : Type 0} {B : ℕ → Type 0} {put : Part → ℕ → ℕ → S →
   unfolding exec
   keep-ret r = record { meets = λ held. r }
 
-  pub keep-check : {A : Type 0} {b : Bool} (n p : ℕ) {m : P A} {R : A → ℕ → S → Type 0} {at : ℕ} {σ : S} → (b ≡ true → Keeping B put f m R at σ) → Keeping B put f (check b n p >> m) R at σ
+  pub keep-check : {A : Type 0} {b : Bool} (n p : ℕ) {m : P A} {R : A → ℕ → S → Type 0} {at : ℕ} {σ : S} →
+      (b ≡ true → Keeping B put f m R at σ) → Keeping B put f (check b n p >> m) R at σ
   unfolding exec trace _>>=_ _>>_ check
   keep-check {b = true} n p h = record { meets = λ held. h refl .meets held }
   keep-check {b = false} n p h = record { meets = λ held. tt }
@@ -69,7 +73,8 @@ module _ {S : Type 0} {B : ℕ → Type 0} {put : Part → ℕ → ℕ → S →
   unfolding exec trace _>>=_ place
   keep-place k at h = record { meets = λ held. h .meets held }
 
-  pub keep-skip : {A : Type 0} (w : Part) (n : ℕ) {m : P A} {R : A → ℕ → S → Type 0} {at : ℕ} {σ : S} → Keeping B put f m R (at + n) (put w at n σ) → Keeping B put f (skip w n >> m) R at σ
+  pub keep-skip : {A : Type 0} (w : Part) (n : ℕ) {m : P A} {R : A → ℕ → S → Type 0} {at : ℕ} {σ : S} → Keeping B put f m R (at + n)
+      (put w at n σ) → Keeping B put f (skip w n >> m) R at σ
   unfolding exec trace _>>=_ _>>_ skip
   keep-skip w n h = record { meets = λ held. h .meets (held .1) }
 
@@ -80,7 +85,8 @@ module _ {S : Type 0} {B : ℕ → Type 0} {put : Part → ℕ → ℕ → S →
     meets = λ held.
         let (x, y) = held-parts privateData B (trace m f at) (afterwards k f (run m f at)) (subst (Held privateData B) (trace-bind m k f at) held) in
         let z : Meets Q (still (run m f at) (puts put (trace m f at) σ)) = subst (Meets Q) (exec-puts put m f at σ) (w .meets x) in
-        let e : exec put (m >>= k) f at σ ≡ andThen (still (run m f at) (puts put (trace m f at) σ)) (λ v p. exec put (k (v .0)) f p (v .1)) = exec-bind _ _ S A C put m k f at σ ∙ ap (λ o. andThen o (λ v p. exec put (k (v .0)) f p (v .1))) (exec-puts put m f at σ) in
+        let e : exec put (m >>= k) f at σ ≡ andThen (still (run m f at) (puts put (trace m f at) σ)) (λ v p. exec put (k (v .0)) f p (v .1)) =
+        exec-bind _ _ S A C put m k f at σ ∙ ap (λ o. andThen o (λ v p. exec put (k (v .0)) f p (v .1))) (exec-puts put m f at σ) in
         rw e (by (run m f at) (puts put (trace m f at) σ) y z);
   }
     where

@@ -50,11 +50,14 @@ pub record NoShorter (d : Description) (g : List ℕ) (h : Header) (ns : List No
   pub tight : length g ≤ length (fileText d) → (startOf d ≡ h .extent .start) × (startOf d + length (treeText d) ≡ h .extent .last + 1) × Exactly ns (spans (d .nodes) (d .items))
   pub only : Bytes g → length g ≤ length (fileText d) → g ≡ fileText d
 
-file-size : (d : Description) → length (fileText d) ≡ front (d .opening) (sized (d .types)) (d .gap) (treeText d) (d .after) + length (d .gap) + length (treeText d) + length (d .after)
+file-size : (d : Description) → length (fileText d) ≡ front (d .opening) (sized (d .types)) (d .gap) (treeText d) (d .after) + length
+    (d .gap) + length (treeText d) + length (d .after)
 unfolding fileText
 file-size d = size-is (d .opening) (sized (d .types)) (d .gap) (treeText d) (d .after)
 
-text-is : (d : Description) → joined (d .opening ∷ vlq (startOf d + length (treeText d) + length (d .after)) ∷ sized (d .types) ∷ vlq (startOf d) ∷ vlq (startOf d + length (treeText d) - 1) ∷ d .gap ∷ treeText d ∷ d .after ∷ []) ≡ fileText d
+text-is : (d : Description) → joined
+    (d .opening ∷ vlq (startOf d + length (treeText d) + length (d .after)) ∷ sized (d .types) ∷ vlq (startOf d) ∷ vlq
+    (startOf d + length (treeText d) - 1) ∷ d .gap ∷ treeText d ∷ d .after ∷ []) ≡ fileText d
 unfolding fileText fileOf assembled
 text-is d = refl
 
@@ -70,9 +73,16 @@ module _ {f : List ℕ} {x : Context} {end n : ℕ} {σ τ : Raw} {at q : ℕ} {
 module _ (lim : Limits) (g : List ℕ) {h : Header} {ns : List Node} {is : List Item} (reads : readFile lim g ≡ rows h ns is) where
   -- the parts that are copied have their bytes
   copied-sizes : openingSize (h .version) ≤ length g → h .extent .start ≤ length g → h .extent .end ≤ h .extent .start → h .extent .last < length g
-      → (length (described g h ns is .opening) ≡ openingSize (h .version)) × (length (described g h ns is .gap) ≡ h .extent .start - h .extent .end) × (length (described g h ns is .after) ≡ length g - (h .extent .last + 1))
+      → (length (described g h ns is .opening) ≡ openingSize (h .version)) ×
+      (length (described g h ns is .gap) ≡ h .extent .start - h .extent .end) ×
+      (length (described g h ns is .after) ≡ length g - (h .extent .last + 1))
   unfolding described
-  copied-sizes a b c e = (length-take-le (openingSize (h .version)) g a, part-length g (h .extent .end) (h .extent .start - h .extent .end) (omega arith), length-drop (h .extent .last + 1) g)
+  copied-sizes a b c e = (
+    length-take-le (openingSize (h .version)) g a,
+    part-length g (h .extent .end) (h .extent .start - h .extent .end)
+        (omega arith),
+    length-drop (h .extent .last + 1) g,
+  )
 
   types-are : (says : HeaderSays g h) → described g h ns is .types ≡ joined (vlq (length (says .texts)) ∷ says .texts)
   unfolding described
@@ -87,9 +97,11 @@ module _ (lim : Limits) (g : List ℕ) {h : Header} {ns : List Node} {is : List 
   items-are = refl
 
   -- a file whose numbers are those of its text holds that text
-  parts-covers : (says : HeaderSays g h) → (t : List ℕ) → Covers g (h .extent .start) t (h .extent .last + 1) → (size start last : ℕ) → size ≡ length g → start ≡ h .extent .start → last ≡ h .extent .last
+  parts-covers : (says : HeaderSays g h) → (t : List ℕ) → Covers g (h .extent .start) t (h .extent .last + 1) → (size start last : ℕ) → size ≡
+      length g → start ≡ h .extent .start → last ≡ h .extent .last
       → h .extent .end ≤ h .extent .start → h .extent .last < length g
-      → Covers g 0 (joined (described g h ns is .opening ∷ vlq size ∷ sized (described g h ns is .types) ∷ vlq start ∷ vlq last ∷ described g h ns is .gap ∷ t ∷ described g h ns is .after ∷ [])) (length g)
+      → Covers g 0 (joined (described g h ns is .opening ∷ vlq size ∷ sized (described g h ns is .types) ∷ vlq start ∷ vlq last ∷ described g h ns
+      is .gap ∷ t ∷ described g h ns is .after ∷ [])) (length g)
   unfolding described
   parts-covers says t tree size start last e₁ e₂ e₃ l m =
       let sp = says .spans in
@@ -126,7 +138,8 @@ module _ (lim : Limits) (g : List ℕ) {h : Header} {ns : List Node} {is : List 
       let x : ℕ = sp .a - openingSize (h .version) in
       let y : ℕ = sp .c - sp .b in
       let z : ℕ = h .extent .end - sp .c in
-      let hold : openingSize (h .version) + x + length (sized (d .types)) + y + z ≤ h .extent .end = omega (arith, sp .length-is .covers .short, sp .types-covers .short, sp .start-is .covers .short, sp .last-is .covers .short) in
+      let hold : openingSize (h .version) + x + length (sized (d .types)) + y + z ≤ h .extent .end = omega
+      (arith, sp .length-is .covers .short, sp .types-covers .short, sp .start-is .covers .short, sp .last-is .covers .short) in
       let some-x : 1 ≤ x = omega (arith, sp .length-is .covers .short, vlq-some (length g)) in
       let some-y : 1 ≤ y = omega (arith, sp .start-is .covers .short, vlq-some (h .extent .start)) in
       let some-z : 1 ≤ z = omega (arith, sp .last-is .covers .short, vlq-some (h .extent .last)) in
@@ -142,9 +155,16 @@ module _ (lim : Limits) (g : List ℕ) {h : Header} {ns : List Node} {is : List 
         start = omega arith;
         last = omega arith;
         levels = subst (λ v. Over v (spans (d .nodes) (d .items))) rows-are (subst (Over (t .rows)) (sym sizes-are) (bound .over));
-        tight = λ l. (omega arith, omega arith, subst (λ v. Exactly v (spans (d .nodes) (d .items))) rows-are (subst (Exactly (t .rows)) (sym sizes-are) (bound .tight (omega arith))));
+        tight = λ l. (
+          omega arith,
+          omega arith,
+          subst (λ v. Exactly v (spans (d .nodes) (d .items))) rows-are
+              (subst (Exactly (t .rows)) (sym sizes-are) (bound .tight (omega arith))),
+        );
         only = λ bytes l.
-            let text = parts-covers says (treeText d) (covers-as (ap joined (sym outer-is)) (covers-wider inside (bound .covers))) (startOf d + length (treeText d) + length (d .after)) (startOf d) (startOf d + length (treeText d) - 1) (omega arith) (omega arith) (omega arith) (omega arith) (w .3) in
+            let text = parts-covers says (treeText d) (covers-as (ap joined (sym outer-is)) (covers-wider inside (bound .covers)))
+            (startOf d + length (treeText d) + length (d .after)) (startOf d) (startOf d + length (treeText d) - 1) (omega arith) (omega arith)
+            (omega arith) (omega arith) (w .3) in
             covers-whole (covers-as (text-is d) text) bytes l;
       }
 
@@ -163,13 +183,15 @@ shortest s stay = says-no-shorter s stay .whole
 pub only-shortest : {lim : Limits} {g : List ℕ} {d : Description} → Says lim g d → AllStay (d .nodes) → Bytes g → length g ≤ length (fileText d) → g ≡ fileText d
 only-shortest s stay = says-no-shorter s stay .only
 
-row-least : {rs ts : List Node} {ss : List Span} → Exactly rs ss → Over ts ss → (i : ℕ) → i < length rs → (nodeAt rs i .size ≤ nodeAt ts i .size) × (nodeAt rs i .header ≤ nodeAt ts i .header)
+row-least : {rs ts : List Node} {ss : List Span} → Exactly rs ss → Over ts ss → (i : ℕ) → i < length rs →
+    (nodeAt rs i .size ≤ nodeAt ts i .size) × (nodeAt rs i .header ≤ nodeAt ts i .header)
 row-least none none i l = absurd (omega arith)
 row-least (more a b x) (more c d y) zero l = (omega arith, omega arith)
 row-least (more a b x) (more c d y) (suc i) l = row-least x y i (omega arith)
 
 -- one that is as short is nowhere longer than any other
-pub nowhere-longer : {lim lim′ : Limits} {g g′ : List ℕ} {d : Description} (s : Says lim g d) (t : Says lim′ g′ d) → AllStay (d .nodes) → length g ≤ length (fileText d) → NowhereLonger s t
+pub nowhere-longer : {lim lim′ : Limits} {g g′ : List ℕ} {d : Description} (s : Says lim g d) (t : Says lim′ g′ d) → AllStay (d .nodes) →
+    length g ≤ length (fileText d) → NowhereLonger s t
 nowhere-longer s t stay l =
     let x = says-no-shorter s stay .tight l in
     let y = says-no-shorter t stay in

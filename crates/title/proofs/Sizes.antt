@@ -34,7 +34,8 @@ module _ (fixed : ℕ) where
   header-within a = least-within (λ b. a + b + fixed) (λ j l. omega arith)
 
   module _ (contents : ℕ) where
-    length-short : headerSize fixed (lengthBytes fixed contents) + contents < 2 ^ 28 → least (λ _. headerSize fixed (lengthBytes fixed contents) + contents) ≡ lengthBytes fixed contents
+    length-short : headerSize fixed (lengthBytes fixed contents) + contents < 2 ^ 28 → least
+        (λ _. headerSize fixed (lengthBytes fixed contents) + contents) ≡ lengthBytes fixed contents
     unfolding lengthBytes
     length-short h = least-short (λ a. headerSize fixed a + contents) (λ j l. omega (arith, header-rises j (least (λ a. headerSize fixed a + contents)) l)) h
 
@@ -55,7 +56,8 @@ module _ (fixed : ℕ) where
 module _ (contained : ℕ) (rest : List ℕ) where
   -- the header has as many bytes as NodeHeaderLength says
   pub framed-header : (contents : ℕ) → headerOf contained rest contents + contents < 2 ^ 28
-      → headerOf contained rest contents ≡ length (vlq (headerOf contained rest contents + contents)) + length (vlq contained) + length (vlq (headerOf contained rest contents)) + length rest
+      → headerOf contained rest contents ≡ length (vlq (headerOf contained rest contents + contents)) + length (vlq contained) + length
+      (vlq (headerOf contained rest contents)) + length rest
   unfolding headerOf
   framed-header contents h =
       let fixed : ℕ = length (vlq contained) + length rest in
@@ -65,14 +67,16 @@ module _ (contained : ℕ) (rest : List ℕ) where
       omega (arith, header-is fixed a)
 
   -- NodeHeaderLength is the least: no more than in any byte counts a and b of NodeLength and itself that hold both; and so is NodeLength, which has `contents` more
-  pub header-least : (contents a b : ℕ) → 1 ≤ a → 1 ≤ b → a + length (vlq contained) + b + length rest < 128 ^ b → a + length (vlq contained) + b + length rest + contents < 128 ^ a → headerOf contained rest contents ≤ a + length (vlq contained) + b + length rest
+  pub header-least : (contents a b : ℕ) → 1 ≤ a → 1 ≤ b → a + length (vlq contained) + b + length rest < 128 ^ b → a + length (vlq contained)
+      + b + length rest + contents < 128 ^ a → headerOf contained rest contents ≤ a + length (vlq contained) + b + length rest
   unfolding headerOf
   header-least contents a b l m h k =
       let fixed : ℕ = length (vlq contained) + length rest in
       let w = bytes-least fixed contents a b l m (omega arith) (omega arith) in
       omega (arith, header-is fixed (lengthBytes fixed contents))
 
-  header-most : (contents : ℕ) → headerOf contained rest contents ≤ length (vlq (headerOf contained rest contents + contents)) + length (vlq contained) + length (vlq (headerOf contained rest contents)) + length rest
+  header-most : (contents : ℕ) → headerOf contained rest contents ≤ length (vlq (headerOf contained rest contents + contents)) + length
+      (vlq contained) + length (vlq (headerOf contained rest contents)) + length rest
   unfolding headerOf
   header-most contents =
       let fixed : ℕ = length (vlq contained) + length rest in
@@ -81,7 +85,8 @@ module _ (contained : ℕ) (rest : List ℕ) where
 
   module _ (own : List ℕ) (n : ℕ) where
     -- a node has as many bytes as NodeLength says, and never fewer
-    pub framed-length : headerOf contained rest (length own + n) + (length own + n) < 2 ^ 28 → length (framed contained rest own n) + n ≡ headerOf contained rest (length own + n) + (length own + n)
+    pub framed-length : headerOf contained rest (length own + n) + (length own + n) < 2 ^ 28 → length (framed contained rest own n) + n ≡
+        headerOf contained rest (length own + n) + (length own + n)
     unfolding framed
     framed-length h =
         let c : ℕ = length own + n in
@@ -137,7 +142,8 @@ module _ (fixed tree : ℕ) where
   start-within x = least-within (λ y. startWith fixed x y (lastBytes fixed tree x y)) (λ j l. omega (arith, last-up x x j (startBytes fixed tree x) (omega arith) l))
 
 module _ (fixed tree after : ℕ) where
-  file-short : startAt fixed tree (fileBytes fixed tree after) + tree + after < 2 ^ 28 → least (λ _. startAt fixed tree (fileBytes fixed tree after) + tree + after) ≡ fileBytes fixed tree after
+  file-short : startAt fixed tree (fileBytes fixed tree after) + tree + after < 2 ^ 28 → least
+      (λ _. startAt fixed tree (fileBytes fixed tree after) + tree + after) ≡ fileBytes fixed tree after
   unfolding fileBytes
   file-short h = least-short (λ x. startAt fixed tree x + tree + after) (λ j l. omega (arith, start-rises fixed tree j (fileBytes fixed tree after) l)) h
 
@@ -147,7 +153,8 @@ module _ (fixed tree after : ℕ) where
 
   -- in any byte counts that hold all three they have no fewer bytes
   three-least : (x y z : ℕ) → 1 ≤ x → 1 ≤ y → 1 ≤ z → startWith fixed x y z < 128 ^ y → startWith fixed x y z + tree - 1 < 128 ^ z → startWith fixed x y z + tree + after < 128 ^ x
-      → (fileBytes fixed tree after ≤ x) × (startBytes fixed tree (fileBytes fixed tree after) ≤ y) × (lastBytes fixed tree (fileBytes fixed tree after) (startBytes fixed tree (fileBytes fixed tree after)) ≤ z)
+      → (fileBytes fixed tree after ≤ x) × (startBytes fixed tree (fileBytes fixed tree after) ≤ y) ×
+      (lastBytes fixed tree (fileBytes fixed tree after) (startBytes fixed tree (fileBytes fixed tree after)) ≤ z)
   unfolding fileBytes startAt startBytes lastBytes
   three-least x y z l m n h k j =
       let w : ℕ = fileBytes fixed tree after in
@@ -156,7 +163,8 @@ module _ (fixed tree after : ℕ) where
       let d : lastBytes fixed tree x (startBytes fixed tree x) ≤ lastBytes fixed tree x y = last-up fixed tree x x (startBytes fixed tree x) y (omega arith) b in
       let a : w ≤ x = least-le (λ x. startAt fixed tree x + tree + after) x l (omega arith) in
       let e : startBytes fixed tree w ≤ startBytes fixed tree x = start-up fixed tree w x a in
-      let f : lastBytes fixed tree w (startBytes fixed tree w) ≤ lastBytes fixed tree x (startBytes fixed tree x) = last-up fixed tree w x (startBytes fixed tree w) (startBytes fixed tree x) a e in
+      let f : lastBytes fixed tree w (startBytes fixed tree w) ≤ lastBytes fixed tree x (startBytes fixed tree x) = last-up fixed tree w x
+      (startBytes fixed tree w) (startBytes fixed tree x) a e in
       (a, omega arith, omega arith)
 
 -- ---- the file
@@ -180,12 +188,14 @@ module _ (opening types gap tree after : List ℕ) where
       let e = start-is fixed (length tree) x in
       let a = vlq-length (s + length tree + length after) ∙ file-short fixed (length tree) (length after) h in
       let b = vlq-length s ∙ start-short fixed (length tree) x (omega arith) in
-      let c : length (vlq (s + length tree - 1)) ≡ lastBytes fixed (length tree) x y = rw e (vlq-length (lastWith fixed (length tree) x y) ∙ last-short fixed (length tree) x y (omega arith)) in
+      let c : length (vlq (s + length tree - 1)) ≡ lastBytes fixed (length tree) x y = rw e
+      (vlq-length (lastWith fixed (length tree) x y) ∙ last-short fixed (length tree) x y (omega arith)) in
       omega arith
 
   -- TreeStart is the least: no more than in any byte counts x, y and z of FileLength, TreeStart and TreeEnd that hold all three; and so are the other two
   pub start-least : (x y z : ℕ) → 1 ≤ x → 1 ≤ y → 1 ≤ z → length opening + x + length types + y + z + length gap < 128 ^ y
-      → length opening + x + length types + y + z + length gap + length tree - 1 < 128 ^ z → length opening + x + length types + y + z + length gap + length tree + length after < 128 ^ x
+      → length opening + x + length types + y + z + length gap + length tree - 1 < 128 ^ z → length opening + x + length types + y + z + length
+      gap + length tree + length after < 128 ^ x
       → S ≤ length opening + x + length types + y + z + length gap
   unfolding treeStart
   start-least x y z l m n i j k =
@@ -209,7 +219,8 @@ module _ (opening types gap tree after : List ℕ) where
   size-is = omega (arith, joined-length (opening ∷ vlq (S + length tree + length after) ∷ types ∷ vlq S ∷ vlq (S + length tree - 1) ∷ gap ∷ tree ∷ after ∷ []))
 
   -- the file has as many bytes as FileLength says, where four bytes hold that
-  pub file-length : length (fileOf opening types gap tree after) < 2 ^ 28 → (S + length tree + length after ≡ length (fileOf opening types gap tree after)) × (front + length gap ≡ S)
+  pub file-length : length (fileOf opening types gap tree after) < 2 ^ 28 →
+      (S + length tree + length after ≡ length (fileOf opening types gap tree after)) × (front + length gap ≡ S)
   file-length h =
       let small : S + length tree + length after < 2 ^ 28 = omega (arith, size-is, start-most) in
       let e = start-right small in

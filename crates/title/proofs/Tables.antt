@@ -32,7 +32,8 @@ pub data Table : List Declared → List Declared → List (List ℕ) → Type 0 
 -- ---- read back
 
 module _ (g : List ℕ) (big : length g < 2 ^ 28) where
-  entry-back : (end p : ℕ) (ds : List Declared) (t fm : ℕ) (s : List ℕ) → length ds < 32 → isUnknown (formatOf ds t) ≡ true → t < 2 ^ 28 → fm < 2 ^ 28 → Lies g p (joined (vlq t ∷ vlq fm ∷ sized s ∷ []))
+  entry-back : (end p : ℕ) (ds : List Declared) (t fm : ℕ) (s : List ℕ) → length ds < 32 → isUnknown (formatOf ds t) ≡ true → t < 2 ^ 28 → fm
+      < 2 ^ 28 → Lies g p (joined (vlq t ∷ vlq fm ∷ sized s ∷ []))
       → p + length (joined (vlq t ∷ vlq fm ∷ sized s ∷ [])) ≤ end
       → run (entry end ds) g p ≡ ok (ds ++ (record { type = t; format = fm } ∷ [])) (p + length (joined (vlq t ∷ vlq fm ∷ sized s ∷ [])))
   unfolding entry
@@ -67,7 +68,8 @@ module _ (g : List ℕ) (big : length g < 2 ^ 28) where
       let c = lies-part (u .1) in
       rw e₄ (simp (running, e₁, e₂, e₃, c, append-nil))
 
-  entries-back : (end : ℕ) {ds ds′ : List Declared} {ts : List (List ℕ)} → Table ds ds′ ts → (p : ℕ) → Lies g p (joined ts) → p + length (joined ts) ≤ end → run (times (length ts) (entry end) ds) g p ≡ ok ds′ (p + length (joined ts))
+  entries-back : (end : ℕ) {ds ds′ : List Declared} {ts : List (List ℕ)} → Table ds ds′ ts → (p : ℕ) → Lies g p (joined ts) → p + length
+      (joined ts) ≤ end → run (times (length ts) (entry end) ds) g p ≡ ok ds′ (p + length (joined ts))
   unfolding times
   entries-back end none p h i = let a : p + 0 ≡ p = omega arith in rw a (simp running)
   entries-back end (more {ds} {ds′} {t} {fm} s {ts} room new l k w) p h i =
@@ -78,7 +80,8 @@ module _ (g : List ℕ) (big : length g < 2 ^ 28) where
       let a : p + length (x ++ joined ts) ≡ p + length x + length (joined ts) = omega arith in
       rw a (simp (running, e₁, e₂))
 
-  entries-again : {ds ds′ : List Declared} {ts : List (List ℕ)} → Table ds ds′ ts → (before : List ℕ) (p : ℕ) → Lies g p (joined ts) → run (times (length ts) (entryText g) before) g p ≡ ok (before ++ joined ts) (p + length (joined ts))
+  entries-again : {ds ds′ : List Declared} {ts : List (List ℕ)} → Table ds ds′ ts → (before : List ℕ) (p : ℕ) → Lies g p (joined ts) → run
+      (times (length ts) (entryText g) before) g p ≡ ok (before ++ joined ts) (p + length (joined ts))
   unfolding times
   entries-again none before p h = let a : p + 0 ≡ p = omega arith in rw (a, append-nil before) (simp running)
   entries-again (more {ds} {ds′} {t} {fm} s {ts} room new l k w) before p h =
@@ -108,7 +111,8 @@ module _ (g : List ℕ) (big : length g < 2 ^ 28) where
         let e₄ : p + length (sized t) ≡ q + length (vlq c) + length (joined ts) = omega arith in
         rw e₄ (simp (running, e₁, e₂, e₃, le-leb _ _ k))
 
-    pub table-again : (size p : ℕ) → size < 2 ^ 28 → Lies g p (vlq size) → Lies g (p + length (vlq size)) (sized (joined (vlq (length ts) ∷ ts))) → answer (run (tableText g) g p) ≡ joined (vlq (length ts) ∷ ts)
+    pub table-again : (size p : ℕ) → size < 2 ^ 28 → Lies g p (vlq size) → Lies g (p + length (vlq size))
+        (sized (joined (vlq (length ts) ∷ ts))) → answer (run (tableText g) g p) ≡ joined (vlq (length ts) ∷ ts)
     unfolding tableText
     table-again size p l w h =
         let c : ℕ = length ts in
@@ -133,7 +137,8 @@ module _ (f : List ℕ) (end : ℕ) (o : end ≤ length f) where
   wide : (at : ℕ) {v q : ℕ} → run (number fileFrame 3 end) f at ≡ ok v q → run (number fileFrame 3 (length f)) f at ≡ ok v q
   wide at e = let i = number-inside fileFrame 3 end f at e in number-wider fileFrame 3 3 end (length f) f at e (omega arith)
 
-  entry-text : (before : List ℕ) (at : ℕ) {t fm n q r u : ℕ} → run (number fileFrame 3 end) f at ≡ ok t q → run (number fileFrame 3 end) f q ≡ ok fm r → run (block fileFrame 3 end) f r ≡ ok n u
+  entry-text : (before : List ℕ) (at : ℕ) {t fm n q r u : ℕ} → run (number fileFrame 3 end) f at ≡ ok t q → run (number fileFrame 3 end) f q ≡
+      ok fm r → run (block fileFrame 3 end) f r ≡ ok n u
       → run (entryText f before) f at ≡ ok (before ++ joined (vlq t ∷ vlq fm ∷ sized (part f u n) ∷ [])) (u + n)
   unfolding entryText sized
   entry-text before at {n = n} {q = q} {r = r} {u = u} e₁ e₂ e₃ =
@@ -182,7 +187,8 @@ entry-says f end o ds at =
       format-fits = j .3;
       is = refl;
       text = λ before. entry-text f end o before at e₁ e₂ e₃;
-      covers = covers-on (number-covers fileFrame 3 end f at e₁) (covers-on (number-covers fileFrame 3 end f q e₂) (covers-last (sized-covers fileFrame 3 end f r e₃ (covers-part f u n))));
+      covers = covers-on (number-covers fileFrame 3 end f at e₁)
+          (covers-on (number-covers fileFrame 3 end f q e₂) (covers-last (sized-covers fileFrame 3 end f r e₃ (covers-part f u n))));
       inside = k .2;
     })))
 
@@ -195,14 +201,24 @@ record EntriesSay (f : List ℕ) (end n : ℕ) (ds : List Declared) (at : ℕ) (
   covers : Covers f at (joined texts) q
   inside : q ≤ end
 
-times-text : (f : List ℕ) (n : ℕ) (before : List ℕ) (at : ℕ) (s t : List ℕ) {q r : ℕ} → run (entryText f before) f at ≡ ok (before ++ s) q → run (times n (entryText f) (before ++ s)) f q ≡ ok (before ++ s ++ t) r
+times-text : (f : List ℕ) (n : ℕ) (before : List ℕ) (at : ℕ) (s t : List ℕ) {q r : ℕ} → run (entryText f before) f at ≡ ok (before ++ s) q →
+    run (times n (entryText f) (before ++ s)) f q ≡ ok (before ++ s ++ t) r
     → run (times (suc n) (entryText f) before) f at ≡ ok (before ++ (s ++ t)) r
 unfolding times
 times-text f n before at s t e₁ e₂ = rw (← append-assoc before s t) (simp (running, e₁, e₂))
 
-entries-say : (f : List ℕ) (end : ℕ) → end ≤ length f → (n : ℕ) (ds : List Declared) (at : ℕ) → at ≤ end → Post nothing f (times n (entry end) ds) (Holds (EntriesSay f end n ds at)) at tt
+entries-say : (f : List ℕ) (end : ℕ) → end ≤ length f → (n : ℕ) (ds : List Declared) (at : ℕ) → at ≤ end → Post nothing f
+    (times n (entry end) ds) (Holds (EntriesSay f end n ds at)) at tt
 unfolding times
-entries-say f end o zero ds at l = post-ret (record { texts = []; count = refl; table = none; text = λ before. rw (append-nil before) (simp running); covers = covers-none at; inside = l })
+entries-say f end o zero ds at l = post-ret
+    (record {
+      texts = [];
+      count = refl;
+      table = none;
+      text = λ before. rw (append-nil before) (simp running);
+      covers = covers-none at;
+      inside = l;
+    })
 entries-say f end o (suc n) ds at l =
     post-after (entry-says f end o ds at) λ ds₁ q _ s.
     post-weaken (entries-say f end o n ds₁ q (s .inside)) λ ds₂ r _ w.
@@ -224,7 +240,8 @@ pub record TableSays (f : List ℕ) (at : ℕ) (ds : List Declared) (q : ℕ) : 
   pub covers : Covers f at (sized (joined (vlq (length texts) ∷ texts))) q
   pub text : (p : ℕ) {size : ℕ} → run (number fileFrame 3 (length f)) f p ≡ ok size at → run (tableText f) f p ≡ ok (joined (vlq (length texts) ∷ texts)) q
 
-table-text : (f : List ℕ) (p at : ℕ) {size n count q r u : ℕ} {s : List ℕ} → run (number fileFrame 3 (length f)) f p ≡ ok size at → run (block fileFrame 3 (length f)) f at ≡ ok n q → run (number fileFrame 3 (length f)) f q ≡ ok count r
+table-text : (f : List ℕ) (p at : ℕ) {size n count q r u : ℕ} {s : List ℕ} → run (number fileFrame 3 (length f)) f p ≡ ok size at → run
+    (block fileFrame 3 (length f)) f at ≡ ok n q → run (number fileFrame 3 (length f)) f q ≡ ok count r
     → run (times count (entryText f) (vlq count)) f r ≡ ok s u → run (tableText f) f p ≡ ok s u
 unfolding tableText
 table-text f p at e₀ e₁ e₂ e₃ = simp (running, e₀, e₁, e₂, e₃)
@@ -246,6 +263,7 @@ table-says f at =
       few = omega (arith, w .count);
       covers = (
           let z : u ≡ q + n = omega (arith, w .inside, leb-true (q + n) u full) in
-          covers-to (sym z) (sized-covers fileFrame 3 (length f) f at e₁ (covers-to z (covers-on (covers-as (ap vlq (sym (w .count))) (number-covers fileFrame 3 (q + n) f q e₂)) (w .covers)))));
+          covers-to (sym z) (sized-covers fileFrame 3 (length f) f at e₁
+          (covers-to z (covers-on (covers-as (ap vlq (sym (w .count))) (number-covers fileFrame 3 (q + n) f q e₂)) (w .covers)))));
       text = λ p e₀. rw (w .count) (table-text f p at e₀ e₁ (wide f (q + n) (omega arith) q e₂) (w .text (vlq count)));
     })))

@@ -61,7 +61,8 @@ said-titled : (f : List ℕ) (i : ℕ) (text : List ℕ) (k j : ℕ) (is : List 
 unfolding titledAt
 said-titled f i text k j [] e = refl
 said-titled f i text k zero (r ∷ is) e = let q : k ≡ i = omega arith in rw (eq-eqb _ _ q) (ap (λ v. titled text (content f r) ∷ v) (said-past f i text (k + 1) is (omega arith)))
-said-titled f i text k (suc j) (r ∷ is) e = let n : (k ≡ i) → ⊥ = λ q. omega arith in rw (ne-eqb _ _ n) (ap (λ v. content f r ∷ v) (said-titled f i text (k + 1) j is (omega arith)))
+said-titled f i text k (suc j) (r ∷ is) e = let n : (k ≡ i) → ⊥ = λ q. omega arith in rw (ne-eqb _ _ n)
+    (ap (λ v. content f r ∷ v) (said-titled f i text (k + 1) j is (omega arith)))
 
 -- ---- what the tree of an accepted file says
 
@@ -76,7 +77,8 @@ ok-same : {A : Type 0} {a b : A} {p q : ℕ} → ok a p ≡ ok b q → (a ≡ b)
 ok-same e = (cc, cc)
 
 -- what was collected are the rows of the run
-pub rows-were : (f : List ℕ) (p : P Made) (at : ℕ) {m : Made} {rs : List Shape} {cs : List Content} {q : ℕ} → exec (collect f) p f at none ≡ ok (m, record { nodes = rs; items = cs }) q
+pub rows-were : (f : List ℕ) (p : P Made) (at : ℕ) {m : Made} {rs : List Shape} {cs : List Content} {q : ℕ} → exec (collect f) p f at none ≡
+    ok (m, record { nodes = rs; items = cs }) q
     → (run p f at ≡ ok m q) × (map (shape f) (nodesOf (trace p f at)) ≡ rs) × (map (content f) (itemsOf (trace p f at)) ≡ cs)
 rows-were f p at {m} {rs} {cs} {q} e = by (run p f at) (sym (collects (λ k r. content f r) f p at none) ∙ e)
   where
@@ -90,9 +92,21 @@ rows-were f p at {m} {rs} {cs} {q} e = by (run p f at) (sym (collects (λ k r. c
 
 -- ---- two descriptions are equal by their fields
 
-description-is : (d : Description) {version : ℕ} {edition : Edition} {declared : List Declared} {opening types gap : List ℕ} {nodes : List Shape} {items : List Content} {after : List ℕ}
-    → version ≡ d .version → edition ≡ d .edition → declared ≡ d .declared → opening ≡ d .opening → types ≡ d .types → gap ≡ d .gap → nodes ≡ d .nodes → items ≡ d .items → after ≡ d .after
-    → _≡_ {A = Description} (record { version = version; edition = edition; declared = declared; opening = opening; types = types; gap = gap; nodes = nodes; items = items; after = after }) d
+description-is : (d : Description) {version : ℕ} {edition : Edition} {declared : List Declared} {opening types gap : List ℕ}
+    {nodes : List Shape} {items : List Content} {after : List ℕ}
+    → version ≡ d .version → edition ≡ d .edition → declared ≡ d .declared → opening ≡ d .opening → types ≡ d .types → gap ≡ d .gap → nodes ≡
+    d .nodes → items ≡ d .items → after ≡ d .after
+    → _≡_ {A = Description} (record {
+      version = version;
+      edition = edition;
+      declared = declared;
+      opening = opening;
+      types = types;
+      gap = gap;
+      nodes = nodes;
+      items = items;
+      after = after;
+    }) d
 description-is d a b c e f g h i j = rw (a, b, c, e, f, g, h, i, j) refl
 
 -- ---- the new file
@@ -110,11 +124,13 @@ some-text r cs inner =
     let rest : List ℕ = joined (sized (itemsText cs) ∷ sized (r .unpackers) ∷ []) in
     omega (arith, length-append (framed (r .contained) rest (ownText r) (length inner)) inner, framed-some (r .contained) rest (ownText r) (length inner))
 
-pub tree-some : {lim : Limits} {types : List Declared} {d parent : ℕ} {m : Made} {rs : List Shape} {cs : List Content} {b : List ℕ} → Nodes lim types d parent m 1 rs cs (b ∷ []) → 0 < length b
+pub tree-some : {lim : Limits} {types : List Declared} {d parent : ℕ} {m : Made} {rs : List Shape} {cs : List Content} {b : List ℕ} → Nodes
+    lim types d parent m 1 rs cs (b ∷ []) → 0 < length b
 tree-some (more {r = r} {cs = cs} {inner = inner} f ys xs) = some-text r cs (joined inner)
 
 module _ {f : List ℕ} {h : Header} (says : HeaderSays f h) {gap tree after g : List ℕ} {start last end : ℕ}
-    (st : FileStands (take (openingSize (h .version)) f) (sized (joined (vlq (length (says .texts)) ∷ says .texts))) gap tree after g start last end) (some : 0 < length tree) (small : length g < 2 ^ 28) where
+    (st : FileStands (take (openingSize (h .version)) f) (sized (joined (vlq (length (says .texts)) ∷ says .texts))) gap tree after g start last
+    end) (some : 0 < length tree) (small : length g < 2 ^ 28) where
   opening-length : length (take (openingSize (h .version)) f) ≡ openingSize (h .version)
   opening-length = length-take-le (openingSize (h .version)) f (says .long)
 
@@ -126,7 +142,8 @@ module _ {f : List ℕ} {h : Header} (says : HeaderSays f h) {gap tree after g :
       sym (rw e at (st .opening-lies .same k (omega arith)) ∙ getD-take (openingSize (h .version)) f k 0 l)
 
   -- its header
-  pub new-header : run (header (length g)) g 0 ≡ ok (record { version = h .version; edition = h .edition; types = h .types; extent = record { start = start; last = last; end = end } }) end
+  pub new-header : run (header (length g)) g 0 ≡ ok
+      (record { version = h .version; edition = h .edition; types = h .types; extent = record { start = start; last = last; end = end } }) end
   new-header =
       let n : ℕ = openingSize (h .version) in
       let o = opening-length in
@@ -141,7 +158,8 @@ module _ {f : List ℕ} {h : Header} (says : HeaderSays f h) {gap tree after g :
       let k₃ = st .size-is in
       let e₃ = length-back g (length g) n small (lies-at o (st .length-lies)) (omega arith) in
       let e₄ = table-back g small (says .table) (says .few) (length g) a (lies-at (omega arith) (st .types-lies)) (omega arith) in
-      let e₅ = extent-back g (length g) b start last (omega arith) (omega arith) small (lies-at (omega arith) (st .start-lies)) (lies-at (omega arith) (st .last-lies)) (omega arith) in
+      let e₅ = extent-back g (length g) b start last (omega arith) (omega arith) small (lies-at (omega arith) (st .start-lies))
+      (lies-at (omega arith) (st .last-lies)) (omega arith) in
       let e : end ≡ b + length (vlq start) + length (vlq last) = omega arith in
       rw e (header-back g (length g) a b (b + length (vlq start) + length (vlq last)) opened (omega arith) small (omega arith) e₃ e₄ e₅)
 
@@ -211,12 +229,15 @@ module _ (lim : Limits) {f : List ℕ} {h : Header} (says : HeaderSays f h) (gap
 
 -- ---- the theorem
 
-pub same-file : (f : List ℕ) (h : Header) (ns : List Node) (is : List Item) (i : ℕ) (text : List ℕ) (types tree : List ℕ) → types ≡ answer (run (tableText f) f (openingSize (h .version))) → joined (outer (map (shape f) ns) (titledAt i text (map (content f) is))) ≡ tree
-    → fileOf (take (openingSize (h .version)) f) (sized types) (part f (h .extent .end) (h .extent .start - h .extent .end)) tree (drop (h .extent .last + 1) f) ≡ titledFile i text f h ns is
+pub same-file : (f : List ℕ) (h : Header) (ns : List Node) (is : List Item) (i : ℕ) (text : List ℕ) (types tree : List ℕ) → types ≡ answer
+    (run (tableText f) f (openingSize (h .version))) → joined (outer (map (shape f) ns) (titledAt i text (map (content f) is))) ≡ tree
+    → fileOf (take (openingSize (h .version)) f) (sized types) (part f (h .extent .end) (h .extent .start - h .extent .end)) tree
+    (drop (h .extent .last + 1) f) ≡ titledFile i text f h ns is
 unfolding titledFile fileText retitled described
 same-file f h ns is i text types tree a b = rw (a, ← b) refl
 
-same-description : (f : List ℕ) (h : Header) (ns : List Node) (is : List Item) (i : ℕ) (text : List ℕ) (types : List ℕ) → types ≡ answer (run (tableText f) f (openingSize (h .version)))
+same-description : (f : List ℕ) (h : Header) (ns : List Node) (is : List Item) (i : ℕ) (text : List ℕ) (types : List ℕ) → types ≡ answer
+    (run (tableText f) f (openingSize (h .version)))
     → _≡_ {A = Description} (record {
       version = h .version;
       edition = h .edition;
@@ -236,9 +257,11 @@ pub record Grammar (lim : Limits) (f : List ℕ) (h : Header) (ns : List Node) (
   pub says : HeaderSays f h
   pub tree : List ℕ
   pub nodes : Nodes lim (h .types) 16 0 (record { nodes = 0; items = 0 }) 1 (map (shape f) ns) (titledAt i text (map (content f) is)) (tree ∷ [])
-  pub file : fileOf (take (openingSize (h .version)) f) (sized (joined (vlq (length (says .texts)) ∷ says .texts))) (part f (h .extent .end) (h .extent .start - h .extent .end)) tree (drop (h .extent .last + 1) f) ≡ titledFile i text f h ns is
+  pub file : fileOf (take (openingSize (h .version)) f) (sized (joined (vlq (length (says .texts)) ∷ says .texts)))
+      (part f (h .extent .end) (h .extent .start - h .extent .end)) tree (drop (h .extent .last + 1) f) ≡ titledFile i text f h ns is
 
-pub grammar : (lim : Limits) (f : List ℕ) {h : Header} {ns : List Node} {is : List Item} → readFile lim f ≡ rows h ns is → elsewhere ns ≡ false → (i : ℕ) (text : List ℕ) → Grammar lim f h ns is i text
+pub grammar : (lim : Limits) (f : List ℕ) {h : Header} {ns : List Node} {is : List Item} → readFile lim f ≡ rows h ns is → elsewhere ns ≡
+    false → (i : ℕ) (text : List ℕ) → Grammar lim f h ns is i text
 grammar lim f {h} {ns} {is} e here i text =
     let r = read-back lim f e in
     let p : P Made = treeOf lim (length f) h in
@@ -249,20 +272,28 @@ grammar lim f {h} {ns} {is} e here i text =
     let hd = at-end any-free f (header-on (length f)) (r .header-is) in
     let says = header-says f (r .header-is) in
     let say : ℕ → Item → Content = retitling f i text in
-    let t = holds (tree-says (retitling-keeps f i text) (context lim h (length f)) (h .extent .last + 1) (h .extent .start) (omega arith)) (tree-collects say f p (h .extent .start) (r .tree-is)) in
+    let t = holds (tree-says (retitling-keeps f i text) (context lim h (length f)) (h .extent .last + 1) (h .extent .start) (omega arith))
+    (tree-collects say f p (h .extent .start) (r .tree-is)) in
     let rs : List Shape = map (shape f) ns in
     let cs : List Content = titledAt i text (map (content f) is) in
     let items-are : saidFrom say 0 (itemsOf log) ≡ cs = ap (saidFrom say 0) is-is ∙ said-titled f i text 0 i is (omega arith) in
     let nodes : Nodes lim (h .types) 16 0 (record { nodes = 0; items = 0 }) 1 rs cs (t .text ∷ []) =
     subst (λ v. Nodes lim (h .types) 16 0 (record { nodes = 0; items = 0 }) 1 rs v (t .text ∷ [])) items-are
     (subst (λ v. Nodes lim (h .types) 16 0 (record { nodes = 0; items = 0 }) 1 (map (shape f) v) (saidFrom say 0 (itemsOf log)) (t .text ∷ [])) ns-is (t .are)) in
-    record { says = says; tree = t .text; nodes = nodes; file = same-file f h ns is i text (joined (vlq (length (says .texts)) ∷ says .texts)) (t .text) (sym (ap answer (says .ran))) (tree-text nodes) }
+    record {
+      says = says;
+      tree = t .text;
+      nodes = nodes;
+      file = same-file f h ns is i text (joined (vlq (length (says .texts)) ∷ says .texts))
+          (t .text) (sym (ap answer (says .ran))) (tree-text nodes);
+    }
 
 pub retitled-reads : (lim : Limits) (f : List ℕ) {h : Header} {ns : List Node} {is : List Item} → readFile lim f ≡ rows h ns is → elsewhere ns ≡ false → (i : ℕ) (text : List ℕ)
     → length (titledFile i text f h ns is) < 2 ^ 28 → Says lim (titledFile i text f h ns is) (retitled i text (described f h ns is))
 retitled-reads lim f {h} {ns} {is} e here i text small =
     let w = grammar lim f e here i text in
     let says = w .says in
-    let v = written-reads lim says (part f (h .extent .end) (h .extent .start - h .extent .end)) (drop (h .extent .last + 1) f) (w .nodes) (all-stay f ns here) (subst (λ v. length v < 2 ^ 28) (sym (w .file)) small) in
+    let v = written-reads lim says (part f (h .extent .end) (h .extent .start - h .extent .end)) (drop (h .extent .last + 1) f) (w .nodes)
+    (all-stay f ns here) (subst (λ v. length v < 2 ^ 28) (sym (w .file)) small) in
     subst (λ v. Says lim v (retitled i text (described f h ns is))) (w .file)
     (subst (Says lim _) (same-description f h ns is i text (joined (vlq (length (says .texts)) ∷ says .texts)) (sym (ap answer (says .ran)))) v)

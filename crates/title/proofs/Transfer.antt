@@ -39,7 +39,8 @@ module _ {f k : List ℕ} where
   alike-as : {A : Type 0} {m m′ : P A} {at : ℕ} → m ≡ m′ → Alike f k m m′ at
   alike-as {m = m} {at = at} e = subst (λ v. Alike f k m v at) e alike-same
 
-  alike-bind : {A C : Type 0} {m m′ : P A} {h h′ : A → P C} {at : ℕ} → Alike f k m m′ at → ((a : A) (p : ℕ) → run m f at ≡ ok a p → Alike f k (h a) (h′ a) p) → Alike f k (m >>= h) (m′ >>= h′) at
+  alike-bind : {A C : Type 0} {m m′ : P A} {h h′ : A → P C} {at : ℕ} → Alike f k m m′ at →
+      ((a : A) (p : ℕ) → run m f at ≡ ok a p → Alike f k (h a) (h′ a) p) → Alike f k (m >>= h) (m′ >>= h′) at
   alike-bind {A} {C} {m} {m′} {h} {h′} {at} x y = record { alike = λ c q e g. by c q (run m f at) refl (sym (run-bind m h f at) ∙ e) g }
     where
       by : (c : C) (q : ℕ) (o : Out A) → run m f at ≡ o → andThen o (λ a p. run (h a) f p) ≡ ok c q → AgreeUpTo f k at q → run (m′ >>= h′) k at ≡ ok c q
@@ -65,7 +66,8 @@ module _ {f k : List ℕ} where
   alike-times zero s at h = alike-same
   alike-times (suc n) s at h = alike-bind (h s at) (λ t p e. alike-times n t p h)
 
-copied-was : (f : List ℕ) {A : Type 0} (m : P A) (g : List ℕ) (at : ℕ) {s : List ℕ} {q : ℕ} → run (copied g m) f at ≡ ok s q → (a : A) × (run m f at ≡ ok a q) × (s ≡ part g at (q - at))
+copied-was : (f : List ℕ) {A : Type 0} (m : P A) (g : List ℕ) (at : ℕ) {s : List ℕ} {q : ℕ} → run (copied g m) f at ≡ ok s q → (a : A) ×
+    (run m f at ≡ ok a q) × (s ≡ part g at (q - at))
 unfolding copied
 copied-was f {A} m g at {s} {q} e = by (run m f at) refl (simp running at e)
   where
@@ -101,7 +103,9 @@ module _ (f k : List ℕ) (long : length f ≡ length k) where
   identifier-alike kind at =
       alike-if (eqb kind 3) (copies (ap (guid unpackFrame) long) (λ a q e. at-end any-free f (guid-on {U = Any} unpackFrame (length f) at) e .2))
       (alike-if (eqb kind 1)
-      (alike-bind (copies (ap (manufacturer unpackFrame) long) (λ a q e. at-end any-free f (manufacturer-on {U = Any} unpackFrame (length f) at) e .2)) λ m p e. alike-bind (numbers unpackFrame) λ v q e. alike-same)
+      (alike-bind (copies (ap (manufacturer unpackFrame) long)
+      (λ a q e. at-end any-free f (manufacturer-on {U = Any} unpackFrame (length f) at) e .2)) λ m p e. alike-bind (numbers unpackFrame)
+      λ v q e. alike-same)
       (alike-bind (numbers unpackFrame) λ v q e. alike-same))
 
   unpacker-alike : (before : List ℕ) (at : ℕ) → Alike f k (unpackerText f before) (unpackerText k before) at
@@ -109,7 +113,8 @@ module _ (f k : List ℕ) (long : length f ≡ length k) where
   unpacker-alike before at = alike-bind (numbers unpackFrame) λ kind p e. alike-bind (identifier-alike kind p) λ i q e. alike-bind (numbers unpackFrame) λ size r e. alike-same
 
   -- the language's name, which is copied
-  language-alike : (n at : ℕ) (h : List ℕ → List ℕ) → at + n ≤ length f → Alike f k (skip (plain language) n >> ret (h (part f at n))) (skip (plain language) n >> ret (h (part k at n))) at
+  language-alike : (n at : ℕ) (h : List ℕ → List ℕ) → at + n ≤ length f → Alike f k (skip (plain language) n >> ret (h (part f at n)))
+      (skip (plain language) n >> ret (h (part k at n))) at
   language-alike n at h l = record {
     alike = λ s q e g.
         let (u, v) = ok-same (simp running at e) in
@@ -126,7 +131,8 @@ module _ (f k : List ℕ) (long : length f ≡ length k) where
 
   table-alike : (at : ℕ) → Alike f k (tableText f) (tableText k) at
   unfolding tableText
-  table-alike at = alike-bind (numbers fileFrame) λ size p e₁. alike-bind (blocks fileFrame) λ n q e₂. alike-bind (numbers fileFrame) λ count r e₃. alike-times count (vlq count) r (λ s u. entry-alike s u)
+  table-alike at = alike-bind (numbers fileFrame) λ size p e₁. alike-bind (blocks fileFrame) λ n q e₂. alike-bind (numbers fileFrame)
+      λ count r e₃. alike-times count (vlq count) r (λ s u. entry-alike s u)
 
   -- where f's unpackers were read, k says the same; so of the types table
   pub unpackers-alike : (n at : ℕ) {s : List ℕ} {q : ℕ} → run (times n (unpackerText f) []) f at ≡ ok s q → AgreeUpTo f k at q → run (times n (unpackerText k) []) k at ≡ ok s q

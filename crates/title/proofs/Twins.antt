@@ -45,7 +45,8 @@ pub record Twins (lim : Limits) (g k : List ℕ) : Type 0 where
   pub differ : DifferInPrivate header nodes items g k
 
 module _ (lim : Limits) {f : List ℕ} {h : Header} (says : HeaderSays f h) (gap after gap₂ after₂ : List ℕ) {rs rs₂ : List Shape} {cs cs₂ : List Content} {b : List ℕ}
-    (nodes : Nodes lim (h .types) 16 0 (record { nodes = 0; items = 0 }) 1 rs cs (b ∷ [])) (stay : AllStay rs) (shapes : Each Shapes rs rs₂) (contents : Each Pair cs cs₂) (eg : length gap ≡ length gap₂) (ea : length after ≡ length after₂) where
+    (nodes : Nodes lim (h .types) 16 0 (record { nodes = 0; items = 0 }) 1 rs cs (b ∷ [])) (stay : AllStay rs) (shapes : Each Shapes rs rs₂)
+    (contents : Each Pair cs cs₂) (eg : length gap ≡ length gap₂) (ea : length after ≡ length after₂) where
   abbrev opening : List ℕ
   opening = take (openingSize (h .version)) f
 
@@ -97,7 +98,8 @@ module _ (lim : Limits) {f : List ℕ} {h : Header} (says : HeaderSays f h) (gap
         let a₂ = agree {g = g} {k = k} (n + length (vlq (length g))) types (st .types-lies) k₂ in
         let a₃ = agree {g = g} {k = k} (n + length (vlq (length g)) + length types) (vlq start) (st .start-lies) k₃ in
         let a₄ = agree {g = g} {k = k} (n + length (vlq (length g)) + length types + length (vlq start)) (vlq last) (st .last-lies) k₄ in
-        let chunk : AgreeUpTo g k 0 end = λ j lo hi. agree-on g k {p = 0} {q = n} (λ j lo hi. a₀ j lo (omega arith)) (agree-on g k a₁ (agree-on g k a₂ (agree-on g k a₃ a₄))) j lo (omega arith) in
+        let chunk : AgreeUpTo g k 0 end = λ j lo hi. agree-on g k {p = 0} {q = n} (λ j lo hi. a₀ j lo (omega arith))
+        (agree-on g k a₁ (agree-on g k a₂ (agree-on g k a₃ a₄))) j lo (omega arith) in
         let p : P Made = treeOf lim (length g) h′ in
         let tr = tree-runs g k small (context lim h′ (length g)) nodes stay shapes contents (last + 1) start (st .tree-lies) (lies-at eS (st₂ .tree-lies)) (st .last-is) in
         let w = rows-were g p start (tree-back (context lim h′ (length g)) g small nodes stay (last + 1) start (st .tree-lies) (st .last-is)) in

@@ -102,7 +102,8 @@ pub data Unpackers : List (List ℕ) → Type 0 where
   more : {s : List ℕ} {ss : List (List ℕ)} → Unpacker s → Unpackers ss → Unpackers (s ∷ ss)
 
 module _ (end : ℕ) (g : List ℕ) where
-  pub unpackers-back : {ss : List (List ℕ)} → Unpackers ss → (k n p : ℕ) → Lies g p (joined ss) → p + length (joined ss) ≡ end → end ≤ p + k → run (turns k end (node.unpacker end) n) g p ≡ ok (n + length ss) end
+  pub unpackers-back : {ss : List (List ℕ)} → Unpackers ss → (k n p : ℕ) → Lies g p (joined ss) → p + length (joined ss) ≡ end → end ≤ p + k →
+      run (turns k end (node.unpacker end) n) g p ≡ ok (n + length ss) end
   unpackers-back none k n p h i l =
       let a : n + 0 ≡ n = omega arith in
       let b : p ≡ end = omega arith in
@@ -116,7 +117,8 @@ module _ (end : ℕ) (g : List ℕ) where
       run-turn g k end p (node.unpacker end) n (omega arith) l ∙ rw (a, e₁) e₂
 
 -- the unpackers' text is said again
-pub unpackers-again : (g : List ℕ) {ss : List (List ℕ)} → Unpackers ss → (before : List ℕ) (p : ℕ) → Lies g p (joined ss) → run (times (length ss) (unpackerText g) before) g p ≡ ok (before ++ joined ss) (p + length (joined ss))
+pub unpackers-again : (g : List ℕ) {ss : List (List ℕ)} → Unpackers ss → (before : List ℕ) (p : ℕ) → Lies g p (joined ss) → run
+    (times (length ss) (unpackerText g) before) g p ≡ ok (before ++ joined ss) (p + length (joined ss))
 unfolding times
 unpackers-again g none before p h = let a : p + 0 ≡ p = omega arith in rw (a, append-nil before) (simp running)
 unpackers-again g (more {s} {ss} u us) before p h =
@@ -146,15 +148,18 @@ module _ (g : List ℕ) (big : length g < 2 ^ 28) (contained inner q : ℕ) {ss 
       let z = sized-length (joined ss) in
       let r : ℕ = q + length (vlq n) in
       let e₁ = block-back unpackFrame 8 (r + n) n (s .0) (omega (arith, h .inside)) (omega arith) in
-      let e₂ : run (many (r + n) (node.unpacker (r + n)) 0) g r ≡ ok (0 + length ss) (r + n) = run-many g (r + n) r (node.unpacker (r + n)) 0 ∙ unpackers-back (r + n) g us (r + n - r) 0 r (s .1) refl (omega arith) in
+      let e₂ : run (many (r + n) (node.unpacker (r + n)) 0) g r ≡ ok (0 + length ss) (r + n) = run-many g (r + n) r (node.unpacker (r + n)) 0 ∙
+      unpackers-back (r + n) g us (r + n - r) 0 r (s .1) refl (omega arith) in
       let e₃ : r + n ≡ inner = omega arith in
       let e₄ : 0 + length ss ≡ length ss = omega arith in
       rw (← e₃) (simp (running, e₁, either contained n f, e₂, e₄))
 
 -- the same of a text t of k unpackers
-pub packs-back : (g : List ℕ) → length g < 2 ^ 28 → (contained inner q : ℕ) {ss : List (List ℕ)} → Unpackers ss → (t : List ℕ) (k : ℕ) → joined ss ≡ t → length ss ≡ k → (contained ≡ 0) ⊎ (length t ≡ 0) → Lies g q (sized t) → q + length (sized t) ≡ inner
+pub packs-back : (g : List ℕ) → length g < 2 ^ 28 → (contained inner q : ℕ) {ss : List (List ℕ)} → Unpackers ss → (t : List ℕ) (k : ℕ) →
+    joined ss ≡ t → length ss ≡ k → (contained ≡ 0) ⊎ (length t ≡ 0) → Lies g q (sized t) → q + length (sized t) ≡ inner
     → run (unpackers contained inner) g q ≡ ok (record { place = record { 0 = q + length (vlq (length t)) }; count = k }) inner
 packs-back g big contained inner q us t k a b z h i = rw (← b, ← a) (unpackers-run g big contained inner q us (rw (← a) at z) (rw (← a) at h) (rw (← a) at i))
 
-pub packs-again : (g : List ℕ) {ss : List (List ℕ)} → Unpackers ss → (t : List ℕ) (k q : ℕ) → joined ss ≡ t → length ss ≡ k → Lies g q t → answer (run (times k (unpackerText g) []) g q) ≡ t
+pub packs-again : (g : List ℕ) {ss : List (List ℕ)} → Unpackers ss → (t : List ℕ) (k q : ℕ) → joined ss ≡ t → length ss ≡ k → Lies g q t →
+    answer (run (times k (unpackerText g) []) g q) ≡ t
 packs-again g us t k q a b h = rw (← b, ← a) (ap answer (unpackers-again g us [] q (rw (← a) at h)))

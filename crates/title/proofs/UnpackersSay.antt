@@ -49,7 +49,8 @@ module _ (f : List ℕ) (end : ℕ) (o : end ≤ length f) where
       let c = copied-is at s h in
       rw k (simp (running, e, c))
 
-  made-text : (kind at : ℕ) {s : List ℕ} {v q : ℕ} → kind ≡ 1 → Maker s → Lies f at s → run (number unpackFrame 3 end) f (at + length s) ≡ ok v q → run (identifierText f kind) f at ≡ ok (joined (s ∷ vlq v ∷ [])) q
+  made-text : (kind at : ℕ) {s : List ℕ} {v q : ℕ} → kind ≡ 1 → Maker s → Lies f at s → run (number unpackFrame 3 end) f (at + length s) ≡ ok
+      v q → run (identifierText f kind) f at ≡ ok (joined (s ∷ vlq v ∷ [])) q
   unfolding identifierText copied
   made-text kind at {s} k g h e =
       let e₁ = maker-back unpackFrame (length f) f g at h (h .inside) in
@@ -61,15 +62,23 @@ module _ (f : List ℕ) (end : ℕ) (o : end ≤ length f) where
   unfolding identifierText
   number-text kind at a b e = let e₁ = wide at e in simp (running, ne-eqb _ _ a, ne-eqb _ _ b, e₁)
 
-  identifier-says : (kind at : ℕ) → Post nothing f (identifier kind end) (Holds (λ _ q. (q ≤ end) × (at < q) × (s : List ℕ) × Names kind s × (run (identifierText f kind) f at ≡ ok s q) × Covers f at s q)) at tt
+  identifier-says : (kind at : ℕ) → Post nothing f (identifier kind end)
+      (Holds (λ _ q. (q ≤ end) × (at < q) × (s : List ℕ) × Names kind s × (run (identifierText f kind) f at ≡ ok s q) × Covers f at s q)) at tt
   unfolding identifier value
   identifier-says kind at =
       post-if
       (λ t. post-run (guid-quiet unpackFrame end) λ _ q e.
       let i = at-end any-free f (guid-on {U = Any} unpackFrame end at) e in
       let w = guid-was unpackFrame end f o at e in
-      let k = eqb-true kind 3 t in
-      (i .2, i .0, w .bytes, subst (λ j. Names j (w .bytes)) (sym k) (guid (w .is)), guid-text kind at k (w .is) (w .lies) ∙ ap (ok (w .bytes)) (sym (w .ends)), covers-to (sym (w .ends)) (covers-lies (w .lies))))
+      let k = eqb-true kind 3 t in (
+        i .2,
+        i .0,
+        w .bytes,
+        subst (λ j. Names j (w .bytes)) (sym k) (guid (w .is)),
+        guid-text kind at k (w .is) (w .lies) ∙ ap (ok (w .bytes))
+            (sym (w .ends)),
+        covers-to (sym (w .ends)) (covers-lies (w .lies)),
+      ))
       (λ t. post-if
       (λ u. post-step (manufacturer-quiet unpackFrame end) λ _ q e.
       post-step (number-quiet unpackFrame 3 end) λ v r e₂.
@@ -87,11 +96,20 @@ module _ (f : List ℕ) (end : ℕ) (o : end ≤ length f) where
       ))
       (λ u. post-step (number-quiet unpackFrame 3 end) λ v q e.
       let i = number-inside unpackFrame 3 end f at e in
-      post-ret (i .2, i .0, vlq v, grammar.number (eqb-false kind 3 t) (eqb-false kind 1 u) (i .3), number-text kind at (eqb-false kind 3 t) (eqb-false kind 1 u) e, number-covers unpackFrame 3 end f at e)))
+      post-ret (
+        i .2,
+        i .0,
+        vlq v,
+        grammar.number (eqb-false kind 3 t) (eqb-false kind 1 u) (i .3),
+        number-text kind at (eqb-false kind 3 t)
+            (eqb-false kind 1 u) e,
+        number-covers unpackFrame 3 end f at e,
+      )))
 
   -- ---- an unpacker
 
-  unpacker-text : (before : List ℕ) (at : ℕ) {kind size q r t : ℕ} {s : List ℕ} → run (number unpackFrame 3 end) f at ≡ ok kind q → run (identifierText f kind) f q ≡ ok s r → run (number unpackFrame 3 end) f r ≡ ok size t
+  unpacker-text : (before : List ℕ) (at : ℕ) {kind size q r t : ℕ} {s : List ℕ} → run (number unpackFrame 3 end) f at ≡ ok kind q → run
+      (identifierText f kind) f q ≡ ok s r → run (number unpackFrame 3 end) f r ≡ ok size t
       → run (unpackerText f before) f at ≡ ok (before ++ joined (vlq kind ∷ s ∷ vlq size ∷ [])) t
   unfolding unpackerText
   unpacker-text before at {r = r} e₁ e₂ e₃ = let a = wide at e₁ in let b = wide r e₃ in simp (running, a, e₂, b)
@@ -100,7 +118,9 @@ module _ (f : List ℕ) (end : ℕ) (o : end ≤ length f) where
   unfolding value
   value-says at = post-step (number-quiet unpackFrame 3 end) λ v q e. post-ret (v, e)
 
-  unpacker-says : (n at : ℕ) → Post nothing f (node.unpacker end n) (Holds (λ k q. (k ≡ n + 1) × (at < q) × (q ≤ end) × (s : List ℕ) × Unpacker s × ((before : List ℕ) → run (unpackerText f before) f at ≡ ok (before ++ s) q) × Covers f at s q)) at tt
+  unpacker-says : (n at : ℕ) → Post nothing f (node.unpacker end n)
+      (Holds (λ k q. (k ≡ n + 1) × (at < q) × (q ≤ end) × (s : List ℕ) × Unpacker s ×
+      ((before : List ℕ) → run (unpackerText f before) f at ≡ ok (before ++ s) q) × Covers f at s q)) at tt
   unfolding node.unpacker
   unpacker-says n at =
       post-place _ at
@@ -146,7 +166,8 @@ begun : (f : List ℕ) (end p : ℕ) → p ≤ end → Packs f end p 0 p
 unfolding times
 begun f end p l = record { packs = []; are = none; count = refl; far = omega arith; inside = l; covers = covers-none p; text = simp running }
 
-one-more : (f : List ℕ) (end p k k′ q r : ℕ) {s : List ℕ} → Packs f end p k q → k′ ≡ k + 1 → q < r → r ≤ end → Unpacker s → ((before : List ℕ) → run (unpackerText f before) f q ≡ ok (before ++ s) r) → Covers f q s r → Packs f end p k′ r
+one-more : (f : List ℕ) (end p k k′ q r : ℕ) {s : List ℕ} → Packs f end p k q → k′ ≡ k + 1 → q < r → r ≤ end → Unpacker s →
+    ((before : List ℕ) → run (unpackerText f before) f q ≡ ok (before ++ s) r) → Covers f q s r → Packs f end p k′ r
 one-more f end p k k′ q r {s} w e l i u t o =
     let z = length-append (w .packs) (s ∷ []) in
     let c = w .count in
@@ -166,7 +187,9 @@ entries-say : (f : List ℕ) (end : ℕ) → end ≤ length f → (at : ℕ) →
 unfolding entries
 entries-say f end o at l =
     post-place _ at
-    (post-after (post-many (λ k q τ. Packs f end at k q) end 0 (λ k p τ w. post-weaken (unpacker-says f end o k p) λ k′ q _ v. one-more f end at k k′ p q w (v .0) (v .1) (v .2) (v .4) (v .5) (v .6)) (begun f end at l))
+    (post-after (post-many (λ k q τ. Packs f end at k q) end 0
+    (λ k p τ w. post-weaken (unpacker-says f end o k p) λ k′ q _ v. one-more f end at k k′ p q w (v .0) (v .1) (v .2) (v .4) (v .5) (v .6))
+    (begun f end at l))
     λ k q _ w. post-ret (refl, w))
 
 -- the unpackers of a node, of which a folder has none
@@ -192,7 +215,9 @@ empty-packs (s ∷ ss) e = absurd (omega arith)
 
 entries-end : (end at : ℕ) → at ≤ end → Wp (Inside Nothing end end) (entries end) (λ u q. q ≡ end) at
 unfolding entries
-entries-end end at l = wp-place _ at (wp-after (wp-many (λ _. Unit {0}) 0 (λ n p l i. wp-weaken (unpacker-on Nothing end end end n p) (λ k q x. (tt, x .1, x .2))) tt l) λ k q x. wp-ret (x .1))
+entries-end end at l = wp-place _ at
+    (wp-after (wp-many (λ _. Unit {0}) 0 (λ n p l i. wp-weaken (unpacker-on Nothing end end end n p) (λ k q x. (tt, x .1, x .2))) tt l)
+    λ k q x. wp-ret (x .1))
 
 unpackers-post : (f : List ℕ) (contained end : ℕ) → end ≤ length f → (at : ℕ) → Post nothing f (unpackers contained end) (Holds (PacksOf f contained end at)) at tt
 unfolding unpackers
@@ -217,7 +242,8 @@ unpackers-post f contained end o at =
       within = omega arith;
     }))
 
-pub unpackers-say : (f : List ℕ) (contained end at : ℕ) → end ≤ length f → {u : unpackers.Unpackers} {q : ℕ} → run (unpackers contained end) f at ≡ ok u q → PacksOf f contained end at u q
+pub unpackers-say : (f : List ℕ) (contained end at : ℕ) → end ≤ length f → {u : unpackers.Unpackers} {q : ℕ} → run (unpackers contained end)
+    f at ≡ ok u q → PacksOf f contained end at u q
 unpackers-say f contained end at o e = post-ran (unpackers-post f contained end o at) e
 
 -- where they were read again: after the length, and not past where they end

@@ -69,7 +69,8 @@ module _ (lim : Limits) (f : List ℕ) (h : Header) where
   Apart log = AllApart h (nodesOf log)
 
   -- the tree has no detached row
-  tree-apart : {m : Made} {p : ℕ} → h .extent .last < length f → run (treeOf lim (length f) h) f (h .extent .start) ≡ ok m p → Apart (trace (treeOf lim (length f) h) f (h .extent .start))
+  tree-apart : {m : Made} {p : ℕ} → h .extent .last < length f → run (treeOf lim (length f) h) f (h .extent .start) ≡ ok m p → Apart
+      (trace (treeOf lim (length f) h) f (h .extent .start))
   tree-apart l e =
       let whole = tree-attached (context lim h (length f)) (h .extent .last + 1) f (h .extent .start) (omega arith) e in
       let never : (i k : ℕ) → ByteOf (nodesOf (trace (treeOf lim (length f) h) f (h .extent .start))) i k → ⊥ = λ i k b. let y = b .1 in let z = whole i (b .0) in omega arith in
@@ -87,7 +88,8 @@ module _ (lim : Limits) (f : List ℕ) (h : Header) where
       let at = w .start in
       let end = w .stop in
       let n : nodesOf log′ ≡ nodesOf log ++ (w .row ∷ []) = ap nodesOf y ∙ rows-on nodeOf log _ ∙ ap (λ v. nodesOf log ++ v) (w .rows-are ∙ ap (λ v. w .row ∷ v) (w .alone refl)) in
-      let meets : (k : ℕ) → r .target ≤ k → k < s .after → Within lim f h (nodesOf log) k → ⊥ = λ k lo hi t. meets-none lim f h (nodesOf log) (r .target) (s .after) k (o .2) (p .1) (u .1) (u .2) t lo hi in
+      let meets : (k : ℕ) → r .target ≤ k → k < s .after → Within lim f h (nodesOf log) k → ⊥ = λ k lo hi t. meets-none lim f h (nodesOf log)
+      (r .target) (s .after) k (o .2) (p .1) (u .1) (u .2) t lo hi in
       subst (AllApart h) (sym n) (more-apart h (nodesOf log) (w .row) a λ k lo hi. (
         (
           let b = o .0 in omega arith,
@@ -104,7 +106,8 @@ all-apart lim f {h} r =
     let a = read-back lim f r in
     let b = header-of a in
     let t : Apart lim f h (trace (treeOf lim (length f) h) f (h .extent .start)) = tree-apart lim f h (b .3) (a .tree-is) in
-    let w = followed lim f h (λ i. Apart lim f h) (λ i log log′ o l. step-apart lim f h log log′ _ (omega arith) o) (lim .nodes) 0 _ (λ log e. subst (Apart lim f h) (same e) t) (a .follows) in
+    let w = followed lim f h (λ i. Apart lim f h) (λ i log log′ o l. step-apart lim f h log log′ _ (omega arith) o) (lim .nodes) 0 _
+    (λ log e. subst (Apart lim f h) (same e) t) (a .follows) in
     subst (AllApart h) (a .nodes-are) (w .1)
   where
     same : {x y : Events} → good x ≡ good y → x ≡ y

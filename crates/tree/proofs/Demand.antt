@@ -3,50 +3,49 @@
 -- and inline data free: demand 3 for the first question. What the other questions use besides: custom names, and the data of rows that are not free, agree too.
 -- Assumes nothing.
 use mathlib.Core.Path.{_≡_, refl, sym, ap, ap₂, _∙_, subst}
-use mathlib.Core.Bool.{Bool, true, false, cond, not, _&&_, _||_}
+use mathlib.Core.Bool.{Bool, true, false, cond, not, _&&_}
 use mathlib.Core.Logic.{_⊎_, inl, inr}
 use mathlib.Core.List.{List, [], _∷_, _++_, append-assoc, append-nil}
-use Prim.Native.Nat.{ℕ, zero, suc, _+_, _-_, _≤_, _<_, min, max}
+use Prim.Native.Nat.{ℕ, zero, suc, _+_, _≤_, _<_, min, max}
 use native.Mathlib.Nat.{lt-of-not-le}
-use native.Mathlib.Decide.{decLe, decLt}
+use native.Mathlib.Decide.{decLe}
 use native.Mathlib.Omega.{arith}
-use borrow.Author.Tests.{ltb-true, ltb-false, leb-true, lt-ltb, eq-eqb}
-use lib.Dec.{T, eqb, ltb, leb}
-use lib.ListN.{length, getD, List·getD-eq-default, length-append}
-use Rattle.cursor.specs.Machine.{Out, ok, refused, Event, seen, passed, run, trace, rowsOf, _>>=_, _>>_, place}
-use Rattle.cursor.specs.Rows.{Frame, Part, nodeRow, itemRow, Plain, language, name, uri, plain, hasInline, P, Events}
+use borrow.Author.Tests.{lt-ltb, eq-eqb}
+use lib.Dec.{T, eqb, ltb}
+use lib.ListN.{length, getD, List·getD-eq-default}
+use Rattle.cursor.specs.Machine.{ok, seen, passed, run, trace, rowsOf, place}
+use Rattle.cursor.specs.Rows.{Part, nodeRow, itemRow, language, name, uri, plain, hasInline, Events}
 use Rattle.cursor.specs.declared.Node.{Node}
 use Rattle.cursor.specs.declared.Item.{Item}
 use Rattle.cursor.proofs.Laws.{rows-on}
-use Rattle.cursor.proofs.Leaves.{any-free}
-use Rattle.cursor.proofs.Wp.{All, all-on, at-end}
+use Rattle.cursor.proofs.Wp.{All}
 use Rattle.cursor.proofs.Stable.{Free, Kept, chain, ends, stable}
 use Rattle.cursor.proofs.Agree.{Agree}
 use Rattle.cursor.proofs.Log.{held-parts, Sound, sound-run, sound-on, sound-in, sound-kept}
 use Rattle.cursor.proofs.Near.{Near, near-run, near-same, near-then, near-on, near-check}
 use Rattle.header.specs.Header.{Header, header}
-use Rattle.header.proofs.Ends.{header-on}
 use Rattle.metadata.specs.Metadata.{Context}
 use Rattle.metadata.specs.declared.Limits.{Limits}
 use Rattle.metadata.specs.declared.Made.{Made}
-use Rattle.metadata.proofs.Ends.{OfNames, Nothing, Given, Inside}
+use Rattle.metadata.proofs.Ends.{Nothing, Given, Inside}
 use Rattle.node.specs.Node.{headerLength, head, front, outsideTree}
 use Rattle.tree.specs.Tree.{tree, node, detached}
-use Rattle.tree.specs.Reading.{nodeOf, nodesOf, itemsOf, Result, good, bad, Reading, rows, refusal, madeBy, logged, lost, offsetAt, outside, partEnd, takenFrom, detachedAt, reach, follow, logFrom, reading, context, readTree, readFile}
+use Rattle.tree.specs.Reading.{nodeOf, nodesOf, itemsOf, Result, good, bad, rows, madeBy, logged, lost, offsetAt, outside, partEnd, takenFrom, detachedAt, reach, follow, logFrom, reading, context, readTree, readFile}
 use Rattle.tree.specs.Rows.{nodeAt, itemAt}
 use Rattle.tree.specs.Hidden.{mayDiffer, HiddenData, InlineData, InDetached, InParts, Private, DifferInPrivate, DifferInHidden}
 use Rattle.tree.proofs.Ends.{tree-ends, detached-ends}
 use Rattle.tree.proofs.Nodes.{inline-is}
-use Rattle.tree.proofs.Starts.{OwnRow, detached-row, From, tree-from, detached-from}
+use Rattle.tree.proofs.Starts.{detached-row, From, tree-from, detached-from}
 use Rattle.tree.proofs.Shown.{outside-is, part-is, header-of, log-shows, log-inside}
-use Rattle.tree.proofs.Follow.{never, stops, treeOf, target, Step, stepped, Reached, known, added, reached, followed, ReadAs, read-back}
+use Rattle.tree.proofs.Follow.{stops, treeOf, target, Reached, known, added, reached, followed, ReadAs, read-back}
 
 -- ---- the place of the number that names a detached node matters to a refusal alone
 
 outside-near : (end taken p q : ℕ) → Near (head (outsideTree end taken p)) (head (outsideTree end taken q))
 unfolding head
 outside-near end taken p q =
-    near-then place λ at. near-then _ λ size. near-check _ _ _ _ _ (near-check _ _ _ _ _ (near-check _ _ _ _ _ (near-then _ λ contained. near-check _ _ _ _ _ (near-same (headerLength at size contained)))))
+    near-then place λ at. near-then _ λ size. near-check _ _ _ _ _
+    (near-check _ _ _ _ _ (near-check _ _ _ _ _ (near-then _ λ contained. near-check _ _ _ _ _ (near-same (headerLength at size contained)))))
 
 detached-near : (x : Context) (end taken p q : ℕ) (m : Made) → Near (detached x end taken p m) (detached x end taken q m)
 unfolding detached node front
@@ -61,9 +60,14 @@ module _ (free : Part → Bool) (lim : Limits) (f g : List ℕ) (l : length f �
       same : {a b : Events} → good a ≡ good b → b ≡ a
       same x = cc
 
-      further : (i : ℕ) (log log′ : Events) → (rest : Events) × (log ≡ log₁ ++ rest) → i < length (nodesOf log) → Reached lim f h log (nodeAt (nodesOf log) i) log′ → (rest : Events) × (log′ ≡ log₁ ++ rest)
+      further : (i : ℕ) (log log′ : Events) → (rest : Events) × (log ≡ log₁ ++ rest) → i < length (nodesOf log) → Reached lim f h log
+          (nodeAt (nodesOf log) i) log′ → (rest : Events) × (log′ ≡ log₁ ++ rest)
       further i log log′ w m (known x y) = (w .0, y ∙ w .1)
-      further i log log′ w m (added s y) = (_, y ∙ ap (λ v. v ++ trace (target lim f h log (nodeAt (nodesOf log) i)) f (nodeAt (nodesOf log) i .target)) (w .1) ∙ append-assoc log₁ (w .0) _)
+      further i log log′ w m (added s y) = (
+        _,
+        y ∙ ap (λ v. v ++ trace (target lim f h log (nodeAt (nodesOf log) i)) f (nodeAt (nodesOf log) i .target)) (w .1) ∙ append-assoc log₁
+            (w .0) _,
+      )
 
   -- where row r leads in the one, it leads in the other
   reach-same : (log : Events) (r : Node) {log′ : Events} → Kept free f g log′ → Reached lim f h log r log′ → reach lim g h log r ≡ good log′
@@ -74,7 +78,8 @@ module _ (free : Part → Bool) (lim : Limits) (f g : List ℕ) (l : length f �
       let es = trace m f (r .target) in
       let keeps : Kept free f g es = held-parts free _ log es (subst (Kept free f g) y keep) .1 in
       let (a, b) = stable free m f g (r .target) keeps in
-      let n = detached-near (context lim h (length f)) (partEnd h (length f) (r .target)) (takenFrom (nodesOf log) (r .target) (partEnd h (length f) (r .target))) (offsetAt f r) (offsetAt g r) (madeBy log) in
+      let n = detached-near (context lim h (length f)) (partEnd h (length f) (r .target))
+      (takenFrom (nodesOf log) (r .target) (partEnd h (length f) (r .target))) (offsetAt f r) (offsetAt g r) (madeBy log) in
       let (c, d) = near-run n g (r .target) (sym a ∙ s .runs) in
       rw (s .is-lost, ← l, s .is-outside, c, d, ← b) (ap good (sym y))
 
@@ -225,7 +230,8 @@ module _ (lim : Limits) (f : List ℕ) (h : Header) where
       let u = tree-ends x f (h .extent .start) (h .extent .last + 1) (omega arith) e in
       record {
         sound = sound-in (λ k a. inl (a .0, omega arith)) (sound-run (trace m f (h .extent .start)) (h .extent .start) (chain m f (h .extent .start)));
-        behind = λ k a. let b = taken-after (nodesOf (trace m f (h .extent .start))) (h .extent .start) k (tree-from f x (h .extent .last + 1) (h .extent .start) (omega arith) e) a in omega arith;
+        behind = λ k a. let b = taken-after (nodesOf (trace m f (h .extent .start))) (h .extent .start) k
+            (tree-from f x (h .extent .last + 1) (h .extent .start) (omega arith) e) a in omega arith;
       }
 
   wider : (ns ms : List Node) (k : ℕ) → Within ns k → Within (ns ++ ms) k
@@ -257,8 +263,10 @@ module _ (lim : Limits) (f : List ℕ) (h : Header) where
         sound = rw n (sound-in (λ k. elim [
           | inl a ↦ wider (nodesOf log) (nodesOf es) k a
           | inr a ↦ inr (taken-own (nodesOf log) (nodesOf es) k (rw (w .rows-are) (inl (w .detached-is, (let b = w .start in omega arith), (let b = w .stop in omega arith)))))
-        ]) (sound-on (s .sound) (sound-run es (r .target) (chain m f (r .target))) (λ k a b. meets-none (nodesOf log) (r .target) (t .after) k (o .2) (p .1) (u .1) (u .2) a (b .0) (let c = b .1 in omega arith))));
-        behind = λ k a. elim (taken-parts (nodesOf log) (nodesOf es) k (rw n at a)) [ inl b ↦ s .behind k b | inr b ↦ (let c = taken-after (nodesOf es) (r .target) k from b in omega arith) ];
+        ]) (sound-on (s .sound) (sound-run es (r .target) (chain m f (r .target)))
+            (λ k a b. meets-none (nodesOf log) (r .target) (t .after) k (o .2) (p .1) (u .1) (u .2) a (b .0) (let c = b .1 in omega arith))));
+        behind = λ k a. elim (taken-parts (nodesOf log) (nodesOf es) k (rw n at a))
+            [ inl b ↦ s .behind k b | inr b ↦ (let c = taken-after (nodesOf es) (r .target) k from b in omega arith) ];
       })
 
   log-lies : {ns : List Node} {is : List Item} (a : ReadAs lim f h ns is) → Lies (a .log)
@@ -293,7 +301,8 @@ past-end f g e k h =
     ]
 
 -- with any choice of what is free, files that agree on the other bytes of header, tree and detached nodes read alike; other bytes are no matter
-parts-alike : (free : Part → Bool) (lim : Limits) (f g : List ℕ) {h : Header} {ns : List Node} {is : List Item} → readFile lim f ≡ rows h ns is → length f ≡ length g → (a : ReadAs lim f h ns is)
+parts-alike : (free : Part → Bool) (lim : Limits) (f g : List ℕ) {h : Header} {ns : List Node} {is : List Item} → readFile lim f ≡ rows h ns
+    is → length f ≡ length g → (a : ReadAs lim f h ns is)
     → ((k : ℕ) → Parts lim f h (nodesOf (a .log)) k → (Free free (trace (header (length f)) f 0 ++ a .log) k → ⊥) → getD f k 0 ≡ getD g k 0) → Alike free lim f g ns is
 parts-alike free lim f g {h} r l a agree = alike-kept free lim f g l r a (sound-kept free f g (trace (header (length f)) f 0 ++ a .log) (all-sound lim f h a) agree)
 
@@ -344,12 +353,15 @@ in-parts lim f h ns k (inr (inr x)) = inr (inr (taken-at ns k x))
 -- a private place of a part that is read is free
 private-free : (lim : Limits) (f : List ℕ) {h : Header} {ns : List Node} {is : List Item} (a : ReadAs lim f h ns is) (k : ℕ)
     → InParts h ns k → Private h ns is k → Free privateData (trace (header (length f)) f 0 ++ a .log) k
-private-free lim f a k i (inl o) = free-behind privateData (trace (header (length f)) f 0) (a .log) k (hidden-free (a .log) (length f) (length f) k (log-inside a) (subst (λ v. HiddenData v k) (sym (a .items-are)) o))
-private-free lim f a k i (inr (inl o)) = free-behind privateData (trace (header (length f)) f 0) (a .log) k (inline-free (a .log) (length f) (length f) k (log-inside a) (subst (λ v. InlineData v k) (sym (a .nodes-are)) o))
+private-free lim f a k i (inl o) = free-behind privateData (trace (header (length f)) f 0) (a .log) k
+    (hidden-free (a .log) (length f) (length f) k (log-inside a) (subst (λ v. HiddenData v k) (sym (a .items-are)) o))
+private-free lim f a k i (inr (inl o)) = free-behind privateData (trace (header (length f)) f 0) (a .log) k
+    (inline-free (a .log) (length f) (length f) k (log-inside a) (subst (λ v. InlineData v k) (sym (a .nodes-are)) o))
 private-free lim f a k i (inr (inr o)) = absurd (o i)
 
 -- files that differ at private places alone
-pub private-alike : (lim : Limits) (f g : List ℕ) {h : Header} {ns : List Node} {is : List Item} → readFile lim f ≡ rows h ns is → DifferInPrivate h ns is f g → Alike privateData lim f g ns is
+pub private-alike : (lim : Limits) (f g : List ℕ) {h : Header} {ns : List Node} {is : List Item} → readFile lim f ≡ rows h ns is →
+    DifferInPrivate h ns is f g → Alike privateData lim f g ns is
 private-alike lim f g {h} {ns} {is} r d =
     let a = read-back lim f r in
     parts-alike privateData lim f g r (d .same-length) a λ k i n.
@@ -357,7 +369,8 @@ private-alike lim f g {h} {ns} {is} r d =
     past-end f g (d .same-length) k λ l. d .elsewhere k l λ o. n (private-free lim f a k j o)
 
 -- the second is accepted too, and reads the same
-pub demand3 : (lim : Limits) (f g : List ℕ) {h : Header} {ns : List Node} {is : List Item} → readFile lim f ≡ rows h ns is → DifferInPrivate h ns is f g → readFile lim g ≡ readFile lim f
+pub demand3 : (lim : Limits) (f g : List ℕ) {h : Header} {ns : List Node} {is : List Item} → readFile lim f ≡ rows h ns is → DifferInPrivate
+    h ns is f g → readFile lim g ≡ readFile lim f
 demand3 lim f g r d = private-alike lim f g r d .same-reading
 
 -- files that differ in hidden data alone are among these
@@ -380,4 +393,5 @@ seen-kept f g (passed w p n ∷ es) h = (λ u. absurd u, seen-kept f g es h)
 -- the reading of an accepted file depends on its frame bytes alone: those of header, tree and detached nodes
 pub frames-decide : (lim : Limits) (f g : List ℕ) {h : Header} {ns : List Node} {is : List Item} (r : readFile lim f ≡ rows h ns is) → length f ≡ length g
     → ((k : ℕ) → Seen (trace (header (length f)) f 0 ++ read-back lim f r .log) k → getD f k 0 ≡ getD g k 0) → readFile lim g ≡ readFile lim f
-frames-decide lim f g r l agree = alike-kept (λ _. true) lim f g l r (read-back lim f r) (seen-kept f g (trace (header (length f)) f 0 ++ read-back lim f r .log) agree) .same-reading
+frames-decide lim f g r l agree = alike-kept (λ _. true) lim f g l r (read-back lim f r)
+    (seen-kept f g (trace (header (length f)) f 0 ++ read-back lim f r .log) agree) .same-reading

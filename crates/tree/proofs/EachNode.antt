@@ -56,7 +56,10 @@ module _ (I : Events → Type 0) (nil : I []) (join : (es fs : Events) → I es 
     adds : {a : A} {q : ℕ} → run m f at ≡ ok a q → I (trace m f at)
 
   after : {A B : Type 0} {m : P A} {g : A → P B} {at : ℕ} → Adds m at → ((a : A) (p : ℕ) → Adds (g a) p) → Adds (m >>= g) at
-  after {m = m} {g} {at} w h = record { adds = λ e. let x = split m g f at e in subst I (sym (x .joined)) (join (trace m f at) _ (w .adds (x .first)) (h (x .a) (x .p) .adds (x .second))) }
+  after {m = m} {g} {at} w h = record {
+    adds = λ e. let x = split m g f at e in subst I (sym (x .joined))
+        (join (trace m f at) _ (w .adds (x .first)) (h (x .a) (x .p) .adds (x .second)));
+  }
 
   ends : {A : Type 0} (a : A) (at : ℕ) → Adds (ret a) at
   unfolding trace
@@ -84,8 +87,10 @@ module _ (I : Events → Type 0) (nil : I []) (join : (es fs : Events) → I es 
       → I (ownEvents x parent depth s m f at (w .row) q)
 
   module _ (own : OfRow) where
-    front-then : (x : Context) (parent depth : ℕ) (s : Standing) (m : Made) (at : ℕ) (body : Front → Made → P Made) → ((w : Front) (q : ℕ) → Adds (folder (at + w .row .size) (times (w .row .contained) (body w) (plusNode (w .made)))) q)
-        → Adds (front x parent depth s m >>= λ w. (skip (nodeRow (w .row)) (inlineSize (w .row)) >> folder (at + w .row .size) (times (w .row .contained) (body w) (plusNode (w .made))))) at
+    front-then : (x : Context) (parent depth : ℕ) (s : Standing) (m : Made) (at : ℕ) (body : Front → Made → P Made) →
+        ((w : Front) (q : ℕ) → Adds (folder (at + w .row .size) (times (w .row .contained) (body w) (plusNode (w .made)))) q)
+        → Adds (front x parent depth s m >>= λ w.
+        (skip (nodeRow (w .row)) (inlineSize (w .row)) >> folder (at + w .row .size) (times (w .row .contained) (body w) (plusNode (w .made))))) at
     unfolding run trace _>>=_ _>>_ skip
     front-then x parent depth s m at body h = record {
       adds = λ e.
@@ -125,4 +130,5 @@ pub own-row : (x : Context) (parent depth : ℕ) (s : Standing) (m : Made) (f : 
     → nodesOf (ownEvents x parent depth s m f at (w .row) q) ≡ w .row ∷ []
 unfolding rowsOf
 own-row x parent depth s m f at {w} {q} e =
-    rows-on nodeOf (trace (front x parent depth s m) f at) (passed (nodeRow (w .row)) q (inlineSize (w .row)) ∷ []) ∙ ap (λ v. v ++ (w .row ∷ [])) (front-rowless x parent depth s m f at e)
+    rows-on nodeOf (trace (front x parent depth s m) f at) (passed (nodeRow (w .row)) q (inlineSize (w .row)) ∷ []) ∙ ap
+    (λ v. v ++ (w .row ∷ [])) (front-rowless x parent depth s m f at e)

@@ -1,7 +1,6 @@
 -- Where nodes end: after they began, and not past their holder; the root where the tree does. So every row of a tree lies in it.
 -- Assumes nothing.
 use mathlib.Core.Path.{_≡_, refl}
-use mathlib.Core.Logic.{_⊎_, inl, inr}
 use mathlib.Core.List.{List}
 use Prim.Native.Nat.{ℕ, zero, suc, _+_, _-_, _≤_, _<_}
 use native.Mathlib.Omega.{arith}
@@ -27,7 +26,8 @@ module _ (N : OfNames) (top size : ℕ) where
 -- a node's row, and what it holds, which fills it
 pub contained-fills : (N : OfNames) (top d : ℕ) (x : Context) (s : Standing) (m : Made) (at : ℕ) (w : Front) (q : ℕ) → s .end .0 ≤ top → FrontIn x s m at w q
     → ((t : Made) (p : ℕ) → p ≤ at + w .row .size → Wp (Inside N top (x .size)) (node d x (m .nodes) (inTree 0 (at + w .row .size)) t) (λ _ v. (p ≤ v) × (v ≤ at + w .row .size)) p)
-    → Wp (Inside N top (x .size)) (skip (nodeRow (w .row)) (inlineSize (w .row)) >> folder (at + w .row .size) (times (w .row .contained) (node d x (m .nodes) (inTree 0 (at + w .row .size))) (plusNode (w .made)))) (λ _ v. v ≡ at + w .row .size) q
+    → Wp (Inside N top (x .size)) (skip (nodeRow (w .row)) (inlineSize (w .row)) >> folder (at + w .row .size)
+    (times (w .row .contained) (node d x (m .nodes) (inTree 0 (at + w .row .size))) (plusNode (w .made)))) (λ _ v. v ≡ at + w .row .size) q
 contained-fills N top d x s m at w q o y children =
     let a = y .within in let b = y .inside in let e = y .start in let c = inline-fits y in
     wp-skip _ _ (y .header, omega arith, y .leads, refl, inline-at y) (λ _.
@@ -43,11 +43,14 @@ node-on N top (suc d) x parent s m at o i =
     wp-place _ at (wp-check _ _ λ t₁.
     wp-after (front-on N top x parent (16 - d) s m at o i) λ w q y.
     let a = y .within in let b = y .inside in let c = y .least-is in let e = y .start in let g = y .moves in let j = y .taken-is in
-    wp-weaken (contained-fills N top d x s m at w q o y (λ t p l. wp-weaken (node-on N top d x (m .nodes) (inTree 0 (at + w .row .size)) t p (omega arith) (omega arith)) (λ _ v z. (omega arith, z .1))))
+    wp-weaken (contained-fills N top d x s m at w q o y
+    (λ t p l. wp-weaken (node-on N top d x (m .nodes) (inTree 0 (at + w .row .size)) t p (omega arith) (omega arith))
+    (λ _ v z. (omega arith, z .1))))
     (λ _ v z. (omega arith, omega arith, omega arith, omega arith)))
 
 -- every row of a tree lies in it, and its custom name was passed
-pub tree-shows : (N : OfNames) (x : Context) (f : List ℕ) (at end : ℕ) → end ≤ x .size → All (Given N) (trace (tree x end) f at) → All (Inside N (x .size) (x .size) .asks) (trace (tree x end) f at)
+pub tree-shows : (N : OfNames) (x : Context) (f : List ℕ) (at end : ℕ) → end ≤ x .size → All (Given N) (trace (tree x end) f at) → All
+    (Inside N (x .size) (x .size) .asks) (trace (tree x end) f at)
 unfolding tree
 tree-shows N x f at end i g = asked f (node-on N (x .size) 16 x 0 (inTree end end) _ at i i) g
 
@@ -60,12 +63,16 @@ pub detached-shows : (N : OfNames) (x : Context) (f : List ℕ) (at end taken of
 unfolding detached
 detached-shows N x f at end taken offset m i g = asked f (node-on N (x .size) 17 x (m .nodes) (outsideTree end taken offset) m at i i) g
 
-pub detached-inside : (x : Context) (f : List ℕ) (at end taken offset : ℕ) (m : Made) → end ≤ x .size → All (Inside Nothing (x .size) (x .size) .asks) (trace (detached x end taken offset m) f at)
-detached-inside x f at end taken offset m i = detached-shows Nothing x f at end taken offset m i (given (Inside Nothing (x .size) (x .size)) (inside-free (x .size) (x .size)) (trace (detached x end taken offset m) f at))
+pub detached-inside : (x : Context) (f : List ℕ) (at end taken offset : ℕ) (m : Made) → end ≤ x .size → All
+    (Inside Nothing (x .size) (x .size) .asks) (trace (detached x end taken offset m) f at)
+detached-inside x f at end taken offset m i = detached-shows Nothing x f at end taken offset m i
+    (given (Inside Nothing (x .size) (x .size)) (inside-free (x .size) (x .size)) (trace (detached x end taken offset m) f at))
 
-pub detached-ends : (x : Context) (f : List ℕ) (at end taken offset : ℕ) (m : Made) → end ≤ x .size → {m′ : Made} {q : ℕ} → run (detached x end taken offset m) f at ≡ ok m′ q → (at < q) × (q ≤ end) × (q ≤ taken)
+pub detached-ends : (x : Context) (f : List ℕ) (at end taken offset : ℕ) (m : Made) → end ≤ x .size → {m′ : Made} {q : ℕ} → run
+    (detached x end taken offset m) f at ≡ ok m′ q → (at < q) × (q ≤ end) × (q ≤ taken)
 unfolding detached
-detached-ends x f at end taken offset m i e = let w = at-end (inside-free (x .size) (x .size)) f (node-on Nothing (x .size) 17 x (m .nodes) (outsideTree end taken offset) m at i i) e in (w .0, w .1, w .3)
+detached-ends x f at end taken offset m i e = let w = at-end (inside-free (x .size) (x .size)) f
+    (node-on Nothing (x .size) 17 x (m .nodes) (outsideTree end taken offset) m at i i) e in (w .0, w .1, w .3)
 
 pub tree-ends : (x : Context) (f : List ℕ) (at end : ℕ) → end ≤ x .size → {m : Made} {q : ℕ} → run (tree x end) f at ≡ ok m q → q ≤ end
 unfolding tree

@@ -20,7 +20,8 @@ module _ (nsize isize : ℕ) (o : Reading) {A : Type 0} (question : Header → L
   Says a t u = (a ≡ ask o question) × (t ≡ keptNodes nsize o (ask o question)) × (u ≡ keptItems isize o (ask o question))
 
   -- the reader refused the file: the tables are as it left them
-  pub says-unread : {r : Read} → r ≡ readOf o → {n : ℕ} {p : FilePlace} → r ≡ read.Refused n p → {t u : List ℕ} → t ≡ nodeTable nsize o → u ≡ itemTable isize o → Says (bad n (p .0)) t u
+  pub says-unread : {r : Read} → r ≡ readOf o → {n : ℕ} {p : FilePlace} → r ≡ read.Refused n p → {t u : List ℕ} → t ≡ nodeTable nsize o → u ≡
+      itemTable isize o → Says (bad n (p .0)) t u
   says-unread e k a b = (sym (ask-refused o e k question), refused-nodes o question e k nsize a, refused-items o question e k isize b)
 
   module _ {h : Header} {ns : List Node} {is : List Item} (reads : o ≡ rows h ns is) {t u : List ℕ} where

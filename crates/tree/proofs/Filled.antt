@@ -7,12 +7,12 @@ use native.Mathlib.Nat.{add-zero}
 use native.Mathlib.Omega.{arith}
 use lib.ListN.{length, getD, length-append}
 use lib.Seq.{sets}
-use Rattle.cursor.specs.Machine.{Prog, ret, refuse, here, byte, pass, Out, ok, refused, Event, seen, passed, run, trace, exec, puts, rowsOf}
+use Rattle.cursor.specs.Machine.{ret, refuse, here, byte, pass, seen, passed, run, trace, exec, puts, rowsOf}
 use Rattle.cursor.specs.Rows.{Part, nodeRow, itemRow, plain, P, Events}
 use Rattle.cursor.specs.declared.Node.{Node}
 use Rattle.cursor.specs.declared.Item.{Item}
 use Rattle.cursor.proofs.Quiet.{still}
-use Rattle.metadata.specs.Tables.{nodeWidth, itemWidth, nodeWords, itemWords, State, state, put}
+use Rattle.metadata.specs.Tables.{nodeWidth, itemWidth, nodeWords, itemWords, State, put}
 use Rattle.room.proofs.Sets.{sets-append}
 use Rattle.tree.specs.Reading.{nodesOf, itemsOf, allRows, allNodes, allItems}
 

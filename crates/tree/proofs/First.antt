@@ -118,7 +118,8 @@ unfolding logged
 logged-good log es (ok m p) e = (m, p, refl, sym (same-good e))
 logged-good log es (refused n p) e = not-good e
 
-logged-either : (lim : Limits) (log : Events) {c : Rows} → ((κ : Kind) → c κ ≡ rowsIn log κ) → (o v : Out Made) (es fs : Events) → Either (room lim) c o v es fs → OrFull lim log (logged log o es) (logged log v fs) es fs
+logged-either : (lim : Limits) (log : Events) {c : Rows} → ((κ : Kind) → c κ ≡ rowsIn log κ) → (o v : Out Made) (es fs : Events) → Either
+    (room lim) c o v es fs → OrFull lim log (logged log o es) (logged log v fs) es fs
 unfolding logged
 logged-either lim log is o v es fs (inl w) = inl (ap₂ (logged log) (w .0) (w .1), w .1)
 logged-either lim log {c} is o v es fs (inr w) = inr (record {
@@ -182,19 +183,22 @@ module _ {lim most : Limits} (less : Less lim most) (f : List ℕ) (h : Header) 
           none-left = subst (λ v. Full lim (log ++ v)) (sym same) (w .none-left);
         }
       where
-        first-on : (y : Result Events) (rest : Events) (p : ℕ) → FirstAt p rest → ((log′ : Events) → y ≡ good log′ → rest ≡ [] → ⊥) → FirstAt p (rest ++ followSteps k′ most f h i y)
+        first-on : (y : Result Events) (rest : Events) (p : ℕ) → FirstAt p rest → ((log′ : Events) → y ≡ good log′ → rest ≡ [] → ⊥) → FirstAt p
+            (rest ++ followSteps k′ most f h i y)
         first-on (good log′) [] p a s = absurd (s log′ refl refl)
         first-on (bad n q) [] p a s = rw (follow-bad most k′ i n q .1) tt
         first-on y (seen κ q ∷ es) p a s = a
         first-on y (passed v q n ∷ es) p a s = a
 
-        still : (y : Result Events) (rest : Events) → ((log′ : Events) → y ≡ good log′ → rest ≡ [] → ⊥) → (log″ : Events) → follow k′ most f h i y ≡ good log″ → rest ++ followSteps k′ most f h i y ≡ [] → ⊥
+        still : (y : Result Events) (rest : Events) → ((log′ : Events) → y ≡ good log′ → rest ≡ [] → ⊥) → (log″ : Events) → follow k′ most f h i y ≡
+            good log″ → rest ++ followSteps k′ most f h i y ≡ [] → ⊥
         still (good log′) [] s log″ e z = s log′ refl refl
         still (bad n q) [] s log″ e z = not-good (sym (follow-bad most k′ i n q .0) ∙ e)
         still y (v ∷ es) s log″ e z = let n : _≡_ {A = ℕ} 0 1 = cc in absurd (omega arith)
 
     onward : (x y : Result Events) {es fs : Events} → ((log₁ : Events) → x ≡ good log₁ → log₁ ≡ log ++ es) → OrFull lim log x y es fs
-        → ((log₁ : Events) → x ≡ good log₁ → OrFull lim log₁ (follow k lim f h i (good log₁)) (follow k′ most f h i (good log₁)) (followSteps k lim f h i (good log₁)) (followSteps k′ most f h i (good log₁)))
+        → ((log₁ : Events) → x ≡ good log₁ → OrFull lim log₁ (follow k lim f h i (good log₁)) (follow k′ most f h i (good log₁))
+        (followSteps k lim f h i (good log₁)) (followSteps k′ most f h i (good log₁)))
         → OrFull lim log (follow k lim f h i x) (follow k′ most f h i y) (es ++ followSteps k lim f h i x) (fs ++ followSteps k′ most f h i y)
     onward x y g (inr w) rest = inr (stays-ahead x y w)
     onward (bad n p) y {es} {fs} g (inl w) rest =
@@ -203,7 +207,8 @@ module _ {lim most : Limits} (less : Less lim most) (f : List ℕ) (h : Header) 
         (inl (a .0 ∙ sym (b .0), ap₂ (λ (u v : Events). u ++ v) (w .1) (a .1 ∙ sym (b .1))))
     onward (good log₁) y {es} {fs} g (inl w) rest =
         subst (λ v. OrFull lim log (follow k lim f h i (good log₁)) (follow k′ most f h i v) (es ++ followSteps k lim f h i (good log₁)) (fs ++ followSteps k′ most f h i v)) (w .0)
-        (subst (λ v. OrFull lim log (follow k lim f h i (good log₁)) (follow k′ most f h i (good log₁)) (es ++ followSteps k lim f h i (good log₁)) (v ++ followSteps k′ most f h i (good log₁))) (w .1)
+        (subst (λ v. OrFull lim log (follow k lim f h i (good log₁)) (follow k′ most f h i (good log₁)) (es ++ followSteps k lim f h i (good log₁))
+        (v ++ followSteps k′ most f h i (good log₁))) (w .1)
         (behind (rest log₁ refl)))
       where
         behind : {x y : Result Events} {gs hs : Events} → OrFull lim log₁ x y gs hs → OrFull lim log x y (es ++ gs) (es ++ hs)
@@ -237,11 +242,13 @@ module _ {lim most : Limits} (less : Less lim most) (f : List ℕ) (h : Header) 
 
   tree-either : let m = treeOf lim (length f) h in let o = treeOf most (length f) h in let at = h .extent .start in
       OrFull lim [] (follow (lim .nodes) lim f h 0 (logged [] (run m f at) (trace m f at))) (follow (most .nodes) most f h 0 (logged [] (run o f at) (trace o f at)))
-      (trace m f at ++ followSteps (lim .nodes) lim f h 0 (logged [] (run m f at) (trace m f at))) (trace o f at ++ followSteps (most .nodes) most f h 0 (logged [] (run o f at) (trace o f at)))
+      (trace m f at ++ followSteps (lim .nodes) lim f h 0 (logged [] (run m f at) (trace m f at)))
+      (trace o f at ++ followSteps (most .nodes) most f h 0 (logged [] (run o f at) (trace o f at)))
   tree-either =
       let at = h .extent .start in let es = trace (treeOf lim (length f) h) f at in
       onward (lim .nodes) (most .nodes) 0 [] _ _ (λ log₁ e. logged-good [] es _ e .3) (logged-either lim [] no-row _ _ _ _ (limited-either (tree-limited less f h) f at))
-      (λ log₁ e. let g = logged-good [] es _ e in follow-either (lim .nodes) (most .nodes) 0 log₁ (subst (Fits lim) (sym (g .3)) (tree-fits less f h (g .2))) (omega arith) (let b = less .nodes in omega arith))
+      (λ log₁ e. let g = logged-good [] es _ e in follow-either (lim .nodes) (most .nodes) 0 log₁
+      (subst (Fits lim) (sym (g .3)) (tree-fits less f h (g .2))) (omega arith) (let b = less .nodes in omega arith))
 
 -- ---- the file
 
@@ -261,10 +268,12 @@ to-either {lim} {most} less f = by (run (header (length f)) f 0) refl
     hs : Events
     hs = trace (header (length f)) f 0
 
-    one-file : (o : Out Header) → run (header (length f)) f 0 ≡ o → (readTree lim f o ≡ readTree most f o) × (treeSteps lim f o ≡ treeSteps most f o) → (readFile lim f ≡ readFile most f) × (steps lim f ≡ steps most f)
+    one-file : (o : Out Header) → run (header (length f)) f 0 ≡ o → (readTree lim f o ≡ readTree most f o) ×
+        (treeSteps lim f o ≡ treeSteps most f o) → (readFile lim f ≡ readFile most f) × (steps lim f ≡ steps most f)
     one-file o e w = rw e (w .0, ap (λ v. hs ++ v) (w .1))
 
-    ahead : (h : Header) (q : ℕ) → run (header (length f)) f 0 ≡ ok h q → {x y : Result Events} → readTree lim f (ok h q) ≡ reading h x → Ahead lim [] x y (treeSteps lim f (ok h q)) (treeSteps most f (ok h q)) → OutOfRows lim most f
+    ahead : (h : Header) (q : ℕ) → run (header (length f)) f 0 ≡ ok h q → {x y : Result Events} → readTree lim f (ok h q) ≡ reading h x → Ahead
+        lim [] x y (treeSteps lim f (ok h q)) (treeSteps most f (ok h q)) → OutOfRows lim most f
     ahead h q e is w = record {
       place = w .place;
       refuses = ap (readTree lim f) e ∙ is ∙ ap (reading h) (w .refuses);

@@ -1,10 +1,10 @@
 -- An accepted file was read in parts: the header, the tree, then detached nodes one at a time. What holds of the tree's log, and of a log with one more node
 -- behind it if it held before, holds of the whole.
 -- Assumes nothing.
-use mathlib.Core.Path.{_≡_, refl, sym, ap, _∙_, subst}
-use mathlib.Core.Bool.{Bool, true, false, cond, not, _&&_, _||_}
+use mathlib.Core.Path.{_≡_, refl, sym, subst}
+use mathlib.Core.Bool.{Bool, true, false, cond}
 use mathlib.Core.Logic.{_⊎_, inl, inr}
-use mathlib.Core.List.{List, [], _∷_, _++_}
+use mathlib.Core.List.{List, [], _++_}
 use Prim.Native.Nat.{ℕ, zero, suc, _+_, _≤_, _<_}
 use native.Mathlib.Omega.{arith}
 use lib.Dec.{ltb}
@@ -15,11 +15,10 @@ use Rattle.cursor.specs.Rows.{P, Events}
 use Rattle.cursor.specs.declared.Node.{Node}
 use Rattle.cursor.specs.declared.Item.{Item}
 use Rattle.header.specs.Header.{Header, header}
-use Rattle.metadata.specs.Metadata.{Context}
 use Rattle.metadata.specs.declared.Limits.{Limits}
 use Rattle.metadata.specs.declared.Made.{Made}
-use Rattle.tree.specs.Tree.{tree, detached}
-use Rattle.tree.specs.Reading.{nodesOf, itemsOf, Result, good, bad, Reading, rows, refusal, madeBy, logged, lost, offsetAt, outside, partEnd, takenFrom, detachedAt, reach, follow, context, logFrom, reading, readTree, readFile}
+use Rattle.tree.specs.Tree.{tree}
+use Rattle.tree.specs.Reading.{nodesOf, itemsOf, Result, good, bad, rows, refusal, logged, lost, offsetAt, outside, detachedAt, reach, follow, context, logFrom, reading, readTree, readFile}
 use Rattle.tree.specs.Rows.{nodeAt}
 
 no : {A B : Type 0} {n p : ℕ} {a : A} → bad n p ≡ good a → B
@@ -62,7 +61,8 @@ module _ (lim : Limits) (f : List ℕ) (h : Header) where
   reached log r {log′} e = by (lost (nodesOf log) r) (outside h (length f) (r .target)) refl refl e
     where
       by : (b c : Bool) → lost (nodesOf log) r ≡ b → outside h (length f) (r .target) ≡ c
-          → (cond b (cond c (logged log (run (target log r) f (r .target)) (trace (target log r) f (r .target))) (bad 16 (offsetAt f r))) (good log)) ≡ good log′ → Reached log r log′
+          → (cond b (cond c (logged log (run (target log r) f (r .target)) (trace (target log r) f (r .target))) (bad 16 (offsetAt f r))) (good log))
+          ≡ good log′ → Reached log r log′
       by true true x y z =
           let w = logged-good log (trace (target log r) f (r .target)) (run (target log r) f (r .target)) z in
           added (record { made = w .0; after = w .1; is-lost = x; is-outside = y; runs = w .2 }) (w .3)
@@ -81,10 +81,13 @@ module _ (lim : Limits) (f : List ℕ) (h : Header) where
   followed I step zero i o {log′} base e = (i, base log′ e, inr (omega arith))
   followed I step (suc k) i (bad n p) base e = no e
   followed I step (suc k) i (good log) {log′} base e =
-      by (ltb i (length (nodesOf log))) refl (λ t. followed I step k (i + 1) (reach lim f h log (nodeAt (nodesOf log) i)) (λ log₁ q. step i log log₁ (base log refl) (ltb-true _ _ t) (reached log _ q))) e
+      by (ltb i (length (nodesOf log))) refl
+      (λ t. followed I step k (i + 1) (reach lim f h log (nodeAt (nodesOf log) i))
+      (λ log₁ q. step i log log₁ (base log refl) (ltb-true _ _ t) (reached log _ q))) e
     where
       by : (b : Bool) → ltb i (length (nodesOf log)) ≡ b
-          → (ltb i (length (nodesOf log)) ≡ true → follow k lim f h (i + 1) (reach lim f h log (nodeAt (nodesOf log) i)) ≡ good log′ → (j : ℕ) × I j log′ × ((length (nodesOf log′) ≤ j) ⊎ (j ≡ i + 1 + k)))
+          → (ltb i (length (nodesOf log)) ≡ true → follow k lim f h (i + 1) (reach lim f h log (nodeAt (nodesOf log) i)) ≡ good log′ → (j : ℕ) × I j
+          log′ × ((length (nodesOf log′) ≤ j) ⊎ (j ≡ i + 1 + k)))
           → (cond b (follow k lim f h (i + 1) (reach lim f h log (nodeAt (nodesOf log) i))) (good log)) ≡ good log′
           → (j : ℕ) × I j log′ × ((length (nodesOf log′) ≤ j) ⊎ (j ≡ i + suc k))
       by true t rest z = let w = rest t z in (w .0, w .1, elim (w .2) [ inl l ↦ inl l | inr l ↦ inr (omega arith) ])
@@ -123,7 +126,8 @@ module _ (lim : Limits) (f : List ℕ) {h : Header} {ns : List Node} {is : List 
   unfolding logged
   of-tree g q a (ok m p) b e =
       let w = of-log g _ e in
-      subst (λ v. ReadAs lim f v ns is) (w .2) (record { next = q; header-is = a; made = m; after = p; tree-is = b; log = w .0; follows = w .1; nodes-are = w .3; items-are = w .4 })
+      subst (λ v. ReadAs lim f v ns is) (w .2)
+      (record { next = q; header-is = a; made = m; after = p; tree-is = b; log = w .0; follows = w .1; nodes-are = w .3; items-are = w .4 })
   of-tree g q a (refused n p) b e = absurd (stops lim f (lim .nodes) 0 g n p (of-log g _ e .1))
 
   of-header : (o : Out Header) → run (header (length f)) f 0 ≡ o → readTree lim f o ≡ rows h ns is → ReadAs lim f h ns is

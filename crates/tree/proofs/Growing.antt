@@ -3,13 +3,12 @@
 use mathlib.Core.Path.{_≡_, refl, sym, ap, ap₂, _∙_, subst}
 use mathlib.Core.Bool.{Bool, true, false, cond, not, _&&_, _||_}
 use mathlib.Core.List.{List, [], _∷_, _++_}
-use Prim.Native.Nat.{ℕ, zero, suc, _+_, _*_, _-_, _^_, _≤_, _<_}
+use Prim.Native.Nat.{ℕ, zero, suc, _+_, _*_, _-_, _≤_, _<_}
 use native.Mathlib.Nat.{zero-add}
 use native.Mathlib.Omega.{arith}
-use native.Mathlib.Decide.{decLt}
 use borrow.Author.Tests.{lt-ltb, le-ltb, eq-eqb, ne-eqb}
 use lib.Dec.{eqb, ltb}
-use lib.ListN.{length, getD, take, drop, length-append, List·getD-append}
+use lib.ListN.{length, take, drop}
 use Rattle.cursor.specs.Machine.{Out, ok, refused, run, trace, exec, puts, times}
 use Rattle.cursor.specs.Rows.{P, Events}
 use Rattle.cursor.specs.declared.Cursor.{Cursor}
@@ -27,7 +26,7 @@ use Rattle.metadata.specs.declared.Walked.the-variants.{Done, Refused}
 use Rattle.tree.specs.Reading.{nodeOf, nodesOf, itemsOf, allNodes, Result, good, bad, madeBy, logged, startsAt, lost, offsetAt, outside, partEnd, takenFrom, detachedAt, reach, follow, context}
 use Rattle.node.specs.Node.{outsideTree}
 use Rattle.tree.specs.Tree.{node, detached}
-use Rattle.tree.specs.Rows.{noNode, nodeFrom, nodesFrom, nodeAt, nodesIn, rowStarting, Rising, NodeIn}
+use Rattle.tree.specs.Rows.{nodeFrom, nodeAt, nodesIn, rowStarting, Rising}
 use Rattle.tree.specs.Told.{Stands, said, left, Leaves}
 use Rattle.room.proofs.Sets.{sets-front}
 use Rattle.tree.proofs.Filled.{filled, puts-fills, nodes-length}
@@ -61,7 +60,8 @@ module _ {lim : Limits} {size : ℕ} {σ : State} {log : Events} {tree : ℕ} {t
       let f = s .fits .0 in
       let l = s .long .0 in
       let e : t ≡ allNodes (nodesOf log) ++ drop (length (allNodes (nodesOf log))) (σ .nodes) =
-      sym (ap (λ (v : State). v .nodes) fills) ∙ ap (λ (v : Made). filled log (record { nodes = σ .nodes; items = σ .items; made = v }) .nodes) (s .empty) ∙ sets-front (σ .nodes) (allNodes (nodesOf log)) (omega arith) in
+      sym (ap (λ (v : State). v .nodes) fills) ∙ ap (λ (v : Made). filled log (record { nodes = σ .nodes; items = σ .items; made = v }) .nodes)
+      (s .empty) ∙ sets-front (σ .nodes) (allNodes (nodesOf log)) (omega arith) in
       ap₂ nodesIn c e ∙ nodes-back (nodesOf log) _
 
   -- nothing new
@@ -69,7 +69,8 @@ module _ {lim : Limits} {size : ℕ} {σ : State} {log : Events} {tree : ℕ} {t
   leaves-same c = record { answer = ap good (sym (s .fills)); fits = s .fits }
 
   -- one more node
-  pub leaves-more : {r : Walked} {t′ u′ : List ℕ} (f : List ℕ) (at : ℕ) (n : P Made) → Gives lim r t′ u′ (exec put n f at (state t u m)) → Leaves lim σ r t′ u′ (logged log (run n f at) (trace n f at))
+  pub leaves-more : {r : Walked} {t′ u′ : List ℕ} (f : List ℕ) (at : ℕ) (n : P Made) → Gives lim r t′ u′ (exec put n f at (state t u m)) →
+      Leaves lim σ r t′ u′ (logged log (run n f at) (trace n f at))
   unfolding logged
   leaves-more {r} {t′} {u′} f at n g =
       let e : puts put (log ++ trace n f at) σ ≡ puts put (trace n f at) (state t u m) = puts-on put log (trace n f at) σ ∙ ap (puts put (trace n f at)) (s .fills) in
@@ -86,15 +87,19 @@ module _ {lim : Limits} {size : ℕ} {σ : State} {log : Events} {tree : ℕ} {t
 
 -- ---- what the calls that look at the table ask for
 
-module _ {lim : Limits} {size : ℕ} {σ : State} {log : Events} {tree : ℕ} {t u : List ℕ} {m : Made} (s : Stands lim size σ log tree t u m) (room : lim .nodes * nodeWidth ≤ length t) where
+module _ {lim : Limits} {size : ℕ} {σ : State} {log : Events} {tree : ℕ} {t u : List ℕ} {m : Made} (s : Stands lim size σ log tree t u m)
+    (room : lim .nodes * nodeWidth ≤ length t) where
   pub stand-few : (tree ≤ m .nodes) × (m .nodes * nodeWidth ≤ length t)
   stand-few = let n = node-count s in let f = tree-few (nodesOf log) in let e = s .first .tree-is in let g = s .fits .0 in (omega arith, omega arith)
 
   pub stand-rising : Rising (nodesIn tree t)
   stand-rising = subst Rising (sym (in-front t tree (m .nodes) (stand-few .0) ∙ ap (take tree) (rows-stand s room))) (s .first .rising)
 
-  pub stand-inside : (i : ℕ) → i < m .nodes → (nodeAt (nodesIn (m .nodes) t) i .header ≤ nodeAt (nodesIn (m .nodes) t) i .size) × (nodeAt (nodesIn (m .nodes) t) i .start + nodeAt (nodesIn (m .nodes) t) i .size ≤ size)
-  stand-inside i l = let n = node-count s in subst (λ v. (nodeAt v i .header ≤ nodeAt v i .size) × (nodeAt v i .start + nodeAt v i .size ≤ size)) (sym (rows-stand s room)) (s .inside i (omega arith))
+  pub stand-inside : (i : ℕ) → i < m .nodes → (nodeAt (nodesIn (m .nodes) t) i .header ≤ nodeAt (nodesIn (m .nodes) t) i .size) ×
+      (nodeAt (nodesIn (m .nodes) t) i .start + nodeAt (nodesIn (m .nodes) t) i .size ≤ size)
+  stand-inside i l = let n = node-count s in subst
+      (λ v. (nodeAt v i .header ≤ nodeAt v i .size) × (nodeAt v i .start + nodeAt v i .size ≤ size)) (sym (rows-stand s room))
+      (s .inside i (omega arith))
 
   pub stand-attached : (i : ℕ) → i < tree → nodeAt (nodesIn (m .nodes) t) i .detached ≡ 0
   stand-attached i l = subst (λ v. nodeAt v i .detached ≡ 0) (sym (rows-stand s room)) (attached (nodesOf log) i (let e = s .first .tree-is in omega arith))
@@ -136,7 +141,9 @@ starts-not ns p l = by (startsAt ns p) refl
     by true e = let w = none-by ns p e in absurd (omega arith)
     by false e = refl
 
-module _ (lim : Limits) (f : List ℕ) (h : Header) {σ : State} {log : Events} {tree : ℕ} {t u : List ℕ} {m : Made} (s : Stands lim (length f) σ log tree t u m) (room : lim .nodes * nodeWidth ≤ length t) (i : ℕ) (l : i < m .nodes) {row : Node} (read : row ≡ nodeFrom t (i * nodeWidth)) where
+module _ (lim : Limits) (f : List ℕ) (h : Header) {σ : State} {log : Events} {tree : ℕ} {t u : List ℕ} {m : Made}
+    (s : Stands lim (length f) σ log tree t u m) (room : lim .nodes * nodeWidth ≤ length t) (i : ℕ) (l : i < m .nodes) {row : Node}
+    (read : row ≡ nodeFrom t (i * nodeWidth)) where
   abbrev r : Node
   r = nodeAt (nodesOf log) i
 
@@ -150,7 +157,8 @@ module _ (lim : Limits) (f : List ℕ) (h : Header) {σ : State} {log : Events} 
   -- no reference 3
   pub reach-other : ((row .reference ≡ 3) → ⊥) → (c : Cursor) → Leaves lim σ (Done m c) t u (reach lim f h log r)
   unfolding lost
-  reach-other n c = let q : (r .reference ≡ 3) → ⊥ = λ z. n (ap (λ (x : Node). x .reference) row-words ∙ z) in reach-same (ap (λ b. b && not (startsAt (nodesOf log) (r .target))) (ne-eqb _ _ q)) c
+  reach-other n c = let q : (r .reference ≡ 3) → ⊥ = λ z. n (ap (λ (x : Node). x .reference) row-words ∙ z) in reach-same
+      (ap (λ b. b && not (startsAt (nodesOf log) (r .target))) (ne-eqb _ _ q)) c
 
   to-is : row .target ≡ r .target
   to-is = ap (λ (x : Node). x .target) row-words
@@ -177,7 +185,8 @@ module _ (lim : Limits) (f : List ℕ) (h : Header) {σ : State} {log : Events} 
         rw (eq-eqb _ _ q, starts-not (nodesOf log) (r .target) (omega arith)) refl
 
     -- no node may start there
-    pub reach-nowhere : false ≡ outside h (length f) (row .target) → {p : FilePlace} → p .0 ≡ offsetAt f (nodeAt (nodesIn (m .nodes) t) i) → Leaves lim σ (Refused 16 p) t u (reach lim f h log r)
+    pub reach-nowhere : false ≡ outside h (length f) (row .target) → {p : FilePlace} → p .0 ≡ offsetAt f (nodeAt (nodesIn (m .nodes) t) i) →
+        Leaves lim σ (Refused 16 p) t u (reach lim f h log r)
     unfolding reach
     reach-nowhere b {p} q =
         let o : outside h (length f) (r .target) ≡ false = sym (b ∙ ap (outside h (length f)) to-is) in
@@ -185,18 +194,32 @@ module _ (lim : Limits) (f : List ℕ) (h : Header) {σ : State} {log : Events} 
         rw (is-lost, o) (record { answer = ap (bad 16) z; fits = tt })
 
     -- a node is read there
-    pub reach-node : true ≡ outside h (length f) (row .target) → {offset end taken : ℕ} → offset ≡ offsetAt f (nodeAt (nodesIn (m .nodes) t) i) → end ≡ partEnd h (length f) (row .target) → taken ≡ takenFrom (nodesIn (m .nodes) t) (row .target) end
-        → {w : Walked} {t′ u′ : List ℕ} → Gives lim w t′ u′ (exec put (times 1 (node 17 (context lim h (length f)) (m .nodes) (outsideTree end taken offset)) m) f (row .target) (state t u m)) → Leaves lim σ w t′ u′ (reach lim f h log r)
+    pub reach-node : true ≡ outside h (length f) (row .target) → {offset end taken : ℕ} → offset ≡ offsetAt f
+        (nodeAt (nodesIn (m .nodes) t) i) → end ≡ partEnd h (length f) (row .target) → taken ≡ takenFrom (nodesIn (m .nodes) t) (row .target) end
+        → {w : Walked} {t′ u′ : List ℕ} → Gives lim w t′ u′
+        (exec put (times 1 (node 17 (context lim h (length f)) (m .nodes) (outsideTree end taken offset)) m) f (row .target) (state t u m)) →
+        Leaves lim σ w t′ u′ (reach lim f h log r)
     unfolding reach detachedAt detached
     reach-node b {offset} {end} {taken} q en ta {w} {t′} {u′} g =
         let o : outside h (length f) (r .target) ≡ true = sym (b ∙ ap (outside h (length f)) to-is) in
         let z : offset ≡ offsetAt f r = q ∙ ap (λ v. offsetAt f (nodeAt v i)) (rows-stand s room) in
         let en′ : end ≡ partEnd h (length f) (r .target) = en ∙ ap (partEnd h (length f)) to-is in
-        let ta′ : taken ≡ takenFrom (nodesOf log) (r .target) (partEnd h (length f) (r .target)) = ta ∙ ap₂ (λ v p. takenFrom v p end) (rows-stand s room) to-is ∙ ap (takenFrom (nodesOf log) (r .target)) en′ in
+        let ta′ : taken ≡ takenFrom (nodesOf log) (r .target) (partEnd h (length f) (r .target)) = ta ∙ ap₂ (λ v p. takenFrom v p end)
+        (rows-stand s room) to-is ∙ ap (takenFrom (nodesOf log) (r .target)) en′ in
         let x = context lim h (length f) in
-        let n : node 17 x (m .nodes) (outsideTree end taken offset) m ≡ node 17 x (madeBy log .nodes) (outsideTree (partEnd h (length f) (r .target)) (takenFrom (nodesOf log) (r .target) (partEnd h (length f) (r .target))) (offsetAt f r)) (madeBy log) =
-        ap (λ (v : Made). node 17 x (v .nodes) (outsideTree end taken offset) v) (sym (made-is s)) ∙ ap₂ (λ (a : ℕ) (b : ℕ). node 17 x (madeBy log .nodes) (outsideTree a b offset) (madeBy log)) en′ ta′ ∙ ap (λ c. node 17 x (madeBy log .nodes) (outsideTree (partEnd h (length f) (r .target)) (takenFrom (nodesOf log) (r .target) (partEnd h (length f) (r .target))) c) (madeBy log)) z in
-        rw (is-lost, o) (subst (λ (v : P Made). Leaves lim σ w t′ u′ (logged log (run v f (r .target)) (trace v f (r .target)))) n (subst (λ v. Leaves lim σ w t′ u′ (logged log (run (node 17 x (m .nodes) (outsideTree end taken offset) m) f v) (trace (node 17 x (m .nodes) (outsideTree end taken offset) m) f v))) to-is (leaves-more s f (row .target) _ (one-node (node 17 x (m .nodes) (outsideTree end taken offset)) m f (row .target) (state t u m) g))))
+        let n : node 17 x (m .nodes) (outsideTree end taken offset) m ≡ node 17 x (madeBy log .nodes)
+        (outsideTree (partEnd h (length f) (r .target)) (takenFrom (nodesOf log) (r .target) (partEnd h (length f) (r .target))) (offsetAt f r))
+        (madeBy log) =
+        ap (λ (v : Made). node 17 x (v .nodes) (outsideTree end taken offset) v) (sym (made-is s)) ∙ ap₂
+        (λ (a : ℕ) (b : ℕ). node 17 x (madeBy log .nodes) (outsideTree a b offset) (madeBy log)) en′ ta′ ∙ ap
+        (λ c. node 17 x (madeBy log .nodes)
+        (outsideTree (partEnd h (length f) (r .target)) (takenFrom (nodesOf log) (r .target) (partEnd h (length f) (r .target))) c)
+        (madeBy log)) z in
+        rw (is-lost, o) (subst (λ (v : P Made). Leaves lim σ w t′ u′ (logged log (run v f (r .target)) (trace v f (r .target)))) n
+        (subst (λ v. Leaves lim σ w t′ u′
+        (logged log (run (node 17 x (m .nodes) (outsideTree end taken offset) m) f v)
+        (trace (node 17 x (m .nodes) (outsideTree end taken offset) m) f v))) to-is
+        (leaves-more s f (row .target) _ (one-node (node 17 x (m .nodes) (outsideTree end taken offset)) m f (row .target) (state t u m) g))))
 
 -- ---- all rows
 
@@ -205,16 +228,28 @@ unfolding follow
 bad-is lim f h i zero n p = refl
 bad-is lim f h i (suc k) n p = refl
 
-each : (C : Node → Type 0) (ns ms : List Node) → ((i : ℕ) → i < length ns → C (nodeAt ns i)) → ((i : ℕ) → i < length ms → C (nodeAt ms i)) → (i : ℕ) → i < length (ns ++ ms) → C (nodeAt (ns ++ ms) i)
+each : (C : Node → Type 0) (ns ms : List Node) → ((i : ℕ) → i < length ns → C (nodeAt ns i)) → ((i : ℕ) → i < length ms → C (nodeAt ms i)) →
+    (i : ℕ) → i < length (ns ++ ms) → C (nodeAt (ns ++ ms) i)
 each C [] ms a b i l = b i l
 each C (r ∷ ns) ms a b zero l = a 0 (omega arith)
 each C (r ∷ ns) ms a b (suc i) l = each C ns ms (λ j k. a (suc j) (omega arith)) b i (omega arith)
 
 -- one more row, or none: the table's rows stand as before
-more-stands : (lim : Limits) (f : List ℕ) (h : Header) {σ : State} {log log′ : Events} {tree : ℕ} {t u t′ u′ : List ℕ} {m m′ : Made} {r : Node} → h .extent .start ≤ length f → Stands lim (length f) σ log tree t u m
-    → Reached lim f h log r log′ → puts put log′ σ ≡ state t′ u′ m′ → (m′ .nodes ≤ lim .nodes) × (m′ .items ≤ lim .items) → length t′ ≡ length t → length u′ ≡ length u → Stands lim (length f) σ log′ tree t′ u′ m′
+more-stands : (lim : Limits) (f : List ℕ) (h : Header) {σ : State} {log log′ : Events} {tree : ℕ} {t u t′ u′ : List ℕ} {m m′ : Made}
+    {r : Node} → h .extent .start ≤ length f → Stands lim (length f) σ log tree t u m
+    → Reached lim f h log r log′ → puts put log′ σ ≡ state t′ u′ m′ → (m′ .nodes ≤ lim .nodes) × (m′ .items ≤ lim .items) → length t′ ≡ length
+    t → length u′ ≡ length u → Stands lim (length f) σ log′ tree t′ u′ m′
 unfolding detachedAt
-more-stands lim f h {σ = σ} {log = log} z s (known x y) e fits j k = rw y (record { empty = s .empty; fills = ap (λ v. puts put v σ) (sym y) ∙ e; fits = fits; long = (j ∙ s .long .0, k ∙ s .long .1); inside = s .inside; first = s .first })
+more-stands lim f h {σ = σ} {log = log} z s (known x y) e fits j k = rw y
+    (record {
+      empty = s .empty;
+      fills = ap (λ v. puts put v σ) (sym y) ∙ e;
+      fits = fits;
+      long = (j ∙ s .long .0, k ∙ s .long .1);
+      inside =
+          s .inside;
+      first = s .first;
+    })
 more-stands lim f h {σ = σ} {log = log} {log′ = log′} {r = r} z s (added a y) e fits j k =
     let es = trace (target lim f h log r) f (r .target) in
     let n : nodesOf (log ++ es) ≡ nodesOf log ++ nodesOf es = rows-on nodeOf log es in
@@ -257,11 +292,15 @@ module _ (lim : Limits) (f : List ℕ) (h : Header) (tree : ℕ) (t₀ u₀ : Li
         let b : ltb i (length (nodesOf (x .log))) ≡ true = lt-ltb i (length (nodesOf (x .log))) (omega arith) in
         x .same ∙ ap (λ v. follow v lim f h i (good (x .log))) k ∙ rw b refl
 
-    module _ (l : i < m .nodes) {r : Walked} {t′ u′ : List ℕ} (g : (σ : State) (log : Events) → Stands lim (length f) σ log tree t u m → Leaves lim σ r t′ u′ (reach lim f h log (nodeAt (nodesOf log) i))) where
-      pub follows-no : {n : ℕ} {p : FilePlace} → r ≡ Refused n p → (σ : State) (log₀ : Events) → Stands lim (length f) σ log₀ tree t₀ u₀ m₀ → Leaves lim σ (Refused n p) t′ u′ (follow (lim .nodes) lim f h 0 (good log₀))
+    module _ (l : i < m .nodes) {r : Walked} {t′ u′ : List ℕ}
+        (g : (σ : State) (log : Events) → Stands lim (length f) σ log tree t u m → Leaves lim σ r t′ u′
+        (reach lim f h log (nodeAt (nodesOf log) i))) where
+      pub follows-no : {n : ℕ} {p : FilePlace} → r ≡ Refused n p → (σ : State) (log₀ : Events) → Stands lim (length f) σ log₀ tree t₀ u₀ m₀ →
+          Leaves lim σ (Refused n p) t′ u′ (follow (lim .nodes) lim f h 0 (good log₀))
       follows-no {n} {p} e σ log₀ s =
           let x = w σ log₀ s in
-          rw (turn σ log₀ s l) (by (reach lim f h (x .log) (nodeAt (nodesOf (x .log)) i)) (lim .nodes - (i + 1)) (ap (λ v. said v t′ u′) (sym e) ∙ g σ (x .log) (x .stands) .answer))
+          rw (turn σ log₀ s l) (by (reach lim f h (x .log) (nodeAt (nodesOf (x .log)) i)) (lim .nodes - (i + 1))
+          (ap (λ v. said v t′ u′) (sym e) ∙ g σ (x .log) (x .stands) .answer))
         where
           by : (o : Result Events) (k : ℕ) → bad n (p .0) ≡ left σ o → Leaves lim σ (Refused n p) t′ u′ (follow k lim f h (i + 1) o)
           by (good log) k z = let y : _≡_ {A = ℕ} 0 1 = cc in absurd (omega arith)
@@ -273,7 +312,8 @@ module _ (lim : Limits) (f : List ℕ) (h : Header) (tree : ℕ) (t₀ u₀ : Li
           let a = g σ (x .log) (x .stands) in
           by (reach lim f h (x .log) (nodeAt (nodesOf (x .log)) i)) refl (ap (λ v. said v t′ u′) (sym e) ∙ a .answer) (subst (Fits lim) e (a .fits))
         where
-          by : (o : Result Events) → reach lim f h (w σ log₀ s .log) (nodeAt (nodesOf (w σ log₀ s .log)) i) ≡ o → good (state t′ u′ n) ≡ left σ o → (n .nodes ≤ lim .nodes) × (n .items ≤ lim .items) → Following (i + 1) t′ u′ n σ log₀
+          by : (o : Result Events) → reach lim f h (w σ log₀ s .log) (nodeAt (nodesOf (w σ log₀ s .log)) i) ≡ o → good (state t′ u′ n) ≡ left σ o →
+              (n .nodes ≤ lim .nodes) × (n .items ≤ lim .items) → Following (i + 1) t′ u′ n σ log₀
           by (good log) q y fits = record {
             log = log;
             stands = more-stands lim f h z (w σ log₀ s .stands) (reached lim f h _ _ q) (same-state (sym y)) fits j k;
@@ -281,13 +321,15 @@ module _ (lim : Limits) (f : List ℕ) (h : Header) (tree : ℕ) (t₀ u₀ : Li
           }
           by (bad a b) q y fits = let v : _≡_ {A = ℕ} 0 1 = cc in absurd (omega arith)
 
-    pub follows-done : m .nodes ≤ i → (c : Cursor) → (σ : State) (log₀ : Events) → Stands lim (length f) σ log₀ tree t₀ u₀ m₀ → Leaves lim σ (Done m c) t u (follow (lim .nodes) lim f h 0 (good log₀))
+    pub follows-done : m .nodes ≤ i → (c : Cursor) → (σ : State) (log₀ : Events) → Stands lim (length f) σ log₀ tree t₀ u₀ m₀ → Leaves lim σ
+        (Done m c) t u (follow (lim .nodes) lim f h 0 (good log₀))
     unfolding follow
     follows-done l c σ log₀ s =
         let x = w σ log₀ s in
         let n = node-count (x .stands) in
         rw (x .same) (by (lim .nodes - i) (le-ltb i (length (nodesOf (x .log))) (omega arith)) (leaves-same (x .stands) c))
       where
-        by : (k : ℕ) → ltb i (length (nodesOf (w σ log₀ s .log))) ≡ false → Leaves lim σ (Done m c) t u (good (w σ log₀ s .log)) → Leaves lim σ (Done m c) t u (follow k lim f h i (good (w σ log₀ s .log)))
+        by : (k : ℕ) → ltb i (length (nodesOf (w σ log₀ s .log))) ≡ false → Leaves lim σ (Done m c) t u (good (w σ log₀ s .log)) → Leaves lim σ
+            (Done m c) t u (follow k lim f h i (good (w σ log₀ s .log)))
         by zero b v = v
         by (suc k) b v = rw b v

@@ -39,13 +39,15 @@ module _ {lim most : Limits} (less : Less lim most) (x : Context) where
   unfolding folder
   folder-limited end w = after w λ m d i. places λ q. checks _ _ _ (ends i)
 
-  node-limited : (d parent : ℕ) (s : Standing) (m : Made) (c : Rows) → Is lim m c → Limited (room lim) (Is lim) c (node d (under x lim) parent s m) (node d (under x most) parent s m)
+  node-limited : (d parent : ℕ) (s : Standing) (m : Made) (c : Rows) → Is lim m c → Limited (room lim) (Is lim) c
+      (node d (under x lim) parent s m) (node d (under x most) parent s m)
   unfolding node
   node-limited zero parent s m c i = at-place λ p. same
   node-limited (suc d) parent s m c i =
       row-checks limited.node (m .nodes) (most .nodes) (i .0) (less .nodes) (λ p. makes-then _ λ w. makes-row _ _ _ tt) λ left p.
       after (front-limited less x parent (16 - d) s m c (refl, omega arith, omega arith, omega arith)) λ w e j. passes _ _
-      (folder-limited _ (counts (Is lim) (w .row .contained) _ (λ t g k. node-limited d (m .nodes) (inTree 0 (p + w .row .size)) t g k) (omega arith, omega arith, omega arith, omega arith)))
+      (folder-limited _ (counts (Is lim) (w .row .contained) _ (λ t g k. node-limited d (m .nodes) (inTree 0 (p + w .row .size)) t g k)
+      (omega arith, omega arith, omega arith, omega arith)))
 
 -- ---- rows of a log
 
@@ -113,11 +115,13 @@ module _ (from to lim : Limits) (f : List ℕ) (h : Header)
   stays zero i log l = refl
   stays (suc k) i log l = rw (le-ltb i (length (nodesOf log)) l)
 
-  turn : (j i : ℕ) (log : Events) {log′ : Events} → i < length (nodesOf log) → follow j to f h (i + 1) (reach to f h log (nodeAt (nodesOf log) i)) ≡ good log′ → follow (suc j) to f h i (good log) ≡ good log′
+  turn : (j i : ℕ) (log : Events) {log′ : Events} → i < length (nodesOf log) → follow j to f h (i + 1)
+      (reach to f h log (nodeAt (nodesOf log) i)) ≡ good log′ → follow (suc j) to f h i (good log) ≡ good log′
   unfolding follow
   turn j i log t z = rw (lt-ltb i (length (nodesOf log)) t) z
 
-  follow-as : (k k′ i : ℕ) (log : Events) {log′ : Events} → follow k from f h i (good log) ≡ good log′ → Fits lim log′ → length (nodesOf log′) ≤ i + k → length (nodesOf log′) ≤ i + k′
+  follow-as : (k k′ i : ℕ) (log : Events) {log′ : Events} → follow k from f h i (good log) ≡ good log′ → Fits lim log′ → length (nodesOf log′)
+      ≤ i + k → length (nodesOf log′) ≤ i + k′
       → follow k′ to f h i (good log) ≡ good log′
   unfolding follow
   follow-as zero k′ i log e l a b = let z = same-good e in stays k′ i log (subst (λ v. length (nodesOf v) ≤ i) (sym z) (omega arith)) ∙ ap good z
@@ -141,7 +145,8 @@ module _ (from to lim : Limits) (f : List ℕ) (h : Header)
           → ((log₁ : Events) → follow k from f h (i + 1) (good log₁) ≡ good log′ → (j : ℕ) → length (nodesOf log′) ≤ i + 1 + j → follow j to f h (i + 1) (good log₁) ≡ good log′)
           → follow k′ to f h i (good log) ≡ good log′
       by zero true t g c z rest = let y = ltb-true i (length (nodesOf log)) t in absurd (omega arith)
-      by (suc j) true t g c z rest = turn j i log (ltb-true i (length (nodesOf log)) t) (next (reach from f h log (nodeAt (nodesOf log) i)) refl z j (λ log₁ y. rest log₁ y j (omega arith)))
+      by (suc j) true t g c z rest = turn j i log (ltb-true i (length (nodesOf log)) t)
+          (next (reach from f h log (nodeAt (nodesOf log) i)) refl z j (λ log₁ y. rest log₁ y j (omega arith)))
       by zero false t g c z rest = let y = same-good z in stays zero i log (ltb-false i (length (nodesOf log)) t) ∙ ap good y
       by (suc j) false t g c z rest = let y = same-good z in stays (suc j) i log (ltb-false i (length (nodesOf log)) t) ∙ ap good y
 
@@ -153,7 +158,8 @@ module _ {lim most : Limits} (less : Less lim most) (f : List ℕ) (h : Header) 
 
   pub tree-limited : Limited (room lim) (Is lim) none (treeOf lim (length f) h) (treeOf most (length f) h)
   unfolding tree
-  tree-limited = node-limited less (context most h (length f)) 16 0 (inTree (h .extent .last + 1) (h .extent .last + 1)) (record { nodes = 0; items = 0 }) none (refl, refl, omega arith, omega arith)
+  tree-limited = node-limited less (context most h (length f)) 16 0 (inTree (h .extent .last + 1) (h .extent .last + 1))
+      (record { nodes = 0; items = 0 }) none (refl, refl, omega arith, omega arith)
 
   pub target-limited : (log : Events) (r : Node) → Fits lim log → Limited (room lim) (Is lim) (rowsIn log) (target lim f h log r) (target most f h log r)
   unfolding detachedAt detached
@@ -204,11 +210,23 @@ module _ {lim most : Limits} (less : Less lim most) (f : List ℕ) {h : Header} 
   to-wider e =
       let a = read-back lim f e in
       let (r, t) = limited-run (tree-limited less f h) f (h .extent .start) (a .tree-is) in
-      let w = followed lim f h (λ i. Fits lim) (λ i log log′ s l. more-fits less f h log log′ _ s) (lim .nodes) 0 _ (λ log q. subst (Fits lim) (same-good q) (tree-fits less f h (a .tree-is))) (a .follows) in
+      let w = followed lim f h (λ i. Fits lim) (λ i log log′ s l. more-fits less f h log log′ _ s) (lim .nodes) 0 _
+      (λ log q. subst (Fits lim) (same-good q) (tree-fits less f h (a .tree-is))) (a .follows) in
       let l = w .1 in
       let n = ap length (a .nodes-are) in let i = ap length (a .items-are) in
       let x = follow-as lim most lim f h (λ log r m p. wider less f h log r) (lim .nodes) (most .nodes) 0 _ (a .follows) l (omega arith) (let b = less .nodes in omega arith) in (
-        reads-as most f (record { next = a .next; header-is = a .header-is; made = a .made; after = a .after; tree-is = r; log = a .log; follows = rw t x; nodes-are = a .nodes-are; items-are = a .items-are }),
+        reads-as most f (record {
+          next = a .next;
+          header-is = a .header-is;
+          made = a .made;
+          after = a .after;
+          tree-is = r;
+          log = a .log;
+          follows =
+              rw t x;
+          nodes-are = a .nodes-are;
+          items-are = a .items-are;
+        }),
         omega arith,
         omega arith,
       )
@@ -223,7 +241,18 @@ module _ {lim most : Limits} (less : Less lim most) (f : List ℕ) {h : Header} 
       let l₀ = fits-before es fs (subst (Fits lim) g l) in
       let (r, t) = fitting-run (tree-limited less f h) f (h .extent .start) (a .tree-is) (both es l₀) in
       let z = follow-as most lim lim f h (λ log r m p. narrower less f h log r) (most .nodes) (lim .nodes) 0 es (a .follows) l (let b = less .nodes in omega arith) (omega arith) in
-      reads-as lim f (record { next = a .next; header-is = a .header-is; made = a .made; after = a .after; tree-is = r; log = a .log; follows = rw t z; nodes-are = a .nodes-are; items-are = a .items-are })
+      reads-as lim f (record {
+        next = a .next;
+        header-is = a .header-is;
+        made = a .made;
+        after = a .after;
+        tree-is = r;
+        log = a .log;
+        follows = rw
+            t z;
+        nodes-are = a .nodes-are;
+        items-are = a .items-are;
+      })
     where
       both : (es : Events) → Fits lim es → (κ : Kind) → 0 + count es κ ≤ room lim κ
       both es l limited.node = let b = count-nodes es in omega arith

@@ -76,7 +76,8 @@ module _ (lim : Limits) (f : List ℕ) (h : Header) {n p : ℕ} where
   unfolding follow
   follow-listed zero i o base e = base e
   follow-listed (suc k) i (bad a b) base e = base e
-  follow-listed (suc k) i (good log) base e = by (ltb i (length (nodesOf log))) (follow-listed k (i + 1) (reach lim f h log (nodeAt (nodesOf log) i)) (reach-listed log (nodeAt (nodesOf log) i))) e
+  follow-listed (suc k) i (good log) base e = by (ltb i (length (nodesOf log)))
+      (follow-listed k (i + 1) (reach lim f h log (nodeAt (nodesOf log) i)) (reach-listed log (nodeAt (nodesOf log) i))) e
     where
       by : (b : Bool) → (follow k lim f h (i + 1) (reach lim f h log (nodeAt (nodesOf log) i)) ≡ bad n p → InList n p)
           → (cond b (follow k lim f h (i + 1) (reach lim f h log (nodeAt (nodesOf log) i))) (good log)) ≡ bad n p → InList n p
@@ -92,8 +93,11 @@ module _ (lim : Limits) (f : List ℕ) {n p : ℕ} where
   of-header : (o : Out Header) → run (header (length f)) f 0 ≡ o → readTree lim f o ≡ refusal n p → InList n p
   unfolding readTree
   of-header (ok g q) e r =
-      of-log g _ (follow-listed lim f g (lim .nodes) 0 _ (logged-listed f (g .extent .start) (tree-listed (context lim g (length f)) (g .extent .last + 1)) [] (run (tree (context lim g (length f)) (g .extent .last + 1)) f (g .extent .start)) refl)) r
-  of-header (refused k q) e r = let y : q ≡ p = cc in let z : k ≡ n = cc in subst (λ v. InList v p) z (subst (λ v. InList k v) y (refused-as {S = refusing} f 0 (header-uses tt tt (length f)) e))
+      of-log g _ (follow-listed lim f g (lim .nodes) 0 _
+      (logged-listed f (g .extent .start) (tree-listed (context lim g (length f)) (g .extent .last + 1)) []
+      (run (tree (context lim g (length f)) (g .extent .last + 1)) f (g .extent .start)) refl)) r
+  of-header (refused k q) e r = let y : q ≡ p = cc in let z : k ≡ n = cc in subst (λ v. InList v p) z
+      (subst (λ v. InList k v) y (refused-as {S = refusing} f 0 (header-uses tt tt (length f)) e))
 
 pub refusal-listed : (lim : Limits) (f : List ℕ) {n p : ℕ} → readFile lim f ≡ refusal n p → InList n p
 unfolding readFile

@@ -72,7 +72,8 @@ module _ (x : Context) (parent : ℕ) (z : Standing) (m : Made) (s : List ℕ) (
   node-front (suc d) σ some l e = let b : 17 - suc d ≡ 16 - d = omega arith in let e′ = rw b at e in simp (executing, lt-ltb _ _ l, e′)
 
   -- past its front, with its row made; for any state
-  pub node-in : {S : Type 0} (put : Part → ℕ → ℕ → S → S) (levels : ℕ) (σ : S) → ((levels ≡ 0) → ⊥) → m .nodes < x .limits .nodes → {w : Front} {τ : S} {p : ℕ} → exec put (front x parent (17 - levels) z m) s at σ ≡ ok (w, τ) p
+  pub node-in : {S : Type 0} (put : Part → ℕ → ℕ → S → S) (levels : ℕ) (σ : S) → ((levels ≡ 0) → ⊥) → m .nodes < x .limits .nodes →
+      {w : Front} {τ : S} {p : ℕ} → exec put (front x parent (17 - levels) z m) s at σ ≡ ok (w, τ) p
       → exec put (node levels x parent z m) s at σ
       ≡ exec put (folder (at + w .row .size) (times (w .row .contained) (node (levels - 1) x (m .nodes) (inTree 0 (at + w .row .size))) (plusNode (w .made))))
       s (p + inlineSize (w .row)) (put (nodeRow (w .row)) p (inlineSize (w .row)) τ)
@@ -95,21 +96,25 @@ module _ (x : Context) (parent : ℕ) (z : Standing) (m : Made) (s : List ℕ) (
         ≡ exec put (folder stop (times (w .row .contained) (node (levels - 1) x (m .nodes) (inTree 0 stop)) (plusNode (w .made)))) s q (state t′ u′ (plusNode (w .made)))
     node-rest = rw (is, past) (node-in put levels (state t u m) some l e ∙ simp (executing, row-is))
 
-    pub node-children : {n v : ℕ} → exec put (times (w .row .contained) (node (levels - 1) x (m .nodes) (inTree 0 stop)) (plusNode (w .made))) s q (state t′ u′ (plusNode (w .made))) ≡ refused n v
+    pub node-children : {n v : ℕ} → exec put (times (w .row .contained) (node (levels - 1) x (m .nodes) (inTree 0 stop)) (plusNode (w .made))) s
+        q (state t′ u′ (plusNode (w .made))) ≡ refused n v
         → refused n v ≡ exec put (node levels x parent z m) s at (state t u m)
     unfolding folder
     node-children h = sym (node-rest ∙ simp (executing, h))
 
     pub node-contained : {m′ : Made} {t″ u″ : List ℕ} {v : ℕ}
-        → exec put (times (w .row .contained) (node (levels - 1) x (m .nodes) (inTree 0 stop)) (plusNode (w .made))) s q (state t′ u′ (plusNode (w .made))) ≡ ok (m′, state t″ u″ m′) v
-        → {lim : Limits} {r : Walked} → Gives lim r t″ u″ (exec put (folder stop (ret m′)) s v (state t″ u″ m′)) → Gives lim r t″ u″ (exec put (node levels x parent z m) s at (state t u m))
+        → exec put (times (w .row .contained) (node (levels - 1) x (m .nodes) (inTree 0 stop)) (plusNode (w .made))) s q
+        (state t′ u′ (plusNode (w .made))) ≡ ok (m′, state t″ u″ m′) v
+        → {lim : Limits} {r : Walked} → Gives lim r t″ u″ (exec put (folder stop (ret m′)) s v (state t″ u″ m′)) → Gives lim r t″ u″
+        (exec put (node levels x parent z m) s at (state t u m))
     unfolding folder
     node-contained {m′} {t″} {u″} {v} h g =
         let y : exec put (node levels x parent z m) s at (state t u m) ≡ exec put (folder stop (ret m′)) s v (state t″ u″ m′) = node-rest ∙ simp (executing, h) in
         rw y g
 
     -- a file node has no children
-    pub node-file : w .row .contained ≡ 0 → {lim : Limits} {r : Walked} → Gives lim r t′ u′ (exec put (folder stop (ret (plusNode (w .made)))) s q (state t′ u′ (plusNode (w .made))))
+    pub node-file : w .row .contained ≡ 0 → {lim : Limits} {r : Walked} → Gives lim r t′ u′
+        (exec put (folder stop (ret (plusNode (w .made)))) s q (state t′ u′ (plusNode (w .made))))
         → Gives lim r t′ u′ (exec put (node levels x parent z m) s at (state t u m))
     node-file none g = node-contained (exec-timed put s (w .row .contained) q _ (plusNode (w .made)) (state t′ u′ (plusNode (w .made))) none) g
 
@@ -138,18 +143,28 @@ module _ (x : Context) (s t₀ u₀ : List ℕ) (levels parent : ℕ) (z : Stand
         ≡ andThen (exec put (node levels x parent z m) s i (state t u m)) (λ y p. exec put (times (rest - 1) (node levels x parent z) (y .0)) s p (y .1))
     turn = g .same ∙ exec-times put s rest i _ m (state t u m) (λ z. omega arith)
 
-    pub children-no : {n : ℕ} {p : FilePlace} → r ≡ Refused n p → Gives (x .limits) (Refused n p) t′ u′ (exec put (times left (node levels x parent z) made) s at (state t₀ u₀ made))
+    pub children-no : {n : ℕ} {p : FilePlace} → r ≡ Refused n p → Gives (x .limits) (Refused n p) t′ u′
+        (exec put (times left (node levels x parent z) made) s at (state t₀ u₀ made))
     children-no h = no (sym (turn ∙ rw (stopped d h) refl))
 
     -- a node moves on, and ends where its holder does or before
     pub children-further : z .end .0 ≤ x .size → {n : Made} {c : Cursor} → r ≡ Done n c → (i < c .at .0) × (c .at .0 ≤ z .end .0)
-    children-further o h = let w = at-end (inside-free (z .end .0) (x .size)) s (node-on Nothing (z .end .0) levels x parent z m i (omega arith) o) (ran put _ s i (state t u m) (done d h)) in (w .0, w .1)
+    children-further o h = let w = at-end (inside-free (z .end .0) (x .size)) s
+        (node-on Nothing (z .end .0) levels x parent z m i (omega arith) o) (ran put _ s i (state t u m) (done d h)) in (w .0, w .1)
 
     pub children-on : z .end .0 ≤ x .size → {n : Made} {c : Cursor} → r ≡ Done n c → length t′ ≡ length t → length u′ ≡ length u → Going t′ u′ (c .at .0) (rest - 1) n
     children-on o h j k =
         let b = fitting d h in
         let w = children-further o h in
-        record { nodes-long = j ∙ g .nodes-long; items-long = k ∙ g .items-long; nodes-fit = b .0; items-fit = b .1; onward = omega (arith, g .onward); same = turn ∙ rw (done d h) refl }
+        record {
+          nodes-long = j ∙ g .nodes-long;
+          items-long = k ∙ g .items-long;
+          nodes-fit = b .0;
+          items-fit = b .1;
+          onward = omega
+              (arith, g .onward);
+          same = turn ∙ rw (done d h) refl;
+        }
 
 -- ---- one node alone
 
@@ -157,7 +172,8 @@ once : (f : Made × State → ℕ → Out (Made × State)) → ((y : Made × Sta
 once f h (ok y p) = h y p
 once f h (refused n p) = refl
 
-pub one-node : {lim : Limits} {r : Walked} {t u : List ℕ} (body : Made → P Made) (m : Made) (s : List ℕ) (at : ℕ) (σ : State) → Gives lim r t u (exec put (times 1 body m) s at σ) → Gives lim r t u (exec put (body m) s at σ)
+pub one-node : {lim : Limits} {r : Walked} {t u : List ℕ} (body : Made → P Made) (m : Made) (s : List ℕ) (at : ℕ) (σ : State) → Gives lim r
+    t u (exec put (times 1 body m) s at σ) → Gives lim r t u (exec put (body m) s at σ)
 one-node body m s at σ g =
     let some : (_≡_ {A = ℕ} 1 0) → ⊥ = λ z. omega arith in
     along (sym (exec-times put s 1 at body m σ some ∙ once _ (λ y p. exec-timed put s (1 - 1) p body (y .0) (y .1) (omega arith)) (exec put (body m) s at σ))) g

@@ -1,20 +1,16 @@
 -- Rows stand in file order: a node's row comes after its parent's, its start after the starts before, and item rows stand in node order, as many for each node as its row says.
 -- Assumes nothing.
-use mathlib.Core.Path.{_≡_, refl, sym, ap, _∙_, subst}
-use mathlib.Core.Logic.{_⊎_, inl, inr}
-use mathlib.Core.List.{List, [], _∷_, _++_, map, append-assoc}
+use mathlib.Core.Path.{_≡_, refl, ap, _∙_, subst}
+use mathlib.Core.List.{List, [], _∷_, _++_, map}
 use Prim.Native.Nat.{ℕ, zero, suc, _+_, _-_, _≤_, _<_}
 use native.Mathlib.Omega.{arith}
 use lib.ListN.{length, replicate}
-use Rattle.cursor.specs.Machine.{Out, ok, refused, seen, passed, run, trace, rowsOf}
+use Rattle.cursor.specs.Machine.{ok, seen, passed, run, trace, rowsOf}
 use Rattle.cursor.specs.Rows.{nodeRow, itemRow, plain, P, Events}
 use Rattle.cursor.specs.declared.Node.{Node}
 use Rattle.cursor.specs.declared.Item.{Item}
-use Rattle.cursor.proofs.Wp.{at-end}
-use Rattle.cursor.proofs.Leaves.{any-free}
 use Rattle.cursor.proofs.Order.{Orders, Ordered, Made, ordered-on, in-order, after, weaken, ends, stops, at-place, checks, places, passes-node, counts}
-use Rattle.header.specs.Header.{Header, header}
-use Rattle.header.proofs.Ends.{header-on}
+use Rattle.header.specs.Header.{Header}
 use Rattle.metadata.specs.Metadata.{Context}
 use Rattle.metadata.specs.declared.Limits.{Limits}
 use Rattle.metadata.specs.declared.Made as made
@@ -25,7 +21,7 @@ use Rattle.tree.specs.Tree.{folder, node, tree, detached}
 use Rattle.tree.specs.Reading.{nodesOf, itemsOf, good, madeBy, detachedAt, rows, readFile}
 use Rattle.tree.specs.Rows.{nodeAt}
 use Rattle.tree.proofs.Starts.{counted}
-use Rattle.tree.proofs.Follow.{treeOf, Reached, known, added, followed, ReadAs, read-back}
+use Rattle.tree.proofs.Follow.{treeOf, Reached, known, added, followed, read-back}
 
 -- ---- the tree makes its rows in order
 
@@ -37,7 +33,8 @@ folder-orders : (n end : ℕ) {children : P made.Made} {k c : ℕ} → Orders ch
 unfolding folder
 folder-orders n end w = after w λ m k c i. places λ q. checks _ _ _ (ends i)
 
-pub node-orders : (d : ℕ) (x : Context) (parent : ℕ) (s : Standing) (m : made.Made) (k c : ℕ) → k ≡ m .nodes → c ≡ 0 → parent ≤ m .nodes → Orders (node d x parent s m) (Above (m .nodes)) k c
+pub node-orders : (d : ℕ) (x : Context) (parent : ℕ) (s : Standing) (m : made.Made) (k c : ℕ) → k ≡ m .nodes → c ≡ 0 → parent ≤ m .nodes →
+    Orders (node d x parent s m) (Above (m .nodes)) k c
 unfolding node
 node-orders zero x parent s m k c a b before = at-place λ p. stops
 node-orders (suc d) x parent s m k c a b before =

@@ -167,8 +167,11 @@ pub row-in : {size n i : ℕ} (ws : List ℕ) → ItemRows size n ws → i < n �
 row-in {i = i} ws h l e = rw e (h .1 i l)
 
 pub item-rows : {f : List ℕ} {o : Reading} {s : Summary} {t u : List ℕ} → Standing f o s t u → ItemRows (length f) (s .items) u
-item-rows {f} {o} {s} {t} {u} st =
-    (st .item-room, λ i l. rw (item-at u (s .items) i l) at (subst (ItemsIn (length f)) (sym (st .items-are)) (st .sound .items-inside) i (omega (arith, items-in-length u (s .items)))))
+item-rows {f} {o} {s} {t} {u} st = (
+  st .item-room,
+  λ i l. rw (item-at u (s .items) i l) at
+      (subst (ItemsIn (length f)) (sym (st .items-are)) (st .sound .items-inside) i (omega (arith, items-in-length u (s .items)))),
+)
 
 pub tables : (lim : Limits) (f : List ℕ) {s : Summary} {t u : List ℕ} → Standing f (readFile lim f) s t u → Tables f t u (s .nodes) (s .items)
 tables lim f st = record {

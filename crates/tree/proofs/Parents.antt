@@ -101,7 +101,9 @@ module _ (f : List ℕ) where
           let y = split (node d x parent s m) (times n (node d x parent s)) f at e in
           let c = more-nodes d x parent s m at (omega arith) (y .first) in
           let more = c .1 in
-          rw (nodes-joined y) (under-on (m .nodes) (y .a .nodes) (nodesOf (trace (node d x parent s m) f at)) (nodesOf (trace (times n (node d x parent s) (y .a)) f (y .p))) (c .0) (step m at l .makes (y .first)) (times-under n (y .a) (y .p) (omega arith) .makes (y .second)));
+          rw (nodes-joined y) (under-on (m .nodes) (y .a .nodes) (nodesOf (trace (node d x parent s m) f at))
+          (nodesOf (trace (times n (node d x parent s) (y .a)) f (y .p))) (c .0) (step m at l .makes (y .first))
+          (times-under n (y .a) (y .p) (omega arith) .makes (y .second)));
     }
 
   folder-under : (end k : ℕ) {children : P Made} {at : ℕ} → Makes f children at (Under k) → Makes f (folder end children) at (Under k)
@@ -132,13 +134,16 @@ module _ (f : List ℕ) where
       places _ at (checks _ _ _ (front-hangs x parent (16 - d) s m at _ λ w q e.
       let n : plusNode (w .made) .nodes ≡ m .nodes + 1 = omega arith in
       let children : P Made = times (w .row .contained) (node d x (m .nodes) (inTree 0 (at + w .row .size))) (plusNode (w .made)) in
-      folder-under _ _ (subst (λ k. Makes f children q (Under k)) n (times-under d x (m .nodes) (inTree 0 (at + w .row .size)) (step (at + w .row .size)) (w .row .contained) (plusNode (w .made)) q (omega arith)))))
+      folder-under _ _ (subst (λ k. Makes f children q (Under k)) n
+      (times-under d x (m .nodes) (inTree 0 (at + w .row .size)) (step (at + w .row .size)) (w .row .contained) (plusNode (w .made)) q
+      (omega arith)))))
 
   node-under : (d : ℕ) (x : Context) (parent : ℕ) (s : Standing) (m : Made) (at : ℕ) → parent < m .nodes → Makes f (node d x parent s m) at (Under (m .nodes))
   unfolding node run trace
   node-under zero x parent s m at l = record { makes = λ e. let z : _≡_ {A = ℕ} 0 1 = cc in absurd (omega arith) }
   node-under (suc d) x parent s m at l = record {
-    makes = λ e. hang-under parent (m .nodes) (nodesOf (trace (node (suc d) x parent s m) f at)) l (node-hangs d x parent s m at (λ end t p. node-under d x (m .nodes) (inTree 0 end) t p) .makes e);
+    makes = λ e. hang-under parent (m .nodes) (nodesOf (trace (node (suc d) x parent s m) f at)) l
+        (node-hangs d x parent s m at (λ end t p. node-under d x (m .nodes) (inTree 0 end) t p) .makes e);
   }
 
   -- the tree's rows
@@ -169,7 +174,8 @@ row-front (r ∷ ns) ms zero l = refl
 row-front (r ∷ ns) ms (suc i) l = row-front ns ms i (omega arith)
 
 module _ (lim : Limits) (f : List ℕ) (h : Header) where
-  tree-rooted : {m : Made} {p : ℕ} → h .extent .last < length f → run (treeOf lim (length f) h) f (h .extent .start) ≡ ok m p → AllRooted (trace (treeOf lim (length f) h) f (h .extent .start))
+  tree-rooted : {m : Made} {p : ℕ} → h .extent .last < length f → run (treeOf lim (length f) h) f (h .extent .start) ≡ ok m p → AllRooted
+      (trace (treeOf lim (length f) h) f (h .extent .start))
   tree-rooted l e i j =
       let x = context lim h (length f) in
       let ns = nodesOf (trace (treeOf lim (length f) h) f (h .extent .start)) in
@@ -208,7 +214,8 @@ all-rooted lim f {h} r =
     let a = read-back lim f r in
     let b = header-of a in
     let t : AllRooted (trace (treeOf lim (length f) h) f (h .extent .start)) = tree-rooted lim f h (b .3) (a .tree-is) in
-    let w = followed lim f h (λ i. AllRooted) (λ i log log′ o l. more-rooted lim f h log log′ _ (omega arith) o) (lim .nodes) 0 _ (λ log e. subst AllRooted (same e) t) (a .follows) in
+    let w = followed lim f h (λ i. AllRooted) (λ i log log′ o l. more-rooted lim f h log log′ _ (omega arith) o) (lim .nodes) 0 _
+    (λ log e. subst AllRooted (same e) t) (a .follows) in
     subst (λ v. (i : ℕ) → i < length v → Rooted v i) (a .nodes-are) (w .1)
   where
     same : {x y : Events} → good x ≡ good y → x ≡ y

@@ -1,26 +1,21 @@
 -- Rows that stand in a table are read back as they are; and what a question knows of the tables after a file was read.
 -- Assumes nothing.
 use mathlib.Core.Path.{_≡_, refl, sym, ap, ap₂, _∙_}
-use mathlib.Core.Bool.{Bool, true, false}
 use mathlib.Core.Logic.{_⊎_, inl, inr}
 use mathlib.Core.List.{List, [], _∷_, _++_, append-assoc}
 use Prim.Native.Nat.{ℕ, zero, suc, _+_, _*_, _-_, _^_, _≤_, _<_}
 use native.Mathlib.Omega.{arith}
-use lib.ListN.{length, getD, replicate, take, length-append, length-replicate}
-use Rattle.cursor.specs.Machine.{Out, ok, refused, Event, seen, passed, run, trace, rowsOf}
-use Rattle.cursor.specs.Rows.{Part, nodeRow, itemRow, plain, Events}
+use lib.ListN.{length, getD, replicate, take, length-append}
+use Rattle.cursor.specs.Machine.{refused, seen, passed, rowsOf}
+use Rattle.cursor.specs.Rows.{nodeRow, itemRow, plain, Events}
 use Rattle.cursor.specs.declared.FilePlace.{FilePlace}
 use Rattle.cursor.specs.declared.Node.{Node}
 use Rattle.cursor.specs.declared.Item.{Item}
-use Rattle.cursor.proofs.Wp.{All, at-end}
-use Rattle.cursor.proofs.Leaves.{any-free}
+use Rattle.cursor.proofs.Wp.{All}
 use Rattle.header.specs.Header.{Header, header}
-use Rattle.header.proofs.Ends.{header-on}
-use Rattle.metadata.specs.Tables.{nodeWidth, itemWidth, nodeWords, itemWords, limits}
+use Rattle.metadata.specs.Tables.{nodeWidth, itemWidth, nodeWords, itemWords}
 use Rattle.metadata.specs.declared.Limits.{Limits}
-use Rattle.metadata.specs.declared.Made.{Made}
 use Rattle.metadata.proofs.Ends.{Nothing, Inside}
-use Rattle.tree.specs.Tree.{tree}
 use Rattle.tree.specs.Reading.{nodesOf, itemsOf, allRows, allNodes, allItems, Reading, rows, refusal, readFile, readOf, summary, nodeTable, itemTable}
 use Rattle.room.specs.Room.{padded}
 use Rattle.tree.specs.Rows.{nodeFrom, itemFrom, rowsFrom, nodesIn, itemsIn, noNode, noItem, nodeAt, itemAt, NodeIn, ItemIn, ItemsIn}
@@ -28,7 +23,7 @@ use Rattle.tree.specs.Asking.{Result, good, bad, ask, keptNodes, keptIte
 use Rattle.tree.specs.declared.Summary.{Summary}
 use Rattle.tree.specs.declared.Read.{Read}
 use Rattle.tree.specs.declared.Read.the-variants as read
-use Rattle.tree.proofs.Follow.{ReadAs, read-back}
+use Rattle.tree.proofs.Follow.{read-back}
 use Rattle.tree.proofs.Shown.{header-of, log-inside}
 use Rattle.tree.proofs.Filled.{nodes-length, items-length}
 
@@ -89,7 +84,8 @@ module _ {A : Type 0} {width : ℕ} {row : List ℕ → ℕ → A} {words : A �
   rows-shift r ws i (suc n) =
       let a : suc i * width ≡ width + i * width = omega arith in
       let b : suc i + 1 ≡ suc (i + 1) = omega arith in
-      ap₂ (λ (x : A) (v : List A). x ∷ v) (ap (row (words r ++ ws)) a ∙ back .later r ws (i * width)) (ap (λ k. rowsFrom width row k n (words r ++ ws)) b ∙ rows-shift r ws (i + 1) n)
+      ap₂ (λ (x : A) (v : List A). x ∷ v) (ap (row (words r ++ ws)) a ∙ back .later r ws (i * width))
+      (ap (λ k. rowsFrom width row k n (words r ++ ws)) b ∙ rows-shift r ws (i + 1) n)
 
   rows-back : (rs : List A) (rest : List ℕ) → rowsFrom width row 0 (length rs) (allRows words rs ++ rest) ≡ rs
   unfolding rowsFrom
@@ -158,7 +154,8 @@ unfolding rowsOf
 item-in [] end size l a i h = absurd (omega arith)
 item-in (seen κ p ∷ es) end size l a i h = item-in es end size l a i h
 item-in (passed (nodeRow r) p n ∷ es) end size l a i h = item-in es end size l (a .1) i h
-item-in (passed (itemRow r) p n ∷ es) end size l a zero h = let b = a .0 .0 in let c = a .0 .1 in let d = a .0 .2 in (omega arith, named (r .field) (r .nameLength) end size l (a .0 .3))
+item-in (passed (itemRow r) p n ∷ es) end size l a zero h = let b = a .0 .0 in let c = a .0 .1 in let d = a .0 .2
+    in (omega arith, named (r .field) (r .nameLength) end size l (a .0 .3))
 item-in (passed (itemRow r) p n ∷ es) end size l a (suc i) h = item-in es end size l (a .1) i (omega arith)
 item-in (passed (plain x) p n ∷ es) end size l a i h = item-in es end size l (a .1) i h
 
@@ -170,8 +167,15 @@ pub record Accepted (f : List ℕ) (ns : List Node) (is : List Item) : Type 0 wh
 pub accepted : (lim : Limits) (f : List ℕ) {h : Header} {ns : List Node} {is : List Item} → readFile lim f ≡ rows h ns is → Accepted f ns is
 accepted lim f e = let a = read-back lim f e in of-log (a .log) (header-of a .4) (log-inside a) (a .nodes-are) (a .items-are)
   where
-    of-log : (log : Events) → length f < 2 ^ 28 → All (Inside Nothing (length f) (length f) .asks) log → {ns : List Node} {is : List Item} → nodesOf log ≡ ns → itemsOf log ≡ is → Accepted f ns is
-    of-log log s a x y = rw (← x, ← y) (record { small = s; nodes-inside = node-in log (length f) (length f) (omega arith) a; items-inside = item-in log (length f) (length f) (omega arith) a })
+    of-log : (log : Events) → length f < 2 ^ 28 → All (Inside Nothing (length f) (length f) .asks) log → {ns : List Node} {is : List Item} →
+        nodesOf log ≡ ns → itemsOf log ≡ is → Accepted f ns is
+    of-log log s a x y = rw (← x, ← y)
+        (record {
+          small = s;
+          nodes-inside = node-in log (length f) (length f) (omega arith) a;
+          items-inside = item-in log (length f) (length f)
+              (omega arith) a;
+        })
 
 -- ---- what a question knows of the tables after a file was read
 
@@ -239,7 +243,8 @@ pub ask-refused : (o : Reading) {r : Read} → r ≡ readOf o → {n : ℕ} {p :
 unfolding ask
 ask-refused o e k question = rw (refusal-is o (sym k ∙ e))
 
-module _ (o : Reading) {A : Type 0} (question : Header → List Node → List Item → Result A) {r : Read} (e : r ≡ readOf o) {n : ℕ} {p : FilePlace} (k : r ≡ read.Refused n p) (size : ℕ) {t : List ℕ} where
+module _ (o : Reading) {A : Type 0} (question : Header → List Node → List Item → Result A) {r : Read} (e : r ≡ readOf o) {n : ℕ}
+    {p : FilePlace} (k : r ≡ read.Refused n p) (size : ℕ) {t : List ℕ} where
   pub refused-nodes : t ≡ nodeTable size o → t ≡ keptNodes size o (ask o question)
   unfolding nodeTable keptNodes
   refused-nodes a = a ∙ rw (ask-refused o e k question, refusal-is o (sym k ∙ e))

@@ -1,15 +1,15 @@
 -- Every row of an accepted file lies in it, and its custom name was passed.
 -- Assumes nothing.
-use mathlib.Core.Path.{_≡_, refl, sym, ap, _∙_, subst}
+use mathlib.Core.Path.{_≡_, refl, subst}
 use mathlib.Core.Bool.{Bool, true, false, cond, _&&_, _||_}
 use mathlib.Core.Logic.{_⊎_, inl, inr}
 use mathlib.Core.List.{List, [], _∷_, _++_}
-use Prim.Native.Nat.{ℕ, zero, suc, _+_, _^_, _≤_, _<_}
+use Prim.Native.Nat.{ℕ, _+_, _^_, _≤_, _<_}
 use native.Mathlib.Omega.{arith}
 use borrow.Author.Tests.{ltb-true, ltb-false, leb-true}
 use lib.Dec.{ltb, leb}
 use lib.ListN.{length}
-use Rattle.cursor.specs.Machine.{Event, seen, passed, ok, run, trace}
+use Rattle.cursor.specs.Machine.{seen, passed, trace}
 use Rattle.cursor.specs.Rows.{Part, Events}
 use Rattle.cursor.specs.declared.Node.{Node}
 use Rattle.cursor.specs.declared.Item.{Item}
@@ -19,10 +19,9 @@ use Rattle.header.specs.Header.{Header, header}
 use Rattle.header.proofs.Ends.{header-on}
 use Rattle.metadata.specs.declared.Limits.{Limits}
 use Rattle.metadata.proofs.Ends.{OfNames, Nothing, Given, inside-free, Inside}
-use Rattle.tree.specs.Reading.{nodesOf, good, outside, partEnd, detachedAt, context}
-use Rattle.tree.specs.Rows.{nodeAt}
+use Rattle.tree.specs.Reading.{good, outside, partEnd, detachedAt, context}
 use Rattle.tree.proofs.Ends.{tree-shows, detached-shows}
-use Rattle.tree.proofs.Follow.{treeOf, target, Step, stepped, Reached, known, added, followed, ReadAs}
+use Rattle.tree.proofs.Follow.{treeOf, target, Reached, known, added, followed, ReadAs}
 
 -- ---- a place outside header and tree, and its part
 
@@ -43,8 +42,12 @@ module _ (h : Header) (size p : ℕ) where
   unfolding outside
   outside-is e =
       let x = both (leb (h .extent .end) p) (ltb p size && (ltb p (h .extent .start) || ltb (h .extent .last) p)) e in
-      let y = both (ltb p size) (ltb p (h .extent .start) || ltb (h .extent .last) p) (x .1) in
-      (leb-true (h .extent .end) p (x .0), ltb-true p size (y .0), elim (one (ltb p (h .extent .start)) (ltb (h .extent .last) p) (y .1)) [ inl a ↦ inl (ltb-true p (h .extent .start) a) | inr a ↦ inr (ltb-true (h .extent .last) p a) ])
+      let y = both (ltb p size) (ltb p (h .extent .start) || ltb (h .extent .last) p) (x .1) in (
+        leb-true (h .extent .end) p (x .0),
+        ltb-true p size (y .0),
+        elim (one (ltb p (h .extent .start)) (ltb (h .extent .last) p) (y .1))
+            [ inl a ↦ inl (ltb-true p (h .extent .start) a) | inr a ↦ inr (ltb-true (h .extent .last) p a) ],
+      )
 
   -- it ends in the file; and where p lies before the tree, where that starts
   pub part-is : h .extent .start ≤ size → (partEnd h size p ≤ size) × (p < h .extent .start → partEnd h size p ≡ h .extent .start)

@@ -61,7 +61,8 @@ SmallReference r = (r .kind ≤ 4) × ((r .kind ≡ 3) → (r .target < 2 ^ 28) 
 
 -- the unpackers stand before the node's end, and each has a byte
 abbrev pub SmallNode : Node → Type 0
-SmallNode r = (r .contained < 2 ^ 28) × (r .depth ≤ 16) × (r .reference ≤ 4) × ((r .reference ≡ 3) → (r .target < 2 ^ 28) × (r .extent ≡ 0)) × (r .unpackers + r .unpackerCount ≤ r .start + r .size) × (r .detached ≤ 1)
+SmallNode r = (r .contained < 2 ^ 28) × (r .depth ≤ 16) × (r .reference ≤ 4) × ((r .reference ≡ 3) → (r .target < 2 ^ 28) × (r .extent ≡ 0))
+    × (r .unpackers + r .unpackerCount ≤ r .start + r .size) × (r .detached ≤ 1)
 
 abbrev pub SmallLabel : Item → Type 0
 SmallLabel r = ((r .kind ≡ 0) × (r .field < 2 ^ 28) × (r .nameLength ≡ 0)) ⊎ ((r .kind ≡ 1) × (0 < r .nameLength))
@@ -182,7 +183,8 @@ format-small p (known f) at h = wp-ret (h, refl)
 format-small p unknown at h = wp-refuse
 
 module _ (x : Context) (h : SmallTypes (x .types)) where
-  rows-small : (l : Label) → SmallField (l .field) → (end : ℕ) (k : Contents) (m : Made) (at : ℕ) → l .item ≤ at → Wp (Small (x .limits .items)) (rowsFor x l end k m) (λ m′ q. Paid m at m′ q × (at ≤ q)) at
+  rows-small : (l : Label) → SmallField (l .field) → (end : ℕ) (k : Contents) (m : Made) (at : ℕ) → l .item ≤ at → Wp
+      (Small (x .limits .items)) (rowsFor x l end k m) (λ m′ q. Paid m at m′ q × (at ≤ q)) at
   unfolding rowsFor universal version
   rows-small l a end Universal m at o =
       wp-place _ at (wp-check _ _ λ t.
@@ -195,7 +197,14 @@ module _ (x : Context) (h : SmallTypes (x .types)) where
       wp-after (number-on _ _ end p) λ k q y.
       wp-after (format-small p (formatOf (x .types) k) q (known-small (x .types) k h)) λ format r z.
       wp-after (block-on _ _ end r) λ size s w.
-      wp-place _ s (wp-skip _ _ (omega arith, (let c = ltb-true (m′ .items) (x .limits .items) t in omega arith), y .3, z .0, labelled (l .field) a) (λ _. wp-ret (omega arith, omega arith))))) (omega arith, omega arith)
+      wp-place _ s (wp-skip _ _ (
+        omega arith,
+        (let c = ltb-true (m′ .items) (x .limits .items) t in omega arith),
+        y .3,
+        z .0,
+        labelled (l .field)
+            a,
+      ) (λ _. wp-ret (omega arith, omega arith))))) (omega arith, omega arith)
 
   item-small : (node index end : ℕ) (m : Made) (at : ℕ) → index ≤ at → Wp (Small (x .limits .items)) (item x node index end m) (λ m′ q. Paid m at m′ q × (at < q)) at
   unfolding item
@@ -244,7 +253,8 @@ module _ {U : Rule Part} (u : (x : Plain) (p n : ℕ) → U .asks (plain x) p n)
       (wp-place _ q
       (wp-after
       (repeats (λ k p. q + k ≤ p) (q + n) 0 q
-      (λ k p i. wp-place _ p (wp-after (number-on _ _ (q + n) p) λ kind r y. wp-check _ _ λ v. wp-after (identifier-small kind (q + n) r) λ _ s z. wp-after (value-small (q + n) s) λ _ o w. wp-ret (omega arith))) (omega arith))
+      (λ k p i. wp-place _ p (wp-after (number-on _ _ (q + n) p) λ kind r y. wp-check _ _ λ v. wp-after (identifier-small kind (q + n) r) λ _ s z.
+      wp-after (value-small (q + n) s) λ _ o w. wp-ret (omega arith))) (omega arith))
       λ k r y. wp-ret (omega arith, omega arith))))
 
   reference-small : (headerEnd size contained end at : ℕ) → Wp U (reference headerEnd size contained end) (λ r q. SmallReference r × (at < q) × (at ≤ end)) at
@@ -259,7 +269,8 @@ module _ {U : Rule Part} (u : (x : Plain) (p n : ℕ) → U .asks (plain x) p n)
       (λ w. wp-after (number-on _ _ end q) λ o s y. wp-ret ((omega arith, λ k. (y .3, refl)), omega arith, omega arith))
       λ w. wp-after (block-on _ _ end q) λ n s y. wp-place _ s (wp-skip _ _ (u _ _ _) (λ _. wp-ret ((omega arith, λ k. absurd (omega arith)), omega arith, omega arith))))
 
-  rest-small : (headerEnd size contained inner stop at : ℕ) → Wp U (rest headerEnd size contained inner stop) (λ r q. SmallReference (r .reference) × (r .unpackers .place .0 + r .unpackers .count ≤ stop) × (at < q)) at
+  rest-small : (headerEnd size contained inner stop at : ℕ) → Wp U (rest headerEnd size contained inner stop)
+      (λ r q. SmallReference (r .reference) × (r .unpackers .place .0 + r .unpackers .count ≤ stop) × (at < q)) at
   unfolding rest
   rest-small headerEnd size contained inner stop at =
       wp-after (unpackers-small contained inner at) λ v q x.
@@ -267,7 +278,8 @@ module _ {U : Rule Part} (u : (x : Plain) (p n : ℕ) → U .asks (plain x) p n)
       wp-after (reference-small headerEnd size contained stop q) λ r p y. wp-ret (y .0, (let z = y .2 in omega arith), let z = y .1 in omega arith))
 
 module _ (x : Context) (h : SmallTypes (x .types)) where
-  front-small : (parent depth : ℕ) → depth ≤ 16 → (s : Standing) → s .detached ≤ 1 → (m : Made) (at : ℕ) → Wp (Small (x .limits .items)) (front x parent depth s m) (λ w q. SmallNode (w .row) × Paid m at (plusNode (w .made)) q) at
+  front-small : (parent depth : ℕ) → depth ≤ 16 → (s : Standing) → s .detached ≤ 1 → (m : Made) (at : ℕ) → Wp (Small (x .limits .items))
+      (front x parent depth s m) (λ w q. SmallNode (w .row) × Paid m at (plusNode (w .made)) q) at
   unfolding front
   front-small parent depth l s k m at =
       wp-place _ at
@@ -297,7 +309,8 @@ module _ (x : Context) (h : SmallTypes (x .types)) where
   detached-small : (end taken offset : ℕ) (m : Made) (f : List ℕ) (at : ℕ) → All (Shown (x .limits .items)) (trace (detached x end taken offset m) f at)
   unfolding detached
   detached-small end taken offset m f at =
-      asked f (node-small 17 (m .nodes) (outsideTree end taken offset) (omega arith) m at) (given (Small (x .limits .items)) (small-free (x .limits .items)) (trace (detached x end taken offset m) f at))
+      asked f (node-small 17 (m .nodes) (outsideTree end taken offset) (omega arith) m at)
+      (given (Small (x .limits .items)) (small-free (x .limits .items)) (trace (detached x end taken offset m) f at))
 
   -- what an accepted run comes to: no more rows than bytes
   tree-pays : (end : ℕ) (f : List ℕ) (at : ℕ) {m : Made} {q : ℕ} → run (tree x end) f at ≡ ok m q → m .nodes + m .items + at ≤ q
@@ -342,7 +355,9 @@ module _ {lim : Limits} {f : List ℕ} {h : Header} {ns : List Node} {is : List 
 
   log-small : All (Shown (lim .items)) (a .log)
   log-small =
-      followed lim f h (λ i. All (Shown (lim .items))) (λ i log log′ s l. more-small log log′ _ s) (lim .nodes) 0 _ (λ log e. subst (All (Shown (lim .items))) (same e) (tree-small (context lim h (length f)) (head-is .1) _ f (h .extent .start))) (a .follows) .1
+      followed lim f h (λ i. All (Shown (lim .items))) (λ i log log′ s l. more-small log log′ _ s) (lim .nodes) 0 _
+      (λ log e. subst (All (Shown (lim .items))) (same e) (tree-small (context lim h (length f)) (head-is .1) _ f (h .extent .start)))
+      (a .follows) .1
     where
       same : {x y : Events} → good x ≡ good y → x ≡ y
       same e = cc

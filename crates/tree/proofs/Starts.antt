@@ -58,7 +58,8 @@ rising (more a x h) (suc i) (suc j) l m = rising h i j (omega arith) (omega arit
 
 -- ---- an accepted run, part by part
 
-pub nodes-joined : {A B : Type 0} {m : P A} {g : A → P B} {f : List ℕ} {at : ℕ} {b : B} {q : ℕ} (y : Split m g f at b q) → nodesOf (trace (m >>= g) f at) ≡ nodesOf (trace m f at) ++ nodesOf (trace (g (y .a)) f (y .p))
+pub nodes-joined : {A B : Type 0} {m : P A} {g : A → P B} {f : List ℕ} {at : ℕ} {b : B} {q : ℕ} (y : Split m g f at b q) → nodesOf
+    (trace (m >>= g) f at) ≡ nodesOf (trace m f at) ++ nodesOf (trace (g (y .a)) f (y .p))
 nodes-joined {m = m} {g} {f} {at} y = ap nodesOf (y .joined) ∙ rows-on nodeOf (trace m f at) (trace (g (y .a)) f (y .p))
 
 -- each accepted run of m from `at` makes rows that rise, from `at` on and before where it ends
@@ -122,7 +123,8 @@ module _ (b : ℕ) (f : List ℕ) where
   folder-rises end w = after w λ m p. rowless _ p (uses.places λ q. uses.checks _ _ _ tt uses.ends)
 
   -- a node's row, and then the rows of what it holds
-  front-then : (x : Context) (parent depth : ℕ) (s : Standing) (m : Made) (at : ℕ) → s .end .0 ≤ x .size → s .detached ≤ b → {g : Front → P Made} → ((w : Front) (q : ℕ) → FrontIn x s m at w q → Rises b f (g w) (q + inlineSize (w .row)))
+  front-then : (x : Context) (parent depth : ℕ) (s : Standing) (m : Made) (at : ℕ) → s .end .0 ≤ x .size → s .detached ≤ b →
+      {g : Front → P Made} → ((w : Front) (q : ℕ) → FrontIn x s m at w q → Rises b f (g w) (q + inlineSize (w .row)))
       → Rises b f (front x parent depth s m >>= λ w. (skip (nodeRow (w .row)) (inlineSize (w .row)) >> g w)) at
   unfolding run trace rowsOf _>>=_ _>>_ skip
   front-then x parent depth s m at l v {g} h = record {
@@ -177,7 +179,8 @@ module _ (f : List ℕ) (s : Standing) (parent start : ℕ) where
   own-check false n p h = record { owns = λ e. let z : _≡_ {A = ℕ} 0 1 = cc in absurd (omega arith) }
 
 own-front : (f : List ℕ) (x : Context) (parent depth : ℕ) (s : Standing) (m : Made) (at : ℕ) → s .end .0 ≤ x .size → (g : Front → P Made)
-    → ((w : Front) (q : ℕ) → FrontIn x s m at w q → Wp (Inside Nothing (s .end .0) (x .size)) (skip (nodeRow (w .row)) (inlineSize (w .row)) >> g w) (λ _ v. v ≡ at + w .row .size) q)
+    → ((w : Front) (q : ℕ) → FrontIn x s m at w q → Wp (Inside Nothing (s .end .0) (x .size))
+    (skip (nodeRow (w .row)) (inlineSize (w .row)) >> g w) (λ _ v. v ≡ at + w .row .size) q)
     → ((w : Front) (q : ℕ) → w .row .contained ≡ 0 → nodesOf (trace (g w) f q) ≡ [])
     → Owns f s parent at (front x parent depth s m >>= λ w. (skip (nodeRow (w .row)) (inlineSize (w .row)) >> g w)) at
 unfolding run trace rowsOf _>>=_ _>>_ skip
@@ -243,7 +246,8 @@ rise-word (done a) i l = absurd (omega arith)
 rise-word (more a x h) zero l = x
 rise-word (more a x h) (suc i) l = rise-word h i (omega arith)
 
-pub tree-attached : (x : Context) (end : ℕ) (f : List ℕ) (at : ℕ) → end ≤ x .size → {m : Made} {p : ℕ} → run (tree x end) f at ≡ ok m p → (i : ℕ) → i < length (nodesOf (trace (tree x end) f at))
+pub tree-attached : (x : Context) (end : ℕ) (f : List ℕ) (at : ℕ) → end ≤ x .size → {m : Made} {p : ℕ} → run (tree x end) f at ≡ ok m p →
+    (i : ℕ) → i < length (nodesOf (trace (tree x end) f at))
     → nodeAt (nodesOf (trace (tree x end) f at)) i .detached ≡ 0
 unfolding tree
 tree-attached x end f at l e i m = let w = rise-word (node-rises 0 f 16 x 0 (inTree end end) _ at l (omega arith) .rises e) i m in omega arith

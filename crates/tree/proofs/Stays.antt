@@ -50,7 +50,8 @@ module _ {f : List ℕ} where
       anywhere λ at l. place-at _ at (check-at _ _ l λ t. after-at (front-stays x parent (16 - d) s m o k .from at l) λ w q e j.
       let y = at-end (inside-free (x .size) (x .size)) f (front-on Nothing (x .size) x parent (16 - d) s m at i i) e in
       let a = y .within in let b = inline-fits y in
-      skip-at _ _ (omega arith) (folder-stays _ (counts (w .row .contained) _ (λ t. node-stays d x (m .nodes) (inTree 0 (at + w .row .size)) t (omega arith) (omega arith) (omega arith)))))
+      skip-at _ _ (omega arith) (folder-stays _
+      (counts (w .row .contained) _ (λ t. node-stays d x (m .nodes) (inTree 0 (at + w .row .size)) t (omega arith) (omega arith) (omega arith)))))
 
   tree-stays : (x : Context) (end : ℕ) → end ≤ x .size → end ≤ length f → Stays f (tree x end)
   unfolding tree
@@ -95,7 +96,8 @@ module _ (f : List ℕ) where
         m : P Made
         m = target lim f h log r
 
-        by : (b c : Bool) → outside h (length f) (r .target) ≡ c → In (cond b (cond c (logged log (run m f (r .target)) (trace m f (r .target))) (bad 16 (offsetAt f r))) (good log))
+        by : (b c : Bool) → outside h (length f) (r .target) ≡ c → In
+            (cond b (cond c (logged log (run m f (r .target)) (trace m f (r .target))) (bad 16 (offsetAt f r))) (good log))
         by true true e =
             let i = part-is h (length f) (r .target) o .0 in
             logged-in log _ _ a (detached-inside (context lim h (length f)) f (r .target) _ _ _ _ i)
@@ -112,7 +114,8 @@ module _ (f : List ℕ) where
         r : Node
         r = nodeAt (nodesOf log) i
 
-        by : (b : Bool) → ltb i (length (nodesOf log)) ≡ b → (In (reach lim f h log r) → In (follow k lim f h (i + 1) (reach lim f h log r))) → In (cond b (follow k lim f h (i + 1) (reach lim f h log r)) (good log))
+        by : (b : Bool) → ltb i (length (nodesOf log)) ≡ b → (In (reach lim f h log r) → In (follow k lim f h (i + 1) (reach lim f h log r))) → In
+            (cond b (follow k lim f h (i + 1) (reach lim f h log r)) (good log))
         by true e rest = rest (reach-in log r a (row-inside log a i (ltb-true _ _ e)))
         by false e rest = a
 
@@ -130,7 +133,8 @@ module _ (lim : Limits) (f : List ℕ) {n p : ℕ} where
       let w = at-end any-free f (header-on (length f)) e in
       let x = context lim h (length f) in
       let i : h .extent .last + 1 ≤ length f = omega arith in
-      of-log h _ (follow-in f lim h (omega arith) (lim .nodes) 0 _ (logged-in f [] _ _ tt (tree-inside x f (h .extent .start) _ i) (tree-stays x _ i i .from (h .extent .start) (omega arith) .inside))) z
+      of-log h _ (follow-in f lim h (omega arith) (lim .nodes) 0 _
+      (logged-in f [] _ _ tt (tree-inside x f (h .extent .start) _ i) (tree-stays x _ i i .from (h .extent .start) (omega arith) .inside))) z
   of-header (refused m q) e z = let y : q ≡ p = cc in let l : 0 ≤ length f = omega arith in let k = refused-inside {f = f} (header-stays .from 0 l) e in omega arith
 
 pub refusal-inside : (lim : Limits) (f : List ℕ) {n p : ℕ} → readFile lim f ≡ refusal n p → p ≤ length f

@@ -1,15 +1,15 @@
 -- The search for a row by its start; what lies outside header and tree; the place of a row's offset.
 -- Assumes nothing.
-use mathlib.Core.Path.{_≡_, refl, sym, ap, ap₂, _∙_, subst}
-use mathlib.Core.Bool.{Bool, true, false, cond, not, _&&_, _||_}
-use mathlib.Core.List.{List, [], _∷_, _++_}
-use Prim.Native.Nat.{ℕ, zero, suc, _+_, _*_, _-_, _≤_, _<_, _^_, min, max}
+use mathlib.Core.Path.{_≡_, refl, sym, ap, _∙_, subst}
+use mathlib.Core.Bool.{Bool, true, false, cond, _&&_}
+use mathlib.Core.List.{List, [], _∷_}
+use Prim.Native.Nat.{ℕ, zero, suc, _+_, _*_, _≤_, _<_, min, max}
 use native.Mathlib.Omega.{arith}
 use native.Mathlib.Decide.{decLt}
 use lib.Dec.{eqb, ltb, leb}
-use lib.ListN.{length, getD, drop, drop-of-length-le}
+use lib.ListN.{length, drop, drop-of-length-le}
 use borrow.Author.Tests.{eq-eqb, ne-eqb, lt-ltb, le-ltb, le-leb, lt-leb}
-use Rattle.cursor.specs.Machine.{Out, ok, refused, run}
+use Rattle.cursor.specs.Machine.{Out, run}
 use Rattle.cursor.specs.Rows.{referenceFrame}
 use Rattle.cursor.specs.Leaves.{number}
 use Rattle.cursor.specs.declared.Node.{Node}
@@ -55,7 +55,8 @@ module _ (ws : List ℕ) (count i : ℕ) (l : i < count) {r : Node} (is : r ≡ 
   pub row-is : nodeAt (nodesIn count ws) i ≡ r
   row-is = node-at ws count i l ∙ sym is
 
-  pub offset-is : (f : List ℕ) (o : Out ℕ) {at : ℕ} → at ≡ r .start + r .header → o ≡ run (number referenceFrame 3 (length f)) f at → placeOf o ≡ offsetAt f (nodeAt (nodesIn count ws) i)
+  pub offset-is : (f : List ℕ) (o : Out ℕ) {at : ℕ} → at ≡ r .start + r .header → o ≡ run (number referenceFrame 3 (length f)) f at → placeOf
+      o ≡ offsetAt f (nodeAt (nodesIn count ws) i)
   unfolding offsetAt
   offset-is f o h g = ap placeOf (g ∙ ap (run (number referenceFrame 3 (length f)) f) (h ∙ sym (ap (λ (r : Node). r .start + r .header) row-is)))
 
@@ -142,7 +143,8 @@ module _ (ws : List ℕ) (tree count place : ℕ) (few : tree ≤ count) where
         starting-is (nodesIn count ws) place i (omega arith) (λ m. start-at i l ∙ sym (ap (λ (x : Node). x .start) is) ∙ e) (λ j m q. b j m (sym (start-at j (omega arith)) ∙ q))
 
   pub linear-ends : {i : ℕ} → NoneBefore ws place i → i ≡ count → count ≡ rowStarting (nodesIn count ws) place
-  linear-ends {i} b e = let c = nodes-in-length ws count in starting-is (nodesIn count ws) place count (omega arith) (λ m. absurd (omega arith)) (λ j m q. b j (omega arith) (sym (start-at j (omega arith)) ∙ q))
+  linear-ends {i} b e = let c = nodes-in-length ws count in starting-is (nodesIn count ws) place count (omega arith)
+      (λ m. absurd (omega arith)) (λ j m q. b j (omega arith) (sym (start-at j (omega arith)) ∙ q))
 
 -- ---- what is taken
 
@@ -161,7 +163,8 @@ module _ (ws : List ℕ) (count place end : ℕ) where
 
   module _ {i j taken : ℕ} (w : TakenTo j taken) (next : j ≡ i + 1) (l : i < count) {r : Node} (is : r ≡ nodeFrom ws (i * nodeWidth)) where
     here-is : takenFrom (drop i (nodesIn count ws)) place end ≡ takenFrom (r ∷ drop (i + 1) (nodesIn count ws)) place end
-    here-is = let c = nodes-in-length ws count in ap (λ v. takenFrom v place end) (row-of (nodesIn count ws) i (omega arith) ∙ ap (λ (x : Node). x ∷ drop (i + 1) (nodesIn count ws)) (row-is ws count i l is))
+    here-is = let c = nodes-in-length ws count in ap (λ v. takenFrom v place end)
+        (row-of (nodesIn count ws) i (omega arith) ∙ ap (λ (x : Node). x ∷ drop (i + 1) (nodesIn count ws)) (row-is ws count i l is))
 
     rest-is : taken ≡ takenFrom (drop (i + 1) (nodesIn count ws)) place end
     rest-is = w ∙ ap (λ v. takenFrom (drop v (nodesIn count ws)) place end) next
@@ -183,7 +186,8 @@ module _ (ws : List ℕ) (count place end : ℕ) where
     taken-other n = rest-is ∙ sym (here-is ∙ rw (ne-eqb _ _ n) refl)
 
 -- rows that are not detached take nothing
-pub taken-all : (ns : List Node) (tree place end : ℕ) → tree ≤ length ns → ((i : ℕ) → i < tree → nodeAt ns i .detached ≡ 0) → takenFrom (drop tree ns) place end ≡ takenFrom ns place end
+pub taken-all : (ns : List Node) (tree place end : ℕ) → tree ≤ length ns → ((i : ℕ) → i < tree → nodeAt ns i .detached ≡ 0) → takenFrom
+    (drop tree ns) place end ≡ takenFrom ns place end
 unfolding takenFrom
 taken-all ns zero place end l a = refl
 taken-all [] (suc tree) place end l a = absurd (omega arith)
@@ -193,4 +197,5 @@ taken-all (r ∷ ns) (suc tree) place end l a =
 
 pub taken-done : (ws : List ℕ) (count tree place end i : ℕ) → i ≡ tree → tree ≤ count → ((j : ℕ) → j < tree → nodeAt (nodesIn count ws) j .detached ≡ 0)
     → takenFrom (drop i (nodesIn count ws)) place end ≡ takenFrom (nodesIn count ws) place end
-taken-done ws count tree place end i e l a = let c = nodes-in-length ws count in ap (λ v. takenFrom (drop v (nodesIn count ws)) place end) e ∙ taken-all (nodesIn count ws) tree place end (omega arith) a
+taken-done ws count tree place end i e l a = let c = nodes-in-length ws count in ap (λ v. takenFrom (drop v (nodesIn count ws)) place end) e
+    ∙ taken-all (nodesIn count ws) tree place end (omega arith) a

@@ -17,12 +17,12 @@ use Rattle.cursor.proofs.Laws.{rows-on}
 use Rattle.header.specs.Header.{Header}
 use Rattle.metadata.specs.declared.Limits.{Limits}
 use Rattle.metadata.specs.declared.Made.{Made}
-use Rattle.tree.specs.Reading.{nodeOf, nodesOf, Result, good, follow, detachedAt, context, rows, readFile}
+use Rattle.tree.specs.Reading.{nodeOf, nodesOf, good, follow, detachedAt, context, rows, readFile}
 use Rattle.tree.specs.Rows.{nodeAt, treeRows, Rising}
 use Rattle.tree.specs.Told.{TreeFirst}
 use Rattle.tree.proofs.Starts.{detached-row, tree-rises, tree-attached}
 use Rattle.tree.proofs.Shown.{part-is, header-of}
-use Rattle.tree.proofs.Follow.{treeOf, target, Reached, known, added, followed, ReadAs, read-back}
+use Rattle.tree.proofs.Follow.{treeOf, target, Reached, known, added, followed, read-back}
 
 -- ---- of any rows
 
@@ -40,7 +40,8 @@ unfolding treeRows
 attached [] i l = absurd (omega arith)
 attached (r ∷ ns) i l = by (eqb (r .detached) 0) refl (attached ns) i l
   where
-    by : (b : Bool) → eqb (r .detached) 0 ≡ b → ((j : ℕ) → j < treeRows ns → nodeAt ns j .detached ≡ 0) → (i : ℕ) → i < (cond b (suc (treeRows ns)) 0) → nodeAt (r ∷ ns) i .detached ≡ 0
+    by : (b : Bool) → eqb (r .detached) 0 ≡ b → ((j : ℕ) → j < treeRows ns → nodeAt ns j .detached ≡ 0) → (i : ℕ) → i <
+        (cond b (suc (treeRows ns)) 0) → nodeAt (r ∷ ns) i .detached ≡ 0
     by true e rest zero l = eqb-true _ _ e
     by true e rest (suc i) l = rest i (omega arith)
     by false e rest i l = absurd (omega arith)
@@ -92,8 +93,10 @@ module _ (lim : Limits) (f : List ℕ) (h : Header) where
       }
 
   -- after all rows were followed
-  pub tree-followed : {tree : ℕ} (k i : ℕ) (log : Events) {log′ : Events} → h .extent .start ≤ length f → TreeFirst tree log → follow k lim f h i (good log) ≡ good log′ → TreeFirst tree log′
-  tree-followed {tree} k i log z t e = followed lim f h (λ _ log. TreeFirst tree log) (λ i log log′ s l r. tree-still z s r) k i (good log) (λ v q. subst (TreeFirst tree) (same q) t) e .1
+  pub tree-followed : {tree : ℕ} (k i : ℕ) (log : Events) {log′ : Events} → h .extent .start ≤ length f → TreeFirst tree log → follow k lim f
+      h i (good log) ≡ good log′ → TreeFirst tree log′
+  tree-followed {tree} k i log z t e = followed lim f h (λ _ log. TreeFirst tree log) (λ i log log′ s l r. tree-still z s r) k i (good log)
+      (λ v q. subst (TreeFirst tree) (same q) t) e .1
     where
       same : {a b : Events} → good a ≡ good b → a ≡ b
       same x = cc

@@ -1,20 +1,17 @@
 -- The ways through the reading of a file: what each exit of the code comes to, answer and both tables.
 -- Assumes nothing.
 use mathlib.Core.Path.{_≡_, refl, sym, ap, ap₂, _∙_, subst}
-use mathlib.Core.List.{List, [], _∷_, _++_}
-use Prim.Native.Nat.{ℕ, zero, suc, _+_, _*_, _-_, _/_, _^_, _≤_, _<_, min}
+use mathlib.Core.List.{List, _++_}
+use Prim.Native.Nat.{ℕ, zero, _+_, _*_, _-_, _^_, _≤_, _<_}
 use native.Mathlib.Nat.{zero-add}
 use native.Mathlib.Omega.{arith}
 use lib.ListN.{length, replicate, take, drop}
-use lib.Seq.{take-all}
-use Rattle.cursor.specs.Machine.{Out, ok, refused, Event, seen, passed, run, trace, exec, puts, rowsOf}
-use Rattle.cursor.specs.Rows.{Part, nodeRow, itemRow, plain, Events}
+use Rattle.cursor.specs.Machine.{Out, ok, refused, run, trace, exec, puts}
+use Rattle.cursor.specs.Rows.{Events}
 use Rattle.cursor.specs.declared.Cursor.{Cursor}
 use Rattle.cursor.specs.declared.FilePlace.{FilePlace}
-use Rattle.cursor.specs.declared.Node.{Node}
-use Rattle.cursor.specs.declared.Item.{Item}
 use Rattle.cursor.proofs.Laws.{ran}
-use Rattle.cursor.proofs.Wp.{All, at-end}
+use Rattle.cursor.proofs.Wp.{at-end}
 use Rattle.cursor.proofs.Leaves.{any-free}
 use Rattle.cursor.proofs.Quiet.{still, exec-puts}
 use Rattle.header.specs.Header.{Header, header}
@@ -29,7 +26,6 @@ use Rattle.metadata.specs.declared.Limits.{Limits}
 use Rattle.metadata.specs.declared.Made.{Made}
 use Rattle.metadata.specs.declared.Walked.{Walked}
 use Rattle.metadata.specs.declared.Walked.the-variants.{Done, Refused}
-use Rattle.metadata.proofs.Ends.{Nothing, Inside}
 use Rattle.metadata.proofs.Gives.{done, stopped, fitting}
 use Rattle.tree.specs.Tree.{tree}
 use Rattle.tree.specs.Reading.{nodesOf, itemsOf, allNodes, allItems, Result, good, bad, Reading, rows, refusal, logged, follow, reading, context, readTree, readFile, readOf, answerOf, nodeTable, itemTable}
@@ -74,12 +70,14 @@ module _ (file t u : List ℕ) where
   abbrev pub SaysOf : Reading → Read → List ℕ → List ℕ → Type 0
   SaysOf o a t′ u′ = (a ≡ readOf o) × (t′ ≡ nodeTable (length t) o) × (u′ ≡ itemTable (length u) o)
 
-  pub whole-header : {t′ u′ : List ℕ} {n : ℕ} {p : FilePlace} → t′ ≡ replicate (length t) 0 → u′ ≡ replicate (length u) 0 → run (header (length file)) file 0 ≡ refused n (p .0) → SaysOf (readFile (limits (length t) (length u)) file) (read.Refused n p) t′ u′
+  pub whole-header : {t′ u′ : List ℕ} {n : ℕ} {p : FilePlace} → t′ ≡ replicate (length t) 0 → u′ ≡ replicate (length u) 0 → run
+      (header (length file)) file 0 ≡ refused n (p .0) → SaysOf (readFile (limits (length t) (length u)) file) (read.Refused n p) t′ u′
   unfolding readFile readTree readOf nodeTable itemTable
   whole-header zt zu e = simp e (refl, zt, zu)
 
   -- behind a header
-  pub whole-behind : {h : Header} {q : ℕ} → run (header (length file)) file 0 ≡ ok h q → {a : Read} {t′ u′ : List ℕ} → SaysOf (readTree (limits (length t) (length u)) file (ok h q)) a t′ u′ → SaysOf (readFile (limits (length t) (length u)) file) a t′ u′
+  pub whole-behind : {h : Header} {q : ℕ} → run (header (length file)) file 0 ≡ ok h q → {a : Read} {t′ u′ : List ℕ} → SaysOf
+      (readTree (limits (length t) (length u)) file (ok h q)) a t′ u′ → SaysOf (readFile (limits (length t) (length u)) file) a t′ u′
   unfolding readFile
   whole-behind e s = rw e s
 
@@ -102,7 +100,9 @@ module _ (file t u : List ℕ) where
     unfolding readTree logged reading
     whole-refusal {n} {p} e = rw (e, bad-is room file h 0 (room .nodes) n p) refl
 
-    module _ {t′ u′ : List ℕ} {lim : Limits} (is : lim ≡ room) {r : Walked} (g : Gives lim r t′ u′ (exec put (treeOf lim (length file) h) file (h .extent .start) start)) (lt : length t′ ≡ length t) (lu : length u′ ≡ length u) where
+    module _ {t′ u′ : List ℕ} {lim : Limits} (is : lim ≡ room) {r : Walked}
+        (g : Gives lim r t′ u′ (exec put (treeOf lim (length file) h) file (h .extent .start) start)) (lt : length t′ ≡ length t)
+        (lu : length u′ ≡ length u) where
       gives : Gives room r t′ u′ (exec put (treeOf room (length file) h) file (h .extent .start) start)
       gives = rw is at g
 
@@ -131,7 +131,13 @@ module _ (file t u : List ℕ) where
           }
 
       pub whole-stands : {m : Made} {c : Cursor} → r ≡ Done m c → (σ : State) × (log : Events) × Stands lim (length file) σ log (m .nodes) t′ u′ m
-      whole-stands {m} d = (start, trace (treeOf room (length file) h) file (h .extent .start), subst (λ v. Stands v (length file) start (trace (treeOf room (length file) h) file (h .extent .start)) (m .nodes) t′ u′ m) (sym is) (whole-stand d))
+      whole-stands {m} d = (
+        start,
+        trace (treeOf room (length file) h) file (h .extent .start),
+        subst
+            (λ v. Stands v (length file) start (trace (treeOf room (length file) h) file (h .extent .start)) (m .nodes) t′ u′ m) (sym is)
+            (whole-stand d),
+      )
 
       pub whole-refused : {t‴ u‴ : List ℕ} {n : ℕ} {p : FilePlace} → r ≡ Refused n p → t‴ ≡ replicate (length t′) 0 → u‴ ≡ replicate (length u′) 0 → Says (read.Refused n p) t‴ u‴
       unfolding readOf nodeTable itemTable
@@ -141,7 +147,8 @@ module _ (file t u : List ℕ) where
 
       -- after the rows were followed
       module _ {m : Made} {c : Cursor} (d : r ≡ Done m c) {r′ : Walked} {t″ u″ : List ℕ}
-          (k : (σ : State) (log : Events) → Stands lim (length file) σ log (m .nodes) t′ u′ m → Leaves lim σ r′ t″ u″ (follow (lim .nodes) lim file h 0 (good log))) (lt′ : length t″ ≡ length t′) (lu′ : length u″ ≡ length u′) where
+          (k : (σ : State) (log : Events) → Stands lim (length file) σ log (m .nodes) t′ u′ m → Leaves lim σ r′ t″ u″
+          (follow (lim .nodes) lim file h 0 (good log))) (lt′ : length t″ ≡ length t′) (lu′ : length u″ ≡ length u′) where
         left-is : Leaves room start r′ t″ u″ (follow (room .nodes) room file h 0 (good (trace (treeOf room (length file) h) file (h .extent .start))))
         left-is = (rw is at k) start (trace (treeOf room (length file) h) file (h .extent .start)) (whole-stand d)
 
@@ -150,20 +157,43 @@ module _ (file t u : List ℕ) where
 
         pub whole-lost : {t‴ u‴ : List ℕ} {n : ℕ} {p : FilePlace} → r′ ≡ Refused n p → t‴ ≡ replicate (length t″) 0 → u‴ ≡ replicate (length u″) 0 → Says (read.Refused n p) t‴ u‴
         unfolding readOf nodeTable itemTable reading
-        whole-lost {t‴} {u‴} {n} {p} e ct cu = by (follow (room .nodes) room file h 0 (good (trace (treeOf room (length file) h) file (h .extent .start)))) (whole-log (ran-tree d)) (ap (λ v. said v t″ u″) (sym e) ∙ left-is .answer)
+        whole-lost {t‴} {u‴} {n} {p} e ct cu = by
+            (follow (room .nodes) room file h 0 (good (trace (treeOf room (length file) h) file (h .extent .start)))) (whole-log (ran-tree d))
+            (ap (λ v. said v t″ u″) (sym e) ∙ left-is .answer)
           where
             by : (o : Result Events) → readTree room file (ok h q) ≡ reading h o → bad n (p .0) ≡ left start o → Says (read.Refused n p) t‴ u‴
             by (good log) x y = let z : _≡_ {A = ℕ} 0 1 = cc in absurd (omega arith)
-            by (bad a b) x y = let v : n ≡ a = cc in let w : p .0 ≡ b = cc in rw (x, ← v, ← w) (refl, ct ∙ ap (λ i. replicate i 0) (lt′ ∙ lt), cu ∙ ap (λ i. replicate i 0) (lu′ ∙ lu))
+            by (bad a b) x y = let v : n ≡ a = cc in let w : p .0 ≡ b = cc in rw (x, ← v, ← w)
+                (refl, ct ∙ ap (λ i. replicate i 0) (lt′ ∙ lt), cu ∙ ap (λ i. replicate i 0) (lu′ ∙ lu))
 
-        pub whole-good : {t‴ u‴ : List ℕ} {n : Made} {p : Cursor} → r′ ≡ Done n p → t‴ ≡ take (n .nodes * nodeWidth) t″ ++ replicate (length t″ - n .nodes * nodeWidth) 0 → u‴ ≡ take (n .items * itemWidth) u″ ++ replicate (length u″ - n .items * itemWidth) 0
-            → Says (read.Is (record { version = h .version; edition = record { kind = h .edition .type; revision = h .edition .revision }; headerEnd = record { 0 = h .extent .end }; tree = m .nodes; nodes = n .nodes; items = n .items })) t‴ u‴
+        pub whole-good : {t‴ u‴ : List ℕ} {n : Made} {p : Cursor} → r′ ≡ Done n p → t‴ ≡ take (n .nodes * nodeWidth) t″ ++ replicate
+            (length t″ - n .nodes * nodeWidth) 0 → u‴ ≡ take (n .items * itemWidth) u″ ++ replicate (length u″ - n .items * itemWidth) 0
+            → Says (read.Is (record {
+              version = h .version;
+              edition = record { kind = h .edition .type; revision = h .edition .revision };
+              headerEnd =
+                  record { 0 = h .extent .end };
+              tree = m .nodes;
+              nodes = n .nodes;
+              items = n .items;
+            })) t‴ u‴
         unfolding readOf nodeTable itemTable reading
         whole-good {t‴} {u‴} {n} {p} e ct cu =
-            by (follow (room .nodes) room file h 0 (good (trace (treeOf room (length file) h) file (h .extent .start)))) refl (whole-log (ran-tree d)) (ap (λ v. said v t″ u″) (sym e) ∙ left-is .answer) (subst (Fits room) e (left-is .fits))
+            by (follow (room .nodes) room file h 0 (good (trace (treeOf room (length file) h) file (h .extent .start)))) refl (whole-log (ran-tree d))
+            (ap (λ v. said v t″ u″) (sym e) ∙ left-is .answer) (subst (Fits room) e (left-is .fits))
           where
-            by : (o : Result Events) → follow (room .nodes) room file h 0 (good (trace (treeOf room (length file) h) file (h .extent .start))) ≡ o → readTree room file (ok h q) ≡ reading h o → good (state t″ u″ n) ≡ left start o
-                → (n .nodes ≤ room .nodes) × (n .items ≤ room .items) → Says (read.Is (record { version = h .version; edition = record { kind = h .edition .type; revision = h .edition .revision }; headerEnd = record { 0 = h .extent .end }; tree = m .nodes; nodes = n .nodes; items = n .items })) t‴ u‴
+            by : (o : Result Events) → follow (room .nodes) room file h 0 (good (trace (treeOf room (length file) h) file (h .extent .start))) ≡ o →
+                readTree room file (ok h q) ≡ reading h o → good (state t″ u″ n) ≡ left start o
+                → (n .nodes ≤ room .nodes) × (n .items ≤ room .items) → Says
+                (read.Is (record {
+                  version = h .version;
+                  edition = record { kind = h .edition .type; revision = h .edition .revision };
+                  headerEnd =
+                      record { 0 = h .extent .end };
+                  tree = m .nodes;
+                  nodes = n .nodes;
+                  items = n .items;
+                })) t‴ u‴
             by (bad a b) q x y fits = let z : _≡_ {A = ℕ} 0 1 = cc in absurd (omega arith)
             by (good log) q x y fits =
                 let first = tree-followed room file h (room .nodes) 0 _ (omega arith) (whole-stand d .first) q in
@@ -172,16 +202,35 @@ module _ (file t u : List ℕ) where
                 let ci : n .items ≡ length (itemsOf log) = sym (ap (λ (σ : State). σ .made .items) z) ∙ zero-add _ in
                 let ln = nodes-length (nodesOf log) in
                 let li = items-length (itemsOf log) in
-                let tn : t″ ≡ allNodes (nodesOf log) ++ drop (length (allNodes (nodesOf log))) t = sym (ap (λ (σ : State). σ .nodes) z) ∙ sets-front t (allNodes (nodesOf log)) (omega arith) in
-                let ui : u″ ≡ allItems (itemsOf log) ++ drop (length (allItems (itemsOf log))) u = sym (ap (λ (σ : State). σ .items) z) ∙ sets-front u (allItems (itemsOf log)) (omega arith) in
+                let tn : t″ ≡ allNodes (nodesOf log) ++ drop (length (allNodes (nodesOf log))) t = sym (ap (λ (σ : State). σ .nodes) z) ∙ sets-front t
+                (allNodes (nodesOf log)) (omega arith) in
+                let ui : u″ ≡ allItems (itemsOf log) ++ drop (length (allItems (itemsOf log))) u = sym (ap (λ (σ : State). σ .items) z) ∙ sets-front u
+                (allItems (itemsOf log)) (omega arith) in
                 rw x (
-                  ap (λ (a : ℕ). read.Is (record { version = h .version; edition = record { kind = h .edition .type; revision = h .edition .revision }; headerEnd = record { 0 = h .extent .end }; tree = a; nodes = n .nodes; items = n .items })) (sym (first .tree-is)) ∙ ap₂ (λ (a : ℕ) (b : ℕ). read.Is (record { version = h .version; edition = record { kind = h .edition .type; revision = h .edition .revision }; headerEnd = record { 0 = h .extent .end }; tree = treeRows (nodesOf log); nodes = a; items = b })) cn ci,
+                  ap (λ (a : ℕ). read.Is (record {
+                    version = h .version;
+                    edition = record { kind = h .edition .type; revision = h .edition .revision };
+                    headerEnd = record { 0 = h .extent .end };
+                    tree = a;
+                    nodes = n .nodes;
+                    items = n .items;
+                  })) (sym (first .tree-is)) ∙ ap₂
+                      (λ (a : ℕ) (b : ℕ). read.Is (record {
+                        version = h .version;
+                        edition = record { kind = h .edition .type; revision = h .edition .revision };
+                        headerEnd = record
+                            { 0 = h .extent .end };
+                        tree = treeRows (nodesOf log);
+                        nodes = a;
+                        items = b;
+                      })) cn ci,
                   ct ∙ padded-behind (allNodes (nodesOf log)) _ tn (ap (λ a. a * nodeWidth) cn ∙ sym ln) ∙ ap (λ a. padded a (allNodes (nodesOf log))) (lt′ ∙ lt),
                   cu ∙ padded-behind (allItems (itemsOf log)) _ ui (ap (λ a. a * itemWidth) ci ∙ sym li) ∙ ap (λ a. padded a (allItems (itemsOf log))) (lu′ ∙ lu),
                 )
 
 -- what a header that was read says of the tree's extent
-pub whole-within : (file : List ℕ) {h : Header} {q : ℕ} → run (header (length file)) file 0 ≡ ok h q → (h .extent .start ≤ h .extent .last) × (h .extent .last < length file) × (length file < 2 ^ 28)
+pub whole-within : (file : List ℕ) {h : Header} {q : ℕ} → run (header (length file)) file 0 ≡ ok h q → (h .extent .start ≤ h .extent .last)
+    × (h .extent .last < length file) × (length file < 2 ^ 28)
 whole-within file e = let w = at-end any-free file (header-on (length file)) e in (w .2, w .3, w .4)
 
 pub whole-room : {lim : Limits} {n i : ℕ} → lim ≡ limits n i → (lim .nodes * nodeWidth ≤ n) × (lim .items * itemWidth ≤ i) × (lim .nodes ≤ mostNodes) × (lim .items ≤ mostItems)

@@ -128,7 +128,8 @@ rows-few lim f {h} {ns} {is} e =
     let w = header-of a in
     let s = all-sound lim f h a in
     let hs = trace (header (length f)) f 0 in
-    let i : (i : ℕ) → i < length (nodesOf (a .log)) → NodeIn (length f) (nodeAt (nodesOf (a .log)) i) = subst (λ v. (i : ℕ) → i < length v → NodeIn (length f) (nodeAt v i)) (sym (a .nodes-are)) (accepted lim f e .nodes-inside) in
+    let i : (i : ℕ) → i < length (nodesOf (a .log)) → NodeIn (length f) (nodeAt (nodesOf (a .log)) i) = subst
+    (λ v. (i : ℕ) → i < length v → NodeIn (length f) (nodeAt v i)) (sym (a .nodes-are)) (accepted lim f e .nodes-inside) in
     let m = no-more (length f) (hs ++ a .log) (s .apart) (λ k c. inside (nodesOf (a .log)) i w k (s .within k c)) in
     let o = spent-on hs (a .log) in
     let l = log-few a .1 in
@@ -136,7 +137,8 @@ rows-few lim f {h} {ns} {is} e =
     omega arith
   where
     inside : (ns : List Node) {next : ℕ} → ((i : ℕ) → i < length ns → NodeIn (length f) (nodeAt ns i))
-        → (next ≡ h .extent .end) × (next ≤ h .extent .start) × (h .extent .start ≤ h .extent .last) × (h .extent .last < length f) × (length f < 2 ^ 28) → (k : ℕ) → Parts lim f h ns k → k < length f
+        → (next ≡ h .extent .end) × (next ≤ h .extent .start) × (h .extent .start ≤ h .extent .last) × (h .extent .last < length f) ×
+        (length f < 2 ^ 28) → (k : ℕ) → Parts lim f h ns k → k < length f
     inside ns i w k (inl c) = omega arith
     inside ns i w k (inr (inl c)) = omega arith
     inside ns i w k (inr (inr c)) = taken-in (length f) ns i k c
@@ -182,14 +184,16 @@ each-spread n k (r ∷ ns) l = each-run n (r .rows) k (spread (k + 1) ns) (omega
 -- a node's row counts no more item rows than there are
 each-rows : (n k : ℕ) (ns : List Node) → length (spread k ns) ≤ n → Each (λ r. r .rows ≤ n) ns
 each-rows n k [] l = tt
-each-rows n k (r ∷ ns) l = let a = length-append (replicate (r .rows) k) (spread (k + 1) ns) in let b = length-replicate (r .rows) k in (omega arith, each-rows n (k + 1) ns (omega arith))
+each-rows n k (r ∷ ns) l = let a = length-append (replicate (r .rows) k) (spread (k + 1) ns) in let b = length-replicate (r .rows) k
+    in (omega arith, each-rows n (k + 1) ns (omega arith))
 
 map-length : {A B : Type 0} (g : A → B) (xs : List A) → length (map g xs) ≡ length xs
 map-length g [] = refl
 map-length g (x ∷ xs) = ap suc (map-length g xs)
 
 module _ (size : ℕ) (l : size < 2 ^ 28) where
-  leads : (r : Node) → ((r .reference ≡ 3) → (r .target < 2 ^ 28) × (r .extent ≡ 0)) → (r .reference ≡ 3) ⊎ (r .target + r .extent ≤ size) → (r .target < 2 ^ 28) × (r .extent < 2 ^ 28)
+  leads : (r : Node) → ((r .reference ≡ 3) → (r .target < 2 ^ 28) × (r .extent ≡ 0)) → (r .reference ≡ 3) ⊎ (r .target + r .extent ≤ size) →
+      (r .target < 2 ^ 28) × (r .extent < 2 ^ 28)
   leads r c (inl e) = let (t, x) = c e in (t, omega arith)
   leads r c (inr k) = (omega arith, omega arith)
 
@@ -199,14 +203,16 @@ module _ (size : ℕ) (l : size < 2 ^ 28) where
       (omega arith, (omega arith, (omega arith, (c, (p, (omega arith, (omega arith, (x, (y, (omega arith, (omega arith, (q, (omega arith, tt)))))))))))))
 
   item-below : (most : ℕ) → most < 2 ^ 28 → (r : Item) → SmallItem most r → ItemIn size r → r .node < 2 ^ 28 → Below (itemWords r) × Named size r
-  item-below most m r (a, v, d, f, inl (k, s, z)) (i, j) n = ((n, (omega arith, (omega arith, (s, (omega arith, (omega arith, (d, (f, (omega arith, (omega arith, tt)))))))))), inl k)
+  item-below most m r (a, v, d, f, inl (k, s, z)) (i, j) n =
+      ((n, (omega arith, (omega arith, (s, (omega arith, (omega arith, (d, (f, (omega arith, (omega arith, tt)))))))))), inl k)
   item-below most m r (a, v, d, f, inr (k, s)) i n =
       let j = name-in r i k in
       let c = i .0 in
       ((n, (omega arith, (omega arith, (omega arith, (omega arith, (omega arith, (d, (f, (omega arith, (omega arith, tt)))))))))), inr (k, s, j))
 
 -- tables of any size: those that just hold the rows would do
-just : (lim : Limits) (f : List ℕ) {h : Header} {ns : List Node} {is : List Item} → readFile lim f ≡ rows h ns is → readFile (record { nodes = length ns; items = length is }) f ≡ rows h ns is
+just : (lim : Limits) (f : List ℕ) {h : Header} {ns : List Node} {is : List Item} → readFile lim f ≡ rows h ns is → readFile
+    (record { nodes = length ns; items = length is }) f ≡ rows h ns is
 just lim f e = let (_, a, b) = to-wider (no-less lim) f e in to-narrower (record { nodes = a; items = b }) f e (omega arith) (omega arith)
 
 -- The law: every word of every row of an accepted file is below 2 ^ 28, its length and the counts of its rows too, and no custom name is empty
@@ -223,7 +229,8 @@ small-rows lim f {h} {ns} {is} e =
       size = s;
       node-count = omega arith;
       item-count = omega arith;
-      nodes = each-both SmallNode (λ r. NodeIn (length f) r × (r .parent < 2 ^ 28) × (r .rows < 2 ^ 28)) (λ r. Below (nodeWords r)) ns (λ r x y. node-below (length f) s r x (y .0) (y .1) (y .2)) (nodes-read a)
+      nodes = each-both SmallNode (λ r. NodeIn (length f) r × (r .parent < 2 ^ 28) × (r .rows < 2 ^ 28)) (λ r. Below (nodeWords r)) ns
+          (λ r x y. node-below (length f) s r x (y .0) (y .1) (y .2)) (nodes-read a)
           (each-both (λ r. NodeIn (length f) r × (r .parent < 2 ^ 28)) (λ r. r .rows ≤ length is) _ ns (λ r x y. (x .0, x .1, omega arith))
           (each-by _ noNode ns (λ i l. (c .nodes-inside i l, let z = o .parents-first i l in omega arith))) (each-rows (length is) 0 ns (omega arith)));
       items = each-both (SmallItem (length is)) (λ r. ItemIn (length f) r × (r .node < length ns)) (λ r. Below (itemWords r) × Named (length f) r) is

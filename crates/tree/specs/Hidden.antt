@@ -1,6 +1,6 @@
 -- Hidden contents, and the places at which demand 3 lets two files differ: hidden data, inline data of file nodes, and bytes of no part that is read.
 -- Assumes nothing.
-use mathlib.Core.Bool.{Bool, true, false, not, _&&_, _||_}
+use mathlib.Core.Bool.{Bool, not, _&&_, _||_}
 use mathlib.Core.List.{List}
 use mathlib.Core.Logic.{_⊎_}
 use mathlib.Core.Path.{_≡_}

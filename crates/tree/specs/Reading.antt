@@ -1,7 +1,7 @@
 -- What reading a file gives: its header, its rows, and the tables that hold them; or a refusal.
 -- Assumes nothing.
 use mathlib.Core.List.{List, [], _∷_, _++_}
-use mathlib.Core.Bool.{Bool, true, false, cond, not, _&&_, _||_}
+use mathlib.Core.Bool.{Bool, false, cond, not, _&&_, _||_}
 use Prim.Native.Nat.{ℕ, zero, suc, _+_, min, max}
 use lib.Dec.{eqb, ltb, leb}
 use lib.ListN.{length, replicate}

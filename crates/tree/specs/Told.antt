@@ -6,7 +6,6 @@ use Prim.Native.Nat.{ℕ, _+_, _*_, _^_, _≤_, _<_}
 use lib.ListN.{length, take}
 use Rattle.cursor.specs.Machine.{puts}
 use Rattle.cursor.specs.Rows.{Events}
-use Rattle.cursor.specs.declared.Node.{Node}
 use Rattle.header.specs.declared.Header.{Header}
 use Rattle.metadata.specs.Tables.{State, state, put, nodeWidth, itemWidth}
 use Rattle.metadata.specs.declared.Limits.{Limits}

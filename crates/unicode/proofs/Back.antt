@@ -4,7 +4,7 @@ use mathlib.Core.Path.{_≡_, refl, sym, ap, _∙_, subst}
 use mathlib.Core.Logic.{_⊎_, inl, inr}
 use mathlib.Core.Bool.{Bool, true, false, cond}
 use mathlib.Core.List.{List, [], _∷_, _++_, append-nil}
-use Prim.Native.Nat.{ℕ, suc, _+_, _/_, _%_, _<_}
+use Prim.Native.Nat.{ℕ, suc, _/_, _%_, _<_}
 use native.Mathlib.Decide.{decLt}
 use native.Mathlib.Omega.{arith}
 use lib.Dec.{eqb}
@@ -17,7 +17,8 @@ use Rattle.unicode.proofs.Sixteen.{Scalar, char-value, units-bytes, sho
 use Rattle.unicode.proofs.Eight.{form8}
 
 -- what was written, of characters that were read
-pub written-good : (put : ℕ → List ℕ) (change : List ℕ → List ℕ) (r : Result (List ℕ)) {t : List ℕ} → written put change r ≡ good t → (cs : List ℕ) × (r ≡ good cs) × (t ≡ bytesAll put (change cs))
+pub written-good : (put : ℕ → List ℕ) (change : List ℕ → List ℕ) (r : Result (List ℕ)) {t : List ℕ} → written put change r ≡ good t →
+    (cs : List ℕ) × (r ≡ good cs) × (t ≡ bytesAll put (change cs))
 unfolding written
 written-good put change (good cs) e = (cs, refl, cc)
 written-good put change (bad n p) e = absurd (let z : _≡_ {A = ℕ} 0 1 = cc in omega arith)
@@ -129,8 +130,12 @@ there-and-back d {t} h e =
     let w = write-all form16 0 0 d h (x .1) in
     let us : List ℕ = bytesAll utf16 cs in
     let whole : d ≡ bytesOf us = w .1 ∙ all-bytes cs in
-    let q : bytesAll bytes16 (unmark cs) ≡ bytesOf (unmark us) = all-bytes (unmark cs) ∙ ap bytesOf (sym (same-mark cs (w .0))) in
-    (bytesOf (unmark us), ap toUtf16 (x .2) ∙ from-eight (unmark cs) (good-unmark cs (w .0)) ∙ ap good q, subst (λ v. ButForMark (0xFE ∷ 0xFF ∷ []) v (bytesOf (unmark us))) (sym whole) (mark-units us))
+    let q : bytesAll bytes16 (unmark cs) ≡ bytesOf (unmark us) = all-bytes (unmark cs) ∙ ap bytesOf (sym (same-mark cs (w .0))) in (
+      bytesOf (unmark us),
+      ap toUtf16 (x .2) ∙ from-eight (unmark cs) (good-unmark cs (w .0)) ∙ ap good q,
+      subst
+          (λ v. ButForMark (0xFE ∷ 0xFF ∷ []) v (bytesOf (unmark us))) (sym whole) (mark-units us),
+    )
 
 -- of characters, as UTF-8
 mark-is8 : (rest : List ℕ) → utf8 0xFEFF ++ rest ≡ 0xEF ∷ 0xBB ∷ 0xBF ∷ rest
@@ -155,5 +160,9 @@ unfolding toUtf16
 back-and-there t {d} e =
     let x = written-good bytes16 (λ cs. cs) (chars first8 0 0 t) e in
     let cs = x .0 in
-    let w = write-all form8 0 0 t tt (x .1) in
-    (bytesAll utf8 (unmark cs), ap toUtf8 (x .2) ∙ from-sixteen cs (w .0), subst (λ v. ButForMark (0xEF ∷ 0xBB ∷ 0xBF ∷ []) v (bytesAll utf8 (unmark cs))) (sym (w .1)) (mark-text cs (w .0)))
+    let w = write-all form8 0 0 t tt (x .1) in (
+      bytesAll utf8 (unmark cs),
+      ap toUtf8 (x .2) ∙ from-sixteen cs (w .0),
+      subst
+          (λ v. ButForMark (0xEF ∷ 0xBB ∷ 0xBF ∷ []) v (bytesAll utf8 (unmark cs))) (sym (w .1)) (mark-text cs (w .0)),
+    )

@@ -38,7 +38,8 @@ written-before put c (good cs) = refl
 written-before put c (bad n p) = refl
 
 -- the character at a place lies inside
-pub char-in : {Fine : List ℕ → Type 0} {first : List ℕ → Char} {own : ℕ → List ℕ} → Form Scalar Fine first own → (d : List ℕ) → Fine d → (at : ℕ) {c n : ℕ} → char c n ≡ first (drop at d) → at ≤ length d → Scalar c × (0 < n) × (at + n ≤ length d)
+pub char-in : {Fine : List ℕ → Type 0} {first : List ℕ → Char} {own : ℕ → List ℕ} → Form Scalar Fine first own → (d : List ℕ) → Fine d →
+    (at : ℕ) {c n : ℕ} → char c n ≡ first (drop at d) → at ≤ length d → Scalar c × (0 < n) × (at + n ≤ length d)
 char-in form d h at e l =
     let w = form .writes (drop at d) (fine-from form at d h) (sym e) in
     let w₁ = w .1 in
@@ -46,7 +47,8 @@ char-in form d h at e l =
     let z = length-drop at d in
     (w .0, w₁, omega arith)
 
-step : {Fine : List ℕ → Type 0} {first : List ℕ → Char} (put : ℕ → List ℕ) {own : ℕ → List ℕ} → Form Scalar Fine first own → (d : List ℕ) → Fine d → (at : ℕ) {c n : ℕ} → char c n ≡ first (drop at d)
+step : {Fine : List ℕ → Type 0} {first : List ℕ → Char} (put : ℕ → List ℕ) {own : ℕ → List ℕ} → Form Scalar Fine first own → (d : List ℕ) →
+    Fine d → (at : ℕ) {c n : ℕ} → char c n ≡ first (drop at d)
     → at < length d → converted first put at (drop at d) ≡ after (put c) (converted first put (at + n) (drop (at + n) d))
 unfolding converted
 step {first = first} put form d h at {c} {n} e l =
@@ -64,13 +66,15 @@ pub record Converting (first : List ℕ → Char) (put : ℕ → List ℕ) (d o 
   pub left : whole ≡ after done (converted first put at (drop at d))
 
 module _ {first : List ℕ → Char} {put : ℕ → List ℕ} where
-  pub conv-start : (d o : List ℕ) {base : ℕ} (at : ℕ) {whole : Result (List ℕ)} → base ≤ tooMany → at ≤ length d → whole ≡ converted first put at (drop at d) → Converting first put d o o base at base whole
+  pub conv-start : (d o : List ℕ) {base : ℕ} (at : ℕ) {whole : Result (List ℕ)} → base ≤ tooMany → at ≤ length d → whole ≡ converted first put
+      at (drop at d) → Converting first put d o o base at base whole
   conv-start d o at m l e = record { within = l; done = []; puts = counts-none o m; left = e ∙ after-none _ }
 
   pub conv-length : {d o o′ : List ℕ} {base at to : ℕ} {whole : Result (List ℕ)} → Converting first put d o o′ base at to whole → length o′ ≡ length o
   conv-length k = k .puts .long
 
-  pub conv-on : {Fine : List ℕ → Type 0} {own : ℕ → List ℕ} → Form Scalar Fine first own → (d : List ℕ) → Fine d → (at : ℕ) {c n : ℕ} → char c n ≡ first (drop at d) → {o o₁ o₂ : List ℕ} {base to to′ : ℕ} {whole : Result (List ℕ)}
+  pub conv-on : {Fine : List ℕ → Type 0} {own : ℕ → List ℕ} → Form Scalar Fine first own → (d : List ℕ) → Fine d → (at : ℕ) {c n : ℕ} → char c
+      n ≡ first (drop at d) → {o o₁ o₂ : List ℕ} {base to to′ : ℕ} {whole : Result (List ℕ)}
       → at < length d → Converting first put d o o₁ base at to whole → Counts o₁ o₂ to (put c) to′ → Converting first put d o o₂ base (at + n) to′ whole
   conv-on form d h at {c} {n} e l k p = record {
     within = let w = char-in form d h at e (omega arith) in w .2;
@@ -82,11 +86,13 @@ module _ {first : List ℕ → Char} {put : ℕ → List ℕ} where
   module _ {d o o′ : List ℕ} {base at to : ℕ} {whole : Result (List ℕ)} (k : Converting first put d o o′ base at to whole) where
     pub conv-bad : at < length d → none ≡ first (drop at d) → whole ≡ bad 26 at
     unfolding converted written after
-    conv-bad l e = let z = length-drop at d in k .left ∙ ap (λ (r : Result (List ℕ)). after (k .done) (written put (λ cs. cs) r)) (chars-bad first at (drop at d) (omega arith) (sym e))
+    conv-bad l e = let z = length-drop at d in k .left ∙ ap (λ (r : Result (List ℕ)). after (k .done) (written put (λ cs. cs) r))
+        (chars-bad first at (drop at d) (omega arith) (sym e))
 
     pub conv-end : length d ≤ at → whole ≡ good (k .done)
     unfolding converted written after bytesAll
-    conv-end l = let z = length-drop at d in k .left ∙ ap (λ (r : Result (List ℕ)). after (k .done) (written put (λ cs. cs) r)) (chars-end first at (drop at d) (omega arith)) ∙ ap good (append-nil (k .done))
+    conv-end l = let z = length-drop at d in k .left ∙ ap (λ (r : Result (List ℕ)). after (k .done) (written put (λ cs. cs) r))
+        (chars-end first at (drop at d) (omega arith)) ∙ ap good (append-nil (k .done))
 
   module _ {d o o′ : List ℕ} {at to : ℕ} {whole : Result (List ℕ)} (k : Converting first put d o o′ 0 at to whole) where
     pub conv-full : length d ≤ at → length o′ < to → fitting (length o) whole ≡ bad 22 0
@@ -184,7 +190,8 @@ module _ (d : List ℕ) (at : ℕ) (l : at < length d) (k : Checking d at) where
       let z = length-drop at d in
       record {
         within = w .2;
-        same = k .same ∙ ap isGood (chars-step first16 at (drop at d) (omega arith) (w .1) (sym e)) ∙ good-before c _ ∙ ap (λ (s : List ℕ). isGood (chars first16 0 (at + n) s)) (drop-drop n at d);
+        same = k .same ∙ ap isGood (chars-step first16 at (drop at d) (omega arith) (w .1) (sym e)) ∙ good-before c _ ∙ ap
+            (λ (s : List ℕ). isGood (chars first16 0 (at + n) s)) (drop-drop n at d);
       }
 
   pub check-bad : none ≡ first16 (drop at d) → false ≡ isGood (toUtf8 d)

@@ -94,7 +94,8 @@ module _ (n low : ℕ) where
   module _ (v : ℕ) (s : List ℕ) where
     pub tails-is : low ≤ v → Scalar v → tails 0 v n low s ≡ char v n
     unfolding tails
-    tails-is l g = let m = g .most in ⊎-elim (λ h. simp (le-leb low v l, lt-ltb v 0xD800 h)) (λ h. simp (le-leb low v l, le-ltb v 0xD800 (omega arith), le-leb 0xE000 v h, lt-ltb v 0x110000 m)) (g .apart)
+    tails-is l g = let m = g .most in ⊎-elim (λ h. simp (le-leb low v l, lt-ltb v 0xD800 h))
+        (λ h. simp (le-leb low v l, le-ltb v 0xD800 (omega arith), le-leb 0xE000 v h, lt-ltb v 0x110000 m)) (g .apart)
 
     pub tails-short : v < low → tails 0 v n low s ≡ none
     unfolding tails
@@ -128,7 +129,8 @@ module _ (n low : ℕ) where
         given g l = let x = sym (tails-is l g) ∙ e in (g, l, char-value x, char-size x)
 
   -- one more byte of six bits
-  pub tails-more : (k v : ℕ) (s : List ℕ) {c m : ℕ} → tails (suc k) v n low s ≡ char c m → (b : ℕ) × (t : List ℕ) × (s ≡ b ∷ t) × (0x80 ≤ b) × (b < 0xC0) × (tails k (v * 64 + (b - 0x80)) n low t ≡ char c m)
+  pub tails-more : (k v : ℕ) (s : List ℕ) {c m : ℕ} → tails (suc k) v n low s ≡ char c m → (b : ℕ) × (t : List ℕ) × (s ≡ b ∷ t) × (0x80 ≤ b) ×
+      (b < 0xC0) × (tails k (v * 64 + (b - 0x80)) n low t ≡ char c m)
   unfolding tails
   tails-more k v [] e = never e
   tails-more k v (b ∷ s) e = elim (decLt b 0x80) [
@@ -190,7 +192,8 @@ some8 c = elim (decLt c 0x80) [
 
 -- ---- what is read has those bytes
 
-from-two : (a : ℕ) (s : List ℕ) {c n : ℕ} → 0xC0 ≤ a → a < 0xE0 → tails 1 (a - 0xC0) 2 0x80 s ≡ char c n → Scalar c × (0 < n) × (n ≤ length (a ∷ s)) × (a ∷ s ≡ utf8 c ++ drop n (a ∷ s))
+from-two : (a : ℕ) (s : List ℕ) {c n : ℕ} → 0xC0 ≤ a → a < 0xE0 → tails 1 (a - 0xC0) 2 0x80 s ≡ char c n → Scalar c × (0 < n) ×
+    (n ≤ length (a ∷ s)) × (a ∷ s ≡ utf8 c ++ drop n (a ∷ s))
 from-two a s {c} {n} l m e =
     let x = tails-more 2 0x80 0 (a - 0xC0) s e in
     let b = x .0 in
@@ -207,7 +210,8 @@ from-two a s {c} {n} l m e =
     let q₂ : tail c ≡ b = omega arith in
     rw (z, q, two8 c (omega arith) (omega arith), q₁, q₂) (rw v g, omega arith, omega arith, refl)
 
-from-three : (a : ℕ) (s : List ℕ) {c n : ℕ} → 0xE0 ≤ a → a < 0xF0 → tails 2 (a - 0xE0) 3 0x800 s ≡ char c n → Scalar c × (0 < n) × (n ≤ length (a ∷ s)) × (a ∷ s ≡ utf8 c ++ drop n (a ∷ s))
+from-three : (a : ℕ) (s : List ℕ) {c n : ℕ} → 0xE0 ≤ a → a < 0xF0 → tails 2 (a - 0xE0) 3 0x800 s ≡ char c n → Scalar c × (0 < n) ×
+    (n ≤ length (a ∷ s)) × (a ∷ s ≡ utf8 c ++ drop n (a ∷ s))
 from-three a s {c} {n} l m e =
     let x = tails-more 3 0x800 1 (a - 0xE0) s e in
     let b = x .0 in
@@ -227,7 +231,8 @@ from-three a s {c} {n} l m e =
     let q₃ : tail c ≡ d = omega arith in
     rw (z, x .2, x′ .2, three8 c (omega arith) (omega arith), q₁, q₂, q₃) (rw v g, omega arith, omega arith, refl)
 
-from-four : (a : ℕ) (s : List ℕ) {c n : ℕ} → 0xF0 ≤ a → a < 0xF8 → tails 3 (a - 0xF0) 4 0x10000 s ≡ char c n → Scalar c × (0 < n) × (n ≤ length (a ∷ s)) × (a ∷ s ≡ utf8 c ++ drop n (a ∷ s))
+from-four : (a : ℕ) (s : List ℕ) {c n : ℕ} → 0xF0 ≤ a → a < 0xF8 → tails 3 (a - 0xF0) 4 0x10000 s ≡ char c n → Scalar c × (0 < n) ×
+    (n ≤ length (a ∷ s)) × (a ∷ s ≡ utf8 c ++ drop n (a ∷ s))
 from-four a s {c} {n} l m e =
     let x = tails-more 4 0x10000 2 (a - 0xF0) s e in
     let b = x .0 in

@@ -117,7 +117,8 @@ some16 c = elim (decLt c 0x10000) [
 
 -- ---- what is read has those bytes
 
-one-unit : (h l : ℕ) (s : List ℕ) → h < 256 → l < 256 → (h * 256 + l < 0xD800) ⊎ (0xE000 ≤ h * 256 + l) → {c n : ℕ} → char (h * 256 + l) 2 ≡ char c n → Scalar c × (0 < n) × (n ≤ length (h ∷ l ∷ s)) × (h ∷ l ∷ s ≡ bytes16 c ++ drop n (h ∷ l ∷ s))
+one-unit : (h l : ℕ) (s : List ℕ) → h < 256 → l < 256 → (h * 256 + l < 0xD800) ⊎ (0xE000 ≤ h * 256 + l) → {c n : ℕ} → char (h * 256 + l) 2 ≡
+    char c n → Scalar c × (0 < n) × (n ≤ length (h ∷ l ∷ s)) × (h ∷ l ∷ s ≡ bytes16 c ++ drop n (h ∷ l ∷ s))
 unfolding bytes16 bytesOf
 one-unit h l s a b k {c} {n} e =
     let u = h * 256 + l in
@@ -128,7 +129,8 @@ one-unit h l s a b k {c} {n} e =
     rw (e₁, e₂, short16 u (omega arith), d, m) (record { most = omega arith; apart = k }, omega arith, omega arith, refl)
 
 two-units : (h l x y : ℕ) (s : List ℕ) → h < 256 → l < 256 → x < 256 → y < 256 → 0xD800 ≤ h * 256 + l → h * 256 + l < 0xDC00 → 0xDC00 ≤ x * 256 + y → x * 256 + y < 0xE000
-    → {c n : ℕ} → char (0x10000 + (h * 256 + l - 0xD800) * 1024 + (x * 256 + y - 0xDC00)) 4 ≡ char c n → Scalar c × (0 < n) × (n ≤ length (h ∷ l ∷ x ∷ y ∷ s)) × (h ∷ l ∷ x ∷ y ∷ s ≡ bytes16 c ++ drop n (h ∷ l ∷ x ∷ y ∷ s))
+    → {c n : ℕ} → char (0x10000 + (h * 256 + l - 0xD800) * 1024 + (x * 256 + y - 0xDC00)) 4 ≡ char c n → Scalar c × (0 < n) ×
+    (n ≤ length (h ∷ l ∷ x ∷ y ∷ s)) × (h ∷ l ∷ x ∷ y ∷ s ≡ bytes16 c ++ drop n (h ∷ l ∷ x ∷ y ∷ s))
 unfolding bytes16 bytesOf
 two-units h l x y s a b a′ b′ k k′ j j′ {c} {n} e =
     let e₁ : c ≡ 0x10000 + (h * 256 + l - 0xD800) * 1024 + (x * 256 + y - 0xDC00) = char-value e in
@@ -139,7 +141,8 @@ two-units h l x y s a b a′ b′ k k′ j j′ {c} {n} e =
     let q₄ : (0xDC00 + (c - 0x10000) % 1024) % 256 ≡ y = omega arith in
     rw (e₂, long16 c (omega arith), q₁, q₂, q₃, q₄) (record { most = omega arith; apart = inr (omega arith) }, omega arith, omega arith, refl)
 
-pair-writes : (h l : ℕ) (s : List ℕ) {c n : ℕ} → Bytes (h ∷ l ∷ s) → 0xD800 ≤ h * 256 + l → h * 256 + l < 0xDC00 → paired (h * 256 + l) (units s) ≡ char c n → Scalar c × (0 < n) × (n ≤ length (h ∷ l ∷ s)) × (h ∷ l ∷ s ≡ bytes16 c ++ drop n (h ∷ l ∷ s))
+pair-writes : (h l : ℕ) (s : List ℕ) {c n : ℕ} → Bytes (h ∷ l ∷ s) → 0xD800 ≤ h * 256 + l → h * 256 + l < 0xDC00 → paired (h * 256 + l)
+    (units s) ≡ char c n → Scalar c × (0 < n) × (n ≤ length (h ∷ l ∷ s)) × (h ∷ l ∷ s ≡ bytes16 c ++ drop n (h ∷ l ∷ s))
 unfolding units paired
 pair-writes h l [] z k m e = never e
 pair-writes h l (x ∷ []) z k m e = never e

@@ -38,11 +38,13 @@ small-next l h k = let f = k .few in record {
 
 module _ {s : List ℕ} {from count lead size low at left v : ℕ} (k : Tailing s from count lead size low at left v) where
   pub tails-none : 0 < left → length s ≤ at → none ≡ tails count lead size low (drop from s)
-  tails-none l m = let z = length-drop at s in let e : left ≡ suc (left - 1) = omega arith in sym (k .same ∙ ap (λ (n : ℕ). tails n v size low (drop at s)) e ∙ tails-cut size low (left - 1) v (drop at s) (omega arith))
+  tails-none l m = let z = length-drop at s in let e : left ≡ suc (left - 1) = omega arith in sym
+      (k .same ∙ ap (λ (n : ℕ). tails n v size low (drop at s)) e ∙ tails-cut size low (left - 1) v (drop at s) (omega arith))
 
   module _ (l : 0 < left) (m : at < length s) {b : ℕ} (is : b ≡ getD s at 0) where
     byte-next : tails count lead size low (drop from s) ≡ tails (suc (left - 1)) v size low (b ∷ drop (at + 1) s)
-    byte-next = let e : left ≡ suc (left - 1) = omega arith in k .same ∙ ap₂ (λ (n : ℕ) (t : List ℕ). tails n v size low t) e (byte-at s at m ∙ ap (λ (x : ℕ). x ∷ drop (at + 1) s) (sym is))
+    byte-next = let e : left ≡ suc (left - 1) = omega arith in k .same ∙ ap₂ (λ (n : ℕ) (t : List ℕ). tails n v size low t) e
+        (byte-at s at m ∙ ap (λ (x : ℕ). x ∷ drop (at + 1) s) (sym is))
 
     pub tails-low : b < 0x80 → none ≡ tails count lead size low (drop from s)
     tails-low h = sym (byte-next ∙ tails-early size low (left - 1) v b _ h)

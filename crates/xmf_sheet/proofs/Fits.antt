@@ -94,7 +94,8 @@ sheet-kept n room (good s) {text} k l z e =
     (counts n text (omega arith), ap (λ (v : List ℕ). take n v) e ∙ take-at s (replicate (room - length s) 0) n (sym k))
 sheet-kept n room (bad m q) k l z e = absurd k
 
-pub sheet-made : (room : ℕ) (f : List ℕ) (o : Reading) {text : List ℕ} {r : Written} {n : ℕ} → told r ≡ counted (ask o (write room f)) → length text ≡ room → text ≡ kept room (ask o (write room f)) → r ≡ written.Bytes n → Starts n text (lines (ask o (write room f)))
+pub sheet-made : (room : ℕ) (f : List ℕ) (o : Reading) {text : List ℕ} {r : Written} {n : ℕ} → told r ≡ counted (ask o (write room f)) →
+    length text ≡ room → text ≡ kept room (ask o (write room f)) → r ≡ written.Bytes n → Starts n text (lines (ask o (write room f)))
 sheet-made room f o {text} {r} {n} e z w k =
     let x : Result (List ℕ) = ask o (write room f) in
     let h : good n ≡ counted x = sym (ap told k) ∙ e in
@@ -116,6 +117,7 @@ pub answer-long : (f : List ℕ) → 65536 < length f → tooLong ≡ answerText
 unfolding answerText
 answer-long f l = simp (lt-ltb 65536 (length f) l)
 
-pub answer-short : (f : List ℕ) {n i room : ℕ} → fullNodes ≡ n → fullItems ≡ i → 65536 ≡ room → length f ≤ 65536 → lines (ask (readFile (limits n i) f) (write room f)) ≡ answerText f
+pub answer-short : (f : List ℕ) {n i room : ℕ} → fullNodes ≡ n → fullItems ≡ i → 65536 ≡ room → length f ≤ 65536 → lines
+    (ask (readFile (limits n i) f) (write room f)) ≡ answerText f
 unfolding answerText
 answer-short f a b c l = simp (sym a, sym b, sym c, le-ltb 65536 (length f) l)

@@ -21,7 +21,11 @@ enum-known-n : tie.Need-enum-known-n
 enum-known-n c = search needs
 
 add-result : tie.Need-add-result
-add-result c = omega (arith, number-inside nodeFrame 3 _ _ _ (was numberTold (c .before .before .before .before .number .ensures nodeFrame) (c .before .before .n .given .1)), c .before .before .before .before .before .before .pre)
+add-result c =
+    let at-n = c .before .before in
+    let at-number = at-n .before .before in
+    let entry = at-number .before .before in
+    omega (arith, number-inside nodeFrame 3 _ _ _ (was numberTold (at-number .number .ensures nodeFrame) (at-n .n .given .1)), entry .pre)
 
 returns : tie.Need-returns
 returns c = λ κ. ap spanned (sym (was numberTold (c .before .before .before .number .ensures κ) (c .before .place .given .1)))

@@ -23,7 +23,9 @@ node-at-requires : tie.Need-node-at-requires Inv-loop μ-loop
 node-at-requires c κs = omega (arith, c .before .before .before .before .pre)
 
 with-node-requires : tie.Need-with-node-requires Inv-loop μ-loop
-with-node-requires c κs = subst (Inside (c .before .before .before .before .before .args .file .now)) (sym (c .node-at .ensures)) (c .before .before .before .before .before .pre .1 _ (omega arith))
+with-node-requires c κs =
+    let entry = c .before .before .before .before .before in
+    subst (Inside (entry .args .file .now)) (sym (c .node-at .ensures)) (entry .pre .1 _ (omega arith))
 
 add-i : tie.Need-add-i Inv-loop μ-loop
 add-i c = omega arith

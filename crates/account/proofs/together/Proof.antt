@@ -30,7 +30,23 @@ room-at-requires-2 : tie.Need-room-at-requires-2
 room-at-requires-2 c κs = search needs
 
 returns : tie.Need-returns
-returns c = rw (c .before .before .before .before .before .before .room-at .ensures, c .before .before .before .before .before .before .before .on .ensures, c .room-at2 .ensures, c .before .on6 .ensures, c .before .before .on5 .ensures, c .before .before .before .on4 .ensures, c .before .before .before .before .on3 .ensures, c .before .before .before .before .before .on2 .ensures) refl
+returns c =
+    let at-on5 = c .before .before in
+    let at-on4 = at-on5 .before in
+    let at-on3 = at-on4 .before in
+    let at-on2 = at-on3 .before in
+    let at-room-at = at-on2 .before in
+    let at-on = at-room-at .before in
+    rw (
+      at-room-at .room-at .ensures,
+      at-on .on .ensures,
+      c .room-at2 .ensures,
+      c .before .on6 .ensures,
+      at-on5 .on5 .ensures,
+      at-on4 .on4 .ensures,
+      at-on3 .on3 .ensures,
+      at-on2 .on2 .ensures,
+    ) refl
 
 pub together-spec : {M : Type 1} → statement M
 together-spec =

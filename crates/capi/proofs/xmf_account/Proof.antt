@@ -33,8 +33,15 @@ same-length-4 : tie.Need-same-length-4
 same-length-4 c = search needs
 
 returns : tie.Need-returns
-returns c = let r = c .before .before .before .before .before .before .before .before .before .before .before .before .before .account in
-    account-leaves _ _ (r .result) (c .before .before .before .before .before .before .before .before .before .before .before .before .before .before .before .before .read-totals .ensures) (r .ensures) (c .before .before .before .before .before .before .before .totals-in .ensures) (c .before .before .before .before .before .before .put-totals .ensures) (c .before .before .put-accounted .ensures)
+returns c =
+    let at-put-accounted = c .before .before in
+    let at-put-totals = at-put-accounted .before .before .before .before in
+    let at-totals-in = at-put-totals .before in
+    let at-account = at-totals-in .before .before .before .before .before .before in
+    let at-read-totals = at-account .before .before .before in
+    let r = at-account .account in
+    account-leaves _ _ (r .result) (at-read-totals .read-totals .ensures) (r .ensures) (at-totals-in .totals-in .ensures)
+    (at-put-totals .put-totals .ensures) (at-put-accounted .put-accounted .ensures)
 
 pub xmf-account-spec : {M : Type 1} → statement M
 xmf-account-spec =

@@ -27,7 +27,8 @@ same-length-4 c = search needs
 returns : tie.Need-returns
 returns c =
     let r = c .before .before .before .before .before .before .before .before .before .correct-title in
-    leaves _ (correct-title _ _ (r .result) (record { answers = r .ensures .0; in-buffer = r .ensures .1 .1 .1 }) (r .ensures .1 .0) (r .ensures .1 .1 .0)) (c .before .before .put-written .ensures)
+    leaves _ (correct-title _ _ (r .result) (record { answers = r .ensures .0; in-buffer = r .ensures .1 .1 .1 }) (r .ensures .1 .0)
+    (r .ensures .1 .1 .0)) (c .before .before .put-written .ensures)
 
 pub xmf-correct-title-spec : {M : Type 1} → statement M
 xmf-correct-title-spec =

@@ -31,7 +31,9 @@ same-length-3 c = search needs
 returns : tie.Need-returns
 returns c =
     let r = c .before .before .before .before .before .before .before .find-standard in
-    asks-standard findItem _ _ _ _ (c .before .before .before .before .before .before .before .before .before .before .before .if1 .taken) (leaves _ (find-item _ _ (r .result) (record { answers = r .ensures .0; in-nodes = r .ensures .1 .0; in-items = r .ensures .1 .1 })) (c .before .before .put-found .ensures))
+    asks-standard findItem _ _ _ _ (c .before .before .before .before .before .before .before .before .before .before .before .if1 .taken)
+    (leaves _ (find-item _ _ (r .result) (record { answers = r .ensures .0; in-nodes = r .ensures .1 .0; in-items = r .ensures .1 .1 }))
+    (c .before .before .put-found .ensures))
 
 same-length-4 : tie.Need-same-length-4
 same-length-4 c = search needs
@@ -45,7 +47,9 @@ same-length-6 c = search needs
 returns-2 : tie.Need-returns-2
 returns-2 c =
     let r = c .before .before .before .before .before .before .before .find-custom in
-    asks-custom findItem _ _ _ _ (c .before .before .before .before .before .before .before .before .before .before .before .if1 .left) (leaves _ (find-item _ _ (r .result) (record { answers = r .ensures .0; in-nodes = r .ensures .1 .0; in-items = r .ensures .1 .1 })) (c .before .before .put-found2 .ensures))
+    asks-custom findItem _ _ _ _ (c .before .before .before .before .before .before .before .before .before .before .before .if1 .left)
+    (leaves _ (find-item _ _ (r .result) (record { answers = r .ensures .0; in-nodes = r .ensures .1 .0; in-items = r .ensures .1 .1 }))
+    (c .before .before .put-found2 .ensures))
 
 pub xmf-find-spec : {M : Type 1} → statement M
 xmf-find-spec =

@@ -27,7 +27,8 @@ same-length-4 c = search needs
 returns : tie.Need-returns
 returns c =
     let r = c .before .before .before .before .before .before .before .before .before .copy-resource in
-    leaves _ (copy-resource _ (r .result) (record { answers = r .ensures .0; in-nodes = r .ensures .1 .0; in-items = r .ensures .1 .1 .0 }) (r .ensures .1 .1 .1)) (c .before .before .put-resolved .ensures)
+    leaves _ (copy-resource _ (r .result) (record { answers = r .ensures .0; in-nodes = r .ensures .1 .0; in-items = r .ensures .1 .1 .0 })
+    (r .ensures .1 .1 .1)) (c .before .before .put-resolved .ensures)
 
 pub xmf-resource-spec : {M : Type 1} → statement M
 xmf-resource-spec =

@@ -9,7 +9,8 @@ use Rattle.cases_account.proofs.run_files.Statement.{statement}
 use Rattle.cases_account.proofs.run_files.Tie as tie
 
 abbrev Inv-loop : tie.InvT-loop
-Inv-loop line file₀ nodes₀ n items₀ m out₀ going₀ i₀ file nodes items out going i = (length file ≡ length file₀) × (length nodes ≡ length nodes₀) × (length items ≡ length items₀) × (length out ≡ length out₀)
+Inv-loop line file₀ nodes₀ n items₀ m out₀ going₀ i₀ file nodes items out going i = (length file ≡ length file₀) ×
+    (length nodes ≡ length nodes₀) × (length items ≡ length items₀) × (length out ≡ length out₀)
 
 abbrev μ-loop : tie.MeasureT-loop
 μ-loop line file₀ nodes₀ n items₀ m out₀ going₀ i₀ file nodes items out going i = 64 - i

@@ -23,7 +23,11 @@ sub-result : tie.Need-sub-result Inv-loop μ-loop
 sub-result c = search needs
 
 returns : tie.Need-returns Inv-loop μ-loop
-returns c = (counting-stop (c .before .before .before .loop-test .taken) (c .before .before .item-at .ensures) (c .if1 .taken) (c .before .before .before .before .loop .inv), omega arith)
+returns c =
+    let at-item-at = c .before .before in
+    let at-loop-test = at-item-at .before in
+    let at-loop = at-loop-test .before in
+    (counting-stop (at-loop-test .loop-test .taken) (at-item-at .item-at .ensures) (c .if1 .taken) (at-loop .loop .inv), omega arith)
 
 add-k : tie.Need-add-k Inv-loop μ-loop
 add-k c = search needs

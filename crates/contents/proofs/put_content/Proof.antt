@@ -17,7 +17,11 @@ same-length : tie.Need-same-length
 same-length c = search needs
 
 returns : tie.Need-returns
-returns c = λ (f : List ℕ). content-universal f (c .before .before .before .before .before .before .item-at .ensures) _ (c .before .before .before .before .if1 .taken) (c .before .before .put-universal .ensures)
+returns c =
+    let at-put-universal = c .before .before in
+    let at-if1 = at-put-universal .before .before in
+    let at-item-at = at-if1 .before .before in
+    λ (f : List ℕ). content-universal f (at-item-at .item-at .ensures) _ (at-if1 .if1 .taken) (at-put-universal .put-universal .ensures)
 
 put-version-requires : tie.Need-put-version-requires
 put-version-requires c κs = search needs
@@ -26,7 +30,11 @@ same-length-2 : tie.Need-same-length-2
 same-length-2 c = search needs
 
 returns-2 : tie.Need-returns-2
-returns-2 c = λ (f : List ℕ). content-version f (c .before .before .before .before .before .before .item-at .ensures) _ (c .before .before .before .before .if1 .left) (c .before .before .put-version .ensures)
+returns-2 c =
+    let at-put-version = c .before .before in
+    let at-if1 = at-put-version .before .before in
+    let at-item-at = at-if1 .before .before in
+    λ (f : List ℕ). content-version f (at-item-at .item-at .ensures) _ (at-if1 .if1 .left) (at-put-version .put-version .ensures)
 
 pub put-content-spec : {M : Type 1} → statement M
 put-content-spec =

@@ -17,7 +17,11 @@ same-length : tie.Need-same-length
 same-length c = search needs
 
 returns : tie.Need-returns
-returns c = content-title _ _ _ _ _ (c .before .before .before .before .before .item-at .ensures) (c .before .before .before .before .if1 .taken) (c .before .before .put-content .ensures _)
+returns c =
+    let at-put-content = c .before .before in
+    let at-if1 = at-put-content .before .before in
+    let at-item-at = at-if1 .before in
+    content-title _ _ _ _ _ (at-item-at .item-at .ensures) (at-if1 .if1 .taken) (at-put-content .put-content .ensures _)
 
 add-end : tie.Need-add-end
 add-end c = omega (arith, row-inside (c .before .item-at .ensures) (c .before .before .before .before .before .before .pre .1) .0)
@@ -38,7 +42,11 @@ same-length-2 : tie.Need-same-length-2
 same-length-2 c = search needs
 
 returns-2 : tie.Need-returns-2
-returns-2 c = content-file _ _ _ _ _ (c .before .before .before .before .before .before .item-at .ensures) (c .before .before .before .before .before .if1 .left) refl (c .before .before .put-content2 .ensures _)
+returns-2 c =
+    let at-put-content2 = c .before .before in
+    let at-if1 = at-put-content2 .before .before .before in
+    let at-item-at = at-if1 .before in
+    content-file _ _ _ _ _ (at-item-at .item-at .ensures) (at-if1 .if1 .left) refl (at-put-content2 .put-content2 .ensures _)
 
 pub put-content-at-spec : {M : Type 1} → statement M
 put-content-at-spec =

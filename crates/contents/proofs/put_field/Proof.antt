@@ -10,13 +10,21 @@ put-number-requires : tie.Need-put-number-requires
 put-number-requires c κs = search needs
 
 put-part-requires : tie.Need-put-part-requires
-put-part-requires c κs = name-in (c .before .before .before .before .before .before .before .before .before .args .item) (c .before .before .before .before .before .before .before .before .before .pre) (c .before .before .before .before .before .if1 .taken)
+put-part-requires c κs =
+    let at-if1 = c .before .before .before .before .before in
+    let entry = at-if1 .before .before .before .before in
+    name-in (entry .args .item) (entry .pre) (at-if1 .if1 .taken)
 
 same-length : tie.Need-same-length
 same-length c = search needs
 
 returns : tie.Need-returns
-returns c = field-custom _ _ (c .before .before .before .before .before .before .before .before .before .before .before .before .pre) (c .before .before .before .before .before .before .before .before .if1 .taken) (c .before .before .before .before .before .before .put-number .ensures) (c .before .before .put-part .ensures)
+returns c =
+    let at-put-part = c .before .before in
+    let at-put-number = at-put-part .before .before .before .before in
+    let at-if1 = at-put-number .before .before in
+    let entry = at-if1 .before .before .before .before in
+    field-custom _ _ (entry .pre) (at-if1 .if1 .taken) (at-put-number .put-number .ensures) (at-put-part .put-part .ensures)
 
 put-number-requires-2 : tie.Need-put-number-requires-2
 put-number-requires-2 c κs = search needs
@@ -28,7 +36,11 @@ same-length-2 : tie.Need-same-length-2
 same-length-2 c = search needs
 
 returns-2 : tie.Need-returns-2
-returns-2 c = field-standard _ _ (c .before .before .before .before .before .before .before .before .if1 .left) (c .before .before .before .before .before .before .put-number2 .ensures) (c .before .before .put-number3 .ensures)
+returns-2 c =
+    let at-put-number3 = c .before .before in
+    let at-put-number2 = at-put-number3 .before .before .before .before in
+    let at-if1 = at-put-number2 .before .before in
+    field-standard _ _ (at-if1 .if1 .left) (at-put-number2 .put-number2 .ensures) (at-put-number3 .put-number3 .ensures)
 
 pub put-field-spec : {M : Type 1} → statement M
 put-field-spec =

@@ -18,7 +18,12 @@ same-length : tie.Need-same-length
 same-length c = search needs
 
 returns : tie.Need-returns
-returns c = row-first _ _ _ _ _ (c .before .before .before .before .before .before .before .before .before .before .item-at .ensures) _ (c .before .before .before .before .before .before .before .before .if1 .taken) (c .before .before .before .before .before .before .put-start .ensures _ _) (c .before .before .put-content-at .ensures)
+returns c =
+    let at-put-content-at = c .before .before in
+    let at-put-start = at-put-content-at .before .before .before .before in
+    let at-if1 = at-put-start .before .before in
+    let at-item-at = at-if1 .before .before in
+    row-first _ _ _ _ _ (at-item-at .item-at .ensures) _ (at-if1 .if1 .taken) (at-put-start .put-start .ensures _ _) (at-put-content-at .put-content-at .ensures)
 
 put-content-at-requires-2 : tie.Need-put-content-at-requires-2
 put-content-at-requires-2 c κs = search needs
@@ -27,7 +32,11 @@ same-length-2 : tie.Need-same-length-2
 same-length-2 c = search needs
 
 returns-2 : tie.Need-returns-2
-returns-2 c = row-further _ _ _ _ _ (c .before .before .before .before .before .before .item-at .ensures) _ (c .before .before .before .before .if1 .left) (c .before .before .put-content-at2 .ensures)
+returns-2 c =
+    let at-put-content-at2 = c .before .before in
+    let at-if1 = at-put-content-at2 .before .before in
+    let at-item-at = at-if1 .before .before in
+    row-further _ _ _ _ _ (at-item-at .item-at .ensures) _ (at-if1 .if1 .left) (at-put-content-at2 .put-content-at2 .ensures)
 
 pub put-item-spec : {M : Type 1} → statement M
 put-item-spec =

@@ -12,7 +12,8 @@ use Rattle.contents.proofs.put_items.Statement.{statement}
 use Rattle.contents.proofs.put_items.Tie as tie
 
 abbrev Inv-loop : tie.InvT-loop
-Inv-loop out₀ to file items first end row title next₀ k₀ out next k = (first ≤ k) × (k ≤ end) × Going out₀ out to next (itemsText (contentsFrom file row title items first (end - first))) (itemsText (contentsFrom file row title items k (end - k)))
+Inv-loop out₀ to file items first end row title next₀ k₀ out next k = (first ≤ k) × (k ≤ end) × Going out₀ out to next
+    (itemsText (contentsFrom file row title items first (end - first))) (itemsText (contentsFrom file row title items k (end - k)))
 
 abbrev μ-loop : tie.MeasureT-loop
 μ-loop out₀ to file items first end row title next₀ k₀ out next k = end - k
@@ -21,7 +22,9 @@ loop-holds : tie.Need-loop-holds Inv-loop μ-loop
 loop-holds c = (omega arith, omega arith, going-start _ (omega arith) refl)
 
 put-item-requires : tie.Need-put-item-requires Inv-loop μ-loop
-put-item-requires c κs = (omega arith, omega (arith, c .before .before .before .before .before .before .before .pre .1 .0), c .before .before .before .before .before .before .before .pre .1 .1 _ (c .before .loop-test .taken))
+put-item-requires c κs =
+    let entry = c .before .before .before .before .before .before .before in
+    (omega arith, omega (arith, entry .pre .1 .0), entry .pre .1 .1 _ (c .before .loop-test .taken))
 
 add-k : tie.Need-add-k Inv-loop μ-loop
 add-k c = search needs
@@ -30,7 +33,11 @@ loop-less : tie.Need-loop-less Inv-loop μ-loop
 loop-less c = search needs
 
 loop-again : tie.Need-loop-again Inv-loop μ-loop
-loop-again c = (omega arith, omega arith, going-on (rows-on _ _ _ _ _ _ (c .before .before .before .before .loop-test .taken)) (c .before .before .before .before .before .loop .inv .2) (c .before .before .put-item .ensures))
+loop-again c =
+    let at-put-item = c .before .before in
+    let at-loop-test = at-put-item .before .before in
+    let at-loop = at-loop-test .before in
+    (omega arith, omega arith, going-on (rows-on _ _ _ _ _ _ (at-loop-test .loop-test .taken)) (at-loop .loop .inv .2) (at-put-item .put-item .ensures))
 
 same-length : tie.Need-same-length Inv-loop μ-loop
 same-length c = going-length (c .before .loop .inv .2)

@@ -19,7 +19,12 @@ same-length : tie.Need-same-length
 same-length c = search needs
 
 returns : tie.Need-returns
-returns c = λ row title. start-universal _ row title _ _ (c .before .before .before .before .before .before .before .before .before .before .item-at .ensures) _ (c .before .before .before .before .before .before .before .before .put-field .ensures) (c .before .before .before .before .if1 .taken) (c .before .before .put-number .ensures)
+returns c =
+    let at-put-number = c .before .before in
+    let at-if1 = at-put-number .before .before in
+    let at-put-field = at-if1 .before .before .before .before in
+    let at-item-at = at-put-field .before .before in
+    λ row title. start-universal _ row title _ _ (at-item-at .item-at .ensures) _ (at-put-field .put-field .ensures) (at-if1 .if1 .taken) (at-put-number .put-number .ensures)
 
 add-further : tie.Need-add-further
 add-further c = search needs
@@ -37,7 +42,14 @@ same-length-2 : tie.Need-same-length-2
 same-length-2 c = search needs
 
 returns-2 : tie.Need-returns-2
-returns-2 c = λ row title. start-versions _ row title _ _ (c .before .before .before .before .before .before .before .before .before .before .before .item-at .ensures) _ (c .before .before .before .before .before .before .before .before .before .put-field .ensures) (c .before .before .before .before .before .if1 .left) (c .before .before .before .further .ensures .0 _ _ _) (c .before .before .put-number2 .ensures)
+returns-2 c =
+    let at-put-number2 = c .before .before in
+    let at-further = at-put-number2 .before in
+    let at-if1 = at-further .before .before in
+    let at-put-field = at-if1 .before .before .before .before in
+    let at-item-at = at-put-field .before .before in
+    λ row title. start-versions _ row title _ _ (at-item-at .item-at .ensures) _ (at-put-field .put-field .ensures) (at-if1 .if1 .left)
+    (at-further .further .ensures .0 _ _ _) (at-put-number2 .put-number2 .ensures)
 
 pub put-start-spec : {M : Type 1} → statement M
 put-start-spec =

@@ -21,7 +21,14 @@ same-length : tie.Need-same-length
 same-length c = search needs
 
 returns : tie.Need-returns
-returns c = text-sized (c .before .before .before .before .before .before .before .before .before .before .before .before .args .format) (c .before .before .before .before .before .before .before .before .before .before .before .before .args .bytes .now) (c .before .before .before .before .before .before .before .before .before .vlq-size .ensures) (c .before .before .before .before .before .before .before .before .on .ensures) (c .before .before .before .before .before .before .put-number .ensures) (c .before .before .put-text .ensures)
+returns c =
+    let at-put-text = c .before .before in
+    let at-put-number = at-put-text .before .before .before .before in
+    let at-on = at-put-number .before .before in
+    let at-vlq-size = at-on .before in
+    let entry = at-vlq-size .before .before .before in
+    text-sized (entry .args .format) (entry .args .bytes .now) (at-vlq-size .vlq-size .ensures) (at-on .on .ensures)
+    (at-put-number .put-number .ensures) (at-put-text .put-text .ensures)
 
 pub put-universal-spec : {M : Type 1} → statement M
 put-universal-spec = tie.close (tie.spec vlq-size-requires on-requires put-number-requires put-text-requires same-length returns)

@@ -19,7 +19,11 @@ same-length : tie.Need-same-length
 same-length c = search needs
 
 returns : tie.Need-returns
-returns c = put-two _ _ (c .before .before .before .before .before .before .before .before .before .before .put-number .ensures) (put-block _ _ refl (c .before .before .before .before .before .before .put-number2 .ensures) (c .before .before .put-bytes .ensures))
+returns c =
+    let at-put-bytes = c .before .before in
+    let at-put-number2 = at-put-bytes .before .before .before .before in
+    let at-put-number = at-put-number2 .before .before .before .before in
+    put-two _ _ (at-put-number .put-number .ensures) (put-block _ _ refl (at-put-number2 .put-number2 .ensures) (at-put-bytes .put-bytes .ensures))
 
 pub put-version-spec : {M : Type 1} → statement M
 put-version-spec =

@@ -20,19 +20,35 @@ enum-known-d : tie.Need-enum-known-d
 enum-known-d c = search needs
 
 sub-put-part : tie.Need-sub-put-part
-sub-put-part c = omega (arith, guid-inside (c .before .before .before .before .before .before .before .before .before .before .before .before .args .file .now) (c .before .before .before .before .before .before .before .before .before .before .before .before .args .c .at .0) (was passTold (c .before .before .before .before .before .before .before .guid .ensures unpackFrame) (c .before .before .before .before .before .d .given .1)))
+sub-put-part c =
+    let at-d = c .before .before .before .before .before in
+    let at-guid = at-d .before .before in
+    let entry = at-guid .before .before .before .before .before in
+    omega (arith, guid-inside (entry .args .file .now) (entry .args .c .at .0) (was passTold (at-guid .guid .ensures unpackFrame) (at-d .d .given .1)))
 
 put-part-requires : tie.Need-put-part-requires
-put-part-requires c κs = omega (arith, guid-inside (c .before .before .before .before .before .before .before .before .before .before .before .before .args .file .now) (c .before .before .before .before .before .before .before .before .before .before .before .before .args .c .at .0) (was passTold (c .before .before .before .before .before .before .before .guid .ensures unpackFrame) (c .before .before .before .before .before .d .given .1)))
+put-part-requires c κs =
+    let at-d = c .before .before .before .before .before in
+    let at-guid = at-d .before .before in
+    let entry = at-guid .before .before .before .before .before in
+    omega (arith, guid-inside (entry .args .file .now) (entry .args .c .at .0) (was passTold (at-guid .guid .ensures unpackFrame) (at-d .d .given .1)))
 
 returns : tie.Need-returns
-returns c = record { is = guid-no _ _ _ (c .before .before .before .before .if1 .taken) (was passTold (c .before .before .before .guid .ensures unpackFrame) (c .before .n .given .1)) }
+returns c =
+    let at-guid = c .before .before .before in
+    let at-if1 = at-guid .before in
+    record { is = guid-no _ _ _ (at-if1 .if1 .taken) (was passTold (at-guid .guid .ensures unpackFrame) (c .before .n .given .1)) }
 
 same-length : tie.Need-same-length
 same-length c = search needs
 
 returns-2 : tie.Need-returns-2
-returns-2 c = record { is = (_, guid-is _ _ _ (c .before .before .before .before .before .before .before .before .before .before .before .if1 .taken) (was passTold (c .before .before .before .before .before .before .before .before .before .before .guid .ensures unpackFrame) (c .before .before .before .before .before .before .before .before .d .given .1)), c .before .before .put-part .ensures) }
+returns-2 c =
+    let at-put-part = c .before .before in
+    let at-d = at-put-part .before .before .before .before .before .before in
+    let at-guid = at-d .before .before in
+    let at-if1 = at-guid .before in
+    record { is = (_, guid-is _ _ _ (at-if1 .if1 .taken) (was passTold (at-guid .guid .ensures unpackFrame) (at-d .d .given .1)), at-put-part .put-part .ensures) }
 
 manufacturer-requires : tie.Need-manufacturer-requires
 manufacturer-requires c κs = search needs
@@ -44,22 +60,41 @@ enum-known-d-2 : tie.Need-enum-known-d-2
 enum-known-d-2 c = search needs
 
 sub-put-part-2 : tie.Need-sub-put-part-2
-sub-put-part-2 c = omega (arith, maker-inside (c .before .before .before .before .before .before .before .before .before .before .before .before .before .args .file .now) (c .before .before .before .before .before .before .before .before .before .before .before .before .before .args .c .at .0) (was passTold (c .before .before .before .before .before .before .before .manufacturer .ensures unpackFrame) (c .before .before .before .before .before .d2 .given .1)))
+sub-put-part-2 c =
+    let at-d2 = c .before .before .before .before .before in
+    let at-manufacturer = at-d2 .before .before in
+    let entry = at-manufacturer .before .before .before .before .before .before in
+    omega (arith, maker-inside (entry .args .file .now) (entry .args .c .at .0) (was passTold (at-manufacturer .manufacturer .ensures unpackFrame) (at-d2 .d2 .given .1)))
 
 put-part-requires-2 : tie.Need-put-part-requires-2
-put-part-requires-2 c κs = omega (arith, maker-inside (c .before .before .before .before .before .before .before .before .before .before .before .before .before .args .file .now) (c .before .before .before .before .before .before .before .before .before .before .before .before .before .args .c .at .0) (was passTold (c .before .before .before .before .before .before .before .manufacturer .ensures unpackFrame) (c .before .before .before .before .before .d2 .given .1)))
+put-part-requires-2 c κs =
+    let at-d2 = c .before .before .before .before .before in
+    let at-manufacturer = at-d2 .before .before in
+    let entry = at-manufacturer .before .before .before .before .before .before in
+    omega (arith, maker-inside (entry .args .file .now) (entry .args .c .at .0) (was passTold (at-manufacturer .manufacturer .ensures unpackFrame) (at-d2 .d2 .given .1)))
 
 copy-number-requires : tie.Need-copy-number-requires
 copy-number-requires c κs = search needs
 
 returns-3 : tie.Need-returns-3
-returns-3 c = record { is = maker-no _ _ _ (c .before .before .before .before .if2 .taken) (was passTold (c .before .before .before .manufacturer .ensures unpackFrame) (c .before .n2 .given .1)) }
+returns-3 c =
+    let at-manufacturer = c .before .before .before in
+    let at-if2 = at-manufacturer .before in
+    record { is = maker-no _ _ _ (at-if2 .if2 .taken) (was passTold (at-manufacturer .manufacturer .ensures unpackFrame) (c .before .n2 .given .1)) }
 
 same-length-2 : tie.Need-same-length-2
 same-length-2 c = search needs
 
 returns-4 : tie.Need-returns-4
-returns-4 c = copies-as (sym (maker-is _ _ _ (c .before .before .before .before .before .before .before .before .before .before .before .before .before .before .before .if2 .taken) (was passTold (c .before .before .before .before .before .before .before .before .before .before .before .before .before .before .manufacturer .ensures unpackFrame) (c .before .before .before .before .before .before .before .before .before .before .before .before .d2 .given .1)))) (copies-after _ _ (c .before .before .before .before .before .before .put-part2 .ensures) (c .before .before .copy-number .ensures unpackFrame))
+returns-4 c =
+    let at-copy-number = c .before .before in
+    let at-put-part2 = at-copy-number .before .before .before .before in
+    let at-d2 = at-put-part2 .before .before .before .before .before .before in
+    let at-manufacturer = at-d2 .before .before in
+    let at-if2 = at-manufacturer .before in
+    copies-as (sym (maker-is _ _ _ (at-if2 .if2 .taken)
+    (was passTold (at-manufacturer .manufacturer .ensures unpackFrame) (at-d2 .d2 .given .1))))
+    (copies-after _ _ (at-put-part2 .put-part2 .ensures) (at-copy-number .copy-number .ensures unpackFrame))
 
 copy-number-requires-2 : tie.Need-copy-number-requires-2
 copy-number-requires-2 c κs = search needs
@@ -68,7 +103,11 @@ same-length-3 : tie.Need-same-length-3
 same-length-3 c = search needs
 
 returns-5 : tie.Need-returns-5
-returns-5 c = copies-as (sym (other-is _ _ _ (c .before .before .before .before .before .if1 .left) (c .before .before .before .before .if2 .left))) (c .before .before .copy-number2 .ensures unpackFrame)
+returns-5 c =
+    let at-copy-number2 = c .before .before in
+    let at-if2 = at-copy-number2 .before .before in
+    let at-if1 = at-if2 .before in
+    copies-as (sym (other-is _ _ _ (at-if1 .if1 .left) (at-if2 .if2 .left))) (at-copy-number2 .copy-number2 .ensures unpackFrame)
 
 pub copy-identifier-spec : {M : Type 1} → statement M
 copy-identifier-spec =

@@ -26,7 +26,11 @@ same-length : tie.Need-same-length
 same-length c = search needs
 
 returns-2 : tie.Need-returns-2
-returns-2 c = λ κ. record { is = (_, number-is κ _ _ (was numberTold (c .before .before .before .before .before .before .before .number .ensures κ) (c .before .before .before .before .before .v .given .1)), c .before .before .put-number .ensures) }
+returns-2 c =
+    let at-put-number = c .before .before in
+    let at-v = at-put-number .before .before .before in
+    let at-number = at-v .before .before in
+    λ κ. record { is = (_, number-is κ _ _ (was numberTold (at-number .number .ensures κ) (at-v .v .given .1)), at-put-number .put-number .ensures) }
 
 pub copy-number-spec : {M : Type 1} → statement M
 copy-number-spec =

@@ -40,15 +40,30 @@ same-length : tie.Need-same-length
 same-length c = search needs
 
 returns-2 : tie.Need-returns-2
-returns-2 c = record { is = name-no _ _ (was numberTold (c .before .before .before .before .before .before .before .before .before .before .before .before .before .before .number .ensures unpackFrame) (c .before .before .before .before .before .before .before .before .before .before .before .before .kind .given .1)) (copied-no (copied-was (c .before .before .before .before .before .copy-identifier .ensures) (c .before .n2 .given .1))) }
+returns-2 c =
+    let at-copy-identifier = c .before .before .before .before .before in
+    let at-kind = at-copy-identifier .before .before .before .before .before .before .before in
+    let at-number = at-kind .before .before in
+    record {
+      is = name-no _ _ (was numberTold (at-number .number .ensures unpackFrame) (at-kind .kind .given .1))
+          (copied-no (copied-was (at-copy-identifier .copy-identifier .ensures) (c .before .n2 .given .1)));
+    }
 
 same-length-2 : tie.Need-same-length-2
 same-length-2 c = search needs
 
 returns-3 : tie.Need-returns-3
 returns-3 c =
-    let k = copied-was (c .before .before .before .before .before .before .before .before .before .copy-identifier .ensures) (c .before .before .before .before .before .b .given .1) in
-    copies-as (sym (unpacker-is _ _ (was numberTold (c .before .before .before .before .before .before .before .before .before .before .before .before .before .before .before .before .before .before .number .ensures unpackFrame) (c .before .before .before .before .before .before .before .before .before .before .before .before .before .before .before .before .kind .given .1)) (copied-answer k))) (copies-after _ _ (c .before .before .before .before .before .before .before .before .before .before .before .before .before .put-number .ensures) (copies-after _ _ (copied-puts k) (c .before .before .copy-number .ensures unpackFrame)))
+    let at-copy-number = c .before .before in
+    let at-b = at-copy-number .before .before .before in
+    let at-copy-identifier = at-b .before .before .before .before in
+    let at-put-number = at-copy-identifier .before .before .before .before in
+    let at-kind = at-put-number .before .before .before in
+    let at-number = at-kind .before .before in
+    let k = copied-was (at-copy-identifier .copy-identifier .ensures) (at-b .b .given .1) in
+    copies-as (sym (unpacker-is _ _ (was numberTold (at-number .number .ensures unpackFrame) (at-kind .kind .given .1)) (copied-answer k)))
+    (copies-after _ _ (at-put-number .put-number .ensures)
+    (copies-after _ _ (copied-puts k) (at-copy-number .copy-number .ensures unpackFrame)))
 
 pub copy-unpacker-spec : {M : Type 1} → statement M
 copy-unpacker-spec =

@@ -26,7 +26,14 @@ same-length : tie.Need-same-length Inv-loop μ-loop
 same-length c = search needs
 
 returns : tie.Need-returns Inv-loop μ-loop
-returns c = record { is = copying-no (unpacker-behind _) (c .before .before .before .before .before .before .before .before .loop .inv) (c .before .before .before .before .before .before .before .loop-test .taken) (copied-no (copied-was (c .before .before .before .before .before .copy-unpacker .ensures) (c .before .n .given .1))) }
+returns c =
+    let at-copy-unpacker = c .before .before .before .before .before in
+    let at-loop-test = at-copy-unpacker .before .before in
+    let at-loop = at-loop-test .before in
+    record {
+      is = copying-no (unpacker-behind _) (at-loop .loop .inv) (at-loop-test .loop-test .taken)
+          (copied-no (copied-was (at-copy-unpacker .copy-unpacker .ensures) (c .before .n .given .1)));
+    }
 
 enum-known-a : tie.Need-enum-known-a Inv-loop μ-loop
 enum-known-a c = search needs
@@ -38,7 +45,11 @@ loop-less : tie.Need-loop-less Inv-loop μ-loop
 loop-less c = search needs
 
 loop-again : tie.Need-loop-again Inv-loop μ-loop
-loop-again c = copying-on (unpacker-behind _) (c .before .before .before .before .before .before .before .before .loop .inv) (c .before .before .before .before .before .before .before .loop-test .taken) (copied-was (c .before .before .before .before .before .copy-unpacker .ensures) (c .before .a .given .1))
+loop-again c =
+    let at-copy-unpacker = c .before .before .before .before .before in
+    let at-loop-test = at-copy-unpacker .before .before in
+    let at-loop = at-loop-test .before in
+    copying-on (unpacker-behind _) (at-loop .loop .inv) (at-loop-test .loop-test .taken) (copied-was (at-copy-unpacker .copy-unpacker .ensures) (c .before .a .given .1))
 
 same-length-2 : tie.Need-same-length-2 Inv-loop μ-loop
 same-length-2 c = c .before .loop .inv .puts .long

@@ -38,20 +38,35 @@ same-length c = search needs
 
 returns : tie.Need-returns
 unfolding shape
-returns c = block-none _ (copied-no (copied-was (c .before .before .before .before .before .before .before .copy-unpackers .ensures) (c .before .before .before .before .enum-told .given .1))) (c .before .before .put-number .ensures)
+returns c =
+    let at-put-number = c .before .before in
+    let at-enum-told = at-put-number .before .before in
+    let at-copy-unpackers = at-enum-told .before .before .before in
+    block-none _ (copied-no (copied-was (at-copy-unpackers .copy-unpackers .ensures) (at-enum-told .enum-told .given .1))) (at-put-number .put-number .ensures)
 
 same-length-2 : tie.Need-same-length-2
 same-length-2 c = search needs
 
 returns-2 : tie.Need-returns-2
-returns-2 c = block-never _ (copied-was (c .before .before .before .before .before .before .before .before .before .before .before .before .before .before .copy-unpackers .ensures) (c .before .before .before .before .before .before .before .before .before .before .before .n .given .1)) (copied-no (copied-was (c .before .before .before .before .copy-unpackers2 .ensures) (c .enum-told2 .given .1)))
+returns-2 c =
+    let at-copy-unpackers2 = c .before .before .before .before in
+    let at-n = at-copy-unpackers2 .before .before .before .before .before .before .before in
+    let at-copy-unpackers = at-n .before .before .before in
+    block-never _ (copied-was (at-copy-unpackers .copy-unpackers .ensures) (at-n .n .given .1))
+    (copied-no (copied-was (at-copy-unpackers2 .copy-unpackers2 .ensures) (c .enum-told2 .given .1)))
 
 same-length-3 : tie.Need-same-length-3
 same-length-3 c = search needs
 
 returns-3 : tie.Need-returns-3
 unfolding shape
-returns-3 c = block-copied _ (copied-was (c .before .before .before .before .before .before .before .before .before .before .before .before .before .before .before .copy-unpackers .ensures) (c .before .before .before .before .before .before .before .before .before .before .before .before .n .given .1)) (c .before .before .before .before .before .before .before .before .before .put-number2 .ensures) (copied-was (c .before .before .before .before .before .copy-unpackers2 .ensures) (c .before .b .given .1))
+returns-3 c =
+    let at-copy-unpackers2 = c .before .before .before .before .before in
+    let at-put-number2 = at-copy-unpackers2 .before .before .before .before in
+    let at-n = at-put-number2 .before .before .before in
+    let at-copy-unpackers = at-n .before .before .before in
+    block-copied _ (copied-was (at-copy-unpackers .copy-unpackers .ensures) (at-n .n .given .1)) (at-put-number2 .put-number2 .ensures)
+    (copied-was (at-copy-unpackers2 .copy-unpackers2 .ensures) (c .before .b .given .1))
 
 pub put-unpackers-spec : {M : Type 1} → statement M
 put-unpackers-spec =

@@ -17,7 +17,13 @@ enum-known-s : tie.Need-enum-known-s
 enum-known-s c = search needs
 
 count-row-requires : tie.Need-count-row-requires
-count-row-requires c κs = rows-inside (c .before .before .before .before .before .before .before .before .before .before .before .before .before .before .args .file .now) (length (c .before .before .before .before .before .before .before .before .before .before .before .before .before .before .args .nodes .now)) (length (c .before .before .before .before .before .before .before .before .before .before .before .before .before .before .args .items .now)) (c .before .before .before .before .before .before .before .before .before .before .before .before .before .before .args .item-row) (c .before .before .before .before .before .before .before .before .before .before .before .before .before .before .args .channel) (c .before .before .before .before .before .before .before .before .before .before .before .before .before .before .args .resource) (c .before .before .before .before .before .before .before .before .read-file .ensures .0) (c .before .before .before .before .before .before .before .before .read-file .ensures .1 .0) (c .before .before .before .before .before .before .before .before .read-file .ensures .1 .1) (c .before .before .s .given .1)
+count-row-requires c κs =
+    let at-s = c .before .before in
+    let at-read-file = at-s .before .before .before .before .before .before in
+    let entry = at-read-file .before .before .before .before .before .before in
+    rows-inside (entry .args .file .now) (length (entry .args .nodes .now)) (length (entry .args .items .now)) (entry .args .item-row)
+    (entry .args .channel) (entry .args .resource) (at-read-file .read-file .ensures .0) (at-read-file .read-file .ensures .1 .0)
+    (at-read-file .read-file .ensures .1 .1) (at-s .s .given .1)
 
 enum-known-n-2 : tie.Need-enum-known-n-2
 enum-known-n-2 c = search needs
@@ -35,7 +41,12 @@ same-length-2 : tie.Need-same-length-2
 same-length-2 c = search needs
 
 returns : tie.Need-returns
-returns c = let w = ends-unread (c .before .before .before .before .before .before .before .before .before .before .before .before .before .args .file .now) (length (c .before .before .before .before .before .before .before .before .before .before .before .before .before .args .nodes .now)) (length (c .before .before .before .before .before .before .before .before .before .before .before .before .before .args .items .now)) (c .before .before .before .before .before .before .before .before .before .before .before .before .before .args .item-row) (c .before .before .before .before .before .before .before .before .before .before .before .before .before .args .channel) (c .before .before .before .before .before .before .before .before .before .before .before .before .before .args .resource) (c .before .before .before .before .before .before .before .read-file .ensures .0) (c .before .before .before .before .before .before .before .read-file .ensures .1 .0) (c .before .before .before .before .before .before .before .read-file .ensures .1 .1) (c .before .n .given .1) in (w .0, (w .1, w .2))
+returns c =
+    let at-read-file = c .before .before .before .before .before .before .before in
+    let entry = at-read-file .before .before .before .before .before .before in
+    let w = ends-unread (entry .args .file .now) (length (entry .args .nodes .now)) (length (entry .args .items .now)) (entry .args .item-row)
+    (entry .args .channel) (entry .args .resource) (at-read-file .read-file .ensures .0) (at-read-file .read-file .ensures .1 .0)
+    (at-read-file .read-file .ensures .1 .1) (c .before .n .given .1) in (w .0, (w .1, w .2))
 
 same-length-3 : tie.Need-same-length-3
 same-length-3 c = search needs
@@ -44,16 +55,41 @@ same-length-4 : tie.Need-same-length-4
 same-length-4 c = search needs
 
 returns-2 : tie.Need-returns-2
-returns-2 c = let w = ends-count (c .before .before .before .before .before .before .before .before .before .before .before .before .before .before .before .before .before .before .args .file .now) (length (c .before .before .before .before .before .before .before .before .before .before .before .before .before .before .before .before .before .before .args .nodes .now)) (length (c .before .before .before .before .before .before .before .before .before .before .before .before .before .before .before .before .before .before .args .items .now)) (c .before .before .before .before .before .before .before .before .before .before .before .before .before .before .before .before .before .before .args .item-row) (c .before .before .before .before .before .before .before .before .before .before .before .before .before .before .before .before .before .before .args .channel) (c .before .before .before .before .before .before .before .before .before .before .before .before .before .before .before .before .before .before .args .resource) (c .before .before .before .before .before .before .before .before .before .before .before .before .read-file .ensures .0) (c .before .before .before .before .before .before .before .before .before .before .before .before .read-file .ensures .1 .0) (c .before .before .before .before .before .before .before .before .before .before .before .before .read-file .ensures .1 .1) (c .before .before .before .before .before .before .s .given .1) _ (c .before .before .before .count-row .ensures) (c .before .n2 .given .1) in (w .0, (w .1, w .2))
+returns-2 c =
+    let at-count-row = c .before .before .before in
+    let at-s = at-count-row .before .before .before in
+    let at-read-file = at-s .before .before .before .before .before .before in
+    let entry = at-read-file .before .before .before .before .before .before in
+    let w = ends-count (entry .args .file .now) (length (entry .args .nodes .now)) (length (entry .args .items .now)) (entry .args .item-row)
+    (entry .args .channel) (entry .args .resource) (at-read-file .read-file .ensures .0) (at-read-file .read-file .ensures .1 .0)
+    (at-read-file .read-file .ensures .1 .1) (at-s .s .given .1) _ (at-count-row .count-row .ensures) (c .before .n2 .given .1)
+    in (w .0, (w .1, w .2))
 
 same-length-5 : tie.Need-same-length-5
-same-length-5 c = c .before .before .before .before .clear-all .kept .0 ∙ c .before .before .before .before .before .before .before .before .before .before .before .before .before .before .before .before .before .before .before .read-file .kept .1 .0
+same-length-5 c =
+    let at-clear-all = c .before .before .before .before in
+    let at-read-file = at-clear-all .before .before .before .before .before .before .before .before .before .before .before .before .before .before .before in
+    at-clear-all .clear-all .kept .0 ∙ at-read-file .read-file .kept .1 .0
 
 same-length-6 : tie.Need-same-length-6
-same-length-6 c = c .before .before .before .before .clear-all .kept .1 .0 ∙ c .before .before .before .before .before .before .before .before .before .before .before .before .before .before .before .before .before .before .before .read-file .kept .1 .1 .0
+same-length-6 c =
+    let at-clear-all = c .before .before .before .before in
+    let at-read-file = at-clear-all .before .before .before .before .before .before .before .before .before .before .before .before .before .before .before in
+    at-clear-all .clear-all .kept .1 .0 ∙ at-read-file .read-file .kept .1 .1 .0
 
 returns-3 : tie.Need-returns-3
-returns-3 c = let w = ends-refused (c .before .before .before .before .before .before .before .before .before .before .before .before .before .before .before .before .before .before .before .before .before .before .before .before .before .args .file .now) (length (c .before .before .before .before .before .before .before .before .before .before .before .before .before .before .before .before .before .before .before .before .before .before .before .before .before .args .nodes .now)) (length (c .before .before .before .before .before .before .before .before .before .before .before .before .before .before .before .before .before .before .before .before .before .before .before .before .before .args .items .now)) (c .before .before .before .before .before .before .before .before .before .before .before .before .before .before .before .before .before .before .before .before .before .before .before .before .before .args .item-row) (c .before .before .before .before .before .before .before .before .before .before .before .before .before .before .before .before .before .before .before .before .before .before .before .before .before .args .channel) (c .before .before .before .before .before .before .before .before .before .before .before .before .before .before .before .before .before .before .before .before .before .before .before .before .before .args .resource) (c .before .before .before .before .before .before .before .before .before .before .before .before .before .before .before .before .before .before .before .read-file .ensures .0) (c .before .before .before .before .before .before .before .before .before .before .before .before .before .before .before .before .before .before .before .read-file .ensures .1 .0) (c .before .before .before .before .before .before .before .before .before .before .before .before .before .before .before .before .before .before .before .read-file .ensures .1 .1) (c .before .before .before .before .before .before .before .before .before .before .before .before .before .s .given .1) _ (c .before .before .before .before .before .before .before .before .before .before .count-row .ensures) (c .before .before .before .before .before .before .before .before .n3 .given .1) (c .before .before .before .before .clear-all .ensures .0 ∙ ap (λ k. replicate k 0) (c .before .before .before .before .before .before .before .before .before .before .before .before .before .before .before .before .before .before .before .read-file .kept .1 .0)) (c .before .before .before .before .clear-all .ensures .1 ∙ ap (λ k. replicate k 0) (c .before .before .before .before .before .before .before .before .before .before .before .before .before .before .before .before .before .before .before .read-file .kept .1 .1 .0)) in (w .0, (w .1, w .2))
+returns-3 c =
+    let at-clear-all = c .before .before .before .before in
+    let at-n3 = at-clear-all .before .before .before .before in
+    let at-count-row = at-n3 .before .before in
+    let at-s = at-count-row .before .before .before in
+    let at-read-file = at-s .before .before .before .before .before .before in
+    let entry = at-read-file .before .before .before .before .before .before in
+    let w = ends-refused (entry .args .file .now) (length (entry .args .nodes .now)) (length (entry .args .items .now)) (entry .args .item-row)
+    (entry .args .channel) (entry .args .resource) (at-read-file .read-file .ensures .0) (at-read-file .read-file .ensures .1 .0)
+    (at-read-file .read-file .ensures .1 .1) (at-s .s .given .1) _ (at-count-row .count-row .ensures) (at-n3 .n3 .given .1)
+    (at-clear-all .clear-all .ensures .0 ∙ ap (λ k. replicate k 0) (at-read-file .read-file .kept .1 .0))
+    (at-clear-all .clear-all .ensures .1 ∙ ap (λ k. replicate k 0) (at-read-file .read-file .kept .1 .1 .0)) in (w .0, (w .1, w .2))
 
 pub count-for-spec : {M : Type 1} → statement M
 count-for-spec =

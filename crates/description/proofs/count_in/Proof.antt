@@ -21,7 +21,11 @@ count-of-requires : tie.Need-count-of-requires
 count-of-requires c κs = c .before .before .before .before .before .pre .0
 
 returns-3 : tie.Need-returns-3
-returns-3 c = row-count _ _ _ _ (c .before .before .before .before .is-field .ensures) (c .before .before .before .if1 .left) (c .before .before .is-binary .ensures) (c .before .if2 .left) (c .count-of .ensures)
+returns-3 c =
+    let at-is-binary = c .before .before in
+    let at-if1 = at-is-binary .before in
+    let at-is-field = at-if1 .before in
+    row-count _ _ _ _ (at-is-field .is-field .ensures) (at-if1 .if1 .left) (at-is-binary .is-binary .ensures) (c .before .if2 .left) (c .count-of .ensures)
 
 pub count-in-spec : {M : Type 1} → statement M
 count-in-spec = tie.close (tie.spec is-field-requires returns is-binary-requires returns-2 count-of-requires returns-3)

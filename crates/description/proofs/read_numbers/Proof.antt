@@ -29,7 +29,11 @@ enum-known-n : tie.Need-enum-known-n Inv-loop μ-loop
 enum-known-n c = search needs
 
 returns : tie.Need-returns Inv-loop μ-loop
-returns c = numbers-no (c .before .before .before .before .before .loop .inv) (c .before .before .before .before .loop-test .taken) (was numberTold (c .before .before .before .number .ensures metaFrame) (c .before .n .given .1))
+returns c =
+    let at-number = c .before .before .before in
+    let at-loop-test = at-number .before in
+    let at-loop = at-loop-test .before in
+    numbers-no (at-loop .loop .inv) (at-loop-test .loop-test .taken) (was numberTold (at-number .number .ensures metaFrame) (c .before .n .given .1))
 
 enum-known-v : tie.Need-enum-known-v Inv-loop μ-loop
 enum-known-v c = search needs
@@ -41,7 +45,13 @@ loop-less : tie.Need-loop-less Inv-loop μ-loop
 loop-less c = omega (arith, number-inside _ _ _ _ _ (was numberTold (c .before .before .before .before .number .ensures metaFrame) (c .before .before .v .given .1)))
 
 loop-again : tie.Need-loop-again Inv-loop μ-loop
-loop-again c = numbers-on (c .before .before .before .before .before .before .loop .inv) (c .before .before .before .before .before .loop-test .taken) (was numberTold (c .before .before .before .before .number .ensures metaFrame) (c .before .before .v .given .1)) (elim (c .if1 .came) [ inl w ↦ inl (w .0 .taken, w .1) | inr w ↦ inr (w .0 .left, w .1) ])
+loop-again c =
+    let at-v = c .before .before in
+    let at-number = at-v .before .before in
+    let at-loop-test = at-number .before in
+    let at-loop = at-loop-test .before in
+    numbers-on (at-loop .loop .inv) (at-loop-test .loop-test .taken) (was numberTold (at-number .number .ensures metaFrame) (at-v .v .given .1))
+    (elim (c .if1 .came) [ inl w ↦ inl (w .0 .taken, w .1) | inr w ↦ inr (w .0 .left, w .1) ])
 
 returns-2 : tie.Need-returns-2 Inv-loop μ-loop
 returns-2 c = numbers-done (c .before .loop .inv) (c .loop-test .left)

@@ -27,7 +27,10 @@ returns-2 : tie.Need-returns-2
 returns-2 c = resource-cut _ _ _ (was numberTold (c .before .before .before .number .ensures metaFrame) (c .before .n .given .1))
 
 returns-3 : tie.Need-returns-3
-returns-3 c = resource-all _ _ _ (was numberTold (c .before .before .before .before .before .number .ensures metaFrame) (c .before .before .before .kind .given .1)) (c .before .if1 .left) (c .read-identifier .ensures)
+returns-3 c =
+    let at-kind = c .before .before .before in
+    let at-number = at-kind .before .before in
+    resource-all _ _ _ (was numberTold (at-number .number .ensures metaFrame) (at-kind .kind .given .1)) (c .before .if1 .left) (c .read-identifier .ensures)
 
 pub read-resource-spec : {M : Type 1} → statement M
 read-resource-spec =

@@ -27,7 +27,11 @@ enum-known-n : tie.Need-enum-known-n Inv-loop μ-loop
 enum-known-n c = search needs
 
 returns : tie.Need-returns Inv-loop μ-loop
-returns c = resources-no (c .before .before .before .before .before .loop .inv) (c .before .before .before .before .loop-test .taken) (was passTold (c .before .before .before .read-resource .ensures) (c .before .n .given .1))
+returns c =
+    let at-read-resource = c .before .before .before in
+    let at-loop-test = at-read-resource .before in
+    let at-loop = at-loop-test .before in
+    resources-no (at-loop .loop .inv) (at-loop-test .loop-test .taken) (was passTold (at-read-resource .read-resource .ensures) (c .before .n .given .1))
 
 enum-known-d : tie.Need-enum-known-d Inv-loop μ-loop
 enum-known-d c = search needs
@@ -39,7 +43,11 @@ loop-less : tie.Need-loop-less Inv-loop μ-loop
 loop-less c = omega (arith, resource-further _ _ _ (was passTold (c .before .before .before .read-resource .ensures) (c .before .d .given .1)))
 
 loop-again : tie.Need-loop-again Inv-loop μ-loop
-loop-again c = resources-on (c .before .before .before .before .before .loop .inv) (c .before .before .before .before .loop-test .taken) (was passTold (c .before .before .before .read-resource .ensures) (c .before .d .given .1))
+loop-again c =
+    let at-read-resource = c .before .before .before in
+    let at-loop-test = at-read-resource .before in
+    let at-loop = at-loop-test .before in
+    resources-on (at-loop .loop .inv) (at-loop-test .loop-test .taken) (was passTold (at-read-resource .read-resource .ensures) (c .before .d .given .1))
 
 returns-2 : tie.Need-returns-2 Inv-loop μ-loop
 returns-2 c = resources-done (c .before .loop .inv) (c .loop-test .left)

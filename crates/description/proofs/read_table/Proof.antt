@@ -24,19 +24,35 @@ enum-known-count : tie.Need-enum-known-count
 enum-known-count c = search needs
 
 returns : tie.Need-returns
-returns c = table-left _ _ _ _ _ _ _ _ (was numberTold (c .before .before .before .before .before .before .before .read-numbers .ensures) (c .before .before .before .before .before .count .given .1)) (c .if1 .taken)
+returns c =
+    let at-count = c .before .before .before .before .before in
+    let at-read-numbers = at-count .before .before in
+    table-left _ _ _ _ _ _ _ _ (was numberTold (at-read-numbers .read-numbers .ensures) (at-count .count .given .1)) (c .if1 .taken)
 
 returns-2 : tie.Need-returns-2
-returns-2 c = table-channel _ _ _ _ _ _ _ _ (was numberTold (c .before .before .before .before .before .before .before .before .read-numbers .ensures) (c .before .before .before .before .before .before .count .given .1)) (c .before .if1 .left) (c .if2 .taken)
+returns-2 c =
+    let at-count = c .before .before .before .before .before .before in
+    let at-read-numbers = at-count .before .before in
+    table-channel _ _ _ _ _ _ _ _ (was numberTold (at-read-numbers .read-numbers .ensures) (at-count .count .given .1)) (c .before .if1 .left) (c .if2 .taken)
 
 returns-3 : tie.Need-returns-3
-returns-3 c = table-resource _ _ _ _ _ _ _ _ (was numberTold (c .before .before .before .before .before .before .before .before .before .read-numbers .ensures) (c .before .before .before .before .before .before .before .count .given .1)) (c .before .before .if1 .left) (c .before .if2 .left) (c .if3 .taken)
+returns-3 c =
+    let at-if1 = c .before .before in
+    let at-count = at-if1 .before .before .before .before .before in
+    let at-read-numbers = at-count .before .before in
+    table-resource _ _ _ _ _ _ _ _ (was numberTold (at-read-numbers .read-numbers .ensures) (at-count .count .given .1)) (at-if1 .if1 .left) (c .before .if2 .left) (c .if3 .taken)
 
 returns-4 : tie.Need-returns-4
 returns-4 c = table-cut _ _ _ _ _ _ _ _ (was numberTold (c .before .before .before .read-numbers .ensures) (c .before .p .given .1))
 
 returns-5 : tie.Need-returns-5
-returns-5 c = table-count _ _ _ _ _ _ _ _ (was numberTold (c .before .before .before .before .before .before .before .before .before .read-numbers .ensures) (c .before .before .before .before .before .before .before .count .given .1)) (c .before .before .if1 .left) (c .before .if2 .left) (c .if3 .left) (c .before .before .before .before .before .before .before .before .before .before .index-of .ensures)
+returns-5 c =
+    let at-if1 = c .before .before in
+    let at-count = at-if1 .before .before .before .before .before in
+    let at-read-numbers = at-count .before .before in
+    let at-index-of = at-read-numbers .before in
+    table-count _ _ _ _ _ _ _ _ (was numberTold (at-read-numbers .read-numbers .ensures) (at-count .count .given .1)) (at-if1 .if1 .left)
+    (c .before .if2 .left) (c .if3 .left) (at-index-of .index-of .ensures)
 
 pub read-table-spec : {M : Type 1} → statement M
 read-table-spec =

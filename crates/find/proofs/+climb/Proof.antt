@@ -33,10 +33,16 @@ climb-node-at-requires : (t : ℕ) → climb-lts.Need-node-at-requires (climb-ca
 climb-node-at-requires t c κs = omega (arith, c .before .before .before .before .pre .1 .0 .node-room, c .before .before .before .before .pre .1 .1)
 
 climb-sub-first : (t : ℕ) → climb-lts.Need-sub-first (climb-calls t) (climb-at t) climb.Post
-climb-sub-first t c = own-rows (c .before .before .before .before .before .pre .1 .0) (c .before .before .before .before .before .pre .1 .1) (c .before .before .before .before .before .pre .1 .2) (c .node-at .ensures)
+climb-sub-first t c = own-rows (c .before .before .before .before .before .pre .1 .0) (c .before .before .before .before .before .pre .1 .1)
+    (c .before .before .before .before .before .pre .1 .2) (c .node-at .ensures)
 
 climb-look-requires : (t : ℕ) → climb-lts.Need-look-requires (climb-calls t) (climb-at t) climb.Post
-climb-look-requires t c κs = (c .before .before .before .before .before .pre .1 .0 .item-rows, own-end (c .before .before .before .before .before .pre .1 .0) (c .before .before .before .before .before .pre .1 .1) (c .before .before .before .before .before .pre .1 .2) (c .node-at .ensures))
+climb-look-requires t c κs = (
+  c .before .before .before .before .before .pre .1 .0 .item-rows,
+  own-end
+      (c .before .before .before .before .before .pre .1 .0) (c .before .before .before .before .before .pre .1 .1)
+      (c .before .before .before .before .before .pre .1 .2) (c .node-at .ensures),
+)
 
 climb-enum-known-i : (t : ℕ) → climb-lts.Need-enum-known-i (climb-calls t) (climb-at t) climb.Post
 climb-enum-known-i t c = search needs
@@ -45,19 +51,56 @@ climb-enum-told : (t : ℕ) → climb-lts.Need-enum-told (climb-calls t) (climb-
 climb-enum-told t c = search needs
 
 climb-returns : (t : ℕ) → climb-lts.Need-returns (climb-calls t) (climb-at t) climb.Post
-climb-returns t c = climb-top (c .before .before .before .before .before .before .before .before .before .pre .1 .0) (c .before .before .before .before .before .before .before .before .before .pre .1 .1) (c .before .before .before .before .before .before .before .before .before .pre .1 .2) (c .before .before .before .before .node-at .ensures) (wantedOf (c .before .before .before .before .before .before .before .before .before .args .field) (c .before .before .before .before .before .before .before .before .before .args .name .now)) _ (c .before .before .before .look .ensures) (c .before .enum-told .given .1) (c .if1 .taken)
+climb-returns t c = climb-top (c .before .before .before .before .before .before .before .before .before .pre .1 .0)
+    (c .before .before .before .before .before .before .before .before .before .pre .1 .1)
+    (c .before .before .before .before .before .before .before .before .before .pre .1 .2)
+    (c .before .before .before .before .node-at .ensures)
+    (wantedOf (c .before .before .before .before .before .before .before .before .before .args .field)
+    (c .before .before .before .before .before .before .before .before .before .args .name .now)) _
+    (c .before .before .before .look .ensures) (c .before .enum-told .given .1) (c .if1 .taken)
 
 climb-rows-end-requires : (t : ℕ) → climb-lts.Need-rows-end-requires (climb-calls t) (climb-at t) climb.Post
-climb-rows-end-requires t c κs = (c .before .before .before .before .before .before .before .before .before .pre .1 .0 .node-room, omega arith, omega (arith, c .before .before .before .before .before .before .before .before .before .pre .1 .1), own-first (c .before .before .before .before .before .before .before .before .before .pre .1 .0) (c .before .before .before .before .before .before .before .before .before .pre .1 .1) (c .before .before .before .before .before .before .before .before .before .pre .1 .2) (c .before .before .before .before .node-at .ensures))
+climb-rows-end-requires t c κs = (
+  c .before .before .before .before .before .before .before .before .before .pre .1 .0 .node-room,
+  omega arith,
+  omega
+      (arith, c .before .before .before .before .before .before .before .before .before .pre .1 .1),
+  own-first
+      (c .before .before .before .before .before .before .before .before .before .pre .1 .0)
+      (c .before .before .before .before .before .before .before .before .before .pre .1 .1)
+      (c .before .before .before .before .before .before .before .before .before .pre .1 .2)
+      (c .before .before .before .before .node-at .ensures),
+)
 
 climb-climb-requires : (t : ℕ) → climb-lts.Need-climb-requires (climb-calls t) (climb-at t) climb.Post
-climb-climb-requires t c κs = (omega arith, (c .before .before .before .before .before .before .before .before .before .before .pre .1 .0, omega (arith, c .before .before .before .before .before .before .before .before .before .before .pre .1 .1), c .rows-end .ensures))
+climb-climb-requires t c κs = (
+  omega arith,
+  (
+    c .before .before .before .before .before .before .before .before .before .before .pre .1 .0,
+    omega
+        (arith, c .before .before .before .before .before .before .before .before .before .before .pre .1 .1),
+    c .rows-end .ensures,
+  ),
+)
 
 climb-returns-2 : (t : ℕ) → climb-lts.Need-returns-2 (climb-calls t) (climb-at t) climb.Post
-climb-returns-2 t c = climb-here (c .before .before .before .before .before .before .before .before .before .pre .1 .0) (c .before .before .before .before .before .before .before .before .before .pre .1 .1) (c .before .before .before .before .before .before .before .before .before .pre .1 .2) (c .before .before .before .before .node-at .ensures) (wantedOf (c .before .before .before .before .before .before .before .before .before .args .field) (c .before .before .before .before .before .before .before .before .before .args .name .now)) _ (c .before .before .before .look .ensures) (c .before .i .given .1)
+climb-returns-2 t c = climb-here (c .before .before .before .before .before .before .before .before .before .pre .1 .0)
+    (c .before .before .before .before .before .before .before .before .before .pre .1 .1)
+    (c .before .before .before .before .before .before .before .before .before .pre .1 .2)
+    (c .before .before .before .before .node-at .ensures)
+    (wantedOf (c .before .before .before .before .before .before .before .before .before .args .field)
+    (c .before .before .before .before .before .before .before .before .before .args .name .now)) _
+    (c .before .before .before .look .ensures) (c .before .i .given .1)
 
 climb-returns-3 : (t : ℕ) → climb-lts.Need-returns-3 (climb-calls t) (climb-at t) climb.Post
-climb-returns-3 t c = climb-up (c .before .before .before .before .before .before .before .before .before .before .before .pre .1 .0) (c .before .before .before .before .before .before .before .before .before .before .before .pre .1 .1) (c .before .before .before .before .before .before .before .before .before .before .before .pre .1 .2) (c .before .before .before .before .before .before .node-at .ensures) (wantedOf (c .before .before .before .before .before .before .before .before .before .before .before .args .field) (c .before .before .before .before .before .before .before .before .before .before .before .args .name .now)) _ (c .before .before .before .before .before .look .ensures) (c .before .before .before .enum-told .given .1) (omega arith) (c .climb .ensures)
+climb-returns-3 t c = climb-up (c .before .before .before .before .before .before .before .before .before .before .before .pre .1 .0)
+    (c .before .before .before .before .before .before .before .before .before .before .before .pre .1 .1)
+    (c .before .before .before .before .before .before .before .before .before .before .before .pre .1 .2)
+    (c .before .before .before .before .before .before .node-at .ensures)
+    (wantedOf (c .before .before .before .before .before .before .before .before .before .before .before .args .field)
+    (c .before .before .before .before .before .before .before .before .before .before .before .args .name .now)) _
+    (c .before .before .before .before .before .look .ensures) (c .before .before .before .enum-told .given .1) (omega arith)
+    (c .climb .ensures)
 
 pub +climb-spec : {M : Type 1} → statement M
 +climb-spec = close μ-climb λ t. climb-lts.spec (climb-calls t)

@@ -32,10 +32,29 @@ same-length-2 : tie.Need-same-length-2
 same-length-2 c = search needs
 
 returns : tie.Need-returns
-returns c = let w = says-no-row (c .before .before .before .before .before .before .before .before .before .before .before .before .before .before .before .before .before .before .before .before .before .before .before .args .climbs) (c .before .before .before .before .before .before .before .before .before .before .before .before .before .before .before .before .before .before .before .before .before .before .before .args .file .now) (wantedOf (c .before .before .before .before .before .before .before .before .before .before .before .before .before .before .before .before .before .before .before .before .before .before .before .args .field) (c .before .before .before .before .before .before .before .before .before .before .before .before .before .before .before .before .before .before .before .before .before .before .before .args .name .now)) (c .before .before .before .before .before .before .before .before .before .before .before .before .before .before .before .before .before .before .before .before .before .before .before .args .row) (length (c .before .before .before .before .before .before .before .before .before .before .before .before .before .before .before .before .before .before .before .before .before .before .before .args .nodes .now)) (length (c .before .before .before .before .before .before .before .before .before .before .before .before .before .before .before .before .before .before .before .before .before .before .before .args .items .now)) (standing (c .before .before .before .before .before .before .before .before .before .before .before .before .before .before .before .before .before .before .before .before .before .before .before .args .file .now) (limits (length (c .before .before .before .before .before .before .before .before .before .before .before .before .before .before .before .before .before .before .before .before .before .before .before .args .nodes .now)) (length (c .before .before .before .before .before .before .before .before .before .before .before .before .before .before .before .before .before .before .before .before .before .before .before .args .items .now))) (length (c .before .before .before .before .before .before .before .before .before .before .before .before .before .before .before .before .before .before .before .before .before .before .before .args .nodes .now)) (length (c .before .before .before .before .before .before .before .before .before .before .before .before .before .before .before .before .before .before .before .before .before .before .before .args .items .now)) (c .before .before .before .before .before .before .before .before .before .before .before .before .before .before .before .before .read-file .ensures .0) (c .before .before .before .before .before .before .before .before .before .before .before .before .before .before .before .before .read-file .ensures .1 .0) (c .before .before .before .before .before .before .before .before .before .before .before .before .before .before .before .before .read-file .ensures .1 .1) (c .before .before .before .before .before .before .before .before .before .before .s .given .1)) (c .before .before .before .before .before .before .before .if1 .taken) (c .before .before .before .before .clear-all .ensures .0 ∙ ap (λ (k : ℕ). replicate k 0) (c .before .before .before .before .before .before .before .before .before .before .before .before .before .before .before .before .read-file .kept .1 .0)) (c .before .before .before .before .clear-all .ensures .1 ∙ ap (λ (k : ℕ). replicate k 0) (c .before .before .before .before .before .before .before .before .before .before .before .before .before .before .before .before .read-file .kept .1 .1 .0)) in (w .0, (w .1, w .2))
+returns c =
+    let at-clear-all = c .before .before .before .before in
+    let at-if1 = at-clear-all .before .before .before in
+    let at-s = at-if1 .before .before .before in
+    let at-read-file = at-s .before .before .before .before .before .before in
+    let entry = at-read-file .before .before .before .before .before .before .before in
+    let w = says-no-row (entry .args .climbs) (entry .args .file .now) (wantedOf (entry .args .field) (entry .args .name .now))
+    (entry .args .row) (length (entry .args .nodes .now)) (length (entry .args .items .now))
+    (standing (entry .args .file .now) (limits (length (entry .args .nodes .now)) (length (entry .args .items .now)))
+    (length (entry .args .nodes .now)) (length (entry .args .items .now)) (at-read-file .read-file .ensures .0)
+    (at-read-file .read-file .ensures .1 .0) (at-read-file .read-file .ensures .1 .1) (at-s .s .given .1)) (at-if1 .if1 .taken)
+    (at-clear-all .clear-all .ensures .0 ∙ ap (λ (k : ℕ). replicate k 0) (at-read-file .read-file .kept .1 .0))
+    (at-clear-all .clear-all .ensures .1 ∙ ap (λ (k : ℕ). replicate k 0) (at-read-file .read-file .kept .1 .1 .0)) in (w .0, (w .1, w .2))
 
 found-by-requires : tie.Need-found-by-requires
-found-by-requires c κs = let d = (standing (c .before .before .before .before .before .before .before .before .before .before .before .before .before .before .before .before .before .before .args .file .now) (limits (length (c .before .before .before .before .before .before .before .before .before .before .before .before .before .before .before .before .before .before .args .nodes .now)) (length (c .before .before .before .before .before .before .before .before .before .before .before .before .before .before .before .before .before .before .args .items .now))) (length (c .before .before .before .before .before .before .before .before .before .before .before .before .before .before .before .before .before .before .args .nodes .now)) (length (c .before .before .before .before .before .before .before .before .before .before .before .before .before .before .before .before .before .before .args .items .now)) (c .before .before .before .before .before .before .before .before .before .before .before .read-file .ensures .0) (c .before .before .before .before .before .before .before .before .before .before .before .read-file .ensures .1 .0) (c .before .before .before .before .before .before .before .before .before .before .before .read-file .ensures .1 .1) (c .before .before .before .before .before .s .given .1)) in (tables _ _ d, c .before .before .if1 .left)
+found-by-requires c κs =
+    let at-if1 = c .before .before in
+    let at-s = at-if1 .before .before .before in
+    let at-read-file = at-s .before .before .before .before .before .before in
+    let entry = at-read-file .before .before .before .before .before .before .before in
+    let d = (standing (entry .args .file .now) (limits (length (entry .args .nodes .now)) (length (entry .args .items .now)))
+    (length (entry .args .nodes .now)) (length (entry .args .items .now)) (at-read-file .read-file .ensures .0)
+    (at-read-file .read-file .ensures .1 .0) (at-read-file .read-file .ensures .1 .1) (at-s .s .given .1)) in (tables _ _ d, at-if1 .if1 .left)
 
 enum-known-i : tie.Need-enum-known-i
 enum-known-i c = search needs
@@ -53,7 +72,14 @@ same-length-4 : tie.Need-same-length-4
 same-length-4 c = search needs
 
 returns-2 : tie.Need-returns-2
-returns-2 c = let w = says-refused (c .before .before .before .before .before .before .before .before .before .before .before .before .before .before .args .climbs) (c .before .before .before .before .before .before .before .before .before .before .before .before .before .before .args .file .now) (wantedOf (c .before .before .before .before .before .before .before .before .before .before .before .before .before .before .args .field) (c .before .before .before .before .before .before .before .before .before .before .before .before .before .before .args .name .now)) (c .before .before .before .before .before .before .before .before .before .before .before .before .before .before .args .row) (length (c .before .before .before .before .before .before .before .before .before .before .before .before .before .before .args .nodes .now)) (length (c .before .before .before .before .before .before .before .before .before .before .before .before .before .before .args .items .now)) (readFile (limits (length (c .before .before .before .before .before .before .before .before .before .before .before .before .before .before .args .nodes .now)) (length (c .before .before .before .before .before .before .before .before .before .before .before .before .before .before .args .items .now))) (c .before .before .before .before .before .before .before .before .before .before .before .before .before .before .args .file .now)) (c .before .before .before .before .before .before .before .read-file .ensures .0) (c .before .n .given .1) (c .before .before .before .before .before .before .before .read-file .ensures .1 .0) (c .before .before .before .before .before .before .before .read-file .ensures .1 .1) in (w .0, (w .1, w .2))
+returns-2 c =
+    let at-read-file = c .before .before .before .before .before .before .before in
+    let entry = at-read-file .before .before .before .before .before .before .before in
+    let w = says-refused (entry .args .climbs) (entry .args .file .now) (wantedOf (entry .args .field) (entry .args .name .now))
+    (entry .args .row) (length (entry .args .nodes .now)) (length (entry .args .items .now))
+    (readFile (limits (length (entry .args .nodes .now)) (length (entry .args .items .now))) (entry .args .file .now))
+    (at-read-file .read-file .ensures .0) (c .before .n .given .1) (at-read-file .read-file .ensures .1 .0)
+    (at-read-file .read-file .ensures .1 .1) in (w .0, (w .1, w .2))
 
 same-length-5 : tie.Need-same-length-5
 same-length-5 c = search needs
@@ -62,7 +88,19 @@ same-length-6 : tie.Need-same-length-6
 same-length-6 c = search needs
 
 returns-3 : tie.Need-returns-3
-returns-3 c = let w = says-item (c .before .before .before .before .before .before .before .before .before .before .before .before .before .before .before .before .before .before .before .before .before .before .args .climbs) (c .before .before .before .before .before .before .before .before .before .before .before .before .before .before .before .before .before .before .before .before .before .before .args .file .now) (wantedOf (c .before .before .before .before .before .before .before .before .before .before .before .before .before .before .before .before .before .before .before .before .before .before .args .field) (c .before .before .before .before .before .before .before .before .before .before .before .before .before .before .before .before .before .before .before .before .before .before .args .name .now)) (c .before .before .before .before .before .before .before .before .before .before .before .before .before .before .before .before .before .before .before .before .before .before .args .row) (length (c .before .before .before .before .before .before .before .before .before .before .before .before .before .before .before .before .before .before .before .before .before .before .args .nodes .now)) (length (c .before .before .before .before .before .before .before .before .before .before .before .before .before .before .before .before .before .before .before .before .before .before .args .items .now)) (standing (c .before .before .before .before .before .before .before .before .before .before .before .before .before .before .before .before .before .before .before .before .before .before .args .file .now) (limits (length (c .before .before .before .before .before .before .before .before .before .before .before .before .before .before .before .before .before .before .before .before .before .before .args .nodes .now)) (length (c .before .before .before .before .before .before .before .before .before .before .before .before .before .before .before .before .before .before .before .before .before .before .args .items .now))) (length (c .before .before .before .before .before .before .before .before .before .before .before .before .before .before .before .before .before .before .before .before .before .before .args .nodes .now)) (length (c .before .before .before .before .before .before .before .before .before .before .before .before .before .before .before .before .before .before .before .before .before .before .args .items .now)) (c .before .before .before .before .before .before .before .before .before .before .before .before .before .before .before .read-file .ensures .0) (c .before .before .before .before .before .before .before .before .before .before .before .before .before .before .before .read-file .ensures .1 .0) (c .before .before .before .before .before .before .before .before .before .before .before .before .before .before .before .read-file .ensures .1 .1) (c .before .before .before .before .before .before .before .before .before .s .given .1)) (c .before .before .before .before .before .before .if1 .left) _ (c .before .before .before .found-by .ensures) (c .before .i .given .1) (c .before .before .before .before .before .before .before .before .before .before .before .before .before .before .before .read-file .ensures .1 .0) (c .before .before .before .before .before .before .before .before .before .before .before .before .before .before .before .read-file .ensures .1 .1) in (w .0, (w .1, w .2))
+returns-3 c =
+    let at-found-by = c .before .before .before in
+    let at-if1 = at-found-by .before .before .before in
+    let at-s = at-if1 .before .before .before in
+    let at-read-file = at-s .before .before .before .before .before .before in
+    let entry = at-read-file .before .before .before .before .before .before .before in
+    let w = says-item (entry .args .climbs) (entry .args .file .now) (wantedOf (entry .args .field) (entry .args .name .now)) (entry .args .row)
+    (length (entry .args .nodes .now)) (length (entry .args .items .now))
+    (standing (entry .args .file .now) (limits (length (entry .args .nodes .now)) (length (entry .args .items .now)))
+    (length (entry .args .nodes .now)) (length (entry .args .items .now)) (at-read-file .read-file .ensures .0)
+    (at-read-file .read-file .ensures .1 .0) (at-read-file .read-file .ensures .1 .1) (at-s .s .given .1)) (at-if1 .if1 .left) _
+    (at-found-by .found-by .ensures) (c .before .i .given .1) (at-read-file .read-file .ensures .1 .0)
+    (at-read-file .read-file .ensures .1 .1) in (w .0, (w .1, w .2))
 
 same-length-7 : tie.Need-same-length-7
 same-length-7 c = search needs
@@ -71,7 +109,22 @@ same-length-8 : tie.Need-same-length-8
 same-length-8 c = search needs
 
 returns-4 : tie.Need-returns-4
-returns-4 c = let w = says-no-item (c .before .before .before .before .before .before .before .before .before .before .before .before .before .before .before .before .before .before .before .before .before .before .before .before .before .before .before .before .before .args .climbs) (c .before .before .before .before .before .before .before .before .before .before .before .before .before .before .before .before .before .before .before .before .before .before .before .before .before .before .before .before .before .args .file .now) (wantedOf (c .before .before .before .before .before .before .before .before .before .before .before .before .before .before .before .before .before .before .before .before .before .before .before .before .before .before .before .before .before .args .field) (c .before .before .before .before .before .before .before .before .before .before .before .before .before .before .before .before .before .before .before .before .before .before .before .before .before .before .before .before .before .args .name .now)) (c .before .before .before .before .before .before .before .before .before .before .before .before .before .before .before .before .before .before .before .before .before .before .before .before .before .before .before .before .before .args .row) (length (c .before .before .before .before .before .before .before .before .before .before .before .before .before .before .before .before .before .before .before .before .before .before .before .before .before .before .before .before .before .args .nodes .now)) (length (c .before .before .before .before .before .before .before .before .before .before .before .before .before .before .before .before .before .before .before .before .before .before .before .before .before .before .before .before .before .args .items .now)) (standing (c .before .before .before .before .before .before .before .before .before .before .before .before .before .before .before .before .before .before .before .before .before .before .before .before .before .before .before .before .before .args .file .now) (limits (length (c .before .before .before .before .before .before .before .before .before .before .before .before .before .before .before .before .before .before .before .before .before .before .before .before .before .before .before .before .before .args .nodes .now)) (length (c .before .before .before .before .before .before .before .before .before .before .before .before .before .before .before .before .before .before .before .before .before .before .before .before .before .before .before .before .before .args .items .now))) (length (c .before .before .before .before .before .before .before .before .before .before .before .before .before .before .before .before .before .before .before .before .before .before .before .before .before .before .before .before .before .args .nodes .now)) (length (c .before .before .before .before .before .before .before .before .before .before .before .before .before .before .before .before .before .before .before .before .before .before .before .before .before .before .before .before .before .args .items .now)) (c .before .before .before .before .before .before .before .before .before .before .before .before .before .before .before .before .before .before .before .before .before .before .read-file .ensures .0) (c .before .before .before .before .before .before .before .before .before .before .before .before .before .before .before .before .before .before .before .before .before .before .read-file .ensures .1 .0) (c .before .before .before .before .before .before .before .before .before .before .before .before .before .before .before .before .before .before .before .before .before .before .read-file .ensures .1 .1) (c .before .before .before .before .before .before .before .before .before .before .before .before .before .before .before .before .s .given .1)) (c .before .before .before .before .before .before .before .before .before .before .before .before .before .if1 .left) _ (c .before .before .before .before .before .before .before .before .before .before .found-by .ensures) (c .before .before .before .before .before .before .before .before .n2 .given .1) (c .before .before .before .before .clear-all2 .ensures .0 ∙ ap (λ (k : ℕ). replicate k 0) (c .before .before .before .before .before .before .before .before .before .before .before .before .before .before .before .before .before .before .before .before .before .before .read-file .kept .1 .0)) (c .before .before .before .before .clear-all2 .ensures .1 ∙ ap (λ (k : ℕ). replicate k 0) (c .before .before .before .before .before .before .before .before .before .before .before .before .before .before .before .before .before .before .before .before .before .before .read-file .kept .1 .1 .0)) in (w .0, (w .1, w .2))
+returns-4 c =
+    let at-clear-all2 = c .before .before .before .before in
+    let at-n2 = at-clear-all2 .before .before .before .before in
+    let at-found-by = at-n2 .before .before in
+    let at-if1 = at-found-by .before .before .before in
+    let at-s = at-if1 .before .before .before in
+    let at-read-file = at-s .before .before .before .before .before .before in
+    let entry = at-read-file .before .before .before .before .before .before .before in
+    let w = says-no-item (entry .args .climbs) (entry .args .file .now) (wantedOf (entry .args .field) (entry .args .name .now))
+    (entry .args .row) (length (entry .args .nodes .now)) (length (entry .args .items .now))
+    (standing (entry .args .file .now) (limits (length (entry .args .nodes .now)) (length (entry .args .items .now)))
+    (length (entry .args .nodes .now)) (length (entry .args .items .now)) (at-read-file .read-file .ensures .0)
+    (at-read-file .read-file .ensures .1 .0) (at-read-file .read-file .ensures .1 .1) (at-s .s .given .1)) (at-if1 .if1 .left) _
+    (at-found-by .found-by .ensures) (at-n2 .n2 .given .1)
+    (at-clear-all2 .clear-all2 .ensures .0 ∙ ap (λ (k : ℕ). replicate k 0) (at-read-file .read-file .kept .1 .0))
+    (at-clear-all2 .clear-all2 .ensures .1 ∙ ap (λ (k : ℕ). replicate k 0) (at-read-file .read-file .kept .1 .1 .0)) in (w .0, (w .1, w .2))
 
 pub find-field-spec : {M : Type 1} → statement M
 find-field-spec =

@@ -16,7 +16,10 @@ returns-3 : tie.Need-returns-3
 returns-3 c = named-size _ _ _ (c .if3 .taken) (c .before .before .if2 .left) (c .before .before .before .before .if1 .left)
 
 same-bytes-requires : tie.Need-same-bytes-requires
-same-bytes-requires c κs = omega (arith, name-in (c .before .before .before .before .before .before .before .args .row) (c .before .before .before .before .before .before .before .pre) (c .before .before .if2 .left), c .if3 .left)
+same-bytes-requires c κs =
+    let at-if2 = c .before .before in
+    let entry = at-if2 .before .before .before .before .before in
+    omega (arith, name-in (entry .args .row) (entry .pre) (at-if2 .if2 .left), c .if3 .left)
 
 returns-4 : tie.Need-returns-4
 returns-4 c = named-bytes _ _ _ (c .same-bytes .ensures) (c .before .if3 .left) (c .before .before .before .if2 .left) (c .before .before .before .before .before .if1 .left)

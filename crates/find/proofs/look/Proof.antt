@@ -2,7 +2,6 @@
 -- Assumes nothing.
 use mathlib.Core.Path.{_≡_, refl}
 use Prim.Native.Nat.{_-_}
-use lib.ListN.{length}
 use Rattle.tree.specs.Rows.{itemsIn}
 use Rattle.tree.proofs.Own.{row-in}
 use Rattle.find.specs.Told.{wantedOf}
@@ -24,10 +23,16 @@ item-at-requires : tie.Need-item-at-requires Inv-loop μ-loop
 item-at-requires c κs = omega arith
 
 is-wanted-requires : tie.Need-is-wanted-requires Inv-loop μ-loop
-is-wanted-requires c κs = row-in (c .before .before .before .before .before .before .args .items .now) (c .before .before .before .before .before .before .pre .0) (omega arith) (c .item-at .ensures)
+is-wanted-requires c κs =
+    let entry = c .before .before .before .before .before .before in
+    row-in (entry .args .items .now) (entry .pre .0) (omega arith) (c .item-at .ensures)
 
 returns : tie.Need-returns Inv-loop μ-loop
-returns c = row-found _ _ _ _ _ _ _ (c .before .before .before .before .loop .inv) (c .before .before .before .loop-test .taken) (omega arith) (c .before .before .item-at .ensures) (c .before .is-wanted .ensures) (c .if1 .taken)
+returns c =
+    let at-item-at = c .before .before in
+    let at-loop-test = at-item-at .before in
+    let at-loop = at-loop-test .before in
+    row-found _ _ _ _ _ _ _ (at-loop .loop .inv) (at-loop-test .loop-test .taken) (omega arith) (at-item-at .item-at .ensures) (c .before .is-wanted .ensures) (c .if1 .taken)
 
 add-i : tie.Need-add-i Inv-loop μ-loop
 add-i c = omega arith
@@ -36,7 +41,11 @@ loop-less : tie.Need-loop-less Inv-loop μ-loop
 loop-less c = omega arith
 
 loop-again : tie.Need-loop-again Inv-loop μ-loop
-loop-again c = row-other _ _ _ _ _ _ _ (c .before .before .before .before .loop .inv) (c .before .before .before .loop-test .taken) (omega arith) (c .before .before .item-at .ensures) (c .before .is-wanted .ensures) (c .if1 .left)
+loop-again c =
+    let at-item-at = c .before .before in
+    let at-loop-test = at-item-at .before in
+    let at-loop = at-loop-test .before in
+    row-other _ _ _ _ _ _ _ (at-loop .loop .inv) (at-loop-test .loop-test .taken) (omega arith) (at-item-at .item-at .ensures) (c .before .is-wanted .ensures) (c .if1 .left)
 
 returns-2 : tie.Need-returns-2 Inv-loop μ-loop
 returns-2 c = row-none _ _ _ _ _ _ _ (c .before .loop .inv) (c .loop-test .left)

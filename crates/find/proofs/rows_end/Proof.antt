@@ -1,12 +1,11 @@
 -- `rows_end` counts back to the row behind node k's own. The invariant: the item rows of the nodes before row i end there.
 -- Assumes nothing.
-use Prim.Native.Nat.{_+_, _<_, _≤_, _-_}
+use Prim.Native.Nat.{_<_, _≤_, _-_}
 use Rattle.find.proofs.Climbing.{EndsAt, back-rows, back-one}
 use mathlib.Core.Path.{ap, _∙_}
 use Rattle.tree.specs.Rows.{nodesIn}
 use Rattle.tree.specs.Own.{firstRow}
 use native.Mathlib.Omega.{arith}
-use borrow.Author.Needs.{needs}
 use Rattle.find.proofs.rows_end.Statement.{statement}
 use Rattle.find.proofs.rows_end.Tie as tie
 
@@ -29,16 +28,29 @@ node-at-requires : tie.Need-node-at-requires Inv-loop μ-loop
 node-at-requires c κs = omega (arith, c .before .before .before .pre .0, c .before .loop .inv)
 
 sub-end : tie.Need-sub-end Inv-loop μ-loop
-sub-end c = back-rows (c .before .before .before .before .args .nodes .now) (c .before .before .before .before .args .n) (c .before .before .loop .i) (omega arith) (c .before .before .loop .inv .1) (c .node-at .ensures) (c .before .before .loop .inv .2)
+sub-end c =
+    let at-loop = c .before .before in
+    let entry = at-loop .before .before in
+    back-rows (entry .args .nodes .now) (entry .args .n) (at-loop .loop .i) (omega arith) (at-loop .loop .inv .1) (c .node-at .ensures) (at-loop .loop .inv .2)
 
 loop-less : tie.Need-loop-less Inv-loop μ-loop
 loop-less c = omega arith
 
 loop-again : tie.Need-loop-again Inv-loop μ-loop
-loop-again c = (omega arith, omega (arith, c .before .before .loop .inv), back-one (c .before .before .before .before .args .nodes .now) (c .before .before .before .before .args .n) (c .before .before .loop .i) (omega arith) (c .before .before .loop .inv .1) (c .node-at .ensures) (c .before .before .loop .inv .2))
+loop-again c =
+    let at-loop = c .before .before in
+    let entry = at-loop .before .before in (
+      omega arith,
+      omega (arith, at-loop .loop .inv),
+      back-one (entry .args .nodes .now) (entry .args .n) (at-loop .loop .i) (omega arith)
+          (at-loop .loop .inv .1) (c .node-at .ensures) (at-loop .loop .inv .2),
+    )
 
 returns : tie.Need-returns Inv-loop μ-loop
-returns c = c .before .loop .inv .2 ∙ ap (firstRow (nodesIn (c .before .before .before .args .n) (c .before .before .before .args .nodes .now))) (omega (arith, c .before .loop .inv))
+returns c =
+    let at-loop = c .before in
+    let entry = at-loop .before .before in
+    at-loop .loop .inv .2 ∙ ap (firstRow (nodesIn (entry .args .n) (entry .args .nodes .now))) (omega (arith, at-loop .loop .inv))
 
 pub rows-end-spec : {M : Type 1} → statement M
 rows-end-spec = tie.close (tie.spec Inv-loop μ-loop loop-holds add-loop sub-i node-at-requires sub-end loop-less loop-again returns)

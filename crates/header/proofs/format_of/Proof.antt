@@ -3,7 +3,6 @@
 use Rattle.header.proofs.Types.{Searching, begin, found, on, nothing}
 use native.Mathlib.Omega.{arith}
 use Prim.Native.Nat.{_-_, _≤_}
-use borrow.Author.Needs.{needs}
 use Rattle.header.proofs.format_of.Statement.{statement}
 use Rattle.header.proofs.format_of.Tie as tie
 

@@ -25,7 +25,14 @@ enum-known-kind : tie.Need-enum-known-kind
 enum-known-kind c = search needs
 
 read-four-requires-2 : tie.Need-read-four-requires-2
-read-four-requires-2 c κs = omega (arith, at-end any-free (c .before .before .before .before .before .before .args .file .now) (four-on 3 (length (c .before .before .before .before .before .before .args .file .now)) (c .before .before .before .before .before .before .args .c .at .0)) (was numberTold (c .before .before .before .read-four .ensures) (c .before .kind .given .1)))
+read-four-requires-2 c κs =
+    let at-read-four = c .before .before .before in
+    let entry = at-read-four .before .before .before in
+    omega (
+      arith,
+      at-end any-free (entry .args .file .now) (four-on 3 (length (entry .args .file .now)) (entry .args .c .at .0))
+          (was numberTold (at-read-four .read-four .ensures) (c .before .kind .given .1)),
+    )
 
 enum-known-n-2 : tie.Need-enum-known-n-2
 enum-known-n-2 c = search needs
@@ -37,10 +44,22 @@ returns-2 : tie.Need-returns-2
 returns-2 c = edition-type _ _ _ _ (c .before .before .before .before .if1 .left) (was numberTold (c .before .before .before .read-four .ensures) (c .before .n .given .1))
 
 returns-3 : tie.Need-returns-3
-returns-3 c = edition-revision _ _ _ _ (c .before .before .before .before .before .before .before .before .if1 .left) (was numberTold (c .before .before .before .before .before .before .before .read-four .ensures) (c .before .before .before .before .before .kind .given .1)) (was numberTold (c .before .before .before .read-four2 .ensures) (c .before .n2 .given .1))
+returns-3 c =
+    let at-read-four2 = c .before .before .before in
+    let at-kind = at-read-four2 .before .before in
+    let at-read-four = at-kind .before .before in
+    let at-if1 = at-read-four .before in
+    edition-revision _ _ _ _ (at-if1 .if1 .left) (was numberTold (at-read-four .read-four .ensures) (at-kind .kind .given .1))
+    (was numberTold (at-read-four2 .read-four2 .ensures) (c .before .n2 .given .1))
 
 returns-4 : tie.Need-returns-4
-returns-4 c = edition-all _ _ _ _ (c .before .before .before .before .before .before .before .before .if1 .left) (was numberTold (c .before .before .before .before .before .before .before .read-four .ensures) (c .before .before .before .before .before .kind .given .1)) (was numberTold (c .before .before .before .read-four2 .ensures) (c .before .revision .given .1))
+returns-4 c =
+    let at-read-four2 = c .before .before .before in
+    let at-kind = at-read-four2 .before .before in
+    let at-read-four = at-kind .before .before in
+    let at-if1 = at-read-four .before in
+    edition-all _ _ _ _ (at-if1 .if1 .left) (was numberTold (at-read-four .read-four .ensures) (at-kind .kind .given .1))
+    (was numberTold (at-read-four2 .read-four2 .ensures) (c .before .revision .given .1))
 
 pub read-edition-spec : {M : Type 1} → statement M
 read-edition-spec =

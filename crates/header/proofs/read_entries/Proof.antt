@@ -27,7 +27,11 @@ same-length : tie.Need-same-length Inv-loop μ-loop
 same-length c = c .before .before .before .before .before .read-entry .kept .1 .1 .0 ∙ c .before .before .before .before .before .before .before .before .loop .inv .0
 
 returns : tie.Need-returns Inv-loop μ-loop
-returns c = (entries-no (c .before .before .before .before .before .before .before .before .loop .inv .1) (c .before .before .before .before .before .before .before .loop-test .taken) _ _ (c .before .before .before .before .before .read-entry .ensures) (c .before .n .given .1), tt)
+returns c =
+    let at-read-entry = c .before .before .before .before .before in
+    let at-loop-test = at-read-entry .before .before in
+    let at-loop = at-loop-test .before in
+    (entries-no (at-loop .loop .inv .1) (at-loop-test .loop-test .taken) _ _ (at-read-entry .read-entry .ensures) (c .before .n .given .1), tt)
 
 enum-known-d : tie.Need-enum-known-d Inv-loop μ-loop
 enum-known-d c = search needs
@@ -42,7 +46,14 @@ loop-less : tie.Need-loop-less Inv-loop μ-loop
 loop-less c = omega arith
 
 loop-again : tie.Need-loop-again Inv-loop μ-loop
-loop-again c = (c .before .before .before .before .before .read-entry .kept .1 .1 .0 ∙ c .before .before .before .before .before .before .before .before .loop .inv .0, entries-on (c .before .before .before .before .before .before .before .before .loop .inv .1) (c .before .before .before .before .before .before .before .loop-test .taken) _ _ (c .before .before .before .before .before .read-entry .ensures) (c .before .d .given .1))
+loop-again c =
+    let at-read-entry = c .before .before .before .before .before in
+    let at-loop-test = at-read-entry .before .before in
+    let at-loop = at-loop-test .before in (
+      at-read-entry .read-entry .kept .1 .1 .0 ∙ at-loop .loop .inv .0,
+      entries-on (at-loop .loop .inv .1) (at-loop-test .loop-test .taken) _ _
+          (at-read-entry .read-entry .ensures) (c .before .d .given .1),
+    )
 
 same-length-2 : tie.Need-same-length-2 Inv-loop μ-loop
 same-length-2 c = c .before .loop .inv .0

@@ -22,7 +22,12 @@ enum-known-of : tie.Need-enum-known-of
 enum-known-of c = search needs
 
 returns : tie.Need-returns
-returns c = entry-full _ _ _ _ (was numberTold (c .before .before .before .before .number .ensures fileFrame) (c .before .before .of .given .1)) (omega (arith, types-length (c .before .before .before .before .before .before .before .before .args .count) (c .before .before .before .before .before .before .before .before .args .types .now), c .if1 .taken))
+returns c =
+    let at-of = c .before .before in
+    let at-number = at-of .before .before in
+    let entry = at-number .before .before .before .before in
+    entry-full _ _ _ _ (was numberTold (at-number .number .ensures fileFrame) (at-of .of .given .1))
+    (omega (arith, types-length (entry .args .count) (entry .args .types .now), c .if1 .taken))
 
 format-of-requires : tie.Need-format-of-requires
 format-of-requires c κs = search needs
@@ -34,7 +39,15 @@ same-length : tie.Need-same-length
 same-length c = search needs
 
 returns-2 : tie.Need-returns-2
-returns-2 c = entry-twice _ _ _ _ (was numberTold (c .before .before .before .before .before .before .before .before .number .ensures fileFrame) (c .before .before .before .before .before .before .of .given .1)) (omega (arith, types-length (c .before .before .before .before .before .before .before .before .before .before .before .before .args .count) (c .before .before .before .before .before .before .before .before .before .before .before .before .args .types .now), c .before .before .before .before .if1 .left)) (was foundTold (c .before .before .format-of .ensures) (c .enum-told .given .1))
+returns-2 c =
+    let at-format-of = c .before .before in
+    let at-if1 = at-format-of .before .before in
+    let at-of = at-if1 .before .before in
+    let at-number = at-of .before .before in
+    let entry = at-number .before .before .before .before in
+    entry-twice _ _ _ _ (was numberTold (at-number .number .ensures fileFrame) (at-of .of .given .1))
+    (omega (arith, types-length (entry .args .count) (entry .args .types .now), at-if1 .if1 .left))
+    (was foundTold (at-format-of .format-of .ensures) (c .enum-told .given .1))
 
 enum-told-2 : tie.Need-enum-told-2
 enum-told-2 c = search needs
@@ -58,10 +71,17 @@ enum-known-size : tie.Need-enum-known-size
 enum-known-size c = search needs
 
 declare-requires : tie.Need-declare-requires
-declare-requires c κs = omega (arith, c .before .before .before .before .before .before .before .before .before .before .before .before .before .if1 .left, c .before .before .before .before .before .before .before .before .before .before .before .before .before .before .before .before .before .before .before .before .before .pre)
+declare-requires c κs =
+    let at-if1 = c .before .before .before .before .before .before .before .before .before .before .before .before .before in
+    let entry = at-if1 .before .before .before .before .before .before .before .before in
+    omega (arith, at-if1 .if1 .left, entry .pre)
 
 on-requires : tie.Need-on-requires
-on-requires c κs = omega (arith, c .before .before .before .before .before .before .before .before .before .before .before .before .before .before .before .before .before .before .before .before .before .before .before .before .pre, block-inside fileFrame _ _ _ _ (was numberTold (c .before .before .before .before .before .before .before .block .ensures fileFrame) (c .before .before .before .before .before .size .given .1)))
+on-requires c κs =
+    let at-size = c .before .before .before .before .before in
+    let at-block = at-size .before .before in
+    let entry = at-block .before .before .before .before .before .before .before .before .before .before .before .before .before .before .before .before .before in
+    omega (arith, entry .pre, block-inside fileFrame _ _ _ _ (was numberTold (at-block .block .ensures fileFrame) (at-size .size .given .1)))
 
 returns-3 : tie.Need-returns-3
 returns-3 c = entry-type _ _ _ _ (was numberTold (c .before .before .before .number .ensures fileFrame) (c .before .n .given .1))
@@ -70,19 +90,60 @@ same-length-2 : tie.Need-same-length-2
 same-length-2 c = search needs
 
 returns-4 : tie.Need-returns-4
-returns-4 c = entry-format _ _ _ _ (was numberTold (c .before .before .before .before .before .before .before .before .before .before .before .before .number .ensures fileFrame) (c .before .before .before .before .before .before .before .before .before .before .of .given .1)) (omega (arith, types-length (c .before .before .before .before .before .before .before .before .before .before .before .before .before .before .before .before .args .count) (c .before .before .before .before .before .before .before .before .before .before .before .before .before .before .before .before .args .types .now), c .before .before .before .before .before .before .before .before .if1 .left)) (was foundTold (c .before .before .before .before .before .before .format-of .ensures) (c .before .before .before .before .enum-told2 .given .1)) (was numberTold (c .before .before .before .number2 .ensures fileFrame) (c .before .n2 .given .1))
+returns-4 c =
+    let at-number2 = c .before .before .before in
+    let at-enum-told2 = at-number2 .before in
+    let at-format-of = at-enum-told2 .before .before in
+    let at-if1 = at-format-of .before .before in
+    let at-of = at-if1 .before .before in
+    let at-number = at-of .before .before in
+    let entry = at-number .before .before .before .before in
+    entry-format _ _ _ _ (was numberTold (at-number .number .ensures fileFrame) (at-of .of .given .1))
+    (omega (arith, types-length (entry .args .count) (entry .args .types .now), at-if1 .if1 .left))
+    (was foundTold (at-format-of .format-of .ensures) (at-enum-told2 .enum-told2 .given .1))
+    (was numberTold (at-number2 .number2 .ensures fileFrame) (c .before .n2 .given .1))
 
 same-length-3 : tie.Need-same-length-3
 same-length-3 c = search needs
 
 returns-5 : tie.Need-returns-5
-returns-5 c = entry-language _ _ _ _ (was numberTold (c .before .before .before .before .before .before .before .before .before .before .before .before .before .before .before .before .number .ensures fileFrame) (c .before .before .before .before .before .before .before .before .before .before .before .before .before .before .of .given .1)) (omega (arith, types-length (c .before .before .before .before .before .before .before .before .before .before .before .before .before .before .before .before .before .before .before .before .args .count) (c .before .before .before .before .before .before .before .before .before .before .before .before .before .before .before .before .before .before .before .before .args .types .now), c .before .before .before .before .before .before .before .before .before .before .before .before .if1 .left)) (was foundTold (c .before .before .before .before .before .before .before .before .before .before .format-of .ensures) (c .before .before .before .before .before .before .before .before .enum-told2 .given .1)) (was numberTold (c .before .before .before .before .before .before .before .number2 .ensures fileFrame) (c .before .before .before .before .before .format .given .1)) (was numberTold (c .before .before .before .block .ensures fileFrame) (c .before .n3 .given .1))
+returns-5 c =
+    let at-block = c .before .before .before in
+    let at-format = at-block .before .before in
+    let at-number2 = at-format .before .before in
+    let at-enum-told2 = at-number2 .before in
+    let at-format-of = at-enum-told2 .before .before in
+    let at-if1 = at-format-of .before .before in
+    let at-of = at-if1 .before .before in
+    let at-number = at-of .before .before in
+    let entry = at-number .before .before .before .before in
+    entry-language _ _ _ _ (was numberTold (at-number .number .ensures fileFrame) (at-of .of .given .1))
+    (omega (arith, types-length (entry .args .count) (entry .args .types .now), at-if1 .if1 .left))
+    (was foundTold (at-format-of .format-of .ensures) (at-enum-told2 .enum-told2 .given .1))
+    (was numberTold (at-number2 .number2 .ensures fileFrame) (at-format .format .given .1))
+    (was numberTold (at-block .block .ensures fileFrame) (c .before .n3 .given .1))
 
 same-length-4 : tie.Need-same-length-4
 same-length-4 c = search needs
 
 returns-6 : tie.Need-returns-6
-returns-6 c = entry-all _ _ _ _ (was numberTold (c .before .before .before .before .before .before .before .before .before .before .before .before .before .before .before .before .before .before .before .before .before .number .ensures fileFrame) (c .before .before .before .before .before .before .before .before .before .before .before .before .before .before .before .before .before .before .before .of .given .1)) (omega (arith, types-length (c .before .before .before .before .before .before .before .before .before .before .before .before .before .before .before .before .before .before .before .before .before .before .before .before .before .args .count) (c .before .before .before .before .before .before .before .before .before .before .before .before .before .before .before .before .before .before .before .before .before .before .before .before .before .args .types .now), c .before .before .before .before .before .before .before .before .before .before .before .before .before .before .before .before .before .if1 .left)) (was foundTold (c .before .before .before .before .before .before .before .before .before .before .before .before .before .before .before .format-of .ensures) (c .before .before .before .before .before .before .before .before .before .before .before .before .before .enum-told2 .given .1)) (was numberTold (c .before .before .before .before .before .before .before .before .before .before .before .before .number2 .ensures fileFrame) (c .before .before .before .before .before .before .before .before .before .before .format .given .1)) (was numberTold (c .before .before .before .before .before .before .before .before .block .ensures fileFrame) (c .before .before .before .before .before .before .size .given .1)) (c .on .ensures) (c .before .before .before .declare .ensures)
+returns-6 c =
+    let at-declare = c .before .before .before in
+    let at-size = at-declare .before .before .before in
+    let at-block = at-size .before .before in
+    let at-format = at-block .before .before in
+    let at-number2 = at-format .before .before in
+    let at-enum-told2 = at-number2 .before in
+    let at-format-of = at-enum-told2 .before .before in
+    let at-if1 = at-format-of .before .before in
+    let at-of = at-if1 .before .before in
+    let at-number = at-of .before .before in
+    let entry = at-number .before .before .before .before in
+    entry-all _ _ _ _ (was numberTold (at-number .number .ensures fileFrame) (at-of .of .given .1))
+    (omega (arith, types-length (entry .args .count) (entry .args .types .now), at-if1 .if1 .left))
+    (was foundTold (at-format-of .format-of .ensures) (at-enum-told2 .enum-told2 .given .1))
+    (was numberTold (at-number2 .number2 .ensures fileFrame) (at-format .format .given .1))
+    (was numberTold (at-block .block .ensures fileFrame) (at-size .size .given .1)) (c .on .ensures) (at-declare .declare .ensures)
 
 pub read-entry-spec : {M : Type 1} → statement M
 read-entry-spec =

@@ -23,7 +23,14 @@ enum-known-version : tie.Need-enum-known-version
 enum-known-version c = search needs
 
 read-edition-requires : tie.Need-read-edition-requires
-read-edition-requires c κs = omega (arith, at-end any-free (c .before .before .before .before .before .before .args .file .now) (opening-on (length (c .before .before .before .before .before .before .args .file .now))) (was numberTold (c .before .before .before .read-opening .ensures) (c .before .version .given .1)))
+read-edition-requires c κs =
+    let at-read-opening = c .before .before .before in
+    let entry = at-read-opening .before .before .before in
+    omega (
+      arith,
+      at-end any-free (entry .args .file .now) (opening-on (length (entry .args .file .now)))
+          (was numberTold (at-read-opening .read-opening .ensures) (c .before .version .given .1)),
+    )
 
 enum-known-n-2 : tie.Need-enum-known-n-2
 enum-known-n-2 c = search needs
@@ -41,7 +48,16 @@ enum-known-e : tie.Need-enum-known-e
 enum-known-e c = search needs
 
 read-types-requires : tie.Need-read-types-requires
-read-types-requires c κs = omega (arith, c .before .before .before .before .before .before .before .before .before .before .before .before .before .before .before .pre, at-end any-free (c .before .before .before .before .before .before .before .before .before .before .before .before .before .before .before .args .file .now) (opening-on (length (c .before .before .before .before .before .before .before .before .before .before .before .before .before .before .before .args .file .now))) (was numberTold (c .before .before .before .before .before .before .before .before .before .before .before .before .read-opening .ensures) (c .before .before .before .before .before .before .before .before .before .before .version .given .1)))
+read-types-requires c κs =
+    let at-version = c .before .before .before .before .before .before .before .before .before .before in
+    let at-read-opening = at-version .before .before in
+    let entry = at-read-opening .before .before .before in
+    omega (
+      arith,
+      entry .pre,
+      at-end any-free (entry .args .file .now) (opening-on (length (entry .args .file .now)))
+          (was numberTold (at-read-opening .read-opening .ensures) (at-version .version .given .1)),
+    )
 
 enum-known-n-4 : tie.Need-enum-known-n-4
 enum-known-n-4 c = search needs
@@ -62,28 +78,91 @@ returns : tie.Need-returns
 returns c = (header-opening _ _ (was numberTold (c .before .before .before .read-opening .ensures) (c .before .n .given .1)), tt)
 
 returns-2 : tie.Need-returns-2
-returns-2 c = (header-edition _ _ (was numberTold (c .before .before .before .before .before .before .before .read-opening .ensures) (c .before .before .before .before .before .version .given .1)) (was editionTold (c .before .before .before .read-edition .ensures) (c .before .n2 .given .1)), tt)
+returns-2 c =
+    let at-read-edition = c .before .before .before in
+    let at-version = at-read-edition .before .before in
+    let at-read-opening = at-version .before .before in (
+      header-edition _ _ (was numberTold (at-read-opening .read-opening .ensures) (at-version .version .given .1))
+          (was editionTold (at-read-edition .read-edition .ensures) (c .before .n2 .given .1)),
+      tt,
+    )
 
 returns-3 : tie.Need-returns-3
-returns-3 c = (header-length _ _ (was numberTold (c .before .before .before .before .before .before .before .before .before .before .before .read-opening .ensures) (c .before .before .before .before .before .before .before .before .before .version .given .1)) (was editionTold (c .before .before .before .before .before .before .before .read-edition .ensures) (c .before .before .before .before .before .edition .given .1)) (was passTold (c .before .before .before .read-length .ensures) (c .before .n3 .given .1)), tt)
+returns-3 c =
+    let at-read-length = c .before .before .before in
+    let at-edition = at-read-length .before .before in
+    let at-read-edition = at-edition .before .before in
+    let at-version = at-read-edition .before .before in
+    let at-read-opening = at-version .before .before in (
+      header-length _ _ (was numberTold (at-read-opening .read-opening .ensures) (at-version .version .given .1))
+          (was editionTold (at-read-edition .read-edition .ensures) (at-edition .edition .given .1))
+          (was passTold (at-read-length .read-length .ensures) (c .before .n3 .given .1)),
+      tt,
+    )
 
 same-length : tie.Need-same-length
 same-length c = search needs
 
 returns-4 : tie.Need-returns-4
-returns-4 c = (header-types _ _ (was numberTold (c .before .before .before .before .before .before .before .before .before .before .before .before .before .before .before .before .before .before .read-opening .ensures) (c .before .before .before .before .before .before .before .before .before .before .before .before .before .before .before .before .version .given .1)) (was editionTold (c .before .before .before .before .before .before .before .before .before .before .before .before .before .before .read-edition .ensures) (c .before .before .before .before .before .before .before .before .before .before .before .before .edition .given .1)) (was passTold (c .before .before .before .before .before .before .before .before .before .before .read-length .ensures) (c .before .before .before .before .before .before .before .before .e .given .1)) (types-refused _ _ (c .before .before .before .before .before .read-types .ensures .0) (c .before .n4 .given .1)), tt)
+returns-4 c =
+    let at-read-types = c .before .before .before .before .before in
+    let at-e = at-read-types .before .before .before in
+    let at-read-length = at-e .before .before in
+    let at-edition = at-read-length .before .before in
+    let at-read-edition = at-edition .before .before in
+    let at-version = at-read-edition .before .before in
+    let at-read-opening = at-version .before .before in (
+      header-types _ _ (was numberTold (at-read-opening .read-opening .ensures) (at-version .version .given .1))
+          (was editionTold (at-read-edition .read-edition .ensures) (at-edition .edition .given .1))
+          (was passTold (at-read-length .read-length .ensures) (at-e .e .given .1))
+          (types-refused _ _ (at-read-types .read-types .ensures .0) (c .before .n4 .given .1)),
+      tt,
+    )
 
 same-length-2 : tie.Need-same-length-2
 same-length-2 c = search needs
 
 returns-5 : tie.Need-returns-5
-returns-5 c = (header-extent _ _ (was numberTold (c .before .before .before .before .before .before .before .before .before .before .before .before .before .before .before .before .before .before .before .before .before .before .read-opening .ensures) (c .before .before .before .before .before .before .before .before .before .before .before .before .before .before .before .before .before .before .before .before .version .given .1)) (was editionTold (c .before .before .before .before .before .before .before .before .before .before .before .before .before .before .before .before .before .before .read-edition .ensures) (c .before .before .before .before .before .before .before .before .before .before .before .before .before .before .before .before .edition .given .1)) (was passTold (c .before .before .before .before .before .before .before .before .before .before .before .before .before .before .read-length .ensures) (c .before .before .before .before .before .before .before .before .before .before .before .before .e .given .1)) (types-counted _ _ (c .before .before .before .before .before .before .before .before .before .read-types .ensures .0) (c .before .before .before .before .before .count .given .1)) (was extentTold (c .before .before .before .read-extent .ensures) (c .before .n5 .given .1)), tt)
+returns-5 c =
+    let at-read-extent = c .before .before .before in
+    let at-count = at-read-extent .before .before in
+    let at-read-types = at-count .before .before .before .before in
+    let at-e = at-read-types .before .before .before in
+    let at-read-length = at-e .before .before in
+    let at-edition = at-read-length .before .before in
+    let at-read-edition = at-edition .before .before in
+    let at-version = at-read-edition .before .before in
+    let at-read-opening = at-version .before .before in (
+      header-extent _ _ (was numberTold (at-read-opening .read-opening .ensures) (at-version .version .given .1))
+          (was editionTold (at-read-edition .read-edition .ensures) (at-edition .edition .given .1))
+          (was passTold (at-read-length .read-length .ensures) (at-e .e .given .1))
+          (types-counted _ _ (at-read-types .read-types .ensures .0) (at-count .count .given .1))
+          (was extentTold (at-read-extent .read-extent .ensures) (c .before .n5 .given .1)),
+      tt,
+    )
 
 same-length-3 : tie.Need-same-length-3
 same-length-3 c = search needs
 
 returns-6 : tie.Need-returns-6
-returns-6 c = (header-all _ _ (was numberTold (c .before .before .before .before .before .before .before .before .before .before .before .before .before .before .before .before .before .before .before .before .before .before .read-opening .ensures) (c .before .before .before .before .before .before .before .before .before .before .before .before .before .before .before .before .before .before .before .before .version .given .1)) (was editionTold (c .before .before .before .before .before .before .before .before .before .before .before .before .before .before .before .before .before .before .read-edition .ensures) (c .before .before .before .before .before .before .before .before .before .before .before .before .before .before .before .before .edition .given .1)) (was passTold (c .before .before .before .before .before .before .before .before .before .before .before .before .before .before .read-length .ensures) (c .before .before .before .before .before .before .before .before .before .before .before .before .e .given .1)) (types-counted _ _ (c .before .before .before .before .before .before .before .before .before .read-types .ensures .0) (c .before .before .before .before .before .count .given .1)) (was extentTold (c .before .before .before .read-extent .ensures) (c .before .extent .given .1)), listed (c .before .before .before .before .before .before .before .before .before .read-types .ensures .1) (c .before .before .before .before .before .count .given .1))
+returns-6 c =
+    let at-read-extent = c .before .before .before in
+    let at-count = at-read-extent .before .before in
+    let at-read-types = at-count .before .before .before .before in
+    let at-e = at-read-types .before .before .before in
+    let at-read-length = at-e .before .before in
+    let at-edition = at-read-length .before .before in
+    let at-read-edition = at-edition .before .before in
+    let at-version = at-read-edition .before .before in
+    let at-read-opening = at-version .before .before in (
+      header-all _ _ (was numberTold (at-read-opening .read-opening .ensures) (at-version .version .given .1))
+          (was editionTold (at-read-edition .read-edition .ensures) (at-edition .edition .given .1))
+          (was passTold (at-read-length .read-length .ensures) (at-e .e .given .1))
+          (types-counted _ _ (at-read-types .read-types .ensures .0) (at-count .count .given .1))
+          (was extentTold (at-read-extent .read-extent .ensures) (c .before .extent .given .1)),
+      listed (at-read-types .read-types .ensures .1)
+          (at-count .count .given .1),
+    )
 
 pub read-header-spec : {M : Type 1} → statement M
 read-header-spec =

@@ -4,7 +4,6 @@ use Rattle.cursor.specs.Rows.{fileFrame}
 use Rattle.cursor.specs.Told.{numberTold}
 use Rattle.cursor.proofs.Laws.{was}
 use Rattle.header.proofs.Ways.{length-no, length-other, length-is}
-use native.Mathlib.Omega.{arith}
 use borrow.Author.Needs.{needs}
 use Rattle.header.proofs.read_length.Statement.{statement}
 use Rattle.header.proofs.read_length.Tie as tie

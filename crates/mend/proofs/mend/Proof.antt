@@ -74,12 +74,18 @@ slice-aggregate-read-behind c = search needs
 
 read-behind-requires : tie.Need-read-behind-requires
 read-behind-requires c κs =
-    let isSound = c .before .before .before .before .before .before .before .is-sound .ensures in
-    let if1Left = c .before .before .before .before .before .before .if1 .left in
-    let readFields = c .before .before .before .before .before .before .before .before .before .before .before .before .before .read-fields .ensures in
-    let isW = c .before .before .before .before .before .before .before .before .before .before .w .given .1 in
-    let lent = c .before .before .before .before .before .before .before .before .before .before .before .before .before .before .before .before .before .before .before .before .args in
-    let x = sound-facts _ _ _ (sym (isSound []) ∙ not-false _ if1Left) in let y = few (readFields .1) isW in
+    let at-if1 = c .before .before .before .before .before .before in
+    let at-is-sound = at-if1 .before in
+    let at-w = at-is-sound .before .before .before in
+    let at-read-fields = at-w .before .before .before in
+    let entry = at-read-fields .before .before .before .before .before .before .before in
+    let isSound = at-is-sound .is-sound .ensures in
+    let if1Left = at-if1 .if1 .left in
+    let readFields = at-read-fields .read-fields .ensures in
+    let isW = at-w .w .given .1 in
+    let lent = entry .args in
+    let x = sound-facts _ _ _ (sym (isSound []) ∙ not-false _ if1Left) in
+    let y = few (readFields .1) isW in
     (x .ordered, x .inside, fields-in (lent .file .now) (fields-are _ _ (readFields .0) isW) .small, omega arith)
 
 enum-known-m : tie.Need-enum-known-m
@@ -87,25 +93,39 @@ enum-known-m c = search needs
 
 refuse-unchanged-requires-3 : tie.Need-refuse-unchanged-requires-3
 refuse-unchanged-requires-3 c κs =
-    let lent = c .before .before .before .before .before .before .before .before .before .before .before .before .before .before .before .before .before .before .before .before .before .before .before .before .before .before .before .before .before .before .before .before .args in
-    let readBehindKept = c .before .before .before .before .before .before .before .before .before .before .before .read-behind .kept in
-    let readFields = c .before .before .before .before .before .before .before .before .before .before .before .before .before .before .before .before .before .before .before .before .before .before .before .before .before .read-fields .ensures in
-    let isW = c .before .before .before .before .before .before .before .before .before .before .before .before .before .before .before .before .before .before .before .before .before .before .w .given .1 in
-    let lastOf = c .before .before .before .before .before .before .before .before .before .before .before .before .before .before .before .before .before .before .before .before .last-of .ensures in
-    let isSound = c .before .before .before .before .before .before .before .before .before .before .before .before .before .before .before .before .before .before .before .is-sound .ensures in
-    let if1Left = c .before .before .before .before .before .before .before .before .before .before .before .before .before .before .before .before .before .before .if1 .left in
-    let readBehind = c .before .before .before .before .before .before .before .before .before .before .before .read-behind .ensures in
-    let isM = c .before .before .before .before .before .m .given .1 in
-    lens (lent .file .now) (readBehindKept .1 .1 .0) (readBehindKept .1 .1 .1 .0) (lost-behind (limits (length (lent .nodes .now)) (length (lent .items .now))) (lent .file .now) (fields-are _ _ (readFields .0) isW) (last-is (lent .file .now) _ lastOf) (sym (isSound _) ∙ not-false _ if1Left) (readBehind .0) isM)
+    let at-m = c .before .before .before .before .before in
+    let at-read-behind = at-m .before .before .before .before .before .before in
+    let at-if1 = at-read-behind .before .before .before .before .before .before .before in
+    let at-is-sound = at-if1 .before in
+    let at-last-of = at-is-sound .before in
+    let at-w = at-last-of .before .before in
+    let at-read-fields = at-w .before .before .before in
+    let entry = at-read-fields .before .before .before .before .before .before .before in
+    let lent = entry .args in
+    let readBehindKept = at-read-behind .read-behind .kept in
+    let readFields = at-read-fields .read-fields .ensures in
+    let isW = at-w .w .given .1 in
+    let lastOf = at-last-of .last-of .ensures in
+    let isSound = at-is-sound .is-sound .ensures in
+    let if1Left = at-if1 .if1 .left in
+    let readBehind = at-read-behind .read-behind .ensures in
+    let isM = at-m .m .given .1 in
+    lens (lent .file .now) (readBehindKept .1 .1 .0) (readBehindKept .1 .1 .1 .0)
+    (lost-behind (limits (length (lent .nodes .now)) (length (lent .items .now))) (lent .file .now) (fields-are _ _ (readFields .0) isW)
+    (last-is (lent .file .now) _ lastOf) (sym (isSound _) ∙ not-false _ if1Left) (readBehind .0) isM)
 
 enum-known-s : tie.Need-enum-known-s
 enum-known-s c = search needs
 
 write-mended-requires : tie.Need-write-mended-requires
 write-mended-requires c κs =
-    let lent = c .before .before .before .before .before .before .before .before .before .before .before .before .before .before .before .before .before .before .before .before .before .before .before .before .before .before .before .before .before .before .before .before .args in
-    let readFields = c .before .before .before .before .before .before .before .before .before .before .before .before .before .before .before .before .before .before .before .before .before .before .before .before .before .read-fields .ensures in
-    let isW = c .before .before .before .before .before .before .before .before .before .before .before .before .before .before .before .before .before .before .before .before .before .before .w .given .1 in
+    let at-w = c .before .before .before .before .before .before .before .before .before .before .before .before .before .before
+    .before .before .before .before .before .before .before .before in
+    let at-read-fields = at-w .before .before .before in
+    let entry = at-read-fields .before .before .before .before .before .before .before in
+    let lent = entry .args in
+    let readFields = at-read-fields .read-fields .ensures in
+    let isW = at-w .w .given .1 in
     λ ws. any-types _ _ ws (fields-in (lent .file .now) (fields-are _ _ (readFields .0) isW))
 
 same-length-5 : tie.Need-same-length-5
@@ -137,9 +157,13 @@ same-length-12 c = search needs
 
 returns-3 : tie.Need-returns-3
 returns-3 c =
-    let lent = c .before .before .before .before .before .before .before .before .before .before .before .before .before .before .before .before .before .before .before .before .before .before .before .before .before .before .before .before .before .before .before .before .before .before .before .before .before .before .before .before .before .args in
-    let readBehindKept = c .before .before .before .before .before .before .before .before .before .before .before .before .before .before .before .before .before .before .before .before .read-behind .kept in
-    let refuseUnchanged3 = c .before .before .before .before .before .before .before .before .refuse-unchanged3 .ensures in
+    let at-refuse-unchanged3 = c .before .before .before .before .before .before .before .before in
+    let at-read-behind = at-refuse-unchanged3 .before .before .before .before .before .before .before .before .before .before .before .before in
+    let entry = at-read-behind .before .before .before .before .before .before .before .before .before .before .before .before .before .before
+    .before .before .before .before .before .before .before in
+    let lent = entry .args in
+    let readBehindKept = at-read-behind .read-behind .kept in
+    let refuseUnchanged3 = at-refuse-unchanged3 .refuse-unchanged3 .ensures in
     let e = ends-lens (lent .file .now) (readBehindKept .1 .1 .0) (readBehindKept .1 .1 .1 .0) refuseUnchanged3 in
     (e .answer, (e .nodes, (e .items, (e .copy, e .lines))))
 
@@ -157,17 +181,29 @@ same-length-16 c = search needs
 
 returns-4 : tie.Need-returns-4
 returns-4 c =
-    let lent = c .before .before .before .before .before .before .before .before .before .before .before .before .before .before .before .before .before .before .before .before .before .before .before .before .before .before .before .before .before .before .before .before .before .before .before .before .before .before .before .before .before .args in
-    let readFields = c .before .before .before .before .before .before .before .before .before .before .before .before .before .before .before .before .before .before .before .before .before .before .before .before .before .before .before .before .before .before .before .before .before .before .read-fields .ensures in
-    let isW = c .before .before .before .before .before .before .before .before .before .before .before .before .before .before .before .before .before .before .before .before .before .before .before .before .before .before .before .before .before .before .before .w .given .1 in
-    let lastOf = c .before .before .before .before .before .before .before .before .before .before .before .before .before .before .before .before .before .before .before .before .before .before .before .before .before .before .before .before .before .last-of .ensures in
-    let isSound = c .before .before .before .before .before .before .before .before .before .before .before .before .before .before .before .before .before .before .before .before .before .before .before .before .before .before .before .before .is-sound .ensures in
-    let if1Left = c .before .before .before .before .before .before .before .before .before .before .before .before .before .before .before .before .before .before .before .before .before .before .before .before .before .before .before .if1 .left in
-    let readBehind = c .before .before .before .before .before .before .before .before .before .before .before .before .before .before .before .before .before .before .before .before .read-behind .ensures in
-    let isS = c .before .before .before .before .before .before .before .before .before .before .before .before .before .before .s .given .1 in
-    let readBehindKept = c .before .before .before .before .before .before .before .before .before .before .before .before .before .before .before .before .before .before .before .before .read-behind .kept in
-    let writeMended = c .before .before .before .before .before .before .before .before .write-mended .ensures in
-    let e = ends-set (lent .file .now) (length (lent .nodes .now)) (length (lent .items .now)) (length (lent .copy .now)) (length (lent .lines .now)) (fields-are _ _ (readFields .0) isW) (last-is (lent .file .now) _ lastOf) (sym (isSound _) ∙ not-false _ if1Left) (readBehind .0) isS (readBehind .1 .0) (readBehind .1 .1) (readBehindKept .1 .1 .0) (readBehindKept .1 .1 .1 .0) (writeMended _) in
+    let at-write-mended = c .before .before .before .before .before .before .before .before in
+    let at-s = at-write-mended .before .before .before .before .before .before in
+    let at-read-behind = at-s .before .before .before .before .before .before in
+    let at-if1 = at-read-behind .before .before .before .before .before .before .before in
+    let at-is-sound = at-if1 .before in
+    let at-last-of = at-is-sound .before in
+    let at-w = at-last-of .before .before in
+    let at-read-fields = at-w .before .before .before in
+    let entry = at-read-fields .before .before .before .before .before .before .before in
+    let lent = entry .args in
+    let readFields = at-read-fields .read-fields .ensures in
+    let isW = at-w .w .given .1 in
+    let lastOf = at-last-of .last-of .ensures in
+    let isSound = at-is-sound .is-sound .ensures in
+    let if1Left = at-if1 .if1 .left in
+    let readBehind = at-read-behind .read-behind .ensures in
+    let isS = at-s .s .given .1 in
+    let readBehindKept = at-read-behind .read-behind .kept in
+    let writeMended = at-write-mended .write-mended .ensures in
+    let e = ends-set (lent .file .now) (length (lent .nodes .now)) (length (lent .items .now)) (length (lent .copy .now))
+    (length (lent .lines .now)) (fields-are _ _ (readFields .0) isW) (last-is (lent .file .now) _ lastOf)
+    (sym (isSound _) ∙ not-false _ if1Left) (readBehind .0) isS (readBehind .1 .0) (readBehind .1 .1) (readBehindKept .1 .1 .0)
+    (readBehindKept .1 .1 .1 .0) (writeMended _) in
     (e .answer, (e .nodes, (e .items, (e .copy, e .lines))))
 
 pub mend-spec : {M : Type 1} → statement M

@@ -128,8 +128,11 @@ returns-5 c =
     let readTypes = c .before .before .before .before .before .before .before .before .before .read-types .ensures in
     let isCount = c .before .before .before .before .before .count .given .1 in
     let readField2 = c .before .before .before .read-field2 .ensures in
-    let isN5 = c .before .n5 .given .1 in
-    (fields-start _ _ (was numberTold readOpening isVersion) (was editionTold readEdition isEdition) (was fieldTold readField isLength) (types-counted _ _ (readTypes .0) isCount) (was fieldTold readField2 isN5), tt)
+    let isN5 = c .before .n5 .given .1 in (
+      fields-start _ _ (was numberTold readOpening isVersion) (was editionTold readEdition isEdition) (was fieldTold readField isLength)
+          (types-counted _ _ (readTypes .0) isCount) (was fieldTold readField2 isN5),
+      tt,
+    )
 
 same-length-3 : tie.Need-same-length-3
 same-length-3 c = search needs
@@ -147,8 +150,11 @@ returns-6 c =
     let readField2 = c .before .before .before .before .before .before .before .before .read-field2 .ensures in
     let isStart = c .before .before .before .before .before .before .start .given .1 in
     let readField3 = c .before .before .before .read-field3 .ensures in
-    let isN6 = c .before .n6 .given .1 in
-    (fields-last _ _ (was numberTold readOpening isVersion) (was editionTold readEdition isEdition) (was fieldTold readField isLength) (types-counted _ _ (readTypes .0) isCount) (was fieldTold readField2 isStart) (was fieldTold readField3 isN6), tt)
+    let isN6 = c .before .n6 .given .1 in (
+      fields-last _ _ (was numberTold readOpening isVersion) (was editionTold readEdition isEdition) (was fieldTold readField isLength)
+          (types-counted _ _ (readTypes .0) isCount) (was fieldTold readField2 isStart) (was fieldTold readField3 isN6),
+      tt,
+    )
 
 same-length-4 : tie.Need-same-length-4
 same-length-4 c = search needs
@@ -166,8 +172,12 @@ returns-7 c =
     let readField2 = c .before .before .before .before .before .before .before .before .read-field2 .ensures in
     let isStart = c .before .before .before .before .before .before .start .given .1 in
     let readField3 = c .before .before .before .read-field3 .ensures in
-    let isLast = c .before .last .given .1 in
-    (fields-all _ _ (was numberTold readOpening isVersion) (was editionTold readEdition isEdition) (was fieldTold readField isLength) (types-counted _ _ (readTypes .0) isCount) (was fieldTold readField2 isStart) (was fieldTold readField3 isLast), listed (readTypes .1) isCount)
+    let isLast = c .before .last .given .1 in (
+      fields-all _ _ (was numberTold readOpening isVersion) (was editionTold readEdition isEdition) (was fieldTold readField isLength)
+          (types-counted _ _ (readTypes .0) isCount) (was fieldTold readField2 isStart) (was fieldTold readField3 isLast),
+      listed (readTypes .1)
+          isCount,
+    )
 
 pub read-fields-spec : {M : Type 1} → statement M
 read-fields-spec =

@@ -32,7 +32,8 @@ returns c =
     let if1Taken = c .before .before .before .before .before .before .before .before .before .before .before .before .before .if1 .taken in
     let noRoom = c .before .before .before .before .before .before .before .before .no-room .ensures in
     let putLinesKept = c .before .before .before .before .before .before .before .before .before .before .before .before .before .before .before .before .put-lines .kept in
-    λ ws. set-short (lent .file .now) (fieldsOf (lent .w) ws) (lent .last) if1Taken (noRoom .0) (noRoom .1 .0) (noRoom .1 .1 .0) (noRoom .1 .1 .1 .0) (zeros (noRoom .1 .1 .1 .1) (putLinesKept .0))
+    λ ws. set-short (lent .file .now) (fieldsOf (lent .w) ws) (lent .last) if1Taken (noRoom .0) (noRoom .1 .0) (noRoom .1 .1 .0)
+    (noRoom .1 .1 .1 .0) (zeros (noRoom .1 .1 .1 .1) (putLinesKept .0))
 
 no-room-requires-2 : tie.Need-no-room-requires-2
 no-room-requires-2 c κs = search needs
@@ -57,7 +58,8 @@ returns-2 c =
     let putLinesKept = c .before .before .before .before .before .before .before .before .before .before .before .before .before .before .before .before .before .put-lines .kept in
     let putLines = c .before .before .before .before .before .before .before .before .before .before .before .before .before .before .before .before .before .put-lines .ensures in
     let noRoom2 = c .before .before .before .before .before .before .before .before .no-room2 .ensures in
-    λ ws. set-narrow (lent .file .now) (fieldsOf (lent .w) ws) (lent .last) if1Left (omega (arith, if2Taken, putLinesKept .0, putLines .after)) (noRoom2 .0) (noRoom2 .1 .0) (noRoom2 .1 .1 .0) (noRoom2 .1 .1 .1 .0) (zeros (noRoom2 .1 .1 .1 .1) (putLinesKept .0))
+    λ ws. set-narrow (lent .file .now) (fieldsOf (lent .w) ws) (lent .last) if1Left (omega (arith, if2Taken, putLinesKept .0, putLines .after))
+    (noRoom2 .0) (noRoom2 .1 .0) (noRoom2 .1 .1 .0) (noRoom2 .1 .1 .1 .0) (zeros (noRoom2 .1 .1 .1 .1) (putLinesKept .0))
 
 put-copy-requires : tie.Need-put-copy-requires
 put-copy-requires c κs = (c .before .before .before .before .before .before .before .before .before .before .before .before .pre, c .before .before .if1 .left)
@@ -81,7 +83,8 @@ returns-3 c =
     let lent = c .before .before .before .before .before .before .before .before .before .before .before .before .before .before .before .before .before .before .before .args in
     let if1Left = c .before .before .before .before .before .before .before .before .before .if1 .left in
     let putCopy = c .before .before .before .before .before .before .put-copy .ensures in
-    λ ws. let v = wrote-all putLines (omega (arith, if2Left, putLinesKept .0)) (omega (arith, good)) clearBytesFrom in set-good (lent .file .now) (fieldsOf (lent .w) ws) (lent .last) if1Left (v .1) (omega (arith, if2Left, putLinesKept .0)) (putCopy ws) (v .2)
+    λ ws. let v = wrote-all putLines (omega (arith, if2Left, putLinesKept .0)) (omega (arith, good)) clearBytesFrom in set-good
+    (lent .file .now) (fieldsOf (lent .w) ws) (lent .last) if1Left (v .1) (omega (arith, if2Left, putLinesKept .0)) (putCopy ws) (v .2)
 
 pub write-mended-spec : {M : Type 1} → statement M
 write-mended-spec =

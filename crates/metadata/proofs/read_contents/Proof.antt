@@ -4,7 +4,6 @@ use Rattle.cursor.specs.Rows.{metaFrame}
 use Rattle.cursor.specs.Told.{numberTold}
 use Rattle.cursor.proofs.Laws.{was}
 use Rattle.metadata.proofs.Ways.{contents-cut, contents-universal, contents-versions}
-use native.Mathlib.Omega.{arith}
 use borrow.Author.Needs.{needs}
 use Rattle.metadata.proofs.read_contents.Statement.{statement}
 use Rattle.metadata.proofs.read_contents.Tie as tie

@@ -1,7 +1,7 @@
 -- `read_item` gives what `item` gives, and leaves its rows in the table.
 -- Assumes nothing.
 use Rattle.cursor.proofs.Laws.{was}
-use Rattle.metadata.specs.Told.{itemTold, CommonTold}
+use Rattle.metadata.specs.Told.{itemTold}
 use Rattle.metadata.proofs.Gives.{no, yes, along}
 use Rattle.metadata.proofs.Ways.{item-frame, item-rows, common-was, common-inside, common-row}
 use native.Mathlib.Omega.{arith}
@@ -28,19 +28,40 @@ row-of-requires : tie.Need-row-of-requires
 row-of-requires c κs = search needs
 
 put-item-requires : tie.Need-put-item-requires
-put-item-requires c κs = omega (arith, c .before .before .before .before .before .before .before .before .before .before .before .before .before .pre, c .before .before .before .before .before .before .before .if1 .taken)
+put-item-requires c κs =
+    let at-if1 = c .before .before .before .before .before .before .before in
+    let entry = at-if1 .before .before .before .before .before .before in
+    omega (arith, entry .pre, at-if1 .if1 .taken)
 
 add-on : tie.Need-add-on
-add-on c = omega (arith, c .before .before .before .before .before .before .before .before .before .before .before .before .before .before .before .before .pre, common-inside _ _ _ (common-was _ _ _ (c .before .before .before .before .before .before .before .before .before .read-common .ensures) (c .before .before .before .before .before .before .before .is .given .1)))
+add-on c =
+    let at-is = c .before .before .before .before .before .before .before in
+    let at-read-common = at-is .before .before in
+    let entry = at-read-common .before .before .before .before .before .before .before in
+    omega (arith, entry .pre, common-inside _ _ _ (common-was _ _ _ (at-read-common .read-common .ensures) (at-is .is .given .1)))
 
 on-requires-2 : tie.Need-on-requires-2
-on-requires-2 c κs = omega (arith, c .before .before .before .before .before .before .before .before .before .before .before .before .before .before .before .before .pre, common-inside _ _ _ (common-was _ _ _ (c .before .before .before .before .before .before .before .before .before .read-common .ensures) (c .before .before .before .before .before .before .before .is .given .1)))
+on-requires-2 c κs =
+    let at-is = c .before .before .before .before .before .before .before in
+    let at-read-common = at-is .before .before in
+    let entry = at-read-common .before .before .before .before .before .before .before in
+    omega (arith, entry .pre, common-inside _ _ _ (common-was _ _ _ (at-read-common .read-common .ensures) (at-is .is .given .1)))
 
 same-length : tie.Need-same-length
 same-length c = search needs
 
 returns : tie.Need-returns
-returns c = λ t. yes (common-row _ _ _ _ _ _ _ _ (common-was _ _ _ (c .before .before .before .before .before .before .before .before .before .before .read-common .ensures) (c .before .before .before .before .before .before .before .before .is .given .1)) (c .before .before .before .before .before .before .before .before .before .before .before .if1 .taken) (c .before .before .before .before .before .before .on .ensures) (c .before .before .before .before .row-of .ensures) (c .before .before .before .put-item .ensures) (c .on2 .ensures)) (omega (arith, c .before .before .before .before .before .before .before .before .before .before .before .before .before .before .before .before .before .pre, c .before .before .before .before .before .before .before .before .before .before .before .if1 .taken))
+returns c =
+    let at-put-item = c .before .before .before in
+    let at-row-of = at-put-item .before in
+    let at-on = at-row-of .before .before in
+    let at-is = at-on .before .before in
+    let at-read-common = at-is .before .before in
+    let at-if1 = at-read-common .before in
+    let entry = at-if1 .before .before .before .before .before .before in
+    λ t. yes (common-row _ _ _ _ _ _ _ _ (common-was _ _ _ (at-read-common .read-common .ensures) (at-is .is .given .1)) (at-if1 .if1 .taken)
+    (at-on .on .ensures) (at-row-of .row-of .ensures) (at-put-item .put-item .ensures) (c .on2 .ensures))
+    (omega (arith, entry .pre, at-if1 .if1 .taken))
 
 enum-told : tie.Need-enum-told
 enum-told c = search needs
@@ -64,7 +85,13 @@ same-length-2 : tie.Need-same-length-2
 same-length-2 c = search needs
 
 returns-3 : tie.Need-returns-3
-returns-3 c = λ t. along (item-rows _ _ _ _ _ _ _ _ (was itemTold (c .before .before .before .before .before .before .before .read-frame .ensures) (c .before .before .before .before .before .is2 .given .1))) (c .before .before .read-rows .ensures t)
+returns-3 c =
+    let at-read-rows = c .before .before in
+    let at-is2 = at-read-rows .before .before .before in
+    let at-read-frame = at-is2 .before .before in
+    λ t. along (item-rows _ _ _ _ _ _ _ _ (was itemTold (at-read-frame .read-frame .ensures) (at-is2 .is2 .given .1))) (at-read-rows .read-rows .ensures t)
 
 pub read-item-spec : {M : Type 1} → statement M
-read-item-spec = tie.close (tie.spec read-common-requires enum-known-is on-requires add-made sub-row-of row-of-requires put-item-requires add-on on-requires-2 same-length returns enum-told read-frame-requires enum-known-n enum-known-is-2 read-rows-requires returns-2 same-length-2 returns-3)
+read-item-spec = tie.close (tie.spec read-common-requires enum-known-is on-requires add-made sub-row-of row-of-requires put-item-requires
+    add-on on-requires-2 same-length returns enum-told read-frame-requires enum-known-n enum-known-is-2 read-rows-requires returns-2
+    same-length-2 returns-3)

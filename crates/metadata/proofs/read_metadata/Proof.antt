@@ -24,7 +24,12 @@ on-requires : tie.Need-on-requires
 on-requires c κs = omega (arith, block-inside metaFrame _ _ _ _ (was numberTold (c .before .before .before .block .ensures metaFrame) (c .before .size .given .1)))
 
 read-items-requires : tie.Need-read-items-requires
-read-items-requires c κs = omega (arith, c .before .before .before .before .before .before .before .before .before .before .pre, c .before .before .on .ensures, block-inside metaFrame _ _ _ _ (was numberTold (c .before .before .before .before .before .before .block .ensures metaFrame) (c .before .before .before .before .size .given .1)))
+read-items-requires c κs =
+    let at-on = c .before .before in
+    let at-size = at-on .before .before in
+    let at-block = at-size .before .before in
+    let entry = at-block .before .before .before .before in
+    omega (arith, entry .pre, at-on .on .ensures, block-inside metaFrame _ _ _ _ (was numberTold (at-block .block .ensures metaFrame) (at-size .size .given .1)))
 
 returns : tie.Need-returns
 returns c = λ t. no (metadata-length _ _ _ _ _ _ _ (was numberTold (c .before .before .before .block .ensures metaFrame) (c .before .n .given .1)))
@@ -33,7 +38,13 @@ same-length : tie.Need-same-length
 same-length c = search needs
 
 returns-2 : tie.Need-returns-2
-returns-2 c = λ t. along (metadata-items _ _ _ _ _ _ _ (was numberTold (c .before .before .before .before .before .before .before .before .before .block .ensures metaFrame) (c .before .before .before .before .before .before .before .size .given .1)) (c .before .before .before .before .before .on .ensures)) (c .before .before .read-items .ensures t)
+returns-2 c =
+    let at-read-items = c .before .before in
+    let at-on = at-read-items .before .before .before in
+    let at-size = at-on .before .before in
+    let at-block = at-size .before .before in
+    λ t. along (metadata-items _ _ _ _ _ _ _ (was numberTold (at-block .block .ensures metaFrame) (at-size .size .given .1))
+    (at-on .on .ensures)) (at-read-items .read-items .ensures t)
 
 pub read-metadata-spec : {M : Type 1} → statement M
 read-metadata-spec =

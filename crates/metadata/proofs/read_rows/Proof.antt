@@ -2,7 +2,6 @@
 -- Assumes nothing.
 use Rattle.metadata.proofs.Gives.{along}
 use Rattle.metadata.proofs.Ways.{rows-universal, rows-versions}
-use native.Mathlib.Omega.{arith}
 use borrow.Author.Needs.{needs}
 use Rattle.metadata.proofs.read_rows.Statement.{statement}
 use Rattle.metadata.proofs.read_rows.Tie as tie

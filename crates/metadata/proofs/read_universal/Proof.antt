@@ -26,13 +26,20 @@ enum-known-size : tie.Need-enum-known-size
 enum-known-size c = search needs
 
 returns-2 : tie.Need-returns-2
-returns-2 c = λ t ws. no (universal-zero _ _ _ _ _ _ _ (c .before .before .before .before .before .if1 .left) (was numberTold (c .before .before .before .before .block .ensures metaFrame) (c .before .before .size .given .1)) (c .if2 .taken))
+returns-2 c =
+    let at-size = c .before .before in
+    let at-block = at-size .before .before in
+    let at-if1 = at-block .before in
+    λ t ws. no (universal-zero _ _ _ _ _ _ _ (at-if1 .if1 .left) (was numberTold (at-block .block .ensures metaFrame) (at-size .size .given .1)) (c .if2 .taken))
 
 on-requires : tie.Need-on-requires
 on-requires c κs = omega (arith, block-inside metaFrame _ _ _ _ (was numberTold (c .before .before .before .before .block .ensures metaFrame) (c .before .before .size .given .1)))
 
 number-requires : tie.Need-number-requires
-number-requires c κs = omega (arith, c .before .on .ensures, block-inside metaFrame _ _ _ _ (was numberTold (c .before .before .before .before .before .before .block .ensures metaFrame) (c .before .before .before .before .size .given .1)))
+number-requires c κs =
+    let at-size = c .before .before .before .before in
+    let at-block = at-size .before .before in
+    omega (arith, c .before .on .ensures, block-inside metaFrame _ _ _ _ (was numberTold (at-block .block .ensures metaFrame) (at-size .size .given .1)))
 
 enum-known-n-2 : tie.Need-enum-known-n-2
 enum-known-n-2 c = search needs
@@ -44,25 +51,57 @@ add-made : tie.Need-add-made
 add-made c = search needs
 
 sub-row-of : tie.Need-sub-row-of
-sub-row-of c = omega (arith, number-inside metaFrame _ _ _ _ (was numberTold (c .before .before .before .before .before .before .before .number .ensures metaFrame) (c .before .before .before .before .before .format .given .1)))
+sub-row-of c =
+    let at-format = c .before .before .before .before .before in
+    let at-number = at-format .before .before in
+    omega (arith, number-inside metaFrame _ _ _ _ (was numberTold (at-number .number .ensures metaFrame) (at-format .format .given .1)))
 
 row-of-requires : tie.Need-row-of-requires
 row-of-requires c κs = search needs
 
 put-item-requires : tie.Need-put-item-requires
-put-item-requires c κs = omega (arith, c .before .before .before .before .before .before .before .before .before .before .before .before .before .before .before .before .before .before .before .before .before .before .pre, c .before .before .before .before .before .before .before .before .before .before .before .before .before .before .before .before .if1 .left)
+put-item-requires c κs =
+    let at-if1 = c .before .before .before .before .before .before .before .before .before .before .before .before .before .before .before .before in
+    let entry = at-if1 .before .before .before .before .before .before in
+    omega (arith, entry .pre, at-if1 .if1 .left)
 
 returns-3 : tie.Need-returns-3
-returns-3 c = λ t ws. no (universal-length _ _ _ _ _ _ _ (c .before .before .before .before .if1 .left) (was numberTold (c .before .before .before .block .ensures metaFrame) (c .before .n .given .1)))
+returns-3 c =
+    let at-block = c .before .before .before in
+    let at-if1 = at-block .before in
+    λ t ws. no (universal-length _ _ _ _ _ _ _ (at-if1 .if1 .left) (was numberTold (at-block .block .ensures metaFrame) (c .before .n .given .1)))
 
 returns-4 : tie.Need-returns-4
-returns-4 c = λ t ws. no (universal-format _ _ _ _ _ _ _ (c .before .before .before .before .before .before .before .before .before .before .before .if1 .left) (was numberTold (c .before .before .before .before .before .before .before .before .before .before .block .ensures metaFrame) (c .before .before .before .before .before .before .before .before .size .given .1)) (c .before .before .before .before .before .before .if2 .left) (c .before .before .before .before .before .on .ensures) (was numberTold (c .before .before .before .number .ensures metaFrame) (c .before .n2 .given .1)))
+returns-4 c =
+    let at-number = c .before .before .before in
+    let at-on = at-number .before .before in
+    let at-if2 = at-on .before in
+    let at-size = at-if2 .before .before in
+    let at-block = at-size .before .before in
+    let at-if1 = at-block .before in
+    λ t ws. no (universal-format _ _ _ _ _ _ _ (at-if1 .if1 .left)
+    (was numberTold (at-block .block .ensures metaFrame) (at-size .size .given .1)) (at-if2 .if2 .left) (at-on .on .ensures)
+    (was numberTold (at-number .number .ensures metaFrame) (c .before .n2 .given .1)))
 
 same-length : tie.Need-same-length
 same-length c = search needs
 
 returns-5 : tie.Need-returns-5
-returns-5 c = λ t ws. yes (universal-row _ _ _ _ _ _ (state t _ _) (c .before .before .before .before .before .before .before .before .before .before .before .before .before .before .before .before .before .before .before .if1 .left) (was numberTold (c .before .before .before .before .before .before .before .before .before .before .before .before .before .before .before .before .before .before .block .ensures metaFrame) (c .before .before .before .before .before .before .before .before .before .before .before .before .before .before .before .before .size .given .1)) (c .before .before .before .before .before .before .before .before .before .before .before .before .before .before .if2 .left) (c .before .before .before .before .before .before .before .before .before .before .before .before .before .on .ensures) (was numberTold (c .before .before .before .before .before .before .before .before .before .before .before .number .ensures metaFrame) (c .before .before .before .before .before .before .before .before .before .format .given .1)) (c .before .before .before .row-of .ensures) (c .before .before .put-item .ensures)) (omega (arith, c .before .before .before .before .before .before .before .before .before .before .before .before .before .before .before .before .before .before .before .before .before .before .before .before .before .pre, c .before .before .before .before .before .before .before .before .before .before .before .before .before .before .before .before .before .before .before .if1 .left))
+returns-5 c =
+    let at-put-item = c .before .before in
+    let at-row-of = at-put-item .before in
+    let at-format = at-row-of .before .before .before .before .before .before in
+    let at-number = at-format .before .before in
+    let at-on = at-number .before .before in
+    let at-if2 = at-on .before in
+    let at-size = at-if2 .before .before in
+    let at-block = at-size .before .before in
+    let at-if1 = at-block .before in
+    let entry = at-if1 .before .before .before .before .before .before in
+    λ t ws. yes (universal-row _ _ _ _ _ _ (state t _ _) (at-if1 .if1 .left)
+    (was numberTold (at-block .block .ensures metaFrame) (at-size .size .given .1)) (at-if2 .if2 .left) (at-on .on .ensures)
+    (was numberTold (at-number .number .ensures metaFrame) (at-format .format .given .1)) (at-row-of .row-of .ensures)
+    (at-put-item .put-item .ensures)) (omega (arith, entry .pre, at-if1 .if1 .left))
 
 pub read-universal-spec : {M : Type 1} → statement M
 read-universal-spec =

@@ -3,7 +3,7 @@
 use Rattle.cursor.specs.Rows.{metaFrame}
 use Rattle.cursor.specs.Told.{numberTold}
 use Rattle.cursor.proofs.Laws.{was}
-use Rattle.cursor.proofs.Leaves.{number-inside, block-inside}
+use Rattle.cursor.proofs.Leaves.{block-inside}
 use Rattle.header.specs.Types.{foundTold}
 use Rattle.metadata.specs.Tables.{state}
 use Rattle.metadata.proofs.Gives.{no, yes}
@@ -48,31 +48,73 @@ add-made : tie.Need-add-made
 add-made c = search needs
 
 sub-number : tie.Need-sub-number
-sub-number c = omega (arith, c .before .before .before .before .before .before .before .before .before .before .before .before .before .before .before .before .before .before .before .before .pre)
+sub-number c =
+    let entry = c .before .before .before .before .before .before .before .before .before .before .before .before .before .before .before .before .before .before .before .before in
+    omega (arith, entry .pre)
 
 row-of-requires : tie.Need-row-of-requires
 row-of-requires c κs = search needs
 
 put-item-requires : tie.Need-put-item-requires
-put-item-requires c κs = omega (arith, c .before .before .before .before .before .before .before .before .before .before .before .before .before .before .before .before .before .before .before .before .before .before .pre, c .before .before .before .before .before .before .before .before .before .before .before .before .before .before .before .if1 .left)
+put-item-requires c κs =
+    let at-if1 = c .before .before .before .before .before .before .before .before .before .before .before .before .before .before .before in
+    let entry = at-if1 .before .before .before .before .before .before .before in
+    omega (arith, entry .pre, at-if1 .if1 .left)
 
 on-requires : tie.Need-on-requires
-on-requires c κs = omega (arith, c .before .before .before .before .before .before .before .before .before .before .before .before .before .before .before .before .before .before .before .before .before .before .before .before .before .pre, block-inside metaFrame _ _ _ _ (was numberTold (c .before .before .before .before .before .before .before .before .before .block .ensures metaFrame) (c .before .before .before .before .before .before .before .size .given .1)))
+on-requires c κs =
+    let at-size = c .before .before .before .before .before .before .before in
+    let at-block = at-size .before .before in
+    let entry = at-block .before .before .before .before .before .before .before .before .before .before .before .before .before .before .before .before in
+    omega (arith, entry .pre, block-inside metaFrame _ _ _ _ (was numberTold (at-block .block .ensures metaFrame) (at-size .size .given .1)))
 
 returns-2 : tie.Need-returns-2
-returns-2 c = λ t. no (version-type _ _ _ _ _ _ _ _ (c .before .before .before .before .if1 .left) (was numberTold (c .before .before .before .number .ensures metaFrame) (c .before .n .given .1)))
+returns-2 c =
+    let at-number = c .before .before .before in
+    let at-if1 = at-number .before in
+    λ t. no (version-type _ _ _ _ _ _ _ _ (at-if1 .if1 .left) (was numberTold (at-number .number .ensures metaFrame) (c .before .n .given .1)))
 
 returns-3 : tie.Need-returns-3
-returns-3 c = λ t. no (version-unknown _ _ _ _ _ _ _ _ (c .before .before .before .before .before .before .before .if1 .left) (was numberTold (c .before .before .before .before .before .before .number .ensures metaFrame) (c .before .before .before .before .of .given .1)) (was foundTold (c .before .before .format-of .ensures) (c .enum-told .given .1)))
+returns-3 c =
+    let at-format-of = c .before .before in
+    let at-of = at-format-of .before .before in
+    let at-number = at-of .before .before in
+    let at-if1 = at-number .before in
+    λ t. no (version-unknown _ _ _ _ _ _ _ _ (at-if1 .if1 .left) (was numberTold (at-number .number .ensures metaFrame) (at-of .of .given .1))
+    (was foundTold (at-format-of .format-of .ensures) (c .enum-told .given .1)))
 
 returns-4 : tie.Need-returns-4
-returns-4 c = λ t. no (version-length _ _ _ _ _ _ _ _ (c .before .before .before .before .before .before .before .before .before .before .before .before .if1 .left) (was numberTold (c .before .before .before .before .before .before .before .before .before .before .before .number .ensures metaFrame) (c .before .before .before .before .before .before .before .before .before .of .given .1)) (was foundTold (c .before .before .before .before .before .before .before .format-of .ensures) (c .before .before .before .before .before .format .given .1)) (was numberTold (c .before .before .before .block .ensures metaFrame) (c .before .n2 .given .1)))
+returns-4 c =
+    let at-block = c .before .before .before in
+    let at-format = at-block .before .before in
+    let at-format-of = at-format .before .before in
+    let at-of = at-format-of .before .before in
+    let at-number = at-of .before .before in
+    let at-if1 = at-number .before in
+    λ t. no (version-length _ _ _ _ _ _ _ _ (at-if1 .if1 .left) (was numberTold (at-number .number .ensures metaFrame) (at-of .of .given .1))
+    (was foundTold (at-format-of .format-of .ensures) (at-format .format .given .1))
+    (was numberTold (at-block .block .ensures metaFrame) (c .before .n2 .given .1)))
 
 same-length : tie.Need-same-length
 same-length c = search needs
 
 returns-5 : tie.Need-returns-5
-returns-5 c = λ t. yes (version-row _ _ _ _ _ _ _ (state t _ _) (c .before .before .before .before .before .before .before .before .before .before .before .before .before .before .before .before .before .before .before .if1 .left) (was numberTold (c .before .before .before .before .before .before .before .before .before .before .before .before .before .before .before .before .before .before .number .ensures metaFrame) (c .before .before .before .before .before .before .before .before .before .before .before .before .before .before .before .before .of .given .1)) (was foundTold (c .before .before .before .before .before .before .before .before .before .before .before .before .before .before .format-of .ensures) (c .before .before .before .before .before .before .before .before .before .before .before .before .format .given .1)) (was numberTold (c .before .before .before .before .before .before .before .before .before .before .block .ensures metaFrame) (c .before .before .before .before .before .before .before .before .size .given .1)) (c .before .before .before .before .row-of .ensures) (c .before .before .before .put-item .ensures) (c .on .ensures)) (omega (arith, c .before .before .before .before .before .before .before .before .before .before .before .before .before .before .before .before .before .before .before .before .before .before .before .before .before .before .pre, c .before .before .before .before .before .before .before .before .before .before .before .before .before .before .before .before .before .before .before .if1 .left))
+returns-5 c =
+    let at-put-item = c .before .before .before in
+    let at-row-of = at-put-item .before in
+    let at-size = at-row-of .before .before .before .before in
+    let at-block = at-size .before .before in
+    let at-format = at-block .before .before in
+    let at-format-of = at-format .before .before in
+    let at-of = at-format-of .before .before in
+    let at-number = at-of .before .before in
+    let at-if1 = at-number .before in
+    let entry = at-if1 .before .before .before .before .before .before .before in
+    λ t. yes (version-row _ _ _ _ _ _ _ (state t _ _) (at-if1 .if1 .left)
+    (was numberTold (at-number .number .ensures metaFrame) (at-of .of .given .1))
+    (was foundTold (at-format-of .format-of .ensures) (at-format .format .given .1))
+    (was numberTold (at-block .block .ensures metaFrame) (at-size .size .given .1)) (at-row-of .row-of .ensures)
+    (at-put-item .put-item .ensures) (c .on .ensures)) (omega (arith, entry .pre, at-if1 .if1 .left))
 
 pub read-version-spec : {M : Type 1} → statement M
 read-version-spec =

@@ -11,7 +11,8 @@ use Rattle.metadata.proofs.read_versions.Statement.{statement}
 use Rattle.metadata.proofs.read_versions.Tie as tie
 
 abbrev Inv-loop : tie.InvT-loop
-Inv-loop file types items₀ scope l end count rows before next₀ m₀ left₀ items next m left = Going (contextOf scope types (length file)) l file items₀ (end .0) (next₀ .at .0) count (counts (l .node) m₀) items (next .at .0) left (counts (l .node) m)
+Inv-loop file types items₀ scope l end count rows before next₀ m₀ left₀ items next m left = Going (contextOf scope types (length file)) l
+    file items₀ (end .0) (next₀ .at .0) count (counts (l .node) m₀) items (next .at .0) left (counts (l .node) m)
 
 abbrev μ-loop : tie.MeasureT-loop
 μ-loop file types items₀ scope l end count rows before next₀ m₀ left₀ items next m left = left
@@ -20,7 +21,10 @@ loop-holds : tie.Need-loop-holds Inv-loop μ-loop
 loop-holds c = versions-begun _ _ _ _ _ _ _ _ (omega arith) (omega arith)
 
 read-version-requires : tie.Need-read-version-requires Inv-loop μ-loop
-read-version-requires c κs = omega (arith, c .before .before .before .before .before .before .pre, c .before .before .loop .inv .long, c .before .before .loop .inv .nodes-fit, c .before .before .loop .inv .items-fit, c .before .before .loop .inv .since)
+read-version-requires c κs =
+    let at-loop = c .before .before in
+    let entry = at-loop .before .before .before .before in
+    omega (arith, entry .pre, at-loop .loop .inv .long, at-loop .loop .inv .nodes-fit, at-loop .loop .inv .items-fit, at-loop .loop .inv .since)
 
 enum-known-n : tie.Need-enum-known-n Inv-loop μ-loop
 enum-known-n c = search needs
@@ -29,7 +33,11 @@ same-length : tie.Need-same-length Inv-loop μ-loop
 same-length c = c .before .before .before .before .before .read-version .kept .1 .1 .1 .0 ∙ c .before .before .before .before .before .before .before .before .loop .inv .long
 
 returns : tie.Need-returns Inv-loop μ-loop
-returns c = versions-no _ _ _ _ _ _ _ _ (c .before .before .before .before .before .before .before .before .loop .inv) (c .before .before .before .before .before .before .before .loop-test .taken) (c .before .before .before .before .before .read-version .ensures) (ap (walked _) (c .before .n .given .1))
+returns c =
+    let at-read-version = c .before .before .before .before .before in
+    let at-loop-test = at-read-version .before .before in
+    let at-loop = at-loop-test .before in
+    versions-no _ _ _ _ _ _ _ _ (at-loop .loop .inv) (at-loop-test .loop-test .taken) (at-read-version .read-version .ensures) (ap (walked _) (c .before .n .given .1))
 
 enum-known-n-2 : tie.Need-enum-known-n-2 Inv-loop μ-loop
 enum-known-n-2 c = search needs
@@ -41,7 +49,12 @@ loop-less : tie.Need-loop-less Inv-loop μ-loop
 loop-less c = omega arith
 
 loop-again : tie.Need-loop-again Inv-loop μ-loop
-loop-again c = versions-on _ _ _ _ _ _ _ _ (c .before .before .before .before .before .before .before .before .loop .inv) (c .before .before .before .before .before .before .before .loop-test .taken) (c .before .before .before .before .before .read-version .ensures) (ap (walked _) (c .before .n2 .given .1)) (c .before .before .before .before .before .read-version .kept .1 .1 .1 .0)
+loop-again c =
+    let at-read-version = c .before .before .before .before .before in
+    let at-loop-test = at-read-version .before .before in
+    let at-loop = at-loop-test .before in
+    versions-on _ _ _ _ _ _ _ _ (at-loop .loop .inv) (at-loop-test .loop-test .taken) (at-read-version .read-version .ensures)
+    (ap (walked _) (c .before .n2 .given .1)) (at-read-version .read-version .kept .1 .1 .1 .0)
 
 same-length-2 : tie.Need-same-length-2 Inv-loop μ-loop
 same-length-2 c = c .before .loop .inv .long

@@ -1,7 +1,6 @@
 -- `row_of` gives what `rowOf` gives.
 -- Assumes nothing.
 use Rattle.metadata.proofs.Ways.{row-standard, row-name}
-use native.Mathlib.Omega.{arith}
 use borrow.Author.Needs.{needs}
 use Rattle.metadata.proofs.row_of.Statement.{statement}
 use Rattle.metadata.proofs.row_of.Tie as tie

@@ -3,7 +3,6 @@
 use borrow.Author.Tests.{not-true, not-false}
 use mathlib.Core.Path.{sym}
 use Prim.Native.Nat.{_-_, _≤_}
-use lib.ListN.{length}
 use Rattle.tree.proofs.Own.{row-in}
 use Rattle.mobile.proofs.Checks.{NeedsLeft, needs-none, needs-begin, needs-no, needs-on}
 use native.Mathlib.Omega.{arith}
@@ -20,19 +19,37 @@ next-row-requires : tie.Need-next-row-requires Inv-loop μ-loop
 next-row-requires c κs = omega arith
 
 returns : tie.Need-returns Inv-loop μ-loop
-returns c = needs-none (c .before .before .before .before .args .file .now) (c .before .before .before .before .args .tune) (c .before .before .before .before .args .items .now) (c .before .before .before .before .args .many) (c .before .next-row .ensures) (c .if1 .taken)
+returns c =
+    let entry = c .before .before .before .before in
+    needs-none (entry .args .file .now) (entry .args .tune) (entry .args .items .now) (entry .args .many) (c .before .next-row .ensures) (c .if1 .taken)
 
 loop-holds : tie.Need-loop-holds Inv-loop μ-loop
-loop-holds c = (c .before .next-row .ensures .high, needs-begin (c .before .before .before .before .args .file .now) (c .before .before .before .before .args .tune) (c .before .before .before .before .args .items .now) (c .before .before .before .before .args .many) (c .before .next-row .ensures) (c .if1 .left))
+loop-holds c =
+    let at-next-row = c .before in
+    let entry = at-next-row .before .before .before in (
+      at-next-row .next-row .ensures .high,
+      needs-begin (entry .args .file .now) (entry .args .tune) (entry .args .items .now)
+          (entry .args .many) (at-next-row .next-row .ensures) (c .if1 .left),
+    )
 
 item-at-requires : tie.Need-item-at-requires Inv-loop μ-loop
 item-at-requires c κs = omega arith
 
 is-need-requires : tie.Need-is-need-requires Inv-loop μ-loop
-is-need-requires c κs = row-in (c .before .before .before .before .before .before .before .args .items .now) (c .before .before .before .before .before .before .before .pre) (c .before .loop-test .taken) (c .item-at .ensures)
+is-need-requires c κs =
+    let entry = c .before .before .before .before .before .before .before in
+    row-in (entry .args .items .now) (entry .pre) (c .before .loop-test .taken) (c .item-at .ensures)
 
 returns-2 : tie.Need-returns-2 Inv-loop μ-loop
-returns-2 c = needs-no (c .before .before .before .before .before .before .before .before .before .args .file .now) (c .before .before .before .before .before .before .before .before .before .args .tune) (c .before .before .before .before .before .before .before .before .before .args .items .now) (c .before .before .before .before .before .before .before .before .before .args .many) (c .before .before .before .before .loop .inv .1) (c .before .before .before .loop-test .taken) (c .before .before .item-at .ensures) (c .before .is-need .ensures) (not-true (c .before .is-need .result) (c .if2 .taken))
+returns-2 c =
+    let at-is-need = c .before in
+    let at-item-at = at-is-need .before in
+    let at-loop-test = at-item-at .before in
+    let at-loop = at-loop-test .before in
+    let entry = at-loop .before .before .before .before .before in
+    needs-no (entry .args .file .now) (entry .args .tune) (entry .args .items .now) (entry .args .many) (at-loop .loop .inv .1)
+    (at-loop-test .loop-test .taken) (at-item-at .item-at .ensures) (at-is-need .is-need .ensures)
+    (not-true (at-is-need .is-need .result) (c .if2 .taken))
 
 add-next-row : tie.Need-add-next-row Inv-loop μ-loop
 add-next-row c = omega arith
@@ -44,10 +61,21 @@ loop-less : tie.Need-loop-less Inv-loop μ-loop
 loop-less c = omega (arith, c .next-row2 .ensures .low)
 
 loop-again : tie.Need-loop-again Inv-loop μ-loop
-loop-again c = (c .next-row2 .ensures .high, needs-on (c .before .before .before .before .before .before .before .before .before .before .args .file .now) (c .before .before .before .before .before .before .before .before .before .before .args .tune) (c .before .before .before .before .before .before .before .before .before .before .args .items .now) (c .before .before .before .before .before .before .before .before .before .before .args .many) (c .before .before .before .before .before .loop .inv .1) (c .before .before .before .before .loop-test .taken) (c .before .before .before .item-at .ensures) (c .before .before .is-need .ensures) (not-false (c .before .before .is-need .result) (c .before .if2 .left)) (c .next-row2 .ensures))
+loop-again c =
+    let at-is-need = c .before .before in
+    let at-item-at = at-is-need .before in
+    let at-loop-test = at-item-at .before in
+    let at-loop = at-loop-test .before in
+    let entry = at-loop .before .before .before .before .before in (
+      c .next-row2 .ensures .high,
+      needs-on (entry .args .file .now) (entry .args .tune) (entry .args .items .now) (entry .args .many)
+          (at-loop .loop .inv .1) (at-loop-test .loop-test .taken) (at-item-at .item-at .ensures) (at-is-need .is-need .ensures)
+          (not-false (at-is-need .is-need .result) (c .before .if2 .left)) (c .next-row2 .ensures),
+    )
 
 returns-3 : tie.Need-returns-3 Inv-loop μ-loop
 returns-3 c = sym (c .before .loop .inv .1 .none (c .loop-test .left))
 
 pub are-needs-spec : {M : Type 1} → statement M
-are-needs-spec = tie.close (tie.spec Inv-loop μ-loop next-row-requires returns loop-holds item-at-requires is-need-requires returns-2 add-next-row next-row-requires-2 loop-less loop-again returns-3)
+are-needs-spec = tie.close (tie.spec Inv-loop μ-loop next-row-requires returns loop-holds item-at-requires is-need-requires returns-2
+    add-next-row next-row-requires-2 loop-less loop-again returns-3)

@@ -14,7 +14,8 @@ use Rattle.mobile.proofs.children_of.Statement.{statement}
 use Rattle.mobile.proofs.children_of.Tie as tie
 
 abbrev Inv-loop : tie.InvT-loop
-Inv-loop file nodes items n m c₀ end₀ i₀ c end i = (i ≤ n) × (1 ≤ n → 1 ≤ i) × (end ≡ firstRow (nodesIn n nodes) i) × (c ≡ childrenFrom file (itemsIn m items) i (drop i (nodesIn n nodes)))
+Inv-loop file nodes items n m c₀ end₀ i₀ c end i = (i ≤ n) × (1 ≤ n → 1 ≤ i) × (end ≡ firstRow (nodesIn n nodes) i) ×
+    (c ≡ childrenFrom file (itemsIn m items) i (drop i (nodesIn n nodes)))
 
 abbrev μ-loop : tie.MeasureT-loop
 μ-loop file nodes items n m c₀ end₀ i₀ c end i = i
@@ -29,10 +30,16 @@ node-at-requires : tie.Need-node-at-requires Inv-loop μ-loop
 node-at-requires c κs = omega (arith, c .before .before .before .before .before .pre .node-room)
 
 sub-at : tie.Need-sub-at Inv-loop μ-loop
-sub-at c = rows-in (c .before .before .before .before .before .before .pre) (c .before .before .loop .i) (c .before .before .loop .i - 1) (omega arith) (omega arith) (c .node-at .ensures) (c .before .before .loop .inv .2)
+sub-at c =
+    let at-loop = c .before .before in
+    let entry = at-loop .before .before .before .before in
+    rows-in (entry .pre) (at-loop .loop .i) (at-loop .loop .i - 1) (omega arith) (omega arith) (c .node-at .ensures) (at-loop .loop .inv .2)
 
 role-of-requires : tie.Need-role-of-requires Inv-loop μ-loop
-role-of-requires c κs = (c .before .before .before .before .before .before .pre .item-rows, omega arith, end-in (c .before .before .before .before .before .before .pre) (c .before .before .loop .i) (c .before .before .loop .i - 1) (omega arith) (omega arith) (c .node-at .ensures) (c .before .before .loop .inv .2))
+role-of-requires c κs =
+    let at-loop = c .before .before in
+    let entry = at-loop .before .before .before .before in
+    (entry .pre .item-rows, omega arith, end-in (entry .pre) (at-loop .loop .i) (at-loop .loop .i - 1) (omega arith) (omega arith) (c .node-at .ensures) (at-loop .loop .inv .2))
 
 child-requires : tie.Need-child-requires Inv-loop μ-loop
 child-requires c κs = search needs
@@ -41,7 +48,18 @@ loop-less : tie.Need-loop-less Inv-loop μ-loop
 loop-less c = omega arith
 
 loop-again : tie.Need-loop-again Inv-loop μ-loop
-loop-again c = (omega arith, λ z. omega arith, end-next (c .before .before .before .before .before .before .before .before .pre) (c .before .before .before .before .loop .i) (c .before .before .before .before .loop .i - 1) (omega arith) (omega arith) (c .before .before .node-at .ensures) (c .before .before .before .before .loop .inv .2), child-next (c .before .before .before .before .before .before .before .before .pre) (c .before .before .before .before .loop .i) (c .before .before .before .before .loop .i - 1) (omega arith) (omega arith) (c .before .before .node-at .ensures) (c .before .before .before .before .loop .inv .2) (c .before .role-of .ensures) (c .before .before .before .before .loop .inv .3) (c .child .ensures))
+loop-again c =
+    let at-node-at = c .before .before in
+    let at-loop = at-node-at .before .before in
+    let entry = at-loop .before .before .before .before in (
+      omega arith,
+      λ z. omega arith,
+      end-next (entry .pre) (at-loop .loop .i) (at-loop .loop .i - 1) (omega arith) (omega arith)
+          (at-node-at .node-at .ensures) (at-loop .loop .inv .2),
+      child-next (entry .pre) (at-loop .loop .i) (at-loop .loop .i - 1) (omega arith)
+          (omega arith) (at-node-at .node-at .ensures) (at-loop .loop .inv .2) (c .before .role-of .ensures) (at-loop .loop .inv .3)
+          (c .child .ensures),
+    )
 
 returns : tie.Need-returns Inv-loop μ-loop
 returns c = children-end (c .before .before .before .before .before .pre) (c .before .loop .i) (omega arith) (c .before .loop .inv .1) (c .before .loop .inv .3)

@@ -33,7 +33,11 @@ node-at-requires-2 : tie.Need-node-at-requires-2 Inv-loop μ-loop
 node-at-requires-2 c κs = omega arith
 
 returns-3 : tie.Need-returns-3 Inv-loop μ-loop
-returns-3 c = nodes-no _ _ _ _ (c .before .before .before .before .loop .inv .1) (c .before .before .before .loop-test .taken) (c .before .before .node-at2 .ensures) (file-no _ (c .if3 .taken))
+returns-3 c =
+    let at-node-at2 = c .before .before in
+    let at-loop-test = at-node-at2 .before in
+    let at-loop = at-loop-test .before in
+    nodes-no _ _ _ _ (at-loop .loop .inv .1) (at-loop-test .loop-test .taken) (at-node-at2 .node-at2 .ensures) (file-no _ (c .if3 .taken))
 
 add-i : tie.Need-add-i Inv-loop μ-loop
 add-i c = omega arith
@@ -42,7 +46,11 @@ loop-less : tie.Need-loop-less Inv-loop μ-loop
 loop-less c = omega arith
 
 loop-again : tie.Need-loop-again Inv-loop μ-loop
-loop-again c = (omega arith, nodes-on _ _ _ _ (c .before .before .before .before .loop .inv .1) (c .before .before .before .loop-test .taken) (c .before .before .node-at2 .ensures) (file-yes _ (c .if3 .left)))
+loop-again c =
+    let at-node-at2 = c .before .before in
+    let at-loop-test = at-node-at2 .before in
+    let at-loop = at-loop-test .before in
+    (omega arith, nodes-on _ _ _ _ (at-loop .loop .inv .1) (at-loop-test .loop-test .taken) (at-node-at2 .node-at2 .ensures) (file-yes _ (c .if3 .left)))
 
 returns-4 : tie.Need-returns-4 Inv-loop μ-loop
 returns-4 c = nodes-yes _ _ _ _ (c .before .loop .inv .1) (c .loop-test .left)

@@ -19,7 +19,11 @@ enum-known-s : tie.Need-enum-known-s
 enum-known-s c = search needs
 
 verdict-requires : tie.Need-verdict-requires
-verdict-requires c κs = let st = standing _ _ _ _ (c .before .before .before .before .before .before .before .before .before .read-file .ensures .0) (c .before .before .before .before .before .before .before .before .before .read-file .ensures .1 .0) (c .before .before .before .before .before .before .before .before .before .read-file .ensures .1 .1) (c .before .before .before .s .given .1) in tables _ _ st
+verdict-requires c κs =
+    let at-s = c .before .before .before in
+    let at-read-file = at-s .before .before .before .before .before .before in
+    let st = standing _ _ _ _ (at-read-file .read-file .ensures .0) (at-read-file .read-file .ensures .1 .0)
+    (at-read-file .read-file .ensures .1 .1) (at-s .s .given .1) in tables _ _ st
 
 same-length : tie.Need-same-length
 same-length c = search needs
@@ -28,7 +32,11 @@ same-length-2 : tie.Need-same-length-2
 same-length-2 c = search needs
 
 returns : tie.Need-returns
-returns c = let w = says-unread _ _ _ (mobile (c .before .before .before .before .before .before .before .before .before .before .before .before .before .args .file .now)) (c .before .before .before .before .before .before .before .read-file .ensures .0) (c .before .n .given .1) (c .before .before .before .before .before .before .before .read-file .ensures .1 .0) (c .before .before .before .before .before .before .before .read-file .ensures .1 .1) in (w .0, (w .1, w .2))
+returns c =
+    let at-read-file = c .before .before .before .before .before .before .before in
+    let entry = at-read-file .before .before .before .before .before .before in
+    let w = says-unread _ _ _ (mobile (entry .args .file .now)) (at-read-file .read-file .ensures .0) (c .before .n .given .1)
+    (at-read-file .read-file .ensures .1 .0) (at-read-file .read-file .ensures .1 .1) in (w .0, (w .1, w .2))
 
 same-length-3 : tie.Need-same-length-3
 same-length-3 c = search needs
@@ -37,7 +45,12 @@ same-length-4 : tie.Need-same-length-4
 same-length-4 c = search needs
 
 returns-2 : tie.Need-returns-2
-returns-2 c = let st = standing _ _ _ _ (c .before .before .before .before .before .before .before .before .before .before .read-file .ensures .0) (c .before .before .before .before .before .before .before .before .before .before .read-file .ensures .1 .0) (c .before .before .before .before .before .before .before .before .before .before .read-file .ensures .1 .1) (c .before .before .before .before .s .given .1) in let w = judged st (c .verdict .ensures) _ _ (c .before .before .before .before .before .before .before .before .before .before .read-file .ensures .1 .0) (c .before .before .before .before .before .before .before .before .before .before .read-file .ensures .1 .1) in (w .0, (w .1, w .2))
+returns-2 c =
+    let at-s = c .before .before .before .before in
+    let at-read-file = at-s .before .before .before .before .before .before in
+    let st = standing _ _ _ _ (at-read-file .read-file .ensures .0) (at-read-file .read-file .ensures .1 .0)
+    (at-read-file .read-file .ensures .1 .1) (at-s .s .given .1) in let w = judged st (c .verdict .ensures) _ _
+    (at-read-file .read-file .ensures .1 .0) (at-read-file .read-file .ensures .1 .1) in (w .0, (w .1, w .2))
 
 pub judge-spec : {M : Type 1} → statement M
 judge-spec = tie.close (tie.spec read-file-requires enum-known-n enum-known-s verdict-requires same-length same-length-2 returns same-length-3 same-length-4 returns-2)

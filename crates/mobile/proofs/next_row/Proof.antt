@@ -12,7 +12,8 @@ use Rattle.mobile.proofs.next_row.Statement.{statement}
 use Rattle.mobile.proofs.next_row.Tie as tie
 
 abbrev Inv-loop : tie.InvT-loop
-Inv-loop items many field from end i₀ i = (from ≤ i) × (i ≤ end) × (those (isField field) (part (itemsIn many items) from end) ≡ those (isField field) (part (itemsIn many items) i end))
+Inv-loop items many field from end i₀ i = (from ≤ i) × (i ≤ end) ×
+    (those (isField field) (part (itemsIn many items) from end) ≡ those (isField field) (part (itemsIn many items) i end))
 
 abbrev μ-loop : tie.MeasureT-loop
 μ-loop items many field from end i₀ i = end - i
@@ -27,7 +28,14 @@ is-field-requires : tie.Need-is-field-requires Inv-loop μ-loop
 is-field-requires c κs = search needs
 
 returns : tie.Need-returns Inv-loop μ-loop
-returns c = next-here (c .before .before .before .before .before .before .args .items .now) (c .before .before .before .before .before .before .args .many) (c .before .before .before .before .before .before .args .field) (c .before .before .before .before .before .before .args .from) (c .before .before .before .before .before .before .args .end) (c .before .before .before .before .loop .i) (c .before .before .before .before .loop .inv .2) (omega arith) (omega arith) (c .before .before .before .loop-test .taken) (c .before .before .item-at .ensures) (c .before .is-field .ensures) (c .if1 .taken)
+returns c =
+    let at-item-at = c .before .before in
+    let at-loop-test = at-item-at .before in
+    let at-loop = at-loop-test .before in
+    let entry = at-loop .before .before in
+    next-here (entry .args .items .now) (entry .args .many) (entry .args .field) (entry .args .from) (entry .args .end) (at-loop .loop .i)
+    (at-loop .loop .inv .2) (omega arith) (omega arith) (at-loop-test .loop-test .taken) (at-item-at .item-at .ensures)
+    (c .before .is-field .ensures) (c .if1 .taken)
 
 add-i : tie.Need-add-i Inv-loop μ-loop
 add-i c = omega arith
@@ -36,10 +44,24 @@ loop-less : tie.Need-loop-less Inv-loop μ-loop
 loop-less c = omega arith
 
 loop-again : tie.Need-loop-again Inv-loop μ-loop
-loop-again c = (omega arith, omega arith, next-on (c .before .before .before .before .before .before .args .items .now) (c .before .before .before .before .before .before .args .many) (c .before .before .before .before .before .before .args .field) (c .before .before .before .before .before .before .args .from) (c .before .before .before .before .before .before .args .end) (c .before .before .before .before .loop .i) (c .before .before .before .before .loop .inv .2) (omega arith) (omega arith) (c .before .before .before .loop-test .taken) (c .before .before .item-at .ensures) (c .before .is-field .ensures) (c .if1 .left))
+loop-again c =
+    let at-item-at = c .before .before in
+    let at-loop-test = at-item-at .before in
+    let at-loop = at-loop-test .before in
+    let entry = at-loop .before .before in (
+      omega arith,
+      omega arith,
+      next-on (entry .args .items .now) (entry .args .many) (entry .args .field) (entry .args .from) (entry .args .end)
+          (at-loop .loop .i) (at-loop .loop .inv .2) (omega arith) (omega arith) (at-loop-test .loop-test .taken) (at-item-at .item-at .ensures)
+          (c .before .is-field .ensures) (c .if1 .left),
+    )
 
 returns-2 : tie.Need-returns-2 Inv-loop μ-loop
-returns-2 c = next-none (c .before .before .before .args .items .now) (c .before .before .before .args .many) (c .before .before .before .args .field) (c .before .before .before .args .from) (c .before .before .before .args .end) (c .before .loop .i) (c .before .loop .inv .2) (omega arith) (omega arith) (omega arith) (c .loop-test .left)
+returns-2 c =
+    let at-loop = c .before in
+    let entry = at-loop .before .before in
+    next-none (entry .args .items .now) (entry .args .many) (entry .args .field) (entry .args .from) (entry .args .end) (at-loop .loop .i)
+    (at-loop .loop .inv .2) (omega arith) (omega arith) (omega arith) (c .loop-test .left)
 
 pub next-row-spec : {M : Type 1} → statement M
 next-row-spec = tie.close (tie.spec Inv-loop μ-loop loop-holds item-at-requires is-field-requires returns add-i loop-less loop-again returns-2)

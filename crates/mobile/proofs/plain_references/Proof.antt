@@ -29,7 +29,13 @@ is-plain-requires : tie.Need-is-plain-requires Inv-loop μ-loop
 is-plain-requires c κs = search needs
 
 returns : tie.Need-returns Inv-loop μ-loop
-returns c = nodes-no _ _ _ _ (c .before .before .before .before .loop .inv .1) (c .before .before .before .loop-test .taken) (c .before .before .node-at .ensures) (sym (c .before .is-plain .ensures) ∙ not-true (c .before .is-plain .result) (c .if1 .taken))
+returns c =
+    let at-is-plain = c .before in
+    let at-node-at = at-is-plain .before in
+    let at-loop-test = at-node-at .before in
+    let at-loop = at-loop-test .before in
+    nodes-no _ _ _ _ (at-loop .loop .inv .1) (at-loop-test .loop-test .taken) (at-node-at .node-at .ensures)
+    (sym (at-is-plain .is-plain .ensures) ∙ not-true (at-is-plain .is-plain .result) (c .if1 .taken))
 
 add-i : tie.Need-add-i Inv-loop μ-loop
 add-i c = omega arith
@@ -38,7 +44,15 @@ loop-less : tie.Need-loop-less Inv-loop μ-loop
 loop-less c = omega arith
 
 loop-again : tie.Need-loop-again Inv-loop μ-loop
-loop-again c = (omega arith, nodes-on _ _ _ _ (c .before .before .before .before .loop .inv .1) (c .before .before .before .loop-test .taken) (c .before .before .node-at .ensures) (sym (c .before .is-plain .ensures) ∙ not-false (c .before .is-plain .result) (c .if1 .left)))
+loop-again c =
+    let at-is-plain = c .before in
+    let at-node-at = at-is-plain .before in
+    let at-loop-test = at-node-at .before in
+    let at-loop = at-loop-test .before in (
+      omega arith,
+      nodes-on _ _ _ _ (at-loop .loop .inv .1) (at-loop-test .loop-test .taken) (at-node-at .node-at .ensures)
+          (sym (at-is-plain .is-plain .ensures) ∙ not-false (at-is-plain .is-plain .result) (c .if1 .left)),
+    )
 
 returns-2 : tie.Need-returns-2 Inv-loop μ-loop
 returns-2 c = nodes-yes _ _ _ _ (c .before .loop .inv .1) (c .loop-test .left)

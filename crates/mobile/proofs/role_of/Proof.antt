@@ -1,6 +1,5 @@
 -- `role_of` says what `roleOf` says: the rows of field 3 are looked for twice.
 -- Assumes nothing.
-use lib.ListN.{length}
 use Rattle.tree.proofs.Own.{row-in}
 use Rattle.mobile.proofs.Roles.{role-none, role-two, role-one}
 use native.Mathlib.Omega.{arith}
@@ -12,7 +11,9 @@ next-row-requires : tie.Need-next-row-requires
 next-row-requires c κs = search needs
 
 returns : tie.Need-returns
-returns c = role-none (c .before .before .before .before .args .file .now) (c .before .before .before .before .args .items .now) (c .before .before .before .before .args .many) (c .before .next-row .ensures) (c .if1 .taken)
+returns c =
+    let entry = c .before .before .before .before in
+    role-none (entry .args .file .now) (entry .args .items .now) (entry .args .many) (c .before .next-row .ensures) (c .if1 .taken)
 
 add-next-row : tie.Need-add-next-row
 add-next-row c = search needs
@@ -21,16 +22,30 @@ next-row-requires-2 : tie.Need-next-row-requires-2
 next-row-requires-2 c κs = search needs
 
 returns-2 : tie.Need-returns-2
-returns-2 c = role-two (c .before .before .before .before .before .before .args .file .now) (c .before .before .before .before .before .before .args .items .now) (c .before .before .before .before .before .before .args .many) (c .before .before .before .next-row .ensures) (c .before .before .if1 .left) (c .before .next-row2 .ensures) (c .if2 .taken)
+returns-2 c =
+    let at-if1 = c .before .before in
+    let at-next-row = at-if1 .before in
+    let entry = at-next-row .before .before .before in
+    role-two (entry .args .file .now) (entry .args .items .now) (entry .args .many) (at-next-row .next-row .ensures) (at-if1 .if1 .left)
+    (c .before .next-row2 .ensures) (c .if2 .taken)
 
 item-at-requires : tie.Need-item-at-requires
 item-at-requires c κs = search needs
 
 role-of-row-requires : tie.Need-role-of-row-requires
-role-of-row-requires c κs = row-in (c .before .before .before .before .before .before .before .args .items .now) (c .before .before .before .before .before .before .before .pre .0) (omega arith) (c .item-at .ensures)
+role-of-row-requires c κs =
+    let entry = c .before .before .before .before .before .before .before in
+    row-in (entry .args .items .now) (entry .pre .0) (omega arith) (c .item-at .ensures)
 
 returns-3 : tie.Need-returns-3
-returns-3 c = role-one (c .before .before .before .before .before .before .before .before .args .file .now) (c .before .before .before .before .before .before .before .before .args .items .now) (c .before .before .before .before .before .before .before .before .args .many) (c .before .before .before .before .before .next-row .ensures) (c .before .before .before .before .if1 .left) (c .before .before .before .next-row2 .ensures) (c .before .before .if2 .left) (omega arith) (c .before .item-at .ensures) (c .role-of-row .ensures)
+returns-3 c =
+    let at-if2 = c .before .before in
+    let at-next-row2 = at-if2 .before in
+    let at-if1 = at-next-row2 .before in
+    let at-next-row = at-if1 .before in
+    let entry = at-next-row .before .before .before in
+    role-one (entry .args .file .now) (entry .args .items .now) (entry .args .many) (at-next-row .next-row .ensures) (at-if1 .if1 .left)
+    (at-next-row2 .next-row2 .ensures) (at-if2 .if2 .left) (omega arith) (c .before .item-at .ensures) (c .role-of-row .ensures)
 
 pub role-of-spec : {M : Type 1} → statement M
 role-of-spec = tie.close (tie.spec next-row-requires returns add-next-row next-row-requires-2 returns-2 item-at-requires role-of-row-requires returns-3)

@@ -14,7 +14,10 @@ is-binary-requires : tie.Need-is-binary-requires
 is-binary-requires c κs = search needs
 
 returns : tie.Need-returns
-returns c = row-other (c .before .before .before .args .file .now) (c .before .before .before .args .row) (c .before .is-binary .ensures) (not-true (c .before .is-binary .result) (c .if1 .taken))
+returns c =
+    let at-is-binary = c .before in
+    let entry = at-is-binary .before .before in
+    row-other (entry .args .file .now) (entry .args .row) (at-is-binary .is-binary .ensures) (not-true (at-is-binary .is-binary .result) (c .if1 .taken))
 
 returns-2 : tie.Need-returns-2
 returns-2 c = row-empty (c .before .before .before .before .args .file .now) (c .before .before .before .before .args .row) (c .if2 .taken)
@@ -41,16 +44,34 @@ enum-known-v : tie.Need-enum-known-v
 enum-known-v c = search needs
 
 returns-4 : tie.Need-returns-4
-returns-4 c = row-left (c .before .before .before .before .before .before .before .before .before .before .before .before .before .args .file .now) (c .before .before .before .before .before .before .before .before .before .before .before .before .before .args .row) (was numberTold (c .before .before .before .before .before .before .number .ensures metaFrame) (c .before .before .before .before .v .given .1)) (c .if4 .taken)
+returns-4 c =
+    let at-v = c .before .before .before .before in
+    let at-number = at-v .before .before in
+    let entry = at-number .before .before .before .before .before .before .before in
+    row-left (entry .args .file .now) (entry .args .row) (was numberTold (at-number .number .ensures metaFrame) (at-v .v .given .1)) (c .if4 .taken)
 
 role-of-type-requires : tie.Need-role-of-type-requires
 role-of-type-requires c κs = search needs
 
 returns-5 : tie.Need-returns-5
-returns-5 c = row-cut (c .before .before .before .before .before .before .before .before .before .args .file .now) (c .before .before .before .before .before .before .before .before .before .args .row) (was numberTold (c .before .before .number .ensures metaFrame) (c .enum-told .given .1))
+returns-5 c =
+    let at-number = c .before .before in
+    let entry = at-number .before .before .before .before .before .before .before in
+    row-cut (entry .args .file .now) (entry .args .row) (was numberTold (at-number .number .ensures metaFrame) (c .enum-told .given .1))
 
 returns-6 : tie.Need-returns-6
-returns-6 c = row-type (c .before .before .before .before .before .before .before .before .before .before .before .before .before .before .args .file .now) (c .before .before .before .before .before .before .before .before .before .before .before .before .before .before .args .row) (was numberTold (c .before .before .before .before .before .before .before .number .ensures metaFrame) (c .before .before .before .before .before .v .given .1)) (c .before .before .before .before .before .before .before .before .before .before .before .before .is-binary .ensures) (not-false (c .before .before .before .before .before .before .before .before .before .before .before .before .is-binary .result) (c .before .before .before .before .before .before .before .before .before .before .before .if1 .left)) (c .before .before .before .before .before .before .before .before .before .before .if2 .left) (c .before .before .before .before .before .before .before .before .if3 .left) (c .before .if4 .left) (c .role-of-type .ensures)
+returns-6 c =
+    let at-v = c .before .before .before .before .before in
+    let at-number = at-v .before .before in
+    let at-if3 = at-number .before in
+    let at-if2 = at-if3 .before .before in
+    let at-if1 = at-if2 .before in
+    let at-is-binary = at-if1 .before in
+    let entry = at-is-binary .before .before in
+    row-type (entry .args .file .now) (entry .args .row) (was numberTold (at-number .number .ensures metaFrame) (at-v .v .given .1))
+    (at-is-binary .is-binary .ensures) (not-false (at-is-binary .is-binary .result) (at-if1 .if1 .left)) (at-if2 .if2 .left)
+    (at-if3 .if3 .left) (c .before .if4 .left) (c .role-of-type .ensures)
 
 pub role-of-row-spec : {M : Type 1} → statement M
-role-of-row-spec = tie.close (tie.spec is-binary-requires returns returns-2 shared-slice-read-if3 returns-3 add-end add-t14 number-requires enum-told enum-known-v returns-4 role-of-type-requires returns-5 returns-6)
+role-of-row-spec = tie.close (tie.spec is-binary-requires returns returns-2 shared-slice-read-if3 returns-3 add-end add-t14 number-requires
+    enum-told enum-known-v returns-4 role-of-type-requires returns-5 returns-6)

@@ -24,7 +24,11 @@ node-at-requires : tie.Need-node-at-requires Inv-loop μ-loop
 node-at-requires c κs = omega arith
 
 returns : tie.Need-returns Inv-loop μ-loop
-returns c = nodes-no _ _ _ _ (c .before .before .before .before .loop .inv .1) (c .before .before .before .loop-test .taken) (c .before .before .node-at .ensures) (short-no _ (c .if1 .taken))
+returns c =
+    let at-node-at = c .before .before in
+    let at-loop-test = at-node-at .before in
+    let at-loop = at-loop-test .before in
+    nodes-no _ _ _ _ (at-loop .loop .inv .1) (at-loop-test .loop-test .taken) (at-node-at .node-at .ensures) (short-no _ (c .if1 .taken))
 
 add-i : tie.Need-add-i Inv-loop μ-loop
 add-i c = omega arith
@@ -33,7 +37,11 @@ loop-less : tie.Need-loop-less Inv-loop μ-loop
 loop-less c = omega arith
 
 loop-again : tie.Need-loop-again Inv-loop μ-loop
-loop-again c = (omega arith, nodes-on _ _ _ _ (c .before .before .before .before .loop .inv .1) (c .before .before .before .loop-test .taken) (c .before .before .node-at .ensures) (short-yes _ (c .if1 .left)))
+loop-again c =
+    let at-node-at = c .before .before in
+    let at-loop-test = at-node-at .before in
+    let at-loop = at-loop-test .before in
+    (omega arith, nodes-on _ _ _ _ (at-loop .loop .inv .1) (at-loop-test .loop-test .taken) (at-node-at .node-at .ensures) (short-yes _ (c .if1 .left)))
 
 returns-2 : tie.Need-returns-2 Inv-loop μ-loop
 returns-2 c = nodes-yes _ _ _ _ (c .before .loop .inv .1) (c .loop-test .left)

@@ -28,7 +28,11 @@ field-size-requires : tie.Need-field-size-requires Inv-loop μ-loop
 field-size-requires c κs = search needs
 
 returns : tie.Need-returns Inv-loop μ-loop
-returns c = items-no _ _ _ _ (c .before .before .before .before .loop .inv .1) (c .before .before .before .loop-test .taken) (c .before .before .item-at .ensures) (small-no _ (c .before .field-size .ensures) (c .if1 .taken))
+returns c =
+    let at-item-at = c .before .before in
+    let at-loop-test = at-item-at .before in
+    let at-loop = at-loop-test .before in
+    items-no _ _ _ _ (at-loop .loop .inv .1) (at-loop-test .loop-test .taken) (at-item-at .item-at .ensures) (small-no _ (c .before .field-size .ensures) (c .if1 .taken))
 
 add-i : tie.Need-add-i Inv-loop μ-loop
 add-i c = omega arith
@@ -37,7 +41,14 @@ loop-less : tie.Need-loop-less Inv-loop μ-loop
 loop-less c = omega arith
 
 loop-again : tie.Need-loop-again Inv-loop μ-loop
-loop-again c = (omega arith, items-on _ _ _ _ (c .before .before .before .before .loop .inv .1) (c .before .before .before .loop-test .taken) (c .before .before .item-at .ensures) (small-yes _ (c .before .field-size .ensures) (c .if1 .left)))
+loop-again c =
+    let at-item-at = c .before .before in
+    let at-loop-test = at-item-at .before in
+    let at-loop = at-loop-test .before in (
+      omega arith,
+      items-on _ _ _ _ (at-loop .loop .inv .1) (at-loop-test .loop-test .taken) (at-item-at .item-at .ensures)
+          (small-yes _ (c .before .field-size .ensures) (c .if1 .left)),
+    )
 
 returns-2 : tie.Need-returns-2 Inv-loop μ-loop
 returns-2 c = items-yes _ _ _ _ (c .before .loop .inv .1) (c .loop-test .left)

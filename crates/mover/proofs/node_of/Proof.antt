@@ -26,12 +26,14 @@ enum-known-row c = search needs
 returns-2 : tie.Need-returns-2
 returns-2 c =
     let a = c .before .before .before .before .before .before .args in
-    λ k e. node-of-no (a .line .now) (c .before .before .before .before .letter .ensures) (c .before .before .before .if1 .left) (as-told (NumberAt (a .line .now) 2) (c .before .before .number-field .ensures) (c .enum-told .given .1)) e
+    λ k e. node-of-no (a .line .now) (c .before .before .before .before .letter .ensures) (c .before .before .before .if1 .left)
+    (as-told (NumberAt (a .line .now) 2) (c .before .before .number-field .ensures) (c .enum-told .given .1)) e
 
 returns-3 : tie.Need-returns-3
 returns-3 c =
     let a = c .before .before .before .before .before .before .before .args in
-    λ k e. node-of-is (a .line .now) (c .before .before .before .before .before .letter .ensures) (c .before .before .before .before .if1 .left) (as-told (NumberAt (a .line .now) 2) (c .before .before .before .number-field .ensures) (c .before .row .given .1)) e
+    λ k e. node-of-is (a .line .now) (c .before .before .before .before .before .letter .ensures) (c .before .before .before .before .if1 .left)
+    (as-told (NumberAt (a .line .now) 2) (c .before .before .before .number-field .ensures) (c .before .row .given .1)) e
 
 pub node-of-spec : {M : Type 1} → statement M
 node-of-spec =

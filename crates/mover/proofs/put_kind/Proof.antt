@@ -15,7 +15,8 @@ use Rattle.mover.proofs.put_kind.Tie as tie
 
 abbrev Inv-loop : tie.InvT-loop
 Inv-loop out₀ to sheet from items next₀ at₀ out next at =
-    Going out₀ out to next (written (picked (isKind items) (parted 0x0A (drop from sheet)))) (written (picked (isKind items) (parted 0x0A (drop at sheet)))) × AllKnown (parted 0x0A (drop at sheet))
+    Going out₀ out to next (written (picked (isKind items) (parted 0x0A (drop from sheet))))
+    (written (picked (isKind items) (parted 0x0A (drop at sheet)))) × AllKnown (parted 0x0A (drop at sheet))
 
 abbrev μ-loop : tie.MeasureT-loop
 μ-loop out₀ to sheet from items next₀ at₀ out next at = length sheet - at
@@ -59,8 +60,12 @@ loop-again c =
     let e = c .before .before .before .before .before .before .before .piece-end in
     let line = lent (a .sheet .now) at (e .result) (omega (arith, e .ensures .1)) (e .ensures .0) in
     let piece = next-piece 0x0A (a .sheet .now) at (omega arith) (e .ensures .1) in
-    let behind = known-on (a .sheet .now) at piece (e .ensures .0) (loop .inv .1) .1 in
-    (going-on (put-kind-one (a .sheet .now) (a .items) at piece (e .ensures .0) line (c .before .before .before .before .before .is-kind .ensures) (c .before .before .before .before .if1 .taken)) (loop .inv .0) (c .before .before .put-line .ensures), behind)
+    let behind = known-on (a .sheet .now) at piece (e .ensures .0) (loop .inv .1) .1 in (
+      going-on (put-kind-one (a .sheet .now) (a .items) at piece (e .ensures .0) line
+          (c .before .before .before .before .before .is-kind .ensures) (c .before .before .before .before .if1 .taken)) (loop .inv .0)
+          (c .before .before .put-line .ensures),
+      behind,
+    )
 
 add-at-2 : tie.Need-add-at-2 Inv-loop μ-loop
 add-at-2 c = omega (arith, c .before .before .before .piece-end .ensures .0)
@@ -83,7 +88,10 @@ same-length : tie.Need-same-length Inv-loop μ-loop
 same-length c = going-length (c .before .loop .inv .0)
 
 returns : tie.Need-returns Inv-loop μ-loop
-returns c = going-end (put-kind-end (c .before .before .before .before .args .sheet .now) (c .before .before .before .before .args .items) (c .before .loop .at) (c .loop-test .left)) (c .before .loop .inv .0)
+returns c =
+    let at-loop = c .before in
+    let entry = at-loop .before .before .before in
+    going-end (put-kind-end (entry .args .sheet .now) (entry .args .items) (at-loop .loop .at) (c .loop-test .left)) (at-loop .loop .inv .0)
 
 pub put-kind-spec : {M : Type 1} → statement M
 put-kind-spec =

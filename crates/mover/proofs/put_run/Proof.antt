@@ -26,7 +26,10 @@ same-length : tie.Need-same-length Inv-loop μ-loop
 same-length c = going-length (c .before .before .loop .inv .puts)
 
 returns : tie.Need-returns Inv-loop μ-loop
-returns c = run-none (c .before .before .before .before .before .args .sheet .now) (c .before .before .before .before .before .args .row) (c .before .before .loop .inv) (c .enum-told .given .1)
+returns c =
+    let at-loop = c .before .before in
+    let entry = at-loop .before .before .before in
+    run-none (entry .args .sheet .now) (entry .args .row) (at-loop .loop .inv) (c .enum-told .given .1)
 
 enum-known-item : tie.Need-enum-known-item Inv-loop μ-loop
 enum-known-item c = search needs
@@ -35,13 +38,19 @@ same-length-2 : tie.Need-same-length-2 Inv-loop μ-loop
 same-length-2 c = going-length (c .before .before .before .before .loop .inv .puts)
 
 returns-2 : tie.Need-returns-2 Inv-loop μ-loop
-returns-2 c = run-over (c .before .before .before .before .before .before .before .args .sheet .now) (c .before .before .before .before .before .before .before .args .row) (c .before .before .before .before .loop .inv) (c .before .before .item .given .1) (c .if1 .taken)
+returns-2 c =
+    let at-item = c .before .before in
+    let at-loop = at-item .before .before in
+    let entry = at-loop .before .before .before in
+    run-over (entry .args .sheet .now) (entry .args .row) (at-loop .loop .inv) (at-item .item .given .1) (c .if1 .taken)
 
 put-line-requires : tie.Need-put-line-requires Inv-loop μ-loop
 put-line-requires c κs =
     let a = c .before .before .before .before .before .before .before .before .args in
-    let loop = c .before .before .before .before .before .loop in
-    ((as-told (Right (a .sheet .now) 0) (loop .inv .right) (c .before .before .before .item .given .1)) .2, (as-told (Right (a .sheet .now) 0) (loop .inv .right) (c .before .before .before .item .given .1)) .3)
+    let loop = c .before .before .before .before .before .loop in (
+      (as-told (Right (a .sheet .now) 0) (loop .inv .right) (c .before .before .before .item .given .1)) .2,
+      (as-told (Right (a .sheet .now) 0) (loop .inv .right) (c .before .before .before .item .given .1)) .3,
+    )
 
 add-next-item : tie.Need-add-next-item Inv-loop μ-loop
 add-next-item c =
@@ -51,7 +60,11 @@ add-next-item c =
     omega (arith, (as-told (Right (a .sheet .now) 0) (loop .inv .right) (item .given .1)) .3)
 
 next-item-requires : tie.Need-next-item-requires Inv-loop μ-loop
-next-item-requires c κs = as-told (Right (c .before .before .before .before .before .before .before .before .before .before .before .args .sheet .now) 0) (c .before .before .before .before .before .before .before .before .loop .inv .right) (c .before .before .before .before .before .before .item .given .1) .5
+next-item-requires c κs =
+    let at-item = c .before .before .before .before .before .before in
+    let at-loop = at-item .before .before in
+    let entry = at-loop .before .before .before in
+    as-told (Right (entry .args .sheet .now) 0) (at-loop .loop .inv .right) (at-item .item .given .1) .5
 
 loop-less : tie.Need-loop-less Inv-loop μ-loop
 loop-less c =

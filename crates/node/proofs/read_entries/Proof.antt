@@ -1,10 +1,6 @@
 -- `read_entries` counts unpackers end to end. The invariant: what is left of them is the whole.
 -- Assumes nothing.
-use mathlib.Core.Path.{refl, sym, _∙_}
-use Rattle.cursor.specs.Rows.{nodeFrame, unpackFrame, referenceFrame}
-use Rattle.cursor.specs.Told.{numberTold, passTold}
-use Rattle.cursor.proofs.Laws.{was}
-use Rattle.cursor.proofs.Leaves.{number-inside, block-inside}
+use mathlib.Core.Path.{refl}
 use mathlib.Core.Path.{_≡_}
 use Prim.Native.Nat.{_-_}
 use Rattle.node.proofs.Ways.{Going, entries-begun, entries-done, entries-no, entries-further, entries-on}
@@ -29,7 +25,11 @@ enum-known-n : tie.Need-enum-known-n Inv-loop μ-loop
 enum-known-n c = search needs
 
 returns : tie.Need-returns Inv-loop μ-loop
-returns c = entries-no (c .before .before .before .before .before .loop .inv .1) (c .before .before .before .before .loop-test .taken) _ (λ n. rw (c .before .before .before .before .before .loop .inv .0) at (c .before .before .before .read-unpacker .ensures n)) (c .before .n .given .1)
+returns c =
+    let at-read-unpacker = c .before .before .before in
+    let at-loop-test = at-read-unpacker .before in
+    let at-loop = at-loop-test .before in
+    entries-no (at-loop .loop .inv .1) (at-loop-test .loop-test .taken) _ (λ n. rw (at-loop .loop .inv .0) at (at-read-unpacker .read-unpacker .ensures n)) (c .before .n .given .1)
 
 enum-known-d : tie.Need-enum-known-d Inv-loop μ-loop
 enum-known-d c = search needs
@@ -38,10 +38,25 @@ add-count : tie.Need-add-count Inv-loop μ-loop
 add-count c = omega (arith, c .before .before .before .before .before .loop .inv .1 .few, c .before .before .before .before .before .before .before .before .pre)
 
 loop-less : tie.Need-loop-less Inv-loop μ-loop
-loop-less c = omega (arith, entries-further (c .before .before .before .before .before .loop .inv .1) (c .before .before .before .before .loop-test .taken) _ (λ n. rw (c .before .before .before .before .before .loop .inv .0) at (c .before .before .before .read-unpacker .ensures n)) (c .before .d .given .1))
+loop-less c =
+    let at-read-unpacker = c .before .before .before in
+    let at-loop-test = at-read-unpacker .before in
+    let at-loop = at-loop-test .before in
+    omega (
+      arith,
+      entries-further (at-loop .loop .inv .1) (at-loop-test .loop-test .taken) _
+          (λ n. rw (at-loop .loop .inv .0) at (at-read-unpacker .read-unpacker .ensures n)) (c .before .d .given .1),
+    )
 
 loop-again : tie.Need-loop-again Inv-loop μ-loop
-loop-again c = (refl, entries-on (c .before .before .before .before .before .loop .inv .1) (c .before .before .before .before .loop-test .taken) _ (λ n. rw (c .before .before .before .before .before .loop .inv .0) at (c .before .before .before .read-unpacker .ensures n)) (c .before .d .given .1))
+loop-again c =
+    let at-read-unpacker = c .before .before .before in
+    let at-loop-test = at-read-unpacker .before in
+    let at-loop = at-loop-test .before in (
+      refl,
+      entries-on (at-loop .loop .inv .1) (at-loop-test .loop-test .taken) _
+          (λ n. rw (at-loop .loop .inv .0) at (at-read-unpacker .read-unpacker .ensures n)) (c .before .d .given .1),
+    )
 
 returns-2 : tie.Need-returns-2 Inv-loop μ-loop
 returns-2 c = rw (c .before .loop .inv .0) (entries-done (c .before .loop .inv .1) (c .loop-test .left))

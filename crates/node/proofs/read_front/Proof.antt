@@ -24,10 +24,17 @@ enum-known-h : tie.Need-enum-known-h
 enum-known-h c = search needs
 
 of-requires : tie.Need-of-requires
-of-requires c κs = omega (arith, c .before .before .before .before .before .before .before .before .pre, head-inside _ _ _ (was headTold (c .before .before .before .read-head .ensures) (c .before .h .given .1)))
+of-requires c κs =
+    let at-read-head = c .before .before .before in
+    let entry = at-read-head .before .before .before .before .before in
+    omega (arith, entry .pre, head-inside _ _ _ (was headTold (at-read-head .read-head .ensures) (c .before .h .given .1)))
 
 read-metadata-requires : tie.Need-read-metadata-requires
-read-metadata-requires c κs = omega (arith, c .before .before .before .before .before .before .before .before .before .before .pre, head-inside _ _ _ (was headTold (c .before .before .before .before .before .read-head .ensures) (c .before .before .before .h .given .1)), c .before .of .ensures)
+read-metadata-requires c κs =
+    let at-h = c .before .before .before in
+    let at-read-head = at-h .before .before in
+    let entry = at-read-head .before .before .before .before .before in
+    omega (arith, entry .pre, head-inside _ _ _ (was headTold (at-read-head .read-head .ensures) (at-h .h .given .1)), c .before .of .ensures)
 
 enum-known-n-2 : tie.Need-enum-known-n-2
 enum-known-n-2 c = search needs
@@ -36,10 +43,19 @@ enum-known-rows : tie.Need-enum-known-rows
 enum-known-rows c = search needs
 
 of-requires-2 : tie.Need-of-requires-2
-of-requires-2 c κs = omega (arith, c .before .before .before .before .before .before .before .before .before .before .before .before .before .before .before .before .pre, head-inside _ _ _ (was headTold (c .before .before .before .before .before .before .before .before .before .before .before .read-head .ensures) (c .before .before .before .before .before .before .before .before .before .h .given .1)))
+of-requires-2 c κs =
+    let at-h = c .before .before .before .before .before .before .before .before .before in
+    let at-read-head = at-h .before .before in
+    let entry = at-read-head .before .before .before .before .before in
+    omega (arith, entry .pre, head-inside _ _ _ (was headTold (at-read-head .read-head .ensures) (at-h .h .given .1)))
 
 read-rest-requires : tie.Need-read-rest-requires
-read-rest-requires c κs = omega (arith, c .before .before .before .before .before .before .before .before .before .before .before .before .before .before .before .before .before .before .pre, head-inside _ _ _ (was headTold (c .before .before .before .before .before .before .before .before .before .before .before .before .before .read-head .ensures) (c .before .before .before .before .before .before .before .before .before .before .before .h .given .1)), c .before .before .before .before .before .before .before .before .before .of .ensures, c .before .of2 .ensures)
+read-rest-requires c κs =
+    let at-of = c .before .before .before .before .before .before .before .before .before in
+    let at-h = at-of .before .before in
+    let at-read-head = at-h .before .before in
+    let entry = at-read-head .before .before .before .before .before in
+    omega (arith, entry .pre, head-inside _ _ _ (was headTold (at-read-head .read-head .ensures) (at-h .h .given .1)), at-of .of .ensures, c .before .of2 .ensures)
 
 enum-known-n-3 : tie.Need-enum-known-n-3
 enum-known-n-3 c = search needs
@@ -48,7 +64,10 @@ enum-known-u : tie.Need-enum-known-u
 enum-known-u c = search needs
 
 sub-row-of : tie.Need-sub-row-of
-sub-row-of c = omega (arith, metadata-since _ _ _ _ _ _ _ (done (c .before .before .before .before .before .before .before .before .before .before .before .before .read-metadata .ensures []) (ap (walked _) (c .before .before .before .before .before .before .before .before .rows .given .1))))
+sub-row-of c =
+    let at-rows = c .before .before .before .before .before .before .before .before in
+    let at-read-metadata = at-rows .before .before .before .before in
+    omega (arith, metadata-since _ _ _ _ _ _ _ (done (at-read-metadata .read-metadata .ensures []) (ap (walked _) (at-rows .rows .given .1))))
 
 row-of-requires : tie.Need-row-of-requires
 row-of-requires c κs = search needs
@@ -60,19 +79,47 @@ same-length : tie.Need-same-length
 same-length c = search needs
 
 returns-2 : tie.Need-returns-2
-returns-2 c = λ t. front-no (front-metadata _ _ _ _ _ _ _ _ (was headTold (c .before .before .before .before .before .before .before .before .before .before .before .read-head .ensures) (c .before .before .before .before .before .before .before .before .before .h .given .1)) (c .before .before .before .before .before .before .before .of .ensures) (stopped (c .before .before .before .before .before .read-metadata .ensures t) (ap (walked _) (c .before .n2 .given .1))))
+returns-2 c =
+    let at-read-metadata = c .before .before .before .before .before in
+    let at-of = at-read-metadata .before .before in
+    let at-h = at-of .before .before in
+    let at-read-head = at-h .before .before in
+    λ t. front-no (front-metadata _ _ _ _ _ _ _ _ (was headTold (at-read-head .read-head .ensures) (at-h .h .given .1)) (at-of .of .ensures)
+    (stopped (at-read-metadata .read-metadata .ensures t) (ap (walked _) (c .before .n2 .given .1))))
 
 same-length-2 : tie.Need-same-length-2
 same-length-2 c = search needs
 
 returns-3 : tie.Need-returns-3
-returns-3 c = λ t. front-no (front-rest _ _ _ _ _ _ _ _ (was headTold (c .before .before .before .before .before .before .before .before .before .before .before .before .before .before .before .before .before .read-head .ensures) (c .before .before .before .before .before .before .before .before .before .before .before .before .before .before .before .h .given .1)) (c .before .before .before .before .before .before .before .before .before .before .before .before .before .of .ensures) (done (c .before .before .before .before .before .before .before .before .before .before .before .read-metadata .ensures t) (ap (walked _) (c .before .before .before .before .before .before .before .rows .given .1))) (c .before .before .before .before .before .of2 .ensures) (was restTold (c .before .before .before .read-rest .ensures) (c .before .n3 .given .1)))
+returns-3 c =
+    let at-read-rest = c .before .before .before in
+    let at-of2 = at-read-rest .before .before in
+    let at-rows = at-of2 .before .before in
+    let at-read-metadata = at-rows .before .before .before .before in
+    let at-of = at-read-metadata .before .before in
+    let at-h = at-of .before .before in
+    let at-read-head = at-h .before .before in
+    λ t. front-no (front-rest _ _ _ _ _ _ _ _ (was headTold (at-read-head .read-head .ensures) (at-h .h .given .1)) (at-of .of .ensures)
+    (done (at-read-metadata .read-metadata .ensures t) (ap (walked _) (at-rows .rows .given .1))) (at-of2 .of2 .ensures)
+    (was restTold (at-read-rest .read-rest .ensures) (c .before .n3 .given .1)))
 
 same-length-3 : tie.Need-same-length-3
 same-length-3 c = c .before .before .before .before .before .before .before .before .before .before .before .before .before .read-metadata .kept .1 .1 .1 .0
 
 returns-4 : tie.Need-returns-4
-returns-4 c = λ t. front-yes (front-all _ _ _ _ _ _ _ _ (was headTold (c .before .before .before .before .before .before .before .before .before .before .before .before .before .before .before .before .before .before .before .read-head .ensures) (c .before .before .before .before .before .before .before .before .before .before .before .before .before .before .before .before .before .h .given .1)) (c .before .before .before .before .before .before .before .before .before .before .before .before .before .before .before .of .ensures) (done (c .before .before .before .before .before .before .before .before .before .before .before .before .before .read-metadata .ensures t) (ap (walked _) (c .before .before .before .before .before .before .before .before .before .rows .given .1))) (c .before .before .before .before .before .before .before .of2 .ensures) (was restTold (c .before .before .before .before .before .read-rest .ensures) (c .before .before .before .u .given .1)) (c .row-of .ensures)) (fitting (c .before .before .before .before .before .before .before .before .before .before .before .before .before .read-metadata .ensures t) (ap (walked _) (c .before .before .before .before .before .before .before .before .before .rows .given .1)))
+returns-4 c =
+    let at-u = c .before .before .before in
+    let at-read-rest = at-u .before .before in
+    let at-of2 = at-read-rest .before .before in
+    let at-rows = at-of2 .before .before in
+    let at-read-metadata = at-rows .before .before .before .before in
+    let at-of = at-read-metadata .before .before in
+    let at-h = at-of .before .before in
+    let at-read-head = at-h .before .before in
+    λ t. front-yes (front-all _ _ _ _ _ _ _ _ (was headTold (at-read-head .read-head .ensures) (at-h .h .given .1)) (at-of .of .ensures)
+    (done (at-read-metadata .read-metadata .ensures t) (ap (walked _) (at-rows .rows .given .1))) (at-of2 .of2 .ensures)
+    (was restTold (at-read-rest .read-rest .ensures) (at-u .u .given .1)) (c .row-of .ensures))
+    (fitting (at-read-metadata .read-metadata .ensures t) (ap (walked _) (at-rows .rows .given .1)))
 
 pub read-front-spec : {M : Type 1} → statement M
 read-front-spec =

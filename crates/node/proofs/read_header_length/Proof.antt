@@ -1,10 +1,8 @@
 -- `read_header_length` gives what `headerLength` gives.
 -- Assumes nothing.
-use mathlib.Core.Path.{refl, sym, _∙_}
-use Rattle.cursor.specs.Rows.{nodeFrame, unpackFrame, referenceFrame}
-use Rattle.cursor.specs.Told.{numberTold, passTold}
+use Rattle.cursor.specs.Rows.{nodeFrame}
+use Rattle.cursor.specs.Told.{numberTold}
 use Rattle.cursor.proofs.Laws.{was}
-use Rattle.cursor.proofs.Leaves.{number-inside, block-inside}
 use Rattle.node.proofs.Ways.{header-cut, header-past, header-short, header-all}
 use native.Mathlib.Omega.{arith}
 use borrow.Author.Needs.{needs}
@@ -24,19 +22,37 @@ enum-known-length : tie.Need-enum-known-length
 enum-known-length c = search needs
 
 returns : tie.Need-returns
-returns c = header-past _ _ _ _ _ (c .before .before .before .before .before .before .before .of .ensures) (was numberTold (c .before .before .before .before .before .before .number .ensures nodeFrame) (c .before .before .before .before .length .given .1)) (c .if1 .taken)
+returns c =
+    let at-length = c .before .before .before .before in
+    let at-number = at-length .before .before in
+    let at-of = at-number .before in
+    header-past _ _ _ _ _ (at-of .of .ensures) (was numberTold (at-number .number .ensures nodeFrame) (at-length .length .given .1)) (c .if1 .taken)
 
 of-requires-2 : tie.Need-of-requires-2
 of-requires-2 c κs = search needs
 
 returns-2 : tie.Need-returns-2
-returns-2 c = header-short _ _ _ _ _ (c .before .before .before .before .before .before .before .before .before .before .before .before .of .ensures) (was numberTold (c .before .before .before .before .before .before .before .before .before .before .before .number .ensures nodeFrame) (c .before .before .before .before .before .before .before .before .before .length .given .1)) (c .before .before .before .before .before .if1 .left) (omega (arith, c .before .before .before .before .of2 .ensures, c .if2 .taken))
+returns-2 c =
+    let at-of2 = c .before .before .before .before in
+    let at-if1 = at-of2 .before in
+    let at-length = at-if1 .before .before .before .before in
+    let at-number = at-length .before .before in
+    let at-of = at-number .before in
+    header-short _ _ _ _ _ (at-of .of .ensures) (was numberTold (at-number .number .ensures nodeFrame) (at-length .length .given .1))
+    (at-if1 .if1 .left) (omega (arith, at-of2 .of2 .ensures, c .if2 .taken))
 
 returns-3 : tie.Need-returns-3
 returns-3 c = header-cut _ _ _ _ _ (c .before .before .before .before .of .ensures) (was numberTold (c .before .before .before .number .ensures nodeFrame) (c .before .n .given .1))
 
 returns-4 : tie.Need-returns-4
-returns-4 c = header-all _ _ _ _ _ (c .before .before .before .before .before .before .before .before .before .before .before .before .of .ensures) (was numberTold (c .before .before .before .before .before .before .before .before .before .before .before .number .ensures nodeFrame) (c .before .before .before .before .before .before .before .before .before .length .given .1)) (c .before .before .before .before .before .if1 .left) (omega (arith, c .before .before .before .before .of2 .ensures, c .if2 .left))
+returns-4 c =
+    let at-of2 = c .before .before .before .before in
+    let at-if1 = at-of2 .before in
+    let at-length = at-if1 .before .before .before .before in
+    let at-number = at-length .before .before in
+    let at-of = at-number .before in
+    header-all _ _ _ _ _ (at-of .of .ensures) (was numberTold (at-number .number .ensures nodeFrame) (at-length .length .given .1))
+    (at-if1 .if1 .left) (omega (arith, at-of2 .of2 .ensures, c .if2 .left))
 
 pub read-header-length-spec : {M : Type 1} → statement M
 read-header-length-spec =

@@ -1,12 +1,9 @@
 -- `read_identifier` gives what `identifier` gives.
 -- Assumes nothing.
-use mathlib.Core.Path.{refl, sym, _∙_}
-use Rattle.cursor.specs.Rows.{nodeFrame, unpackFrame, referenceFrame}
-use Rattle.cursor.specs.Told.{numberTold, passTold}
+use Rattle.cursor.specs.Rows.{unpackFrame}
+use Rattle.cursor.specs.Told.{passTold}
 use Rattle.cursor.proofs.Laws.{was}
-use Rattle.cursor.proofs.Leaves.{number-inside, block-inside}
 use Rattle.node.proofs.Ways.{identifier-guid, identifier-cut, identifier-two, identifier-one}
-use native.Mathlib.Omega.{arith}
 use borrow.Author.Needs.{needs}
 use Rattle.node.proofs.read_identifier.Statement.{statement}
 use Rattle.node.proofs.read_identifier.Tie as tie
@@ -30,10 +27,19 @@ read-value-requires : tie.Need-read-value-requires
 read-value-requires c κs = search needs
 
 returns-2 : tie.Need-returns-2
-returns-2 c = identifier-cut _ _ _ _ (c .before .before .before .before .before .if1 .left) (c .before .before .before .before .if2 .taken) (was passTold (c .before .before .before .manufacturer .ensures unpackFrame) (c .before .n .given .1))
+returns-2 c =
+    let at-manufacturer = c .before .before .before in
+    let at-if2 = at-manufacturer .before in
+    let at-if1 = at-if2 .before in
+    identifier-cut _ _ _ _ (at-if1 .if1 .left) (at-if2 .if2 .taken) (was passTold (at-manufacturer .manufacturer .ensures unpackFrame) (c .before .n .given .1))
 
 returns-3 : tie.Need-returns-3
-returns-3 c = identifier-two _ _ _ _ (c .before .before .before .before .before .before .if1 .left) (c .before .before .before .before .before .if2 .taken) (was passTold (c .before .before .before .before .manufacturer .ensures unpackFrame) (c .before .before .d .given .1)) (c .read-value .ensures)
+returns-3 c =
+    let at-d = c .before .before in
+    let at-manufacturer = at-d .before .before in
+    let at-if2 = at-manufacturer .before in
+    let at-if1 = at-if2 .before in
+    identifier-two _ _ _ _ (at-if1 .if1 .left) (at-if2 .if2 .taken) (was passTold (at-manufacturer .manufacturer .ensures unpackFrame) (at-d .d .given .1)) (c .read-value .ensures)
 
 read-value-requires-2 : tie.Need-read-value-requires-2
 read-value-requires-2 c κs = search needs

@@ -1,10 +1,5 @@
 -- `read_target` gives what `target` gives.
 -- Assumes nothing.
-use mathlib.Core.Path.{refl, sym, _∙_}
-use Rattle.cursor.specs.Rows.{nodeFrame, unpackFrame, referenceFrame}
-use Rattle.cursor.specs.Told.{numberTold, passTold}
-use Rattle.cursor.proofs.Laws.{was}
-use Rattle.cursor.proofs.Leaves.{number-inside, block-inside}
 use Rattle.node.proofs.Ways.{target-resource, target-node, target-uri}
 use native.Mathlib.Omega.{arith}
 use borrow.Author.Needs.{needs}

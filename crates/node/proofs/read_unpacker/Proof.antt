@@ -1,12 +1,9 @@
 -- `read_unpacker` gives what `unpacker` gives.
 -- Assumes nothing.
-use mathlib.Core.Path.{refl, sym, _∙_}
-use Rattle.cursor.specs.Rows.{nodeFrame, unpackFrame, referenceFrame}
+use Rattle.cursor.specs.Rows.{unpackFrame}
 use Rattle.cursor.specs.Told.{numberTold, passTold}
 use Rattle.cursor.proofs.Laws.{was}
-use Rattle.cursor.proofs.Leaves.{number-inside, block-inside}
 use Rattle.node.proofs.Ways.{unpacker-cut, unpacker-bad, unpacker-identifier, unpacker-size}
-use native.Mathlib.Omega.{arith}
 use borrow.Author.Needs.{needs}
 use Rattle.node.proofs.read_unpacker.Statement.{statement}
 use Rattle.node.proofs.read_unpacker.Tie as tie
@@ -39,10 +36,23 @@ returns-2 : tie.Need-returns-2
 returns-2 c = λ n. unpacker-cut _ _ _ n (was numberTold (c .before .before .before .number .ensures unpackFrame) (c .before .n .given .1))
 
 returns-3 : tie.Need-returns-3
-returns-3 c = λ n. unpacker-identifier _ _ _ n (was numberTold (c .before .before .before .before .before .before .before .before .number .ensures unpackFrame) (c .before .before .before .before .before .before .kind .given .1)) (c .before .before .before .before .if1 .left) (was passTold (c .before .before .before .read-identifier .ensures) (c .before .n2 .given .1))
+returns-3 c =
+    let at-read-identifier = c .before .before .before in
+    let at-if1 = at-read-identifier .before in
+    let at-kind = at-if1 .before .before in
+    let at-number = at-kind .before .before in
+    λ n. unpacker-identifier _ _ _ n (was numberTold (at-number .number .ensures unpackFrame) (at-kind .kind .given .1)) (at-if1 .if1 .left)
+    (was passTold (at-read-identifier .read-identifier .ensures) (c .before .n2 .given .1))
 
 returns-4 : tie.Need-returns-4
-returns-4 c = λ n. unpacker-size _ _ _ n (was numberTold (c .before .before .before .before .before .before .before .before .before .number .ensures unpackFrame) (c .before .before .before .before .before .before .before .kind .given .1)) (c .before .before .before .before .before .if1 .left) (was passTold (c .before .before .before .before .read-identifier .ensures) (c .before .before .e .given .1)) (c .read-value .result) (c .read-value .ensures)
+returns-4 c =
+    let at-e = c .before .before in
+    let at-read-identifier = at-e .before .before in
+    let at-if1 = at-read-identifier .before in
+    let at-kind = at-if1 .before .before in
+    let at-number = at-kind .before .before in
+    λ n. unpacker-size _ _ _ n (was numberTold (at-number .number .ensures unpackFrame) (at-kind .kind .given .1)) (at-if1 .if1 .left)
+    (was passTold (at-read-identifier .read-identifier .ensures) (at-e .e .given .1)) (c .read-value .result) (c .read-value .ensures)
 
 pub read-unpacker-spec : {M : Type 1} → statement M
 read-unpacker-spec =

@@ -1,10 +1,9 @@
 -- `read_uri` gives what `uriPlace` gives.
 -- Assumes nothing.
-use mathlib.Core.Path.{refl, sym, _∙_}
-use Rattle.cursor.specs.Rows.{nodeFrame, unpackFrame, referenceFrame}
-use Rattle.cursor.specs.Told.{numberTold, passTold}
+use Rattle.cursor.specs.Rows.{referenceFrame}
+use Rattle.cursor.specs.Told.{numberTold}
 use Rattle.cursor.proofs.Laws.{was}
-use Rattle.cursor.proofs.Leaves.{number-inside, block-inside}
+use Rattle.cursor.proofs.Leaves.{block-inside}
 use Rattle.node.proofs.Ways.{uri-cut, uri-all}
 use native.Mathlib.Omega.{arith}
 use borrow.Author.Needs.{needs}
@@ -21,7 +20,11 @@ enum-known-size : tie.Need-enum-known-size
 enum-known-size c = search needs
 
 on-requires : tie.Need-on-requires
-on-requires c κs = omega (arith, c .before .before .before .before .before .before .pre, block-inside referenceFrame _ _ _ _ (was numberTold (c .before .before .before .before .block .ensures referenceFrame) (c .before .before .size .given .1)))
+on-requires c κs =
+    let at-size = c .before .before in
+    let at-block = at-size .before .before in
+    let entry = at-block .before .before in
+    omega (arith, entry .pre, block-inside referenceFrame _ _ _ _ (was numberTold (at-block .block .ensures referenceFrame) (at-size .size .given .1)))
 
 returns : tie.Need-returns
 returns c = uri-cut _ _ _ (was numberTold (c .before .before .before .block .ensures referenceFrame) (c .before .n .given .1))

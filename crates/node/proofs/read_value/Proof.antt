@@ -1,12 +1,9 @@
 -- `read_value` gives what `value` gives.
 -- Assumes nothing.
-use mathlib.Core.Path.{refl, sym, _∙_}
-use Rattle.cursor.specs.Rows.{nodeFrame, unpackFrame, referenceFrame}
-use Rattle.cursor.specs.Told.{numberTold, passTold}
+use Rattle.cursor.specs.Rows.{unpackFrame}
+use Rattle.cursor.specs.Told.{numberTold}
 use Rattle.cursor.proofs.Laws.{was}
-use Rattle.cursor.proofs.Leaves.{number-inside, block-inside}
 use Rattle.node.proofs.Ways.{value-cut, value-all}
-use native.Mathlib.Omega.{arith}
 use borrow.Author.Needs.{needs}
 use Rattle.node.proofs.read_value.Statement.{statement}
 use Rattle.node.proofs.read_value.Tie as tie

@@ -37,7 +37,11 @@ array-share-prefix-text : tie.Need-array-share-prefix-text
 array-share-prefix-text c = search needs
 
 slice-aggregate-fail-2 : tie.Need-slice-aggregate-fail-2
-slice-aggregate-fail-2 c = counts (c .before .before .before .before .before .before .put-escaped .result) (c .before .before .before .before .before .before .put-escaped .last .0) (omega (arith, c .before .if1 .left, c .before .before .before .before .before .before .put-escaped .kept .0, c .before .before .before .before .before .before .before .before .name-buffer .ensures)) .1
+slice-aggregate-fail-2 c =
+    let at-put-escaped = c .before .before .before .before .before .before in
+    let at-name-buffer = at-put-escaped .before .before in
+    counts (at-put-escaped .put-escaped .result) (at-put-escaped .put-escaped .last .0)
+    (omega (arith, c .before .if1 .left, at-put-escaped .put-escaped .kept .0, at-name-buffer .name-buffer .ensures)) .1
 
 fail-requires-2 : tie.Need-fail-requires-2
 fail-requires-2 c κs = search needs

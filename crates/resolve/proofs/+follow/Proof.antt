@@ -33,25 +33,42 @@ follow-returns : (t : ℕ) → follow-lts.Need-returns (follow-calls t) (follow-
 follow-returns t c = at-folder _ _ _ _ _ (omega (arith, c .before .before .before .before .pre)) (c .before .before .node-at .ensures) (c .if1 .taken)
 
 follow-returns-2 : (t : ℕ) → follow-lts.Need-returns-2 (follow-calls t) (follow-at t) follow.Post
-follow-returns-2 t c = at-one _ _ _ _ _ (omega (arith, c .before .before .before .before .before .before .pre)) (c .before .before .before .before .node-at .ensures) (c .before .before .if1 .left) (c .if2 .taken)
+follow-returns-2 t c = at-one _ _ _ _ _ (omega (arith, c .before .before .before .before .before .before .pre))
+    (c .before .before .before .before .node-at .ensures) (c .before .before .if1 .left) (c .if2 .taken)
 
 follow-returns-3 : (t : ℕ) → follow-lts.Need-returns-3 (follow-calls t) (follow-at t) follow.Post
-follow-returns-3 t c = two-many _ _ _ _ _ (omega (arith, c .before .before .before .before .before .before .before .before .before .pre)) (c .before .before .before .before .before .before .before .node-at .ensures) (c .before .before .before .before .before .if1 .left) (c .before .if3 .taken) (c .if4 .taken)
+follow-returns-3 t c = two-many _ _ _ _ _ (omega (arith, c .before .before .before .before .before .before .before .before .before .pre))
+    (c .before .before .before .before .before .before .before .node-at .ensures) (c .before .before .before .before .before .if1 .left)
+    (c .before .if3 .taken) (c .if4 .taken)
 
 follow-add-t15 : (t : ℕ) → follow-lts.Need-add-t15 (follow-calls t) (follow-at t) follow.Post
 follow-add-t15 t c = omega (arith, c .before .before .before .before .before .before .before .before .before .pre)
 
 follow-returns-4 : (t : ℕ) → follow-lts.Need-returns-4 (follow-calls t) (follow-at t) follow.Post
-follow-returns-4 t c = two-on _ _ _ _ _ (omega (arith, c .before .before .before .before .before .before .before .before .before .pre)) (c .before .before .before .before .before .before .before .node-at .ensures) (c .before .before .before .before .before .if1 .left) (c .if4 .left) (c .before .if3 .taken)
+follow-returns-4 t c = two-on _ _ _ _ _ (omega (arith, c .before .before .before .before .before .before .before .before .before .pre))
+    (c .before .before .before .before .before .before .before .node-at .ensures) (c .before .before .before .before .before .if1 .left)
+    (c .if4 .left) (c .before .if3 .taken)
 
 follow-returns-5 : (t : ℕ) → follow-lts.Need-returns-5 (follow-calls t) (follow-at t) follow.Post
-follow-returns-5 t c = at-uri _ _ _ _ _ (omega (arith, c .before .before .before .before .before .before .before .before .before .before .pre)) (c .before .before .before .before .before .before .before .before .node-at .ensures) (c .before .before .before .before .before .before .if1 .left) (c .before .before .before .before .if2 .left) (c .before .before .if3 .left) (c .if5 .taken)
+follow-returns-5 t c = at-uri _ _ _ _ _
+    (omega (arith, c .before .before .before .before .before .before .before .before .before .before .pre))
+    (c .before .before .before .before .before .before .before .before .node-at .ensures)
+    (c .before .before .before .before .before .before .if1 .left) (c .before .before .before .before .if2 .left)
+    (c .before .before .if3 .left) (c .if5 .taken)
 
 follow-returns-6 : (t : ℕ) → follow-lts.Need-returns-6 (follow-calls t) (follow-at t) follow.Post
-follow-returns-6 t c = three-many _ _ _ _ _ (omega (arith, c .before .before .before .before .before .before .before .before .before .before .before .pre)) (c .before .before .before .before .before .before .before .before .before .node-at .ensures) (c .before .before .before .before .before .before .before .if1 .left) (c .before .if5 .left) (c .if6 .taken)
+follow-returns-6 t c = three-many _ _ _ _ _
+    (omega (arith, c .before .before .before .before .before .before .before .before .before .before .before .pre))
+    (c .before .before .before .before .before .before .before .before .before .node-at .ensures)
+    (c .before .before .before .before .before .before .before .if1 .left) (c .before .if5 .left) (c .if6 .taken)
 
 follow-row-starting-requires : (t : ℕ) → follow-lts.Need-row-starting-requires (follow-calls t) (follow-at t) follow.Post
-follow-row-starting-requires t c κs = (omega (arith, c .before .before .before .before .before .before .before .before .before .before .before .pre), omega (arith, c .before .before .before .before .before .before .before .before .before .before .before .pre), c .before .before .before .before .before .before .before .before .before .before .before .pre .1 .5)
+follow-row-starting-requires t c κs = (
+  omega (arith, c .before .before .before .before .before .before .before .before .before .before .before .pre),
+  omega
+      (arith, c .before .before .before .before .before .before .before .before .before .before .before .pre),
+  c .before .before .before .before .before .before .before .before .before .before .before .pre .1 .5,
+)
 
 follow-sub-follow : (t : ℕ) → follow-lts.Need-sub-follow (follow-calls t) (follow-at t) follow.Post
 follow-sub-follow t c = omega (arith, c .before .before .before .before .before .before .before .before .before .before .before .before .pre)
@@ -60,10 +77,30 @@ follow-add-follow : (t : ℕ) → follow-lts.Need-add-follow (follow-calls t) (f
 follow-add-follow t c = omega (arith, c .before .before .before .before .before .before .before .before .before .before .before .before .pre)
 
 follow-follow-requires : (t : ℕ) → follow-lts.Need-follow-requires (follow-calls t) (follow-at t) follow.Post
-follow-follow-requires t c κs = (omega (arith, c .before .before .before .before .before .before .before .before .before .before .before .before .pre), (omega (arith, c .before .before .before .before .before .before .before .before .before .before .before .before .pre), next-there _ _ _ (omega (arith, c .before .before .before .before .before .before .before .before .before .before .before .before .pre)) (c .before .before .before .before .before .before .before .before .before .before .before .before .pre .1 .3) (c .before .before .before .before .before .before .before .before .before .before .node-at .ensures) (c .before .before .if5 .left) (c .row-starting .ensures), omega (arith, c .before .before .before .before .before .before .before .before .before .before .before .before .pre), c .before .before .before .before .before .before .before .before .before .before .before .before .pre .1 .3, omega (arith, c .before .before .before .before .before .before .before .before .before .before .before .before .pre), c .before .before .before .before .before .before .before .before .before .before .before .before .pre .1 .5))
+follow-follow-requires t c κs = (
+  omega (arith, c .before .before .before .before .before .before .before .before .before .before .before .before .pre),
+  (
+    omega (arith, c .before .before .before .before .before .before .before .before .before .before .before .before .pre),
+    next-there _ _ _
+        (omega (arith, c .before .before .before .before .before .before .before .before .before .before .before .before .pre))
+        (c .before .before .before .before .before .before .before .before .before .before .before .before .pre .1 .3)
+        (c .before .before .before .before .before .before .before .before .before .before .node-at .ensures) (c .before .before .if5 .left)
+        (c .row-starting .ensures),
+    omega
+        (arith, c .before .before .before .before .before .before .before .before .before .before .before .before .pre),
+    c .before .before .before .before .before .before .before .before .before .before .before .before .pre .1 .3,
+    omega
+        (arith, c .before .before .before .before .before .before .before .before .before .before .before .before .pre),
+    c .before .before .before .before .before .before .before .before .before .before .before .before .pre .1 .5,
+  ),
+)
 
 follow-returns-7 : (t : ℕ) → follow-lts.Need-returns-7 (follow-calls t) (follow-at t) follow.Post
-follow-returns-7 t c = three-on _ _ _ _ _ (omega (arith, c .before .before .before .before .before .before .before .before .before .before .before .before .before .pre)) (c .before .before .before .before .before .before .before .before .before .before .before .node-at .ensures) (c .before .before .before .before .before .before .before .before .before .if1 .left) (c .before .before .if6 .left) (c .before .before .before .if5 .left) (c .before .row-starting .ensures) (c .follow .ensures)
+follow-returns-7 t c = three-on _ _ _ _ _
+    (omega (arith, c .before .before .before .before .before .before .before .before .before .before .before .before .before .pre))
+    (c .before .before .before .before .before .before .before .before .before .before .before .node-at .ensures)
+    (c .before .before .before .before .before .before .before .before .before .if1 .left) (c .before .before .if6 .left)
+    (c .before .before .before .if5 .left) (c .before .row-starting .ensures) (c .follow .ensures)
 
 pub +follow-spec : {M : Type 1} → statement M
 +follow-spec = close μ-follow λ t. follow-lts.spec (follow-calls t)

@@ -60,7 +60,8 @@ returns c =
     let p = c .before .before .before .before .before .before .before .before .before .before .before .place in
     let i = c .before .before .before .before .before .before .before .before .before .if1 in
     let k = c .before .before .before .before .before .before .store-bytes in
-    let s = copy-good (w .file .now) (length (w .nodes .now)) (length (w .items .now)) (w .row) (w .out .now) (r .result) (r .ensures .0) (p .given .1) (i .taken) (r .ensures .1 .0) (r .ensures .1 .1) (k .ensures) (k .kept .0) (c .before .before .clear-bytes-from .ensures) in
+    let s = copy-good (w .file .now) (length (w .nodes .now)) (length (w .items .now)) (w .row) (w .out .now) (r .result) (r .ensures .0)
+    (p .given .1) (i .taken) (r .ensures .1 .0) (r .ensures .1 .1) (k .ensures) (k .kept .0) (c .before .before .clear-bytes-from .ensures) in
     (s .0, (s .1, (s .2, s .3)))
 
 clear-all-requires : tie.Need-clear-all-requires
@@ -82,7 +83,8 @@ returns-2 : tie.Need-returns-2
 returns-2 c =
     let r = c .before .before .before .before .before .before .before .before .before .before .before .resolve in
     let w = c .before .before .before .before .before .before .before .before .before .before .before .before .before .before .before .before .before .before .args in
-    let s = copy-refused (w .file .now) (length (w .nodes .now)) (length (w .items .now)) (w .row) (w .out .now) (r .result) (r .ensures .0) (c .before .before .before .before .before .n .given .1) (r .ensures .1 .0) (r .ensures .1 .1) (c .before .before .clear-bytes .ensures) in
+    let s = copy-refused (w .file .now) (length (w .nodes .now)) (length (w .items .now)) (w .row) (w .out .now) (r .result) (r .ensures .0)
+    (c .before .before .before .before .before .n .given .1) (r .ensures .1 .0) (r .ensures .1 .1) (c .before .before .clear-bytes .ensures) in
     (s .0, (s .1, (s .2, s .3)))
 
 same-length-7 : tie.Need-same-length-7
@@ -101,7 +103,8 @@ returns-3 c =
     let p = c .before .before .before .before .before .before .before .before .before .before .before .before .before .place in
     let i = c .before .before .before .before .before .before .before .before .before .before .before .if1 in
     let k = c .before .before .before .before .before .before .before .before .clear-all .ensures in
-    let s = copy-full (w .file .now) (length (w .nodes .now)) (length (w .items .now)) (w .row) (w .out .now) (r .result) (r .ensures .0) (p .given .1) (i .left) (zeros (k .0) (r .kept .1 .0)) (zeros (k .1) (r .kept .1 .1 .0)) (c .before .before .clear-bytes2 .ensures) in
+    let s = copy-full (w .file .now) (length (w .nodes .now)) (length (w .items .now)) (w .row) (w .out .now) (r .result) (r .ensures .0)
+    (p .given .1) (i .left) (zeros (k .0) (r .kept .1 .0)) (zeros (k .1) (r .kept .1 .1 .0)) (c .before .before .clear-bytes2 .ensures) in
     (s .0, (s .1, (s .2, s .3)))
 
 pub copy-resource-spec : {M : Type 1} → statement M

@@ -17,7 +17,23 @@ enum-known-s : tie.Need-enum-known-s
 enum-known-s c = search needs
 
 resolve-row-requires : tie.Need-resolve-row-requires
-resolve-row-requires c κs = (rows-room (c .before .before .before .before .before .before .before .before .before .before .before .before .before .before .args .file .now) (length (c .before .before .before .before .before .before .before .before .before .before .before .before .before .before .args .nodes .now)) (length (c .before .before .before .before .before .before .before .before .before .before .before .before .before .before .args .items .now)) (c .before .before .before .before .before .before .before .before .before .before .before .before .before .before .args .row) (c .before .before .before .before .before .before .before .before .read-file .ensures .0) (c .before .before .before .before .before .before .before .before .read-file .ensures .1 .0) (c .before .before .before .before .before .before .before .before .read-file .ensures .1 .1) (c .before .before .s .given .1), rows-linked (c .before .before .before .before .before .before .before .before .before .before .before .before .before .before .args .file .now) (length (c .before .before .before .before .before .before .before .before .before .before .before .before .before .before .args .nodes .now)) (length (c .before .before .before .before .before .before .before .before .before .before .before .before .before .before .args .items .now)) (c .before .before .before .before .before .before .before .before .before .before .before .before .before .before .args .row) (c .before .before .before .before .before .before .before .before .read-file .ensures .0) (c .before .before .before .before .before .before .before .before .read-file .ensures .1 .0) (c .before .before .before .before .before .before .before .before .read-file .ensures .1 .1) (c .before .before .s .given .1), tree-among (c .before .before .before .before .before .before .before .before .before .before .before .before .before .before .args .file .now) (length (c .before .before .before .before .before .before .before .before .before .before .before .before .before .before .args .nodes .now)) (length (c .before .before .before .before .before .before .before .before .before .before .before .before .before .before .args .items .now)) (c .before .before .before .before .before .before .before .before .before .before .before .before .before .before .args .row) (c .before .before .before .before .before .before .before .before .read-file .ensures .0) (c .before .before .before .before .before .before .before .before .read-file .ensures .1 .0) (c .before .before .before .before .before .before .before .before .read-file .ensures .1 .1) (c .before .before .s .given .1), rows-rising (c .before .before .before .before .before .before .before .before .before .before .before .before .before .before .args .file .now) (length (c .before .before .before .before .before .before .before .before .before .before .before .before .before .before .args .nodes .now)) (length (c .before .before .before .before .before .before .before .before .before .before .before .before .before .before .args .items .now)) (c .before .before .before .before .before .before .before .before .before .before .before .before .before .before .args .row) (c .before .before .before .before .before .before .before .before .read-file .ensures .0) (c .before .before .before .before .before .before .before .before .read-file .ensures .1 .0) (c .before .before .before .before .before .before .before .before .read-file .ensures .1 .1) (c .before .before .s .given .1))
+resolve-row-requires c κs =
+    let at-s = c .before .before in
+    let at-read-file = at-s .before .before .before .before .before .before in
+    let entry = at-read-file .before .before .before .before .before .before in (
+      rows-room (entry .args .file .now) (length (entry .args .nodes .now)) (length (entry .args .items .now)) (entry .args .row)
+          (at-read-file .read-file .ensures .0) (at-read-file .read-file .ensures .1 .0) (at-read-file .read-file .ensures .1 .1)
+          (at-s .s .given .1),
+      rows-linked (entry .args .file .now) (length (entry .args .nodes .now)) (length (entry .args .items .now))
+          (entry .args .row) (at-read-file .read-file .ensures .0) (at-read-file .read-file .ensures .1 .0)
+          (at-read-file .read-file .ensures .1 .1) (at-s .s .given .1),
+      tree-among (entry .args .file .now) (length (entry .args .nodes .now))
+          (length (entry .args .items .now)) (entry .args .row) (at-read-file .read-file .ensures .0) (at-read-file .read-file .ensures .1 .0)
+          (at-read-file .read-file .ensures .1 .1) (at-s .s .given .1),
+      rows-rising (entry .args .file .now) (length (entry .args .nodes .now))
+          (length (entry .args .items .now)) (entry .args .row) (at-read-file .read-file .ensures .0) (at-read-file .read-file .ensures .1 .0)
+          (at-read-file .read-file .ensures .1 .1) (at-s .s .given .1),
+    )
 
 enum-known-n-2 : tie.Need-enum-known-n-2
 enum-known-n-2 c = search needs
@@ -35,16 +51,38 @@ same-length-2 : tie.Need-same-length-2
 same-length-2 c = search needs
 
 returns : tie.Need-returns
-returns c = let w = ends-unread (c .before .before .before .before .before .before .before .before .before .before .before .before .before .args .file .now) (length (c .before .before .before .before .before .before .before .before .before .before .before .before .before .args .nodes .now)) (length (c .before .before .before .before .before .before .before .before .before .before .before .before .before .args .items .now)) (c .before .before .before .before .before .before .before .before .before .before .before .before .before .args .row) (c .before .before .before .before .before .before .before .read-file .ensures .0) (c .before .before .before .before .before .before .before .read-file .ensures .1 .0) (c .before .before .before .before .before .before .before .read-file .ensures .1 .1) (c .before .n .given .1) in (w .0, (w .1, w .2))
+returns c =
+    let at-read-file = c .before .before .before .before .before .before .before in
+    let entry = at-read-file .before .before .before .before .before .before in
+    let w = ends-unread (entry .args .file .now) (length (entry .args .nodes .now)) (length (entry .args .items .now)) (entry .args .row)
+    (at-read-file .read-file .ensures .0) (at-read-file .read-file .ensures .1 .0) (at-read-file .read-file .ensures .1 .1)
+    (c .before .n .given .1) in (w .0, (w .1, w .2))
 
 same-length-3 : tie.Need-same-length-3
-same-length-3 c = c .before .before .before .before .clear-all .kept .0 ∙ c .before .before .before .before .before .before .before .before .before .before .before .before .before .before .before .before .before .before .before .read-file .kept .1 .0
+same-length-3 c =
+    let at-clear-all = c .before .before .before .before in
+    let at-read-file = at-clear-all .before .before .before .before .before .before .before .before .before .before .before .before .before .before .before in
+    at-clear-all .clear-all .kept .0 ∙ at-read-file .read-file .kept .1 .0
 
 same-length-4 : tie.Need-same-length-4
-same-length-4 c = c .before .before .before .before .clear-all .kept .1 .0 ∙ c .before .before .before .before .before .before .before .before .before .before .before .before .before .before .before .before .before .before .before .read-file .kept .1 .1 .0
+same-length-4 c =
+    let at-clear-all = c .before .before .before .before in
+    let at-read-file = at-clear-all .before .before .before .before .before .before .before .before .before .before .before .before .before .before .before in
+    at-clear-all .clear-all .kept .1 .0 ∙ at-read-file .read-file .kept .1 .1 .0
 
 returns-2 : tie.Need-returns-2
-returns-2 c = let w = ends-refused (c .before .before .before .before .before .before .before .before .before .before .before .before .before .before .before .before .before .before .before .before .before .before .before .before .before .args .file .now) (length (c .before .before .before .before .before .before .before .before .before .before .before .before .before .before .before .before .before .before .before .before .before .before .before .before .before .args .nodes .now)) (length (c .before .before .before .before .before .before .before .before .before .before .before .before .before .before .before .before .before .before .before .before .before .before .before .before .before .args .items .now)) (c .before .before .before .before .before .before .before .before .before .before .before .before .before .before .before .before .before .before .before .before .before .before .before .before .before .args .row) (c .before .before .before .before .before .before .before .before .before .before .before .before .before .before .before .before .before .before .before .read-file .ensures .0) (c .before .before .before .before .before .before .before .before .before .before .before .before .before .before .before .before .before .before .before .read-file .ensures .1 .0) (c .before .before .before .before .before .before .before .before .before .before .before .before .before .before .before .before .before .before .before .read-file .ensures .1 .1) (c .before .before .before .before .before .before .before .before .before .before .before .before .before .s .given .1) _ (c .before .before .before .before .before .before .before .before .before .before .resolve-row .ensures) (c .before .before .before .before .before .before .before .before .n2 .given .1) (c .before .before .before .before .clear-all .ensures .0 ∙ ap (λ n. replicate n 0) (c .before .before .before .before .before .before .before .before .before .before .before .before .before .before .before .before .before .before .before .read-file .kept .1 .0)) (c .before .before .before .before .clear-all .ensures .1 ∙ ap (λ n. replicate n 0) (c .before .before .before .before .before .before .before .before .before .before .before .before .before .before .before .before .before .before .before .read-file .kept .1 .1 .0)) in (w .0, (w .1, w .2))
+returns-2 c =
+    let at-clear-all = c .before .before .before .before in
+    let at-n2 = at-clear-all .before .before .before .before in
+    let at-resolve-row = at-n2 .before .before in
+    let at-s = at-resolve-row .before .before .before in
+    let at-read-file = at-s .before .before .before .before .before .before in
+    let entry = at-read-file .before .before .before .before .before .before in
+    let w = ends-refused (entry .args .file .now) (length (entry .args .nodes .now)) (length (entry .args .items .now)) (entry .args .row)
+    (at-read-file .read-file .ensures .0) (at-read-file .read-file .ensures .1 .0) (at-read-file .read-file .ensures .1 .1)
+    (at-s .s .given .1) _ (at-resolve-row .resolve-row .ensures) (at-n2 .n2 .given .1)
+    (at-clear-all .clear-all .ensures .0 ∙ ap (λ n. replicate n 0) (at-read-file .read-file .kept .1 .0))
+    (at-clear-all .clear-all .ensures .1 ∙ ap (λ n. replicate n 0) (at-read-file .read-file .kept .1 .1 .0)) in (w .0, (w .1, w .2))
 
 same-length-5 : tie.Need-same-length-5
 same-length-5 c = search needs
@@ -53,7 +91,14 @@ same-length-6 : tie.Need-same-length-6
 same-length-6 c = search needs
 
 returns-3 : tie.Need-returns-3
-returns-3 c = let w = ends-at (c .before .before .before .before .before .before .before .before .before .before .before .before .before .before .before .before .before .before .args .file .now) (length (c .before .before .before .before .before .before .before .before .before .before .before .before .before .before .before .before .before .before .args .nodes .now)) (length (c .before .before .before .before .before .before .before .before .before .before .before .before .before .before .before .before .before .before .args .items .now)) (c .before .before .before .before .before .before .before .before .before .before .before .before .before .before .before .before .before .before .args .row) (c .before .before .before .before .before .before .before .before .before .before .before .before .read-file .ensures .0) (c .before .before .before .before .before .before .before .before .before .before .before .before .read-file .ensures .1 .0) (c .before .before .before .before .before .before .before .before .before .before .before .before .read-file .ensures .1 .1) (c .before .before .before .before .before .before .s .given .1) _ (c .before .before .before .resolve-row .ensures) (c .before .place .given .1) in (w .0, (w .1, w .2))
+returns-3 c =
+    let at-resolve-row = c .before .before .before in
+    let at-s = at-resolve-row .before .before .before in
+    let at-read-file = at-s .before .before .before .before .before .before in
+    let entry = at-read-file .before .before .before .before .before .before in
+    let w = ends-at (entry .args .file .now) (length (entry .args .nodes .now)) (length (entry .args .items .now)) (entry .args .row)
+    (at-read-file .read-file .ensures .0) (at-read-file .read-file .ensures .1 .0) (at-read-file .read-file .ensures .1 .1)
+    (at-s .s .given .1) _ (at-resolve-row .resolve-row .ensures) (c .before .place .given .1) in (w .0, (w .1, w .2))
 
 pub resolve-spec : {M : Type 1} → statement M
 resolve-spec =

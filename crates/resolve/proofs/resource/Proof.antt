@@ -26,7 +26,14 @@ enum-known-place : tie.Need-enum-known-place
 enum-known-place c = search needs
 
 add-result : tie.Need-add-result
-add-result c = omega (arith, part-inside (c .before .before .before .before .before .before .before .before .before .before .before .before .before .args .file .now) (length (c .before .before .before .before .before .before .before .before .before .before .before .before .before .args .nodes .now)) (length (c .before .before .before .before .before .before .before .before .before .before .before .before .before .args .items .now)) (c .before .before .before .before .before .before .before .before .before .before .before .before .before .args .row) (c .before .before .before .before .before .before .before .resolve .result) (c .before .before .before .before .before .before .before .resolve .ensures .0) (c .before .place .given .1))
+add-result c =
+    let at-resolve = c .before .before .before .before .before .before .before in
+    let entry = at-resolve .before .before .before .before .before .before in
+    omega (
+      arith,
+      part-inside (entry .args .file .now) (length (entry .args .nodes .now)) (length (entry .args .items .now)) (entry .args .row)
+          (at-resolve .resolve .result) (at-resolve .resolve .ensures .0) (c .before .place .given .1),
+    )
 
 sub-result-2 : tie.Need-sub-result-2
 sub-result-2 c = search needs
@@ -35,7 +42,14 @@ part-result-start-2 : tie.Need-part-result-start-2
 part-result-start-2 c = search needs
 
 part-result-end-2 : tie.Need-part-result-end-2
-part-result-end-2 c = omega (arith, part-inside (c .before .before .before .before .before .before .before .before .before .before .before .before .before .args .file .now) (length (c .before .before .before .before .before .before .before .before .before .before .before .before .before .args .nodes .now)) (length (c .before .before .before .before .before .before .before .before .before .before .before .before .before .args .items .now)) (c .before .before .before .before .before .before .before .before .before .before .before .before .before .args .row) (c .before .before .before .before .before .before .before .resolve .result) (c .before .before .before .before .before .before .before .resolve .ensures .0) (c .before .place .given .1))
+part-result-end-2 c =
+    let at-resolve = c .before .before .before .before .before .before .before in
+    let entry = at-resolve .before .before .before .before .before .before in
+    omega (
+      arith,
+      part-inside (entry .args .file .now) (length (entry .args .nodes .now)) (length (entry .args .items .now)) (entry .args .row)
+          (at-resolve .resolve .result) (at-resolve .resolve .ensures .0) (c .before .place .given .1),
+    )
 
 same-length : tie.Need-same-length
 same-length c = search needs
@@ -44,7 +58,15 @@ same-length-2 : tie.Need-same-length-2
 same-length-2 c = search needs
 
 returns : tie.Need-returns
-returns c = record { gives = part-none (c .before .before .before .before .before .before .before .before .before .before .before .before .before .args .file .now) (c .before .before .before .before .before .before .before .resolve .result) (c .before .before .before .before .before .before .before .resolve .ensures .0) (c .before .enum-told .given .1); in-nodes = c .before .before .before .before .before .before .before .resolve .ensures .1 .0; in-items = c .before .before .before .before .before .before .before .resolve .ensures .1 .1 }
+returns c =
+    let at-resolve = c .before .before .before .before .before .before .before in
+    let entry = at-resolve .before .before .before .before .before .before in
+    record {
+      gives = part-none (entry .args .file .now) (at-resolve .resolve .result) (at-resolve .resolve .ensures .0)
+          (c .before .enum-told .given .1);
+      in-nodes = at-resolve .resolve .ensures .1 .0;
+      in-items = at-resolve .resolve .ensures .1 .1;
+    }
 
 same-length-3 : tie.Need-same-length-3
 same-length-3 c = search needs
@@ -53,7 +75,16 @@ same-length-4 : tie.Need-same-length-4
 same-length-4 c = search needs
 
 returns-2 : tie.Need-returns-2
-returns-2 c = record { gives = part-at (c .before .before .before .before .before .before .before .before .before .before .before .before .before .before .args .file .now) (c .before .before .before .before .before .before .before .before .resolve .result) (c .before .before .before .before .before .before .before .before .resolve .ensures .0) (c .before .before .place .given .1); in-nodes = c .before .before .before .before .before .before .before .before .resolve .ensures .1 .0; in-items = c .before .before .before .before .before .before .before .before .resolve .ensures .1 .1 }
+returns-2 c =
+    let at-place = c .before .before in
+    let at-resolve = at-place .before .before .before .before .before .before in
+    let entry = at-resolve .before .before .before .before .before .before in
+    record {
+      gives = part-at (entry .args .file .now) (at-resolve .resolve .result) (at-resolve .resolve .ensures .0)
+          (at-place .place .given .1);
+      in-nodes = at-resolve .resolve .ensures .1 .0;
+      in-items = at-resolve .resolve .ensures .1 .1;
+    }
 
 pub resource-spec : {M : Type 1} → statement M
 resource-spec =

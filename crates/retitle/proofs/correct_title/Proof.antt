@@ -23,7 +23,13 @@ enum-known-s : tie.Need-enum-known-s
 enum-known-s c = search needs
 
 write-titled-requires : tie.Need-write-titled-requires
-write-titled-requires c κs = stands (c .before .before .before .before .before .before .before .before .before .before .before .before .before .before .before .before .before .before .args .file .now) (length (c .before .before .before .before .before .before .before .before .before .before .before .before .before .before .before .before .before .before .args .nodes .now)) (length (c .before .before .before .before .before .before .before .before .before .before .before .before .before .before .before .before .before .before .args .items .now)) (standing (c .before .before .before .before .before .before .before .before .before .before .before .before .before .before .before .before .before .before .args .file .now) _ _ _ (c .before .before .before .before .before .before .before .before .before .before .read-file .ensures .0) (c .before .before .before .before .before .before .before .before .before .before .read-file .ensures .1 .0) (c .before .before .before .before .before .before .before .before .before .before .read-file .ensures .1 .1) (c .before .before .before .before .s .given .1))
+write-titled-requires c κs =
+    let at-s = c .before .before .before .before in
+    let at-read-file = at-s .before .before .before .before .before .before in
+    let entry = at-read-file .before .before .before .before .before .before .before .before in
+    stands (entry .args .file .now) (length (entry .args .nodes .now)) (length (entry .args .items .now))
+    (standing (entry .args .file .now) _ _ _ (at-read-file .read-file .ensures .0) (at-read-file .read-file .ensures .1 .0)
+    (at-read-file .read-file .ensures .1 .1) (at-s .s .given .1))
 
 enum-known-n-2 : tie.Need-enum-known-n-2
 enum-known-n-2 c = search needs
@@ -41,10 +47,41 @@ clear-bytes-from-requires : tie.Need-clear-bytes-from-requires
 clear-bytes-from-requires c κs = search needs
 
 slice-reshare-prefix-written : tie.Need-slice-reshare-prefix-written
-slice-reshare-prefix-written c = let st = (standing (c .before .before .before .before .before .before .before .before .before .before .before .before .before .before .before .before .before .before .before .before .before .before .before .before .before .before .before .before .args .file .now) _ _ _ (c .before .before .before .before .before .before .before .before .before .before .before .before .before .before .before .before .before .before .before .before .read-file .ensures .0) (c .before .before .before .before .before .before .before .before .before .before .before .before .before .before .before .before .before .before .before .before .read-file .ensures .1 .0) (c .before .before .before .before .before .before .before .before .before .before .before .before .before .before .before .before .before .before .before .before .read-file .ensures .1 .1) (c .before .before .before .before .before .before .before .before .before .before .before .before .before .before .s .given .1)) in omega (arith, file-inside (c .before .before .before .before .before .before .before .before .before .before .before .before .before .before .before .before .before .before .before .before .before .before .before .before .before .before .before .before .args .file .now) (length (c .before .before .before .before .before .before .before .before .before .before .before .before .before .before .before .before .before .before .before .before .before .before .before .before .before .before .before .before .args .nodes .now)) (length (c .before .before .before .before .before .before .before .before .before .before .before .before .before .before .before .before .before .before .before .before .before .before .before .before .before .before .before .before .args .items .now)) (c .before .before .before .before .before .before .before .before .before .before .before .before .before .before .before .before .before .before .before .before .before .before .before .before .before .before .before .before .args .row) (c .before .before .before .before .before .before .before .before .before .before .before .before .before .before .before .before .before .before .before .before .before .before .before .before .before .before .before .before .args .title .now) (length (c .before .before .before .before .before .before .before .before .before .before .before .before .before .before .before .before .before .before .before .before .before .before .before .before .before .before .before .before .args .out .now)) st (c .before .before .before .before .before .before .before .before .before .write-titled .ensures _ _ (reads-as (c .before .before .before .before .before .before .before .before .before .before .before .before .before .before .before .before .before .before .before .before .before .before .before .before .before .before .before .before .args .file .now) (length (c .before .before .before .before .before .before .before .before .before .before .before .before .before .before .before .before .before .before .before .before .before .before .before .before .before .before .before .before .args .nodes .now)) (length (c .before .before .before .before .before .before .before .before .before .before .before .before .before .before .before .before .before .before .before .before .before .before .before .before .before .before .before .before .args .items .now)) st)) (c .before .before .before .before .before .size .given .1), c .before .before .clear-bytes-from .kept)
+slice-reshare-prefix-written c =
+    let at-clear-bytes-from = c .before .before in
+    let at-size = at-clear-bytes-from .before .before .before in
+    let at-write-titled = at-size .before .before .before .before in
+    let at-s = at-write-titled .before .before .before .before .before in
+    let at-read-file = at-s .before .before .before .before .before .before in
+    let entry = at-read-file .before .before .before .before .before .before .before .before in
+    let st = (standing (entry .args .file .now) _ _ _ (at-read-file .read-file .ensures .0) (at-read-file .read-file .ensures .1 .0)
+    (at-read-file .read-file .ensures .1 .1) (at-s .s .given .1)) in omega (
+      arith,
+      file-inside (entry .args .file .now) (length (entry .args .nodes .now)) (length (entry .args .items .now)) (entry .args .row)
+          (entry .args .title .now) (length (entry .args .out .now)) st
+          (at-write-titled .write-titled .ensures _ _
+          (reads-as (entry .args .file .now) (length (entry .args .nodes .now)) (length (entry .args .items .now)) st)) (at-size .size .given .1),
+      at-clear-bytes-from .clear-bytes-from .kept,
+    )
 
 slice-aggregate-written : tie.Need-slice-aggregate-written
-slice-aggregate-written c = let st = (standing (c .before .before .before .before .before .before .before .before .before .before .before .before .before .before .before .before .before .before .before .before .before .before .before .before .before .before .before .before .before .args .file .now) _ _ _ (c .before .before .before .before .before .before .before .before .before .before .before .before .before .before .before .before .before .before .before .before .before .read-file .ensures .0) (c .before .before .before .before .before .before .before .before .before .before .before .before .before .before .before .before .before .before .before .before .before .read-file .ensures .1 .0) (c .before .before .before .before .before .before .before .before .before .before .before .before .before .before .before .before .before .before .before .before .before .read-file .ensures .1 .1) (c .before .before .before .before .before .before .before .before .before .before .before .before .before .before .before .s .given .1)) in sym (length-take-le _ _ (omega (arith, file-inside (c .before .before .before .before .before .before .before .before .before .before .before .before .before .before .before .before .before .before .before .before .before .before .before .before .before .before .before .before .before .args .file .now) (length (c .before .before .before .before .before .before .before .before .before .before .before .before .before .before .before .before .before .before .before .before .before .before .before .before .before .before .before .before .before .args .nodes .now)) (length (c .before .before .before .before .before .before .before .before .before .before .before .before .before .before .before .before .before .before .before .before .before .before .before .before .before .before .before .before .before .args .items .now)) (c .before .before .before .before .before .before .before .before .before .before .before .before .before .before .before .before .before .before .before .before .before .before .before .before .before .before .before .before .before .args .row) (c .before .before .before .before .before .before .before .before .before .before .before .before .before .before .before .before .before .before .before .before .before .before .before .before .before .before .before .before .before .args .title .now) (length (c .before .before .before .before .before .before .before .before .before .before .before .before .before .before .before .before .before .before .before .before .before .before .before .before .before .before .before .before .before .args .out .now)) st (c .before .before .before .before .before .before .before .before .before .before .write-titled .ensures _ _ (reads-as (c .before .before .before .before .before .before .before .before .before .before .before .before .before .before .before .before .before .before .before .before .before .before .before .before .before .before .before .before .before .args .file .now) (length (c .before .before .before .before .before .before .before .before .before .before .before .before .before .before .before .before .before .before .before .before .before .before .before .before .before .before .before .before .before .args .nodes .now)) (length (c .before .before .before .before .before .before .before .before .before .before .before .before .before .before .before .before .before .before .before .before .before .before .before .before .before .before .before .before .before .args .items .now)) st)) (c .before .before .before .before .before .before .size .given .1), c .before .before .before .clear-bytes-from .kept)))
+slice-aggregate-written c =
+    let at-clear-bytes-from = c .before .before .before in
+    let at-size = at-clear-bytes-from .before .before .before in
+    let at-write-titled = at-size .before .before .before .before in
+    let at-s = at-write-titled .before .before .before .before .before in
+    let at-read-file = at-s .before .before .before .before .before .before in
+    let entry = at-read-file .before .before .before .before .before .before .before .before in
+    let st = (standing (entry .args .file .now) _ _ _ (at-read-file .read-file .ensures .0) (at-read-file .read-file .ensures .1 .0)
+    (at-read-file .read-file .ensures .1 .1) (at-s .s .given .1)) in sym
+    (length-take-le _ _ (omega (
+      arith,
+      file-inside (entry .args .file .now) (length (entry .args .nodes .now))
+          (length (entry .args .items .now)) (entry .args .row) (entry .args .title .now) (length (entry .args .out .now)) st
+          (at-write-titled .write-titled .ensures _ _
+          (reads-as (entry .args .file .now) (length (entry .args .nodes .now)) (length (entry .args .items .now)) st)) (at-size .size .given .1),
+      at-clear-bytes-from .clear-bytes-from .kept,
+    )))
 
 read-file-requires-2 : tie.Need-read-file-requires-2
 read-file-requires-2 c κs = search needs
@@ -59,7 +96,14 @@ same-length-3 : tie.Need-same-length-3
 same-length-3 c = search needs
 
 returns : tie.Need-returns
-returns c = asked-refused (c .before .before .before .before .before .before .before .before .before .before .before .before .before .before .before .before .before .before .before .args .file .now) (length (c .before .before .before .before .before .before .before .before .before .before .before .before .before .before .before .before .before .before .before .args .nodes .now)) (length (c .before .before .before .before .before .before .before .before .before .before .before .before .before .before .before .before .before .before .before .args .items .now)) (c .before .before .before .before .before .before .before .before .before .before .before .before .before .before .before .before .before .before .before .args .row) (c .before .before .before .before .before .before .before .before .before .before .before .before .before .before .before .before .before .before .before .args .title .now) (length (c .before .before .before .before .before .before .before .before .before .before .before .before .before .before .before .before .before .before .before .args .out .now)) (c .before .before .before .before .before .before .before .before .before .before .before .read-file .ensures .0) (c .before .before .before .before .before .n .given .1) (c .before .before .before .before .before .before .before .before .before .before .before .read-file .ensures .1 .0) (c .before .before .before .before .before .before .before .before .before .before .before .read-file .ensures .1 .1) (c .before .before .clear-bytes .ensures)
+returns c =
+    let at-clear-bytes = c .before .before in
+    let at-n = at-clear-bytes .before .before .before in
+    let at-read-file = at-n .before .before .before .before .before .before in
+    let entry = at-read-file .before .before .before .before .before .before .before .before in
+    asked-refused (entry .args .file .now) (length (entry .args .nodes .now)) (length (entry .args .items .now)) (entry .args .row)
+    (entry .args .title .now) (length (entry .args .out .now)) (at-read-file .read-file .ensures .0) (at-n .n .given .1)
+    (at-read-file .read-file .ensures .1 .0) (at-read-file .read-file .ensures .1 .1) (at-clear-bytes .clear-bytes .ensures)
 
 same-length-4 : tie.Need-same-length-4
 same-length-4 c = search needs
@@ -71,7 +115,22 @@ same-length-6 : tie.Need-same-length-6
 same-length-6 c = search needs
 
 returns-2 : tie.Need-returns-2
-returns-2 c = let st = (standing (c .before .before .before .before .before .before .before .before .before .before .before .before .before .before .before .before .before .before .before .before .before .before .before .before .before .before .before .before .before .before .before .before .before .before .before .args .file .now) _ _ _ (c .before .before .before .before .before .before .before .before .before .before .before .before .before .before .before .before .before .before .before .before .before .before .before .before .before .before .before .read-file .ensures .0) (c .before .before .before .before .before .before .before .before .before .before .before .before .before .before .before .before .before .before .before .before .before .before .before .before .before .before .before .read-file .ensures .1 .0) (c .before .before .before .before .before .before .before .before .before .before .before .before .before .before .before .before .before .before .before .before .before .before .before .before .before .before .before .read-file .ensures .1 .1) (c .before .before .before .before .before .before .before .before .before .before .before .before .before .before .before .before .before .before .before .before .before .s .given .1)) in asked-bad (c .before .before .before .before .before .before .before .before .before .before .before .before .before .before .before .before .before .before .before .before .before .before .before .before .before .before .before .before .before .before .before .before .before .before .before .args .file .now) (length (c .before .before .before .before .before .before .before .before .before .before .before .before .before .before .before .before .before .before .before .before .before .before .before .before .before .before .before .before .before .before .before .before .before .before .before .args .nodes .now)) (length (c .before .before .before .before .before .before .before .before .before .before .before .before .before .before .before .before .before .before .before .before .before .before .before .before .before .before .before .before .before .before .before .before .before .before .before .args .items .now)) (c .before .before .before .before .before .before .before .before .before .before .before .before .before .before .before .before .before .before .before .before .before .before .before .before .before .before .before .before .before .before .before .before .before .before .before .args .row) (c .before .before .before .before .before .before .before .before .before .before .before .before .before .before .before .before .before .before .before .before .before .before .before .before .before .before .before .before .before .before .before .before .before .before .before .args .title .now) (length (c .before .before .before .before .before .before .before .before .before .before .before .before .before .before .before .before .before .before .before .before .before .before .before .before .before .before .before .before .before .before .before .before .before .before .before .args .out .now)) st (c .before .before .before .before .before .before .before .before .before .before .before .before .before .before .before .before .write-titled .ensures _ _ (reads-as (c .before .before .before .before .before .before .before .before .before .before .before .before .before .before .before .before .before .before .before .before .before .before .before .before .before .before .before .before .before .before .before .before .before .before .before .args .file .now) (length (c .before .before .before .before .before .before .before .before .before .before .before .before .before .before .before .before .before .before .before .before .before .before .before .before .before .before .before .before .before .before .before .before .before .before .before .args .nodes .now)) (length (c .before .before .before .before .before .before .before .before .before .before .before .before .before .before .before .before .before .before .before .before .before .before .before .before .before .before .before .before .before .before .before .before .before .before .before .args .items .now)) st)) (c .before .before .before .before .before .before .before .before .before .before .before .before .n2 .given .1) (zeros (c .before .before .before .before .before .before .before .before .clear-all .ensures .0) (c .before .before .before .before .before .before .before .before .before .before .before .before .before .before .before .before .before .before .before .before .before .before .before .before .before .before .before .read-file .kept .1 .0)) (zeros (c .before .before .before .before .before .before .before .before .clear-all .ensures .1) (c .before .before .before .before .before .before .before .before .before .before .before .before .before .before .before .before .before .before .before .before .before .before .before .before .before .before .before .read-file .kept .1 .1 .0)) (zeros (c .before .before .clear-bytes2 .ensures) (c .before .before .before .before .before .before .before .before .before .before .before .before .before .before .before .before .write-titled .kept .0))
+returns-2 c =
+    let at-clear-bytes2 = c .before .before in
+    let at-clear-all = at-clear-bytes2 .before .before .before .before .before .before in
+    let at-n2 = at-clear-all .before .before .before .before in
+    let at-write-titled = at-n2 .before .before .before .before in
+    let at-s = at-write-titled .before .before .before .before .before in
+    let at-read-file = at-s .before .before .before .before .before .before in
+    let entry = at-read-file .before .before .before .before .before .before .before .before in
+    let st = (standing (entry .args .file .now) _ _ _ (at-read-file .read-file .ensures .0) (at-read-file .read-file .ensures .1 .0)
+    (at-read-file .read-file .ensures .1 .1) (at-s .s .given .1)) in asked-bad (entry .args .file .now) (length (entry .args .nodes .now))
+    (length (entry .args .items .now)) (entry .args .row) (entry .args .title .now) (length (entry .args .out .now)) st
+    (at-write-titled .write-titled .ensures _ _
+    (reads-as (entry .args .file .now) (length (entry .args .nodes .now)) (length (entry .args .items .now)) st)) (at-n2 .n2 .given .1)
+    (zeros (at-clear-all .clear-all .ensures .0) (at-read-file .read-file .kept .1 .0))
+    (zeros (at-clear-all .clear-all .ensures .1) (at-read-file .read-file .kept .1 .1 .0))
+    (zeros (at-clear-bytes2 .clear-bytes2 .ensures) (at-write-titled .write-titled .kept .0))
 
 same-length-7 : tie.Need-same-length-7
 same-length-7 c = search needs
@@ -83,7 +142,21 @@ same-length-9 : tie.Need-same-length-9
 same-length-9 c = search needs
 
 returns-3 : tie.Need-returns-3
-returns-3 c = let st = (standing (c .before .before .before .before .before .before .before .before .before .before .before .before .before .before .before .before .before .before .before .before .before .before .before .before .before .before .before .before .before .before .before .before .before .before .before .before .args .file .now) _ _ _ (c .before .before .before .before .before .before .before .before .before .before .before .before .before .before .before .before .before .before .before .before .before .before .before .before .before .before .before .before .read-file .ensures .0) (c .before .before .before .before .before .before .before .before .before .before .before .before .before .before .before .before .before .before .before .before .before .before .before .before .before .before .before .before .read-file .ensures .1 .0) (c .before .before .before .before .before .before .before .before .before .before .before .before .before .before .before .before .before .before .before .before .before .before .before .before .before .before .before .before .read-file .ensures .1 .1) (c .before .before .before .before .before .before .before .before .before .before .before .before .before .before .before .before .before .before .before .before .before .before .s .given .1)) in asked-good (c .before .before .before .before .before .before .before .before .before .before .before .before .before .before .before .before .before .before .before .before .before .before .before .before .before .before .before .before .before .before .before .before .before .before .before .before .args .file .now) (length (c .before .before .before .before .before .before .before .before .before .before .before .before .before .before .before .before .before .before .before .before .before .before .before .before .before .before .before .before .before .before .before .before .before .before .before .before .args .nodes .now)) (length (c .before .before .before .before .before .before .before .before .before .before .before .before .before .before .before .before .before .before .before .before .before .before .before .before .before .before .before .before .before .before .before .before .before .before .before .before .args .items .now)) (c .before .before .before .before .before .before .before .before .before .before .before .before .before .before .before .before .before .before .before .before .before .before .before .before .before .before .before .before .before .before .before .before .before .before .before .before .args .row) (c .before .before .before .before .before .before .before .before .before .before .before .before .before .before .before .before .before .before .before .before .before .before .before .before .before .before .before .before .before .before .before .before .before .before .before .before .args .title .now) (length (c .before .before .before .before .before .before .before .before .before .before .before .before .before .before .before .before .before .before .before .before .before .before .before .before .before .before .before .before .before .before .before .before .before .before .before .before .args .out .now)) st (c .before .before .before .before .before .before .before .before .before .before .before .before .before .before .before .before .before .write-titled .ensures _ _ (reads-as (c .before .before .before .before .before .before .before .before .before .before .before .before .before .before .before .before .before .before .before .before .before .before .before .before .before .before .before .before .before .before .before .before .before .before .before .before .args .file .now) (length (c .before .before .before .before .before .before .before .before .before .before .before .before .before .before .before .before .before .before .before .before .before .before .before .before .before .before .before .before .before .before .before .before .before .before .before .before .args .nodes .now)) (length (c .before .before .before .before .before .before .before .before .before .before .before .before .before .before .before .before .before .before .before .before .before .before .before .before .before .before .before .before .before .before .before .before .before .before .before .before .args .items .now)) st)) (c .before .before .before .before .before .before .before .before .before .before .before .before .before .size .given .1) (c .before .before .before .before .before .before .before .before .before .before .before .before .before .before .before .before .before .write-titled .kept .0) (c .before .before .before .before .before .before .before .before .before .before .clear-bytes-from .ensures) (c .before .before .before .before .before .before .before .before .before .before .before .before .before .before .before .before .before .before .before .before .before .before .before .before .before .before .before .before .read-file .kept .1 .0) (c .before .before .before .before .before .before .before .before .before .before .before .before .before .before .before .before .before .before .before .before .before .before .before .before .before .before .before .before .read-file .kept .1 .1 .0) (c .before .before .before .before .read-file2 .ensures .1 .0) (c .before .before .before .before .read-file2 .ensures .1 .1)
+returns-3 c =
+    let at-read-file2 = c .before .before .before .before in
+    let at-clear-bytes-from = at-read-file2 .before .before .before .before .before .before in
+    let at-size = at-clear-bytes-from .before .before .before in
+    let at-write-titled = at-size .before .before .before .before in
+    let at-s = at-write-titled .before .before .before .before .before in
+    let at-read-file = at-s .before .before .before .before .before .before in
+    let entry = at-read-file .before .before .before .before .before .before .before .before in
+    let st = (standing (entry .args .file .now) _ _ _ (at-read-file .read-file .ensures .0) (at-read-file .read-file .ensures .1 .0)
+    (at-read-file .read-file .ensures .1 .1) (at-s .s .given .1)) in asked-good (entry .args .file .now) (length (entry .args .nodes .now))
+    (length (entry .args .items .now)) (entry .args .row) (entry .args .title .now) (length (entry .args .out .now)) st
+    (at-write-titled .write-titled .ensures _ _
+    (reads-as (entry .args .file .now) (length (entry .args .nodes .now)) (length (entry .args .items .now)) st)) (at-size .size .given .1)
+    (at-write-titled .write-titled .kept .0) (at-clear-bytes-from .clear-bytes-from .ensures) (at-read-file .read-file .kept .1 .0)
+    (at-read-file .read-file .kept .1 .1 .0) (at-read-file2 .read-file2 .ensures .1 .0) (at-read-file2 .read-file2 .ensures .1 .1)
 
 pub correct-title-spec : {M : Type 1} → statement M
 correct-title-spec =

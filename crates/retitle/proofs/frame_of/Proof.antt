@@ -27,7 +27,9 @@ slice-aggregate-put-reference : tie.Need-slice-aggregate-put-reference
 slice-aggregate-put-reference c = search needs
 
 put-reference-requires : tie.Need-put-reference-requires
-put-reference-requires c κs = omega (arith, c .before .body-size .ensures, body-most (c .before .before .before .before .before .before .before .args .row), c .before .before .before .before .before .before .before .pre)
+put-reference-requires c κs =
+    let entry = c .before .before .before .before .before .before .before in
+    omega (arith, c .before .body-size .ensures, body-most (entry .args .row), entry .pre)
 
 stopped-requires-2 : tie.Need-stopped-requires-2
 stopped-requires-2 c κs = search needs
@@ -51,20 +53,54 @@ add-contents : tie.Need-add-contents
 add-contents c = omega (arith, c .before .before .stopped2 .ensures)
 
 length-bytes-requires : tie.Need-length-bytes-requires
-length-bytes-requires c κs = (omega (arith, few _ (c .before .vlq-size .ensures), few _ (c .vlq-size2 .ensures), c .before .before .before .before .before .before .before .stopped .ensures), omega (arith, c .before .before .stopped2 .ensures))
+length-bytes-requires c κs =
+    let at-stopped2 = c .before .before in
+    let at-stopped = at-stopped2 .before .before .before .before .before in
+    (omega (arith, few _ (c .before .vlq-size .ensures), few _ (c .vlq-size2 .ensures), at-stopped .stopped .ensures), omega (arith, at-stopped2 .stopped2 .ensures))
 
 header-size-requires : tie.Need-header-size-requires
-header-size-requires c κs = (omega (arith, few _ (c .before .before .vlq-size .ensures), few _ (c .before .vlq-size2 .ensures), c .before .before .before .before .before .before .before .before .stopped .ensures), length-few _ _ (c .length-bytes .ensures))
+header-size-requires c κs =
+    let at-vlq-size = c .before .before in
+    let at-stopped = at-vlq-size .before .before .before .before .before .before in
+    (omega (arith, few _ (at-vlq-size .vlq-size .ensures), few _ (c .before .vlq-size2 .ensures), at-stopped .stopped .ensures), length-few _ _ (c .length-bytes .ensures))
 
 add-stopped : tie.Need-add-stopped
-add-stopped c = omega (arith, header-few _ _ (c .header-size .ensures), length-few _ _ (c .before .length-bytes .ensures), few _ (c .before .before .before .vlq-size .ensures), few _ (c .before .before .vlq-size2 .ensures), c .before .before .before .before .before .before .before .before .before .stopped .ensures, c .before .before .before .before .stopped2 .ensures)
+add-stopped c =
+    let at-vlq-size2 = c .before .before in
+    let at-vlq-size = at-vlq-size2 .before in
+    let at-stopped2 = at-vlq-size .before in
+    let at-stopped = at-stopped2 .before .before .before .before .before in
+    omega (
+      arith,
+      header-few _ _ (c .header-size .ensures),
+      length-few _ _ (c .before .length-bytes .ensures),
+      few _
+          (at-vlq-size .vlq-size .ensures),
+      few _ (at-vlq-size2 .vlq-size2 .ensures),
+      at-stopped .stopped .ensures,
+      at-stopped2 .stopped2 .ensures,
+    )
 
 stopped-requires-3 : tie.Need-stopped-requires-3
 stopped-requires-3 c κs = search needs
 
 returns : tie.Need-returns
 unfolding shape
-returns c = λ (cs : List Content) e. framed-by _ cs _ e (stopped-length (c .before .before .before .before .before .before .before .before .before .before .before .before .put-unpackers .ensures) (c .before .before .before .before .before .before .before .before .before .before .stopped .ensures)) (stopped-length (own-put (c .before .before .before .before .before .before .before .before .before .before .before .before .before .before .before .args .file .now) (c .before .before .before .before .before .before .before .before .before .before .before .before .before .before .before .args .row) (c .before .before .before .before .before .before .before .before .before .body-size .ensures) (c .before .before .before .before .before .before .before .put-reference .ensures)) (c .before .before .before .before .before .stopped2 .ensures)) (c .before .before .before .before .vlq-size .ensures) (c .before .before .before .vlq-size2 .ensures) (c .before .header-size .ensures ∙ ap (headerSize _) (c .before .before .length-bytes .ensures)) (c .stopped3 .ensures)
+returns c =
+    let at-length-bytes = c .before .before in
+    let at-vlq-size2 = at-length-bytes .before in
+    let at-vlq-size = at-vlq-size2 .before in
+    let at-stopped2 = at-vlq-size .before in
+    let at-put-reference = at-stopped2 .before .before in
+    let at-body-size = at-put-reference .before .before in
+    let at-stopped = at-body-size .before in
+    let at-put-unpackers = at-stopped .before .before in
+    let entry = at-put-unpackers .before .before .before in
+    λ (cs : List Content) e. framed-by _ cs _ e (stopped-length (at-put-unpackers .put-unpackers .ensures) (at-stopped .stopped .ensures))
+    (stopped-length (own-put (entry .args .file .now) (entry .args .row) (at-body-size .body-size .ensures)
+    (at-put-reference .put-reference .ensures)) (at-stopped2 .stopped2 .ensures)) (at-vlq-size .vlq-size .ensures)
+    (at-vlq-size2 .vlq-size2 .ensures) (c .before .header-size .ensures ∙ ap (headerSize _) (at-length-bytes .length-bytes .ensures))
+    (c .stopped3 .ensures)
 
 pub frame-of-spec : {M : Type 1} → statement M
 frame-of-spec =

@@ -32,7 +32,14 @@ least-bytes-requires c κs = search needs
 
 returns : tie.Need-returns
 unfolding lengthBytes
-returns c = c .least-bytes .ensures (λ k. headerSize (c .before .before .before .before .args .fixed) k + c .before .before .before .before .args .contents) (ap (λ n. n + c .before .before .before .before .args .contents) (c .before .before .before .header-size .ensures)) (ap (λ n. n + c .before .before .before .before .args .contents) (c .before .before .header-size2 .ensures)) (ap (λ n. n + c .before .before .before .before .args .contents) (c .before .header-size3 .ensures))
+returns c =
+    let at-header-size2 = c .before .before in
+    let at-header-size = at-header-size2 .before in
+    let entry = at-header-size .before in
+    c .least-bytes .ensures (λ k. headerSize (entry .args .fixed) k + entry .args .contents)
+    (ap (λ n. n + entry .args .contents) (at-header-size .header-size .ensures))
+    (ap (λ n. n + entry .args .contents) (at-header-size2 .header-size2 .ensures))
+    (ap (λ n. n + entry .args .contents) (c .before .header-size3 .ensures))
 
 pub length-bytes-spec : {M : Type 1} → statement M
 length-bytes-spec =

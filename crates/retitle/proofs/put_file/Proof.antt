@@ -48,10 +48,18 @@ tree-start-requires : tie.Need-tree-start-requires
 tree-start-requires c κs = search needs
 
 add-stop : tie.Need-add-stop
-add-stop c = omega (arith, tree-few _ _ _ (c .tree-start .ensures), c .before .before .before .before .before .before .before .before .before .before .before .before .before .before .before .before .measure-tree .ensures .1, c .before .before .before .before .before .before .before .before .before .stopped .ensures, c .before .before .before .before .before .before .before .before .before .before .before .before .before .before .before .before .before .before .before .before .before .before .before .before .pre .1)
+add-stop c =
+    let at-stopped = c .before .before .before .before .before .before .before .before .before in
+    let at-measure-tree = at-stopped .before .before .before .before .before .before .before in
+    let entry = at-measure-tree .before .before .before .before .before .before .before .before in
+    omega (arith, tree-few _ _ _ (c .tree-start .ensures), at-measure-tree .measure-tree .ensures .1, at-stopped .stopped .ensures, entry .pre .1)
 
 add-size : tie.Need-add-size
-add-size c = omega (arith, tree-few _ _ _ (c .tree-start .ensures), c .before .before .before .before .before .before .before .before .before .before .before .before .before .before .before .before .measure-tree .ensures .1, c .before .before .before .before .before .before .before .before .before .stopped .ensures, c .before .before .before .before .before .before .before .before .before .before .before .before .before .before .before .before .before .before .before .before .before .before .before .before .pre .1)
+add-size c =
+    let at-stopped = c .before .before .before .before .before .before .before .before .before in
+    let at-measure-tree = at-stopped .before .before .before .before .before .before .before in
+    let entry = at-measure-tree .before .before .before .before .before .before .before .before in
+    omega (arith, tree-few _ _ _ (c .tree-start .ensures), at-measure-tree .measure-tree .ensures .1, at-stopped .stopped .ensures, entry .pre .1)
 
 put-part-requires : tie.Need-put-part-requires
 put-part-requires c κs = search needs
@@ -60,37 +68,120 @@ put-number-requires : tie.Need-put-number-requires
 put-number-requires c κs = search needs
 
 put-types-requires-2 : tie.Need-put-types-requires-2
-put-types-requires-2 c κs = c .before .before .before .before .before .before .before .before .before .before .before .before .before .before .before .before .before .before .before .before .before .before .before .before .before .before .before .before .before .before .before .before .before .pre .0 .small
+put-types-requires-2 c κs =
+    let back = c .before .before .before .before .before .before .before .before .before .before .before .before .before .before
+    .before .before .before .before .before .before .before .before .before .before .before .before .before .before
+    .before .before .before .before .before in
+    let entry = back in
+    entry .pre .0 .small
 
 put-number-requires-2 : tie.Need-put-number-requires-2
 put-number-requires-2 c κs = search needs
 
 sub-put-number : tie.Need-sub-put-number
-sub-put-number c = omega (arith, tree-few _ _ _ (c .before .before .before .before .before .before .before .before .before .before .before .before .before .before .before .before .before .tree-start .ensures))
+sub-put-number c =
+    let at-tree-start = c .before .before .before .before .before .before .before .before .before .before .before .before .before .before .before .before .before in
+    omega (arith, tree-few _ _ _ (at-tree-start .tree-start .ensures))
 
 put-number-requires-3 : tie.Need-put-number-requires-3
 put-number-requires-3 c κs = search needs
 
 put-part-requires-2 : tie.Need-put-part-requires-2
-put-part-requires-2 c κs = omega (arith, c .before .before .before .before .before .before .before .before .before .before .before .before .before .before .before .before .before .before .before .before .before .before .before .before .before .before .before .before .before .before .before .before .before .before .before .before .before .before .before .before .before .before .before .before .before .pre .1)
+put-part-requires-2 c κs =
+    let back = c .before .before .before .before .before .before .before .before .before .before .before .before .before .before
+    .before .before .before .before .before .before .before .before .before .before .before .before .before .before
+    .before .before .before .before .before .before .before .before .before .before .before .before .before .before
+    .before .before .before in
+    let entry = back in
+    omega (arith, entry .pre .1)
 
 slice-aggregate-put-tree : tie.Need-slice-aggregate-put-tree
-slice-aggregate-put-tree c = omega (arith, c .before .before .before .before .before .before .before .before .before .before .before .before .before .before .before .before .before .before .before .before .before .before .before .before .before .before .before .before .before .before .before .before .before .before .before .before .before .before .before .before .before .before .measure-tree .kept)
+slice-aggregate-put-tree c =
+    let back = c .before .before .before .before .before .before .before .before .before .before .before .before .before .before
+    .before .before .before .before .before .before .before .before .before .before .before .before .before .before
+    .before .before .before .before .before .before .before .before .before .before .before .before .before .before in
+    let at-measure-tree = back in
+    omega (arith, at-measure-tree .measure-tree .kept)
 
 slice-aggregate-put-tree-2 : tie.Need-slice-aggregate-put-tree-2
-slice-aggregate-put-tree-2 c = omega (arith, c .before .before .before .before .before .before .before .before .before .before .before .before .before .before .before .before .before .before .before .before .before .before .before .before .before .before .before .before .before .before .before .before .before .before .before .before .before .before .before .before .before .before .before .measure-tree .kept)
+slice-aggregate-put-tree-2 c =
+    let back = c .before .before .before .before .before .before .before .before .before .before .before .before .before .before
+    .before .before .before .before .before .before .before .before .before .before .before .before .before .before
+    .before .before .before .before .before .before .before .before .before .before .before .before .before .before
+    .before in
+    let at-measure-tree = back in
+    omega (arith, at-measure-tree .measure-tree .kept)
 
 put-tree-requires : tie.Need-put-tree-requires
-put-tree-requires c κs = ((c .before .before .before .before .before .before .before .before .before .before .before .before .before .before .before .before .before .before .before .before .before .before .before .before .before .before .before .before .before .before .before .before .before .before .before .before .before .before .before .before .before .before .before .before .before .before .before .before .before .before .before .pre .0, c .before .before .before .before .before .before .before .before .before .before .before .before .before .before .before .before .before .before .before .before .before .before .before .before .before .before .before .before .before .before .before .before .before .before .before .before .before .before .before .before .before .before .before .measure-tree .ensures .0, omega (arith, c .before .before .before .before .before .before .before .before .before .before .before .before .before .before .before .before .before .before .before .before .before .before .before .before .before .before .before .before .before .before .before .before .before .before .before .before .before .before .before .before .before .before .before .measure-tree .kept), omega (arith, c .before .before .before .before .before .before .before .before .before .before .before .before .before .before .before .before .before .before .before .before .before .before .before .before .before .before .before .before .before .before .before .before .before .before .before .before .before .before .before .before .before .before .before .measure-tree .kept)), omega (arith, c .before .before .before .before .before .before .before .before .before .before .before .before .before .before .before .before .before .before .before .before .before .before .before .before .before .before .before .before .before .before .before .before .before .before .before .before .before .before .before .before .before .before .before .measure-tree .ensures .1, c .before .before .before .before .before .before .before .before .before .before .before .before .before .before .before .before .before .before .before .before .before .before .before .before .before .before .before .before .before .before .before .before .before .before .before .before .before .before .before .before .if1 .left))
+put-tree-requires c κs =
+    let back = c .before .before .before .before .before .before .before .before .before .before .before .before .before .before
+    .before .before .before .before .before .before .before .before .before .before .before .before .before .before
+    .before .before .before .before .before .before .before .before .before .before .before .before in
+    let at-if1 = back in
+    let at-measure-tree = at-if1 .before .before .before in
+    let entry = at-measure-tree .before .before .before .before .before .before .before .before in (
+      (
+        entry .pre .0,
+        at-measure-tree .measure-tree .ensures .0,
+        omega (arith, at-measure-tree .measure-tree .kept),
+        omega
+            (arith, at-measure-tree .measure-tree .kept),
+      ),
+      omega (arith, at-measure-tree .measure-tree .ensures .1, at-if1 .if1 .left),
+    )
 
 put-part-requires-3 : tie.Need-put-part-requires-3
-put-part-requires-3 c κs = omega (arith, c .before .before .before .before .before .before .before .before .before .before .before .before .before .before .before .before .before .before .before .before .before .before .before .before .before .before .before .before .before .before .before .before .before .before .before .before .before .before .before .before .before .before .before .before .before .before .before .before .before .before .before .before .before .before .before .pre .1)
+put-part-requires-3 c κs =
+    let back = c .before .before .before .before .before .before .before .before .before .before .before .before .before .before
+    .before .before .before .before .before .before .before .before .before .before .before .before .before .before
+    .before .before .before .before .before .before .before .before .before .before .before .before .before .before
+    .before .before .before .before .before .before .before .before .before .before .before .before .before in
+    let entry = back in
+    omega (arith, entry .pre .1)
 
 same-length : tie.Need-same-length
-same-length c = omega (arith, c .before .before .before .before .before .before .before .before .before .before .before .before .before .before .before .before .before .before .before .before .before .before .before .before .before .before .before .before .before .before .before .before .put-part .ensures .long, c .before .before .before .before .before .before .before .before .before .before .before .before .before .before .before .before .before .before .before .before .before .before .before .before .before .before .before .before .put-number .ensures .long, c .before .before .before .before .before .before .before .before .before .before .before .before .before .before .before .before .before .before .before .before .before .before .before .before .put-types2 .ensures .long, c .before .before .before .before .before .before .before .before .before .before .before .before .before .before .before .before .before .before .before .before .put-number2 .ensures .long, c .before .before .before .before .before .before .before .before .before .before .before .before .before .before .before .before .put-number3 .ensures .long, c .before .before .before .before .before .before .before .before .before .before .before .before .put-part2 .ensures .long, c .before .before .before .before .before .before .put-tree .ensures .long, c .before .before .put-part3 .ensures .long)
+same-length c =
+    let at-put-part3 = c .before .before in
+    let at-put-tree = at-put-part3 .before .before .before .before in
+    let at-put-part2 = at-put-tree .before .before .before .before .before .before in
+    let at-put-number3 = at-put-part2 .before .before .before .before in
+    let at-put-number2 = at-put-number3 .before .before .before .before in
+    let at-put-types2 = at-put-number2 .before .before .before .before in
+    let at-put-number = at-put-types2 .before .before .before .before in
+    let at-put-part = at-put-number .before .before .before .before in
+    omega (
+      arith,
+      at-put-part .put-part .ensures .long,
+      at-put-number .put-number .ensures .long,
+      at-put-types2 .put-types2 .ensures .long,
+      at-put-number2 .put-number2 .ensures .long,
+      at-put-number3 .put-number3 .ensures .long,
+      at-put-part2 .put-part2 .ensures .long,
+      at-put-tree .put-tree .ensures .long,
+      at-put-part3 .put-part3 .ensures .long,
+    )
 
 returns-2 : tie.Need-returns-2
-returns-2 c = copied-put _ _ _ _ _ _ _ (c .before .before .before .before .before .before .before .before .before .before .before .before .before .before .before .before .before .before .before .before .before .before .before .before .before .before .before .before .before .before .before .before .before .before .before .before .before .before .before .before .before .before .before .before .before .before .before .before .before .before .before .before .before .before .before .before .before .before .pre .1) (stopped-length (c .before .before .before .before .before .before .before .before .before .before .before .before .before .before .before .before .before .before .before .before .before .before .before .before .before .before .before .before .before .before .before .before .before .before .before .before .before .before .before .before .before .before .before .before .before .put-types .ensures) (c .before .before .before .before .before .before .before .before .before .before .before .before .before .before .before .before .before .before .before .before .before .before .before .before .before .before .before .before .before .before .before .before .before .before .before .before .before .before .before .before .before .before .before .stopped .ensures)) (omega (arith, c .before .before .before .before .before .before .before .before .before .before .before .before .before .before .before .before .before .before .before .before .before .before .before .before .before .before .before .before .before .before .before .before .before .before .before .before .before .before .before .before .before .before .before .before .before .before .before .before .before .before .measure-tree .ensures .1, c .before .before .before .before .before .before .before .before .before .before .before .before .before .before .before .before .before .before .before .before .before .before .before .before .before .before .before .before .before .before .before .before .before .before .before .before .before .before .before .before .before .before .before .before .before .before .before .if1 .left)) (c .before .before .before .before .before .before .before .before .before .before .before .before .before .before .before .before .before .before .before .before .before .before .before .before .before .before .before .before .before .before .before .before .before .before .tree-start .ensures) (c .before .before .before .before .before .before .before .before .before .before .before .before .before .before .before .before .before .before .before .before .before .before .before .before .before .before .before .before .before .before .before .before .put-part .ensures) (c .before .before .before .before .before .before .before .before .before .before .before .before .before .before .before .before .before .before .before .before .before .before .before .before .before .before .before .before .put-number .ensures) (c .before .before .before .before .before .before .before .before .before .before .before .before .before .before .before .before .before .before .before .before .before .before .before .before .put-types2 .ensures) (c .before .before .before .before .before .before .before .before .before .before .before .before .before .before .before .before .before .before .before .before .put-number2 .ensures) (c .before .before .before .before .before .before .before .before .before .before .before .before .before .before .before .before .put-number3 .ensures) (c .before .before .before .before .before .before .before .before .before .before .before .before .put-part2 .ensures) (c .before .before .before .before .before .before .put-tree .ensures) (c .before .before .put-part3 .ensures)
+returns-2 c =
+    let at-put-part3 = c .before .before in
+    let at-put-tree = at-put-part3 .before .before .before .before in
+    let at-put-part2 = at-put-tree .before .before .before .before .before .before in
+    let at-put-number3 = at-put-part2 .before .before .before .before in
+    let at-put-number2 = at-put-number3 .before .before .before .before in
+    let at-put-types2 = at-put-number2 .before .before .before .before in
+    let at-put-number = at-put-types2 .before .before .before .before in
+    let at-put-part = at-put-number .before .before .before .before in
+    let at-tree-start = at-put-part .before .before in
+    let at-stopped = at-tree-start .before .before .before .before .before .before .before .before .before in
+    let at-put-types = at-stopped .before .before in
+    let at-if1 = at-put-types .before .before in
+    let at-measure-tree = at-if1 .before .before .before in
+    let entry = at-measure-tree .before .before .before .before .before .before .before .before in
+    copied-put _ _ _ _ _ _ _ (entry .pre .1) (stopped-length (at-put-types .put-types .ensures) (at-stopped .stopped .ensures))
+    (omega (arith, at-measure-tree .measure-tree .ensures .1, at-if1 .if1 .left)) (at-tree-start .tree-start .ensures)
+    (at-put-part .put-part .ensures) (at-put-number .put-number .ensures) (at-put-types2 .put-types2 .ensures)
+    (at-put-number2 .put-number2 .ensures) (at-put-number3 .put-number3 .ensures) (at-put-part2 .put-part2 .ensures)
+    (at-put-tree .put-tree .ensures) (at-put-part3 .put-part3 .ensures)
 
 pub put-file-spec : {M : Type 1} → statement M
 put-file-spec =

@@ -8,7 +8,9 @@ use Rattle.retitle.proofs.put_node.Statement.{statement}
 use Rattle.retitle.proofs.put_node.Tie as tie
 
 frame-of-requires : tie.Need-frame-of-requires
-frame-of-requires c κs = (c .before .before .before .before .pre .0 .0, c .before .before .before .before .pre .0 .1, texts-few _ _ _ (c .before .before .before .before .pre .1 .0) (c .before .before .before .before .pre .1 .1), omega (arith, c .before .before .before .before .pre .1))
+frame-of-requires c κs =
+    let entry = c .before .before .before .before in
+    (entry .pre .0 .0, entry .pre .0 .1, texts-few _ _ _ (entry .pre .1 .0) (entry .pre .1 .1), omega (arith, entry .pre .1))
 
 put-number-requires : tie.Need-put-number-requires
 put-number-requires c κs = search needs
@@ -26,20 +28,38 @@ put-items-requires : tie.Need-put-items-requires
 put-items-requires c κs = search needs
 
 put-unpackers-requires : tie.Need-put-unpackers-requires
-put-unpackers-requires c κs = c .before .before .before .before .before .before .before .before .before .before .before .before .before .before .before .before .before .before .before .before .before .before .before .before .before .before .pre .0 .1
+put-unpackers-requires c κs =
+    let entry = c .before .before .before .before .before .before .before .before .before .before .before .before .before .before .before .before .before .before .before .before .before .before .before .before .before .before in
+    entry .pre .0 .1
 
 body-size-requires : tie.Need-body-size-requires
 body-size-requires c κs = search needs
 
 put-reference-requires : tie.Need-put-reference-requires
-put-reference-requires c κs = omega (arith, c .before .body-size .ensures, body-most (c .before .before .before .before .before .before .before .before .before .before .before .before .before .before .before .before .before .before .before .before .before .before .before .before .before .before .before .before .before .before .before .args .node), c .before .before .before .before .before .before .before .before .before .before .before .before .before .before .before .before .before .before .before .before .before .before .before .before .before .before .before .before .before .before .before .pre .0 .0)
+put-reference-requires c κs =
+    let entry = c .before .before .before .before .before .before .before .before .before .before .before .before .before .before .before .before .before .before .before .before .before .before .before .before .before .before .before .before .before .before .before in
+    omega (arith, c .before .body-size .ensures, body-most (entry .args .node), entry .pre .0 .0)
 
 same-length : tie.Need-same-length
 same-length c = search needs
 
 returns : tie.Need-returns
 unfolding shape
-returns c = node-put _ _ _ (c .before .before .before .before .before .before .before .before .before .before .before .before .before .before .before .before .before .before .before .before .before .before .before .before .before .before .before .before .before .frame-of .ensures _ (stopped-not _ _ _ (c .before .before .before .before .before .before .before .before .before .before .before .before .before .before .before .before .before .before .before .before .before .before .before .before .before .before .before .before .before .before .before .before .before .before .pre .1 .0) (c .before .before .before .before .before .before .before .before .before .before .before .before .before .before .before .before .before .before .before .before .before .before .before .before .before .before .before .before .before .before .before .before .before .before .pre .1 .1))) (c .before .before .before .before .before .before .before .before .before .before .before .before .before .before .before .before .before .before .before .before .before .before .before .before .before .before .before .before .before .before .before .before .before .before .pre .1 .1) (c .before .before .before .before .before .before .before .before .before .before .before .before .before .before .before .before .before .before .before .before .before .before .before .before .before .before .before .before .before .before .before .before .before .before .pre .1 .0) (c .before .before .before .before .before .before .before .before .before .before .before .before .before .before .before .before .before .before .before .before .before .before .before .before .before .before .before .put-number .ensures) (c .before .before .before .before .before .before .before .before .before .before .before .before .before .before .before .before .before .before .before .before .before .before .before .put-number2 .ensures) (c .before .before .before .before .before .before .before .before .before .before .before .before .before .before .before .before .before .before .before .put-number3 .ensures) (c .before .before .before .before .before .before .before .before .before .before .before .before .before .before .before .put-number4 .ensures) (c .before .before .before .before .before .before .before .before .before .before .before .put-items .ensures) (c .before .before .before .before .before .before .before .put-unpackers .ensures) (own-put (c .before .before .before .before .before .before .before .before .before .before .before .before .before .before .before .before .before .before .before .before .before .before .before .before .before .before .before .before .before .before .before .before .before .before .args .file .now) (c .before .before .before .before .before .before .before .before .before .before .before .before .before .before .before .before .before .before .before .before .before .before .before .before .before .before .before .before .before .before .before .before .before .before .args .node) (c .before .before .before .before .body-size .ensures) (c .before .before .put-reference .ensures))
+returns c =
+    let at-put-reference = c .before .before in
+    let at-body-size = at-put-reference .before .before in
+    let at-put-unpackers = at-body-size .before .before .before in
+    let at-put-items = at-put-unpackers .before .before .before .before in
+    let at-put-number4 = at-put-items .before .before .before .before in
+    let at-put-number3 = at-put-number4 .before .before .before .before in
+    let at-put-number2 = at-put-number3 .before .before .before .before in
+    let at-put-number = at-put-number2 .before .before .before .before in
+    let at-frame-of = at-put-number .before .before in
+    let entry = at-frame-of .before .before .before .before .before in
+    node-put _ _ _ (at-frame-of .frame-of .ensures _ (stopped-not _ _ _ (entry .pre .1 .0) (entry .pre .1 .1))) (entry .pre .1 .1)
+    (entry .pre .1 .0) (at-put-number .put-number .ensures) (at-put-number2 .put-number2 .ensures) (at-put-number3 .put-number3 .ensures)
+    (at-put-number4 .put-number4 .ensures) (at-put-items .put-items .ensures) (at-put-unpackers .put-unpackers .ensures)
+    (own-put (entry .args .file .now) (entry .args .node) (at-body-size .body-size .ensures) (at-put-reference .put-reference .ensures))
 
 pub put-node-spec : {M : Type 1} → statement M
 put-node-spec =

@@ -18,7 +18,15 @@ same-length : tie.Need-same-length
 same-length c = search needs
 
 returns : tie.Need-returns
-returns c = reference-uri (c .before .before .before .before .before .before .before .before .before .before .before .before .before .before .before .args .file .now) (c .before .before .before .before .before .before .before .before .before .before .before .before .before .before .before .args .reference) (c .before .before .before .before .before .before .before .before .before .before .before .before .before .before .before .args .place .0) (c .before .before .before .before .before .before .before .before .before .before .before .before .before .before .before .args .size) (c .before .before .before .before .before .before .before .before .before .before .before .put-number .ensures) (c .before .before .before .before .before .before .before .before .before .before .before .before .before .before .before .pre) (c .before .before .before .before .before .before .before .before .if1 .taken) (c .before .before .before .before .before .before .put-number2 .ensures) (c .before .before .put-part .ensures)
+returns c =
+    let at-put-part = c .before .before in
+    let at-put-number2 = at-put-part .before .before .before .before in
+    let at-if1 = at-put-number2 .before .before in
+    let at-put-number = at-if1 .before .before .before in
+    let entry = at-put-number .before .before .before .before in
+    reference-uri (entry .args .file .now) (entry .args .reference) (entry .args .place .0) (entry .args .size)
+    (at-put-number .put-number .ensures) (entry .pre) (at-if1 .if1 .taken) (at-put-number2 .put-number2 .ensures)
+    (at-put-part .put-part .ensures)
 
 put-part-requires-2 : tie.Need-put-part-requires-2
 put-part-requires-2 c κs = search needs
@@ -27,7 +35,13 @@ same-length-2 : tie.Need-same-length-2
 same-length-2 c = search needs
 
 returns-2 : tie.Need-returns-2
-returns-2 c = reference-inline (c .before .before .before .before .before .before .before .before .before .before .before .args .file .now) (c .before .before .before .before .before .before .before .before .before .before .before .args .reference) (c .before .before .before .before .before .before .before .before .before .before .before .args .place .0) (c .before .before .before .before .before .before .before .before .before .before .before .args .size) (c .before .before .before .before .before .before .before .put-number .ensures) (c .before .before .before .before .if1 .left) (c .before .before .put-part2 .ensures)
+returns-2 c =
+    let at-put-part2 = c .before .before in
+    let at-if1 = at-put-part2 .before .before in
+    let at-put-number = at-if1 .before .before .before in
+    let entry = at-put-number .before .before .before .before in
+    reference-inline (entry .args .file .now) (entry .args .reference) (entry .args .place .0) (entry .args .size)
+    (at-put-number .put-number .ensures) (at-if1 .if1 .left) (at-put-part2 .put-part2 .ensures)
 
 pub put-reference-spec : {M : Type 1} → statement M
 put-reference-spec = tie.close (tie.spec put-number-requires put-number-requires-2 put-part-requires same-length returns put-part-requires-2 same-length-2 returns-2)

@@ -25,16 +25,37 @@ opening-of-requires : tie.Need-opening-of-requires
 opening-of-requires c κs = search needs
 
 put-file-requires : tie.Need-put-file-requires
-put-file-requires c κs = (ready (c .before .before .before .before .before .before .before .before .before .before .before .before .before .before .pre .0) (c .before .before .before .before .before .before .before .before .before .before .before .before .before .before .pre .1) _ _, header-inside _ _ (c .before .before .before .before .before .before .before .before .before .before .before .before .before .before .pre .0 .reads) (c .before .before .before .before .before .before .before .read-header .result) (c .before .before .before .before .before .before .before .read-header .last .1 .0) (c .before .before .before .before .before .before .before .read-header .ensures .0) (c .before .before .before .before .h .given .1) (c .before .before .opening-of .ensures))
+put-file-requires c κs =
+    let at-opening-of = c .before .before in
+    let at-h = at-opening-of .before .before in
+    let at-read-header = at-h .before .before .before in
+    let entry = at-read-header .before .before .before .before .before .before .before in (
+      ready (entry .pre .0) (entry .pre .1) _ _,
+      header-inside _ _ (entry .pre .0 .reads) (at-read-header .read-header .result)
+          (at-read-header .read-header .last .1 .0) (at-read-header .read-header .ensures .0) (at-h .h .given .1)
+          (at-opening-of .opening-of .ensures),
+    )
 
 returns : tie.Need-returns
-returns c = λ (lim : Limits) (h : Header) reads. never-refused lim _ reads (c .before .before .before .read-header .result) (c .before .before .before .read-header .last .1 .0) (c .before .before .before .read-header .ensures .0) (c .enum-told .given .1)
+returns c =
+    let at-read-header = c .before .before .before in
+    λ (lim : Limits) (h : Header) reads. never-refused lim _ reads (at-read-header .read-header .result)
+    (at-read-header .read-header .last .1 .0) (at-read-header .read-header .ensures .0) (c .enum-told .given .1)
 
 same-length : tie.Need-same-length
 same-length c = search needs
 
 returns-2 : tie.Need-returns-2
-returns-2 c = λ (lim : Limits) (h : Header) reads. fills-as (file-same lim _ reads (c .before .before .before .before .before .before .before .before .before .before .read-header .result) (c .before .before .before .before .before .before .before .before .before .before .read-header .last .1 .0) (c .before .before .before .before .before .before .before .before .before .before .read-header .ensures .0) (c .before .before .before .before .before .before .before .h .given .1) (c .before .before .before .before .before .opening-of .ensures) _ _ (tree-is (c .before .before .before .before .before .before .before .before .before .before .before .before .before .before .before .before .before .pre .0) (c .before .before .before .before .before .before .before .before .before .before .before .before .before .before .before .before .before .pre .1) _ _)) (c .before .before .put-file .ensures)
+returns-2 c =
+    let at-put-file = c .before .before in
+    let at-opening-of = at-put-file .before .before .before in
+    let at-h = at-opening-of .before .before in
+    let at-read-header = at-h .before .before .before in
+    let entry = at-read-header .before .before .before .before .before .before .before in
+    λ (lim : Limits) (h : Header) reads. fills-as
+    (file-same lim _ reads (at-read-header .read-header .result) (at-read-header .read-header .last .1 .0)
+    (at-read-header .read-header .ensures .0) (at-h .h .given .1) (at-opening-of .opening-of .ensures) _ _
+    (tree-is (entry .pre .0) (entry .pre .1) _ _)) (at-put-file .put-file .ensures)
 
 pub put-titled-spec : {M : Type 1} → statement M
 put-titled-spec =

@@ -22,22 +22,52 @@ node-at-requires : tie.Need-node-at-requires Inv-loop μ-loop
 node-at-requires c κs = omega (arith, c .loop-test .taken, c .before .before .before .before .before .before .before .before .before .pre .0 .0 .node-room)
 
 add-end : tie.Need-add-end Inv-loop μ-loop
-add-end c = omega (arith, rows-room (c .before .before .before .before .before .before .before .before .before .before .pre .0 .0) (c .before .before .loop .inv) (c .before .loop-test .taken) (c .node-at .ensures), c .before .before .before .before .before .before .before .before .before .before .pre .0 .0 .items-inside .0)
+add-end c =
+    let at-loop = c .before .before in
+    let entry = at-loop .before .before .before .before .before .before .before .before in
+    omega (arith, rows-room (entry .pre .0 .0) (at-loop .loop .inv) (c .before .loop-test .taken) (c .node-at .ensures), entry .pre .0 .0 .items-inside .0)
 
 mul-put-node : tie.Need-mul-put-node Inv-loop μ-loop
 mul-put-node c = omega (arith, c .before .before .loop-test .taken, c .before .before .before .before .before .before .before .before .before .before .before .pre .0 .0 .few)
 
 shared-slice-read-put-node : tie.Need-shared-slice-read-put-node Inv-loop μ-loop
-shared-slice-read-put-node c = omega (arith, c .before .before .before .loop-test .taken, c .before .before .before .before .before .before .before .before .before .before .before .before .pre .0 .0 .few, c .before .before .before .before .before .before .before .before .before .before .before .before .pre .0 .2)
+shared-slice-read-put-node c =
+    let at-loop-test = c .before .before .before in
+    let entry = at-loop-test .before .before .before .before .before .before .before .before .before in
+    omega (arith, at-loop-test .loop-test .taken, entry .pre .0 .0 .few, entry .pre .0 .2)
 
 mul-put-node-2 : tie.Need-mul-put-node-2 Inv-loop μ-loop
-mul-put-node-2 c = omega (arith, c .before .before .before .loop-test .taken, c .before .before .before .before .before .before .before .before .before .before .before .before .pre .0 .0 .few)
+mul-put-node-2 c =
+    let at-loop-test = c .before .before .before in
+    let entry = at-loop-test .before .before .before .before .before .before .before .before .before in
+    omega (arith, at-loop-test .loop-test .taken, entry .pre .0 .0 .few)
 
 shared-slice-read-put-node-2 : tie.Need-shared-slice-read-put-node-2 Inv-loop μ-loop
-shared-slice-read-put-node-2 c = omega (arith, c .before .before .before .before .loop-test .taken, c .before .before .before .before .before .before .before .before .before .before .before .before .before .pre .0 .0 .few, c .before .before .before .before .before .before .before .before .before .before .before .before .before .pre .0 .3)
+shared-slice-read-put-node-2 c =
+    let at-loop-test = c .before .before .before .before in
+    let entry = at-loop-test .before .before .before .before .before .before .before .before .before in
+    omega (arith, at-loop-test .loop-test .taken, entry .pre .0 .0 .few, entry .pre .0 .3)
 
 put-node-requires : tie.Need-put-node-requires Inv-loop μ-loop
-put-node-requires c κs = ((inside-here (c .before .before .before .before .before .before .before .before .before .before .before .before .before .pre .0 .0) (c .before .before .before .before .before .loop .inv) (c .before .before .before .before .loop-test .taken) (c .before .before .before .node-at .ensures), c .before .before .before .before .before .before .before .before .before .before .before .before .before .pre .0 .0 .small, omega arith, items-room (c .before .before .before .before .before .before .before .before .before .before .before .before .before .pre .0 .0) (c .before .before .before .before .before .loop .inv) (c .before .before .before .before .loop-test .taken) (c .before .before .before .node-at .ensures)), (texts-row (c .before .before .before .before .before .before .before .before .before .before .before .before .before .pre .0 .0) (c .before .before .before .before .before .loop .inv) (c .before .before .before .before .loop-test .taken) (c .before .before .before .node-at .ensures) (c .before .before .before .before .before .before .before .before .before .before .before .before .before .pre .0 .1) (c .before .before .before .before .before .before .before .before .before .before .before .before .before .pre .1), small-row (c .before .before .before .before .before .before .before .before .before .before .before .before .before .pre .0 .0) (c .before .before .before .before .before .loop .inv) (c .before .before .before .before .loop-test .taken) (c .before .before .before .node-at .ensures) (c .before .before .before .before .before .before .before .before .before .before .before .before .before .pre .0 .1) (c .before .before .before .before .before .before .before .before .before .before .before .before .before .pre .1)))
+put-node-requires c κs =
+    let at-node-at = c .before .before .before in
+    let at-loop-test = at-node-at .before in
+    let at-loop = at-loop-test .before in
+    let entry = at-loop .before .before .before .before .before .before .before .before in (
+      (
+        inside-here (entry .pre .0 .0) (at-loop .loop .inv) (at-loop-test .loop-test .taken) (at-node-at .node-at .ensures),
+        entry .pre .0 .0 .small,
+        omega arith,
+        items-room (entry .pre .0 .0) (at-loop .loop .inv) (at-loop-test .loop-test .taken)
+            (at-node-at .node-at .ensures),
+      ),
+      (
+        texts-row (entry .pre .0 .0) (at-loop .loop .inv) (at-loop-test .loop-test .taken) (at-node-at .node-at .ensures) (entry .pre .0 .1)
+            (entry .pre .1),
+        small-row (entry .pre .0 .0) (at-loop .loop .inv) (at-loop-test .loop-test .taken) (at-node-at .node-at .ensures)
+            (entry .pre .0 .1) (entry .pre .1),
+      ),
+    )
 
 add-i : tie.Need-add-i Inv-loop μ-loop
 add-i c = omega (arith, c .before .before .before .before .before .before .before .loop-test .taken)
@@ -46,7 +76,14 @@ loop-less : tie.Need-loop-less Inv-loop μ-loop
 loop-less c = omega (arith, c .before .before .before .before .before .before .before .loop-test .taken)
 
 loop-again : tie.Need-loop-again Inv-loop μ-loop
-loop-again c = putting-row (c .before .before .before .before .before .before .before .before .before .before .before .before .before .before .before .before .pre .0 .0) (c .before .before .before .before .before .before .before .before .loop .inv) (c .before .before .before .before .before .before .before .loop-test .taken) (c .before .before .before .before .before .before .node-at .ensures) (c .before .before .before .before .before .before .before .before .before .before .before .before .before .before .before .before .pre .0 .1) (c .before .before .before .before .before .before .before .before .before .before .before .before .before .before .before .before .pre .1) (c .before .before .put-node .ensures)
+loop-again c =
+    let at-put-node = c .before .before in
+    let at-node-at = at-put-node .before .before .before .before in
+    let at-loop-test = at-node-at .before in
+    let at-loop = at-loop-test .before in
+    let entry = at-loop .before .before .before .before .before .before .before .before in
+    putting-row (entry .pre .0 .0) (at-loop .loop .inv) (at-loop-test .loop-test .taken) (at-node-at .node-at .ensures) (entry .pre .0 .1)
+    (entry .pre .1) (at-put-node .put-node .ensures)
 
 same-length : tie.Need-same-length Inv-loop μ-loop
 same-length c = going-length (c .before .loop .inv .going)

@@ -22,7 +22,12 @@ returns : tie.Need-returns Inv-loop μ-loop
 returns c = looking-two (c .before .before .before .before .loop .inv) (c .before .before .before .loop-test .taken) (c .before .before .node-at .ensures) (c .if1 .taken)
 
 returns-2 : tie.Need-returns-2 Inv-loop μ-loop
-returns-2 c = looking-three (c .before .before .before .before .before .before .loop .inv) (c .before .before .before .before .before .loop-test .taken) (c .before .before .before .before .node-at .ensures) (c .before .before .if1 .left) (c .if2 .taken)
+returns-2 c =
+    let at-if1 = c .before .before in
+    let at-node-at = at-if1 .before .before in
+    let at-loop-test = at-node-at .before in
+    let at-loop = at-loop-test .before in
+    looking-three (at-loop .loop .inv) (at-loop-test .loop-test .taken) (at-node-at .node-at .ensures) (at-if1 .if1 .left) (c .if2 .taken)
 
 add-i : tie.Need-add-i Inv-loop μ-loop
 add-i c = search needs
@@ -31,7 +36,12 @@ loop-less : tie.Need-loop-less Inv-loop μ-loop
 loop-less c = search needs
 
 loop-again : tie.Need-loop-again Inv-loop μ-loop
-loop-again c = looking-on (c .before .before .before .before .before .before .loop .inv) (c .before .before .before .before .before .loop-test .taken) (c .before .before .before .before .node-at .ensures) (c .before .before .if1 .left) (c .if2 .left)
+loop-again c =
+    let at-if1 = c .before .before in
+    let at-node-at = at-if1 .before .before in
+    let at-loop-test = at-node-at .before in
+    let at-loop = at-loop-test .before in
+    looking-on (at-loop .loop .inv) (at-loop-test .loop-test .taken) (at-node-at .node-at .ensures) (at-if1 .if1 .left) (c .if2 .left)
 
 returns-3 : tie.Need-returns-3 Inv-loop μ-loop
 returns-3 c = looking-end (c .before .loop .inv) (c .loop-test .left)

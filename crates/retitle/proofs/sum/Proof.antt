@@ -35,7 +35,11 @@ loop-less : tie.Need-loop-less Inv-loop μ-loop
 loop-less c = search needs
 
 loop-again : tie.Need-loop-again Inv-loop μ-loop
-loop-again c = adding-on (c .before .before .before .before .loop .inv) (c .before .before .before .loop-test .taken) (c .before .before .before .before .before .before .pre .1) (omega (arith, c .before .on .ensures, c .stopped .ensures))
+loop-again c =
+    let at-loop-test = c .before .before .before in
+    let at-loop = at-loop-test .before in
+    let entry = at-loop .before .before in
+    adding-on (at-loop .loop .inv) (at-loop-test .loop-test .taken) (entry .pre .1) (omega (arith, c .before .on .ensures, c .stopped .ensures))
 
 returns : tie.Need-returns Inv-loop μ-loop
 returns c = adding-end (c .before .loop .inv) (c .loop-test .left)

@@ -41,11 +41,27 @@ least-bytes-requires : tie.Need-least-bytes-requires
 least-bytes-requires c κs = search needs
 
 start-at-requires-4 : tie.Need-start-at-requires-4
-start-at-requires-4 c κs = let n : ℕ → ℕ = λ x. startAt (c .before .before .before .before .args .fixed) (c .before .before .before .before .args .tree) x + c .before .before .before .before .args .tree + c .before .before .before .before .args .after in let e = c .least-bytes .ensures n (ap (λ s. s + c .before .before .before .before .args .tree + c .before .before .before .before .args .after) (c .before .before .before .start-at .ensures)) (ap (λ s. s + c .before .before .before .before .args .tree + c .before .before .before .before .args .after) (c .before .before .start-at2 .ensures)) (ap (λ s. s + c .before .before .before .before .args .tree + c .before .before .before .before .args .after) (c .before .start-at3 .ensures)) in omega (arith, e, least-in n .0, least-in n .1)
+start-at-requires-4 c κs =
+    let at-start-at2 = c .before .before in
+    let at-start-at = at-start-at2 .before in
+    let entry = at-start-at .before in
+    let n : ℕ → ℕ = λ x. startAt (entry .args .fixed) (entry .args .tree) x + entry .args .tree + entry .args .after in let e =
+    c .least-bytes .ensures n (ap (λ s. s + entry .args .tree + entry .args .after) (at-start-at .start-at .ensures))
+    (ap (λ s. s + entry .args .tree + entry .args .after) (at-start-at2 .start-at2 .ensures))
+    (ap (λ s. s + entry .args .tree + entry .args .after) (c .before .start-at3 .ensures)) in omega (arith, e, least-in n .0, least-in n .1)
 
 returns : tie.Need-returns
 unfolding fileBytes
-returns c = c .start-at4 .ensures ∙ ap (startAt (c .before .before .before .before .before .args .fixed) (c .before .before .before .before .before .args .tree)) (c .before .least-bytes .ensures (λ x. startAt (c .before .before .before .before .before .args .fixed) (c .before .before .before .before .before .args .tree) x + c .before .before .before .before .before .args .tree + c .before .before .before .before .before .args .after) (ap (λ s. s + c .before .before .before .before .before .args .tree + c .before .before .before .before .before .args .after) (c .before .before .before .before .start-at .ensures)) (ap (λ s. s + c .before .before .before .before .before .args .tree + c .before .before .before .before .before .args .after) (c .before .before .before .start-at2 .ensures)) (ap (λ s. s + c .before .before .before .before .before .args .tree + c .before .before .before .before .before .args .after) (c .before .before .start-at3 .ensures)))
+returns c =
+    let at-start-at3 = c .before .before in
+    let at-start-at2 = at-start-at3 .before in
+    let at-start-at = at-start-at2 .before in
+    let entry = at-start-at .before in
+    c .start-at4 .ensures ∙ ap (startAt (entry .args .fixed) (entry .args .tree))
+    (c .before .least-bytes .ensures (λ x. startAt (entry .args .fixed) (entry .args .tree) x + entry .args .tree + entry .args .after)
+    (ap (λ s. s + entry .args .tree + entry .args .after) (at-start-at .start-at .ensures))
+    (ap (λ s. s + entry .args .tree + entry .args .after) (at-start-at2 .start-at2 .ensures))
+    (ap (λ s. s + entry .args .tree + entry .args .after) (at-start-at3 .start-at3 .ensures)))
 
 pub tree-start-spec : {M : Type 1} → statement M
 tree-start-spec =

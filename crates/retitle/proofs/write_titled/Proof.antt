@@ -22,19 +22,40 @@ same-length : tie.Need-same-length
 same-length c = search needs
 
 returns-2 : tie.Need-returns-2
-returns-2 c = λ (lim : Limits) (h : Header) reads. record { is = too-large _ _ _ _ _ _ _ (c .before .before .before .before .before .before .refusal-of .ensures) (c .before .before .before .before .before .if1 .left) refl (c .before .before .before .put-titled .ensures lim h reads) (omega (arith, c .if2 .taken)) }
+returns-2 c =
+    let at-put-titled = c .before .before .before in
+    let at-if1 = at-put-titled .before .before in
+    let at-refusal-of = at-if1 .before in
+    λ (lim : Limits) (h : Header) reads. record {
+      is = too-large _ _ _ _ _ _ _ (at-refusal-of .refusal-of .ensures) (at-if1 .if1 .left) refl
+          (at-put-titled .put-titled .ensures lim h reads) (omega (arith, c .if2 .taken));
+    }
 
 same-length-2 : tie.Need-same-length-2
 same-length-2 c = search needs
 
 returns-3 : tie.Need-returns-3
-returns-3 c = λ (lim : Limits) (h : Header) reads. record { is = no-room _ _ _ _ _ _ _ (c .before .before .before .before .before .before .before .refusal-of .ensures) (c .before .before .before .before .before .before .if1 .left) refl (c .before .before .before .before .put-titled .ensures lim h reads) (omega (arith, c .before .if2 .left)) (omega (arith, c .if3 .taken, c .before .before .before .before .put-titled .kept)) }
+returns-3 c =
+    let at-put-titled = c .before .before .before .before in
+    let at-if1 = at-put-titled .before .before in
+    let at-refusal-of = at-if1 .before in
+    λ (lim : Limits) (h : Header) reads. record {
+      is = no-room _ _ _ _ _ _ _ (at-refusal-of .refusal-of .ensures) (at-if1 .if1 .left) refl
+          (at-put-titled .put-titled .ensures lim h reads) (omega (arith, c .before .if2 .left))
+          (omega (arith, c .if3 .taken, at-put-titled .put-titled .kept));
+    }
 
 same-length-3 : tie.Need-same-length-3
 same-length-3 c = search needs
 
 returns-4 : tie.Need-returns-4
-returns-4 c = λ (lim : Limits) (h : Header) reads. wrote _ _ _ _ _ _ _ (c .before .before .before .before .before .before .before .refusal-of .ensures) (c .before .before .before .before .before .before .if1 .left) refl (c .before .before .before .before .put-titled .ensures lim h reads) (omega (arith, c .before .if2 .left)) (omega (arith, c .if3 .left, c .before .before .before .before .put-titled .kept))
+returns-4 c =
+    let at-put-titled = c .before .before .before .before in
+    let at-if1 = at-put-titled .before .before in
+    let at-refusal-of = at-if1 .before in
+    λ (lim : Limits) (h : Header) reads. wrote _ _ _ _ _ _ _ (at-refusal-of .refusal-of .ensures) (at-if1 .if1 .left) refl
+    (at-put-titled .put-titled .ensures lim h reads) (omega (arith, c .before .if2 .left))
+    (omega (arith, c .if3 .left, at-put-titled .put-titled .kept))
 
 pub write-titled-spec : {M : Type 1} → statement M
 write-titled-spec =

@@ -22,7 +22,11 @@ same-length : tie.Need-same-length
 same-length c = search needs
 
 returns : tie.Need-returns
-returns c = tail-cleared (c .before .before .before .before .before .before .args .bytes .now) (c .before .before .before .before .before .before .args .from) (omega (arith, c .before .before .before .before .if1 .taken)) (c .before .before .clear-bytes .ensures)
+returns c =
+    let at-clear-bytes = c .before .before in
+    let at-if1 = at-clear-bytes .before .before in
+    let entry = at-if1 .before .before in
+    tail-cleared (entry .args .bytes .now) (entry .args .from) (omega (arith, at-if1 .if1 .taken)) (at-clear-bytes .clear-bytes .ensures)
 
 returns-2 : tie.Need-returns-2
 returns-2 c = tail-none _ _ (c .if1 .left)

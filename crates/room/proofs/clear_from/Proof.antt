@@ -25,7 +25,11 @@ same-length : tie.Need-same-length
 same-length c = search needs
 
 returns : tie.Need-returns
-returns c = tail-cleared (c .before .before .before .before .before .before .args .table .now) (c .before .before .before .before .before .before .args .from) (omega (arith, c .before .before .before .before .if1 .taken)) (c .before .before .clear .ensures)
+returns c =
+    let at-clear = c .before .before in
+    let at-if1 = at-clear .before .before in
+    let entry = at-if1 .before .before in
+    tail-cleared (entry .args .table .now) (entry .args .from) (omega (arith, at-if1 .if1 .taken)) (at-clear .clear .ensures)
 
 returns-2 : tie.Need-returns-2
 returns-2 c = tail-none _ _ (c .if1 .left)

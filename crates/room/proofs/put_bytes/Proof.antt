@@ -25,7 +25,11 @@ same-length : tie.Need-same-length
 same-length c = search needs
 
 returns-2 : tie.Need-returns-2
-returns-2 c = counts-stored _ (omega (arith, c .before .before .before .before .before .room-at .ensures, c .before .before .before .before .if1 .left)) (c .before .before .store-bytes .ensures)
+returns-2 c =
+    let at-store-bytes = c .before .before in
+    let at-if1 = at-store-bytes .before .before in
+    let at-room-at = at-if1 .before in
+    counts-stored _ (omega (arith, at-room-at .room-at .ensures, at-if1 .if1 .left)) (at-store-bytes .store-bytes .ensures)
 
 pub put-bytes-spec : {M : Type 1} → statement M
 put-bytes-spec =

@@ -32,19 +32,32 @@ on-requires : tie.Need-on-requires
 on-requires c κs = search needs
 
 returns-2 : tie.Need-returns-2
-returns-2 c = counts-over _ (omega (arith, c .on .ensures, c .before .before .before .digit-count .ensures)) (omega (arith, c .before .before .room-at .ensures, c .before .if2 .taken, c .before .before .before .digit-count .ensures))
+returns-2 c =
+    let at-room-at = c .before .before in
+    let at-digit-count = at-room-at .before in
+    counts-over _ (omega (arith, c .on .ensures, at-digit-count .digit-count .ensures))
+    (omega (arith, at-room-at .room-at .ensures, c .before .if2 .taken, at-digit-count .digit-count .ensures))
 
 add-end : tie.Need-add-end
 add-end c = search needs
 
 store-digits-requires : tie.Need-store-digits-requires
-store-digits-requires c κs = omega (arith, c .before .before .room-at .ensures, c .before .if2 .left, c .before .before .before .digit-count .ensures, some-digit (c .before .before .before .before .before .before .args .n))
+store-digits-requires c κs =
+    let at-room-at = c .before .before in
+    let at-digit-count = at-room-at .before in
+    let entry = at-digit-count .before .before .before in
+    omega (arith, at-room-at .room-at .ensures, c .before .if2 .left, at-digit-count .digit-count .ensures, some-digit (entry .args .n))
 
 same-length-2 : tie.Need-same-length-2
 same-length-2 c = search needs
 
 returns-3 : tie.Need-returns-3
-returns-3 c = counts-stored _ (omega (arith, c .before .before .before .before .before .room-at .ensures, c .before .before .before .before .if2 .left, c .before .before .before .before .before .before .digit-count .ensures)) (c .before .before .store-digits .ensures)
+returns-3 c =
+    let at-store-digits = c .before .before in
+    let at-if2 = at-store-digits .before .before in
+    let at-room-at = at-if2 .before in
+    let at-digit-count = at-room-at .before in
+    counts-stored _ (omega (arith, at-room-at .room-at .ensures, at-if2 .if2 .left, at-digit-count .digit-count .ensures)) (at-store-digits .store-digits .ensures)
 
 pub put-decimal-spec : {M : Type 1} → statement M
 put-decimal-spec =

@@ -42,8 +42,13 @@ loop-less c = omega arith
 
 loop-again : tie.Need-loop-again Inv-loop μ-loop
 loop-again c =
-    let n : ℕ = c .before .before .before .before .before .before .before .before .before .args .n in
-    (omega arith, going-on (digit-more (c .before .before .before .before .before .before .before .loop .left) n refl (c .before .before .before .before .before .before .loop-test .taken) (c .before .before .before .before .if1 .taken) (ap (λ (p : ℕ). 128 + n / p % 128) (c .before .before .before .before .before .power .ensures))) (c .before .before .before .before .before .before .before .loop .inv .1) (c .before .before .put-byte .ensures))
+    let n : ℕ = c .before .before .before .before .before .before .before .before .before .args .n in (
+      omega arith,
+      going-on (digit-more (c .before .before .before .before .before .before .before .loop .left) n refl
+          (c .before .before .before .before .before .before .loop-test .taken) (c .before .before .before .before .if1 .taken)
+          (ap (λ (p : ℕ). 128 + n / p % 128) (c .before .before .before .before .before .power .ensures)))
+          (c .before .before .before .before .before .before .before .loop .inv .1) (c .before .before .put-byte .ensures),
+    )
 
 put-byte-requires-2 : tie.Need-put-byte-requires-2 Inv-loop μ-loop
 put-byte-requires-2 c κs = search needs
@@ -53,8 +58,13 @@ loop-less-2 c = omega arith
 
 loop-again-2 : tie.Need-loop-again-2 Inv-loop μ-loop
 loop-again-2 c =
-    let n : ℕ = c .before .before .before .before .before .before .before .before .before .args .n in
-    (omega arith, going-on (digit-last (c .before .before .before .before .before .before .before .loop .left) n refl (c .before .before .before .before .before .before .loop-test .taken) (c .before .before .before .before .if1 .left) (ap (λ (p : ℕ). n / p % 128) (c .before .before .before .before .before .power .ensures))) (c .before .before .before .before .before .before .before .loop .inv .1) (c .before .before .put-byte2 .ensures))
+    let n : ℕ = c .before .before .before .before .before .before .before .before .before .args .n in (
+      omega arith,
+      going-on (digit-last (c .before .before .before .before .before .before .before .loop .left) n refl
+          (c .before .before .before .before .before .before .loop-test .taken) (c .before .before .before .before .if1 .left)
+          (ap (λ (p : ℕ). n / p % 128) (c .before .before .before .before .before .power .ensures)))
+          (c .before .before .before .before .before .before .before .loop .inv .1) (c .before .before .put-byte2 .ensures),
+    )
 
 same-length : tie.Need-same-length Inv-loop μ-loop
 same-length c = going-length (c .before .loop .inv .1)

@@ -18,7 +18,11 @@ same-length : tie.Need-same-length
 same-length c = search needs
 
 returns : tie.Need-returns
-returns c = counts-as (short-number (c .before .before .before .before .before .before .args .n) (c .before .before .before .before .if1 .taken)) (c .before .before .put-byte .ensures)
+returns c =
+    let at-put-byte = c .before .before in
+    let at-if1 = at-put-byte .before .before in
+    let entry = at-if1 .before .before in
+    counts-as (short-number (entry .args .n) (at-if1 .if1 .taken)) (at-put-byte .put-byte .ensures)
 
 vlq-size-requires : tie.Need-vlq-size-requires
 vlq-size-requires c κs = search needs
@@ -30,7 +34,11 @@ same-length-2 : tie.Need-same-length-2
 same-length-2 c = search needs
 
 returns-2 : tie.Need-returns-2
-returns-2 c = number-put (c .before .before .before .before .before .before .before .args .n) (c .before .before .before .vlq-size .result) (c .before .before .before .vlq-size .ensures) (c .before .before .put-in-bytes .ensures)
+returns-2 c =
+    let at-put-in-bytes = c .before .before in
+    let at-vlq-size = at-put-in-bytes .before in
+    let entry = at-vlq-size .before .before .before .before in
+    number-put (entry .args .n) (at-vlq-size .vlq-size .result) (at-vlq-size .vlq-size .ensures) (at-put-in-bytes .put-in-bytes .ensures)
 
 pub put-number-spec : {M : Type 1} → statement M
 put-number-spec =

@@ -35,7 +35,9 @@ loop-less : tie.Need-loop-less Inv-loop μ-loop
 loop-less c = omega arith
 
 loop-again : tie.Need-loop-again Inv-loop μ-loop
-loop-again c = (plain-join _ (c .before .before .before .before .loop .inv .0) (plain-one _ _ (omega arith) (sym (c .before .is-plain .ensures) ∙ not-false _ (c .if1 .left))), omega arith)
+loop-again c =
+    let at-loop = c .before .before .before .before in
+    (plain-join _ (at-loop .loop .inv .0) (plain-one _ _ (omega arith) (sym (c .before .is-plain .ensures) ∙ not-false _ (c .if1 .left))), omega arith)
 
 returns-2 : tie.Need-returns-2 Inv-loop μ-loop
 returns-2 c = c .before .loop .inv

@@ -12,7 +12,8 @@ use Rattle.sheet.proofs.put_escaped.Statement.{statement}
 use Rattle.sheet.proofs.put_escaped.Tie as tie
 
 abbrev Inv-loop : tie.InvT-loop
-Inv-loop out₀ to file from size end hex next₀ at₀ out next at = (at ≤ end) × (end ≤ length file) × Going out₀ out to next (escapedPart file from size) (escapedPart file at (end - at))
+Inv-loop out₀ to file from size end hex next₀ at₀ out next at = (at ≤ end) × (end ≤ length file) × Going out₀ out to next
+    (escapedPart file from size) (escapedPart file at (end - at))
 
 abbrev μ-loop : tie.MeasureT-loop
 μ-loop out₀ to file from size end hex next₀ at₀ out next at = end - at
@@ -48,7 +49,19 @@ loop-less : tie.Need-loop-less Inv-loop μ-loop
 loop-less c = omega (arith, c .before .before .before .before .plain-end .ensures .0 .within, c .before .before .before .before .plain-end .ensures .1)
 
 loop-again : tie.Need-loop-again Inv-loop μ-loop
-loop-again c = (c .before .before .before .before .plain-end .ensures .1, omega arith, going-on (put-plain _ _ _ _ (c .before .before .before .before .plain-end .ensures .1) (plain-join _ (plain-one _ _ (omega arith) (sym (c .before .before .before .before .before .before .is-plain .ensures) ∙ c .before .before .before .before .before .if1 .taken)) (c .before .before .before .before .plain-end .ensures .0))) (c .before .before .before .before .before .before .before .before .before .loop .inv .2) (c .before .before .put-part .ensures))
+loop-again c =
+    let at-put-part = c .before .before in
+    let at-plain-end = at-put-part .before .before in
+    let at-if1 = at-plain-end .before in
+    let at-is-plain = at-if1 .before in
+    let at-loop = at-is-plain .before .before .before in (
+      at-plain-end .plain-end .ensures .1,
+      omega arith,
+      going-on
+          (put-plain _ _ _ _ (at-plain-end .plain-end .ensures .1)
+          (plain-join _ (plain-one _ _ (omega arith) (sym (at-is-plain .is-plain .ensures) ∙ at-if1 .if1 .taken))
+          (at-plain-end .plain-end .ensures .0))) (at-loop .loop .inv .2) (at-put-part .put-part .ensures),
+    )
 
 put-hex-requires : tie.Need-put-hex-requires Inv-loop μ-loop
 put-hex-requires c κs = c .before .before .before .before .before .before .before .hex-digits .ensures
@@ -60,7 +73,18 @@ loop-less-2 : tie.Need-loop-less-2 Inv-loop μ-loop
 loop-less-2 c = omega arith
 
 loop-again-2 : tie.Need-loop-again-2 Inv-loop μ-loop
-loop-again-2 c = (omega arith, omega arith, going-on (put-hexed _ _ _ (c .before .before .before .before .before .before .before .before .loop-test .taken) (omega arith) (sym (c .before .before .before .before .before .before .is-plain .ensures) ∙ c .before .before .before .before .before .if1 .left)) (c .before .before .before .before .before .before .before .before .before .loop .inv .2) (c .before .before .put-hex .ensures))
+loop-again-2 c =
+    let at-put-hex = c .before .before in
+    let at-if1 = at-put-hex .before .before .before in
+    let at-is-plain = at-if1 .before in
+    let at-loop-test = at-is-plain .before .before in
+    let at-loop = at-loop-test .before in (
+      omega arith,
+      omega arith,
+      going-on
+          (put-hexed _ _ _ (at-loop-test .loop-test .taken) (omega arith) (sym (at-is-plain .is-plain .ensures) ∙ at-if1 .if1 .left))
+          (at-loop .loop .inv .2) (at-put-hex .put-hex .ensures),
+    )
 
 same-length : tie.Need-same-length Inv-loop μ-loop
 same-length c = going-length (c .before .loop .inv .2)

@@ -17,7 +17,11 @@ same-length : tie.Need-same-length
 same-length c = search needs
 
 returns : tie.Need-returns
-returns c = counts-as (escaped-plain _ (sym (c .before .before .before .before .before .is-plain .ensures) ∙ c .before .before .before .before .if1 .taken)) (c .before .before .put-byte .ensures)
+returns c =
+    let at-put-byte = c .before .before in
+    let at-if1 = at-put-byte .before .before in
+    let at-is-plain = at-if1 .before in
+    counts-as (escaped-plain _ (sym (at-is-plain .is-plain .ensures) ∙ at-if1 .if1 .taken)) (at-put-byte .put-byte .ensures)
 
 hex-digits-requires : tie.Need-hex-digits-requires
 hex-digits-requires c κs = search needs
@@ -29,7 +33,11 @@ same-length-2 : tie.Need-same-length-2
 same-length-2 c = search needs
 
 returns-2 : tie.Need-returns-2
-returns-2 c = counts-as (escaped-hex _ (sym (c .before .before .before .before .before .before .before .is-plain .ensures) ∙ c .before .before .before .before .before .before .if1 .left)) (c .before .before .put-hex .ensures)
+returns-2 c =
+    let at-put-hex = c .before .before in
+    let at-if1 = at-put-hex .before .before .before .before in
+    let at-is-plain = at-if1 .before in
+    counts-as (escaped-hex _ (sym (at-is-plain .is-plain .ensures) ∙ at-if1 .if1 .left)) (at-put-hex .put-hex .ensures)
 
 pub put-escaped-byte-spec : {M : Type 1} → statement M
 put-escaped-byte-spec =

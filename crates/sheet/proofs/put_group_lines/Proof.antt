@@ -14,7 +14,8 @@ use Rattle.sheet.proofs.put_group_lines.Tie as tie
 
 abbrev Inv-loop : tie.InvT-loop
 Inv-loop out₀ to file nodes items rows contents next₀ i₀ first₀ out next i first =
-    (first ≤ contents) × Going out₀ out next₀ next (groupLines file 0 (nodesIn rows nodes) (itemsIn contents items)) (groupLines file i (nodesFrom i (rows - i) nodes) (itemsFrom first (contents - first) items))
+    (first ≤ contents) × Going out₀ out next₀ next (groupLines file 0 (nodesIn rows nodes) (itemsIn contents items))
+    (groupLines file i (nodesFrom i (rows - i) nodes) (itemsFrom first (contents - first) items))
 
 abbrev μ-loop : tie.MeasureT-loop
 μ-loop out₀ to file nodes items rows contents next₀ i₀ first₀ out next i first = rows - i
@@ -50,7 +51,9 @@ loop-again c =
     let a = c .before .before .before .before .before .before .before .before .before .before .before .before .before .before .before .before .args in
     let s = c .before .before .before .before .before .before .before .before .before .before .before .loop in
     let e = c .before .before .before .before .before .before .before .before .rows-end in
-    let one = groups-on (a .file .now) (a .nodes .now) (a .items .now) (a .rows) (a .contents) (s .i) (s .first) (e .result) (c .before .before .before .before .before .before .before .before .before .before .loop-test .taken) (s .inv .0) (c .before .before .before .before .before .before .before .before .before .node-at .ensures) (e .ensures) in
+    let one = groups-on (a .file .now) (a .nodes .now) (a .items .now) (a .rows) (a .contents) (s .i) (s .first) (e .result)
+    (c .before .before .before .before .before .before .before .before .before .before .loop-test .taken) (s .inv .0)
+    (c .before .before .before .before .before .before .before .before .before .node-at .ensures) (e .ensures) in
     (omega arith, going-on refl (going-on one (s .inv .1) (c .before .before .before .before .before .before .put-node-line .ensures)) (c .before .before .put-item-lines .ensures))
 
 same-length : tie.Need-same-length Inv-loop μ-loop

@@ -25,9 +25,14 @@ same-length c = search needs
 
 returns : tie.Need-returns
 returns c =
-    let size = counts-then (c .before .before .before .before .before .before .before .before .before .before .before .before .before .before .before .before .before .before .put-version .ensures) (c .before .before .before .before .before .before .before .before .before .before .before .before .before .before .put-number .ensures) in
-    let nodes = counts-then size (c .before .before .before .before .before .before .before .before .before .before .put-number2 .ensures) in
-    counts-then (counts-then nodes (c .before .before .before .before .before .before .put-number3 .ensures)) (c .before .before .put-byte .ensures)
+    let at-put-byte = c .before .before in
+    let at-put-number3 = at-put-byte .before .before .before .before in
+    let at-put-number2 = at-put-number3 .before .before .before .before in
+    let at-put-number = at-put-number2 .before .before .before .before in
+    let at-put-version = at-put-number .before .before .before .before in
+    let size = counts-then (at-put-version .put-version .ensures) (at-put-number .put-number .ensures) in
+    let nodes = counts-then size (at-put-number2 .put-number2 .ensures) in
+    counts-then (counts-then nodes (at-put-number3 .put-number3 .ensures)) (at-put-byte .put-byte .ensures)
 
 pub put-head-fields-spec : {M : Type 1} → statement M
 put-head-fields-spec =

@@ -16,7 +16,10 @@ on-requires : tie.Need-on-requires
 on-requires c κs = search needs
 
 returns : tie.Need-returns
-returns c = counts-as (hexed-is (c .before .before .before .before .args .byte) (c .before .before .before .before .pre)) (counts-over _ (c .on .ensures) (omega (arith, c .before .before .room-at .ensures, c .before .if1 .taken)))
+returns c =
+    let at-room-at = c .before .before in
+    let entry = at-room-at .before .before in
+    counts-as (hexed-is (entry .args .byte) (entry .pre)) (counts-over _ (c .on .ensures) (omega (arith, at-room-at .room-at .ensures, c .before .if1 .taken)))
 
 slice-write-out : tie.Need-slice-write-out
 slice-write-out c = search needs
@@ -52,7 +55,14 @@ same-length : tie.Need-same-length
 same-length c = search needs
 
 returns-2 : tie.Need-returns-2
-returns-2 c = counts-as (hexed-is (c .before .before .before .before .before .args .byte) (c .before .before .before .before .before .pre)) (counts-stored _ (omega (arith, c .before .before .before .room-at .ensures, c .before .before .if1 .left)) (stored-three (c .before .before .before .before .before .args .out .now) (c .before .before .before .before .before .args .to) 0x5C (getD (c .before .before .before .before .before .args .hex .now) (c .before .before .before .before .before .args .byte / 16) 0) (getD (c .before .before .before .before .before .args .hex .now) (c .before .before .before .before .before .args .byte % 16) 0)))
+returns-2 c =
+    let at-if1 = c .before .before in
+    let at-room-at = at-if1 .before in
+    let entry = at-room-at .before .before in
+    counts-as (hexed-is (entry .args .byte) (entry .pre))
+    (counts-stored _ (omega (arith, at-room-at .room-at .ensures, at-if1 .if1 .left))
+    (stored-three (entry .args .out .now) (entry .args .to) 0x5C (getD (entry .args .hex .now) (entry .args .byte / 16) 0)
+    (getD (entry .args .hex .now) (entry .args .byte % 16) 0)))
 
 pub put-hex-spec : {M : Type 1} → statement M
 put-hex-spec =

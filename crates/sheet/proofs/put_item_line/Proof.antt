@@ -28,7 +28,9 @@ put-number-requires-2 : tie.Need-put-number-requires-2
 put-number-requires-2 c κs = search needs
 
 item-at-requires-4 : tie.Need-item-at-requires-4
-item-at-requires-4 c κs = c .before .before .before .before .before .before .before .before .before .before .before .before .before .before .before .before .before .before .before .before .before .before .before .pre .0
+item-at-requires-4 c κs =
+    let entry = c .before .before .before .before .before .before .before .before .before .before .before .before .before .before .before .before .before .before .before .before .before .before .before in
+    entry .pre .0
 
 put-number-requires-3 : tie.Need-put-number-requires-3
 put-number-requires-3 c κs = search needs
@@ -37,16 +39,39 @@ put-byte-requires-2 : tie.Need-put-byte-requires-2
 put-byte-requires-2 c κs = search needs
 
 item-at-requires-5 : tie.Need-item-at-requires-5
-item-at-requires-5 c κs = c .before .before .before .before .before .before .before .before .before .before .before .before .before .before .before .before .before .before .before .before .before .before .before .before .before .before .before .before .before .before .before .before .pre .0
+item-at-requires-5 c κs =
+    let entry = c .before .before .before .before .before .before .before .before .before .before .before .before .before .before .before .before .before .before .before .before .before .before .before .before .before .before .before .before .before .before .before .before in
+    entry .pre .0
 
 put-text-requires : tie.Need-put-text-requires
-put-text-requires c κs = rw (c .item-at5 .ensures) (c .before .before .before .before .before .before .before .before .before .before .before .before .before .before .before .before .before .before .before .before .before .before .before .before .before .before .before .before .before .before .before .before .before .pre .1)
+put-text-requires c κs =
+    let entry = c .before .before .before .before .before .before .before .before .before .before .before .before .before .before .before .before .before .before .before .before .before .before .before .before .before .before .before .before .before .before .before .before .before in
+    rw (c .item-at5 .ensures) (entry .pre .1)
 
 put-byte-requires-3 : tie.Need-put-byte-requires-3
 put-byte-requires-3 c κs = search needs
 
 returns : tie.Need-returns
-returns c = counts-as (item-is _ _ (c .before .before .before .before .before .before .before .before .before .before .before .before .before .before .before .before .before .before .before .before .before .before .before .before .before .before .before .before .before .before .before .item-at .ensures) (c .before .before .before .before .before .before .before .before .before .before .before .before .before .before .before .before .before .before .before .before .before .before .before .before .before .before .item-at2 .ensures) (c .before .before .before .before .before .before .before .before .before .before .before .before .before .before .before .before .before .before .before .before .before .item-at3 .ensures) (c .before .before .before .before .before .before .before .before .before .before .before .before .before .before .before .before .item-at4 .ensures) (c .before .before .before .before .before .before .before .item-at5 .ensures)) (counts-then (counts-then (counts-then (counts-then (counts-then (counts-then (counts-then (c .before .before .before .before .before .before .before .before .before .before .before .before .before .before .before .before .before .before .before .before .before .before .before .before .before .before .before .before .before .before .before .before .before .before .before .put-byte .ensures) (c .before .before .before .before .before .before .before .before .before .before .before .before .before .before .before .before .before .before .before .before .before .before .before .before .before .before .before .before .before .before .put-number .ensures)) (c .before .before .before .before .before .before .before .before .before .before .before .before .before .before .before .before .before .before .before .before .before .before .before .before .before .put-label .ensures)) (c .before .before .before .before .before .before .before .before .before .before .before .before .before .before .before .before .before .before .before .before .put-number2 .ensures)) (c .before .before .before .before .before .before .before .before .before .before .before .before .before .before .before .put-number3 .ensures)) (c .before .before .before .before .before .before .before .before .before .before .before .put-byte2 .ensures)) (c .before .before .before .before .before .before .put-text .ensures)) (c .before .before .put-byte3 .ensures))
+returns c =
+    let at-put-byte3 = c .before .before in
+    let at-put-text = at-put-byte3 .before .before .before .before in
+    let at-item-at5 = at-put-text .before in
+    let at-put-byte2 = at-item-at5 .before .before .before .before in
+    let at-put-number3 = at-put-byte2 .before .before .before .before in
+    let at-item-at4 = at-put-number3 .before in
+    let at-put-number2 = at-item-at4 .before .before .before .before in
+    let at-item-at3 = at-put-number2 .before in
+    let at-put-label = at-item-at3 .before .before .before .before in
+    let at-item-at2 = at-put-label .before in
+    let at-put-number = at-item-at2 .before .before .before .before in
+    let at-item-at = at-put-number .before in
+    let at-put-byte = at-item-at .before .before .before .before in
+    counts-as (item-is _ _ (at-item-at .item-at .ensures) (at-item-at2 .item-at2 .ensures) (at-item-at3 .item-at3 .ensures)
+    (at-item-at4 .item-at4 .ensures) (at-item-at5 .item-at5 .ensures))
+    (counts-then (counts-then (counts-then
+    (counts-then (counts-then (counts-then (counts-then (at-put-byte .put-byte .ensures) (at-put-number .put-number .ensures))
+    (at-put-label .put-label .ensures)) (at-put-number2 .put-number2 .ensures)) (at-put-number3 .put-number3 .ensures))
+    (at-put-byte2 .put-byte2 .ensures)) (at-put-text .put-text .ensures)) (at-put-byte3 .put-byte3 .ensures))
 
 same-length : tie.Need-same-length
 same-length c = returns c .long

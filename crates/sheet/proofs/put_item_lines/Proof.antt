@@ -11,7 +11,8 @@ use Rattle.sheet.proofs.put_item_lines.Statement.{statement}
 use Rattle.sheet.proofs.put_item_lines.Tie as tie
 
 abbrev Inv-loop : tie.InvT-loop
-Inv-loop out₀ to file items from end next₀ i₀ out next i = (i ≤ end) × Going out₀ out next₀ next (itemLines file (itemsFrom from (end - from) items)) (itemLines file (itemsFrom i (end - i) items))
+Inv-loop out₀ to file items from end next₀ i₀ out next i = (i ≤ end) × Going out₀ out next₀ next
+    (itemLines file (itemsFrom from (end - from) items)) (itemLines file (itemsFrom i (end - i) items))
 
 abbrev μ-loop : tie.MeasureT-loop
 μ-loop out₀ to file items from end next₀ i₀ out next i = end - i
@@ -20,7 +21,9 @@ loop-holds : tie.Need-loop-holds Inv-loop μ-loop
 loop-holds c = (c .before .before .before .pre .0, going-start _ (omega arith) refl)
 
 put-visible-line-requires : tie.Need-put-visible-line-requires Inv-loop μ-loop
-put-visible-line-requires c κs = (omega (arith, c .before .before .before .before .before .before .pre .1 .0), c .before .before .before .before .before .before .pre .1 .1 _ (c .before .loop-test .taken))
+put-visible-line-requires c κs =
+    let entry = c .before .before .before .before .before .before in
+    (omega (arith, entry .pre .1 .0), entry .pre .1 .1 _ (c .before .loop-test .taken))
 
 add-i : tie.Need-add-i Inv-loop μ-loop
 add-i c = omega arith
@@ -29,7 +32,11 @@ loop-less : tie.Need-loop-less Inv-loop μ-loop
 loop-less c = omega arith
 
 loop-again : tie.Need-loop-again Inv-loop μ-loop
-loop-again c = (omega arith, going-on (items-on _ _ _ _ (c .before .before .before .before .loop-test .taken)) (c .before .before .before .before .before .loop .inv .1) (c .before .before .put-visible-line .ensures))
+loop-again c =
+    let at-put-visible-line = c .before .before in
+    let at-loop-test = at-put-visible-line .before .before in
+    let at-loop = at-loop-test .before in
+    (omega arith, going-on (items-on _ _ _ _ (at-loop-test .loop-test .taken)) (at-loop .loop .inv .1) (at-put-visible-line .put-visible-line .ensures))
 
 same-length : tie.Need-same-length Inv-loop μ-loop
 same-length c = going-length (c .before .loop .inv .1)

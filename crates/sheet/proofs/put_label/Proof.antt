@@ -17,13 +17,24 @@ put-byte-requires-3 : tie.Need-put-byte-requires-3
 put-byte-requires-3 c κs = search needs
 
 put-escaped-requires : tie.Need-put-escaped-requires
-put-escaped-requires c κs = name-in (c .before .before .before .before .before .before .before .before .before .before .before .before .before .before .before .before .before .args .row) (c .before .before .before .before .before .before .before .before .before .before .before .before .before .before .before .before .before .pre) (c .before .before .before .before .before .before .before .before .before .if1 .taken)
+put-escaped-requires c κs =
+    let at-if1 = c .before .before .before .before .before .before .before .before .before in
+    let entry = at-if1 .before .before .before .before .before .before .before .before in
+    name-in (entry .args .row) (entry .pre) (at-if1 .if1 .taken)
 
 same-length : tie.Need-same-length
 same-length c = search needs
 
 returns : tie.Need-returns
-returns c = counts-as (label-custom _ _ (c .before .before .before .before .before .before .before .before .before .before .before .before .if1 .taken)) (counts-then (counts-then (counts-then (c .before .before .before .before .before .before .before .before .before .before .before .before .before .before .before .before .put-byte .ensures) (c .before .before .before .before .before .before .before .before .before .before .put-byte2 .ensures)) (c .before .before .before .before .before .before .put-byte3 .ensures)) (c .before .before .put-escaped .ensures))
+returns c =
+    let at-put-escaped = c .before .before in
+    let at-put-byte3 = at-put-escaped .before .before .before .before in
+    let at-put-byte2 = at-put-byte3 .before .before .before .before in
+    let at-if1 = at-put-byte2 .before .before in
+    let at-put-byte = at-if1 .before .before .before .before in
+    counts-as (label-custom _ _ (at-if1 .if1 .taken))
+    (counts-then (counts-then (counts-then (at-put-byte .put-byte .ensures) (at-put-byte2 .put-byte2 .ensures))
+    (at-put-byte3 .put-byte3 .ensures)) (at-put-escaped .put-escaped .ensures))
 
 put-byte-requires-4 : tie.Need-put-byte-requires-4
 put-byte-requires-4 c κs = search needs
@@ -35,7 +46,13 @@ same-length-2 : tie.Need-same-length-2
 same-length-2 c = search needs
 
 returns-2 : tie.Need-returns-2
-returns-2 c = counts-as (label-standard _ _ (c .before .before .before .before .before .before .before .before .if1 .left)) (counts-then (counts-then (c .before .before .before .before .before .before .before .before .before .before .before .before .put-byte .ensures) (c .before .before .before .before .before .before .put-byte4 .ensures)) (c .before .before .put-number .ensures))
+returns-2 c =
+    let at-put-number = c .before .before in
+    let at-put-byte4 = at-put-number .before .before .before .before in
+    let at-if1 = at-put-byte4 .before .before in
+    let at-put-byte = at-if1 .before .before .before .before in
+    counts-as (label-standard _ _ (at-if1 .if1 .left))
+    (counts-then (counts-then (at-put-byte .put-byte .ensures) (at-put-byte4 .put-byte4 .ensures)) (at-put-number .put-number .ensures))
 
 pub put-label-spec : {M : Type 1} → statement M
 put-label-spec =

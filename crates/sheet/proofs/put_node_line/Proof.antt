@@ -31,7 +31,20 @@ put-byte-requires-2 : tie.Need-put-byte-requires-2
 put-byte-requires-2 c κs = search needs
 
 returns : tie.Need-returns
-returns c = counts-as (node-is _ _) (counts-then (counts-then (counts-then (counts-then (counts-then (counts-then (counts-then (c .before .before .before .before .before .before .before .before .before .before .before .before .before .before .before .before .before .before .before .before .before .before .before .before .before .before .before .before .before .before .put-byte .ensures) (c .before .before .before .before .before .before .before .before .before .before .before .before .before .before .before .before .before .before .before .before .before .before .before .before .before .before .put-number .ensures)) (c .before .before .before .before .before .before .before .before .before .before .before .before .before .before .before .before .before .before .before .before .before .before .put-number2 .ensures)) (c .before .before .before .before .before .before .before .before .before .before .before .before .before .before .before .before .before .before .put-number3 .ensures)) (c .before .before .before .before .before .before .before .before .before .before .before .before .before .before .put-number4 .ensures)) (c .before .before .before .before .before .before .before .before .before .before .put-number5 .ensures)) (c .before .before .before .before .before .before .put-number6 .ensures)) (c .before .before .put-byte2 .ensures))
+returns c =
+    let at-put-byte2 = c .before .before in
+    let at-put-number6 = at-put-byte2 .before .before .before .before in
+    let at-put-number5 = at-put-number6 .before .before .before .before in
+    let at-put-number4 = at-put-number5 .before .before .before .before in
+    let at-put-number3 = at-put-number4 .before .before .before .before in
+    let at-put-number2 = at-put-number3 .before .before .before .before in
+    let at-put-number = at-put-number2 .before .before .before .before in
+    let at-put-byte = at-put-number .before .before .before .before in
+    counts-as (node-is _ _) (counts-then
+    (counts-then (counts-then (counts-then
+    (counts-then (counts-then (counts-then (at-put-byte .put-byte .ensures) (at-put-number .put-number .ensures))
+    (at-put-number2 .put-number2 .ensures)) (at-put-number3 .put-number3 .ensures)) (at-put-number4 .put-number4 .ensures))
+    (at-put-number5 .put-number5 .ensures)) (at-put-number6 .put-number6 .ensures)) (at-put-byte2 .put-byte2 .ensures))
 
 same-length : tie.Need-same-length
 same-length c = returns c .long

@@ -33,7 +33,12 @@ loop-less : tie.Need-loop-less Inv-loop μ-loop
 loop-less c = omega arith
 
 loop-again : tie.Need-loop-again Inv-loop μ-loop
-loop-again c = (omega arith, going-on (nodes-on _ _ _ (c .before .before .before .before .before .loop-test .taken) (c .before .before .before .node-at .ensures)) (c .before .before .before .before .before .before .loop .inv .1) (c .before .before .put-node-line .ensures))
+loop-again c =
+    let at-put-node-line = c .before .before in
+    let at-node-at = at-put-node-line .before in
+    let at-loop-test = at-node-at .before .before in
+    let at-loop = at-loop-test .before in
+    (omega arith, going-on (nodes-on _ _ _ (at-loop-test .loop-test .taken) (at-node-at .node-at .ensures)) (at-loop .loop .inv .1) (at-put-node-line .put-node-line .ensures))
 
 same-length : tie.Need-same-length Inv-loop μ-loop
 same-length c = going-length (c .before .loop .inv .1)

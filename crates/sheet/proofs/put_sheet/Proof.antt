@@ -25,8 +25,10 @@ same-length c = search needs
 returns : tie.Need-returns
 returns c =
     let a = c .before .before .before .before .before .before .before .before .before .before .before .before .before .before .before .before .before .before .args in
-    let head = counts-then (c .before .before .before .before .before .before .before .before .before .before .put-bytes .ensures) (c .before .before .before .before .before .before .put-head-fields .ensures) in
-    counts-as (put-second (a .version) (a .rows) (a .contents) (a .file .now) (a .nodes .now) (a .items .now) (c .before .before .before .before .before .before .before .before .before .before .before .before .before .if1 .taken))
+    let head = counts-then (c .before .before .before .before .before .before .before .before .before .before .put-bytes .ensures)
+    (c .before .before .before .before .before .before .put-head-fields .ensures) in
+    counts-as (put-second (a .version) (a .rows) (a .contents) (a .file .now) (a .nodes .now) (a .items .now)
+    (c .before .before .before .before .before .before .before .before .before .before .before .before .before .if1 .taken))
     (counts-then head (c .before .before .put-group-lines .ensures))
 
 slice-aggregate-put-bytes-2 : tie.Need-slice-aggregate-put-bytes-2
@@ -42,7 +44,9 @@ put-node-lines-requires : tie.Need-put-node-lines-requires
 put-node-lines-requires c κs = c .before .before .before .before .before .before .before .before .before .before .before .before .before .before .before .pre .0
 
 put-item-lines-requires : tie.Need-put-item-lines-requires
-put-item-lines-requires c κs = (omega arith, c .before .before .before .before .before .before .before .before .before .before .before .before .before .before .before .before .before .before .before .pre .1)
+put-item-lines-requires c κs =
+    let entry = c .before .before .before .before .before .before .before .before .before .before .before .before .before .before .before .before .before .before .before in
+    (omega arith, entry .pre .1)
 
 same-length-2 : tie.Need-same-length-2
 same-length-2 c = search needs
@@ -51,7 +55,8 @@ returns-2 : tie.Need-returns-2
 returns-2 c =
     let a = c .before .before .before .before .before .before .before .before .before .before .before .before .before .before .before .before .before .before .before .before .before .before .args in
     let head = counts-then (c .before .before .before .before .before .before .before .before .before .before .before .before .before .before .put-bytes2 .ensures) (c .before .before .before .before .before .before .before .before .before .before .put-head-fields2 .ensures) in
-    counts-as (put-first (a .version) (a .rows) (a .contents) (a .file .now) (a .nodes .now) (a .items .now) (c .before .before .before .before .before .before .before .before .before .before .before .before .before .before .before .before .before .if1 .left))
+    counts-as (put-first (a .version) (a .rows) (a .contents) (a .file .now) (a .nodes .now) (a .items .now)
+    (c .before .before .before .before .before .before .before .before .before .before .before .before .before .before .before .before .before .if1 .left))
     (counts-then (counts-then head (c .before .before .before .before .before .before .put-node-lines .ensures)) (c .before .before .put-item-lines .ensures))
 
 pub put-sheet-spec : {M : Type 1} → statement M

@@ -23,7 +23,9 @@ after-mark-requires : tie.Need-after-mark-requires Inv-loop μ-loop
 after-mark-requires c κs = search needs
 
 loop-holds : tie.Need-loop-holds Inv-loop μ-loop
-loop-holds c = conv-start (c .before .before .before .args .units .now) _ _ (omega arith) (c .after-mark .ensures .1) (shown-start (c .before .before .before .args .units .now) _ (c .after-mark .ensures .0))
+loop-holds c =
+    let entry = c .before .before .before in
+    conv-start (entry .args .units .now) _ _ (omega arith) (c .after-mark .ensures .1) (shown-start (entry .args .units .now) _ (c .after-mark .ensures .0))
 
 char16-requires : tie.Need-char16-requires Inv-loop μ-loop
 char16-requires c κs = search needs
@@ -35,22 +37,59 @@ same-length : tie.Need-same-length Inv-loop μ-loop
 same-length c = conv-length (c .before .before .before .before .loop .inv)
 
 returns : tie.Need-returns Inv-loop μ-loop
-returns c = shown-never (toUtf8 (c .before .before .before .before .before .before .before .before .args .units .now)) (c .before .before .before .before .before .before .before .before .pre) (conv-bad (c .before .before .before .before .loop .inv) (c .before .before .before .loop-test .taken) (sym (ap charTold (c .enum-told .given .1)) ∙ c .before .before .char16 .ensures))
+returns c =
+    let at-char16 = c .before .before in
+    let at-loop-test = at-char16 .before in
+    let at-loop = at-loop-test .before in
+    let entry = at-loop .before .before .before .before in
+    shown-never (toUtf8 (entry .args .units .now)) (entry .pre)
+    (conv-bad (at-loop .loop .inv) (at-loop-test .loop-test .taken) (sym (ap charTold (c .enum-told .given .1)) ∙ at-char16 .char16 .ensures))
 
 enum-known-value : tie.Need-enum-known-value Inv-loop μ-loop
 enum-known-value c = search needs
 
 put-shown-char-requires : tie.Need-put-shown-char-requires Inv-loop μ-loop
-put-shown-char-requires c κs = (let w = char-in form16 (c .before .before .before .before .before .before .before .before .before .before .args .units .now) (λ i. omega (arith, c .before .before .before .before .before .before .before .before .shared-slice-known .given i)) _ (sym (ap charTold (c .before .before .value .given .1)) ∙ c .before .before .before .before .char16 .ensures) (c .before .before .before .before .before .before .loop .inv .within) in w .0 .most)
+put-shown-char-requires c κs =
+    let at-value = c .before .before in
+    let at-char16 = at-value .before .before in
+    let at-loop = at-char16 .before .before in
+    let at-shared-slice-known = at-loop .before .before in
+    let entry = at-shared-slice-known .before .before in
+    (let w = char-in form16 (entry .args .units .now) (λ i. omega (arith, at-shared-slice-known .shared-slice-known .given i)) _
+    (sym (ap charTold (at-value .value .given .1)) ∙ at-char16 .char16 .ensures) (at-loop .loop .inv .within) in w .0 .most)
 
 add-at : tie.Need-add-at Inv-loop μ-loop
-add-at c = (let w = char-in form16 (c .before .before .before .before .before .before .before .before .before .before .before .before .before .args .units .now) (λ i. omega (arith, c .before .before .before .before .before .before .before .before .before .before .before .shared-slice-known .given i)) _ (sym (ap charTold (c .before .before .before .before .before .value .given .1)) ∙ c .before .before .before .before .before .before .before .char16 .ensures) (c .before .before .before .before .before .before .before .before .before .loop .inv .within) in omega (arith, w .2))
+add-at c =
+    let at-value = c .before .before .before .before .before in
+    let at-char16 = at-value .before .before in
+    let at-loop = at-char16 .before .before in
+    let at-shared-slice-known = at-loop .before .before in
+    let entry = at-shared-slice-known .before .before in
+    (let w = char-in form16 (entry .args .units .now) (λ i. omega (arith, at-shared-slice-known .shared-slice-known .given i)) _
+    (sym (ap charTold (at-value .value .given .1)) ∙ at-char16 .char16 .ensures) (at-loop .loop .inv .within) in omega (arith, w .2))
 
 loop-less : tie.Need-loop-less Inv-loop μ-loop
-loop-less c = (let w = char-in form16 (c .before .before .before .before .before .before .before .before .before .before .before .before .before .args .units .now) (λ i. omega (arith, c .before .before .before .before .before .before .before .before .before .before .before .shared-slice-known .given i)) _ (sym (ap charTold (c .before .before .before .before .before .value .given .1)) ∙ c .before .before .before .before .before .before .before .char16 .ensures) (c .before .before .before .before .before .before .before .before .before .loop .inv .within) in omega (arith, w .1, w .2))
+loop-less c =
+    let at-value = c .before .before .before .before .before in
+    let at-char16 = at-value .before .before in
+    let at-loop = at-char16 .before .before in
+    let at-shared-slice-known = at-loop .before .before in
+    let entry = at-shared-slice-known .before .before in
+    (let w = char-in form16 (entry .args .units .now) (λ i. omega (arith, at-shared-slice-known .shared-slice-known .given i)) _
+    (sym (ap charTold (at-value .value .given .1)) ∙ at-char16 .char16 .ensures) (at-loop .loop .inv .within) in omega (arith, w .1, w .2))
 
 loop-again : tie.Need-loop-again Inv-loop μ-loop
-loop-again c = conv-on form16 (c .before .before .before .before .before .before .before .before .before .before .before .before .before .args .units .now) (λ i. omega (arith, c .before .before .before .before .before .before .before .before .before .before .before .shared-slice-known .given i)) _ (sym (ap charTold (c .before .before .before .before .before .value .given .1)) ∙ c .before .before .before .before .before .before .before .char16 .ensures) (c .before .before .before .before .before .before .before .before .loop-test .taken) (c .before .before .before .before .before .before .before .before .before .loop .inv) (c .before .before .put-shown-char .ensures)
+loop-again c =
+    let at-put-shown-char = c .before .before in
+    let at-value = at-put-shown-char .before .before .before in
+    let at-char16 = at-value .before .before in
+    let at-loop-test = at-char16 .before in
+    let at-loop = at-loop-test .before in
+    let at-shared-slice-known = at-loop .before .before in
+    let entry = at-shared-slice-known .before .before in
+    conv-on form16 (entry .args .units .now) (λ i. omega (arith, at-shared-slice-known .shared-slice-known .given i)) _
+    (sym (ap charTold (at-value .value .given .1)) ∙ at-char16 .char16 .ensures) (at-loop-test .loop-test .taken) (at-loop .loop .inv)
+    (at-put-shown-char .put-shown-char .ensures)
 
 same-length-2 : tie.Need-same-length-2 Inv-loop μ-loop
 same-length-2 c = conv-length (c .before .loop .inv)

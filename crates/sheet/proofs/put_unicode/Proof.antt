@@ -38,7 +38,14 @@ same-length : tie.Need-same-length
 same-length c = search needs
 
 returns : tie.Need-returns
-returns c = counts-as (unicode-good (c .before .before .before .before .before .before .before .before .before .before .args .file .now) (c .before .before .before .before .before .before .before .before .before .before .args .from) (c .before .before .before .before .before .before .before .before .before .before .args .size) (lent-part (c .before .before .before .before .before .before .before .before .before .before .args .file .now) (c .before .before .before .before .before .before .before .before .before .before .args .from) (c .before .before .before .before .before .before .before .before .before .before .args .size) refl) (c .before .before .before .before .before .before .converts .ensures) (c .before .before .before .before .before .if1 .taken)) (c .before .before .put-shown .ensures)
+returns c =
+    let at-put-shown = c .before .before in
+    let at-if1 = at-put-shown .before .before .before in
+    let at-converts = at-if1 .before in
+    let entry = at-converts .before .before .before .before in
+    counts-as (unicode-good (entry .args .file .now) (entry .args .from) (entry .args .size)
+    (lent-part (entry .args .file .now) (entry .args .from) (entry .args .size) refl) (at-converts .converts .ensures) (at-if1 .if1 .taken))
+    (at-put-shown .put-shown .ensures)
 
 put-escaped-requires : tie.Need-put-escaped-requires
 put-escaped-requires c κs = search needs
@@ -47,7 +54,14 @@ same-length-2 : tie.Need-same-length-2
 same-length-2 c = search needs
 
 returns-2 : tie.Need-returns-2
-returns-2 c = counts-as (unicode-bad (c .before .before .before .before .before .before .before .before .before .args .file .now) (c .before .before .before .before .before .before .before .before .before .args .from) (c .before .before .before .before .before .before .before .before .before .args .size) (lent-part (c .before .before .before .before .before .before .before .before .before .args .file .now) (c .before .before .before .before .before .before .before .before .before .args .from) (c .before .before .before .before .before .before .before .before .before .args .size) refl) (c .before .before .before .before .before .converts .ensures) (c .before .before .before .before .if1 .left)) (c .before .before .put-escaped .ensures)
+returns-2 c =
+    let at-put-escaped = c .before .before in
+    let at-if1 = at-put-escaped .before .before in
+    let at-converts = at-if1 .before in
+    let entry = at-converts .before .before .before .before in
+    counts-as (unicode-bad (entry .args .file .now) (entry .args .from) (entry .args .size)
+    (lent-part (entry .args .file .now) (entry .args .from) (entry .args .size) refl) (at-converts .converts .ensures) (at-if1 .if1 .left))
+    (at-put-escaped .put-escaped .ensures)
 
 pub put-unicode-spec : {M : Type 1} → statement M
 put-unicode-spec =

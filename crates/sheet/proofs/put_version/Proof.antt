@@ -22,7 +22,14 @@ same-length : tie.Need-same-length
 same-length c = search needs
 
 returns : tie.Need-returns
-returns c = counts-as (version-is _) (counts-then (counts-then (counts-then (c .before .before .before .before .before .before .before .before .before .before .before .before .before .before .put-decimal .ensures) (c .before .before .before .before .before .before .before .before .before .before .put-byte .ensures)) (c .before .before .before .before .before .before .put-decimal2 .ensures)) (c .before .before .put-decimal3 .ensures))
+returns c =
+    let at-put-decimal3 = c .before .before in
+    let at-put-decimal2 = at-put-decimal3 .before .before .before .before in
+    let at-put-byte = at-put-decimal2 .before .before .before .before in
+    let at-put-decimal = at-put-byte .before .before .before .before in
+    counts-as (version-is _) (counts-then
+    (counts-then (counts-then (at-put-decimal .put-decimal .ensures) (at-put-byte .put-byte .ensures))
+    (at-put-decimal2 .put-decimal2 .ensures)) (at-put-decimal3 .put-decimal3 .ensures))
 
 pub put-version-spec : {M : Type 1} → statement M
 put-version-spec =

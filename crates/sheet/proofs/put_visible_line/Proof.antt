@@ -20,7 +20,11 @@ same-length : tie.Need-same-length
 same-length c = search needs
 
 returns-2 : tie.Need-returns-2
-returns-2 c = counts-as (line-shown _ _ (c .before .before .before .before .before .before .item-at .ensures) (c .before .before .before .before .if1 .left)) (c .before .before .put-item-line .ensures)
+returns-2 c =
+    let at-put-item-line = c .before .before in
+    let at-if1 = at-put-item-line .before .before in
+    let at-item-at = at-if1 .before .before in
+    counts-as (line-shown _ _ (at-item-at .item-at .ensures) (at-if1 .if1 .left)) (at-put-item-line .put-item-line .ensures)
 
 pub put-visible-line-spec : {M : Type 1} → statement M
 put-visible-line-spec =

@@ -47,7 +47,8 @@ returns : tie.Need-returns
 returns c =
     let a = c .before .before .before .before .before .before .before .before .before .before .before .before .before .before .before .before .before .before .before .before .before .before .before .before .before .before .before .before .before .before .before .before .args in
     let f = c .before .before .before .before .before .before .before .before .before .before .before .before .before .before .before .before .before .before .before .before .before .before .before .before .before .read-file in
-    let w = standing (a .file .now) _ _ _ (f .ensures .0) (f .ensures .1 .0) (f .ensures .1 .1) (c .before .before .before .before .before .before .before .before .before .before .before .before .before .before .before .before .before .before .before .s .given .1) in
+    let w = standing (a .file .now) _ _ _ (f .ensures .0) (f .ensures .1 .0) (f .ensures .1 .1)
+    (c .before .before .before .before .before .before .before .before .before .before .before .before .before .before .before .before .before .before .before .s .given .1) in
     let p = c .before .before .before .before .before .before .before .before .before .before .before .before .before .before .put-sheet in
     let full = c .before .before .before .before .before .before .before .before .before .before .before .if1 .taken in
     let z = c .before .before .before .before .before .before .before .before .clear-all .ensures in
@@ -70,7 +71,8 @@ returns-2 : tie.Need-returns-2
 returns-2 c =
     let a = c .before .before .before .before .before .before .before .before .before .before .before .before .before .before .before .before .before .before .args in
     let f = c .before .before .before .before .before .before .before .before .before .before .before .read-file .ensures in
-    asked-refused (a .second) (a .file .now) _ _ (a .sheet .now) _ (f .1 .0) (f .1 .1) (f .0) (c .before .before .before .before .before .n .given .1) (c .before .before .clear-bytes .ensures)
+    asked-refused (a .second) (a .file .now) _ _ (a .sheet .now) _ (f .1 .0) (f .1 .1) (f .0)
+    (c .before .before .before .before .before .n .given .1) (c .before .before .clear-bytes .ensures)
 
 same-length-7 : tie.Need-same-length-7
 same-length-7 c = search needs
@@ -85,11 +87,13 @@ returns-3 : tie.Need-returns-3
 returns-3 c =
     let a = c .before .before .before .before .before .before .before .before .before .before .before .before .before .before .before .before .before .before .before .before .before .before .before .before .before .args in
     let f = c .before .before .before .before .before .before .before .before .before .before .before .before .before .before .before .before .before .before .read-file .ensures in
-    let w = standing (a .file .now) _ _ _ (f .0) (f .1 .0) (f .1 .1) (c .before .before .before .before .before .before .before .before .before .before .before .before .s .given .1) in
+    let w = standing (a .file .now) _ _ _ (f .0) (f .1 .0) (f .1 .1)
+    (c .before .before .before .before .before .before .before .before .before .before .before .before .s .given .1) in
     let p = c .before .before .before .before .before .before .before .put-sheet in
     let fits = c .before .before .before .before .if1 .left in
     let good = c .before .before .before .before .before .before .before .before .before .before .before .before .before .before .before .before .before .before .before .before .before .before .before .before .before .good in
-    asked-good (a .second) (a .file .now) _ _ (a .sheet .now) _ (f .1 .0) (f .1 .1) w (p .ensures) (omega (arith, fits, p .kept .0)) (omega (arith, good)) (c .before .before .clear-bytes-from .ensures)
+    asked-good (a .second) (a .file .now) _ _ (a .sheet .now) _ (f .1 .0) (f .1 .1) w (p .ensures) (omega (arith, fits, p .kept .0))
+    (omega (arith, good)) (c .before .before .clear-bytes-from .ensures)
 
 pub write-edition-spec : {M : Type 1} → statement M
 write-edition-spec =

@@ -23,12 +23,14 @@ find-from-requires c κs = search needs
 returns-3 : tie.Need-returns-3
 returns-3 c =
     let d = c .before .before .before in
-    place-there _ _ _ (sym (d .before .is-damaged .ensures) ∙ d .if1 .left) (c .before .before .if2 .left) _ (c .before .find-from .ensures) (omega (arith, count (d .before .before .before .args .words .now)))
+    place-there _ _ _ (sym (d .before .is-damaged .ensures) ∙ d .if1 .left) (c .before .before .if2 .left) _ (c .before .find-from .ensures)
+    (omega (arith, count (d .before .before .before .args .words .now)))
 
 returns-4 : tie.Need-returns-4
 returns-4 c =
     let d = c .before .before .before .before in
-    place-long _ _ _ (sym (d .before .is-damaged .ensures) ∙ d .if1 .left) (c .before .before .before .if2 .left) _ (c .before .before .find-from .ensures) (omega (arith, count (d .before .before .before .args .words .now))) (c .if4 .taken)
+    place-long _ _ _ (sym (d .before .is-damaged .ensures) ∙ d .if1 .left) (c .before .before .before .if2 .left) _
+    (c .before .before .find-from .ensures) (omega (arith, count (d .before .before .before .args .words .now))) (c .if4 .taken)
 
 find-free-requires : tie.Need-find-free-requires
 find-free-requires c κs = search needs
@@ -37,14 +39,16 @@ returns-5 : tie.Need-returns-5
 returns-5 c =
     let d = c .before .before .before .before .before .before in
     let k = count (d .before .before .before .args .words .now) in
-    place-at _ _ _ (sym (d .before .is-damaged .ensures) ∙ d .if1 .left) (c .before .before .before .before .before .if2 .left) _ (c .before .before .before .before .find-from .ensures) (omega (arith, k))
+    place-at _ _ _ (sym (d .before .is-damaged .ensures) ∙ d .if1 .left) (c .before .before .before .before .before .if2 .left) _
+    (c .before .before .before .before .find-from .ensures) (omega (arith, k))
     (c .before .before .if4 .left) (c .before .find-free .ensures) (omega (arith, k))
 
 returns-6 : tie.Need-returns-6
 returns-6 c =
     let d = c .before .before .before .before .before .before in
     let k = count (d .before .before .before .args .words .now) in
-    place-full _ _ _ (sym (d .before .is-damaged .ensures) ∙ d .if1 .left) (c .before .before .before .before .before .if2 .left) _ (c .before .before .before .before .find-from .ensures) (omega (arith, k))
+    place-full _ _ _ (sym (d .before .is-damaged .ensures) ∙ d .if1 .left) (c .before .before .before .before .before .if2 .left) _
+    (c .before .before .before .before .find-from .ensures) (omega (arith, k))
     (c .before .before .if4 .left) (c .before .find-free .ensures) (omega (arith, k))
 
 pub find-place-spec : {M : Type 1} → statement M

@@ -18,7 +18,8 @@ same-length c = search needs
 returns : tie.Need-returns
 returns c =
     let a = c .before .before .before .before .before .before .before .args in
-    λ ys k e. many-got ys (a .n) (a .text .now) (omega arith) k (getting (label (a .desk) (a .call) (a .boat)) (length (a .out .now))) (length (a .out .now)) (c .before .before .clear-bytes .ensures)
+    λ ys k e. many-got ys (a .n) (a .text .now) (omega arith) k (getting (label (a .desk) (a .call) (a .boat)) (length (a .out .now)))
+    (length (a .out .now)) (c .before .before .clear-bytes .ensures)
 
 words-of-requires : tie.Need-words-of-requires
 words-of-requires c κs = search needs

@@ -47,7 +47,8 @@ returns : tie.Need-returns
 returns c =
     let d = c .before .before .before .before .before in
     let a = d .before .before .before .before .before .before .args in
-    get-refused (a .words .now) (a .text .now) (label (a .desk) (a .call) (a .boat)) (d .before .before .find-sheet .ensures) (length (a .out .now)) (d .place .given .1) (c .before .before .clear-bytes .ensures)
+    get-refused (a .words .now) (a .text .now) (label (a .desk) (a .call) (a .boat)) (d .before .before .find-sheet .ensures)
+    (length (a .out .now)) (d .place .given .1) (c .before .before .clear-bytes .ensures)
 
 same-length-2 : tie.Need-same-length-2
 same-length-2 c = search needs
@@ -58,7 +59,8 @@ returns-2 c =
     let d = c .before .before .before .before .before .before in
     let a = d .before .before .before .before .before .before .args in
     get-done (length (a .out .now))
-    (get-given (a .words .now) (a .text .now) (label (a .desk) (a .call) (a .boat)) (d .before .before .find-sheet .ensures) (d .place2 .given .1) (c .before .before .before .before .card-at .ensures))
+    (get-given (a .words .now) (a .text .now) (label (a .desk) (a .call) (a .boat)) (d .before .before .find-sheet .ensures)
+    (d .place2 .given .1) (c .before .before .before .before .card-at .ensures))
     (c .before .before .give .ensures)
 
 pub get-words-spec : {M : Type 1} → statement M

@@ -43,8 +43,10 @@ returns-2 : tie.Need-returns-2
 returns-2 c =
     let d = c .before .before .before .before .before .before .before .before in
     let a = d .before .before .before .before .args in
-    λ ys k e. in-row (a .a) ys (a .n) (d .words-of .result) (a .text .now) (d .before .if1 .left) k e (d .words-of .ensures) (putting (label (a .desk) (a .call) (a .boat)) (a .sheet .now))
-    (put-keeps (label (a .desk) (a .call) (a .boat)) (a .sheet .now) (rowOf ys (a .text .now))) (put-answer (label (a .desk) (a .call) (a .boat)) (rowOf ys (a .text .now)) (a .sheet .now))
+    λ ys k e. in-row (a .a) ys (a .n) (d .words-of .result) (a .text .now) (d .before .if1 .left) k e (d .words-of .ensures)
+    (putting (label (a .desk) (a .call) (a .boat)) (a .sheet .now))
+    (put-keeps (label (a .desk) (a .call) (a .boat)) (a .sheet .now) (rowOf ys (a .text .now)))
+    (put-answer (label (a .desk) (a .call) (a .boat)) (rowOf ys (a .text .now)) (a .sheet .now))
     (c .before .before .before .before .before .put-words .ensures) (c .before .cards-of .ensures) (c .code-of .ensures)
 
 pub put-in-spec : {M : Type 1} → statement M

@@ -18,7 +18,8 @@ enum-known-place-2 c = search needs
 store-card-requires : tie.Need-store-card-requires
 store-card-requires c κs =
     let a = c .before .before .before .before .before .before .before .before .before .args in
-    place-card (a .words .now) (a .text .now) (label (a .desk) (a .call) (a .boat)) (a .sheet .now) (c .before .before .before .before .find-place .ensures) (c .before .before .place2 .given .1)
+    place-card (a .words .now) (a .text .now) (label (a .desk) (a .call) (a .boat)) (a .sheet .now)
+    (c .before .before .before .before .find-place .ensures) (c .before .before .place2 .given .1)
 
 store-part-requires : tie.Need-store-part-requires
 store-part-requires c κs =

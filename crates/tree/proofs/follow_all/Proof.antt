@@ -1,7 +1,7 @@
 -- `follow_all` leaves what `follow` leaves. The invariant: what is left of the rows comes to what the whole comes to.
 -- Assumes nothing.
-use mathlib.Core.Path.{refl, sym, _∙_}
-use Prim.Native.Nat.{_-_, _≤_}
+use mathlib.Core.Path.{refl, _∙_}
+use Prim.Native.Nat.{_-_}
 use lib.ListN.{length}
 use mathlib.Core.Path.{_≡_}
 use Rattle.header.specs.Told.{headerOf}
@@ -12,7 +12,8 @@ use Rattle.tree.proofs.follow_all.Statement.{statement}
 use Rattle.tree.proofs.follow_all.Tie as tie
 
 abbrev Inv-loop : tie.InvT-loop
-Inv-loop file types nodes₀ items₀ h lim made m₀ i₀ nodes items m i = Follows lim file (headerOf h types) (made .nodes) nodes₀ items₀ made i nodes items m × (length nodes ≡ length nodes₀) × (length items ≡ length items₀)
+Inv-loop file types nodes₀ items₀ h lim made m₀ i₀ nodes items m i = Follows lim file (headerOf h types) (made .nodes) nodes₀ items₀ made i
+    nodes items m × (length nodes ≡ length nodes₀) × (length items ≡ length items₀)
 
 abbrev μ-loop : tie.MeasureT-loop
 μ-loop file types nodes₀ items₀ h lim made m₀ i₀ nodes items m i = lim .nodes - i
@@ -21,19 +22,34 @@ loop-holds : tie.Need-loop-holds Inv-loop μ-loop
 loop-holds c = (follows-begun _ _ _ _ _ _ _, refl, refl)
 
 reach-from-requires : tie.Need-reach-from-requires Inv-loop μ-loop
-reach-from-requires c κs = let w = c .before .before .before .before .before .before .before .before .before .pre .1 in let x = c .before .before .before .before .loop .inv .0 (w .0) (w .1) (w .2) in let p = c .before .before .before .before .before .before .before .before .before .pre .0 in let a = c .before .before .before .before .loop .inv .1 in let b = c .before .before .before .before .loop .inv .2 in (omega (arith, p), c .before .before .if1 .taken, (w .0, x .log, x .stands))
+reach-from-requires c κs =
+    let at-if1 = c .before .before in
+    let at-loop = at-if1 .before .before in
+    let entry = at-loop .before .before .before .before .before in
+    let w = entry .pre .1 in let x = at-loop .loop .inv .0 (w .0) (w .1) (w .2) in let p = entry .pre .0 in let a = at-loop .loop .inv .1
+    in let b = at-loop .loop .inv .2 in (omega (arith, p), at-if1 .if1 .taken, (w .0, x .log, x .stands))
 
 enum-known-n : tie.Need-enum-known-n Inv-loop μ-loop
 enum-known-n c = search needs
 
 same-length : tie.Need-same-length Inv-loop μ-loop
-same-length c = c .before .before .before .before .before .before .before .reach-from .kept .1 .1 .0 ∙ c .before .before .before .before .before .before .before .before .before .before .before .before .loop .inv .1
+same-length c =
+    let at-reach-from = c .before .before .before .before .before .before .before in
+    let at-loop = at-reach-from .before .before .before .before .before in
+    at-reach-from .reach-from .kept .1 .1 .0 ∙ at-loop .loop .inv .1
 
 same-length-2 : tie.Need-same-length-2 Inv-loop μ-loop
-same-length-2 c = c .before .before .before .before .before .before .before .reach-from .kept .1 .1 .1 .0 ∙ c .before .before .before .before .before .before .before .before .before .before .before .before .loop .inv .2
+same-length-2 c =
+    let at-reach-from = c .before .before .before .before .before .before .before in
+    let at-loop = at-reach-from .before .before .before .before .before in
+    at-reach-from .reach-from .kept .1 .1 .1 .0 ∙ at-loop .loop .inv .2
 
 returns : tie.Need-returns Inv-loop μ-loop
-returns c = follows-no _ _ _ _ _ _ _ (c .before .before .before .before .before .before .before .before .before .before .before .before .loop .inv .0) (c .before .before .before .before .before .before .before .before .before .before .if1 .taken) (c .before .before .before .before .before .before .before .reach-from .ensures) (c .before .n .given .1)
+returns c =
+    let at-reach-from = c .before .before .before .before .before .before .before in
+    let at-if1 = at-reach-from .before .before .before in
+    let at-loop = at-if1 .before .before in
+    follows-no _ _ _ _ _ _ _ (at-loop .loop .inv .0) (at-if1 .if1 .taken) (at-reach-from .reach-from .ensures) (c .before .n .given .1)
 
 enum-known-n-2 : tie.Need-enum-known-n-2 Inv-loop μ-loop
 enum-known-n-2 c = search needs
@@ -42,10 +58,23 @@ add-i : tie.Need-add-i Inv-loop μ-loop
 add-i c = omega arith
 
 loop-less : tie.Need-loop-less Inv-loop μ-loop
-loop-less c = let w = c .before .before .before .before .before .before .before .before .before .before .before .before .before .before .before .before .before .pre .1 in let x = c .before .before .before .before .before .before .before .before .before .before .before .before .loop .inv .0 (w .0) (w .1) (w .2) in omega (arith, c .before .before .before .before .before .before .before .before .before .before .if1 .taken, x .stands .fits)
+loop-less c =
+    let at-if1 = c .before .before .before .before .before .before .before .before .before .before in
+    let at-loop = at-if1 .before .before in
+    let entry = at-loop .before .before .before .before .before in
+    let w = entry .pre .1 in let x = at-loop .loop .inv .0 (w .0) (w .1) (w .2) in omega (arith, at-if1 .if1 .taken, x .stands .fits)
 
 loop-again : tie.Need-loop-again Inv-loop μ-loop
-loop-again c = (follows-on _ _ _ _ _ _ _ (c .before .before .before .before .before .before .before .before .before .before .before .before .loop .inv .0) (c .before .before .before .before .before .before .before .before .before .before .if1 .taken) (c .before .before .before .before .before .before .before .reach-from .ensures) (c .before .before .before .before .before .before .before .before .before .before .before .before .before .before .before .before .before .pre .0 .start-in) (c .before .n2 .given .1) (c .before .before .before .before .before .before .before .reach-from .kept .1 .1 .0) (c .before .before .before .before .before .before .before .reach-from .kept .1 .1 .1 .0), c .before .before .before .before .before .before .before .reach-from .kept .1 .1 .0 ∙ c .before .before .before .before .before .before .before .before .before .before .before .before .loop .inv .1, c .before .before .before .before .before .before .before .reach-from .kept .1 .1 .1 .0 ∙ c .before .before .before .before .before .before .before .before .before .before .before .before .loop .inv .2)
+loop-again c =
+    let at-reach-from = c .before .before .before .before .before .before .before in
+    let at-if1 = at-reach-from .before .before .before in
+    let at-loop = at-if1 .before .before in
+    let entry = at-loop .before .before .before .before .before in (
+      follows-on _ _ _ _ _ _ _ (at-loop .loop .inv .0) (at-if1 .if1 .taken) (at-reach-from .reach-from .ensures) (entry .pre .0 .start-in)
+          (c .before .n2 .given .1) (at-reach-from .reach-from .kept .1 .1 .0) (at-reach-from .reach-from .kept .1 .1 .1 .0),
+      at-reach-from .reach-from .kept .1 .1 .0 ∙ at-loop .loop .inv .1,
+      at-reach-from .reach-from .kept .1 .1 .1 .0 ∙ at-loop .loop .inv .2,
+    )
 
 same-length-3 : tie.Need-same-length-3 Inv-loop μ-loop
 same-length-3 c = c .before .before .loop .inv .1

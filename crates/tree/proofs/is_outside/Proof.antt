@@ -2,7 +2,6 @@
 -- Assumes nothing.
 use Rattle.tree.proofs.Targets.{out-header, out-file, out-before, out-after}
 use native.Mathlib.Omega.{arith}
-use borrow.Author.Needs.{needs}
 use Rattle.tree.proofs.is_outside.Statement.{statement}
 use Rattle.tree.proofs.is_outside.Tie as tie
 

@@ -1,6 +1,6 @@
 -- `offset_at` finds the place that `offsetAt` gives.
 -- Assumes nothing.
-use mathlib.Core.Path.{sym, ap, _∙_}
+use mathlib.Core.Path.{sym, ap}
 use Prim.Native.Nat.{_+_}
 use Rattle.cursor.specs.Rows.{referenceFrame}
 use Rattle.cursor.specs.Told.{numberTold}
@@ -16,7 +16,14 @@ node-at-requires : tie.Need-node-at-requires
 node-at-requires c κs = omega (arith, c .before .before .pre)
 
 of-requires : tie.Need-of-requires
-of-requires c κs = omega (arith, ap (λ (r : Node). r .start + r .header) (row-is (c .before .before .before .args .nodes .now) (c .before .before .before .args .count) (c .before .before .before .args .i) (c .before .before .before .pre .0) (c .node-at .ensures)), c .before .before .before .pre)
+of-requires c κs =
+    let entry = c .before .before .before in
+    omega (
+      arith,
+      ap (λ (r : Node). r .start + r .header)
+          (row-is (entry .args .nodes .now) (entry .args .count) (entry .args .i) (entry .pre .0) (c .node-at .ensures)),
+      entry .pre,
+    )
 
 number-requires : tie.Need-number-requires
 number-requires c κs = search needs
@@ -28,10 +35,23 @@ enum-known-next : tie.Need-enum-known-next
 enum-known-next c = search needs
 
 returns : tie.Need-returns
-returns c = offset-is _ _ _ (c .before .before .before .before .before .before .before .before .pre .0) (c .before .before .before .before .before .node-at .ensures) _ _ (c .before .before .before .before .of .ensures) (sym (was numberTold (c .before .before .before .number .ensures referenceFrame) (c .before .place .given .1)))
+returns c =
+    let at-number = c .before .before .before in
+    let at-of = at-number .before in
+    let at-node-at = at-of .before in
+    let entry = at-node-at .before .before .before in
+    offset-is _ _ _ (entry .pre .0) (at-node-at .node-at .ensures) _ _ (at-of .of .ensures)
+    (sym (was numberTold (at-number .number .ensures referenceFrame) (c .before .place .given .1)))
 
 returns-2 : tie.Need-returns-2
-returns-2 c = offset-is _ _ _ (c .before .before .before .before .before .before .before .before .before .pre .0) (c .before .before .before .before .before .before .node-at .ensures) _ _ (c .before .before .before .before .before .of .ensures) (sym (was numberTold (c .before .before .before .before .number .ensures referenceFrame) (c .before .before .next .given .1)))
+returns-2 c =
+    let at-next = c .before .before in
+    let at-number = at-next .before .before in
+    let at-of = at-number .before in
+    let at-node-at = at-of .before in
+    let entry = at-node-at .before .before .before in
+    offset-is _ _ _ (entry .pre .0) (at-node-at .node-at .ensures) _ _ (at-of .of .ensures)
+    (sym (was numberTold (at-number .number .ensures referenceFrame) (at-next .next .given .1)))
 
 pub offset-at-spec : {M : Type 1} → statement M
 offset-at-spec = tie.close (tie.spec node-at-requires of-requires number-requires enum-known-place enum-known-next returns returns-2)

@@ -1,8 +1,6 @@
 -- `part_end` gives what `partEnd` gives.
 -- Assumes nothing.
 use Rattle.tree.proofs.Targets.{part-before, part-after}
-use native.Mathlib.Omega.{arith}
-use borrow.Author.Needs.{needs}
 use Rattle.tree.proofs.part_end.Statement.{statement}
 use Rattle.tree.proofs.part_end.Tie as tie
 

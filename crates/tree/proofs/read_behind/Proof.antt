@@ -32,7 +32,9 @@ follow-all-requires c κs =
     let entry = bounded .before .before .before .before .before in
     let lent = entry .args in
     let asked = entry .pre in
-    let w = whole-stands (lent .file .now) (lent .nodes .now) (lent .items .now) (headerOf (lent .h) (lent .types .now)) (lent .h .extent .end .0) (asked .0, asked .1, asked .2) (bounded .room-of .ensures) (root .ensures) (root .kept .1 .1 .0) (root .kept .1 .1 .1 .0) (rooted-as .tree .given .1) in
+    let w = whole-stands (lent .file .now) (lent .nodes .now) (lent .items .now) (headerOf (lent .h) (lent .types .now))
+    (lent .h .extent .end .0) (asked .0, asked .1, asked .2) (bounded .room-of .ensures) (root .ensures) (root .kept .1 .1 .0)
+    (root .kept .1 .1 .1 .0) (rooted-as .tree .given .1) in
     let z = whole-room (bounded .room-of .ensures) in
     let a = root .kept .1 .1 .0 in
     let b = root .kept .1 .1 .1 .0 in (omega arith, w)
@@ -58,8 +60,10 @@ mul-clear-from c =
     let entry = bounded .before .before .before .before .before in
     let lent = entry .args in
     let asked = entry .pre in
-    let f = whole-fits (lent .file .now) (lent .nodes .now) (lent .items .now) (headerOf (lent .h) (lent .types .now)) (lent .h .extent .end .0) (asked .0, asked .1, asked .2) (bounded .room-of .ensures)
-    (root .ensures) (root .kept .1 .1 .0) (root .kept .1 .1 .1 .0) (rooted-as .tree .given .1) (rest .ensures) (rest .kept .1 .1 .0) (rest .kept .1 .1 .1 .0) (followed-as .m .given .1) in omega (arith, f, whole-room (bounded .room-of .ensures))
+    let f = whole-fits (lent .file .now) (lent .nodes .now) (lent .items .now) (headerOf (lent .h) (lent .types .now)) (lent .h .extent .end .0)
+    (asked .0, asked .1, asked .2) (bounded .room-of .ensures)
+    (root .ensures) (root .kept .1 .1 .0) (root .kept .1 .1 .1 .0) (rooted-as .tree .given .1) (rest .ensures) (rest .kept .1 .1 .0)
+    (rest .kept .1 .1 .1 .0) (followed-as .m .given .1) in omega (arith, f, whole-room (bounded .room-of .ensures))
 
 clear-from-requires : tie.Need-clear-from-requires
 clear-from-requires c κs = search needs
@@ -76,17 +80,25 @@ mul-clear-from-2 c =
     let entry = bounded .before .before .before .before .before in
     let lent = entry .args in
     let asked = entry .pre in
-    let f = whole-fits (lent .file .now) (lent .nodes .now) (lent .items .now) (headerOf (lent .h) (lent .types .now)) (lent .h .extent .end .0) (asked .0, asked .1, asked .2) (bounded .room-of .ensures)
-    (root .ensures) (root .kept .1 .1 .0) (root .kept .1 .1 .1 .0) (rooted-as .tree .given .1) (rest .ensures) (rest .kept .1 .1 .0) (rest .kept .1 .1 .1 .0) (followed-as .m .given .1) in omega (arith, f, whole-room (bounded .room-of .ensures))
+    let f = whole-fits (lent .file .now) (lent .nodes .now) (lent .items .now) (headerOf (lent .h) (lent .types .now)) (lent .h .extent .end .0)
+    (asked .0, asked .1, asked .2) (bounded .room-of .ensures)
+    (root .ensures) (root .kept .1 .1 .0) (root .kept .1 .1 .1 .0) (rooted-as .tree .given .1) (rest .ensures) (rest .kept .1 .1 .0)
+    (rest .kept .1 .1 .1 .0) (followed-as .m .given .1) in omega (arith, f, whole-room (bounded .room-of .ensures))
 
 clear-from-requires-2 : tie.Need-clear-from-requires-2
 clear-from-requires-2 c κs = search needs
 
 same-length : tie.Need-same-length
-same-length c = c .before .before .before .before .clear-all .kept .0 ∙ c .before .before .before .before .before .before .before .before .before .before .before .before .before .before .read-root .kept .1 .1 .0
+same-length c =
+    let at-clear-all = c .before .before .before .before in
+    let at-read-root = at-clear-all .before .before .before .before .before .before .before .before .before .before in
+    at-clear-all .clear-all .kept .0 ∙ at-read-root .read-root .kept .1 .1 .0
 
 same-length-2 : tie.Need-same-length-2
-same-length-2 c = c .before .before .before .before .clear-all .kept .1 .0 ∙ c .before .before .before .before .before .before .before .before .before .before .before .before .before .before .read-root .kept .1 .1 .1 .0
+same-length-2 c =
+    let at-clear-all = c .before .before .before .before in
+    let at-read-root = at-clear-all .before .before .before .before .before .before .before .before .before .before in
+    at-clear-all .clear-all .kept .1 .0 ∙ at-read-root .read-root .kept .1 .1 .1 .0
 
 returns : tie.Need-returns
 returns c =
@@ -98,7 +110,9 @@ returns c =
     let entry = bounded .before .before .before .before .before in
     let lent = entry .args in
     let asked = entry .pre in
-    let w = whole-refused (lent .file .now) (lent .nodes .now) (lent .items .now) (headerOf (lent .h) (lent .types .now)) (lent .h .extent .end .0) (asked .0, asked .1, asked .2) (bounded .room-of .ensures) (root .ensures) (root .kept .1 .1 .0) (root .kept .1 .1 .1 .0) (refused-as .n .given .1) (cleared .clear-all .ensures .0) (cleared .clear-all .ensures .1) in (w .0, (w .1, w .2))
+    let w = whole-refused (lent .file .now) (lent .nodes .now) (lent .items .now) (headerOf (lent .h) (lent .types .now))
+    (lent .h .extent .end .0) (asked .0, asked .1, asked .2) (bounded .room-of .ensures) (root .ensures) (root .kept .1 .1 .0)
+    (root .kept .1 .1 .1 .0) (refused-as .n .given .1) (cleared .clear-all .ensures .0) (cleared .clear-all .ensures .1) in (w .0, (w .1, w .2))
 
 same-length-3 : tie.Need-same-length-3
 same-length-3 c =
@@ -127,8 +141,10 @@ returns-2 c =
     let entry = bounded .before .before .before .before .before in
     let lent = entry .args in
     let asked = entry .pre in
-    let w = whole-lost (lent .file .now) (lent .nodes .now) (lent .items .now) (headerOf (lent .h) (lent .types .now)) (lent .h .extent .end .0) (asked .0, asked .1, asked .2) (bounded .room-of .ensures)
-    (root .ensures) (root .kept .1 .1 .0) (root .kept .1 .1 .1 .0) (rooted-as .tree .given .1) (rest .ensures) (rest .kept .1 .1 .0) (rest .kept .1 .1 .1 .0) (past .n2 .given .1) (cleared .clear-all2 .ensures .0) (cleared .clear-all2 .ensures .1) in (w .0, (w .1, w .2))
+    let w = whole-lost (lent .file .now) (lent .nodes .now) (lent .items .now) (headerOf (lent .h) (lent .types .now)) (lent .h .extent .end .0)
+    (asked .0, asked .1, asked .2) (bounded .room-of .ensures)
+    (root .ensures) (root .kept .1 .1 .0) (root .kept .1 .1 .1 .0) (rooted-as .tree .given .1) (rest .ensures) (rest .kept .1 .1 .0)
+    (rest .kept .1 .1 .1 .0) (past .n2 .given .1) (cleared .clear-all2 .ensures .0) (cleared .clear-all2 .ensures .1) in (w .0, (w .1, w .2))
 
 same-length-5 : tie.Need-same-length-5
 same-length-5 c =
@@ -158,8 +174,13 @@ returns-3 c =
     let entry = bounded .before .before .before .before .before in
     let lent = entry .args in
     let asked = entry .pre in
-    let w = whole-good (lent .file .now) (lent .nodes .now) (lent .items .now) (headerOf (lent .h) (lent .types .now)) (lent .h .extent .end .0) (asked .0, asked .1, asked .2) (bounded .room-of .ensures)
-    (root .ensures) (root .kept .1 .1 .0) (root .kept .1 .1 .1 .0) (rooted-as .tree .given .1) (rest .ensures) (rest .kept .1 .1 .0) (rest .kept .1 .1 .1 .0) (followed-as .m .given .1) (first-cleared .clear-from .ensures) (second-cleared .clear-from2 .ensures) in (w .0, (w .1, w .2))
+    let w = whole-good (lent .file .now) (lent .nodes .now) (lent .items .now) (headerOf (lent .h) (lent .types .now)) (lent .h .extent .end .0)
+    (asked .0, asked .1, asked .2) (bounded .room-of .ensures)
+    (root .ensures) (root .kept .1 .1 .0) (root .kept .1 .1 .1 .0) (rooted-as .tree .given .1) (rest .ensures) (rest .kept .1 .1 .0)
+    (rest .kept .1 .1 .1 .0) (followed-as .m .given .1) (first-cleared .clear-from .ensures) (second-cleared .clear-from2 .ensures)
+    in (w .0, (w .1, w .2))
 
 pub read-behind-spec : {M : Type 1} → statement M
-read-behind-spec = tie.close (tie.spec room-of-requires read-root-requires enum-known-n clear-all-requires enum-known-tree follow-all-requires enum-known-n-2 clear-all-requires-2 enum-known-m mul-clear-from clear-from-requires mul-clear-from-2 clear-from-requires-2 same-length same-length-2 returns same-length-3 same-length-4 returns-2 same-length-5 same-length-6 returns-3)
+read-behind-spec = tie.close (tie.spec room-of-requires read-root-requires enum-known-n clear-all-requires enum-known-tree
+    follow-all-requires enum-known-n-2 clear-all-requires-2 enum-known-m mul-clear-from clear-from-requires mul-clear-from-2
+    clear-from-requires-2 same-length same-length-2 returns same-length-3 same-length-4 returns-2 same-length-5 same-length-6 returns-3)

@@ -44,7 +44,8 @@ returns c =
     let refused-as = cleared .before .before .before .before in
     let headed = refused-as .before .before .before in
     let entry = headed .before .before .before .before .before in
-    let w = whole-header (entry .args .file .now) (entry .args .nodes .now) (entry .args .items .now) (cleared .clear-all .ensures .0) (cleared .clear-all .ensures .1) (header-no _ _ (headed .read-header .ensures .0) (refused-as .n .given .1)) in (w .0, (w .1, w .2))
+    let w = whole-header (entry .args .file .now) (entry .args .nodes .now) (entry .args .items .now) (cleared .clear-all .ensures .0)
+    (cleared .clear-all .ensures .1) (header-no _ _ (headed .read-header .ensures .0) (refused-as .n .given .1)) in (w .0, (w .1, w .2))
 
 same-length-3 : tie.Need-same-length-3
 same-length-3 c = search needs
@@ -58,7 +59,10 @@ returns-2 c =
     let headed-as = past .before .before .before .before .before in
     let headed = headed-as .before .before .before in
     let entry = headed .before .before .before .before .before in
-    let w = whole-behind (entry .args .file .now) (entry .args .nodes .now) (entry .args .items .now) (header-is _ _ (headed .read-header .ensures .0) (headed-as .h .given .1)) (past .read-behind .ensures .0, past .read-behind .ensures .1 .0, past .read-behind .ensures .1 .1) in (w .0, (w .1, w .2))
+    let w = whole-behind (entry .args .file .now) (entry .args .nodes .now) (entry .args .items .now)
+    (header-is _ _ (headed .read-header .ensures .0) (headed-as .h .given .1))
+    (past .read-behind .ensures .0, past .read-behind .ensures .1 .0, past .read-behind .ensures .1 .1) in (w .0, (w .1, w .2))
 
 pub read-file-spec : {M : Type 1} → statement M
-read-file-spec = tie.close (tie.spec slice-aggregate-read-header read-header-requires enum-known-n clear-all-requires enum-known-h slice-aggregate-read-behind read-behind-requires same-length same-length-2 returns same-length-3 same-length-4 returns-2)
+read-file-spec = tie.close (tie.spec slice-aggregate-read-header read-header-requires enum-known-n clear-all-requires enum-known-h
+    slice-aggregate-read-behind read-behind-requires same-length same-length-2 returns same-length-3 same-length-4 returns-2)

@@ -3,7 +3,6 @@
 use Prim.Native.Nat.{_-_, _≤_}
 use Rattle.tree.proofs.Targets.{Between, search-begins, search-later, search-sooner, search-found, NoneBefore, search-none, linear-on, linear-found, linear-ends}
 use native.Mathlib.Omega.{arith}
-use borrow.Author.Needs.{needs}
 use Rattle.tree.proofs.row_starting.Statement.{statement}
 use Rattle.tree.proofs.row_starting.Tie as tie
 
@@ -32,7 +31,10 @@ node-at-requires : tie.Need-node-at-requires Inv-loop μ-loop Inv-loop2 μ-loop2
 node-at-requires c κs = omega (arith, c .before .before .before .pre)
 
 returns : tie.Need-returns Inv-loop μ-loop Inv-loop2 μ-loop2
-returns c = search-found _ _ _ _ (c .before .before .before .before .before .before .pre .0) (c .before .before .before .before .before .before .pre .2) _ (omega arith) (c .before .before .node-at .ensures) (c .if1 .taken)
+returns c =
+    let at-node-at = c .before .before in
+    let entry = at-node-at .before .before .before .before in
+    search-found _ _ _ _ (entry .pre .0) (entry .pre .2) _ (omega arith) (at-node-at .node-at .ensures) (c .if1 .taken)
 
 add-low : tie.Need-add-low Inv-loop μ-loop Inv-loop2 μ-loop2
 add-low c = omega arith
@@ -41,13 +43,21 @@ loop-less : tie.Need-loop-less Inv-loop μ-loop Inv-loop2 μ-loop2
 loop-less c = omega arith
 
 loop-again : tie.Need-loop-again Inv-loop μ-loop Inv-loop2 μ-loop2
-loop-again c = (omega arith, search-later _ _ _ _ (c .before .before .before .before .before .before .before .before .pre .0) (c .before .before .before .before .before .before .before .before .pre .2) _ (omega arith) (c .before .before .before .before .node-at .ensures) (c .before .before .before .before .before .before .loop .inv .1) (c .if2 .taken))
+loop-again c =
+    let at-node-at = c .before .before .before .before in
+    let at-loop = at-node-at .before .before in
+    let entry = at-loop .before .before in
+    (omega arith, search-later _ _ _ _ (entry .pre .0) (entry .pre .2) _ (omega arith) (at-node-at .node-at .ensures) (at-loop .loop .inv .1) (c .if2 .taken))
 
 loop-less-2 : tie.Need-loop-less-2 Inv-loop μ-loop Inv-loop2 μ-loop2
 loop-less-2 c = omega arith
 
 loop-again-2 : tie.Need-loop-again-2 Inv-loop μ-loop Inv-loop2 μ-loop2
-loop-again-2 c = (omega arith, search-sooner _ _ _ _ (c .before .before .before .before .before .before .before .before .pre .0) (c .before .before .before .before .before .before .before .before .pre .2) _ (omega arith) (c .before .before .before .before .node-at .ensures) (c .before .before .before .before .before .before .loop .inv .1) (omega arith))
+loop-again-2 c =
+    let at-node-at = c .before .before .before .before in
+    let at-loop = at-node-at .before .before in
+    let entry = at-loop .before .before in
+    (omega arith, search-sooner _ _ _ _ (entry .pre .0) (entry .pre .2) _ (omega arith) (at-node-at .node-at .ensures) (at-loop .loop .inv .1) (omega arith))
 
 loop2-holds : tie.Need-loop2-holds Inv-loop μ-loop Inv-loop2 μ-loop2
 loop2-holds c = (omega arith, c .before .before .before .pre .0, search-none _ _ _ _ (c .before .before .before .pre .0) (c .before .loop .inv .1) (c .loop-test .left))
@@ -56,7 +66,12 @@ node-at-requires-2 : tie.Need-node-at-requires-2 Inv-loop μ-loop Inv-loop2 μ-l
 node-at-requires-2 c κs = omega (arith, c .before .before .before .before .before .pre)
 
 returns-2 : tie.Need-returns-2 Inv-loop μ-loop Inv-loop2 μ-loop2
-returns-2 c = linear-found _ _ _ _ (c .before .before .before .before .before .before .before .before .pre .0) (c .before .before .before .before .loop2 .inv .2) (c .before .before .node-at2 .ensures) (c .before .before .before .loop2-test .taken) (c .if3 .taken)
+returns-2 c =
+    let at-node-at2 = c .before .before in
+    let at-loop2-test = at-node-at2 .before in
+    let at-loop2 = at-loop2-test .before in
+    let entry = at-loop2 .before .before .before .before in
+    linear-found _ _ _ _ (entry .pre .0) (at-loop2 .loop2 .inv .2) (at-node-at2 .node-at2 .ensures) (at-loop2-test .loop2-test .taken) (c .if3 .taken)
 
 add-i : tie.Need-add-i Inv-loop μ-loop Inv-loop2 μ-loop2
 add-i c = omega arith
@@ -65,10 +80,19 @@ loop2-less : tie.Need-loop2-less Inv-loop μ-loop Inv-loop2 μ-loop2
 loop2-less c = omega arith
 
 loop2-again : tie.Need-loop2-again Inv-loop μ-loop Inv-loop2 μ-loop2
-loop2-again c = (omega arith, omega arith, linear-on (c .before .before .before .before .before .before .before .before .args .nodes .now) (c .before .before .before .before .before .before .before .before .args .tree) (c .before .before .before .before .before .before .before .before .args .count) (c .before .before .before .before .before .before .before .before .args .place .0) (c .before .before .before .before .before .before .before .before .pre .0) (c .before .before .before .before .loop2 .inv .2) (c .before .before .node-at2 .ensures) (c .if3 .left))
+loop2-again c =
+    let at-node-at2 = c .before .before in
+    let at-loop2 = at-node-at2 .before .before in
+    let entry = at-loop2 .before .before .before .before in (
+      omega arith,
+      omega arith,
+      linear-on (entry .args .nodes .now) (entry .args .tree) (entry .args .count) (entry .args .place .0)
+          (entry .pre .0) (at-loop2 .loop2 .inv .2) (at-node-at2 .node-at2 .ensures) (c .if3 .left),
+    )
 
 returns-3 : tie.Need-returns-3 Inv-loop μ-loop Inv-loop2 μ-loop2
 returns-3 c = linear-ends _ _ _ _ (c .before .before .before .before .before .pre .0) (c .before .loop2 .inv .2) (omega arith)
 
 pub row-starting-spec : {M : Type 1} → statement M
-row-starting-spec = tie.close (tie.spec Inv-loop μ-loop Inv-loop2 μ-loop2 loop-holds sub-middle add-middle node-at-requires returns add-low loop-less loop-again loop-less-2 loop-again-2 loop2-holds node-at-requires-2 returns-2 add-i loop2-less loop2-again returns-3)
+row-starting-spec = tie.close (tie.spec Inv-loop μ-loop Inv-loop2 μ-loop2 loop-holds sub-middle add-middle node-at-requires returns add-low
+    loop-less loop-again loop-less-2 loop-again-2 loop2-holds node-at-requires-2 returns-2 add-i loop2-less loop2-again returns-3)

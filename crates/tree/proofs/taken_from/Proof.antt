@@ -1,6 +1,6 @@
 -- `taken_from` gives what `takenFrom` gives. The invariant: the rows from row i on take so much.
 -- Assumes nothing.
-use mathlib.Core.Path.{_≡_, refl, sym, ap, _∙_}
+use mathlib.Core.Path.{ap, _∙_}
 use Prim.Native.Nat.{_-_, _+_, _≤_, min}
 use Rattle.cursor.specs.declared.Node.{Node}
 use Rattle.tree.proofs.Targets.{row-is, TakenTo, taken-begun, taken-here, taken-past, taken-other, taken-done}
@@ -25,7 +25,15 @@ node-at-requires : tie.Need-node-at-requires Inv-loop μ-loop
 node-at-requires c κs = omega (arith, c .before .before .before .pre)
 
 add-if2 : tie.Need-add-if2 Inv-loop μ-loop
-add-if2 c = let w = c .before .before .before .before .before .before .before .pre .2 (c .before .before .before .before .before .loop .i - 1) (omega arith) in omega (arith, ap (λ (r : Node). r .start + r .size) (row-is (c .before .before .before .before .before .before .before .args .nodes .now) (c .before .before .before .before .before .before .before .args .count) (c .before .before .before .before .before .loop .i - 1) (omega arith) (c .before .before .before .node-at .ensures)))
+add-if2 c =
+    let at-node-at = c .before .before .before in
+    let at-loop = at-node-at .before .before in
+    let entry = at-loop .before .before in
+    let w = entry .pre .2 (at-loop .loop .i - 1) (omega arith) in omega (
+      arith,
+      ap (λ (r : Node). r .start + r .size)
+          (row-is (entry .args .nodes .now) (entry .args .count) (at-loop .loop .i - 1) (omega arith) (at-node-at .node-at .ensures)),
+    )
 
 greater-requires : tie.Need-greater-requires Inv-loop μ-loop
 greater-requires c κs = search needs
@@ -37,22 +45,56 @@ loop-less : tie.Need-loop-less Inv-loop μ-loop
 loop-less c = omega arith
 
 loop-again : tie.Need-loop-again Inv-loop μ-loop
-loop-again c = (omega arith, omega arith, taken-here (c .before .before .before .before .before .before .before .before .before .before .before .args .nodes .now) (c .before .before .before .before .before .before .before .before .before .before .before .args .count) (c .before .before .before .before .before .before .before .before .before .before .before .args .place .0) (c .before .before .before .before .before .before .before .before .before .before .before .args .end .0) {i = c .before .before .before .before .before .before .before .before .before .loop .i - 1} {j = c .before .before .before .before .before .before .before .before .before .loop .i} (c .before .before .before .before .before .before .before .before .before .loop .inv .2) (omega arith) (omega arith) (c .before .before .before .before .before .before .before .node-at .ensures) (c .before .before .before .before .before .if1 .taken) (c .before .before .if2 .taken) (c .lesser .ensures ∙ ap (λ v. min v (c .before .before .before .before .before .before .before .before .before .loop .taken)) (c .before .greater .ensures)))
+loop-again c =
+    let at-if2 = c .before .before in
+    let at-if1 = at-if2 .before .before .before in
+    let at-node-at = at-if1 .before .before in
+    let at-loop = at-node-at .before .before in
+    let entry = at-loop .before .before in (
+      omega arith,
+      omega arith,
+      taken-here (entry .args .nodes .now) (entry .args .count) (entry .args .place .0) (entry .args .end .0)
+          {i = at-loop .loop .i - 1} {j = at-loop .loop .i} (at-loop .loop .inv .2) (omega arith) (omega arith) (at-node-at .node-at .ensures)
+          (at-if1 .if1 .taken) (at-if2 .if2 .taken) (c .lesser .ensures ∙ ap (λ v. min v (at-loop .loop .taken)) (c .before .greater .ensures)),
+    )
 
 loop-less-2 : tie.Need-loop-less-2 Inv-loop μ-loop
 loop-less-2 c = omega arith
 
 loop-again-2 : tie.Need-loop-again-2 Inv-loop μ-loop
-loop-again-2 c = (omega arith, omega arith, taken-past (c .before .before .before .before .before .before .before .before .before .args .nodes .now) (c .before .before .before .before .before .before .before .before .before .args .count) (c .before .before .before .before .before .before .before .before .before .args .place .0) (c .before .before .before .before .before .before .before .before .before .args .end .0) {i = c .before .before .before .before .before .before .before .loop .i - 1} {j = c .before .before .before .before .before .before .before .loop .i} (c .before .before .before .before .before .before .before .loop .inv .2) (omega arith) (omega arith) (c .before .before .before .before .before .node-at .ensures) (c .if2 .left))
+loop-again-2 c =
+    let at-node-at = c .before .before .before .before .before in
+    let at-loop = at-node-at .before .before in
+    let entry = at-loop .before .before in (
+      omega arith,
+      omega arith,
+      taken-past (entry .args .nodes .now) (entry .args .count) (entry .args .place .0) (entry .args .end .0)
+          {i = at-loop .loop .i - 1} {j = at-loop .loop .i} (at-loop .loop .inv .2) (omega arith) (omega arith) (at-node-at .node-at .ensures)
+          (c .if2 .left),
+    )
 
 loop-less-3 : tie.Need-loop-less-3 Inv-loop μ-loop
 loop-less-3 c = omega arith
 
 loop-again-3 : tie.Need-loop-again-3 Inv-loop μ-loop
-loop-again-3 c = (omega arith, omega arith, taken-other (c .before .before .before .before .before .before .args .nodes .now) (c .before .before .before .before .before .before .args .count) (c .before .before .before .before .before .before .args .place .0) (c .before .before .before .before .before .before .args .end .0) {i = c .before .before .before .before .loop .i - 1} {j = c .before .before .before .before .loop .i} (c .before .before .before .before .loop .inv .2) (omega arith) (omega arith) (c .before .before .node-at .ensures) (c .if1 .left))
+loop-again-3 c =
+    let at-node-at = c .before .before in
+    let at-loop = at-node-at .before .before in
+    let entry = at-loop .before .before in (
+      omega arith,
+      omega arith,
+      taken-other (entry .args .nodes .now) (entry .args .count) (entry .args .place .0) (entry .args .end .0)
+          {i = at-loop .loop .i - 1} {j = at-loop .loop .i} (at-loop .loop .inv .2) (omega arith) (omega arith) (at-node-at .node-at .ensures)
+          (c .if1 .left),
+    )
 
 returns : tie.Need-returns Inv-loop μ-loop
-returns c = let e = c .before .loop .inv .2 in e ∙ taken-done (c .before .before .before .args .nodes .now) (c .before .before .before .args .count) (c .before .before .before .args .tree) (c .before .before .before .args .place .0) (c .before .before .before .args .end .0) (c .before .loop .i) (omega arith) (c .before .before .before .pre .0) (c .before .before .before .pre .3)
+returns c =
+    let at-loop = c .before in
+    let entry = at-loop .before .before in
+    let e = at-loop .loop .inv .2 in e ∙ taken-done (entry .args .nodes .now) (entry .args .count) (entry .args .tree) (entry .args .place .0)
+    (entry .args .end .0) (at-loop .loop .i) (omega arith) (entry .pre .0) (entry .pre .3)
 
 pub taken-from-spec : {M : Type 1} → statement M
-taken-from-spec = tie.close (tie.spec Inv-loop μ-loop loop-holds sub-i node-at-requires add-if2 greater-requires lesser-requires loop-less loop-again loop-less-2 loop-again-2 loop-less-3 loop-again-3 returns)
+taken-from-spec = tie.close (tie.spec Inv-loop μ-loop loop-holds sub-i node-at-requires add-if2 greater-requires lesser-requires loop-less
+    loop-again loop-less-2 loop-again-2 loop-less-3 loop-again-3 returns)

@@ -15,16 +15,37 @@ unit-requires : tie.Need-unit-requires
 unit-requires c κs = search needs
 
 returns-2 : tie.Need-returns-2
-returns-2 c = low-unit (c .before .before .before .before .before .args .units .now) (c .before .before .before .before .before .args .at) (c .before .before .before .room-at .ensures) (c .before .before .if1 .left) (c .before .unit .ensures .0) (c .if2 .taken)
+returns-2 c =
+    let at-if1 = c .before .before in
+    let at-room-at = at-if1 .before in
+    let entry = at-room-at .before .before in
+    low-unit (entry .args .units .now) (entry .args .at) (at-room-at .room-at .ensures) (at-if1 .if1 .left) (c .before .unit .ensures .0) (c .if2 .taken)
 
 returns-3 : tie.Need-returns-3
-returns-3 c = high-unit (c .before .before .before .before .before .before .args .units .now) (c .before .before .before .before .before .before .args .at) (c .before .before .before .before .room-at .ensures) (c .before .before .before .if1 .left) (c .before .before .unit .ensures .0) (c .if3 .taken)
+returns-3 c =
+    let at-unit = c .before .before in
+    let at-if1 = at-unit .before in
+    let at-room-at = at-if1 .before in
+    let entry = at-room-at .before .before in
+    high-unit (entry .args .units .now) (entry .args .at) (at-room-at .room-at .ensures) (at-if1 .if1 .left) (at-unit .unit .ensures .0) (c .if3 .taken)
 
 returns-4 : tie.Need-returns-4
-returns-4 c = lone-unit (c .before .before .before .before .before .before .before .args .units .now) (c .before .before .before .before .before .before .before .args .at) (c .before .before .before .before .before .room-at .ensures) (c .before .before .before .before .if1 .left) (c .before .before .before .unit .ensures .0) (c .if4 .taken) (c .before .if3 .left)
+returns-4 c =
+    let at-unit = c .before .before .before in
+    let at-if1 = at-unit .before in
+    let at-room-at = at-if1 .before in
+    let entry = at-room-at .before .before in
+    lone-unit (entry .args .units .now) (entry .args .at) (at-room-at .room-at .ensures) (at-if1 .if1 .left) (at-unit .unit .ensures .0) (c .if4 .taken) (c .before .if3 .left)
 
 returns-5 : tie.Need-returns-5
-returns-5 c = lone-end (c .before .before .before .before .before .before .before .before .args .units .now) (c .before .before .before .before .before .before .before .before .args .at) (c .before .before .before .before .before .before .room-at .ensures) (c .before .before .before .before .before .if1 .left) (c .before .before .before .before .unit .ensures .0) (c .before .before .before .if2 .left) (c .before .if4 .left) (c .if5 .taken)
+returns-5 c =
+    let at-if2 = c .before .before .before in
+    let at-unit = at-if2 .before in
+    let at-if1 = at-unit .before in
+    let at-room-at = at-if1 .before in
+    let entry = at-room-at .before .before in
+    lone-end (entry .args .units .now) (entry .args .at) (at-room-at .room-at .ensures) (at-if1 .if1 .left) (at-unit .unit .ensures .0)
+    (at-if2 .if2 .left) (c .before .if4 .left) (c .if5 .taken)
 
 add-unit : tie.Need-add-unit
 add-unit c = search needs
@@ -33,10 +54,29 @@ unit-requires-2 : tie.Need-unit-requires-2
 unit-requires-2 c κs = search needs
 
 returns-6 : tie.Need-returns-6
-returns-6 c = early-unit (c .before .before .before .before .before .before .before .before .before .before .args .units .now) (c .before .before .before .before .before .before .before .before .before .before .args .at) (c .before .before .before .before .before .before .before .before .room-at .ensures) (c .before .before .before .before .before .before .before .if1 .left) (c .before .before .before .before .before .before .unit .ensures .0) (c .before .before .before .before .before .if2 .left) (c .before .before .before .if4 .left) (c .before .before .if5 .left) (c .before .unit2 .ensures .0) (c .if6 .taken)
+returns-6 c =
+    let at-if5 = c .before .before in
+    let at-if4 = at-if5 .before in
+    let at-if2 = at-if4 .before .before in
+    let at-unit = at-if2 .before in
+    let at-if1 = at-unit .before in
+    let at-room-at = at-if1 .before in
+    let entry = at-room-at .before .before in
+    early-unit (entry .args .units .now) (entry .args .at) (at-room-at .room-at .ensures) (at-if1 .if1 .left) (at-unit .unit .ensures .0)
+    (at-if2 .if2 .left) (at-if4 .if4 .left) (at-if5 .if5 .left) (c .before .unit2 .ensures .0) (c .if6 .taken)
 
 returns-7 : tie.Need-returns-7
-returns-7 c = late-unit (c .before .before .before .before .before .before .before .before .before .before .before .args .units .now) (c .before .before .before .before .before .before .before .before .before .before .before .args .at) (c .before .before .before .before .before .before .before .before .before .room-at .ensures) (c .before .before .before .before .before .before .before .before .if1 .left) (c .before .before .before .before .before .before .before .unit .ensures .0) (c .before .before .before .before .before .before .if2 .left) (c .before .before .before .before .if4 .left) (c .before .before .before .if5 .left) (c .before .before .unit2 .ensures .0) (c .if7 .taken)
+returns-7 c =
+    let at-unit2 = c .before .before in
+    let at-if5 = at-unit2 .before in
+    let at-if4 = at-if5 .before in
+    let at-if2 = at-if4 .before .before in
+    let at-unit = at-if2 .before in
+    let at-if1 = at-unit .before in
+    let at-room-at = at-if1 .before in
+    let entry = at-room-at .before .before in
+    late-unit (entry .args .units .now) (entry .args .at) (at-room-at .room-at .ensures) (at-if1 .if1 .left) (at-unit .unit .ensures .0)
+    (at-if2 .if2 .left) (at-if4 .if4 .left) (at-if5 .if5 .left) (at-unit2 .unit2 .ensures .0) (c .if7 .taken)
 
 mul-t9 : tie.Need-mul-t9
 mul-t9 c = search needs
@@ -48,7 +88,17 @@ add-t12 : tie.Need-add-t12
 add-t12 c = search needs
 
 returns-8 : tie.Need-returns-8
-returns-8 c = both-units (c .before .before .before .before .before .before .before .before .before .before .before .args .units .now) (c .before .before .before .before .before .before .before .before .before .before .before .args .at) (c .before .before .before .before .before .before .before .before .before .room-at .ensures) (c .before .before .before .before .before .before .before .before .if1 .left) (c .before .before .before .before .before .before .before .unit .ensures .0) (c .before .before .before .before .before .before .if2 .left) (c .before .before .before .before .if4 .left) (c .before .before .before .if5 .left) (c .before .before .unit2 .ensures .0) (c .before .if6 .left) (c .if7 .left)
+returns-8 c =
+    let at-unit2 = c .before .before in
+    let at-if5 = at-unit2 .before in
+    let at-if4 = at-if5 .before in
+    let at-if2 = at-if4 .before .before in
+    let at-unit = at-if2 .before in
+    let at-if1 = at-unit .before in
+    let at-room-at = at-if1 .before in
+    let entry = at-room-at .before .before in
+    both-units (entry .args .units .now) (entry .args .at) (at-room-at .room-at .ensures) (at-if1 .if1 .left) (at-unit .unit .ensures .0)
+    (at-if2 .if2 .left) (at-if4 .if4 .left) (at-if5 .if5 .left) (at-unit2 .unit2 .ensures .0) (c .before .if6 .left) (c .if7 .left)
 
 pub char16-spec : {M : Type 1} → statement M
 char16-spec =

@@ -27,19 +27,46 @@ enum-told : tie.Need-enum-told Inv-loop μ-loop
 enum-told c = search needs
 
 returns : tie.Need-returns Inv-loop μ-loop
-returns c = check-bad (c .before .before .before .before .before .before .args .units .now) _ (c .before .before .before .loop-test .taken) (c .before .before .before .before .loop .inv) (sym (ap charTold (c .enum-told .given .1)) ∙ c .before .before .char16 .ensures)
+returns c =
+    let at-char16 = c .before .before in
+    let at-loop-test = at-char16 .before in
+    let at-loop = at-loop-test .before in
+    let entry = at-loop .before .before in
+    check-bad (entry .args .units .now) _ (at-loop-test .loop-test .taken) (at-loop .loop .inv) (sym (ap charTold (c .enum-told .given .1)) ∙ at-char16 .char16 .ensures)
 
 enum-known-size : tie.Need-enum-known-size Inv-loop μ-loop
 enum-known-size c = search needs
 
 add-at : tie.Need-add-at Inv-loop μ-loop
-add-at c = (let w = check-on (c .before .before .before .before .before .before .before .args .units .now) _ (c .before .before .before .before .loop-test .taken) (c .before .before .before .before .before .loop .inv) (λ i. omega (arith, c .before .before .before .before .before .before .shared-slice-known .given i)) (sym (ap charTold (c .before .size .given .1)) ∙ c .before .before .before .char16 .ensures) in omega (arith, w .within))
+add-at c =
+    let at-char16 = c .before .before .before in
+    let at-loop-test = at-char16 .before in
+    let at-loop = at-loop-test .before in
+    let at-shared-slice-known = at-loop .before in
+    let entry = at-shared-slice-known .before in
+    (let w = check-on (entry .args .units .now) _ (at-loop-test .loop-test .taken) (at-loop .loop .inv)
+    (λ i. omega (arith, at-shared-slice-known .shared-slice-known .given i))
+    (sym (ap charTold (c .before .size .given .1)) ∙ at-char16 .char16 .ensures) in omega (arith, w .within))
 
 loop-less : tie.Need-loop-less Inv-loop μ-loop
-loop-less c = (let w = char-in form16 (c .before .before .before .before .before .before .before .args .units .now) (λ i. omega (arith, c .before .before .before .before .before .before .shared-slice-known .given i)) _ (sym (ap charTold (c .before .size .given .1)) ∙ c .before .before .before .char16 .ensures) (c .before .before .before .before .before .loop .inv .within) in omega (arith, w .1, w .2))
+loop-less c =
+    let at-char16 = c .before .before .before in
+    let at-loop = at-char16 .before .before in
+    let at-shared-slice-known = at-loop .before in
+    let entry = at-shared-slice-known .before in
+    (let w = char-in form16 (entry .args .units .now) (λ i. omega (arith, at-shared-slice-known .shared-slice-known .given i)) _
+    (sym (ap charTold (c .before .size .given .1)) ∙ at-char16 .char16 .ensures) (at-loop .loop .inv .within) in omega (arith, w .1, w .2))
 
 loop-again : tie.Need-loop-again Inv-loop μ-loop
-loop-again c = check-on (c .before .before .before .before .before .before .before .args .units .now) _ (c .before .before .before .before .loop-test .taken) (c .before .before .before .before .before .loop .inv) (λ i. omega (arith, c .before .before .before .before .before .before .shared-slice-known .given i)) (sym (ap charTold (c .before .size .given .1)) ∙ c .before .before .before .char16 .ensures)
+loop-again c =
+    let at-char16 = c .before .before .before in
+    let at-loop-test = at-char16 .before in
+    let at-loop = at-loop-test .before in
+    let at-shared-slice-known = at-loop .before in
+    let entry = at-shared-slice-known .before in
+    check-on (entry .args .units .now) _ (at-loop-test .loop-test .taken) (at-loop .loop .inv)
+    (λ i. omega (arith, at-shared-slice-known .shared-slice-known .given i))
+    (sym (ap charTold (c .before .size .given .1)) ∙ at-char16 .char16 .ensures)
 
 returns-2 : tie.Need-returns-2 Inv-loop μ-loop
 returns-2 c = check-end (c .before .before .before .args .units .now) _ (c .loop-test .left) (c .before .loop .inv)

@@ -31,7 +31,11 @@ same-length-2 : tie.Need-same-length-2
 same-length-2 c = search needs
 
 returns-2 : tie.Need-returns-2
-returns-2 c = counts-as (long-bytes _ (c .before .before .before .before .before .before .before .before .if1 .left)) (counts-then (c .before .before .before .before .before .before .put-unit2 .ensures) (c .before .before .put-unit3 .ensures))
+returns-2 c =
+    let at-put-unit3 = c .before .before in
+    let at-put-unit2 = at-put-unit3 .before .before .before .before in
+    let at-if1 = at-put-unit2 .before .before in
+    counts-as (long-bytes _ (at-if1 .if1 .left)) (counts-then (at-put-unit2 .put-unit2 .ensures) (at-put-unit3 .put-unit3 .ensures))
 
 pub put16-spec : {M : Type 1} → statement M
 put16-spec =

@@ -46,4 +46,5 @@ returns-2 : tie.Need-returns-2 Inv-loop μ-loop
 returns-2 c = search needs
 
 pub answer-files-spec : {M : Type 1} → statement M
-answer-files-spec = tie.close (tie.spec Inv-loop μ-loop loop-holds slice-aggregate-answer-file answer-file-requires enum-told returns enum-known-s worse-requires add-i loop-less loop-again returns-2)
+answer-files-spec = tie.close (tie.spec Inv-loop μ-loop loop-holds slice-aggregate-answer-file answer-file-requires enum-told returns
+    enum-known-s worse-requires add-i loop-less loop-again returns-2)

@@ -27,10 +27,15 @@ enum-known-n : tie.Need-enum-known-n
 enum-known-n c = search needs
 
 array-share-prefix-file : tie.Need-array-share-prefix-file
-array-share-prefix-file c = input-counted (c .before .before .before .before .read-input .last .1 .0) (c .before .before .before .before .read-input .ensures) (c .before .n .given .1) .0
+array-share-prefix-file c =
+    let at-read-input = c .before .before .before .before in
+    input-counted (at-read-input .read-input .last .1 .0) (at-read-input .read-input .ensures) (c .before .n .given .1) .0
 
 slice-aggregate-write-answer : tie.Need-slice-aggregate-write-answer
-slice-aggregate-write-answer c = input-counted (c .before .before .before .before .before .read-input .last .1 .0) (c .before .before .before .before .before .read-input .ensures) (c .before .before .n .given .1) .1
+slice-aggregate-write-answer c =
+    let at-n = c .before .before in
+    let at-read-input = at-n .before .before .before in
+    input-counted (at-read-input .read-input .last .1 .0) (at-read-input .read-input .ensures) (at-n .n .given .1) .1
 
 write-answer-requires : tie.Need-write-answer-requires
 write-answer-requires c κs = search needs

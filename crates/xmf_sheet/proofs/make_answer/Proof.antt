@@ -14,7 +14,12 @@ same-length : tie.Need-same-length
 same-length c = search needs
 
 returns : tie.Need-returns
-returns c = let s = put-first (c .before .before .put-too-long .ensures) (omega (arith, long-short, c .before .before .before .before .before .before .before .pre)) (omega (arith, c .before .before .before .before .before .before .before .pre)) in (s .0, s .1 ∙ answer-long _ (c .before .before .before .before .if1 .taken))
+returns c =
+    let at-put-too-long = c .before .before in
+    let at-if1 = at-put-too-long .before .before in
+    let entry = at-if1 .before .before .before in
+    let s = put-first (at-put-too-long .put-too-long .ensures) (omega (arith, long-short, entry .pre)) (omega (arith, entry .pre))
+    in (s .0, s .1 ∙ answer-long _ (at-if1 .if1 .taken))
 
 node-table-requires : tie.Need-node-table-requires
 node-table-requires c κs = search needs
@@ -44,13 +49,40 @@ same-length-2 : tie.Need-same-length-2
 same-length-2 c = search needs
 
 returns-2 : tie.Need-returns-2
-returns-2 c = let s = sheet-made _ _ _ (c .before .before .before .before .before .before .before .write-sheet .ensures .0) (c .before .before .before .before .before .before .before .write-sheet .kept .1 .1 .1 .0) (c .before .before .before .before .before .before .before .write-sheet .ensures .1 .1 .1) (c .before .n .given .1) in (s .0, s .1 ∙ answer-short _ (c .before .before .before .before .before .before .before .before .before .before .before .before .node-table .ensures) (c .before .before .before .before .before .before .before .before .before .before .before .item-table .ensures) (c .before .before .before .before .before .before .before .before .before .before .before .before .before .before .before .before .pre) (c .before .before .before .before .before .before .before .before .before .before .before .before .before .if1 .left))
+returns-2 c =
+    let at-write-sheet = c .before .before .before .before .before .before .before in
+    let at-item-table = at-write-sheet .before .before .before .before in
+    let at-node-table = at-item-table .before in
+    let at-if1 = at-node-table .before in
+    let entry = at-if1 .before .before .before in
+    let s = sheet-made _ _ _ (at-write-sheet .write-sheet .ensures .0) (at-write-sheet .write-sheet .kept .1 .1 .1 .0)
+    (at-write-sheet .write-sheet .ensures .1 .1 .1) (c .before .n .given .1)
+    in (s .0, s .1 ∙ answer-short _ (at-node-table .node-table .ensures) (at-item-table .item-table .ensures) (entry .pre) (at-if1 .if1 .left))
 
 same-length-3 : tie.Need-same-length-3
 same-length-3 c = search needs
 
 returns-3 : tie.Need-returns-3
-returns-3 c = let s = put-first (c .before .before .put-refusal .ensures) (omega (arith, line-short (c .before .before .before .before .before .number .given .0 .0) (c .before .before .before .before .before .number .given .0 .1 .0), c .before .before .before .before .before .before .before .before .before .before .before .write-sheet .kept .1 .1 .1 .0, c .before .before .before .before .before .before .before .before .before .before .before .before .before .before .before .before .before .before .before .before .pre)) (omega (arith, c .before .before .before .before .before .before .before .before .before .before .before .write-sheet .kept .1 .1 .1 .0, c .before .before .before .before .before .before .before .before .before .before .before .before .before .before .before .before .before .before .before .before .pre)) in (s .0, s .1 ∙ refusal-made _ (c .before .before .before .before .before .before .before .before .before .before .before .write-sheet .ensures .0) (c .before .before .before .before .before .number .given .1) ∙ answer-short _ (c .before .before .before .before .before .before .before .before .before .before .before .before .before .before .before .before .node-table .ensures) (c .before .before .before .before .before .before .before .before .before .before .before .before .before .before .before .item-table .ensures) (c .before .before .before .before .before .before .before .before .before .before .before .before .before .before .before .before .before .before .before .before .pre) (c .before .before .before .before .before .before .before .before .before .before .before .before .before .before .before .before .before .if1 .left))
+returns-3 c =
+    let at-put-refusal = c .before .before in
+    let at-number = at-put-refusal .before .before .before in
+    let at-write-sheet = at-number .before .before .before .before .before .before in
+    let at-item-table = at-write-sheet .before .before .before .before in
+    let at-node-table = at-item-table .before in
+    let at-if1 = at-node-table .before in
+    let entry = at-if1 .before .before .before in
+    let s = put-first (at-put-refusal .put-refusal .ensures)
+    (omega (
+      arith,
+      line-short (at-number .number .given .0 .0) (at-number .number .given .0 .1 .0),
+      at-write-sheet .write-sheet .kept .1 .1 .1 .0,
+      entry .pre,
+    )) (omega (arith, at-write-sheet .write-sheet .kept .1 .1 .1 .0, entry .pre))
+    in (
+      s .0,
+      s .1 ∙ refusal-made _ (at-write-sheet .write-sheet .ensures .0) (at-number .number .given .1) ∙ answer-short _
+          (at-node-table .node-table .ensures) (at-item-table .item-table .ensures) (entry .pre) (at-if1 .if1 .left),
+    )
 
 pub make-answer-spec : {M : Type 1} → statement M
 make-answer-spec =

@@ -22,7 +22,14 @@ same-length : tie.Need-same-length
 same-length c = search needs
 
 returns : tie.Need-returns
-returns c = counts-as (refusal-is _ _) (counts-then (counts-then (counts-then (c .before .before .before .before .before .before .before .before .before .before .before .before .before .before .put-byte .ensures) (c .before .before .before .before .before .before .before .before .before .before .put-number .ensures)) (c .before .before .before .before .before .before .put-number2 .ensures)) (c .before .before .put-byte2 .ensures))
+returns c =
+    let at-put-byte2 = c .before .before in
+    let at-put-number2 = at-put-byte2 .before .before .before .before in
+    let at-put-number = at-put-number2 .before .before .before .before in
+    let at-put-byte = at-put-number .before .before .before .before in
+    counts-as (refusal-is _ _) (counts-then
+    (counts-then (counts-then (at-put-byte .put-byte .ensures) (at-put-number .put-number .ensures)) (at-put-number2 .put-number2 .ensures))
+    (at-put-byte2 .put-byte2 .ensures))
 
 pub put-refusal-spec : {M : Type 1} → statement M
 put-refusal-spec =

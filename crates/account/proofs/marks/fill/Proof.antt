@@ -36,7 +36,11 @@ same-length : tie.Need-same-length Inv-loop μ-loop
 same-length c = c .before .loop .inv .1 .same
 
 returns : tie.Need-returns Inv-loop μ-loop
-returns c = filling-all _ _ _ _ _ _ (omega (arith, c .before .loop .inv .0, c .before .before .lesser .ensures)) (omega (arith, c .loop-test .left, c .before .before .lesser .ensures)) (c .before .loop .inv .1)
+returns c =
+    let at-loop = c .before in
+    let at-lesser = at-loop .before in
+    filling-all _ _ _ _ _ _ (omega (arith, at-loop .loop .inv .0, at-lesser .lesser .ensures))
+    (omega (arith, c .loop-test .left, at-lesser .lesser .ensures)) (at-loop .loop .inv .1)
 
 pub fill-spec : {M : Type 1} → statement M
 fill-spec =

@@ -95,7 +95,8 @@ returns-3 c =
     let entry = after-read-file .before .before .before .before .before .before .before in
     let read = after-read-file .read-file .ensures in
     let marked = after-mark-rows .mark-rows in
-    ends-marked (entry .args .file .now) _ _ _ (read .0) (read .1 .0) (read .1 .1) (after-s .s .given .1) (omega (arith, after-if1 .if1 .left)) _ (marked .kept .0) (marked .ensures) (after-clear-bytes-from .clear-bytes-from .ensures)
+    ends-marked (entry .args .file .now) _ _ _ (read .0) (read .1 .0) (read .1 .1) (after-s .s .given .1) (omega (arith, after-if1 .if1 .left))
+    _ (marked .kept .0) (marked .ensures) (after-clear-bytes-from .clear-bytes-from .ensures)
 
 pub mark-spec : {M : Type 1} → statement M
 mark-spec =

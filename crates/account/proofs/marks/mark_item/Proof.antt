@@ -16,7 +16,12 @@ same-length : tie.Need-same-length
 same-length c = search needs
 
 returns : tie.Need-returns
-returns c = hidden-span _ (c .before .before .before .before .if1 .taken) (past _ _ _ (omega (arith, c .before .before .before .before .before .before .before .before .good)) (rw (c .before .before .before .before .before .before .on .ensures) at (c .before .before .fill .ensures)))
+returns c =
+    let at-fill = c .before .before in
+    let at-if1 = at-fill .before .before in
+    let at-on = at-if1 .before .before in
+    let at-good = at-on .before .before in
+    hidden-span _ (at-if1 .if1 .taken) (past _ _ _ (omega (arith, at-good .good)) (rw (at-on .on .ensures) at (at-fill .fill .ensures)))
 
 fill-requires-2 : tie.Need-fill-requires-2
 fill-requires-2 c κs = search needs
@@ -25,7 +30,12 @@ same-length-2 : tie.Need-same-length-2
 same-length-2 c = search needs
 
 returns-2 : tie.Need-returns-2
-returns-2 c = visible-span _ (c .before .before .before .before .if1 .left) (past _ _ _ (omega (arith, c .before .before .before .before .before .before .before .before .good)) (rw (c .before .before .before .before .before .before .on .ensures) at (c .before .before .fill2 .ensures)))
+returns-2 c =
+    let at-fill2 = c .before .before in
+    let at-if1 = at-fill2 .before .before in
+    let at-on = at-if1 .before .before in
+    let at-good = at-on .before .before in
+    visible-span _ (at-if1 .if1 .left) (past _ _ _ (omega (arith, at-good .good)) (rw (at-on .on .ensures) at (at-fill2 .fill2 .ensures)))
 
 pub mark-item-spec : {M : Type 1} → statement M
 mark-item-spec =

@@ -32,7 +32,11 @@ loop-less : tie.Need-loop-less Inv-loop μ-loop
 loop-less c = omega arith
 
 loop-again : tie.Need-loop-again Inv-loop μ-loop
-loop-again c = (omega arith, painting-on _ _ _ _ _ _ (omega arith) (c .before .before .before .before .before .before .loop .inv .1) (c .before .before .before .item-at .ensures) (c .before .before .mark-item .ensures))
+loop-again c =
+    let at-mark-item = c .before .before in
+    let at-item-at = at-mark-item .before in
+    let at-loop = at-item-at .before .before .before in
+    (omega arith, painting-on _ _ _ _ _ _ (omega arith) (at-loop .loop .inv .1) (at-item-at .item-at .ensures) (at-mark-item .mark-item .ensures))
 
 same-length : tie.Need-same-length Inv-loop μ-loop
 same-length c = c .before .loop .inv .1 .same

@@ -62,8 +62,17 @@ returns c =
     let entry = after-meta-at .before .before .before in
     let meta = after-meta-at .meta-at .ensures in
     let unpackers = spans _ _ meta (after-after-block .after-block .ensures metaFrame) in
-    let inline = past _ _ _ (omega (arith, entry .good, after-fill .fill .ensures .same, after-fill2 .fill2 .ensures .same, after-fill3 .fill3 .ensures .same, after-fill4 .fill4 .ensures .same)) (rw (after-on .on .ensures, after-inline-size .inline-size .ensures) at (after-fill5 .fill5 .ensures)) in
-    node-spans _ _ meta unpackers (after-contents-at .contents-at .ensures) (after-fill .fill .ensures) (after-fill2 .fill2 .ensures) (after-fill3 .fill3 .ensures) (after-fill4 .fill4 .ensures) inline
+    let inline = past _ _ _ (omega (
+      arith,
+      entry .good,
+      after-fill .fill .ensures .same,
+      after-fill2 .fill2 .ensures .same,
+      after-fill3 .fill3 .ensures .same,
+      after-fill4 .fill4 .ensures .same,
+    ))
+    (rw (after-on .on .ensures, after-inline-size .inline-size .ensures) at (after-fill5 .fill5 .ensures)) in
+    node-spans _ _ meta unpackers (after-contents-at .contents-at .ensures) (after-fill .fill .ensures) (after-fill2 .fill2 .ensures)
+    (after-fill3 .fill3 .ensures) (after-fill4 .fill4 .ensures) inline
 
 pub mark-node-spec : {M : Type 1} → statement M
 mark-node-spec =

@@ -24,7 +24,9 @@ node-at-requires : tie.Need-node-at-requires Inv-loop μ-loop
 node-at-requires c κs = omega (arith, c .before .before .before .before .before .before .pre)
 
 mark-node-requires : tie.Need-mark-node-requires Inv-loop μ-loop
-mark-node-requires c κs = subst (Inside (c .before .before .before .before .before .before .before .args .file .now)) (sym (c .node-at .ensures)) (c .before .before .before .before .before .before .before .pre .1 _ (omega arith))
+mark-node-requires c κs =
+    let entry = c .before .before .before .before .before .before .before in
+    subst (Inside (entry .args .file .now)) (sym (c .node-at .ensures)) (entry .pre .1 _ (omega arith))
 
 add-i : tie.Need-add-i Inv-loop μ-loop
 add-i c = omega arith
@@ -33,7 +35,11 @@ loop-less : tie.Need-loop-less Inv-loop μ-loop
 loop-less c = omega arith
 
 loop-again : tie.Need-loop-again Inv-loop μ-loop
-loop-again c = (omega arith, painting-on _ _ _ _ _ _ (omega arith) (c .before .before .before .before .before .before .loop .inv .1) (c .before .before .before .node-at .ensures) (c .before .before .mark-node .ensures))
+loop-again c =
+    let at-mark-node = c .before .before in
+    let at-node-at = at-mark-node .before in
+    let at-loop = at-node-at .before .before .before in
+    (omega arith, painting-on _ _ _ _ _ _ (omega arith) (at-loop .loop .inv .1) (at-node-at .node-at .ensures) (at-mark-node .mark-node .ensures))
 
 same-length : tie.Need-same-length Inv-loop μ-loop
 same-length c = c .before .loop .inv .1 .same

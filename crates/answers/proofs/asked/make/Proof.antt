@@ -462,4 +462,16 @@ returns-27 c =
     answered (gives-as (short-is _ _ _ _ (if1 .left) (enum-told15 .given .1)) (make-mend-lines .ensures))
 
 pub make-spec : {M : Type 1} → statement M
-make-spec = tie.close (tie.spec refuse-long-requires same-length returns enum-told make-sheet-requires enum-told-2 make-sheet-requires-2 enum-told-3 make-moved-requires enum-told-4 make-check-requires enum-told-5 make-rows-requires enum-told-6 make-verdict-requires enum-known-asked make-found-requires enum-known-asked-2 make-found-requires-2 enum-known-asked-3 make-place-requires enum-known-asked-4 make-resource-requires enum-known-asked-5 make-origin-requires enum-told-7 make-needs-requires enum-known-asked-6 make-row-needs-requires enum-known-asked-7 make-count-requires enum-told-8 make-bytes-requires enum-told-9 make-bytes-line-requires enum-known-asked-8 make-row-tag-requires enum-known-asked-9 make-tag-requires enum-told-10 make-titles-requires enum-known-asked-10 make-corrected-requires enum-known-asked-11 make-retitled-requires enum-told-11 make-utf8-requires enum-told-12 make-utf16-requires enum-told-13 make-runs-requires enum-told-14 make-mended-requires enum-told-15 make-mend-lines-requires same-length-2 returns-2 same-length-3 returns-3 same-length-4 returns-4 same-length-5 returns-5 same-length-6 returns-6 same-length-7 returns-7 same-length-8 returns-8 same-length-9 returns-9 same-length-10 returns-10 same-length-11 returns-11 same-length-12 returns-12 same-length-13 returns-13 same-length-14 returns-14 same-length-15 returns-15 same-length-16 returns-16 same-length-17 returns-17 same-length-18 returns-18 same-length-19 returns-19 same-length-20 returns-20 same-length-21 returns-21 same-length-22 returns-22 same-length-23 returns-23 same-length-24 returns-24 same-length-25 returns-25 same-length-26 returns-26 same-length-27 returns-27)
+make-spec = tie.close (tie.spec refuse-long-requires same-length returns enum-told make-sheet-requires enum-told-2 make-sheet-requires-2
+    enum-told-3 make-moved-requires enum-told-4 make-check-requires enum-told-5 make-rows-requires enum-told-6 make-verdict-requires
+    enum-known-asked make-found-requires enum-known-asked-2 make-found-requires-2 enum-known-asked-3 make-place-requires enum-known-asked-4
+    make-resource-requires enum-known-asked-5 make-origin-requires enum-told-7 make-needs-requires enum-known-asked-6
+    make-row-needs-requires enum-known-asked-7 make-count-requires enum-told-8 make-bytes-requires enum-told-9 make-bytes-line-requires
+    enum-known-asked-8 make-row-tag-requires enum-known-asked-9 make-tag-requires enum-told-10 make-titles-requires enum-known-asked-10
+    make-corrected-requires enum-known-asked-11 make-retitled-requires enum-told-11 make-utf8-requires enum-told-12 make-utf16-requires
+    enum-told-13 make-runs-requires enum-told-14 make-mended-requires enum-told-15 make-mend-lines-requires same-length-2 returns-2
+    same-length-3 returns-3 same-length-4 returns-4 same-length-5 returns-5 same-length-6 returns-6 same-length-7 returns-7 same-length-8
+    returns-8 same-length-9 returns-9 same-length-10 returns-10 same-length-11 returns-11 same-length-12 returns-12 same-length-13
+    returns-13 same-length-14 returns-14 same-length-15 returns-15 same-length-16 returns-16 same-length-17 returns-17 same-length-18
+    returns-18 same-length-19 returns-19 same-length-20 returns-20 same-length-21 returns-21 same-length-22 returns-22 same-length-23
+    returns-23 same-length-24 returns-24 same-length-25 returns-25 same-length-26 returns-26 same-length-27 returns-27)

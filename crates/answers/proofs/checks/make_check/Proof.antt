@@ -61,7 +61,10 @@ returns-2 c =
     let s = c .before .before .before .before .before .before .before .before .before .s in
     let conclude = c .before .before .conclude in
     let put-ok = c .before .before .before .before .before .before .put-ok in
-    gives-as (check-good _ (node-table .ensures) (item-table .ensures) _ _ (standing (args-c .file .now) _ _ _ (read-file .ensures .0) (read-file .ensures .1 .0) (read-file .ensures .1 .1) (s .given .1))) (conclude .ensures _ _ (put-ok .ensures))
+    gives-as (check-good _ (node-table .ensures) (item-table .ensures) _ _
+    (standing (args-c .file .now) _ _ _ (read-file .ensures .0) (read-file .ensures .1 .0) (read-file .ensures .1 .1) (s .given .1)))
+    (conclude .ensures _ _ (put-ok .ensures))
 
 pub make-check-spec : {M : Type 1} → statement M
-make-check-spec = tie.close (tie.spec node-table-requires item-table-requires slice-aggregate-read-file slice-aggregate-read-file-2 read-file-requires enum-known-n refuse-requires enum-known-s put-ok-requires conclude-requires same-length returns same-length-2 returns-2)
+make-check-spec = tie.close (tie.spec node-table-requires item-table-requires slice-aggregate-read-file slice-aggregate-read-file-2
+    read-file-requires enum-known-n refuse-requires enum-known-s put-ok-requires conclude-requires same-length returns same-length-2 returns-2)

@@ -44,7 +44,8 @@ put-found-requires c κs =
     let args-c = c .before .before .before .before .before .before .before .before .before .before .before .before .before .before .before .args in
     let find-field = c .before .before .before .before .before .before .before .find-field in
     let i = c .before .before .before .i in
-    found-there _ (node-table .ensures) (item-table .ensures) 0 (args-c .climbs) (wantedOf (args-c .field) (args-c .name .now)) (args-c .row) (find-field .ensures .0) (i .given .1) (find-field .ensures .1)
+    found-there _ (node-table .ensures) (item-table .ensures) 0 (args-c .climbs) (wantedOf (args-c .field) (args-c .name .now)) (args-c .row)
+    (find-field .ensures .0) (i .given .1) (find-field .ensures .1)
 
 slice-aggregate-conclude : tie.Need-slice-aggregate-conclude
 slice-aggregate-conclude c = search needs
@@ -75,7 +76,10 @@ returns-2 c =
     let i = c .before .before .before .before .before .before .before .before .before .before .before .i in
     let conclude = c .before .before .conclude in
     let put-found = c .before .before .before .before .before .before .before .put-found in
-    gives-as (found-good _ (node-table .ensures) (item-table .ensures) _ _ _ _ (find-field .ensures .0) (i .given .1) (find-field .ensures .1)) (conclude .ensures _ _ (put-found .ensures))
+    gives-as (found-good _ (node-table .ensures) (item-table .ensures) _ _ _ _ (find-field .ensures .0) (i .given .1) (find-field .ensures .1))
+    (conclude .ensures _ _ (put-found .ensures))
 
 pub make-found-spec : {M : Type 1} → statement M
-make-found-spec = tie.close (tie.spec node-table-requires item-table-requires slice-aggregate-find-field slice-aggregate-find-field-2 find-field-requires enum-known-n slice-aggregate-refuse refuse-requires enum-known-i slice-aggregate-put-found put-found-requires slice-aggregate-conclude conclude-requires same-length returns same-length-2 returns-2)
+make-found-spec = tie.close (tie.spec node-table-requires item-table-requires slice-aggregate-find-field slice-aggregate-find-field-2
+    find-field-requires enum-known-n slice-aggregate-refuse refuse-requires enum-known-i slice-aggregate-put-found put-found-requires
+    slice-aggregate-conclude conclude-requires same-length returns same-length-2 returns-2)

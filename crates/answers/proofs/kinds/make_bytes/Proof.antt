@@ -67,7 +67,11 @@ returns-2 c =
     let k = c .before .before .before .before .before .before .before .before .before .k in
     let conclude = c .before .before .conclude in
     let put-kinds = c .before .before .before .before .before .before .put-kinds in
-    gives-as (printed-good lined _ _ (kinds-told _ (node-table .ensures) (item-table .ensures) _ (k .given .1) (no-totals .ensures) (account .ensures .0))) (conclude .ensures _ _ (put-kinds .ensures))
+    gives-as (printed-good lined _ _
+    (kinds-told _ (node-table .ensures) (item-table .ensures) _ (k .given .1) (no-totals .ensures) (account .ensures .0)))
+    (conclude .ensures _ _ (put-kinds .ensures))
 
 pub make-bytes-spec : {M : Type 1} → statement M
-make-bytes-spec = tie.close (tie.spec node-table-requires item-table-requires slice-aggregate-account slice-aggregate-account-2 no-totals-requires account-requires enum-known-n refuse-requires enum-known-k put-kinds-requires conclude-requires same-length returns same-length-2 returns-2)
+make-bytes-spec = tie.close (tie.spec node-table-requires item-table-requires slice-aggregate-account slice-aggregate-account-2
+    no-totals-requires account-requires enum-known-n refuse-requires enum-known-k put-kinds-requires conclude-requires same-length returns
+    same-length-2 returns-2)

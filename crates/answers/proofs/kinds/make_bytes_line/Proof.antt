@@ -67,7 +67,11 @@ returns-2 c =
     let k = c .before .before .before .before .before .before .before .before .before .k in
     let conclude = c .before .before .conclude in
     let put-in-line = c .before .before .before .before .before .before .put-in-line in
-    gives-as (printed-good (inLine _) _ _ (kinds-told _ (node-table .ensures) (item-table .ensures) _ (k .given .1) (no-totals .ensures) (account .ensures .0))) (conclude .ensures _ _ (put-in-line .ensures))
+    gives-as (printed-good (inLine _) _ _
+    (kinds-told _ (node-table .ensures) (item-table .ensures) _ (k .given .1) (no-totals .ensures) (account .ensures .0)))
+    (conclude .ensures _ _ (put-in-line .ensures))
 
 pub make-bytes-line-spec : {M : Type 1} → statement M
-make-bytes-line-spec = tie.close (tie.spec node-table-requires item-table-requires slice-aggregate-account slice-aggregate-account-2 no-totals-requires account-requires enum-known-n refuse-requires enum-known-k put-in-line-requires conclude-requires same-length returns same-length-2 returns-2)
+make-bytes-line-spec = tie.close
+    (tie.spec node-table-requires item-table-requires slice-aggregate-account slice-aggregate-account-2 no-totals-requires account-requires
+    enum-known-n refuse-requires enum-known-k put-in-line-requires conclude-requires same-length returns same-length-2 returns-2)

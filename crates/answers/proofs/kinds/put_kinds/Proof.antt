@@ -71,21 +71,40 @@ put-kind-requires-10 c κs = search needs
 
 returns : tie.Need-returns
 returns c =
-    let put-kind = c .before .before .before .before .before .before .before .before .before .before .before .before .before .before .before .before .before .before .before .before .before .before .before .before .before .before .before .before .before .before .before .before .before .before .before .before .before .before .before .before .before .before .before .before .before .before .before .before .put-kind in
-    let put-kind2 = c .before .before .before .before .before .before .before .before .before .before .before .before .before .before .before .before .before .before .before .before .before .before .before .before .before .before .before .before .before .before .before .before .before .before .before .before .before .before .before .before .before .before .before .put-kind2 in
-    let put-kind3 = c .before .before .before .before .before .before .before .before .before .before .before .before .before .before .before .before .before .before .before .before .before .before .before .before .before .before .before .before .before .before .before .before .before .before .before .before .before .before .put-kind3 in
-    let put-kind4 = c .before .before .before .before .before .before .before .before .before .before .before .before .before .before .before .before .before .before .before .before .before .before .before .before .before .before .before .before .before .before .before .before .before .put-kind4 in
-    let put-kind5 = c .before .before .before .before .before .before .before .before .before .before .before .before .before .before .before .before .before .before .before .before .before .before .before .before .before .before .before .before .put-kind5 in
-    let put-kind6 = c .before .before .before .before .before .before .before .before .before .before .before .before .before .before .before .before .before .before .before .before .before .before .before .put-kind6 in
-    let put-kind7 = c .before .before .before .before .before .before .before .before .before .before .before .before .before .before .before .before .before .before .put-kind7 in
-    let put-kind8 = c .before .before .before .before .before .before .before .before .before .before .before .before .before .put-kind8 in
-    let put-kind9 = c .before .before .before .before .before .before .before .before .put-kind9 in
-    let put-kind10 = c .before .before .put-kind10 in
-    let total = c .before .before .before .total in
-    counts-as (kinds-are _ (total .ensures)) (counts-then (counts-then (counts-then (counts-then (counts-then (counts-then (counts-then (counts-then (counts-then (put-kind .ensures) (put-kind2 .ensures)) (put-kind3 .ensures)) (put-kind4 .ensures)) (put-kind5 .ensures)) (put-kind6 .ensures)) (put-kind7 .ensures)) (put-kind8 .ensures)) (put-kind9 .ensures)) (put-kind10 .ensures))
+    let at-put-kind10 = c .before .before in
+    let at-total = at-put-kind10 .before in
+    let at-put-kind9 = at-total .before .before .before .before .before in
+    let at-put-kind8 = at-put-kind9 .before .before .before .before .before in
+    let at-put-kind7 = at-put-kind8 .before .before .before .before .before in
+    let at-put-kind6 = at-put-kind7 .before .before .before .before .before in
+    let at-put-kind5 = at-put-kind6 .before .before .before .before .before in
+    let at-put-kind4 = at-put-kind5 .before .before .before .before .before in
+    let at-put-kind3 = at-put-kind4 .before .before .before .before .before in
+    let at-put-kind2 = at-put-kind3 .before .before .before .before .before in
+    let at-put-kind = at-put-kind2 .before .before .before .before .before in
+    let put-kind = at-put-kind .put-kind in
+    let put-kind2 = at-put-kind2 .put-kind2 in
+    let put-kind3 = at-put-kind3 .put-kind3 in
+    let put-kind4 = at-put-kind4 .put-kind4 in
+    let put-kind5 = at-put-kind5 .put-kind5 in
+    let put-kind6 = at-put-kind6 .put-kind6 in
+    let put-kind7 = at-put-kind7 .put-kind7 in
+    let put-kind8 = at-put-kind8 .put-kind8 in
+    let put-kind9 = at-put-kind9 .put-kind9 in
+    let put-kind10 = at-put-kind10 .put-kind10 in
+    let total = at-total .total in
+    counts-as (kinds-are _ (total .ensures))
+    (counts-then (counts-then (counts-then
+    (counts-then (counts-then (counts-then
+    (counts-then (counts-then (counts-then (put-kind .ensures) (put-kind2 .ensures)) (put-kind3 .ensures)) (put-kind4 .ensures))
+    (put-kind5 .ensures)) (put-kind6 .ensures)) (put-kind7 .ensures)) (put-kind8 .ensures)) (put-kind9 .ensures)) (put-kind10 .ensures))
 
 same-length : tie.Need-same-length
 same-length c = returns c .long
 
 pub put-kinds-spec : {M : Type 1} → statement M
-put-kinds-spec = tie.close (tie.spec slice-aggregate-put-kind put-kind-requires slice-aggregate-put-kind-2 put-kind-requires-2 slice-aggregate-put-kind-3 put-kind-requires-3 slice-aggregate-put-kind-4 put-kind-requires-4 slice-aggregate-put-kind-5 put-kind-requires-5 slice-aggregate-put-kind-6 put-kind-requires-6 slice-aggregate-put-kind-7 put-kind-requires-7 slice-aggregate-put-kind-8 put-kind-requires-8 slice-aggregate-put-kind-9 put-kind-requires-9 slice-aggregate-put-kind-10 total-requires put-kind-requires-10 same-length returns)
+put-kinds-spec = tie.close (tie.spec slice-aggregate-put-kind put-kind-requires slice-aggregate-put-kind-2 put-kind-requires-2
+    slice-aggregate-put-kind-3 put-kind-requires-3 slice-aggregate-put-kind-4 put-kind-requires-4 slice-aggregate-put-kind-5
+    put-kind-requires-5 slice-aggregate-put-kind-6 put-kind-requires-6 slice-aggregate-put-kind-7 put-kind-requires-7
+    slice-aggregate-put-kind-8 put-kind-requires-8 slice-aggregate-put-kind-9 put-kind-requires-9 slice-aggregate-put-kind-10 total-requires
+    put-kind-requires-10 same-length returns)

@@ -46,7 +46,8 @@ returns c =
     let mend = c .before .before .before .before .before .before .before .before .before .before .before .mend in
     let lines-written = c .before .before .before .lines-written in
     let settle = c .before .before .settle in
-    lines-settle _ (node-table .ensures) (item-table .ensures) (large-buffer .ensures) _ (mend .kept .1 .1 .1 .1 .0) (mend .result) (mend .ensures .0) (mend .ensures .1 .1 .1 .1) (lines-written .ensures) (settle .ensures)
+    lines-settle _ (node-table .ensures) (item-table .ensures) (large-buffer .ensures) _ (mend .kept .1 .1 .1 .1 .0) (mend .result)
+    (mend .ensures .0) (mend .ensures .1 .1 .1 .1) (lines-written .ensures) (settle .ensures)
 
 pub make-mend-lines-spec : {M : Type 1} → statement M
 make-mend-lines-spec =

@@ -46,7 +46,8 @@ returns c =
     let mend = c .before .before .before .before .before .before .before .before .before .before .before .mend in
     let copy-written = c .before .before .before .copy-written in
     let settle = c .before .before .settle in
-    copy-settles _ (node-table .ensures) (item-table .ensures) (line-buffer .ensures) _ (mend .kept .1 .1 .1 .0) (mend .result) (mend .ensures .0) (mend .ensures .1 .1 .1 .0) (copy-written .ensures) (settle .ensures)
+    copy-settles _ (node-table .ensures) (item-table .ensures) (line-buffer .ensures) _ (mend .kept .1 .1 .1 .0) (mend .result)
+    (mend .ensures .0) (mend .ensures .1 .1 .1 .0) (copy-written .ensures) (settle .ensures)
 
 pub make-mended-spec : {M : Type 1} → statement M
 make-mended-spec =

@@ -60,4 +60,6 @@ returns-3 c =
     gives-as (told-printed _ _ (needs-told _ _ _ (if1 .left) (is-description .ensures) (not-false _ (if2 .left)))) (put-answered .ensures _ _ (put-counts .ensures))
 
 pub make-item-needs-spec : {M : Type 1} → statement M
-make-item-needs-spec = tie.close (tie.spec hidden-requires same-length returns is-description-requires slice-aggregate-refuse refuse-requires same-length-2 returns-2 put-counts-requires put-answered-requires same-length-3 returns-3)
+make-item-needs-spec = tie.close
+    (tie.spec hidden-requires same-length returns is-description-requires slice-aggregate-refuse refuse-requires same-length-2 returns-2
+    put-counts-requires put-answered-requires same-length-3 returns-3)

@@ -72,7 +72,11 @@ returns-2 c =
     let s = c .before .before .before .before .before .before .before .before .before .before .s in
     let put-answered = c .before .before .put-answered in
     let put-needs = c .before .before .before .before .before .before .put-needs in
-    gives-as (needs-good _ (node-table .ensures) (item-table .ensures) _ (standing (args-c .file .now) _ _ _ (read-file .ensures .0) (read-file .ensures .1 .0) (read-file .ensures .1 .1) (s .given .1))) (put-answered .ensures _ _ (put-needs .ensures))
+    gives-as (needs-good _ (node-table .ensures) (item-table .ensures) _
+    (standing (args-c .file .now) _ _ _ (read-file .ensures .0) (read-file .ensures .1 .0) (read-file .ensures .1 .1) (s .given .1)))
+    (put-answered .ensures _ _ (put-needs .ensures))
 
 pub make-needs-spec : {M : Type 1} → statement M
-make-needs-spec = tie.close (tie.spec node-table-requires item-table-requires slice-aggregate-read-file slice-aggregate-read-file-2 read-file-requires enum-known-n slice-aggregate-refuse refuse-requires enum-known-s slice-aggregate-put-needs put-needs-requires put-answered-requires same-length returns same-length-2 returns-2)
+make-needs-spec = tie.close (tie.spec node-table-requires item-table-requires slice-aggregate-read-file slice-aggregate-read-file-2
+    read-file-requires enum-known-n slice-aggregate-refuse refuse-requires enum-known-s slice-aggregate-put-needs put-needs-requires
+    put-answered-requires same-length returns same-length-2 returns-2)

@@ -68,4 +68,6 @@ returns-3 c =
     gives-as (printed-good (λ a. a) _ _ (count-good _ _ _ _ _ (if1 .left) (sym (count-in .ensures) ∙ ap told (n2 .given .1)))) (conclude .ensures _ _ (put-count .ensures))
 
 pub make-row-count-spec : {M : Type 1} → statement M
-make-row-count-spec = tie.close (tie.spec hidden-requires same-length returns count-in-requires enum-known-n slice-aggregate-refuse refuse-requires enum-known-n-2 put-count-requires slice-aggregate-conclude conclude-requires same-length-2 returns-2 same-length-3 returns-3)
+make-row-count-spec = tie.close
+    (tie.spec hidden-requires same-length returns count-in-requires enum-known-n slice-aggregate-refuse refuse-requires enum-known-n-2
+    put-count-requires slice-aggregate-conclude conclude-requires same-length-2 returns-2 same-length-3 returns-3)

@@ -44,4 +44,5 @@ returns-2 c =
     λ o x h. let z = puts-good _ _ _ _ _ h (put2 .given .1) in gives-as (printed-good plainly _ _ (z .1)) (conclude .ensures _ _ (z .2))
 
 pub put-answered-spec : {M : Type 1} → statement M
-put-answered-spec = tie.close (tie.spec enum-known-put slice-aggregate-refuse refuse-requires enum-known-put-2 slice-aggregate-conclude conclude-requires same-length returns same-length-2 returns-2)
+put-answered-spec = tie.close (tie.spec enum-known-put slice-aggregate-refuse refuse-requires enum-known-put-2 slice-aggregate-conclude
+    conclude-requires same-length returns same-length-2 returns-2)

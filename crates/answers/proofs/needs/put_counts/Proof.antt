@@ -56,8 +56,12 @@ put-table-requires c κs =
     let number2 = c .before .before .before .before .before .before .before .before .before .before .before .before .number2 in
     let channels = c .before .before .before .before .before .before .before .before .before .before .channels in
     let number3 = c .before .before .before .before .before .before .before .before .number3 in
-    let resources = c .before .before .before .before .before .before .resources in
-    (omega (arith, pre-c), number-inside _ _ _ _ _ (was numberTold (number2 .ensures metaFrame) (channels .given .1)) .3, number-inside _ _ _ _ _ (was numberTold (number3 .ensures metaFrame) (resources .given .1)) .3)
+    let resources = c .before .before .before .before .before .before .resources in (
+      omega (arith, pre-c),
+      number-inside _ _ _ _ _ (was numberTold (number2 .ensures metaFrame) (channels .given .1)) .3,
+      number-inside _ _ _ _
+          _ (was numberTold (number3 .ensures metaFrame) (resources .given .1)) .3,
+    )
 
 returns : tie.Need-returns
 returns c =
@@ -80,8 +84,11 @@ returns-3 c =
     let number2 = c .before .before .before .before .before .before .before .number2 in
     let channels = c .before .before .before .before .before .channels in
     let number3 = c .before .before .before .number3 in
-    let p3 = c .before .p3 in
-    (whole-resources _ _ _ _ (was numberTold (number .ensures metaFrame) (d .given .1)) (was numberTold (number2 .ensures metaFrame) (channels .given .1)) (was numberTold (number3 .ensures metaFrame) (p3 .given .1)), refl)
+    let p3 = c .before .p3 in (
+      whole-resources _ _ _ _ (was numberTold (number .ensures metaFrame) (d .given .1))
+          (was numberTold (number2 .ensures metaFrame) (channels .given .1)) (was numberTold (number3 .ensures metaFrame) (p3 .given .1)),
+      refl,
+    )
 
 returns-4 : tie.Need-returns-4
 returns-4 c =
@@ -92,8 +99,12 @@ returns-4 c =
     let number3 = c .before .before .before .before .before .before .before .number3 in
     let resources = c .before .before .before .before .before .resources in
     let read-lists = c .before .before .before .read-lists in
-    let p4 = c .before .p4 in
-    (whole-lists _ _ _ _ (was numberTold (number .ensures metaFrame) (d .given .1)) (was numberTold (number2 .ensures metaFrame) (channels .given .1)) (was numberTold (number3 .ensures metaFrame) (resources .given .1)) (was passTold (read-lists .ensures) (p4 .given .1)), refl)
+    let p4 = c .before .p4 in (
+      whole-lists _ _ _ _ (was numberTold (number .ensures metaFrame) (d .given .1))
+          (was numberTold (number2 .ensures metaFrame) (channels .given .1)) (was numberTold (number3 .ensures metaFrame) (resources .given .1))
+          (was passTold (read-lists .ensures) (p4 .given .1)),
+      refl,
+    )
 
 same-length : tie.Need-same-length
 same-length c = search needs
@@ -110,7 +121,12 @@ returns-5 c =
     let resources = c .before .before .before .before .before .before .before .before .before .resources in
     let read-lists = c .before .before .before .before .before .before .before .read-lists in
     let h = c .before .before .before .before .before .h in
-    puts-as (args-c .out .now) (put-table .last .0) (args-c .to) (put-table .result) (sym (whole-table _ _ _ (args-c .row) (was numberTold (number .ensures metaFrame) (d .given .1)) (was numberTold (number2 .ensures metaFrame) (channels .given .1)) (was numberTold (number3 .ensures metaFrame) (resources .given .1)) (was passTold (read-lists .ensures) (h .given .1)))) (put-table .ensures)
+    puts-as (args-c .out .now) (put-table .last .0) (args-c .to) (put-table .result)
+    (sym (whole-table _ _ _ (args-c .row) (was numberTold (number .ensures metaFrame) (d .given .1))
+    (was numberTold (number2 .ensures metaFrame) (channels .given .1)) (was numberTold (number3 .ensures metaFrame) (resources .given .1))
+    (was passTold (read-lists .ensures) (h .given .1)))) (put-table .ensures)
 
 pub put-counts-spec : {M : Type 1} → statement M
-put-counts-spec = tie.close (tie.spec add-t19 number-requires enum-known-p enum-known-d number-requires-2 enum-known-p-2 enum-known-channels number-requires-3 enum-known-p-3 enum-known-resources read-lists-requires enum-known-p-4 enum-known-h put-table-requires returns returns-2 returns-3 returns-4 same-length returns-5)
+put-counts-spec = tie.close (tie.spec add-t19 number-requires enum-known-p enum-known-d number-requires-2 enum-known-p-2 enum-known-channels
+    number-requires-3 enum-known-p-3 enum-known-resources read-lists-requires enum-known-p-4 enum-known-h put-table-requires returns
+    returns-2 returns-3 returns-4 same-length returns-5)

@@ -49,7 +49,8 @@ returns c =
     let loop = c .before .before .before .before .before .before .before .before .before .loop in
     let loop-test = c .before .before .before .before .before .before .before .before .loop-test in
     let item-at = c .before .before .before .before .before .before .item-at in
-    let z = puts-bad _ _ _ _ _ (put-row-needs .ensures) (n .given .1) in (needing-no _ _ _ (loop .inv .1) (loop-test .taken) (item-at .ensures) (z .0), z .1 ∙ loop .inv .1 .puts .long)
+    let z = puts-bad _ _ _ _ _ (put-row-needs .ensures) (n .given .1)
+    in (needing-no _ _ _ (loop .inv .1) (loop-test .taken) (item-at .ensures) (z .0), z .1 ∙ loop .inv .1 .puts .long)
 
 enum-known-to : tie.Need-enum-known-to Inv-loop μ-loop
 enum-known-to c = search needs
@@ -81,4 +82,5 @@ returns-2 c =
     (loop .inv .1 .done, needing-end _ _ _ (loop .inv .1) (loop-test .left), loop .inv .1 .puts)
 
 pub put-needs-spec : {M : Type 1} → statement M
-put-needs-spec = tie.close (tie.spec Inv-loop μ-loop loop-holds item-at-requires put-row-needs-requires enum-known-n same-length returns enum-known-to add-i loop-less loop-again same-length-2 returns-2)
+put-needs-spec = tie.close (tie.spec Inv-loop μ-loop loop-holds item-at-requires put-row-needs-requires enum-known-n same-length returns
+    enum-known-to add-i loop-less loop-again same-length-2 returns-2)

@@ -39,7 +39,9 @@ returns-3 c =
     let if1 = c .before .before .before .before .before .before .if1 in
     let is-description = c .before .before .before .before .before .is-description in
     let if2 = c .before .before .before .before .if2 in
-    puts-as (args-c .out .now) (put-counts .last .0) (args-c .to) (put-counts .result) (row-told (args-c .file .now) (args-c .row) (args-c .item) (if1 .left) (is-description .ensures) (not-false _ (if2 .left))) (put-counts .ensures)
+    puts-as (args-c .out .now) (put-counts .last .0) (args-c .to) (put-counts .result)
+    (row-told (args-c .file .now) (args-c .row) (args-c .item) (if1 .left) (is-description .ensures) (not-false _ (if2 .left)))
+    (put-counts .ensures)
 
 pub put-row-needs-spec : {M : Type 1} → statement M
 put-row-needs-spec = tie.close (tie.spec returns is-description-requires returns-2 put-counts-requires same-length returns-3)

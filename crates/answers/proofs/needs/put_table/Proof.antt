@@ -14,7 +14,8 @@ use Rattle.answers.proofs.needs.put_table.Statement.{statement}
 use Rattle.answers.proofs.needs.put_table.Tie as tie
 
 abbrev Inv-loop : tie.InvT-loop
-Inv-loop out₀ to file end row channels resources count next₀ at₀ i₀ out next at i = Listing file (end .0) (channels * resources) (at₀ .at .0) row resources out₀ out next₀ next i (at .at .0)
+Inv-loop out₀ to file end row channels resources count next₀ at₀ i₀ out next at i = Listing file (end .0) (channels * resources)
+    (at₀ .at .0) row resources out₀ out next₀ next i (at .at .0)
 
 abbrev μ-loop : tie.MeasureT-loop
 μ-loop out₀ to file end row channels resources count next₀ at₀ i₀ out next at i = end .0 - at .at .0
@@ -110,4 +111,5 @@ returns-3 c =
     (countLines _ _ 0 (loop .inv .done), listing-done _ _ _ (loop .inv) (loop-test .left) (if1 .left), loop .inv .puts)
 
 pub put-table-spec : {M : Type 1} → statement M
-put-table-spec = tie.close (tie.spec Inv-loop μ-loop mul-count loop-holds number-requires enum-known-p same-length returns enum-known-needed div-put-count rem-put-count put-count-requires add-i loop-less loop-again same-length-2 returns-2 same-length-3 returns-3)
+put-table-spec = tie.close (tie.spec Inv-loop μ-loop mul-count loop-holds number-requires enum-known-p same-length returns enum-known-needed
+    div-put-count rem-put-count put-count-requires add-i loop-less loop-again same-length-2 returns-2 same-length-3 returns-3)

@@ -38,7 +38,9 @@ returns c =
     let read-file = c .before .before .before .before .before .before .before .read-file in
     let s = c .before .before .before .s in
     let if1 = c .if1 in
-    counts-as (text-past _ (node-table .ensures) (item-table .ensures) _ (standing (args-c .file .now) _ _ _ (read-file .ensures .0) (read-file .ensures .1 .0) (read-file .ensures .1 .1) (s .given .1)) (if1 .taken)) (counts-none _ (omega arith))
+    counts-as (text-past _ (node-table .ensures) (item-table .ensures) _
+    (standing (args-c .file .now) _ _ _ (read-file .ensures .0) (read-file .ensures .1 .0) (read-file .ensures .1 .1) (s .given .1))
+    (if1 .taken)) (counts-none _ (omega arith))
 
 slice-aggregate-is-no-title : tie.Need-slice-aggregate-is-no-title
 slice-aggregate-is-no-title c = search needs
@@ -49,7 +51,8 @@ is-no-title-requires c κs =
     let read-file = c .before .before .before .before .before .before .before .before .read-file in
     let s = c .before .before .before .before .s in
     let if1 = c .before .if1 in
-    let w = (standing (args-c .file .now) _ _ _ (read-file .ensures .0) (read-file .ensures .1 .0) (read-file .ensures .1 .1) (s .given .1)) in omega (arith, w .item-room, if1 .left)
+    let w = (standing (args-c .file .now) _ _ _ (read-file .ensures .0) (read-file .ensures .1 .0) (read-file .ensures .1 .1) (s .given .1))
+    in omega (arith, w .item-room, if1 .left)
 
 returns-2 : tie.Need-returns-2
 returns-2 c =
@@ -61,7 +64,9 @@ returns-2 c =
     let if1 = c .before .before .before .if1 in
     let is-no-title = c .before .is-no-title in
     let if2 = c .if2 in
-    counts-as (text-none _ (node-table .ensures) (item-table .ensures) _ (standing (args-c .file .now) _ _ _ (read-file .ensures .0) (read-file .ensures .1 .0) (read-file .ensures .1 .1) (s .given .1)) (omega (arith, if1 .left)) (is-no-title .ensures) (if2 .taken)) (counts-none _ (omega arith))
+    counts-as (text-none _ (node-table .ensures) (item-table .ensures) _
+    (standing (args-c .file .now) _ _ _ (read-file .ensures .0) (read-file .ensures .1 .0) (read-file .ensures .1 .1) (s .given .1))
+    (omega (arith, if1 .left)) (is-no-title .ensures) (if2 .taken)) (counts-none _ (omega arith))
 
 slice-aggregate-item-at : tie.Need-slice-aggregate-item-at
 slice-aggregate-item-at c = search needs
@@ -72,7 +77,8 @@ item-at-requires c κs =
     let read-file = c .before .before .before .before .before .before .before .before .before .before .before .before .read-file in
     let s = c .before .before .before .before .before .before .before .before .s in
     let if1 = c .before .before .before .before .before .if1 in
-    let w = (standing (args-c .file .now) _ _ _ (read-file .ensures .0) (read-file .ensures .1 .0) (read-file .ensures .1 .1) (s .given .1)) in omega (arith, w .item-room, if1 .left)
+    let w = (standing (args-c .file .now) _ _ _ (read-file .ensures .0) (read-file .ensures .1 .0) (read-file .ensures .1 .1) (s .given .1))
+    in omega (arith, w .item-room, if1 .left)
 
 put-text-requires : tie.Need-put-text-requires
 put-text-requires c κs =
@@ -81,7 +87,9 @@ put-text-requires c κs =
     let read-file = c .before .before .before .before .before .before .before .before .before .before .before .before .before .read-file in
     let s = c .before .before .before .before .before .before .before .before .before .s in
     let if1 = c .before .before .before .before .before .before .if1 in
-    rw (item-at .ensures) (item-rows (standing (args-c .file .now) _ _ _ (read-file .ensures .0) (read-file .ensures .1 .0) (read-file .ensures .1 .1) (s .given .1)) .1 _ (omega (arith, if1 .left)))
+    rw (item-at .ensures) (item-rows
+    (standing (args-c .file .now) _ _ _ (read-file .ensures .0) (read-file .ensures .1 .0) (read-file .ensures .1 .1) (s .given .1)) .1 _
+    (omega (arith, if1 .left)))
 
 returns-3 : tie.Need-returns-3
 returns-3 c =
@@ -106,7 +114,11 @@ returns-4 c =
     let if2 = c .before .before .before .before .before .before .if2 in
     let item-at = c .before .before .before .item-at in
     let put-text = c .before .before .put-text in
-    counts-as (text-is _ (node-table .ensures) (item-table .ensures) _ (standing (args-c .file .now) _ _ _ (read-file .ensures .0) (read-file .ensures .1 .0) (read-file .ensures .1 .1) (s .given .1)) (omega (arith, if1 .left)) (is-no-title .ensures) (if2 .left) (item-at .ensures)) (put-text .ensures)
+    counts-as (text-is _ (node-table .ensures) (item-table .ensures) _
+    (standing (args-c .file .now) _ _ _ (read-file .ensures .0) (read-file .ensures .1 .0) (read-file .ensures .1 .1) (s .given .1))
+    (omega (arith, if1 .left)) (is-no-title .ensures) (if2 .left) (item-at .ensures)) (put-text .ensures)
 
 pub put-row-text-spec : {M : Type 1} → statement M
-put-row-text-spec = tie.close (tie.spec node-table-requires item-table-requires slice-aggregate-read-file slice-aggregate-read-file-2 read-file-requires enum-known-n enum-known-s returns slice-aggregate-is-no-title is-no-title-requires returns-2 slice-aggregate-item-at item-at-requires put-text-requires returns-3 same-length returns-4)
+put-row-text-spec = tie.close (tie.spec node-table-requires item-table-requires slice-aggregate-read-file slice-aggregate-read-file-2
+    read-file-requires enum-known-n enum-known-s returns slice-aggregate-is-no-title is-no-title-requires returns-2 slice-aggregate-item-at
+    item-at-requires put-text-requires returns-3 same-length returns-4)

@@ -100,4 +100,6 @@ returns-3 : tie.Need-returns-3 Inv-loop μ-loop
 returns-3 c = search needs
 
 pub put-safe-spec : {M : Type 1} → statement M
-put-safe-spec = tie.close (tie.spec Inv-loop μ-loop loop-holds safe-size-requires add-if1 put-cut-requires same-length returns put-cut-requires-2 same-length-2 returns-2 put-escaped-requires add-at loop-less loop-again put-part-requires add-at-2 loop-less-2 loop-again-2 same-length-3 returns-3)
+put-safe-spec = tie.close (tie.spec Inv-loop μ-loop loop-holds safe-size-requires add-if1 put-cut-requires same-length returns
+    put-cut-requires-2 same-length-2 returns-2 put-escaped-requires add-at loop-less loop-again put-part-requires add-at-2 loop-less-2
+    loop-again-2 same-length-3 returns-3)

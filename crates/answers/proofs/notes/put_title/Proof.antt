@@ -44,4 +44,5 @@ returns-2 : tie.Need-returns-2
 returns-2 c = search needs
 
 pub put-title-spec : {M : Type 1} → statement M
-put-title-spec = tie.close (tie.spec title-buffer-requires slice-aggregate-put-row-text put-row-text-requires put-byte-requires same-length returns array-share-prefix-text slice-aggregate-put-safe put-safe-requires same-length-2 returns-2)
+put-title-spec = tie.close (tie.spec title-buffer-requires slice-aggregate-put-row-text put-row-text-requires put-byte-requires same-length
+    returns array-share-prefix-text slice-aggregate-put-safe put-safe-requires same-length-2 returns-2)

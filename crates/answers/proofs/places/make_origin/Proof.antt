@@ -77,7 +77,10 @@ returns-2 c =
     let node-at = c .before .before .before .before .before .before .before .before .before .node-at in
     let conclude = c .before .before .conclude in
     let put-origin = c .before .before .before .before .before .before .before .put-origin in
-    gives-as (origin-good _ (node-table .ensures) (item-table .ensures) _ _ (resolve .ensures .0) (place .given .1) (resolve .ensures .1 .0) (node-at .ensures)) (conclude .ensures _ _ (put-origin .ensures))
+    gives-as (origin-good _ (node-table .ensures) (item-table .ensures) _ _ (resolve .ensures .0) (place .given .1) (resolve .ensures .1 .0)
+    (node-at .ensures)) (conclude .ensures _ _ (put-origin .ensures))
 
 pub make-origin-spec : {M : Type 1} → statement M
-make-origin-spec = tie.close (tie.spec node-table-requires item-table-requires slice-aggregate-resolve slice-aggregate-resolve-2 resolve-requires enum-known-n slice-aggregate-refuse refuse-requires enum-known-place slice-aggregate-node-at node-at-requires put-origin-requires slice-aggregate-conclude conclude-requires same-length returns same-length-2 returns-2)
+make-origin-spec = tie.close (tie.spec node-table-requires item-table-requires slice-aggregate-resolve slice-aggregate-resolve-2
+    resolve-requires enum-known-n slice-aggregate-refuse refuse-requires enum-known-place slice-aggregate-node-at node-at-requires
+    put-origin-requires slice-aggregate-conclude conclude-requires same-length returns same-length-2 returns-2)

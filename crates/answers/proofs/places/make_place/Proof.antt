@@ -68,4 +68,6 @@ returns-2 c =
     gives-as (place-good _ (node-table .ensures) (item-table .ensures) _ _ (resolve .ensures .0) (place .given .1)) (conclude .ensures _ _ (put-place .ensures))
 
 pub make-place-spec : {M : Type 1} → statement M
-make-place-spec = tie.close (tie.spec node-table-requires item-table-requires slice-aggregate-resolve slice-aggregate-resolve-2 resolve-requires enum-known-n slice-aggregate-refuse refuse-requires enum-known-place put-place-requires slice-aggregate-conclude conclude-requires same-length returns same-length-2 returns-2)
+make-place-spec = tie.close (tie.spec node-table-requires item-table-requires slice-aggregate-resolve slice-aggregate-resolve-2
+    resolve-requires enum-known-n slice-aggregate-refuse refuse-requires enum-known-place put-place-requires slice-aggregate-conclude
+    conclude-requires same-length returns same-length-2 returns-2)

@@ -52,4 +52,5 @@ returns-2 c =
     counts-as (origin-plain _ _ (if1 .left)) (counts-then (counts-then (counts-then (put-decimal .ensures) (put-bytes .ensures)) (put-decimal2 .ensures)) (put-byte .ensures))
 
 pub put-origin-spec : {M : Type 1} → statement M
-put-origin-spec = tie.close (tie.spec put-decimal-requires slice-aggregate-put-bytes put-bytes-requires put-decimal-requires-2 slice-aggregate-put-bytes-2 put-bytes-requires-2 same-length returns put-byte-requires same-length-2 returns-2)
+put-origin-spec = tie.close (tie.spec put-decimal-requires slice-aggregate-put-bytes put-bytes-requires put-decimal-requires-2
+    slice-aggregate-put-bytes-2 put-bytes-requires-2 same-length returns put-byte-requires same-length-2 returns-2)

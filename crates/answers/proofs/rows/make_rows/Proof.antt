@@ -86,7 +86,11 @@ returns-2 c =
     let conclude = c .before .before .conclude in
     let put-node-rows = c .before .before .before .before .before .before .before .before .before .before .before .before .put-node-rows in
     let put-item-rows = c .before .before .before .before .before .before .before .put-item-rows in
-    gives-as (rows-good _ (node-table .ensures) (item-table .ensures) _ (standing (args-c .file .now) _ _ _ (read-file .ensures .0) (read-file .ensures .1 .0) (read-file .ensures .1 .1) (s .given .1))) (conclude .ensures _ _ (counts-then (put-node-rows .ensures) (put-item-rows .ensures)))
+    gives-as (rows-good _ (node-table .ensures) (item-table .ensures) _
+    (standing (args-c .file .now) _ _ _ (read-file .ensures .0) (read-file .ensures .1 .0) (read-file .ensures .1 .1) (s .given .1)))
+    (conclude .ensures _ _ (counts-then (put-node-rows .ensures) (put-item-rows .ensures)))
 
 pub make-rows-spec : {M : Type 1} → statement M
-make-rows-spec = tie.close (tie.spec node-table-requires item-table-requires slice-aggregate-read-file slice-aggregate-read-file-2 read-file-requires enum-known-n slice-aggregate-refuse refuse-requires enum-known-s slice-aggregate-put-node-rows put-node-rows-requires slice-aggregate-put-item-rows put-item-rows-requires slice-aggregate-conclude conclude-requires same-length returns same-length-2 returns-2)
+make-rows-spec = tie.close (tie.spec node-table-requires item-table-requires slice-aggregate-read-file slice-aggregate-read-file-2
+    read-file-requires enum-known-n slice-aggregate-refuse refuse-requires enum-known-s slice-aggregate-put-node-rows put-node-rows-requires
+    slice-aggregate-put-item-rows put-item-rows-requires slice-aggregate-conclude conclude-requires same-length returns same-length-2 returns-2)

@@ -39,8 +39,11 @@ loop-again c =
     let loop-test = c .before .before .before .before .before .loop-test in
     let loop = c .before .before .before .before .before .before .loop in
     let item-at = c .before .before .before .item-at in
-    let put-item-row = c .before .before .put-item-row in
-    (omega arith, going-on (lines-on items-lined _ _ _ _ _ (loop-test .taken)) (loop .inv .1) (counts-as (ap (λ x. itemRow 0x69 (loop .i) x) (item-at .ensures)) (put-item-row .ensures)))
+    let put-item-row = c .before .before .put-item-row in (
+      omega arith,
+      going-on (lines-on items-lined _ _ _ _ _ (loop-test .taken)) (loop .inv .1)
+          (counts-as (ap (λ x. itemRow 0x69 (loop .i) x) (item-at .ensures)) (put-item-row .ensures)),
+    )
 
 same-length : tie.Need-same-length Inv-loop μ-loop
 same-length c =

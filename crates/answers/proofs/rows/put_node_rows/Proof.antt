@@ -39,8 +39,11 @@ loop-again c =
     let loop-test = c .before .before .before .before .before .loop-test in
     let loop = c .before .before .before .before .before .before .loop in
     let node-at = c .before .before .before .node-at in
-    let put-node-row = c .before .before .put-node-row in
-    (omega arith, going-on (lines-on nodes-lined _ _ _ _ _ (loop-test .taken)) (loop .inv .1) (counts-as (ap (λ x. nodeRow (loop .i) x) (node-at .ensures)) (put-node-row .ensures)))
+    let put-node-row = c .before .before .put-node-row in (
+      omega arith,
+      going-on (lines-on nodes-lined _ _ _ _ _ (loop-test .taken)) (loop .inv .1)
+          (counts-as (ap (λ x. nodeRow (loop .i) x) (node-at .ensures)) (put-node-row .ensures)),
+    )
 
 same-length : tie.Need-same-length Inv-loop μ-loop
 same-length c =

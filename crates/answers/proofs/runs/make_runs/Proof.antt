@@ -46,7 +46,8 @@ array-share-prefix-kinds c =
     let after-file-buffer = after-mark .before .before .before .before in
     let after-item-table = after-file-buffer .before in
     let after-node-table = after-item-table .before in
-    stored _ (after-node-table .node-table .ensures) (after-item-table .item-table .ensures) (after-file-buffer .file-buffer .ensures) (after-mark .mark .ensures .0) (after-n2 .n2 .given .1)
+    stored _ (after-node-table .node-table .ensures) (after-item-table .item-table .ensures) (after-file-buffer .file-buffer .ensures)
+    (after-mark .mark .ensures .0) (after-n2 .n2 .given .1)
     (after-mark .mark .ensures .1 .1 .1) .0
 
 slice-aggregate-put-runs : tie.Need-slice-aggregate-put-runs
@@ -56,7 +57,8 @@ slice-aggregate-put-runs c =
     let after-file-buffer = after-mark .before .before .before .before in
     let after-item-table = after-file-buffer .before in
     let after-node-table = after-item-table .before in
-    stored _ (after-node-table .node-table .ensures) (after-item-table .item-table .ensures) (after-file-buffer .file-buffer .ensures) (after-mark .mark .ensures .0) (after-n2 .n2 .given .1)
+    stored _ (after-node-table .node-table .ensures) (after-item-table .item-table .ensures) (after-file-buffer .file-buffer .ensures)
+    (after-mark .mark .ensures .0) (after-n2 .n2 .given .1)
     (after-mark .mark .ensures .1 .1 .1) .1
 
 put-runs-requires : tie.Need-put-runs-requires
@@ -80,7 +82,8 @@ returns c =
     let after-item-table = after-file-buffer .before in
     let after-node-table = after-item-table .before in
     gives-as
-    (runs-bad _ (after-node-table .node-table .ensures) (after-item-table .item-table .ensures) (after-file-buffer .file-buffer .ensures) (after-mark .mark .ensures .0) (after-n .n .given .1) _)
+    (runs-bad _ (after-node-table .node-table .ensures) (after-item-table .item-table .ensures) (after-file-buffer .file-buffer .ensures)
+    (after-mark .mark .ensures .0) (after-n .n .given .1) _)
     (after-refuse .refuse .ensures)
 
 same-length-2 : tie.Need-same-length-2
@@ -96,10 +99,13 @@ returns-2 c =
     let after-item-table = after-file-buffer .before in
     let after-node-table = after-item-table .before in
     gives-as
-    (runs-good _ (after-node-table .node-table .ensures) (after-item-table .item-table .ensures) (after-file-buffer .file-buffer .ensures) (after-mark .mark .ensures .0) (after-n2 .n2 .given .1) (after-mark .mark .ensures .1 .1 .1) _)
+    (runs-good _ (after-node-table .node-table .ensures) (after-item-table .item-table .ensures) (after-file-buffer .file-buffer .ensures)
+    (after-mark .mark .ensures .0) (after-n2 .n2 .given .1) (after-mark .mark .ensures .1 .1 .1) _)
     (after-conclude .conclude .ensures _ _ (after-put-runs .put-runs .ensures))
 
 pub make-runs-spec : {M : Type 1} → statement M
 make-runs-spec =
     tie.close
-    (tie.spec node-table-requires item-table-requires file-buffer-requires slice-aggregate-mark slice-aggregate-mark-2 slice-aggregate-mark-3 mark-requires enum-known-n slice-aggregate-refuse refuse-requires enum-known-n-2 array-share-prefix-kinds slice-aggregate-put-runs put-runs-requires slice-aggregate-conclude conclude-requires same-length returns same-length-2 returns-2)
+    (tie.spec node-table-requires item-table-requires file-buffer-requires slice-aggregate-mark slice-aggregate-mark-2 slice-aggregate-mark-3
+    mark-requires enum-known-n slice-aggregate-refuse refuse-requires enum-known-n-2 array-share-prefix-kinds slice-aggregate-put-runs
+    put-runs-requires slice-aggregate-conclude conclude-requires same-length returns same-length-2 returns-2)

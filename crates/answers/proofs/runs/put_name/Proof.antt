@@ -123,7 +123,8 @@ same-length-10 c = search needs
 returns-10 : tie.Need-returns-10
 returns-10 c =
     let none = c .before .before .before .before .match .rest in
-    counts-as (no-name _ (none .0 .0 .0 .0 .0 .0 .0 .0 .1) (none .0 .0 .0 .0 .0 .0 .0 .1) (none .0 .0 .0 .0 .0 .0 .1) (none .0 .0 .0 .0 .0 .1) (none .0 .0 .0 .0 .1) (none .0 .0 .0 .1) (none .0 .0 .1) (none .0 .1) (none .1)) (c .before .before .put-byte .ensures)
+    counts-as (no-name _ (none .0 .0 .0 .0 .0 .0 .0 .0 .1) (none .0 .0 .0 .0 .0 .0 .0 .1) (none .0 .0 .0 .0 .0 .0 .1) (none .0 .0 .0 .0 .0 .1)
+    (none .0 .0 .0 .0 .1) (none .0 .0 .0 .1) (none .0 .0 .1) (none .0 .1) (none .1)) (c .before .before .put-byte .ensures)
 
 pub put-name-spec : {M : Type 1} → statement M
 put-name-spec =

@@ -32,7 +32,8 @@ returns c =
     let after-put-number = after-put-number2 .before .before .before .before in
     let after-put-byte = after-put-number .before .before .before .before in
     counts-as (run-is _ _ _)
-    (counts-then (counts-then (counts-then (counts-then (after-put-byte .put-byte .ensures) (after-put-number .put-number .ensures)) (after-put-number2 .put-number2 .ensures)) (after-put-name .put-name .ensures)) (after-put-byte2 .put-byte2 .ensures))
+    (counts-then (counts-then (counts-then (counts-then (after-put-byte .put-byte .ensures) (after-put-number .put-number .ensures))
+    (after-put-number2 .put-number2 .ensures)) (after-put-name .put-name .ensures)) (after-put-byte2 .put-byte2 .ensures))
 
 pub put-run-spec : {M : Type 1} → statement M
 put-run-spec =

@@ -36,7 +36,11 @@ loop-less : tie.Need-loop-less Inv-loop μ-loop
 loop-less c = omega (arith, c .before .before .before .before .before .run-end .ensures .behind, c .before .before .before .before .before .run-end .ensures .within)
 
 loop-again : tie.Need-loop-again Inv-loop μ-loop
-loop-again c = (c .before .before .before .before .before .run-end .ensures .within, going-on (lines-next _ (c .before .before .before .before .before .run-end .ensures)) (c .before .before .before .before .before .before .before .loop .inv .1) (c .before .before .put-run .ensures))
+loop-again c =
+    let at-put-run = c .before .before in
+    let at-run-end = at-put-run .before .before .before in
+    let at-loop = at-run-end .before .before in
+    (at-run-end .run-end .ensures .within, going-on (lines-next _ (at-run-end .run-end .ensures)) (at-loop .loop .inv .1) (at-put-run .put-run .ensures))
 
 same-length : tie.Need-same-length Inv-loop μ-loop
 same-length c = going-length (c .before .loop .inv .1)

@@ -33,7 +33,9 @@ returns c =
     let item-table = c .before .before .before .before .before .before .before .before .before .before .before .before .item-table in
     let settle = c .before .before .settle in
     let write-edition = c .before .before .before .before .before .before .before .before .write-edition in
-    gives-as (sheet-as _ (node-table .ensures) (item-table .ensures) _ _ _) (settle .ensures _ _ (write-edition .kept .1 .1 .1 .1 .0) (write-edition .ensures .0) (write-edition .ensures .1))
+    gives-as (sheet-as _ (node-table .ensures) (item-table .ensures) _ _ _)
+    (settle .ensures _ _ (write-edition .kept .1 .1 .1 .1 .0) (write-edition .ensures .0) (write-edition .ensures .1))
 
 pub make-sheet-spec : {M : Type 1} → statement M
-make-sheet-spec = tie.close (tie.spec node-table-requires item-table-requires slice-aggregate-write-edition slice-aggregate-write-edition-2 write-edition-requires settle-requires same-length returns)
+make-sheet-spec = tie.close (tie.spec node-table-requires item-table-requires slice-aggregate-write-edition slice-aggregate-write-edition-2
+    write-edition-requires settle-requires same-length returns)

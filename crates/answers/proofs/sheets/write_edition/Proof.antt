@@ -41,4 +41,5 @@ returns-2 c =
     rw (if1 .left) (write-sheet .ensures .0, write-sheet .ensures .1 .1 .1)
 
 pub write-edition-spec : {M : Type 1} → statement M
-write-edition-spec = tie.close (tie.spec write-sheet2-requires same-length same-length-2 same-length-3 returns write-sheet-requires same-length-4 same-length-5 same-length-6 returns-2)
+write-edition-spec = tie.close (tie.spec write-sheet2-requires same-length same-length-2 same-length-3 returns write-sheet-requires
+    same-length-4 same-length-5 same-length-6 returns-2)

@@ -43,4 +43,5 @@ returns-2 c =
     totals-told _ (node-table .ensures) (item-table .ensures) _ (left2 .given .1) (account .ensures .1 .0)
 
 pub add-short-spec : {M : Type 1} → statement M
-add-short-spec = tie.close (tie.spec node-table-requires item-table-requires slice-aggregate-account slice-aggregate-account-2 account-requires enum-known-left enum-known-left-2 returns returns-2)
+add-short-spec = tie.close (tie.spec node-table-requires item-table-requires slice-aggregate-account slice-aggregate-account-2
+    account-requires enum-known-left enum-known-left-2 returns returns-2)

@@ -50,4 +50,5 @@ returns-2 c =
     answered (gives-as (printed-good summed _ _ (ap sumsTold (sums2 .given .1))) (conclude .ensures _ _ (put-sums .ensures)))
 
 pub make-sums-spec : {M : Type 1} → statement M
-make-sums-spec = tie.close (tie.spec enum-known-sums slice-aggregate-refuse refuse-requires enum-known-sums-2 put-sums-requires slice-aggregate-conclude conclude-requires same-length returns same-length-2 returns-2)
+make-sums-spec = tie.close (tie.spec enum-known-sums slice-aggregate-refuse refuse-requires enum-known-sums-2 put-sums-requires
+    slice-aggregate-conclude conclude-requires same-length returns same-length-2 returns-2)

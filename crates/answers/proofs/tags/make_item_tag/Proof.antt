@@ -50,4 +50,5 @@ returns-2 c =
     gives-as (tag-lent _ _ _ _ _ (is-withheld .ensures) (if1 .left) _ refl) (make-tag .ensures)
 
 pub make-item-tag-spec : {M : Type 1} → statement M
-make-item-tag-spec = tie.close (tie.spec is-withheld-requires hidden-requires same-length returns add-end sub-make-tag part-make-tag-start part-make-tag-end make-tag-requires same-length-2 returns-2)
+make-item-tag-spec = tie.close (tie.spec is-withheld-requires hidden-requires same-length returns add-end sub-make-tag part-make-tag-start
+    part-make-tag-end make-tag-requires same-length-2 returns-2)

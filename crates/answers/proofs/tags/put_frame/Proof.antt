@@ -46,7 +46,11 @@ returns c =
     let put-number2 = c .before .before .before .before .before .before .before .before .before .before .put-number2 in
     let put-number3 = c .before .before .before .before .before .before .put-number3 in
     let put-byte3 = c .before .before .put-byte3 in
-    counts-as (frame-is _ _ (name-bytes .ensures)) (counts-then (counts-then (counts-then (counts-then (counts-then (counts-then (put-byte .ensures) (put-number .ensures)) (put-byte2 .ensures)) (put-escaped .ensures)) (put-number2 .ensures)) (put-number3 .ensures)) (put-byte3 .ensures))
+    counts-as (frame-is _ _ (name-bytes .ensures))
+    (counts-then (counts-then (counts-then
+    (counts-then (counts-then (counts-then (put-byte .ensures) (put-number .ensures)) (put-byte2 .ensures)) (put-escaped .ensures))
+    (put-number2 .ensures)) (put-number3 .ensures)) (put-byte3 .ensures))
 
 pub put-frame-spec : {M : Type 1} → statement M
-put-frame-spec = tie.close (tie.spec name-bytes-requires put-byte-requires put-number-requires put-byte-requires-2 slice-aggregate-put-escaped put-escaped-requires put-number-requires-2 put-number-requires-3 put-byte-requires-3 same-length returns)
+put-frame-spec = tie.close (tie.spec name-bytes-requires put-byte-requires put-number-requires put-byte-requires-2
+    slice-aggregate-put-escaped put-escaped-requires put-number-requires-2 put-number-requires-3 put-byte-requires-3 same-length returns)

@@ -89,4 +89,5 @@ returns-3 c =
     framing-end _ (loop .inv .1) (loop-test .left) (loop .inv .0)
 
 pub put-frames-spec : {M : Type 1} → statement M
-put-frames-spec = tie.close (tie.spec Inv-loop μ-loop frame-count-requires enum-known-n enum-known-count loop-holds frame-requires enum-known-n-2 same-length returns enum-known-x put-frame-requires add-i loop-less loop-again returns-2 same-length-2 returns-3)
+put-frames-spec = tie.close (tie.spec Inv-loop μ-loop frame-count-requires enum-known-n enum-known-count loop-holds frame-requires
+    enum-known-n-2 same-length returns enum-known-x put-frame-requires add-i loop-less loop-again returns-2 same-length-2 returns-3)

@@ -36,7 +36,10 @@ returns c =
     let item-table = c .before .before .before .before .before .before .before .before .before .before .before .before .before .item-table in
     let settle = c .before .before .settle in
     let correct-title = c .before .before .before .before .before .before .before .before .before .correct-title in
-    gives-as (corrected-as _ (node-table .ensures) (item-table .ensures) _ _ _) (settle .ensures _ _ (correct-title .kept .1 .1 .1 .1 .1 .0) (correct-title .ensures .0) (correct-title .ensures .1 .1 .1))
+    gives-as (corrected-as _ (node-table .ensures) (item-table .ensures) _ _ _)
+    (settle .ensures _ _ (correct-title .kept .1 .1 .1 .1 .1 .0) (correct-title .ensures .0) (correct-title .ensures .1 .1 .1))
 
 pub make-corrected-spec : {M : Type 1} → statement M
-make-corrected-spec = tie.close (tie.spec node-table-requires item-table-requires slice-aggregate-correct-title slice-aggregate-correct-title-2 correct-title-requires slice-aggregate-settle settle-requires same-length returns)
+make-corrected-spec = tie.close
+    (tie.spec node-table-requires item-table-requires slice-aggregate-correct-title slice-aggregate-correct-title-2 correct-title-requires
+    slice-aggregate-settle settle-requires same-length returns)

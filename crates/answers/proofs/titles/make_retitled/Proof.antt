@@ -82,7 +82,10 @@ returns-3 c =
     let to-utf16 = c .before .before .before .before .before .before .before .before .before .to-utf16 in
     let n2 = c .before .before .before .before .before .before .n2 in
     let make-corrected2 = c .before .before .make-corrected2 in
-    gives-as (units-good _ _ _ _ (title-format .ensures) (if1 .left) (large-buffer .ensures) (to-utf16 .ensures .0) (n2 .given .1) _ (to-utf16 .ensures .1)) (make-corrected2 .ensures)
+    gives-as (units-good _ _ _ _ (title-format .ensures) (if1 .left) (large-buffer .ensures) (to-utf16 .ensures .0) (n2 .given .1) _
+    (to-utf16 .ensures .1)) (make-corrected2 .ensures)
 
 pub make-retitled-spec : {M : Type 1} → statement M
-make-retitled-spec = tie.close (tie.spec title-format-requires make-corrected-requires same-length returns large-buffer-requires slice-aggregate-to-utf16 to-utf16-requires enum-known-n slice-aggregate-refuse refuse-requires enum-known-n-2 array-share-prefix-units slice-aggregate-make-corrected make-corrected-requires-2 same-length-2 returns-2 same-length-3 returns-3)
+make-retitled-spec = tie.close (tie.spec title-format-requires make-corrected-requires same-length returns large-buffer-requires
+    slice-aggregate-to-utf16 to-utf16-requires enum-known-n slice-aggregate-refuse refuse-requires enum-known-n-2 array-share-prefix-units
+    slice-aggregate-make-corrected make-corrected-requires-2 same-length-2 returns-2 same-length-3 returns-3)

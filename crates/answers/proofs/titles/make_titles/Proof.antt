@@ -64,7 +64,9 @@ returns c =
     let refers-elsewhere = c .before .before .before .before .before .before .refers-elsewhere in
     let if1 = c .before .before .before .before .before .if1 in
     let refuse2 = c .before .before .refuse2 in
-    gives-as (titles-none _ (node-table .ensures) (item-table .ensures) _ (standing (args-c .file .now) _ _ _ (read-file .ensures .0) (read-file .ensures .1 .0) (read-file .ensures .1 .1) (s .given .1)) (refers-elsewhere .ensures) (if1 .taken)) (refuse2 .ensures)
+    gives-as (titles-none _ (node-table .ensures) (item-table .ensures) _
+    (standing (args-c .file .now) _ _ _ (read-file .ensures .0) (read-file .ensures .1 .0) (read-file .ensures .1 .1) (s .given .1))
+    (refers-elsewhere .ensures) (if1 .taken)) (refuse2 .ensures)
 
 slice-aggregate-put-title-lines : tie.Need-slice-aggregate-put-title-lines
 slice-aggregate-put-title-lines c = search needs
@@ -108,7 +110,12 @@ returns-3 c =
     let if1 = c .before .before .before .before .before .before .before .before .before .before .if1 in
     let conclude = c .before .before .conclude in
     let put-title-lines = c .before .before .before .before .before .before .before .put-title-lines in
-    gives-as (titles-good _ (node-table .ensures) (item-table .ensures) _ (standing (args-c .file .now) _ _ _ (read-file .ensures .0) (read-file .ensures .1 .0) (read-file .ensures .1 .1) (s .given .1)) (refers-elsewhere .ensures) (if1 .left)) (conclude .ensures _ _ (put-title-lines .ensures))
+    gives-as (titles-good _ (node-table .ensures) (item-table .ensures) _
+    (standing (args-c .file .now) _ _ _ (read-file .ensures .0) (read-file .ensures .1 .0) (read-file .ensures .1 .1) (s .given .1))
+    (refers-elsewhere .ensures) (if1 .left)) (conclude .ensures _ _ (put-title-lines .ensures))
 
 pub make-titles-spec : {M : Type 1} → statement M
-make-titles-spec = tie.close (tie.spec node-table-requires item-table-requires slice-aggregate-read-file slice-aggregate-read-file-2 read-file-requires enum-known-n slice-aggregate-refuse refuse-requires enum-known-s slice-aggregate-refers-elsewhere refers-elsewhere-requires slice-aggregate-refuse-2 refuse-requires-2 same-length returns slice-aggregate-put-title-lines put-title-lines-requires slice-aggregate-conclude conclude-requires same-length-2 returns-2 same-length-3 returns-3)
+make-titles-spec = tie.close (tie.spec node-table-requires item-table-requires slice-aggregate-read-file slice-aggregate-read-file-2
+    read-file-requires enum-known-n slice-aggregate-refuse refuse-requires enum-known-s slice-aggregate-refers-elsewhere
+    refers-elsewhere-requires slice-aggregate-refuse-2 refuse-requires-2 same-length returns slice-aggregate-put-title-lines
+    put-title-lines-requires slice-aggregate-conclude conclude-requires same-length-2 returns-2 same-length-3 returns-3)

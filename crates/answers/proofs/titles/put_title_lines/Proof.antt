@@ -12,7 +12,8 @@ use Rattle.answers.proofs.titles.put_title_lines.Statement.{statement}
 use Rattle.answers.proofs.titles.put_title_lines.Tie as tie
 
 abbrev Inv-loop : tie.InvT-loop
-Inv-loop out₀ file items count next₀ i₀ out next i = (i ≤ count) × Going out₀ out next₀ next (titleLines file 0 (itemsIn count items)) (titleLines file i (itemsFrom i (count - i) items))
+Inv-loop out₀ file items count next₀ i₀ out next i = (i ≤ count) × Going out₀ out next₀ next (titleLines file 0 (itemsIn count items))
+    (titleLines file i (itemsFrom i (count - i) items))
 
 abbrev μ-loop : tie.MeasureT-loop
 μ-loop out₀ file items count next₀ i₀ out next i = count - i

@@ -36,7 +36,9 @@ returns c =
     let read-file = c .before .before .before .before .before .before .before .read-file in
     let s = c .before .before .before .s in
     let if1 = c .if1 in
-    format-past _ (node-table .ensures) (item-table .ensures) _ (standing (args-c .file .now) _ _ _ (read-file .ensures .0) (read-file .ensures .1 .0) (read-file .ensures .1 .1) (s .given .1)) (if1 .taken)
+    format-past _ (node-table .ensures) (item-table .ensures) _
+    (standing (args-c .file .now) _ _ _ (read-file .ensures .0) (read-file .ensures .1 .0) (read-file .ensures .1 .1) (s .given .1))
+    (if1 .taken)
 
 slice-aggregate-is-no-title : tie.Need-slice-aggregate-is-no-title
 slice-aggregate-is-no-title c = search needs
@@ -47,7 +49,8 @@ is-no-title-requires c κs =
     let read-file = c .before .before .before .before .before .before .before .before .read-file in
     let s = c .before .before .before .before .s in
     let if1 = c .before .if1 in
-    let w = (standing (args-c .file .now) _ _ _ (read-file .ensures .0) (read-file .ensures .1 .0) (read-file .ensures .1 .1) (s .given .1)) in omega (arith, w .item-room, if1 .left)
+    let w = (standing (args-c .file .now) _ _ _ (read-file .ensures .0) (read-file .ensures .1 .0) (read-file .ensures .1 .1) (s .given .1))
+    in omega (arith, w .item-room, if1 .left)
 
 returns-2 : tie.Need-returns-2
 returns-2 c =
@@ -59,7 +62,9 @@ returns-2 c =
     let if1 = c .before .before .before .if1 in
     let is-no-title = c .before .is-no-title in
     let if2 = c .if2 in
-    format-none _ (node-table .ensures) (item-table .ensures) _ (standing (args-c .file .now) _ _ _ (read-file .ensures .0) (read-file .ensures .1 .0) (read-file .ensures .1 .1) (s .given .1)) (omega (arith, if1 .left)) (is-no-title .ensures) (if2 .taken)
+    format-none _ (node-table .ensures) (item-table .ensures) _
+    (standing (args-c .file .now) _ _ _ (read-file .ensures .0) (read-file .ensures .1 .0) (read-file .ensures .1 .1) (s .given .1))
+    (omega (arith, if1 .left)) (is-no-title .ensures) (if2 .taken)
 
 slice-aggregate-item-at : tie.Need-slice-aggregate-item-at
 slice-aggregate-item-at c = search needs
@@ -70,7 +75,8 @@ item-at-requires c κs =
     let read-file = c .before .before .before .before .before .before .before .before .before .before .before .read-file in
     let s = c .before .before .before .before .before .before .before .s in
     let if1 = c .before .before .before .before .if1 in
-    let w = (standing (args-c .file .now) _ _ _ (read-file .ensures .0) (read-file .ensures .1 .0) (read-file .ensures .1 .1) (s .given .1)) in omega (arith, w .item-room, if1 .left)
+    let w = (standing (args-c .file .now) _ _ _ (read-file .ensures .0) (read-file .ensures .1 .0) (read-file .ensures .1 .1) (s .given .1))
+    in omega (arith, w .item-room, if1 .left)
 
 returns-3 : tie.Need-returns-3
 returns-3 c =
@@ -91,7 +97,11 @@ returns-4 c =
     let is-no-title = c .before .before .before .is-no-title in
     let if2 = c .before .before .if2 in
     let item-at = c .item-at in
-    format-is _ (node-table .ensures) (item-table .ensures) _ (standing (args-c .file .now) _ _ _ (read-file .ensures .0) (read-file .ensures .1 .0) (read-file .ensures .1 .1) (s .given .1)) (omega (arith, if1 .left)) (is-no-title .ensures) (if2 .left) (item-at .ensures)
+    format-is _ (node-table .ensures) (item-table .ensures) _
+    (standing (args-c .file .now) _ _ _ (read-file .ensures .0) (read-file .ensures .1 .0) (read-file .ensures .1 .1) (s .given .1))
+    (omega (arith, if1 .left)) (is-no-title .ensures) (if2 .left) (item-at .ensures)
 
 pub title-format-spec : {M : Type 1} → statement M
-title-format-spec = tie.close (tie.spec node-table-requires item-table-requires slice-aggregate-read-file slice-aggregate-read-file-2 read-file-requires enum-known-n enum-known-s returns slice-aggregate-is-no-title is-no-title-requires returns-2 slice-aggregate-item-at item-at-requires returns-3 returns-4)
+title-format-spec = tie.close (tie.spec node-table-requires item-table-requires slice-aggregate-read-file slice-aggregate-read-file-2
+    read-file-requires enum-known-n enum-known-s returns slice-aggregate-is-no-title is-no-title-requires returns-2 slice-aggregate-item-at
+    item-at-requires returns-3 returns-4)

@@ -63,7 +63,10 @@ returns-2 c =
     let verdict-status = c .before .before .before .verdict-status in
     let conclude = c .before .before .conclude in
     let put-verdict = c .before .before .before .before .before .before .before .put-verdict in
-    gives-as (verdict-good _ (node-table .ensures) (item-table .ensures) _ _ (judge .ensures .0) (v .given .1) (verdict-status .ensures)) (conclude .ensures _ _ (put-verdict .ensures))
+    gives-as (verdict-good _ (node-table .ensures) (item-table .ensures) _ _ (judge .ensures .0) (v .given .1) (verdict-status .ensures))
+    (conclude .ensures _ _ (put-verdict .ensures))
 
 pub make-verdict-spec : {M : Type 1} → statement M
-make-verdict-spec = tie.close (tie.spec node-table-requires item-table-requires slice-aggregate-judge slice-aggregate-judge-2 judge-requires enum-known-n refuse-requires enum-known-v put-verdict-requires verdict-status-requires conclude-requires same-length returns same-length-2 returns-2)
+make-verdict-spec = tie.close (tie.spec node-table-requires item-table-requires slice-aggregate-judge slice-aggregate-judge-2 judge-requires
+    enum-known-n refuse-requires enum-known-v put-verdict-requires verdict-status-requires conclude-requires same-length returns
+    same-length-2 returns-2)

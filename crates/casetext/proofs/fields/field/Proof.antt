@@ -20,7 +20,13 @@ part-result-end : tie.Need-part-result-end
 part-result-end c = search needs
 
 returns : tie.Need-returns
-returns c = (field-within _ _ _ (c .before .before .field-start .ensures) (c .before .find-mark .ensures), field-unmarked _ _ _ (c .before .before .field-start .ensures) (c .before .find-mark .ensures))
+returns c =
+    let at-find-mark = c .before in
+    let at-field-start = at-find-mark .before in (
+      field-within _ _ _ (at-field-start .field-start .ensures) (at-find-mark .find-mark .ensures),
+      field-unmarked _ _ _
+          (at-field-start .field-start .ensures) (at-find-mark .find-mark .ensures),
+    )
 
 pub field-spec : {M : Type 1} → statement M
 field-spec =

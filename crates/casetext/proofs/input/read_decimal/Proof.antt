@@ -27,7 +27,10 @@ digit-requires : tie.Need-digit-requires Inv-loop μ-loop
 digit-requires c κs = search needs
 
 returns : tie.Need-returns Inv-loop μ-loop
-returns c = record { meant = λ e. absurd (false≢true e); taken = λ a h l. absurd (omega (arith, h (c .before .before .before .before .loop .i) (c .before .before .before .loop-test .taken), c .before .digit .ensures .0)) }
+returns c =
+    let at-loop-test = c .before .before .before in
+    let at-loop = at-loop-test .before in
+    record { meant = λ e. absurd (false≢true e); taken = λ a h l. absurd (omega (arith, h (at-loop .loop .i) (at-loop-test .loop-test .taken), c .before .digit .ensures .0)) }
 
 wide-requires : tie.Need-wide-requires Inv-loop μ-loop
 wide-requires c κs = search needs
@@ -36,7 +39,21 @@ sub-if2 : tie.Need-sub-if2 Inv-loop μ-loop
 sub-if2 c = omega (arith, c .wide .ensures)
 
 returns-2 : tie.Need-returns-2 Inv-loop μ-loop
-returns-2 c = record { meant = λ e. absurd (false≢true e); taken = λ a h l. absurd (omega (arith, c .before .wide .ensures, c .before .before .before .digit .ensures .0, value-over _ (c .before .before .before .before .before .before .loop .value) (c .before .before .before .before .before .before .loop .i) (c .before .before .before .before .before .loop-test .taken) (c .before .before .before .before .before .before .loop .inv .0))) }
+returns-2 c =
+    let at-digit = c .before .before .before in
+    let at-loop-test = at-digit .before .before in
+    let at-loop = at-loop-test .before in
+    record {
+      meant = λ e. absurd (false≢true e);
+      taken = λ a h l. absurd
+          (omega (
+            arith,
+            c .before .wide .ensures,
+            at-digit .digit .ensures .0,
+            value-over _ (at-loop .loop .value) (at-loop .loop .i)
+                (at-loop-test .loop-test .taken) (at-loop .loop .inv .0),
+          ));
+    }
 
 mul-value : tie.Need-mul-value Inv-loop μ-loop
 mul-value c = omega (arith, c .before .wide .ensures)
@@ -51,7 +68,11 @@ loop-less : tie.Need-loop-less Inv-loop μ-loop
 loop-less c = search needs
 
 loop-again : tie.Need-loop-again Inv-loop μ-loop
-loop-again c = (value-more _ _ _ _ _ (c .before .before .before .before .before .loop-test .taken) (c .before .before .before .before .before .before .loop .inv .0) (c .before .before .before .digit .ensures .0) (c .before .wide .ensures), omega arith)
+loop-again c =
+    let at-digit = c .before .before .before in
+    let at-loop-test = at-digit .before .before in
+    let at-loop = at-loop-test .before in
+    (value-more _ _ _ _ _ (at-loop-test .loop-test .taken) (at-loop .loop .inv .0) (at-digit .digit .ensures .0) (c .before .wide .ensures), omega arith)
 
 returns-3 : tie.Need-returns-3 Inv-loop μ-loop
 returns-3 c = record { meant = λ e. value-all _ _ (c .before .loop .i) (c .loop-test .left) (c .before .loop .inv .0); taken = λ a h l. lt-ltb _ _ a }

@@ -13,7 +13,8 @@ use Rattle.casetext.proofs.input.read_hex.Tie as tie
 use Rattle.casetext.specs.Text.{byteAt}
 
 abbrev Inv-loop : tie.InvT-loop
-Inv-loop digits bytes₀ count n₀ bytes n = (length bytes ≡ length bytes₀) × ((k : ℕ) → k < n → getD bytes k 0 ≡ byteAt digits k) × (n ≤ count) × (count ≤ length bytes) × (count * 2 ≤ length digits)
+Inv-loop digits bytes₀ count n₀ bytes n = (length bytes ≡ length bytes₀) × ((k : ℕ) → k < n → getD bytes k 0 ≡ byteAt digits k) ×
+    (n ≤ count) × (count ≤ length bytes) × (count * 2 ≤ length digits)
 
 abbrev μ-loop : tie.MeasureT-loop
 μ-loop digits bytes₀ count n₀ bytes n = count - n
@@ -22,7 +23,15 @@ shared-slice-read-t10 : tie.Need-shared-slice-read-t10 Inv-loop μ-loop
 shared-slice-read-t10 c = search needs
 
 returns : tie.Need-returns Inv-loop μ-loop
-returns c = record { within = omega arith; counted = refl; each = λ k l. omega arith; whole = λ e. inr (c .before .if1 .taken, eqb-true _ _ e); taken = λ n e l h. absurd (omega arith); dash = λ e f. eq-eqb _ _ f }
+returns c = record {
+  within = omega arith;
+  counted = refl;
+  each = λ k l. omega arith;
+  whole = λ e. inr
+      (c .before .if1 .taken, eqb-true _ _ e);
+  taken = λ n e l h. absurd (omega arith);
+  dash = λ e f. eq-eqb _ _ f;
+}
 
 returns-2 : tie.Need-returns-2 Inv-loop μ-loop
 returns-2 c = no-bytes _ _ (λ n e l h. absurd (omega arith)) (c .before .if1 .left)
@@ -55,13 +64,21 @@ same-length : tie.Need-same-length Inv-loop μ-loop
 same-length c = search needs
 
 returns-3 : tie.Need-returns-3 Inv-loop μ-loop
-returns-3 c = no-bytes _ _ (λ n e l h. absurd (omega (arith, h (2 * c .before .before .before .before .before .before .loop .n) (omega arith), c .before .before .before .digit .ensures .0))) (c .before .before .before .before .before .before .before .before .if1 .left)
+returns-3 c =
+    let at-digit = c .before .before .before in
+    let at-loop = at-digit .before .before .before in
+    let at-if1 = at-loop .before .before in
+    no-bytes _ _ (λ n e l h. absurd (omega (arith, h (2 * at-loop .loop .n) (omega arith), at-digit .digit .ensures .0))) (at-if1 .if1 .left)
 
 same-length-2 : tie.Need-same-length-2 Inv-loop μ-loop
 same-length-2 c = search needs
 
 returns-4 : tie.Need-returns-4 Inv-loop μ-loop
-returns-4 c = no-bytes _ _ (λ n e l h. absurd (omega (arith, h (2 * c .before .before .before .before .before .before .before .loop .n + 1) (omega arith), c .before .before .digit2 .ensures .0))) (c .before .before .before .before .before .before .before .before .before .if1 .left)
+returns-4 c =
+    let at-digit2 = c .before .before in
+    let at-loop = at-digit2 .before .before .before .before .before in
+    let at-if1 = at-loop .before .before in
+    no-bytes _ _ (λ n e l h. absurd (omega (arith, h (2 * at-loop .loop .n + 1) (omega arith), at-digit2 .digit2 .ensures .0))) (at-if1 .if1 .left)
 
 mul-bytes : tie.Need-mul-bytes Inv-loop μ-loop
 mul-bytes c = search needs
@@ -79,7 +96,19 @@ loop-less : tie.Need-loop-less Inv-loop μ-loop
 loop-less c = search needs
 
 loop-again : tie.Need-loop-again Inv-loop μ-loop
-loop-again c = (simp length-set (omega arith), byte-more (c .before .before .before .before .before .before .before .before .before .before .before .before .args .digits .now) (c .before .before .before .before .before .before .before .loop .bytes) (c .before .before .before .before .before .before .before .loop .n) _ _ (omega arith) (c .before .before .before .before .before .before .before .loop .inv .1) (c .before .before .before .before .digit .ensures .0) (c .before .before .digit2 .ensures .0), omega arith, simp length-set (omega arith), omega arith)
+loop-again c =
+    let at-digit2 = c .before .before in
+    let at-digit = at-digit2 .before .before in
+    let at-loop = at-digit .before .before .before in
+    let entry = at-loop .before .before .before .before .before in (
+      simp length-set (omega arith),
+      byte-more (entry .args .digits .now) (at-loop .loop .bytes) (at-loop .loop .n) _ _ (omega arith)
+          (at-loop .loop .inv .1) (at-digit .digit .ensures .0) (at-digit2 .digit2 .ensures .0),
+      omega arith,
+      simp length-set (omega arith),
+      omega
+          arith,
+    )
 
 mul-t20 : tie.Need-mul-t20 Inv-loop μ-loop
 mul-t20 c = search needs
@@ -88,7 +117,18 @@ same-length-3 : tie.Need-same-length-3 Inv-loop μ-loop
 same-length-3 c = search needs
 
 returns-5 : tie.Need-returns-5 Inv-loop μ-loop
-returns-5 c = record { within = omega arith; counted = sym (length-take-le _ _ (omega arith)); each = λ k l. c .before .loop .inv .1 k (omega arith); whole = λ e. inl (eqb-true _ _ e); taken = λ n e l h. eq-eqb (length (c .before .before .before .before .before .before .args .digits .now)) (length (c .before .before .before .before .before .before .args .digits .now) / 2 * 2) (omega arith); dash = λ e f. absurd (c .before .before .before .if1 .left e) }
+returns-5 c =
+    let at-if1 = c .before .before .before in
+    let entry = at-if1 .before .before .before in
+    record {
+      within = omega arith;
+      counted = sym (length-take-le _ _ (omega arith));
+      each = λ k l. c .before .loop .inv .1 k (omega arith);
+      whole = λ e. inl (eqb-true _ _ e);
+      taken = λ n e l h. eq-eqb (length (entry .args .digits .now))
+          (length (entry .args .digits .now) / 2 * 2) (omega arith);
+      dash = λ e f. absurd (at-if1 .if1 .left e);
+    }
 
 pub read-hex-spec : {M : Type 1} → statement M
 read-hex-spec =

@@ -11,7 +11,8 @@ use Rattle.casetext.proofs.output.put.Statement.{statement}
 use Rattle.casetext.proofs.output.put.Tie as tie
 
 abbrev Inv-loop : tie.InvT-loop
-Inv-loop out₀ at bytes end₀ i₀ out end i = (length out ≡ length out₀) × (i ≤ length bytes) × (min at (length out₀) ≤ end) × (end ≤ length out₀) × Puts out₀ out at (take i bytes) end
+Inv-loop out₀ at bytes end₀ i₀ out end i = (length out ≡ length out₀) × (i ≤ length bytes) × (min at (length out₀) ≤ end) ×
+    (end ≤ length out₀) × Puts out₀ out at (take i bytes) end
 
 abbrev μ-loop : tie.MeasureT-loop
 μ-loop out₀ at bytes end₀ i₀ out end i = length bytes - i
@@ -20,7 +21,9 @@ start-requires : tie.Need-start-requires Inv-loop μ-loop
 start-requires c κs = search needs
 
 loop-holds : tie.Need-loop-holds Inv-loop μ-loop
-loop-holds c = (refl, omega arith, omega arith, omega arith, put-none (c .before .before .before .before .args .out .now) [] (c .before .before .before .before .args .at) (c .start .result) (c .start .ensures))
+loop-holds c =
+    let entry = c .before .before .before .before in
+    (refl, omega arith, omega arith, omega arith, put-none (entry .args .out .now) [] (entry .args .at) (c .start .result) (c .start .ensures))
 
 shared-slice-read-put-byte : tie.Need-shared-slice-read-put-byte Inv-loop μ-loop
 shared-slice-read-put-byte c = search needs
@@ -35,7 +38,17 @@ loop-less : tie.Need-loop-less Inv-loop μ-loop
 loop-less c = search needs
 
 loop-again : tie.Need-loop-again Inv-loop μ-loop
-loop-again c = (omega arith, omega arith, omega arith, omega arith, put-more (c .before .before .before .before .before .before .before .before .before .before .before .args .out .now) (c .before .before .before .before .before .before .before .before .before .before .before .args .at) (c .before .before .before .before .before .before .before .before .before .before .before .args .bytes .now) (c .before .before .before .before .before .before .loop .i) (omega arith) (omega arith) (c .before .before .before .before .before .before .loop .inv .4) (c .before .before .put-byte .ensures .1))
+loop-again c =
+    let at-put-byte = c .before .before in
+    let at-loop = at-put-byte .before .before .before .before in
+    let entry = at-loop .before .before .before .before .before in (
+      omega arith,
+      omega arith,
+      omega arith,
+      omega arith,
+      put-more (entry .args .out .now) (entry .args .at) (entry .args .bytes .now)
+          (at-loop .loop .i) (omega arith) (omega arith) (at-loop .loop .inv .4) (at-put-byte .put-byte .ensures .1),
+    )
 
 same-length : tie.Need-same-length Inv-loop μ-loop
 same-length c = search needs

@@ -20,7 +20,14 @@ returns : tie.Need-returns
 returns c = (ends _ _ _ (simp length-set (omega arith)) (simp length-set (omega arith)), record { wrote = refl; fits = λ l. omega arith; over = λ l. omega arith })
 
 returns-2 : tie.Need-returns-2
-returns-2 c = (ends _ _ _ (omega arith) (omega arith), record { wrote = set-past (c .before .args .out .now) (c .before .args .at) (c .before .args .byte) (omega arith); fits = λ l. omega arith; over = λ l. omega arith })
+returns-2 c = (
+  ends _ _ _ (omega arith) (omega arith),
+  record {
+    wrote = set-past (c .before .args .out .now) (c .before .args .at) (c .before .args .byte) (omega arith);
+    fits = λ l. omega arith;
+    over = λ l. omega arith;
+  },
+)
 
 pub put-byte-spec : {M : Type 1} → statement M
 put-byte-spec = tie.close (tie.spec slice-write-out add-result same-length returns returns-2)

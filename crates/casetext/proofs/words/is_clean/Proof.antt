@@ -44,7 +44,15 @@ is-all-requires-2 : tie.Need-is-all-requires-2
 is-all-requires-2 c κs = search needs
 
 returns-4 : tie.Need-returns-4
-returns-4 c = (λ e. clean _ _ _ (c .before .before .before .before .before .before .if1 .left) (c .before .before .before .before .before .if2 .left) (c .before .before .before .is-all .ensures .0 (not-false _ (c .before .before .if3 .left))) (c .is-all2 .ensures .0 e), λ a b k. c .is-all2 .ensures .1 (each-part _ _ _ 7 b (omega arith) (k .kept)))
+returns-4 c =
+    let at-if3 = c .before .before in
+    let at-is-all = at-if3 .before in
+    let at-if2 = at-is-all .before .before in
+    let at-if1 = at-if2 .before in (
+      λ e. clean _ _ _ (at-if1 .if1 .left) (at-if2 .if2 .left) (at-is-all .is-all .ensures .0 (not-false _ (at-if3 .if3 .left)))
+          (c .is-all2 .ensures .0 e),
+      λ a b k. c .is-all2 .ensures .1 (each-part _ _ _ 7 b (omega arith) (k .kept)),
+    )
 
 pub is-clean-spec : {M : Type 1} → statement M
 is-clean-spec =

@@ -17,16 +17,27 @@ enum-known-size : tie.Need-enum-known-size
 enum-known-size c = search needs
 
 sub-if1 : tie.Need-sub-if1
-sub-if1 c = omega (arith, number-inside fileFrame _ _ _ _ (was numberTold (c .before .before .before .before .before .before .number .ensures fileFrame) (c .before .before .before .before .size .given .1)))
+sub-if1 c =
+    let at-size = c .before .before .before .before in
+    let at-number = at-size .before .before in
+    omega (arith, number-inside fileFrame _ _ _ _ (was numberTold (at-number .number .ensures fileFrame) (at-size .size .given .1)))
 
 returns : tie.Need-returns
-returns c = λ κ. block-past κ _ _ _ _ (was numberTold (c .before .before .before .before .before .before .before .number .ensures κ) (c .before .before .before .before .before .size .given .1)) (omega (arith, number-inside κ _ _ _ _ (was numberTold (c .before .before .before .before .before .before .before .number .ensures κ) (c .before .before .before .before .before .size .given .1)), c .if1 .taken))
+returns c =
+    let at-size = c .before .before .before .before .before in
+    let at-number = at-size .before .before in
+    λ κ. block-past κ _ _ _ _ (was numberTold (at-number .number .ensures κ) (at-size .size .given .1))
+    (omega (arith, number-inside κ _ _ _ _ (was numberTold (at-number .number .ensures κ) (at-size .size .given .1)), c .if1 .taken))
 
 returns-2 : tie.Need-returns-2
 returns-2 c = λ κ. block-size κ _ _ _ _ (was numberTold (c .before .before .before .number .ensures κ) (c .before .n .given .1))
 
 returns-3 : tie.Need-returns-3
-returns-3 c = λ κ. block-all κ _ _ _ _ (was numberTold (c .before .before .before .before .before .before .before .number .ensures κ) (c .before .before .before .before .before .size .given .1)) (omega (arith, number-inside κ _ _ _ _ (was numberTold (c .before .before .before .before .before .before .before .number .ensures κ) (c .before .before .before .before .before .size .given .1)), c .if1 .left))
+returns-3 c =
+    let at-size = c .before .before .before .before .before in
+    let at-number = at-size .before .before in
+    λ κ. block-all κ _ _ _ _ (was numberTold (at-number .number .ensures κ) (at-size .size .given .1))
+    (omega (arith, number-inside κ _ _ _ _ (was numberTold (at-number .number .ensures κ) (at-size .size .given .1)), c .if1 .left))
 
 pub block-spec : {M : Type 1} → statement M
 block-spec =

@@ -2,7 +2,6 @@ use Rattle.cursor.proofs.Digits.{GuidReading, guid-begun, out, missing,
 use borrow.Author.Needs.{needs}
 use Prim.Native.Nat.{_≤_}
 use native.Mathlib.Omega.{arith}
-use mathlib.Core.Path.{_≡_}
 use Rattle.cursor.proofs.Cursor.guid.Statement.{statement}
 use Rattle.cursor.proofs.Cursor.guid.Tie as tie
 
@@ -31,7 +30,11 @@ loop-less : tie.Need-loop-less Inv-loop μ-loop
 loop-less c = omega arith
 
 loop-again : tie.Need-loop-again Inv-loop μ-loop
-loop-again c = ((_, more (c .before .before .before .before .before .loop .inv .0 .1) (c .before .before .before .before .if1 .left) (c .before .before .before .if2 .left) (c .before .wide .ensures .0) (c .if3 .left)), omega arith)
+loop-again c =
+    let at-if2 = c .before .before .before in
+    let at-if1 = at-if2 .before in
+    let at-loop = at-if1 .before in
+    ((_, more (at-loop .loop .inv .0 .1) (at-if1 .if1 .left) (at-if2 .if2 .left) (c .before .wide .ensures .0) (c .if3 .left)), omega arith)
 
 returns : tie.Need-returns Inv-loop μ-loop
 returns c = out (c .before .loop .inv .0 .1) (c .if1 .taken)
@@ -40,7 +43,11 @@ returns-2 : tie.Need-returns-2 Inv-loop μ-loop
 returns-2 c = missing (c .before .before .loop .inv .0 .1) (c .before .if1 .left) (c .if2 .taken)
 
 returns-3 : tie.Need-returns-3 Inv-loop μ-loop
-returns-3 c = last (c .before .before .before .before .before .loop .inv .0 .1) (c .before .before .before .before .if1 .left) (c .before .before .before .if2 .left) (c .before .wide .ensures .0) (c .if3 .taken)
+returns-3 c =
+    let at-if2 = c .before .before .before in
+    let at-if1 = at-if2 .before in
+    let at-loop = at-if1 .before in
+    last (at-loop .loop .inv .0 .1) (at-if1 .if1 .left) (at-if2 .if2 .left) (c .before .wide .ensures .0) (c .if3 .taken)
 
 pub guid-spec : {M : Type 1} → statement M
 guid-spec =

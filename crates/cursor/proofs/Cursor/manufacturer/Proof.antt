@@ -23,13 +23,21 @@ sub-if3 : tie.Need-sub-if3
 sub-if3 c = search needs
 
 returns-3 : tie.Need-returns-3
-returns-3 c = λ κ. manufacturer-cut κ _ _ _ (c .before .before .before .before .before .if1 .left) (c .before .before .before .wide .ensures .0) (c .before .before .if2 .left) (omega arith)
+returns-3 c =
+    let at-if2 = c .before .before in
+    let at-wide = at-if2 .before in
+    let at-if1 = at-wide .before .before in
+    λ κ. manufacturer-cut κ _ _ _ (at-if1 .if1 .left) (at-wide .wide .ensures .0) (at-if2 .if2 .left) (omega arith)
 
 add-t13 : tie.Need-add-t13
 add-t13 c = search needs
 
 returns-4 : tie.Need-returns-4
-returns-4 c = λ κ. manufacturer-three κ _ _ _ (c .before .before .before .before .before .if1 .left) (c .before .before .before .wide .ensures .0) (c .before .before .if2 .left) (omega arith)
+returns-4 c =
+    let at-if2 = c .before .before in
+    let at-wide = at-if2 .before in
+    let at-if1 = at-wide .before .before in
+    λ κ. manufacturer-three κ _ _ _ (at-if1 .if1 .left) (at-wide .wide .ensures .0) (at-if2 .if2 .left) (omega arith)
 
 pub manufacturer-spec : {M : Type 1} → statement M
 manufacturer-spec =

@@ -1,12 +1,10 @@
 -- `Cursor::number` gives what `number` gives. The invariant: what is left of the definition is the whole, and the value is below 128 to the bytes read.
 -- Assumes nothing.
-use mathlib.Core.Path.{_≡_, refl, sym, _∙_}
-use Prim.Native.Nat.{ℕ, _+_, _*_, _%_, _≤_, _<_, _-_, _^_}
+use mathlib.Core.Path.{sym}
+use Prim.Native.Nat.{_≤_, _<_, _-_, _^_}
 use native.Mathlib.Omega.{arith}
 use borrow.Author.Needs.{needs}
-use Rattle.cursor.specs.Machine.{run}
-use Rattle.cursor.specs.Rows.{Frame}
-use Rattle.cursor.specs.Leaves.{number, digits}
+use Rattle.cursor.specs.Leaves.{number}
 use Rattle.cursor.proofs.Digits.{Reading, begun, out, missing, last, more, grown, below}
 use Rattle.cursor.proofs.Leaves.{number-short}
 use Rattle.cursor.proofs.Cursor.number.Statement.{statement}
@@ -49,7 +47,15 @@ loop-less : tie.Need-loop-less Inv-loop μ-loop
 loop-less c = omega arith
 
 loop-again : tie.Need-loop-again Inv-loop μ-loop
-loop-again c = (more (c .before .before .before .before .before .loop .inv .0) (c .before .before .before .before .if3 .left) (c .before .before .before .if4 .left) (c .before .wide .ensures .0) (c .if5 .left), omega arith, grown _ _ _ (c .before .before .before .before .if3 .left) (c .before .before .before .before .before .loop .inv .1) (c .before .before .before .before .before .loop .inv .2))
+loop-again c =
+    let at-if4 = c .before .before .before in
+    let at-if3 = at-if4 .before in
+    let at-loop = at-if3 .before in (
+      more (at-loop .loop .inv .0) (at-if3 .if3 .left) (at-if4 .if4 .left) (c .before .wide .ensures .0) (c .if5 .left),
+      omega arith,
+      grown _ _ _
+          (at-if3 .if3 .left) (at-loop .loop .inv .1) (at-loop .loop .inv .2),
+    )
 
 returns-2 : tie.Need-returns-2 Inv-loop μ-loop
 returns-2 c = out (c .before .loop .inv .0) (c .if3 .taken)
@@ -58,7 +64,11 @@ returns-3 : tie.Need-returns-3 Inv-loop μ-loop
 returns-3 c = missing (c .before .before .loop .inv .0) (c .before .if3 .left) (c .if4 .taken)
 
 returns-4 : tie.Need-returns-4 Inv-loop μ-loop
-returns-4 c = last (c .before .before .before .before .before .loop .inv .0) (c .before .before .before .before .if3 .left) (c .before .before .before .if4 .left) (c .before .wide .ensures .0) (c .if5 .taken)
+returns-4 c =
+    let at-if4 = c .before .before .before in
+    let at-if3 = at-if4 .before in
+    let at-loop = at-if3 .before in
+    last (at-loop .loop .inv .0) (at-if3 .if3 .left) (at-if4 .if4 .left) (c .before .wide .ensures .0) (c .if5 .taken)
 
 pub number-spec : {M : Type 1} → statement M
 number-spec =

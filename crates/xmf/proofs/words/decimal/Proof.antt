@@ -53,4 +53,5 @@ returns-4 : tie.Need-returns-4 Inv-loop μ-loop
 returns-4 c = search needs
 
 pub decimal-spec : {M : Type 1} → statement M
-decimal-spec = tie.close (tie.spec Inv-loop μ-loop loop-holds shared-slice-read-d returns returns-2 mul-value wide-requires add-value add-i loop-less loop-again returns-3 returns-4)
+decimal-spec = tie.close (tie.spec Inv-loop μ-loop loop-holds shared-slice-read-d returns returns-2 mul-value wide-requires add-value add-i
+    loop-less loop-again returns-3 returns-4)
