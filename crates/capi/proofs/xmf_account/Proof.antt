@@ -1,6 +1,6 @@
 -- `xmf_account` leaves the outcome of the account, and stores its totals.
 -- Assumes nothing.
-use Rattle.capi.proofs.Words.{account-leaves}
+use Rattle.capi.proofs.Calls.{account-leaves}
 use borrow.Author.Needs.{needs}
 use Rattle.capi.proofs.xmf_account.Statement.{statement}
 use Rattle.capi.proofs.xmf_account.Tie as tie

@@ -1,7 +1,7 @@
 -- `xmf_correct_title` leaves the outcome of the correction.
 -- Assumes nothing.
 use Rattle.promises.specs.Calls.{correct-title}
-use Rattle.capi.proofs.Words.{leaves}
+use Rattle.capi.proofs.Calls.{leaves}
 use borrow.Author.Needs.{needs}
 use Rattle.capi.proofs.xmf_correct_title.Statement.{statement}
 use Rattle.capi.proofs.xmf_correct_title.Tie as tie

@@ -2,7 +2,7 @@
 -- Assumes nothing.
 use Rattle.promises.specs.Promises.{findItem}
 use Rattle.promises.specs.Calls.{find-item}
-use Rattle.capi.proofs.Words.{asks-standard, asks-custom, leaves}
+use Rattle.capi.proofs.Calls.{asks-standard, asks-custom, leaves}
 use borrow.Author.Needs.{needs}
 use Rattle.capi.proofs.xmf_find.Statement.{statement}
 use Rattle.capi.proofs.xmf_find.Tie as tie

@@ -2,7 +2,7 @@
 -- Assumes nothing.
 use Rattle.promises.specs.Promises.{findOwn}
 use Rattle.promises.specs.Calls.{find-own}
-use Rattle.capi.proofs.Words.{asks-standard, asks-custom, leaves}
+use Rattle.capi.proofs.Calls.{asks-standard, asks-custom, leaves}
 use borrow.Author.Needs.{needs}
 use Rattle.capi.proofs.xmf_find_own.Statement.{statement}
 use Rattle.capi.proofs.xmf_find_own.Tie as tie

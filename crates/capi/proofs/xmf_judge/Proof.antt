@@ -1,7 +1,7 @@
 -- `xmf_judge` leaves the outcome of the verdict.
 -- Assumes nothing.
 use Rattle.promises.specs.Calls.{judge}
-use Rattle.capi.proofs.Words.{leaves}
+use Rattle.capi.proofs.Calls.{leaves}
 use borrow.Author.Needs.{needs}
 use Rattle.capi.proofs.xmf_judge.Statement.{statement}
 use Rattle.capi.proofs.xmf_judge.Tie as tie

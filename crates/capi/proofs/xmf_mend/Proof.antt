@@ -1,7 +1,7 @@
 -- `xmf_mend` leaves the outcome of mending.
 -- Assumes nothing.
 use Rattle.promises.specs.Calls.{mend-header}
-use Rattle.capi.proofs.Words.{leaves}
+use Rattle.capi.proofs.Calls.{leaves}
 use borrow.Author.Needs.{needs}
 use Rattle.capi.proofs.xmf_mend.Statement.{statement}
 use Rattle.capi.proofs.xmf_mend.Tie as tie

@@ -1,7 +1,7 @@
 -- `xmf_read_tree` leaves the outcome of the first question.
 -- Assumes nothing.
 use Rattle.promises.specs.Calls.{read-tree}
-use Rattle.capi.proofs.Words.{leaves}
+use Rattle.capi.proofs.Calls.{leaves}
 use borrow.Author.Needs.{needs}
 use Rattle.capi.proofs.xmf_read_tree.Statement.{statement}
 use Rattle.capi.proofs.xmf_read_tree.Tie as tie

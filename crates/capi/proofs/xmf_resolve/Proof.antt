@@ -1,7 +1,7 @@
 -- `xmf_resolve` leaves the outcome of Resolve.
 -- Assumes nothing.
 use Rattle.promises.specs.Calls.{resolve-row}
-use Rattle.capi.proofs.Words.{leaves}
+use Rattle.capi.proofs.Calls.{leaves}
 use borrow.Author.Needs.{needs}
 use Rattle.capi.proofs.xmf_resolve.Statement.{statement}
 use Rattle.capi.proofs.xmf_resolve.Tie as tie

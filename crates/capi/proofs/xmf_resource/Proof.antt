@@ -1,7 +1,7 @@
 -- `xmf_resource` leaves the outcome of the copy.
 -- Assumes nothing.
 use Rattle.promises.specs.Calls.{copy-resource}
-use Rattle.capi.proofs.Words.{leaves}
+use Rattle.capi.proofs.Calls.{leaves}
 use borrow.Author.Needs.{needs}
 use Rattle.capi.proofs.xmf_resource.Statement.{statement}
 use Rattle.capi.proofs.xmf_resource.Tie as tie

@@ -1,6 +1,6 @@
 -- `xmf_shelf_get` leaves what `get` leaves.
 -- Assumes nothing.
-use Rattle.capi.proofs.Words.{sheet-leaves}
+use Rattle.capi.proofs.Calls.{sheet-leaves}
 use borrow.Author.Needs.{needs}
 use Rattle.capi.proofs.xmf_shelf_get.Statement.{statement}
 use Rattle.capi.proofs.xmf_shelf_get.Tie as tie

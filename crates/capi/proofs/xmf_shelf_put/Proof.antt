@@ -3,7 +3,7 @@
 use mathlib.Core.Path.{refl}
 use Rattle.shelf.specs.Shelf.{label}
 use Rattle.shelf.specs.Runs.{putting}
-use Rattle.capi.proofs.Words.{shelf-leaves}
+use Rattle.capi.proofs.Calls.{shelf-leaves}
 use borrow.Author.Needs.{needs}
 use Rattle.capi.proofs.xmf_shelf_put.Statement.{statement}
 use Rattle.capi.proofs.xmf_shelf_put.Tie as tie

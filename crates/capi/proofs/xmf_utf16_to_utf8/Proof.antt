@@ -2,7 +2,7 @@
 -- Assumes nothing.
 use mathlib.Core.List.{[]}
 use Rattle.promises.specs.Calls.{to-utf8}
-use Rattle.capi.proofs.Words.{leaves}
+use Rattle.capi.proofs.Calls.{leaves}
 use borrow.Author.Needs.{needs}
 use Rattle.capi.proofs.xmf_utf16_to_utf8.Statement.{statement}
 use Rattle.capi.proofs.xmf_utf16_to_utf8.Tie as tie

@@ -1,7 +1,7 @@
 -- `xmf_voice_count` leaves the outcome of the count.
 -- Assumes nothing.
 use Rattle.promises.specs.Calls.{count-for}
-use Rattle.capi.proofs.Words.{leaves}
+use Rattle.capi.proofs.Calls.{leaves}
 use borrow.Author.Needs.{needs}
 use Rattle.capi.proofs.xmf_voice_count.Statement.{statement}
 use Rattle.capi.proofs.xmf_voice_count.Tie as tie

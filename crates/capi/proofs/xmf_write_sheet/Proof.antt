@@ -1,7 +1,7 @@
 -- `xmf_write_sheet` leaves the outcome of the sheet.
 -- Assumes nothing.
 use Rattle.promises.specs.Calls.{write-sheet}
-use Rattle.capi.proofs.Words.{leaves}
+use Rattle.capi.proofs.Calls.{leaves}
 use borrow.Author.Needs.{needs}
 use Rattle.capi.proofs.xmf_write_sheet.Statement.{statement}
 use Rattle.capi.proofs.xmf_write_sheet.Tie as tie

@@ -1,7 +1,7 @@
 -- `xmf_write_sheet2` leaves the outcome of the sheet in its second edition.
 -- Assumes nothing.
 use Rattle.promises.specs.Calls.{write-sheet2}
-use Rattle.capi.proofs.Words.{leaves}
+use Rattle.capi.proofs.Calls.{leaves}
 use borrow.Author.Needs.{needs}
 use Rattle.capi.proofs.xmf_write_sheet2.Statement.{statement}
 use Rattle.capi.proofs.xmf_write_sheet2.Tie as tie
