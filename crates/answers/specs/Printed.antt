@@ -16,7 +16,7 @@ use Rattle.tree.specs.Reading.{Reading, rows, refusal}
 use Rattle.tree.specs.Asking.{Asks, Counts, counts, ask}
 use Rattle.tree.specs.Own.{Numbered}
 use Rattle.sheet.specs.Sheet.{tabbed, number, versionText, textOf, itemLine, visibleLine, writeIn}
-use Rattle.mover.specs.Sheets.{move}
+use Rattle.editions.specs.Sheets.{move}
 use Rattle.mobile.specs.Mobile.{mobile}
 use Rattle.find.specs.Find.{Wanted}
 use Rattle.find.specs.Told.{question}

@@ -14,16 +14,17 @@ use borrow.Author.Tests.{eq-eqb, ne-eqb, le-leb, lt-leb}
 use Rattle.room.specs.Room.{Result, good, bad, fitting, counted, kept}
 use Rattle.room.specs.Counts.{Counts, tooMany}
 use Rattle.room.proofs.Counting.{counts-then, counts-as, Going, going-on, going-end, wrote-all, wrote-past}
-use Rattle.mover.specs.declared.State.{State}
+use Rattle.editions.specs.declared.State.{State}
 use Rattle.mover.specs.declared.ItemAt.{ItemAt}
 use Rattle.mover.specs.declared.ItemAt.the-variants as standing
-use Rattle.mover.specs.Sheets.{Lines, parted, written, word, Kind, node, item, other, kind, picked, isKind, isOf, nodesOf, itemsOf, reordered, renamed, lead, behind, movedLines, judged, isSecond, answered, move}
-use Rattle.mover.specs.Reads.{Known, AllKnown, runOf, pastRun, walk}
-use Rattle.mover.specs.Told.{Well, itemLines, Right, leftOf}
-use Rattle.mover.proofs.Order.{Rows, Items, Groups, to-second, first-nodes, first-items, walk-spreads}
-use Rattle.mover.proofs.Back.{lead-shape, blank, picked-end, reordered-end, Body, Whole, judged-shape}
-use Rattle.mover.proofs.Places.{Next}
-use Rattle.mover.proofs.Judging.{lent}
+use Rattle.editions.specs.Sheets.{Lines, parted, written, word, Kind, node, item, other, kind, picked, isKind, isOf, nodesOf, itemsOf, reordered, renamed, lead, behind, movedLines, judged, isSecond, answered, move}
+use Rattle.editions.specs.Reads.{Known, AllKnown, runOf, pastRun, walk}
+use Rattle.editions.specs.Told.{Well}
+use Rattle.mover.specs.Told.{itemLines, Right, leftOf}
+use Rattle.editions.proofs.Order.{Rows, Items, Groups, to-second, first-nodes, first-items, walk-spreads}
+use Rattle.editions.proofs.Back.{lead-shape, blank, picked-end, reordered-end, Body, Whole, judged-shape}
+use Rattle.editions.proofs.Places.{Next}
+use Rattle.editions.proofs.Judging.{lent}
 
 abbrev rest : List ℕ → ℕ → Lines
 rest s at = parted 0x0A (drop at s)

@@ -19,10 +19,10 @@ use Rattle.room.specs.Room as room
 use Rattle.room.proofs.Listed.{fitted}
 use Rattle.sheet.specs.Sheet.{linesIn, writeIn, refusals}
 use Rattle.sheet.proofs.Asked.{question-is}
-use Rattle.mover.specs.Sheets.{isSecond, move}
-use Rattle.mover.proofs.Back.{moves, moved-well}
-use Rattle.mover.proofs.Listed.{move-at}
-use Rattle.mover.proofs.File.{file-well, moved-as-written}
+use Rattle.editions.specs.Sheets.{isSecond, move}
+use Rattle.editions.proofs.Back.{moves, moved-well}
+use Rattle.editions.proofs.Listed.{move-at}
+use Rattle.editions.proofs.File.{file-well, moved-as-written}
 use Rattle.promises.specs.Promises.{moveSheet, Sizes, size, reads, rowsIntoRoom, sizeValue, saying, leaves, Outcome, outcome, newFile, wrote, OverAndBack, writes, SheetsMove}
 
 -- ---- over and back

@@ -62,7 +62,7 @@ use Rattle.mobile.proofs.Depends.{verdict-depends}
 use Rattle.sheet.specs.Sheet as sheet
 use Rattle.sheet.proofs.Listed.{sheet-listed, sheet2-listed}
 use Rattle.sheet.proofs.Depends.{Shown, sheet-same, sheet2-same}
-use Rattle.mover.proofs.Listed.{move-listed}
+use Rattle.editions.proofs.Listed.{move-listed}
 use Rattle.title.specs.Title as title
 use Rattle.title.proofs.Again.{corrected, correct-says, correct-least, correct-only, correct-again}
 use Rattle.title.proofs.Listed.{title-listed}

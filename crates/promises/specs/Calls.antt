@@ -35,7 +35,7 @@ use Rattle.account.specs.Told.{kindWords, totalWords, totalsIn}
 use Rattle.account.specs.declared.Totals.{Totals}
 use Rattle.account.specs.declared.Accounted.{Accounted}
 use Rattle.sheet.specs.Sheet.{write, write2}
-use Rattle.mover.specs.Sheets.{move}
+use Rattle.editions.specs.Sheets.{move}
 use Rattle.title.specs.Title as title
 use Rattle.mend.specs.Told as mended
 use Rattle.mend.specs.Told.{sizeWords, sizesOf, copyIn, linesIn, asked}

@@ -34,8 +34,8 @@ use Rattle.account.specs.declared.Totals.{Totals}
 use Rattle.description.specs.Count as count
 use Rattle.mobile.specs.Mobile as mobile
 use Rattle.sheet.specs.Sheet as sheet
-use Rattle.mover.specs.Sheets as mover
-use Rattle.mover.specs.Sheets.{WellFormed, OtherEdition}
+use Rattle.editions.specs.Sheets as mover
+use Rattle.editions.specs.Sheets.{WellFormed, OtherEdition}
 use Rattle.title.specs.Description.{described, retitled}
 use Rattle.title.specs.Title as title
 use Rattle.title.specs.Title.{Bytes, Says, NowhereLonger}

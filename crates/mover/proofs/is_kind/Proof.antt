@@ -1,6 +1,6 @@
 -- `is_kind` tells the kind of a known line by its first letter.
 -- Assumes nothing.
-use Rattle.mover.proofs.Fields.{item-letter, node-letter}
+use Rattle.editions.proofs.Fields.{item-letter, node-letter}
 use borrow.Author.Needs.{needs}
 use Rattle.mover.proofs.is_kind.Statement.{statement}
 use Rattle.mover.proofs.is_kind.Tie as tie

@@ -1,9 +1,9 @@
 -- `node_of` gives the node of an item line.
 -- Assumes nothing.
 use native.Mathlib.Omega.{arith}
-use Rattle.mover.specs.Told.{NumberAt}
-use Rattle.mover.proofs.Places.{as-told}
-use Rattle.mover.proofs.Fields.{label-room, node-of-none, node-of-no, node-of-is}
+use Rattle.editions.specs.Told.{NumberAt}
+use Rattle.editions.proofs.Places.{as-told}
+use Rattle.editions.proofs.Fields.{label-room, node-of-none, node-of-no, node-of-is}
 use borrow.Author.Needs.{needs}
 use Rattle.mover.proofs.node_of.Statement.{statement}
 use Rattle.mover.proofs.node_of.Tie as tie

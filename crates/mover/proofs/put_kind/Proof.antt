@@ -5,10 +5,10 @@ use Prim.Native.Nat.{_-_}
 use lib.ListN.{length, drop}
 use native.Mathlib.Omega.{arith}
 use Rattle.room.proofs.Counting.{Going, going-start, going-on, going-end, going-length}
-use Rattle.mover.specs.Sheets.{parted, written, picked, isKind}
-use Rattle.mover.specs.Reads.{AllKnown}
-use Rattle.mover.proofs.Places.{next-piece}
-use Rattle.mover.proofs.Judging.{lent}
+use Rattle.editions.specs.Sheets.{parted, written, picked, isKind}
+use Rattle.editions.specs.Reads.{AllKnown}
+use Rattle.editions.proofs.Places.{next-piece}
+use Rattle.editions.proofs.Judging.{lent}
 use Rattle.mover.proofs.Writing.{known-on, known-line, going-as, put-kind-one, put-kind-past, put-kind-end}
 use Rattle.mover.proofs.put_kind.Statement.{statement}
 use Rattle.mover.proofs.put_kind.Tie as tie

@@ -4,7 +4,7 @@ use mathlib.Core.Path.{refl}
 use native.Mathlib.Omega.{arith}
 use Rattle.room.proofs.Counting.{going-start, going-length}
 use Rattle.mover.specs.Told.{Right, leftOf}
-use Rattle.mover.proofs.Places.{as-told}
+use Rattle.editions.proofs.Places.{as-told}
 use Rattle.mover.proofs.Writing.{Running, run-none, run-over, run-less, run-turn}
 use borrow.Author.Needs.{needs}
 use Rattle.mover.proofs.put_run.Statement.{statement}

@@ -1,0 +1,14 @@
+pub mod Order
+pub mod Bytes
+pub mod Shape
+pub mod Back
+pub mod Numbers
+pub mod Places
+pub mod Fields
+pub mod Texts
+pub mod First
+pub mod Judging
+pub mod Listed
+pub mod Spelled
+pub mod Rows
+pub mod File
