@@ -19,33 +19,35 @@ use Rattle.tree.proofs.Rows.{item-at, items-in-length, Standing}
 use Rattle.tree.proofs.Exits.{Says, says-answer}
 use Rattle.tree.proofs.Own.{part-all}
 use Rattle.description.specs.Row.{isField}
-use Rattle.mobile.specs.Mobile.{all, isEmpty, children, rightEdition, filesOnly, plainReferences, noUnpackers, oneTune, isNeed, areNeeds, tuneNeeds, isShort, isSmall, smallFields, check, verdictBy, verdict, mobile}
+use Rattle.mobile.specs.Mobile.{all, isEmpty, rightEdition, filesOnly, plainReferences, noUnpackers, isNeed, areNeeds, isShort, isSmall, smallFields, check, verdict, mobile}
+use Rattle.mobile.specs.Pass.{children, oneTuneOf, tuneNeedsOf, verdictBy}
 use Rattle.mobile.specs.Told.{NextRow}
+use Rattle.mobile.proofs.Counts.{by-pass}
 use Rattle.mobile.specs.declared.Few.{Few}
 use Rattle.mobile.specs.declared.Few.the-variants as few
 
 -- ---- check 6
 
 module _ (ts ks : Few) where
-  pub tunes-none : ts ≡ few.None → false ≡ oneTune ts ks
-  unfolding oneTune
+  pub tunes-none : ts ≡ few.None → false ≡ oneTuneOf ts ks
+  unfolding oneTuneOf
   tunes-none e = rw e
 
-  pub tunes-more : ts ≡ few.More → false ≡ oneTune ts ks
-  unfolding oneTune
+  pub tunes-more : ts ≡ few.More → false ≡ oneTuneOf ts ks
+  unfolding oneTuneOf
   tunes-more e = rw e
 
   module _ {t : ℕ} (e : ts ≡ few.One t) where
-    pub tune-alone : ks ≡ few.None → true ≡ oneTune ts ks
-    unfolding oneTune
+    pub tune-alone : ks ≡ few.None → true ≡ oneTuneOf ts ks
+    unfolding oneTuneOf
     tune-alone h = rw (e, h)
 
-    pub tune-after : {k : ℕ} → ks ≡ few.One k → ltb k t ≡ oneTune ts ks
-    unfolding oneTune
+    pub tune-after : {k : ℕ} → ks ≡ few.One k → ltb k t ≡ oneTuneOf ts ks
+    unfolding oneTuneOf
     tune-after h = rw (e, h)
 
-    pub tune-beside : ks ≡ few.More → false ≡ oneTune ts ks
-    unfolding oneTune
+    pub tune-beside : ks ≡ few.More → false ≡ oneTuneOf ts ks
+    unfolding oneTuneOf
     tune-beside h = rw (e, h)
 
 -- ---- check 7
@@ -88,16 +90,16 @@ module _ (f : List ℕ) (tune : ℕ) (ws : List ℕ) (m : ℕ) where
     needs-on t a = needs-from a (step ∙ ap (λ x. x && all (isNeed f tune) (needs (i + 1))) t)
 
 module _ (f : List ℕ) (ts : Few) (is : List Item) where
-  pub needs-of-none : ts ≡ few.None → false ≡ tuneNeeds f ts is
-  unfolding tuneNeeds
+  pub needs-of-none : ts ≡ few.None → false ≡ tuneNeedsOf f ts is
+  unfolding tuneNeedsOf
   needs-of-none e = rw e
 
-  pub needs-of-more : ts ≡ few.More → false ≡ tuneNeeds f ts is
-  unfolding tuneNeeds
+  pub needs-of-more : ts ≡ few.More → false ≡ tuneNeedsOf f ts is
+  unfolding tuneNeedsOf
   needs-of-more e = rw e
 
-  pub needs-of-one : {t : ℕ} → ts ≡ few.One t → {b : Bool} → b ≡ areNeeds f t (those (isField 13) is) → b ≡ tuneNeeds f ts is
-  unfolding tuneNeeds
+  pub needs-of-one : {t : ℕ} → ts ≡ few.One t → {b : Bool} → b ≡ areNeeds f t (those (isField 13) is) → b ≡ tuneNeedsOf f ts is
+  unfolding tuneNeedsOf
   needs-of-one e h = rw e h
 
 -- ---- check 8
@@ -129,12 +131,12 @@ pub verdict-by : (f : List ℕ) (h : Header) (ns : List Node) (is : List Item) {
     (check 3 (plainReferences ns)
     (check 4 (noUnpackers ns)
     (check 5 (children f ns is .typed)
-    (check 6 (oneTune (children f ns is .tunes) (children f ns is .instruments)) (check 7 (tuneNeeds f (children f ns is .tunes) is) (check 8 (smallFields ns is) 0)))))))
+    (check 6 (oneTuneOf (children f ns is .tunes) (children f ns is .instruments)) (check 7 (tuneNeedsOf f (children f ns is .tunes) is) (check 8 (smallFields ns is) 0)))))))
     → r ≡ verdict f h ns is
-unfolding verdict verdictBy rightEdition
+unfolding verdictBy rightEdition
 verdict-by f h ns is e k t =
     let d = k ∙ ap (λ (x : Summary). eqb (x .version) 200 && (eqb (x .edition .kind) 2 && eqb (x .edition .revision) 1)) e in
-    rw d at t
+    (rw d at t) ∙ by-pass f h ns is
 
 -- ---- the answer
 

@@ -1,6 +1,6 @@
 -- The verdict depends on the rows and on the data of the rows of fields 3 and 13 alone: no other byte of the file counts.
 -- Assumes nothing.
-use mathlib.Core.Path.{_≡_, refl, ap, ap₂, _∙_}
+use mathlib.Core.Path.{_≡_, refl, ap, ap₂, _∙_, sym}
 use mathlib.Core.Bool.{Bool, true, false, cond, not, _&&_}
 use mathlib.Core.List.{List, [], _∷_}
 use Prim.Native.Nat.{ℕ, suc, _+_, _<_}
@@ -21,7 +21,9 @@ use Rattle.tree.specs.Own.{Numbered, itemsOf, numbered, those, isOwn, own}
 use Rattle.description.specs.Row.{isField, isBinary}
 use Rattle.description.proofs.Tests.{field-is}
 use Rattle.description.proofs.Depends.{readable-same}
-use Rattle.mobile.specs.Mobile.{all, isEmpty, roleOfNumber, roleOfRow, roleOfRows, roleOf, child, childrenFrom, children, isNeed, areNeeds, tuneNeeds, verdictBy, verdict}
+use Rattle.mobile.specs.Mobile.{all, isEmpty, roleOfNumber, roleOfRow, roleOfRows, roleOf, isNeed, areNeeds, verdict}
+use Rattle.mobile.specs.Pass.{child, childrenFrom, children, tuneNeedsOf, verdictBy}
+use Rattle.mobile.proofs.Counts.{by-pass}
 use Rattle.mobile.specs.declared.Role.{Role}
 use Rattle.mobile.specs.declared.Role.the-variants as role
 use Rattle.mobile.specs.declared.Few.{Few}
@@ -110,8 +112,8 @@ module _ (f g : List ℕ) where
   all-same tune [] h = refl
   all-same tune (r ∷ rs) h = ap₂ (λ (x y : Bool). (eqb (r .node) tune && (isBinary r && x)) && y) (readable-same f g r (h .0)) (all-same tune rs (h .1))
 
-  needs-same : (ts : Few) (is : List Item) → Each (Of 13) is → tuneNeeds f ts is ≡ tuneNeeds g ts is
-  unfolding tuneNeeds areNeeds
+  needs-same : (ts : Few) (is : List Item) → Each (Of 13) is → tuneNeedsOf f ts is ≡ tuneNeedsOf g ts is
+  unfolding tuneNeedsOf areNeeds
   needs-same (few.One t) is h = let rs = those (isField 13) is in ap (λ x. not (isEmpty rs) && x) (all-same t rs (those-same 13 is h))
   needs-same few.None is h = refl
   needs-same few.More is h = refl
@@ -125,8 +127,11 @@ module _ (f g : List ℕ) where
   each-of : (n : ℕ) (is : List Item) → Agreed n is → Each (Of n) is
   each-of n is a = each-at (Of n) _ is (λ i l e. let x = field-is (itemAt is i) n e in a i l (x .0) (x .1))
 
-  pub verdict-depends : (h : Header) (ns : List Node) (is : List Item) → Agreed 3 is → Agreed 13 is → verdict f h ns is ≡ verdict g h ns is
-  unfolding verdict verdictBy children
-  verdict-depends h ns is a b =
+  pass-depends : (h : Header) (ns : List Node) (is : List Item) → Agreed 3 is → Agreed 13 is → verdictBy f (children f ns is) h ns is ≡ verdictBy g (children g ns is) h ns is
+  unfolding verdictBy children
+  pass-depends h ns is a b =
       ap (λ (c : Children). verdictBy f c h ns is) (children-same is (each-of 3 is a) 1 (drop 1 ns))
       ∙ rw (needs-same (children g ns is .tunes) is (each-of 13 is b)) refl
+
+  pub verdict-depends : (h : Header) (ns : List Node) (is : List Item) → Agreed 3 is → Agreed 13 is → verdict f h ns is ≡ verdict g h ns is
+  verdict-depends h ns is a b = sym (by-pass f h ns is) ∙ pass-depends h ns is a b ∙ by-pass g h ns is

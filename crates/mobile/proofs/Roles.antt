@@ -20,7 +20,8 @@ use Rattle.tree.specs.Own.{itemsOf, own, firstRow, part, Tables}
 use Rattle.tree.proofs.Rows.{item-at, nodes-in-length}
 use Rattle.tree.proofs.Own.{items-numbered, drop-next, own-are}
 use Rattle.description.specs.Row.{isBinary}
-use Rattle.mobile.specs.Mobile.{roleOfType, roleOfNumber, roleOfRow, roleOfRows, roleOf, child, noChildren, childrenFrom, children}
+use Rattle.mobile.specs.Mobile.{roleOfType, roleOfNumber, roleOfRow, roleOfRows, roleOf}
+use Rattle.mobile.specs.Pass.{child, noChildren, childrenFrom, children}
 use Rattle.mobile.specs.Told.{NextRow}
 use Rattle.mobile.specs.declared.Role.{Role}
 use Rattle.mobile.specs.declared.Role.the-variants as role

@@ -1,2 +1,3 @@
 pub mod Mobile
+pub mod Pass
 pub mod Told

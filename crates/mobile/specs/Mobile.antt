@@ -4,7 +4,7 @@ use mathlib.Core.Bool.{Bool, true, false, cond, not, _&&_, _||_}
 use mathlib.Core.List.{List, [], _∷_}
 use Prim.Native.Nat.{ℕ, _+_}
 use lib.Dec.{ltb, leb, eqb}
-use lib.ListN.{getD, drop}
+use lib.ListN.{length, getD, drop}
 use Rattle.cursor.specs.Machine.{Out, ok, refused, run}
 use Rattle.cursor.specs.Rows.{metaFrame}
 use Rattle.cursor.specs.Refusals.{cutShort}
@@ -19,9 +19,6 @@ use Rattle.description.specs.Row.{isField, isBinary}
 use Rattle.description.specs.Count.{isReadable}
 use Rattle.mobile.specs.declared.Role.{Role}
 use Rattle.mobile.specs.declared.Role.the-variants as role
-use Rattle.mobile.specs.declared.Few.{Few}
-use Rattle.mobile.specs.declared.Few.the-variants as few
-use Rattle.mobile.specs.declared.Children.{Children}
 
 -- every one is as p says
 unfoldable pub all : {A : Type 0} → (A → Bool) → List A → Bool
@@ -58,31 +55,30 @@ roleOfRows f (r ∷ s ∷ rs) = role.Other
 unfoldable pub roleOf : List ℕ → List Item → Role
 roleOf f rs = roleOfRows f (those (isField 3) rs)
 
--- ---- the children: whether each may stand here, the tunes and the instruments
+-- ---- the children: all nodes but the root
 
--- of one kind there are none, one, in a row, or more; row k besides them
-unfoldable pub besides : ℕ → Few → Few
-besides k few.None = few.One k
-besides k (few.One j) = few.More
-besides k few.More = few.More
+abbrev pub isTune : Role → Bool
+isTune role.Tune = true
+isTune role.Instruments = false
+isTune role.Other = false
 
--- the child in row k, which is that, besides the others
-unfoldable pub child : Role → ℕ → Children → Children
-child role.Tune k c = record { typed = c .typed; tunes = besides k (c .tunes); instruments = c .instruments }
-child role.Instruments k c = record { typed = c .typed; tunes = c .tunes; instruments = besides k (c .instruments) }
-child role.Other k c = record { typed = false; tunes = c .tunes; instruments = c .instruments }
+abbrev pub isInstruments : Role → Bool
+isInstruments role.Tune = false
+isInstruments role.Instruments = true
+isInstruments role.Other = false
 
-abbrev pub noChildren : Children
-noChildren = record { typed = true; tunes = few.None; instruments = few.None }
+abbrev pub isOther : Role → Bool
+isOther role.Tune = false
+isOther role.Instruments = false
+isOther role.Other = true
 
--- of these nodes, the first of which is row k
-unfoldable pub childrenFrom : List ℕ → List Item → (k : ℕ) → List Node → Children
-childrenFrom f is k [] = noChildren
-childrenFrom f is k (r ∷ ns) = child (roleOf f (itemsOf (own is k))) k (childrenFrom f is (k + 1) ns)
+-- the rows of those that are as p says, among these nodes, the first of which is row k
+unfoldable pub rowsFrom : (Role → Bool) → List ℕ → List Item → (k : ℕ) → List Node → List ℕ
+rowsFrom p f is k [] = []
+rowsFrom p f is k (r ∷ ns) = cond (p (roleOf f (itemsOf (own is k)))) (k ∷ rowsFrom p f is (k + 1) ns) (rowsFrom p f is (k + 1) ns)
 
--- all nodes but the root
-unfoldable pub children : List ℕ → List Node → List Item → Children
-children f ns is = childrenFrom f is 1 (drop 1 ns)
+unfoldable pub childrenThat : (Role → Bool) → List ℕ → List Node → List Item → List ℕ
+childrenThat p f ns is = rowsFrom p f is 1 (drop 1 ns)
 
 -- ---- the checks
 
@@ -111,15 +107,13 @@ isUnpacked r = eqb (r .unpackerCount) 0
 unfoldable pub noUnpackers : List Node → Bool
 noUnpackers ns = all isUnpacked ns
 
--- 5: each child has one own field 3, with type 0, 1 or 5 (`typed` of the children)
+-- 5: each child has one own field 3, with type 0, 1 or 5
+unfoldable pub eachTyped : (others : List ℕ) → Bool
+eachTyped others = isEmpty others
 
 -- 6: one tune, at most one of instruments, and that one earlier
-unfoldable pub oneTune : (tunes instruments : Few) → Bool
-oneTune (few.One t) few.None = true
-oneTune (few.One t) (few.One k) = ltb k t
-oneTune (few.One t) few.More = false
-oneTune few.None k = false
-oneTune few.More k = false
+unfoldable pub oneTune : (tunes instruments : List ℕ) → Bool
+oneTune tunes instruments = eqb (length tunes) 1 && (leb (length instruments) 1 && all (λ k. all (ltb k) tunes) instruments)
 
 -- 7: field 13 on that tune only, at least one, universal, format 6 or 7, and each of them readable (02, E4)
 unfoldable pub isNeed : List ℕ → (tune : ℕ) → Item → Bool
@@ -128,10 +122,8 @@ isNeed f tune r = eqb (r .node) tune && (isBinary r && isReadable f r)
 unfoldable pub areNeeds : List ℕ → (tune : ℕ) → List Item → Bool
 areNeeds f tune rs = not (isEmpty rs) && all (isNeed f tune) rs
 
-unfoldable pub tuneNeeds : List ℕ → (tunes : Few) → List Item → Bool
-tuneNeeds f (few.One t) is = areNeeds f t (those (isField 13) is)
-tuneNeeds f few.None is = false
-tuneNeeds f few.More is = false
+unfoldable pub tuneNeeds : List ℕ → (tunes : List ℕ) → List Item → Bool
+tuneNeeds f tunes is = all (λ t. areNeeds f t (those (isField 13) is)) tunes
 
 -- 8: header lengths up to 65,535 (metadata and universal lengths are parts of a header), field number and name length up to 256
 unfoldable pub isShort : Node → Bool
@@ -153,19 +145,16 @@ unfoldable pub check : ℕ → Bool → ℕ → ℕ
 check n true later = later
 check n false later = n
 
-unfoldable pub verdictBy : List ℕ → Children → Header → List Node → List Item → ℕ
-verdictBy f c h ns is =
+unfoldable pub verdict : List ℕ → Header → List Node → List Item → ℕ
+verdict f h ns is =
     check 1 (rightEdition h)
     (check 2 (filesOnly ns)
     (check 3 (plainReferences ns)
     (check 4 (noUnpackers ns)
-    (check 5 (c .typed)
-    (check 6 (oneTune (c .tunes) (c .instruments))
-    (check 7 (tuneNeeds f (c .tunes) is)
+    (check 5 (eachTyped (childrenThat isOther f ns is))
+    (check 6 (oneTune (childrenThat isTune f ns is) (childrenThat isInstruments f ns is))
+    (check 7 (tuneNeeds f (childrenThat isTune f ns is) is)
     (check 8 (smallFields ns is) 0)))))))
-
-unfoldable pub verdict : List ℕ → Header → List Node → List Item → ℕ
-verdict f h ns is = verdictBy f (children f ns is) h ns is
 
 -- the question, which refuses nothing of its own
 unfoldable pub mobile : List ℕ → Header → List Node → List Item → Result ℕ

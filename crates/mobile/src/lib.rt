@@ -11,7 +11,8 @@ ghost use Rattle.tree.specs.Rows.{nodesIn, itemsIn, ItemIn, ItemRows};
 ghost use Rattle.tree.specs.Asking.{answered, nodesLeft, itemsLeft};
 ghost use Rattle.tree.specs.Own.{those, part, Tables};
 ghost use Rattle.description.specs.Row.{isField};
-ghost use Rattle.mobile.specs.Mobile.{all, roleOfType, roleOfRow, roleOf, besides, child, children, filesOnly, isPlain, plainReferences, noUnpackers, oneTune, isNeed, areNeeds, tuneNeeds, isShort, fieldSize, isSmall, smallFields, verdict, mobile};
+ghost use Rattle.mobile.specs.Mobile.{all, roleOfType, roleOfRow, roleOf, filesOnly, isPlain, plainReferences, noUnpackers, isNeed, areNeeds, isShort, fieldSize, isSmall, smallFields, verdict, mobile};
+ghost use Rattle.mobile.specs.Pass.{besides, child, children, oneTuneOf, tuneNeedsOf};
 ghost use Rattle.mobile.specs.Told.{told, NextRow};
 use cursor::Cursor;
 use cursor::FilePlace;
@@ -270,7 +271,7 @@ fn children_of(file: &[u8], nodes: &[u64], items: &[u64], n: usize, m: usize) ->
 
 // Whether there is one tune, and at most one of instruments, which is earlier.
 fn one_tune(tunes: Few, instruments: Few) -> bool
-    ensures { λ r. ⌜ r ≡ oneTune tunes instruments ⌝ }
+    ensures { λ r. ⌜ r ≡ oneTuneOf tunes instruments ⌝ }
 {
     match tunes {
         Few::One(t) => match instruments {
@@ -318,7 +319,7 @@ fn are_needs(file: &[u8], items: &[u64], many: usize, tune: usize) -> bool
 // Whether field 13 is on the tune, and there only, and readable.
 fn tune_needs(file: &[u8], items: &[u64], many: usize, tunes: Few) -> bool
     requires { ⌜ ItemRows (length (now file)) many (now items) ⌝ }
-    ensures { λ r. ⌜ r ≡ tuneNeeds (now (file .entry)) tunes (itemsIn many (now (items .entry))) ⌝ }
+    ensures { λ r. ⌜ r ≡ tuneNeedsOf (now (file .entry)) tunes (itemsIn many (now (items .entry))) ⌝ }
 {
     match tunes {
         Few::One(t) => are_needs(file, items, many, t),

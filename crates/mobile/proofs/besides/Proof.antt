@@ -1,6 +1,6 @@
 -- `besides` gives what `besides` gives by definition.
 -- Assumes nothing.
-use Rattle.mobile.specs.Mobile.{besides}
+use Rattle.mobile.specs.Pass.{besides}
 use borrow.Author.Needs.{needs}
 use Rattle.mobile.proofs.besides.Statement.{statement}
 use Rattle.mobile.proofs.besides.Tie as tie

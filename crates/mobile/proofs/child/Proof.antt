@@ -1,6 +1,6 @@
 -- `child` gives what `child` gives by definition.
 -- Assumes nothing.
-use Rattle.mobile.specs.Mobile.{child}
+use Rattle.mobile.specs.Pass.{child}
 use borrow.Author.Needs.{needs}
 use Rattle.mobile.proofs.child.Statement.{statement}
 use Rattle.mobile.proofs.child.Tie as tie

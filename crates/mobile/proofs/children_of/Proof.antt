@@ -6,7 +6,7 @@ use lib.ListN.{drop}
 use Rattle.tree.specs.Rows.{nodesIn, itemsIn}
 use Rattle.tree.specs.Own.{firstRow}
 use Rattle.tree.proofs.Own.{end-begin, rows-in, end-in, end-next}
-use Rattle.mobile.specs.Mobile.{childrenFrom}
+use Rattle.mobile.specs.Pass.{childrenFrom}
 use Rattle.mobile.proofs.Roles.{children-begin, children-end, child-next}
 use native.Mathlib.Omega.{arith}
 use borrow.Author.Needs.{needs}

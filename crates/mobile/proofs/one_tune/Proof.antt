@@ -1,4 +1,4 @@
--- `one_tune` says what `oneTune` says.
+-- `one_tune` says what `oneTuneOf` says.
 -- Assumes nothing.
 use Rattle.mobile.proofs.Checks.{tunes-none, tunes-more, tune-alone, tune-after, tune-beside}
 use borrow.Author.Needs.{needs}

@@ -1,4 +1,4 @@
--- `tune_needs` says what `tuneNeeds` says.
+-- `tune_needs` says what `tuneNeedsOf` says.
 -- Assumes nothing.
 use Rattle.mobile.proofs.Checks.{needs-of-none, needs-of-more, needs-of-one}
 use borrow.Author.Needs.{needs}

@@ -2,7 +2,7 @@
 -- Assumes nothing.
 use mathlib.Core.Path.{refl, ap, _∙_}
 use Rattle.tree.specs.Rows.{nodesIn, itemsIn}
-use Rattle.mobile.specs.Mobile.{oneTune, tuneNeeds}
+use Rattle.mobile.specs.Pass.{oneTuneOf, tuneNeedsOf}
 use Rattle.mobile.specs.declared.Children.{Children}
 use Rattle.mobile.proofs.Checks.{stop, skip, verdict-by}
 use borrow.Author.Needs.{needs}
@@ -110,7 +110,7 @@ returns-6 c =
     (skip 3 (at-plain-references .plain-references .ensures) (at-if3 .if3 .left)
     (skip 4 (at-no-unpackers .no-unpackers .ensures) (at-if4 .if4 .left)
     (skip 5 (ap (λ (x : Children). x .typed) (at-children-of .children-of .ensures)) (at-if5 .if5 .left)
-    (stop 6 _ (c .before .one-tune .ensures ∙ ap (λ (x : Children). oneTune (x .tunes) (x .instruments))
+    (stop 6 _ (c .before .one-tune .ensures ∙ ap (λ (x : Children). oneTuneOf (x .tunes) (x .instruments))
     (at-children-of .children-of .ensures)) (c .if6 .taken)))))))
 
 tune-needs-requires : tie.Need-tune-needs-requires
@@ -138,10 +138,10 @@ returns-7 c =
     (skip 3 (at-plain-references .plain-references .ensures) (at-if3 .if3 .left)
     (skip 4 (at-no-unpackers .no-unpackers .ensures) (at-if4 .if4 .left)
     (skip 5 (ap (λ (x : Children). x .typed) (at-children-of .children-of .ensures)) (at-if5 .if5 .left)
-    (skip 6 (at-one-tune .one-tune .ensures ∙ ap (λ (x : Children). oneTune (x .tunes) (x .instruments))
+    (skip 6 (at-one-tune .one-tune .ensures ∙ ap (λ (x : Children). oneTuneOf (x .tunes) (x .instruments))
     (at-children-of .children-of .ensures)) (at-if6 .if6 .left)
     (stop 7 _ (c .before .tune-needs .ensures ∙ ap
-    (λ (x : Children). tuneNeeds (entry .args .file .now) (x .tunes) (itemsIn (entry .args .s .items) (entry .args .items .now)))
+    (λ (x : Children). tuneNeedsOf (entry .args .file .now) (x .tunes) (itemsIn (entry .args .s .items) (entry .args .items .now)))
     (at-children-of .children-of .ensures)) (c .if7 .taken))))))))
 
 small-fields-requires : tie.Need-small-fields-requires
@@ -173,10 +173,10 @@ returns-8 c =
     (skip 3 (at-plain-references .plain-references .ensures) (at-if3 .if3 .left)
     (skip 4 (at-no-unpackers .no-unpackers .ensures) (at-if4 .if4 .left)
     (skip 5 (ap (λ (x : Children). x .typed) (at-children-of .children-of .ensures)) (at-if5 .if5 .left)
-    (skip 6 (at-one-tune .one-tune .ensures ∙ ap (λ (x : Children). oneTune (x .tunes) (x .instruments))
+    (skip 6 (at-one-tune .one-tune .ensures ∙ ap (λ (x : Children). oneTuneOf (x .tunes) (x .instruments))
     (at-children-of .children-of .ensures)) (at-if6 .if6 .left)
     (skip 7 (at-tune-needs .tune-needs .ensures ∙ ap
-    (λ (x : Children). tuneNeeds (entry .args .file .now) (x .tunes) (itemsIn (entry .args .s .items) (entry .args .items .now)))
+    (λ (x : Children). tuneNeedsOf (entry .args .file .now) (x .tunes) (itemsIn (entry .args .s .items) (entry .args .items .now)))
     (at-children-of .children-of .ensures)) (at-if7 .if7 .left) (stop 8 _ (c .before .small-fields .ensures) (c .if8 .taken)))))))))
 
 returns-9 : tie.Need-returns-9
@@ -203,10 +203,10 @@ returns-9 c =
     (skip 3 (at-plain-references .plain-references .ensures) (at-if3 .if3 .left)
     (skip 4 (at-no-unpackers .no-unpackers .ensures) (at-if4 .if4 .left)
     (skip 5 (ap (λ (x : Children). x .typed) (at-children-of .children-of .ensures)) (at-if5 .if5 .left)
-    (skip 6 (at-one-tune .one-tune .ensures ∙ ap (λ (x : Children). oneTune (x .tunes) (x .instruments))
+    (skip 6 (at-one-tune .one-tune .ensures ∙ ap (λ (x : Children). oneTuneOf (x .tunes) (x .instruments))
     (at-children-of .children-of .ensures)) (at-if6 .if6 .left)
     (skip 7 (at-tune-needs .tune-needs .ensures ∙ ap
-    (λ (x : Children). tuneNeeds (entry .args .file .now) (x .tunes) (itemsIn (entry .args .s .items) (entry .args .items .now)))
+    (λ (x : Children). tuneNeedsOf (entry .args .file .now) (x .tunes) (itemsIn (entry .args .s .items) (entry .args .items .now)))
     (at-children-of .children-of .ensures)) (at-if7 .if7 .left) (skip 8 (c .before .small-fields .ensures) (c .if8 .left) (refl)))))))))
 
 pub verdict-spec : {M : Type 1} → statement M
