@@ -1,22 +1,25 @@
 -- The ways through a node up to its contents: what each exit of the code comes to.
 -- Assumes nothing.
 use mathlib.Core.Path.{_≡_, refl, sym, ap, _∙_, subst}
-use mathlib.Core.Bool.{true, false, not, _||_, or-true}
+use mathlib.Core.Bool.{Bool, true, false, not, _||_, or-true}
 use lib.Dec.{eqb}
 use mathlib.Core.List.{List}
 use Prim.Native.Nat.{ℕ, zero, _+_, _-_, _≤_, _<_}
 use native.Mathlib.Omega.{arith}
-use borrow.Author.Tests.{lt-ltb, le-ltb, le-leb, lt-leb, eq-eqb, ne-eqb, not-false, not-true}
+use native.Mathlib.Decide.{ℕ-discrete}
+use borrow.Author.Tests.{lt-ltb, le-ltb, le-leb, lt-leb, eq-eqb, ne-eqb, eqb-true, not-false, not-true}
 use Rattle.cursor.specs.Machine.{Out, ok, refused, run, exec, turns, many}
 use Rattle.cursor.specs.Rows.{nodeFrame, unpackFrame, referenceFrame}
 use Rattle.cursor.specs.Leaves.{number, block, manufacturer, guid}
-use Rattle.cursor.specs.Told.{passTold}
+use Rattle.cursor.specs.Told.{ByteTold, passTold}
+use Rattle.cursor.specs.declared.Byte.{Byte}
 use Rattle.cursor.specs.declared.Cursor.{Cursor}
 use Rattle.cursor.specs.declared.FilePlace.{FilePlace}
 use Rattle.cursor.specs.declared.Node.{Node}
 use Rattle.cursor.specs.declared.Passed.{Passed}
 use Rattle.cursor.specs.declared.Passed.the-variants as passing
 use Rattle.cursor.proofs.Laws.{running, executing, andThen, run-turn, run-turned, run-many}
+use Rattle.cursor.proofs.Leaves.{number-short}
 use Rattle.cursor.proofs.Wp.{at-end}
 use Rattle.metadata.proofs.Ends.{Nothing, inside-free}
 use Rattle.metadata.specs.Tables.{State, state, put}
@@ -24,7 +27,7 @@ use Rattle.metadata.specs.Metadata.{Context, metadata}
 use Rattle.metadata.specs.declared.Made.{Made}
 use Rattle.metadata.specs.declared.Limits.{Limits}
 use Rattle.node.specs.Node.{headerLength, head, value, identifier, unpacker, entries, unpackers, resource, nodePlace, uriPlace, target, reference, Rest, rest, rowOf, front}
-use Rattle.node.specs.Told.{unpackerTold, frontTold, FrontFits, Fronts}
+use Rattle.node.specs.Told.{CommonTold, unpackerTold, frontTold, FrontFits, Fronts}
 use Rattle.node.specs.declared.Standing.{Standing}
 use Rattle.node.specs.declared.Head.{Head}
 use Rattle.node.specs.declared.Unpackers.{Unpackers}
@@ -147,6 +150,29 @@ module _ (end : ℕ) (s : List ℕ) (at n : ℕ) where
       unfolding unpacker
       unpacker-size e (passing.To c) h = let h′ = sym h in simp (running, e₁, le-leb _ _ l₁, e, h′)
       unpacker-size e (passing.Refused k p) h = let h′ = sym h in simp (running, e₁, le-leb _ _ l₁, e, h′)
+
+-- three bytes that are a whole unpacker: a kind that a number names, that number, a decoded size
+pub unpacker-common : (end : ℕ) (s : List ℕ) (at : ℕ) {kind name size : Byte} → ByteTold kind s at → ByteTold name s (kind .next .at .0) → ByteTold size s (name .next .at .0)
+    → at + 3 ≤ end → true ≡ (eqb (kind .value) 0 || eqb (kind .value) 2) → name .value ≤ 127 → size .value ≤ 127 → CommonTold true s end at
+unpacker-common end s at {kind} {name} {size} b₀ b₁ b₂ l which l₁ l₂ =
+    let k = numbered (kind .value) (sym which) in
+    let q₁ = b₀ .on in
+    let q₂ = b₁ .on in
+    let q₃ : size .next .at .0 ≡ at + 3 = omega (arith, b₂ .on) in
+    let e₀ = number-short unpackFrame 3 end s at (omega arith) (b₀ .is) (omega arith) q₁ in
+    let e₁ = number-short unpackFrame 3 end s (kind .next .at .0) (omega arith) (b₁ .is) (omega arith) q₂ in
+    let e₂ = number-short unpackFrame 3 end s (name .next .at .0) (omega arith) (b₂ .is) (omega arith) (b₂ .on) in
+    let named = sym (identifier-one (kind .value) end s (kind .next .at .0) (λ z. omega arith) (k .1) (value-all end s (kind .next .at .0) e₁)) in
+    (l, λ n. sym (unpacker-size end s at n e₀ (omega arith) named (passing.To (size .next)) (value-all end s (name .next .at .0) e₂)) ∙ ap (ok (n + 1)) q₃)
+  where
+    numbered : (k : ℕ) → (eqb k 0 || eqb k 2) ≡ true → (k ≤ 2) × ((k ≡ 1) → ⊥)
+    numbered k e = elim (ℕ-discrete k 0) [
+      | yes z ↦ (omega arith, λ y. omega arith)
+      | no z ↦ let t : eqb k 2 ≡ true = rw (ne-eqb _ _ z) at e in let y : k ≡ 2 = eqb-true _ _ t in (omega arith, λ x. omega arith)
+    ]
+
+pub common-was : (end : ℕ) (s : List ℕ) (at : ℕ) {b : Bool} → CommonTold b s end at → b ≡ true → CommonTold true s end at
+common-was end s at told e = subst (λ b. CommonTold b s end at) e told
 
 -- what is left of the entries is the whole
 pub record Going (s : List ℕ) (end at : ℕ) (i k : ℕ) : Type 0 where

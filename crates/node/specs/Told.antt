@@ -1,9 +1,10 @@
 -- What the code's answers say.
 -- Assumes nothing.
 use mathlib.Core.Path.{_≡_}
+use mathlib.Core.Bool.{Bool, true, false}
 use mathlib.Core.List.{List}
 use Prim.Native.Nat.{ℕ, _+_, _≤_}
-use Rattle.cursor.specs.Machine.{Out, ok, refused}
+use Rattle.cursor.specs.Machine.{Out, ok, refused, run}
 use Rattle.cursor.specs.declared.Passed.{Passed}
 use Rattle.cursor.specs.declared.Passed.the-variants as passing
 use Rattle.metadata.specs.Tables.{State, state}
@@ -17,7 +18,7 @@ use Rattle.node.specs.declared.Unpacked.the-variants as unpacked
 use Rattle.node.specs.declared.Reference.{Reference}
 use Rattle.node.specs.declared.Referred.{Referred}
 use Rattle.node.specs.declared.Referred.the-variants as referred
-use Rattle.node.specs.Node.{Rest}
+use Rattle.node.specs.Node.{unpacker, Rest}
 use Rattle.node.specs.declared.Rested.{Rested}
 use Rattle.node.specs.declared.Rested.the-variants as rested
 use Rattle.node.specs.declared.Front.{Front}
@@ -27,6 +28,11 @@ use Rattle.node.specs.declared.Fronted.the-variants as fronted
 abbrev pub headTold : Headed → Out Head
 headTold (headed.Is h c) = ok h (c .at .0)
 headTold (headed.Refused n p) = refused n (p .0)
+
+-- where the answer is yes, the three bytes at `at` are a whole unpacker
+abbrev pub CommonTold : Bool → (f : List ℕ) → (end at : ℕ) → Type 0
+CommonTold true f end at = (at + 3 ≤ end) × ((n : ℕ) → run (unpacker end n) f at ≡ ok (n + 1) (at + 3))
+CommonTold false f end at = Unit {0}
 
 -- an unpacker that was read is one more
 abbrev pub unpackerTold : Passed → ℕ → Out ℕ

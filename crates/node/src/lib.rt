@@ -10,7 +10,7 @@ ghost use Rattle.cursor.specs.Told.{Readable, passTold};
 ghost use Rattle.metadata.specs.Tables.{put, state};
 ghost use Rattle.metadata.specs.Told.{Room, contextOf};
 ghost use Rattle.node.specs.Node.{headerLength, head, value, identifier, unpacker, entries, unpackers, resource, nodePlace, uriPlace, target, reference, rest, rowOf, front};
-ghost use Rattle.node.specs.Told.{headTold, unpackerTold, unpackersTold, referenceTold, restTold, Fronts};
+ghost use Rattle.node.specs.Told.{headTold, CommonTold, unpackerTold, unpackersTold, referenceTold, restTold, Fronts};
 use cursor::Cursor;
 use cursor::FilePlace;
 use cursor::Node;
@@ -193,11 +193,49 @@ fn read_identifier(c: Cursor, file: &[u8], kind: u64, end: FilePlace) -> Passed
     read_value(c, file, end)
 }
 
+// Whether a number alone names an unpacker of the kind.
+fn is_numbered(kind: u64) -> bool
+    ensures { λ r. ⌜ r ≡ (eqb kind 0 || eqb kind 2) ⌝ }
+{
+    if kind == 0 {
+        return true;
+    }
+    kind == 2
+}
+
+// Whether the unpacker here is in the common form: a number names it, and its kind, that number and its decoded size are one byte each.
+fn is_common(c: Cursor, file: &[u8], end: FilePlace) -> bool
+    requires { ⌜ (end .0 ≤ length (now file)) × (c .at .0 < end .0) ⌝ }
+    ensures { λ r. ⌜ CommonTold r (now (file .entry)) (end .0) (c .at .0) ⌝ }
+{
+    let place = c.at;
+    if end.0 - place.0 < 3 {
+        return false;
+    }
+    let kind = c.byte(file);
+    if !is_numbered(kind.value) {
+        return false;
+    }
+    let name = kind.next.byte(file);
+    if 127 < name.value {
+        return false;
+    }
+    let size = name.next.byte(file);
+    if 127 < size.value {
+        return false;
+    }
+    true
+}
+
 // An unpacker: its kind, what names it, its decoded size.
 fn read_unpacker(c: Cursor, file: &[u8], end: FilePlace) -> Passed
-    requires { ⌜ end .0 ≤ length (now file) ⌝ }
+    requires { ⌜ Readable (end .0) (now file) × (c .at .0 < end .0) ⌝ }
     ensures { λ r. ⌜ ((n : ℕ) → unpackerTold r n ≡ run (unpacker (end .0) n) (now (file .entry)) (c .at .0)) ⌝ }
 {
+    // To pass one in the common form at once is faster than to read its numbers. What follows is the rule for any unpacker.
+    if is_common(c, file, end) {
+        return Passed::To(c.on(3));
+    }
     let place = c.at;
     match c.number(file, end, cursor::CUT_SHORT) {
         Numbered::Refused(n, p) => Passed::Refused(n, p),
@@ -215,7 +253,7 @@ fn read_unpacker(c: Cursor, file: &[u8], end: FilePlace) -> Passed
 
 // Unpackers end to end up to `end`; they begin at c.
 fn read_entries(c: Cursor, file: &[u8], end: FilePlace) -> Unpacked
-    requires { ⌜ end .0 ≤ length (now file) ⌝ }
+    requires { ⌜ Readable (end .0) (now file) ⌝ }
     ensures { λ r. ⌜ unpackersTold r ≡ run (entries (end .0)) (now (file .entry)) (c .at .0) ⌝ }
 {
     let place = c.at;

@@ -8,7 +8,9 @@ use native.Mathlib.Nat.{zero-add}
 use native.Mathlib.Omega.{arith}
 use borrow.Author.Tests.{lt-ltb, le-ltb, eq-eqb, ne-eqb}
 use lib.Dec.{eqb, ltb}
-use lib.ListN.{length, take, drop}
+use native.Mathlib.Decide.{decLt}
+use lib.ListN.{length, length-append, take, drop}
+use lib.Seq.{getD-append-seam}
 use Rattle.cursor.specs.Machine.{Out, ok, refused, run, trace, exec, puts, times}
 use Rattle.cursor.specs.Rows.{P, Events}
 use Rattle.cursor.specs.declared.Cursor.{Cursor}
@@ -26,13 +28,15 @@ use Rattle.metadata.specs.declared.Walked.the-variants.{Done, Refused}
 use Rattle.tree.specs.Reading.{nodeOf, nodesOf, itemsOf, allNodes, Result, good, bad, madeBy, logged, startsAt, lost, offsetAt, outside, partEnd, takenFrom, detachedAt, reach, follow, context}
 use Rattle.node.specs.Node.{outsideTree}
 use Rattle.tree.specs.Tree.{node, detached}
-use Rattle.tree.specs.Rows.{nodeFrom, nodeAt, nodesIn, rowStarting, Rising}
-use Rattle.tree.specs.Told.{Stands, said, left, Leaves}
+use Rattle.tree.specs.Rows.{nodeFrom, nodeAt, noNode, nodesIn, rowStarting, Rising}
+use Rattle.tree.specs.Told.{Stands, AllBefore, said, left, Leaves}
 use Rattle.room.proofs.Sets.{sets-front}
 use Rattle.tree.proofs.Filled.{filled, puts-fills, nodes-length}
 use Rattle.tree.proofs.Nodes.{one-node}
 use Rattle.tree.proofs.Follow.{target, Reached, known, added, reached}
-use Rattle.tree.proofs.Ends.{detached-inside}
+use Rattle.tree.proofs.Ends.{detached-inside, detached-ends}
+use Rattle.tree.proofs.Starts.{detached-row}
+use Rattle.tree.proofs.Parents.{row-front}
 use Rattle.tree.proofs.Shown.{part-is}
 use Rattle.tree.proofs.TreeRows.{tree-few, attached, tree-still}
 use Rattle.tree.proofs.Rows.{node-at, in-front, nodes-back, node-in}
@@ -266,20 +270,56 @@ more-stands lim f h {σ = σ} {log = log} {log′ = log′} {r = r} z s (added a
 pub same-state : {v w : State} → good v ≡ good w → v ≡ w
 same-state e = cc
 
+-- the rows of the longer log lie before b′, if the one more row does
+more-before : (lim : Limits) (f : List ℕ) (h : Header) {log log′ : Events} {tree b b′ : ℕ} {r : Node} → h .extent .start ≤ length f → Reached lim f h log r log′
+    → AllBefore tree (nodesOf log) b → b ≤ b′
+    → (length (nodesOf log) < length (nodesOf log′) → nodeAt (nodesOf log′) (length (nodesOf log)) .start + nodeAt (nodesOf log′) (length (nodesOf log)) .size ≤ b′)
+    → AllBefore tree (nodesOf log′) b′
+unfolding detachedAt
+more-before lim f h z (known x y) old l new = rw y λ i a k. let q = old i a k in (omega arith, omega arith)
+more-before lim f h {log} {log′} {tree} {b} {b′} {r} z (added s y) old l new = λ i a k.
+    let x = context lim h (length f) in
+    let inside = part-is h (length f) (r .target) z .0 in
+    let w = detached-row f x _ _ _ (madeBy log) (r .target) inside (s .runs) in
+    let v = detached-ends x f (r .target) _ _ _ _ inside (s .runs) in
+    let n : nodesOf log′ ≡ nodesOf log ++ (w .row ∷ []) = ap nodesOf y ∙ rows-on nodeOf log _ ∙ ap (λ v. nodesOf log ++ v) (w .rows-are ∙ ap (λ v. w .row ∷ v) (w .alone refl)) in
+    let c = ap length n ∙ length-append (nodesOf log) (w .row ∷ []) in
+    elim (decLt i (length (nodesOf log))) [
+      | yes m ↦ (let e = ap (λ v. nodeAt v i) n ∙ row-front (nodesOf log) (w .row ∷ []) i m in let q = old i a m in
+          subst (λ (p : Node). (p .start < b′) × (p .start + p .size ≤ b′)) (sym e) (omega arith, omega arith))
+      | no m ↦ (let j : length (nodesOf log) ≡ i = omega arith in
+          let e : nodeAt (nodesOf log′) (length (nodesOf log)) ≡ w .row = ap (λ v. nodeAt v (length (nodesOf log))) n ∙ getD-append-seam (nodesOf log) (w .row) [] noNode in
+          let q : w .row .start + w .row .size ≤ b′ = subst (λ (p : Node). p .start + p .size ≤ b′) e (new (omega arith)) in
+          let at = w .start in
+          let end = w .stop in
+          subst (λ v. (nodeAt (nodesOf log′) v .start < b′) × (nodeAt (nodesOf log′) v .start + nodeAt (nodesOf log′) v .size ≤ b′)) j
+          (subst (λ (p : Node). (p .start < b′) × (p .start + p .size ≤ b′)) (sym e) (omega arith, q)))
+    ]
+
 module _ (lim : Limits) (f : List ℕ) (h : Header) (tree : ℕ) (t₀ u₀ : List ℕ) (m₀ : Made) where
-  -- with row i next, the rows m made and the tables t and u: what is left comes to what the whole comes to
-  pub record Following (i : ℕ) (t u : List ℕ) (m : Made) (σ : State) (log₀ : Events) : Type 0 where
+  -- with row i next, the rows m made, those of detached nodes before b, and the tables t and u: what is left comes to what the whole comes to
+  pub record Following (i : ℕ) (t u : List ℕ) (m : Made) (b : ℕ) (σ : State) (log₀ : Events) : Type 0 where
     pub log : Events
     pub stands : Stands lim (length f) σ log tree t u m
+    pub before : AllBefore tree (nodesOf log) b
     pub same : follow (lim .nodes) lim f h 0 (good log₀) ≡ follow (lim .nodes - i) lim f h i (good log)
 
-  abbrev pub Follows : ℕ → List ℕ → List ℕ → Made → Type 0
-  Follows i t u m = (σ : State) (log₀ : Events) → Stands lim (length f) σ log₀ tree t₀ u₀ m₀ → Following i t u m σ log₀
+  abbrev pub Follows : ℕ → List ℕ → List ℕ → Made → ℕ → Type 0
+  Follows i t u m b = (σ : State) (log₀ : Events) → Stands lim (length f) σ log₀ tree t₀ u₀ m₀ → Following i t u m b σ log₀
 
-  pub follows-begun : Follows 0 t₀ u₀ m₀
-  follows-begun σ log₀ s = record { log = log₀; stands = s; same = ap (λ k. follow k lim f h 0 (good log₀)) (let e : lim .nodes ≡ lim .nodes - 0 = omega arith in e) }
+  pub follows-begun : m₀ .nodes ≤ tree → Follows 0 t₀ u₀ m₀ 0
+  follows-begun l σ log₀ s = record {
+    log = log₀;
+    stands = s;
+    before = λ i a k. let n = node-count s in absurd (omega arith);
+    same = ap (λ k. follow k lim f h 0 (good log₀)) (let e : lim .nodes ≡ lim .nodes - 0 = omega arith in e);
+  }
 
-  module _ {i : ℕ} {t u : List ℕ} {m : Made} (w : Follows i t u m) where
+  module _ {i : ℕ} {t u : List ℕ} {m : Made} {b : ℕ} (w : Follows i t u m b) where
+    -- the rows that stand in the table lie before b
+    pub follows-before : (room : lim .nodes * nodeWidth ≤ length t) (σ : State) (log₀ : Events) → Stands lim (length f) σ log₀ tree t₀ u₀ m₀ → AllBefore tree (nodesIn (m .nodes) t) b
+    follows-before room σ log₀ s = let x = w σ log₀ s in subst (λ v. AllBefore tree v b) (sym (rows-stand (x .stands) room)) (x .before)
+
     -- a row is left: what it leads to
     turn : (σ : State) (log₀ : Events) (s : Stands lim (length f) σ log₀ tree t₀ u₀ m₀) → i < m .nodes
         → follow (lim .nodes) lim f h 0 (good log₀) ≡ follow (lim .nodes - (i + 1)) lim f h (i + 1) (reach lim f h (w σ log₀ s .log) (nodeAt (nodesOf (w σ log₀ s .log)) i))
@@ -306,20 +346,46 @@ module _ (lim : Limits) (f : List ℕ) (h : Header) (tree : ℕ) (t₀ u₀ : Li
           by (good log) k z = let y : _≡_ {A = ℕ} 0 1 = cc in absurd (omega arith)
           by (bad a b) k z = record { answer = z ∙ ap (left σ) (sym (bad-is lim f h (i + 1) k a b)); fits = tt }
 
-      pub follows-on : h .extent .start ≤ length f → {n : Made} {c : Cursor} → r ≡ Done n c → length t′ ≡ length t → length u′ ≡ length u → Follows (i + 1) t′ u′ n
-      follows-on z {n} {c} e j k σ log₀ s =
-          let x = w σ log₀ s in
-          let a = g σ (x .log) (x .stands) in
-          by (reach lim f h (x .log) (nodeAt (nodesOf (x .log)) i)) refl (ap (λ v. said v t′ u′) (sym e) ∙ a .answer) (subst (Fits lim) e (a .fits))
-        where
-          by : (o : Result Events) → reach lim f h (w σ log₀ s .log) (nodeAt (nodesOf (w σ log₀ s .log)) i) ≡ o → good (state t′ u′ n) ≡ left σ o →
-              (n .nodes ≤ lim .nodes) × (n .items ≤ lim .items) → Following (i + 1) t′ u′ n σ log₀
-          by (good log) q y fits = record {
-            log = log;
-            stands = more-stands lim f h z (w σ log₀ s .stands) (reached lim f h _ _ q) (same-state (sym y)) fits j k;
-            same = turn σ log₀ s l ∙ ap (follow (lim .nodes - (i + 1)) lim f h (i + 1)) q;
-          }
-          by (bad a b) q y fits = let v : _≡_ {A = ℕ} 0 1 = cc in absurd (omega arith)
+      -- the log with what the row led to
+      pub record Next (n : Made) (σ : State) (log₀ : Events) (s : Stands lim (length f) σ log₀ tree t₀ u₀ m₀) : Type 0 where
+        pub log : Events
+        pub stands : Stands lim (length f) σ log tree t′ u′ n
+        pub came : Reached lim f h (w σ log₀ s .log) (nodeAt (nodesOf (w σ log₀ s .log)) i) log
+        pub same : follow (lim .nodes) lim f h 0 (good log₀) ≡ follow (lim .nodes - (i + 1)) lim f h (i + 1) (good log)
+
+      module _ (z : h .extent .start ≤ length f) {n : Made} {c : Cursor} (e : r ≡ Done n c) (j : length t′ ≡ length t) (k : length u′ ≡ length u) where
+        pub follows-next : (σ : State) (log₀ : Events) (s : Stands lim (length f) σ log₀ tree t₀ u₀ m₀) → Next n σ log₀ s
+        follows-next σ log₀ s =
+            let x = w σ log₀ s in
+            let a = g σ (x .log) (x .stands) in
+            by (reach lim f h (x .log) (nodeAt (nodesOf (x .log)) i)) refl (ap (λ v. said v t′ u′) (sym e) ∙ a .answer) (subst (Fits lim) e (a .fits))
+          where
+            by : (o : Result Events) → reach lim f h (w σ log₀ s .log) (nodeAt (nodesOf (w σ log₀ s .log)) i) ≡ o → good (state t′ u′ n) ≡ left σ o →
+                (n .nodes ≤ lim .nodes) × (n .items ≤ lim .items) → Next n σ log₀ s
+            by (good log) q y fits = record {
+              log = log;
+              stands = more-stands lim f h z (w σ log₀ s .stands) (reached lim f h _ _ q) (same-state (sym y)) fits j k;
+              came = reached lim f h _ _ q;
+              same = turn σ log₀ s l ∙ ap (follow (lim .nodes - (i + 1)) lim f h (i + 1)) q;
+            }
+            by (bad a b) q y fits = let v : _≡_ {A = ℕ} 0 1 = cc in absurd (omega arith)
+
+        pub follows-on : lim .nodes * nodeWidth ≤ length t′ → {b′ : ℕ} → b ≤ b′
+            → (m .nodes < n .nodes → nodeAt (nodesIn (n .nodes) t′) (m .nodes) .start + nodeAt (nodesIn (n .nodes) t′) (m .nodes) .size ≤ b′) → Follows (i + 1) t′ u′ n b′
+        follows-on room {b′} lb new σ log₀ s =
+            let x = w σ log₀ s in
+            let y = follows-next σ log₀ s in
+            let e₁ = node-count (x .stands) in
+            let e₂ = node-count (y .stands) in
+            let rows = rows-stand (y .stands) room in
+            record {
+              log = y .log;
+              stands = y .stands;
+              before = more-before lim f h z (y .came) (x .before) lb λ l₁.
+                  subst (λ v. nodeAt (nodesOf (y .log)) v .start + nodeAt (nodesOf (y .log)) v .size ≤ b′) e₁
+                  (subst (λ v. nodeAt v (m .nodes) .start + nodeAt v (m .nodes) .size ≤ b′) rows (new (omega arith)));
+              same = y .same;
+            }
 
     pub follows-done : m .nodes ≤ i → (c : Cursor) → (σ : State) (log₀ : Events) → Stands lim (length f) σ log₀ tree t₀ u₀ m₀ → Leaves lim σ
         (Done m c) t u (follow (lim .nodes) lim f h 0 (good log₀))

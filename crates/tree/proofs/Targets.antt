@@ -7,7 +7,7 @@ use Prim.Native.Nat.{ℕ, zero, suc, _+_, _*_, _≤_, _<_, min, max}
 use native.Mathlib.Omega.{arith}
 use native.Mathlib.Decide.{decLt}
 use lib.Dec.{eqb, ltb, leb}
-use lib.ListN.{length, drop, drop-of-length-le}
+use lib.ListN.{length, take, drop, drop-of-length-le}
 use borrow.Author.Tests.{eq-eqb, ne-eqb, lt-ltb, le-ltb, le-leb, lt-leb}
 use Rattle.cursor.specs.Machine.{Out, run}
 use Rattle.cursor.specs.Rows.{referenceFrame}
@@ -19,7 +19,8 @@ use Rattle.header.specs.declared.Extent.{Extent}
 use Rattle.metadata.specs.Tables.{nodeWidth}
 use Rattle.tree.specs.Reading.{placeOf, offsetAt, outside, partEnd, takenFrom}
 use Rattle.tree.specs.Rows.{nodeFrom, nodesIn, nodeAt, rowStarting, Rising}
-use Rattle.tree.proofs.Rows.{node-at, nodes-in-length}
+use Rattle.tree.specs.Told.{AllBefore}
+use Rattle.tree.proofs.Rows.{node-at, nodes-in-length, in-front}
 
 -- ---- outside header and tree
 
@@ -199,3 +200,75 @@ pub taken-done : (ws : List ℕ) (count tree place end i : ℕ) → i ≡ tree �
     → takenFrom (drop i (nodesIn count ws)) place end ≡ takenFrom (nodesIn count ws) place end
 taken-done ws count tree place end i e l a = let c = nodes-in-length ws count in ap (λ v. takenFrom (drop v (nodesIn count ws)) place end) e
     ∙ taken-all (nodesIn count ws) tree place end (omega arith) a
+
+-- ---- rows that end at or before the place need not be asked
+
+cond-no : (b : Bool) (x y : ℕ) → (cond (b && false) x y) ≡ y
+cond-no true x y = refl
+cond-no false x y = refl
+
+-- a row that starts there is among the first k
+start-front : (ns : List Node) (k p : ℕ) → rowStarting (take k ns) p < k → k ≤ length ns → rowStarting ns p < length ns
+unfolding rowStarting
+start-front ns zero p l m = absurd (omega arith)
+start-front [] (suc k) p l m = absurd (omega arith)
+start-front (r ∷ ns) (suc k) p l m = by (eqb (r .start) p) l (λ z. start-front ns k p z (omega arith))
+  where
+    by : (b : Bool) → (cond b 0 (suc (rowStarting (take k ns) p))) < suc k → (rowStarting (take k ns) p < k → rowStarting ns p < length ns)
+        → (cond b 0 (suc (rowStarting ns p))) < suc (length ns)
+    by true z rest = omega arith
+    by false z rest = let w = rest (omega arith) in omega arith
+
+-- none does, where the rows from row k on start before it
+start-none : (ns : List Node) (k p : ℕ) → k ≤ rowStarting (take k ns) p → ((i : ℕ) → k ≤ i → i < length ns → nodeAt ns i .start < p) → length ns ≤ rowStarting ns p
+unfolding rowStarting
+start-none [] k p l h = omega arith
+start-none (r ∷ ns) zero p l h =
+    let z : r .start < p = h 0 (omega arith) (omega arith) in
+    let n : (r .start ≡ p) → ⊥ = λ e. omega arith in
+    let w = start-none ns 0 p (omega arith) (λ i a b. h (suc i) (omega arith) (omega arith)) in
+    rw (ne-eqb _ _ n) (omega arith)
+start-none (r ∷ ns) (suc k) p l h = by (eqb (r .start) p) l (λ z. start-none ns k p z (λ i a b. h (suc i) (omega arith) (omega arith)))
+  where
+    by : (b : Bool) → suc k ≤ (cond b 0 (suc (rowStarting (take k ns) p))) → (k ≤ rowStarting (take k ns) p → length ns ≤ rowStarting ns p)
+        → suc (length ns) ≤ (cond b 0 (suc (rowStarting ns p)))
+    by true z rest = absurd (omega arith)
+    by false z rest = let w = rest (omega arith) in omega arith
+
+-- and those rows take nothing from it on
+taken-front : (ns : List Node) (k p end : ℕ) → ((i : ℕ) → k ≤ i → i < length ns → nodeAt ns i .start + nodeAt ns i .size ≤ p) → takenFrom (take k ns) p end ≡ takenFrom ns p end
+unfolding takenFrom
+taken-front [] zero p end h = refl
+taken-front [] (suc k) p end h = refl
+taken-front (r ∷ ns) zero p end h =
+    let z : r .start + r .size ≤ p = h 0 (omega arith) (omega arith) in
+    taken-front ns 0 p end (λ i a b. h (suc i) (omega arith) (omega arith)) ∙ sym (rw (le-ltb _ _ z) (cond-no (eqb (r .detached) 1) _ _))
+taken-front (r ∷ ns) (suc k) p end h =
+    ap (λ v. cond (eqb (r .detached) 1 && ltb p (r .start + r .size)) (min (max p (r .start)) v) v)
+    (taken-front ns k p end (λ i a b. h (suc i) (omega arith) (omega arith)))
+
+module _ (ws : List ℕ) {tree k count b : ℕ} (place : ℕ) (asked : (tree ≤ k) × (k ≤ count) × (k < count → b ≤ place)) where
+  pub row-asked : (i : ℕ) → i < k → nodeAt (nodesIn k ws) i ≡ nodeAt (nodesIn count ws) i
+  row-asked i l = node-at ws k i l ∙ sym (node-at ws count i (omega arith))
+
+  pub asked-found : {q : ℕ} → q ≡ rowStarting (nodesIn k ws) place → q < k → rowStarting (nodesIn count ws) place < count
+  asked-found {q} e l =
+      let c = nodes-in-length ws count in
+      let y : q ≡ rowStarting (take k (nodesIn count ws)) place = e ∙ ap (λ v. rowStarting v place) (in-front ws k count (asked .1)) in
+      let w = start-front (nodesIn count ws) k place (omega arith) (omega arith) in
+      omega arith
+
+  module _ (before : AllBefore tree (nodesIn count ws) b) where
+    pub asked-none : {q : ℕ} → q ≡ rowStarting (nodesIn k ws) place → k ≤ q → count ≤ rowStarting (nodesIn count ws) place
+    asked-none {q} e l =
+        let c = nodes-in-length ws count in
+        let y : q ≡ rowStarting (take k (nodesIn count ws)) place = e ∙ ap (λ v. rowStarting v place) (in-front ws k count (asked .1)) in
+        let w = start-none (nodesIn count ws) k place (omega arith)
+        (λ i a z. let y = before i (omega arith) z in let x = asked .2 (omega arith) in omega arith) in
+        omega arith
+
+    pub asked-taken : (end : ℕ) → takenFrom (nodesIn k ws) place end ≡ takenFrom (nodesIn count ws) place end
+    asked-taken end =
+        let c = nodes-in-length ws count in
+        ap (λ v. takenFrom v place end) (in-front ws k count (asked .1)) ∙ taken-front (nodesIn count ws) k place end
+        (λ i a z. let y = before i (omega arith) z in let x = asked .2 (omega arith) in omega arith)

@@ -6,6 +6,7 @@ use Prim.Native.Nat.{ℕ, _+_, _*_, _^_, _≤_, _<_}
 use lib.ListN.{length, take}
 use Rattle.cursor.specs.Machine.{puts}
 use Rattle.cursor.specs.Rows.{Events}
+use Rattle.cursor.specs.declared.Node.{Node}
 use Rattle.header.specs.declared.Header.{Header}
 use Rattle.metadata.specs.Tables.{State, state, put, nodeWidth, itemWidth}
 use Rattle.metadata.specs.declared.Limits.{Limits}
@@ -45,6 +46,10 @@ pub record Stands (lim : Limits) (size : ℕ) (σ : State) (log : Events) (tree 
   pub long : (length t ≡ length (σ .nodes)) × (length u ≡ length (σ .items))
   pub inside : (i : ℕ) → i < length (nodesOf log) → (nodeAt (nodesOf log) i .header ≤ nodeAt (nodesOf log) i .size) × (nodeAt (nodesOf log) i .start + nodeAt (nodesOf log) i .size ≤ size)
   pub first : TreeFirst tree log
+
+-- the rows behind the first `tree` lie before b
+abbrev pub AllBefore : (tree : ℕ) → List Node → (b : ℕ) → Type 0
+AllBefore tree ns b = (i : ℕ) → tree ≤ i → i < length ns → (nodeAt ns i .start < b) × (nodeAt ns i .start + nodeAt ns i .size ≤ b)
 
 -- what a call says that followed rows: the log's refusal; or its counts, with the tables as the log leaves them
 abbrev pub said : Walked → List ℕ → List ℕ → Result State

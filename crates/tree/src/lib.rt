@@ -16,7 +16,7 @@ ghost use Rattle.tree.specs.Tree.{mostDepth, folder, node, tree};
 ghost use Rattle.tree.specs.Reading.{nodesOf, good, context, offsetAt, outside, partEnd, takenFrom, reach, follow, readOf, answerOf, nodeTable, itemTable};
 ghost use Rattle.tree.specs.Rows.{nodeFrom, itemFrom, nodeAt, nodesIn, rowStarting, Rising};
 ghost use Rattle.tree.specs.Asking.{reads, readsBehind, nodesRead, itemsRead};
-ghost use Rattle.tree.specs.Told.{Lent, Stands, Leaves};
+ghost use Rattle.tree.specs.Told.{Lent, Stands, AllBefore, Leaves};
 use cursor::Cursor;
 use cursor::FilePlace;
 use cursor::Item;
@@ -436,7 +436,30 @@ fn offset_at(file: &[u8], nodes: &[u64], count: usize, i: usize) -> FilePlace
     }
 }
 
-// Follows row i: reads the node that it refers to, if that one has no row yet.
+// How many rows are asked about a place: where all detached nodes end at or before it, the tree's alone.
+fn rows_asked(tree: usize, count: usize, place: FilePlace, beyond: FilePlace) -> usize
+    requires { ⌜ tree ≤ count ⌝ }
+    ensures { λ r. ⌜ (tree ≤ r) × (r ≤ count) × (r < count → beyond .0 ≤ place .0) ⌝ }
+{
+    if beyond.0 <= place.0 {
+        return tree;
+    }
+    count
+}
+
+// A place that row `known` ends at or before, if there is one more than `known` rows, and not before `beyond`.
+fn beyond_row(nodes: &[u64], known: usize, count: usize, beyond: FilePlace) -> FilePlace
+    requires { ⌜ (count * nodeWidth ≤ length (now nodes)) × ((i : ℕ) → i < count → nodeAt (nodesIn count (now nodes)) i .start + nodeAt (nodesIn count (now nodes)) i .size < 2 ^ 28) ⌝ }
+    ensures { λ r. ⌜ (beyond .0 ≤ r .0) × (known < count → nodeAt (nodesIn count (now (nodes .entry))) known .start + nodeAt (nodesIn count (now (nodes .entry))) known .size ≤ r .0) ⌝ }
+{
+    if count <= known {
+        return beyond;
+    }
+    let row = node_at(nodes, known);
+    FilePlace(greater(beyond.0, (row.start + row.size) as usize))
+}
+
+// Follows row i: reads the node that it refers to, if that one has no row yet. The detached rows lie before `beyond`.
 fn reach_from(
     file: &[u8],
     types: &[u64],
@@ -447,8 +470,9 @@ fn reach_from(
     tree: usize,
     i: usize,
     made: Made,
+    beyond: FilePlace,
 ) -> Walked
-    requires { ⌜ Lent h lim (now file) (now types) (now nodes) (now items) × (i < made .nodes) × ((σ : State) × (log : Events) × Stands lim (length (now file)) σ log tree (now nodes) (now items) made) ⌝ }
+    requires { ⌜ Lent h lim (now file) (now types) (now nodes) (now items) × (i < made .nodes) × ((σ : State) × (log : Events) × Stands lim (length (now file)) σ log tree (now nodes) (now items) made) × AllBefore tree (nodesIn (made .nodes) (now nodes)) (beyond .0) ⌝ }
     ensures { λ r. ⌜ ((σ : State) (log : Events) → Stands lim (length (now (file .entry))) σ log tree (now (nodes .entry)) (now (items .entry)) made
         → Leaves lim σ r (now (nodes .exit)) (now (items .exit)) (reach lim (now (file .entry)) (headerOf h (now (types .entry))) log (nodeAt (nodesOf log) i))) ⌝ }
 {
@@ -458,14 +482,15 @@ fn reach_from(
         return Walked::Done(made, here);
     }
     let to = FilePlace(row.target as usize);
-    if row_starting(nodes, tree, made.nodes, to) < made.nodes {
+    let asked = rows_asked(tree, made.nodes, to, beyond);
+    if row_starting(nodes, tree, asked, to) < asked {
         return Walked::Done(made, here);
     }
     let offset = offset_at(file, nodes, made.nodes, i);
     let extent = h.extent;
     if is_outside(extent, file.len(), to) {
         let end = part_end(extent, file.len(), to);
-        let taken = taken_from(nodes, tree, made.nodes, to, end);
+        let taken = taken_from(nodes, tree, asked, to, end);
         let headerEnd = extent.end;
         let scope = Scope {
             limits: lim,
@@ -513,10 +538,15 @@ fn follow_all(
 {
     let mut m = made;
     let mut i = 0;
+    // All detached nodes that were read end at or before here. Most lead on to a later place, which is not looked for among them.
+    let mut beyond = FilePlace(0);
     while i < m.nodes {
-        match reach_from(file, types, nodes, items, h, lim, made.nodes, i, m) {
+        match reach_from(file, types, nodes, items, h, lim, made.nodes, i, m, beyond) {
             Walked::Refused(n, p) => return Walked::Refused(n, p),
-            Walked::Done(n, _) => m = n,
+            Walked::Done(n, _) => {
+                beyond = beyond_row(nodes, m.nodes, n.nodes, beyond);
+                m = n;
+            }
         }
         i = i + 1;
     }

@@ -5,29 +5,33 @@ use Prim.Native.Nat.{_-_}
 use lib.ListN.{length}
 use mathlib.Core.Path.{_≡_}
 use Rattle.header.specs.Told.{headerOf}
-use Rattle.tree.proofs.Growing.{Follows, follows-begun, follows-no, follows-on, follows-done}
+use Rattle.tree.proofs.Growing.{stand-few, stand-inside, Follows, follows-begun, follows-before, follows-no, follows-next, follows-on, follows-done}
 use native.Mathlib.Omega.{arith}
 use borrow.Author.Needs.{needs}
 use Rattle.tree.proofs.follow_all.Statement.{statement}
 use Rattle.tree.proofs.follow_all.Tie as tie
 
 abbrev Inv-loop : tie.InvT-loop
-Inv-loop file types nodes₀ items₀ h lim made m₀ i₀ nodes items m i = Follows lim file (headerOf h types) (made .nodes) nodes₀ items₀ made i
-    nodes items m × (length nodes ≡ length nodes₀) × (length items ≡ length items₀)
+Inv-loop file types nodes₀ items₀ h lim made m₀ i₀ beyond₀ nodes items m i beyond = Follows lim file (headerOf h types) (made .nodes) nodes₀ items₀ made i
+    nodes items m (beyond .0) × (length nodes ≡ length nodes₀) × (length items ≡ length items₀)
 
 abbrev μ-loop : tie.MeasureT-loop
-μ-loop file types nodes₀ items₀ h lim made m₀ i₀ nodes items m i = lim .nodes - i
+μ-loop file types nodes₀ items₀ h lim made m₀ i₀ beyond₀ nodes items m i beyond = lim .nodes - i
 
 loop-holds : tie.Need-loop-holds Inv-loop μ-loop
-loop-holds c = (follows-begun _ _ _ _ _ _ _, refl, refl)
+loop-holds c = (follows-begun _ _ _ _ _ _ _ (omega arith), refl, refl)
 
 reach-from-requires : tie.Need-reach-from-requires Inv-loop μ-loop
 reach-from-requires c κs =
     let at-if1 = c .before .before in
     let at-loop = at-if1 .before .before in
     let entry = at-loop .before .before .before .before .before in
-    let w = entry .pre .1 in let x = at-loop .loop .inv .0 (w .0) (w .1) (w .2) in let p = entry .pre .0 in let a = at-loop .loop .inv .1
-    in let b = at-loop .loop .inv .2 in (omega (arith, p), at-if1 .if1 .taken, (w .0, x .log, x .stands))
+    let w = entry .pre .1 in
+    let x = at-loop .loop .inv .0 (w .0) (w .1) (w .2) in
+    let p = entry .pre .0 in
+    let a = at-loop .loop .inv .1 in
+    let b = at-loop .loop .inv .2 in
+    (omega (arith, p), at-if1 .if1 .taken, (w .0, x .log, x .stands), follows-before _ _ _ _ _ _ _ (at-loop .loop .inv .0) (omega (arith, p .nodes-in, a)) (w .0) (w .1) (w .2))
 
 enum-known-n : tie.Need-enum-known-n Inv-loop μ-loop
 enum-known-n c = search needs
@@ -54,26 +58,46 @@ returns c =
 enum-known-n-2 : tie.Need-enum-known-n-2 Inv-loop μ-loop
 enum-known-n-2 c = search needs
 
+beyond-row-requires : tie.Need-beyond-row-requires Inv-loop μ-loop
+beyond-row-requires c κs =
+    let at-n2 = c .before .before in
+    let at-reach-from = at-n2 .before .before .before .before .before .before in
+    let at-if1 = at-reach-from .before .before .before in
+    let at-loop = at-if1 .before .before in
+    let entry = at-loop .before .before .before .before .before in
+    let w = entry .pre .1 in
+    let kept = at-reach-from .reach-from .kept .1 .1 in
+    let y = follows-next _ _ _ _ _ _ _ (at-loop .loop .inv .0) (at-if1 .if1 .taken) (at-reach-from .reach-from .ensures) (entry .pre .0 .start-in)
+    (at-n2 .n2 .given .1) (kept .0) (kept .1 .0) (w .0) (w .1) (w .2) in
+    let long = kept .0 ∙ at-loop .loop .inv .1 in
+    (
+      stand-few (y .stands) (omega (arith, entry .pre .0 .nodes-in, long)) .1,
+      λ i l. let q = stand-inside (y .stands) (omega (arith, entry .pre .0 .nodes-in, long)) i l in omega (arith, entry .pre .0 .short),
+    )
+
 add-i : tie.Need-add-i Inv-loop μ-loop
 add-i c = omega arith
 
 loop-less : tie.Need-loop-less Inv-loop μ-loop
 loop-less c =
-    let at-if1 = c .before .before .before .before .before .before .before .before .before .before in
+    let at-if1 = c .before .before .before .before .before .before .before .before .before .before .before .before in
     let at-loop = at-if1 .before .before in
     let entry = at-loop .before .before .before .before .before in
     let w = entry .pre .1 in let x = at-loop .loop .inv .0 (w .0) (w .1) (w .2) in omega (arith, at-if1 .if1 .taken, x .stands .fits)
 
 loop-again : tie.Need-loop-again Inv-loop μ-loop
 loop-again c =
-    let at-reach-from = c .before .before .before .before .before .before .before in
+    let at-n2 = c .before .before .before in
+    let at-reach-from = at-n2 .before .before .before .before .before .before in
     let at-if1 = at-reach-from .before .before .before in
     let at-loop = at-if1 .before .before in
-    let entry = at-loop .before .before .before .before .before in (
+    let entry = at-loop .before .before .before .before .before in
+    let kept = at-reach-from .reach-from .kept .1 .1 in
+    let long = kept .0 ∙ at-loop .loop .inv .1 in (
       follows-on _ _ _ _ _ _ _ (at-loop .loop .inv .0) (at-if1 .if1 .taken) (at-reach-from .reach-from .ensures) (entry .pre .0 .start-in)
-          (c .before .n2 .given .1) (at-reach-from .reach-from .kept .1 .1 .0) (at-reach-from .reach-from .kept .1 .1 .1 .0),
-      at-reach-from .reach-from .kept .1 .1 .0 ∙ at-loop .loop .inv .1,
-      at-reach-from .reach-from .kept .1 .1 .1 .0 ∙ at-loop .loop .inv .2,
+          (at-n2 .n2 .given .1) (kept .0) (kept .1 .0) (omega (arith, entry .pre .0 .nodes-in, long)) (c .beyond-row .ensures .0) (c .beyond-row .ensures .1),
+      long,
+      kept .1 .0 ∙ at-loop .loop .inv .2,
     )
 
 same-length-3 : tie.Need-same-length-3 Inv-loop μ-loop
@@ -98,6 +122,7 @@ follow-all-spec =
     same-length-2
     returns
     enum-known-n-2
+    beyond-row-requires
     add-i
     loop-less
     loop-again

@@ -1,9 +1,12 @@
 -- `reach_from` leaves what `reach` leaves.
 -- Assumes nothing.
-use mathlib.Core.Path.{refl, sym, _∙_}
+use mathlib.Core.Path.{refl, sym, ap, _∙_}
+use Prim.Native.Nat.{_+_}
 use lib.ListN.{length}
+use Rattle.cursor.specs.declared.Node.{Node}
 use Rattle.header.specs.Told.{headerOf}
 use Rattle.tree.proofs.Growing.{stand-few, stand-rising, stand-inside, stand-attached, part-in, reach-other, reach-known, reach-nowhere, reach-node}
+use Rattle.tree.proofs.Targets.{row-asked, asked-found, asked-none, asked-taken}
 use native.Mathlib.Omega.{arith}
 use borrow.Author.Needs.{needs}
 use Rattle.tree.proofs.reach_from.Statement.{statement}
@@ -23,20 +26,30 @@ returns c =
     let entry = at-node-at .before .before .before .before .before .before in
     λ σ log s. reach-other _ _ _ s (entry .pre .0 .nodes-in) _ (entry .pre .1) (at-node-at .node-at .ensures) (c .if1 .taken) _
 
+rows-asked-requires : tie.Need-rows-asked-requires
+rows-asked-requires c κs =
+    let entry = c .before .before .before .before .before .before .before .before in
+    stand-few (entry .pre .2 .2) (entry .pre .0 .nodes-in) .0
+
 row-starting-requires : tie.Need-row-starting-requires
 row-starting-requires c κs =
-    let entry = c .before .before .before .before .before .before .before .before .before in
-    let s = entry .pre .2 .2 in (stand-few s (entry .pre .0 .nodes-in) .0, stand-few s (entry .pre .0 .nodes-in) .1, stand-rising s (entry .pre .0 .nodes-in))
+    let at-rows-asked = c .before in
+    let entry = at-rows-asked .before .before .before .before .before .before .before .before .before in
+    let s = entry .pre .2 .2 in
+    let asked = at-rows-asked .rows-asked .ensures in
+    (asked .0, omega (arith, asked .1, stand-few s (entry .pre .0 .nodes-in) .1), stand-rising s (entry .pre .0 .nodes-in))
 
 same-length-2 : tie.Need-same-length-2
 same-length-2 c = search needs
 
 returns-2 : tie.Need-returns-2
 returns-2 c =
-    let at-row-starting = c .before .before in
-    let at-node-at = at-row-starting .before .before .before .before in
+    let at-row-starting = c .before in
+    let at-rows-asked = at-row-starting .before .before in
+    let at-node-at = at-rows-asked .before .before .before in
     let entry = at-node-at .before .before .before .before .before .before in
-    λ σ log s. reach-known _ _ _ s (entry .pre .0 .nodes-in) _ (entry .pre .1) (at-node-at .node-at .ensures) (at-row-starting .row-starting .ensures) (c .if2 .taken) _
+    λ σ log s. reach-known _ _ _ s (entry .pre .0 .nodes-in) _ (entry .pre .1) (at-node-at .node-at .ensures) refl
+    (asked-found (entry .args .nodes .now) _ (at-rows-asked .rows-asked .ensures) (at-row-starting .row-starting .ensures) (c .if2 .taken)) _
 
 offset-at-requires : tie.Need-offset-at-requires
 offset-at-requires c κs =
@@ -52,13 +65,16 @@ part-end-requires c κs = search needs
 
 taken-from-requires : tie.Need-taken-from-requires
 taken-from-requires c κs =
-    let entry = c .before .before .before .before .before .before .before .before .before .before .before .before .before .before .before .before .before .before .before in
-    let s = entry .pre .2 .2 in (
-      stand-few s (entry .pre .0 .nodes-in) .0,
-      stand-few s (entry .pre .0 .nodes-in) .1,
-      (λ i l. let w = stand-inside s (entry .pre .0 .nodes-in) i l in omega (arith, entry .pre .0 .short)),
-      stand-attached s
-          (entry .pre .0 .nodes-in),
+    let at-rows-asked = c .before .before .before .before .before .before .before .before .before .before in
+    let entry = at-rows-asked .before .before .before .before .before .before .before .before .before in
+    let s = entry .pre .2 .2 in
+    let room = entry .pre .0 .nodes-in in
+    let asked = at-rows-asked .rows-asked .ensures in
+    let same = row-asked (entry .args .nodes .now) _ asked in (
+      asked .0,
+      omega (arith, asked .1, stand-few s room .1),
+      (λ i l. let w = stand-inside s room i (omega (arith, asked .1)) in omega (arith, entry .pre .0 .short, ap (λ (r : Node). r .start + r .size) (same i l))),
+      λ i l. ap (λ (r : Node). r .detached) (same i (omega (arith, asked .0))) ∙ stand-attached s room i l,
     )
 
 add-levels : tie.Need-add-levels
@@ -87,15 +103,19 @@ returns-3 c =
     let at-is-outside = at-if3 .before in
     let at-offset-at = at-is-outside .before .before in
     let at-if2 = at-offset-at .before .before in
-    let at-row-starting = at-if2 .before .before in
-    let at-if1 = at-row-starting .before .before in
+    let at-row-starting = at-if2 .before in
+    let at-rows-asked = at-row-starting .before .before in
+    let at-if1 = at-rows-asked .before in
     let at-node-at = at-if1 .before .before in
     let entry = at-node-at .before .before .before .before .before .before in
+    let t = entry .args .nodes .now in
+    let asked = at-rows-asked .rows-asked .ensures in
+    let before = entry .pre .3 in
     λ σ log s. reach-node _ _ (headerOf (entry .args .h) (entry .args .types .now)) s (entry .pre .0 .nodes-in) _ (entry .pre .1)
-    (at-node-at .node-at .ensures) (at-if1 .if1 .left) (at-row-starting .row-starting .ensures) (at-if2 .if2 .left)
+    (at-node-at .node-at .ensures) (at-if1 .if1 .left) refl (asked-none t _ asked before (at-row-starting .row-starting .ensures) (at-if2 .if2 .left))
     (sym (at-if3 .if3 .taken) ∙ at-is-outside .is-outside .ensures (headerOf (entry .args .h) (entry .args .types .now)) refl)
     (at-offset-at .offset-at .ensures) (at-part-end .part-end .ensures (headerOf (entry .args .h) (entry .args .types .now)) refl)
-    (at-taken-from .taken-from .ensures) (at-read-children .read-children .ensures)
+    (at-taken-from .taken-from .ensures ∙ asked-taken t _ asked before _) (at-read-children .read-children .ensures)
 
 same-length-5 : tie.Need-same-length-5
 same-length-5 c = search needs
@@ -104,16 +124,18 @@ returns-4 : tie.Need-returns-4
 returns-4 c =
     let at-offset-at = c .before .before .before in
     let at-if2 = at-offset-at .before .before in
-    let at-row-starting = at-if2 .before .before in
-    let at-if1 = at-row-starting .before .before in
+    let at-row-starting = at-if2 .before in
+    let at-rows-asked = at-row-starting .before .before in
+    let at-if1 = at-rows-asked .before in
     let at-node-at = at-if1 .before .before in
     let entry = at-node-at .before .before .before .before .before .before in
+    let none = asked-none (entry .args .nodes .now) _ (at-rows-asked .rows-asked .ensures) (entry .pre .3) (at-row-starting .row-starting .ensures) (at-if2 .if2 .left) in
     λ σ log s. reach-nowhere _ _ (headerOf (entry .args .h) (entry .args .types .now)) s (entry .pre .0 .nodes-in) _ (entry .pre .1)
-    (at-node-at .node-at .ensures) (at-if1 .if1 .left) (at-row-starting .row-starting .ensures) (at-if2 .if2 .left)
+    (at-node-at .node-at .ensures) (at-if1 .if1 .left) refl none
     (sym (c .if3 .left) ∙ c .before .is-outside .ensures (headerOf (entry .args .h) (entry .args .types .now)) refl)
     (at-offset-at .offset-at .ensures)
 
 pub reach-from-spec : {M : Type 1} → statement M
-reach-from-spec = tie.close (tie.spec node-at-requires same-length returns row-starting-requires same-length-2 returns-2 offset-at-requires
+reach-from-spec = tie.close (tie.spec node-at-requires same-length returns rows-asked-requires row-starting-requires same-length-2 returns-2 offset-at-requires
     is-outside-requires part-end-requires taken-from-requires add-levels read-children-requires same-length-3 same-length-4 returns-3
     same-length-5 returns-4)
