@@ -21,10 +21,12 @@ use Rattle.tree.proofs.Rows.{Standing}
 use Rattle.tree.proofs.Exits as exits
 use Rattle.sheet.specs.Sheet.{sheetOf, linesIn, fitting, write, write2, writeIn, counted, kept}
 use Rattle.room.specs.Told.{told}
-use Rattle.room.specs.Counts.{Counts, tooMany}
+use Rattle.room.specs.Counts.{tooMany}
 use Rattle.room.specs.declared.Written.{Written}
 use Rattle.room.specs.declared.Written.the-variants as written
-use Rattle.room.proofs.Counting.{counts-as, wrote-all, wrote-past}
+use Rattle.room.proofs.Counting.{wrote-all}
+use Rattle.sheet.specs.Inside.{Fills}
+use Rattle.sheet.proofs.Filling.{fills-as, fills-over}
 
 -- the lines that the code puts are the sheet, in either edition
 sheet-is : (second : Bool) {f : List ℕ} {o : Reading} {s : Summary} {t u : List ℕ} (st : Standing f o s t u)
@@ -68,21 +70,21 @@ module _ (second : Bool) (file : List ℕ) (nsize isize : ℕ) (lent : List ℕ)
     asked-refused e k z = says-by o (written.Refused _ _) (exits.says-unread nsize isize o (writeIn second room file) e k tn tu) refl z
 
     module _ {s : Summary} (st : Standing file o s t u) {sheet′ : List ℕ} {r : ℕ}
-        (p : Counts lent sheet′ 0 (linesIn second (s .version) file (nodesIn (s .nodes) t) (itemsIn (s .items) u)) r) where
-      puts : Counts lent sheet′ 0 (linesIn second (st .h .version) file (st .ns) (st .is)) r
-      puts = counts-as (sheet-is second st) p
+        (p : Fills lent sheet′ 0 (linesIn second (s .version) file (nodesIn (s .nodes) t) (itemsIn (s .items) u)) r) where
+      puts : Fills lent sheet′ 0 (linesIn second (st .h .version) file (st .ns) (st .is)) r
+      puts = fills-as (sheet-is second st) p
 
       pub asked-good : r ≤ room → room < tooMany → {sheet″ : List ℕ} → sheet″ ≡ take r sheet′ ++ replicate (length sheet′ - r) 0 → Says o (written.Bytes r) t u sheet″
       unfolding counted kept
       asked-good e m c =
-          let w = wrote-all puts e m c in
+          let w = wrote-all (puts .fits e) e m c in
           let x = question-is second room file (st .h) (st .ns) (st .is) ∙ fitting-good room _ (w .0) in
           says-by o (written.Bytes r) (exits.says-answer nsize isize o (writeIn second room file) (st .reads) x tn tu) (ap good (w .1)) (w .2)
 
       pub asked-full : room < r → {t′ u′ sheet″ : List ℕ} → t′ ≡ replicate nsize 0 → u′ ≡ replicate isize 0 → sheet″ ≡ replicate room 0 → Says o (written.Refused 22 0) t′ u′ sheet″
       unfolding counted kept
       asked-full e zt zu zs =
-          let x = question-is second room file (st .h) (st .ns) (st .is) ∙ fitting-bad room _ (wrote-past puts e) in
+          let x = question-is second room file (st .h) (st .ns) (st .is) ∙ fitting-bad room _ (fills-over puts e) in
           says-by o (written.Refused 22 0) (exits.says-refused nsize isize o (writeIn second room file) (st .reads) x zt zu) refl zs
 
 -- zeros of a length that was kept

@@ -4,3 +4,5 @@ pub mod Asked
 pub mod Depends
 pub mod Shown
 pub mod Listed
+pub mod Filling
+pub mod Least

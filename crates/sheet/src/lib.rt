@@ -11,7 +11,7 @@ ghost use Rattle.sheet.specs.Sheet.{hexDigits, plain, hexed, escaped, es
 ghost use Rattle.room.specs.Counts.{Counts};
 ghost use Rattle.room.specs.Told.{told};
 ghost use Rattle.unicode.specs.Unicode.{utf8, toUtf8, isGood};
-ghost use Rattle.sheet.specs.Inside.{PlainUpTo};
+ghost use Rattle.sheet.specs.Inside.{PlainUpTo, Fills, leastLine};
 use cursor::Item;
 use cursor::Node;
 use room::Written;
@@ -140,10 +140,13 @@ fn put_head_fields(
     room::put_byte(out, d, 0x0a)
 }
 
-// Puts the line of a node row, which is row i.
+// Puts the line of a node row, which is row i. Past the room's end nothing is counted.
 fn put_node_line(out: &mut [u8], to: usize, i: usize, row: Node) -> usize
-    ensures { λ r. ⌜ Counts (now (out .entry)) (now (out .exit)) to (nodeLine i row) r ⌝ }
+    ensures { λ r. ⌜ Fills (now (out .entry)) (now (out .exit)) to (nodeLine i row) r ⌝ }
 {
+    if out.len() < to {
+        return to;
+    }
     let a = room::put_byte(out, to, b'N');
     let b = put_number(out, a, i as u64);
     let c = put_number(out, b, row.parent);
@@ -157,7 +160,7 @@ fn put_node_line(out: &mut [u8], to: usize, i: usize, row: Node) -> usize
 // Puts the lines of the node rows.
 fn put_node_lines(out: &mut [u8], to: usize, nodes: &[u64], count: usize) -> usize
     requires { ⌜ count * nodeWidth ≤ length (now nodes) ⌝ }
-    ensures { λ r. ⌜ Counts (now (out .entry)) (now (out .exit)) to (nodeLines 0 (nodesIn count (now (nodes .entry)))) r ⌝ }
+    ensures { λ r. ⌜ Fills (now (out .entry)) (now (out .exit)) to (nodeLines 0 (nodesIn count (now (nodes .entry)))) r ⌝ }
 {
     let mut next = to;
     let mut i = 0;
@@ -264,6 +267,34 @@ pub fn put_visible_line(out: &mut [u8], to: usize, file: &[u8], items: &[u64], i
     put_item_line(out, to, file, items, i)
 }
 
+// A count of bytes that the line of an item row has at least. None of its text is read for that: a byte of data gives a byte of text, and two bytes of UTF-16
+// give one, but for a mark; and a line has more than its text.
+fn least_line(row: Item) -> u64
+    ensures { λ r. ⌜ r ≡ leastLine row ⌝ }
+{
+    if row.format % 2 == 1 {
+        return 0;
+    }
+    if row.format != 2 {
+        return row.size;
+    }
+    row.size / 2
+}
+
+// Puts the line of item row i, if the row is visible. Past the room's end nothing is counted, and no text is read whose line must end there.
+fn put_row_line(out: &mut [u8], to: usize, file: &[u8], items: &[u64], i: usize) -> usize
+    requires { ⌜ (i * itemWidth + itemWidth ≤ length (now items)) × ItemIn (length (now file)) (itemFrom (now items) (i * itemWidth)) ⌝ }
+    ensures { λ r. ⌜ Fills (now (out .entry)) (now (out .exit)) to (visibleLine (now (file .entry)) (itemFrom (now (items .entry)) (i * itemWidth))) r ⌝ }
+{
+    if out.len() < to {
+        return to;
+    }
+    if ((out.len() - to) as u64) < least_line(tree::item_at(items, i)) {
+        return room::TOO_MANY;
+    }
+    put_visible_line(out, to, file, items, i)
+}
+
 // Puts the lines of the visible item rows from one row up to another.
 fn put_item_lines(
     out: &mut [u8],
@@ -274,12 +305,12 @@ fn put_item_lines(
     end: usize,
 ) -> usize
     requires { ⌜ (from ≤ end) × ItemRows (length (now file)) end (now items) ⌝ }
-    ensures { λ r. ⌜ Counts (now (out .entry)) (now (out .exit)) to (itemLines (now (file .entry)) (itemsFrom from (end - from) (now (items .entry)))) r ⌝ }
+    ensures { λ r. ⌜ Fills (now (out .entry)) (now (out .exit)) to (itemLines (now (file .entry)) (itemsFrom from (end - from) (now (items .entry)))) r ⌝ }
 {
     let mut next = to;
     let mut i = from;
     while i < end {
-        next = put_visible_line(out, next, file, items, i);
+        next = put_row_line(out, next, file, items, i);
         i = i + 1;
     }
     next
@@ -307,7 +338,7 @@ fn put_group_lines(
     contents: usize,
 ) -> usize
     requires { ⌜ (rows * nodeWidth ≤ length (now nodes)) × ItemRows (length (now file)) contents (now items) ⌝ }
-    ensures { λ r. ⌜ Counts (now (out .entry)) (now (out .exit)) to (groupLines (now (file .entry)) 0 (nodesIn rows (now (nodes .entry))) (itemsIn contents (now (items .entry)))) r ⌝ }
+    ensures { λ r. ⌜ Fills (now (out .entry)) (now (out .exit)) to (groupLines (now (file .entry)) 0 (nodesIn rows (now (nodes .entry))) (itemsIn contents (now (items .entry)))) r ⌝ }
 {
     let mut next = to;
     let mut i = 0;
@@ -335,7 +366,7 @@ fn put_sheet(
     second: bool,
 ) -> usize
     requires { ⌜ (rows * nodeWidth ≤ length (now nodes)) × ItemRows (length (now file)) contents (now items) ⌝ }
-    ensures { λ r. ⌜ Counts (now (out .entry)) (now (out .exit)) 0 (linesIn second version (now (file .entry)) (nodesIn rows (now (nodes .entry))) (itemsIn contents (now (items .entry)))) r ⌝ }
+    ensures { λ r. ⌜ Fills (now (out .entry)) (now (out .exit)) 0 (linesIn second version (now (file .entry)) (nodesIn rows (now (nodes .entry))) (itemsIn contents (now (items .entry)))) r ⌝ }
 {
     if second {
         let word = room::put_bytes(out, 0, b"XMF2\t");

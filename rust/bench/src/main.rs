@@ -28,7 +28,7 @@ const LEAST: Duration = Duration::from_micros(200);
 
 /// What is asked about each file. The verdict is asked where the file is judged to its end, or
 /// nearly so; a file that fails the first check tells nothing of it.
-const ASKED: [(&str, &[&str]); 13] = [
+const ASKED: [(&str, &[&str]); 17] = [
     (
         "large",
         &["tree", "find", "resolve", "account", "sheet", "sheet2"],
@@ -41,6 +41,10 @@ const ASKED: [(&str, &[&str]); 13] = [
     ("types", &["tree", "sheet"]),
     ("text", &["sheet"]),
     ("escapes", &["sheet"]),
+    ("letters", &["sheet"]),
+    ("accents", &["sheet"]),
+    ("mixed", &["sheet"]),
+    ("over", &["sheet", "sheet2"]),
     ("children", &["tree", "verdict", "sheet"]),
     ("contents", &["tree", "verdict", "account", "sheet"]),
     (

@@ -25,8 +25,12 @@ pub fn all(seed: u64) -> Vec<(&'static str, Vec<u8>)> {
         ("late", refused_late()),
         ("unpackers", encode(&unpackers()).bytes),
         ("types", encode(&types()).bytes),
-        ("text", encode(&titled(b'a')).bytes),
-        ("escapes", encode(&titled(0x90)).bytes),
+        ("text", encode(&titled(0, &[b'a'; 20_000])).bytes),
+        ("escapes", encode(&titled(0, &[0x90; 20_000])).bytes),
+        ("letters", encode(&titled(2, &units([b'a']))).bytes),
+        ("accents", encode(&titled(2, &units([0xe9]))).bytes),
+        ("mixed", encode(&titled(2, &units(*b"na\xefve "))).bytes),
+        ("over", encode(&titled(0, &vec![b'a'; 4_000_000])).bytes),
         ("children", encode(&children()).bytes),
         ("contents", encode(&contents()).bytes),
         ("worked", samples::worked()),
@@ -90,10 +94,16 @@ fn types() -> File {
     file
 }
 
-/// One visible text of 20,000 bytes, all the same.
-fn titled(byte: u8) -> File {
-    let title = Item::standard(8, 0, &[byte; 20_000]);
+/// One visible text.
+fn titled(format: usize, data: &[u8]) -> File {
+    let title = Item::standard(8, format, data);
     File::new(MOBILE, Node::inline(&[]).with_items(vec![title]))
+}
+
+/// 20,000 units of UTF-16 below 100h, which go through these.
+fn units<const COUNT: usize>(low: [u8; COUNT]) -> Vec<u8> {
+    let units = low.into_iter().cycle().take(20_000);
+    units.flat_map(|byte| [0, byte]).collect()
 }
 
 /// A root with 255 children, of which the last is a tune. It meets the checks of Mobile XMF up to

@@ -5,7 +5,7 @@ use Prim.Native.Nat.{_-_, _≤_}
 use mathlib.Core.Path.{refl}
 use Rattle.tree.specs.Rows.{nodesFrom, nodesIn, itemsFrom, itemsIn}
 use Rattle.sheet.specs.Sheet.{groupLines}
-use Rattle.room.proofs.Counting.{Going, going-start, going-on, going-end, going-length}
+use Rattle.sheet.proofs.Filling.{Filling, filling-start, filling-on, filling-end, filling-length}
 use native.Mathlib.Omega.{arith}
 use Rattle.sheet.proofs.Lines.{groups-start, groups-on, groups-end}
 use borrow.Author.Needs.{needs}
@@ -14,7 +14,7 @@ use Rattle.sheet.proofs.put_group_lines.Tie as tie
 
 abbrev Inv-loop : tie.InvT-loop
 Inv-loop out₀ to file nodes items rows contents next₀ i₀ first₀ out next i first =
-    (first ≤ contents) × Going out₀ out next₀ next (groupLines file 0 (nodesIn rows nodes) (itemsIn contents items))
+    (first ≤ contents) × Filling out₀ out next₀ next (groupLines file 0 (nodesIn rows nodes) (itemsIn contents items))
     (groupLines file i (nodesFrom i (rows - i) nodes) (itemsFrom first (contents - first) items))
 
 abbrev μ-loop : tie.MeasureT-loop
@@ -23,7 +23,7 @@ abbrev μ-loop : tie.MeasureT-loop
 loop-holds : tie.Need-loop-holds Inv-loop μ-loop
 loop-holds c =
     let a = c .before .before .before .before .args in
-    (omega arith, going-start _ (omega arith) (groups-start (a .file .now) (a .nodes .now) (a .items .now) (a .rows) (a .contents)))
+    (omega arith, filling-start _ (omega arith) (groups-start (a .file .now) (a .nodes .now) (a .items .now) (a .rows) (a .contents)))
 
 node-at-requires : tie.Need-node-at-requires Inv-loop μ-loop
 node-at-requires c κs = omega (arith, c .before .before .before .before .before .before .pre .0)
@@ -54,16 +54,17 @@ loop-again c =
     let one = groups-on (a .file .now) (a .nodes .now) (a .items .now) (a .rows) (a .contents) (s .i) (s .first) (e .result)
     (c .before .before .before .before .before .before .before .before .before .before .loop-test .taken) (s .inv .0)
     (c .before .before .before .before .before .before .before .before .before .node-at .ensures) (e .ensures) in
-    (omega arith, going-on refl (going-on one (s .inv .1) (c .before .before .before .before .before .before .put-node-line .ensures)) (c .before .before .put-item-lines .ensures))
+    let node = c .before .before .before .before .before .before .put-node-line in
+    (omega arith, filling-on refl (filling-on one (s .inv .1) (node .ensures)) (c .before .before .put-item-lines .ensures))
 
 same-length : tie.Need-same-length Inv-loop μ-loop
-same-length c = going-length (c .before .loop .inv .1)
+same-length c = filling-length (c .before .loop .inv .1)
 
 returns : tie.Need-returns Inv-loop μ-loop
 returns c =
     let a = c .before .before .before .before .before .before .args in
     let s = c .before .loop in
-    going-end (groups-end (a .file .now) (a .nodes .now) (a .items .now) (a .rows) (a .contents) (s .i) (s .first) (c .loop-test .left)) (s .inv .1)
+    filling-end (groups-end (a .file .now) (a .nodes .now) (a .items .now) (a .rows) (a .contents) (s .i) (s .first) (c .loop-test .left)) (s .inv .1)
 
 pub put-group-lines-spec : {M : Type 1} → statement M
 put-group-lines-spec =

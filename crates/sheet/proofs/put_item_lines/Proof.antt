@@ -4,24 +4,24 @@ use Prim.Native.Nat.{_-_, _≤_}
 use mathlib.Core.Path.{refl}
 use Rattle.tree.specs.Rows.{itemsFrom}
 use Rattle.sheet.specs.Sheet.{itemLines}
-use Rattle.room.proofs.Counting.{Going, going-start, going-on, going-end, going-length}
+use Rattle.sheet.proofs.Filling.{Filling, filling-start, filling-on, filling-end, filling-length}
 use native.Mathlib.Omega.{arith}
 use Rattle.sheet.proofs.Lines.{items-on, items-end}
 use Rattle.sheet.proofs.put_item_lines.Statement.{statement}
 use Rattle.sheet.proofs.put_item_lines.Tie as tie
 
 abbrev Inv-loop : tie.InvT-loop
-Inv-loop out₀ to file items from end next₀ i₀ out next i = (i ≤ end) × Going out₀ out next₀ next
+Inv-loop out₀ to file items from end next₀ i₀ out next i = (i ≤ end) × Filling out₀ out next₀ next
     (itemLines file (itemsFrom from (end - from) items)) (itemLines file (itemsFrom i (end - i) items))
 
 abbrev μ-loop : tie.MeasureT-loop
 μ-loop out₀ to file items from end next₀ i₀ out next i = end - i
 
 loop-holds : tie.Need-loop-holds Inv-loop μ-loop
-loop-holds c = (c .before .before .before .pre .0, going-start _ (omega arith) refl)
+loop-holds c = (c .before .before .before .pre .0, filling-start _ (omega arith) refl)
 
-put-visible-line-requires : tie.Need-put-visible-line-requires Inv-loop μ-loop
-put-visible-line-requires c κs =
+put-row-line-requires : tie.Need-put-row-line-requires Inv-loop μ-loop
+put-row-line-requires c κs =
     let entry = c .before .before .before .before .before .before in
     (omega (arith, entry .pre .1 .0), entry .pre .1 .1 _ (c .before .loop-test .taken))
 
@@ -33,16 +33,16 @@ loop-less c = omega arith
 
 loop-again : tie.Need-loop-again Inv-loop μ-loop
 loop-again c =
-    let at-put-visible-line = c .before .before in
-    let at-loop-test = at-put-visible-line .before .before in
+    let at-put-row-line = c .before .before in
+    let at-loop-test = at-put-row-line .before .before in
     let at-loop = at-loop-test .before in
-    (omega arith, going-on (items-on _ _ _ _ (at-loop-test .loop-test .taken)) (at-loop .loop .inv .1) (at-put-visible-line .put-visible-line .ensures))
+    (omega arith, filling-on (items-on _ _ _ _ (at-loop-test .loop-test .taken)) (at-loop .loop .inv .1) (at-put-row-line .put-row-line .ensures))
 
 same-length : tie.Need-same-length Inv-loop μ-loop
-same-length c = going-length (c .before .loop .inv .1)
+same-length c = filling-length (c .before .loop .inv .1)
 
 returns : tie.Need-returns Inv-loop μ-loop
-returns c = going-end (items-end _ _ _ _ (c .loop-test .left)) (c .before .loop .inv .1)
+returns c = filling-end (items-end _ _ _ _ (c .loop-test .left)) (c .before .loop .inv .1)
 
 pub put-item-lines-spec : {M : Type 1} → statement M
 put-item-lines-spec =
@@ -51,7 +51,7 @@ put-item-lines-spec =
     Inv-loop
     μ-loop
     loop-holds
-    put-visible-line-requires
+    put-row-line-requires
     add-i
     loop-less
     loop-again

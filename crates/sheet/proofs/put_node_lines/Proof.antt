@@ -4,7 +4,7 @@ use Prim.Native.Nat.{_-_, _≤_}
 use mathlib.Core.Path.{sym}
 use Rattle.tree.specs.Rows.{nodesFrom, nodesIn}
 use Rattle.sheet.specs.Sheet.{nodeLines}
-use Rattle.room.proofs.Counting.{Going, going-start, going-on, going-end, going-length}
+use Rattle.sheet.proofs.Filling.{Filling, filling-start, filling-on, filling-end, filling-length}
 use Rattle.sheet.proofs.Lines.{nodes-on, nodes-end, nodes-start}
 use native.Mathlib.Omega.{arith}
 use borrow.Author.Needs.{needs}
@@ -12,13 +12,13 @@ use Rattle.sheet.proofs.put_node_lines.Statement.{statement}
 use Rattle.sheet.proofs.put_node_lines.Tie as tie
 
 abbrev Inv-loop : tie.InvT-loop
-Inv-loop out₀ to nodes count next₀ i₀ out next i = (i ≤ count) × Going out₀ out next₀ next (nodeLines 0 (nodesIn count nodes)) (nodeLines i (nodesFrom i (count - i) nodes))
+Inv-loop out₀ to nodes count next₀ i₀ out next i = (i ≤ count) × Filling out₀ out next₀ next (nodeLines 0 (nodesIn count nodes)) (nodeLines i (nodesFrom i (count - i) nodes))
 
 abbrev μ-loop : tie.MeasureT-loop
 μ-loop out₀ to nodes count next₀ i₀ out next i = count - i
 
 loop-holds : tie.Need-loop-holds Inv-loop μ-loop
-loop-holds c = (omega arith, going-start _ (omega arith) (sym (nodes-start _ _)))
+loop-holds c = (omega arith, filling-start _ (omega arith) (sym (nodes-start _ _)))
 
 node-at-requires : tie.Need-node-at-requires Inv-loop μ-loop
 node-at-requires c κs = omega (arith, c .before .before .before .before .before .pre)
@@ -38,13 +38,13 @@ loop-again c =
     let at-node-at = at-put-node-line .before in
     let at-loop-test = at-node-at .before .before in
     let at-loop = at-loop-test .before in
-    (omega arith, going-on (nodes-on _ _ _ (at-loop-test .loop-test .taken) (at-node-at .node-at .ensures)) (at-loop .loop .inv .1) (at-put-node-line .put-node-line .ensures))
+    (omega arith, filling-on (nodes-on _ _ _ (at-loop-test .loop-test .taken) (at-node-at .node-at .ensures)) (at-loop .loop .inv .1) (at-put-node-line .put-node-line .ensures))
 
 same-length : tie.Need-same-length Inv-loop μ-loop
-same-length c = going-length (c .before .loop .inv .1)
+same-length c = filling-length (c .before .loop .inv .1)
 
 returns : tie.Need-returns Inv-loop μ-loop
-returns c = going-end (nodes-end _ _ _ (c .loop-test .left)) (c .before .loop .inv .1)
+returns c = filling-end (nodes-end _ _ _ (c .loop-test .left)) (c .before .loop .inv .1)
 
 pub put-node-lines-spec : {M : Type 1} → statement M
 put-node-lines-spec =

@@ -1,7 +1,8 @@
 -- `put_sheet` puts all lines of an edition.
 -- Assumes nothing.
 use native.Mathlib.Omega.{arith}
-use Rattle.room.proofs.Counting.{counts-then, counts-as}
+use Rattle.room.proofs.Counting.{counts-then}
+use Rattle.sheet.proofs.Filling.{fills-counts, fills-then, fills-as}
 use Rattle.sheet.proofs.Lines.{put-second, put-first}
 use borrow.Author.Needs.{needs}
 use Rattle.sheet.proofs.put_sheet.Statement.{statement}
@@ -25,11 +26,11 @@ same-length c = search needs
 returns : tie.Need-returns
 returns c =
     let a = c .before .before .before .before .before .before .before .before .before .before .before .before .before .before .before .before .before .before .args in
-    let head = counts-then (c .before .before .before .before .before .before .before .before .before .before .put-bytes .ensures)
-    (c .before .before .before .before .before .before .put-head-fields .ensures) in
-    counts-as (put-second (a .version) (a .rows) (a .contents) (a .file .now) (a .nodes .now) (a .items .now)
+    let head = fills-counts (counts-then (c .before .before .before .before .before .before .before .before .before .before .put-bytes .ensures)
+    (c .before .before .before .before .before .before .put-head-fields .ensures)) in
+    fills-as (put-second (a .version) (a .rows) (a .contents) (a .file .now) (a .nodes .now) (a .items .now)
     (c .before .before .before .before .before .before .before .before .before .before .before .before .before .if1 .taken))
-    (counts-then head (c .before .before .put-group-lines .ensures))
+    (fills-then head (c .before .before .put-group-lines .ensures))
 
 slice-aggregate-put-bytes-2 : tie.Need-slice-aggregate-put-bytes-2
 slice-aggregate-put-bytes-2 c = search needs
@@ -53,11 +54,14 @@ same-length-2 c = search needs
 
 returns-2 : tie.Need-returns-2
 returns-2 c =
-    let a = c .before .before .before .before .before .before .before .before .before .before .before .before .before .before .before .before .before .before .before .before .before .before .args in
-    let head = counts-then (c .before .before .before .before .before .before .before .before .before .before .before .before .before .before .put-bytes2 .ensures) (c .before .before .before .before .before .before .before .before .before .before .put-head-fields2 .ensures) in
-    counts-as (put-first (a .version) (a .rows) (a .contents) (a .file .now) (a .nodes .now) (a .items .now)
-    (c .before .before .before .before .before .before .before .before .before .before .before .before .before .before .before .before .before .if1 .left))
-    (counts-then (counts-then head (c .before .before .before .before .before .before .put-node-lines .ensures)) (c .before .before .put-item-lines .ensures))
+    let at-put-node-lines = c .before .before .before .before .before .before in
+    let at-put-head-fields2 = at-put-node-lines .before .before .before .before in
+    let at-put-bytes2 = at-put-head-fields2 .before .before .before .before in
+    let at-if1 = at-put-bytes2 .before .before .before in
+    let a = at-if1 .before .before .before .before .before .args in
+    let head = fills-counts (counts-then (at-put-bytes2 .put-bytes2 .ensures) (at-put-head-fields2 .put-head-fields2 .ensures)) in
+    fills-as (put-first (a .version) (a .rows) (a .contents) (a .file .now) (a .nodes .now) (a .items .now) (at-if1 .if1 .left))
+    (fills-then (fills-then head (at-put-node-lines .put-node-lines .ensures)) (c .before .before .put-item-lines .ensures))
 
 pub put-sheet-spec : {M : Type 1} → statement M
 put-sheet-spec =
