@@ -5,6 +5,7 @@
 ghost use Prim.Native.Nat.{_≤_};
 ghost use lib.ListN.{length};
 use answers::Asked;
+use answers::Frames;
 use answers::Made;
 use find::Field;
 use libc::STDIN_FILENO;
@@ -24,6 +25,8 @@ fn letter(word: &[u8]) -> u8 {
 fn question(letter: u8, a: usize, b: usize, c: usize) -> Asked {
     match letter {
         b's' => Asked::Sheet,
+        b'S' => Asked::Sheet2,
+        b'm' => Asked::Moved,
         b'c' => Asked::Check,
         b'r' => Asked::Rows,
         b'v' => Asked::Verdict,
@@ -37,10 +40,21 @@ fn question(letter: u8, a: usize, b: usize, c: usize) -> Asked {
         b'w' => Asked::Needs,
         b'i' => Asked::RowNeeds(a),
         b'k' => Asked::Count(a, b as u64, c as u64),
+        b'b' => Asked::Bytes,
+        b'B' => Asked::BytesLine,
+        b'f' => Asked::RowTag(a, false, Frames::All),
+        b'F' => Asked::RowTag(a, true, Frames::All),
+        b'h' => Asked::RowTag(a, false, Frames::One(b)),
+        b'H' => Asked::RowTag(a, true, Frames::One(b)),
+        b'a' => Asked::Tag(Frames::All),
+        b'A' => Asked::Tag(Frames::One(a)),
         b't' => Asked::Titles,
         b'd' => Asked::Corrected(a),
         b'e' => Asked::Retitled(a),
         b'8' => Asked::Utf8,
+        b'u' => Asked::Runs,
+        b'M' => Asked::Mended,
+        b'l' => Asked::MendLines,
         _ => Asked::Utf16,
     }
 }
