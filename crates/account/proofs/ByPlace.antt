@@ -10,14 +10,14 @@ use native.Mathlib.Omega.{arith}
 use borrow.Author.Tests.{eqb-true, leb-true, ltb-true, leb-false, ltb-false, le-leb, lt-ltb}
 use lib.Dec.{T, eqb, leb, ltb}
 use lib.ListN.{length}
-use Rattle.cursor.specs.Machine.{ok, seen, passed, run, trace, rowsOf}
+use Rattle.machine.specs.Machine.{ok, seen, passed, run, trace, rowsOf}
 use Rattle.cursor.specs.Rows.{Frame, fileFrame, nodeFrame, metaFrame, unpackFrame, referenceFrame, Plain, language, name, uri, nodeRow, itemRow, plain, inlineSize, P, Events}
 use Rattle.cursor.specs.declared.Node.{Node}
 use Rattle.cursor.specs.declared.Item.{Item}
-use Rattle.cursor.proofs.Laws.{rows-on}
-use Rattle.cursor.proofs.Stable.{Chain, endOf, chain, ends, covered}
+use Rattle.machine.proofs.Laws.{rows-on}
+use Rattle.machine.proofs.Stable.{Chain, endOf, chain, ends, covered}
 use Rattle.cursor.proofs.Uses.{Uses, Only, used}
-use Rattle.cursor.proofs.Wp.{All}
+use Rattle.machine.proofs.Wp.{All}
 use Rattle.header.specs.Header.{Header, header}
 use Rattle.header.proofs.Uses.{header-uses}
 use Rattle.metadata.specs.Metadata.{Context, metadata}

@@ -8,13 +8,13 @@ use mathlib.Core.List.{List, [], _∷_, _++_}
 use Prim.Native.Nat.{ℕ, _+_, _-_, _≤_, _<_}
 use native.Mathlib.Omega.{arith}
 use lib.Dec.{eqb}
-use Rattle.cursor.specs.Machine.{Out, ret, ok, passed, run, trace, rowsOf, place, skip, check, times}
+use Rattle.machine.specs.Machine.{Out, ret, ok, passed, run, trace, rowsOf, place, skip, check, times}
 use Rattle.cursor.specs.Rows.{nodeRow, sizeIf, inlineSize, P, Events}
 use Rattle.cursor.specs.declared.Node.{Node}
 use Rattle.cursor.specs.declared.Item.{Item}
-use Rattle.cursor.proofs.Laws.{rows-on, run-timed, split}
+use Rattle.machine.proofs.Laws.{rows-on, run-timed, split}
 use Rattle.cursor.proofs.Leaves.{Any, any-free, number-on, block-on}
-use Rattle.cursor.proofs.Wp.{Wp, at-end, wp-after, wp-ret, wp-if, wp-check, wp-place, wp-skip}
+use Rattle.machine.proofs.Wp.{Wp, at-end, wp-after, wp-ret, wp-if, wp-check, wp-place, wp-skip}
 use Rattle.header.specs.Header.{Header}
 use Rattle.metadata.specs.Metadata.{Context}
 use Rattle.metadata.specs.Tables.{plusNode}

@@ -6,12 +6,12 @@ use mathlib.Core.List.{List, [], _∷_, _++_}
 use Prim.Native.Nat.{ℕ, _<_}
 use native.Mathlib.Omega.{arith}
 use lib.ListN.{length}
-use Rattle.cursor.specs.Machine.{seen, passed, trace, rowsOf}
+use Rattle.machine.specs.Machine.{seen, passed, trace, rowsOf}
 use Rattle.cursor.specs.Rows.{nodeRow, itemRow, plain, Events}
 use Rattle.cursor.specs.declared.Node.{Node}
 use Rattle.cursor.specs.declared.Item.{Item}
-use Rattle.cursor.proofs.Stable.{Separate, stable}
-use Rattle.cursor.proofs.Wp.{All}
+use Rattle.machine.proofs.Stable.{Separate, stable}
+use Rattle.machine.proofs.Wp.{All}
 use Rattle.header.specs.Header.{Header, header}
 use Rattle.metadata.specs.declared.Limits.{Limits}
 use Rattle.metadata.proofs.Ends.{Nothing, Inside}

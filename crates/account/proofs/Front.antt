@@ -8,14 +8,14 @@ use Prim.Native.Nat.{ℕ, _+_, _-_, _≤_}
 use native.Mathlib.Omega.{arith}
 use borrow.Author.Tests.{leb-true}
 use lib.Dec.{T, eqb, leb}
-use Rattle.cursor.specs.Machine.{ok, run, trace, ret, _>>=_, place, check}
+use Rattle.machine.specs.Machine.{ok, run, trace, ret, _>>=_, place, check}
 use Rattle.cursor.specs.Rows.{nodeFrame, metaFrame, itemRow, P, Events}
 use Rattle.cursor.specs.Leaves.{number, block}
 use Rattle.cursor.specs.declared.Node.{Node}
 use Rattle.cursor.specs.declared.Item.{Item}
-use Rattle.cursor.proofs.Laws.{Split, split}
+use Rattle.machine.proofs.Laws.{Split, split}
 use Rattle.cursor.proofs.Wider.{number-wider}
-use Rattle.cursor.proofs.Wp.{at-end}
+use Rattle.machine.proofs.Wp.{at-end}
 use Rattle.cursor.proofs.Leaves.{number-inside}
 use Rattle.metadata.specs.Metadata.{Context, metadata}
 use Rattle.metadata.specs.declared.Made.{Made}

@@ -10,11 +10,11 @@ use native.Mathlib.Decide.{decLe, decLt}
 use native.Mathlib.Omega.{arith}
 use borrow.Author.Tests.{ne-eqb, ltb-true, leb-true, le-leb, lt-leb, lt-ltb, le-ltb}
 use lib.Dec.{T, eqb, ltb, leb}
-use Rattle.cursor.specs.Machine.{Event, seen, passed}
+use Rattle.machine.specs.Machine.{Event, seen, passed}
 use Rattle.cursor.specs.Rows.{Frame, fileFrame, nodeFrame, metaFrame, unpackFrame, referenceFrame, language, name, uri, Part, nodeRow, itemRow, plain, Events}
 use Rattle.tree.specs.Hidden.{isHidden}
 use Rattle.account.specs.Account.{kind, first, size, hasByte, kindAt, Had, IsOf, places, placesOf}
-use Rattle.cursor.proofs.Stable.{Has, Covers, Separate}
+use Rattle.machine.proofs.Stable.{Has, Covers, Separate}
 
 -- the bytes of events whose kind passes the test
 unfoldable pub count : (ℕ → Bool) → Events → ℕ

@@ -6,9 +6,9 @@ use mathlib.Core.List.{List, [], _∷_, _++_}
 use Prim.Native.Nat.{ℕ, _+_}
 use native.Mathlib.Omega.{arith}
 use lib.Dec.{T}
-use Rattle.cursor.specs.Machine.{ok, seen, passed, run, trace}
+use Rattle.machine.specs.Machine.{ok, seen, passed, run, trace}
 use Rattle.cursor.specs.Rows.{P, Events}
-use Rattle.cursor.proofs.Stable.{Chain, endOf, chain, ends}
+use Rattle.machine.proofs.Stable.{Chain, endOf, chain, ends}
 use Rattle.cursor.proofs.Uses.{Allowed, Uses, Only, used}
 use Rattle.account.specs.Account.{kindOfFrame, kindOf}
 use Rattle.account.proofs.Places.{count}

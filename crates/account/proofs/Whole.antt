@@ -7,11 +7,11 @@ use Prim.Native.Nat.{ℕ, _+_, _-_, _<_}
 use native.Mathlib.Omega.{arith}
 use lib.Dec.{T, eqb}
 use lib.ListN.{length}
-use Rattle.cursor.specs.Machine.{Event, seen, passed, trace, rowsOf}
+use Rattle.machine.specs.Machine.{Event, seen, passed, trace, rowsOf}
 use Rattle.cursor.specs.Rows.{Frame, fileFrame, nodeFrame, metaFrame, unpackFrame, referenceFrame, language, name, uri, Part, nodeRow, itemRow, plain, inlineSize, Events}
 use Rattle.cursor.specs.declared.Node.{Node}
 use Rattle.cursor.specs.declared.Item.{Item}
-use Rattle.cursor.proofs.Wp.{All}
+use Rattle.machine.proofs.Wp.{All}
 use Rattle.header.specs.Header.{Header, header}
 use Rattle.metadata.specs.declared.Limits.{Limits}
 use Rattle.metadata.proofs.Ends.{Nothing, Inside}

@@ -2,7 +2,7 @@
 ghost use mathlib.Core.Path.{_≡_};
 ghost use Prim.Native.Nat.{_+_, _*_, _^_, _≤_, _<_};
 ghost use lib.ListN.{length};
-ghost use Rattle.cursor.specs.Machine.{run};
+ghost use Rattle.machine.specs.Machine.{run};
 ghost use Rattle.cursor.specs.Rows.{Frame, inlineSize};
 ghost use Rattle.cursor.specs.Refusals.{cutShort};
 ghost use Rattle.cursor.specs.Leaves.{number};

@@ -8,7 +8,7 @@ use native.Mathlib.Omega.{arith}
 use lib.ListN.{length, take, drop, getD}
 use lib.Seq.{drop-cons, drop-length}
 use borrow.Author.Tests.{lt-ltb}
-use Rattle.cursor.specs.Machine.{Out, ok, refused}
+use Rattle.machine.specs.Machine.{Out, ok, refused}
 use Rattle.cursor.specs.Vlq.{part}
 use Rattle.cursor.specs.declared.Item.{Item}
 use Rattle.room.specs.Room.{good, bad}

@@ -6,7 +6,7 @@ use mathlib.Core.List.{List, [], _∷_, _++_}
 use Prim.Native.Nat.{ℕ, _+_, _/_, _%_}
 use lib.Dec.{leb}
 use lib.ListN.{length}
-use Rattle.cursor.specs.Machine.{Out, ok, refused}
+use Rattle.machine.specs.Machine.{Out, ok, refused}
 use Rattle.cursor.specs.Refusals.{noSuchRow, noSuchItem, badDescription}
 use Rattle.cursor.specs.declared.Item.{Item}
 use Rattle.room.specs.Room.{Result, good, bad}

@@ -3,7 +3,7 @@ ghost use mathlib.Core.Path.{_≡_};
 ghost use mathlib.Core.List.{List, []};
 ghost use Prim.Native.Nat.{ℕ, _≤_, _<_, _^_, _+_, _*_};
 ghost use lib.ListN.{length};
-ghost use Rattle.cursor.specs.Machine.{run};
+ghost use Rattle.machine.specs.Machine.{run};
 ghost use Rattle.room.specs.Counts.{Counts};
 ghost use Rattle.room.specs.Room.{Result};
 ghost use Rattle.tree.specs.Rows.{itemsIn, ItemIn, ItemRows};

@@ -6,14 +6,14 @@ use Prim.Native.Nat.{ℕ, zero, suc, _+_, _-_, _≤_, _<_}
 use native.Mathlib.Omega.{arith}
 use lib.ListN.{length}
 use borrow.Author.Tests.{ne-eqb}
-use Rattle.cursor.specs.Machine.{Out, ok, refused, run, times}
+use Rattle.machine.specs.Machine.{Out, ok, refused, run, times}
 use Rattle.cursor.specs.Rows.{Frame, P, unpackFrame, fileFrame}
 use Rattle.cursor.specs.Leaves.{number, block, manufacturer, guid}
 use Rattle.cursor.specs.Vlq.{part, vlq, joined, sized}
 use Rattle.cursor.specs.declared.Cursor.{Cursor}
 use Rattle.cursor.specs.declared.FilePlace.{FilePlace}
-use Rattle.cursor.proofs.Laws.{running, andThen, run-times, run-timed}
-use Rattle.cursor.proofs.Wp.{at-end}
+use Rattle.machine.proofs.Laws.{running, andThen, run-times, run-timed}
+use Rattle.machine.proofs.Wp.{at-end}
 use Rattle.cursor.proofs.Leaves.{Any, any-free, guid-on, manufacturer-on}
 use Rattle.title.specs.Description.{answer, copied, identifierText, unpackerText, entryText, tableText}
 use Rattle.room.specs.Counts.{Counts, tooMany}

@@ -4,7 +4,7 @@ use mathlib.Core.Path.{_≡_}
 use mathlib.Core.List.{List}
 use Prim.Native.Nat.{ℕ}
 use lib.ListN.{length}
-use Rattle.cursor.specs.Machine.{Out, ok, refused, _>>=_, ret}
+use Rattle.machine.specs.Machine.{Out, ok, refused, _>>=_, ret}
 use Rattle.cursor.specs.Rows.{Frame, P}
 use Rattle.cursor.specs.Refusals.{cutShort}
 use Rattle.cursor.specs.Leaves.{number}

@@ -2,7 +2,7 @@
 ghost use mathlib.Core.List.{[]};
 ghost use Prim.Native.Nat.{_<_, _^_};
 ghost use lib.ListN.{length};
-ghost use Rattle.cursor.specs.Machine.{run, times};
+ghost use Rattle.machine.specs.Machine.{run, times};
 ghost use Rattle.cursor.specs.Rows.{Frame};
 ghost use Rattle.cursor.specs.Vlq.{sized};
 ghost use Rattle.title.specs.Description.{answer, unpackerText, identifierText, entryText, tableText, shape};

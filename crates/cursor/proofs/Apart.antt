@@ -4,10 +4,10 @@ use mathlib.Core.Path.{_≡_, refl, ap₂, _∙_}
 use mathlib.Core.Bool.{Bool, true, false}
 use mathlib.Core.List.{List}
 use Prim.Native.Nat.{ℕ}
-use Rattle.cursor.specs.Machine.{ret, ok, run, trace, _>>=_, _>>_, place, check}
+use Rattle.machine.specs.Machine.{ret, ok, run, trace, _>>=_, _>>_, place, check}
 use Rattle.cursor.specs.Rows.{Frame, Part, P}
 use Rattle.cursor.specs.Leaves.{number, block}
-use Rattle.cursor.proofs.Laws.{never, split}
+use Rattle.machine.proofs.Laws.{never, split}
 
 module _ {A : Type 0} (f : List ℕ) (at : ℕ) {a : A} {q : ℕ} where
   pub at-place : (g : ℕ → P A) → run (place >>= g) f at ≡ ok a q → (run (g at) f at ≡ ok a q) × (trace (place >>= g) f at ≡ trace (g at) f at)

@@ -7,12 +7,12 @@ use native.Mathlib.Omega.{arith}
 use native.Mathlib.Nat.{pow-succ', div-div-eq-div-mul, div-eq-of-lt, mul-comm}
 use native.Mathlib.Decide.{decLe, decLt}
 use lib.ListN.{length, getD}
-use Rattle.cursor.specs.Machine.{Out, ok, refused, run}
+use Rattle.machine.specs.Machine.{Out, ok, refused, run}
 use Rattle.cursor.specs.Rows.{Frame}
 use Rattle.cursor.specs.Leaves.{digits, number, block, manufacturer, guid}
 use Rattle.cursor.specs.Vlq.{inBytes, least, vlq}
 use Rattle.cursor.proofs.Digits.{Digits, final, further, digits-read, digits-were, begun, dropped, guid-is}
-use Rattle.cursor.proofs.Laws.{never}
+use Rattle.machine.proofs.Laws.{never}
 use Rattle.cursor.proofs.Leaves.{block-all, manufacturer-none, manufacturer-one, manufacturer-cut, manufacturer-three}
 use Rattle.cursor.proofs.Least.{least-in, least-fits, in-bytes-length}
 use Rattle.cursor.proofs.Lies.{Lies, lies-none, lies-cons, lies-head, lies-tail}

@@ -9,10 +9,10 @@ use native.Mathlib.Omega.{arith}
 use native.Mathlib.Decide.{decLt}
 use lib.ListN.{getD}
 use borrow.Author.Tests.{lt-ltb, le-ltb}
-use Rattle.cursor.specs.Machine.{Out, ok, refused, run}
+use Rattle.machine.specs.Machine.{Out, ok, refused, run}
 use Rattle.cursor.specs.Rows.{Frame}
 use Rattle.cursor.specs.Leaves.{next, digits, number, guid}
-use Rattle.cursor.proofs.Laws.{andThen, running, never}
+use Rattle.machine.proofs.Laws.{andThen, running, never}
 
 module _ (κ : Frame) (past end p : ℕ) (f : List ℕ) (at v : ℕ) where
   pub digits-none : (left : ℕ) → left ≡ 0 → run (digits κ past end p left v) f at ≡ refused 4 p

@@ -8,15 +8,16 @@ use native.Mathlib.Decide.{decLe}
 use native.Mathlib.Omega.{arith}
 use lib.ListN.{getD}
 use borrow.Author.Tests.{ltb-true, leb-true, le-leb, lt-leb, eq-eqb, ne-eqb, lt-ltb, le-ltb}
-use Rattle.cursor.specs.Machine.{ok, refused, run}
+use Rattle.machine.specs.Machine.{ok, refused, run}
 use Rattle.cursor.specs.Rows.{Frame, Part}
 use Rattle.cursor.specs.Leaves.{next, digits, number, block, manufacturer, guid}
-use Rattle.cursor.proofs.Laws.{running}
+use Rattle.machine.proofs.Laws.{running}
 use Rattle.cursor.proofs.Digits.{begun, last}
-use Rattle.cursor.proofs.Stable.{depends}
-use Rattle.cursor.proofs.Within.{same, number-within}
-use Rattle.cursor.proofs.Wp.{Wp, Rule, Free, at-end, wp-after, wp-weaken, wp-ret, wp-refuse, wp-here, wp-byte, wp-if, wp-check, wp-place}
-use Rattle.cursor.proofs.Agree.{AgreeUpTo}
+use Rattle.machine.proofs.Stable.{depends}
+use Rattle.machine.proofs.Within.{same}
+use Rattle.cursor.proofs.Within.{number-within}
+use Rattle.machine.proofs.Wp.{Wp, Rule, Free, at-end, wp-after, wp-weaken, wp-ret, wp-refuse, wp-here, wp-byte, wp-if, wp-check, wp-place}
+use Rattle.machine.proofs.Agree.{AgreeUpTo}
 
 module _ {U : Rule Part} where
   -- one byte

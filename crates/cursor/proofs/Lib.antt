@@ -1,9 +1,4 @@
-pub mod Laws
 pub mod Apart
-pub mod Stable
-pub mod Log
-pub mod Near
-pub mod Wp
 pub mod Uses
 pub mod Quiet
 pub mod Digits
@@ -19,4 +14,3 @@ pub mod Wider
 pub mod Post
 pub mod Runs
 pub mod Stays
-pub mod Triple

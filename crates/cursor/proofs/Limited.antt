@@ -10,7 +10,7 @@ use native.Mathlib.Omega.{arith}
 use borrow.Author.Tests.{ltb-true, ltb-false}
 use lib.Dec.{T, ltb}
 use lib.ListN.{getD}
-use Rattle.cursor.specs.Machine.{ret, refuse, here, byte, pass, Out, ok, refused, seen, passed, FirstAt, run, trace, _>>=_, _>>_, if_then_else_, place, skip, check, turns, many, times}
+use Rattle.machine.specs.Machine.{ret, refuse, here, byte, pass, Out, ok, refused, seen, passed, FirstAt, run, trace, _>>=_, _>>_, if_then_else_, place, skip, check, turns, many, times}
 use Rattle.cursor.specs.Rows.{Frame, Part, nodeRow, itemRow, plain, P, Events}
 use Rattle.cursor.specs.Refusals.{noRowLeft}
 use Rattle.cursor.proofs.Uses.{UsesOf, passing, NoRow, Rowless}

@@ -7,7 +7,7 @@ use Prim.Native.Nat.{ℕ, zero, suc, _+_, _-_}
 use native.Mathlib.Omega.{arith}
 use lib.Dec.{ltb}
 use lib.ListN.{getD}
-use Rattle.cursor.specs.Machine.{ret, refuse, here, byte, pass, Out, ok, refused, run, exec, _>>=_, _>>_, if_then_else_, place, skip, check, turns, many, times}
+use Rattle.machine.specs.Machine.{ret, refuse, here, byte, pass, Out, ok, refused, run, exec, _>>=_, _>>_, if_then_else_, place, skip, check, turns, many, times}
 use Rattle.cursor.specs.Rows.{Part, P}
 use Rattle.cursor.proofs.Quiet.{Quiet, still}
 

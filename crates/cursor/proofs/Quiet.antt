@@ -4,7 +4,7 @@ use mathlib.Core.Path.{_≡_, refl, ap, _∙_}
 use mathlib.Core.List.{List, [], _∷_}
 use Prim.Native.Nat.{ℕ, _+_}
 use lib.ListN.{getD}
-use Rattle.cursor.specs.Machine.{Prog, ret, refuse, here, byte, pass, Out, ok, refused, seen, passed, run, trace, exec, puts}
+use Rattle.machine.specs.Machine.{Prog, ret, refuse, here, byte, pass, Out, ok, refused, seen, passed, run, trace, exec, puts}
 use Rattle.cursor.specs.Rows.{Frame, Plain, Part, plain, P, Events}
 use Rattle.cursor.specs.Leaves.{number, block, manufacturer, guid}
 use Rattle.cursor.proofs.Uses.{Uses, Only, used, passing, number-with, block-with, manufacturer-uses, guid-uses}

@@ -3,9 +3,9 @@
 use mathlib.Core.Path.{_≡_, refl, subst}
 use mathlib.Core.List.{List}
 use Prim.Native.Nat.{ℕ, zero, suc}
-use Rattle.cursor.specs.Machine.{Out, ok, refused, run, exec, times}
+use Rattle.machine.specs.Machine.{Out, ok, refused, run, exec, times}
 use Rattle.cursor.specs.Rows.{Part, P}
-use Rattle.cursor.proofs.Laws.{running, never}
+use Rattle.machine.proofs.Laws.{running, never}
 use Rattle.cursor.proofs.Quiet.{Quiet, IgnoresPlain, still, exec-puts}
 use Rattle.cursor.proofs.Post.{Meets, Post}
 

@@ -8,10 +8,10 @@ use native.Mathlib.Omega.{arith}
 use lib.Dec.{ltb}
 use lib.ListN.{length}
 use borrow.Author.Tests.{ltb-true}
-use Rattle.cursor.specs.Machine.{ret, refuse, here, byte, Out, ok, refused, run, _>>=_, _>>_, if_then_else_, place, skip, check, turns, many, times}
+use Rattle.machine.specs.Machine.{ret, refuse, here, byte, Out, ok, refused, run, _>>=_, _>>_, if_then_else_, place, skip, check, turns, many, times}
 use Rattle.cursor.specs.Rows.{Frame, Part, P}
 use Rattle.cursor.specs.Leaves.{next, digits, number, block, manufacturer, guid}
-use Rattle.cursor.proofs.Laws.{andThen, run-bind}
+use Rattle.machine.proofs.Laws.{andThen, run-bind}
 use Rattle.cursor.proofs.Leaves.{block-inside}
 
 -- the place where a run ended, or that it was refused at, is at most `size`

@@ -5,10 +5,10 @@ use mathlib.Core.List.{List}
 use Prim.Native.Nat.{ℕ, _+_, _≤_}
 use native.Mathlib.Omega.{arith}
 use native.Mathlib.Decide.{decLe}
-use Rattle.cursor.specs.Machine.{Out, ok, refused, run}
+use Rattle.machine.specs.Machine.{Out, ok, refused, run}
 use Rattle.cursor.specs.Rows.{Frame}
 use Rattle.cursor.specs.Leaves.{number, block}
-use Rattle.cursor.proofs.Laws.{never}
+use Rattle.machine.proofs.Laws.{never}
 use Rattle.cursor.proofs.Leaves.{block-size, block-past, block-all}
 use Rattle.cursor.proofs.Digits.{digits-read, digits-were, begun}
 

@@ -3,7 +3,7 @@
 -- Assumes nothing.
 use Prim.Native.Nat.{ℕ, zero, suc, _+_, _*_, _%_}
 use lib.Dec.{ltb, leb, eqb}
-use Rattle.cursor.specs.Machine.{ret, refuse, here, byte, _>>=_, _>>_, if_then_else_, place, check}
+use Rattle.machine.specs.Machine.{ret, refuse, here, byte, _>>=_, _>>_, if_then_else_, place, check}
 use Rattle.cursor.specs.Rows.{Frame, P}
 use Rattle.cursor.specs.Refusals.{cutShort, badNumber}
 

@@ -1,4 +1,3 @@
-pub mod Machine
 pub mod Rows
 pub mod Refusals
 pub mod Leaves

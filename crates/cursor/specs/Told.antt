@@ -4,7 +4,7 @@ use mathlib.Core.Path.{_≡_}
 use mathlib.Core.List.{List}
 use Prim.Native.Nat.{ℕ, _+_, _^_, _≤_, _<_}
 use lib.ListN.{length, getD}
-use Rattle.cursor.specs.Machine.{Out, ok, refused}
+use Rattle.machine.specs.Machine.{Out, ok, refused}
 use Rattle.cursor.specs.declared.Byte.{Byte}
 use Rattle.cursor.specs.declared.Numbered.{Numbered}
 use Rattle.cursor.specs.declared.Numbered.the-variants as number

@@ -2,7 +2,7 @@
 ghost use mathlib.Core.Path.{_≡_};
 ghost use Prim.Native.Nat.{_≤_, _<_, _^_, _+_};
 ghost use lib.ListN.{length};
-ghost use Rattle.cursor.specs.Machine.{run};
+ghost use Rattle.machine.specs.Machine.{run};
 ghost use Rattle.cursor.specs.Rows.{Frame};
 ghost use Rattle.cursor.specs.Leaves.{number, block, manufacturer, guid};
 ghost use Rattle.cursor.specs.Told.{ByteTold, numberTold, passTold};

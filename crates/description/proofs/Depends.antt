@@ -10,8 +10,9 @@ use borrow.Author.Tests.{ltb-true}
 use Rattle.cursor.specs.Rows.{P}
 use Rattle.cursor.specs.declared.Node.{Node}
 use Rattle.cursor.specs.declared.Item.{Item}
-use Rattle.cursor.proofs.Within.{Within, same, after, ends, checks, places, counts, next-within, number-within, manufacturer-within}
-use Rattle.cursor.proofs.Agree.{Agree}
+use Rattle.machine.proofs.Within.{Within, same, after, ends, checks, places, counts}
+use Rattle.cursor.proofs.Within.{next-within, number-within, manufacturer-within}
+use Rattle.machine.proofs.Agree.{Agree}
 use Rattle.header.specs.Header.{Header}
 use Rattle.tree.specs.Rows.{itemAt}
 use Rattle.description.specs.Row.{isDescription}

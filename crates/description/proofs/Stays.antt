@@ -8,7 +8,7 @@ use native.Mathlib.Omega.{arith}
 use lib.Dec.{ltb, eqb}
 use lib.ListN.{length}
 use borrow.Author.Tests.{ltb-true}
-use Rattle.cursor.specs.Machine.{Out, ok, refused}
+use Rattle.machine.specs.Machine.{Out, ok, refused}
 use Rattle.cursor.specs.Rows.{P}
 use Rattle.cursor.specs.declared.Node.{Node}
 use Rattle.cursor.specs.declared.Item.{Item}

@@ -11,12 +11,12 @@ use native.Mathlib.Nat.{mul-le-mul}
 use lib.Dec.{ltb, eqb}
 use lib.ListN.{getD}
 use borrow.Author.Tests.{lt-ltb, le-ltb, le-leb, lt-leb, eq-eqb, ne-eqb}
-use Rattle.cursor.specs.Machine.{Out, ok, refused, run, times}
+use Rattle.machine.specs.Machine.{Out, ok, refused, run, times}
 use Rattle.cursor.specs.Rows.{P, metaFrame}
 use Rattle.cursor.specs.Leaves.{next, number, manufacturer}
 use Rattle.cursor.specs.declared.Item.{Item}
-use Rattle.cursor.proofs.Laws.{running, andThen, run-times, run-timed}
-use Rattle.cursor.proofs.Wp.{Wp, at-end, wp-after, wp-weaken, wp-ret, wp-check, wp-place, wp-times}
+use Rattle.machine.proofs.Laws.{running, andThen, run-times, run-timed}
+use Rattle.machine.proofs.Wp.{Wp, at-end, wp-after, wp-weaken, wp-ret, wp-check, wp-place, wp-times}
 use Rattle.cursor.proofs.Leaves.{Any, any-free, next-on, number-on, manufacturer-on}
 use Rattle.tree.specs.Asking.{Result, good, bad}
 use Rattle.description.specs.Description.{value, aByte, guid, identifier, resource, numbers, Description, lists, table, description}

@@ -4,7 +4,7 @@ use mathlib.Core.Bool.{cond, _||_}
 use mathlib.Core.List.{List, [], _∷_}
 use Prim.Native.Nat.{ℕ, zero, suc, _*_}
 use lib.Dec.{leb, eqb}
-use Rattle.cursor.specs.Machine.{ret, _>>=_, _>>_, place, check, times}
+use Rattle.machine.specs.Machine.{ret, _>>=_, _>>_, place, check, times}
 use Rattle.cursor.specs.Rows.{P, metaFrame}
 use Rattle.cursor.specs.Refusals.{cutShort, badDescription}
 use Rattle.cursor.specs.Leaves.{next, number, manufacturer}

@@ -2,7 +2,7 @@
 ghost use mathlib.Core.Path.{_≡_};
 ghost use Prim.Native.Nat.{_≤_, _<_, _^_, _*_, _+_};
 ghost use lib.ListN.{length};
-ghost use Rattle.cursor.specs.Machine.{run, times};
+ghost use Rattle.machine.specs.Machine.{run, times};
 ghost use Rattle.cursor.specs.Told.{numberTold, passTold};
 ghost use Rattle.tree.specs.Rows.{itemsIn, ItemIn, ItemRows};
 ghost use Rattle.tree.specs.Asking.{answered, nodesLeft, itemsLeft};

@@ -10,7 +10,7 @@ use lib.ListN.{length}
 use borrow.Author.Tests.{eqb-true}
 use Rattle.cursor.specs.declared.Node.{Node}
 use Rattle.cursor.specs.declared.Item.{Item}
-use Rattle.cursor.proofs.Agree.{Agree}
+use Rattle.machine.proofs.Agree.{Agree}
 use Rattle.header.specs.Header.{Header}
 use Rattle.tree.specs.Rows.{itemAt}
 use Rattle.tree.specs.Asking.{Result, good, bad}

@@ -7,7 +7,7 @@ use native.Mathlib.Omega.{arith}
 use lib.ListN.{length}
 use borrow.Author.Tests.{ltb-true, leb-true}
 use Rattle.cursor.specs.Leaves.{next, number, block}
-use Rattle.cursor.proofs.Wp.{Wp, wp-after, wp-then, wp-weaken, wp-ret, wp-refuse, wp-if, wp-check, wp-checked, wp-place, wp-skip, wp-times}
+use Rattle.machine.proofs.Wp.{Wp, wp-after, wp-then, wp-weaken, wp-ret, wp-refuse, wp-if, wp-check, wp-checked, wp-place, wp-skip, wp-times}
 use Rattle.cursor.proofs.Leaves.{Any, next-on, number-on, block-on}
 use Rattle.header.specs.Types.{Declared}
 use Rattle.header.specs.Header.{four, opening, edition, fileLength, entry, typesTable, extent, header}

@@ -5,7 +5,7 @@ use mathlib.Core.List.{List, [], _∷_, _++_}
 use Prim.Native.Nat.{ℕ, _+_, _*_, _^_}
 use lib.Dec.{ltb, leb, eqb}
 use lib.ListN.{length}
-use Rattle.cursor.specs.Machine.{ret, refuse, _>>=_, _>>_, if_then_else_, place, skip, check, times}
+use Rattle.machine.specs.Machine.{ret, refuse, _>>=_, _>>_, if_then_else_, place, skip, check, times}
 use Rattle.cursor.specs.Rows.{P, fileFrame, plain, language}
 use Rattle.cursor.specs.Refusals.{notXmf, badVersion, cutShort, wrongLength, badType, badTree, bytesLeft, tooLarge}
 use Rattle.cursor.specs.Leaves.{next, number, block}

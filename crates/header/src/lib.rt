@@ -3,7 +3,7 @@ ghost use mathlib.Core.Path.{_≡_};
 ghost use mathlib.Core.List.{_∷_, [], _++_};
 ghost use Prim.Native.Nat.{_≤_, _<_, _+_, _*_, _^_};
 ghost use lib.ListN.{length};
-ghost use Rattle.cursor.specs.Machine.{run, times};
+ghost use Rattle.machine.specs.Machine.{run, times};
 ghost use Rattle.cursor.specs.Told.{Readable, numberTold, passTold};
 ghost use Rattle.header.specs.Types.{typesOf, formatOf, foundTold};
 ghost use Rattle.header.specs.Header.{four, opening, edition, fileLength, entry, typesTable, extent, header};

@@ -8,9 +8,9 @@ use native.Mathlib.Omega.{arith}
 use lib.Dec.{T, ltb}
 use lib.ListN.{length, getD}
 use borrow.Author.Tests.{leb-true, ltb-true, lt-ltb, le-ltb}
-use Rattle.cursor.specs.Machine.{Out, ok, refused, ret, _>>=_}
+use Rattle.machine.specs.Machine.{Out, ok, refused, ret, _>>=_}
 use Rattle.cursor.specs.Refusals.{isAllowed}
-use Rattle.cursor.proofs.Triple.{Triple, where-ends, where-refused, after, followed, weaken, returns, places, either, checks, skips, skipped, repeats}
+use Rattle.machine.proofs.Triple.{Triple, where-ends, where-refused, after, followed, weaken, returns, places, either, checks, skips, skipped, repeats}
 use Rattle.room.specs.Room.{good, bad}
 use Rattle.id3.specs.declared.TagFrame.{TagFrame}
 use Rattle.id3.specs.Tag.{extension, extended, front, frame, frameOrPadding, frames, tag}

@@ -7,7 +7,7 @@ use Prim.Native.Nat.{ℕ, _≤_}
 use native.Mathlib.Omega.{arith}
 use lib.Dec.{ltb}
 use lib.ListN.{length, getD}
-use Rattle.cursor.specs.Machine.{Out, ok, refused}
+use Rattle.machine.specs.Machine.{Out, ok, refused}
 use Rattle.cursor.specs.Refusals.{noSuchRow}
 use Rattle.room.specs.Room.{good, bad, Among}
 use Rattle.room.proofs.Listed.{allowed-front, among-if}

@@ -5,7 +5,7 @@ use mathlib.Core.List.{List, [], _∷_, _++_}
 use Prim.Native.Nat.{ℕ}
 use lib.Dec.{ltb}
 use lib.ListN.{length, getD}
-use Rattle.cursor.specs.Machine.{Out, ok, refused, run}
+use Rattle.machine.specs.Machine.{Out, ok, refused, run}
 use Rattle.cursor.specs.Refusals.{noSuchRow, notATag, badTag, unsynchronised}
 use Rattle.room.specs.Room.{Result, good, bad}
 use Rattle.id3.specs.declared.TagFrame.{TagFrame}

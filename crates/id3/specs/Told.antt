@@ -3,7 +3,7 @@
 use mathlib.Core.List.{List}
 use Prim.Native.Nat.{ℕ}
 use lib.ListN.{length, getD}
-use Rattle.cursor.specs.Machine.{Out, ok, refused}
+use Rattle.machine.specs.Machine.{Out, ok, refused}
 use Rattle.room.specs.Room.{Result, good, bad}
 use Rattle.id3.specs.Tag.{Head}
 use Rattle.id3.specs.Frames.{noFrame}

@@ -3,7 +3,7 @@
 ghost use mathlib.Core.Path.{_≡_};
 ghost use Prim.Native.Nat.{_≤_, _<_, _+_};
 ghost use lib.ListN.{length, getD};
-ghost use Rattle.cursor.specs.Machine.{run};
+ghost use Rattle.machine.specs.Machine.{run};
 ghost use Rattle.cursor.specs.Told.{numberTold, passTold};
 ghost use Rattle.id3.specs.Tag.{size, head, extended, front, frame, frames};
 ghost use Rattle.id3.specs.Frames.{framesOf, frameCount, frameAt};

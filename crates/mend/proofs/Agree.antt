@@ -8,11 +8,11 @@ use native.Mathlib.Omega.{arith}
 use lib.Dec.{ltb}
 use lib.ListN.{length, getD}
 use borrow.Author.Tests.{ltb-true}
-use Rattle.cursor.specs.Machine.{Prog, ret, refuse, here, byte, pass, Out, ok, refused, seen, passed, run, trace}
+use Rattle.machine.specs.Machine.{Prog, ret, refuse, here, byte, pass, Out, ok, refused, seen, passed, run, trace}
 use Rattle.cursor.specs.Rows.{P, Events, referenceFrame}
 use Rattle.cursor.specs.Leaves.{number}
 use Rattle.cursor.specs.declared.Node.{Node}
-use Rattle.cursor.proofs.Laws.{rows-on}
+use Rattle.machine.proofs.Laws.{rows-on}
 use Rattle.header.specs.Header.{Header, header}
 use Rattle.metadata.specs.declared.Limits.{Limits}
 use Rattle.metadata.specs.declared.Made.{Made}

@@ -8,13 +8,13 @@ use native.Mathlib.Decide.{decLt}
 use native.Mathlib.Omega.{arith}
 use lib.ListN.{length, getD}
 use borrow.Author.Tests.{eq-eqb}
-use Rattle.cursor.specs.Machine.{Event, seen, passed, ok, run, trace, rowsOf}
+use Rattle.machine.specs.Machine.{Event, seen, passed, ok, run, trace, rowsOf}
 use Rattle.cursor.specs.Rows.{nodeRow, itemRow, plain, Events}
 use Rattle.cursor.specs.declared.Node.{Node}
 use Rattle.cursor.specs.declared.Item.{Item}
-use Rattle.cursor.proofs.Stable.{Chain, endOf, Covers, Separate, chain, ends, depends}
-use Rattle.cursor.proofs.Agree.{AgreeUpTo}
-use Rattle.cursor.proofs.Wp.{All}
+use Rattle.machine.proofs.Stable.{Chain, endOf, Covers, Separate, chain, ends, depends}
+use Rattle.machine.proofs.Agree.{AgreeUpTo}
+use Rattle.machine.proofs.Wp.{All}
 use Rattle.header.specs.Header.{Header, header}
 use Rattle.metadata.specs.declared.Limits.{Limits}
 use Rattle.metadata.proofs.Ends.{Nothing, Inside}

@@ -8,9 +8,9 @@ use native.Mathlib.Omega.{arith}
 use lib.Dec.{leb}
 use lib.ListN.{length, replicate}
 use borrow.Author.Tests.{leb-true, ltb-true, le-leb, lt-ltb}
-use Rattle.cursor.specs.Machine.{Out, ok, refused, run}
+use Rattle.machine.specs.Machine.{Out, ok, refused, run}
 use Rattle.cursor.specs.declared.FilePlace.{FilePlace}
-use Rattle.cursor.proofs.Laws.{never}
+use Rattle.machine.proofs.Laws.{never}
 use Rattle.metadata.specs.Tables.{limits}
 use Rattle.metadata.specs.declared.Limits.{Limits}
 use Rattle.room.specs.Room.{Result, good, bad, kept}

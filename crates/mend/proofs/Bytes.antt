@@ -7,7 +7,7 @@ use native.Mathlib.Omega.{arith}
 use native.Mathlib.Nat.{pow-succ', div-div-eq-div-mul, mul-comm, one-le-pow, lt-div-mul-add}
 use lib.ListN.{length, getD}
 use lib.Seq.{ext-getD}
-use Rattle.cursor.specs.Machine.{ok, run}
+use Rattle.machine.specs.Machine.{ok, run}
 use Rattle.cursor.specs.Rows.{Frame}
 use Rattle.cursor.specs.Leaves.{number}
 use Rattle.cursor.specs.Vlq.{inBytes}

@@ -9,7 +9,7 @@ use lib.Dec.{ltb, leb}
 use lib.ListN.{length, take, drop, replicate, set, length-set}
 use lib.Seq.{sets, length-sets, set-append-left}
 use borrow.Author.Tests.{not-true, not-false, lt-leb, le-leb}
-use Rattle.cursor.specs.Machine.{Out, ok, refused, run}
+use Rattle.machine.specs.Machine.{Out, ok, refused, run}
 use Rattle.cursor.specs.Rows.{nodeFrame}
 use Rattle.cursor.specs.Leaves.{number}
 use Rattle.cursor.specs.Vlq.{inBytes}

@@ -8,12 +8,12 @@ use Prim.Native.Nat.{ℕ, _+_, _≤_, _<_, _^_}
 use native.Mathlib.Omega.{arith}
 use lib.ListN.{getD}
 use borrow.Author.Tests.{eqb-true, leb-true, ltb-true, eq-eqb, le-leb, lt-ltb}
-use Rattle.cursor.specs.Machine.{ok, run, exec, check, _>>_}
+use Rattle.machine.specs.Machine.{ok, run, exec, check, _>>_}
 use Rattle.cursor.specs.Rows.{fileFrame}
 use Rattle.cursor.specs.Leaves.{number}
-use Rattle.cursor.proofs.Laws.{running}
-use Rattle.cursor.proofs.Wp.{at-end}
-use Rattle.cursor.proofs.Stable.{depends}
+use Rattle.machine.proofs.Laws.{running}
+use Rattle.machine.proofs.Wp.{at-end}
+use Rattle.machine.proofs.Stable.{depends}
 use Rattle.cursor.proofs.Leaves.{any-free, number-inside}
 use Rattle.cursor.proofs.Post.{Post, post-step, post-place, post-check, post-ret}
 use Rattle.cursor.proofs.Runs.{nothing, nothing-quiet, post-ran}

@@ -9,11 +9,11 @@ use native.Mathlib.Omega.{arith}
 use lib.Dec.{leb}
 use lib.ListN.{length, getD}
 use borrow.Author.Tests.{eq-eqb, le-leb, lt-leb}
-use Rattle.cursor.specs.Machine.{Out, ok, refused, run}
+use Rattle.machine.specs.Machine.{Out, ok, refused, run}
 use Rattle.cursor.specs.Rows.{fileFrame}
 use Rattle.cursor.specs.declared.Node.{Node}
 use Rattle.cursor.specs.declared.Item.{Item}
-use Rattle.cursor.proofs.Laws.{never}
+use Rattle.machine.proofs.Laws.{never}
 use Rattle.header.specs.Header.{Header, header}
 use Rattle.metadata.specs.declared.Limits.{Limits}
 use Rattle.tree.specs.Reading.{Reading, rows, refusal, readTree, readFile}

@@ -8,11 +8,11 @@ use lib.Dec.{ltb}
 use borrow.Author.Tests.{eq-eqb, ne-eqb}
 use lib.ListN.{length}
 use lib.Seq.{sets}
-use Rattle.cursor.specs.Machine.{Out, ok, refused, run}
+use Rattle.machine.specs.Machine.{Out, ok, refused, run}
 use Rattle.cursor.specs.Rows.{fileFrame, nodeFrame}
 use Rattle.cursor.specs.Vlq.{inBytes}
 use Rattle.cursor.specs.Leaves.{number}
-use Rattle.cursor.proofs.Laws.{running}
+use Rattle.machine.proofs.Laws.{running}
 use Rattle.cursor.proofs.Least.{in-bytes-length}
 use Rattle.header.specs.Types.{Declared}
 use Rattle.header.specs.Header.{opening, Edition, edition, typesTable}

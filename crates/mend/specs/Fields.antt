@@ -3,7 +3,7 @@
 use mathlib.Core.List.{List}
 use mathlib.Core.Logic.{_⊎_}
 use Prim.Native.Nat.{ℕ, _-_, _^_, _≤_, _<_}
-use Rattle.cursor.specs.Machine.{ret, _>>=_, place}
+use Rattle.machine.specs.Machine.{ret, _>>=_, place}
 use Rattle.cursor.specs.Rows.{P, fileFrame}
 use Rattle.cursor.specs.Refusals.{cutShort}
 use Rattle.cursor.specs.Leaves.{number}

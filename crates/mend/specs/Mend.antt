@@ -7,7 +7,7 @@ use Prim.Native.Nat.{ℕ, _+_, _-_}
 use lib.Dec.{leb, eqb}
 use lib.ListN.{length}
 use lib.Seq.{sets}
-use Rattle.cursor.specs.Machine.{Out, ok, refused, run}
+use Rattle.machine.specs.Machine.{Out, ok, refused, run}
 use Rattle.cursor.specs.Rows.{nodeFrame}
 use Rattle.cursor.specs.Refusals.{cutShort, noRoom}
 use Rattle.cursor.specs.Leaves.{number}

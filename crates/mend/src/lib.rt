@@ -5,7 +5,7 @@ ghost use mathlib.Core.List.{List};
 ghost use Prim.Native.Nat.{ℕ, _+_, _-_, _*_, _^_, _≤_, _<_};
 ghost use lib.Dec.{ltb};
 ghost use lib.ListN.{length, replicate};
-ghost use Rattle.cursor.specs.Machine.{run};
+ghost use Rattle.machine.specs.Machine.{run};
 ghost use lib.Seq.{sets};
 ghost use Rattle.cursor.specs.Vlq.{inBytes};
 ghost use Rattle.room.specs.Counts.{Counts};

@@ -6,8 +6,8 @@ use Prim.Native.Nat.{ℕ, _+_, _-_, _≤_, _<_}
 use native.Mathlib.Omega.{arith}
 use lib.Dec.{T}
 use Rattle.cursor.specs.Rows.{Part, nodeRow, itemRow, plain, Plain, language, name, uri, hasInline, inlineSize}
-use Rattle.cursor.specs.Machine.{times, many}
-use Rattle.cursor.proofs.Wp.{Wp, Rule, Free, wp-after, wp-weaken, wp-ret, wp-refuse, wp-if, wp-check, wp-place, wp-skip, wp-many, wp-times}
+use Rattle.machine.specs.Machine.{times, many}
+use Rattle.machine.proofs.Wp.{Wp, Rule, Free, wp-after, wp-weaken, wp-ret, wp-refuse, wp-if, wp-check, wp-place, wp-skip, wp-many, wp-times}
 use Rattle.cursor.proofs.Leaves.{number-on, block-on}
 use Rattle.header.specs.Types.{Known, known, unknown, formatOf}
 use Rattle.metadata.specs.Metadata.{Context, field, contents, itemFrame, kindOf, fieldOf, nameLengthOf, rowOf, universal, declaredFormat, version, rowsFor, item, nextItem, metaItems, metadata}

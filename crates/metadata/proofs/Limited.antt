@@ -3,7 +3,7 @@
 use mathlib.Core.Path.{_≡_}
 use Prim.Native.Nat.{ℕ, _+_, _≤_}
 use native.Mathlib.Omega.{arith}
-use Rattle.cursor.specs.Machine.{place}
+use Rattle.machine.specs.Machine.{place}
 use Rattle.cursor.proofs.Uses.{number-uses, block-uses, block-with}
 use Rattle.cursor.proofs.Limited.{node, item, Rows, makes-then, makes-check, makes-row, Limited, after, then-rowless, ends, places, checks, row-checks, passes, repeats, counts}
 use Rattle.header.specs.Types.{formatOf}

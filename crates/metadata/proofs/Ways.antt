@@ -7,7 +7,7 @@ use native.Mathlib.Omega.{arith}
 use lib.ListN.{length}
 use lib.Seq.{sets}
 use borrow.Author.Tests.{lt-ltb, le-ltb, eq-eqb, ne-eqb}
-use Rattle.cursor.specs.Machine.{ok, refused, run, exec, turns, many, times}
+use Rattle.machine.specs.Machine.{ok, refused, run, exec, turns, many, times}
 use Rattle.cursor.specs.Rows.{metaFrame}
 use Rattle.cursor.specs.Leaves.{number, block}
 use Rattle.cursor.specs.Told.{ByteTold}
@@ -15,8 +15,8 @@ use Rattle.cursor.specs.declared.Byte.{Byte}
 use Rattle.cursor.specs.declared.Cursor.{Cursor}
 use Rattle.cursor.specs.declared.FilePlace.{FilePlace}
 use Rattle.cursor.specs.declared.Item.{Item}
-use Rattle.cursor.proofs.Laws.{running, executing, andThen, ran, exec-turn, exec-turned, exec-many, exec-times, exec-timed}
-use Rattle.cursor.proofs.Wp.{at-end}
+use Rattle.machine.proofs.Laws.{running, executing, andThen, ran, exec-turn, exec-turned, exec-many, exec-times, exec-timed}
+use Rattle.machine.proofs.Wp.{at-end}
 use Rattle.cursor.proofs.Leaves.{Any, any-free, number-inside, block-inside, number-short, block-all}
 use Rattle.cursor.proofs.Quiet.{exec-number, exec-block}
 use Rattle.header.specs.Types.{known, unknown, formatOf}

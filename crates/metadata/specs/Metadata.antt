@@ -3,7 +3,7 @@
 use mathlib.Core.List.{List}
 use Prim.Native.Nat.{ℕ, _+_, _-_}
 use lib.Dec.{ltb, eqb}
-use Rattle.cursor.specs.Machine.{ret, refuse, _>>=_, _>>_, if_then_else_, place, skip, check, many, times}
+use Rattle.machine.specs.Machine.{ret, refuse, _>>=_, _>>_, if_then_else_, place, skip, check, many, times}
 use Rattle.cursor.specs.Rows.{P, metaFrame, itemRow, plain, name}
 use Rattle.cursor.specs.Refusals.{cutShort, badNode, noRowLeft, badContents}
 use Rattle.cursor.specs.Leaves.{number, block}

@@ -4,7 +4,7 @@ ghost use mathlib.Core.List.{List};
 ghost use Prim.Native.Nat.{ℕ, _≤_, _<_, _+_, _*_};
 ghost use lib.ListN.{length};
 ghost use lib.Seq.{sets};
-ghost use Rattle.cursor.specs.Machine.{run, exec, times};
+ghost use Rattle.machine.specs.Machine.{run, exec, times};
 ghost use Rattle.cursor.specs.Told.{Readable};
 ghost use Rattle.metadata.specs.Tables.{itemWidth, itemWords, put, state};
 ghost use Rattle.metadata.specs.Metadata.{field, contents, itemFrame, rowOf, universal, version, rowsFor, item, metaItems, metadata};

@@ -9,12 +9,12 @@ use native.Mathlib.Decide.{decLt}
 use lib.Dec.{ltb, eqb}
 use lib.ListN.{length, getD, drop}
 use borrow.Author.Tests.{le-ltb}
-use Rattle.cursor.specs.Machine.{Out}
+use Rattle.machine.specs.Machine.{Out}
 use Rattle.cursor.specs.Rows.{metaFrame}
 use Rattle.cursor.specs.declared.Node.{Node}
 use Rattle.cursor.specs.declared.Item.{Item}
 use Rattle.cursor.proofs.Leaves.{number-same}
-use Rattle.cursor.proofs.Agree.{Agree}
+use Rattle.machine.proofs.Agree.{Agree}
 use Rattle.header.specs.Header.{Header}
 use Rattle.tree.specs.Rows.{itemAt}
 use Rattle.tree.specs.Own.{Numbered, itemsOf, numbered, those, isOwn, own}

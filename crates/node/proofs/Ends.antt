@@ -9,11 +9,11 @@ use native.Mathlib.Omega.{arith}
 use lib.Dec.{T, eqb, eqb→eq}
 use lib.ListN.{length}
 use borrow.Author.Tests.{leb-true, eqb-true}
-use Rattle.cursor.specs.Machine.{ok, run, exec}
+use Rattle.machine.specs.Machine.{ok, run, exec}
 use Rattle.cursor.specs.Rows.{hasInline, sizeIf, inlineSize}
 use Rattle.cursor.specs.declared.Node.{Node}
-use Rattle.cursor.proofs.Laws.{ran}
-use Rattle.cursor.proofs.Wp.{Wp, at-end, wp-after, wp-weaken, wp-ret, wp-if, wp-check, wp-place, wp-skip, wp-many}
+use Rattle.machine.proofs.Laws.{ran}
+use Rattle.machine.proofs.Wp.{Wp, at-end, wp-after, wp-weaken, wp-ret, wp-if, wp-check, wp-place, wp-skip, wp-many}
 use Rattle.cursor.proofs.Leaves.{number-on, block-on, manufacturer-on, guid-on}
 use Rattle.metadata.specs.Tables.{State, put}
 use Rattle.metadata.specs.Metadata.{Context, metadata}

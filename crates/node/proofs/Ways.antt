@@ -8,7 +8,7 @@ use Prim.Native.Nat.{ℕ, zero, _+_, _-_, _≤_, _<_}
 use native.Mathlib.Omega.{arith}
 use native.Mathlib.Decide.{ℕ-discrete}
 use borrow.Author.Tests.{lt-ltb, le-ltb, le-leb, lt-leb, eq-eqb, ne-eqb, eqb-true, not-false, not-true}
-use Rattle.cursor.specs.Machine.{Out, ok, refused, run, exec, turns, many}
+use Rattle.machine.specs.Machine.{Out, ok, refused, run, exec, turns, many}
 use Rattle.cursor.specs.Rows.{nodeFrame, unpackFrame, referenceFrame}
 use Rattle.cursor.specs.Leaves.{number, block, manufacturer, guid}
 use Rattle.cursor.specs.Told.{ByteTold, passTold}
@@ -18,9 +18,9 @@ use Rattle.cursor.specs.declared.FilePlace.{FilePlace}
 use Rattle.cursor.specs.declared.Node.{Node}
 use Rattle.cursor.specs.declared.Passed.{Passed}
 use Rattle.cursor.specs.declared.Passed.the-variants as passing
-use Rattle.cursor.proofs.Laws.{running, executing, andThen, run-turn, run-turned, run-many}
+use Rattle.machine.proofs.Laws.{running, executing, andThen, run-turn, run-turned, run-many}
 use Rattle.cursor.proofs.Leaves.{number-short}
-use Rattle.cursor.proofs.Wp.{at-end}
+use Rattle.machine.proofs.Wp.{at-end}
 use Rattle.metadata.proofs.Ends.{Nothing, inside-free}
 use Rattle.metadata.specs.Tables.{State, state, put}
 use Rattle.metadata.specs.Metadata.{Context, metadata}

@@ -3,7 +3,7 @@
 use mathlib.Core.Bool.{_||_}
 use Prim.Native.Nat.{ℕ, _+_, _-_}
 use lib.Dec.{ltb, leb, eqb}
-use Rattle.cursor.specs.Machine.{ret, _>>=_, _>>_, if_then_else_, place, skip, check, many}
+use Rattle.machine.specs.Machine.{ret, _>>=_, _>>_, if_then_else_, place, skip, check, many}
 use Rattle.cursor.specs.Rows.{P, nodeFrame, unpackFrame, referenceFrame, plain, uri}
 use Rattle.cursor.specs.Refusals.{cutShort, badNode, badUnpacker, badReference, badFolder, bytesLeft, badTarget, badDetached}
 use Rattle.cursor.specs.Leaves.{number, block, manufacturer, guid}

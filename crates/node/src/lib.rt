@@ -5,7 +5,7 @@ ghost use mathlib.Core.List.{List};
 ghost use lib.Dec.{eqb};
 ghost use Prim.Native.Nat.{ℕ, _≤_, _<_, _+_};
 ghost use lib.ListN.{length};
-ghost use Rattle.cursor.specs.Machine.{run, exec};
+ghost use Rattle.machine.specs.Machine.{run, exec};
 ghost use Rattle.cursor.specs.Told.{Readable, passTold};
 ghost use Rattle.metadata.specs.Tables.{put, state};
 ghost use Rattle.metadata.specs.Told.{Room, contextOf};

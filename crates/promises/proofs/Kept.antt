@@ -17,7 +17,7 @@ use Rattle.cursor.specs.Refusals.{ofReader, inFile, isAllowed}
 use Rattle.cursor.specs.Vlq.{part}
 use Rattle.cursor.specs.declared.Node.{Node}
 use Rattle.cursor.specs.declared.Item.{Item}
-use Rattle.cursor.proofs.Agree.{Agree}
+use Rattle.machine.proofs.Agree.{Agree}
 use Rattle.header.specs.Header.{Header}
 use Rattle.metadata.specs.Tables.{fullNodes, fullItems, limits}
 use Rattle.metadata.specs.declared.Limits.{Limits}

@@ -8,7 +8,7 @@ use mathlib.Core.List.{List, [], _∷_, _++_, map}
 use Prim.Native.Nat.{ℕ, _+_, _*_, _≤_, _<_}
 use lib.Dec.{T}
 use lib.ListN.{length, getD, replicate, take, drop}
-use Rattle.cursor.specs.Machine.{ok, run, FirstAt}
+use Rattle.machine.specs.Machine.{ok, run, FirstAt}
 use Rattle.cursor.specs.Rows.{Events}
 use Rattle.cursor.specs.Refusals.{noRowLeft, noSuchRow, noRoom, badText, badSheet, ofReader, inFile, isOneOf, isAllowed}
 use Rattle.cursor.specs.Vlq.{part}

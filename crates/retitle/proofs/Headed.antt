@@ -5,7 +5,7 @@ use mathlib.Core.List.{List, map}
 use Prim.Native.Nat.{ℕ, _+_, _-_, _≤_, _<_}
 use native.Mathlib.Omega.{arith}
 use lib.ListN.{length, take, drop}
-use Rattle.cursor.specs.Machine.{ok, refused, run}
+use Rattle.machine.specs.Machine.{ok, refused, run}
 use Rattle.cursor.specs.Vlq.{part, joined, sized}
 use Rattle.cursor.specs.declared.FilePlace.{FilePlace}
 use Rattle.cursor.specs.declared.Node.{Node}

@@ -5,7 +5,7 @@ ghost use mathlib.Core.Bool.{true, false};
 ghost use mathlib.Core.List.{List};
 ghost use Prim.Native.Nat.{_≤_, _<_, _^_, _*_, _+_, _-_, min};
 ghost use lib.ListN.{length, take, drop};
-ghost use Rattle.cursor.specs.Machine.{run};
+ghost use Rattle.machine.specs.Machine.{run};
 ghost use Rattle.cursor.specs.Vlq.{part, least, joined, sized};
 ghost use Rattle.header.specs.Header.{Header};
 ghost use Rattle.metadata.specs.Tables.{nodeWidth, itemWidth, mostNodes};

@@ -11,8 +11,9 @@ use borrow.Author.Tests.{eqb-false, leb-false}
 use Rattle.cursor.specs.declared.Node.{Node}
 use Rattle.cursor.specs.declared.Item.{Item}
 use Rattle.cursor.specs.Refusals.{noSuchRow, noSuchItem, refersElsewhere}
-use Rattle.cursor.proofs.Agree.{Agree, part-same}
-use Rattle.cursor.proofs.Within.{same}
+use Rattle.machine.proofs.Agree.{Agree}
+use Rattle.cursor.proofs.Agree.{part-same}
+use Rattle.machine.proofs.Within.{same}
 use Rattle.header.specs.Header.{Header}
 use Rattle.metadata.specs.Tables.{fullNodes, fullItems, limits}
 use Rattle.metadata.specs.declared.Limits.{Limits}

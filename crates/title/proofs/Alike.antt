@@ -10,17 +10,17 @@ use lib.Dec.{T, eqb}
 use lib.ListN.{length, take, drop, length-append}
 use lib.Seq.{take-at, drop-at}
 use borrow.Author.Tests.{lt-ltb, le-ltb, lt-leb, le-leb, eq-eqb, ne-eqb}
-use Rattle.cursor.specs.Machine.{ret, here, Out, ok, refused, seen, passed, run, trace, _>>=_, _>>_, if_then_else_, place, skip, check, turns, many, times}
+use Rattle.machine.specs.Machine.{ret, here, Out, ok, refused, seen, passed, run, trace, _>>=_, _>>_, if_then_else_, place, skip, check, turns, many, times}
 use Rattle.cursor.specs.Rows.{Frame, Part, P, Events, hasInline, sizeIf, inlineSize, metaFrame, referenceFrame}
 use Rattle.cursor.specs.Leaves as leaves
 use Rattle.cursor.specs.Vlq.{vlq, joined, sized}
 use Rattle.cursor.specs.declared.Node.{Node}
 use Rattle.cursor.specs.declared.Item.{Item}
-use Rattle.cursor.proofs.Laws.{running, ran, afterwards, trace-bind}
-use Rattle.cursor.proofs.Stable.{chain, ends, Held, Kept, kept}
+use Rattle.machine.proofs.Laws.{running, ran, afterwards, trace-bind}
+use Rattle.machine.proofs.Stable.{chain, ends, Held, Kept, kept}
 use Rattle.cursor.proofs.Lies.{Lies, lies-left, lies-right, lies-at, lies-as, stand, stand-sized, joined-length, sized-length}
 use Rattle.cursor.proofs.Back.{number-back, block-back}
-use Rattle.cursor.proofs.Agree.{Agree, AgreeUpTo, agree-on}
+use Rattle.machine.proofs.Agree.{Agree, AgreeUpTo, agree-on}
 use Rattle.header.specs.Types.{Declared, Known, known, unknown, formatOf}
 use Rattle.metadata.specs.Tables.{plusItem, plusNode}
 use Rattle.metadata.specs.Metadata.{Context, kindOf, fieldOf, rowOf, field, contents, itemFrame, universal, declaredFormat, version, rowsFor, item, nextItem, metaItems, metadata}

@@ -8,7 +8,7 @@ use native.Mathlib.Decide.{decLt}
 use native.Mathlib.Omega.{arith}
 use lib.ListN.{length, getD, take, drop, length-append, length-take, length-drop, List·getD-append}
 use lib.Seq.{getD-append-add, getD-drop, getD-take, ext-getD}
-use Rattle.cursor.specs.Machine.{ok, run}
+use Rattle.machine.specs.Machine.{ok, run}
 use Rattle.cursor.specs.Rows.{Frame}
 use Rattle.cursor.specs.Leaves.{number, block}
 use Rattle.cursor.specs.Vlq.{part, inBytes, least, vlq, joined, sized}

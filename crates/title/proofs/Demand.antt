@@ -8,15 +8,15 @@ use Prim.Native.Nat.{ℕ, zero, suc, _+_, _-_, _^_, _<_}
 use native.Mathlib.Omega.{arith}
 use lib.Dec.{T, eqb}
 use lib.ListN.{length, take, drop, length-take, length-drop}
-use Rattle.cursor.specs.Machine.{run, trace}
+use Rattle.machine.specs.Machine.{run, trace}
 use Rattle.cursor.specs.Rows.{Events}
 use Rattle.cursor.specs.Vlq.{part, vlq, joined, sized}
 use Rattle.cursor.specs.declared.Node.{Node}
 use Rattle.cursor.specs.declared.Item.{Item}
 use Rattle.cursor.proofs.Agree.{part-same}
-use Rattle.cursor.proofs.Wp.{at-end}
+use Rattle.machine.proofs.Wp.{at-end}
 use Rattle.cursor.proofs.Leaves.{any-free}
-use Rattle.cursor.proofs.Stable.{Kept}
+use Rattle.machine.proofs.Stable.{Kept}
 use Rattle.header.specs.Header.{Header, header}
 use Rattle.header.proofs.Ends.{header-on}
 use Rattle.metadata.specs.declared.Limits.{Limits}

@@ -8,10 +8,10 @@ use native.Mathlib.Omega.{arith}
 use lib.Dec.{eqb, ltb}
 use lib.ListN.{length}
 use borrow.Author.Tests.{ltb-true, eqb-false, ne-eqb}
-use Rattle.cursor.specs.Machine.{ok, run, trace}
+use Rattle.machine.specs.Machine.{ok, run, trace}
 use Rattle.cursor.specs.Rows.{Events}
 use Rattle.cursor.specs.declared.Node.{Node}
-use Rattle.cursor.proofs.Laws.{rows-on}
+use Rattle.machine.proofs.Laws.{rows-on}
 use Rattle.header.specs.Header.{Header, header}
 use Rattle.metadata.specs.declared.Limits.{Limits}
 use Rattle.metadata.specs.declared.Made.{Made}

@@ -9,10 +9,10 @@ use native.Mathlib.Omega.{arith}
 use lib.Dec.{eqb}
 use lib.ListN.{length, length-append}
 use borrow.Author.Tests.{le-leb, eq-eqb, ne-eqb}
-use Rattle.cursor.specs.Machine.{ok, run, exec, times}
+use Rattle.machine.specs.Machine.{ok, run, exec, times}
 use Rattle.cursor.specs.Rows.{referenceFrame, sizeIf, inlineSize}
 use Rattle.cursor.specs.Vlq.{part, vlq, joined, sized}
-use Rattle.cursor.proofs.Laws.{running, executing}
+use Rattle.machine.proofs.Laws.{running, executing}
 use Rattle.cursor.proofs.Quiet.{still}
 use Rattle.cursor.proofs.Lies.{Lies, lies-left, lies-part, lies-at, lies-as, stand, stand-sized, joined-length, sized-length}
 use Rattle.cursor.proofs.Back.{number-back, block-back}

@@ -7,9 +7,9 @@ use Prim.Native.Nat.{ℕ, _+_, _^_, _≤_, _<_}
 use native.Mathlib.Omega.{arith}
 use lib.ListN.{length}
 use borrow.Author.Tests.{le-leb}
-use Rattle.cursor.specs.Machine.{ok, run}
+use Rattle.machine.specs.Machine.{ok, run}
 use Rattle.cursor.specs.Rows.{nodeFrame}
-use Rattle.cursor.proofs.Laws.{running}
+use Rattle.machine.proofs.Laws.{running}
 use Rattle.node.specs.Node.{headerLength, head, inTree}
 use Rattle.cursor.specs.Vlq.{vlq, joined}
 use Rattle.cursor.proofs.Lies.{Lies, stand, joined-length}

@@ -9,12 +9,12 @@ use native.Mathlib.Omega.{arith}
 use lib.Dec.{eqb}
 use lib.ListN.{length, getD}
 use borrow.Author.Tests.{leb-true, eqb-true, eqb-false, lt-ltb, le-leb, eq-eqb, ne-eqb}
-use Rattle.cursor.specs.Machine.{ok, run, check, _>>_}
+use Rattle.machine.specs.Machine.{ok, run, check, _>>_}
 use Rattle.cursor.specs.Rows.{Frame, Part, fileFrame}
 use Rattle.cursor.specs.Leaves.{next, number}
 use Rattle.cursor.specs.Vlq.{vlq, joined, sized}
-use Rattle.cursor.proofs.Laws.{running}
-use Rattle.cursor.proofs.Wp.{at-end}
+use Rattle.machine.proofs.Laws.{running}
+use Rattle.machine.proofs.Wp.{at-end}
 use Rattle.cursor.proofs.Leaves.{any-free}
 use Rattle.cursor.proofs.Lies.{Lies}
 use Rattle.cursor.proofs.Back.{number-back}

@@ -9,10 +9,10 @@ use native.Mathlib.Omega.{arith}
 use lib.Dec.{eqb}
 use lib.ListN.{length, length-append}
 use borrow.Author.Tests.{lt-ltb, le-ltb, eq-eqb, ne-eqb, lt-leb, le-leb}
-use Rattle.cursor.specs.Machine.{ok, run, exec, turns, many, times}
+use Rattle.machine.specs.Machine.{ok, run, exec, turns, many, times}
 use Rattle.cursor.specs.Rows.{metaFrame}
 use Rattle.cursor.specs.Vlq.{part, vlq, joined, sized}
-use Rattle.cursor.proofs.Laws.{running, executing, exec-turn, exec-turned, exec-many}
+use Rattle.machine.proofs.Laws.{running, executing, exec-turn, exec-turned, exec-many}
 use Rattle.cursor.proofs.Quiet.{still, exec-number, exec-block}
 use Rattle.cursor.proofs.Least.{vlq-some}
 use Rattle.cursor.proofs.Lies.{Lies, lies-part, lies-left, lies-right, stand, stand-sized, joined-length, sized-length}

@@ -9,13 +9,13 @@ use native.Mathlib.Omega.{arith}
 use lib.Dec.{eqb}
 use lib.ListN.{length, length-append}
 use borrow.Author.Tests.{ltb-true, eqb-true, eqb-false}
-use Rattle.cursor.specs.Machine.{ok, run, times}
+use Rattle.machine.specs.Machine.{ok, run, times}
 use Rattle.cursor.specs.Rows.{metaFrame}
 use Rattle.cursor.specs.Leaves.{number, block}
 use Rattle.cursor.specs.Vlq.{part, vlq, joined, sized}
 use Rattle.cursor.specs.declared.FilePlace.{FilePlace}
 use Rattle.cursor.specs.declared.Item.{Item}
-use Rattle.cursor.proofs.Wp.{Wp, at-end, wp-after, wp-ret, wp-if, wp-place, wp-skip}
+use Rattle.machine.proofs.Wp.{Wp, at-end, wp-after, wp-ret, wp-if, wp-place, wp-skip}
 use Rattle.cursor.proofs.Leaves.{Any, any-free, number-on, block-on, number-inside, block-inside}
 use Rattle.cursor.proofs.Quiet.{number-quiet, block-quiet}
 use Rattle.cursor.proofs.Lies.{part-length}

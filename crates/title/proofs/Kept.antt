@@ -6,14 +6,14 @@ use Prim.Native.Nat.{ℕ, zero, suc, _+_, _-_, _≤_}
 use native.Mathlib.Omega.{arith}
 use lib.ListN.{length, getD}
 use borrow.Author.Tests.{eqb-true}
-use Rattle.cursor.specs.Machine.{ok, run, trace, exec, puts, rowsOf, times, seen, passed, _>>=_}
+use Rattle.machine.specs.Machine.{ok, run, trace, exec, puts, rowsOf, times, seen, passed, _>>=_}
 use Rattle.cursor.specs.Rows.{Part, nodeRow, itemRow, plain, P, Events}
 use Rattle.cursor.specs.declared.Node.{Node}
-use Rattle.cursor.proofs.Agree.{Agree, AgreeUpTo}
-use Rattle.cursor.proofs.Wp.{Wp, at-end, wp-after, wp-weaken, wp-ret, wp-if, wp-check, wp-place, wp-skip}
+use Rattle.machine.proofs.Agree.{Agree, AgreeUpTo}
+use Rattle.machine.proofs.Wp.{Wp, at-end, wp-after, wp-weaken, wp-ret, wp-if, wp-check, wp-place, wp-skip}
 use Rattle.cursor.proofs.Leaves.{Any, any-free, number-on, block-on}
 use Rattle.cursor.proofs.Quiet.{still, exec-puts, quiet-of}
-use Rattle.cursor.proofs.Stable.{Held, Kept}
+use Rattle.machine.proofs.Stable.{Held, Kept}
 use Rattle.cursor.proofs.Runs.{nothing, nothing-quiet, Holds}
 use Rattle.cursor.proofs.Post.{Meets}
 use Rattle.header.specs.Header.{Header, header}

@@ -7,14 +7,14 @@ use native.Mathlib.Omega.{arith}
 use lib.ListN.{length, getD, take, drop, length-append}
 use lib.Seq.{take-at, drop-at}
 use borrow.Author.Tests.{ltb-true, leb-true}
-use Rattle.cursor.specs.Machine.{ret, refuse, here, byte, pass, ok, seen, passed, run, trace, exec, puts, rowsOf, _>>=_, times}
+use Rattle.machine.specs.Machine.{ret, refuse, here, byte, pass, ok, seen, passed, run, trace, exec, puts, rowsOf, _>>=_, times}
 use Rattle.cursor.specs.Rows.{Part, nodeRow, itemRow, plain, P, Events, inlineSize}
 use Rattle.cursor.specs.Vlq.{vlq, joined}
 use Rattle.cursor.specs.declared.Node.{Node}
 use Rattle.cursor.proofs.Uses.{passing, Only, used}
 use Rattle.cursor.proofs.Quiet.{still, exec-puts}
 use Rattle.cursor.proofs.Least.{vlq-some}
-use Rattle.cursor.proofs.Wp.{at-end}
+use Rattle.machine.proofs.Wp.{at-end}
 use Rattle.cursor.proofs.Post.{Meets, Post, holds, post-after, post-weaken, post-ret, post-check, post-place, post-skip}
 use Rattle.header.specs.Types.{Declared}
 use Rattle.metadata.specs.Tables.{plusNode}

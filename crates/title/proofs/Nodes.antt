@@ -7,10 +7,10 @@ use native.Mathlib.Omega.{arith}
 use lib.ListN.{length, take, drop, length-append}
 use lib.Seq.{take-at, drop-at}
 use borrow.Author.Tests.{le-leb}
-use Rattle.cursor.specs.Machine.{Out, ok, exec, times}
+use Rattle.machine.specs.Machine.{Out, ok, exec, times}
 use Rattle.cursor.specs.Rows.{nodeRow, inlineSize, P}
 use Rattle.cursor.specs.Vlq.{joined}
-use Rattle.cursor.proofs.Laws.{executing}
+use Rattle.machine.proofs.Laws.{executing}
 use Rattle.cursor.proofs.Lies.{Lies, lies-left, lies-right}
 use Rattle.header.specs.Types.{Declared}
 use Rattle.metadata.specs.Tables.{plusNode}

@@ -9,12 +9,12 @@ use native.Mathlib.Omega.{arith}
 use lib.Dec.{eqb, ltb, leb}
 use lib.ListN.{length, length-append}
 use borrow.Author.Tests.{ltb-true, leb-true, eqb-true, eqb-false, ne-eqb}
-use Rattle.cursor.specs.Machine.{exec, times, _>>=_}
+use Rattle.machine.specs.Machine.{exec, times, _>>=_}
 use Rattle.cursor.specs.Rows.{nodeFrame, referenceFrame, inlineSize}
 use Rattle.cursor.specs.Vlq.{part, vlq, joined, sized}
 use Rattle.cursor.specs.declared.Node.{Node}
 use Rattle.cursor.specs.declared.Item.{Item}
-use Rattle.cursor.proofs.Wp.{Wp, at-end, wp-after, wp-ret, wp-if, wp-check, wp-place, wp-skip, wp-weaken}
+use Rattle.machine.proofs.Wp.{Wp, at-end, wp-after, wp-ret, wp-if, wp-check, wp-place, wp-skip, wp-weaken}
 use Rattle.cursor.proofs.Leaves.{Any, any-free, number-on, block-on}
 use Rattle.cursor.proofs.Post.{post-if, Post, post-after, post-step, post-weaken, post-ret, post-check, post-place, post-skip}
 use Rattle.header.specs.Types.{Declared}

@@ -10,11 +10,11 @@ use native.Mathlib.Omega.{arith}
 use native.Mathlib.Decide.{decLt}
 use lib.Dec.{T, eqb, eqb→eq}
 use lib.ListN.{length, getD}
-use Rattle.cursor.specs.Machine.{ok, seen, passed, run, trace, rowsOf}
+use Rattle.machine.specs.Machine.{ok, seen, passed, run, trace, rowsOf}
 use Rattle.cursor.specs.Rows.{nodeRow, itemRow, plain, Events}
-use Rattle.cursor.proofs.Agree.{AgreeUpTo}
-use Rattle.cursor.proofs.Stable.{Chain, endOf, chain, ends, Free, Held, Kept}
-use Rattle.cursor.proofs.Wp.{All}
+use Rattle.machine.proofs.Agree.{AgreeUpTo}
+use Rattle.machine.proofs.Stable.{Chain, endOf, chain, ends, Free, Held, Kept}
+use Rattle.machine.proofs.Wp.{All}
 use Rattle.header.specs.Header.{Header}
 use Rattle.metadata.specs.declared.Limits.{Limits}
 use Rattle.metadata.specs.declared.Made.{Made}

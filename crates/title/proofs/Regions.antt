@@ -6,13 +6,13 @@ use mathlib.Core.List.{List, [], _∷_}
 use Prim.Native.Nat.{ℕ, _+_, _≤_, _<_}
 use native.Mathlib.Omega.{arith}
 use native.Mathlib.Decide.{decLt}
-use Rattle.cursor.specs.Machine.{ret, Out, ok, refused, seen, passed, run, trace, exec, puts, _>>=_, _>>_, place, skip, check}
+use Rattle.machine.specs.Machine.{ret, Out, ok, refused, seen, passed, run, trace, exec, puts, _>>=_, _>>_, place, skip, check}
 use Rattle.cursor.specs.Rows.{Part, nodeRow, itemRow, plain, P, Events}
-use Rattle.cursor.proofs.Laws.{andThen, exec-bind, afterwards, trace-bind}
+use Rattle.machine.proofs.Laws.{andThen, exec-bind, afterwards, trace-bind}
 use Rattle.cursor.proofs.Uses.{passing, Only, NoRow, Rowless, used}
 use Rattle.cursor.proofs.Quiet.{Quiet, still, exec-puts}
-use Rattle.cursor.proofs.Stable.{Chain, endOf, chain, ends, Held}
-use Rattle.cursor.proofs.Log.{held-parts}
+use Rattle.machine.proofs.Stable.{Chain, endOf, chain, ends, Held}
+use Rattle.machine.proofs.Log.{held-parts}
 use Rattle.cursor.proofs.Post.{Meets}
 use Rattle.tree.proofs.Demand.{privateData}
 

@@ -7,7 +7,7 @@ use Prim.Native.Nat.{ℕ, zero, suc, _+_, _-_, _≤_, _<_}
 use native.Mathlib.Omega.{arith}
 use lib.ListN.{length, length-drop}
 use lib.Seq.{length-take-le}
-use Rattle.cursor.specs.Machine.{trace}
+use Rattle.machine.specs.Machine.{trace}
 use Rattle.cursor.specs.Rows.{P, Events}
 use Rattle.cursor.specs.Vlq.{vlq, joined, sized}
 use Rattle.cursor.specs.declared.Node.{Node}

@@ -7,11 +7,11 @@ use Prim.Native.Nat.{ℕ, zero, suc, _+_, _^_, _≤_, _<_}
 use native.Mathlib.Omega.{arith}
 use lib.ListN.{length, length-append}
 use borrow.Author.Tests.{ltb-true, leb-true, lt-ltb, le-leb}
-use Rattle.cursor.specs.Machine.{ok, run, times}
+use Rattle.machine.specs.Machine.{ok, run, times}
 use Rattle.cursor.specs.Rows.{fileFrame}
 use Rattle.cursor.specs.Leaves.{number, block}
 use Rattle.cursor.specs.Vlq.{part, vlq, joined, sized}
-use Rattle.cursor.proofs.Laws.{running}
+use Rattle.machine.proofs.Laws.{running}
 use Rattle.cursor.proofs.Lies.{Lies, lies-left, lies-right, lies-part, stand, stand-sized, joined-length, sized-length, part-length}
 use Rattle.cursor.proofs.Back.{number-back, block-back}
 use Rattle.cursor.proofs.Wider.{number-wider, block-wider}

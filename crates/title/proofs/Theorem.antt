@@ -9,12 +9,12 @@ use lib.Dec.{eqb}
 use lib.ListN.{length, getD, take, drop, length-append}
 use lib.Seq.{getD-take, length-take-le}
 use borrow.Author.Tests.{eq-eqb, ne-eqb}
-use Rattle.cursor.specs.Machine.{Out, ok, refused, run, trace, exec}
+use Rattle.machine.specs.Machine.{Out, ok, refused, run, trace, exec}
 use Rattle.cursor.specs.Rows.{Events, P}
 use Rattle.cursor.specs.Vlq.{part, vlq, joined, sized}
 use Rattle.cursor.specs.declared.Node.{Node}
 use Rattle.cursor.specs.declared.Item.{Item}
-use Rattle.cursor.proofs.Wp.{at-end}
+use Rattle.machine.proofs.Wp.{at-end}
 use Rattle.cursor.proofs.Leaves.{any-free}
 use Rattle.cursor.proofs.Least.{vlq-some}
 use Rattle.cursor.proofs.Lies.{lies-at, lies-part, lies-end, joined-length}

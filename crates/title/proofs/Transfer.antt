@@ -7,14 +7,15 @@ use Prim.Native.Nat.{ℕ, zero, suc, _+_, _-_, _≤_}
 use native.Mathlib.Omega.{arith}
 use lib.Dec.{eqb}
 use lib.ListN.{length}
-use Rattle.cursor.specs.Machine.{Out, ok, refused, ret, run, trace, _>>=_, _>>_, if_then_else_, place, skip, times}
+use Rattle.machine.specs.Machine.{Out, ok, refused, ret, run, trace, _>>=_, _>>_, if_then_else_, place, skip, times}
 use Rattle.cursor.specs.Rows.{Frame, P, fileFrame, unpackFrame, plain, language}
 use Rattle.cursor.specs.Leaves.{number, block, manufacturer, guid}
 use Rattle.cursor.specs.Vlq.{part, vlq, joined}
-use Rattle.cursor.proofs.Agree.{AgreeUpTo, part-same}
-use Rattle.cursor.proofs.Laws.{running, andThen, run-bind}
-use Rattle.cursor.proofs.Stable.{depends, ends, at-least}
-use Rattle.cursor.proofs.Wp.{at-end}
+use Rattle.machine.proofs.Agree.{AgreeUpTo}
+use Rattle.cursor.proofs.Agree.{part-same}
+use Rattle.machine.proofs.Laws.{running, andThen, run-bind}
+use Rattle.machine.proofs.Stable.{depends, ends, at-least}
+use Rattle.machine.proofs.Wp.{at-end}
 use Rattle.cursor.proofs.Leaves.{Any, any-free, block-inside, manufacturer-on, guid-on}
 use Rattle.title.specs.Description.{copied, identifierText, unpackerText, entryText, tableText}
 

@@ -6,13 +6,13 @@ use mathlib.Core.List.{List, [], _∷_}
 use Prim.Native.Nat.{ℕ, _+_, _-_, _^_, _<_}
 use native.Mathlib.Omega.{arith}
 use lib.ListN.{length, take}
-use Rattle.cursor.specs.Machine.{trace}
+use Rattle.machine.specs.Machine.{trace}
 use Rattle.cursor.specs.Rows.{P}
 use Rattle.cursor.specs.Vlq.{vlq, joined, sized}
 use Rattle.cursor.specs.declared.Node.{Node}
 use Rattle.cursor.specs.declared.Item.{Item}
 use Rattle.cursor.proofs.Lies.{Lies, lies-at, lies-as}
-use Rattle.cursor.proofs.Agree.{AgreeUpTo, agree-on}
+use Rattle.machine.proofs.Agree.{AgreeUpTo, agree-on}
 use Rattle.header.specs.Header.{Header, header}
 use Rattle.metadata.specs.declared.Limits.{Limits}
 use Rattle.metadata.specs.declared.Made.{Made}

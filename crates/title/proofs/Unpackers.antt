@@ -9,10 +9,10 @@ use native.Mathlib.Omega.{arith}
 use lib.Dec.{eqb}
 use lib.ListN.{length, length-append}
 use borrow.Author.Tests.{le-leb, ne-eqb}
-use Rattle.cursor.specs.Machine.{ok, run, turns, many, times}
+use Rattle.machine.specs.Machine.{ok, run, turns, many, times}
 use Rattle.cursor.specs.Rows.{unpackFrame}
 use Rattle.cursor.specs.Vlq.{part, vlq, joined, sized}
-use Rattle.cursor.proofs.Laws.{running, run-turn, run-turned, run-many}
+use Rattle.machine.proofs.Laws.{running, run-turn, run-turned, run-many}
 use Rattle.cursor.proofs.Least.{vlq-some}
 use Rattle.cursor.proofs.Lies.{Lies, lies-left, lies-right, lies-part, stand, stand-sized, joined-length, sized-length}
 use Rattle.cursor.proofs.Back.{number-back, block-back, Guid, guid-back, Maker, maker-back}

@@ -9,13 +9,13 @@ use native.Mathlib.Omega.{arith}
 use lib.Dec.{eqb}
 use lib.ListN.{length, length-append}
 use borrow.Author.Tests.{leb-true, eqb-true, eqb-false, ne-eqb}
-use Rattle.cursor.specs.Machine.{ok, run, times}
+use Rattle.machine.specs.Machine.{ok, run, times}
 use Rattle.cursor.specs.Rows.{unpackFrame}
 use Rattle.cursor.specs.Leaves.{number}
 use Rattle.cursor.specs.Vlq.{part, vlq, joined, sized}
-use Rattle.cursor.proofs.Laws.{running}
+use Rattle.machine.proofs.Laws.{running}
 use Rattle.cursor.proofs.Quiet.{number-quiet, block-quiet, manufacturer-quiet, guid-quiet}
-use Rattle.cursor.proofs.Wp.{Wp, at-end, wp-after, wp-weaken, wp-ret, wp-place, wp-many}
+use Rattle.machine.proofs.Wp.{Wp, at-end, wp-after, wp-weaken, wp-ret, wp-place, wp-many}
 use Rattle.cursor.proofs.Leaves.{Any, any-free, number-inside, block-inside, manufacturer-on, guid-on}
 use Rattle.cursor.proofs.Lies.{Lies, lies-part}
 use Rattle.cursor.proofs.Back.{Guid, Maker, guid-back, maker-back, guid-was, maker-was}

@@ -7,7 +7,7 @@ use mathlib.Core.List.{List, [], _∷_, map}
 use Prim.Native.Nat.{ℕ, zero, suc, _+_, _-_}
 use lib.Dec.{eqb}
 use lib.ListN.{length, take, drop}
-use Rattle.cursor.specs.Machine.{Out, ok, refused, ret, run, _>>=_, _>>_, if_then_else_, place, skip, times}
+use Rattle.machine.specs.Machine.{Out, ok, refused, ret, run, _>>=_, _>>_, if_then_else_, place, skip, times}
 use Rattle.cursor.specs.Rows.{P, fileFrame, unpackFrame, plain, language}
 use Rattle.cursor.specs.Refusals.{cutShort}
 use Rattle.cursor.specs.Leaves.{number, block, manufacturer, guid}

@@ -13,16 +13,16 @@ use native.Mathlib.Omega.{arith}
 use borrow.Author.Tests.{lt-ltb, eq-eqb}
 use lib.Dec.{T, eqb, ltb}
 use lib.ListN.{length, getD, List·getD-eq-default}
-use Rattle.cursor.specs.Machine.{ok, seen, passed, run, trace, rowsOf, place}
+use Rattle.machine.specs.Machine.{ok, seen, passed, run, trace, rowsOf, place}
 use Rattle.cursor.specs.Rows.{Part, nodeRow, itemRow, language, name, uri, plain, hasInline, Events}
 use Rattle.cursor.specs.declared.Node.{Node}
 use Rattle.cursor.specs.declared.Item.{Item}
-use Rattle.cursor.proofs.Laws.{rows-on}
-use Rattle.cursor.proofs.Wp.{All}
-use Rattle.cursor.proofs.Stable.{Free, Kept, chain, ends, stable}
-use Rattle.cursor.proofs.Agree.{Agree}
-use Rattle.cursor.proofs.Log.{held-parts, Sound, sound-run, sound-on, sound-in, sound-kept}
-use Rattle.cursor.proofs.Near.{Near, near-run, near-same, near-then, near-on, near-check}
+use Rattle.machine.proofs.Laws.{rows-on}
+use Rattle.machine.proofs.Wp.{All}
+use Rattle.machine.proofs.Stable.{Free, Kept, chain, ends, stable}
+use Rattle.machine.proofs.Agree.{Agree}
+use Rattle.machine.proofs.Log.{held-parts, Sound, sound-run, sound-on, sound-in, sound-kept}
+use Rattle.machine.proofs.Near.{Near, near-run, near-same, near-then, near-on, near-check}
 use Rattle.header.specs.Header.{Header, header}
 use Rattle.metadata.specs.Metadata.{Context}
 use Rattle.metadata.specs.declared.Limits.{Limits}

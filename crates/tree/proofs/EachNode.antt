@@ -6,11 +6,11 @@ use mathlib.Core.List.{List, [], _∷_, _++_, append-assoc}
 use Prim.Native.Nat.{ℕ, zero, suc, _+_, _-_}
 use native.Mathlib.Omega.{arith}
 use lib.ListN.{length}
-use Rattle.cursor.specs.Machine.{ret, refuse, here, ok, passed, run, trace, rowsOf, _>>=_, _>>_, place, skip, check, times}
+use Rattle.machine.specs.Machine.{ret, refuse, here, ok, passed, run, trace, rowsOf, _>>=_, _>>_, place, skip, check, times}
 use Rattle.cursor.specs.Rows.{Frame, Part, nodeRow, inlineSize, P, Events}
 use Rattle.cursor.specs.declared.Node.{Node}
 use Rattle.cursor.specs.declared.Item.{Item}
-use Rattle.cursor.proofs.Laws.{rows-on, split}
+use Rattle.machine.proofs.Laws.{rows-on, split}
 use Rattle.cursor.proofs.Apart.{at-place, at-check}
 use Rattle.cursor.proofs.Order.{in-order}
 use Rattle.header.specs.Header.{Header}

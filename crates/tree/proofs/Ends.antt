@@ -5,9 +5,9 @@ use mathlib.Core.List.{List}
 use Prim.Native.Nat.{ℕ, zero, suc, _+_, _-_, _≤_, _<_}
 use native.Mathlib.Omega.{arith}
 use borrow.Author.Tests.{leb-true}
-use Rattle.cursor.specs.Machine.{ok, run, trace, _>>_, skip, times}
+use Rattle.machine.specs.Machine.{ok, run, trace, _>>_, skip, times}
 use Rattle.cursor.specs.Rows.{nodeRow, inlineSize, P}
-use Rattle.cursor.proofs.Wp.{Wp, All, at-end, asked, given, wp-after, wp-weaken, wp-ret, wp-refuse, wp-here, wp-check, wp-place, wp-skip, wp-times}
+use Rattle.machine.proofs.Wp.{Wp, All, at-end, asked, given, wp-after, wp-weaken, wp-ret, wp-refuse, wp-here, wp-check, wp-place, wp-skip, wp-times}
 use Rattle.metadata.specs.Tables.{plusNode}
 use Rattle.metadata.specs.Metadata.{Context}
 use Rattle.metadata.specs.declared.Made.{Made}

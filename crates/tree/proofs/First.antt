@@ -10,12 +10,12 @@ use native.Mathlib.Omega.{arith}
 use lib.Dec.{ltb}
 use lib.ListN.{length}
 use borrow.Author.Tests.{le-ltb}
-use Rattle.cursor.specs.Machine.{Out, ok, refused, seen, passed, FirstAt, run, trace, rowsOf}
+use Rattle.machine.specs.Machine.{Out, ok, refused, seen, passed, FirstAt, run, trace, rowsOf}
 use Rattle.cursor.specs.Refusals.{noRowLeft}
 use Rattle.cursor.specs.Rows.{nodeRow, itemRow, plain, Events}
 use Rattle.cursor.specs.declared.Node.{Node}
 use Rattle.cursor.specs.declared.Item.{Item}
-use Rattle.cursor.proofs.Laws.{rows-on}
+use Rattle.machine.proofs.Laws.{rows-on}
 use Rattle.cursor.proofs.Uses.{passing, Only, NoRow, used}
 use Rattle.cursor.proofs.Limited as limited
 use Rattle.cursor.proofs.Limited.{Kind, item, Rows, count, Either, limited-either}

@@ -11,12 +11,12 @@ use lib.Dec.{eqb, ltb}
 use native.Mathlib.Decide.{decLt}
 use lib.ListN.{length, length-append, take, drop}
 use lib.Seq.{getD-append-seam}
-use Rattle.cursor.specs.Machine.{Out, ok, refused, run, trace, exec, puts, times}
+use Rattle.machine.specs.Machine.{Out, ok, refused, run, trace, exec, puts, times}
 use Rattle.cursor.specs.Rows.{P, Events}
 use Rattle.cursor.specs.declared.Cursor.{Cursor}
 use Rattle.cursor.specs.declared.FilePlace.{FilePlace}
 use Rattle.cursor.specs.declared.Node.{Node}
-use Rattle.cursor.proofs.Laws.{puts-on, rows-on}
+use Rattle.machine.proofs.Laws.{puts-on, rows-on}
 use Rattle.cursor.proofs.Quiet.{still, exec-puts}
 use Rattle.header.specs.Header.{Header}
 use Rattle.metadata.specs.Tables.{nodeWidth, State, state, put}

@@ -8,11 +8,11 @@ use native.Mathlib.Omega.{arith}
 use borrow.Author.Tests.{ltb-true, ltb-false, lt-ltb, le-ltb}
 use lib.Dec.{ltb}
 use lib.ListN.{length, length-append}
-use Rattle.cursor.specs.Machine.{ok, seen, passed, run, trace, rowsOf}
+use Rattle.machine.specs.Machine.{ok, seen, passed, run, trace, rowsOf}
 use Rattle.cursor.specs.Rows.{nodeRow, itemRow, plain, P, Events}
 use Rattle.cursor.specs.declared.Node.{Node}
 use Rattle.cursor.specs.declared.Item.{Item}
-use Rattle.cursor.proofs.Laws.{rows-on}
+use Rattle.machine.proofs.Laws.{rows-on}
 use Rattle.cursor.proofs.Limited as limited
 use Rattle.cursor.proofs.Limited.{Kind, item, Rows, count, makes-then, makes-row, Limited, same, limited-ends, limited-run, fitting-run, after, ends, at-place, places, checks, row-checks, passes, counts}
 use Rattle.header.specs.Header.{Header, header}

@@ -10,11 +10,11 @@ use native.Mathlib.Decide.{decLt}
 use borrow.Author.Tests.{eq-eqb, not-false}
 use lib.Dec.{eqb}
 use lib.ListN.{length, List·getD-append}
-use Rattle.cursor.specs.Machine.{trace}
+use Rattle.machine.specs.Machine.{trace}
 use Rattle.cursor.specs.Rows.{Events}
 use Rattle.cursor.specs.declared.Node.{Node}
 use Rattle.cursor.specs.declared.Item.{Item}
-use Rattle.cursor.proofs.Laws.{rows-on}
+use Rattle.machine.proofs.Laws.{rows-on}
 use Rattle.header.specs.Header.{Header}
 use Rattle.metadata.specs.declared.Limits.{Limits}
 use Rattle.tree.specs.Reading.{nodeOf, nodesOf, good, startsAt, lost, detachedAt, context, rows, readFile}

@@ -7,7 +7,7 @@ use Prim.Native.Nat.{ℕ, zero, suc, _+_, _-_}
 use native.Mathlib.Omega.{arith}
 use lib.Dec.{ltb}
 use lib.ListN.{length}
-use Rattle.cursor.specs.Machine.{Out, ok, refused, run, trace}
+use Rattle.machine.specs.Machine.{Out, ok, refused, run, trace}
 use Rattle.cursor.specs.Rows.{P, Events}
 use Rattle.cursor.specs.declared.Node.{Node}
 use Rattle.cursor.proofs.Uses.{InList, Listed, refusing, refused-as, after, ends, stops, at-place, checks, places, passes, counts}

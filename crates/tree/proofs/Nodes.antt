@@ -7,13 +7,13 @@ use native.Mathlib.Omega.{arith}
 use borrow.Author.Tests.{lt-ltb, le-ltb, le-leb, lt-leb, eq-eqb, ne-eqb}
 use lib.ListN.{length}
 use lib.Seq.{sets}
-use Rattle.cursor.specs.Machine.{Out, ret, ok, refused, exec, times}
+use Rattle.machine.specs.Machine.{Out, ret, ok, refused, exec, times}
 use Rattle.cursor.specs.Rows.{P, Part, nodeRow, inlineSize}
 use Rattle.cursor.specs.declared.Node.{Node}
 use Rattle.cursor.specs.declared.Cursor.{Cursor}
 use Rattle.cursor.specs.declared.FilePlace.{FilePlace}
-use Rattle.cursor.proofs.Laws.{executing, andThen, ran, exec-times, exec-timed}
-use Rattle.cursor.proofs.Wp.{at-end}
+use Rattle.machine.proofs.Laws.{executing, andThen, ran, exec-times, exec-timed}
+use Rattle.machine.proofs.Wp.{at-end}
 use Rattle.metadata.specs.Tables.{nodeWidth, State, state, put, nodeWords, plusNode}
 use Rattle.metadata.specs.Metadata.{Context}
 use Rattle.metadata.specs.Told.{Gives}

@@ -10,12 +10,12 @@ use native.Mathlib.Omega.{arith}
 use lib.Dec.{leb}
 use lib.ListN.{length, length-append}
 use lib.Seq.{getD-append-seam}
-use Rattle.cursor.specs.Machine.{ret, ok, run, trace, rowsOf, _>>=_, _>>_, place, skip, check, times}
+use Rattle.machine.specs.Machine.{ret, ok, run, trace, rowsOf, _>>=_, _>>_, place, skip, check, times}
 use Rattle.cursor.specs.Refusals.{bytesLeft}
 use Rattle.cursor.specs.Rows.{nodeRow, inlineSize, P, Events}
 use Rattle.cursor.specs.declared.Node.{Node}
 use Rattle.cursor.specs.declared.Item.{Item}
-use Rattle.cursor.proofs.Laws.{rows-on, split}
+use Rattle.machine.proofs.Laws.{rows-on, split}
 use Rattle.cursor.proofs.Order.{in-order}
 use Rattle.cursor.proofs.Uses.{Uses, used, passing}
 use Rattle.cursor.proofs.Uses as uses

@@ -9,12 +9,12 @@ use native.Mathlib.Omega.{arith}
 use borrow.Author.Tests.{ltb-true, ltb-false, leb-true}
 use lib.Dec.{ltb, leb}
 use lib.ListN.{length}
-use Rattle.cursor.specs.Machine.{seen, passed, trace}
+use Rattle.machine.specs.Machine.{seen, passed, trace}
 use Rattle.cursor.specs.Rows.{Part, Events}
 use Rattle.cursor.specs.declared.Node.{Node}
 use Rattle.cursor.specs.declared.Item.{Item}
 use Rattle.cursor.proofs.Leaves.{any-free}
-use Rattle.cursor.proofs.Wp.{All, given, all-on, at-end}
+use Rattle.machine.proofs.Wp.{All, given, all-on, at-end}
 use Rattle.header.specs.Header.{Header, header}
 use Rattle.header.proofs.Ends.{header-on}
 use Rattle.metadata.specs.declared.Limits.{Limits}

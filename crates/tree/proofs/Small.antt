@@ -10,11 +10,11 @@ use native.Mathlib.Omega.{arith}
 use lib.Dec.{eqb}
 use lib.ListN.{length}
 use borrow.Author.Tests.{ltb-true, leb-true, eqb-true, eqb-false}
-use Rattle.cursor.specs.Machine.{ok, seen, passed, run, trace, rowsOf, turns, many, times}
+use Rattle.machine.specs.Machine.{ok, seen, passed, run, trace, rowsOf, turns, many, times}
 use Rattle.cursor.specs.Rows.{Part, nodeRow, itemRow, plain, Plain, inlineSize, P, Events}
 use Rattle.cursor.specs.declared.Node.{Node}
 use Rattle.cursor.specs.declared.Item.{Item}
-use Rattle.cursor.proofs.Wp.{Wp, Rule, All, Free, all-on, given, asked, at-end, wp-after, wp-then, wp-weaken, wp-ret, wp-refuse, wp-here, wp-if, wp-check, wp-place, wp-skip}
+use Rattle.machine.proofs.Wp.{Wp, Rule, All, Free, all-on, given, asked, at-end, wp-after, wp-then, wp-weaken, wp-ret, wp-refuse, wp-here, wp-if, wp-check, wp-place, wp-skip}
 use Rattle.cursor.proofs.Leaves.{Any, any-free, number-on, block-on, manufacturer-on, guid-on}
 use Rattle.header.specs.Types.{Declared, Known, known, unknown, formatOf}
 use Rattle.header.specs.Header.{Header, header, opening, entry, typesTable, extent}

@@ -7,12 +7,12 @@ use mathlib.Core.List.{List, [], _∷_, _++_}
 use Prim.Native.Nat.{ℕ, zero, suc, _+_, _-_, _≤_, _<_}
 use native.Mathlib.Omega.{arith}
 use lib.ListN.{length}
-use Rattle.cursor.specs.Machine.{ok, seen, passed, run, trace, rowsOf, _>>=_, _>>_, place, skip, check, times}
+use Rattle.machine.specs.Machine.{ok, seen, passed, run, trace, rowsOf, _>>=_, _>>_, place, skip, check, times}
 use Rattle.cursor.specs.Rows.{Part, nodeRow, itemRow, plain, inlineSize, P, Events}
 use Rattle.cursor.specs.declared.Node.{Node}
-use Rattle.cursor.proofs.Laws.{rows-on, Split, split}
-use Rattle.cursor.proofs.Stable.{ends, at-least}
-use Rattle.cursor.proofs.Wp.{Wp, at-end, wp-weaken}
+use Rattle.machine.proofs.Laws.{rows-on, Split, split}
+use Rattle.machine.proofs.Stable.{ends, at-least}
+use Rattle.machine.proofs.Wp.{Wp, at-end, wp-weaken}
 use Rattle.cursor.proofs.Order.{Ordered, in-order}
 use Rattle.cursor.proofs.Uses.{Uses, Only, used, passing}
 use Rattle.cursor.proofs.Uses as uses

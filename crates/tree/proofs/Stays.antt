@@ -8,13 +8,13 @@ use native.Mathlib.Omega.{arith}
 use lib.Dec.{ltb}
 use lib.ListN.{length}
 use borrow.Author.Tests.{ltb-true}
-use Rattle.cursor.specs.Machine.{Out, ok, refused, run, trace}
+use Rattle.machine.specs.Machine.{Out, ok, refused, run, trace}
 use Rattle.cursor.specs.Rows.{P, Events, referenceFrame}
 use Rattle.cursor.specs.Refusals.{cutShort}
 use Rattle.cursor.specs.Leaves.{number}
 use Rattle.cursor.specs.declared.Node.{Node}
 use Rattle.cursor.proofs.Leaves.{any-free}
-use Rattle.cursor.proofs.Wp.{All, all-on, at-end}
+use Rattle.machine.proofs.Wp.{All, all-on, at-end}
 use Rattle.cursor.proofs.Stays as stays
 use Rattle.cursor.proofs.Stays.{Stays, refused-inside, anywhere, after-at, after, ends, stops, at-place, places, place-at, check-at, skip-at, checks, counts, number-stays}
 use Rattle.header.specs.Header.{Header, header}

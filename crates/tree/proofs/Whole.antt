@@ -6,12 +6,12 @@ use Prim.Native.Nat.{ℕ, zero, _+_, _*_, _-_, _^_, _≤_, _<_}
 use native.Mathlib.Nat.{zero-add}
 use native.Mathlib.Omega.{arith}
 use lib.ListN.{length, replicate, take, drop}
-use Rattle.cursor.specs.Machine.{Out, ok, refused, run, trace, exec, puts}
+use Rattle.machine.specs.Machine.{Out, ok, refused, run, trace, exec, puts}
 use Rattle.cursor.specs.Rows.{Events}
 use Rattle.cursor.specs.declared.Cursor.{Cursor}
 use Rattle.cursor.specs.declared.FilePlace.{FilePlace}
-use Rattle.cursor.proofs.Laws.{ran}
-use Rattle.cursor.proofs.Wp.{at-end}
+use Rattle.machine.proofs.Laws.{ran}
+use Rattle.machine.proofs.Wp.{at-end}
 use Rattle.cursor.proofs.Leaves.{any-free}
 use Rattle.cursor.proofs.Quiet.{still, exec-puts}
 use Rattle.header.specs.Header.{Header, header}

@@ -7,13 +7,13 @@ use Prim.Native.Nat.{ℕ, zero, suc, _+_, _-_, _^_, _≤_, _<_, min}
 use native.Mathlib.Decide.{decLe, decLt}
 use native.Mathlib.Omega.{arith}
 use lib.ListN.{length, getD, replicate, length-append, length-replicate}
-use Rattle.cursor.specs.Machine.{Event, trace}
+use Rattle.machine.specs.Machine.{Event, trace}
 use Rattle.cursor.specs.Rows.{Events}
 use Rattle.cursor.specs.declared.Node.{Node}
 use Rattle.cursor.specs.declared.Item.{Item}
 use Rattle.cursor.proofs.Limited as limited
 use Rattle.cursor.proofs.Limited.{item, limited-ends}
-use Rattle.cursor.proofs.Stable.{startOf, sizeOf, endOf, ends, Covers, Separate}
+use Rattle.machine.proofs.Stable.{startOf, sizeOf, endOf, ends, Covers, Separate}
 use Rattle.header.specs.Header.{Header, header}
 use Rattle.metadata.specs.Tables.{nodeWords, itemWords}
 use Rattle.metadata.specs.declared.Limits.{Limits}

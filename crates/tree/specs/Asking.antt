@@ -5,7 +5,7 @@ use Prim.Native.Nat.{ℕ}
 use lib.ListN.{length, replicate}
 use Rattle.cursor.specs.declared.Node.{Node}
 use Rattle.cursor.specs.declared.Item.{Item}
-use Rattle.cursor.specs.Machine.{ok}
+use Rattle.machine.specs.Machine.{ok}
 use Rattle.header.specs.Header.{Header}
 use Rattle.metadata.specs.Tables.{limits}
 use Rattle.metadata.specs.declared.Limits.{Limits}

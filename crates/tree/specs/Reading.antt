@@ -7,7 +7,7 @@ use lib.Dec.{eqb, ltb, leb}
 use lib.ListN.{length, replicate}
 pub use Rattle.room.specs.Room.{Result, good, bad}
 use Rattle.room.specs.Room.{padded}
-use Rattle.cursor.specs.Machine.{Out, ok, refused, run, trace, rowsOf}
+use Rattle.machine.specs.Machine.{Out, ok, refused, run, trace, rowsOf}
 use Rattle.cursor.specs.Rows.{Part, nodeRow, itemRow, plain, P, Events, referenceFrame}
 use Rattle.cursor.specs.Refusals.{cutShort, badTarget}
 use Rattle.cursor.specs.Leaves.{number}

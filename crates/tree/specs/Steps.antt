@@ -5,7 +5,7 @@ use mathlib.Core.List.{List, [], _++_}
 use Prim.Native.Nat.{ℕ, zero, suc, _+_}
 use lib.Dec.{ltb}
 use lib.ListN.{length}
-use Rattle.cursor.specs.Machine.{Out, ok, refused, run, trace}
+use Rattle.machine.specs.Machine.{Out, ok, refused, run, trace}
 use Rattle.cursor.specs.Rows.{P, Events}
 use Rattle.cursor.specs.declared.Node.{Node}
 use Rattle.header.specs.Header.{Header, header}

@@ -2,7 +2,7 @@
 -- Assumes nothing.
 use Prim.Native.Nat.{ℕ, zero, suc, _+_, _-_}
 use lib.Dec.{ltb, leb}
-use Rattle.cursor.specs.Machine.{ret, refuse, here, _>>=_, _>>_, place, skip, check, times}
+use Rattle.machine.specs.Machine.{ret, refuse, here, _>>=_, _>>_, place, skip, check, times}
 use Rattle.cursor.specs.Rows.{P, nodeRow, inlineSize}
 use Rattle.cursor.specs.Refusals.{tooDeep, noRowLeft, bytesLeft}
 use Rattle.metadata.specs.Tables.{plusNode}

@@ -4,7 +4,7 @@ ghost use mathlib.Core.List.{List};
 ghost use Prim.Native.Nat.{ℕ, _≤_, _<_, _^_, _*_, _+_, min, max};
 ghost use lib.ListN.{length, replicate};
 ghost use lib.Seq.{sets};
-ghost use Rattle.cursor.specs.Machine.{ret, exec, times};
+ghost use Rattle.machine.specs.Machine.{ret, exec, times};
 ghost use Rattle.cursor.specs.declared.Node.{Node};
 ghost use Rattle.header.specs.Told.{headerOf, extentOf};
 ghost use Rattle.header.specs.Header as spec;

@@ -3,7 +3,7 @@
 use mathlib.Core.Path.{sym, ap}
 use Rattle.cursor.specs.Rows.{nodeFrame}
 use Rattle.cursor.specs.Told.{numberTold}
-use Rattle.cursor.proofs.Laws.{was}
+use Rattle.machine.proofs.Laws.{was}
 use native.Mathlib.Omega.{arith}
 use Rattle.cursor.proofs.Leaves.{number-inside}
 use Rattle.account.specs.ByRows.{spanned}

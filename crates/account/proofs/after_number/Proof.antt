@@ -2,7 +2,7 @@
 -- Assumes nothing.
 use mathlib.Core.Path.{sym, ap}
 use Rattle.cursor.specs.Told.{numberTold}
-use Rattle.cursor.proofs.Laws.{was}
+use Rattle.machine.proofs.Laws.{was}
 use Rattle.account.specs.ByRows.{behind}
 use borrow.Author.Needs.{needs}
 use Rattle.account.proofs.after_number.Statement.{statement}

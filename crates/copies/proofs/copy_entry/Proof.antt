@@ -5,7 +5,7 @@ use Rattle.room.proofs.Counting.{counts-as}
 use Rattle.cursor.proofs.Leaves.{block-inside}
 use Rattle.cursor.specs.Rows.{fileFrame}
 use Rattle.cursor.specs.Told.{numberTold}
-use Rattle.cursor.proofs.Laws.{was}
+use Rattle.machine.proofs.Laws.{was}
 use mathlib.Core.Path.{_∙_}
 use native.Mathlib.Omega.{arith}
 use borrow.Author.Needs.{needs}

@@ -3,7 +3,7 @@
 use Rattle.copies.proofs.Copying.{guid-no, guid-is, guid-inside, maker-no, maker-is, maker-inside, other-is, copies-as, copies-after}
 use Rattle.cursor.specs.Rows.{unpackFrame}
 use Rattle.cursor.specs.Told.{passTold}
-use Rattle.cursor.proofs.Laws.{was}
+use Rattle.machine.proofs.Laws.{was}
 use mathlib.Core.Path.{sym}
 use native.Mathlib.Omega.{arith}
 use borrow.Author.Needs.{needs}

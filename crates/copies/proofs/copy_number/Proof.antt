@@ -2,7 +2,7 @@
 -- Assumes nothing.
 use Rattle.copies.proofs.Copying.{number-no, number-is}
 use Rattle.cursor.specs.Told.{numberTold}
-use Rattle.cursor.proofs.Laws.{was}
+use Rattle.machine.proofs.Laws.{was}
 use borrow.Author.Needs.{needs}
 use Rattle.copies.proofs.copy_number.Statement.{statement}
 use Rattle.copies.proofs.copy_number.Tie as tie

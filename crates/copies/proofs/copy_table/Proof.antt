@@ -3,7 +3,7 @@
 use Rattle.copies.proofs.Copying.{size-no, block-no, count-no, table-is, copies-as, copies-after}
 use Rattle.cursor.specs.Rows.{fileFrame}
 use Rattle.cursor.specs.Told.{numberTold}
-use Rattle.cursor.proofs.Laws.{was}
+use Rattle.machine.proofs.Laws.{was}
 use mathlib.Core.Path.{sym}
 use borrow.Author.Needs.{needs}
 use Rattle.copies.proofs.copy_table.Statement.{statement}

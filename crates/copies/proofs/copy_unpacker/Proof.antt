@@ -3,7 +3,7 @@
 use Rattle.copies.proofs.Copying.{kind-no, name-no, unpacker-is, copies-as, copies-after, copied-was, copied-answer, copied-puts, copied-no}
 use Rattle.cursor.specs.Rows.{unpackFrame}
 use Rattle.cursor.specs.Told.{numberTold}
-use Rattle.cursor.proofs.Laws.{was}
+use Rattle.machine.proofs.Laws.{was}
 use mathlib.Core.Path.{sym}
 use borrow.Author.Needs.{needs}
 use Rattle.copies.proofs.copy_unpacker.Statement.{statement}

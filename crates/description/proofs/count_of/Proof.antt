@@ -3,7 +3,7 @@
 use native.Mathlib.Omega.{arith}
 use Rattle.cursor.specs.Rows.{metaFrame}
 use Rattle.cursor.specs.Told.{numberTold, passTold}
-use Rattle.cursor.proofs.Laws.{was}
+use Rattle.machine.proofs.Laws.{was}
 use Rattle.cursor.proofs.Leaves.{number-inside}
 use Rattle.description.proofs.Ways.{whole-message, whole-channels, whole-resources, whole-lists, whole-table}
 use borrow.Author.Needs.{needs}

@@ -1,7 +1,7 @@
 -- `is_readable` says whether the item is readable: of one that is not, the refusal is 25.
 -- Assumes nothing.
 use mathlib.Core.Path.{sym}
-use Rattle.cursor.proofs.Laws.{was}
+use Rattle.machine.proofs.Laws.{was}
 use Rattle.description.specs.Told.{told}
 use Rattle.description.proofs.Ways.{readable-count, readable-refused}
 use borrow.Author.Needs.{needs}

@@ -2,7 +2,7 @@
 -- Assumes nothing.
 use Rattle.cursor.specs.Rows.{metaFrame}
 use Rattle.cursor.specs.Told.{passTold}
-use Rattle.cursor.proofs.Laws.{was}
+use Rattle.machine.proofs.Laws.{was}
 use Rattle.description.proofs.Ways.{identifier-three, identifier-five, identifier-cut, identifier-two, identifier-one}
 use borrow.Author.Needs.{needs}
 use Rattle.description.proofs.read_identifier.Statement.{statement}

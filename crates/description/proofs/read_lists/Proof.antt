@@ -1,7 +1,7 @@
 -- `read_lists` gives what `lists` gives.
 -- Assumes nothing.
 use Rattle.cursor.specs.Told.{numberTold, passTold}
-use Rattle.cursor.proofs.Laws.{was}
+use Rattle.machine.proofs.Laws.{was}
 use Rattle.description.proofs.Ways.{lists-resource, lists-group, lists-all}
 use borrow.Author.Needs.{needs}
 use Rattle.description.proofs.read_lists.Statement.{statement}

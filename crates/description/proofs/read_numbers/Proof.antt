@@ -6,7 +6,7 @@ use Prim.Native.Nat.{_-_}
 use native.Mathlib.Omega.{arith}
 use Rattle.cursor.specs.Rows.{metaFrame}
 use Rattle.cursor.specs.Told.{numberTold}
-use Rattle.cursor.proofs.Laws.{was}
+use Rattle.machine.proofs.Laws.{was}
 use Rattle.cursor.proofs.Leaves.{number-inside}
 use Rattle.description.proofs.Ways.{Picking, numbers-begun, numbers-done, numbers-no, numbers-on}
 use borrow.Author.Needs.{needs}

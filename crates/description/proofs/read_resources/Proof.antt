@@ -5,7 +5,7 @@ use mathlib.Core.Path.{refl}
 use Prim.Native.Nat.{_-_}
 use native.Mathlib.Omega.{arith}
 use Rattle.cursor.specs.Told.{passTold}
-use Rattle.cursor.proofs.Laws.{was}
+use Rattle.machine.proofs.Laws.{was}
 use Rattle.description.proofs.Ways.{Going, resources-done, resources-no, resources-on, resource-further}
 use borrow.Author.Needs.{needs}
 use Rattle.description.proofs.read_resources.Statement.{statement}

@@ -2,7 +2,7 @@
 -- Assumes nothing.
 use native.Mathlib.Omega.{arith}
 use Rattle.cursor.specs.Told.{numberTold}
-use Rattle.cursor.proofs.Laws.{was}
+use Rattle.machine.proofs.Laws.{was}
 use Rattle.description.proofs.Ways.{product, table-cut, table-left, table-channel, table-resource, table-count}
 use borrow.Author.Needs.{needs}
 use Rattle.description.proofs.read_table.Statement.{statement}

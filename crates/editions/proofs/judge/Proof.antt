@@ -2,7 +2,7 @@
 -- Assumes nothing.
 use mathlib.Core.Path.{sym}
 use native.Mathlib.Omega.{arith}
-use Rattle.cursor.proofs.Laws.{was}
+use Rattle.machine.proofs.Laws.{was}
 use Rattle.editions.specs.Told.{LeadAt, bodyTold}
 use Rattle.editions.proofs.Places.{next-piece, as-told}
 use Rattle.editions.proofs.Judging.{lent, one-line, no-lead, bad-body, bad-nodes, bad-items, well}

@@ -4,7 +4,7 @@ use mathlib.Core.Path.{refl, sym}
 use Prim.Native.Nat.{_-_}
 use lib.ListN.{length}
 use native.Mathlib.Omega.{arith}
-use Rattle.cursor.proofs.Laws.{was}
+use Rattle.machine.proofs.Laws.{was}
 use Rattle.editions.specs.Told.{stepTold}
 use Rattle.editions.proofs.Places.{next-piece}
 use Rattle.editions.proofs.Judging.{Judging, lent, judged-all, judged-unended, judged-no, judged-on}

@@ -2,7 +2,7 @@
 -- Assumes nothing.
 use Rattle.cursor.specs.Rows.{fileFrame}
 use Rattle.cursor.specs.Told.{numberTold}
-use Rattle.cursor.proofs.Laws.{was}
+use Rattle.machine.proofs.Laws.{was}
 use Rattle.header.proofs.Ways.{extent-start, extent-last, extent-before, extent-turned, extent-past, extent-all}
 use borrow.Author.Needs.{needs}
 use Rattle.header.proofs.read_extent.Statement.{statement}

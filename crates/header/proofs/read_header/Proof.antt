@@ -2,9 +2,9 @@
 -- Assumes nothing.
 use lib.ListN.{length}
 use Rattle.cursor.specs.Told.{numberTold, passTold}
-use Rattle.cursor.proofs.Laws.{was}
+use Rattle.machine.proofs.Laws.{was}
 use Rattle.cursor.proofs.Leaves.{any-free}
-use Rattle.cursor.proofs.Wp.{at-end}
+use Rattle.machine.proofs.Wp.{at-end}
 use Rattle.header.specs.Told.{editionTold, extentTold}
 use Rattle.header.proofs.Ends.{opening-on}
 use Rattle.header.proofs.Ways.{types-counted, types-refused, listed, header-opening, header-edition, header-length, header-types, header-extent, header-all}

@@ -2,7 +2,7 @@
 -- Assumes nothing.
 use Rattle.cursor.specs.Rows.{fileFrame}
 use Rattle.cursor.specs.Told.{numberTold}
-use Rattle.cursor.proofs.Laws.{was}
+use Rattle.machine.proofs.Laws.{was}
 use Rattle.header.proofs.Ways.{length-no, length-other, length-is}
 use borrow.Author.Needs.{needs}
 use Rattle.header.proofs.read_length.Statement.{statement}

@@ -1,9 +1,9 @@
 -- `read_opening` gives what `opening` gives.
 -- Assumes nothing.
 use Rattle.cursor.specs.Told.{numberTold}
-use Rattle.cursor.proofs.Laws.{was}
+use Rattle.machine.proofs.Laws.{was}
 use Rattle.cursor.proofs.Leaves.{any-free}
-use Rattle.cursor.proofs.Wp.{at-end}
+use Rattle.machine.proofs.Wp.{at-end}
 use Rattle.header.proofs.Ends.{four-on}
 use Rattle.header.proofs.Ways.{opening-large, opening-short, opening-cut, opening-other, opening-version, opening-100, opening-101, opening-200, opening-none}
 use lib.ListN.{length}

@@ -1,7 +1,7 @@
 -- `frame` gives what `frameAt` gives.
 -- Assumes nothing.
 use mathlib.Core.Path.{sym}
-use Rattle.cursor.proofs.Laws.{was}
+use Rattle.machine.proofs.Laws.{was}
 use Rattle.id3.specs.Told.{walkTold}
 use Rattle.id3.proofs.Ways.{at-no, at-none, at-all}
 use borrow.Author.Needs.{needs}

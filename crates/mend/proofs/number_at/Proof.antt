@@ -2,7 +2,7 @@
 -- Assumes nothing.
 use Rattle.cursor.specs.Rows.{nodeFrame}
 use Rattle.cursor.specs.Told.{numberTold}
-use Rattle.cursor.proofs.Laws.{was}
+use Rattle.machine.proofs.Laws.{was}
 use Rattle.mend.proofs.Ways.{value-was}
 use borrow.Author.Needs.{needs}
 use Rattle.mend.proofs.number_at.Statement.{statement}

@@ -2,7 +2,7 @@
 -- Assumes nothing.
 use Rattle.cursor.specs.Rows.{fileFrame}
 use Rattle.cursor.specs.Told.{numberTold}
-use Rattle.cursor.proofs.Laws.{was}
+use Rattle.machine.proofs.Laws.{was}
 use Rattle.mend.proofs.Ways.{field-no, field-is}
 use borrow.Author.Needs.{needs}
 use Rattle.mend.proofs.read_field.Statement.{statement}

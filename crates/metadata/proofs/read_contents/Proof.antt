@@ -2,7 +2,7 @@
 -- Assumes nothing.
 use Rattle.cursor.specs.Rows.{metaFrame}
 use Rattle.cursor.specs.Told.{numberTold}
-use Rattle.cursor.proofs.Laws.{was}
+use Rattle.machine.proofs.Laws.{was}
 use Rattle.metadata.proofs.Ways.{contents-cut, contents-universal, contents-versions}
 use borrow.Author.Needs.{needs}
 use Rattle.metadata.proofs.read_contents.Statement.{statement}

@@ -3,7 +3,7 @@
 use mathlib.Core.Path.{refl}
 use Rattle.cursor.specs.Rows.{metaFrame}
 use Rattle.cursor.specs.Told.{numberTold}
-use Rattle.cursor.proofs.Laws.{was}
+use Rattle.machine.proofs.Laws.{was}
 use Rattle.cursor.proofs.Leaves.{block-inside}
 use Rattle.metadata.proofs.Ways.{field-cut, field-name, field-number, field-standard}
 use native.Mathlib.Omega.{arith}

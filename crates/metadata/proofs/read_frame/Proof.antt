@@ -1,6 +1,6 @@
 -- `read_frame` gives what `itemFrame` gives.
 -- Assumes nothing.
-use Rattle.cursor.proofs.Laws.{was}
+use Rattle.machine.proofs.Laws.{was}
 use Rattle.metadata.specs.Told.{fieldTold, contentsTold}
 use Rattle.metadata.proofs.Ways.{frame-field, frame-contents, frame-all}
 use borrow.Author.Needs.{needs}

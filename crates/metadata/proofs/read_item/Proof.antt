@@ -1,6 +1,6 @@
 -- `read_item` gives what `item` gives, and leaves its rows in the table.
 -- Assumes nothing.
-use Rattle.cursor.proofs.Laws.{was}
+use Rattle.machine.proofs.Laws.{was}
 use Rattle.metadata.specs.Told.{itemTold}
 use Rattle.metadata.proofs.Gives.{no, yes, along}
 use Rattle.metadata.proofs.Ways.{item-frame, item-rows, common-was, common-inside, common-row}

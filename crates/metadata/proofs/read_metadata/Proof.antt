@@ -2,7 +2,7 @@
 -- Assumes nothing.
 use Rattle.cursor.specs.Rows.{metaFrame}
 use Rattle.cursor.specs.Told.{numberTold}
-use Rattle.cursor.proofs.Laws.{was}
+use Rattle.machine.proofs.Laws.{was}
 use Rattle.cursor.proofs.Leaves.{block-inside}
 use Rattle.metadata.proofs.Gives.{no, along}
 use Rattle.metadata.proofs.Ways.{metadata-length, metadata-items}

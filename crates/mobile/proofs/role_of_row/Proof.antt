@@ -3,7 +3,7 @@
 use borrow.Author.Tests.{not-true, not-false}
 use Rattle.cursor.specs.Rows.{metaFrame}
 use Rattle.cursor.specs.Told.{numberTold}
-use Rattle.cursor.proofs.Laws.{was}
+use Rattle.machine.proofs.Laws.{was}
 use Rattle.mobile.proofs.Roles.{row-other, row-empty, row-first, row-cut, row-left, row-type}
 use native.Mathlib.Omega.{arith}
 use borrow.Author.Needs.{needs}

@@ -1,7 +1,7 @@
 -- `read_front` gives what `front` gives, and leaves the rows of the items in the table.
 -- Assumes nothing.
 use mathlib.Core.Path.{ap}
-use Rattle.cursor.proofs.Laws.{was}
+use Rattle.machine.proofs.Laws.{was}
 use mathlib.Core.List.{[]}
 use Rattle.metadata.specs.Told.{walked}
 use Rattle.metadata.proofs.Gives.{done, stopped, fitting}

@@ -3,7 +3,7 @@
 use mathlib.Core.Path.{sym, _∙_}
 use Rattle.cursor.specs.Rows.{nodeFrame}
 use Rattle.cursor.specs.Told.{numberTold}
-use Rattle.cursor.proofs.Laws.{was}
+use Rattle.machine.proofs.Laws.{was}
 use Rattle.cursor.proofs.Leaves.{number-inside}
 use Rattle.node.proofs.Ways.{head-size, head-past, head-short, head-meets, head-contained, head-folder, head-header}
 use native.Mathlib.Omega.{arith}

@@ -2,7 +2,7 @@
 -- Assumes nothing.
 use Rattle.cursor.specs.Rows.{nodeFrame}
 use Rattle.cursor.specs.Told.{numberTold}
-use Rattle.cursor.proofs.Laws.{was}
+use Rattle.machine.proofs.Laws.{was}
 use Rattle.node.proofs.Ways.{header-cut, header-past, header-short, header-all}
 use native.Mathlib.Omega.{arith}
 use borrow.Author.Needs.{needs}

@@ -2,7 +2,7 @@
 -- Assumes nothing.
 use Rattle.cursor.specs.Rows.{unpackFrame}
 use Rattle.cursor.specs.Told.{passTold}
-use Rattle.cursor.proofs.Laws.{was}
+use Rattle.machine.proofs.Laws.{was}
 use Rattle.node.proofs.Ways.{identifier-guid, identifier-cut, identifier-two, identifier-one}
 use borrow.Author.Needs.{needs}
 use Rattle.node.proofs.read_identifier.Statement.{statement}

@@ -2,7 +2,7 @@
 -- Assumes nothing.
 use Rattle.cursor.specs.Rows.{referenceFrame}
 use Rattle.cursor.specs.Told.{numberTold}
-use Rattle.cursor.proofs.Laws.{was}
+use Rattle.machine.proofs.Laws.{was}
 use Rattle.cursor.proofs.Leaves.{number-inside}
 use Rattle.node.proofs.Ways.{reference-cut, reference-inline, reference-zero, reference-above, reference-folder, reference-file}
 use native.Mathlib.Omega.{arith}

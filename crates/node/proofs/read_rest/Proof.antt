@@ -1,6 +1,6 @@
 -- `read_rest` gives what `rest` gives.
 -- Assumes nothing.
-use Rattle.cursor.proofs.Laws.{was}
+use Rattle.machine.proofs.Laws.{was}
 use Rattle.node.specs.Told.{unpackersTold, referenceTold}
 use Rattle.node.proofs.Ways.{rest-unpackers, rest-left, rest-reference, rest-all}
 use borrow.Author.Needs.{needs}

@@ -2,10 +2,10 @@
 -- Assumes nothing.
 use mathlib.Core.Path.{sym, ap, _∙_}
 use Prim.Native.Nat.{_+_}
-use Rattle.cursor.specs.Machine.{ok}
+use Rattle.machine.specs.Machine.{ok}
 use Rattle.cursor.specs.Rows.{unpackFrame}
 use Rattle.cursor.specs.Told.{numberTold, passTold}
-use Rattle.cursor.proofs.Laws.{was}
+use Rattle.machine.proofs.Laws.{was}
 use Rattle.node.proofs.Ways.{common-was, unpacker-cut, unpacker-bad, unpacker-identifier, unpacker-size}
 use native.Mathlib.Omega.{arith}
 use borrow.Author.Needs.{needs}

@@ -2,7 +2,7 @@
 -- Assumes nothing.
 use Rattle.cursor.specs.Rows.{unpackFrame}
 use Rattle.cursor.specs.Told.{numberTold}
-use Rattle.cursor.proofs.Laws.{was}
+use Rattle.machine.proofs.Laws.{was}
 use Rattle.cursor.proofs.Leaves.{block-inside}
 use Rattle.node.proofs.Ways.{unpackers-cut, unpackers-none, unpackers-folder, unpackers-file}
 use native.Mathlib.Omega.{arith}

@@ -5,7 +5,7 @@ use Prim.Native.Nat.{_+_}
 use Rattle.cursor.specs.Rows.{referenceFrame}
 use Rattle.cursor.specs.Told.{numberTold}
 use Rattle.cursor.specs.declared.Node.{Node}
-use Rattle.cursor.proofs.Laws.{was}
+use Rattle.machine.proofs.Laws.{was}
 use Rattle.tree.proofs.Targets.{row-is, offset-is}
 use native.Mathlib.Omega.{arith}
 use borrow.Author.Needs.{needs}

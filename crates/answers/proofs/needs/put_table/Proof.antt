@@ -4,7 +4,7 @@ use Prim.Native.Nat.{_-_, _*_}
 use native.Mathlib.Omega.{arith}
 use Rattle.cursor.specs.Rows.{metaFrame}
 use Rattle.cursor.specs.Told.{numberTold}
-use Rattle.cursor.proofs.Laws.{was}
+use Rattle.machine.proofs.Laws.{was}
 use Rattle.cursor.proofs.Leaves.{number-inside}
 use Rattle.description.proofs.Ways.{product}
 use Rattle.answers.specs.Needed.{countLines}

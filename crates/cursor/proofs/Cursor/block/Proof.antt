@@ -1,5 +1,5 @@
 use Rattle.cursor.proofs.Leaves.{number-inside, block-size, block-past, block-all}
-use Rattle.cursor.proofs.Laws.{was}
+use Rattle.machine.proofs.Laws.{was}
 use Rattle.cursor.specs.Told.{numberTold}
 use Rattle.cursor.specs.Rows.{fileFrame}
 use native.Mathlib.Omega.{arith}

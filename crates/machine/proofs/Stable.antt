@@ -8,8 +8,8 @@ use Prim.Native.Nat.{ℕ, _+_, _≤_, _<_}
 use native.Mathlib.Omega.{arith}
 use lib.Dec.{T, T-not}
 use lib.ListN.{getD}
-use Rattle.cursor.specs.Machine.{Prog, ret, refuse, here, byte, pass, ok, Event, seen, passed, run, trace}
-use Rattle.cursor.proofs.Agree.{AgreeUpTo}
+use Rattle.machine.specs.Machine.{Prog, ret, refuse, here, byte, pass, ok, Event, seen, passed, run, trace}
+use Rattle.machine.proofs.Agree.{AgreeUpTo}
 
 -- its first byte, and how many bytes it has
 abbrev pub startOf : {K W : Type 0} → Event K W → ℕ

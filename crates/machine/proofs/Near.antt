@@ -6,7 +6,7 @@ use mathlib.Core.List.{List, _∷_}
 use Prim.Native.Nat.{ℕ, _+_}
 use native.Mathlib.Omega.{arith}
 use lib.ListN.{getD}
-use Rattle.cursor.specs.Machine.{Prog, ret, refuse, here, byte, pass, ok, seen, passed, run, trace, _>>=_, _>>_, check}
+use Rattle.machine.specs.Machine.{Prog, ret, refuse, here, byte, pass, ok, seen, passed, run, trace, _>>=_, _>>_, check}
 
 pub data Near {K W A : Type 0} : Prog K W A → Prog K W A → Type 0 where
   answer : (a : A) → Near (ret a) (ret a)

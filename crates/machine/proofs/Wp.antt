@@ -8,7 +8,7 @@ use native.Mathlib.Omega.{arith}
 use borrow.Author.Tests.{ltb-true, ltb-false}
 use lib.Dec.{ltb}
 use lib.ListN.{getD}
-use Rattle.cursor.specs.Machine.{Prog, ret, refuse, here, byte, pass, Out, ok, refused, Event, seen, passed, run, trace, _>>=_, _>>_, if_then_else_, place, skip, check, turns, many, times}
+use Rattle.machine.specs.Machine.{Prog, ret, refuse, here, byte, pass, Out, ok, refused, Event, seen, passed, run, trace, _>>=_, _>>_, if_then_else_, place, skip, check, turns, many, times}
 
 -- what has to be shown of bytes that are passed, and what may be used of them: what is passed, its place and size
 pub record Rule (W : Type 0) : Type 1 where

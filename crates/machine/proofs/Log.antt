@@ -8,8 +8,8 @@ use mathlib.Core.Logic.{_⊎_, inl, inr}
 use mathlib.Core.List.{List, [], _∷_, _++_}
 use Prim.Native.Nat.{ℕ, _≤_, _<_}
 use lib.ListN.{getD}
-use Rattle.cursor.specs.Machine.{Event, seen, passed}
-use Rattle.cursor.proofs.Stable.{Chain, endOf, Covers, Separate, covered, separate, Free, Held, Kept, held}
+use Rattle.machine.specs.Machine.{Event, seen, passed}
+use Rattle.machine.proofs.Stable.{Chain, endOf, Covers, Separate, covered, separate, Free, Held, Kept, held}
 
 module _ {K W : Type 0} where
   pub held-parts : (free : W → Bool) (P : ℕ → Type 0) (es fs : List (Event K W)) → Held free P (es ++ fs) → Held free P es × Held free P fs

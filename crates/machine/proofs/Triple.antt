@@ -9,8 +9,8 @@ use native.Mathlib.Omega.{arith}
 use lib.Dec.{ltb}
 use lib.ListN.{getD}
 use borrow.Author.Tests.{ltb-true}
-use Rattle.cursor.specs.Machine.{Prog, ret, here, byte, Out, ok, refused, run, _>>=_, _>>_, if_then_else_, place, skip, check, turns, many}
-use Rattle.cursor.proofs.Laws.{andThen, run-bind}
+use Rattle.machine.specs.Machine.{Prog, ret, here, byte, Out, ok, refused, run, _>>=_, _>>_, if_then_else_, place, skip, check, turns, many}
+use Rattle.machine.proofs.Laws.{andThen, run-bind}
 
 abbrev pub Holds : {A : Type 0} → (F : ℕ → ℕ → Type 0) → (R : A → ℕ → Type 0) → Out A → Type 0
 Holds F R (ok a q) = R a q

@@ -1,0 +1,10 @@
+pub mod Page
+pub mod Laws
+pub mod Agree
+pub mod Stable
+pub mod Log
+pub mod Near
+pub mod Wp
+pub mod Triple
+pub mod Closed
+pub mod Within
