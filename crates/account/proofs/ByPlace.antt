@@ -26,7 +26,7 @@ use Rattle.metadata.specs.declared.Made.{Made}
 use Rattle.metadata.proofs.Ends.{Nothing, Inside}
 use Rattle.metadata.proofs.Uses.{metadata-uses}
 use Rattle.node.specs.Node.{head, unpackers, reference, front}
-use Rattle.node.specs.declared.Standing.{Standing}
+use Rattle.node.specs.declared.Bounds.{Bounds}
 use Rattle.node.specs.declared.Front.{Front}
 use Rattle.node.proofs.Uses.{head-uses, unpackers-use, reference-uses}
 use Rattle.tree.specs.Reading.{nodeOf, nodesOf, itemsOf, rows, readFile}
@@ -187,7 +187,7 @@ module _ (f : List ℕ) where
     ];
   }
 
-  module _ (x : Context) (parent depth : ℕ) (s : Standing) (m : Made) (at : ℕ) (w : Front) (q : ℕ) (e : run (front x parent depth s m) f at ≡ ok w q)
+  module _ (x : Context) (parent depth : ℕ) (s : Bounds) (m : Made) (at : ℕ) (w : Front) (q : ℕ) (e : run (front x parent depth s m) f at ≡ ok w q)
       (z : Ordered x parent depth s m f at w q) (c : contentsAt (w .row) ≡ q) where
     -- its parts, one after the other
     abbrev H : Events

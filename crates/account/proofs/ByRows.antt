@@ -24,7 +24,7 @@ use Rattle.node.specs.Node.{resource, nodePlace, uriPlace, target, reference, r
 use Rattle.node.specs.declared.Head.{Head}
 use Rattle.node.specs.declared.Unpackers.{Unpackers}
 use Rattle.node.specs.declared.Reference.{Reference}
-use Rattle.node.specs.declared.Standing.{Standing}
+use Rattle.node.specs.declared.Bounds.{Bounds}
 use Rattle.node.specs.declared.Front.{Front}
 use Rattle.tree.specs.Tree.{folder, detached}
 use Rattle.tree.specs.Reading.{nodeOf, nodesOf, rows}
@@ -56,7 +56,7 @@ module _ (t : ℕ → Bool) (c : Node → ℕ) (f : List ℕ) where
 
   -- what a node's front and its row spend is what the row says
   abbrev pub Says : Type 0
-  Says = (x : Context) (parent depth : ℕ) (s : Standing) (m : Made) (at : ℕ) (w : Front) (q : ℕ) → run (front x parent depth s m) f at ≡ ok w q
+  Says = (x : Context) (parent depth : ℕ) (s : Bounds) (m : Made) (at : ℕ) (w : Front) (q : ℕ) → run (front x parent depth s m) f at ≡ ok w q
       → (body : Made → P Made) (b : Made) (v : ℕ) → run (folder (at + w .row .size) (times (w .row .contained) body (plusNode (w .made)))) f (q + inlineSize (w .row)) ≡ ok b v
       → count t (trace (front x parent depth s m) f at) + (cond (t 7) (inlineSize (w .row)) 0) ≡ c (w .row)
 
@@ -120,7 +120,7 @@ never-inline : (c : Bool) (n : ℕ) → sizeIf (c && false) n ≡ 0
 never-inline true n = refl
 never-inline false n = refl
 
-front-reference : (x : Context) (parent depth : ℕ) (s : Standing) (m : Made) (f : List ℕ) (at : ℕ) {w : Front} {q : ℕ} → run (front x parent depth s m) f at ≡ ok w q
+front-reference : (x : Context) (parent depth : ℕ) (s : Bounds) (m : Made) (f : List ℕ) (at : ℕ) {w : Front} {q : ℕ} → run (front x parent depth s m) f at ≡ ok w q
     → (body : Made → P Made) {b : Made} {v : ℕ} → run (folder (at + w .row .size) (times (w .row .contained) body (plusNode (w .made)))) f
     (q + inlineSize (w .row)) ≡ ok b v → Behind f (w .row) q
 front-reference x parent depth s m f at {w} {q} e body {b} {v} r =
@@ -139,7 +139,7 @@ front-reference x parent depth s m f at {w} {q} e body {b} {v} r =
         subst (λ i. Behind f i q) z (other (k .1) (omega arith))
 
 -- so it ends where the contents begin
-pub contents-at : (x : Context) (parent depth : ℕ) (s : Standing) (m : Made) (f : List ℕ) (at : ℕ) {w : Front} {q : ℕ} → run (front x parent depth s m) f at ≡ ok w q
+pub contents-at : (x : Context) (parent depth : ℕ) (s : Bounds) (m : Made) (f : List ℕ) (at : ℕ) {w : Front} {q : ℕ} → run (front x parent depth s m) f at ≡ ok w q
     → (body : Made → P Made) {b : Made} {v : ℕ} → run (folder (at + w .row .size) (times (w .row .contained) body (plusNode (w .made)))) f
     (q + inlineSize (w .row)) ≡ ok b v → contentsAt (w .row) ≡ q
 unfolding contentsAt

@@ -22,7 +22,7 @@ use Rattle.metadata.specs.declared.Made.{Made}
 use Rattle.metadata.proofs.Uses.{metadata-uses}
 use Rattle.metadata.proofs.Ends.{Nothing, inside-free, items-on}
 use Rattle.node.specs.Node.{headerLength, head, unpackers, reference, Rest, rest, rowOf, front}
-use Rattle.node.specs.declared.Standing.{Standing}
+use Rattle.node.specs.declared.Bounds.{Bounds}
 use Rattle.node.specs.declared.Head.{Head}
 use Rattle.node.specs.declared.Front.{Front}
 use Rattle.node.proofs.Uses.{head-uses, unpackers-use, reference-uses}
@@ -43,7 +43,7 @@ record Numbers (f : List ℕ) (end at : ℕ) (h : Head) (q : ℕ) : Type 0 where
   second : run (number nodeFrame 3 end) f p₁ ≡ ok (h .contained) p₂
   third : run (number nodeFrame 3 end) f p₂ ≡ ok (h .header .0) q
 
-head-numbers : (s : Standing) (f : List ℕ) (at : ℕ) {h : Head} {q : ℕ} → run (head s) f at ≡ ok h q → Numbers f (at + h .size .0) at h q
+head-numbers : (s : Bounds) (f : List ℕ) (at : ℕ) {h : Head} {q : ℕ} → run (head s) f at ≡ ok h q → Numbers f (at + h .size .0) at h q
 unfolding head headerLength
 head-numbers s f at {h} {q} e =
     let x = split (number nodeFrame 3 (s .end .0)) _ f at (at-place f at _ e .0) in
@@ -135,7 +135,7 @@ rest-is headerEnd size contained inner stop f at {o} {q} e =
           (k .1 ∙ c .2 ∙ last (reference headerEnd size contained stop) (λ r. record { unpackers = d .a; reference = r }) f (d .p) g);
     }
 
-pub record FrontIs (x : Context) (parent depth : ℕ) (s : Standing) (m : Made) (f : List ℕ) (at : ℕ) (w : Front) (q : ℕ) : Type 0 where
+pub record FrontIs (x : Context) (parent depth : ℕ) (s : Bounds) (m : Made) (f : List ℕ) (at : ℕ) (w : Front) (q : ℕ) : Type 0 where
   pub h : Head
   pub p : ℕ
   pub headed : run (head s) f at ≡ ok h p
@@ -149,7 +149,7 @@ pub record FrontIs (x : Context) (parent depth : ℕ) (s : Standing) (m : Made) 
       ≡ trace (head s) f at ++ (trace (metadata x (m .nodes) (at + h .header .0) m) f p ++ trace
       (rest (x .headerEnd) (x .size) (h .contained) (at + h .header .0) (at + h .size .0)) f p′)
 
-pub front-is : (x : Context) (parent depth : ℕ) (s : Standing) (m : Made) (f : List ℕ) (at : ℕ) {w : Front} {q : ℕ} → run
+pub front-is : (x : Context) (parent depth : ℕ) (s : Bounds) (m : Made) (f : List ℕ) (at : ℕ) {w : Front} {q : ℕ} → run
     (front x parent depth s m) f at ≡ ok w q → FrontIs x parent depth s m f at w q
 unfolding front
 front-is x parent depth s m f at {w} {q} e =
@@ -177,14 +177,14 @@ front-is x parent depth s m f at {w} {q} e =
 
 -- ---- where they are, by the row
 
-pub record Ordered (x : Context) (parent depth : ℕ) (s : Standing) (m : Made) (f : List ℕ) (at : ℕ) (w : Front) (q : ℕ) : Type 0 where
+pub record Ordered (x : Context) (parent depth : ℕ) (s : Bounds) (m : Made) (f : List ℕ) (at : ℕ) (w : Front) (q : ℕ) : Type 0 where
   pub is : FrontIs x parent depth s m f at w q
   pub begins : w .row .start ≡ at
   pub meta-at : metaAt f (w .row) ≡ is .p
   pub meta-end : metaEnd f (w .row) ≡ is .p′
   pub header-end : w .row .start + w .row .header ≡ is .left .p
 
-pub front-ordered : (x : Context) (parent depth : ℕ) (s : Standing) (m : Made) (f : List ℕ) (at : ℕ) {w : Front} {q : ℕ} → run
+pub front-ordered : (x : Context) (parent depth : ℕ) (s : Bounds) (m : Made) (f : List ℕ) (at : ℕ) {w : Front} {q : ℕ} → run
     (front x parent depth s m) f at ≡ ok w q → Ordered x parent depth s m f at w q
 unfolding metaAt metaEnd
 front-ordered x parent depth s m f at {w} {q} e =
@@ -214,7 +214,7 @@ front-ordered x parent depth s m f at {w} {q} e =
 
 -- ---- what they spend
 
-pub front-spends : (x : Context) (parent depth : ℕ) (s : Standing) (m : Made) (f : List ℕ) (at : ℕ) {w : Front} {q : ℕ} → run (front x parent depth s m) f at ≡ ok w q
+pub front-spends : (x : Context) (parent depth : ℕ) (s : Bounds) (m : Made) (f : List ℕ) (at : ℕ) {w : Front} {q : ℕ} → run (front x parent depth s m) f at ≡ ok w q
     → Spent f (w .row) q (trace (front x parent depth s m) f at)
 front-spends x parent depth s m f at {w} {q} e =
     let z = front-ordered x parent depth s m f at e in

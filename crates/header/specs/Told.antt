@@ -10,8 +10,8 @@ use Rattle.header.specs.Header as spec
 use Rattle.header.specs.declared.Header.{Header}
 use Rattle.header.specs.declared.Edition.{Edition}
 use Rattle.header.specs.declared.Extent.{Extent}
-use Rattle.header.specs.declared.Editioned.{Editioned}
-use Rattle.header.specs.declared.Editioned.the-variants as editioned
+use Rattle.header.specs.declared.EditionResult.{EditionResult}
+use Rattle.header.specs.declared.EditionResult.the-variants as editioned
 use Rattle.header.specs.declared.Typed.{Typed}
 use Rattle.header.specs.declared.Typed.the-variants as typed
 use Rattle.header.specs.declared.Bounded.{Bounded}
@@ -22,7 +22,7 @@ use Rattle.header.specs.declared.Headed.the-variants as headed
 abbrev pub editionOf : Edition → spec.Edition
 editionOf e = record { type = e .kind; revision = e .revision }
 
-abbrev pub editionTold : Editioned → Out spec.Edition
+abbrev pub editionTold : EditionResult → Out spec.Edition
 editionTold (editioned.Is e c) = ok (editionOf e) (c .at .0)
 editionTold (editioned.Refused n p) = refused n (p .0)
 

@@ -27,7 +27,7 @@ pub struct Edition {
     pub revision: u64,
 }
 
-pub enum Editioned {
+pub enum EditionResult {
     Is(Edition, Cursor),
     Refused(u64, FilePlace),
 }
@@ -141,7 +141,7 @@ pub fn read_opening(file: &[u8]) -> Numbered
 }
 
 // The type and the revision, which 2.00 has.
-pub fn read_edition(c: Cursor, file: &[u8], version: u64) -> Editioned
+pub fn read_edition(c: Cursor, file: &[u8], version: u64) -> EditionResult
     requires { ⌜ c .at .0 ≤ length (now file) ⌝ }
     ensures { λ r. ⌜ editionTold r ≡ run (edition (length (now (file .entry))) version) (now (file .entry)) (c .at .0) ⌝ }
 {
@@ -150,16 +150,16 @@ pub fn read_edition(c: Cursor, file: &[u8], version: u64) -> Editioned
             kind: 0,
             revision: 0,
         };
-        return Editioned::Is(none, c);
+        return EditionResult::Is(none, c);
     }
     let end = FilePlace(file.len());
     match read_four(c, file, end, cursor::CUT_SHORT) {
-        Numbered::Refused(n, p) => Editioned::Refused(n, p),
+        Numbered::Refused(n, p) => EditionResult::Refused(n, p),
         Numbered::Is(kind, d) => match read_four(d, file, end, cursor::CUT_SHORT) {
-            Numbered::Refused(n, p) => Editioned::Refused(n, p),
+            Numbered::Refused(n, p) => EditionResult::Refused(n, p),
             Numbered::Is(revision, e) => {
                 let is = Edition { kind, revision };
-                Editioned::Is(is, e)
+                EditionResult::Is(is, e)
             }
         },
     }
@@ -306,8 +306,8 @@ pub fn read_header(file: &[u8], types: &mut [u64]) -> Headed
     match read_opening(file) {
         Numbered::Refused(n, p) => Headed::Refused(n, p),
         Numbered::Is(version, c) => match read_edition(c, file, version) {
-            Editioned::Refused(n, p) => Headed::Refused(n, p),
-            Editioned::Is(edition, d) => match read_length(d, file) {
+            EditionResult::Refused(n, p) => Headed::Refused(n, p),
+            EditionResult::Is(edition, d) => match read_length(d, file) {
                 Passed::Refused(n, p) => Headed::Refused(n, p),
                 Passed::To(e) => match read_types(e, file, types) {
                     Typed::Refused(n, p) => Headed::Refused(n, p),

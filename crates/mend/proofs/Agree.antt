@@ -18,7 +18,7 @@ use Rattle.metadata.specs.declared.Limits.{Limits}
 use Rattle.metadata.specs.declared.Made.{Made}
 use Rattle.tree.specs.Tree.{tree, detached}
 use Rattle.tree.specs.Rows.{nodeAt}
-use Rattle.tree.specs.Reading.{nodeOf, nodesOf, Result, good, bad, rows, placeOf, logged, lost, offsetAt, outside, detachedAt, reach, follow, context, reading, readTree}
+use Rattle.tree.specs.Reading.{nodeOf, nodesOf, Result, good, bad, rows, placeOf, logged, isMissing, offsetAt, outside, detachedAt, followRow, follow, context, reading, readTree}
 use Rattle.tree.proofs.Starts.{From, tree-from, detached-from}
 use Rattle.tree.proofs.Shown.{outside-is, part-is}
 use Rattle.tree.proofs.Follow.{treeOf, target, Reached, known, added, reached}
@@ -54,11 +54,11 @@ module _ (lim : Limits) (f g : List ℕ) (long : length f ≡ length g) (h : Hea
   unfolding offsetAt
   offset-same r l = rw (← long) (ap placeOf (forward (number referenceFrame 3 (length f)) f g (r .start + r .header) (λ k o. same k (omega arith)) .0))
 
-  reach-same : (log : Events) (r : Node) → h .extent .end ≤ r .start → reach lim f h log r ≡ reach lim g h log r
-  unfolding reach
+  reach-same : (log : Events) (r : Node) → h .extent .end ≤ r .start → followRow lim f h log r ≡ followRow lim g h log r
+  unfolding followRow
   reach-same log r l =
       rw (← long, ← offset-same r l)
-      (by (lost (nodesOf log) r) (outside h (length f) (r .target)) refl)
+      (by (isMissing (nodesOf log) r) (outside h (length f) (r .target)) refl)
     where
       m : P Made
       m = detachedAt lim h (length f) log (r .target) (offsetAt f r)
@@ -88,14 +88,14 @@ module _ (lim : Limits) (f g : List ℕ) (long : length f ≡ length g) (h : Hea
   follow-same zero i o a = refl
   follow-same (suc k) i (bad n p) a = refl
   follow-same (suc k) i (good log) a = by (ltb i (length (nodesOf log))) refl
-      (λ t. follow-same k (i + 1) (reach lim f h log r) (λ log′ q. grown log log′ r (a log refl) (reached lim f h log r q)))
+      (λ t. follow-same k (i + 1) (followRow lim f h log r) (λ log′ q. grown log log′ r (a log refl) (reached lim f h log r q)))
     where
       r : Node
       r = nodeAt (nodesOf log) i
 
       by : (b : Bool) → ltb i (length (nodesOf log)) ≡ b →
-          (ltb i (length (nodesOf log)) ≡ true → follow k lim f h (i + 1) (reach lim f h log r) ≡ follow k lim g h (i + 1) (reach lim f h log r))
-          → cond b (follow k lim f h (i + 1) (reach lim f h log r)) (good log) ≡ cond b (follow k lim g h (i + 1) (reach lim g h log r)) (good log)
+          (ltb i (length (nodesOf log)) ≡ true → follow k lim f h (i + 1) (followRow lim f h log r) ≡ follow k lim g h (i + 1) (followRow lim f h log r))
+          → cond b (follow k lim f h (i + 1) (followRow lim f h log r)) (good log) ≡ cond b (follow k lim g h (i + 1) (followRow lim g h log r)) (good log)
       by true t rest = rest t ∙ ap (follow k lim g h (i + 1)) (reach-same log r (from-at _ (nodesOf log) (a log refl) i (ltb-true _ _ t)))
       by false t rest = refl
 

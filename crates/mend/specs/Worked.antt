@@ -16,7 +16,7 @@ use Rattle.node.specs.Node.{headerLength, head, value, identifier, unpacker, en
 use Rattle.room.specs.Decimal as decimal
 use Rattle.tree.specs.Tree as tree
 use Rattle.tree.specs.Tree.{folder, node}
-use Rattle.tree.specs.Reading.{logged, startsAt, offsetAt, lost, outside, partEnd, takenFrom, detachedAt, reach, follow, reading, readTree, readFile}
+use Rattle.tree.specs.Reading.{logged, startsAt, offsetAt, isMissing, outside, partEnd, firstTaken, detachedAt, followRow, follow, reading, readTree, readFile}
 use Rattle.tree.specs.Asking.{Result, good, bad, ask}
 use Rattle.mend.specs.Fields.{numberField, fields}
 use Rattle.mend.specs.Mend.{withField, setTo, numberAt, lastOf, setRight, mended, tabbed, line, bothLines, linesOf, changes, Mended, fitting, mend}
@@ -71,5 +71,5 @@ cases : (given 56 (worked (56 ∷ []) (55 ∷ [])) ≡ good (record { copy = wor
     × (given 27 (wide (0x80 ∷ 0x1B ∷ []) (0xFF ∷ 0xFF ∷ 0xFF ∷ 0xFF ∷ [])) ≡ bad 4 13)
     × (given 200 (narrow 127 22 104) ≡ good (record { copy = narrow 127 22 104; lines = [] }))
     × (given 200 (narrow 127 22 105) ≡ bad 5 8)
-unfolding run trace rowsOf _>>=_ _>>_ if_then_else_ place skip check turns many times next digits number block manufacturer guid formatOf four opening edition fileLength entry typesTable extent header field contents itemFrame universal declaredFormat version rowsFor item nextItem metaItems metadata headerLength head value identifier unpacker entries unpackers resource nodePlace uriPlace target reference rest front folder node tree.tree tree.detached startsAt offsetAt lost logged outside partEnd takenFrom detachedAt reach follow reading readTree readFile ask vlq.inBytes decimal.digits decimal.decimal numberField fields withField setTo numberAt lastOf setRight mended tabbed line bothLines linesOf changes fitting mend given
+unfolding run trace rowsOf _>>=_ _>>_ if_then_else_ place skip check turns many times next digits number block manufacturer guid formatOf four opening edition fileLength entry typesTable extent header field contents itemFrame universal declaredFormat version rowsFor item nextItem metaItems metadata headerLength head value identifier unpacker entries unpackers resource nodePlace uriPlace target reference rest front folder node tree.tree tree.detached startsAt offsetAt isMissing logged outside partEnd firstTaken detachedAt followRow follow reading readTree readFile ask vlq.inBytes decimal.digits decimal.decimal numberField fields withField setTo numberAt lastOf setRight mended tabbed line bothLines linesOf changes fitting mend given
 cases = (refl, refl, refl, refl, refl, refl, refl, refl, refl, refl, refl, refl, refl, refl, refl, refl, refl, refl)

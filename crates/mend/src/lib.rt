@@ -20,7 +20,7 @@ use cursor::Cursor;
 use cursor::FilePlace;
 use cursor::Numbered;
 use header::Edition;
-use header::Editioned;
+use header::EditionResult;
 use header::Extent;
 use header::Header;
 use header::Typed;
@@ -85,8 +85,8 @@ fn read_fields(file: &[u8], types: &mut [u64]) -> FieldsRead
     match header::read_opening(file) {
         Numbered::Refused(n, p) => FieldsRead::Refused(n, p),
         Numbered::Is(version, c) => match header::read_edition(c, file, version) {
-            Editioned::Refused(n, p) => FieldsRead::Refused(n, p),
-            Editioned::Is(edition, d) => match read_field(d, file) {
+            EditionResult::Refused(n, p) => FieldsRead::Refused(n, p),
+            EditionResult::Is(edition, d) => match read_field(d, file) {
                 FieldRead::Refused(n, p) => FieldsRead::Refused(n, p),
                 FieldRead::Is(length) => {
                     let after = length.end;

@@ -20,16 +20,16 @@ use Rattle.metadata.specs.declared.Field.{Field}
 use Rattle.metadata.specs.declared.Contents.{Contents}
 use Rattle.metadata.specs.declared.Contents.the-variants.{Universal}
 use Rattle.metadata.specs.declared.MetaItem.{MetaItem}
-use Rattle.metadata.specs.declared.Fielded.{Fielded}
-use Rattle.metadata.specs.declared.Fielded.the-variants as fielded
+use Rattle.metadata.specs.declared.FieldResult.{FieldResult}
+use Rattle.metadata.specs.declared.FieldResult.the-variants as fielded
 use Rattle.metadata.specs.declared.Contained.{Contained}
 use Rattle.metadata.specs.declared.Contained.the-variants as contained
-use Rattle.metadata.specs.declared.Itemed.{Itemed}
-use Rattle.metadata.specs.declared.Itemed.the-variants as itemed
+use Rattle.metadata.specs.declared.ItemResult.{ItemResult}
+use Rattle.metadata.specs.declared.ItemResult.the-variants as itemed
 use Rattle.metadata.specs.declared.Common.{Common}
 use Rattle.metadata.specs.declared.Common.the-variants as common
-use Rattle.metadata.specs.declared.Rowed.{Rowed}
-use Rattle.metadata.specs.declared.Rowed.the-variants as rows
+use Rattle.metadata.specs.declared.RowsResult.{RowsResult}
+use Rattle.metadata.specs.declared.RowsResult.the-variants as rows
 use Rattle.metadata.specs.declared.Walked.{Walked}
 use Rattle.metadata.specs.declared.Walked.the-variants as all
 
@@ -49,7 +49,7 @@ Room scope file types items end m = Readable end file × (scope .types * 2 ≤ l
 
 -- ---- answers
 
-abbrev pub fieldTold : Fielded → Out Field
+abbrev pub fieldTold : FieldResult → Out Field
 fieldTold (fielded.Is f c) = ok f (c .at .0)
 fieldTold (fielded.Refused n p) = refused n (p .0)
 
@@ -57,7 +57,7 @@ abbrev pub contentsTold : Contained → Out Contents
 contentsTold (contained.Is k c) = ok k (c .at .0)
 contentsTold (contained.Refused n p) = refused n (p .0)
 
-abbrev pub itemTold : Itemed → Out MetaItem
+abbrev pub itemTold : ItemResult → Out MetaItem
 itemTold (itemed.Is i c) = ok i (c .at .0)
 itemTold (itemed.Refused n p) = refused n (p .0)
 
@@ -94,6 +94,6 @@ pub record Gives (lim : Limits) (r : Walked) (t u : List ℕ) (o : Out (Made × 
 abbrev pub counts : ℕ → ℕ → Made
 counts node n = record { nodes = node; items = n }
 
-abbrev pub walked : ℕ → Rowed → Walked
+abbrev pub walked : ℕ → RowsResult → Walked
 walked node (rows.Done n c) = all.Done (counts node n) c
 walked node (rows.Refused n p) = all.Refused n p

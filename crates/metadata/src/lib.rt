@@ -58,7 +58,7 @@ pub struct Label {
     pub field: Field,
 }
 
-pub enum Fielded {
+pub enum FieldResult {
     Is(Field, Cursor),
     Refused(u64, FilePlace),
 }
@@ -68,7 +68,7 @@ pub enum Contained {
     Refused(u64, FilePlace),
 }
 
-pub enum Itemed {
+pub enum ItemResult {
     Is(MetaItem, Cursor),
     Refused(u64, FilePlace),
 }
@@ -81,7 +81,7 @@ pub enum Common {
 
 // The item rows made by now, and the cursor after what was read: metadata makes no other rows. A function that answers this takes, as `rows`, the
 // number of item rows that are there.
-pub enum Rowed {
+pub enum RowsResult {
     Done(usize, Cursor),
     Refused(u64, FilePlace),
 }
@@ -113,20 +113,20 @@ fn put_item(items: &mut [u64], made: usize, row: Item)
 }
 
 // The field here: 0 and a standard number, or an XString, which is a custom name.
-fn read_field(c: Cursor, file: &[u8], end: FilePlace) -> Fielded
+fn read_field(c: Cursor, file: &[u8], end: FilePlace) -> FieldResult
     requires { ⌜ Readable (end .0) (now file) ⌝ }
     ensures { λ r. ⌜ fieldTold r ≡ run (field (end .0)) (now (file .entry)) (c .at .0) ⌝ }
 {
     match c.block(file, end, cursor::CUT_SHORT) {
-        Numbered::Refused(n, p) => Fielded::Refused(n, p),
+        Numbered::Refused(n, p) => FieldResult::Refused(n, p),
         Numbered::Is(size, d) => {
             if size != 0 {
                 let at = d.at;
-                return Fielded::Is(Field::Name(at, size), d.on(size));
+                return FieldResult::Is(Field::Name(at, size), d.on(size));
             }
             match d.number(file, end, cursor::CUT_SHORT) {
-                Numbered::Refused(n, p) => Fielded::Refused(n, p),
-                Numbered::Is(k, e) => Fielded::Is(Field::Standard(k), e),
+                Numbered::Refused(n, p) => FieldResult::Refused(n, p),
+                Numbered::Is(k, e) => FieldResult::Is(Field::Standard(k), e),
             }
         }
     }
@@ -149,17 +149,17 @@ fn read_contents(c: Cursor, file: &[u8], end: FilePlace) -> Contained
 }
 
 // An item's field and contents.
-fn read_frame(c: Cursor, file: &[u8], end: FilePlace) -> Itemed
+fn read_frame(c: Cursor, file: &[u8], end: FilePlace) -> ItemResult
     requires { ⌜ Readable (end .0) (now file) ⌝ }
     ensures { λ r. ⌜ itemTold r ≡ run (itemFrame (end .0)) (now (file .entry)) (c .at .0) ⌝ }
 {
     match read_field(c, file, end) {
-        Fielded::Refused(n, p) => Itemed::Refused(n, p),
-        Fielded::Is(field, d) => match read_contents(d, file, end) {
-            Contained::Refused(n, p) => Itemed::Refused(n, p),
+        FieldResult::Refused(n, p) => ItemResult::Refused(n, p),
+        FieldResult::Is(field, d) => match read_contents(d, file, end) {
+            Contained::Refused(n, p) => ItemResult::Refused(n, p),
             Contained::Is(contents, e) => {
                 let is = MetaItem { field, contents };
-                Itemed::Is(is, e)
+                ItemResult::Is(is, e)
             }
         },
     }
@@ -212,30 +212,30 @@ fn read_universal(
     l: Label,
     end: FilePlace,
     rows: usize,
-) -> Rowed
+) -> RowsResult
     requires { ⌜ Readable (end .0) (now file) × ItemRoom scope (now items) (counts (l .node) rows) ⌝ }
     ensures { λ r. ⌜ ((t ws : List ℕ) → Gives (scope .limits) (walked (l .node) r) t (now (items .exit)) (exec put (universal (contextOf scope ws (length (now (file .entry)))) l (end .0) (counts (l .node) rows)) (now (file .entry)) (c .at .0) (state t (now (items .entry)) (counts (l .node) rows)))) ⌝ }
 {
     let place = c.at;
     let limits = scope.limits;
     if limits.items <= rows {
-        return Rowed::Refused(cursor::NO_ROW_LEFT, place);
+        return RowsResult::Refused(cursor::NO_ROW_LEFT, place);
     }
     match c.block(file, end, cursor::CUT_SHORT) {
-        Numbered::Refused(n, p) => Rowed::Refused(n, p),
+        Numbered::Refused(n, p) => RowsResult::Refused(n, p),
         Numbered::Is(size, d) => {
             if size == 0 {
-                return Rowed::Refused(cursor::BAD_CONTENTS, place);
+                return RowsResult::Refused(cursor::BAD_CONTENTS, place);
             }
             let after = d.on(size);
             let stop = after.at;
             match d.number(file, stop, cursor::CUT_SHORT) {
-                Numbered::Refused(n, p) => Rowed::Refused(n, p),
+                Numbered::Refused(n, p) => RowsResult::Refused(n, p),
                 Numbered::Is(format, e) => {
                     let data = e.at;
                     let made = rows + 1;
                     put_item(items, rows, row_of(l, 0, 0, format, data, stop.0 - data.0));
-                    Rowed::Done(made, after)
+                    RowsResult::Done(made, after)
                 }
             }
         }
@@ -253,21 +253,21 @@ fn read_version(
     end: FilePlace,
     before: usize,
     rows: usize,
-) -> Rowed
+) -> RowsResult
     requires { ⌜ Room scope (now file) (now types) (now items) (end .0) (counts (l .node) rows) × (before ≤ rows) ⌝ }
     ensures { λ r. ⌜ ((t : List ℕ) → Gives (scope .limits) (walked (l .node) r) t (now (items .exit)) (exec put (version (contextOf scope (now (types .entry)) (length (now (file .entry)))) l (end .0) before (counts (l .node) rows)) (now (file .entry)) (c .at .0) (state t (now (items .entry)) (counts (l .node) rows)))) ⌝ }
 {
     let place = c.at;
     let limits = scope.limits;
     if limits.items <= rows {
-        return Rowed::Refused(cursor::NO_ROW_LEFT, place);
+        return RowsResult::Refused(cursor::NO_ROW_LEFT, place);
     }
     match c.number(file, end, cursor::CUT_SHORT) {
-        Numbered::Refused(n, p) => Rowed::Refused(n, p),
+        Numbered::Refused(n, p) => RowsResult::Refused(n, p),
         Numbered::Is(of, d) => match header::format_of(types, scope.types, of) {
-            Found::Nothing => Rowed::Refused(cursor::BAD_CONTENTS, place),
+            Found::Nothing => RowsResult::Refused(cursor::BAD_CONTENTS, place),
             Found::Format(format) => match d.block(file, end, cursor::CUT_SHORT) {
-                Numbered::Refused(n, p) => Rowed::Refused(n, p),
+                Numbered::Refused(n, p) => RowsResult::Refused(n, p),
                 Numbered::Is(size, e) => {
                     let data = e.at;
                     let made = rows + 1;
@@ -277,7 +277,7 @@ fn read_version(
                         rows,
                         row_of(l, number, of, format, data, size as usize),
                     );
-                    Rowed::Done(made, e.on(size))
+                    RowsResult::Done(made, e.on(size))
                 }
             },
         },
@@ -295,7 +295,7 @@ fn read_versions(
     end: FilePlace,
     count: u64,
     rows: usize,
-) -> Rowed
+) -> RowsResult
     requires { ⌜ Room scope (now file) (now types) (now items) (end .0) (counts (l .node) rows) ⌝ }
     ensures { λ r. ⌜ ((t : List ℕ) → Gives (scope .limits) (walked (l .node) r) t (now (items .exit)) (exec put (times count (version (contextOf scope (now (types .entry)) (length (now (file .entry)))) l (end .0) rows) (counts (l .node) rows)) (now (file .entry)) (c .at .0) (state t (now (items .entry)) (counts (l .node) rows)))) ⌝ }
 {
@@ -305,15 +305,15 @@ fn read_versions(
     let mut left = count;
     while 0 < left {
         match read_version(next, file, types, items, scope, l, end, before, m) {
-            Rowed::Refused(n, p) => return Rowed::Refused(n, p),
-            Rowed::Done(n, d) => {
+            RowsResult::Refused(n, p) => return RowsResult::Refused(n, p),
+            RowsResult::Done(n, d) => {
                 m = n;
                 next = d;
             }
         }
         left = left - 1;
     }
-    Rowed::Done(m, next)
+    RowsResult::Done(m, next)
 }
 
 // The rows of an item's contents.
@@ -327,7 +327,7 @@ fn read_rows(
     end: FilePlace,
     contents: Contents,
     rows: usize,
-) -> Rowed
+) -> RowsResult
     requires { ⌜ Room scope (now file) (now types) (now items) (end .0) (counts (l .node) rows) ⌝ }
     ensures { λ r. ⌜ ((t : List ℕ) → Gives (scope .limits) (walked (l .node) r) t (now (items .exit)) (exec put (rowsFor (contextOf scope (now (types .entry)) (length (now (file .entry)))) l (end .0) contents (counts (l .node) rows)) (now (file .entry)) (c .at .0) (state t (now (items .entry)) (counts (l .node) rows)))) ⌝ }
 {
@@ -393,7 +393,7 @@ fn read_item(
     index: usize,
     end: FilePlace,
     rows: usize,
-) -> Rowed
+) -> RowsResult
     requires { ⌜ Room scope (now file) (now types) (now items) (end .0) (counts node rows) ⌝ }
     ensures { λ r. ⌜ ((t : List ℕ) → Gives (scope .limits) (walked node r) t (now (items .exit)) (exec put (item (contextOf scope (now (types .entry)) (length (now (file .entry)))) node index (end .0) (counts node rows)) (now (file .entry)) (c .at .0) (state t (now (items .entry)) (counts node rows)))) ⌝ }
 {
@@ -414,12 +414,12 @@ fn read_item(
                 rows,
                 row_of(l, 0, 0, format, data.at, size as usize - 1),
             );
-            return Rowed::Done(made, c.on(4 + size));
+            return RowsResult::Done(made, c.on(4 + size));
         }
     }
     match read_frame(c, file, end) {
-        Itemed::Refused(n, p) => Rowed::Refused(n, p),
-        Itemed::Is(is, d) => {
+        ItemResult::Refused(n, p) => RowsResult::Refused(n, p),
+        ItemResult::Is(is, d) => {
             let field = is.field;
             let l = Label {
                 node,
@@ -442,7 +442,7 @@ fn read_items(
     node: usize,
     end: FilePlace,
     rows: usize,
-) -> Rowed
+) -> RowsResult
     requires { ⌜ Room scope (now file) (now types) (now items) (end .0) (counts node rows) ⌝ }
     ensures { λ r. ⌜ ((t : List ℕ) → Gives (scope .limits) (walked node r) t (now (items .exit)) (exec put (metaItems (contextOf scope (now (types .entry)) (length (now (file .entry)))) node (end .0) (counts node rows)) (now (file .entry)) (c .at .0) (state t (now (items .entry)) (counts node rows)))) ⌝ }
 {
@@ -453,8 +453,8 @@ fn read_items(
     let mut index: usize = 0;
     while at < stop {
         match read_item(next, file, types, items, scope, node, index, end, m) {
-            Rowed::Refused(n, p) => return Rowed::Refused(n, p),
-            Rowed::Done(n, d) => {
+            RowsResult::Refused(n, p) => return RowsResult::Refused(n, p),
+            RowsResult::Done(n, d) => {
                 m = n;
                 next = d;
                 at = d.at.0;
@@ -462,7 +462,7 @@ fn read_items(
         }
         index = index + 1;
     }
-    Rowed::Done(m, next)
+    RowsResult::Done(m, next)
 }
 
 // The metadata of a node whose header ends at `end`: a length, and items end to end. After a refusal nothing is said of the item table, which may
@@ -476,12 +476,12 @@ pub fn read_metadata(
     node: usize,
     end: FilePlace,
     rows: usize,
-) -> Rowed
+) -> RowsResult
     requires { ⌜ Room scope (now file) (now types) (now items) (end .0) (counts node rows) ⌝ }
     ensures { λ r. ⌜ ((t : List ℕ) → Gives (scope .limits) (walked node r) t (now (items .exit)) (exec put (metadata (contextOf scope (now (types .entry)) (length (now (file .entry)))) node (end .0) (counts node rows)) (now (file .entry)) (c .at .0) (state t (now (items .entry)) (counts node rows)))) ⌝ }
 {
     match c.block(file, end, cursor::BAD_NODE) {
-        Numbered::Refused(n, p) => Rowed::Refused(n, p),
+        Numbered::Refused(n, p) => RowsResult::Refused(n, p),
         Numbered::Is(size, d) => {
             let after = d.on(size);
             let stop = after.at;

@@ -20,7 +20,7 @@ use Rattle.metadata.specs.Metadata.{Context, metadata}
 use Rattle.metadata.specs.declared.Made.{Made}
 use Rattle.metadata.proofs.Ends.{OfNames, Nothing, inside-free, Inside, Since, metadata-on}
 use Rattle.node.specs.Node.{headerLength, head, value, identifier, unpacker, entries, unpackers, resource, nodePlace, uriPlace, target, reference, rest, front}
-use Rattle.node.specs.declared.Standing.{Standing}
+use Rattle.node.specs.declared.Bounds.{Bounds}
 use Rattle.node.specs.declared.Head.{Head}
 use Rattle.node.specs.declared.Reference.{Reference}
 use Rattle.node.specs.declared.Front.{Front}
@@ -50,7 +50,7 @@ module _ (N : OfNames) (top size : ℕ) where
       (wp-after (number-on _ _ (p + n) at) λ header q x.
       wp-place _ q (wp-check _ _ λ t. wp-check _ _ λ u. wp-ret (omega arith, leb-true q (p + header) u, leb-true header n t, refl, refl)))
 
-  pub head-on : (s : Standing) (at : ℕ) → Wp (Inside N top size) (head s)
+  pub head-on : (s : Bounds) (at : ℕ) → Wp (Inside N top size) (head s)
       (λ h q. (at < q) × (q ≤ at + h .header .0) × (h .header .0 ≤ h .size .0) × (at + h .size .0 ≤ s .end .0) ×
       (s .least .0 ≤ at + h .size .0) × (at + h .size .0 ≤ s .taken .0) × ((h .contained ≡ 0) ⊎ (s .detached ≡ 0))) at
   unfolding head
@@ -133,7 +133,7 @@ module _ (N : OfNames) (top size : ℕ) where
 -- ---- the whole
 
 -- what is known of a node up to its contents: the row's places lie in the node, the node in its holder
-pub record FrontIn (x : Context) (s : Standing) (m : Made) (at : ℕ) (w : Front) (q : ℕ) : Type 0 where
+pub record FrontIn (x : Context) (s : Bounds) (m : Made) (at : ℕ) (w : Front) (q : ℕ) : Type 0 where
   pub nodes : w .made .nodes ≡ m .nodes
   pub items : m .items ≤ w .made .items
   pub moves : at < q
@@ -148,7 +148,7 @@ pub record FrontIn (x : Context) (s : Standing) (m : Made) (at : ℕ) (w : Front
   pub leads : (w .row .reference ≡ 3) ⊎ (w .row .target + w .row .extent ≤ x .size)
   pub follows : (w .row .reference ≡ 1) → (w .row .target ≡ q) × (w .row .extent ≡ at + w .row .size - q)
 
-pub front-on : (N : OfNames) (top : ℕ) (x : Context) (parent depth : ℕ) (s : Standing) (m : Made) (at : ℕ) → s .end .0 ≤ top → s .end .0 ≤ x .size
+pub front-on : (N : OfNames) (top : ℕ) (x : Context) (parent depth : ℕ) (s : Bounds) (m : Made) (at : ℕ) → s .end .0 ≤ top → s .end .0 ≤ x .size
     → Wp (Inside N top (x .size)) (front x parent depth s m) (FrontIn x s m at) at
 unfolding front
 front-on N top x parent depth s m at o i =
@@ -185,7 +185,7 @@ size-if : (c : Bool) (n k : ℕ) → (T c → n ≤ k) → sizeIf c n ≤ k
 size-if true n k h = h tt
 size-if false n k h = omega arith
 
-module _ {x : Context} {s : Standing} {m : Made} {at : ℕ} {w : Front} {q : ℕ} (y : FrontIn x s m at w q) where
+module _ {x : Context} {s : Bounds} {m : Made} {at : ℕ} {w : Front} {q : ℕ} (y : FrontIn x s m at w q) where
   pub inline-at : T (hasInline (w .row)) → w .row .target ≡ q
   inline-at t = y .follows (has-inline (w .row) t) .0
 
@@ -197,7 +197,7 @@ module _ {x : Context} {s : Standing} {m : Made} {at : ℕ} {w : Front} {q : ℕ
 
 -- ---- the same of a run that is known
 
-pub head-inside : (z : Standing) (s : List ℕ) (at : ℕ) {h : Head} {p : ℕ} → run (head z) s at ≡ ok h p
+pub head-inside : (z : Bounds) (s : List ℕ) (at : ℕ) {h : Head} {p : ℕ} → run (head z) s at ≡ ok h p
     → (at < p) × (p ≤ at + h .header .0) × (h .header .0 ≤ h .size .0) × (at + h .size .0 ≤ z .end .0)
 head-inside z s at e = let w = at-end (inside-free 0 0) s (head-on Nothing 0 0 z at) e in (w .0, w .1, w .2, w .3)
 
@@ -205,6 +205,6 @@ pub metadata-since : (x : Context) (node end : ℕ) (m : Made) (s : List ℕ) (a
     (metadata x node end m) s at σ ≡ ok (m′, τ) p → Since m m′
 metadata-since x node end m s at σ e = at-end (inside-free end end) s (metadata-on Nothing end end x node end (omega arith) m at) (ran put _ s at σ e) .0
 
-pub front-inside : (x : Context) (parent depth : ℕ) (z : Standing) (m : Made) (s : List ℕ) (at : ℕ) (σ : State) → z .end .0 ≤ x .size → {w : Front} {τ : State} {p : ℕ}
+pub front-inside : (x : Context) (parent depth : ℕ) (z : Bounds) (m : Made) (s : List ℕ) (at : ℕ) (σ : State) → z .end .0 ≤ x .size → {w : Front} {τ : State} {p : ℕ}
     → exec put (front x parent depth z m) s at σ ≡ ok (w, τ) p → FrontIn x z m at w p
 front-inside x parent depth z m s at σ i e = at-end (inside-free (z .end .0) (x .size)) s (front-on Nothing (z .end .0) x parent depth z m at (omega arith) i) (ran put _ s at σ e)

@@ -7,11 +7,11 @@ use Rattle.metadata.specs.Metadata.{Context}
 use Rattle.metadata.specs.declared.Limits.{Limits}
 use Rattle.metadata.specs.declared.Made.{Made}
 use Rattle.metadata.proofs.Limited.{room, Items, Less, under, metadata-limited}
-use Rattle.node.specs.declared.Standing.{Standing}
+use Rattle.node.specs.declared.Bounds.{Bounds}
 use Rattle.node.specs.Node.{front}
 use Rattle.node.proofs.Uses.{head-uses, rest-uses}
 
-pub front-limited : {lim most : Limits} (less : Less lim most) (x : Context) (parent depth : ℕ) (s : Standing) (m : Made) (c : Rows) → Items lim (m .nodes) m c
+pub front-limited : {lim most : Limits} (less : Less lim most) (x : Context) (parent depth : ℕ) (s : Bounds) (m : Made) (c : Rows) → Items lim (m .nodes) m c
     → Limited (room lim) (λ w d. Items lim (m .nodes) (w .made) d) c (front (under x lim) parent depth s m) (front (under x most) parent depth s m)
 unfolding front
 front-limited less x parent depth s m c i =

@@ -7,11 +7,11 @@ use Rattle.cursor.proofs.Order.{Orders, after, ends, places, then-rowless}
 use Rattle.metadata.specs.Metadata.{Context}
 use Rattle.metadata.specs.declared.Made.{Made}
 use Rattle.metadata.proofs.Order.{metadata-orders}
-use Rattle.node.specs.declared.Standing.{Standing}
+use Rattle.node.specs.declared.Bounds.{Bounds}
 use Rattle.node.specs.Node.{front}
 use Rattle.node.proofs.Uses.{head-uses, rest-uses}
 
-pub front-orders : (x : Context) (parent depth : ℕ) (s : Standing) (m : Made) → Orders (front x parent depth s m)
+pub front-orders : (x : Context) (parent depth : ℕ) (s : Bounds) (m : Made) → Orders (front x parent depth s m)
     (λ w k c. (k ≡ m .nodes) × (w .made .nodes ≡ m .nodes) × (w .row .rows ≡ c) × (w .row .parent ≡ parent)) (m .nodes) 0
 unfolding front
 front-orders x parent depth s m =

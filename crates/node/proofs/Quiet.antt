@@ -8,12 +8,12 @@ use Rattle.cursor.specs.Rows.{Part, uri}
 use Rattle.cursor.proofs.Quiet.{Quiet, IgnoresPlain, still, quiet-of}
 use Rattle.metadata.specs.Tables.{State, put}
 use Rattle.metadata.proofs.Quiet.{put-ignores}
-use Rattle.node.specs.declared.Standing.{Standing}
+use Rattle.node.specs.declared.Bounds.{Bounds}
 use Rattle.node.specs.Node.{head, unpackers, reference, rest}
 use Rattle.node.proofs.Uses.{head-uses, unpackers-use, reference-uses, rest-uses}
 
 module _ {S : Type 0} {put : Part → ℕ → ℕ → S → S} (i : IgnoresPlain put) where
-  pub head-quiet : (s : Standing) → Quiet put (head s)
+  pub head-quiet : (s : Bounds) → Quiet put (head s)
   head-quiet s = quiet-of (head-uses tt s)
 
   pub unpackers-quiet : (contained end : ℕ) → Quiet put (unpackers contained end)
@@ -27,7 +27,7 @@ module _ {S : Type 0} {put : Part → ℕ → ℕ → S → S} (i : IgnoresPlain
 
 -- ---- the tables
 
-pub exec-head : (s : Standing) (f : List ℕ) (at : ℕ) (σ : State) → exec put (head s) f at σ ≡ still (run (head s) f at) σ
+pub exec-head : (s : Bounds) (f : List ℕ) (at : ℕ) (σ : State) → exec put (head s) f at σ ≡ still (run (head s) f at) σ
 exec-head s = head-quiet put-ignores s .quiet
 
 pub exec-rest : (headerEnd size contained inner stop : ℕ) (f : List ℕ) (at : ℕ) (σ : State) → exec put

@@ -10,12 +10,12 @@ use Rattle.metadata.specs.Metadata.{Context}
 use Rattle.metadata.specs.declared.Made.{Made}
 use Rattle.metadata.proofs.Stays.{metadata-stays}
 use Rattle.node.specs.Node.{headerLength, head, value, identifier, unpacker, entries, unpackers, resource, nodePlace, uriPlace, target, reference, rest, front}
-use Rattle.node.specs.declared.Standing.{Standing}
+use Rattle.node.specs.declared.Bounds.{Bounds}
 use Rattle.node.proofs.Ends.{head-inside}
 
 module _ {f : List ℕ} where
   -- the bounds of a node, and the number that names it, are in the file
-  module _ (s : Standing) (o : s .end .0 ≤ length f) (i : s .offset .0 ≤ length f) where
+  module _ (s : Bounds) (o : s .end .0 ≤ length f) (i : s .offset .0 ≤ length f) where
     head-stays : Stays f (head s)
     unfolding head headerLength
     head-stays =
@@ -56,7 +56,7 @@ module _ {f : List ℕ} where
   rest-stays headerEnd size contained inner stop o i = after (unpackers-stay contained inner o) λ u. places λ e l. checks _ _ l λ t. after
       (reference-stays stop i headerEnd size contained) λ r. ends
 
-  pub front-stays : (x : Context) (parent depth : ℕ) (s : Standing) (m : Made) → s .end .0 ≤ length f → s .offset .0 ≤ length f → Stays f (front x parent depth s m)
+  pub front-stays : (x : Context) (parent depth : ℕ) (s : Bounds) (m : Made) → s .end .0 ≤ length f → s .offset .0 ≤ length f → Stays f (front x parent depth s m)
   unfolding front
   front-stays x parent depth s m o i =
       anywhere λ at l. place-at _ at (after-at (head-stays s o i .from at l) λ h q e k. let y = head-inside s f at e in

@@ -8,10 +8,10 @@ use Rattle.cursor.proofs.Uses.{Allowed, Uses, after, ends, either, checks, plac
 use Rattle.metadata.specs.Metadata.{Context}
 use Rattle.metadata.specs.declared.Made.{Made}
 use Rattle.metadata.proofs.Uses.{metadata-uses}
-use Rattle.node.specs.declared.Standing.{Standing}
+use Rattle.node.specs.declared.Bounds.{Bounds}
 use Rattle.node.specs.Node.{headerLength, head, value, identifier, unpacker, entries, unpackers, resource, nodePlace, uriPlace, target, reference, rest, front}
 
-pub head-uses : {S : Allowed} → S .frame nodeFrame → (s : Standing) → Uses S (head s)
+pub head-uses : {S : Allowed} → S .frame nodeFrame → (s : Bounds) → Uses S (head s)
 unfolding head headerLength
 head-uses r s =
     places λ p. after (number-uses _ r _) λ size.
@@ -53,7 +53,7 @@ rest-uses u r w headerEnd size contained inner stop = after (unpackers-use u con
     (after (reference-uses r w headerEnd size contained stop) λ v. ends)
 
 pub front-uses : {S : Allowed} → ((κ : Frame) → S .frame κ) → ((x : Plain) → S .part (plain x)) → ((i : Item) → S .part (itemRow i)) →
-    (x : Context) (parent depth : ℕ) (s : Standing) (m : Made)
+    (x : Context) (parent depth : ℕ) (s : Bounds) (m : Made)
     → Uses S (front x parent depth s m)
 unfolding front
 front-uses r w d x parent depth s m =

@@ -28,13 +28,13 @@ use Rattle.metadata.specs.declared.Made.{Made}
 use Rattle.metadata.specs.declared.Limits.{Limits}
 use Rattle.node.specs.Node.{headerLength, head, value, identifier, unpacker, entries, unpackers, resource, nodePlace, uriPlace, target, reference, Rest, rest, rowOf, front}
 use Rattle.node.specs.Told.{CommonTold, unpackerTold, frontTold, FrontFits, Fronts}
-use Rattle.node.specs.declared.Standing.{Standing}
+use Rattle.node.specs.declared.Bounds.{Bounds}
 use Rattle.node.specs.declared.Head.{Head}
 use Rattle.node.specs.declared.Unpackers.{Unpackers}
 use Rattle.node.specs.declared.Reference.{Reference}
 use Rattle.node.specs.declared.Front.{Front}
-use Rattle.node.specs.declared.Fronted.{Fronted}
-use Rattle.node.specs.declared.Fronted.the-variants as fronted
+use Rattle.node.specs.declared.FrontResult.{FrontResult}
+use Rattle.node.specs.declared.FrontResult.the-variants as fronted
 use Rattle.node.proofs.Quiet.{exec-head, exec-rest}
 use Rattle.node.proofs.Ends.{unpacker-on}
 
@@ -60,7 +60,7 @@ module _ (p size contained : ℕ) (s : List ℕ) (at : ℕ) {stop : ℕ} (is : s
       unfolding headerLength
       header-all l = let e₁′ = rw is at e₁ in simp (running, e₁′, le-leb _ _ l₁, le-leb _ _ l)
 
-module _ (z : Standing) (s : List ℕ) (at : ℕ) where
+module _ (z : Bounds) (s : List ℕ) (at : ℕ) where
   pub head-size : {n p : ℕ} → run (number nodeFrame 3 (z .end .0)) s at ≡ refused n p → refused n p ≡ run (head z) s at
   unfolding head
   head-size e = simp (running, e)
@@ -337,7 +337,7 @@ module _ (headerEnd size contained inner stop : ℕ) (s : List ℕ) (at : ℕ) w
 
 -- ---- the whole
 
-module _ {lim : Limits} {r : Fronted} {t u : List ℕ} {o : Out (Front × State)} (g : Fronts lim r t u o) where
+module _ {lim : Limits} {r : FrontResult} {t u : List ℕ} {o : Out (Front × State)} (g : Fronts lim r t u o) where
   pub front-done : {w : Front} {c : Cursor} → r ≡ fronted.Is w c → o ≡ ok (w, state t u (w .made)) (c .at .0)
   front-done e = sym (g .answer) ∙ ap (λ x. frontTold x t u) e
 
@@ -355,7 +355,7 @@ module _ {lim : Limits} {t u : List ℕ} {o : Out (Front × State)} where
       (w .made .items ≤ lim .items) → Fronts lim (fronted.Is w c) t u o
   front-yes e f = record { answer = e; fits = f }
 
-module _ (x : Context) (parent depth : ℕ) (z : Standing) (m : Made) (s : List ℕ) (at : ℕ) (σ : State) where
+module _ (x : Context) (parent depth : ℕ) (z : Bounds) (m : Made) (s : List ℕ) (at : ℕ) (σ : State) where
   pub front-head : {n p : ℕ} → run (head z) s at ≡ refused n p → refused n p ≡ exec put (front x parent depth z m) s at σ
   unfolding front
   front-head e = simp (executing, exec-head, e)

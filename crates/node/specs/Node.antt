@@ -10,7 +10,7 @@ use Rattle.cursor.specs.Leaves.{number, block, manufacturer, guid}
 use Rattle.cursor.specs.declared.Node.{Node}
 use Rattle.metadata.specs.Metadata.{Context, metadata}
 use Rattle.metadata.specs.declared.Made.{Made}
-use Rattle.node.specs.declared.Standing.{Standing}
+use Rattle.node.specs.declared.Bounds.{Bounds}
 use Rattle.node.specs.declared.Head.{Head}
 use Rattle.node.specs.declared.Unpackers.{Unpackers}
 use Rattle.node.specs.declared.Reference.{Reference}
@@ -30,7 +30,7 @@ headerLength p size contained = do
 
 -- The node may not end past `end`, nor before `least`. A detached one may not end past `taken`, the first byte of another, and is no folder: both are
 -- refused at the number that names it.
-unfoldable pub head : Standing → P Head
+unfoldable pub head : Bounds → P Head
 head s = do
   p ← place
   size ← number nodeFrame cutShort (s .end .0)
@@ -42,10 +42,10 @@ head s = do
   headerLength p size contained
 
 -- how a node of the tree stands in its holder; how a detached one stands
-abbrev pub inTree : (least end : ℕ) → Standing
+abbrev pub inTree : (least end : ℕ) → Bounds
 inTree least end = record { least = record { 0 = least }; end = record { 0 = end }; taken = record { 0 = end }; offset = record { 0 = 0 }; detached = 0 }
 
-abbrev pub outsideTree : (end taken offset : ℕ) → Standing
+abbrev pub outsideTree : (end taken offset : ℕ) → Bounds
 outsideTree end taken offset = record { least = record { 0 = 0 }; end = record { 0 = end }; taken = record { 0 = taken }; offset = record { 0 = offset }; detached = 1 }
 
 -- ---- unpackers
@@ -169,7 +169,7 @@ rowOf start h parent depth detached r u rows = record {
 }
 
 -- a node up to its contents: the rows of its items are made, and its own row is known
-unfoldable pub front : Context → (parent depth : ℕ) → Standing → Made → P Front
+unfoldable pub front : Context → (parent depth : ℕ) → Bounds → Made → P Front
 front x parent depth s m = do
   p ← place
   h ← head s

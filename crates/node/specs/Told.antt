@@ -16,14 +16,14 @@ use Rattle.node.specs.declared.Unpackers.{Unpackers}
 use Rattle.node.specs.declared.Unpacked.{Unpacked}
 use Rattle.node.specs.declared.Unpacked.the-variants as unpacked
 use Rattle.node.specs.declared.Reference.{Reference}
-use Rattle.node.specs.declared.Referred.{Referred}
-use Rattle.node.specs.declared.Referred.the-variants as referred
+use Rattle.node.specs.declared.ReferenceResult.{ReferenceResult}
+use Rattle.node.specs.declared.ReferenceResult.the-variants as referred
 use Rattle.node.specs.Node.{unpacker, Rest}
-use Rattle.node.specs.declared.Rested.{Rested}
-use Rattle.node.specs.declared.Rested.the-variants as rested
+use Rattle.node.specs.declared.RestResult.{RestResult}
+use Rattle.node.specs.declared.RestResult.the-variants as rested
 use Rattle.node.specs.declared.Front.{Front}
-use Rattle.node.specs.declared.Fronted.{Fronted}
-use Rattle.node.specs.declared.Fronted.the-variants as fronted
+use Rattle.node.specs.declared.FrontResult.{FrontResult}
+use Rattle.node.specs.declared.FrontResult.the-variants as fronted
 
 abbrev pub headTold : Headed → Out Head
 headTold (headed.Is h c) = ok h (c .at .0)
@@ -43,23 +43,23 @@ abbrev pub unpackersTold : Unpacked → Out Unpackers
 unpackersTold (unpacked.Is u c) = ok u (c .at .0)
 unpackersTold (unpacked.Refused n p) = refused n (p .0)
 
-abbrev pub referenceTold : Referred → Out Reference
+abbrev pub referenceTold : ReferenceResult → Out Reference
 referenceTold (referred.Is r c) = ok r (c .at .0)
 referenceTold (referred.Refused n p) = refused n (p .0)
 
-abbrev pub restTold : Rested → Out Rest
+abbrev pub restTold : RestResult → Out Rest
 restTold (rested.Is u r c) = ok (record { unpackers = u; reference = r }) (c .at .0)
 restTold (rested.Refused n p) = refused n (p .0)
 
-abbrev pub frontTold : Fronted → List ℕ → List ℕ → Out (Front × State)
+abbrev pub frontTold : FrontResult → List ℕ → List ℕ → Out (Front × State)
 frontTold (fronted.Is w c) t u = ok (w, state t u (w .made)) (c .at .0)
 frontTold (fronted.Refused n p) t u = refused n (p .0)
 
-abbrev pub FrontFits : Limits → Fronted → Type 0
+abbrev pub FrontFits : Limits → FrontResult → Type 0
 FrontFits lim (fronted.Is w c) = (w .made .nodes ≤ lim .nodes) × (w .made .items ≤ lim .items)
 FrontFits lim (fronted.Refused n p) = Unit {0}
 
 -- what a call answered and left in the tables is o, and no more rows are made than there is room for
-pub record Fronts (lim : Limits) (r : Fronted) (t u : List ℕ) (o : Out (Front × State)) : Type 0 where
+pub record Fronts (lim : Limits) (r : FrontResult) (t u : List ℕ) (o : Out (Front × State)) : Type 0 where
   pub answer : frontTold r t u ≡ o
   pub fits : FrontFits lim r

@@ -18,12 +18,12 @@ use cursor::NodePlace;
 use cursor::Numbered;
 use cursor::Passed;
 use metadata::Made;
-use metadata::Rowed;
+use metadata::RowsResult;
 use metadata::Scope;
 
 // How a node stands: it ends at or before `end` and not before `least`. A detached one ends at or before `taken`, where another
 // begins, and `offset` is the place of the number that leads to it.
-pub struct Standing {
+pub struct Bounds {
     pub least: FilePlace,
     pub end: FilePlace,
     pub taken: FilePlace,
@@ -62,13 +62,13 @@ pub struct Reference {
     pub extent: u64,
 }
 
-pub enum Referred {
+pub enum ReferenceResult {
     Is(Reference, Cursor),
     Refused(u64, FilePlace),
 }
 
 // The unpackers and the reference, and the cursor after them.
-pub enum Rested {
+pub enum RestResult {
     Is(Unpackers, Reference, Cursor),
     Refused(u64, FilePlace),
 }
@@ -79,7 +79,7 @@ pub struct Front {
     pub made: Made,
 }
 
-pub enum Fronted {
+pub enum FrontResult {
     Is(Front, Cursor),
     Refused(u64, FilePlace),
 }
@@ -95,7 +95,7 @@ fn is_detached_folder(contained: u64, detached: u64) -> bool
 }
 
 // NodeLength, NodeContainedItems and NodeHeaderLength of a node that stands so.
-fn read_head(c: Cursor, file: &[u8], s: Standing) -> Headed
+fn read_head(c: Cursor, file: &[u8], s: Bounds) -> Headed
     requires { ⌜ Readable (s .end .0) (now file) ⌝ }
     ensures { λ r. ⌜ headTold r ≡ run (head s) (now (file .entry)) (c .at .0) ⌝ }
 {
@@ -304,56 +304,56 @@ fn read_unpackers(c: Cursor, file: &[u8], contained: u64, end: FilePlace) -> Unp
 }
 
 // Reference 2: a place of the file at or after the header's end; its extent runs to the file's end.
-fn read_resource(c: Cursor, file: &[u8], headerEnd: FilePlace, end: FilePlace) -> Referred
+fn read_resource(c: Cursor, file: &[u8], headerEnd: FilePlace, end: FilePlace) -> ReferenceResult
     requires { ⌜ end .0 ≤ length (now file) ⌝ }
     ensures { λ r. ⌜ referenceTold r ≡ run (resource (headerEnd .0) (length (now (file .entry))) (end .0)) (now (file .entry)) (c .at .0) ⌝ }
 {
     let place = c.at;
     match c.number(file, end, cursor::CUT_SHORT) {
-        Numbered::Refused(n, p) => Referred::Refused(n, p),
+        Numbered::Refused(n, p) => ReferenceResult::Refused(n, p),
         Numbered::Is(offset, d) => {
             let size = file.len();
             if (offset as usize) < headerEnd.0 {
-                return Referred::Refused(cursor::BAD_TARGET, place);
+                return ReferenceResult::Refused(cursor::BAD_TARGET, place);
             }
             if size < offset as usize {
-                return Referred::Refused(cursor::BAD_TARGET, place);
+                return ReferenceResult::Refused(cursor::BAD_TARGET, place);
             }
             let is = Reference {
                 kind: 2,
                 target: offset,
                 extent: (size - offset as usize) as u64,
             };
-            Referred::Is(is, d)
+            ReferenceResult::Is(is, d)
         }
     }
 }
 
 // Reference 3: the place of a node's first byte.
-fn read_node_place(c: Cursor, file: &[u8], end: FilePlace) -> Referred
+fn read_node_place(c: Cursor, file: &[u8], end: FilePlace) -> ReferenceResult
     requires { ⌜ end .0 ≤ length (now file) ⌝ }
     ensures { λ r. ⌜ referenceTold r ≡ run (nodePlace (end .0)) (now (file .entry)) (c .at .0) ⌝ }
 {
     match c.number(file, end, cursor::CUT_SHORT) {
-        Numbered::Refused(n, p) => Referred::Refused(n, p),
+        Numbered::Refused(n, p) => ReferenceResult::Refused(n, p),
         Numbered::Is(offset, d) => {
             let is = Reference {
                 kind: 3,
                 target: offset,
                 extent: 0,
             };
-            Referred::Is(is, d)
+            ReferenceResult::Is(is, d)
         }
     }
 }
 
 // Reference 4: an XString with a URI.
-fn read_uri(c: Cursor, file: &[u8], end: FilePlace) -> Referred
+fn read_uri(c: Cursor, file: &[u8], end: FilePlace) -> ReferenceResult
     requires { ⌜ Readable (end .0) (now file) ⌝ }
     ensures { λ r. ⌜ referenceTold r ≡ run (uriPlace (end .0)) (now (file .entry)) (c .at .0) ⌝ }
 {
     match c.block(file, end, cursor::CUT_SHORT) {
-        Numbered::Refused(n, p) => Referred::Refused(n, p),
+        Numbered::Refused(n, p) => ReferenceResult::Refused(n, p),
         Numbered::Is(size, d) => {
             let place = d.at;
             let is = Reference {
@@ -361,13 +361,19 @@ fn read_uri(c: Cursor, file: &[u8], end: FilePlace) -> Referred
                 target: place.0 as u64,
                 extent: size,
             };
-            Referred::Is(is, d.on(size))
+            ReferenceResult::Is(is, d.on(size))
         }
     }
 }
 
 // What a reference other than 1 leads to, in a node that ends at `end`.
-fn read_target(c: Cursor, file: &[u8], headerEnd: FilePlace, kind: u64, end: FilePlace) -> Referred
+fn read_target(
+    c: Cursor,
+    file: &[u8],
+    headerEnd: FilePlace,
+    kind: u64,
+    end: FilePlace,
+) -> ReferenceResult
     requires { ⌜ Readable (end .0) (now file) × (1 < kind) ⌝ }
     ensures { λ r. ⌜ referenceTold r ≡ run (target (headerEnd .0) (length (now (file .entry))) kind (end .0)) (now (file .entry)) (c .at .0) ⌝ }
 {
@@ -387,13 +393,13 @@ fn read_reference(
     headerEnd: FilePlace,
     contained: u64,
     end: FilePlace,
-) -> Referred
+) -> ReferenceResult
     requires { ⌜ Readable (end .0) (now file) ⌝ }
     ensures { λ r. ⌜ referenceTold r ≡ run (reference (headerEnd .0) (length (now (file .entry))) contained (end .0)) (now (file .entry)) (c .at .0) ⌝ }
 {
     let place = c.at;
     match c.number(file, end, cursor::CUT_SHORT) {
-        Numbered::Refused(n, p) => Referred::Refused(n, p),
+        Numbered::Refused(n, p) => ReferenceResult::Refused(n, p),
         Numbered::Is(kind, d) => {
             // Most nodes use reference 1, so it is asked for first: the contents follow, to the node's end.
             if kind == 1 {
@@ -404,16 +410,16 @@ fn read_reference(
                     target: here.0 as u64,
                     extent: extent as u64,
                 };
-                return Referred::Is(is, d);
+                return ReferenceResult::Is(is, d);
             }
             if kind == 0 {
-                return Referred::Refused(cursor::BAD_REFERENCE, place);
+                return ReferenceResult::Refused(cursor::BAD_REFERENCE, place);
             }
             if 4 < kind {
-                return Referred::Refused(cursor::BAD_REFERENCE, place);
+                return ReferenceResult::Refused(cursor::BAD_REFERENCE, place);
             }
             if contained != 0 {
-                return Referred::Refused(cursor::BAD_FOLDER, place);
+                return ReferenceResult::Refused(cursor::BAD_FOLDER, place);
             }
             read_target(d, file, headerEnd, kind, end)
         }
@@ -428,20 +434,20 @@ fn read_rest(
     contained: u64,
     inner: FilePlace,
     stop: FilePlace,
-) -> Rested
+) -> RestResult
     requires { ⌜ Readable (inner .0) (now file) × Readable (stop .0) (now file) ⌝ }
     ensures { λ r. ⌜ restTold r ≡ run (rest (headerEnd .0) (length (now (file .entry))) contained (inner .0) (stop .0)) (now (file .entry)) (c .at .0) ⌝ }
 {
     match read_unpackers(c, file, contained, inner) {
-        Unpacked::Refused(n, p) => Rested::Refused(n, p),
+        Unpacked::Refused(n, p) => RestResult::Refused(n, p),
         Unpacked::Is(u, d) => {
             let place = d.at;
             if place.0 < inner.0 {
-                return Rested::Refused(cursor::BYTES_LEFT, place);
+                return RestResult::Refused(cursor::BYTES_LEFT, place);
             }
             match read_reference(d, file, headerEnd, contained, stop) {
-                Referred::Refused(n, p) => Rested::Refused(n, p),
-                Referred::Is(r, e) => Rested::Is(u, r, e),
+                ReferenceResult::Refused(n, p) => RestResult::Refused(n, p),
+                ReferenceResult::Is(r, e) => RestResult::Is(u, r, e),
             }
         }
     }
@@ -489,15 +495,15 @@ pub fn read_front(
     scope: Scope,
     parent: usize,
     depth: usize,
-    s: Standing,
+    s: Bounds,
     made: Made,
-) -> Fronted
+) -> FrontResult
     requires { ⌜ Room scope (now file) (now types) (now items) (s .end .0) made ⌝ }
     ensures { λ r. ⌜ ((t : List ℕ) → Fronts (scope .limits) r t (now (items .exit)) (exec put (front (contextOf scope (now (types .entry)) (length (now (file .entry)))) parent depth s made) (now (file .entry)) (c .at .0) (state t (now (items .entry)) made))) ⌝ }
 {
     let start = c.at;
     match read_head(c, file, s) {
-        Headed::Refused(n, p) => Fronted::Refused(n, p),
+        Headed::Refused(n, p) => FrontResult::Refused(n, p),
         Headed::Is(h, d) => {
             let inner = start.of(h.header);
             match metadata::read_metadata(
@@ -510,13 +516,13 @@ pub fn read_front(
                 inner,
                 made.items,
             ) {
-                Rowed::Refused(n, p) => Fronted::Refused(n, p),
-                Rowed::Done(rows, e) => {
+                RowsResult::Refused(n, p) => FrontResult::Refused(n, p),
+                RowsResult::Done(rows, e) => {
                     let stop = start.of(h.size);
                     let headerEnd = scope.headerEnd;
                     match read_rest(e, file, headerEnd, h.contained, inner, stop) {
-                        Rested::Refused(n, p) => Fronted::Refused(n, p),
-                        Rested::Is(u, r, g) => {
+                        RestResult::Refused(n, p) => FrontResult::Refused(n, p),
+                        RestResult::Is(u, r, g) => {
                             let row = row_of(
                                 start,
                                 h,
@@ -532,7 +538,7 @@ pub fn read_front(
                                 items: rows,
                             };
                             let is = Front { row, made: m };
-                            Fronted::Is(is, g)
+                            FrontResult::Is(is, g)
                         }
                     }
                 }

@@ -16,7 +16,7 @@ use Rattle.header.specs.Header.{Header, header}
 use Rattle.metadata.specs.declared.Limits.{Limits}
 use Rattle.metadata.specs.declared.Made.{Made}
 use Rattle.tree.specs.Rows.{nodeAt}
-use Rattle.tree.specs.Reading.{nodeOf, nodesOf, itemsOf, good, rows, logged, lost, reach, follow, reading, readTree, readFile}
+use Rattle.tree.specs.Reading.{nodeOf, nodesOf, itemsOf, good, rows, logged, isMissing, followRow, follow, reading, readTree, readFile}
 use Rattle.tree.proofs.Follow.{target, treeOf, Reached, known, added, followed}
 use Rattle.title.specs.Description.{shape}
 use Rattle.title.specs.Title.{elsewhere}
@@ -64,8 +64,8 @@ stay-elsewhere f (r ∷ ns) s = neither (eqb (r .reference) 2) (eqb (r .referenc
 -- ---- then nothing is followed
 
 module _ (lim : Limits) (f : List ℕ) (h : Header) (log : Events) (here : elsewhere (nodesOf log) ≡ false) where
-  reach-none : (i : ℕ) → i < length (nodesOf log) → reach lim f h log (nodeAt (nodesOf log) i) ≡ good log
-  unfolding reach lost
+  reach-none : (i : ℕ) → i < length (nodesOf log) → followRow lim f h log (nodeAt (nodesOf log) i) ≡ good log
+  unfolding followRow isMissing
   reach-none i l = rw (elsewhere-at (nodesOf log) i here l) refl
 
   pub follow-none : (k i : ℕ) → follow k lim f h i (good log) ≡ good log
@@ -73,8 +73,8 @@ module _ (lim : Limits) (f : List ℕ) (h : Header) (log : Events) (here : elsew
   follow-none zero i = refl
   follow-none (suc k) i = by (ltb i (length (nodesOf log))) refl (λ l. ap (follow k lim f h (i + 1)) (reach-none i l) ∙ follow-none k (i + 1))
     where
-      by : (b : Bool) → ltb i (length (nodesOf log)) ≡ b → (i < length (nodesOf log) → follow k lim f h (i + 1) (reach lim f h log (nodeAt (nodesOf log) i)) ≡ good log)
-          → (cond b (follow k lim f h (i + 1) (reach lim f h log (nodeAt (nodesOf log) i))) (good log)) ≡ good log
+      by : (b : Bool) → ltb i (length (nodesOf log)) ≡ b → (i < length (nodesOf log) → follow k lim f h (i + 1) (followRow lim f h log (nodeAt (nodesOf log) i)) ≡ good log)
+          → (cond b (follow k lim f h (i + 1) (followRow lim f h log (nodeAt (nodesOf log) i))) (good log)) ≡ good log
       by true e r = r (ltb-true _ _ e)
       by false e r = refl
 

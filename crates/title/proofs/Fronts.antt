@@ -22,7 +22,7 @@ use Rattle.metadata.specs.declared.Limits.{Limits}
 use Rattle.metadata.specs.declared.Made.{Made}
 use Rattle.node.specs.Node as node
 use Rattle.node.specs.Node.{inTree, uriPlace, target, reference, rest, front}
-use Rattle.node.specs.declared.Standing.{Standing}
+use Rattle.node.specs.declared.Bounds.{Bounds}
 use Rattle.node.specs.declared.Head as head
 use Rattle.node.specs.declared.Unpackers as unpackers
 use Rattle.node.specs.declared.Reference as reference
@@ -109,7 +109,7 @@ pub record Front (limits : Limits) (types : List Declared) (parent depth : ℕ) 
 
 -- ---- up to the reference
 
-exec-head : (g : List ℕ) (s : Standing) (f : List ℕ) (at : ℕ) (σ : Collected) → exec (collect g) (node.head s) f at σ ≡ still (run (node.head s) f at) σ
+exec-head : (g : List ℕ) (s : Bounds) (f : List ℕ) (at : ℕ) (σ : Collected) → exec (collect g) (node.head s) f at σ ≡ still (run (node.head s) f at) σ
 exec-head g s = head-quiet (collect-ignores _ g) s .quiet
 
 exec-rest : (g : List ℕ) (headerEnd size contained inner stop : ℕ) (f : List ℕ) (at : ℕ) (σ : Collected) → exec (collect g)

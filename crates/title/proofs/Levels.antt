@@ -24,7 +24,7 @@ use Rattle.metadata.specs.declared.Made.{Made}
 use Rattle.metadata.proofs.Ends.{Nothing, inside-free}
 use Rattle.node.specs.Node.{inTree, front}
 use Rattle.node.specs.declared.Front as front
-use Rattle.node.specs.declared.Standing.{Standing}
+use Rattle.node.specs.declared.Bounds.{Bounds}
 use Rattle.node.proofs.Uses.{front-uses}
 use Rattle.node.proofs.Ends.{FrontIn, front-on, inline-fits}
 use Rattle.tree.specs.Tree as tree
@@ -341,7 +341,7 @@ module _ (f : List ℕ) (x : Context) (end : ℕ) where
 
 module _ (f : List ℕ) (big : length f < 2 ^ 28) (x : Context) where
   -- the front of a node, from `at` to q
-  abbrev FrontLevel : (parent depth : ℕ) → Standing → Made → Raw → ℕ → front.Front → ℕ → Raw → Type 0
+  abbrev FrontLevel : (parent depth : ℕ) → Bounds → Made → Raw → ℕ → front.Front → ℕ → Raw → Type 0
   FrontLevel parent depth z m σ at w q τ =
       (cs : List Content) × Front (x .limits) (x .types) parent depth m (shape f (w .row)) cs × (w .made ≡ plusItems (length cs) m) ×
       (τ .nodes ≡ σ .nodes) × (τ .items ≡ σ .items ++ cs)

@@ -24,7 +24,7 @@ use Rattle.metadata.specs.declared.Limits.{Limits}
 use Rattle.metadata.specs.declared.Made.{Made}
 use Rattle.node.specs.Node as node
 use Rattle.node.specs.Node.{inTree, headerLength, head, resource, nodePlace, uriPlace, target, reference, Rest, rest, front}
-use Rattle.node.specs.declared.Standing.{Standing}
+use Rattle.node.specs.declared.Bounds.{Bounds}
 use Rattle.node.specs.declared.Head as head
 use Rattle.node.specs.declared.Unpackers as unpackers
 use Rattle.node.specs.declared.Reference as reference
@@ -129,7 +129,7 @@ rest-post f headerEnd size contained inner stop at o =
 
 -- ---- the three numbers
 
-head-few : (s : Standing) (at : ℕ) → Wp Any (head s) (λ h q. h .contained < 2 ^ 28) at
+head-few : (s : Bounds) (at : ℕ) → Wp Any (head s) (λ h q. h .contained < 2 ^ 28) at
 unfolding head headerLength
 head-few s at =
     wp-place _ at
@@ -141,7 +141,7 @@ head-few s at =
 abbrev HeadIn : List ℕ → ℕ → head.Head → ℕ → Type 0
 HeadIn f at h q = (a : ℕ) × (b : ℕ) × Number f at (h .size .0) a × Covers f a (vlq (h .contained)) b × Number f b (h .header .0) q
 
-head-in : (f : List ℕ) (s : Standing) (at : ℕ) → Post nothing f (head s) (Holds (HeadIn f at)) at tt
+head-in : (f : List ℕ) (s : Bounds) (at : ℕ) → Post nothing f (head s) (Holds (HeadIn f at)) at tt
 unfolding head headerLength
 head-in f s at =
     post-place _ at

@@ -16,7 +16,7 @@ use Rattle.node.specs.Node as node
 use Rattle.node.specs.Node.{headerLength, value, identifier, unpacker, entries, unpackers, resource, nodePlace, uriPlace, target, reference}
 use Rattle.tree.specs.Tree as tree
 use Rattle.tree.specs.Tree.{folder}
-use Rattle.tree.specs.Reading.{logged, startsAt, offsetAt, lost, outside, partEnd, takenFrom, detachedAt, reach, follow, reading, readTree, readFile}
+use Rattle.tree.specs.Reading.{logged, startsAt, offsetAt, isMissing, outside, partEnd, firstTaken, detachedAt, followRow, follow, reading, readTree, readFile}
 use Rattle.tree.specs.Asking.{Result, good, bad, ask}
 use Rattle.tree.specs.Hidden.{isHidden}
 use Rattle.title.specs.Description as described
@@ -106,7 +106,7 @@ cases : (corrected 59 0 hello worked ≡ good greeting)
 unfolding corrected run trace rowsOf _>>=_ _>>_ if_then_else_ place skip check turns many times next digits number block manufacturer guid formatOf
     four edition fileLength entry typesTable extent header head.opening field contents itemFrame universal declaredFormat version rowsFor item
     nextItem metaItems metadata headerLength node.head value identifier unpacker entries unpackers resource nodePlace uriPlace target reference
-    node.rest node.front folder tree.node tree.tree tree.detached logged startsAt offsetAt lost outside partEnd takenFrom detachedAt reach follow
+    node.rest node.front folder tree.node tree.tree tree.detached logged startsAt offsetAt isMissing outside partEnd firstTaken detachedAt followRow follow
     reading readTree readFile ask isHidden vlq.inBytes vlq.from vlq.least vlq.vlq vlq.sized described.content described.copied
     described.identifierText described.unpackerText described.entryText described.tableText described.shape described.described described.titled
     described.titledAt described.retitled text.further text.fieldText text.itemText text.universalText text.versionText text.contentText

@@ -30,7 +30,7 @@ use Rattle.metadata.specs.declared.Made.{Made}
 use Rattle.metadata.proofs.Ends.{Nothing, Given, Inside}
 use Rattle.node.specs.Node.{headerLength, head, front, outsideTree}
 use Rattle.tree.specs.Tree.{tree, node, detached}
-use Rattle.tree.specs.Reading.{nodeOf, nodesOf, itemsOf, Result, good, bad, rows, madeBy, logged, lost, offsetAt, outside, partEnd, takenFrom, detachedAt, reach, follow, logFrom, reading, context, readTree, readFile}
+use Rattle.tree.specs.Reading.{nodeOf, nodesOf, itemsOf, Result, good, bad, rows, madeBy, logged, isMissing, offsetAt, outside, partEnd, firstTaken, detachedAt, followRow, follow, logFrom, reading, context, readTree, readFile}
 use Rattle.tree.specs.Rows.{nodeAt, itemAt}
 use Rattle.tree.specs.Hidden.{mayDiffer, HiddenData, InlineData, InDetached, InParts, Private, DifferInPrivate, DifferInHidden}
 use Rattle.tree.proofs.Ends.{tree-ends, detached-ends}
@@ -70,8 +70,8 @@ module _ (free : Part → Bool) (lim : Limits) (f g : List ℕ) (l : length f �
       )
 
   -- where row r leads in the one, it leads in the other
-  reach-same : (log : Events) (r : Node) {log′ : Events} → Kept free f g log′ → Reached lim f h log r log′ → reach lim g h log r ≡ good log′
-  unfolding reach detachedAt logged
+  reach-same : (log : Events) (r : Node) {log′ : Events} → Kept free f g log′ → Reached lim f h log r log′ → followRow lim g h log r ≡ good log′
+  unfolding followRow detachedAt logged
   reach-same log r keep (known x y) = rw x (ap good (sym y))
   reach-same log r {log′} keep (added s y) =
       let m = target lim f h log r in
@@ -79,7 +79,7 @@ module _ (free : Part → Bool) (lim : Limits) (f g : List ℕ) (l : length f �
       let keeps : Kept free f g es = held-parts free _ log es (subst (Kept free f g) y keep) .1 in
       let (a, b) = stable free m f g (r .target) keeps in
       let n = detached-near (context lim h (length f)) (partEnd h (length f) (r .target))
-      (takenFrom (nodesOf log) (r .target) (partEnd h (length f) (r .target))) (offsetAt f r) (offsetAt g r) (madeBy log) in
+      (firstTaken (nodesOf log) (r .target) (partEnd h (length f) (r .target))) (offsetAt f r) (offsetAt g r) (madeBy log) in
       let (c, d) = near-run n g (r .target) (sym a ∙ s .runs) in
       rw (s .is-lost, ← l, s .is-outside, c, d, ← b) (ap good (sym y))
 
@@ -92,8 +92,8 @@ module _ (free : Part → Bool) (lim : Limits) (f g : List ℕ) (l : length f �
       r : Node
       r = nodeAt (nodesOf log) i
 
-      on : (o : Result Events) → reach lim f h log r ≡ o → ((o : Result Events) → follow k lim f h (i + 1) o ≡ good log′ → follow k lim g h (i + 1) o ≡ good log′)
-          → follow k lim f h (i + 1) o ≡ good log′ → follow k lim g h (i + 1) (reach lim g h log r) ≡ good log′
+      on : (o : Result Events) → followRow lim f h log r ≡ o → ((o : Result Events) → follow k lim f h (i + 1) o ≡ good log′ → follow k lim g h (i + 1) o ≡ good log′)
+          → follow k lim f h (i + 1) o ≡ good log′ → follow k lim g h (i + 1) (followRow lim g h log r) ≡ good log′
       on (good log₁) q rest z =
           let (after, w) = begins log₁ k (i + 1) z in
           let keeps : Kept free f g log₁ = held-parts free _ log₁ after (subst (Kept free f g) w keep) .0 in
@@ -101,8 +101,8 @@ module _ (free : Part → Bool) (lim : Limits) (f g : List ℕ) (l : length f �
       on (bad n p) q rest z = absurd (stops lim f k (i + 1) h n p z)
 
       by : (b : Bool) → ((o : Result Events) → follow k lim f h (i + 1) o ≡ good log′ → follow k lim g h (i + 1) o ≡ good log′)
-          → (cond b (follow k lim f h (i + 1) (reach lim f h log r)) (good log)) ≡ good log′ → (cond b (follow k lim g h (i + 1) (reach lim g h log r)) (good log)) ≡ good log′
-      by true rest z = on (reach lim f h log r) refl rest z
+          → (cond b (follow k lim f h (i + 1) (followRow lim f h log r)) (good log)) ≡ good log′ → (cond b (follow k lim g h (i + 1) (followRow lim g h log r)) (good log)) ≡ good log′
+      by true rest z = on (followRow lim f h log r) refl rest z
       by false rest z = z
 
 -- ---- what two files have in common that agree on what was read but for what is free in the one
@@ -200,14 +200,14 @@ taken-after (r ∷ ns) at k h (inl x) = omega arith
 taken-after (r ∷ ns) at k h (inr y) = taken-after ns at k (h .1) y
 
 -- none before the first
-from-taken : (ns : List Node) (p end k : ℕ) → p ≤ k → Taken ns k → takenFrom ns p end ≤ k
-unfolding takenFrom
+from-taken : (ns : List Node) (p end k : ℕ) → p ≤ k → Taken ns k → firstTaken ns p end ≤ k
+unfolding firstTaken
 from-taken (r ∷ ns) p end k l (inl x) =
     let b : (eqb (r .detached) 1 && ltb p (r .start + r .size)) ≡ true = ap₂ _&&_ (eq-eqb _ _ (x .0)) (lt-ltb p (r .start + r .size) (omega arith)) in
     rw b (omega arith)
 from-taken (r ∷ ns) p end k l (inr y) = let z = from-taken ns p end k l y in by (eqb (r .detached) 1 && ltb p (r .start + r .size)) z
   where
-    by : (b : Bool) → takenFrom ns p end ≤ k → (cond b (min (max p (r .start)) (takenFrom ns p end)) (takenFrom ns p end)) ≤ k
+    by : (b : Bool) → firstTaken ns p end ≤ k → (cond b (min (max p (r .start)) (firstTaken ns p end)) (firstTaken ns p end)) ≤ k
     by true z = omega arith
     by false z = z
 
@@ -240,7 +240,7 @@ module _ (lim : Limits) (f : List ℕ) (h : Header) where
 
   -- a node at p in the part of p, which ends before what is taken, meets nothing
   pub meets-none : (ns : List Node) (p q k : ℕ) → (p < h .extent .start) ⊎ (h .extent .last < p) → (p < h .extent .start → partEnd h (length f) p ≡ h .extent .start)
-      → q ≤ partEnd h (length f) p → q ≤ takenFrom ns p (partEnd h (length f) p) → Within ns k → p ≤ k → k < q → ⊥
+      → q ≤ partEnd h (length f) p → q ≤ firstTaken ns p (partEnd h (length f) p) → Within ns k → p ≤ k → k < q → ⊥
   meets-none ns p q k (inl a) b c d (inl w) l m = let e = b a in omega arith
   meets-none ns p q k (inr a) b c d (inl w) l m = omega arith
   meets-none ns p q k o b c d (inr w) l m = let e = from-taken ns p (partEnd h (length f) p) k l w in omega arith

@@ -19,7 +19,7 @@ use Rattle.metadata.specs.Tables.{plusNode}
 use Rattle.metadata.specs.declared.Limits.{Limits}
 use Rattle.metadata.specs.declared.Made.{Made}
 use Rattle.node.specs.Node.{inTree, front}
-use Rattle.node.specs.declared.Standing.{Standing}
+use Rattle.node.specs.declared.Bounds.{Bounds}
 use Rattle.node.specs.declared.Front.{Front}
 use Rattle.node.proofs.Order.{front-orders}
 use Rattle.tree.specs.Tree.{folder, node, tree, detached}
@@ -32,7 +32,7 @@ none [] e = refl
 none (r ∷ ns) e = absurd (omega arith)
 
 -- a front makes no node row
-front-rowless : (x : Context) (parent depth : ℕ) (s : Standing) (m : Made) (f : List ℕ) (at : ℕ) {w : Front} {q : ℕ} → run (front x parent depth s m) f at ≡ ok w q
+front-rowless : (x : Context) (parent depth : ℕ) (s : Bounds) (m : Made) (f : List ℕ) (at : ℕ) {w : Front} {q : ℕ} → run (front x parent depth s m) f at ≡ ok w q
     → nodesOf (trace (front x parent depth s m) f at) ≡ []
 front-rowless x parent depth s m f at e =
     let es = trace (front x parent depth s m) f at in
@@ -46,7 +46,7 @@ unfolding run
 too-deep f at e = let z : _≡_ {A = ℕ} 0 1 = cc in absurd (omega arith)
 
 -- the front of a node, and its row
-abbrev pub ownEvents : Context → (parent depth : ℕ) → Standing → Made → List ℕ → (at : ℕ) → Node → (q : ℕ) → Events
+abbrev pub ownEvents : Context → (parent depth : ℕ) → Bounds → Made → List ℕ → (at : ℕ) → Node → (q : ℕ) → Events
 ownEvents x parent depth s m f at r q = trace (front x parent depth s m) f at ++ (passed (nodeRow r) q (inlineSize r) ∷ [])
 
 -- ---- what holds of each node's own events, and of events one after the other, holds of the whole log
@@ -82,12 +82,12 @@ module _ (I : Events → Type 0) (nil : I []) (join : (es fs : Events) → I es 
 
   -- it holds of a node's own events, where what follows was accepted
   abbrev pub OfRow : Type 0
-  OfRow = (x : Context) (parent depth : ℕ) (s : Standing) (m : Made) (at : ℕ) (w : Front) (q : ℕ) → run (front x parent depth s m) f at ≡ ok w q
+  OfRow = (x : Context) (parent depth : ℕ) (s : Bounds) (m : Made) (at : ℕ) (w : Front) (q : ℕ) → run (front x parent depth s m) f at ≡ ok w q
       → (body : Made → P Made) (b : Made) (v : ℕ) → run (folder (at + w .row .size) (times (w .row .contained) body (plusNode (w .made)))) f (q + inlineSize (w .row)) ≡ ok b v
       → I (ownEvents x parent depth s m f at (w .row) q)
 
   module _ (own : OfRow) where
-    front-then : (x : Context) (parent depth : ℕ) (s : Standing) (m : Made) (at : ℕ) (body : Front → Made → P Made) →
+    front-then : (x : Context) (parent depth : ℕ) (s : Bounds) (m : Made) (at : ℕ) (body : Front → Made → P Made) →
         ((w : Front) (q : ℕ) → Adds (folder (at + w .row .size) (times (w .row .contained) (body w) (plusNode (w .made)))) q)
         → Adds (front x parent depth s m >>= λ w.
         (skip (nodeRow (w .row)) (inlineSize (w .row)) >> folder (at + w .row .size) (times (w .row .contained) (body w) (plusNode (w .made))))) at
@@ -102,7 +102,7 @@ module _ (I : Events → Type 0) (nil : I []) (join : (es fs : Events) → I es 
           (join (ownEvents x parent depth s m f at (y .a .row) (y .p)) rest o (h (y .a) (y .p + inlineSize (y .a .row)) .adds (y .second)));
     }
 
-    node-adds : (d : ℕ) (x : Context) (parent : ℕ) (s : Standing) (m : Made) (at : ℕ) → Adds (node d x parent s m) at
+    node-adds : (d : ℕ) (x : Context) (parent : ℕ) (s : Bounds) (m : Made) (at : ℕ) → Adds (node d x parent s m) at
     unfolding node
     node-adds zero x parent s m at = record { adds = λ e. too-deep f at e }
     node-adds (suc d) x parent s m at =
@@ -126,7 +126,7 @@ module _ (I : Events → Type 0) (nil : I []) (join : (es fs : Events) → I es 
           same e = cc
 
 -- a node's own events have its row alone
-pub own-row : (x : Context) (parent depth : ℕ) (s : Standing) (m : Made) (f : List ℕ) (at : ℕ) {w : Front} {q : ℕ} → run (front x parent depth s m) f at ≡ ok w q
+pub own-row : (x : Context) (parent depth : ℕ) (s : Bounds) (m : Made) (f : List ℕ) (at : ℕ) {w : Front} {q : ℕ} → run (front x parent depth s m) f at ≡ ok w q
     → nodesOf (ownEvents x parent depth s m f at (w .row) q) ≡ w .row ∷ []
 unfolding rowsOf
 own-row x parent depth s m f at {w} {q} e =

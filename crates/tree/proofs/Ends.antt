@@ -13,7 +13,7 @@ use Rattle.metadata.specs.Metadata.{Context}
 use Rattle.metadata.specs.declared.Made.{Made}
 use Rattle.metadata.proofs.Ends.{OfNames, Nothing, Given, inside-free, Inside}
 use Rattle.node.specs.Node.{inTree, outsideTree}
-use Rattle.node.specs.declared.Standing.{Standing}
+use Rattle.node.specs.declared.Bounds.{Bounds}
 use Rattle.node.specs.declared.Front.{Front}
 use Rattle.node.proofs.Ends.{FrontIn, front-on, inline-at, inline-fits}
 use Rattle.tree.specs.Tree.{folder, node, tree, detached}
@@ -24,7 +24,7 @@ module _ (N : OfNames) (top size : ℕ) where
   folder-fills {end = end} w = wp-after w λ m q h. wp-place _ q (wp-check _ _ λ t. wp-ret (omega (arith, leb-true end q t)))
 
 -- a node's row, and what it holds, which fills it
-pub contained-fills : (N : OfNames) (top d : ℕ) (x : Context) (s : Standing) (m : Made) (at : ℕ) (w : Front) (q : ℕ) → s .end .0 ≤ top → FrontIn x s m at w q
+pub contained-fills : (N : OfNames) (top d : ℕ) (x : Context) (s : Bounds) (m : Made) (at : ℕ) (w : Front) (q : ℕ) → s .end .0 ≤ top → FrontIn x s m at w q
     → ((t : Made) (p : ℕ) → p ≤ at + w .row .size → Wp (Inside N top (x .size)) (node d x (m .nodes) (inTree 0 (at + w .row .size)) t) (λ _ v. (p ≤ v) × (v ≤ at + w .row .size)) p)
     → Wp (Inside N top (x .size)) (skip (nodeRow (w .row)) (inlineSize (w .row)) >> folder (at + w .row .size)
     (times (w .row .contained) (node d x (m .nodes) (inTree 0 (at + w .row .size))) (plusNode (w .made)))) (λ _ v. v ≡ at + w .row .size) q
@@ -35,7 +35,7 @@ contained-fills N top d x s m at w q o y children =
     (wp-weaken (wp-times (λ _. Unit {0}) (w .row .contained) _ (λ t p l j. wp-weaken (children t p l) (λ _ v z. (tt, z .0, z .1))) tt (omega arith)) (λ _ v z. z .2)))
 
 -- a node moves on, and ends in the part that holds it
-pub node-on : (N : OfNames) (top d : ℕ) (x : Context) (parent : ℕ) (s : Standing) (m : Made) (at : ℕ) → s .end .0 ≤ top → s .end .0 ≤ x .size
+pub node-on : (N : OfNames) (top d : ℕ) (x : Context) (parent : ℕ) (s : Bounds) (m : Made) (at : ℕ) → s .end .0 ≤ top → s .end .0 ≤ x .size
     → Wp (Inside N top (x .size)) (node d x parent s m) (λ _ q. (at < q) × (q ≤ s .end .0) × (s .least .0 ≤ q) × (q ≤ s .taken .0)) at
 unfolding node
 node-on N top zero x parent s m at o i = wp-here wp-refuse

@@ -25,7 +25,7 @@ use Rattle.metadata.specs.declared.Limits.{Limits}
 use Rattle.metadata.specs.declared.Made.{Made}
 use Rattle.metadata.proofs.Limited.{room, Less}
 use Rattle.tree.specs.Rows.{nodeAt}
-use Rattle.tree.specs.Reading.{nodeOf, itemOf, nodesOf, itemsOf, Result, good, bad, rows, refusal, logged, lost, outside, offsetAt, reach, follow, reading, readTree, readFile}
+use Rattle.tree.specs.Reading.{nodeOf, itemOf, nodesOf, itemsOf, Result, good, bad, rows, refusal, logged, isMissing, outside, offsetAt, followRow, follow, reading, readTree, readFile}
 use Rattle.tree.specs.Steps.{reachSteps, followSteps, treeSteps, steps}
 use Rattle.tree.proofs.Follow.{treeOf, target, Reached, known, added, reached, ReadAs, read-back, stops}
 use Rattle.tree.proofs.Limited.{Fits, count-nodes, count-items, nodes-on, items-on, rowsIn, tree-limited, target-limited, tree-fits, more-fits}
@@ -61,11 +61,11 @@ not-good e = let z : _≡_ {A = ℕ} 0 1 = cc in absurd (omega arith)
 
 module _ (lim : Limits) (f : List ℕ) (h : Header) where
   -- what a row adds to the log is its steps
-  reach-steps : (log log′ : Events) (r : Node) → reach lim f h log r ≡ good log′ → log′ ≡ log ++ reachSteps lim f h log r
+  reach-steps : (log log′ : Events) (r : Node) → followRow lim f h log r ≡ good log′ → log′ ≡ log ++ reachSteps lim f h log r
   unfolding reachSteps
   reach-steps log log′ r e = by (reached lim f h log r e)
     where
-      by : Reached lim f h log r log′ → log′ ≡ log ++ cond (lost (nodesOf log) r && outside h (length f) (r .target)) (trace (target lim f h log r) f (r .target)) []
+      by : Reached lim f h log r log′ → log′ ≡ log ++ cond (isMissing (nodesOf log) r && outside h (length f) (r .target)) (trace (target lim f h log r) f (r .target)) []
       by (known x y) = rw x (y ∙ sym (append-nil log))
       by (added s y) = rw (s .is-lost, s .is-outside) y
 
@@ -77,16 +77,16 @@ module _ (lim : Limits) (f : List ℕ) (h : Header) where
       r : Node
       r = nodeAt (nodesOf log) i
 
-      next : (o : Result Events) → reach lim f h log r ≡ o → follow k lim f h (i + 1) o ≡ good log′
+      next : (o : Result Events) → followRow lim f h log r ≡ o → follow k lim f h (i + 1) o ≡ good log′
           → ((log₁ : Events) → follow k lim f h (i + 1) (good log₁) ≡ good log′ → log′ ≡ log₁ ++ followSteps k lim f h (i + 1) (good log₁))
           → log′ ≡ log ++ (reachSteps lim f h log r ++ followSteps k lim f h (i + 1) o)
       next (bad n p) x z rest = absurd (stops lim f k (i + 1) h n p z)
       next (good log₁) x z rest = rest log₁ z ∙ ap (λ v. v ++ followSteps k lim f h (i + 1) (good log₁)) (reach-steps log log₁ r x) ∙ append-assoc log _ _
 
-      by : (s : Bool) → (cond s (follow k lim f h (i + 1) (reach lim f h log r)) (good log)) ≡ good log′
+      by : (s : Bool) → (cond s (follow k lim f h (i + 1) (followRow lim f h log r)) (good log)) ≡ good log′
           → ((log₁ : Events) → follow k lim f h (i + 1) (good log₁) ≡ good log′ → log′ ≡ log₁ ++ followSteps k lim f h (i + 1) (good log₁))
-          → log′ ≡ log ++ cond s (reachSteps lim f h log r ++ followSteps k lim f h (i + 1) (reach lim f h log r)) []
-      by true z rest = next (reach lim f h log r) refl z rest
+          → log′ ≡ log ++ cond s (reachSteps lim f h log r ++ followSteps k lim f h (i + 1) (followRow lim f h log r)) []
+      by true z rest = next (followRow lim f h log r) refl z rest
       by false z rest = sym (same-good z) ∙ sym (append-nil log)
 
 no-rows : (es : Events) → Only (passing NoRow) es → (nodesOf es ≡ []) × (itemsOf es ≡ [])
@@ -142,10 +142,10 @@ no-row limited.node = refl
 no-row item = refl
 
 module _ {lim most : Limits} (less : Less lim most) (f : List ℕ) (h : Header) where
-  reach-either : (log : Events) (r : Node) → Fits lim log → OrFull lim log (reach lim f h log r) (reach most f h log r) (reachSteps lim f h log r) (reachSteps most f h log r)
-  unfolding reach reachSteps
+  reach-either : (log : Events) (r : Node) → Fits lim log → OrFull lim log (followRow lim f h log r) (followRow most f h log r) (reachSteps lim f h log r) (reachSteps most f h log r)
+  unfolding followRow reachSteps
   reach-either log r l =
-      by (lost (nodesOf log) r) (outside h (length f) (r .target)) (logged-either lim log (λ κ. refl) _ _ _ _ (limited-either (target-limited less f h log r l) f (r .target)))
+      by (isMissing (nodesOf log) r) (outside h (length f) (r .target)) (logged-either lim log (λ κ. refl) _ _ _ _ (limited-either (target-limited less f h log r l) f (r .target)))
     where
       by : (a b : Bool) {x y : Result Events} {es fs : Events} → OrFull lim log x y es fs
           → OrFull lim log (cond a (cond b x (bad 16 (offsetAt f r))) (good log)) (cond a (cond b y (bad 16 (offsetAt f r))) (good log)) (cond (a && b) es []) (cond (a && b) fs [])
@@ -230,7 +230,7 @@ module _ {lim most : Limits} (less : Less lim most) (f : List ℕ) (h : Header) 
   follow-either (suc k) zero i log l a b = let z = no-more lim (suc k) i log (let n = l .0 in omega arith) in inl (z .0, z .1)
   follow-either (suc k) (suc k′) i log l a b =
       by (ltb i (length (nodesOf log)))
-      (onward k k′ (i + 1) log (reach lim f h log r) (reach most f h log r) (λ log₁ e. reach-steps lim f h log log₁ r e) (reach-either log r l)
+      (onward k k′ (i + 1) log (followRow lim f h log r) (followRow most f h log r) (λ log₁ e. reach-steps lim f h log log₁ r e) (reach-either log r l)
       (λ log₁ e. follow-either k k′ (i + 1) log₁ (more-fits less f h log log₁ r l (reached lim f h log r e)) (omega arith) (omega arith)))
     where
       r : Node

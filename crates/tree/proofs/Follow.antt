@@ -18,7 +18,7 @@ use Rattle.header.specs.Header.{Header, header}
 use Rattle.metadata.specs.declared.Limits.{Limits}
 use Rattle.metadata.specs.declared.Made.{Made}
 use Rattle.tree.specs.Tree.{tree}
-use Rattle.tree.specs.Reading.{nodesOf, itemsOf, Result, good, bad, rows, refusal, logged, lost, offsetAt, outside, detachedAt, reach, follow, context, logFrom, reading, readTree, readFile}
+use Rattle.tree.specs.Reading.{nodesOf, itemsOf, Result, good, bad, rows, refusal, logged, isMissing, offsetAt, outside, detachedAt, followRow, follow, context, logFrom, reading, readTree, readFile}
 use Rattle.tree.specs.Rows.{nodeAt}
 
 no : {A B : Type 0} {n p : ℕ} {a : A} → bad n p ≡ good a → B
@@ -37,7 +37,7 @@ module _ (lim : Limits) (f : List ℕ) (h : Header) where
   pub record Step (log : Events) (r : Node) : Type 0 where
     pub made : Made
     pub after : ℕ
-    pub is-lost : lost (nodesOf log) r ≡ true
+    pub is-lost : isMissing (nodesOf log) r ≡ true
     pub is-outside : outside h (length f) (r .target) ≡ true
     pub runs : run (target log r) f (r .target) ≡ ok made after
 
@@ -53,14 +53,14 @@ module _ (lim : Limits) (f : List ℕ) (h : Header) where
   logged-good log es (refused n p) e = no e
 
   pub data Reached (log : Events) (r : Node) (log′ : Events) : Type 0 where
-    known : lost (nodesOf log) r ≡ false → log′ ≡ log → Reached log r log′
+    known : isMissing (nodesOf log) r ≡ false → log′ ≡ log → Reached log r log′
     added : Step log r → log′ ≡ stepped log r → Reached log r log′
 
-  pub reached : (log : Events) (r : Node) {log′ : Events} → reach lim f h log r ≡ good log′ → Reached log r log′
-  unfolding reach
-  reached log r {log′} e = by (lost (nodesOf log) r) (outside h (length f) (r .target)) refl refl e
+  pub reached : (log : Events) (r : Node) {log′ : Events} → followRow lim f h log r ≡ good log′ → Reached log r log′
+  unfolding followRow
+  reached log r {log′} e = by (isMissing (nodesOf log) r) (outside h (length f) (r .target)) refl refl e
     where
-      by : (b c : Bool) → lost (nodesOf log) r ≡ b → outside h (length f) (r .target) ≡ c
+      by : (b c : Bool) → isMissing (nodesOf log) r ≡ b → outside h (length f) (r .target) ≡ c
           → (cond b (cond c (logged log (run (target log r) f (r .target)) (trace (target log r) f (r .target))) (bad 16 (offsetAt f r))) (good log))
           ≡ good log′ → Reached log r log′
       by true true x y z =
@@ -82,13 +82,13 @@ module _ (lim : Limits) (f : List ℕ) (h : Header) where
   followed I step (suc k) i (bad n p) base e = no e
   followed I step (suc k) i (good log) {log′} base e =
       by (ltb i (length (nodesOf log))) refl
-      (λ t. followed I step k (i + 1) (reach lim f h log (nodeAt (nodesOf log) i))
+      (λ t. followed I step k (i + 1) (followRow lim f h log (nodeAt (nodesOf log) i))
       (λ log₁ q. step i log log₁ (base log refl) (ltb-true _ _ t) (reached log _ q))) e
     where
       by : (b : Bool) → ltb i (length (nodesOf log)) ≡ b
-          → (ltb i (length (nodesOf log)) ≡ true → follow k lim f h (i + 1) (reach lim f h log (nodeAt (nodesOf log) i)) ≡ good log′ → (j : ℕ) × I j
+          → (ltb i (length (nodesOf log)) ≡ true → follow k lim f h (i + 1) (followRow lim f h log (nodeAt (nodesOf log) i)) ≡ good log′ → (j : ℕ) × I j
           log′ × ((length (nodesOf log′) ≤ j) ⊎ (j ≡ i + 1 + k)))
-          → (cond b (follow k lim f h (i + 1) (reach lim f h log (nodeAt (nodesOf log) i))) (good log)) ≡ good log′
+          → (cond b (follow k lim f h (i + 1) (followRow lim f h log (nodeAt (nodesOf log) i))) (good log)) ≡ good log′
           → (j : ℕ) × I j log′ × ((length (nodesOf log′) ≤ j) ⊎ (j ≡ i + suc k))
       by true t rest z = let w = rest t z in (w .0, w .1, elim (w .2) [ inl l ↦ inl l | inr l ↦ inr (omega arith) ])
       by false t rest z = let q : log ≡ log′ = cc in (i, subst (I i) q (base log refl), inl (subst (λ v. length (nodesOf v) ≤ i) q (ltb-false _ _ t)))

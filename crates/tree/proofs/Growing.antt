@@ -25,7 +25,7 @@ use Rattle.metadata.specs.declared.Limits.{Limits}
 use Rattle.metadata.specs.declared.Made.{Made}
 use Rattle.metadata.specs.declared.Walked.{Walked}
 use Rattle.metadata.specs.declared.Walked.the-variants.{Done, Refused}
-use Rattle.tree.specs.Reading.{nodeOf, nodesOf, itemsOf, allNodes, Result, good, bad, madeBy, logged, startsAt, lost, offsetAt, outside, partEnd, takenFrom, detachedAt, reach, follow, context}
+use Rattle.tree.specs.Reading.{nodeOf, nodesOf, itemsOf, allNodes, Result, good, bad, madeBy, logged, startsAt, isMissing, offsetAt, outside, partEnd, firstTaken, detachedAt, followRow, follow, context}
 use Rattle.node.specs.Node.{outsideTree}
 use Rattle.tree.specs.Tree.{node, detached}
 use Rattle.tree.specs.Rows.{nodeFrom, nodeAt, noNode, nodesIn, rowStarting, Rising}
@@ -154,13 +154,13 @@ module _ (lim : Limits) (f : List ℕ) (h : Header) {σ : State} {log : Events} 
   row-words : row ≡ r
   row-words = read ∙ sym (node-at t (m .nodes) i l) ∙ ap (λ v. nodeAt v i) (rows-stand s room)
 
-  reach-same : lost (nodesOf log) r ≡ false → (c : Cursor) → Leaves lim σ (Done m c) t u (reach lim f h log r)
-  unfolding reach
+  reach-same : isMissing (nodesOf log) r ≡ false → (c : Cursor) → Leaves lim σ (Done m c) t u (followRow lim f h log r)
+  unfolding followRow
   reach-same e c = rw e (leaves-same s c)
 
   -- no reference 3
-  pub reach-other : ((row .reference ≡ 3) → ⊥) → (c : Cursor) → Leaves lim σ (Done m c) t u (reach lim f h log r)
-  unfolding lost
+  pub reach-other : ((row .reference ≡ 3) → ⊥) → (c : Cursor) → Leaves lim σ (Done m c) t u (followRow lim f h log r)
+  unfolding isMissing
   reach-other n c = let q : (r .reference ≡ 3) → ⊥ = λ z. n (ap (λ (x : Node). x .reference) row-words ∙ z) in reach-same
       (ap (λ b. b && not (startsAt (nodesOf log) (r .target))) (ne-eqb _ _ q)) c
 
@@ -168,8 +168,8 @@ module _ (lim : Limits) (f : List ℕ) (h : Header) {σ : State} {log : Events} 
   to-is = ap (λ (x : Node). x .target) row-words
 
   -- a row starts there
-  pub reach-known : {k : ℕ} → k ≡ rowStarting (nodesIn (m .nodes) t) (row .target) → k < m .nodes → (c : Cursor) → Leaves lim σ (Done m c) t u (reach lim f h log r)
-  unfolding lost
+  pub reach-known : {k : ℕ} → k ≡ rowStarting (nodesIn (m .nodes) t) (row .target) → k < m .nodes → (c : Cursor) → Leaves lim σ (Done m c) t u (followRow lim f h log r)
+  unfolding isMissing
   reach-known {k} e j c =
       let y : k ≡ rowStarting (nodesOf log) (r .target) = e ∙ ap₂ rowStarting (rows-stand s room) to-is in
       let n = node-count s in
@@ -180,8 +180,8 @@ module _ (lim : Limits) (f : List ℕ) (h : Header) {σ : State} {log : Events} 
       and-false false = refl
 
   module _ (three : row .reference ≡ 3) {k : ℕ} (e : k ≡ rowStarting (nodesIn (m .nodes) t) (row .target)) (none : m .nodes ≤ k) where
-    is-lost : lost (nodesOf log) r ≡ true
-    unfolding lost
+    is-lost : isMissing (nodesOf log) r ≡ true
+    unfolding isMissing
     is-lost =
         let y : k ≡ rowStarting (nodesOf log) (r .target) = e ∙ ap₂ rowStarting (rows-stand s room) to-is in
         let n = node-count s in
@@ -190,8 +190,8 @@ module _ (lim : Limits) (f : List ℕ) (h : Header) {σ : State} {log : Events} 
 
     -- no node may start there
     pub reach-nowhere : false ≡ outside h (length f) (row .target) → {p : FilePlace} → p .0 ≡ offsetAt f (nodeAt (nodesIn (m .nodes) t) i) →
-        Leaves lim σ (Refused 16 p) t u (reach lim f h log r)
-    unfolding reach
+        Leaves lim σ (Refused 16 p) t u (followRow lim f h log r)
+    unfolding followRow
     reach-nowhere b {p} q =
         let o : outside h (length f) (r .target) ≡ false = sym (b ∙ ap (outside h (length f)) to-is) in
         let z : p .0 ≡ offsetAt f r = q ∙ ap (λ v. offsetAt f (nodeAt v i)) (rows-stand s room) in
@@ -199,25 +199,25 @@ module _ (lim : Limits) (f : List ℕ) (h : Header) {σ : State} {log : Events} 
 
     -- a node is read there
     pub reach-node : true ≡ outside h (length f) (row .target) → {offset end taken : ℕ} → offset ≡ offsetAt f
-        (nodeAt (nodesIn (m .nodes) t) i) → end ≡ partEnd h (length f) (row .target) → taken ≡ takenFrom (nodesIn (m .nodes) t) (row .target) end
+        (nodeAt (nodesIn (m .nodes) t) i) → end ≡ partEnd h (length f) (row .target) → taken ≡ firstTaken (nodesIn (m .nodes) t) (row .target) end
         → {w : Walked} {t′ u′ : List ℕ} → Gives lim w t′ u′
         (exec put (times 1 (node 17 (context lim h (length f)) (m .nodes) (outsideTree end taken offset)) m) f (row .target) (state t u m)) →
-        Leaves lim σ w t′ u′ (reach lim f h log r)
-    unfolding reach detachedAt detached
+        Leaves lim σ w t′ u′ (followRow lim f h log r)
+    unfolding followRow detachedAt detached
     reach-node b {offset} {end} {taken} q en ta {w} {t′} {u′} g =
         let o : outside h (length f) (r .target) ≡ true = sym (b ∙ ap (outside h (length f)) to-is) in
         let z : offset ≡ offsetAt f r = q ∙ ap (λ v. offsetAt f (nodeAt v i)) (rows-stand s room) in
         let en′ : end ≡ partEnd h (length f) (r .target) = en ∙ ap (partEnd h (length f)) to-is in
-        let ta′ : taken ≡ takenFrom (nodesOf log) (r .target) (partEnd h (length f) (r .target)) = ta ∙ ap₂ (λ v p. takenFrom v p end)
-        (rows-stand s room) to-is ∙ ap (takenFrom (nodesOf log) (r .target)) en′ in
+        let ta′ : taken ≡ firstTaken (nodesOf log) (r .target) (partEnd h (length f) (r .target)) = ta ∙ ap₂ (λ v p. firstTaken v p end)
+        (rows-stand s room) to-is ∙ ap (firstTaken (nodesOf log) (r .target)) en′ in
         let x = context lim h (length f) in
         let n : node 17 x (m .nodes) (outsideTree end taken offset) m ≡ node 17 x (madeBy log .nodes)
-        (outsideTree (partEnd h (length f) (r .target)) (takenFrom (nodesOf log) (r .target) (partEnd h (length f) (r .target))) (offsetAt f r))
+        (outsideTree (partEnd h (length f) (r .target)) (firstTaken (nodesOf log) (r .target) (partEnd h (length f) (r .target))) (offsetAt f r))
         (madeBy log) =
         ap (λ (v : Made). node 17 x (v .nodes) (outsideTree end taken offset) v) (sym (made-is s)) ∙ ap₂
         (λ (a : ℕ) (b : ℕ). node 17 x (madeBy log .nodes) (outsideTree a b offset) (madeBy log)) en′ ta′ ∙ ap
         (λ c. node 17 x (madeBy log .nodes)
-        (outsideTree (partEnd h (length f) (r .target)) (takenFrom (nodesOf log) (r .target) (partEnd h (length f) (r .target))) c)
+        (outsideTree (partEnd h (length f) (r .target)) (firstTaken (nodesOf log) (r .target) (partEnd h (length f) (r .target))) c)
         (madeBy log)) z in
         rw (is-lost, o) (subst (λ (v : P Made). Leaves lim σ w t′ u′ (logged log (run v f (r .target)) (trace v f (r .target)))) n
         (subst (λ v. Leaves lim σ w t′ u′
@@ -322,7 +322,7 @@ module _ (lim : Limits) (f : List ℕ) (h : Header) (tree : ℕ) (t₀ u₀ : Li
 
     -- a row is left: what it leads to
     turn : (σ : State) (log₀ : Events) (s : Stands lim (length f) σ log₀ tree t₀ u₀ m₀) → i < m .nodes
-        → follow (lim .nodes) lim f h 0 (good log₀) ≡ follow (lim .nodes - (i + 1)) lim f h (i + 1) (reach lim f h (w σ log₀ s .log) (nodeAt (nodesOf (w σ log₀ s .log)) i))
+        → follow (lim .nodes) lim f h 0 (good log₀) ≡ follow (lim .nodes - (i + 1)) lim f h (i + 1) (followRow lim f h (w σ log₀ s .log) (nodeAt (nodesOf (w σ log₀ s .log)) i))
     unfolding follow
     turn σ log₀ s l =
         let x = w σ log₀ s in
@@ -334,12 +334,12 @@ module _ (lim : Limits) (f : List ℕ) (h : Header) (tree : ℕ) (t₀ u₀ : Li
 
     module _ (l : i < m .nodes) {r : Walked} {t′ u′ : List ℕ}
         (g : (σ : State) (log : Events) → Stands lim (length f) σ log tree t u m → Leaves lim σ r t′ u′
-        (reach lim f h log (nodeAt (nodesOf log) i))) where
+        (followRow lim f h log (nodeAt (nodesOf log) i))) where
       pub follows-no : {n : ℕ} {p : FilePlace} → r ≡ Refused n p → (σ : State) (log₀ : Events) → Stands lim (length f) σ log₀ tree t₀ u₀ m₀ →
           Leaves lim σ (Refused n p) t′ u′ (follow (lim .nodes) lim f h 0 (good log₀))
       follows-no {n} {p} e σ log₀ s =
           let x = w σ log₀ s in
-          rw (turn σ log₀ s l) (by (reach lim f h (x .log) (nodeAt (nodesOf (x .log)) i)) (lim .nodes - (i + 1))
+          rw (turn σ log₀ s l) (by (followRow lim f h (x .log) (nodeAt (nodesOf (x .log)) i)) (lim .nodes - (i + 1))
           (ap (λ v. said v t′ u′) (sym e) ∙ g σ (x .log) (x .stands) .answer))
         where
           by : (o : Result Events) (k : ℕ) → bad n (p .0) ≡ left σ o → Leaves lim σ (Refused n p) t′ u′ (follow k lim f h (i + 1) o)
@@ -358,9 +358,9 @@ module _ (lim : Limits) (f : List ℕ) (h : Header) (tree : ℕ) (t₀ u₀ : Li
         follows-next σ log₀ s =
             let x = w σ log₀ s in
             let a = g σ (x .log) (x .stands) in
-            by (reach lim f h (x .log) (nodeAt (nodesOf (x .log)) i)) refl (ap (λ v. said v t′ u′) (sym e) ∙ a .answer) (subst (Fits lim) e (a .fits))
+            by (followRow lim f h (x .log) (nodeAt (nodesOf (x .log)) i)) refl (ap (λ v. said v t′ u′) (sym e) ∙ a .answer) (subst (Fits lim) e (a .fits))
           where
-            by : (o : Result Events) → reach lim f h (w σ log₀ s .log) (nodeAt (nodesOf (w σ log₀ s .log)) i) ≡ o → good (state t′ u′ n) ≡ left σ o →
+            by : (o : Result Events) → followRow lim f h (w σ log₀ s .log) (nodeAt (nodesOf (w σ log₀ s .log)) i) ≡ o → good (state t′ u′ n) ≡ left σ o →
                 (n .nodes ≤ lim .nodes) × (n .items ≤ lim .items) → Next n σ log₀ s
             by (good log) q y fits = record {
               log = log;

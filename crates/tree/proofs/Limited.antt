@@ -21,10 +21,10 @@ use Rattle.metadata.specs.declared.Limits.{Limits}
 use Rattle.metadata.specs.declared.Made.{Made}
 use Rattle.metadata.proofs.Limited.{room, Less, under}
 use Rattle.node.specs.Node.{inTree}
-use Rattle.node.specs.declared.Standing.{Standing}
+use Rattle.node.specs.declared.Bounds.{Bounds}
 use Rattle.node.proofs.Limited.{front-limited}
 use Rattle.tree.specs.Tree.{folder, node, tree, detached}
-use Rattle.tree.specs.Reading.{nodeOf, itemOf, nodesOf, itemsOf, Result, good, bad, rows, madeBy, logged, lost, outside, detachedAt, reach, follow, context, reading, readTree, readFile}
+use Rattle.tree.specs.Reading.{nodeOf, itemOf, nodesOf, itemsOf, Result, good, bad, rows, madeBy, logged, isMissing, outside, detachedAt, followRow, follow, context, reading, readTree, readFile}
 use Rattle.tree.specs.Rows.{nodeAt}
 use Rattle.tree.proofs.Follow.{treeOf, target, stepped, Reached, known, added, reached, followed, ReadAs, read-back, stops}
 
@@ -39,7 +39,7 @@ module _ {lim most : Limits} (less : Less lim most) (x : Context) where
   unfolding folder
   folder-limited end w = after w λ m d i. places λ q. checks _ _ _ (ends i)
 
-  node-limited : (d parent : ℕ) (s : Standing) (m : Made) (c : Rows) → Is lim m c → Limited (room lim) (Is lim) c
+  node-limited : (d parent : ℕ) (s : Bounds) (m : Made) (c : Rows) → Is lim m c → Limited (room lim) (Is lim) c
       (node d (under x lim) parent s m) (node d (under x most) parent s m)
   unfolding node
   node-limited zero parent s m c i = at-place λ p. same
@@ -103,8 +103,8 @@ grown lim f h k i log e =
 module _ (from to lim : Limits) (f : List ℕ) (h : Header)
     (runs-too : (log : Events) (r : Node) (m : Made) (p : ℕ) → run (target from f h log r) f (r .target) ≡ ok m p → Fits lim (stepped from f h log r)
     → (run (target to f h log r) f (r .target) ≡ ok m p) × (trace (target to f h log r) f (r .target) ≡ trace (target from f h log r) f (r .target))) where
-  reach-as : (log log′ : Events) (r : Node) → Reached from f h log r log′ → Fits lim log′ → reach to f h log r ≡ good log′
-  unfolding reach logged
+  reach-as : (log log′ : Events) (r : Node) → Reached from f h log r log′ → Fits lim log′ → followRow to f h log r ≡ good log′
+  unfolding followRow logged
   reach-as log log′ r (known x y) l = rw x (ap good (sym y))
   reach-as log log′ r (added s y) l =
       let (a, b) = runs-too log r (s .made) (s .after) (s .runs) (subst (Fits lim) y l) in
@@ -116,7 +116,7 @@ module _ (from to lim : Limits) (f : List ℕ) (h : Header)
   stays (suc k) i log l = rw (le-ltb i (length (nodesOf log)) l)
 
   turn : (j i : ℕ) (log : Events) {log′ : Events} → i < length (nodesOf log) → follow j to f h (i + 1)
-      (reach to f h log (nodeAt (nodesOf log) i)) ≡ good log′ → follow (suc j) to f h i (good log) ≡ good log′
+      (followRow to f h log (nodeAt (nodesOf log) i)) ≡ good log′ → follow (suc j) to f h i (good log) ≡ good log′
   unfolding follow
   turn j i log t z = rw (lt-ltb i (length (nodesOf log)) t) z
 
@@ -131,9 +131,9 @@ module _ (from to lim : Limits) (f : List ℕ) (h : Header)
       let longer : length (nodesOf log) ≤ length (nodesOf log′) = rw g (omega arith) in
       by k′ (ltb i (length (nodesOf log))) refl longer b e (λ log₁ z j c. follow-as k j (i + 1) log₁ z l (omega arith) c)
     where
-      next : (o : Result Events) → reach from f h log (nodeAt (nodesOf log) i) ≡ o → follow k from f h (i + 1) o ≡ good log′ → (j : ℕ)
+      next : (o : Result Events) → followRow from f h log (nodeAt (nodesOf log) i) ≡ o → follow k from f h (i + 1) o ≡ good log′ → (j : ℕ)
           → ((log₁ : Events) → follow k from f h (i + 1) (good log₁) ≡ good log′ → follow j to f h (i + 1) (good log₁) ≡ good log′)
-          → follow j to f h (i + 1) (reach to f h log (nodeAt (nodesOf log) i)) ≡ good log′
+          → follow j to f h (i + 1) (followRow to f h log (nodeAt (nodesOf log) i)) ≡ good log′
       next (bad n p) x z j rest = absurd (stops from f k (i + 1) h n p z)
       next (good log₁) x z j rest =
           let (es, g) = grown from f h k (i + 1) log₁ z in
@@ -141,12 +141,12 @@ module _ (from to lim : Limits) (f : List ℕ) (h : Header)
           ap (follow j to f h (i + 1)) w ∙ rest log₁ z
 
       by : (k′ : ℕ) (s : Bool) → ltb i (length (nodesOf log)) ≡ s → length (nodesOf log) ≤ length (nodesOf log′) → length (nodesOf log′) ≤ i + k′
-          → (cond s (follow k from f h (i + 1) (reach from f h log (nodeAt (nodesOf log) i))) (good log)) ≡ good log′
+          → (cond s (follow k from f h (i + 1) (followRow from f h log (nodeAt (nodesOf log) i))) (good log)) ≡ good log′
           → ((log₁ : Events) → follow k from f h (i + 1) (good log₁) ≡ good log′ → (j : ℕ) → length (nodesOf log′) ≤ i + 1 + j → follow j to f h (i + 1) (good log₁) ≡ good log′)
           → follow k′ to f h i (good log) ≡ good log′
       by zero true t g c z rest = let y = ltb-true i (length (nodesOf log)) t in absurd (omega arith)
       by (suc j) true t g c z rest = turn j i log (ltb-true i (length (nodesOf log)) t)
-          (next (reach from f h log (nodeAt (nodesOf log) i)) refl z j (λ log₁ y. rest log₁ y j (omega arith)))
+          (next (followRow from f h log (nodeAt (nodesOf log) i)) refl z j (λ log₁ y. rest log₁ y j (omega arith)))
       by zero false t g c z rest = let y = same-good z in stays zero i log (ltb-false i (length (nodesOf log)) t) ∙ ap good y
       by (suc j) false t g c z rest = let y = same-good z in stays (suc j) i log (ltb-false i (length (nodesOf log)) t) ∙ ap good y
 

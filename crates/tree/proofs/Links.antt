@@ -17,7 +17,7 @@ use Rattle.cursor.specs.declared.Item.{Item}
 use Rattle.machine.proofs.Laws.{rows-on}
 use Rattle.header.specs.Header.{Header}
 use Rattle.metadata.specs.declared.Limits.{Limits}
-use Rattle.tree.specs.Reading.{nodeOf, nodesOf, good, startsAt, lost, detachedAt, context, rows, readFile}
+use Rattle.tree.specs.Reading.{nodeOf, nodesOf, good, startsAt, isMissing, detachedAt, context, rows, readFile}
 use Rattle.tree.specs.Rows.{noNode, nodeAt}
 use Rattle.tree.proofs.Starts.{detached-row}
 use Rattle.tree.proofs.Shown.{part-is, header-of}
@@ -49,7 +49,7 @@ module _ (lim : Limits) (f : List ℕ) (h : Header) where
       by false = refl
 
   one-led : (i : ℕ) (log log′ : Events) → h .extent .start ≤ length f → i < length (nodesOf log) → Led i log → Reached lim f h log (nodeAt (nodesOf log) i) log′ → Led (i + 1) log′
-  unfolding detachedAt lost
+  unfolding detachedAt isMissing
   one-led i log log′ z l s (known x y) = rw y (λ j m n q. elim (decLt j i) [
     | yes k ↦ s j k n q
     | no k ↦ let e : j ≡ i = omega arith in rw e

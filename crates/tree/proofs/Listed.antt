@@ -17,11 +17,11 @@ use Rattle.metadata.specs.Metadata.{Context}
 use Rattle.metadata.specs.declared.Limits.{Limits}
 use Rattle.metadata.specs.declared.Made.{Made}
 use Rattle.node.specs.Node.{inTree, outsideTree}
-use Rattle.node.specs.declared.Standing.{Standing}
+use Rattle.node.specs.declared.Bounds.{Bounds}
 use Rattle.node.proofs.Uses.{front-uses}
 use Rattle.tree.specs.Tree.{folder, node, tree, detached}
 use Rattle.tree.specs.Rows.{nodeAt}
-use Rattle.tree.specs.Reading.{nodesOf, Result, good, bad, refusal, logged, lost, offsetAt, outside, detachedAt, reach, follow, reading, context, readTree, readFile}
+use Rattle.tree.specs.Reading.{nodesOf, Result, good, bad, refusal, logged, isMissing, offsetAt, outside, detachedAt, followRow, follow, reading, context, readTree, readFile}
 
 -- ---- the tree
 
@@ -29,7 +29,7 @@ folder-listed : (end : ℕ) {children : P Made} → Listed children → Listed (
 unfolding folder
 folder-listed end w = after w λ m. places λ q. checks _ _ _ tt ends
 
-node-listed : (d : ℕ) (x : Context) (parent : ℕ) (s : Standing) (m : Made) → Listed (node d x parent s m)
+node-listed : (d : ℕ) (x : Context) (parent : ℕ) (s : Bounds) (m : Made) → Listed (node d x parent s m)
 unfolding node
 node-listed zero x parent s m = at-place λ p. stops tt
 node-listed (suc d) x parent s m =
@@ -59,9 +59,9 @@ logged-listed f at l log (ok v q) e z = not-good z
 logged-listed f at l log (refused k q) e z = same-bad (refused-as f at l e) z
 
 module _ (lim : Limits) (f : List ℕ) (h : Header) {n p : ℕ} where
-  reach-listed : (log : Events) (r : Node) → reach lim f h log r ≡ bad n p → InList n p
-  unfolding reach detachedAt
-  reach-listed log r e = by (lost (nodesOf log) r) (outside h (length f) (r .target)) e
+  reach-listed : (log : Events) (r : Node) → followRow lim f h log r ≡ bad n p → InList n p
+  unfolding followRow detachedAt
+  reach-listed log r e = by (isMissing (nodesOf log) r) (outside h (length f) (r .target)) e
     where
       m : P Made
       m = detachedAt lim h (length f) log (r .target) (offsetAt f r)
@@ -77,10 +77,10 @@ module _ (lim : Limits) (f : List ℕ) (h : Header) {n p : ℕ} where
   follow-listed zero i o base e = base e
   follow-listed (suc k) i (bad a b) base e = base e
   follow-listed (suc k) i (good log) base e = by (ltb i (length (nodesOf log)))
-      (follow-listed k (i + 1) (reach lim f h log (nodeAt (nodesOf log) i)) (reach-listed log (nodeAt (nodesOf log) i))) e
+      (follow-listed k (i + 1) (followRow lim f h log (nodeAt (nodesOf log) i)) (reach-listed log (nodeAt (nodesOf log) i))) e
     where
-      by : (b : Bool) → (follow k lim f h (i + 1) (reach lim f h log (nodeAt (nodesOf log) i)) ≡ bad n p → InList n p)
-          → (cond b (follow k lim f h (i + 1) (reach lim f h log (nodeAt (nodesOf log) i))) (good log)) ≡ bad n p → InList n p
+      by : (b : Bool) → (follow k lim f h (i + 1) (followRow lim f h log (nodeAt (nodesOf log) i)) ≡ bad n p → InList n p)
+          → (cond b (follow k lim f h (i + 1) (followRow lim f h log (nodeAt (nodesOf log) i))) (good log)) ≡ bad n p → InList n p
       by true rest z = rest z
       by false rest z = not-good z
 

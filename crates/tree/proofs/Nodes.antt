@@ -24,7 +24,7 @@ use Rattle.metadata.specs.declared.Walked.the-variants.{Done, Refused}
 use Rattle.metadata.proofs.Gives.{done, stopped, fitting, no, yes, along}
 use Rattle.metadata.proofs.Ends.{Nothing, inside-free}
 use Rattle.node.specs.Node.{inTree, front}
-use Rattle.node.specs.declared.Standing.{Standing}
+use Rattle.node.specs.declared.Bounds.{Bounds}
 use Rattle.node.specs.declared.Front.{Front}
 use Rattle.node.proofs.Ends.{front-inside}
 use Rattle.tree.specs.Tree.{folder, node, tree}
@@ -55,7 +55,7 @@ module _ (end : ℕ) (m : Made) (s : List ℕ) (at : ℕ) (σ : State) where
 
 -- ---- a node
 
-module _ (x : Context) (parent : ℕ) (z : Standing) (m : Made) (s : List ℕ) (at : ℕ) where
+module _ (x : Context) (parent : ℕ) (z : Bounds) (m : Made) (s : List ℕ) (at : ℕ) where
   pub node-none : (levels : ℕ) (σ : State) → levels ≡ 0 → refused 9 at ≡ exec put (node levels x parent z m) s at σ
   unfolding node
   node-none levels σ e = rw e (simp executing)
@@ -120,7 +120,7 @@ module _ (x : Context) (parent : ℕ) (z : Standing) (m : Made) (s : List ℕ) (
 
 -- ---- nodes one after the other
 
-module _ (x : Context) (s t₀ u₀ : List ℕ) (levels parent : ℕ) (z : Standing) (at left : ℕ) (made : Made) where
+module _ (x : Context) (s t₀ u₀ : List ℕ) (levels parent : ℕ) (z : Bounds) (at left : ℕ) (made : Made) where
   -- at i, with `rest` nodes to come, the rows m made and the tables t and u: what is left comes to what the whole comes to
   pub record Going (t u : List ℕ) (i rest : ℕ) (m : Made) : Type 0 where
     pub nodes-long : length t ≡ length t₀

@@ -15,7 +15,7 @@ use Rattle.metadata.specs.Metadata.{Context}
 use Rattle.metadata.specs.declared.Limits.{Limits}
 use Rattle.metadata.specs.declared.Made as made
 use Rattle.node.specs.Node.{inTree, outsideTree}
-use Rattle.node.specs.declared.Standing.{Standing}
+use Rattle.node.specs.declared.Bounds.{Bounds}
 use Rattle.node.proofs.Order.{front-orders}
 use Rattle.tree.specs.Tree.{folder, node, tree, detached}
 use Rattle.tree.specs.Reading.{nodesOf, itemsOf, good, madeBy, detachedAt, rows, readFile}
@@ -33,7 +33,7 @@ folder-orders : (n end : ℕ) {children : P made.Made} {k c : ℕ} → Orders ch
 unfolding folder
 folder-orders n end w = after w λ m k c i. places λ q. checks _ _ _ (ends i)
 
-pub node-orders : (d : ℕ) (x : Context) (parent : ℕ) (s : Standing) (m : made.Made) (k c : ℕ) → k ≡ m .nodes → c ≡ 0 → parent ≤ m .nodes →
+pub node-orders : (d : ℕ) (x : Context) (parent : ℕ) (s : Bounds) (m : made.Made) (k c : ℕ) → k ≡ m .nodes → c ≡ 0 → parent ≤ m .nodes →
     Orders (node d x parent s m) (Above (m .nodes)) k c
 unfolding node
 node-orders zero x parent s m k c a b before = at-place λ p. stops

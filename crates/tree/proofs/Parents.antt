@@ -26,7 +26,7 @@ use Rattle.metadata.specs.declared.Limits.{Limits}
 use Rattle.metadata.specs.declared.Made.{Made}
 use Rattle.node.specs.Node.{inTree, front}
 use Rattle.node.specs.declared.Front.{Front}
-use Rattle.node.specs.declared.Standing.{Standing}
+use Rattle.node.specs.declared.Bounds.{Bounds}
 use Rattle.node.proofs.Order.{front-orders}
 use Rattle.tree.specs.Tree.{folder, node, tree}
 use Rattle.tree.specs.Reading.{nodeOf, nodesOf, good, madeBy, detachedAt, context, rows, readFile}
@@ -84,7 +84,7 @@ module _ (f : List ℕ) where
   checks false n p h = record { makes = λ e. let z : _≡_ {A = ℕ} 0 1 = cc in absurd (omega arith) }
 
   -- how many rows a node makes
-  more-nodes : (d : ℕ) (x : Context) (parent : ℕ) (s : Standing) (m : Made) (at : ℕ) → parent ≤ m .nodes → {m′ : Made} {p : ℕ} → run (node d x parent s m) f at ≡ ok m′ p
+  more-nodes : (d : ℕ) (x : Context) (parent : ℕ) (s : Bounds) (m : Made) (at : ℕ) → parent ≤ m .nodes → {m′ : Made} {p : ℕ} → run (node d x parent s m) f at ≡ ok m′ p
       → (m′ .nodes ≡ m .nodes + length (nodesOf (trace (node d x parent s m) f at))) × (m .nodes < m′ .nodes)
   more-nodes d x parent s m at l e =
       let w = in-order f at (node-orders d x parent s m (m .nodes) 0 refl refl l) e in
@@ -92,7 +92,7 @@ module _ (f : List ℕ) where
       let a = w .ends .0 in
       (omega arith, w .ends .2)
 
-  module _ (d : ℕ) (x : Context) (parent : ℕ) (s : Standing) (step : (t : Made) (p : ℕ) → parent < t .nodes → Makes f (node d x parent s t) p (Under (t .nodes))) where
+  module _ (d : ℕ) (x : Context) (parent : ℕ) (s : Bounds) (step : (t : Made) (p : ℕ) → parent < t .nodes → Makes f (node d x parent s t) p (Under (t .nodes))) where
     times-under : (n : ℕ) (m : Made) (at : ℕ) → parent < m .nodes → Makes f (times n (node d x parent s) m) at (Under (m .nodes))
     unfolding times run trace rowsOf
     times-under zero m at l = record { makes = λ e. tt }
@@ -115,7 +115,7 @@ module _ (f : List ℕ) where
         subst (Under k) (sym (nodes-joined y ∙ ap (λ v. nodesOf (trace children f at) ++ v) rest ∙ append-nil (nodesOf (trace children f at)))) (w .makes (y .first));
   }
 
-  front-hangs : (x : Context) (parent depth : ℕ) (s : Standing) (m : Made) (at : ℕ) (g : Front → P Made)
+  front-hangs : (x : Context) (parent depth : ℕ) (s : Bounds) (m : Made) (at : ℕ) (g : Front → P Made)
       → ((w : Front) (q : ℕ) → w .made .nodes ≡ m .nodes → Makes f (g w) q (Under (m .nodes + 1)))
       → Makes f (front x parent depth s m >>= λ w. (skip (nodeRow (w .row)) (inlineSize (w .row)) >> g w)) at (Hangs parent (m .nodes))
   unfolding run trace rowsOf _>>=_ _>>_ skip
@@ -126,7 +126,7 @@ module _ (f : List ℕ) where
         rw (nodes-joined y, front-none f x parent depth s m at) (i .ends .3, h (y .a) _ (i .ends .1) .makes (y .second));
   }
 
-  node-hangs : (d : ℕ) (x : Context) (parent : ℕ) (s : Standing) (m : Made) (at : ℕ)
+  node-hangs : (d : ℕ) (x : Context) (parent : ℕ) (s : Bounds) (m : Made) (at : ℕ)
       → ((end : ℕ) (t : Made) (p : ℕ) → m .nodes < t .nodes → Makes f (node d x (m .nodes) (inTree 0 end) t) p (Under (t .nodes)))
       → Makes f (node (suc d) x parent s m) at (Hangs parent (m .nodes))
   unfolding node
@@ -138,7 +138,7 @@ module _ (f : List ℕ) where
       (times-under d x (m .nodes) (inTree 0 (at + w .row .size)) (step (at + w .row .size)) (w .row .contained) (plusNode (w .made)) q
       (omega arith)))))
 
-  node-under : (d : ℕ) (x : Context) (parent : ℕ) (s : Standing) (m : Made) (at : ℕ) → parent < m .nodes → Makes f (node d x parent s m) at (Under (m .nodes))
+  node-under : (d : ℕ) (x : Context) (parent : ℕ) (s : Bounds) (m : Made) (at : ℕ) → parent < m .nodes → Makes f (node d x parent s m) at (Under (m .nodes))
   unfolding node run trace
   node-under zero x parent s m at l = record { makes = λ e. let z : _≡_ {A = ℕ} 0 1 = cc in absurd (omega arith) }
   node-under (suc d) x parent s m at l = record {

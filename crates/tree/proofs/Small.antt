@@ -29,7 +29,7 @@ use Rattle.metadata.specs.declared.Field.the-variants.{Standard, Name}
 use Rattle.metadata.specs.declared.Contents.{Contents}
 use Rattle.metadata.specs.declared.Contents.the-variants.{Universal, Versions}
 use Rattle.node.specs.Node.{headerLength, head, inTree, outsideTree, value, identifier, unpacker, entries, unpackers, resource, nodePlace, uriPlace, target, reference, rest, front}
-use Rattle.node.specs.declared.Standing.{Standing}
+use Rattle.node.specs.declared.Bounds.{Bounds}
 use Rattle.node.specs.declared.Reference.{Reference}
 use Rattle.tree.specs.Tree.{folder, node, tree, detached}
 use Rattle.tree.specs.Reading.{nodesOf, itemsOf, good, detachedAt, madeBy, context}
@@ -226,7 +226,7 @@ module _ (x : Context) (h : SmallTypes (x .types)) where
 -- ---- a node up to its contents
 
 module _ {U : Rule Part} (u : (x : Plain) (p n : ℕ) → U .asks (plain x) p n) where
-  head-small : (s : Standing) (at : ℕ) → Wp U (head s) (λ h q. (h .contained < 2 ^ 28) × (at ≤ q)) at
+  head-small : (s : Bounds) (at : ℕ) → Wp U (head s) (λ h q. (h .contained < 2 ^ 28) × (at ≤ q)) at
   unfolding head headerLength
   head-small s at =
       wp-place _ at
@@ -278,7 +278,7 @@ module _ {U : Rule Part} (u : (x : Plain) (p n : ℕ) → U .asks (plain x) p n)
       wp-after (reference-small headerEnd size contained stop q) λ r p y. wp-ret (y .0, (let z = y .2 in omega arith), let z = y .1 in omega arith))
 
 module _ (x : Context) (h : SmallTypes (x .types)) where
-  front-small : (parent depth : ℕ) → depth ≤ 16 → (s : Standing) → s .detached ≤ 1 → (m : Made) (at : ℕ) → Wp (Small (x .limits .items))
+  front-small : (parent depth : ℕ) → depth ≤ 16 → (s : Bounds) → s .detached ≤ 1 → (m : Made) (at : ℕ) → Wp (Small (x .limits .items))
       (front x parent depth s m) (λ w q. SmallNode (w .row) × Paid m at (plusNode (w .made)) q) at
   unfolding front
   front-small parent depth l s k m at =
@@ -290,7 +290,7 @@ module _ (x : Context) (h : SmallTypes (x .types)) where
 
   -- ---- the tree
 
-  node-small : (d parent : ℕ) (s : Standing) → s .detached ≤ 1 → (m : Made) (at : ℕ) → Wp (Small (x .limits .items)) (node d x parent s m) (Paid m at) at
+  node-small : (d parent : ℕ) (s : Bounds) → s .detached ≤ 1 → (m : Made) (at : ℕ) → Wp (Small (x .limits .items)) (node d x parent s m) (Paid m at) at
   unfolding node folder
   node-small zero parent s k m at = wp-here wp-refuse
   node-small (suc d) parent s k m at =

@@ -21,7 +21,7 @@ use Rattle.metadata.specs.declared.Made.{Made}
 use Rattle.metadata.proofs.Ends.{Nothing, Inside, inside-free}
 use Rattle.tree.proofs.Ends.{contained-fills, node-on}
 use Rattle.node.specs.Node.{inTree, outsideTree, front}
-use Rattle.node.specs.declared.Standing.{Standing}
+use Rattle.node.specs.declared.Bounds.{Bounds}
 use Rattle.node.specs.declared.Front.{Front}
 use Rattle.node.proofs.Ends.{FrontIn, front-on}
 use Rattle.node.proofs.Order.{front-orders}
@@ -90,7 +90,7 @@ none (passed (nodeRow r) p n ∷ es) o = absurd (o .0)
 none (passed (itemRow r) p n ∷ es) o = none es (o .1)
 none (passed (plain x) p n ∷ es) o = none es (o .1)
 
-pub front-none : (f : List ℕ) (x : Context) (parent depth : ℕ) (s : Standing) (m : Made) (at : ℕ) → nodesOf (trace (front x parent depth s m) f at) ≡ []
+pub front-none : (f : List ℕ) (x : Context) (parent depth : ℕ) (s : Bounds) (m : Made) (at : ℕ) → nodesOf (trace (front x parent depth s m) f at) ≡ []
 front-none f x parent depth s m at = none _ (used f at (front-uses (λ κ. tt) (λ v. tt) (λ i. tt) x parent depth s m))
 
 -- ---- the rules
@@ -123,7 +123,7 @@ module _ (b : ℕ) (f : List ℕ) where
   folder-rises end w = after w λ m p. rowless _ p (uses.places λ q. uses.checks _ _ _ tt uses.ends)
 
   -- a node's row, and then the rows of what it holds
-  front-then : (x : Context) (parent depth : ℕ) (s : Standing) (m : Made) (at : ℕ) → s .end .0 ≤ x .size → s .detached ≤ b →
+  front-then : (x : Context) (parent depth : ℕ) (s : Bounds) (m : Made) (at : ℕ) → s .end .0 ≤ x .size → s .detached ≤ b →
       {g : Front → P Made} → ((w : Front) (q : ℕ) → FrontIn x s m at w q → Rises b f (g w) (q + inlineSize (w .row)))
       → Rises b f (front x parent depth s m >>= λ w. (skip (nodeRow (w .row)) (inlineSize (w .row)) >> g w)) at
   unfolding run trace rowsOf _>>=_ _>>_ skip
@@ -139,7 +139,7 @@ module _ (b : ℕ) (f : List ℕ) where
         rw (nodes-joined y, front-none f x parent depth s m at) (more c k (rise-sooner (omega arith) (h (y .a) (y .p) i .rises (y .second))));
   }
 
-  node-rises : (d : ℕ) (x : Context) (parent : ℕ) (s : Standing) (m : Made) (at : ℕ) → s .end .0 ≤ x .size → s .detached ≤ b → Rises b f (node d x parent s m) at
+  node-rises : (d : ℕ) (x : Context) (parent : ℕ) (s : Bounds) (m : Made) (at : ℕ) → s .end .0 ≤ x .size → s .detached ≤ b → Rises b f (node d x parent s m) at
   unfolding node
   node-rises zero x parent s m at l v = rowless _ at (uses.at-place λ p. uses.stops tt)
   node-rises (suc d) x parent s m at l v =
@@ -155,7 +155,7 @@ tree-rises x end f at l e = rising (node-rises 0 f 16 x 0 (inTree end end) _ at 
 -- ---- the row of a node that was read
 
 -- the first row is the node's own: it starts where the run did, and ends where the run did; a detached node has no other
-pub record OwnRow (s : Standing) (parent at q : ℕ) (ns : List Node) : Type 0 where
+pub record OwnRow (s : Bounds) (parent at q : ℕ) (ns : List Node) : Type 0 where
   pub row : Node
   pub others : List Node
   pub rows-are : ns ≡ row ∷ others
@@ -165,10 +165,10 @@ pub record OwnRow (s : Standing) (parent at q : ℕ) (ns : List Node) : Type 0 w
   pub stop : row .start + row .size ≡ q
   pub detached-is : row .detached ≡ s .detached
 
-record Owns {A : Type 0} (f : List ℕ) (s : Standing) (parent start : ℕ) (m : P A) (at : ℕ) : Type 0 where
+record Owns {A : Type 0} (f : List ℕ) (s : Bounds) (parent start : ℕ) (m : P A) (at : ℕ) : Type 0 where
   owns : {a : A} {q : ℕ} → run m f at ≡ ok a q → OwnRow s parent start q (nodesOf (trace m f at))
 
-module _ (f : List ℕ) (s : Standing) (parent start : ℕ) where
+module _ (f : List ℕ) (s : Bounds) (parent start : ℕ) where
   own-place : {A : Type 0} (g : ℕ → P A) (at : ℕ) → Owns f s parent start (g at) at → Owns f s parent start (place >>= g) at
   unfolding run trace _>>=_ place
   own-place g at h = record { owns = h .owns }
@@ -178,7 +178,7 @@ module _ (f : List ℕ) (s : Standing) (parent start : ℕ) where
   own-check true n p h = h
   own-check false n p h = record { owns = λ e. let z : _≡_ {A = ℕ} 0 1 = cc in absurd (omega arith) }
 
-own-front : (f : List ℕ) (x : Context) (parent depth : ℕ) (s : Standing) (m : Made) (at : ℕ) → s .end .0 ≤ x .size → (g : Front → P Made)
+own-front : (f : List ℕ) (x : Context) (parent depth : ℕ) (s : Bounds) (m : Made) (at : ℕ) → s .end .0 ≤ x .size → (g : Front → P Made)
     → ((w : Front) (q : ℕ) → FrontIn x s m at w q → Wp (Inside Nothing (s .end .0) (x .size))
     (skip (nodeRow (w .row)) (inlineSize (w .row)) >> g w) (λ _ v. v ≡ at + w .row .size) q)
     → ((w : Front) (q : ℕ) → w .row .contained ≡ 0 → nodesOf (trace (g w) f q) ≡ [])
@@ -207,7 +207,7 @@ unfolding folder times _>>=_
 no-children f zero e end body m at = none _ (used f at (uses.places λ q. uses.checks _ _ _ tt uses.ends))
 no-children f (suc n) e end body m at = absurd (omega arith)
 
-own-row : (f : List ℕ) (d : ℕ) (x : Context) (parent : ℕ) (s : Standing) (m : Made) (at : ℕ) → s .end .0 ≤ x .size → Owns f s parent at (node (suc d) x parent s m) at
+own-row : (f : List ℕ) (d : ℕ) (x : Context) (parent : ℕ) (s : Bounds) (m : Made) (at : ℕ) → s .end .0 ≤ x .size → Owns f s parent at (node (suc d) x parent s m) at
 unfolding node
 own-row f d x parent s m at l =
     own-place f s parent at _ at (own-check f s parent at _ _ _ (own-front f x parent (16 - d) s m at l _ (λ w q i.

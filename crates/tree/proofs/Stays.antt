@@ -25,12 +25,12 @@ use Rattle.metadata.specs.declared.Limits.{Limits}
 use Rattle.metadata.specs.declared.Made.{Made}
 use Rattle.metadata.proofs.Ends.{Nothing, inside-free, Inside}
 use Rattle.node.specs.Node.{inTree, outsideTree}
-use Rattle.node.specs.declared.Standing.{Standing}
+use Rattle.node.specs.declared.Bounds.{Bounds}
 use Rattle.node.proofs.Ends.{front-on, inline-fits}
 use Rattle.node.proofs.Stays.{front-stays}
 use Rattle.tree.specs.Tree.{folder, node, tree, detached}
 use Rattle.tree.specs.Rows.{nodeAt}
-use Rattle.tree.specs.Reading.{nodesOf, Result, good, bad, refusal, placeOf, logged, lost, offsetAt, outside, detachedAt, reach, follow, reading, context, readTree, readFile}
+use Rattle.tree.specs.Reading.{nodesOf, Result, good, bad, refusal, placeOf, logged, isMissing, offsetAt, outside, detachedAt, followRow, follow, reading, context, readTree, readFile}
 use Rattle.tree.proofs.Ends.{tree-inside, detached-inside}
 use Rattle.tree.proofs.Follow.{target}
 use Rattle.tree.proofs.Shown.{outside-is, part-is}
@@ -43,7 +43,7 @@ module _ {f : List ℕ} where
   unfolding folder
   folder-stays end w = after w λ m. places λ q l. checks _ _ l λ t. ends
 
-  node-stays : (d : ℕ) (x : Context) (parent : ℕ) (s : Standing) (m : Made) → s .end .0 ≤ x .size → s .end .0 ≤ length f → s .offset .0 ≤ length f → Stays f (node d x parent s m)
+  node-stays : (d : ℕ) (x : Context) (parent : ℕ) (s : Bounds) (m : Made) → s .end .0 ≤ x .size → s .end .0 ≤ length f → s .offset .0 ≤ length f → Stays f (node d x parent s m)
   unfolding node
   node-stays zero x parent s m i o k = at-place λ p l. stops l .from p l
   node-stays (suc d) x parent s m i o k =
@@ -89,9 +89,9 @@ module _ (f : List ℕ) where
   logged-in log es (refused n p) a b w = w
 
   module _ (lim : Limits) (h : Header) (o : h .extent .start ≤ length f) where
-    reach-in : (log : Events) (r : Node) → Shown log → r .start + r .header ≤ length f → In (reach lim f h log r)
-    unfolding reach detachedAt
-    reach-in log r a l = by (lost (nodesOf log) r) (outside h (length f) (r .target)) refl
+    reach-in : (log : Events) (r : Node) → Shown log → r .start + r .header ≤ length f → In (followRow lim f h log r)
+    unfolding followRow detachedAt
+    reach-in log r a l = by (isMissing (nodesOf log) r) (outside h (length f) (r .target)) refl
       where
         m : P Made
         m = target lim f h log r
@@ -109,13 +109,13 @@ module _ (f : List ℕ) where
     unfolding follow
     follow-in zero i x a = a
     follow-in (suc k) i (bad n p) a = a
-    follow-in (suc k) i (good log) a = by (ltb i (length (nodesOf log))) refl (λ b. follow-in k (i + 1) (reach lim f h log (nodeAt (nodesOf log) i)) b)
+    follow-in (suc k) i (good log) a = by (ltb i (length (nodesOf log))) refl (λ b. follow-in k (i + 1) (followRow lim f h log (nodeAt (nodesOf log) i)) b)
       where
         r : Node
         r = nodeAt (nodesOf log) i
 
-        by : (b : Bool) → ltb i (length (nodesOf log)) ≡ b → (In (reach lim f h log r) → In (follow k lim f h (i + 1) (reach lim f h log r))) → In
-            (cond b (follow k lim f h (i + 1) (reach lim f h log r)) (good log))
+        by : (b : Bool) → ltb i (length (nodesOf log)) ≡ b → (In (followRow lim f h log r) → In (follow k lim f h (i + 1) (followRow lim f h log r))) → In
+            (cond b (follow k lim f h (i + 1) (followRow lim f h log r)) (good log))
         by true e rest = rest (reach-in log r a (row-inside log a i (ltb-true _ _ e)))
         by false e rest = a
 

@@ -17,7 +17,7 @@ use Rattle.header.specs.Header.{Header}
 use Rattle.header.specs.Told.{extentOf}
 use Rattle.header.specs.declared.Extent.{Extent}
 use Rattle.metadata.specs.Tables.{nodeWidth}
-use Rattle.tree.specs.Reading.{placeOf, offsetAt, outside, partEnd, takenFrom}
+use Rattle.tree.specs.Reading.{placeOf, offsetAt, outside, partEnd, firstTaken}
 use Rattle.tree.specs.Rows.{nodeFrom, nodesIn, nodeAt, rowStarting, Rising}
 use Rattle.tree.specs.Told.{AllBefore}
 use Rattle.tree.proofs.Rows.{node-at, nodes-in-length, in-front}
@@ -156,26 +156,26 @@ row-of (r ∷ ns) (suc i) l = let e : suc (i + 1) ≡ suc i + 1 = omega arith in
 
 module _ (ws : List ℕ) (count place end : ℕ) where
   abbrev pub TakenTo : ℕ → ℕ → Type 0
-  TakenTo i taken = taken ≡ takenFrom (drop i (nodesIn count ws)) place end
+  TakenTo i taken = taken ≡ firstTaken (drop i (nodesIn count ws)) place end
 
   pub taken-begun : TakenTo count end
-  unfolding takenFrom
-  taken-begun = let c = nodes-in-length ws count in ap (λ v. takenFrom v place end) (sym (drop-of-length-le (nodesIn count ws) {i = count} (omega arith)))
+  unfolding firstTaken
+  taken-begun = let c = nodes-in-length ws count in ap (λ v. firstTaken v place end) (sym (drop-of-length-le (nodesIn count ws) {i = count} (omega arith)))
 
   module _ {i j taken : ℕ} (w : TakenTo j taken) (next : j ≡ i + 1) (l : i < count) {r : Node} (is : r ≡ nodeFrom ws (i * nodeWidth)) where
-    here-is : takenFrom (drop i (nodesIn count ws)) place end ≡ takenFrom (r ∷ drop (i + 1) (nodesIn count ws)) place end
-    here-is = let c = nodes-in-length ws count in ap (λ v. takenFrom v place end)
+    here-is : firstTaken (drop i (nodesIn count ws)) place end ≡ firstTaken (r ∷ drop (i + 1) (nodesIn count ws)) place end
+    here-is = let c = nodes-in-length ws count in ap (λ v. firstTaken v place end)
         (row-of (nodesIn count ws) i (omega arith) ∙ ap (λ (x : Node). x ∷ drop (i + 1) (nodesIn count ws)) (row-is ws count i l is))
 
-    rest-is : taken ≡ takenFrom (drop (i + 1) (nodesIn count ws)) place end
-    rest-is = w ∙ ap (λ v. takenFrom (drop v (nodesIn count ws)) place end) next
+    rest-is : taken ≡ firstTaken (drop (i + 1) (nodesIn count ws)) place end
+    rest-is = w ∙ ap (λ v. firstTaken (drop v (nodesIn count ws)) place end) next
 
     pub taken-here : r .detached ≡ 1 → place < r .start + r .size → {v : ℕ} → v ≡ min (max place (r .start)) taken → TakenTo i v
-    unfolding takenFrom
+    unfolding firstTaken
     taken-here a b e = e ∙ ap (min (max place (r .start))) rest-is ∙ sym (here-is ∙ rw (eq-eqb _ _ a, lt-ltb _ _ b) refl)
 
     pub taken-past : r .start + r .size ≤ place → TakenTo i taken
-    unfolding takenFrom
+    unfolding firstTaken
     taken-past b = rest-is ∙ sym (here-is ∙ rw (le-ltb _ _ b) (by (eqb (r .detached) 1) _ _))
       where
         by : (b : Bool) (x y : ℕ) → (cond (b && false) x y) ≡ y
@@ -183,13 +183,13 @@ module _ (ws : List ℕ) (count place end : ℕ) where
         by false x y = refl
 
     pub taken-other : ((r .detached ≡ 1) → ⊥) → TakenTo i taken
-    unfolding takenFrom
+    unfolding firstTaken
     taken-other n = rest-is ∙ sym (here-is ∙ rw (ne-eqb _ _ n) refl)
 
 -- rows that are not detached take nothing
-pub taken-all : (ns : List Node) (tree place end : ℕ) → tree ≤ length ns → ((i : ℕ) → i < tree → nodeAt ns i .detached ≡ 0) → takenFrom
-    (drop tree ns) place end ≡ takenFrom ns place end
-unfolding takenFrom
+pub taken-all : (ns : List Node) (tree place end : ℕ) → tree ≤ length ns → ((i : ℕ) → i < tree → nodeAt ns i .detached ≡ 0) → firstTaken
+    (drop tree ns) place end ≡ firstTaken ns place end
+unfolding firstTaken
 taken-all ns zero place end l a = refl
 taken-all [] (suc tree) place end l a = absurd (omega arith)
 taken-all (r ∷ ns) (suc tree) place end l a =
@@ -197,8 +197,8 @@ taken-all (r ∷ ns) (suc tree) place end l a =
     taken-all ns tree place end (omega arith) (λ i m. a (suc i) (omega arith)) ∙ sym (rw (ne-eqb _ _ z) refl)
 
 pub taken-done : (ws : List ℕ) (count tree place end i : ℕ) → i ≡ tree → tree ≤ count → ((j : ℕ) → j < tree → nodeAt (nodesIn count ws) j .detached ≡ 0)
-    → takenFrom (drop i (nodesIn count ws)) place end ≡ takenFrom (nodesIn count ws) place end
-taken-done ws count tree place end i e l a = let c = nodes-in-length ws count in ap (λ v. takenFrom (drop v (nodesIn count ws)) place end) e
+    → firstTaken (drop i (nodesIn count ws)) place end ≡ firstTaken (nodesIn count ws) place end
+taken-done ws count tree place end i e l a = let c = nodes-in-length ws count in ap (λ v. firstTaken (drop v (nodesIn count ws)) place end) e
     ∙ taken-all (nodesIn count ws) tree place end (omega arith) a
 
 -- ---- rows that end at or before the place need not be asked
@@ -236,8 +236,8 @@ start-none (r ∷ ns) (suc k) p l h = by (eqb (r .start) p) l (λ z. start-none 
     by false z rest = let w = rest (omega arith) in omega arith
 
 -- and those rows take nothing from it on
-taken-front : (ns : List Node) (k p end : ℕ) → ((i : ℕ) → k ≤ i → i < length ns → nodeAt ns i .start + nodeAt ns i .size ≤ p) → takenFrom (take k ns) p end ≡ takenFrom ns p end
-unfolding takenFrom
+taken-front : (ns : List Node) (k p end : ℕ) → ((i : ℕ) → k ≤ i → i < length ns → nodeAt ns i .start + nodeAt ns i .size ≤ p) → firstTaken (take k ns) p end ≡ firstTaken ns p end
+unfolding firstTaken
 taken-front [] zero p end h = refl
 taken-front [] (suc k) p end h = refl
 taken-front (r ∷ ns) zero p end h =
@@ -267,8 +267,8 @@ module _ (ws : List ℕ) {tree k count b : ℕ} (place : ℕ) (asked : (tree ≤
         (λ i a z. let y = before i (omega arith) z in let x = asked .2 (omega arith) in omega arith) in
         omega arith
 
-    pub asked-taken : (end : ℕ) → takenFrom (nodesIn k ws) place end ≡ takenFrom (nodesIn count ws) place end
+    pub asked-taken : (end : ℕ) → firstTaken (nodesIn k ws) place end ≡ firstTaken (nodesIn count ws) place end
     asked-taken end =
         let c = nodes-in-length ws count in
-        ap (λ v. takenFrom v place end) (in-front ws k count (asked .1)) ∙ taken-front (nodesIn count ws) k place end
+        ap (λ v. firstTaken v place end) (in-front ws k count (asked .1)) ∙ taken-front (nodesIn count ws) k place end
         (λ i a z. let y = before i (omega arith) z in let x = asked .2 (omega arith) in omega arith)

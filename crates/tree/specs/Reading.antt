@@ -89,8 +89,8 @@ unfoldable pub offsetAt : List ℕ → Node → ℕ
 offsetAt f r = placeOf (run (number referenceFrame cutShort (length f)) f (r .start + r .header))
 
 -- a row that refers to no node so far
-unfoldable pub lost : List Node → Node → Bool
-lost all r = eqb (r .reference) 3 && not (startsAt all (r .target))
+unfoldable pub isMissing : List Node → Node → Bool
+isMissing all r = eqb (r .reference) 3 && not (startsAt all (r .target))
 
 -- p lies in a file of `size` bytes, outside header and tree
 unfoldable pub outside : Header → (size p : ℕ) → Bool
@@ -101,17 +101,17 @@ unfoldable pub partEnd : Header → (size p : ℕ) → ℕ
 partEnd h size p = cond (ltb p (h .extent .start)) (h .extent .start) size
 
 -- the first byte from p on that a detached node has; `end` if none before that
-unfoldable pub takenFrom : List Node → (p end : ℕ) → ℕ
-takenFrom [] p end = end
-takenFrom (r ∷ rs) p end = cond (eqb (r .detached) 1 && ltb p (r .start + r .size)) (min (max p (r .start)) (takenFrom rs p end)) (takenFrom rs p end)
+unfoldable pub firstTaken : List Node → (p end : ℕ) → ℕ
+firstTaken [] p end = end
+firstTaken (r ∷ rs) p end = cond (eqb (r .detached) 1 && ltb p (r .start + r .size)) (min (max p (r .start)) (firstTaken rs p end)) (firstTaken rs p end)
 
 -- the node at p, to which the number at `offset` leads
 unfoldable pub detachedAt : Limits → Header → (size : ℕ) → Events → (p offset : ℕ) → P Made
-detachedAt lim h size log p offset = detached (context lim h size) (partEnd h size p) (takenFrom (nodesOf log) p (partEnd h size p)) offset (madeBy log)
+detachedAt lim h size log p offset = detached (context lim h size) (partEnd h size p) (firstTaken (nodesOf log) p (partEnd h size p)) offset (madeBy log)
 
-unfoldable pub reach : Limits → List ℕ → Header → Events → Node → Result Events
-reach lim f h log r =
-    cond (lost (nodesOf log) r)
+unfoldable pub followRow : Limits → List ℕ → Header → Events → Node → Result Events
+followRow lim f h log r =
+    cond (isMissing (nodesOf log) r)
     (cond (outside h (length f) (r .target))
     (logged log (run (detachedAt lim h (length f) log (r .target) (offsetAt f r)) f (r .target)) (trace (detachedAt lim h (length f) log (r .target) (offsetAt f r)) f (r .target)))
     (bad badTarget (offsetAt f r)))
@@ -121,7 +121,7 @@ reach lim f h log r =
 unfoldable pub follow : ℕ → Limits → List ℕ → Header → ℕ → Result Events → Result Events
 follow zero lim f h i o = o
 follow (suc k) lim f h i (bad n p) = bad n p
-follow (suc k) lim f h i (good log) = cond (ltb i (length (nodesOf log))) (follow k lim f h (i + 1) (reach lim f h log (nodeAt (nodesOf log) i))) (good log)
+follow (suc k) lim f h i (good log) = cond (ltb i (length (nodesOf log))) (follow k lim f h (i + 1) (followRow lim f h log (nodeAt (nodesOf log) i))) (good log)
 
 -- ---- header, tree and detached nodes, each a run on a part of the file of its own
 

@@ -13,19 +13,19 @@ use Rattle.metadata.specs.declared.Limits.{Limits}
 use Rattle.metadata.specs.declared.Made.{Made}
 use Rattle.tree.specs.Tree.{tree}
 use Rattle.tree.specs.Rows.{nodeAt}
-use Rattle.tree.specs.Reading.{Result, good, bad, nodesOf, context, logged, offsetAt, lost, outside, detachedAt, reach}
+use Rattle.tree.specs.Reading.{Result, good, bad, nodesOf, context, logged, offsetAt, isMissing, outside, detachedAt, followRow}
 
 -- those of a row: the node that it leads to is read now, if it has no row and lies outside header and tree
 unfoldable pub reachSteps : Limits → List ℕ → Header → Events → Node → Events
 reachSteps lim f h log r =
-    cond (lost (nodesOf log) r && outside h (length f) (r .target)) (trace (detachedAt lim h (length f) log (r .target) (offsetAt f r)) f (r .target)) []
+    cond (isMissing (nodesOf log) r && outside h (length f) (r .target)) (trace (detachedAt lim h (length f) log (r .target) (offsetAt f r)) f (r .target)) []
 
 -- those of the rows from row i on
 unfoldable pub followSteps : ℕ → Limits → List ℕ → Header → ℕ → Result Events → Events
 followSteps zero lim f h i o = []
 followSteps (suc k) lim f h i (bad n p) = []
 followSteps (suc k) lim f h i (good log) =
-    cond (ltb i (length (nodesOf log))) (reachSteps lim f h log (nodeAt (nodesOf log) i) ++ followSteps k lim f h (i + 1) (reach lim f h log (nodeAt (nodesOf log) i))) []
+    cond (ltb i (length (nodesOf log))) (reachSteps lim f h log (nodeAt (nodesOf log) i) ++ followSteps k lim f h (i + 1) (followRow lim f h log (nodeAt (nodesOf log) i))) []
 
 -- those of the tree, and of what is referred to from there
 unfoldable pub treeSteps : Limits → List ℕ → Out Header → Events

@@ -9,7 +9,7 @@ use Rattle.metadata.specs.Tables.{plusNode}
 use Rattle.metadata.specs.Metadata.{Context}
 use Rattle.metadata.specs.declared.Made.{Made}
 use Rattle.node.specs.Node.{inTree, outsideTree, front}
-use Rattle.node.specs.declared.Standing.{Standing}
+use Rattle.node.specs.declared.Bounds.{Bounds}
 
 -- the deepest level, with the root at 1
 abbrev pub mostDepth : ℕ
@@ -24,7 +24,7 @@ folder end children = do
   ret m
 
 -- A node that stands so, with d levels left. A file node is a folder without children: after its inline data, or after references 2, 3 and 4, nothing remains.
-unfoldable pub node : ℕ → Context → (parent : ℕ) → Standing → Made → P Made
+unfoldable pub node : ℕ → Context → (parent : ℕ) → Bounds → Made → P Made
 node zero x parent s m = here λ p. refuse tooDeep p
 node (suc d) x parent s m = do
   p ← place

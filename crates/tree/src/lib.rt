@@ -10,10 +10,10 @@ ghost use Rattle.header.specs.Told.{headerOf, extentOf};
 ghost use Rattle.header.specs.Header as spec;
 ghost use Rattle.metadata.specs.Tables.{itemWidth, State, nodeWidth, nodeWords, limits, put, state};
 ghost use Rattle.metadata.specs.Told.{Room, contextOf, Gives};
-ghost use Rattle.node.specs.declared.Standing.{Standing};
+ghost use Rattle.node.specs.declared.Bounds.{Bounds};
 ghost use Rattle.cursor.specs.Rows.{inlineSize, Events};
 ghost use Rattle.tree.specs.Tree.{mostDepth, folder, node, tree};
-ghost use Rattle.tree.specs.Reading.{nodesOf, good, context, offsetAt, outside, partEnd, takenFrom, reach, follow, readOf, answerOf, nodeTable, itemTable};
+ghost use Rattle.tree.specs.Reading.{nodesOf, good, context, offsetAt, outside, partEnd, firstTaken, followRow, follow, readOf, answerOf, nodeTable, itemTable};
 ghost use Rattle.tree.specs.Rows.{nodeFrom, itemFrom, nodeAt, nodesIn, rowStarting, Rising};
 ghost use Rattle.tree.specs.Asking.{reads, readsBehind, nodesRead, itemsRead};
 ghost use Rattle.tree.specs.Told.{Lent, Stands, AllBefore, Leaves};
@@ -31,8 +31,8 @@ use metadata::Limits;
 use metadata::Made;
 use metadata::Scope;
 use metadata::Walked;
-use node::Fronted;
-use node::Standing;
+use node::Bounds;
+use node::FrontResult;
 
 // What is kept of an accepted file besides its rows: where its header ends, how many rows there are, and how many of the node rows are the tree's.
 pub struct Summary {
@@ -168,7 +168,7 @@ fn read_node(
     scope: Scope,
     levels: usize,
     parent: usize,
-    s: Standing,
+    s: Bounds,
     made: Made,
 ) -> Walked
     requires { ⌜ Room scope (now file) (now types) (now items) (s .end .0) made × (scope .limits .nodes * nodeWidth ≤ length (now nodes)) × (levels ≤ mostDepth + 1) ⌝ }
@@ -194,8 +194,8 @@ fn read_node(
         s,
         made,
     ) {
-        Fronted::Refused(n, p) => Walked::Refused(n, p),
-        Fronted::Is(w, d) => {
+        FrontResult::Refused(n, p) => Walked::Refused(n, p),
+        FrontResult::Is(w, d) => {
             let row = w.row;
             let m = w.made;
             let counts = Made {
@@ -209,7 +209,7 @@ fn read_node(
             if row.contained == 0 {
                 return end_node(next, stop, lim, counts);
             }
-            let inside = Standing {
+            let inside = Bounds {
                 least: FilePlace(0),
                 end: stop,
                 taken: stop,
@@ -247,7 +247,7 @@ fn read_children(
     scope: Scope,
     levels: usize,
     parent: usize,
-    s: Standing,
+    s: Bounds,
     left: u64,
     made: Made,
 ) -> Walked
@@ -314,7 +314,7 @@ fn read_root(
     };
     let none = Made { nodes: 0, items: 0 };
     let end = FilePlace(last.0 + 1);
-    let s = Standing {
+    let s = Bounds {
         least: end,
         end,
         taken: end,
@@ -368,7 +368,7 @@ pub fn row_starting(nodes: &[u64], tree: usize, count: usize, place: FilePlace) 
 }
 
 // The first byte from `place` on that a detached node has; `end` if none before that. No row before row `tree` is detached.
-fn taken_from(
+fn first_taken(
     nodes: &[u64],
     tree: usize,
     count: usize,
@@ -376,7 +376,7 @@ fn taken_from(
     end: FilePlace,
 ) -> FilePlace
     requires { ⌜ (tree ≤ count) × (count * nodeWidth ≤ length (now nodes)) × ((i : ℕ) → i < count → nodeAt (nodesIn count (now nodes)) i .start + nodeAt (nodesIn count (now nodes)) i .size < 2 ^ 28) × ((i : ℕ) → i < tree → nodeAt (nodesIn count (now nodes)) i .detached ≡ 0) ⌝ }
-    ensures { λ r. ⌜ r .0 ≡ takenFrom (nodesIn count (now (nodes .entry))) (place .0) (end .0) ⌝ }
+    ensures { λ r. ⌜ r .0 ≡ firstTaken (nodesIn count (now (nodes .entry))) (place .0) (end .0) ⌝ }
 {
     let mut i = count;
     let mut taken = end.0;
@@ -460,7 +460,7 @@ fn beyond_row(nodes: &[u64], known: usize, count: usize, beyond: FilePlace) -> F
 }
 
 // Follows row i: reads the node that it refers to, if that one has no row yet. The detached rows lie before `beyond`.
-fn reach_from(
+fn follow_row(
     file: &[u8],
     types: &[u64],
     nodes: &mut [u64],
@@ -474,7 +474,7 @@ fn reach_from(
 ) -> Walked
     requires { ⌜ Lent h lim (now file) (now types) (now nodes) (now items) × (i < made .nodes) × ((σ : State) × (log : Events) × Stands lim (length (now file)) σ log tree (now nodes) (now items) made) × AllBefore tree (nodesIn (made .nodes) (now nodes)) (beyond .0) ⌝ }
     ensures { λ r. ⌜ ((σ : State) (log : Events) → Stands lim (length (now (file .entry))) σ log tree (now (nodes .entry)) (now (items .entry)) made
-        → Leaves lim σ r (now (nodes .exit)) (now (items .exit)) (reach lim (now (file .entry)) (headerOf h (now (types .entry))) log (nodeAt (nodesOf log) i))) ⌝ }
+        → Leaves lim σ r (now (nodes .exit)) (now (items .exit)) (followRow lim (now (file .entry)) (headerOf h (now (types .entry))) log (nodeAt (nodesOf log) i))) ⌝ }
 {
     let here = Cursor { at: FilePlace(0) };
     let row = node_at(nodes, i);
@@ -490,14 +490,14 @@ fn reach_from(
     let extent = h.extent;
     if is_outside(extent, file.len(), to) {
         let end = part_end(extent, file.len(), to);
-        let taken = taken_from(nodes, tree, asked, to, end);
+        let taken = first_taken(nodes, tree, asked, to, end);
         let headerEnd = extent.end;
         let scope = Scope {
             limits: lim,
             types: h.types,
             headerEnd,
         };
-        let s = Standing {
+        let s = Bounds {
             least: FilePlace(0),
             end,
             taken,
@@ -541,7 +541,7 @@ fn follow_all(
     // All detached nodes that were read end at or before here. Most lead on to a later place, which is not looked for among them.
     let mut beyond = FilePlace(0);
     while i < m.nodes {
-        match reach_from(file, types, nodes, items, h, lim, made.nodes, i, m, beyond) {
+        match follow_row(file, types, nodes, items, h, lim, made.nodes, i, m, beyond) {
             Walked::Refused(n, p) => return Walked::Refused(n, p),
             Walked::Done(n, _) => {
                 beyond = beyond_row(nodes, m.nodes, n.nodes, beyond);

@@ -8,7 +8,7 @@ use lib.ListN.{length}
 use Rattle.cursor.specs.declared.Cursor.{Cursor}
 use Rattle.metadata.specs.Told.{contextOf}
 use Rattle.metadata.proofs.Gives.{done, stopped, fitting, no}
-use Rattle.node.specs.declared.Standing.{Standing}
+use Rattle.node.specs.declared.Bounds.{Bounds}
 use Rattle.node.proofs.Ends.{front-inside, inline-fits}
 use Rattle.node.proofs.Ways.{front-done, front-stopped, front-fitting}
 use Rattle.tree.proofs.Nodes.{node-none, node-limit, node-front, node-children, node-contained, node-file, Going, children-begun, children-further, children-done, children-no, children-on}
@@ -32,7 +32,7 @@ use Rattle.tree.proofs.+read_children+read_node.{statement}
 use Rattle.tree.proofs.+read_children+read_node.Tie.{close}
 
 -- the levels left, and the bytes left from the cursor to the end of what holds the node
-abbrev falling : ℕ → Standing → Cursor → ℕ
+abbrev falling : ℕ → Bounds → Cursor → ℕ
 falling levels z c = levels + (z .end .0 - c .at .0)
 
 abbrev μ-read-children : Measures 4 read-children-kinds.ps ℕ

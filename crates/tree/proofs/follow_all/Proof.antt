@@ -21,8 +21,8 @@ abbrev μ-loop : tie.MeasureT-loop
 loop-holds : tie.Need-loop-holds Inv-loop μ-loop
 loop-holds c = (follows-begun _ _ _ _ _ _ _ (omega arith), refl, refl)
 
-reach-from-requires : tie.Need-reach-from-requires Inv-loop μ-loop
-reach-from-requires c κs =
+follow-row-requires : tie.Need-follow-row-requires Inv-loop μ-loop
+follow-row-requires c κs =
     let at-if1 = c .before .before in
     let at-loop = at-if1 .before .before in
     let entry = at-loop .before .before .before .before .before in
@@ -38,22 +38,22 @@ enum-known-n c = search needs
 
 same-length : tie.Need-same-length Inv-loop μ-loop
 same-length c =
-    let at-reach-from = c .before .before .before .before .before .before .before in
-    let at-loop = at-reach-from .before .before .before .before .before in
-    at-reach-from .reach-from .kept .1 .1 .0 ∙ at-loop .loop .inv .1
+    let at-follow-row = c .before .before .before .before .before .before .before in
+    let at-loop = at-follow-row .before .before .before .before .before in
+    at-follow-row .follow-row .kept .1 .1 .0 ∙ at-loop .loop .inv .1
 
 same-length-2 : tie.Need-same-length-2 Inv-loop μ-loop
 same-length-2 c =
-    let at-reach-from = c .before .before .before .before .before .before .before in
-    let at-loop = at-reach-from .before .before .before .before .before in
-    at-reach-from .reach-from .kept .1 .1 .1 .0 ∙ at-loop .loop .inv .2
+    let at-follow-row = c .before .before .before .before .before .before .before in
+    let at-loop = at-follow-row .before .before .before .before .before in
+    at-follow-row .follow-row .kept .1 .1 .1 .0 ∙ at-loop .loop .inv .2
 
 returns : tie.Need-returns Inv-loop μ-loop
 returns c =
-    let at-reach-from = c .before .before .before .before .before .before .before in
-    let at-if1 = at-reach-from .before .before .before in
+    let at-follow-row = c .before .before .before .before .before .before .before in
+    let at-if1 = at-follow-row .before .before .before in
     let at-loop = at-if1 .before .before in
-    follows-no _ _ _ _ _ _ _ (at-loop .loop .inv .0) (at-if1 .if1 .taken) (at-reach-from .reach-from .ensures) (c .before .n .given .1)
+    follows-no _ _ _ _ _ _ _ (at-loop .loop .inv .0) (at-if1 .if1 .taken) (at-follow-row .follow-row .ensures) (c .before .n .given .1)
 
 enum-known-n-2 : tie.Need-enum-known-n-2 Inv-loop μ-loop
 enum-known-n-2 c = search needs
@@ -61,16 +61,15 @@ enum-known-n-2 c = search needs
 beyond-row-requires : tie.Need-beyond-row-requires Inv-loop μ-loop
 beyond-row-requires c κs =
     let at-n2 = c .before .before in
-    let at-reach-from = at-n2 .before .before .before .before .before .before in
-    let at-if1 = at-reach-from .before .before .before in
+    let at-follow-row = at-n2 .before .before .before .before .before .before in
+    let at-if1 = at-follow-row .before .before .before in
     let at-loop = at-if1 .before .before in
     let entry = at-loop .before .before .before .before .before in
     let w = entry .pre .1 in
-    let kept = at-reach-from .reach-from .kept .1 .1 in
-    let y = follows-next _ _ _ _ _ _ _ (at-loop .loop .inv .0) (at-if1 .if1 .taken) (at-reach-from .reach-from .ensures) (entry .pre .0 .start-in)
+    let kept = at-follow-row .follow-row .kept .1 .1 in
+    let y = follows-next _ _ _ _ _ _ _ (at-loop .loop .inv .0) (at-if1 .if1 .taken) (at-follow-row .follow-row .ensures) (entry .pre .0 .start-in)
     (at-n2 .n2 .given .1) (kept .0) (kept .1 .0) (w .0) (w .1) (w .2) in
-    let long = kept .0 ∙ at-loop .loop .inv .1 in
-    (
+    let long = kept .0 ∙ at-loop .loop .inv .1 in (
       stand-few (y .stands) (omega (arith, entry .pre .0 .nodes-in, long)) .1,
       λ i l. let q = stand-inside (y .stands) (omega (arith, entry .pre .0 .nodes-in, long)) i l in omega (arith, entry .pre .0 .short),
     )
@@ -88,13 +87,13 @@ loop-less c =
 loop-again : tie.Need-loop-again Inv-loop μ-loop
 loop-again c =
     let at-n2 = c .before .before .before in
-    let at-reach-from = at-n2 .before .before .before .before .before .before in
-    let at-if1 = at-reach-from .before .before .before in
+    let at-follow-row = at-n2 .before .before .before .before .before .before in
+    let at-if1 = at-follow-row .before .before .before in
     let at-loop = at-if1 .before .before in
     let entry = at-loop .before .before .before .before .before in
-    let kept = at-reach-from .reach-from .kept .1 .1 in
+    let kept = at-follow-row .follow-row .kept .1 .1 in
     let long = kept .0 ∙ at-loop .loop .inv .1 in (
-      follows-on _ _ _ _ _ _ _ (at-loop .loop .inv .0) (at-if1 .if1 .taken) (at-reach-from .reach-from .ensures) (entry .pre .0 .start-in)
+      follows-on _ _ _ _ _ _ _ (at-loop .loop .inv .0) (at-if1 .if1 .taken) (at-follow-row .follow-row .ensures) (entry .pre .0 .start-in)
           (at-n2 .n2 .given .1) (kept .0) (kept .1 .0) (omega (arith, entry .pre .0 .nodes-in, long)) (c .beyond-row .ensures .0) (c .beyond-row .ensures .1),
       long,
       kept .1 .0 ∙ at-loop .loop .inv .2,
@@ -116,7 +115,7 @@ follow-all-spec =
     Inv-loop
     μ-loop
     loop-holds
-    reach-from-requires
+    follow-row-requires
     enum-known-n
     same-length
     same-length-2

@@ -1,4 +1,4 @@
--- `taken_from` gives what `takenFrom` gives. The invariant: the rows from row i on take so much.
+-- `first_taken` gives what `firstTaken` gives. The invariant: the rows from row i on take so much.
 -- Assumes nothing.
 use mathlib.Core.Path.{ap, _∙_}
 use Prim.Native.Nat.{_-_, _+_, _≤_, min}
@@ -6,8 +6,8 @@ use Rattle.cursor.specs.declared.Node.{Node}
 use Rattle.tree.proofs.Targets.{row-is, TakenTo, taken-begun, taken-here, taken-past, taken-other, taken-done}
 use native.Mathlib.Omega.{arith}
 use borrow.Author.Needs.{needs}
-use Rattle.tree.proofs.taken_from.Statement.{statement}
-use Rattle.tree.proofs.taken_from.Tie as tie
+use Rattle.tree.proofs.first_taken.Statement.{statement}
+use Rattle.tree.proofs.first_taken.Tie as tie
 
 abbrev Inv-loop : tie.InvT-loop
 Inv-loop nodes tree count place i₀ taken₀ i taken = (tree ≤ i) × (i ≤ count) × TakenTo nodes count (place .0) taken₀ i taken
@@ -95,6 +95,6 @@ returns c =
     let e = at-loop .loop .inv .2 in e ∙ taken-done (entry .args .nodes .now) (entry .args .count) (entry .args .tree) (entry .args .place .0)
     (entry .args .end .0) (at-loop .loop .i) (omega arith) (entry .pre .0) (entry .pre .3)
 
-pub taken-from-spec : {M : Type 1} → statement M
-taken-from-spec = tie.close (tie.spec Inv-loop μ-loop loop-holds sub-i node-at-requires add-if2 greater-requires lesser-requires loop-less
+pub first-taken-spec : {M : Type 1} → statement M
+first-taken-spec = tie.close (tie.spec Inv-loop μ-loop loop-holds sub-i node-at-requires add-if2 greater-requires lesser-requires loop-less
     loop-again loop-less-2 loop-again-2 loop-less-3 loop-again-3 returns)

@@ -1,4 +1,4 @@
--- `reach_from` leaves what `reach` leaves.
+-- `follow_row` leaves what `followRow` leaves.
 -- Assumes nothing.
 use mathlib.Core.Path.{refl, sym, ap, _∙_}
 use Prim.Native.Nat.{_+_}
@@ -9,8 +9,8 @@ use Rattle.tree.proofs.Growing.{stand-few, stand-rising, stand-inside, 
 use Rattle.tree.proofs.Targets.{row-asked, asked-found, asked-none, asked-taken}
 use native.Mathlib.Omega.{arith}
 use borrow.Author.Needs.{needs}
-use Rattle.tree.proofs.reach_from.Statement.{statement}
-use Rattle.tree.proofs.reach_from.Tie as tie
+use Rattle.tree.proofs.follow_row.Statement.{statement}
+use Rattle.tree.proofs.follow_row.Tie as tie
 
 node-at-requires : tie.Need-node-at-requires
 node-at-requires c κs =
@@ -63,8 +63,8 @@ is-outside-requires c κs = search needs
 part-end-requires : tie.Need-part-end-requires
 part-end-requires c κs = search needs
 
-taken-from-requires : tie.Need-taken-from-requires
-taken-from-requires c κs =
+first-taken-requires : tie.Need-first-taken-requires
+first-taken-requires c κs =
     let at-rows-asked = c .before .before .before .before .before .before .before .before .before .before in
     let entry = at-rows-asked .before .before .before .before .before .before .before .before .before in
     let s = entry .pre .2 .2 in
@@ -97,8 +97,8 @@ same-length-4 c = search needs
 returns-3 : tie.Need-returns-3
 returns-3 c =
     let at-read-children = c .before .before .before .before in
-    let at-taken-from = at-read-children .before .before .before .before in
-    let at-part-end = at-taken-from .before .before in
+    let at-first-taken = at-read-children .before .before .before .before in
+    let at-part-end = at-first-taken .before .before in
     let at-if3 = at-part-end .before in
     let at-is-outside = at-if3 .before in
     let at-offset-at = at-is-outside .before .before in
@@ -115,7 +115,7 @@ returns-3 c =
     (at-node-at .node-at .ensures) (at-if1 .if1 .left) refl (asked-none t _ asked before (at-row-starting .row-starting .ensures) (at-if2 .if2 .left))
     (sym (at-if3 .if3 .taken) ∙ at-is-outside .is-outside .ensures (headerOf (entry .args .h) (entry .args .types .now)) refl)
     (at-offset-at .offset-at .ensures) (at-part-end .part-end .ensures (headerOf (entry .args .h) (entry .args .types .now)) refl)
-    (at-taken-from .taken-from .ensures ∙ asked-taken t _ asked before _) (at-read-children .read-children .ensures)
+    (at-first-taken .first-taken .ensures ∙ asked-taken t _ asked before _) (at-read-children .read-children .ensures)
 
 same-length-5 : tie.Need-same-length-5
 same-length-5 c = search needs
@@ -135,7 +135,7 @@ returns-4 c =
     (sym (c .if3 .left) ∙ c .before .is-outside .ensures (headerOf (entry .args .h) (entry .args .types .now)) refl)
     (at-offset-at .offset-at .ensures)
 
-pub reach-from-spec : {M : Type 1} → statement M
-reach-from-spec = tie.close (tie.spec node-at-requires same-length returns rows-asked-requires row-starting-requires same-length-2 returns-2 offset-at-requires
-    is-outside-requires part-end-requires taken-from-requires add-levels read-children-requires same-length-3 same-length-4 returns-3
+pub follow-row-spec : {M : Type 1} → statement M
+follow-row-spec = tie.close (tie.spec node-at-requires same-length returns rows-asked-requires row-starting-requires same-length-2 returns-2 offset-at-requires
+    is-outside-requires part-end-requires first-taken-requires add-levels read-children-requires same-length-3 same-length-4 returns-3
     same-length-5 returns-4)
