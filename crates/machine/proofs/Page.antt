@@ -1,13 +1,12 @@
 -- The laws of all programs on one page, with the words that they are stated in. Proved once, for every format.
 -- Assumes nothing.
 use mathlib.Core.Path.{_≡_}
-use mathlib.Core.List.{List, _++_}
+use mathlib.Core.List.{List}
 use Prim.Native.Nat.{ℕ}
-use lib.ListN.{getD}
-use Rattle.machine.specs.Machine.{Prog, Out, ok, run, trace, exec, _>>=_}
+use Rattle.machine.specs.Machine.{Prog, ok, run, trace, exec, _>>=_}
 use Rattle.machine.proofs.Laws.{answered, exec-run, Split, split}
 use Rattle.machine.proofs.Agree.{AgreeUpTo}
-use Rattle.machine.proofs.Stable.{Covers, Chain, endOf, Separate, chain, ends, separate, held, stable, depends}
+use Rattle.machine.proofs.Stable.{Chain, endOf, Separate, chain, ends, separate, depends}
 
 module _ {K W A : Type 0} (m : Prog K W A) (f : List ℕ) (at : ℕ) where
   -- What is read and passed over lies end to end from the place where the run began, so that no byte belongs to two of these events; an accepted run ends where they end.

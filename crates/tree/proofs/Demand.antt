@@ -30,7 +30,7 @@ use Rattle.metadata.specs.declared.Made.{Made}
 use Rattle.metadata.proofs.Ends.{Nothing, Given, Inside}
 use Rattle.node.specs.Node.{headerLength, head, front, outsideTree}
 use Rattle.tree.specs.Tree.{tree, node, detached}
-use Rattle.tree.specs.Reading.{nodeOf, nodesOf, itemsOf, Result, good, bad, rows, madeBy, logged, isMissing, offsetAt, outside, partEnd, firstTaken, detachedAt, followRow, follow, logFrom, reading, context, readTree, readFile}
+use Rattle.tree.specs.Reading.{nodeOf, nodesOf, itemsOf, Result, good, bad, rows, madeBy, logged, offsetAt, outside, partEnd, firstTaken, detachedAt, followRow, follow, logFrom, reading, context, readTree, readFile}
 use Rattle.tree.specs.Rows.{nodeAt, itemAt}
 use Rattle.tree.specs.Hidden.{mayDiffer, HiddenData, InlineData, InDetached, InParts, Private, DifferInPrivate, DifferInHidden}
 use Rattle.tree.proofs.Ends.{tree-ends, detached-ends}

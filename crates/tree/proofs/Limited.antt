@@ -24,7 +24,7 @@ use Rattle.node.specs.Node.{inTree}
 use Rattle.node.specs.declared.Bounds.{Bounds}
 use Rattle.node.proofs.Limited.{front-limited}
 use Rattle.tree.specs.Tree.{folder, node, tree, detached}
-use Rattle.tree.specs.Reading.{nodeOf, itemOf, nodesOf, itemsOf, Result, good, bad, rows, madeBy, logged, isMissing, outside, detachedAt, followRow, follow, context, reading, readTree, readFile}
+use Rattle.tree.specs.Reading.{nodeOf, itemOf, nodesOf, itemsOf, Result, good, bad, rows, madeBy, logged, outside, detachedAt, followRow, follow, context, reading, readTree, readFile}
 use Rattle.tree.specs.Rows.{nodeAt}
 use Rattle.tree.proofs.Follow.{treeOf, target, stepped, Reached, known, added, reached, followed, ReadAs, read-back, stops}
 
