@@ -28,7 +28,7 @@ const LEAST: Duration = Duration::from_micros(200);
 
 /// What is asked about each file. The verdict is asked where the file is judged to its end, or
 /// nearly so; a file that fails the first check tells nothing of it.
-const ASKED: [(&str, &[&str]); 13] = [
+const ASKED: [(&str, &[&str]); 15] = [
     (
         "large",
         &["tree", "find", "resolve", "account", "sheet", "sheet2"],
@@ -43,6 +43,8 @@ const ASKED: [(&str, &[&str]); 13] = [
     ("escapes", &["sheet"]),
     ("children", &["tree", "verdict", "sheet"]),
     ("contents", &["tree", "verdict", "account", "sheet"]),
+    ("detached", &["tree"]),
+    ("scattered", &["tree"]),
     (
         "worked",
         &[

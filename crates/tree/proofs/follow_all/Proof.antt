@@ -69,8 +69,7 @@ beyond-row-requires c κs =
     let kept = at-reach-from .reach-from .kept .1 .1 in
     let y = follows-next _ _ _ _ _ _ _ (at-loop .loop .inv .0) (at-if1 .if1 .taken) (at-reach-from .reach-from .ensures) (entry .pre .0 .start-in)
     (at-n2 .n2 .given .1) (kept .0) (kept .1 .0) (w .0) (w .1) (w .2) in
-    let long = kept .0 ∙ at-loop .loop .inv .1 in
-    (
+    let long = kept .0 ∙ at-loop .loop .inv .1 in (
       stand-few (y .stands) (omega (arith, entry .pre .0 .nodes-in, long)) .1,
       λ i l. let q = stand-inside (y .stands) (omega (arith, entry .pre .0 .nodes-in, long)) i l in omega (arith, entry .pre .0 .short),
     )
