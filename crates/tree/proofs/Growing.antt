@@ -317,7 +317,7 @@ module _ (lim : Limits) (f : List ℕ) (h : Header) (tree : ℕ) (t₀ u₀ : Li
 
   module _ {i : ℕ} {t u : List ℕ} {m : Made} {b : ℕ} (w : Follows i t u m b) where
     -- the rows that stand in the table lie before b
-    pub follows-before : (room : lim .nodes * nodeWidth ≤ length t) (σ : State) (log₀ : Events) → Stands lim (length f) σ log₀ tree t₀ u₀ m₀ → AllBefore tree (nodesIn (m .nodes) t) b
+    pub follows-before : lim .nodes * nodeWidth ≤ length t → (σ : State) (log₀ : Events) → Stands lim (length f) σ log₀ tree t₀ u₀ m₀ → AllBefore tree (nodesIn (m .nodes) t) b
     follows-before room σ log₀ s = let x = w σ log₀ s in subst (λ v. AllBefore tree v b) (sym (rows-stand (x .stands) room)) (x .before)
 
     -- a row is left: what it leads to

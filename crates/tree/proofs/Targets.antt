@@ -154,6 +154,10 @@ row-of [] i l = absurd (omega arith)
 row-of (r ∷ ns) zero l = refl
 row-of (r ∷ ns) (suc i) l = let e : suc (i + 1) ≡ suc i + 1 = omega arith in row-of ns i (omega arith) ∙ ap (λ k. nodeAt ns i ∷ drop k (r ∷ ns)) e
 
+cond-no : (b : Bool) (x y : ℕ) → (cond (b && false) x y) ≡ y
+cond-no true x y = refl
+cond-no false x y = refl
+
 module _ (ws : List ℕ) (count place end : ℕ) where
   abbrev pub TakenTo : ℕ → ℕ → Type 0
   TakenTo i taken = taken ≡ firstTaken (drop i (nodesIn count ws)) place end
@@ -176,11 +180,7 @@ module _ (ws : List ℕ) (count place end : ℕ) where
 
     pub taken-past : r .start + r .size ≤ place → TakenTo i taken
     unfolding firstTaken
-    taken-past b = rest-is ∙ sym (here-is ∙ rw (le-ltb _ _ b) (by (eqb (r .detached) 1) _ _))
-      where
-        by : (b : Bool) (x y : ℕ) → (cond (b && false) x y) ≡ y
-        by true x y = refl
-        by false x y = refl
+    taken-past b = rest-is ∙ sym (here-is ∙ rw (le-ltb _ _ b) (cond-no (eqb (r .detached) 1) _ _))
 
     pub taken-other : ((r .detached ≡ 1) → ⊥) → TakenTo i taken
     unfolding firstTaken
@@ -202,10 +202,6 @@ taken-done ws count tree place end i e l a = let c = nodes-in-length ws count in
     ∙ taken-all (nodesIn count ws) tree place end (omega arith) a
 
 -- ---- rows that end at or before the place need not be asked
-
-cond-no : (b : Bool) (x y : ℕ) → (cond (b && false) x y) ≡ y
-cond-no true x y = refl
-cond-no false x y = refl
 
 -- a row that starts there is among the first k
 start-front : (ns : List Node) (k p : ℕ) → rowStarting (take k ns) p < k → k ≤ length ns → rowStarting ns p < length ns

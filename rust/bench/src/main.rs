@@ -28,7 +28,7 @@ const LEAST: Duration = Duration::from_micros(200);
 
 /// What is asked about each file. The verdict is asked where the file is judged to its end, or
 /// nearly so; a file that fails the first check tells nothing of it.
-const ASKED: [(&str, &[&str]); 17] = [
+const ASKED: [(&str, &[&str]); 19] = [
     (
         "large",
         &["tree", "find", "resolve", "account", "sheet", "sheet2"],
@@ -47,6 +47,8 @@ const ASKED: [(&str, &[&str]); 17] = [
     ("over", &["sheet", "sheet2"]),
     ("children", &["tree", "verdict", "sheet"]),
     ("contents", &["tree", "verdict", "account", "sheet"]),
+    ("detached", &["tree"]),
+    ("scattered", &["tree"]),
     (
         "worked",
         &[

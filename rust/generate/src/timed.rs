@@ -2,7 +2,7 @@
 
 use crate::encode::{encode, encode_changed, MarkKind};
 use crate::mobile::{tune, tune_items};
-use crate::model::{Contents, Field, File, Item, Node, TypeEntry};
+use crate::model::{Contents, Field, File, Item, Node, Place, TypeEntry};
 use crate::model::{Unpacker, UnpackerName, Values, Version, Widths};
 use crate::random::Random;
 use crate::{cases, samples, shapes};
@@ -33,6 +33,8 @@ pub fn all(seed: u64) -> Vec<(&'static str, Vec<u8>)> {
         ("over", encode(&titled(0, &vec![b'a'; 4_000_000])).bytes),
         ("children", encode(&children()).bytes),
         ("contents", encode(&contents()).bytes),
+        ("detached", encode(&detached(1)).bytes),
+        ("scattered", encode(&detached(101)).bytes),
         ("worked", samples::worked()),
         ("resource", cases::large_resource(seed)),
     ]
@@ -127,4 +129,19 @@ fn contents() -> File {
     items.extend(vec![description; 999]);
     let child = Node::new(Contents::Inline(tune())).with_items(items);
     File::new(MOBILE, Node::folder(vec![child]))
+}
+
+/// A chain of references 3 through 254 detached nodes, of which each leads to the one so many places
+/// on: with 1 in file order.
+fn detached(step: usize) -> File {
+    const NODES: usize = 254;
+    let first = Node::new(Contents::Node(Place::Detached(0)));
+    let mut file = File::new(MOBILE, Node::folder(vec![first]));
+    for number in 0..NODES {
+        file.add_detached(match (number + step) % NODES {
+            0 => Node::inline(&[7]),
+            next => Node::new(Contents::Node(Place::Detached(next))),
+        });
+    }
+    file
 }
