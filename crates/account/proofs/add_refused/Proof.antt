@@ -5,14 +5,8 @@ use borrow.Author.Needs.{needs}
 use Rattle.account.proofs.add_refused.Statement.{statement}
 use Rattle.account.proofs.add_refused.Tie as tie
 
-on-requires : tie.Need-on-requires
-on-requires c κs = search needs
-
-on-requires-2 : tie.Need-on-requires-2
-on-requires-2 c κs = search needs
-
 returns : tie.Need-returns
 returns c = rw (c .before .before .on .ensures, c .before .on2 .ensures) refl
 
 pub add-refused-spec : {M : Type 1} → statement M
-add-refused-spec = tie.close (tie.spec on-requires on-requires-2 returns)
+add-refused-spec = tie.close (tie.spec (λ c κs. search needs) (λ c κs. search needs) returns)

@@ -11,15 +11,6 @@ use borrow.Author.Needs.{needs}
 use Rattle.account.proofs.after_block.Statement.{statement}
 use Rattle.account.proofs.after_block.Tie as tie
 
-number-requires : tie.Need-number-requires
-number-requires c κs = search needs
-
-enum-known-place : tie.Need-enum-known-place
-enum-known-place c = search needs
-
-enum-known-n : tie.Need-enum-known-n
-enum-known-n c = search needs
-
 add-result : tie.Need-add-result
 add-result c =
     let at-n = c .before .before in
@@ -34,5 +25,4 @@ returns-2 : tie.Need-returns-2
 returns-2 c = λ κ. ap spanned (sym (was numberTold (c .before .before .before .before .number .ensures κ) (c .before .before .n .given .1)))
 
 pub after-block-spec : {M : Type 1} → statement M
-after-block-spec =
-    tie.close (tie.spec number-requires enum-known-place enum-known-n add-result returns returns-2)
+after-block-spec = tie.close (tie.spec (λ c κs. search needs) (λ c. search needs) (λ c. search needs) add-result returns returns-2)

@@ -8,11 +8,8 @@ use Rattle.account.proofs.contents_at.Tie as tie
 returns : tie.Need-returns
 returns c = contents-one _ (c .if1 .taken)
 
-add-result : tie.Need-add-result
-add-result c = search needs
-
 returns-2 : tie.Need-returns-2
 returns-2 c = contents-other _ (c .before .if1 .left)
 
 pub contents-at-spec : {M : Type 1} → statement M
-contents-at-spec = tie.close (tie.spec returns add-result returns-2)
+contents-at-spec = tie.close (tie.spec returns (λ c. search needs) returns-2)

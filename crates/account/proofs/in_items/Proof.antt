@@ -22,15 +22,6 @@ loop-holds c = (omega arith, folding-begun _ _ _ _ _ _)
 item-at-requires : tie.Need-item-at-requires Inv-loop μ-loop
 item-at-requires c κs = omega (arith, c .before .before .before .pre)
 
-with-item-requires : tie.Need-with-item-requires Inv-loop μ-loop
-with-item-requires c κs = search needs
-
-add-i : tie.Need-add-i Inv-loop μ-loop
-add-i c = omega arith
-
-loop-less : tie.Need-loop-less Inv-loop μ-loop
-loop-less c = omega arith
-
 loop-again : tie.Need-loop-again Inv-loop μ-loop
 loop-again c = (omega arith, folding-on _ _ _ _ _ _ (omega arith) (c .before .before .before .loop .inv .1) (c .before .item-at .ensures) (c .with-item .ensures))
 
@@ -38,15 +29,4 @@ returns : tie.Need-returns Inv-loop μ-loop
 returns c = items-done _ _ (omega arith) (c .before .loop .inv .1)
 
 pub in-items-spec : {M : Type 1} → statement M
-in-items-spec =
-    tie.close
-    (tie.spec
-    Inv-loop
-    μ-loop
-    loop-holds
-    item-at-requires
-    with-item-requires
-    add-i
-    loop-less
-    loop-again
-    returns)
+in-items-spec = tie.close (tie.spec Inv-loop μ-loop loop-holds item-at-requires (λ c κs. search needs) (λ c. omega arith) (λ c. omega arith) loop-again returns)

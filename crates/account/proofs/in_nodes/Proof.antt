@@ -27,12 +27,6 @@ with-node-requires c κs =
     let entry = c .before .before .before .before .before in
     subst (Inside (entry .args .file .now)) (sym (c .node-at .ensures)) (entry .pre .1 _ (omega arith))
 
-add-i : tie.Need-add-i Inv-loop μ-loop
-add-i c = omega arith
-
-loop-less : tie.Need-loop-less Inv-loop μ-loop
-loop-less c = omega arith
-
 loop-again : tie.Need-loop-again Inv-loop μ-loop
 loop-again c = (omega arith, folding-on _ _ _ _ _ _ (omega arith) (c .before .before .before .loop .inv .1) (c .before .node-at .ensures) (c .with-node .ensures))
 
@@ -40,15 +34,4 @@ returns : tie.Need-returns Inv-loop μ-loop
 returns c = nodes-done _ _ _ (omega arith) (c .before .loop .inv .1)
 
 pub in-nodes-spec : {M : Type 1} → statement M
-in-nodes-spec =
-    tie.close
-    (tie.spec
-    Inv-loop
-    μ-loop
-    loop-holds
-    node-at-requires
-    with-node-requires
-    add-i
-    loop-less
-    loop-again
-    returns)
+in-nodes-spec = tie.close (tie.spec Inv-loop μ-loop loop-holds node-at-requires with-node-requires (λ c. omega arith) (λ c. omega arith) loop-again returns)

@@ -5,30 +5,6 @@ use borrow.Author.Needs.{needs}
 use Rattle.account.proofs.together.Statement.{statement}
 use Rattle.account.proofs.together.Tie as tie
 
-on-requires : tie.Need-on-requires
-on-requires c κs = search needs
-
-room-at-requires : tie.Need-room-at-requires
-room-at-requires c κs = search needs
-
-on-requires-2 : tie.Need-on-requires-2
-on-requires-2 c κs = search needs
-
-on-requires-3 : tie.Need-on-requires-3
-on-requires-3 c κs = search needs
-
-on-requires-4 : tie.Need-on-requires-4
-on-requires-4 c κs = search needs
-
-on-requires-5 : tie.Need-on-requires-5
-on-requires-5 c κs = search needs
-
-on-requires-6 : tie.Need-on-requires-6
-on-requires-6 c κs = search needs
-
-room-at-requires-2 : tie.Need-room-at-requires-2
-room-at-requires-2 c κs = search needs
-
 returns : tie.Need-returns
 returns c =
     let at-on5 = c .before .before in
@@ -49,15 +25,5 @@ returns c =
     ) refl
 
 pub together-spec : {M : Type 1} → statement M
-together-spec =
-    tie.close
-    (tie.spec
-    on-requires
-    room-at-requires
-    on-requires-2
-    on-requires-3
-    on-requires-4
-    on-requires-5
-    on-requires-6
-    room-at-requires-2
-    returns)
+together-spec = tie.close (tie.spec (λ c κs. search needs) (λ c κs. search needs) (λ c κs. search needs) (λ c κs. search needs) (λ c κs. search needs)
+    (λ c κs. search needs) (λ c κs. search needs) (λ c κs. search needs) returns)

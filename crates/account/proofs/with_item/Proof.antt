@@ -5,17 +5,11 @@ use borrow.Author.Needs.{needs}
 use Rattle.account.proofs.with_item.Statement.{statement}
 use Rattle.account.proofs.with_item.Tie as tie
 
-on-requires : tie.Need-on-requires
-on-requires c κs = search needs
-
 returns : tie.Need-returns
 returns c = item-hidden _ _ (c .before .if1 .taken) (c .on .ensures)
-
-on-requires-2 : tie.Need-on-requires-2
-on-requires-2 c κs = search needs
 
 returns-2 : tie.Need-returns-2
 returns-2 c = item-visible _ _ (c .before .if1 .left) (c .on2 .ensures)
 
 pub with-item-spec : {M : Type 1} → statement M
-with-item-spec = tie.close (tie.spec on-requires returns on-requires-2 returns-2)
+with-item-spec = tie.close (tie.spec (λ c κs. search needs) returns (λ c κs. search needs) returns-2)

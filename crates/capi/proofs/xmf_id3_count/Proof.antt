@@ -7,19 +7,10 @@ use borrow.Author.Needs.{needs}
 use Rattle.capi.proofs.xmf_id3_count.Statement.{statement}
 use Rattle.capi.proofs.xmf_id3_count.Tie as tie
 
-frame-count-requires : tie.Need-frame-count-requires
-frame-count-requires c κs = search needs
-
-put-frame-count-requires : tie.Need-put-frame-count-requires
-put-frame-count-requires c κs = search needs
-
-same-length : tie.Need-same-length
-same-length c = search needs
-
 returns : tie.Need-returns
 returns c =
     let r = c .before .before .before .frame-count in
     leaves _ (calls.count-frames {f = []} _ (r .result) (r .ensures)) (c .before .before .put-frame-count .ensures)
 
 pub xmf-id3-count-spec : {M : Type 1} → statement M
-xmf-id3-count-spec = tie.close (tie.spec frame-count-requires put-frame-count-requires same-length returns)
+xmf-id3-count-spec = tie.close (tie.spec (λ c κs. search needs) (λ c κs. search needs) (λ c. search needs) returns)

@@ -7,19 +7,10 @@ use borrow.Author.Needs.{needs}
 use Rattle.capi.proofs.xmf_id3_frame.Statement.{statement}
 use Rattle.capi.proofs.xmf_id3_frame.Tie as tie
 
-frame-requires : tie.Need-frame-requires
-frame-requires c κs = search needs
-
-put-frame-requires : tie.Need-put-frame-requires
-put-frame-requires c κs = search needs
-
-same-length : tie.Need-same-length
-same-length c = search needs
-
 returns : tie.Need-returns
 returns c =
     let r = c .before .before .before .frame in
     leaves _ (calls.tag-frame {f = []} _ _ (r .result) (r .ensures)) (c .before .before .put-frame .ensures)
 
 pub xmf-id3-frame-spec : {M : Type 1} → statement M
-xmf-id3-frame-spec = tie.close (tie.spec frame-requires put-frame-requires same-length returns)
+xmf-id3-frame-spec = tie.close (tie.spec (λ c κs. search needs) (λ c κs. search needs) (λ c. search needs) returns)

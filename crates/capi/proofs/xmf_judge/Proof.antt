@@ -6,27 +6,10 @@ use borrow.Author.Needs.{needs}
 use Rattle.capi.proofs.xmf_judge.Statement.{statement}
 use Rattle.capi.proofs.xmf_judge.Tie as tie
 
-judge-requires : tie.Need-judge-requires
-judge-requires c κs = search needs
-
-put-judged-requires : tie.Need-put-judged-requires
-put-judged-requires c κs = search needs
-
-same-length : tie.Need-same-length
-same-length c = search needs
-
-same-length-2 : tie.Need-same-length-2
-same-length-2 c = search needs
-
-same-length-3 : tie.Need-same-length-3
-same-length-3 c = search needs
-
 returns : tie.Need-returns
 returns c =
     let r = c .before .before .before .before .before .before .before .judge in
     leaves _ (judge (r .result) (record { answers = r .ensures .0; in-nodes = r .ensures .1 .0; in-items = r .ensures .1 .1 })) (c .before .before .put-judged .ensures)
 
 pub xmf-judge-spec : {M : Type 1} → statement M
-xmf-judge-spec =
-    tie.close
-    (tie.spec judge-requires put-judged-requires same-length same-length-2 same-length-3 returns)
+xmf-judge-spec = tie.close (tie.spec (λ c κs. search needs) (λ c κs. search needs) (λ c. search needs) (λ c. search needs) (λ c. search needs) returns)

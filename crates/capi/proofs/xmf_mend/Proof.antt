@@ -6,27 +6,6 @@ use borrow.Author.Needs.{needs}
 use Rattle.capi.proofs.xmf_mend.Statement.{statement}
 use Rattle.capi.proofs.xmf_mend.Tie as tie
 
-mend-requires : tie.Need-mend-requires
-mend-requires c κs = search needs
-
-put-mended-requires : tie.Need-put-mended-requires
-put-mended-requires c κs = search needs
-
-same-length : tie.Need-same-length
-same-length c = search needs
-
-same-length-2 : tie.Need-same-length-2
-same-length-2 c = search needs
-
-same-length-3 : tie.Need-same-length-3
-same-length-3 c = search needs
-
-same-length-4 : tie.Need-same-length-4
-same-length-4 c = search needs
-
-same-length-5 : tie.Need-same-length-5
-same-length-5 c = search needs
-
 returns : tie.Need-returns
 returns c =
     let r = c .before .before .before .before .before .before .before .before .before .before .before .mend in
@@ -34,14 +13,5 @@ returns c =
     leaves _ (mend-header (r .result) (e .0) (e .1 .0) (e .1 .1 .0) (e .1 .1 .1 .0) (e .1 .1 .1 .1)) (c .before .before .put-mended .ensures)
 
 pub xmf-mend-spec : {M : Type 1} → statement M
-xmf-mend-spec =
-    tie.close
-    (tie.spec
-    mend-requires
-    put-mended-requires
-    same-length
-    same-length-2
-    same-length-3
-    same-length-4
-    same-length-5
-    returns)
+xmf-mend-spec = tie.close (tie.spec (λ c κs. search needs) (λ c κs. search needs) (λ c. search needs) (λ c. search needs) (λ c. search needs) (λ c. search needs)
+    (λ c. search needs) returns)

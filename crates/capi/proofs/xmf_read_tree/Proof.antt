@@ -6,27 +6,10 @@ use borrow.Author.Needs.{needs}
 use Rattle.capi.proofs.xmf_read_tree.Statement.{statement}
 use Rattle.capi.proofs.xmf_read_tree.Tie as tie
 
-read-tree-requires : tie.Need-read-tree-requires
-read-tree-requires c κs = search needs
-
-put-tree-requires : tie.Need-put-tree-requires
-put-tree-requires c κs = search needs
-
-same-length : tie.Need-same-length
-same-length c = search needs
-
-same-length-2 : tie.Need-same-length-2
-same-length-2 c = search needs
-
-same-length-3 : tie.Need-same-length-3
-same-length-3 c = search needs
-
 returns : tie.Need-returns
 returns c =
     let r = c .before .before .before .before .before .before .before .read-tree in
     leaves _ (read-tree (r .result) (r .ensures .0) (r .ensures .1 .0) (r .ensures .1 .1)) (c .before .before .put-tree .ensures)
 
 pub xmf-read-tree-spec : {M : Type 1} → statement M
-xmf-read-tree-spec =
-    tie.close
-    (tie.spec read-tree-requires put-tree-requires same-length same-length-2 same-length-3 returns)
+xmf-read-tree-spec = tie.close (tie.spec (λ c κs. search needs) (λ c κs. search needs) (λ c. search needs) (λ c. search needs) (λ c. search needs) returns)

@@ -6,33 +6,10 @@ use borrow.Author.Needs.{needs}
 use Rattle.capi.proofs.xmf_resolve.Statement.{statement}
 use Rattle.capi.proofs.xmf_resolve.Tie as tie
 
-resolve-requires : tie.Need-resolve-requires
-resolve-requires c κs = search needs
-
-put-resolved-requires : tie.Need-put-resolved-requires
-put-resolved-requires c κs = search needs
-
-same-length : tie.Need-same-length
-same-length c = search needs
-
-same-length-2 : tie.Need-same-length-2
-same-length-2 c = search needs
-
-same-length-3 : tie.Need-same-length-3
-same-length-3 c = search needs
-
 returns : tie.Need-returns
 returns c =
     let r = c .before .before .before .before .before .before .before .resolve in
     leaves _ (resolve-row _ (r .result) (record { answers = r .ensures .0; in-nodes = r .ensures .1 .0; in-items = r .ensures .1 .1 })) (c .before .before .put-resolved .ensures)
 
 pub xmf-resolve-spec : {M : Type 1} → statement M
-xmf-resolve-spec =
-    tie.close
-    (tie.spec
-    resolve-requires
-    put-resolved-requires
-    same-length
-    same-length-2
-    same-length-3
-    returns)
+xmf-resolve-spec = tie.close (tie.spec (λ c κs. search needs) (λ c κs. search needs) (λ c. search needs) (λ c. search needs) (λ c. search needs) returns)

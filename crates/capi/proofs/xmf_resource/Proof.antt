@@ -6,24 +6,6 @@ use borrow.Author.Needs.{needs}
 use Rattle.capi.proofs.xmf_resource.Statement.{statement}
 use Rattle.capi.proofs.xmf_resource.Tie as tie
 
-copy-resource-requires : tie.Need-copy-resource-requires
-copy-resource-requires c κs = search needs
-
-put-resolved-requires : tie.Need-put-resolved-requires
-put-resolved-requires c κs = search needs
-
-same-length : tie.Need-same-length
-same-length c = search needs
-
-same-length-2 : tie.Need-same-length-2
-same-length-2 c = search needs
-
-same-length-3 : tie.Need-same-length-3
-same-length-3 c = search needs
-
-same-length-4 : tie.Need-same-length-4
-same-length-4 c = search needs
-
 returns : tie.Need-returns
 returns c =
     let r = c .before .before .before .before .before .before .before .before .before .copy-resource in
@@ -31,13 +13,5 @@ returns c =
     (r .ensures .1 .1 .1)) (c .before .before .put-resolved .ensures)
 
 pub xmf-resource-spec : {M : Type 1} → statement M
-xmf-resource-spec =
-    tie.close
-    (tie.spec
-    copy-resource-requires
-    put-resolved-requires
-    same-length
-    same-length-2
-    same-length-3
-    same-length-4
+xmf-resource-spec = tie.close (tie.spec (λ c κs. search needs) (λ c κs. search needs) (λ c. search needs) (λ c. search needs) (λ c. search needs) (λ c. search needs)
     returns)

@@ -8,21 +8,6 @@ use borrow.Author.Needs.{needs}
 use Rattle.capi.proofs.xmf_shelf_drop.Statement.{statement}
 use Rattle.capi.proofs.xmf_shelf_drop.Tie as tie
 
-drop-words-requires : tie.Need-drop-words-requires
-drop-words-requires c κs = search needs
-
-put-outcome-requires : tie.Need-put-outcome-requires
-put-outcome-requires c κs = search needs
-
-same-length : tie.Need-same-length
-same-length c = search needs
-
-same-length-2 : tie.Need-same-length-2
-same-length-2 c = search needs
-
-same-length-3 : tie.Need-same-length-3
-same-length-3 c = search needs
-
 returns : tie.Need-returns
 returns c =
     let d = c .before .before .before .before .before .before .before in
@@ -30,12 +15,4 @@ returns c =
     shelf-leaves (dropping (label (a .desk) (a .call) (a .boat))) refl _ (d .drop-words .result) (d .drop-words .ensures) (c .before .before .put-outcome .ensures)
 
 pub xmf-shelf-drop-spec : {M : Type 1} → statement M
-xmf-shelf-drop-spec =
-    tie.close
-    (tie.spec
-    drop-words-requires
-    put-outcome-requires
-    same-length
-    same-length-2
-    same-length-3
-    returns)
+xmf-shelf-drop-spec = tie.close (tie.spec (λ c κs. search needs) (λ c κs. search needs) (λ c. search needs) (λ c. search needs) (λ c. search needs) returns)

@@ -8,21 +8,6 @@ use borrow.Author.Needs.{needs}
 use Rattle.capi.proofs.xmf_shelf_put.Statement.{statement}
 use Rattle.capi.proofs.xmf_shelf_put.Tie as tie
 
-put-words-requires : tie.Need-put-words-requires
-put-words-requires c κs = search needs
-
-put-outcome-requires : tie.Need-put-outcome-requires
-put-outcome-requires c κs = search needs
-
-same-length : tie.Need-same-length
-same-length c = search needs
-
-same-length-2 : tie.Need-same-length-2
-same-length-2 c = search needs
-
-same-length-3 : tie.Need-same-length-3
-same-length-3 c = search needs
-
 returns : tie.Need-returns
 returns c =
     let d = c .before .before .before .before .before .before .before in
@@ -30,12 +15,4 @@ returns c =
     shelf-leaves (putting (label (a .desk) (a .call) (a .boat)) (a .sheet .now)) refl _ (d .put-words .result) (d .put-words .ensures) (c .before .before .put-outcome .ensures)
 
 pub xmf-shelf-put-spec : {M : Type 1} → statement M
-xmf-shelf-put-spec =
-    tie.close
-    (tie.spec
-    put-words-requires
-    put-outcome-requires
-    same-length
-    same-length-2
-    same-length-3
-    returns)
+xmf-shelf-put-spec = tie.close (tie.spec (λ c κs. search needs) (λ c κs. search needs) (λ c. search needs) (λ c. search needs) (λ c. search needs) returns)

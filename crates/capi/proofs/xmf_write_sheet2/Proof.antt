@@ -6,24 +6,6 @@ use borrow.Author.Needs.{needs}
 use Rattle.capi.proofs.xmf_write_sheet2.Statement.{statement}
 use Rattle.capi.proofs.xmf_write_sheet2.Tie as tie
 
-write-sheet2-requires : tie.Need-write-sheet2-requires
-write-sheet2-requires c κs = search needs
-
-put-written-requires : tie.Need-put-written-requires
-put-written-requires c κs = search needs
-
-same-length : tie.Need-same-length
-same-length c = search needs
-
-same-length-2 : tie.Need-same-length-2
-same-length-2 c = search needs
-
-same-length-3 : tie.Need-same-length-3
-same-length-3 c = search needs
-
-same-length-4 : tie.Need-same-length-4
-same-length-4 c = search needs
-
 returns : tie.Need-returns
 returns c =
     let r = c .before .before .before .before .before .before .before .before .before .write-sheet2 in
@@ -31,13 +13,5 @@ returns c =
     (r .ensures .1 .1 .0)) (c .before .before .put-written .ensures)
 
 pub xmf-write-sheet2-spec : {M : Type 1} → statement M
-xmf-write-sheet2-spec =
-    tie.close
-    (tie.spec
-    write-sheet2-requires
-    put-written-requires
-    same-length
-    same-length-2
-    same-length-3
-    same-length-4
+xmf-write-sheet2-spec = tie.close (tie.spec (λ c κs. search needs) (λ c κs. search needs) (λ c. search needs) (λ c. search needs) (λ c. search needs) (λ c. search needs)
     returns)

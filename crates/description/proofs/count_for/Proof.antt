@@ -7,15 +7,6 @@ use borrow.Author.Needs.{needs}
 use Rattle.description.proofs.count_for.Statement.{statement}
 use Rattle.description.proofs.count_for.Tie as tie
 
-read-file-requires : tie.Need-read-file-requires
-read-file-requires c κs = search needs
-
-enum-known-n : tie.Need-enum-known-n
-enum-known-n c = search needs
-
-enum-known-s : tie.Need-enum-known-s
-enum-known-s c = search needs
-
 count-row-requires : tie.Need-count-row-requires
 count-row-requires c κs =
     let at-s = c .before .before in
@@ -25,21 +16,6 @@ count-row-requires c κs =
     (entry .args .channel) (entry .args .resource) (at-read-file .read-file .ensures .0) (at-read-file .read-file .ensures .1 .0)
     (at-read-file .read-file .ensures .1 .1) (at-s .s .given .1)
 
-enum-known-n-2 : tie.Need-enum-known-n-2
-enum-known-n-2 c = search needs
-
-enum-known-n-3 : tie.Need-enum-known-n-3
-enum-known-n-3 c = search needs
-
-clear-all-requires : tie.Need-clear-all-requires
-clear-all-requires c κs = search needs
-
-same-length : tie.Need-same-length
-same-length c = search needs
-
-same-length-2 : tie.Need-same-length-2
-same-length-2 c = search needs
-
 returns : tie.Need-returns
 returns c =
     let at-read-file = c .before .before .before .before .before .before .before in
@@ -47,12 +23,6 @@ returns c =
     let w = ends-unread (entry .args .file .now) (length (entry .args .nodes .now)) (length (entry .args .items .now)) (entry .args .item-row)
     (entry .args .channel) (entry .args .resource) (at-read-file .read-file .ensures .0) (at-read-file .read-file .ensures .1 .0)
     (at-read-file .read-file .ensures .1 .1) (c .before .n .given .1) in (w .0, (w .1, w .2))
-
-same-length-3 : tie.Need-same-length-3
-same-length-3 c = search needs
-
-same-length-4 : tie.Need-same-length-4
-same-length-4 c = search needs
 
 returns-2 : tie.Need-returns-2
 returns-2 c =
@@ -92,22 +62,6 @@ returns-3 c =
     (at-clear-all .clear-all .ensures .1 ∙ ap (λ k. replicate k 0) (at-read-file .read-file .kept .1 .1 .0)) in (w .0, (w .1, w .2))
 
 pub count-for-spec : {M : Type 1} → statement M
-count-for-spec =
-    tie.close
-    (tie.spec
-    read-file-requires
-    enum-known-n
-    enum-known-s
-    count-row-requires
-    enum-known-n-2
-    enum-known-n-3
-    clear-all-requires
-    same-length
-    same-length-2
-    returns
-    same-length-3
-    same-length-4
-    returns-2
-    same-length-5
-    same-length-6
-    returns-3)
+count-for-spec = tie.close (tie.spec (λ c κs. search needs) (λ c. search needs) (λ c. search needs) count-row-requires (λ c. search needs) (λ c. search needs)
+    (λ c κs. search needs) (λ c. search needs) (λ c. search needs) returns (λ c. search needs) (λ c. search needs) returns-2 same-length-5
+    same-length-6 returns-3)

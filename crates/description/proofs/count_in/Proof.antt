@@ -5,14 +5,8 @@ use borrow.Author.Needs.{needs}
 use Rattle.description.proofs.count_in.Statement.{statement}
 use Rattle.description.proofs.count_in.Tie as tie
 
-is-field-requires : tie.Need-is-field-requires
-is-field-requires c κs = search needs
-
 returns : tie.Need-returns
 returns c = row-other _ _ _ _ (c .before .is-field .ensures) (c .if1 .taken)
-
-is-binary-requires : tie.Need-is-binary-requires
-is-binary-requires c κs = search needs
 
 returns-2 : tie.Need-returns-2
 returns-2 c = row-text _ _ _ _ (c .before .before .before .is-field .ensures) (c .before .before .if1 .left) (c .before .is-binary .ensures) (c .if2 .taken)
@@ -28,4 +22,4 @@ returns-3 c =
     row-count _ _ _ _ (at-is-field .is-field .ensures) (at-if1 .if1 .left) (at-is-binary .is-binary .ensures) (c .before .if2 .left) (c .count-of .ensures)
 
 pub count-in-spec : {M : Type 1} → statement M
-count-in-spec = tie.close (tie.spec is-field-requires returns is-binary-requires returns-2 count-of-requires returns-3)
+count-in-spec = tie.close (tie.spec (λ c κs. search needs) returns (λ c κs. search needs) returns-2 count-of-requires returns-3)

@@ -10,45 +10,6 @@ use borrow.Author.Needs.{needs}
 use Rattle.description.proofs.count_of.Statement.{statement}
 use Rattle.description.proofs.count_of.Tie as tie
 
-add-t18 : tie.Need-add-t18
-add-t18 c = search needs
-
-number-requires : tie.Need-number-requires
-number-requires c κs = search needs
-
-enum-known-p : tie.Need-enum-known-p
-enum-known-p c = search needs
-
-enum-known-d : tie.Need-enum-known-d
-enum-known-d c = search needs
-
-number-requires-2 : tie.Need-number-requires-2
-number-requires-2 c κs = search needs
-
-enum-known-p-2 : tie.Need-enum-known-p-2
-enum-known-p-2 c = search needs
-
-enum-known-channels : tie.Need-enum-known-channels
-enum-known-channels c = search needs
-
-number-requires-3 : tie.Need-number-requires-3
-number-requires-3 c κs = search needs
-
-enum-known-p-3 : tie.Need-enum-known-p-3
-enum-known-p-3 c = search needs
-
-enum-known-resources : tie.Need-enum-known-resources
-enum-known-resources c = search needs
-
-read-lists-requires : tie.Need-read-lists-requires
-read-lists-requires c κs = search needs
-
-enum-known-p-4 : tie.Need-enum-known-p-4
-enum-known-p-4 c = search needs
-
-enum-known-h : tie.Need-enum-known-h
-enum-known-h c = search needs
-
 read-table-requires : tie.Need-read-table-requires
 read-table-requires c κs =
     let at-resources = c .before .before .before .before .before in
@@ -112,25 +73,6 @@ returns-5 c =
     (was passTold (at-read-lists .read-lists .ensures) (at-h .h .given .1)) (c .read-table .ensures)
 
 pub count-of-spec : {M : Type 1} → statement M
-count-of-spec =
-    tie.close
-    (tie.spec
-    add-t18
-    number-requires
-    enum-known-p
-    enum-known-d
-    number-requires-2
-    enum-known-p-2
-    enum-known-channels
-    number-requires-3
-    enum-known-p-3
-    enum-known-resources
-    read-lists-requires
-    enum-known-p-4
-    enum-known-h
-    read-table-requires
-    returns
-    returns-2
-    returns-3
-    returns-4
-    returns-5)
+count-of-spec = tie.close (tie.spec (λ c. search needs) (λ c κs. search needs) (λ c. search needs) (λ c. search needs) (λ c κs. search needs) (λ c. search needs)
+    (λ c. search needs) (λ c κs. search needs) (λ c. search needs) (λ c. search needs) (λ c κs. search needs) (λ c. search needs)
+    (λ c. search needs) read-table-requires returns returns-2 returns-3 returns-4 returns-5)

@@ -11,9 +11,6 @@ returns c =
     let entry = c .before .before .before in
     row-none (entry .args .file .now) (entry .args .items .now) (entry .args .count) (entry .args .row) (entry .args .channel) (entry .args .resource) (c .if1 .taken)
 
-item-at-requires : tie.Need-item-at-requires
-item-at-requires c κs = omega arith
-
 count-in-requires : tie.Need-count-in-requires
 count-in-requires c κs = row-in (c .before .before .before .before .args .items .now) (c .before .before .before .before .pre) (c .before .if1 .left) (c .item-at .ensures)
 
@@ -25,4 +22,4 @@ returns-2 c =
     (entry .args .resource) (at-if1 .if1 .left) (c .before .item-at .ensures) (c .count-in .ensures)
 
 pub count-row-spec : {M : Type 1} → statement M
-count-row-spec = tie.close (tie.spec returns item-at-requires count-in-requires returns-2)
+count-row-spec = tie.close (tie.spec returns (λ c κs. omega arith) count-in-requires returns-2)

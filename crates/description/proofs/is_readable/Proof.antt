@@ -8,15 +8,6 @@ use borrow.Author.Needs.{needs}
 use Rattle.description.proofs.is_readable.Statement.{statement}
 use Rattle.description.proofs.is_readable.Tie as tie
 
-count-of-requires : tie.Need-count-of-requires
-count-of-requires c κs = search needs
-
-enum-told : tie.Need-enum-told
-enum-told c = search needs
-
-enum-known-n : tie.Need-enum-known-n
-enum-known-n c = search needs
-
 returns : tie.Need-returns
 returns c = readable-count 0 0 _ _ (sym (was told (c .before .before .count-of .ensures) (c .enum-told .given .1)))
 
@@ -24,4 +15,4 @@ returns-2 : tie.Need-returns-2
 returns-2 c = readable-refused 0 0 _ _ (sym (was told (c .before .before .before .count-of .ensures) (c .before .n .given .1)))
 
 pub is-readable-spec : {M : Type 1} → statement M
-is-readable-spec = tie.close (tie.spec count-of-requires enum-told enum-known-n returns returns-2)
+is-readable-spec = tie.close (tie.spec (λ c κs. search needs) (λ c. search needs) (λ c. search needs) returns returns-2)

@@ -9,17 +9,11 @@ use Rattle.description.proofs.read_guid.Tie as tie
 returns : tie.Need-returns
 returns c = guid-cut _ _ _ (omega arith)
 
-sub-if2 : tie.Need-sub-if2
-sub-if2 c = search needs
-
 returns-2 : tie.Need-returns-2
 returns-2 c = guid-cut _ _ _ (omega arith)
-
-add-t7 : tie.Need-add-t7
-add-t7 c = search needs
 
 returns-3 : tie.Need-returns-3
 returns-3 c = guid-all _ _ _ (omega arith)
 
 pub read-guid-spec : {M : Type 1} → statement M
-read-guid-spec = tie.close (tie.spec returns sub-if2 returns-2 add-t7 returns-3)
+read-guid-spec = tie.close (tie.spec returns (λ c. search needs) returns-2 (λ c. search needs) returns-3)

@@ -8,29 +8,11 @@ use borrow.Author.Needs.{needs}
 use Rattle.description.proofs.read_identifier.Statement.{statement}
 use Rattle.description.proofs.read_identifier.Tie as tie
 
-read-guid-requires : tie.Need-read-guid-requires
-read-guid-requires c κs = search needs
-
 returns : tie.Need-returns
 returns c = identifier-three _ _ _ _ (c .before .if1 .taken) (c .read-guid .ensures)
 
-read-guid-requires-2 : tie.Need-read-guid-requires-2
-read-guid-requires-2 c κs = search needs
-
 returns-2 : tie.Need-returns-2
 returns-2 c = identifier-five _ _ _ _ (c .before .before .if1 .left) (c .before .if2 .taken) (c .read-guid2 .ensures)
-
-manufacturer-requires : tie.Need-manufacturer-requires
-manufacturer-requires c κs = search needs
-
-enum-known-n : tie.Need-enum-known-n
-enum-known-n c = search needs
-
-enum-known-d : tie.Need-enum-known-d
-enum-known-d c = search needs
-
-read-value-requires : tie.Need-read-value-requires
-read-value-requires c κs = search needs
 
 returns-3 : tie.Need-returns-3
 returns-3 c =
@@ -50,25 +32,9 @@ returns-4 c =
     identifier-two _ _ _ _ (at-if1 .if1 .left) (at-if2 .if2 .left) (at-if3 .if3 .taken)
     (was passTold (at-manufacturer .manufacturer .ensures metaFrame) (at-d .d .given .1)) (c .read-value .ensures)
 
-read-value-requires-2 : tie.Need-read-value-requires-2
-read-value-requires-2 c κs = search needs
-
 returns-5 : tie.Need-returns-5
 returns-5 c = identifier-one _ _ _ _ (c .before .before .before .if1 .left) (c .before .before .if2 .left) (c .before .if3 .left) (c .read-value2 .ensures)
 
 pub read-identifier-spec : {M : Type 1} → statement M
-read-identifier-spec =
-    tie.close
-    (tie.spec
-    read-guid-requires
-    returns
-    read-guid-requires-2
-    returns-2
-    manufacturer-requires
-    enum-known-n
-    enum-known-d
-    read-value-requires
-    returns-3
-    returns-4
-    read-value-requires-2
-    returns-5)
+read-identifier-spec = tie.close (tie.spec (λ c κs. search needs) returns (λ c κs. search needs) returns-2 (λ c κs. search needs) (λ c. search needs) (λ c. search needs)
+    (λ c κs. search needs) returns-3 returns-4 (λ c κs. search needs) returns-5)

@@ -7,24 +7,6 @@ use borrow.Author.Needs.{needs}
 use Rattle.description.proofs.read_lists.Statement.{statement}
 use Rattle.description.proofs.read_lists.Tie as tie
 
-read-resources-requires : tie.Need-read-resources-requires
-read-resources-requires c κs = search needs
-
-enum-known-n : tie.Need-enum-known-n
-enum-known-n c = search needs
-
-enum-known-d : tie.Need-enum-known-d
-enum-known-d c = search needs
-
-read-numbers-requires : tie.Need-read-numbers-requires
-read-numbers-requires c κs = search needs
-
-enum-known-n-2 : tie.Need-enum-known-n-2
-enum-known-n-2 c = search needs
-
-enum-known-e : tie.Need-enum-known-e
-enum-known-e c = search needs
-
 returns : tie.Need-returns
 returns c = lists-resource _ _ _ _ (was passTold (c .before .before .before .read-resources .ensures) (c .before .n .given .1))
 
@@ -45,15 +27,5 @@ returns-3 c =
     (was numberTold (at-read-numbers .read-numbers .ensures) (c .before .e .given .1))
 
 pub read-lists-spec : {M : Type 1} → statement M
-read-lists-spec =
-    tie.close
-    (tie.spec
-    read-resources-requires
-    enum-known-n
-    enum-known-d
-    read-numbers-requires
-    enum-known-n-2
-    enum-known-e
-    returns
-    returns-2
-    returns-3)
+read-lists-spec = tie.close (tie.spec (λ c κs. search needs) (λ c. search needs) (λ c. search needs) (λ c κs. search needs) (λ c. search needs) (λ c. search needs)
+    returns returns-2 returns-3)

@@ -22,24 +22,12 @@ abbrev μ-loop : tie.MeasureT-loop
 loop-holds : tie.Need-loop-holds Inv-loop μ-loop
 loop-holds c = numbers-begun _ _ _ _ _
 
-number-requires : tie.Need-number-requires Inv-loop μ-loop
-number-requires c κs = search needs
-
-enum-known-n : tie.Need-enum-known-n Inv-loop μ-loop
-enum-known-n c = search needs
-
 returns : tie.Need-returns Inv-loop μ-loop
 returns c =
     let at-number = c .before .before .before in
     let at-loop-test = at-number .before in
     let at-loop = at-loop-test .before in
     numbers-no (at-loop .loop .inv) (at-loop-test .loop-test .taken) (was numberTold (at-number .number .ensures metaFrame) (c .before .n .given .1))
-
-enum-known-v : tie.Need-enum-known-v Inv-loop μ-loop
-enum-known-v c = search needs
-
-add-i : tie.Need-add-i Inv-loop μ-loop
-add-i c = search needs
 
 loop-less : tie.Need-loop-less Inv-loop μ-loop
 loop-less c = omega (arith, number-inside _ _ _ _ _ (was numberTold (c .before .before .before .before .number .ensures metaFrame) (c .before .before .v .given .1)))
@@ -57,17 +45,5 @@ returns-2 : tie.Need-returns-2 Inv-loop μ-loop
 returns-2 c = numbers-done (c .before .loop .inv) (c .loop-test .left)
 
 pub read-numbers-spec : {M : Type 1} → statement M
-read-numbers-spec =
-    tie.close
-    (tie.spec
-    Inv-loop
-    μ-loop
-    loop-holds
-    number-requires
-    enum-known-n
-    returns
-    enum-known-v
-    add-i
-    loop-less
-    loop-again
-    returns-2)
+read-numbers-spec = tie.close (tie.spec Inv-loop μ-loop loop-holds (λ c κs. search needs) (λ c. search needs) returns (λ c. search needs) (λ c. search needs) loop-less
+    loop-again returns-2)

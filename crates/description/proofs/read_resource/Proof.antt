@@ -8,20 +8,8 @@ use borrow.Author.Needs.{needs}
 use Rattle.description.proofs.read_resource.Statement.{statement}
 use Rattle.description.proofs.read_resource.Tie as tie
 
-number-requires : tie.Need-number-requires
-number-requires c κs = search needs
-
-enum-known-n : tie.Need-enum-known-n
-enum-known-n c = search needs
-
-enum-known-kind : tie.Need-enum-known-kind
-enum-known-kind c = search needs
-
 returns : tie.Need-returns
 returns c = resource-bad _ _ _ (was numberTold (c .before .before .before .before .number .ensures metaFrame) (c .before .before .kind .given .1)) (c .if1 .taken)
-
-read-identifier-requires : tie.Need-read-identifier-requires
-read-identifier-requires c κs = search needs
 
 returns-2 : tie.Need-returns-2
 returns-2 c = resource-cut _ _ _ (was numberTold (c .before .before .before .number .ensures metaFrame) (c .before .n .given .1))
@@ -33,13 +21,4 @@ returns-3 c =
     resource-all _ _ _ (was numberTold (at-number .number .ensures metaFrame) (at-kind .kind .given .1)) (c .before .if1 .left) (c .read-identifier .ensures)
 
 pub read-resource-spec : {M : Type 1} → statement M
-read-resource-spec =
-    tie.close
-    (tie.spec
-    number-requires
-    enum-known-n
-    enum-known-kind
-    returns
-    read-identifier-requires
-    returns-2
-    returns-3)
+read-resource-spec = tie.close (tie.spec (λ c κs. search needs) (λ c. search needs) (λ c. search needs) returns (λ c κs. search needs) returns-2 returns-3)

@@ -20,24 +20,12 @@ abbrev μ-loop : tie.MeasureT-loop
 loop-holds : tie.Need-loop-holds Inv-loop μ-loop
 loop-holds c = record { same = refl }
 
-read-resource-requires : tie.Need-read-resource-requires Inv-loop μ-loop
-read-resource-requires c κs = search needs
-
-enum-known-n : tie.Need-enum-known-n Inv-loop μ-loop
-enum-known-n c = search needs
-
 returns : tie.Need-returns Inv-loop μ-loop
 returns c =
     let at-read-resource = c .before .before .before in
     let at-loop-test = at-read-resource .before in
     let at-loop = at-loop-test .before in
     resources-no (at-loop .loop .inv) (at-loop-test .loop-test .taken) (was passTold (at-read-resource .read-resource .ensures) (c .before .n .given .1))
-
-enum-known-d : tie.Need-enum-known-d Inv-loop μ-loop
-enum-known-d c = search needs
-
-sub-left : tie.Need-sub-left Inv-loop μ-loop
-sub-left c = search needs
 
 loop-less : tie.Need-loop-less Inv-loop μ-loop
 loop-less c = omega (arith, resource-further _ _ _ (was passTold (c .before .before .before .read-resource .ensures) (c .before .d .given .1)))
@@ -53,17 +41,5 @@ returns-2 : tie.Need-returns-2 Inv-loop μ-loop
 returns-2 c = resources-done (c .before .loop .inv) (c .loop-test .left)
 
 pub read-resources-spec : {M : Type 1} → statement M
-read-resources-spec =
-    tie.close
-    (tie.spec
-    Inv-loop
-    μ-loop
-    loop-holds
-    read-resource-requires
-    enum-known-n
-    returns
-    enum-known-d
-    sub-left
-    loop-less
-    loop-again
-    returns-2)
+read-resources-spec = tie.close (tie.spec Inv-loop μ-loop loop-holds (λ c κs. search needs) (λ c. search needs) returns (λ c. search needs) (λ c. search needs) loop-less
+    loop-again returns-2)

@@ -8,20 +8,8 @@ use borrow.Author.Needs.{needs}
 use Rattle.description.proofs.read_table.Statement.{statement}
 use Rattle.description.proofs.read_table.Tie as tie
 
-index-of-requires : tie.Need-index-of-requires
-index-of-requires c κs = search needs
-
 mul-read-numbers : tie.Need-mul-read-numbers
 mul-read-numbers c = omega (arith, product (c .before .before .args .channels) (c .before .before .args .resources) (omega arith) (omega arith))
-
-read-numbers-requires : tie.Need-read-numbers-requires
-read-numbers-requires c κs = search needs
-
-enum-known-p : tie.Need-enum-known-p
-enum-known-p c = search needs
-
-enum-known-count : tie.Need-enum-known-count
-enum-known-count c = search needs
 
 returns : tie.Need-returns
 returns c =
@@ -55,16 +43,5 @@ returns-5 c =
     (c .before .if2 .left) (c .if3 .left) (at-index-of .index-of .ensures)
 
 pub read-table-spec : {M : Type 1} → statement M
-read-table-spec =
-    tie.close
-    (tie.spec
-    index-of-requires
-    mul-read-numbers
-    read-numbers-requires
-    enum-known-p
-    enum-known-count
-    returns
-    returns-2
-    returns-3
-    returns-4
-    returns-5)
+read-table-spec = tie.close (tie.spec (λ c κs. search needs) mul-read-numbers (λ c κs. search needs) (λ c. search needs) (λ c. search needs) returns returns-2 returns-3
+    returns-4 returns-5)

@@ -8,15 +8,6 @@ use borrow.Author.Needs.{needs}
 use Rattle.description.proofs.read_value.Statement.{statement}
 use Rattle.description.proofs.read_value.Tie as tie
 
-number-requires : tie.Need-number-requires
-number-requires c κs = search needs
-
-enum-known-n : tie.Need-enum-known-n
-enum-known-n c = search needs
-
-enum-known-d : tie.Need-enum-known-d
-enum-known-d c = search needs
-
 returns : tie.Need-returns
 returns c = value-cut _ _ _ (was numberTold (c .before .before .before .number .ensures metaFrame) (c .before .n .given .1))
 
@@ -24,4 +15,4 @@ returns-2 : tie.Need-returns-2
 returns-2 c = value-all _ _ _ (was numberTold (c .before .before .before .number .ensures metaFrame) (c .before .d .given .1))
 
 pub read-value-spec : {M : Type 1} → statement M
-read-value-spec = tie.close (tie.spec number-requires enum-known-n enum-known-d returns returns-2)
+read-value-spec = tie.close (tie.spec (λ c κs. search needs) (λ c. search needs) (λ c. search needs) returns returns-2)

@@ -24,27 +24,12 @@ abbrev μ-loop : tie.MeasureT-loop
 loop-holds : tie.Need-loop-holds Inv-loop μ-loop
 loop-holds c = (refl, omega arith, omega arith)
 
-number-field-requires : tie.Need-number-field-requires Inv-loop μ-loop
-number-field-requires c κs = search needs
-
-enum-told : tie.Need-enum-told Inv-loop μ-loop
-enum-told c = search needs
-
 returns : tie.Need-returns Inv-loop μ-loop
 returns c =
     let a = c .before .before .before .before .before .before .args in
     let told = as-told (NumberAt (a .line .now) (c .before .before .before .before .loop .from)) (c .before .before .number-field .ensures) (c .enum-told .given .1) in
     sym (c .before .before .before .before .loop .inv .0 ∙ numbers-no (a .line .now) (c .before .before .before .before .loop .from)
     (c .before .before .before .before .loop .left) (c .before .before .before .loop-test .taken) told)
-
-enum-known-next : tie.Need-enum-known-next Inv-loop μ-loop
-enum-known-next c = search needs
-
-sub-left : tie.Need-sub-left Inv-loop μ-loop
-sub-left c = search needs
-
-loop-less : tie.Need-loop-less Inv-loop μ-loop
-loop-less c = search needs
 
 loop-again : tie.Need-loop-again Inv-loop μ-loop
 loop-again c =
@@ -61,18 +46,12 @@ loop-again c =
       omega arith,
     )
 
-piece-end-requires : tie.Need-piece-end-requires Inv-loop μ-loop
-piece-end-requires c κs = search needs
-
 returns-2 : tie.Need-returns-2 Inv-loop μ-loop
 returns-2 c =
     let a = c .before .before .before .before .before .args in
     let piece = next-piece 0x09 (a .line .now) (c .before .before .before .loop .from) (omega arith) (c .before .piece-end .ensures .1) in
     sym (c .before .before .before .loop .inv .0 ∙ numbers-more (a .line .now) (c .before .before .before .loop .from)
     (c .before .before .before .loop .left) (omega arith) piece (c .if1 .taken))
-
-read-number-requires : tie.Need-read-number-requires Inv-loop μ-loop
-read-number-requires c κs = search needs
 
 returns-3 : tie.Need-returns-3 Inv-loop μ-loop
 returns-3 c =
@@ -82,20 +61,5 @@ returns-3 c =
     piece (c .before .if1 .left) (c .read-number .ensures) ∙ sym (c .before .before .before .before .loop .inv .0)
 
 pub are-numbers-spec : {M : Type 1} → statement M
-are-numbers-spec =
-    tie.close
-    (tie.spec
-    Inv-loop
-    μ-loop
-    loop-holds
-    number-field-requires
-    enum-told
-    returns
-    enum-known-next
-    sub-left
-    loop-less
-    loop-again
-    piece-end-requires
-    returns-2
-    read-number-requires
-    returns-3)
+are-numbers-spec = tie.close (tie.spec Inv-loop μ-loop loop-holds (λ c κs. search needs) (λ c. search needs) returns (λ c. search needs) (λ c. search needs)
+    (λ c. search needs) loop-again (λ c κs. search needs) returns-2 (λ c κs. search needs) returns-3)

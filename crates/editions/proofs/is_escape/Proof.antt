@@ -6,26 +6,14 @@ use borrow.Author.Needs.{needs}
 use Rattle.editions.proofs.is_escape.Statement.{statement}
 use Rattle.editions.proofs.is_escape.Tie as tie
 
-nibble-requires : tie.Need-nibble-requires
-nibble-requires c κs = search needs
-
 mul-v : tie.Need-mul-v
 mul-v c = omega (arith, c .nibble .ensures .1)
-
-nibble-requires-2 : tie.Need-nibble-requires-2
-nibble-requires-2 c κs = search needs
 
 add-v : tie.Need-add-v
 add-v c = omega (arith, c .before .nibble .ensures .1, c .nibble2 .ensures .1)
 
 returns : tie.Need-returns
 returns c = escape-great _ _ (c .before .before .nibble .ensures .0) (c .before .nibble2 .ensures .0) (c .if1 .taken)
-
-cast-is-plain : tie.Need-cast-is-plain
-cast-is-plain c = search needs
-
-is-plain-requires : tie.Need-is-plain-requires
-is-plain-requires c κs = search needs
 
 returns-2 : tie.Need-returns-2
 returns-2 c =
@@ -34,9 +22,6 @@ returns-2 c =
     let at-nibble = at-nibble2 .before in
     escape-plain _ _ (at-nibble .nibble .ensures .0) (at-nibble2 .nibble2 .ensures .0) (at-if1 .if1 .left) (c .before .is-plain .ensures) (c .if2 .taken)
 
-element-copy-out-if3 : tie.Need-element-copy-out-if3
-element-copy-out-if3 c = search needs
-
 returns-3 : tie.Need-returns-3
 returns-3 c =
     let pre = c .before .before .before .before .before .before .before .pre in
@@ -44,9 +29,6 @@ returns-3 c =
     let nibble′ = c .before .before .before .before .before .nibble2 in
     escape-high _ _ (nibble .ensures .0) (nibble′ .ensures .0) (c .before .before .before .before .if1 .left)
     (c .before .before .before .is-plain .ensures) (c .before .before .if2 .left) pre (c .if3 .taken)
-
-element-copy-out-result : tie.Need-element-copy-out-result
-element-copy-out-result c = search needs
 
 returns-4 : tie.Need-returns-4
 returns-4 c =
@@ -58,18 +40,5 @@ returns-4 c =
     escape-low _ _ (nibble .ensures .0) (nibble′ .ensures .0) (test .left) (is-plain .ensures) (c .before .before .before .if2 .left) pre (c .before .if3 .left)
 
 pub is-escape-spec : {M : Type 1} → statement M
-is-escape-spec =
-    tie.close
-    (tie.spec
-    nibble-requires
-    mul-v
-    nibble-requires-2
-    add-v
-    returns
-    cast-is-plain
-    is-plain-requires
-    returns-2
-    element-copy-out-if3
-    returns-3
-    element-copy-out-result
-    returns-4)
+is-escape-spec = tie.close (tie.spec (λ c κs. search needs) mul-v (λ c κs. search needs) add-v returns (λ c. search needs) (λ c κs. search needs) returns-2
+    (λ c. search needs) returns-3 (λ c. search needs) returns-4)

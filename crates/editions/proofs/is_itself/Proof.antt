@@ -5,9 +5,6 @@ use borrow.Author.Needs.{needs}
 use Rattle.editions.proofs.is_itself.Statement.{statement}
 use Rattle.editions.proofs.is_itself.Tie as tie
 
-is-plain-requires : tie.Need-is-plain-requires
-is-plain-requires c κs = search needs
-
 returns : tie.Need-returns
 returns c = itself-plain _ (c .before .is-plain .ensures) _ (c .if1 .taken)
 
@@ -18,4 +15,4 @@ returns-3 : tie.Need-returns-3
 returns-3 c = itself-not _ (c .before .before .is-plain .ensures) (c .before .if1 .left) (c .if2 .left)
 
 pub is-itself-spec : {M : Type 1} → statement M
-is-itself-spec = tie.close (tie.spec is-plain-requires returns returns-2 returns-3)
+is-itself-spec = tie.close (tie.spec (λ c κs. search needs) returns returns-2 returns-3)

@@ -8,20 +8,11 @@ use borrow.Author.Needs.{needs}
 use Rattle.editions.proofs.is_labelled.Statement.{statement}
 use Rattle.editions.proofs.is_labelled.Tie as tie
 
-letter-requires : tie.Need-letter-requires
-letter-requires c κs = search needs
-
 add-number-field : tie.Need-add-number-field
 add-number-field c = omega (arith, label-room (c .before .before .before .args .line .now) _ (c .before .letter .ensures) (c .if1 .taken) (omega arith) (omega arith))
 
 number-field-requires : tie.Need-number-field-requires
 number-field-requires c κs = label-room (c .before .before .before .args .line .now) _ (c .before .letter .ensures) (c .if1 .taken) (omega arith) (omega arith)
-
-enum-told : tie.Need-enum-told
-enum-told c = search needs
-
-enum-known-next : tie.Need-enum-known-next
-enum-known-next c = search needs
 
 is-tail-requires : tie.Need-is-tail-requires
 is-tail-requires c κs =
@@ -51,12 +42,6 @@ add-name-field c = omega (arith, label-room (c .before .before .before .before .
 name-field-requires : tie.Need-name-field-requires
 name-field-requires c κs = label-room (c .before .before .before .before .args .line .now) _ (c .before .before .letter .ensures) (c .if2 .taken) (omega arith) (omega arith)
 
-enum-told-2 : tie.Need-enum-told-2
-enum-told-2 c = search needs
-
-enum-known-next-2 : tie.Need-enum-known-next-2
-enum-known-next-2 c = search needs
-
 is-tail-requires-2 : tie.Need-is-tail-requires-2
 is-tail-requires-2 c κs =
     let at-name-field = c .before .before .before in
@@ -82,22 +67,5 @@ returns-5 : tie.Need-returns-5
 returns-5 c = label-none (c .before .before .before .before .args .line .now) _ (c .before .before .letter .ensures) (c .before .if1 .left) (c .if2 .left)
 
 pub is-labelled-spec : {M : Type 1} → statement M
-is-labelled-spec =
-    tie.close
-    (tie.spec
-    letter-requires
-    add-number-field
-    number-field-requires
-    enum-told
-    enum-known-next
-    is-tail-requires
-    returns
-    returns-2
-    add-name-field
-    name-field-requires
-    enum-told-2
-    enum-known-next-2
-    is-tail-requires-2
-    returns-3
-    returns-4
-    returns-5)
+is-labelled-spec = tie.close (tie.spec (λ c κs. search needs) add-number-field number-field-requires (λ c. search needs) (λ c. search needs) is-tail-requires returns
+    returns-2 add-name-field name-field-requires (λ c. search needs) (λ c. search needs) is-tail-requires-2 returns-3 returns-4 returns-5)

@@ -8,25 +8,10 @@ use borrow.Author.Needs.{needs}
 use Rattle.editions.proofs.is_tail.Statement.{statement}
 use Rattle.editions.proofs.is_tail.Tie as tie
 
-number-field-requires : tie.Need-number-field-requires
-number-field-requires c κs = search needs
-
-enum-told : tie.Need-enum-told
-enum-told c = search needs
-
-enum-known-second : tie.Need-enum-known-second
-enum-known-second c = search needs
-
 number-field-requires-2 : tie.Need-number-field-requires-2
 number-field-requires-2 c κs =
     (as-told (NumberAt (c .before .before .before .before .before .args .line .now) (c .before .before .before .before .before .args .at))
     (c .before .before .before .number-field .ensures) (c .before .second .given .1)) .field .inside
-
-enum-told-2 : tie.Need-enum-told-2
-enum-told-2 c = search needs
-
-enum-known-format : tie.Need-enum-known-format
-enum-known-format c = search needs
 
 returns : tie.Need-returns
 returns c =
@@ -84,19 +69,5 @@ returns-5 c =
     tail-last (a .line .now) _ told′ told (c .before .before .before .if1 .left) piece (c .before .if2 .left) (c .is-text .ensures)
 
 pub is-tail-spec : {M : Type 1} → statement M
-is-tail-spec =
-    tie.close
-    (tie.spec
-    number-field-requires
-    enum-told
-    enum-known-second
-    number-field-requires-2
-    enum-told-2
-    enum-known-format
-    returns
-    piece-end-requires
-    returns-2
-    is-text-requires
-    returns-3
-    returns-4
-    returns-5)
+is-tail-spec = tie.close (tie.spec (λ c κs. search needs) (λ c. search needs) (λ c. search needs) number-field-requires-2 (λ c. search needs) (λ c. search needs)
+    returns piece-end-requires returns-2 is-text-requires returns-3 returns-4 returns-5)

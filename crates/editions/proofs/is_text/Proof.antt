@@ -15,17 +15,11 @@ Inv-loop line from end two hex i₀ i = Spelling line from end two i
 abbrev μ-loop : tie.MeasureT-loop
 μ-loop line from end two hex i₀ i = end - i
 
-hex-digits-requires : tie.Need-hex-digits-requires Inv-loop μ-loop
-hex-digits-requires c κs = search needs
-
 loop-holds : tie.Need-loop-holds Inv-loop μ-loop
 loop-holds c = record { before = omega arith; inside = omega arith; same = refl }
 
 shared-slice-read-b : tie.Need-shared-slice-read-b Inv-loop μ-loop
 shared-slice-read-b c = omega (arith, c .before .before .loop .inv .inside)
-
-sub-if2 : tie.Need-sub-if2 Inv-loop μ-loop
-sub-if2 c = search needs
 
 returns : tie.Need-returns Inv-loop μ-loop
 returns c = spelled-cut (c .before .before .before .before .loop .inv) (c .before .before .before .loop-test .taken) refl (c .before .if1 .taken) (c .if2 .taken)
@@ -56,9 +50,6 @@ returns-2 c =
 add-i : tie.Need-add-i Inv-loop μ-loop
 add-i c = omega (arith, c .before .before .before .before .before .before .before .before .before .loop .inv .inside)
 
-loop-less : tie.Need-loop-less Inv-loop μ-loop
-loop-less c = omega arith
-
 loop-again : tie.Need-loop-again Inv-loop μ-loop
 loop-again c =
     let loop = c .before .before .before .before .before .before .before .before .before .loop in
@@ -66,9 +57,6 @@ loop-again c =
     let test = c .before .before .before .before .before .before .if1 in
     let test′ = c .before .before .before .before .before .if2 in
     spelled-three (loop .inv) (loop-test .taken) refl (test .taken) (test′ .left) refl refl (c .before .is-escape .ensures) (not-false _ (c .if3 .left))
-
-is-itself-requires : tie.Need-is-itself-requires Inv-loop μ-loop
-is-itself-requires c κs = search needs
 
 returns-3 : tie.Need-returns-3 Inv-loop μ-loop
 returns-3 c =
@@ -79,9 +67,6 @@ returns-3 c =
 
 add-i-2 : tie.Need-add-i-2 Inv-loop μ-loop
 add-i-2 c = omega (arith, c .before .before .before .before .before .loop .inv .inside)
-
-loop-less-2 : tie.Need-loop-less-2 Inv-loop μ-loop
-loop-less-2 c = omega arith
 
 loop-again-2 : tie.Need-loop-again-2 Inv-loop μ-loop
 loop-again-2 c =
@@ -94,28 +79,6 @@ returns-4 : tie.Need-returns-4 Inv-loop μ-loop
 returns-4 c = spelled-all (c .before .loop .inv) (c .loop-test .left)
 
 pub is-text-spec : {M : Type 1} → statement M
-is-text-spec =
-    tie.close
-    (tie.spec
-    Inv-loop
-    μ-loop
-    hex-digits-requires
-    loop-holds
-    shared-slice-read-b
-    sub-if2
-    returns
-    add-is-escape
-    shared-slice-read-is-escape
-    add-is-escape-2
-    shared-slice-read-is-escape-2
-    is-escape-requires
-    returns-2
-    add-i
-    loop-less
-    loop-again
-    is-itself-requires
-    returns-3
-    add-i-2
-    loop-less-2
-    loop-again-2
-    returns-4)
+is-text-spec = tie.close (tie.spec Inv-loop μ-loop (λ c κs. search needs) loop-holds shared-slice-read-b (λ c. search needs) returns add-is-escape
+    shared-slice-read-is-escape add-is-escape-2 shared-slice-read-is-escape-2 is-escape-requires returns-2 add-i (λ c. omega arith) loop-again
+    (λ c κs. search needs) returns-3 add-i-2 (λ c. omega arith) loop-again-2 returns-4)

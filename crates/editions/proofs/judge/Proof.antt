@@ -10,43 +10,10 @@ use borrow.Author.Needs.{needs}
 use Rattle.editions.proofs.judge.Statement.{statement}
 use Rattle.editions.proofs.judge.Tie as tie
 
-piece-end-requires : tie.Need-piece-end-requires
-piece-end-requires c κs = search needs
-
 returns : tie.Need-returns
 returns c =
     let entry = c .before .before .before in
     one-line (entry .args .sheet .now) (next-piece 0x0A (entry .args .sheet .now) 0 (omega arith) (c .before .piece-end .ensures .1)) (c .if1 .taken)
-
-sub-read-first : tie.Need-sub-read-first
-sub-read-first c = search needs
-
-part-read-first-start : tie.Need-part-read-first-start
-part-read-first-start c = search needs
-
-part-read-first-end : tie.Need-part-read-first-end
-part-read-first-end c = omega arith
-
-read-first-requires : tie.Need-read-first-requires
-read-first-requires c κs = search needs
-
-enum-told : tie.Need-enum-told
-enum-told c = search needs
-
-enum-known-second : tie.Need-enum-known-second
-enum-known-second c = search needs
-
-add-judge-body : tie.Need-add-judge-body
-add-judge-body c = search needs
-
-judge-body-requires : tie.Need-judge-body-requires
-judge-body-requires c κs = search needs
-
-enum-known-number : tie.Need-enum-known-number
-enum-known-number c = search needs
-
-enum-known-t : tie.Need-enum-known-t
-enum-known-t c = search needs
 
 returns-2 : tie.Need-returns-2
 returns-2 c =
@@ -111,23 +78,6 @@ returns-6 c =
     well (a .sheet .now) piece (test .left) line told (sym (was bodyTold (judge-body .ensures) (t .given .1))) (c .before .before .if2 .left) (c .if3 .left)
 
 pub judge-spec : {M : Type 1} → statement M
-judge-spec =
-    tie.close
-    (tie.spec
-    piece-end-requires
-    returns
-    sub-read-first
-    part-read-first-start
-    part-read-first-end
-    read-first-requires
-    enum-told
-    enum-known-second
-    add-judge-body
-    judge-body-requires
-    enum-known-number
-    enum-known-t
-    returns-2
-    returns-3
-    returns-4
-    returns-5
-    returns-6)
+judge-spec = tie.close (tie.spec (λ c κs. search needs) returns (λ c. search needs) (λ c. search needs) (λ c. omega arith) (λ c κs. search needs)
+    (λ c. search needs) (λ c. search needs) (λ c. search needs) (λ c κs. search needs) (λ c. search needs) (λ c. search needs) returns-2
+    returns-3 returns-4 returns-5 returns-6)

@@ -21,34 +21,19 @@ abbrev μ-loop : tie.MeasureT-loop
 loop-holds : tie.Need-loop-holds Inv-loop μ-loop
 loop-holds c = record { same = refl; nodes-few = omega arith; items-few = omega arith; few = omega arith; inside = omega arith }
 
-piece-end-requires : tie.Need-piece-end-requires Inv-loop μ-loop
-piece-end-requires c κs = omega arith
-
 returns : tie.Need-returns Inv-loop μ-loop
 returns c =
     let a = c .before .before .before .before .before .args in
     let piece = next-piece 0x0A (a .sheet .now) (c .before .before .before .loop .at) (omega arith) (c .before .piece-end .ensures .1) in
     judged-unended (c .before .before .before .loop .inv) (c .before .before .loop-test .taken) piece (c .before .piece-end .ensures .0) (c .if1 .taken)
 
-sub-read-line : tie.Need-sub-read-line Inv-loop μ-loop
-sub-read-line c = search needs
-
 part-read-line-start : tie.Need-part-read-line-start Inv-loop μ-loop
 part-read-line-start c = omega (arith, c .before .piece-end .ensures .1)
-
-part-read-line-end : tie.Need-part-read-line-end Inv-loop μ-loop
-part-read-line-end c = omega arith
-
-read-line-requires : tie.Need-read-line-requires Inv-loop μ-loop
-read-line-requires c κs = search needs
 
 step-requires : tie.Need-step-requires Inv-loop μ-loop
 step-requires c κs =
     let at-loop = c .before .before .before .before .before in
     (omega (arith, at-loop .loop .inv .nodes-few), omega (arith, at-loop .loop .inv .items-few))
-
-enum-told : tie.Need-enum-told Inv-loop μ-loop
-enum-told c = search needs
 
 returns-2 : tie.Need-returns-2 Inv-loop μ-loop
 returns-2 c =
@@ -61,12 +46,6 @@ returns-2 c =
     let piece = next-piece 0x0A (a .sheet .now) (loop .at) (omega arith) (piece-end .ensures .1) in
     judged-no (loop .inv) (loop-test .taken) piece (test .left) (omega (arith, piece-end .ensures .1)) line
     (c .before .before .before .read-line .ensures) (sym (was stepTold (c .before .before .step .ensures) (c .enum-told .given .1)))
-
-enum-known-u : tie.Need-enum-known-u Inv-loop μ-loop
-enum-known-u c = search needs
-
-add-at : tie.Need-add-at Inv-loop μ-loop
-add-at c = omega arith
 
 add-number : tie.Need-add-number Inv-loop μ-loop
 add-number c = omega (arith, c .before .before .before .before .before .before .before .before .before .loop .inv .few)
@@ -91,24 +70,6 @@ returns-3 : tie.Need-returns-3 Inv-loop μ-loop
 returns-3 c = judged-all (c .before .loop .inv) (c .loop-test .left)
 
 pub judge-body-spec : {M : Type 1} → statement M
-judge-body-spec =
-    tie.close
-    (tie.spec
-    Inv-loop
-    μ-loop
-    loop-holds
-    piece-end-requires
-    returns
-    sub-read-line
-    part-read-line-start
-    part-read-line-end
-    read-line-requires
-    step-requires
-    enum-told
-    returns-2
-    enum-known-u
-    add-at
-    add-number
-    loop-less
-    loop-again
+judge-body-spec = tie.close (tie.spec Inv-loop μ-loop loop-holds (λ c κs. omega arith) returns (λ c. search needs) part-read-line-start (λ c. omega arith)
+    (λ c κs. search needs) step-requires (λ c. search needs) returns-2 (λ c. search needs) (λ c. omega arith) add-number loop-less loop-again
     returns-3)

@@ -6,23 +6,11 @@ use borrow.Author.Needs.{needs}
 use Rattle.editions.proofs.letter.Statement.{statement}
 use Rattle.editions.proofs.letter.Tie as tie
 
-sub-if1 : tie.Need-sub-if1
-sub-if1 c = search needs
-
 returns : tie.Need-returns
 returns c = letter-few (c .before .args .line .now) _ (c .before .pre) (c .if1 .taken)
 
-add-if2 : tie.Need-add-if2
-add-if2 c = search needs
-
-shared-slice-read-if2 : tie.Need-shared-slice-read-if2
-shared-slice-read-if2 c = search needs
-
 returns-2 : tie.Need-returns-2
 returns-2 c = letter-apart (c .before .before .before .args .line .now) _ (c .before .before .before .pre) (c .if2 .taken)
-
-shared-slice-read-result : tie.Need-shared-slice-read-result
-shared-slice-read-result c = search needs
 
 returns-3 : tie.Need-returns-3
 returns-3 c =
@@ -31,13 +19,4 @@ returns-3 c =
     letter-is (entry .args .line .now) _ (entry .pre) (at-if1 .if1 .left) (c .before .if2 .left) refl
 
 pub letter-spec : {M : Type 1} → statement M
-letter-spec =
-    tie.close
-    (tie.spec
-    sub-if1
-    returns
-    add-if2
-    shared-slice-read-if2
-    returns-2
-    shared-slice-read-result
-    returns-3)
+letter-spec = tie.close (tie.spec (λ c. search needs) returns (λ c. search needs) (λ c. search needs) returns-2 (λ c. search needs) returns-3)

@@ -9,9 +9,6 @@ use borrow.Author.Needs.{needs}
 use Rattle.editions.proofs.name_field.Statement.{statement}
 use Rattle.editions.proofs.name_field.Tie as tie
 
-piece-end-requires : tie.Need-piece-end-requires
-piece-end-requires c κs = search needs
-
 returns : tie.Need-returns
 returns c =
     let entry = c .before .before .before in
@@ -23,18 +20,12 @@ returns-2 c =
     (c .before .before .piece-end .ensures .1) in
     name-none (c .before .before .before .before .args .line .now) _ piece (c .before .if1 .left) (omega (arith, c .before .before .piece-end .ensures .1))
 
-is-text-requires : tie.Need-is-text-requires
-is-text-requires c κs = search needs
-
 returns-3 : tie.Need-returns-3
 returns-3 c =
     let a = c .before .before .before .before .before .before .args in
     let piece-end = c .before .before .before .before .piece-end in
     name-bad (a .line .now) _ (next-piece 0x09 (a .line .now) (a .at) (omega arith) (piece-end .ensures .1))
     (c .before .before .before .if1 .left) (c .before .before .if2 .left) (c .before .is-text .ensures) (not-true _ (c .if3 .taken))
-
-add-t4 : tie.Need-add-t4
-add-t4 c = search needs
 
 returns-4 : tie.Need-returns-4
 returns-4 c =
@@ -44,13 +35,4 @@ returns-4 c =
     (c .before .before .before .if1 .left) (c .before .before .if2 .left) (c .before .is-text .ensures) (not-false _ (c .if3 .left))
 
 pub name-field-spec : {M : Type 1} → statement M
-name-field-spec =
-    tie.close
-    (tie.spec
-    piece-end-requires
-    returns
-    returns-2
-    is-text-requires
-    returns-3
-    add-t4
-    returns-4)
+name-field-spec = tie.close (tie.spec (λ c κs. search needs) returns returns-2 (λ c κs. search needs) returns-3 (λ c. search needs) returns-4)

@@ -6,20 +6,14 @@ use borrow.Author.Needs.{needs}
 use Rattle.editions.proofs.nibble.Statement.{statement}
 use Rattle.editions.proofs.nibble.Tie as tie
 
-wide-requires : tie.Need-wide-requires
-wide-requires c κs = search needs
-
 returns : tie.Need-returns
 returns c = (nibble-none _ (c .before .before .wide .ensures .0) (c .if2 .taken), omega arith)
 
 returns-2 : tie.Need-returns-2
 returns-2 c = (nibble-digit _ (c .before .before .wide .ensures .0) (c .before .if1 .taken), omega (arith, c .before .before .wide .ensures .1))
 
-sub-result : tie.Need-sub-result
-sub-result c = search needs
-
 returns-3 : tie.Need-returns-3
 returns-3 c = (nibble-letter _ (c .before .wide .ensures .0) (c .if1 .left), omega (arith, c .before .wide .ensures .1))
 
 pub nibble-spec : {M : Type 1} → statement M
-nibble-spec = tie.close (tie.spec wide-requires returns returns-2 sub-result returns-3)
+nibble-spec = tie.close (tie.spec (λ c κs. search needs) returns returns-2 (λ c. search needs) returns-3)

@@ -8,25 +8,16 @@ use borrow.Author.Needs.{needs}
 use Rattle.editions.proofs.number_field.Statement.{statement}
 use Rattle.editions.proofs.number_field.Tie as tie
 
-piece-end-requires : tie.Need-piece-end-requires
-piece-end-requires c κs = search needs
-
 returns : tie.Need-returns
 returns c =
     let entry = c .before .before .before in
     no-other (entry .args .line .now) _ (next-piece 0x09 (entry .args .line .now) (entry .args .at) (omega arith) (c .before .piece-end .ensures .1)) isNumber (c .if1 .taken)
-
-read-number-requires : tie.Need-read-number-requires
-read-number-requires c κs = search needs
 
 returns-2 : tie.Need-returns-2
 returns-2 c =
     let a = c .before .before .before .before .before .args in
     number-no (a .line .now) _ (next-piece 0x09 (a .line .now) (a .at) (omega arith) (c .before .before .before .piece-end .ensures .1))
     (c .before .read-number .ensures) (c .before .before .if1 .left) (c .if2 .taken)
-
-add-t5 : tie.Need-add-t5
-add-t5 c = search needs
 
 returns-3 : tie.Need-returns-3
 returns-3 c =
@@ -35,12 +26,4 @@ returns-3 c =
     (c .before .read-number .ensures) (c .before .before .if1 .left) (c .if2 .left)
 
 pub number-field-spec : {M : Type 1} → statement M
-number-field-spec =
-    tie.close
-    (tie.spec
-    piece-end-requires
-    returns
-    read-number-requires
-    returns-2
-    add-t5
-    returns-3)
+number-field-spec = tie.close (tie.spec (λ c κs. search needs) returns (λ c κs. search needs) returns-2 (λ c. search needs) returns-3)

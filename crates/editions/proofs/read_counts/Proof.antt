@@ -30,29 +30,11 @@ returns-2 c =
     (next-piece 0x09 (a .line .now) (a .at) (pre .inside) (c .before .before .before .piece-end .ensures .1)) (c .before .before .if1 .left)
     (c .before .is-version .ensures) (not-true _ (c .if2 .taken))
 
-add-number-field : tie.Need-add-number-field
-add-number-field c = search needs
-
-number-field-requires : tie.Need-number-field-requires
-number-field-requires c κs = search needs
-
-enum-told : tie.Need-enum-told
-enum-told c = search needs
-
-enum-known-third : tie.Need-enum-known-third
-enum-known-third c = search needs
-
 number-field-requires-2 : tie.Need-number-field-requires-2
 number-field-requires-2 c κs =
     let at-number-field = c .before .before .before in
     let entry = at-number-field .before .before .before .before .before .before in
     (as-told (NumberAt (entry .args .line .now) _) (at-number-field .number-field .ensures) (c .before .third .given .1)) .field .inside
-
-enum-told-2 : tie.Need-enum-told-2
-enum-told-2 c = search needs
-
-enum-known-nodes : tie.Need-enum-known-nodes
-enum-known-nodes c = search needs
 
 piece-end-requires-2 : tie.Need-piece-end-requires-2
 piece-end-requires-2 c κs =
@@ -145,24 +127,6 @@ returns-7 c =
     (c .before .before .if3 .left) (c .before .read-number .ensures) (c .if4 .left)
 
 pub read-counts-spec : {M : Type 1} → statement M
-read-counts-spec =
-    tie.close
-    (tie.spec
-    piece-end-requires
-    returns
-    is-version-requires
-    returns-2
-    add-number-field
-    number-field-requires
-    enum-told
-    enum-known-third
-    number-field-requires-2
-    enum-told-2
-    enum-known-nodes
-    piece-end-requires-2
-    returns-3
-    read-number-requires
-    returns-4
-    returns-5
-    returns-6
-    returns-7)
+read-counts-spec = tie.close (tie.spec piece-end-requires returns is-version-requires returns-2 (λ c. search needs) (λ c κs. search needs) (λ c. search needs)
+    (λ c. search needs) number-field-requires-2 (λ c. search needs) (λ c. search needs) piece-end-requires-2 returns-3 read-number-requires
+    returns-4 returns-5 returns-6 returns-7)

@@ -7,20 +7,8 @@ use borrow.Author.Needs.{needs}
 use Rattle.editions.proofs.read_first.Statement.{statement}
 use Rattle.editions.proofs.read_first.Tie as tie
 
-read-word-requires : tie.Need-read-word-requires
-read-word-requires c κs = search needs
-
-enum-told : tie.Need-enum-told
-enum-told c = search needs
-
-enum-told-2 : tie.Need-enum-told-2
-enum-told-2 c = search needs
-
 read-counts-requires : tie.Need-read-counts-requires
 read-counts-requires c κs = as-told (WordAt (c .before .before .before .before .args .line .now)) (c .before .before .read-word .ensures) (c .enum-told2 .given .1)
-
-enum-told-3 : tie.Need-enum-told-3
-enum-told-3 c = search needs
 
 read-counts-requires-2 : tie.Need-read-counts-requires-2
 read-counts-requires-2 c κs = as-told (WordAt (c .before .before .before .before .args .line .now)) (c .before .before .read-word .ensures) (c .enum-told3 .given .1)
@@ -38,15 +26,5 @@ returns-3 : tie.Need-returns-3
 returns-3 c = c .read-counts2 .ensures
 
 pub read-first-spec : {M : Type 1} → statement M
-read-first-spec =
-    tie.close
-    (tie.spec
-    read-word-requires
-    enum-told
-    enum-told-2
-    read-counts-requires
-    enum-told-3
-    read-counts-requires-2
-    returns
-    returns-2
-    returns-3)
+read-first-spec = tie.close (tie.spec (λ c κs. search needs) (λ c. search needs) (λ c. search needs) read-counts-requires (λ c. search needs) read-counts-requires-2
+    returns returns-2 returns-3)

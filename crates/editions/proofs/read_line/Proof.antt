@@ -8,17 +8,8 @@ use borrow.Author.Needs.{needs}
 use Rattle.editions.proofs.read_line.Statement.{statement}
 use Rattle.editions.proofs.read_line.Tie as tie
 
-letter-requires : tie.Need-letter-requires
-letter-requires c κs = search needs
-
 number-field-requires : tie.Need-number-field-requires
 number-field-requires c κs = label-room (c .before .before .before .args .line .now) 0 (c .before .letter .ensures) (c .if1 .taken) (omega arith) (omega arith)
-
-enum-told : tie.Need-enum-told
-enum-told c = search needs
-
-enum-known-row : tie.Need-enum-known-row
-enum-known-row c = search needs
 
 are-numbers-requires : tie.Need-are-numbers-requires
 are-numbers-requires c κs =
@@ -55,12 +46,6 @@ returns-3 c =
 
 number-field-requires-2 : tie.Need-number-field-requires-2
 number-field-requires-2 c κs = label-room (c .before .before .before .before .args .line .now) 0 (c .before .before .letter .ensures) (c .if3 .taken) (omega arith) (omega arith)
-
-enum-told-2 : tie.Need-enum-told-2
-enum-told-2 c = search needs
-
-enum-known-row-2 : tie.Need-enum-known-row-2
-enum-known-row-2 c = search needs
 
 is-labelled-requires : tie.Need-is-labelled-requires
 is-labelled-requires c κs =
@@ -99,22 +84,5 @@ returns-7 : tie.Need-returns-7
 returns-7 c = line-none (c .before .before .before .before .args .line .now) (c .before .before .letter .ensures) (c .before .if1 .left) (c .if3 .left)
 
 pub read-line-spec : {M : Type 1} → statement M
-read-line-spec =
-    tie.close
-    (tie.spec
-    letter-requires
-    number-field-requires
-    enum-told
-    enum-known-row
-    are-numbers-requires
-    returns
-    returns-2
-    returns-3
-    number-field-requires-2
-    enum-told-2
-    enum-known-row-2
-    is-labelled-requires
-    returns-4
-    returns-5
-    returns-6
-    returns-7)
+read-line-spec = tie.close (tie.spec (λ c κs. search needs) number-field-requires (λ c. search needs) (λ c. search needs) are-numbers-requires returns returns-2
+    returns-3 number-field-requires-2 (λ c. search needs) (λ c. search needs) is-labelled-requires returns-4 returns-5 returns-6 returns-7)

@@ -16,12 +16,6 @@ abbrev μ-loop : tie.MeasureT-loop
 returns : tie.Need-returns Inv-loop μ-loop
 returns c = field-none _ _ _ (c .before .before .pre .1) (c .if1 .taken)
 
-shared-slice-read-if2 : tie.Need-shared-slice-read-if2 Inv-loop μ-loop
-shared-slice-read-if2 c = omega arith
-
-sub-if3 : tie.Need-sub-if3 Inv-loop μ-loop
-sub-if3 c = omega arith
-
 returns-2 : tie.Need-returns-2 Inv-loop μ-loop
 returns-2 c = field-zero _ _ _ (c .before .before .before .before .before .pre .1) (c .before .before .before .if1 .left) (c .before .if2 .taken) (c .if3 .taken)
 
@@ -30,12 +24,6 @@ returns-3 c = field-padded _ _ _ (c .before .before .before .before .before .pre
 
 loop-holds : tie.Need-loop-holds Inv-loop μ-loop
 loop-holds c = digit-start _ _ _ (c .before .before .before .before .pre .1) (c .before .before .if1 .left) (c .if2 .left)
-
-shared-slice-read-wide : tie.Need-shared-slice-read-wide Inv-loop μ-loop
-shared-slice-read-wide c = omega arith
-
-wide-requires : tie.Need-wide-requires Inv-loop μ-loop
-wide-requires c κs = search needs
 
 returns-4 : tie.Need-returns-4 Inv-loop μ-loop
 returns-4 c = digit-low (c .before .before .before .before .loop .inv) (c .before .before .before .loop-test .taken) (c .before .wide .ensures .0) (c .if4 .taken)
@@ -60,12 +48,6 @@ returns-6 c =
     let at-loop = at-loop-test .before in
     digit-over (at-loop .loop .inv) (at-loop-test .loop-test .taken) (at-wide .wide .ensures .0) (c .if6 .taken)
 
-add-i : tie.Need-add-i Inv-loop μ-loop
-add-i c = omega arith
-
-loop-less : tie.Need-loop-less Inv-loop μ-loop
-loop-less c = omega arith
-
 loop-again : tie.Need-loop-again Inv-loop μ-loop
 loop-again c =
     let at-if4 = c .before .before in
@@ -78,25 +60,5 @@ returns-7 : tie.Need-returns-7 Inv-loop μ-loop
 returns-7 c = digit-end (c .before .loop .inv) (c .loop-test .left)
 
 pub read-number-spec : {M : Type 1} → statement M
-read-number-spec =
-    tie.close
-    (tie.spec
-    Inv-loop
-    μ-loop
-    returns
-    shared-slice-read-if2
-    sub-if3
-    returns-2
-    returns-3
-    loop-holds
-    shared-slice-read-wide
-    wide-requires
-    returns-4
-    returns-5
-    mul-v
-    add-v
-    returns-6
-    add-i
-    loop-less
-    loop-again
-    returns-7)
+read-number-spec = tie.close (tie.spec Inv-loop μ-loop returns (λ c. omega arith) (λ c. omega arith) returns-2 returns-3 loop-holds (λ c. omega arith)
+    (λ c κs. search needs) returns-4 returns-5 mul-v add-v returns-6 (λ c. omega arith) (λ c. omega arith) loop-again returns-7)

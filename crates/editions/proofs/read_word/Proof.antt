@@ -8,26 +8,14 @@ use Rattle.editions.proofs.read_word.Tie as tie
 returns : tie.Need-returns
 returns c = word-short (c .before .args .line .now) (c .if1 .taken)
 
-shared-slice-read-if2 : tie.Need-shared-slice-read-if2
-shared-slice-read-if2 c = search needs
-
 returns-2 : tie.Need-returns-2
 returns-2 c = word-x (c .before .before .before .args .line .now) (c .if2 .taken)
-
-shared-slice-read-if3 : tie.Need-shared-slice-read-if3
-shared-slice-read-if3 c = search needs
 
 returns-3 : tie.Need-returns-3
 returns-3 c = word-m (c .before .before .before .before .before .args .line .now) (c .if3 .taken)
 
-shared-slice-read-if4 : tie.Need-shared-slice-read-if4
-shared-slice-read-if4 c = search needs
-
 returns-4 : tie.Need-returns-4
 returns-4 c = word-f (c .before .before .before .before .before .before .before .args .line .now) (c .if4 .taken)
-
-shared-slice-read-if5 : tie.Need-shared-slice-read-if5
-shared-slice-read-if5 c = search needs
 
 returns-5 : tie.Need-returns-5
 returns-5 c =
@@ -35,9 +23,6 @@ returns-5 c =
     let test = c .before .before .before .before .before .before .before .before .if1 in
     let test′ = c .before .before .before .before .before .before .if2 in
     word-first (a .line .now) (test′ .left) (c .before .before .before .before .if3 .left) (c .before .before .if4 .left) (test .left) (c .if5 .taken)
-
-shared-slice-read-if6 : tie.Need-shared-slice-read-if6
-shared-slice-read-if6 c = search needs
 
 returns-6 : tie.Need-returns-6
 returns-6 c =
@@ -47,9 +32,6 @@ returns-6 c =
 
 returns-7 : tie.Need-returns-7
 returns-7 c = word-five (c .before .before .before .before .before .before .before .before .before .before .before .before .args .line .now) (c .before .if6 .left) (c .if7 .taken)
-
-shared-slice-read-if8 : tie.Need-shared-slice-read-if8
-shared-slice-read-if8 c = search needs
 
 returns-8 : tie.Need-returns-8
 returns-8 c =
@@ -66,21 +48,5 @@ returns-9 c =
     word-second (a .line .now) (test .left) (test′ .left) (test′′ .left) (c .before .before .if7 .left) (c .before .before .before .if6 .left) (c .if8 .left)
 
 pub read-word-spec : {M : Type 1} → statement M
-read-word-spec =
-    tie.close
-    (tie.spec
-    returns
-    shared-slice-read-if2
-    returns-2
-    shared-slice-read-if3
-    returns-3
-    shared-slice-read-if4
-    returns-4
-    shared-slice-read-if5
-    returns-5
-    shared-slice-read-if6
-    returns-6
-    returns-7
-    shared-slice-read-if8
-    returns-8
-    returns-9)
+read-word-spec = tie.close (tie.spec returns (λ c. search needs) returns-2 (λ c. search needs) returns-3 (λ c. search needs) returns-4 (λ c. search needs) returns-5
+    (λ c. search needs) returns-6 returns-7 (λ c. search needs) returns-8 returns-9)

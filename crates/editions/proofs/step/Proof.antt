@@ -7,20 +7,11 @@ use borrow.Author.Needs.{needs}
 use Rattle.editions.proofs.step.Statement.{statement}
 use Rattle.editions.proofs.step.Tie as tie
 
-enum-told : tie.Need-enum-told
-enum-told c = search needs
-
-enum-known-line : tie.Need-enum-known-line
-enum-known-line c = search needs
-
 returns : tie.Need-returns
 returns c =
     let at-line = c .before .before .before in
     let entry = at-line .before .before in
     node-apart (entry .args .second) (entry .args .t) (ap lineTold (at-line .line .given .1)) (c .if1 .taken)
-
-add-t8 : tie.Need-add-t8
-add-t8 c = search needs
 
 returns-2 : tie.Need-returns-2
 returns-2 c =
@@ -35,12 +26,6 @@ returns-3 c =
     let line = c .before .before .before .before .before .before .line in
     node-late (a .second) (a .t) (ap lineTold (line .given .1)) (c .before .before .before .if1 .left) (c .before .before .if2 .left) (c .if3 .taken)
 
-add-t10 : tie.Need-add-t10
-add-t10 c = search needs
-
-enum-known-line-2 : tie.Need-enum-known-line-2
-enum-known-line-2 c = search needs
-
 returns-4 : tie.Need-returns-4
 returns-4 c =
     let at-line2 = c .before .before .before in
@@ -53,9 +38,6 @@ returns-5 c =
     let at-line2 = at-if4 .before .before .before in
     let entry = at-line2 .before .before in
     item-absent (entry .args .second) (entry .args .t) (ap lineTold (at-line2 .line2 .given .1)) (at-if4 .if4 .left) (c .if5 .taken)
-
-add-t13 : tie.Need-add-t13
-add-t13 c = search needs
 
 returns-6 : tie.Need-returns-6
 returns-6 c = no-line (c .before .before .args .second) (c .before .before .args .t) (ap lineTold (c .enum-told .given .1))
@@ -73,20 +55,5 @@ returns-8 c =
     item-on (a .second) (a .t) (ap lineTold (line .given .1)) (c .before .before .before .if4 .left) (c .before .if5 .left)
 
 pub step-spec : {M : Type 1} → statement M
-step-spec =
-    tie.close
-    (tie.spec
-    enum-told
-    enum-known-line
-    returns
-    add-t8
-    returns-2
-    returns-3
-    add-t10
-    enum-known-line-2
-    returns-4
-    returns-5
-    add-t13
-    returns-6
-    returns-7
-    returns-8)
+step-spec = tie.close (tie.spec (λ c. search needs) (λ c. search needs) returns (λ c. search needs) returns-2 returns-3 (λ c. search needs) (λ c. search needs)
+    returns-4 returns-5 (λ c. search needs) returns-6 returns-7 returns-8)

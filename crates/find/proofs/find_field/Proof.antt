@@ -13,24 +13,6 @@ use borrow.Author.Needs.{needs}
 use Rattle.find.proofs.find_field.Statement.{statement}
 use Rattle.find.proofs.find_field.Tie as tie
 
-read-file-requires : tie.Need-read-file-requires
-read-file-requires c κs = search needs
-
-enum-known-n : tie.Need-enum-known-n
-enum-known-n c = search needs
-
-enum-known-s : tie.Need-enum-known-s
-enum-known-s c = search needs
-
-clear-all-requires : tie.Need-clear-all-requires
-clear-all-requires c κs = search needs
-
-same-length : tie.Need-same-length
-same-length c = search needs
-
-same-length-2 : tie.Need-same-length-2
-same-length-2 c = search needs
-
 returns : tie.Need-returns
 returns c =
     let at-clear-all = c .before .before .before .before in
@@ -56,21 +38,6 @@ found-by-requires c κs =
     (length (entry .args .nodes .now)) (length (entry .args .items .now)) (at-read-file .read-file .ensures .0)
     (at-read-file .read-file .ensures .1 .0) (at-read-file .read-file .ensures .1 .1) (at-s .s .given .1)) in (tables _ _ d, at-if1 .if1 .left)
 
-enum-known-i : tie.Need-enum-known-i
-enum-known-i c = search needs
-
-enum-known-n-2 : tie.Need-enum-known-n-2
-enum-known-n-2 c = search needs
-
-clear-all-requires-2 : tie.Need-clear-all-requires-2
-clear-all-requires-2 c κs = search needs
-
-same-length-3 : tie.Need-same-length-3
-same-length-3 c = search needs
-
-same-length-4 : tie.Need-same-length-4
-same-length-4 c = search needs
-
 returns-2 : tie.Need-returns-2
 returns-2 c =
     let at-read-file = c .before .before .before .before .before .before .before in
@@ -80,12 +47,6 @@ returns-2 c =
     (readFile (limits (length (entry .args .nodes .now)) (length (entry .args .items .now))) (entry .args .file .now))
     (at-read-file .read-file .ensures .0) (c .before .n .given .1) (at-read-file .read-file .ensures .1 .0)
     (at-read-file .read-file .ensures .1 .1) in (w .0, (w .1, w .2))
-
-same-length-5 : tie.Need-same-length-5
-same-length-5 c = search needs
-
-same-length-6 : tie.Need-same-length-6
-same-length-6 c = search needs
 
 returns-3 : tie.Need-returns-3
 returns-3 c =
@@ -101,12 +62,6 @@ returns-3 c =
     (at-read-file .read-file .ensures .1 .0) (at-read-file .read-file .ensures .1 .1) (at-s .s .given .1)) (at-if1 .if1 .left) _
     (at-found-by .found-by .ensures) (c .before .i .given .1) (at-read-file .read-file .ensures .1 .0)
     (at-read-file .read-file .ensures .1 .1) in (w .0, (w .1, w .2))
-
-same-length-7 : tie.Need-same-length-7
-same-length-7 c = search needs
-
-same-length-8 : tie.Need-same-length-8
-same-length-8 c = search needs
 
 returns-4 : tie.Need-returns-4
 returns-4 c =
@@ -127,26 +82,6 @@ returns-4 c =
     (at-clear-all2 .clear-all2 .ensures .1 ∙ ap (λ (k : ℕ). replicate k 0) (at-read-file .read-file .kept .1 .1 .0)) in (w .0, (w .1, w .2))
 
 pub find-field-spec : {M : Type 1} → statement M
-find-field-spec =
-    tie.close
-    (tie.spec
-    read-file-requires
-    enum-known-n
-    enum-known-s
-    clear-all-requires
-    same-length
-    same-length-2
-    returns
-    found-by-requires
-    enum-known-i
-    enum-known-n-2
-    clear-all-requires-2
-    same-length-3
-    same-length-4
-    returns-2
-    same-length-5
-    same-length-6
-    returns-3
-    same-length-7
-    same-length-8
-    returns-4)
+find-field-spec = tie.close (tie.spec (λ c κs. search needs) (λ c. search needs) (λ c. search needs) (λ c κs. search needs) (λ c. search needs) (λ c. search needs)
+    returns found-by-requires (λ c. search needs) (λ c. search needs) (λ c κs. search needs) (λ c. search needs) (λ c. search needs) returns-2
+    (λ c. search needs) (λ c. search needs) returns-3 (λ c. search needs) (λ c. search needs) returns-4)

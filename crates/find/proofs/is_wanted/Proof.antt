@@ -5,15 +5,6 @@ use borrow.Author.Needs.{needs}
 use Rattle.find.proofs.is_wanted.Statement.{statement}
 use Rattle.find.proofs.is_wanted.Tie as tie
 
-enum-told : tie.Need-enum-told
-enum-told c = search needs
-
-is-named-requires : tie.Need-is-named-requires
-is-named-requires c κs = search needs
-
-enum-known-field : tie.Need-enum-known-field
-enum-known-field c = search needs
-
 returns : tie.Need-returns
 returns c = wanted-kind _ _ _ _ (c .before .before .before .field .given .1) (c .if1 .taken)
 
@@ -24,5 +15,4 @@ returns-3 : tie.Need-returns-3
 returns-3 c = wanted-field _ _ _ _ (c .before .before .before .before .field .given .1) (c .before .if1 .left)
 
 pub is-wanted-spec : {M : Type 1} → statement M
-is-wanted-spec =
-    tie.close (tie.spec enum-told is-named-requires enum-known-field returns returns-2 returns-3)
+is-wanted-spec = tie.close (tie.spec (λ c. search needs) (λ c κs. search needs) (λ c. search needs) returns returns-2 returns-3)

@@ -19,9 +19,6 @@ abbrev μ-loop : tie.MeasureT-loop
 loop-holds : tie.Need-loop-holds Inv-loop μ-loop
 loop-holds c = refl
 
-item-at-requires : tie.Need-item-at-requires Inv-loop μ-loop
-item-at-requires c κs = omega arith
-
 is-wanted-requires : tie.Need-is-wanted-requires Inv-loop μ-loop
 is-wanted-requires c κs =
     let entry = c .before .before .before .before .before .before in
@@ -34,12 +31,6 @@ returns c =
     let at-loop = at-loop-test .before in
     row-found _ _ _ _ _ _ _ (at-loop .loop .inv) (at-loop-test .loop-test .taken) (omega arith) (at-item-at .item-at .ensures) (c .before .is-wanted .ensures) (c .if1 .taken)
 
-add-i : tie.Need-add-i Inv-loop μ-loop
-add-i c = omega arith
-
-loop-less : tie.Need-loop-less Inv-loop μ-loop
-loop-less c = omega arith
-
 loop-again : tie.Need-loop-again Inv-loop μ-loop
 loop-again c =
     let at-item-at = c .before .before in
@@ -51,4 +42,5 @@ returns-2 : tie.Need-returns-2 Inv-loop μ-loop
 returns-2 c = row-none _ _ _ _ _ _ _ (c .before .loop .inv) (c .loop-test .left)
 
 pub look-spec : {M : Type 1} → statement M
-look-spec = tie.close (tie.spec Inv-loop μ-loop loop-holds item-at-requires is-wanted-requires returns add-i loop-less loop-again returns-2)
+look-spec = tie.close (tie.spec Inv-loop μ-loop loop-holds (λ c κs. omega arith) is-wanted-requires returns (λ c. omega arith) (λ c. omega arith) loop-again
+    returns-2)

@@ -21,9 +21,6 @@ loop-holds c = (c .before .pre .1, c .before .pre .2, c .before .pre .3)
 add-loop : tie.Need-add-loop Inv-loop μ-loop
 add-loop c = omega (arith, c .before .before .pre)
 
-sub-i : tie.Need-sub-i Inv-loop μ-loop
-sub-i c = omega arith
-
 node-at-requires : tie.Need-node-at-requires Inv-loop μ-loop
 node-at-requires c κs = omega (arith, c .before .before .before .pre .0, c .before .loop .inv)
 
@@ -32,9 +29,6 @@ sub-end c =
     let at-loop = c .before .before in
     let entry = at-loop .before .before in
     back-rows (entry .args .nodes .now) (entry .args .n) (at-loop .loop .i) (omega arith) (at-loop .loop .inv .1) (c .node-at .ensures) (at-loop .loop .inv .2)
-
-loop-less : tie.Need-loop-less Inv-loop μ-loop
-loop-less c = omega arith
 
 loop-again : tie.Need-loop-again Inv-loop μ-loop
 loop-again c =
@@ -53,4 +47,4 @@ returns c =
     at-loop .loop .inv .2 ∙ ap (firstRow (nodesIn (entry .args .n) (entry .args .nodes .now))) (omega (arith, at-loop .loop .inv))
 
 pub rows-end-spec : {M : Type 1} → statement M
-rows-end-spec = tie.close (tie.spec Inv-loop μ-loop loop-holds add-loop sub-i node-at-requires sub-end loop-less loop-again returns)
+rows-end-spec = tie.close (tie.spec Inv-loop μ-loop loop-holds add-loop (λ c. omega arith) node-at-requires sub-end (λ c. omega arith) loop-again returns)

@@ -15,15 +15,6 @@ use Rattle.header.proofs.read_edition.Tie as tie
 returns : tie.Need-returns
 returns c = edition-none _ _ _ _ (c .if1 .taken)
 
-read-four-requires : tie.Need-read-four-requires
-read-four-requires c κs = search needs
-
-enum-known-n : tie.Need-enum-known-n
-enum-known-n c = search needs
-
-enum-known-kind : tie.Need-enum-known-kind
-enum-known-kind c = search needs
-
 read-four-requires-2 : tie.Need-read-four-requires-2
 read-four-requires-2 c κs =
     let at-read-four = c .before .before .before in
@@ -33,12 +24,6 @@ read-four-requires-2 c κs =
       at-end any-free (entry .args .file .now) (four-on 3 (length (entry .args .file .now)) (entry .args .c .at .0))
           (was numberTold (at-read-four .read-four .ensures) (c .before .kind .given .1)),
     )
-
-enum-known-n-2 : tie.Need-enum-known-n-2
-enum-known-n-2 c = search needs
-
-enum-known-revision : tie.Need-enum-known-revision
-enum-known-revision c = search needs
 
 returns-2 : tie.Need-returns-2
 returns-2 c = edition-type _ _ _ _ (c .before .before .before .before .if1 .left) (was numberTold (c .before .before .before .read-four .ensures) (c .before .n .given .1))
@@ -62,16 +47,5 @@ returns-4 c =
     (was numberTold (at-read-four2 .read-four2 .ensures) (c .before .revision .given .1))
 
 pub read-edition-spec : {M : Type 1} → statement M
-read-edition-spec =
-    tie.close
-    (tie.spec
-    returns
-    read-four-requires
-    enum-known-n
-    enum-known-kind
-    read-four-requires-2
-    enum-known-n-2
-    enum-known-revision
-    returns-2
-    returns-3
-    returns-4)
+read-edition-spec = tie.close (tie.spec returns (λ c κs. search needs) (λ c. search needs) (λ c. search needs) read-four-requires-2 (λ c. search needs)
+    (λ c. search needs) returns-2 returns-3 returns-4)

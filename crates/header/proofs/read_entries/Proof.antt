@@ -20,9 +20,6 @@ loop-holds c = (refl, entries-begun _ _ _ _ _)
 read-entry-requires : tie.Need-read-entry-requires Inv-loop μ-loop
 read-entry-requires c κs = omega (arith, c .before .before .loop .inv .0, c .before .before .loop .inv .1 .few, c .before .before .before .before .before .pre)
 
-enum-known-n : tie.Need-enum-known-n Inv-loop μ-loop
-enum-known-n c = search needs
-
 same-length : tie.Need-same-length Inv-loop μ-loop
 same-length c = c .before .before .before .before .before .read-entry .kept .1 .1 .0 ∙ c .before .before .before .before .before .before .before .before .loop .inv .0
 
@@ -33,17 +30,8 @@ returns c =
     let at-loop = at-loop-test .before in
     (entries-no (at-loop .loop .inv .1) (at-loop-test .loop-test .taken) _ _ (at-read-entry .read-entry .ensures) (c .before .n .given .1), tt)
 
-enum-known-d : tie.Need-enum-known-d Inv-loop μ-loop
-enum-known-d c = search needs
-
 add-made : tie.Need-add-made Inv-loop μ-loop
 add-made c = omega (arith, c .before .before .before .before .before .before .before .before .loop .inv .1 .few)
-
-sub-left : tie.Need-sub-left Inv-loop μ-loop
-sub-left c = omega arith
-
-loop-less : tie.Need-loop-less Inv-loop μ-loop
-loop-less c = omega arith
 
 loop-again : tie.Need-loop-again Inv-loop μ-loop
 loop-again c =
@@ -62,20 +50,5 @@ returns-2 : tie.Need-returns-2 Inv-loop μ-loop
 returns-2 c = (entries-done (c .before .loop .inv .1) (c .loop-test .left), c .before .loop .inv .1 .few)
 
 pub read-entries-spec : {M : Type 1} → statement M
-read-entries-spec =
-    tie.close
-    (tie.spec
-    Inv-loop
-    μ-loop
-    loop-holds
-    read-entry-requires
-    enum-known-n
-    same-length
-    returns
-    enum-known-d
-    add-made
-    sub-left
-    loop-less
-    loop-again
-    same-length-2
-    returns-2)
+read-entries-spec = tie.close (tie.spec Inv-loop μ-loop loop-holds read-entry-requires (λ c. search needs) same-length returns (λ c. search needs) add-made
+    (λ c. omega arith) (λ c. omega arith) loop-again same-length-2 returns-2)

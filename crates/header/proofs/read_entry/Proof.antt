@@ -12,15 +12,6 @@ use borrow.Author.Needs.{needs}
 use Rattle.header.proofs.read_entry.Statement.{statement}
 use Rattle.header.proofs.read_entry.Tie as tie
 
-number-requires : tie.Need-number-requires
-number-requires c κs = search needs
-
-enum-known-n : tie.Need-enum-known-n
-enum-known-n c = search needs
-
-enum-known-of : tie.Need-enum-known-of
-enum-known-of c = search needs
-
 returns : tie.Need-returns
 returns c =
     let at-of = c .before .before in
@@ -28,15 +19,6 @@ returns c =
     let entry = at-number .before .before .before .before in
     entry-full _ _ _ _ (was numberTold (at-number .number .ensures fileFrame) (at-of .of .given .1))
     (omega (arith, types-length (entry .args .count) (entry .args .types .now), c .if1 .taken))
-
-format-of-requires : tie.Need-format-of-requires
-format-of-requires c κs = search needs
-
-enum-told : tie.Need-enum-told
-enum-told c = search needs
-
-same-length : tie.Need-same-length
-same-length c = search needs
 
 returns-2 : tie.Need-returns-2
 returns-2 c =
@@ -48,27 +30,6 @@ returns-2 c =
     entry-twice _ _ _ _ (was numberTold (at-number .number .ensures fileFrame) (at-of .of .given .1))
     (omega (arith, types-length (entry .args .count) (entry .args .types .now), at-if1 .if1 .left))
     (was foundTold (at-format-of .format-of .ensures) (c .enum-told .given .1))
-
-enum-told-2 : tie.Need-enum-told-2
-enum-told-2 c = search needs
-
-number-requires-2 : tie.Need-number-requires-2
-number-requires-2 c κs = search needs
-
-enum-known-n-2 : tie.Need-enum-known-n-2
-enum-known-n-2 c = search needs
-
-enum-known-format : tie.Need-enum-known-format
-enum-known-format c = search needs
-
-block-requires : tie.Need-block-requires
-block-requires c κs = search needs
-
-enum-known-n-3 : tie.Need-enum-known-n-3
-enum-known-n-3 c = search needs
-
-enum-known-size : tie.Need-enum-known-size
-enum-known-size c = search needs
 
 declare-requires : tie.Need-declare-requires
 declare-requires c κs =
@@ -86,9 +47,6 @@ on-requires c κs =
 returns-3 : tie.Need-returns-3
 returns-3 c = entry-type _ _ _ _ (was numberTold (c .before .before .before .number .ensures fileFrame) (c .before .n .given .1))
 
-same-length-2 : tie.Need-same-length-2
-same-length-2 c = search needs
-
 returns-4 : tie.Need-returns-4
 returns-4 c =
     let at-number2 = c .before .before .before in
@@ -102,9 +60,6 @@ returns-4 c =
     (omega (arith, types-length (entry .args .count) (entry .args .types .now), at-if1 .if1 .left))
     (was foundTold (at-format-of .format-of .ensures) (at-enum-told2 .enum-told2 .given .1))
     (was numberTold (at-number2 .number2 .ensures fileFrame) (c .before .n2 .given .1))
-
-same-length-3 : tie.Need-same-length-3
-same-length-3 c = search needs
 
 returns-5 : tie.Need-returns-5
 returns-5 c =
@@ -122,9 +77,6 @@ returns-5 c =
     (was foundTold (at-format-of .format-of .ensures) (at-enum-told2 .enum-told2 .given .1))
     (was numberTold (at-number2 .number2 .ensures fileFrame) (at-format .format .given .1))
     (was numberTold (at-block .block .ensures fileFrame) (c .before .n3 .given .1))
-
-same-length-4 : tie.Need-same-length-4
-same-length-4 c = search needs
 
 returns-6 : tie.Need-returns-6
 returns-6 c =
@@ -146,30 +98,7 @@ returns-6 c =
     (was numberTold (at-block .block .ensures fileFrame) (at-size .size .given .1)) (c .on .ensures) (at-declare .declare .ensures)
 
 pub read-entry-spec : {M : Type 1} → statement M
-read-entry-spec =
-    tie.close
-    (tie.spec
-    number-requires
-    enum-known-n
-    enum-known-of
-    returns
-    format-of-requires
-    enum-told
-    same-length
-    returns-2
-    enum-told-2
-    number-requires-2
-    enum-known-n-2
-    enum-known-format
-    block-requires
-    enum-known-n-3
-    enum-known-size
-    declare-requires
-    on-requires
-    returns-3
-    same-length-2
-    returns-4
-    same-length-3
-    returns-5
-    same-length-4
-    returns-6)
+read-entry-spec = tie.close (tie.spec (λ c κs. search needs) (λ c. search needs) (λ c. search needs) returns (λ c κs. search needs) (λ c. search needs)
+    (λ c. search needs) returns-2 (λ c. search needs) (λ c κs. search needs) (λ c. search needs) (λ c. search needs) (λ c κs. search needs)
+    (λ c. search needs) (λ c. search needs) declare-requires on-requires returns-3 (λ c. search needs) returns-4 (λ c. search needs) returns-5
+    (λ c. search needs) returns-6)

@@ -8,24 +8,6 @@ use borrow.Author.Needs.{needs}
 use Rattle.header.proofs.read_extent.Statement.{statement}
 use Rattle.header.proofs.read_extent.Tie as tie
 
-number-requires : tie.Need-number-requires
-number-requires c κs = search needs
-
-enum-known-n : tie.Need-enum-known-n
-enum-known-n c = search needs
-
-enum-known-start : tie.Need-enum-known-start
-enum-known-start c = search needs
-
-number-requires-2 : tie.Need-number-requires-2
-number-requires-2 c κs = search needs
-
-enum-known-n-2 : tie.Need-enum-known-n-2
-enum-known-n-2 c = search needs
-
-enum-known-last : tie.Need-enum-known-last
-enum-known-last c = search needs
-
 returns : tie.Need-returns
 returns c =
     let at-last = c .before .before .before .before in
@@ -78,18 +60,5 @@ returns-6 c =
     (c .if3 .left)
 
 pub read-extent-spec : {M : Type 1} → statement M
-read-extent-spec =
-    tie.close
-    (tie.spec
-    number-requires
-    enum-known-n
-    enum-known-start
-    number-requires-2
-    enum-known-n-2
-    enum-known-last
-    returns
-    returns-2
-    returns-3
-    returns-4
-    returns-5
-    returns-6)
+read-extent-spec = tie.close (tie.spec (λ c κs. search needs) (λ c. search needs) (λ c. search needs) (λ c κs. search needs) (λ c. search needs) (λ c. search needs)
+    returns returns-2 returns-3 returns-4 returns-5 returns-6)

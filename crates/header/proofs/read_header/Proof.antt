@@ -13,15 +13,6 @@ use borrow.Author.Needs.{needs}
 use Rattle.header.proofs.read_header.Statement.{statement}
 use Rattle.header.proofs.read_header.Tie as tie
 
-read-opening-requires : tie.Need-read-opening-requires
-read-opening-requires c κs = search needs
-
-enum-known-n : tie.Need-enum-known-n
-enum-known-n c = search needs
-
-enum-known-version : tie.Need-enum-known-version
-enum-known-version c = search needs
-
 read-edition-requires : tie.Need-read-edition-requires
 read-edition-requires c κs =
     let at-read-opening = c .before .before .before in
@@ -31,21 +22,6 @@ read-edition-requires c κs =
       at-end any-free (entry .args .file .now) (opening-on (length (entry .args .file .now)))
           (was numberTold (at-read-opening .read-opening .ensures) (c .before .version .given .1)),
     )
-
-enum-known-n-2 : tie.Need-enum-known-n-2
-enum-known-n-2 c = search needs
-
-enum-known-edition : tie.Need-enum-known-edition
-enum-known-edition c = search needs
-
-read-length-requires : tie.Need-read-length-requires
-read-length-requires c κs = search needs
-
-enum-known-n-3 : tie.Need-enum-known-n-3
-enum-known-n-3 c = search needs
-
-enum-known-e : tie.Need-enum-known-e
-enum-known-e c = search needs
 
 read-types-requires : tie.Need-read-types-requires
 read-types-requires c κs =
@@ -58,21 +34,6 @@ read-types-requires c κs =
       at-end any-free (entry .args .file .now) (opening-on (length (entry .args .file .now)))
           (was numberTold (at-read-opening .read-opening .ensures) (at-version .version .given .1)),
     )
-
-enum-known-n-4 : tie.Need-enum-known-n-4
-enum-known-n-4 c = search needs
-
-enum-known-count : tie.Need-enum-known-count
-enum-known-count c = search needs
-
-read-extent-requires : tie.Need-read-extent-requires
-read-extent-requires c κs = search needs
-
-enum-known-n-5 : tie.Need-enum-known-n-5
-enum-known-n-5 c = search needs
-
-enum-known-extent : tie.Need-enum-known-extent
-enum-known-extent c = search needs
 
 returns : tie.Need-returns
 returns c = (header-opening _ _ (was numberTold (c .before .before .before .read-opening .ensures) (c .before .n .given .1)), tt)
@@ -100,9 +61,6 @@ returns-3 c =
       tt,
     )
 
-same-length : tie.Need-same-length
-same-length c = search needs
-
 returns-4 : tie.Need-returns-4
 returns-4 c =
     let at-read-types = c .before .before .before .before .before in
@@ -118,9 +76,6 @@ returns-4 c =
           (types-refused _ _ (at-read-types .read-types .ensures .0) (c .before .n4 .given .1)),
       tt,
     )
-
-same-length-2 : tie.Need-same-length-2
-same-length-2 c = search needs
 
 returns-5 : tie.Need-returns-5
 returns-5 c =
@@ -140,9 +95,6 @@ returns-5 c =
           (was extentTold (at-read-extent .read-extent .ensures) (c .before .n5 .given .1)),
       tt,
     )
-
-same-length-3 : tie.Need-same-length-3
-same-length-3 c = search needs
 
 returns-6 : tie.Need-returns-6
 returns-6 c =
@@ -165,30 +117,7 @@ returns-6 c =
     )
 
 pub read-header-spec : {M : Type 1} → statement M
-read-header-spec =
-    tie.close
-    (tie.spec
-    read-opening-requires
-    enum-known-n
-    enum-known-version
-    read-edition-requires
-    enum-known-n-2
-    enum-known-edition
-    read-length-requires
-    enum-known-n-3
-    enum-known-e
-    read-types-requires
-    enum-known-n-4
-    enum-known-count
-    read-extent-requires
-    enum-known-n-5
-    enum-known-extent
-    returns
-    returns-2
-    returns-3
-    same-length
-    returns-4
-    same-length-2
-    returns-5
-    same-length-3
-    returns-6)
+read-header-spec = tie.close (tie.spec (λ c κs. search needs) (λ c. search needs) (λ c. search needs) read-edition-requires (λ c. search needs) (λ c. search needs)
+    (λ c κs. search needs) (λ c. search needs) (λ c. search needs) read-types-requires (λ c. search needs) (λ c. search needs)
+    (λ c κs. search needs) (λ c. search needs) (λ c. search needs) returns returns-2 returns-3 (λ c. search needs) returns-4 (λ c. search needs)
+    returns-5 (λ c. search needs) returns-6)

@@ -8,15 +8,6 @@ use borrow.Author.Needs.{needs}
 use Rattle.header.proofs.read_length.Statement.{statement}
 use Rattle.header.proofs.read_length.Tie as tie
 
-number-requires : tie.Need-number-requires
-number-requires c κs = search needs
-
-enum-known-n : tie.Need-enum-known-n
-enum-known-n c = search needs
-
-enum-known-n-2 : tie.Need-enum-known-n-2
-enum-known-n-2 c = search needs
-
 returns : tie.Need-returns
 returns c = length-other _ _ _ (was numberTold (c .before .before .before .before .number .ensures fileFrame) (c .before .before .n2 .given .1)) (c .if1 .taken)
 
@@ -27,5 +18,4 @@ returns-3 : tie.Need-returns-3
 returns-3 c = length-is _ _ _ (was numberTold (c .before .before .before .before .number .ensures fileFrame) (c .before .before .n2 .given .1)) (c .if1 .left)
 
 pub read-length-spec : {M : Type 1} → statement M
-read-length-spec =
-    tie.close (tie.spec number-requires enum-known-n enum-known-n-2 returns returns-2 returns-3)
+read-length-spec = tie.close (tie.spec (λ c κs. search needs) (λ c. search needs) (λ c. search needs) returns returns-2 returns-3)

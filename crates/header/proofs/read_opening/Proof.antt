@@ -18,15 +18,6 @@ returns c = opening-large _ _ (omega arith)
 returns-2 : tie.Need-returns-2
 returns-2 c = opening-short _ _ (omega arith) (c .if2 .taken)
 
-read-four-requires : tie.Need-read-four-requires
-read-four-requires c κs = search needs
-
-enum-known-n : tie.Need-enum-known-n
-enum-known-n c = search needs
-
-enum-known-magic : tie.Need-enum-known-magic
-enum-known-magic c = search needs
-
 returns-3 : tie.Need-returns-3
 returns-3 c =
     let at-magic = c .before .before in
@@ -44,12 +35,6 @@ read-four-requires-2 c κs =
       at-end any-free (entry .args .file .now) (four-on 1 (length (entry .args .file .now)) 0)
           (was numberTold (at-read-four .read-four .ensures) (at-magic .magic .given .1)),
     )
-
-enum-known-n-2 : tie.Need-enum-known-n-2
-enum-known-n-2 c = search needs
-
-enum-known-version : tie.Need-enum-known-version
-enum-known-version c = search needs
 
 returns-4 : tie.Need-returns-4
 returns-4 c =
@@ -114,21 +99,5 @@ returns-9 c =
     (c .before .if5 .left) (c .if6 .left)
 
 pub read-opening-spec : {M : Type 1} → statement M
-read-opening-spec =
-    tie.close
-    (tie.spec
-    returns
-    returns-2
-    read-four-requires
-    enum-known-n
-    enum-known-magic
-    returns-3
-    read-four-requires-2
-    enum-known-n-2
-    enum-known-version
-    returns-4
-    returns-5
-    returns-6
-    returns-7
-    returns-8
-    returns-9)
+read-opening-spec = tie.close (tie.spec returns returns-2 (λ c κs. search needs) (λ c. search needs) (λ c. search needs) returns-3 read-four-requires-2
+    (λ c. search needs) (λ c. search needs) returns-4 returns-5 returns-6 returns-7 returns-8 returns-9)

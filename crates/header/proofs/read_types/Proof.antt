@@ -10,15 +10,6 @@ use borrow.Author.Needs.{needs}
 use Rattle.header.proofs.read_types.Statement.{statement}
 use Rattle.header.proofs.read_types.Tie as tie
 
-block-requires : tie.Need-block-requires
-block-requires c κs = search needs
-
-enum-known-n : tie.Need-enum-known-n
-enum-known-n c = search needs
-
-enum-known-size : tie.Need-enum-known-size
-enum-known-size c = search needs
-
 on-requires : tie.Need-on-requires
 on-requires c κs = omega (arith, block-inside fileFrame _ _ _ _ (was numberTold (c .before .before .before .block .ensures fileFrame) (c .before .size .given .1)))
 
@@ -28,27 +19,12 @@ number-requires c κs =
     let at-block = at-size .before .before in
     omega (arith, c .before .on .ensures, block-inside fileFrame _ _ _ _ (was numberTold (at-block .block .ensures fileFrame) (at-size .size .given .1)))
 
-enum-known-n-2 : tie.Need-enum-known-n-2
-enum-known-n-2 c = search needs
-
-enum-known-count : tie.Need-enum-known-count
-enum-known-count c = search needs
-
 read-entries-requires : tie.Need-read-entries-requires
 read-entries-requires c κs =
     let at-on = c .before .before .before .before .before .before in
     let at-size = at-on .before .before in
     let at-block = at-size .before .before in
     omega (arith, at-on .on .ensures, block-inside fileFrame _ _ _ _ (was numberTold (at-block .block .ensures fileFrame) (at-size .size .given .1)))
-
-enum-known-n-3 : tie.Need-enum-known-n-3
-enum-known-n-3 c = search needs
-
-enum-known-made : tie.Need-enum-known-made
-enum-known-made c = search needs
-
-same-length : tie.Need-same-length
-same-length c = search needs
 
 returns : tie.Need-returns
 returns c =
@@ -79,9 +55,6 @@ returns-3 c =
       tt,
     )
 
-same-length-2 : tie.Need-same-length-2
-same-length-2 c = search needs
-
 returns-4 : tie.Need-returns-4
 returns-4 c =
     let at-read-entries = c .before .before .before .before .before in
@@ -95,9 +68,6 @@ returns-4 c =
           (types-refused _ _ (at-read-entries .read-entries .ensures .0) (c .before .n3 .given .1)),
       tt,
     )
-
-same-length-3 : tie.Need-same-length-3
-same-length-3 c = search needs
 
 returns-5 : tie.Need-returns-5
 returns-5 c =
@@ -116,24 +86,6 @@ returns-5 c =
     )
 
 pub read-types-spec : {M : Type 1} → statement M
-read-types-spec =
-    tie.close
-    (tie.spec
-    block-requires
-    enum-known-n
-    enum-known-size
-    on-requires
-    number-requires
-    enum-known-n-2
-    enum-known-count
-    read-entries-requires
-    enum-known-n-3
-    enum-known-made
-    same-length
-    returns
-    returns-2
-    returns-3
-    same-length-2
-    returns-4
-    same-length-3
-    returns-5)
+read-types-spec = tie.close (tie.spec (λ c κs. search needs) (λ c. search needs) (λ c. search needs) on-requires number-requires (λ c. search needs) (λ c. search needs)
+    read-entries-requires (λ c. search needs) (λ c. search needs) (λ c. search needs) returns returns-2 returns-3 (λ c. search needs) returns-4
+    (λ c. search needs) returns-5)

@@ -8,15 +8,6 @@ use borrow.Author.Needs.{needs}
 use Rattle.id3.proofs.frame.Statement.{statement}
 use Rattle.id3.proofs.frame.Tie as tie
 
-walk-requires : tie.Need-walk-requires
-walk-requires c κs = search needs
-
-enum-known-n : tie.Need-enum-known-n
-enum-known-n c = search needs
-
-enum-known-count : tie.Need-enum-known-count
-enum-known-count c = search needs
-
 returns : tie.Need-returns
 returns c = at-none _ _ (sym (was walkTold (c .before .before .before .before .walk .ensures) (c .before .before .count .given .1))) (c .if1 .taken)
 
@@ -27,12 +18,4 @@ returns-3 : tie.Need-returns-3
 returns-3 c = at-all _ _ (sym (was walkTold (c .before .before .before .before .walk .ensures) (c .before .before .count .given .1))) (c .if1 .left)
 
 pub frame-spec : {M : Type 1} → statement M
-frame-spec =
-    tie.close
-    (tie.spec
-    walk-requires
-    enum-known-n
-    enum-known-count
-    returns
-    returns-2
-    returns-3)
+frame-spec = tie.close (tie.spec (λ c κs. search needs) (λ c. search needs) (λ c. search needs) returns returns-2 returns-3)

@@ -8,15 +8,6 @@ use borrow.Author.Needs.{needs}
 use Rattle.mend.proofs.number_at.Statement.{statement}
 use Rattle.mend.proofs.number_at.Tie as tie
 
-number-requires : tie.Need-number-requires
-number-requires c κs = search needs
-
-enum-known-p : tie.Need-enum-known-p
-enum-known-p c = search needs
-
-enum-known-n : tie.Need-enum-known-n
-enum-known-n c = search needs
-
 returns : tie.Need-returns
 returns c = value-was _ _ (was numberTold (c .before .before .before .number .ensures nodeFrame) (c .before .p .given .1))
 
@@ -24,4 +15,4 @@ returns-2 : tie.Need-returns-2
 returns-2 c = value-was _ _ (was numberTold (c .before .before .before .number .ensures nodeFrame) (c .before .n .given .1))
 
 pub number-at-spec : {M : Type 1} → statement M
-number-at-spec = tie.close (tie.spec number-requires enum-known-p enum-known-n returns returns-2)
+number-at-spec = tie.close (tie.spec (λ c κs. search needs) (λ c. search needs) (λ c. search needs) returns returns-2)

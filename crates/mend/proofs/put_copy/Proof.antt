@@ -8,9 +8,6 @@ use borrow.Author.Needs.{needs}
 use Rattle.mend.proofs.put_copy.Statement.{statement}
 use Rattle.mend.proofs.put_copy.Tie as tie
 
-store-bytes-requires : tie.Need-store-bytes-requires
-store-bytes-requires c κs = search needs
-
 set-field-requires : tie.Need-set-field-requires
 set-field-requires c κs =
     let pre = c .before .before .before .before .before .before .before .pre in
@@ -24,12 +21,6 @@ set-field-requires-2 c κs =
     let setFieldKept = c .before .before .before .set-field .kept in
     omega (arith, pre .0 [], pre .1, storeBytesKept .0, setFieldKept .0)
 
-clear-bytes-from-requires : tie.Need-clear-bytes-from-requires
-clear-bytes-from-requires c κs = search needs
-
-same-length : tie.Need-same-length
-same-length c = search needs
-
 returns : tie.Need-returns
 returns c =
     let lent = c .before .before .before .before .before .before .before .before .before .before .before .before .before .before .before .before .before .before .args in
@@ -41,12 +32,4 @@ returns c =
     λ ws. copied (lent .file .now) (fieldsOf (lent .w) ws) (lent .last) (lent .copy .now) (pre .0 ws) (pre .1) storeBytes setField setField2 clearBytesFrom
 
 pub put-copy-spec : {M : Type 1} → statement M
-put-copy-spec =
-    tie.close
-    (tie.spec
-    store-bytes-requires
-    set-field-requires
-    set-field-requires-2
-    clear-bytes-from-requires
-    same-length
-    returns)
+put-copy-spec = tie.close (tie.spec (λ c κs. search needs) set-field-requires set-field-requires-2 (λ c κs. search needs) (λ c. search needs) returns)

@@ -6,39 +6,12 @@ use borrow.Author.Needs.{needs}
 use Rattle.mend.proofs.put_line.Statement.{statement}
 use Rattle.mend.proofs.put_line.Tie as tie
 
-slice-aggregate-put-bytes : tie.Need-slice-aggregate-put-bytes
-slice-aggregate-put-bytes c = search needs
-
-put-bytes-requires : tie.Need-put-bytes-requires
-put-bytes-requires c κs = search needs
-
-same-length : tie.Need-same-length
-same-length c = search needs
-
 returns : tie.Need-returns
 returns c =
     let lent = c .before .before .before .before .before .before .before .before .before .args in
     let if1Taken = c .before .before .before .before .before .if1 .taken in
     let putBytes = c .before .before .put-bytes .ensures in
     line-same (lent .name .now) (fieldOf (lent .x)) _ if1Taken putBytes
-
-put-bytes-requires-2 : tie.Need-put-bytes-requires-2
-put-bytes-requires-2 c κs = search needs
-
-put-tabbed-requires : tie.Need-put-tabbed-requires
-put-tabbed-requires c κs = search needs
-
-put-tabbed-requires-2 : tie.Need-put-tabbed-requires-2
-put-tabbed-requires-2 c κs = search needs
-
-put-tabbed-requires-3 : tie.Need-put-tabbed-requires-3
-put-tabbed-requires-3 c κs = search needs
-
-put-byte-requires : tie.Need-put-byte-requires
-put-byte-requires c κs = search needs
-
-same-length-2 : tie.Need-same-length-2
-same-length-2 c = search needs
 
 returns-2 : tie.Need-returns-2
 returns-2 c =
@@ -52,17 +25,5 @@ returns-2 c =
     line-is (lent .name .now) (fieldOf (lent .x)) _ if1Left putBytes2 putTabbed putTabbed2 putTabbed3 putByte
 
 pub put-line-spec : {M : Type 1} → statement M
-put-line-spec =
-    tie.close
-    (tie.spec
-    slice-aggregate-put-bytes
-    put-bytes-requires
-    same-length
-    returns
-    put-bytes-requires-2
-    put-tabbed-requires
-    put-tabbed-requires-2
-    put-tabbed-requires-3
-    put-byte-requires
-    same-length-2
-    returns-2)
+put-line-spec = tie.close (tie.spec (λ c. search needs) (λ c κs. search needs) (λ c. search needs) returns (λ c κs. search needs) (λ c κs. search needs)
+    (λ c κs. search needs) (λ c κs. search needs) (λ c κs. search needs) (λ c. search needs) returns-2)

@@ -8,15 +8,6 @@ use borrow.Author.Needs.{needs}
 use Rattle.mend.proofs.read_field.Statement.{statement}
 use Rattle.mend.proofs.read_field.Tie as tie
 
-number-requires : tie.Need-number-requires
-number-requires c κs = search needs
-
-enum-known-n : tie.Need-enum-known-n
-enum-known-n c = search needs
-
-enum-known-value : tie.Need-enum-known-value
-enum-known-value c = search needs
-
 returns : tie.Need-returns
 returns c = field-no _ _ _ (was numberTold (c .before .before .before .number .ensures fileFrame) (c .before .n .given .1))
 
@@ -24,5 +15,4 @@ returns-2 : tie.Need-returns-2
 returns-2 c = field-is _ _ _ (was numberTold (c .before .before .before .before .number .ensures fileFrame) (c .before .before .value .given .1))
 
 pub read-field-spec : {M : Type 1} → statement M
-read-field-spec =
-    tie.close (tie.spec number-requires enum-known-n enum-known-value returns returns-2)
+read-field-spec = tie.close (tie.spec (λ c κs. search needs) (λ c. search needs) (λ c. search needs) returns returns-2)

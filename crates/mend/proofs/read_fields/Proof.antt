@@ -15,36 +15,12 @@ use borrow.Author.Needs.{needs}
 use Rattle.mend.proofs.read_fields.Statement.{statement}
 use Rattle.mend.proofs.read_fields.Tie as tie
 
-read-opening-requires : tie.Need-read-opening-requires
-read-opening-requires c κs = search needs
-
-enum-known-n : tie.Need-enum-known-n
-enum-known-n c = search needs
-
-enum-known-version : tie.Need-enum-known-version
-enum-known-version c = search needs
-
 read-edition-requires : tie.Need-read-edition-requires
 read-edition-requires c κs =
     let lent = c .before .before .before .before .before .before .args in
     let readOpening = c .before .before .before .read-opening .ensures in
     let isVersion = c .before .version .given .1 in
     omega (arith, at-end any-free (lent .file .now) (opening-on (length (lent .file .now))) (was numberTold readOpening isVersion))
-
-enum-known-n-2 : tie.Need-enum-known-n-2
-enum-known-n-2 c = search needs
-
-enum-known-edition : tie.Need-enum-known-edition
-enum-known-edition c = search needs
-
-read-field-requires : tie.Need-read-field-requires
-read-field-requires c κs = search needs
-
-enum-known-n-3 : tie.Need-enum-known-n-3
-enum-known-n-3 c = search needs
-
-enum-known-length : tie.Need-enum-known-length
-enum-known-length c = search needs
 
 read-types-requires : tie.Need-read-types-requires
 read-types-requires c κs =
@@ -53,30 +29,6 @@ read-types-requires c κs =
     let readOpening = c .before .before .before .before .before .before .before .before .before .before .before .before .before .read-opening .ensures in
     let isVersion = c .before .before .before .before .before .before .before .before .before .before .before .version .given .1 in
     omega (arith, pre, at-end any-free (lent .file .now) (opening-on (length (lent .file .now))) (was numberTold readOpening isVersion))
-
-enum-known-n-4 : tie.Need-enum-known-n-4
-enum-known-n-4 c = search needs
-
-enum-known-count : tie.Need-enum-known-count
-enum-known-count c = search needs
-
-read-field-requires-2 : tie.Need-read-field-requires-2
-read-field-requires-2 c κs = search needs
-
-enum-known-n-5 : tie.Need-enum-known-n-5
-enum-known-n-5 c = search needs
-
-enum-known-start : tie.Need-enum-known-start
-enum-known-start c = search needs
-
-read-field-requires-3 : tie.Need-read-field-requires-3
-read-field-requires-3 c κs = search needs
-
-enum-known-n-6 : tie.Need-enum-known-n-6
-enum-known-n-6 c = search needs
-
-enum-known-last : tie.Need-enum-known-last
-enum-known-last c = search needs
 
 returns : tie.Need-returns
 returns c = (fields-opening _ _ (was numberTold (c .before .before .before .read-opening .ensures) (c .before .n .given .1)), tt)
@@ -99,9 +51,6 @@ returns-3 c =
     let isN3 = c .before .n3 .given .1 in
     (fields-length _ _ (was numberTold readOpening isVersion) (was editionTold readEdition isEdition) (was fieldTold readField isN3), tt)
 
-same-length : tie.Need-same-length
-same-length c = search needs
-
 returns-4 : tie.Need-returns-4
 returns-4 c =
     let readOpening = c .before .before .before .before .before .before .before .before .before .before .before .before .before .before .before .before .before .before .before .read-opening .ensures in
@@ -113,9 +62,6 @@ returns-4 c =
     let readTypes = c .before .before .before .before .before .read-types .ensures in
     let isN4 = c .before .n4 .given .1 in
     (fields-types _ _ (was numberTold readOpening isVersion) (was editionTold readEdition isEdition) (was fieldTold readField isLength) (types-refused _ _ (readTypes .0) isN4), tt)
-
-same-length-2 : tie.Need-same-length-2
-same-length-2 c = search needs
 
 returns-5 : tie.Need-returns-5
 returns-5 c =
@@ -133,9 +79,6 @@ returns-5 c =
           (types-counted _ _ (readTypes .0) isCount) (was fieldTold readField2 isN5),
       tt,
     )
-
-same-length-3 : tie.Need-same-length-3
-same-length-3 c = search needs
 
 returns-6 : tie.Need-returns-6
 returns-6 c =
@@ -155,9 +98,6 @@ returns-6 c =
           (types-counted _ _ (readTypes .0) isCount) (was fieldTold readField2 isStart) (was fieldTold readField3 isN6),
       tt,
     )
-
-same-length-4 : tie.Need-same-length-4
-same-length-4 c = search needs
 
 returns-7 : tie.Need-returns-7
 returns-7 c =
@@ -180,35 +120,7 @@ returns-7 c =
     )
 
 pub read-fields-spec : {M : Type 1} → statement M
-read-fields-spec =
-    tie.close
-    (tie.spec
-    read-opening-requires
-    enum-known-n
-    enum-known-version
-    read-edition-requires
-    enum-known-n-2
-    enum-known-edition
-    read-field-requires
-    enum-known-n-3
-    enum-known-length
-    read-types-requires
-    enum-known-n-4
-    enum-known-count
-    read-field-requires-2
-    enum-known-n-5
-    enum-known-start
-    read-field-requires-3
-    enum-known-n-6
-    enum-known-last
-    returns
-    returns-2
-    returns-3
-    same-length
-    returns-4
-    same-length-2
-    returns-5
-    same-length-3
-    returns-6
-    same-length-4
-    returns-7)
+read-fields-spec = tie.close (tie.spec (λ c κs. search needs) (λ c. search needs) (λ c. search needs) read-edition-requires (λ c. search needs) (λ c. search needs)
+    (λ c κs. search needs) (λ c. search needs) (λ c. search needs) read-types-requires (λ c. search needs) (λ c. search needs)
+    (λ c κs. search needs) (λ c. search needs) (λ c. search needs) (λ c κs. search needs) (λ c. search needs) (λ c. search needs) returns
+    returns-2 returns-3 (λ c. search needs) returns-4 (λ c. search needs) returns-5 (λ c. search needs) returns-6 (λ c. search needs) returns-7)

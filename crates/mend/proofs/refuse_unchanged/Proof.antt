@@ -6,33 +6,6 @@ use borrow.Author.Needs.{needs}
 use Rattle.mend.proofs.refuse_unchanged.Statement.{statement}
 use Rattle.mend.proofs.refuse_unchanged.Tie as tie
 
-clear-bytes-requires : tie.Need-clear-bytes-requires
-clear-bytes-requires c κs = search needs
-
-clear-bytes-requires-2 : tie.Need-clear-bytes-requires-2
-clear-bytes-requires-2 c κs = search needs
-
-read-file-requires : tie.Need-read-file-requires
-read-file-requires c κs = search needs
-
-enum-known-n : tie.Need-enum-known-n
-enum-known-n c = search needs
-
-enum-known-s : tie.Need-enum-known-s
-enum-known-s c = search needs
-
-same-length : tie.Need-same-length
-same-length c = search needs
-
-same-length-2 : tie.Need-same-length-2
-same-length-2 c = search needs
-
-same-length-3 : tie.Need-same-length-3
-same-length-3 c = search needs
-
-same-length-4 : tie.Need-same-length-4
-same-length-4 c = search needs
-
 returns : tie.Need-returns
 returns c =
     let lent = c .before .before .before .before .before .before .before .before .before .before .before .before .before .before .before .before .before .before .before .before .before .before .before .args in
@@ -43,18 +16,6 @@ returns c =
     let clearBytes2 = c .before .before .before .before .before .before .before .before .before .before .before .before .clear-bytes2 .ensures in
     ends-refused (lent .file .now) (length (lent .nodes .now)) (length (lent .items .now)) pre (readFile .0) isN (readFile .1 .0) (readFile .1 .1) clearBytes clearBytes2
 
-same-length-5 : tie.Need-same-length-5
-same-length-5 c = search needs
-
-same-length-6 : tie.Need-same-length-6
-same-length-6 c = search needs
-
-same-length-7 : tie.Need-same-length-7
-same-length-7 c = search needs
-
-same-length-8 : tie.Need-same-length-8
-same-length-8 c = search needs
-
 returns-2 : tie.Need-returns-2
 returns-2 c =
     let lent = c .before .before .before .before .before .before .before .before .before .before .before .before .before .before .before .before .before .before .before .before .before .before .before .args in
@@ -64,21 +25,6 @@ returns-2 c =
     never-read (lent .file .now) (length (lent .nodes .now)) (length (lent .items .now)) pre (readFile .0) isS
 
 pub refuse-unchanged-spec : {M : Type 1} → statement M
-refuse-unchanged-spec =
-    tie.close
-    (tie.spec
-    clear-bytes-requires
-    clear-bytes-requires-2
-    read-file-requires
-    enum-known-n
-    enum-known-s
-    same-length
-    same-length-2
-    same-length-3
-    same-length-4
-    returns
-    same-length-5
-    same-length-6
-    same-length-7
-    same-length-8
-    returns-2)
+refuse-unchanged-spec = tie.close (tie.spec (λ c κs. search needs) (λ c κs. search needs) (λ c κs. search needs) (λ c. search needs) (λ c. search needs) (λ c. search needs)
+    (λ c. search needs) (λ c. search needs) (λ c. search needs) returns (λ c. search needs) (λ c. search needs) (λ c. search needs)
+    (λ c. search needs) returns-2)

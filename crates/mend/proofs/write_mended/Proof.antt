@@ -8,24 +8,6 @@ use borrow.Author.Needs.{needs}
 use Rattle.mend.proofs.write_mended.Statement.{statement}
 use Rattle.mend.proofs.write_mended.Tie as tie
 
-put-lines-requires : tie.Need-put-lines-requires
-put-lines-requires c κs = search needs
-
-no-room-requires : tie.Need-no-room-requires
-no-room-requires c κs = search needs
-
-same-length : tie.Need-same-length
-same-length c = search needs
-
-same-length-2 : tie.Need-same-length-2
-same-length-2 c = search needs
-
-same-length-3 : tie.Need-same-length-3
-same-length-3 c = search needs
-
-same-length-4 : tie.Need-same-length-4
-same-length-4 c = search needs
-
 returns : tie.Need-returns
 returns c =
     let lent = c .before .before .before .before .before .before .before .before .before .before .before .before .before .before .before .before .before .before .before .before .before .before .before .args in
@@ -34,21 +16,6 @@ returns c =
     let putLinesKept = c .before .before .before .before .before .before .before .before .before .before .before .before .before .before .before .before .put-lines .kept in
     λ ws. set-short (lent .file .now) (fieldsOf (lent .w) ws) (lent .last) if1Taken (noRoom .0) (noRoom .1 .0) (noRoom .1 .1 .0)
     (noRoom .1 .1 .1 .0) (zeros (noRoom .1 .1 .1 .1) (putLinesKept .0))
-
-no-room-requires-2 : tie.Need-no-room-requires-2
-no-room-requires-2 c κs = search needs
-
-same-length-5 : tie.Need-same-length-5
-same-length-5 c = search needs
-
-same-length-6 : tie.Need-same-length-6
-same-length-6 c = search needs
-
-same-length-7 : tie.Need-same-length-7
-same-length-7 c = search needs
-
-same-length-8 : tie.Need-same-length-8
-same-length-8 c = search needs
 
 returns-2 : tie.Need-returns-2
 returns-2 c =
@@ -64,15 +31,6 @@ returns-2 c =
 put-copy-requires : tie.Need-put-copy-requires
 put-copy-requires c κs = (c .before .before .before .before .before .before .before .before .before .before .before .before .pre, c .before .before .if1 .left)
 
-clear-bytes-from-requires : tie.Need-clear-bytes-from-requires
-clear-bytes-from-requires c κs = search needs
-
-same-length-9 : tie.Need-same-length-9
-same-length-9 c = search needs
-
-same-length-10 : tie.Need-same-length-10
-same-length-10 c = search needs
-
 returns-3 : tie.Need-returns-3
 returns-3 c =
     let putLines = c .before .before .before .before .before .before .before .before .before .before .before .before .put-lines .ensures in
@@ -87,24 +45,6 @@ returns-3 c =
     (lent .file .now) (fieldsOf (lent .w) ws) (lent .last) if1Left (v .1) (omega (arith, if2Left, putLinesKept .0)) (putCopy ws) (v .2)
 
 pub write-mended-spec : {M : Type 1} → statement M
-write-mended-spec =
-    tie.close
-    (tie.spec
-    put-lines-requires
-    no-room-requires
-    same-length
-    same-length-2
-    same-length-3
-    same-length-4
-    returns
-    no-room-requires-2
-    same-length-5
-    same-length-6
-    same-length-7
-    same-length-8
-    returns-2
-    put-copy-requires
-    clear-bytes-from-requires
-    same-length-9
-    same-length-10
-    returns-3)
+write-mended-spec = tie.close (tie.spec (λ c κs. search needs) (λ c κs. search needs) (λ c. search needs) (λ c. search needs) (λ c. search needs) (λ c. search needs)
+    returns (λ c κs. search needs) (λ c. search needs) (λ c. search needs) (λ c. search needs) (λ c. search needs) returns-2 put-copy-requires
+    (λ c κs. search needs) (λ c. search needs) (λ c. search needs) returns-3)

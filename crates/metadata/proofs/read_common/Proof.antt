@@ -8,26 +8,14 @@ use Rattle.metadata.proofs.read_common.Tie as tie
 returns : tie.Need-returns
 returns c = tt
 
-sub-if2 : tie.Need-sub-if2
-sub-if2 c = omega arith
-
 returns-2 : tie.Need-returns-2
 returns-2 c = tt
-
-byte-requires : tie.Need-byte-requires
-byte-requires c κs = omega arith
 
 returns-3 : tie.Need-returns-3
 returns-3 c = tt
 
-byte-requires-2 : tie.Need-byte-requires-2
-byte-requires-2 c κs = omega arith
-
 returns-4 : tie.Need-returns-4
 returns-4 c = tt
-
-byte-requires-3 : tie.Need-byte-requires-3
-byte-requires-3 c κs = omega arith
 
 returns-5 : tie.Need-returns-5
 returns-5 c = tt
@@ -105,23 +93,5 @@ returns-10 c =
     (at-if8 .if8 .left) (omega (arith, c .if9 .left, at-on .on .ensures))
 
 pub read-common-spec : {M : Type 1} → statement M
-read-common-spec =
-    tie.close
-    (tie.spec
-    returns
-    sub-if2
-    returns-2
-    byte-requires
-    returns-3
-    byte-requires-2
-    returns-4
-    byte-requires-3
-    returns-5
-    byte-requires-4
-    returns-6
-    returns-7
-    byte-requires-5
-    returns-8
-    on-requires
-    returns-9
-    returns-10)
+read-common-spec = tie.close (tie.spec returns (λ c. omega arith) returns-2 (λ c κs. omega arith) returns-3 (λ c κs. omega arith) returns-4 (λ c κs. omega arith)
+    returns-5 byte-requires-4 returns-6 returns-7 byte-requires-5 returns-8 on-requires returns-9 returns-10)

@@ -11,15 +11,6 @@ use borrow.Author.Needs.{needs}
 use Rattle.metadata.proofs.read_field.Statement.{statement}
 use Rattle.metadata.proofs.read_field.Tie as tie
 
-block-requires : tie.Need-block-requires
-block-requires c κs = search needs
-
-enum-known-n : tie.Need-enum-known-n
-enum-known-n c = search needs
-
-enum-known-size : tie.Need-enum-known-size
-enum-known-size c = search needs
-
 on-requires : tie.Need-on-requires
 on-requires c κs =
     let at-size = c .before .before .before in
@@ -32,15 +23,6 @@ returns c =
     let at-size = at-if1 .before .before in
     let at-block = at-size .before .before in
     field-name _ _ _ (was numberTold (at-block .block .ensures metaFrame) (at-size .size .given .1)) (at-if1 .if1 .taken) refl (c .on .ensures)
-
-number-requires : tie.Need-number-requires
-number-requires c κs = search needs
-
-enum-known-n-2 : tie.Need-enum-known-n-2
-enum-known-n-2 c = search needs
-
-enum-known-k : tie.Need-enum-known-k
-enum-known-k c = search needs
 
 returns-2 : tie.Need-returns-2
 returns-2 c = field-cut _ _ _ (was numberTold (c .before .before .before .block .ensures metaFrame) (c .before .n .given .1))
@@ -64,17 +46,5 @@ returns-4 c =
     (was numberTold (at-number .number .ensures metaFrame) (c .before .k .given .1))
 
 pub read-field-spec : {M : Type 1} → statement M
-read-field-spec =
-    tie.close
-    (tie.spec
-    block-requires
-    enum-known-n
-    enum-known-size
-    on-requires
-    returns
-    number-requires
-    enum-known-n-2
-    enum-known-k
-    returns-2
-    returns-3
-    returns-4)
+read-field-spec = tie.close (tie.spec (λ c κs. search needs) (λ c. search needs) (λ c. search needs) on-requires returns (λ c κs. search needs) (λ c. search needs)
+    (λ c. search needs) returns-2 returns-3 returns-4)

@@ -7,24 +7,6 @@ use borrow.Author.Needs.{needs}
 use Rattle.metadata.proofs.read_frame.Statement.{statement}
 use Rattle.metadata.proofs.read_frame.Tie as tie
 
-read-field-requires : tie.Need-read-field-requires
-read-field-requires c κs = search needs
-
-enum-known-n : tie.Need-enum-known-n
-enum-known-n c = search needs
-
-enum-known-field : tie.Need-enum-known-field
-enum-known-field c = search needs
-
-read-contents-requires : tie.Need-read-contents-requires
-read-contents-requires c κs = search needs
-
-enum-known-n-2 : tie.Need-enum-known-n-2
-enum-known-n-2 c = search needs
-
-enum-known-contents : tie.Need-enum-known-contents
-enum-known-contents c = search needs
-
 returns : tie.Need-returns
 returns c = frame-field _ _ _ (was fieldTold (c .before .before .before .read-field .ensures) (c .before .n .given .1))
 
@@ -45,15 +27,5 @@ returns-3 c =
     (was contentsTold (at-read-contents .read-contents .ensures) (c .before .contents .given .1))
 
 pub read-frame-spec : {M : Type 1} → statement M
-read-frame-spec =
-    tie.close
-    (tie.spec
-    read-field-requires
-    enum-known-n
-    enum-known-field
-    read-contents-requires
-    enum-known-n-2
-    enum-known-contents
-    returns
-    returns-2
-    returns-3)
+read-frame-spec = tie.close (tie.spec (λ c κs. search needs) (λ c. search needs) (λ c. search needs) (λ c κs. search needs) (λ c. search needs) (λ c. search needs)
+    returns returns-2 returns-3)

@@ -9,23 +9,11 @@ use borrow.Author.Needs.{needs}
 use Rattle.metadata.proofs.read_item.Statement.{statement}
 use Rattle.metadata.proofs.read_item.Tie as tie
 
-read-common-requires : tie.Need-read-common-requires
-read-common-requires c κs = search needs
-
-enum-known-is : tie.Need-enum-known-is
-enum-known-is c = search needs
-
 on-requires : tie.Need-on-requires
 on-requires c κs = omega (arith, common-inside _ _ _ (common-was _ _ _ (c .before .before .before .read-common .ensures) (c .before .is .given .1)))
 
-add-made : tie.Need-add-made
-add-made c = omega arith
-
 sub-row-of : tie.Need-sub-row-of
 sub-row-of c = omega (arith, common-inside _ _ _ (common-was _ _ _ (c .before .before .before .before .before .read-common .ensures) (c .before .before .before .is .given .1)))
-
-row-of-requires : tie.Need-row-of-requires
-row-of-requires c κs = search needs
 
 put-item-requires : tie.Need-put-item-requires
 put-item-requires c κs =
@@ -47,9 +35,6 @@ on-requires-2 c κs =
     let entry = at-read-common .before .before .before .before .before .before .before in
     omega (arith, entry .pre, common-inside _ _ _ (common-was _ _ _ (at-read-common .read-common .ensures) (at-is .is .given .1)))
 
-same-length : tie.Need-same-length
-same-length c = search needs
-
 returns : tie.Need-returns
 returns c =
     let at-put-item = c .before .before .before in
@@ -63,26 +48,8 @@ returns c =
     (at-on .on .ensures) (at-row-of .row-of .ensures) (at-put-item .put-item .ensures) (c .on2 .ensures))
     (omega (arith, entry .pre, at-if1 .if1 .taken))
 
-enum-told : tie.Need-enum-told
-enum-told c = search needs
-
-read-frame-requires : tie.Need-read-frame-requires
-read-frame-requires c κs = search needs
-
-enum-known-n : tie.Need-enum-known-n
-enum-known-n c = search needs
-
-enum-known-is-2 : tie.Need-enum-known-is-2
-enum-known-is-2 c = search needs
-
-read-rows-requires : tie.Need-read-rows-requires
-read-rows-requires c κs = search needs
-
 returns-2 : tie.Need-returns-2
 returns-2 c = λ t. no (item-frame _ _ _ _ _ _ _ _ (was itemTold (c .before .before .before .read-frame .ensures) (c .before .n .given .1)))
-
-same-length-2 : tie.Need-same-length-2
-same-length-2 c = search needs
 
 returns-3 : tie.Need-returns-3
 returns-3 c =
@@ -92,6 +59,6 @@ returns-3 c =
     λ t. along (item-rows _ _ _ _ _ _ _ _ (was itemTold (at-read-frame .read-frame .ensures) (at-is2 .is2 .given .1))) (at-read-rows .read-rows .ensures t)
 
 pub read-item-spec : {M : Type 1} → statement M
-read-item-spec = tie.close (tie.spec read-common-requires enum-known-is on-requires add-made sub-row-of row-of-requires put-item-requires
-    add-on on-requires-2 same-length returns enum-told read-frame-requires enum-known-n enum-known-is-2 read-rows-requires returns-2
-    same-length-2 returns-3)
+read-item-spec = tie.close (tie.spec (λ c κs. search needs) (λ c. search needs) on-requires (λ c. omega arith) sub-row-of (λ c κs. search needs) put-item-requires
+    add-on on-requires-2 (λ c. search needs) returns (λ c. search needs) (λ c κs. search needs) (λ c. search needs) (λ c. search needs)
+    (λ c κs. search needs) returns-2 (λ c. search needs) returns-3)

@@ -27,9 +27,6 @@ read-item-requires c κs =
     let entry = at-loop .before .before .before .before in
     omega (arith, entry .pre, at-loop .loop .inv .1 .long, at-loop .loop .inv .1 .nodes-fit, at-loop .loop .inv .1 .items-fit)
 
-enum-known-n : tie.Need-enum-known-n Inv-loop μ-loop
-enum-known-n c = search needs
-
 same-length : tie.Need-same-length Inv-loop μ-loop
 same-length c = c .before .before .before .before .before .read-item .kept .1 .1 .1 .0 ∙ c .before .before .before .before .before .before .before .before .loop .inv .1 .long
 
@@ -40,9 +37,6 @@ returns c =
     let at-loop = at-loop-test .before in
     items-no _ _ _ _ _ _ _ (at-loop .loop .inv .1) (at-loop-test .loop-test .taken)
     (λ t. rw (at-loop .loop .inv .0) at (at-read-item .read-item .ensures t)) (ap (walked _) (c .before .n .given .1))
-
-enum-known-n-2 : tie.Need-enum-known-n-2 Inv-loop μ-loop
-enum-known-n-2 c = search needs
 
 add-index : tie.Need-add-index Inv-loop μ-loop
 add-index c =
@@ -81,19 +75,5 @@ returns-2 : tie.Need-returns-2 Inv-loop μ-loop
 returns-2 c = items-done _ _ _ _ _ _ _ (c .before .loop .inv .0) (c .before .loop .inv .1) (c .loop-test .left)
 
 pub read-items-spec : {M : Type 1} → statement M
-read-items-spec =
-    tie.close
-    (tie.spec
-    Inv-loop
-    μ-loop
-    loop-holds
-    read-item-requires
-    enum-known-n
-    same-length
-    returns
-    enum-known-n-2
-    add-index
-    loop-less
-    loop-again
-    same-length-2
-    returns-2)
+read-items-spec = tie.close (tie.spec Inv-loop μ-loop loop-holds read-item-requires (λ c. search needs) same-length returns (λ c. search needs) add-index loop-less
+    loop-again same-length-2 returns-2)

@@ -11,15 +11,6 @@ use borrow.Author.Needs.{needs}
 use Rattle.metadata.proofs.read_metadata.Statement.{statement}
 use Rattle.metadata.proofs.read_metadata.Tie as tie
 
-block-requires : tie.Need-block-requires
-block-requires c κs = search needs
-
-enum-known-n : tie.Need-enum-known-n
-enum-known-n c = search needs
-
-enum-known-size : tie.Need-enum-known-size
-enum-known-size c = search needs
-
 on-requires : tie.Need-on-requires
 on-requires c κs = omega (arith, block-inside metaFrame _ _ _ _ (was numberTold (c .before .before .before .block .ensures metaFrame) (c .before .size .given .1)))
 
@@ -34,9 +25,6 @@ read-items-requires c κs =
 returns : tie.Need-returns
 returns c = λ t. no (metadata-length _ _ _ _ _ _ _ (was numberTold (c .before .before .before .block .ensures metaFrame) (c .before .n .given .1)))
 
-same-length : tie.Need-same-length
-same-length c = search needs
-
 returns-2 : tie.Need-returns-2
 returns-2 c =
     let at-read-items = c .before .before in
@@ -47,14 +35,5 @@ returns-2 c =
     (at-on .on .ensures)) (at-read-items .read-items .ensures t)
 
 pub read-metadata-spec : {M : Type 1} → statement M
-read-metadata-spec =
-    tie.close
-    (tie.spec
-    block-requires
-    enum-known-n
-    enum-known-size
-    on-requires
-    read-items-requires
-    returns
-    same-length
+read-metadata-spec = tie.close (tie.spec (λ c κs. search needs) (λ c. search needs) (λ c. search needs) on-requires read-items-requires returns (λ c. search needs)
     returns-2)

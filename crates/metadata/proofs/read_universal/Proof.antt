@@ -16,15 +16,6 @@ use Rattle.metadata.proofs.read_universal.Tie as tie
 returns : tie.Need-returns
 returns c = λ t ws. no (universal-limit _ _ _ _ _ _ _ (c .if1 .taken))
 
-block-requires : tie.Need-block-requires
-block-requires c κs = search needs
-
-enum-known-n : tie.Need-enum-known-n
-enum-known-n c = search needs
-
-enum-known-size : tie.Need-enum-known-size
-enum-known-size c = search needs
-
 returns-2 : tie.Need-returns-2
 returns-2 c =
     let at-size = c .before .before in
@@ -41,23 +32,11 @@ number-requires c κs =
     let at-block = at-size .before .before in
     omega (arith, c .before .on .ensures, block-inside metaFrame _ _ _ _ (was numberTold (at-block .block .ensures metaFrame) (at-size .size .given .1)))
 
-enum-known-n-2 : tie.Need-enum-known-n-2
-enum-known-n-2 c = search needs
-
-enum-known-format : tie.Need-enum-known-format
-enum-known-format c = search needs
-
-add-made : tie.Need-add-made
-add-made c = search needs
-
 sub-row-of : tie.Need-sub-row-of
 sub-row-of c =
     let at-format = c .before .before .before .before .before in
     let at-number = at-format .before .before in
     omega (arith, number-inside metaFrame _ _ _ _ (was numberTold (at-number .number .ensures metaFrame) (at-format .format .given .1)))
-
-row-of-requires : tie.Need-row-of-requires
-row-of-requires c κs = search needs
 
 put-item-requires : tie.Need-put-item-requires
 put-item-requires c κs =
@@ -83,9 +62,6 @@ returns-4 c =
     (was numberTold (at-block .block .ensures metaFrame) (at-size .size .given .1)) (at-if2 .if2 .left) (at-on .on .ensures)
     (was numberTold (at-number .number .ensures metaFrame) (c .before .n2 .given .1)))
 
-same-length : tie.Need-same-length
-same-length c = search needs
-
 returns-5 : tie.Need-returns-5
 returns-5 c =
     let at-put-item = c .before .before in
@@ -104,23 +80,6 @@ returns-5 c =
     (at-put-item .put-item .ensures)) (omega (arith, entry .pre, at-if1 .if1 .left))
 
 pub read-universal-spec : {M : Type 1} → statement M
-read-universal-spec =
-    tie.close
-    (tie.spec
-    returns
-    block-requires
-    enum-known-n
-    enum-known-size
-    returns-2
-    on-requires
-    number-requires
-    enum-known-n-2
-    enum-known-format
-    add-made
-    sub-row-of
-    row-of-requires
-    put-item-requires
-    returns-3
-    returns-4
-    same-length
+read-universal-spec = tie.close (tie.spec returns (λ c κs. search needs) (λ c. search needs) (λ c. search needs) returns-2 on-requires number-requires (λ c. search needs)
+    (λ c. search needs) (λ c. search needs) sub-row-of (λ c κs. search needs) put-item-requires returns-3 returns-4 (λ c. search needs)
     returns-5)

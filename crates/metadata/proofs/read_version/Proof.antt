@@ -17,43 +17,10 @@ use Rattle.metadata.proofs.read_version.Tie as tie
 returns : tie.Need-returns
 returns c = λ t. no (version-limit _ _ _ _ _ _ _ _ (c .if1 .taken))
 
-number-requires : tie.Need-number-requires
-number-requires c κs = search needs
-
-enum-known-n : tie.Need-enum-known-n
-enum-known-n c = search needs
-
-enum-known-of : tie.Need-enum-known-of
-enum-known-of c = search needs
-
-format-of-requires : tie.Need-format-of-requires
-format-of-requires c κs = search needs
-
-enum-told : tie.Need-enum-told
-enum-told c = search needs
-
-enum-known-format : tie.Need-enum-known-format
-enum-known-format c = search needs
-
-block-requires : tie.Need-block-requires
-block-requires c κs = search needs
-
-enum-known-n-2 : tie.Need-enum-known-n-2
-enum-known-n-2 c = search needs
-
-enum-known-size : tie.Need-enum-known-size
-enum-known-size c = search needs
-
-add-made : tie.Need-add-made
-add-made c = search needs
-
 sub-number : tie.Need-sub-number
 sub-number c =
     let entry = c .before .before .before .before .before .before .before .before .before .before .before .before .before .before .before .before .before .before .before .before in
     omega (arith, entry .pre)
-
-row-of-requires : tie.Need-row-of-requires
-row-of-requires c κs = search needs
 
 put-item-requires : tie.Need-put-item-requires
 put-item-requires c κs =
@@ -95,9 +62,6 @@ returns-4 c =
     (was foundTold (at-format-of .format-of .ensures) (at-format .format .given .1))
     (was numberTold (at-block .block .ensures metaFrame) (c .before .n2 .given .1)))
 
-same-length : tie.Need-same-length
-same-length c = search needs
-
 returns-5 : tie.Need-returns-5
 returns-5 c =
     let at-put-item = c .before .before .before in
@@ -117,26 +81,6 @@ returns-5 c =
     (at-put-item .put-item .ensures) (c .on .ensures)) (omega (arith, entry .pre, at-if1 .if1 .left))
 
 pub read-version-spec : {M : Type 1} → statement M
-read-version-spec =
-    tie.close
-    (tie.spec
-    returns
-    number-requires
-    enum-known-n
-    enum-known-of
-    format-of-requires
-    enum-told
-    enum-known-format
-    block-requires
-    enum-known-n-2
-    enum-known-size
-    add-made
-    sub-number
-    row-of-requires
-    put-item-requires
-    on-requires
-    returns-2
-    returns-3
-    returns-4
-    same-length
-    returns-5)
+read-version-spec = tie.close (tie.spec returns (λ c κs. search needs) (λ c. search needs) (λ c. search needs) (λ c κs. search needs) (λ c. search needs)
+    (λ c. search needs) (λ c κs. search needs) (λ c. search needs) (λ c. search needs) (λ c. search needs) sub-number (λ c κs. search needs)
+    put-item-requires on-requires returns-2 returns-3 returns-4 (λ c. search needs) returns-5)

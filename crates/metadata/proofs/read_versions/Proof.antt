@@ -26,9 +26,6 @@ read-version-requires c κs =
     let entry = at-loop .before .before .before .before in
     omega (arith, entry .pre, at-loop .loop .inv .long, at-loop .loop .inv .nodes-fit, at-loop .loop .inv .items-fit, at-loop .loop .inv .since)
 
-enum-known-n : tie.Need-enum-known-n Inv-loop μ-loop
-enum-known-n c = search needs
-
 same-length : tie.Need-same-length Inv-loop μ-loop
 same-length c = c .before .before .before .before .before .read-version .kept .1 .1 .1 .0 ∙ c .before .before .before .before .before .before .before .before .loop .inv .long
 
@@ -38,15 +35,6 @@ returns c =
     let at-loop-test = at-read-version .before .before in
     let at-loop = at-loop-test .before in
     versions-no _ _ _ _ _ _ _ _ (at-loop .loop .inv) (at-loop-test .loop-test .taken) (at-read-version .read-version .ensures) (ap (walked _) (c .before .n .given .1))
-
-enum-known-n-2 : tie.Need-enum-known-n-2 Inv-loop μ-loop
-enum-known-n-2 c = search needs
-
-sub-left : tie.Need-sub-left Inv-loop μ-loop
-sub-left c = omega arith
-
-loop-less : tie.Need-loop-less Inv-loop μ-loop
-loop-less c = omega arith
 
 loop-again : tie.Need-loop-again Inv-loop μ-loop
 loop-again c =
@@ -63,19 +51,5 @@ returns-2 : tie.Need-returns-2 Inv-loop μ-loop
 returns-2 c = versions-done _ _ _ _ _ _ _ _ (c .before .loop .inv) (c .loop-test .left)
 
 pub read-versions-spec : {M : Type 1} → statement M
-read-versions-spec =
-    tie.close
-    (tie.spec
-    Inv-loop
-    μ-loop
-    loop-holds
-    read-version-requires
-    enum-known-n
-    same-length
-    returns
-    enum-known-n-2
-    sub-left
-    loop-less
-    loop-again
-    same-length-2
-    returns-2)
+read-versions-spec = tie.close (tie.spec Inv-loop μ-loop loop-holds read-version-requires (λ c. search needs) same-length returns (λ c. search needs) (λ c. omega arith)
+    (λ c. omega arith) loop-again same-length-2 returns-2)

@@ -15,9 +15,6 @@ Inv-loop file items many tune i₀ i = (i ≤ many) × NeedsLeft file tune items
 abbrev μ-loop : tie.MeasureT-loop
 μ-loop file items many tune i₀ i = many - i
 
-next-row-requires : tie.Need-next-row-requires Inv-loop μ-loop
-next-row-requires c κs = omega arith
-
 returns : tie.Need-returns Inv-loop μ-loop
 returns c =
     let entry = c .before .before .before .before in
@@ -31,9 +28,6 @@ loop-holds c =
       needs-begin (entry .args .file .now) (entry .args .tune) (entry .args .items .now)
           (entry .args .many) (at-next-row .next-row .ensures) (c .if1 .left),
     )
-
-item-at-requires : tie.Need-item-at-requires Inv-loop μ-loop
-item-at-requires c κs = omega arith
 
 is-need-requires : tie.Need-is-need-requires Inv-loop μ-loop
 is-need-requires c κs =
@@ -50,12 +44,6 @@ returns-2 c =
     needs-no (entry .args .file .now) (entry .args .tune) (entry .args .items .now) (entry .args .many) (at-loop .loop .inv .1)
     (at-loop-test .loop-test .taken) (at-item-at .item-at .ensures) (at-is-need .is-need .ensures)
     (not-true (at-is-need .is-need .result) (c .if2 .taken))
-
-add-next-row : tie.Need-add-next-row Inv-loop μ-loop
-add-next-row c = omega arith
-
-next-row-requires-2 : tie.Need-next-row-requires-2 Inv-loop μ-loop
-next-row-requires-2 c κs = omega arith
 
 loop-less : tie.Need-loop-less Inv-loop μ-loop
 loop-less c = omega (arith, c .next-row2 .ensures .low)
@@ -77,5 +65,5 @@ returns-3 : tie.Need-returns-3 Inv-loop μ-loop
 returns-3 c = sym (c .before .loop .inv .1 .none (c .loop-test .left))
 
 pub are-needs-spec : {M : Type 1} → statement M
-are-needs-spec = tie.close (tie.spec Inv-loop μ-loop next-row-requires returns loop-holds item-at-requires is-need-requires returns-2
-    add-next-row next-row-requires-2 loop-less loop-again returns-3)
+are-needs-spec = tie.close (tie.spec Inv-loop μ-loop (λ c κs. omega arith) returns loop-holds (λ c κs. omega arith) is-need-requires returns-2 (λ c. omega arith)
+    (λ c κs. omega arith) loop-less loop-again returns-3)

@@ -5,21 +5,6 @@ use borrow.Author.Needs.{needs}
 use Rattle.mobile.proofs.child.Statement.{statement}
 use Rattle.mobile.proofs.child.Tie as tie
 
-enum-told : tie.Need-enum-told
-enum-told c = search needs
-
-besides-requires : tie.Need-besides-requires
-besides-requires c κs = search needs
-
-enum-told-2 : tie.Need-enum-told-2
-enum-told-2 c = search needs
-
-besides-requires-2 : tie.Need-besides-requires-2
-besides-requires-2 c κs = search needs
-
-enum-told-3 : tie.Need-enum-told-3
-enum-told-3 c = search needs
-
 returns : tie.Need-returns
 unfolding child
 returns c = rw (c .before .enum-told .given .1, c .besides .ensures)
@@ -33,4 +18,5 @@ unfolding child
 returns-3 c = rw (c .enum-told3 .given .1)
 
 pub child-spec : {M : Type 1} → statement M
-child-spec = tie.close (tie.spec enum-told besides-requires enum-told-2 besides-requires-2 enum-told-3 returns returns-2 returns-3)
+child-spec = tie.close (tie.spec (λ c. search needs) (λ c κs. search needs) (λ c. search needs) (λ c κs. search needs) (λ c. search needs) returns returns-2
+    returns-3)

@@ -23,9 +23,6 @@ abbrev μ-loop : tie.MeasureT-loop
 loop-holds : tie.Need-loop-holds Inv-loop μ-loop
 loop-holds c = (omega arith, λ z. z, end-begin (c .before .before .before .pre), children-begin (c .before .before .before .pre))
 
-sub-i : tie.Need-sub-i Inv-loop μ-loop
-sub-i c = omega arith
-
 node-at-requires : tie.Need-node-at-requires Inv-loop μ-loop
 node-at-requires c κs = omega (arith, c .before .before .before .before .before .pre .node-room)
 
@@ -40,12 +37,6 @@ role-of-requires c κs =
     let at-loop = c .before .before in
     let entry = at-loop .before .before .before .before in
     (entry .pre .item-rows, omega arith, end-in (entry .pre) (at-loop .loop .i) (at-loop .loop .i - 1) (omega arith) (omega arith) (c .node-at .ensures) (at-loop .loop .inv .2))
-
-child-requires : tie.Need-child-requires Inv-loop μ-loop
-child-requires c κs = search needs
-
-loop-less : tie.Need-loop-less Inv-loop μ-loop
-loop-less c = omega arith
 
 loop-again : tie.Need-loop-again Inv-loop μ-loop
 loop-again c =
@@ -65,4 +56,5 @@ returns : tie.Need-returns Inv-loop μ-loop
 returns c = children-end (c .before .before .before .before .before .pre) (c .before .loop .i) (omega arith) (c .before .loop .inv .1) (c .before .loop .inv .3)
 
 pub children-of-spec : {M : Type 1} → statement M
-children-of-spec = tie.close (tie.spec Inv-loop μ-loop loop-holds sub-i node-at-requires sub-at role-of-requires child-requires loop-less loop-again returns)
+children-of-spec = tie.close (tie.spec Inv-loop μ-loop loop-holds (λ c. omega arith) node-at-requires sub-at role-of-requires (λ c κs. search needs) (λ c. omega arith)
+    loop-again returns)

@@ -20,17 +20,11 @@ abbrev μ-loop : tie.MeasureT-loop
 returns : tie.Need-returns Inv-loop μ-loop
 returns c = root-none _ _ (c .if1 .taken)
 
-node-at-requires : tie.Need-node-at-requires Inv-loop μ-loop
-node-at-requires c κs = omega arith
-
 returns-2 : tie.Need-returns-2 Inv-loop μ-loop
 returns-2 c = root-file _ _ (omega arith) (c .before .before .node-at .ensures) (c .if2 .taken)
 
 loop-holds : tie.Need-loop-holds Inv-loop μ-loop
 loop-holds c = (omega arith, root-folder _ _ (omega arith) (c .before .before .node-at .ensures) (c .if2 .left))
-
-node-at-requires-2 : tie.Need-node-at-requires-2 Inv-loop μ-loop
-node-at-requires-2 c κs = omega arith
 
 returns-3 : tie.Need-returns-3 Inv-loop μ-loop
 returns-3 c =
@@ -38,12 +32,6 @@ returns-3 c =
     let at-loop-test = at-node-at2 .before in
     let at-loop = at-loop-test .before in
     nodes-no _ _ _ _ (at-loop .loop .inv .1) (at-loop-test .loop-test .taken) (at-node-at2 .node-at2 .ensures) (file-no _ (c .if3 .taken))
-
-add-i : tie.Need-add-i Inv-loop μ-loop
-add-i c = omega arith
-
-loop-less : tie.Need-loop-less Inv-loop μ-loop
-loop-less c = omega arith
 
 loop-again : tie.Need-loop-again Inv-loop μ-loop
 loop-again c =
@@ -56,4 +44,5 @@ returns-4 : tie.Need-returns-4 Inv-loop μ-loop
 returns-4 c = nodes-yes _ _ _ _ (c .before .loop .inv .1) (c .loop-test .left)
 
 pub files-only-spec : {M : Type 1} → statement M
-files-only-spec = tie.close (tie.spec Inv-loop μ-loop returns node-at-requires returns-2 loop-holds node-at-requires-2 returns-3 add-i loop-less loop-again returns-4)
+files-only-spec = tie.close (tie.spec Inv-loop μ-loop returns (λ c κs. omega arith) returns-2 loop-holds (λ c κs. omega arith) returns-3 (λ c. omega arith)
+    (λ c. omega arith) loop-again returns-4)

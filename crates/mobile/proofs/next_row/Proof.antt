@@ -21,12 +21,6 @@ abbrev μ-loop : tie.MeasureT-loop
 loop-holds : tie.Need-loop-holds Inv-loop μ-loop
 loop-holds c = (omega arith, omega arith, refl)
 
-item-at-requires : tie.Need-item-at-requires Inv-loop μ-loop
-item-at-requires c κs = omega arith
-
-is-field-requires : tie.Need-is-field-requires Inv-loop μ-loop
-is-field-requires c κs = search needs
-
 returns : tie.Need-returns Inv-loop μ-loop
 returns c =
     let at-item-at = c .before .before in
@@ -36,12 +30,6 @@ returns c =
     next-here (entry .args .items .now) (entry .args .many) (entry .args .field) (entry .args .from) (entry .args .end) (at-loop .loop .i)
     (at-loop .loop .inv .2) (omega arith) (omega arith) (at-loop-test .loop-test .taken) (at-item-at .item-at .ensures)
     (c .before .is-field .ensures) (c .if1 .taken)
-
-add-i : tie.Need-add-i Inv-loop μ-loop
-add-i c = omega arith
-
-loop-less : tie.Need-loop-less Inv-loop μ-loop
-loop-less c = omega arith
 
 loop-again : tie.Need-loop-again Inv-loop μ-loop
 loop-again c =
@@ -64,4 +52,5 @@ returns-2 c =
     (at-loop .loop .inv .2) (omega arith) (omega arith) (omega arith) (c .loop-test .left)
 
 pub next-row-spec : {M : Type 1} → statement M
-next-row-spec = tie.close (tie.spec Inv-loop μ-loop loop-holds item-at-requires is-field-requires returns add-i loop-less loop-again returns-2)
+next-row-spec = tie.close (tie.spec Inv-loop μ-loop loop-holds (λ c κs. omega arith) (λ c κs. search needs) returns (λ c. omega arith) (λ c. omega arith) loop-again
+    returns-2)

@@ -5,24 +5,6 @@ use borrow.Author.Needs.{needs}
 use Rattle.mobile.proofs.one_tune.Statement.{statement}
 use Rattle.mobile.proofs.one_tune.Tie as tie
 
-enum-known-tunes : tie.Need-enum-known-tunes
-enum-known-tunes c = search needs
-
-enum-told : tie.Need-enum-told
-enum-told c = search needs
-
-enum-known-instruments : tie.Need-enum-known-instruments
-enum-known-instruments c = search needs
-
-enum-told-2 : tie.Need-enum-told-2
-enum-told-2 c = search needs
-
-enum-told-3 : tie.Need-enum-told-3
-enum-told-3 c = search needs
-
-enum-told-4 : tie.Need-enum-told-4
-enum-told-4 c = search needs
-
 returns : tie.Need-returns
 returns c = tune-alone _ _ (c .before .before .before .tunes .given .1) (c .enum-told .given .1)
 
@@ -39,4 +21,5 @@ returns-5 : tie.Need-returns-5
 returns-5 c = tunes-more _ _ (c .enum-told4 .given .1)
 
 pub one-tune-spec : {M : Type 1} → statement M
-one-tune-spec = tie.close (tie.spec enum-known-tunes enum-told enum-known-instruments enum-told-2 enum-told-3 enum-told-4 returns returns-2 returns-3 returns-4 returns-5)
+one-tune-spec = tie.close (tie.spec (λ c. search needs) (λ c. search needs) (λ c. search needs) (λ c. search needs) (λ c. search needs) (λ c. search needs) returns
+    returns-2 returns-3 returns-4 returns-5)

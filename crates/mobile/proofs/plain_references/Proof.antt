@@ -22,12 +22,6 @@ abbrev μ-loop : tie.MeasureT-loop
 loop-holds : tie.Need-loop-holds Inv-loop μ-loop
 loop-holds c = (omega arith, plain-are _)
 
-node-at-requires : tie.Need-node-at-requires Inv-loop μ-loop
-node-at-requires c κs = omega arith
-
-is-plain-requires : tie.Need-is-plain-requires Inv-loop μ-loop
-is-plain-requires c κs = search needs
-
 returns : tie.Need-returns Inv-loop μ-loop
 returns c =
     let at-is-plain = c .before in
@@ -36,12 +30,6 @@ returns c =
     let at-loop = at-loop-test .before in
     nodes-no _ _ _ _ (at-loop .loop .inv .1) (at-loop-test .loop-test .taken) (at-node-at .node-at .ensures)
     (sym (at-is-plain .is-plain .ensures) ∙ not-true (at-is-plain .is-plain .result) (c .if1 .taken))
-
-add-i : tie.Need-add-i Inv-loop μ-loop
-add-i c = omega arith
-
-loop-less : tie.Need-loop-less Inv-loop μ-loop
-loop-less c = omega arith
 
 loop-again : tie.Need-loop-again Inv-loop μ-loop
 loop-again c =
@@ -58,4 +46,5 @@ returns-2 : tie.Need-returns-2 Inv-loop μ-loop
 returns-2 c = nodes-yes _ _ _ _ (c .before .loop .inv .1) (c .loop-test .left)
 
 pub plain-references-spec : {M : Type 1} → statement M
-plain-references-spec = tie.close (tie.spec Inv-loop μ-loop loop-holds node-at-requires is-plain-requires returns add-i loop-less loop-again returns-2)
+plain-references-spec = tie.close (tie.spec Inv-loop μ-loop loop-holds (λ c κs. omega arith) (λ c κs. search needs) returns (λ c. omega arith) (λ c. omega arith) loop-again
+    returns-2)

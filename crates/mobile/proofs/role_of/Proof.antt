@@ -7,19 +7,10 @@ use borrow.Author.Needs.{needs}
 use Rattle.mobile.proofs.role_of.Statement.{statement}
 use Rattle.mobile.proofs.role_of.Tie as tie
 
-next-row-requires : tie.Need-next-row-requires
-next-row-requires c κs = search needs
-
 returns : tie.Need-returns
 returns c =
     let entry = c .before .before .before .before in
     role-none (entry .args .file .now) (entry .args .items .now) (entry .args .many) (c .before .next-row .ensures) (c .if1 .taken)
-
-add-next-row : tie.Need-add-next-row
-add-next-row c = search needs
-
-next-row-requires-2 : tie.Need-next-row-requires-2
-next-row-requires-2 c κs = search needs
 
 returns-2 : tie.Need-returns-2
 returns-2 c =
@@ -28,9 +19,6 @@ returns-2 c =
     let entry = at-next-row .before .before .before in
     role-two (entry .args .file .now) (entry .args .items .now) (entry .args .many) (at-next-row .next-row .ensures) (at-if1 .if1 .left)
     (c .before .next-row2 .ensures) (c .if2 .taken)
-
-item-at-requires : tie.Need-item-at-requires
-item-at-requires c κs = search needs
 
 role-of-row-requires : tie.Need-role-of-row-requires
 role-of-row-requires c κs =
@@ -48,4 +36,5 @@ returns-3 c =
     (at-next-row2 .next-row2 .ensures) (at-if2 .if2 .left) (omega arith) (c .before .item-at .ensures) (c .role-of-row .ensures)
 
 pub role-of-spec : {M : Type 1} → statement M
-role-of-spec = tie.close (tie.spec next-row-requires returns add-next-row next-row-requires-2 returns-2 item-at-requires role-of-row-requires returns-3)
+role-of-spec = tie.close (tie.spec (λ c κs. search needs) returns (λ c. search needs) (λ c κs. search needs) returns-2 (λ c κs. search needs) role-of-row-requires
+    returns-3)

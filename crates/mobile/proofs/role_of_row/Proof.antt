@@ -10,9 +10,6 @@ use borrow.Author.Needs.{needs}
 use Rattle.mobile.proofs.role_of_row.Statement.{statement}
 use Rattle.mobile.proofs.role_of_row.Tie as tie
 
-is-binary-requires : tie.Need-is-binary-requires
-is-binary-requires c κs = search needs
-
 returns : tie.Need-returns
 returns c =
     let at-is-binary = c .before in
@@ -22,26 +19,8 @@ returns c =
 returns-2 : tie.Need-returns-2
 returns-2 c = row-empty (c .before .before .before .before .args .file .now) (c .before .before .before .before .args .row) (c .if2 .taken)
 
-shared-slice-read-if3 : tie.Need-shared-slice-read-if3
-shared-slice-read-if3 c = omega arith
-
 returns-3 : tie.Need-returns-3
 returns-3 c = row-first (c .before .before .before .before .before .before .args .file .now) (c .before .before .before .before .before .before .args .row) (c .if3 .taken)
-
-add-end : tie.Need-add-end
-add-end c = omega arith
-
-add-t14 : tie.Need-add-t14
-add-t14 c = omega arith
-
-number-requires : tie.Need-number-requires
-number-requires c κs = omega arith
-
-enum-told : tie.Need-enum-told
-enum-told c = search needs
-
-enum-known-v : tie.Need-enum-known-v
-enum-known-v c = search needs
 
 returns-4 : tie.Need-returns-4
 returns-4 c =
@@ -49,9 +28,6 @@ returns-4 c =
     let at-number = at-v .before .before in
     let entry = at-number .before .before .before .before .before .before .before in
     row-left (entry .args .file .now) (entry .args .row) (was numberTold (at-number .number .ensures metaFrame) (at-v .v .given .1)) (c .if4 .taken)
-
-role-of-type-requires : tie.Need-role-of-type-requires
-role-of-type-requires c κs = search needs
 
 returns-5 : tie.Need-returns-5
 returns-5 c =
@@ -73,5 +49,5 @@ returns-6 c =
     (at-if3 .if3 .left) (c .before .if4 .left) (c .role-of-type .ensures)
 
 pub role-of-row-spec : {M : Type 1} → statement M
-role-of-row-spec = tie.close (tie.spec is-binary-requires returns returns-2 shared-slice-read-if3 returns-3 add-end add-t14 number-requires
-    enum-told enum-known-v returns-4 role-of-type-requires returns-5 returns-6)
+role-of-row-spec = tie.close (tie.spec (λ c κs. search needs) returns returns-2 (λ c. omega arith) returns-3 (λ c. omega arith) (λ c. omega arith) (λ c κs. omega arith)
+    (λ c. search needs) (λ c. search needs) returns-4 (λ c κs. search needs) returns-5 returns-6)

@@ -21,24 +21,12 @@ abbrev μ-loop : tie.MeasureT-loop
 loop-holds : tie.Need-loop-holds Inv-loop μ-loop
 loop-holds c = (omega arith, refl)
 
-item-at-requires : tie.Need-item-at-requires Inv-loop μ-loop
-item-at-requires c κs = omega arith
-
-field-size-requires : tie.Need-field-size-requires Inv-loop μ-loop
-field-size-requires c κs = search needs
-
 returns : tie.Need-returns Inv-loop μ-loop
 returns c =
     let at-item-at = c .before .before in
     let at-loop-test = at-item-at .before in
     let at-loop = at-loop-test .before in
     items-no _ _ _ _ (at-loop .loop .inv .1) (at-loop-test .loop-test .taken) (at-item-at .item-at .ensures) (small-no _ (c .before .field-size .ensures) (c .if1 .taken))
-
-add-i : tie.Need-add-i Inv-loop μ-loop
-add-i c = omega arith
-
-loop-less : tie.Need-loop-less Inv-loop μ-loop
-loop-less c = omega arith
 
 loop-again : tie.Need-loop-again Inv-loop μ-loop
 loop-again c =
@@ -54,4 +42,5 @@ returns-2 : tie.Need-returns-2 Inv-loop μ-loop
 returns-2 c = items-yes _ _ _ _ (c .before .loop .inv .1) (c .loop-test .left)
 
 pub small-items-spec : {M : Type 1} → statement M
-small-items-spec = tie.close (tie.spec Inv-loop μ-loop loop-holds item-at-requires field-size-requires returns add-i loop-less loop-again returns-2)
+small-items-spec = tie.close (tie.spec Inv-loop μ-loop loop-holds (λ c κs. omega arith) (λ c κs. search needs) returns (λ c. omega arith) (λ c. omega arith) loop-again
+    returns-2)

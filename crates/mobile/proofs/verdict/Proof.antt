@@ -9,9 +9,6 @@ use borrow.Author.Needs.{needs}
 use Rattle.mobile.proofs.verdict.Statement.{statement}
 use Rattle.mobile.proofs.verdict.Tie as tie
 
-right-edition-requires : tie.Need-right-edition-requires
-right-edition-requires c κs = search needs
-
 returns : tie.Need-returns
 returns c =
     let entry = c .before .before .before .before .before .before in
@@ -86,9 +83,6 @@ returns-5 c =
     (skip 3 (at-plain-references .plain-references .ensures) (at-if3 .if3 .left)
     (skip 4 (at-no-unpackers .no-unpackers .ensures) (at-if4 .if4 .left)
     (stop 5 _ (ap (λ (x : Children). x .typed) (at-children-of .children-of .ensures)) (c .if5 .taken))))))
-
-one-tune-requires : tie.Need-one-tune-requires
-one-tune-requires c κs = search needs
 
 returns-6 : tie.Need-returns-6
 returns-6 c =
@@ -210,6 +204,5 @@ returns-9 c =
     (at-children-of .children-of .ensures)) (at-if7 .if7 .left) (skip 8 (c .before .small-fields .ensures) (c .if8 .left) (refl)))))))))
 
 pub verdict-spec : {M : Type 1} → statement M
-verdict-spec = tie.close (tie.spec right-edition-requires returns files-only-requires returns-2 plain-references-requires returns-3
-    no-unpackers-requires returns-4 children-of-requires returns-5 one-tune-requires returns-6 tune-needs-requires returns-7
-    small-fields-requires returns-8 returns-9)
+verdict-spec = tie.close (tie.spec (λ c κs. search needs) returns files-only-requires returns-2 plain-references-requires returns-3 no-unpackers-requires returns-4
+    children-of-requires returns-5 (λ c κs. search needs) returns-6 tune-needs-requires returns-7 small-fields-requires returns-8 returns-9)

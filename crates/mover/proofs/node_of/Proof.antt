@@ -8,20 +8,11 @@ use borrow.Author.Needs.{needs}
 use Rattle.mover.proofs.node_of.Statement.{statement}
 use Rattle.mover.proofs.node_of.Tie as tie
 
-letter-requires : tie.Need-letter-requires
-letter-requires c κs = search needs
-
 returns : tie.Need-returns
 returns c = λ k e. node-of-none (c .before .before .before .args .line .now) (c .before .letter .ensures) (c .if1 .taken) e
 
 number-field-requires : tie.Need-number-field-requires
 number-field-requires c κs = label-room (c .before .before .before .args .line .now) 0 (c .before .letter .ensures) (c .if1 .left) (omega arith) (omega arith)
-
-enum-told : tie.Need-enum-told
-enum-told c = search needs
-
-enum-known-row : tie.Need-enum-known-row
-enum-known-row c = search needs
 
 returns-2 : tie.Need-returns-2
 returns-2 c =
@@ -36,13 +27,4 @@ returns-3 c =
     (as-told (NumberAt (a .line .now) 2) (c .before .before .before .number-field .ensures) (c .before .row .given .1)) e
 
 pub node-of-spec : {M : Type 1} → statement M
-node-of-spec =
-    tie.close
-    (tie.spec
-    letter-requires
-    returns
-    number-field-requires
-    enum-told
-    enum-known-row
-    returns-2
-    returns-3)
+node-of-spec = tie.close (tie.spec (λ c κs. search needs) returns number-field-requires (λ c. search needs) (λ c. search needs) returns-2 returns-3)

@@ -24,9 +24,6 @@ abbrev μ-loop : tie.MeasureT-loop
 loop-holds : tie.Need-loop-holds Inv-loop μ-loop
 loop-holds c = (going-start _ (omega arith) refl, c .before .before .pre .1)
 
-piece-end-requires : tie.Need-piece-end-requires Inv-loop μ-loop
-piece-end-requires c κs = omega arith
-
 sub-is-kind : tie.Need-sub-is-kind Inv-loop μ-loop
 sub-is-kind c = omega (arith, c .piece-end .ensures .1)
 
@@ -94,23 +91,5 @@ returns c =
     going-end (put-kind-end (entry .args .sheet .now) (entry .args .items) (at-loop .loop .at) (c .loop-test .left)) (at-loop .loop .inv .0)
 
 pub put-kind-spec : {M : Type 1} → statement M
-put-kind-spec =
-    tie.close
-    (tie.spec
-    Inv-loop
-    μ-loop
-    loop-holds
-    piece-end-requires
-    sub-is-kind
-    part-is-kind-start
-    part-is-kind-end
-    is-kind-requires
-    put-line-requires
-    add-at
-    loop-less
-    loop-again
-    add-at-2
-    loop-less-2
-    loop-again-2
-    same-length
-    returns)
+put-kind-spec = tie.close (tie.spec Inv-loop μ-loop loop-holds (λ c κs. omega arith) sub-is-kind part-is-kind-start part-is-kind-end is-kind-requires
+    put-line-requires add-at loop-less loop-again add-at-2 loop-less-2 loop-again-2 same-length returns)

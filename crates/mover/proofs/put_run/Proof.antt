@@ -19,9 +19,6 @@ abbrev μ-loop : tie.MeasureT-loop
 loop-holds : tie.Need-loop-holds Inv-loop μ-loop
 loop-holds c = record { puts = going-start _ (omega arith) refl; past = refl; right = c .before .before .pre }
 
-enum-told : tie.Need-enum-told Inv-loop μ-loop
-enum-told c = search needs
-
 same-length : tie.Need-same-length Inv-loop μ-loop
 same-length c = going-length (c .before .before .loop .inv .puts)
 
@@ -30,9 +27,6 @@ returns c =
     let at-loop = c .before .before in
     let entry = at-loop .before .before .before in
     run-none (entry .args .sheet .now) (entry .args .row) (at-loop .loop .inv) (c .enum-told .given .1)
-
-enum-known-item : tie.Need-enum-known-item Inv-loop μ-loop
-enum-known-item c = search needs
 
 same-length-2 : tie.Need-same-length-2 Inv-loop μ-loop
 same-length-2 c = going-length (c .before .before .before .before .loop .inv .puts)
@@ -82,20 +76,5 @@ loop-again c =
     run-turn (a .sheet .now) (a .row) (loop .inv) (item .given .1) (test .left) (c .before .before .before .put-line .ensures) (c .next-item .result) (c .next-item .ensures)
 
 pub put-run-spec : {M : Type 1} → statement M
-put-run-spec =
-    tie.close
-    (tie.spec
-    Inv-loop
-    μ-loop
-    loop-holds
-    enum-told
-    same-length
-    returns
-    enum-known-item
-    same-length-2
-    returns-2
-    put-line-requires
-    add-next-item
-    next-item-requires
-    loop-less
-    loop-again)
+put-run-spec = tie.close (tie.spec Inv-loop μ-loop loop-holds (λ c. search needs) same-length returns (λ c. search needs) same-length-2 returns-2 put-line-requires
+    add-next-item next-item-requires loop-less loop-again)

@@ -8,29 +8,14 @@ use borrow.Author.Tests.{not-false}
 use Rattle.node.proofs.is_common.Statement.{statement}
 use Rattle.node.proofs.is_common.Tie as tie
 
-sub-if1 : tie.Need-sub-if1
-sub-if1 c = search needs
-
 returns : tie.Need-returns
 returns c = tt
-
-byte-requires : tie.Need-byte-requires
-byte-requires c κs = search needs
-
-is-numbered-requires : tie.Need-is-numbered-requires
-is-numbered-requires c κs = search needs
 
 returns-2 : tie.Need-returns-2
 returns-2 c = tt
 
-byte-requires-2 : tie.Need-byte-requires-2
-byte-requires-2 c κs = search needs
-
 returns-3 : tie.Need-returns-3
 returns-3 c = tt
-
-byte-requires-3 : tie.Need-byte-requires-3
-byte-requires-3 c κs = search needs
 
 returns-4 : tie.Need-returns-4
 returns-4 c = tt
@@ -48,16 +33,5 @@ returns-5 c =
     (sym (not-false _ (at-if2 .if2 .left)) ∙ at-is-numbered .is-numbered .ensures) (at-if3 .if3 .left) (c .if4 .left)
 
 pub is-common-spec : {M : Type 1} → statement M
-is-common-spec =
-    tie.close
-    (tie.spec
-    sub-if1
-    returns
-    byte-requires
-    is-numbered-requires
-    returns-2
-    byte-requires-2
-    returns-3
-    byte-requires-3
-    returns-4
-    returns-5)
+is-common-spec = tie.close (tie.spec (λ c. search needs) returns (λ c κs. search needs) (λ c κs. search needs) returns-2 (λ c κs. search needs) returns-3
+    (λ c κs. search needs) returns-4 returns-5)

@@ -18,21 +18,12 @@ abbrev μ-loop : tie.MeasureT-loop
 loop-holds : tie.Need-loop-holds Inv-loop μ-loop
 loop-holds c = (refl, entries-begun _ _ _)
 
-read-unpacker-requires : tie.Need-read-unpacker-requires Inv-loop μ-loop
-read-unpacker-requires c κs = omega arith
-
-enum-known-n : tie.Need-enum-known-n Inv-loop μ-loop
-enum-known-n c = search needs
-
 returns : tie.Need-returns Inv-loop μ-loop
 returns c =
     let at-read-unpacker = c .before .before .before in
     let at-loop-test = at-read-unpacker .before in
     let at-loop = at-loop-test .before in
     entries-no (at-loop .loop .inv .1) (at-loop-test .loop-test .taken) _ (λ n. rw (at-loop .loop .inv .0) at (at-read-unpacker .read-unpacker .ensures n)) (c .before .n .given .1)
-
-enum-known-d : tie.Need-enum-known-d Inv-loop μ-loop
-enum-known-d c = search needs
 
 add-count : tie.Need-add-count Inv-loop μ-loop
 add-count c = omega (arith, c .before .before .before .before .before .loop .inv .1 .few, c .before .before .before .before .before .before .before .before .pre)
@@ -62,17 +53,5 @@ returns-2 : tie.Need-returns-2 Inv-loop μ-loop
 returns-2 c = rw (c .before .loop .inv .0) (entries-done (c .before .loop .inv .1) (c .loop-test .left))
 
 pub read-entries-spec : {M : Type 1} → statement M
-read-entries-spec =
-    tie.close
-    (tie.spec
-    Inv-loop
-    μ-loop
-    loop-holds
-    read-unpacker-requires
-    enum-known-n
-    returns
-    enum-known-d
-    add-count
-    loop-less
-    loop-again
+read-entries-spec = tie.close (tie.spec Inv-loop μ-loop loop-holds (λ c κs. omega arith) (λ c. search needs) returns (λ c. search needs) add-count loop-less loop-again
     returns-2)

@@ -14,15 +14,6 @@ use borrow.Author.Needs.{needs}
 use Rattle.node.proofs.read_front.Statement.{statement}
 use Rattle.node.proofs.read_front.Tie as tie
 
-read-head-requires : tie.Need-read-head-requires
-read-head-requires c κs = search needs
-
-enum-known-n : tie.Need-enum-known-n
-enum-known-n c = search needs
-
-enum-known-h : tie.Need-enum-known-h
-enum-known-h c = search needs
-
 of-requires : tie.Need-of-requires
 of-requires c κs =
     let at-read-head = c .before .before .before in
@@ -35,12 +26,6 @@ read-metadata-requires c κs =
     let at-read-head = at-h .before .before in
     let entry = at-read-head .before .before .before .before .before in
     omega (arith, entry .pre, head-inside _ _ _ (was headTold (at-read-head .read-head .ensures) (at-h .h .given .1)), c .before .of .ensures)
-
-enum-known-n-2 : tie.Need-enum-known-n-2
-enum-known-n-2 c = search needs
-
-enum-known-rows : tie.Need-enum-known-rows
-enum-known-rows c = search needs
 
 of-requires-2 : tie.Need-of-requires-2
 of-requires-2 c κs =
@@ -57,26 +42,14 @@ read-rest-requires c κs =
     let entry = at-read-head .before .before .before .before .before in
     omega (arith, entry .pre, head-inside _ _ _ (was headTold (at-read-head .read-head .ensures) (at-h .h .given .1)), at-of .of .ensures, c .before .of2 .ensures)
 
-enum-known-n-3 : tie.Need-enum-known-n-3
-enum-known-n-3 c = search needs
-
-enum-known-u : tie.Need-enum-known-u
-enum-known-u c = search needs
-
 sub-row-of : tie.Need-sub-row-of
 sub-row-of c =
     let at-rows = c .before .before .before .before .before .before .before .before in
     let at-read-metadata = at-rows .before .before .before .before in
     omega (arith, metadata-since _ _ _ _ _ _ _ (done (at-read-metadata .read-metadata .ensures []) (ap (walked _) (at-rows .rows .given .1))))
 
-row-of-requires : tie.Need-row-of-requires
-row-of-requires c κs = search needs
-
 returns : tie.Need-returns
 returns c = λ t. front-no (front-head _ _ _ _ _ _ _ _ (was headTold (c .before .before .before .read-head .ensures) (c .before .n .given .1)))
-
-same-length : tie.Need-same-length
-same-length c = search needs
 
 returns-2 : tie.Need-returns-2
 returns-2 c =
@@ -86,9 +59,6 @@ returns-2 c =
     let at-read-head = at-h .before .before in
     λ t. front-no (front-metadata _ _ _ _ _ _ _ _ (was headTold (at-read-head .read-head .ensures) (at-h .h .given .1)) (at-of .of .ensures)
     (stopped (at-read-metadata .read-metadata .ensures t) (ap (walked _) (c .before .n2 .given .1))))
-
-same-length-2 : tie.Need-same-length-2
-same-length-2 c = search needs
 
 returns-3 : tie.Need-returns-3
 returns-3 c =
@@ -122,26 +92,6 @@ returns-4 c =
     (fitting (at-read-metadata .read-metadata .ensures t) (ap (walked _) (at-rows .rows .given .1)))
 
 pub read-front-spec : {M : Type 1} → statement M
-read-front-spec =
-    tie.close
-    (tie.spec
-    read-head-requires
-    enum-known-n
-    enum-known-h
-    of-requires
-    read-metadata-requires
-    enum-known-n-2
-    enum-known-rows
-    of-requires-2
-    read-rest-requires
-    enum-known-n-3
-    enum-known-u
-    sub-row-of
-    row-of-requires
-    returns
-    same-length
-    returns-2
-    same-length-2
-    returns-3
-    same-length-3
-    returns-4)
+read-front-spec = tie.close (tie.spec (λ c κs. search needs) (λ c. search needs) (λ c. search needs) of-requires read-metadata-requires (λ c. search needs)
+    (λ c. search needs) of-requires-2 read-rest-requires (λ c. search needs) (λ c. search needs) sub-row-of (λ c κs. search needs) returns
+    (λ c. search needs) returns-2 (λ c. search needs) returns-3 same-length-3 returns-4)

@@ -11,15 +11,6 @@ use borrow.Author.Needs.{needs}
 use Rattle.node.proofs.read_head.Statement.{statement}
 use Rattle.node.proofs.read_head.Tie as tie
 
-number-requires : tie.Need-number-requires
-number-requires c κs = search needs
-
-enum-known-n : tie.Need-enum-known-n
-enum-known-n c = search needs
-
-enum-known-length : tie.Need-enum-known-length
-enum-known-length c = search needs
-
 of-requires : tie.Need-of-requires
 of-requires c κs =
     let at-number = c .before .before .before in
@@ -56,15 +47,6 @@ number-requires-2 c κs =
     let at-if1 = c .before .before .before .before .before .before in
     let entry = at-if1 .before .before .before .before .before .before .before .before .before .before .before .before .before .before in
     omega (arith, entry .pre, at-if1 .if1 .left)
-
-enum-known-n-2 : tie.Need-enum-known-n-2
-enum-known-n-2 c = search needs
-
-enum-known-contained : tie.Need-enum-known-contained
-enum-known-contained c = search needs
-
-is-detached-folder-requires : tie.Need-is-detached-folder-requires
-is-detached-folder-requires c κs = search needs
 
 returns-4 : tie.Need-returns-4
 returns-4 c =
@@ -121,22 +103,5 @@ returns-7 c =
     (sym (c .before .if4 .left) ∙ at-is-detached-folder .is-detached-folder .ensures) (c .read-header-length .ensures)
 
 pub read-head-spec : {M : Type 1} → statement M
-read-head-spec =
-    tie.close
-    (tie.spec
-    number-requires
-    enum-known-n
-    enum-known-length
-    of-requires
-    returns
-    returns-2
-    returns-3
-    number-requires-2
-    enum-known-n-2
-    enum-known-contained
-    is-detached-folder-requires
-    returns-4
-    read-header-length-requires
-    returns-5
-    returns-6
-    returns-7)
+read-head-spec = tie.close (tie.spec (λ c κs. search needs) (λ c. search needs) (λ c. search needs) of-requires returns returns-2 returns-3 number-requires-2
+    (λ c. search needs) (λ c. search needs) (λ c κs. search needs) returns-4 read-header-length-requires returns-5 returns-6 returns-7)

@@ -9,17 +9,8 @@ use borrow.Author.Needs.{needs}
 use Rattle.node.proofs.read_header_length.Statement.{statement}
 use Rattle.node.proofs.read_header_length.Tie as tie
 
-of-requires : tie.Need-of-requires
-of-requires c κs = search needs
-
 number-requires : tie.Need-number-requires
 number-requires c κs = omega (arith, c .of .ensures, c .before .before .before .pre)
-
-enum-known-n : tie.Need-enum-known-n
-enum-known-n c = search needs
-
-enum-known-length : tie.Need-enum-known-length
-enum-known-length c = search needs
 
 returns : tie.Need-returns
 returns c =
@@ -27,9 +18,6 @@ returns c =
     let at-number = at-length .before .before in
     let at-of = at-number .before in
     header-past _ _ _ _ _ (at-of .of .ensures) (was numberTold (at-number .number .ensures nodeFrame) (at-length .length .given .1)) (c .if1 .taken)
-
-of-requires-2 : tie.Need-of-requires-2
-of-requires-2 c κs = search needs
 
 returns-2 : tie.Need-returns-2
 returns-2 c =
@@ -55,15 +43,5 @@ returns-4 c =
     (at-if1 .if1 .left) (omega (arith, at-of2 .of2 .ensures, c .if2 .left))
 
 pub read-header-length-spec : {M : Type 1} → statement M
-read-header-length-spec =
-    tie.close
-    (tie.spec
-    of-requires
-    number-requires
-    enum-known-n
-    enum-known-length
-    returns
-    of-requires-2
-    returns-2
-    returns-3
+read-header-length-spec = tie.close (tie.spec (λ c κs. search needs) number-requires (λ c. search needs) (λ c. search needs) returns (λ c κs. search needs) returns-2 returns-3
     returns-4)

@@ -8,15 +8,6 @@ use borrow.Author.Needs.{needs}
 use Rattle.node.proofs.read_node_place.Statement.{statement}
 use Rattle.node.proofs.read_node_place.Tie as tie
 
-number-requires : tie.Need-number-requires
-number-requires c κs = search needs
-
-enum-known-n : tie.Need-enum-known-n
-enum-known-n c = search needs
-
-enum-known-offset : tie.Need-enum-known-offset
-enum-known-offset c = search needs
-
 returns : tie.Need-returns
 returns c = place-cut _ _ _ (was numberTold (c .before .before .before .number .ensures referenceFrame) (c .before .n .given .1))
 
@@ -24,5 +15,4 @@ returns-2 : tie.Need-returns-2
 returns-2 c = place-all _ _ _ (was numberTold (c .before .before .before .number .ensures referenceFrame) (c .before .offset .given .1))
 
 pub read-node-place-spec : {M : Type 1} → statement M
-read-node-place-spec =
-    tie.close (tie.spec number-requires enum-known-n enum-known-offset returns returns-2)
+read-node-place-spec = tie.close (tie.spec (λ c κs. search needs) (λ c. search needs) (λ c. search needs) returns returns-2)

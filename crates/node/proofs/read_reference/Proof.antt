@@ -10,15 +10,6 @@ use borrow.Author.Needs.{needs}
 use Rattle.node.proofs.read_reference.Statement.{statement}
 use Rattle.node.proofs.read_reference.Tie as tie
 
-number-requires : tie.Need-number-requires
-number-requires c κs = search needs
-
-enum-known-n : tie.Need-enum-known-n
-enum-known-n c = search needs
-
-enum-known-kind : tie.Need-enum-known-kind
-enum-known-kind c = search needs
-
 sub-extent : tie.Need-sub-extent
 sub-extent c =
     let at-kind = c .before .before .before .before .before in
@@ -73,4 +64,5 @@ returns-6 c =
     (at-if3 .if3 .left) (c .before .if4 .left) (c .read-target .ensures)
 
 pub read-reference-spec : {M : Type 1} → statement M
-read-reference-spec = tie.close (tie.spec number-requires enum-known-n enum-known-kind sub-extent returns returns-2 returns-3 returns-4 read-target-requires returns-5 returns-6)
+read-reference-spec = tie.close (tie.spec (λ c κs. search needs) (λ c. search needs) (λ c. search needs) sub-extent returns returns-2 returns-3 returns-4
+    read-target-requires returns-5 returns-6)

@@ -8,15 +8,6 @@ use borrow.Author.Needs.{needs}
 use Rattle.node.proofs.read_resource.Statement.{statement}
 use Rattle.node.proofs.read_resource.Tie as tie
 
-number-requires : tie.Need-number-requires
-number-requires c κs = search needs
-
-enum-known-n : tie.Need-enum-known-n
-enum-known-n c = search needs
-
-enum-known-offset : tie.Need-enum-known-offset
-enum-known-offset c = search needs
-
 returns : tie.Need-returns
 returns c =
     let at-offset = c .before .before .before in
@@ -29,9 +20,6 @@ returns-2 c =
     let at-number = at-offset .before .before in
     resource-past _ _ _ _ _ (was numberTold (at-number .number .ensures referenceFrame) (at-offset .offset .given .1)) (c .before .if1 .left) (c .if2 .taken)
 
-sub-t16 : tie.Need-sub-t16
-sub-t16 c = search needs
-
 returns-3 : tie.Need-returns-3
 returns-3 c = resource-cut _ _ _ _ _ (was numberTold (c .before .before .before .number .ensures referenceFrame) (c .before .n .given .1))
 
@@ -42,14 +30,4 @@ returns-4 c =
     resource-all _ _ _ _ _ (was numberTold (at-number .number .ensures referenceFrame) (at-offset .offset .given .1)) (c .before .if1 .left) (c .if2 .left)
 
 pub read-resource-spec : {M : Type 1} → statement M
-read-resource-spec =
-    tie.close
-    (tie.spec
-    number-requires
-    enum-known-n
-    enum-known-offset
-    returns
-    returns-2
-    sub-t16
-    returns-3
-    returns-4)
+read-resource-spec = tie.close (tie.spec (λ c κs. search needs) (λ c. search needs) (λ c. search needs) returns returns-2 (λ c. search needs) returns-3 returns-4)

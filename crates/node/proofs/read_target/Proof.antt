@@ -6,23 +6,14 @@ use borrow.Author.Needs.{needs}
 use Rattle.node.proofs.read_target.Statement.{statement}
 use Rattle.node.proofs.read_target.Tie as tie
 
-read-resource-requires : tie.Need-read-resource-requires
-read-resource-requires c κs = search needs
-
 returns : tie.Need-returns
 returns c = target-resource _ _ _ _ _ _ (omega (arith, c .before .before .before .pre)) (c .before .if1 .taken) (c .read-resource .ensures)
 
-read-node-place-requires : tie.Need-read-node-place-requires
-read-node-place-requires c κs = search needs
-
 returns-2 : tie.Need-returns-2
 returns-2 c = target-node _ _ _ _ _ _ (omega (arith, c .before .before .before .before .pre)) (c .before .before .if1 .left) (c .before .if2 .taken) (c .read-node-place .ensures)
-
-read-uri-requires : tie.Need-read-uri-requires
-read-uri-requires c κs = search needs
 
 returns-3 : tie.Need-returns-3
 returns-3 c = target-uri _ _ _ _ _ _ (omega (arith, c .before .before .before .before .pre)) (c .before .before .if1 .left) (c .before .if2 .left) (c .read-uri .ensures)
 
 pub read-target-spec : {M : Type 1} → statement M
-read-target-spec = tie.close (tie.spec read-resource-requires returns read-node-place-requires returns-2 read-uri-requires returns-3)
+read-target-spec = tie.close (tie.spec (λ c κs. search needs) returns (λ c κs. search needs) returns-2 (λ c κs. search needs) returns-3)

@@ -12,9 +12,6 @@ use borrow.Author.Needs.{needs}
 use Rattle.node.proofs.read_unpacker.Statement.{statement}
 use Rattle.node.proofs.read_unpacker.Tie as tie
 
-is-common-requires : tie.Need-is-common-requires
-is-common-requires c κs = search needs
-
 on-requires : tie.Need-on-requires
 on-requires c κs =
     let w = common-was _ _ _ (c .before .is-common .ensures) (c .if1 .taken) in
@@ -26,29 +23,8 @@ returns c =
     let w = common-was _ _ _ (at-if1 .before .is-common .ensures) (at-if1 .if1 .taken) in
     λ n. ap (ok (n + 1)) (c .on .ensures) ∙ sym (w .1 n)
 
-number-requires : tie.Need-number-requires
-number-requires c κs = search needs
-
-enum-known-n : tie.Need-enum-known-n
-enum-known-n c = search needs
-
-enum-known-kind : tie.Need-enum-known-kind
-enum-known-kind c = search needs
-
 returns-2 : tie.Need-returns-2
 returns-2 c = λ n. unpacker-bad _ _ _ n (was numberTold (c .before .before .before .before .number .ensures unpackFrame) (c .before .before .kind .given .1)) (c .if2 .taken)
-
-read-identifier-requires : tie.Need-read-identifier-requires
-read-identifier-requires c κs = search needs
-
-enum-known-n-2 : tie.Need-enum-known-n-2
-enum-known-n-2 c = search needs
-
-enum-known-e : tie.Need-enum-known-e
-enum-known-e c = search needs
-
-read-value-requires : tie.Need-read-value-requires
-read-value-requires c κs = search needs
 
 returns-3 : tie.Need-returns-3
 returns-3 c = λ n. unpacker-cut _ _ _ n (was numberTold (c .before .before .before .number .ensures unpackFrame) (c .before .n .given .1))
@@ -73,20 +49,5 @@ returns-5 c =
     (was passTold (at-read-identifier .read-identifier .ensures) (at-e .e .given .1)) (c .read-value .result) (c .read-value .ensures)
 
 pub read-unpacker-spec : {M : Type 1} → statement M
-read-unpacker-spec =
-    tie.close
-    (tie.spec
-    is-common-requires
-    on-requires
-    returns
-    number-requires
-    enum-known-n
-    enum-known-kind
-    returns-2
-    read-identifier-requires
-    enum-known-n-2
-    enum-known-e
-    read-value-requires
-    returns-3
-    returns-4
-    returns-5)
+read-unpacker-spec = tie.close (tie.spec (λ c κs. search needs) on-requires returns (λ c κs. search needs) (λ c. search needs) (λ c. search needs) returns-2
+    (λ c κs. search needs) (λ c. search needs) (λ c. search needs) (λ c κs. search needs) returns-3 returns-4 returns-5)

@@ -10,15 +10,6 @@ use borrow.Author.Needs.{needs}
 use Rattle.node.proofs.read_unpackers.Statement.{statement}
 use Rattle.node.proofs.read_unpackers.Tie as tie
 
-block-requires : tie.Need-block-requires
-block-requires c κs = search needs
-
-enum-known-n : tie.Need-enum-known-n
-enum-known-n c = search needs
-
-enum-known-size : tie.Need-enum-known-size
-enum-known-size c = search needs
-
 returns : tie.Need-returns
 returns c =
     let at-size = c .before .before .before in
@@ -57,4 +48,5 @@ returns-4 c =
     unpackers-file _ _ _ _ (was numberTold (at-block .block .ensures unpackFrame) (at-size .size .given .1)) (at-if2 .if2 .left) (at-on .on .ensures) (c .read-entries .ensures)
 
 pub read-unpackers-spec : {M : Type 1} → statement M
-read-unpackers-spec = tie.close (tie.spec block-requires enum-known-n enum-known-size returns returns-2 on-requires read-entries-requires returns-3 returns-4)
+read-unpackers-spec = tie.close (tie.spec (λ c κs. search needs) (λ c. search needs) (λ c. search needs) returns returns-2 on-requires read-entries-requires returns-3
+    returns-4)

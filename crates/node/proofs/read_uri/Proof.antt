@@ -10,15 +10,6 @@ use borrow.Author.Needs.{needs}
 use Rattle.node.proofs.read_uri.Statement.{statement}
 use Rattle.node.proofs.read_uri.Tie as tie
 
-block-requires : tie.Need-block-requires
-block-requires c κs = search needs
-
-enum-known-n : tie.Need-enum-known-n
-enum-known-n c = search needs
-
-enum-known-size : tie.Need-enum-known-size
-enum-known-size c = search needs
-
 on-requires : tie.Need-on-requires
 on-requires c κs =
     let at-size = c .before .before in
@@ -33,5 +24,4 @@ returns-2 : tie.Need-returns-2
 returns-2 c = uri-all _ _ _ (was numberTold (c .before .before .before .before .before .block .ensures referenceFrame) (c .before .before .before .size .given .1)) (c .on .ensures)
 
 pub read-uri-spec : {M : Type 1} → statement M
-read-uri-spec =
-    tie.close (tie.spec block-requires enum-known-n enum-known-size on-requires returns returns-2)
+read-uri-spec = tie.close (tie.spec (λ c κs. search needs) (λ c. search needs) (λ c. search needs) on-requires returns returns-2)

@@ -7,15 +7,6 @@ use borrow.Author.Needs.{needs}
 use Rattle.resolve.proofs.resolve.Statement.{statement}
 use Rattle.resolve.proofs.resolve.Tie as tie
 
-read-file-requires : tie.Need-read-file-requires
-read-file-requires c κs = search needs
-
-enum-known-n : tie.Need-enum-known-n
-enum-known-n c = search needs
-
-enum-known-s : tie.Need-enum-known-s
-enum-known-s c = search needs
-
 resolve-row-requires : tie.Need-resolve-row-requires
 resolve-row-requires c κs =
     let at-s = c .before .before in
@@ -34,21 +25,6 @@ resolve-row-requires c κs =
           (length (entry .args .items .now)) (entry .args .row) (at-read-file .read-file .ensures .0) (at-read-file .read-file .ensures .1 .0)
           (at-read-file .read-file .ensures .1 .1) (at-s .s .given .1),
     )
-
-enum-known-n-2 : tie.Need-enum-known-n-2
-enum-known-n-2 c = search needs
-
-clear-all-requires : tie.Need-clear-all-requires
-clear-all-requires c κs = search needs
-
-enum-known-place : tie.Need-enum-known-place
-enum-known-place c = search needs
-
-same-length : tie.Need-same-length
-same-length c = search needs
-
-same-length-2 : tie.Need-same-length-2
-same-length-2 c = search needs
 
 returns : tie.Need-returns
 returns c =
@@ -84,12 +60,6 @@ returns-2 c =
     (at-clear-all .clear-all .ensures .0 ∙ ap (λ n. replicate n 0) (at-read-file .read-file .kept .1 .0))
     (at-clear-all .clear-all .ensures .1 ∙ ap (λ n. replicate n 0) (at-read-file .read-file .kept .1 .1 .0)) in (w .0, (w .1, w .2))
 
-same-length-5 : tie.Need-same-length-5
-same-length-5 c = search needs
-
-same-length-6 : tie.Need-same-length-6
-same-length-6 c = search needs
-
 returns-3 : tie.Need-returns-3
 returns-3 c =
     let at-resolve-row = c .before .before .before in
@@ -101,22 +71,6 @@ returns-3 c =
     (at-s .s .given .1) _ (at-resolve-row .resolve-row .ensures) (c .before .place .given .1) in (w .0, (w .1, w .2))
 
 pub resolve-spec : {M : Type 1} → statement M
-resolve-spec =
-    tie.close
-    (tie.spec
-    read-file-requires
-    enum-known-n
-    enum-known-s
-    resolve-row-requires
-    enum-known-n-2
-    clear-all-requires
-    enum-known-place
-    same-length
-    same-length-2
-    returns
-    same-length-3
-    same-length-4
-    returns-2
-    same-length-5
-    same-length-6
-    returns-3)
+resolve-spec = tie.close (tie.spec (λ c κs. search needs) (λ c. search needs) (λ c. search needs) resolve-row-requires (λ c. search needs) (λ c κs. search needs)
+    (λ c. search needs) (λ c. search needs) (λ c. search needs) returns same-length-3 same-length-4 returns-2 (λ c. search needs)
+    (λ c. search needs) returns-3)

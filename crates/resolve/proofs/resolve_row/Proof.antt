@@ -8,11 +8,8 @@ use Rattle.resolve.proofs.resolve_row.Tie as tie
 returns : tie.Need-returns
 returns c = row-none _ _ _ (c .if1 .taken)
 
-follow-requires : tie.Need-follow-requires
-follow-requires c κs = search needs
-
 returns-2 : tie.Need-returns-2
 returns-2 c = row-there _ _ _ (c .before .if1 .left) (c .follow .ensures)
 
 pub resolve-row-spec : {M : Type 1} → statement M
-resolve-row-spec = tie.close (tie.spec returns follow-requires returns-2)
+resolve-row-spec = tie.close (tie.spec returns (λ c κs. search needs) returns-2)

@@ -16,12 +16,6 @@ abbrev μ-loop : tie.MeasureT-loop
 loop-holds : tie.Need-loop-holds Inv-loop μ-loop
 loop-holds c = none _
 
-slice-write-bytes : tie.Need-slice-write-bytes Inv-loop μ-loop
-slice-write-bytes c = omega arith
-
-add-at : tie.Need-add-at Inv-loop μ-loop
-add-at c = omega arith
-
 loop-less : tie.Need-loop-less Inv-loop μ-loop
 loop-less c = simp length-set (omega arith)
 
@@ -35,15 +29,4 @@ returns : tie.Need-returns Inv-loop μ-loop
 returns c = all (c .loop-test .left) (c .before .loop .inv)
 
 pub clear-bytes-spec : {M : Type 1} → statement M
-clear-bytes-spec =
-    tie.close
-    (tie.spec
-    Inv-loop
-    μ-loop
-    loop-holds
-    slice-write-bytes
-    add-at
-    loop-less
-    loop-again
-    same-length
-    returns)
+clear-bytes-spec = tie.close (tie.spec Inv-loop μ-loop loop-holds (λ c. omega arith) (λ c. omega arith) loop-less loop-again same-length returns)

@@ -6,21 +6,6 @@ use borrow.Author.Needs.{needs}
 use Rattle.room.proofs.clear_bytes_from.Statement.{statement}
 use Rattle.room.proofs.clear_bytes_from.Tie as tie
 
-sub-clear-bytes : tie.Need-sub-clear-bytes
-sub-clear-bytes c = search needs
-
-part-clear-bytes-start : tie.Need-part-clear-bytes-start
-part-clear-bytes-start c = search needs
-
-part-clear-bytes-end : tie.Need-part-clear-bytes-end
-part-clear-bytes-end c = search needs
-
-clear-bytes-requires : tie.Need-clear-bytes-requires
-clear-bytes-requires c κs = search needs
-
-same-length : tie.Need-same-length
-same-length c = search needs
-
 returns : tie.Need-returns
 returns c =
     let at-clear-bytes = c .before .before in
@@ -32,13 +17,4 @@ returns-2 : tie.Need-returns-2
 returns-2 c = tail-none _ _ (c .if1 .left)
 
 pub clear-bytes-from-spec : {M : Type 1} → statement M
-clear-bytes-from-spec =
-    tie.close
-    (tie.spec
-    sub-clear-bytes
-    part-clear-bytes-start
-    part-clear-bytes-end
-    clear-bytes-requires
-    same-length
-    returns
-    returns-2)
+clear-bytes-from-spec = tie.close (tie.spec (λ c. search needs) (λ c. search needs) (λ c. search needs) (λ c κs. search needs) (λ c. search needs) returns returns-2)

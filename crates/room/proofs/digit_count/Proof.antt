@@ -36,9 +36,6 @@ returns-3 c = counted-end (counted-on (c .before .before .before .before .loop .
 add-size : tie.Need-add-size Inv-loop μ-loop
 add-size c = omega (arith, counted-few (c .before .before .before .before .loop .inv))
 
-loop-less : tie.Need-loop-less Inv-loop μ-loop
-loop-less c = omega arith
-
 loop-again : tie.Need-loop-again Inv-loop μ-loop
 loop-again c = counted-on (c .before .before .before .before .loop .inv) 4 (omega arith) (omega arith) (omega arith)
 
@@ -46,19 +43,5 @@ returns-4 : tie.Need-returns-4 Inv-loop μ-loop
 returns-4 c = counted-end (c .before .loop .inv) (omega arith)
 
 pub digit-count-spec : {M : Type 1} → statement M
-digit-count-spec =
-    tie.close
-    (tie.spec
-    Inv-loop
-    μ-loop
-    loop-holds
-    add-result
-    returns
-    add-result-2
-    returns-2
-    add-result-3
-    returns-3
-    add-size
-    loop-less
-    loop-again
+digit-count-spec = tie.close (tie.spec Inv-loop μ-loop loop-holds add-result returns add-result-2 returns-2 add-result-3 returns-3 add-size (λ c. omega arith) loop-again
     returns-4)

@@ -6,23 +6,11 @@ use borrow.Author.Needs.{needs}
 use Rattle.room.proofs.put_bytes.Statement.{statement}
 use Rattle.room.proofs.put_bytes.Tie as tie
 
-room-at-requires : tie.Need-room-at-requires
-room-at-requires c κs = search needs
-
-on-requires : tie.Need-on-requires
-on-requires c κs = search needs
-
 returns : tie.Need-returns
 returns c = counts-over _ (c .on .ensures) (omega (arith, c .before .before .room-at .ensures, c .before .if1 .taken))
 
 store-bytes-requires : tie.Need-store-bytes-requires
 store-bytes-requires c κs = omega (arith, c .before .before .room-at .ensures, c .before .if1 .left)
-
-add-result : tie.Need-add-result
-add-result c = search needs
-
-same-length : tie.Need-same-length
-same-length c = search needs
 
 returns-2 : tie.Need-returns-2
 returns-2 c =
@@ -32,13 +20,4 @@ returns-2 c =
     counts-stored _ (omega (arith, at-room-at .room-at .ensures, at-if1 .if1 .left)) (at-store-bytes .store-bytes .ensures)
 
 pub put-bytes-spec : {M : Type 1} → statement M
-put-bytes-spec =
-    tie.close
-    (tie.spec
-    room-at-requires
-    on-requires
-    returns
-    store-bytes-requires
-    add-result
-    same-length
-    returns-2)
+put-bytes-spec = tie.close (tie.spec (λ c κs. search needs) (λ c κs. search needs) returns store-bytes-requires (λ c. search needs) (λ c. search needs) returns-2)

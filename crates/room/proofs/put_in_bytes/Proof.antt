@@ -19,26 +19,8 @@ abbrev μ-loop : tie.MeasureT-loop
 loop-holds : tie.Need-loop-holds Inv-loop μ-loop
 loop-holds c = (omega arith, going-start _ (omega arith) refl)
 
-sub-left : tie.Need-sub-left Inv-loop μ-loop
-sub-left c = omega arith
-
-power-requires : tie.Need-power-requires Inv-loop μ-loop
-power-requires c κs = omega arith
-
 div-digit : tie.Need-div-digit Inv-loop μ-loop
 div-digit c = omega (arith, power-some (c .before .before .loop .left - 1), c .power .ensures)
-
-cast-digit : tie.Need-cast-digit Inv-loop μ-loop
-cast-digit c = omega arith
-
-add-put-byte : tie.Need-add-put-byte Inv-loop μ-loop
-add-put-byte c = omega arith
-
-put-byte-requires : tie.Need-put-byte-requires Inv-loop μ-loop
-put-byte-requires c κs = search needs
-
-loop-less : tie.Need-loop-less Inv-loop μ-loop
-loop-less c = omega arith
 
 loop-again : tie.Need-loop-again Inv-loop μ-loop
 loop-again c =
@@ -49,12 +31,6 @@ loop-again c =
           (ap (λ (p : ℕ). 128 + n / p % 128) (c .before .before .before .before .before .power .ensures)))
           (c .before .before .before .before .before .before .before .loop .inv .1) (c .before .before .put-byte .ensures),
     )
-
-put-byte-requires-2 : tie.Need-put-byte-requires-2 Inv-loop μ-loop
-put-byte-requires-2 c κs = search needs
-
-loop-less-2 : tie.Need-loop-less-2 Inv-loop μ-loop
-loop-less-2 c = omega arith
 
 loop-again-2 : tie.Need-loop-again-2 Inv-loop μ-loop
 loop-again-2 c =
@@ -73,22 +49,5 @@ returns : tie.Need-returns Inv-loop μ-loop
 returns c = going-end (none-left _ _ (c .loop-test .left)) (c .before .loop .inv .1)
 
 pub put-in-bytes-spec : {M : Type 1} → statement M
-put-in-bytes-spec =
-    tie.close
-    (tie.spec
-    Inv-loop
-    μ-loop
-    loop-holds
-    sub-left
-    power-requires
-    div-digit
-    cast-digit
-    add-put-byte
-    put-byte-requires
-    loop-less
-    loop-again
-    put-byte-requires-2
-    loop-less-2
-    loop-again-2
-    same-length
-    returns)
+put-in-bytes-spec = tie.close (tie.spec Inv-loop μ-loop loop-holds (λ c. omega arith) (λ c κs. omega arith) div-digit (λ c. omega arith) (λ c. omega arith)
+    (λ c κs. search needs) (λ c. omega arith) loop-again (λ c κs. search needs) (λ c. omega arith) loop-again-2 same-length returns)

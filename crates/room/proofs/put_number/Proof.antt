@@ -8,15 +8,6 @@ use borrow.Author.Needs.{needs}
 use Rattle.room.proofs.put_number.Statement.{statement}
 use Rattle.room.proofs.put_number.Tie as tie
 
-cast-put-byte : tie.Need-cast-put-byte
-cast-put-byte c = search needs
-
-put-byte-requires : tie.Need-put-byte-requires
-put-byte-requires c κs = search needs
-
-same-length : tie.Need-same-length
-same-length c = search needs
-
 returns : tie.Need-returns
 returns c =
     let at-put-byte = c .before .before in
@@ -24,14 +15,8 @@ returns c =
     let entry = at-if1 .before .before in
     counts-as (short-number (entry .args .n) (at-if1 .if1 .taken)) (at-put-byte .put-byte .ensures)
 
-vlq-size-requires : tie.Need-vlq-size-requires
-vlq-size-requires c κs = search needs
-
 put-in-bytes-requires : tie.Need-put-in-bytes-requires
 put-in-bytes-requires c κs = omega (arith, c .vlq-size .ensures, least-in (λ _. c .before .before .before .before .args .n) .1)
-
-same-length-2 : tie.Need-same-length-2
-same-length-2 c = search needs
 
 returns-2 : tie.Need-returns-2
 returns-2 c =
@@ -41,14 +26,5 @@ returns-2 c =
     number-put (entry .args .n) (at-vlq-size .vlq-size .result) (at-vlq-size .vlq-size .ensures) (at-put-in-bytes .put-in-bytes .ensures)
 
 pub put-number-spec : {M : Type 1} → statement M
-put-number-spec =
-    tie.close
-    (tie.spec
-    cast-put-byte
-    put-byte-requires
-    same-length
-    returns
-    vlq-size-requires
-    put-in-bytes-requires
-    same-length-2
-    returns-2)
+put-number-spec = tie.close (tie.spec (λ c. search needs) (λ c κs. search needs) (λ c. search needs) returns (λ c κs. search needs) put-in-bytes-requires
+    (λ c. search needs) returns-2)

@@ -18,26 +18,11 @@ loop-holds c = stored-start (omega arith)
 sub-at : tie.Need-sub-at Inv-loop μ-loop
 sub-at c = omega (arith, stored-in (c .before .loop .inv))
 
-cast-out : tie.Need-cast-out Inv-loop μ-loop
-cast-out c = omega arith
-
-add-out : tie.Need-add-out Inv-loop μ-loop
-add-out c = omega arith
-
 slice-write-out : tie.Need-slice-write-out Inv-loop μ-loop
 slice-write-out c = omega (arith, stored-in (c .before .loop .inv))
 
-loop-less : tie.Need-loop-less Inv-loop μ-loop
-loop-less c = omega arith
-
 loop-again : tie.Need-loop-again Inv-loop μ-loop
 loop-again c = stored-on (c .before .loop .inv) (omega arith) (omega arith) (omega arith)
-
-cast-out-2 : tie.Need-cast-out-2 Inv-loop μ-loop
-cast-out-2 c = omega arith
-
-add-out-2 : tie.Need-add-out-2 Inv-loop μ-loop
-add-out-2 c = omega arith
 
 slice-write-out-2 : tie.Need-slice-write-out-2 Inv-loop μ-loop
 slice-write-out-2 c = omega (arith, stored-in (c .before .loop .inv))
@@ -49,20 +34,5 @@ returns : tie.Need-returns Inv-loop μ-loop
 returns c = stored-end (c .before .loop .inv) (omega arith)
 
 pub store-digits-spec : {M : Type 1} → statement M
-store-digits-spec =
-    tie.close
-    (tie.spec
-    Inv-loop
-    μ-loop
-    loop-holds
-    sub-at
-    cast-out
-    add-out
-    slice-write-out
-    loop-less
-    loop-again
-    cast-out-2
-    add-out-2
-    slice-write-out-2
-    same-length
-    returns)
+store-digits-spec = tie.close (tie.spec Inv-loop μ-loop loop-holds sub-at (λ c. omega arith) (λ c. omega arith) slice-write-out (λ c. omega arith) loop-again
+    (λ c. omega arith) (λ c. omega arith) slice-write-out-2 same-length returns)

@@ -5,11 +5,8 @@ use borrow.Author.Needs.{needs}
 use Rattle.room.proofs.vlq_size.Statement.{statement}
 use Rattle.room.proofs.vlq_size.Tie as tie
 
-least-bytes-requires : tie.Need-least-bytes-requires
-least-bytes-requires c κs = search needs
-
 returns : tie.Need-returns
 returns c = c .least-bytes .ensures (λ _. c .before .args .n) refl refl refl
 
 pub vlq-size-spec : {M : Type 1} → statement M
-vlq-size-spec = tie.close (tie.spec least-bytes-requires returns)
+vlq-size-spec = tie.close (tie.spec (λ c κs. search needs) returns)

@@ -13,31 +13,10 @@ returns c =
     let a = c .before .before .args in
     λ ys k e. many-row ys (a .n) (a .text .now) (c .if1 .taken) k (dropping (label (a .desk) (a .call) (a .boat))) (a .a) e
 
-words-of-requires : tie.Need-words-of-requires
-words-of-requires c κs = search needs
-
-mul-end : tie.Need-mul-end
-mul-end c = search needs
-
-array-borrow-prefix-w : tie.Need-array-borrow-prefix-w
-array-borrow-prefix-w c = search needs
-
 slice-aggregate-drop-words : tie.Need-slice-aggregate-drop-words
 slice-aggregate-drop-words c =
     let d = c .before .before .before .before in
     taken-length _ (d .args .a) (d .args .n) (c .before .words-of .ensures) (d .good .0 .1 .0 .1) (c .before .before .if1 .left)
-
-drop-words-requires : tie.Need-drop-words-requires
-drop-words-requires c κs = search needs
-
-cards-of-requires : tie.Need-cards-of-requires
-cards-of-requires c κs = search needs
-
-code-of-requires : tie.Need-code-of-requires
-code-of-requires c κs = search needs
-
-same-length : tie.Need-same-length
-same-length c = search needs
 
 returns-2 : tie.Need-returns-2
 returns-2 c =
@@ -48,16 +27,5 @@ returns-2 c =
     (c .before .before .before .before .before .drop-words .ensures) (c .before .cards-of .ensures) (c .code-of .ensures)
 
 pub drop-in-spec : {M : Type 1} → statement M
-drop-in-spec =
-    tie.close
-    (tie.spec
-    returns
-    words-of-requires
-    mul-end
-    array-borrow-prefix-w
-    slice-aggregate-drop-words
-    drop-words-requires
-    cards-of-requires
-    code-of-requires
-    same-length
-    returns-2)
+drop-in-spec = tie.close (tie.spec returns (λ c κs. search needs) (λ c. search needs) (λ c. search needs) slice-aggregate-drop-words (λ c κs. search needs)
+    (λ c κs. search needs) (λ c κs. search needs) (λ c. search needs) returns-2)

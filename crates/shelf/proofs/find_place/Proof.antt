@@ -8,17 +8,11 @@ use borrow.Author.Needs.{needs}
 use Rattle.shelf.proofs.find_place.Statement.{statement}
 use Rattle.shelf.proofs.find_place.Tie as tie
 
-is-damaged-requires : tie.Need-is-damaged-requires
-is-damaged-requires c κs = search needs
-
 returns : tie.Need-returns
 returns c = place-damaged _ _ _ _ (sym (c .before .is-damaged .ensures) ∙ c .if1 .taken)
 
 returns-2 : tie.Need-returns-2
 returns-2 c = place-zero _ _ _ (sym (c .before .before .is-damaged .ensures) ∙ c .before .if1 .left) _ (c .if2 .taken)
-
-find-from-requires : tie.Need-find-from-requires
-find-from-requires c κs = search needs
 
 returns-3 : tie.Need-returns-3
 returns-3 c =
@@ -31,9 +25,6 @@ returns-4 c =
     let d = c .before .before .before .before in
     place-long _ _ _ (sym (d .before .is-damaged .ensures) ∙ d .if1 .left) (c .before .before .before .if2 .left) _
     (c .before .before .find-from .ensures) (omega (arith, count (d .before .before .before .args .words .now))) (c .if4 .taken)
-
-find-free-requires : tie.Need-find-free-requires
-find-free-requires c κs = search needs
 
 returns-5 : tie.Need-returns-5
 returns-5 c =
@@ -52,15 +43,4 @@ returns-6 c =
     (c .before .before .if4 .left) (c .before .find-free .ensures) (omega (arith, k))
 
 pub find-place-spec : {M : Type 1} → statement M
-find-place-spec =
-    tie.close
-    (tie.spec
-    is-damaged-requires
-    returns
-    returns-2
-    find-from-requires
-    returns-3
-    returns-4
-    find-free-requires
-    returns-5
-    returns-6)
+find-place-spec = tie.close (tie.spec (λ c κs. search needs) returns returns-2 (λ c κs. search needs) returns-3 returns-4 (λ c κs. search needs) returns-5 returns-6)

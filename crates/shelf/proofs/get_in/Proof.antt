@@ -9,37 +9,16 @@ use borrow.Author.Needs.{needs}
 use Rattle.shelf.proofs.get_in.Statement.{statement}
 use Rattle.shelf.proofs.get_in.Tie as tie
 
-clear-bytes-requires : tie.Need-clear-bytes-requires
-clear-bytes-requires c κs = search needs
-
-same-length : tie.Need-same-length
-same-length c = search needs
-
 returns : tie.Need-returns
 returns c =
     let a = c .before .before .before .before .before .before .before .args in
     λ ys k e. many-got ys (a .n) (a .text .now) (omega arith) k (getting (label (a .desk) (a .call) (a .boat)) (length (a .out .now)))
     (length (a .out .now)) (c .before .before .clear-bytes .ensures)
 
-words-of-requires : tie.Need-words-of-requires
-words-of-requires c κs = search needs
-
-mul-end : tie.Need-mul-end
-mul-end c = search needs
-
-array-share-prefix-w : tie.Need-array-share-prefix-w
-array-share-prefix-w c = search needs
-
 slice-aggregate-get-words : tie.Need-slice-aggregate-get-words
 slice-aggregate-get-words c =
     let d = c .before .before .before .before .before in
     taken-length _ (d .args .a) (d .args .n) (c .before .words-of .ensures) (d .good .0 .1 .0 .1) (c .before .before .if1 .left)
-
-get-words-requires : tie.Need-get-words-requires
-get-words-requires c κs = search needs
-
-same-length-2 : tie.Need-same-length-2
-same-length-2 c = search needs
 
 returns-2 : tie.Need-returns-2
 returns-2 c =
@@ -49,16 +28,5 @@ returns-2 c =
     (getting (label (a .desk) (a .call) (a .boat)) (length (a .out .now))) (length (a .out .now)) (c .before .before .get-words .ensures)
 
 pub get-in-spec : {M : Type 1} → statement M
-get-in-spec =
-    tie.close
-    (tie.spec
-    clear-bytes-requires
-    same-length
-    returns
-    words-of-requires
-    mul-end
-    array-share-prefix-w
-    slice-aggregate-get-words
-    get-words-requires
-    same-length-2
-    returns-2)
+get-in-spec = tie.close (tie.spec (λ c κs. search needs) (λ c. search needs) returns (λ c κs. search needs) (λ c. search needs) (λ c. search needs)
+    slice-aggregate-get-words (λ c κs. search needs) (λ c. search needs) returns-2)

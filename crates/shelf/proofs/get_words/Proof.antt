@@ -10,18 +10,6 @@ use borrow.Author.Needs.{needs}
 use Rattle.shelf.proofs.get_words.Statement.{statement}
 use Rattle.shelf.proofs.get_words.Tie as tie
 
-find-sheet-requires : tie.Need-find-sheet-requires
-find-sheet-requires c κs = search needs
-
-enum-known-place : tie.Need-enum-known-place
-enum-known-place c = search needs
-
-clear-bytes-requires : tie.Need-clear-bytes-requires
-clear-bytes-requires c κs = search needs
-
-enum-known-place-2 : tie.Need-enum-known-place-2
-enum-known-place-2 c = search needs
-
 card-at-requires : tie.Need-card-at-requires
 card-at-requires c κs =
     let a = c .before .before .before .before .before .before .before .args in
@@ -40,18 +28,12 @@ give-requires c κs =
     let a = d .before .before .before .before .before .before .args in
     sheet-in (a .words .now) (a .text .now) (label (a .desk) (a .call) (a .boat)) (d .before .before .find-sheet .ensures) (d .place2 .given .1) (c .before .card-at .ensures)
 
-same-length : tie.Need-same-length
-same-length c = search needs
-
 returns : tie.Need-returns
 returns c =
     let d = c .before .before .before .before .before in
     let a = d .before .before .before .before .before .before .args in
     get-refused (a .words .now) (a .text .now) (label (a .desk) (a .call) (a .boat)) (d .before .before .find-sheet .ensures)
     (length (a .out .now)) (d .place .given .1) (c .before .before .clear-bytes .ensures)
-
-same-length-2 : tie.Need-same-length-2
-same-length-2 c = search needs
 
 returns-2 : tie.Need-returns-2
 unfolding answer
@@ -64,17 +46,5 @@ returns-2 c =
     (c .before .before .give .ensures)
 
 pub get-words-spec : {M : Type 1} → statement M
-get-words-spec =
-    tie.close
-    (tie.spec
-    find-sheet-requires
-    enum-known-place
-    clear-bytes-requires
-    enum-known-place-2
-    card-at-requires
-    mul-give
-    give-requires
-    same-length
-    returns
-    same-length-2
-    returns-2)
+get-words-spec = tie.close (tie.spec (λ c κs. search needs) (λ c. search needs) (λ c κs. search needs) (λ c. search needs) card-at-requires mul-give give-requires
+    (λ c. search needs) returns (λ c. search needs) returns-2)

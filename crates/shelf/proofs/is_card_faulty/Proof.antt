@@ -13,20 +13,11 @@ use borrow.Author.Needs.{needs}
 use Rattle.shelf.proofs.is_card_faulty.Statement.{statement}
 use Rattle.shelf.proofs.is_card_faulty.Tie as tie
 
-card-at-requires : tie.Need-card-at-requires
-card-at-requires c κs = search needs
-
 returns : tie.Need-returns
 returns c = faulty-free _ (c .before .before .card-at .ensures) _ (c .if1 .taken)
 
 returns-2 : tie.Need-returns-2
 returns-2 c = faulty-long _ (c .before .before .before .before .card-at .ensures) _ (c .before .before .if1 .left) (c .if2 .taken)
-
-add-find-from : tie.Need-add-find-from
-add-find-from c = search needs
-
-find-from-requires : tie.Need-find-from-requires
-find-from-requires c κs = search needs
 
 returns-3 : tie.Need-returns-3
 returns-3 c =
@@ -38,6 +29,4 @@ returns-3 c =
     ∙ faulty-twice (s .part) (d .card-at .ensures) _ (c .before .before .before .if1 .left) (c .before .if2 .left)
 
 pub is-card-faulty-spec : {M : Type 1} → statement M
-is-card-faulty-spec =
-    tie.close
-    (tie.spec card-at-requires returns returns-2 add-find-from find-from-requires returns-3)
+is-card-faulty-spec = tie.close (tie.spec (λ c κs. search needs) returns returns-2 (λ c. search needs) (λ c κs. search needs) returns-3)

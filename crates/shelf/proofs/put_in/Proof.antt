@@ -13,31 +13,10 @@ returns c =
     let a = c .before .before .before .args in
     λ ys k e. many-row ys (a .n) (a .text .now) (c .if1 .taken) k (putting (label (a .desk) (a .call) (a .boat)) (a .sheet .now)) (a .a) e
 
-words-of-requires : tie.Need-words-of-requires
-words-of-requires c κs = search needs
-
-mul-end : tie.Need-mul-end
-mul-end c = search needs
-
-array-borrow-prefix-w : tie.Need-array-borrow-prefix-w
-array-borrow-prefix-w c = search needs
-
 slice-aggregate-put-words : tie.Need-slice-aggregate-put-words
 slice-aggregate-put-words c =
     let d = c .before .before .before .before .before in
     taken-length _ (d .args .a) (d .args .n) (c .before .words-of .ensures) (d .good .0 .1 .0 .1) (c .before .before .if1 .left)
-
-put-words-requires : tie.Need-put-words-requires
-put-words-requires c κs = search needs
-
-cards-of-requires : tie.Need-cards-of-requires
-cards-of-requires c κs = search needs
-
-code-of-requires : tie.Need-code-of-requires
-code-of-requires c κs = search needs
-
-same-length : tie.Need-same-length
-same-length c = search needs
 
 returns-2 : tie.Need-returns-2
 returns-2 c =
@@ -50,16 +29,5 @@ returns-2 c =
     (c .before .before .before .before .before .put-words .ensures) (c .before .cards-of .ensures) (c .code-of .ensures)
 
 pub put-in-spec : {M : Type 1} → statement M
-put-in-spec =
-    tie.close
-    (tie.spec
-    returns
-    words-of-requires
-    mul-end
-    array-borrow-prefix-w
-    slice-aggregate-put-words
-    put-words-requires
-    cards-of-requires
-    code-of-requires
-    same-length
-    returns-2)
+put-in-spec = tie.close (tie.spec returns (λ c κs. search needs) (λ c. search needs) (λ c. search needs) slice-aggregate-put-words (λ c κs. search needs)
+    (λ c κs. search needs) (λ c κs. search needs) (λ c. search needs) returns-2)

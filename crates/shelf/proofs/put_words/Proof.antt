@@ -6,15 +6,6 @@ use borrow.Author.Needs.{needs}
 use Rattle.shelf.proofs.put_words.Statement.{statement}
 use Rattle.shelf.proofs.put_words.Tie as tie
 
-find-place-requires : tie.Need-find-place-requires
-find-place-requires c κs = search needs
-
-enum-known-place : tie.Need-enum-known-place
-enum-known-place c = search needs
-
-enum-known-place-2 : tie.Need-enum-known-place-2
-enum-known-place-2 c = search needs
-
 store-card-requires : tie.Need-store-card-requires
 store-card-requires c κs =
     let a = c .before .before .before .before .before .before .before .before .before .args in
@@ -30,19 +21,10 @@ store-part-requires c κs =
       place-at (a .words .now) (a .text .now) l (a .sheet .now) (d .before .before .find-place .ensures) (d .place2 .given .1) .fits,
     )
 
-same-length : tie.Need-same-length
-same-length c = search needs
-
 returns : tie.Need-returns
 returns c =
     let a = c .before .before .before .before .before .before .before .before .args in
     put-refused (a .words .now) (a .text .now) (label (a .desk) (a .call) (a .boat)) (a .sheet .now) (c .before .before .before .find-place .ensures) (c .before .place .given .1)
-
-same-length-2 : tie.Need-same-length-2
-same-length-2 c = search needs
-
-same-length-3 : tie.Need-same-length-3
-same-length-3 c = search needs
 
 returns-2 : tie.Need-returns-2
 returns-2 c =
@@ -52,16 +34,5 @@ returns-2 c =
     (c .before .before .before .before .before .before .store-card .ensures) (c .before .before .store-part .ensures)
 
 pub put-words-spec : {M : Type 1} → statement M
-put-words-spec =
-    tie.close
-    (tie.spec
-    find-place-requires
-    enum-known-place
-    enum-known-place-2
-    store-card-requires
-    store-part-requires
-    same-length
-    returns
-    same-length-2
-    same-length-3
-    returns-2)
+put-words-spec = tie.close (tie.spec (λ c κs. search needs) (λ c. search needs) (λ c. search needs) store-card-requires store-part-requires (λ c. search needs) returns
+    (λ c. search needs) (λ c. search needs) returns-2)

@@ -27,9 +27,6 @@ add-greater c =
           (row-is (entry .args .nodes .now) (entry .args .count) (entry .args .known) (omega (arith, at-if1 .if1 .left)) (at-node-at .node-at .ensures)),
     )
 
-greater-requires : tie.Need-greater-requires
-greater-requires c κs = search needs
-
 returns-2 : tie.Need-returns-2
 returns-2 c =
     let at-node-at = c .before .before in
@@ -40,4 +37,4 @@ returns-2 c =
     (omega (arith, c .greater .ensures), λ l. omega (arith, c .greater .ensures, e))
 
 pub beyond-row-spec : {M : Type 1} → statement M
-beyond-row-spec = tie.close (tie.spec returns node-at-requires add-greater greater-requires returns-2)
+beyond-row-spec = tie.close (tie.spec returns node-at-requires add-greater (λ c κs. search needs) returns-2)

@@ -18,9 +18,6 @@ abbrev μ-loop : tie.MeasureT-loop
 loop-holds : tie.Need-loop-holds Inv-loop μ-loop
 loop-holds c = (c .before .pre .0, omega arith, taken-begun (c .before .args .nodes .now) (c .before .args .count) (c .before .args .place .0) (c .before .args .end .0))
 
-sub-i : tie.Need-sub-i Inv-loop μ-loop
-sub-i c = omega arith
-
 node-at-requires : tie.Need-node-at-requires Inv-loop μ-loop
 node-at-requires c κs = omega (arith, c .before .before .before .pre)
 
@@ -34,15 +31,6 @@ add-if2 c =
       ap (λ (r : Node). r .start + r .size)
           (row-is (entry .args .nodes .now) (entry .args .count) (at-loop .loop .i - 1) (omega arith) (at-node-at .node-at .ensures)),
     )
-
-greater-requires : tie.Need-greater-requires Inv-loop μ-loop
-greater-requires c κs = search needs
-
-lesser-requires : tie.Need-lesser-requires Inv-loop μ-loop
-lesser-requires c κs = search needs
-
-loop-less : tie.Need-loop-less Inv-loop μ-loop
-loop-less c = omega arith
 
 loop-again : tie.Need-loop-again Inv-loop μ-loop
 loop-again c =
@@ -58,9 +46,6 @@ loop-again c =
           (at-if1 .if1 .taken) (at-if2 .if2 .taken) (c .lesser .ensures ∙ ap (λ v. min v (at-loop .loop .taken)) (c .before .greater .ensures)),
     )
 
-loop-less-2 : tie.Need-loop-less-2 Inv-loop μ-loop
-loop-less-2 c = omega arith
-
 loop-again-2 : tie.Need-loop-again-2 Inv-loop μ-loop
 loop-again-2 c =
     let at-node-at = c .before .before .before .before .before in
@@ -72,9 +57,6 @@ loop-again-2 c =
           {i = at-loop .loop .i - 1} {j = at-loop .loop .i} (at-loop .loop .inv .2) (omega arith) (omega arith) (at-node-at .node-at .ensures)
           (c .if2 .left),
     )
-
-loop-less-3 : tie.Need-loop-less-3 Inv-loop μ-loop
-loop-less-3 c = omega arith
 
 loop-again-3 : tie.Need-loop-again-3 Inv-loop μ-loop
 loop-again-3 c =
@@ -96,5 +78,5 @@ returns c =
     (entry .args .end .0) (at-loop .loop .i) (omega arith) (entry .pre .0) (entry .pre .3)
 
 pub first-taken-spec : {M : Type 1} → statement M
-first-taken-spec = tie.close (tie.spec Inv-loop μ-loop loop-holds sub-i node-at-requires add-if2 greater-requires lesser-requires loop-less
-    loop-again loop-less-2 loop-again-2 loop-less-3 loop-again-3 returns)
+first-taken-spec = tie.close (tie.spec Inv-loop μ-loop loop-holds (λ c. omega arith) node-at-requires add-if2 (λ c κs. search needs) (λ c κs. search needs)
+    (λ c. omega arith) loop-again (λ c. omega arith) loop-again-2 (λ c. omega arith) loop-again-3 returns)

@@ -33,9 +33,6 @@ follow-row-requires c κs =
     let b = at-loop .loop .inv .2 in
     (omega (arith, p), at-if1 .if1 .taken, (w .0, x .log, x .stands), follows-before _ _ _ _ _ _ _ (at-loop .loop .inv .0) (omega (arith, p .nodes-in, a)) (w .0) (w .1) (w .2))
 
-enum-known-n : tie.Need-enum-known-n Inv-loop μ-loop
-enum-known-n c = search needs
-
 same-length : tie.Need-same-length Inv-loop μ-loop
 same-length c =
     let at-follow-row = c .before .before .before .before .before .before .before in
@@ -55,9 +52,6 @@ returns c =
     let at-loop = at-if1 .before .before in
     follows-no _ _ _ _ _ _ _ (at-loop .loop .inv .0) (at-if1 .if1 .taken) (at-follow-row .follow-row .ensures) (c .before .n .given .1)
 
-enum-known-n-2 : tie.Need-enum-known-n-2 Inv-loop μ-loop
-enum-known-n-2 c = search needs
-
 beyond-row-requires : tie.Need-beyond-row-requires Inv-loop μ-loop
 beyond-row-requires c κs =
     let at-n2 = c .before .before in
@@ -73,9 +67,6 @@ beyond-row-requires c κs =
       stand-few (y .stands) (omega (arith, entry .pre .0 .nodes-in, long)) .1,
       λ i l. let q = stand-inside (y .stands) (omega (arith, entry .pre .0 .nodes-in, long)) i l in omega (arith, entry .pre .0 .short),
     )
-
-add-i : tie.Need-add-i Inv-loop μ-loop
-add-i c = omega arith
 
 loop-less : tie.Need-loop-less Inv-loop μ-loop
 loop-less c =
@@ -109,22 +100,5 @@ returns-2 : tie.Need-returns-2 Inv-loop μ-loop
 returns-2 c = follows-done _ _ _ _ _ _ _ (c .before .before .loop .inv .0) (c .if1 .left) _
 
 pub follow-all-spec : {M : Type 1} → statement M
-follow-all-spec =
-    tie.close
-    (tie.spec
-    Inv-loop
-    μ-loop
-    loop-holds
-    follow-row-requires
-    enum-known-n
-    same-length
-    same-length-2
-    returns
-    enum-known-n-2
-    beyond-row-requires
-    add-i
-    loop-less
-    loop-again
-    same-length-3
-    same-length-4
-    returns-2)
+follow-all-spec = tie.close (tie.spec Inv-loop μ-loop loop-holds follow-row-requires (λ c. search needs) same-length same-length-2 returns (λ c. search needs)
+    beyond-row-requires (λ c. omega arith) loop-less loop-again same-length-3 same-length-4 returns-2)

@@ -17,9 +17,6 @@ node-at-requires c κs =
     let entry = c .before .before .before .before .before in
     omega (arith, entry .pre .0 .nodes-in, entry .pre .1, entry .pre .2 .2 .fits)
 
-same-length : tie.Need-same-length
-same-length c = search needs
-
 returns : tie.Need-returns
 returns c =
     let at-node-at = c .before .before in
@@ -39,9 +36,6 @@ row-starting-requires c κs =
     let asked = at-rows-asked .rows-asked .ensures in
     (asked .0, omega (arith, asked .1, stand-few s (entry .pre .0 .nodes-in) .1), stand-rising s (entry .pre .0 .nodes-in))
 
-same-length-2 : tie.Need-same-length-2
-same-length-2 c = search needs
-
 returns-2 : tie.Need-returns-2
 returns-2 c =
     let at-row-starting = c .before in
@@ -57,12 +51,6 @@ offset-at-requires c κs =
     let s = entry .pre .2 .2 in let w = stand-inside s (entry .pre .0 .nodes-in) _ (entry .pre .1)
     in (entry .pre .1, stand-few s (entry .pre .0 .nodes-in) .1, omega arith, entry .pre .0 .short)
 
-is-outside-requires : tie.Need-is-outside-requires
-is-outside-requires c κs = search needs
-
-part-end-requires : tie.Need-part-end-requires
-part-end-requires c κs = search needs
-
 first-taken-requires : tie.Need-first-taken-requires
 first-taken-requires c κs =
     let at-rows-asked = c .before .before .before .before .before .before .before .before .before .before in
@@ -77,9 +65,6 @@ first-taken-requires c κs =
       λ i l. ap (λ (r : Node). r .detached) (same i (omega (arith, asked .0))) ∙ stand-attached s room i l,
     )
 
-add-levels : tie.Need-add-levels
-add-levels c = omega arith
-
 read-children-requires : tie.Need-read-children-requires
 read-children-requires c κs =
     let at-part-end = c .before .before .before .before .before in
@@ -87,12 +72,6 @@ read-children-requires c κs =
     let s = entry .pre .2 .2 in let p = part-in (headerOf (entry .args .h) (entry .args .types .now)) _ _ (entry .pre .0 .start-in)
     (at-part-end .part-end .ensures (headerOf (entry .args .h) (entry .args .types .now)) refl) in omega
     (arith, entry .pre .0 .short, entry .pre .0 .types-in, entry .pre .0 .nodes-in, entry .pre .0 .items-in, s .fits, p)
-
-same-length-3 : tie.Need-same-length-3
-same-length-3 c = search needs
-
-same-length-4 : tie.Need-same-length-4
-same-length-4 c = search needs
 
 returns-3 : tie.Need-returns-3
 returns-3 c =
@@ -117,9 +96,6 @@ returns-3 c =
     (at-offset-at .offset-at .ensures) (at-part-end .part-end .ensures (headerOf (entry .args .h) (entry .args .types .now)) refl)
     (at-first-taken .first-taken .ensures ∙ asked-taken t _ asked before _) (at-read-children .read-children .ensures)
 
-same-length-5 : tie.Need-same-length-5
-same-length-5 c = search needs
-
 returns-4 : tie.Need-returns-4
 returns-4 c =
     let at-offset-at = c .before .before .before in
@@ -136,6 +112,6 @@ returns-4 c =
     (at-offset-at .offset-at .ensures)
 
 pub follow-row-spec : {M : Type 1} → statement M
-follow-row-spec = tie.close (tie.spec node-at-requires same-length returns rows-asked-requires row-starting-requires same-length-2 returns-2 offset-at-requires
-    is-outside-requires part-end-requires first-taken-requires add-levels read-children-requires same-length-3 same-length-4 returns-3
-    same-length-5 returns-4)
+follow-row-spec = tie.close (tie.spec node-at-requires (λ c. search needs) returns rows-asked-requires row-starting-requires (λ c. search needs) returns-2
+    offset-at-requires (λ c κs. search needs) (λ c κs. search needs) first-taken-requires (λ c. omega arith) read-children-requires
+    (λ c. search needs) (λ c. search needs) returns-3 (λ c. search needs) returns-4)

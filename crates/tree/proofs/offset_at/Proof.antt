@@ -25,15 +25,6 @@ of-requires c κs =
       entry .pre,
     )
 
-number-requires : tie.Need-number-requires
-number-requires c κs = search needs
-
-enum-known-place : tie.Need-enum-known-place
-enum-known-place c = search needs
-
-enum-known-next : tie.Need-enum-known-next
-enum-known-next c = search needs
-
 returns : tie.Need-returns
 returns c =
     let at-number = c .before .before .before in
@@ -54,4 +45,4 @@ returns-2 c =
     (sym (was numberTold (at-number .number .ensures referenceFrame) (at-next .next .given .1)))
 
 pub offset-at-spec : {M : Type 1} → statement M
-offset-at-spec = tie.close (tie.spec node-at-requires of-requires number-requires enum-known-place enum-known-next returns returns-2)
+offset-at-spec = tie.close (tie.spec node-at-requires of-requires (λ c κs. search needs) (λ c. search needs) (λ c. search needs) returns returns-2)

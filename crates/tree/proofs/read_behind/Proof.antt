@@ -8,20 +8,8 @@ use borrow.Author.Needs.{needs}
 use Rattle.tree.proofs.read_behind.Statement.{statement}
 use Rattle.tree.proofs.read_behind.Tie as tie
 
-room-of-requires : tie.Need-room-of-requires
-room-of-requires c κs = search needs
-
 read-root-requires : tie.Need-read-root-requires
 read-root-requires c κs = omega (arith, c .before .before .before .before .before .before .before .pre, whole-room (c .before .before .room-of .ensures))
-
-enum-known-n : tie.Need-enum-known-n
-enum-known-n c = search needs
-
-clear-all-requires : tie.Need-clear-all-requires
-clear-all-requires c κs = search needs
-
-enum-known-tree : tie.Need-enum-known-tree
-enum-known-tree c = search needs
 
 follow-all-requires : tie.Need-follow-all-requires
 follow-all-requires c κs =
@@ -38,15 +26,6 @@ follow-all-requires c κs =
     let z = whole-room (bounded .room-of .ensures) in
     let a = root .kept .1 .1 .0 in
     let b = root .kept .1 .1 .1 .0 in (omega arith, w)
-
-enum-known-n-2 : tie.Need-enum-known-n-2
-enum-known-n-2 c = search needs
-
-clear-all-requires-2 : tie.Need-clear-all-requires-2
-clear-all-requires-2 c κs = search needs
-
-enum-known-m : tie.Need-enum-known-m
-enum-known-m c = search needs
 
 mul-clear-from : tie.Need-mul-clear-from
 mul-clear-from c =
@@ -65,9 +44,6 @@ mul-clear-from c =
     (root .ensures) (root .kept .1 .1 .0) (root .kept .1 .1 .1 .0) (rooted-as .tree .given .1) (rest .ensures) (rest .kept .1 .1 .0)
     (rest .kept .1 .1 .1 .0) (followed-as .m .given .1) in omega (arith, f, whole-room (bounded .room-of .ensures))
 
-clear-from-requires : tie.Need-clear-from-requires
-clear-from-requires c κs = search needs
-
 mul-clear-from-2 : tie.Need-mul-clear-from-2
 mul-clear-from-2 c =
     let followed-as = c .before .before .before .before .before .before .before .before in
@@ -84,9 +60,6 @@ mul-clear-from-2 c =
     (asked .0, asked .1, asked .2) (bounded .room-of .ensures)
     (root .ensures) (root .kept .1 .1 .0) (root .kept .1 .1 .1 .0) (rooted-as .tree .given .1) (rest .ensures) (rest .kept .1 .1 .0)
     (rest .kept .1 .1 .1 .0) (followed-as .m .given .1) in omega (arith, f, whole-room (bounded .room-of .ensures))
-
-clear-from-requires-2 : tie.Need-clear-from-requires-2
-clear-from-requires-2 c κs = search needs
 
 same-length : tie.Need-same-length
 same-length c =
@@ -181,6 +154,6 @@ returns-3 c =
     in (w .0, (w .1, w .2))
 
 pub read-behind-spec : {M : Type 1} → statement M
-read-behind-spec = tie.close (tie.spec room-of-requires read-root-requires enum-known-n clear-all-requires enum-known-tree
-    follow-all-requires enum-known-n-2 clear-all-requires-2 enum-known-m mul-clear-from clear-from-requires mul-clear-from-2
-    clear-from-requires-2 same-length same-length-2 returns same-length-3 same-length-4 returns-2 same-length-5 same-length-6 returns-3)
+read-behind-spec = tie.close (tie.spec (λ c κs. search needs) read-root-requires (λ c. search needs) (λ c κs. search needs) (λ c. search needs) follow-all-requires
+    (λ c. search needs) (λ c κs. search needs) (λ c. search needs) mul-clear-from (λ c κs. search needs) mul-clear-from-2 (λ c κs. search needs)
+    same-length same-length-2 returns same-length-3 same-length-4 returns-2 same-length-5 same-length-6 returns-3)

@@ -6,14 +6,8 @@ use borrow.Author.Needs.{needs}
 use Rattle.tree.proofs.room_of.Statement.{statement}
 use Rattle.tree.proofs.room_of.Tie as tie
 
-lesser-requires : tie.Need-lesser-requires
-lesser-requires c κs = search needs
-
-lesser-requires-2 : tie.Need-lesser-requires-2
-lesser-requires-2 c κs = search needs
-
 returns : tie.Need-returns
 returns c = ap₂ (λ (n : ℕ) (i : ℕ). record { nodes = n; items = i }) (c .before .lesser .ensures) (c .lesser2 .ensures)
 
 pub room-of-spec : {M : Type 1} → statement M
-room-of-spec = tie.close (tie.spec lesser-requires lesser-requires-2 returns)
+room-of-spec = tie.close (tie.spec (λ c κs. search needs) (λ c κs. search needs) returns)

@@ -21,12 +21,6 @@ abbrev μ-loop2 : tie.MeasureT-loop2
 loop-holds : tie.Need-loop-holds Inv-loop μ-loop Inv-loop2 μ-loop2
 loop-holds c = (omega arith, search-begins _ _ _)
 
-sub-middle : tie.Need-sub-middle Inv-loop μ-loop Inv-loop2 μ-loop2
-sub-middle c = omega arith
-
-add-middle : tie.Need-add-middle Inv-loop μ-loop Inv-loop2 μ-loop2
-add-middle c = omega arith
-
 node-at-requires : tie.Need-node-at-requires Inv-loop μ-loop Inv-loop2 μ-loop2
 node-at-requires c κs = omega (arith, c .before .before .before .pre)
 
@@ -36,21 +30,12 @@ returns c =
     let entry = at-node-at .before .before .before .before in
     search-found _ _ _ _ (entry .pre .0) (entry .pre .2) _ (omega arith) (at-node-at .node-at .ensures) (c .if1 .taken)
 
-add-low : tie.Need-add-low Inv-loop μ-loop Inv-loop2 μ-loop2
-add-low c = omega arith
-
-loop-less : tie.Need-loop-less Inv-loop μ-loop Inv-loop2 μ-loop2
-loop-less c = omega arith
-
 loop-again : tie.Need-loop-again Inv-loop μ-loop Inv-loop2 μ-loop2
 loop-again c =
     let at-node-at = c .before .before .before .before in
     let at-loop = at-node-at .before .before in
     let entry = at-loop .before .before in
     (omega arith, search-later _ _ _ _ (entry .pre .0) (entry .pre .2) _ (omega arith) (at-node-at .node-at .ensures) (at-loop .loop .inv .1) (c .if2 .taken))
-
-loop-less-2 : tie.Need-loop-less-2 Inv-loop μ-loop Inv-loop2 μ-loop2
-loop-less-2 c = omega arith
 
 loop-again-2 : tie.Need-loop-again-2 Inv-loop μ-loop Inv-loop2 μ-loop2
 loop-again-2 c =
@@ -73,12 +58,6 @@ returns-2 c =
     let entry = at-loop2 .before .before .before .before in
     linear-found _ _ _ _ (entry .pre .0) (at-loop2 .loop2 .inv .2) (at-node-at2 .node-at2 .ensures) (at-loop2-test .loop2-test .taken) (c .if3 .taken)
 
-add-i : tie.Need-add-i Inv-loop μ-loop Inv-loop2 μ-loop2
-add-i c = omega arith
-
-loop2-less : tie.Need-loop2-less Inv-loop μ-loop Inv-loop2 μ-loop2
-loop2-less c = omega arith
-
 loop2-again : tie.Need-loop2-again Inv-loop μ-loop Inv-loop2 μ-loop2
 loop2-again c =
     let at-node-at2 = c .before .before in
@@ -94,5 +73,6 @@ returns-3 : tie.Need-returns-3 Inv-loop μ-loop Inv-loop2 μ-loop2
 returns-3 c = linear-ends _ _ _ _ (c .before .before .before .before .before .pre .0) (c .before .loop2 .inv .2) (omega arith)
 
 pub row-starting-spec : {M : Type 1} → statement M
-row-starting-spec = tie.close (tie.spec Inv-loop μ-loop Inv-loop2 μ-loop2 loop-holds sub-middle add-middle node-at-requires returns add-low
-    loop-less loop-again loop-less-2 loop-again-2 loop2-holds node-at-requires-2 returns-2 add-i loop2-less loop2-again returns-3)
+row-starting-spec = tie.close (tie.spec Inv-loop μ-loop Inv-loop2 μ-loop2 loop-holds (λ c. omega arith) (λ c. omega arith) node-at-requires returns (λ c. omega arith)
+    (λ c. omega arith) loop-again (λ c. omega arith) loop-again-2 loop2-holds node-at-requires-2 returns-2 (λ c. omega arith) (λ c. omega arith)
+    loop2-again returns-3)

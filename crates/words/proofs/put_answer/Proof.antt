@@ -5,17 +5,8 @@ use borrow.Author.Needs.{needs}
 use Rattle.words.proofs.put_answer.Statement.{statement}
 use Rattle.words.proofs.put_answer.Tie as tie
 
-clear-requires : tie.Need-clear-requires
-clear-requires c κs = search needs
-
-put-front-requires : tie.Need-put-front-requires
-put-front-requires c κs = search needs
-
-same-length : tie.Need-same-length
-same-length c = search needs
-
 returns : tie.Need-returns
 returns c = fits _ _ (c .before .before .before .before .before .before .clear .ensures) (c .before .before .put-front .ensures)
 
 pub put-answer-spec : {M : Type 1} → statement M
-put-answer-spec = tie.close (tie.spec clear-requires put-front-requires same-length returns)
+put-answer-spec = tie.close (tie.spec (λ c κs. search needs) (λ c κs. search needs) (λ c. search needs) returns)

@@ -5,39 +5,6 @@ use borrow.Author.Needs.{needs}
 use Rattle.words.proofs.read_totals.Statement.{statement}
 use Rattle.words.proofs.read_totals.Tie as tie
 
-word-at-requires : tie.Need-word-at-requires
-word-at-requires c κs = search needs
-
-word-at-requires-2 : tie.Need-word-at-requires-2
-word-at-requires-2 c κs = search needs
-
-word-at-requires-3 : tie.Need-word-at-requires-3
-word-at-requires-3 c κs = search needs
-
-word-at-requires-4 : tie.Need-word-at-requires-4
-word-at-requires-4 c κs = search needs
-
-word-at-requires-5 : tie.Need-word-at-requires-5
-word-at-requires-5 c κs = search needs
-
-word-at-requires-6 : tie.Need-word-at-requires-6
-word-at-requires-6 c κs = search needs
-
-word-at-requires-7 : tie.Need-word-at-requires-7
-word-at-requires-7 c κs = search needs
-
-word-at-requires-8 : tie.Need-word-at-requires-8
-word-at-requires-8 c κs = search needs
-
-word-at-requires-9 : tie.Need-word-at-requires-9
-word-at-requires-9 c κs = search needs
-
-word-at-requires-10 : tie.Need-word-at-requires-10
-word-at-requires-10 c κs = search needs
-
-word-at-requires-11 : tie.Need-word-at-requires-11
-word-at-requires-11 c κs = search needs
-
 returns : tie.Need-returns
 returns c = rw (
   c .before .before .before .before .before .before .before .before .before .before .word-at .ensures,
@@ -55,18 +22,6 @@ returns c = rw (
     refl
 
 pub read-totals-spec : {M : Type 1} → statement M
-read-totals-spec =
-    tie.close
-    (tie.spec
-    word-at-requires
-    word-at-requires-2
-    word-at-requires-3
-    word-at-requires-4
-    word-at-requires-5
-    word-at-requires-6
-    word-at-requires-7
-    word-at-requires-8
-    word-at-requires-9
-    word-at-requires-10
-    word-at-requires-11
+read-totals-spec = tie.close (tie.spec (λ c κs. search needs) (λ c κs. search needs) (λ c κs. search needs) (λ c κs. search needs) (λ c κs. search needs)
+    (λ c κs. search needs) (λ c κs. search needs) (λ c κs. search needs) (λ c κs. search needs) (λ c κs. search needs) (λ c κs. search needs)
     returns)

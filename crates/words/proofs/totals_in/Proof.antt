@@ -6,12 +6,6 @@ use borrow.Author.Needs.{needs}
 use Rattle.words.proofs.totals_in.Statement.{statement}
 use Rattle.words.proofs.totals_in.Tie as tie
 
-enum-known-said : tie.Need-enum-known-said
-enum-known-said c = search needs
-
-enum-known-said-2 : tie.Need-enum-known-said-2
-enum-known-said-2 c = search needs
-
 returns : tie.Need-returns
 returns c = sym (ap totalsIn (c .before .said .given .1))
 
@@ -19,4 +13,4 @@ returns-2 : tie.Need-returns-2
 returns-2 c = sym (ap totalsIn (c .before .said2 .given .1))
 
 pub totals-in-spec : {M : Type 1} → statement M
-totals-in-spec = tie.close (tie.spec enum-known-said enum-known-said-2 returns returns-2)
+totals-in-spec = tie.close (tie.spec (λ c. search needs) (λ c. search needs) returns returns-2)

@@ -7,12 +7,6 @@ use borrow.Author.Needs.{needs}
 use Rattle.xmf_sheet.proofs.make_answer.Statement.{statement}
 use Rattle.xmf_sheet.proofs.make_answer.Tie as tie
 
-put-too-long-requires : tie.Need-put-too-long-requires
-put-too-long-requires c κs = search needs
-
-same-length : tie.Need-same-length
-same-length c = search needs
-
 returns : tie.Need-returns
 returns c =
     let at-put-too-long = c .before .before in
@@ -20,33 +14,6 @@ returns c =
     let entry = at-if1 .before .before .before in
     let s = put-first (at-put-too-long .put-too-long .ensures) (omega (arith, long-short, entry .pre)) (omega (arith, entry .pre))
     in (s .0, s .1 ∙ answer-long _ (at-if1 .if1 .taken))
-
-node-table-requires : tie.Need-node-table-requires
-node-table-requires c κs = search needs
-
-item-table-requires : tie.Need-item-table-requires
-item-table-requires c κs = search needs
-
-slice-aggregate-write-sheet : tie.Need-slice-aggregate-write-sheet
-slice-aggregate-write-sheet c = search needs
-
-slice-aggregate-write-sheet-2 : tie.Need-slice-aggregate-write-sheet-2
-slice-aggregate-write-sheet-2 c = search needs
-
-write-sheet-requires : tie.Need-write-sheet-requires
-write-sheet-requires c κs = search needs
-
-enum-known-n : tie.Need-enum-known-n
-enum-known-n c = search needs
-
-enum-known-number : tie.Need-enum-known-number
-enum-known-number c = search needs
-
-put-refusal-requires : tie.Need-put-refusal-requires
-put-refusal-requires c κs = search needs
-
-same-length-2 : tie.Need-same-length-2
-same-length-2 c = search needs
 
 returns-2 : tie.Need-returns-2
 returns-2 c =
@@ -58,9 +25,6 @@ returns-2 c =
     let s = sheet-made _ _ _ (at-write-sheet .write-sheet .ensures .0) (at-write-sheet .write-sheet .kept .1 .1 .1 .0)
     (at-write-sheet .write-sheet .ensures .1 .1 .1) (c .before .n .given .1)
     in (s .0, s .1 ∙ answer-short _ (at-node-table .node-table .ensures) (at-item-table .item-table .ensures) (entry .pre) (at-if1 .if1 .left))
-
-same-length-3 : tie.Need-same-length-3
-same-length-3 c = search needs
 
 returns-3 : tie.Need-returns-3
 returns-3 c =
@@ -85,21 +49,6 @@ returns-3 c =
     )
 
 pub make-answer-spec : {M : Type 1} → statement M
-make-answer-spec =
-    tie.close
-    (tie.spec
-    put-too-long-requires
-    same-length
-    returns
-    node-table-requires
-    item-table-requires
-    slice-aggregate-write-sheet
-    slice-aggregate-write-sheet-2
-    write-sheet-requires
-    enum-known-n
-    enum-known-number
-    put-refusal-requires
-    same-length-2
-    returns-2
-    same-length-3
-    returns-3)
+make-answer-spec = tie.close (tie.spec (λ c κs. search needs) (λ c. search needs) returns (λ c κs. search needs) (λ c κs. search needs) (λ c. search needs)
+    (λ c. search needs) (λ c κs. search needs) (λ c. search needs) (λ c. search needs) (λ c κs. search needs) (λ c. search needs) returns-2
+    (λ c. search needs) returns-3)

@@ -6,21 +6,6 @@ use borrow.Author.Needs.{needs}
 use Rattle.xmf_sheet.proofs.put_refusal.Statement.{statement}
 use Rattle.xmf_sheet.proofs.put_refusal.Tie as tie
 
-put-byte-requires : tie.Need-put-byte-requires
-put-byte-requires c κs = search needs
-
-put-number-requires : tie.Need-put-number-requires
-put-number-requires c κs = search needs
-
-put-number-requires-2 : tie.Need-put-number-requires-2
-put-number-requires-2 c κs = search needs
-
-put-byte-requires-2 : tie.Need-put-byte-requires-2
-put-byte-requires-2 c κs = search needs
-
-same-length : tie.Need-same-length
-same-length c = search needs
-
 returns : tie.Need-returns
 returns c =
     let at-put-byte2 = c .before .before in
@@ -32,12 +17,4 @@ returns c =
     (at-put-byte2 .put-byte2 .ensures))
 
 pub put-refusal-spec : {M : Type 1} → statement M
-put-refusal-spec =
-    tie.close
-    (tie.spec
-    put-byte-requires
-    put-number-requires
-    put-number-requires-2
-    put-byte-requires-2
-    same-length
-    returns)
+put-refusal-spec = tie.close (tie.spec (λ c κs. search needs) (λ c κs. search needs) (λ c κs. search needs) (λ c κs. search needs) (λ c. search needs) returns)

@@ -14,20 +14,11 @@ Inv-loop marks₀ from to kind end at₀ marks at = (at ≤ max from end) × Fil
 abbrev μ-loop : tie.MeasureT-loop
 μ-loop marks₀ from to kind end at₀ marks at = end - at
 
-lesser-requires : tie.Need-lesser-requires Inv-loop μ-loop
-lesser-requires c κs = search needs
-
 loop-holds : tie.Need-loop-holds Inv-loop μ-loop
 loop-holds c = (omega arith, filling-none _ _ _)
 
 slice-write-marks : tie.Need-slice-write-marks Inv-loop μ-loop
 slice-write-marks c = omega (arith, c .before .loop .inv .1 .same, c .before .before .lesser .ensures)
-
-add-at : tie.Need-add-at Inv-loop μ-loop
-add-at c = omega arith
-
-loop-less : tie.Need-loop-less Inv-loop μ-loop
-loop-less c = omega arith
 
 loop-again : tie.Need-loop-again Inv-loop μ-loop
 loop-again c = (omega arith, filling-more _ _ _ _ _ (omega (arith, c .before .loop .inv .1 .same, c .before .before .lesser .ensures)) (c .before .loop .inv .1))
@@ -43,16 +34,5 @@ returns c =
     (omega (arith, c .loop-test .left, at-lesser .lesser .ensures)) (at-loop .loop .inv .1)
 
 pub fill-spec : {M : Type 1} → statement M
-fill-spec =
-    tie.close
-    (tie.spec
-    Inv-loop
-    μ-loop
-    lesser-requires
-    loop-holds
-    slice-write-marks
-    add-at
-    loop-less
-    loop-again
-    same-length
+fill-spec = tie.close (tie.spec Inv-loop μ-loop (λ c κs. search needs) loop-holds slice-write-marks (λ c. omega arith) (λ c. omega arith) loop-again same-length
     returns)

@@ -7,33 +7,6 @@ use borrow.Author.Needs.{needs}
 use Rattle.account.proofs.marks.mark.Statement.{statement}
 use Rattle.account.proofs.marks.mark.Tie as tie
 
-read-file-requires : tie.Need-read-file-requires
-read-file-requires c κs = search needs
-
-enum-known-n : tie.Need-enum-known-n
-enum-known-n c = search needs
-
-clear-bytes-requires : tie.Need-clear-bytes-requires
-clear-bytes-requires c κs = search needs
-
-enum-known-s : tie.Need-enum-known-s
-enum-known-s c = search needs
-
-clear-all-requires : tie.Need-clear-all-requires
-clear-all-requires c κs = search needs
-
-clear-bytes-requires-2 : tie.Need-clear-bytes-requires-2
-clear-bytes-requires-2 c κs = search needs
-
-same-length : tie.Need-same-length
-same-length c = search needs
-
-same-length-2 : tie.Need-same-length-2
-same-length-2 c = search needs
-
-same-length-3 : tie.Need-same-length-3
-same-length-3 c = search needs
-
 returns : tie.Need-returns
 returns c =
     let after-clear-bytes2 = c .before .before in
@@ -55,18 +28,6 @@ mark-rows-requires c κs =
     let is = after-s .s .given .1 in
     (nodes-stand _ _ _ (read .0) (read .1 .0) (read .1 .1) is, items-stand _ _ _ (read .0) (read .1 .0) (read .1 .1) is)
 
-clear-bytes-from-requires : tie.Need-clear-bytes-from-requires
-clear-bytes-from-requires c κs = search needs
-
-same-length-4 : tie.Need-same-length-4
-same-length-4 c = search needs
-
-same-length-5 : tie.Need-same-length-5
-same-length-5 c = search needs
-
-same-length-6 : tie.Need-same-length-6
-same-length-6 c = search needs
-
 returns-2 : tie.Need-returns-2
 returns-2 c =
     let after-clear-bytes = c .before .before in
@@ -75,15 +36,6 @@ returns-2 c =
     let entry = after-read-file .before .before .before .before .before .before .before in
     let read = after-read-file .read-file .ensures in
     ends-unread (entry .args .file .now) _ _ _ (read .0) (read .1 .0) (read .1 .1) (after-n .n .given .1) (after-clear-bytes .clear-bytes .ensures)
-
-same-length-7 : tie.Need-same-length-7
-same-length-7 c = search needs
-
-same-length-8 : tie.Need-same-length-8
-same-length-8 c = search needs
-
-same-length-9 : tie.Need-same-length-9
-same-length-9 c = search needs
 
 returns-3 : tie.Need-returns-3
 returns-3 c =
@@ -99,26 +51,6 @@ returns-3 c =
     _ (marked .kept .0) (marked .ensures) (after-clear-bytes-from .clear-bytes-from .ensures)
 
 pub mark-spec : {M : Type 1} → statement M
-mark-spec =
-    tie.close
-    (tie.spec
-    read-file-requires
-    enum-known-n
-    clear-bytes-requires
-    enum-known-s
-    clear-all-requires
-    clear-bytes-requires-2
-    same-length
-    same-length-2
-    same-length-3
-    returns
-    mark-rows-requires
-    clear-bytes-from-requires
-    same-length-4
-    same-length-5
-    same-length-6
-    returns-2
-    same-length-7
-    same-length-8
-    same-length-9
-    returns-3)
+mark-spec = tie.close (tie.spec (λ c κs. search needs) (λ c. search needs) (λ c κs. search needs) (λ c. search needs) (λ c κs. search needs)
+    (λ c κs. search needs) (λ c. search needs) (λ c. search needs) (λ c. search needs) returns mark-rows-requires (λ c κs. search needs)
+    (λ c. search needs) (λ c. search needs) (λ c. search needs) returns-2 (λ c. search needs) (λ c. search needs) (λ c. search needs) returns-3)

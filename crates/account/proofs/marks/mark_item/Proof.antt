@@ -6,15 +6,6 @@ use borrow.Author.Needs.{needs}
 use Rattle.account.proofs.marks.mark_item.Statement.{statement}
 use Rattle.account.proofs.marks.mark_item.Tie as tie
 
-on-requires : tie.Need-on-requires
-on-requires c κs = search needs
-
-fill-requires : tie.Need-fill-requires
-fill-requires c κs = search needs
-
-same-length : tie.Need-same-length
-same-length c = search needs
-
 returns : tie.Need-returns
 returns c =
     let at-fill = c .before .before in
@@ -22,12 +13,6 @@ returns c =
     let at-on = at-if1 .before .before in
     let at-good = at-on .before .before in
     hidden-span _ (at-if1 .if1 .taken) (past _ _ _ (omega (arith, at-good .good)) (rw (at-on .on .ensures) at (at-fill .fill .ensures)))
-
-fill-requires-2 : tie.Need-fill-requires-2
-fill-requires-2 c κs = search needs
-
-same-length-2 : tie.Need-same-length-2
-same-length-2 c = search needs
 
 returns-2 : tie.Need-returns-2
 returns-2 c =
@@ -38,13 +23,4 @@ returns-2 c =
     visible-span _ (at-if1 .if1 .left) (past _ _ _ (omega (arith, at-good .good)) (rw (at-on .on .ensures) at (at-fill2 .fill2 .ensures)))
 
 pub mark-item-spec : {M : Type 1} → statement M
-mark-item-spec =
-    tie.close
-    (tie.spec
-    on-requires
-    fill-requires
-    same-length
-    returns
-    fill-requires-2
-    same-length-2
-    returns-2)
+mark-item-spec = tie.close (tie.spec (λ c κs. search needs) (λ c κs. search needs) (λ c. search needs) returns (λ c κs. search needs) (λ c. search needs) returns-2)

@@ -22,15 +22,6 @@ loop-holds c = (omega arith, painting-begun _ _ _ _ _ _)
 item-at-requires : tie.Need-item-at-requires Inv-loop μ-loop
 item-at-requires c κs = omega (arith, c .before .before .before .before .before .pre)
 
-mark-item-requires : tie.Need-mark-item-requires Inv-loop μ-loop
-mark-item-requires c κs = search needs
-
-add-i : tie.Need-add-i Inv-loop μ-loop
-add-i c = omega arith
-
-loop-less : tie.Need-loop-less Inv-loop μ-loop
-loop-less c = omega arith
-
 loop-again : tie.Need-loop-again Inv-loop μ-loop
 loop-again c =
     let at-mark-item = c .before .before in
@@ -45,16 +36,5 @@ returns : tie.Need-returns Inv-loop μ-loop
 returns c = items-painted _ _ (omega arith) (c .before .loop .inv .1)
 
 pub mark-items-spec : {M : Type 1} → statement M
-mark-items-spec =
-    tie.close
-    (tie.spec
-    Inv-loop
-    μ-loop
-    loop-holds
-    item-at-requires
-    mark-item-requires
-    add-i
-    loop-less
-    loop-again
-    same-length
+mark-items-spec = tie.close (tie.spec Inv-loop μ-loop loop-holds item-at-requires (λ c κs. search needs) (λ c. omega arith) (λ c. omega arith) loop-again same-length
     returns)

@@ -8,45 +8,6 @@ use borrow.Author.Needs.{needs}
 use Rattle.account.proofs.marks.mark_node.Statement.{statement}
 use Rattle.account.proofs.marks.mark_node.Tie as tie
 
-add-end : tie.Need-add-end
-add-end c = search needs
-
-meta-at-requires : tie.Need-meta-at-requires
-meta-at-requires c κs = search needs
-
-after-block-requires : tie.Need-after-block-requires
-after-block-requires c κs = search needs
-
-add-reference : tie.Need-add-reference
-add-reference c = search needs
-
-contents-at-requires : tie.Need-contents-at-requires
-contents-at-requires c κs = search needs
-
-inline-size-requires : tie.Need-inline-size-requires
-inline-size-requires c κs = search needs
-
-on-requires : tie.Need-on-requires
-on-requires c κs = search needs
-
-fill-requires : tie.Need-fill-requires
-fill-requires c κs = search needs
-
-fill-requires-2 : tie.Need-fill-requires-2
-fill-requires-2 c κs = search needs
-
-fill-requires-3 : tie.Need-fill-requires-3
-fill-requires-3 c κs = search needs
-
-fill-requires-4 : tie.Need-fill-requires-4
-fill-requires-4 c κs = search needs
-
-fill-requires-5 : tie.Need-fill-requires-5
-fill-requires-5 c κs = search needs
-
-same-length : tie.Need-same-length
-same-length c = search needs
-
 returns : tie.Need-returns
 returns c =
     let after-fill5 = c .before .before in
@@ -75,20 +36,6 @@ returns c =
     (after-fill3 .fill3 .ensures) (after-fill4 .fill4 .ensures) inline
 
 pub mark-node-spec : {M : Type 1} → statement M
-mark-node-spec =
-    tie.close
-    (tie.spec
-    add-end
-    meta-at-requires
-    after-block-requires
-    add-reference
-    contents-at-requires
-    inline-size-requires
-    on-requires
-    fill-requires
-    fill-requires-2
-    fill-requires-3
-    fill-requires-4
-    fill-requires-5
-    same-length
-    returns)
+mark-node-spec = tie.close (tie.spec (λ c. search needs) (λ c κs. search needs) (λ c κs. search needs) (λ c. search needs) (λ c κs. search needs)
+    (λ c κs. search needs) (λ c κs. search needs) (λ c κs. search needs) (λ c κs. search needs) (λ c κs. search needs) (λ c κs. search needs)
+    (λ c κs. search needs) (λ c. search needs) returns)

@@ -28,12 +28,6 @@ mark-node-requires c κs =
     let entry = c .before .before .before .before .before .before .before in
     subst (Inside (entry .args .file .now)) (sym (c .node-at .ensures)) (entry .pre .1 _ (omega arith))
 
-add-i : tie.Need-add-i Inv-loop μ-loop
-add-i c = omega arith
-
-loop-less : tie.Need-loop-less Inv-loop μ-loop
-loop-less c = omega arith
-
 loop-again : tie.Need-loop-again Inv-loop μ-loop
 loop-again c =
     let at-mark-node = c .before .before in
@@ -48,16 +42,5 @@ returns : tie.Need-returns Inv-loop μ-loop
 returns c = nodes-painted _ _ _ (omega arith) (c .before .loop .inv .1)
 
 pub mark-nodes-spec : {M : Type 1} → statement M
-mark-nodes-spec =
-    tie.close
-    (tie.spec
-    Inv-loop
-    μ-loop
-    loop-holds
-    node-at-requires
-    mark-node-requires
-    add-i
-    loop-less
-    loop-again
-    same-length
+mark-nodes-spec = tie.close (tie.spec Inv-loop μ-loop loop-holds node-at-requires mark-node-requires (λ c. omega arith) (λ c. omega arith) loop-again same-length
     returns)

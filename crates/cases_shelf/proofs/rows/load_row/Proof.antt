@@ -12,12 +12,6 @@ Inv-loop words row₀ i₀ row i = i ≤ 20
 abbrev μ-loop : tie.MeasureT-loop
 μ-loop words row₀ i₀ row i = 20 - i
 
-loop-holds : tie.Need-loop-holds Inv-loop μ-loop
-loop-holds c = omega arith
-
-card-in-requires : tie.Need-card-in-requires Inv-loop μ-loop
-card-in-requires c κs = search needs
-
 mul-row : tie.Need-mul-row Inv-loop μ-loop
 mul-row c = record { fits = omega (arith, c .before .loop-test .taken) }
 
@@ -33,20 +27,6 @@ loop-less c = omega (arith, c .before .loop-test .taken)
 loop-again : tie.Need-loop-again Inv-loop μ-loop
 loop-again c = omega (arith, c .before .loop-test .taken)
 
-returns : tie.Need-returns Inv-loop μ-loop
-returns c = search needs
-
 pub load-row-spec : {M : Type 1} → statement M
-load-row-spec =
-    tie.close
-    (tie.spec
-    Inv-loop
-    μ-loop
-    loop-holds
-    card-in-requires
-    mul-row
-    array-set-from-row
-    add-i
-    loop-less
-    loop-again
-    returns)
+load-row-spec = tie.close (tie.spec Inv-loop μ-loop (λ c. omega arith) (λ c κs. search needs) mul-row array-set-from-row add-i loop-less loop-again
+    (λ c. search needs))

@@ -4,21 +4,6 @@ use Rattle.casetext.proofs.Laws.{field-within, field-unmarked}
 use Rattle.casetext.proofs.fields.field.Statement.{statement}
 use Rattle.casetext.proofs.fields.field.Tie as tie
 
-field-start-requires : tie.Need-field-start-requires
-field-start-requires c κs = search needs
-
-find-mark-requires : tie.Need-find-mark-requires
-find-mark-requires c κs = search needs
-
-sub-result : tie.Need-sub-result
-sub-result c = search needs
-
-part-result-start : tie.Need-part-result-start
-part-result-start c = search needs
-
-part-result-end : tie.Need-part-result-end
-part-result-end c = search needs
-
 returns : tie.Need-returns
 returns c =
     let at-find-mark = c .before in
@@ -29,12 +14,4 @@ returns c =
     )
 
 pub field-spec : {M : Type 1} → statement M
-field-spec =
-    tie.close
-    (tie.spec
-    field-start-requires
-    find-mark-requires
-    sub-result
-    part-result-start
-    part-result-end
-    returns)
+field-spec = tie.close (tie.spec (λ c κs. search needs) (λ c κs. search needs) (λ c. search needs) (λ c. search needs) (λ c. search needs) returns)

@@ -6,9 +6,6 @@ use Rattle.casetext.proofs.Laws.{digit-low, digit-decimal, digit-betwee
 use Rattle.casetext.proofs.input.digit.Statement.{statement}
 use Rattle.casetext.proofs.input.digit.Tie as tie
 
-sub-result : tie.Need-sub-result
-sub-result c = search needs
-
 returns : tie.Need-returns
 returns c = (sym (digit-low _ (c .if1 .taken)), omega arith)
 
@@ -25,4 +22,4 @@ returns-5 : tie.Need-returns-5
 returns-5 c = (sym (digit-high _ (c .if4 .left)), omega arith)
 
 pub digit-spec : {M : Type 1} → statement M
-digit-spec = tie.close (tie.spec sub-result returns returns-2 returns-3 returns-4 returns-5)
+digit-spec = tie.close (tie.spec (λ c. search needs) returns returns-2 returns-3 returns-4 returns-5)

@@ -20,20 +20,11 @@ abbrev μ-loop : tie.MeasureT-loop
 loop-holds : tie.Need-loop-holds Inv-loop μ-loop
 loop-holds c = (refl, omega arith)
 
-shared-slice-read-digit : tie.Need-shared-slice-read-digit Inv-loop μ-loop
-shared-slice-read-digit c = search needs
-
-digit-requires : tie.Need-digit-requires Inv-loop μ-loop
-digit-requires c κs = search needs
-
 returns : tie.Need-returns Inv-loop μ-loop
 returns c =
     let at-loop-test = c .before .before .before in
     let at-loop = at-loop-test .before in
     record { meant = λ e. absurd (false≢true e); taken = λ a h l. absurd (omega (arith, h (at-loop .loop .i) (at-loop-test .loop-test .taken), c .before .digit .ensures .0)) }
-
-wide-requires : tie.Need-wide-requires Inv-loop μ-loop
-wide-requires c κs = search needs
 
 sub-if2 : tie.Need-sub-if2 Inv-loop μ-loop
 sub-if2 c = omega (arith, c .wide .ensures)
@@ -61,12 +52,6 @@ mul-value c = omega (arith, c .before .wide .ensures)
 add-value : tie.Need-add-value Inv-loop μ-loop
 add-value c = omega (arith, c .before .wide .ensures)
 
-add-i : tie.Need-add-i Inv-loop μ-loop
-add-i c = search needs
-
-loop-less : tie.Need-loop-less Inv-loop μ-loop
-loop-less c = search needs
-
 loop-again : tie.Need-loop-again Inv-loop μ-loop
 loop-again c =
     let at-digit = c .before .before .before in
@@ -78,21 +63,5 @@ returns-3 : tie.Need-returns-3 Inv-loop μ-loop
 returns-3 c = record { meant = λ e. value-all _ _ (c .before .loop .i) (c .loop-test .left) (c .before .loop .inv .0); taken = λ a h l. lt-ltb _ _ a }
 
 pub read-decimal-spec : {M : Type 1} → statement M
-read-decimal-spec =
-    tie.close
-    (tie.spec
-    Inv-loop
-    μ-loop
-    loop-holds
-    shared-slice-read-digit
-    digit-requires
-    returns
-    wide-requires
-    sub-if2
-    returns-2
-    mul-value
-    add-value
-    add-i
-    loop-less
-    loop-again
-    returns-3)
+read-decimal-spec = tie.close (tie.spec Inv-loop μ-loop loop-holds (λ c. search needs) (λ c κs. search needs) returns (λ c κs. search needs) sub-if2 returns-2 mul-value
+    add-value (λ c. search needs) (λ c. search needs) loop-again returns-3)

@@ -19,9 +19,6 @@ Inv-loop digits bytes₀ count n₀ bytes n = (length bytes ≡ length bytes₀)
 abbrev μ-loop : tie.MeasureT-loop
 μ-loop digits bytes₀ count n₀ bytes n = count - n
 
-shared-slice-read-t10 : tie.Need-shared-slice-read-t10 Inv-loop μ-loop
-shared-slice-read-t10 c = search needs
-
 returns : tie.Need-returns Inv-loop μ-loop
 returns c = record {
   within = omega arith;
@@ -39,30 +36,6 @@ returns-2 c = no-bytes _ _ (λ n e l h. absurd (omega arith)) (c .before .if1 .l
 loop-holds : tie.Need-loop-holds Inv-loop μ-loop
 loop-holds c = (refl, λ k l. omega arith, omega arith, omega arith, omega arith)
 
-mul-digit : tie.Need-mul-digit Inv-loop μ-loop
-mul-digit c = search needs
-
-shared-slice-read-digit : tie.Need-shared-slice-read-digit Inv-loop μ-loop
-shared-slice-read-digit c = search needs
-
-digit-requires : tie.Need-digit-requires Inv-loop μ-loop
-digit-requires c κs = search needs
-
-mul-digit-2 : tie.Need-mul-digit-2 Inv-loop μ-loop
-mul-digit-2 c = search needs
-
-add-digit : tie.Need-add-digit Inv-loop μ-loop
-add-digit c = search needs
-
-shared-slice-read-digit-2 : tie.Need-shared-slice-read-digit-2 Inv-loop μ-loop
-shared-slice-read-digit-2 c = search needs
-
-digit-requires-2 : tie.Need-digit-requires-2 Inv-loop μ-loop
-digit-requires-2 c κs = search needs
-
-same-length : tie.Need-same-length Inv-loop μ-loop
-same-length c = search needs
-
 returns-3 : tie.Need-returns-3 Inv-loop μ-loop
 returns-3 c =
     let at-digit = c .before .before .before in
@@ -70,30 +43,12 @@ returns-3 c =
     let at-if1 = at-loop .before .before in
     no-bytes _ _ (λ n e l h. absurd (omega (arith, h (2 * at-loop .loop .n) (omega arith), at-digit .digit .ensures .0))) (at-if1 .if1 .left)
 
-same-length-2 : tie.Need-same-length-2 Inv-loop μ-loop
-same-length-2 c = search needs
-
 returns-4 : tie.Need-returns-4 Inv-loop μ-loop
 returns-4 c =
     let at-digit2 = c .before .before in
     let at-loop = at-digit2 .before .before .before .before .before in
     let at-if1 = at-loop .before .before in
     no-bytes _ _ (λ n e l h. absurd (omega (arith, h (2 * at-loop .loop .n + 1) (omega arith), at-digit2 .digit2 .ensures .0))) (at-if1 .if1 .left)
-
-mul-bytes : tie.Need-mul-bytes Inv-loop μ-loop
-mul-bytes c = search needs
-
-add-bytes : tie.Need-add-bytes Inv-loop μ-loop
-add-bytes c = search needs
-
-slice-write-bytes : tie.Need-slice-write-bytes Inv-loop μ-loop
-slice-write-bytes c = search needs
-
-add-n : tie.Need-add-n Inv-loop μ-loop
-add-n c = search needs
-
-loop-less : tie.Need-loop-less Inv-loop μ-loop
-loop-less c = search needs
 
 loop-again : tie.Need-loop-again Inv-loop μ-loop
 loop-again c =
@@ -110,12 +65,6 @@ loop-again c =
           arith,
     )
 
-mul-t20 : tie.Need-mul-t20 Inv-loop μ-loop
-mul-t20 c = search needs
-
-same-length-3 : tie.Need-same-length-3 Inv-loop μ-loop
-same-length-3 c = search needs
-
 returns-5 : tie.Need-returns-5 Inv-loop μ-loop
 returns-5 c =
     let at-if1 = c .before .before .before in
@@ -131,32 +80,7 @@ returns-5 c =
     }
 
 pub read-hex-spec : {M : Type 1} → statement M
-read-hex-spec =
-    tie.close
-    (tie.spec
-    Inv-loop
-    μ-loop
-    shared-slice-read-t10
-    returns
-    returns-2
-    loop-holds
-    mul-digit
-    shared-slice-read-digit
-    digit-requires
-    mul-digit-2
-    add-digit
-    shared-slice-read-digit-2
-    digit-requires-2
-    same-length
-    returns-3
-    same-length-2
-    returns-4
-    mul-bytes
-    add-bytes
-    slice-write-bytes
-    add-n
-    loop-less
-    loop-again
-    mul-t20
-    same-length-3
-    returns-5)
+read-hex-spec = tie.close (tie.spec Inv-loop μ-loop (λ c. search needs) returns returns-2 loop-holds (λ c. search needs) (λ c. search needs) (λ c κs. search needs)
+    (λ c. search needs) (λ c. search needs) (λ c. search needs) (λ c κs. search needs) (λ c. search needs) returns-3 (λ c. search needs)
+    returns-4 (λ c. search needs) (λ c. search needs) (λ c. search needs) (λ c. search needs) (λ c. search needs) loop-again (λ c. search needs)
+    (λ c. search needs) returns-5)

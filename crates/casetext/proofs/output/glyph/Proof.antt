@@ -7,20 +7,11 @@ use Rattle.casetext.proofs.Laws.{digit-decimal, digit-letter}
 use Rattle.casetext.proofs.output.glyph.Statement.{statement}
 use Rattle.casetext.proofs.output.glyph.Tie as tie
 
-add-result : tie.Need-add-result
-add-result c = search needs
-
 returns : tie.Need-returns
 returns c = λ h. digit-decimal (48 + c .before .args .d) (omega arith) (omega arith) ∙ omega arith
-
-add-result-2 : tie.Need-add-result-2
-add-result-2 c = search needs
 
 returns-2 : tie.Need-returns-2
 returns-2 c = λ h. digit-letter (87 + c .before .before .args .d) (omega arith) (omega arith) ∙ omega arith
 
-returns-3 : tie.Need-returns-3
-returns-3 c = search needs
-
 pub glyph-spec : {M : Type 1} → statement M
-glyph-spec = tie.close (tie.spec add-result returns add-result-2 returns-2 returns-3)
+glyph-spec = tie.close (tie.spec (λ c. search needs) returns (λ c. search needs) returns-2 (λ c. search needs))

@@ -7,15 +7,6 @@ use Rattle.casetext.proofs.Laws.{ends, set-past}
 use Rattle.casetext.proofs.output.put_byte.Statement.{statement}
 use Rattle.casetext.proofs.output.put_byte.Tie as tie
 
-slice-write-out : tie.Need-slice-write-out
-slice-write-out c = search needs
-
-add-result : tie.Need-add-result
-add-result c = search needs
-
-same-length : tie.Need-same-length
-same-length c = search needs
-
 returns : tie.Need-returns
 returns c = (ends _ _ _ (simp length-set (omega arith)) (simp length-set (omega arith)), record { wrote = refl; fits = λ l. omega arith; over = λ l. omega arith })
 
@@ -30,4 +21,4 @@ returns-2 c = (
 )
 
 pub put-byte-spec : {M : Type 1} → statement M
-put-byte-spec = tie.close (tie.spec slice-write-out add-result same-length returns returns-2)
+put-byte-spec = tie.close (tie.spec (λ c. search needs) (λ c. search needs) (λ c. search needs) returns returns-2)

@@ -9,9 +9,6 @@ use Rattle.casetext.proofs.words.row_words.Tie as tie
 returns : tie.Need-returns
 returns c = (omega arith, λ h. rows-none _ _ (c .if1 .taken))
 
-div-if2 : tie.Need-div-if2
-div-if2 c = search needs
-
 returns-2 : tie.Need-returns-2
 returns-2 c = (omega arith, λ h. absurd (rows-over _ _ _ (c .before .if1 .left) (c .if2 .taken) h))
 
@@ -22,4 +19,4 @@ returns-3 : tie.Need-returns-3
 returns-3 c = (rows-fit _ _ _ (c .if2 .left), λ h. refl)
 
 pub row-words-spec : {M : Type 1} → statement M
-row-words-spec = tie.close (tie.spec returns div-if2 returns-2 mul-result returns-3)
+row-words-spec = tie.close (tie.spec returns (λ c. search needs) returns-2 mul-result returns-3)

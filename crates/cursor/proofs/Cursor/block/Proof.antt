@@ -7,15 +7,6 @@ use borrow.Author.Needs.{needs}
 use Rattle.cursor.proofs.Cursor.block.Statement.{statement}
 use Rattle.cursor.proofs.Cursor.block.Tie as tie
 
-number-requires : tie.Need-number-requires
-number-requires c κs = search needs
-
-enum-known-n : tie.Need-enum-known-n
-enum-known-n c = search needs
-
-enum-known-size : tie.Need-enum-known-size
-enum-known-size c = search needs
-
 sub-if1 : tie.Need-sub-if1
 sub-if1 c =
     let at-size = c .before .before .before .before in
@@ -40,6 +31,4 @@ returns-3 c =
     (omega (arith, number-inside κ _ _ _ _ (was numberTold (at-number .number .ensures κ) (at-size .size .given .1)), c .if1 .left))
 
 pub block-spec : {M : Type 1} → statement M
-block-spec =
-    tie.close
-    (tie.spec number-requires enum-known-n enum-known-size sub-if1 returns returns-2 returns-3)
+block-spec = tie.close (tie.spec (λ c κs. search needs) (λ c. search needs) (λ c. search needs) sub-if1 returns returns-2 returns-3)

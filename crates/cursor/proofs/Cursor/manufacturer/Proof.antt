@@ -7,20 +7,8 @@ use Rattle.cursor.proofs.Cursor.manufacturer.Tie as tie
 returns : tie.Need-returns
 returns c = λ κ. manufacturer-none κ _ _ _ (c .if1 .taken)
 
-shared-slice-read-wide : tie.Need-shared-slice-read-wide
-shared-slice-read-wide c = search needs
-
-wide-requires : tie.Need-wide-requires
-wide-requires c κs = search needs
-
-add-t10 : tie.Need-add-t10
-add-t10 c = search needs
-
 returns-2 : tie.Need-returns-2
 returns-2 c = λ κ. manufacturer-one κ _ _ _ (c .before .before .before .if1 .left) (c .before .wide .ensures .0) (c .if2 .taken)
-
-sub-if3 : tie.Need-sub-if3
-sub-if3 c = search needs
 
 returns-3 : tie.Need-returns-3
 returns-3 c =
@@ -28,9 +16,6 @@ returns-3 c =
     let at-wide = at-if2 .before in
     let at-if1 = at-wide .before .before in
     λ κ. manufacturer-cut κ _ _ _ (at-if1 .if1 .left) (at-wide .wide .ensures .0) (at-if2 .if2 .left) (omega arith)
-
-add-t13 : tie.Need-add-t13
-add-t13 c = search needs
 
 returns-4 : tie.Need-returns-4
 returns-4 c =
@@ -40,15 +25,5 @@ returns-4 c =
     λ κ. manufacturer-three κ _ _ _ (at-if1 .if1 .left) (at-wide .wide .ensures .0) (at-if2 .if2 .left) (omega arith)
 
 pub manufacturer-spec : {M : Type 1} → statement M
-manufacturer-spec =
-    tie.close
-    (tie.spec
-    returns
-    shared-slice-read-wide
-    wide-requires
-    add-t10
-    returns-2
-    sub-if3
-    returns-3
-    add-t13
+manufacturer-spec = tie.close (tie.spec returns (λ c. search needs) (λ c κs. search needs) (λ c. search needs) returns-2 (λ c. search needs) returns-3 (λ c. search needs)
     returns-4)

@@ -16,35 +16,17 @@ Inv-loop file past start stop first at₀ value₀ left₀ at value left = Readi
 abbrev μ-loop : tie.MeasureT-loop
 μ-loop file past start stop first at₀ value₀ left₀ at value left = left
 
-byte-requires : tie.Need-byte-requires Inv-loop μ-loop
-byte-requires c κs = omega arith
-
 returns : tie.Need-returns Inv-loop μ-loop
 returns c κ = sym (number-short κ _ _ _ _ (omega arith) (c .before .before .before .byte .ensures .is) (c .before .if2 .taken) (c .before .before .before .byte .ensures .on))
 
 loop-holds : tie.Need-loop-holds Inv-loop μ-loop
 loop-holds c = (begun _ _ _ _, omega arith, omega arith)
 
-shared-slice-read-wide : tie.Need-shared-slice-read-wide Inv-loop μ-loop
-shared-slice-read-wide c = omega arith
-
-wide-requires : tie.Need-wide-requires Inv-loop μ-loop
-wide-requires c κs = search needs
-
-add-at : tie.Need-add-at Inv-loop μ-loop
-add-at c = omega arith
-
-sub-left : tie.Need-sub-left Inv-loop μ-loop
-sub-left c = omega arith
-
 mul-value : tie.Need-mul-value Inv-loop μ-loop
 mul-value c = omega (arith, below _ _ (c .before .before .before .before .loop .inv .2))
 
 add-value : tie.Need-add-value Inv-loop μ-loop
 add-value c = omega (arith, below _ _ (c .before .before .before .before .loop .inv .2))
-
-loop-less : tie.Need-loop-less Inv-loop μ-loop
-loop-less c = omega arith
 
 loop-again : tie.Need-loop-again Inv-loop μ-loop
 loop-again c =
@@ -71,22 +53,5 @@ returns-4 c =
     last (at-loop .loop .inv .0) (at-if3 .if3 .left) (at-if4 .if4 .left) (c .before .wide .ensures .0) (c .if5 .taken)
 
 pub number-spec : {M : Type 1} → statement M
-number-spec =
-    tie.close
-    (tie.spec
-    Inv-loop
-    μ-loop
-    byte-requires
-    returns
-    loop-holds
-    shared-slice-read-wide
-    wide-requires
-    add-at
-    sub-left
-    mul-value
-    add-value
-    loop-less
-    loop-again
-    returns-2
-    returns-3
-    returns-4)
+number-spec = tie.close (tie.spec Inv-loop μ-loop (λ c κs. omega arith) returns loop-holds (λ c. omega arith) (λ c κs. search needs) (λ c. omega arith)
+    (λ c. omega arith) mul-value add-value (λ c. omega arith) loop-again returns-2 returns-3 returns-4)
