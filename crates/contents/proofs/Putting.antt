@@ -9,15 +9,16 @@ use native.Mathlib.Omega.{arith}
 use lib.Dec.{eqb, leb}
 use lib.ListN.{length, take, drop, length-append}
 use borrow.Author.Tests.{eq-eqb, ne-eqb, le-leb, lt-leb, lt-ltb, le-ltb}
-use Rattle.cursor.specs.Vlq.{part, least, vlq, joined, sized}
+use Rattle.cursor.specs.Vlq.{part, from, least, vlq, joined, sized}
 use Rattle.cursor.specs.declared.Item.{Item}
 use Rattle.metadata.specs.Tables.{itemWidth}
-use Rattle.tree.specs.Rows.{itemFrom, ItemIn}
+use Rattle.tree.specs.Rows.{itemFrom, ItemIn, ItemRows}
 use Rattle.title.specs.Description.{Content, content, titled}
 use Rattle.title.specs.Text.{further, fieldText, itemText, universalText, versionText, contentText, itemsText}
 use Rattle.cursor.proofs.Least.{vlq-length}
 use Rattle.room.specs.Counts.{Counts, tooMany}
-use Rattle.room.proofs.Counting.{counts-as, put-two, put-block, put-counted, part-length, lent-part}
+use Rattle.room.proofs.Counting.{Going, going-start, going-on, going-end, counts-as, put-two, put-block, put-counted, part-length, lent-part}
+use Rattle.title.proofs.Counted.{counts-number}
 use Rattle.contents.specs.Contents.{contentAt, contentsFrom, rowOf, rowText}
 
 -- ---- a content with given data
@@ -206,3 +207,59 @@ module _ (f : List ℕ) (row : ℕ) (title us : List ℕ) (end : ℕ) where
 
   pub rows-end : (k : ℕ) → end ≤ k → itemsText (contentsFrom f row title us k (end - k)) ≡ []
   rows-end k l = ap itemsText (contents-end f row title us k end l) ∙ rows-none
+
+-- ---- what is only counted
+
+pub zero-counted : {to q : ℕ} → q ≡ min (to + 1) tooMany → Counts [] [] to (vlq 0) q
+unfolding least from
+zero-counted e = counts-number 0 {n = 1} refl e
+
+module _ (f : List ℕ) (r : Item) {to q : ℕ} where
+  pub custom-counted : ItemIn (length f) r → r .nameLength ≤ tooMany → r .kind ≡ 1 → ((s : List ℕ) → r .nameLength ≡ min (length s) tooMany → Counts [] [] to (sized s) q) → Counts [] [] to (fieldText (content f r)) q
+  unfolding fieldText content
+  custom-counted (a, inl z) few e p = absurd (omega arith)
+  custom-counted (a, inr l) few e p = rw (eq-eqb (r .kind) 1 e) (p (part f (r .field) (r .nameLength)) (omega (arith, part-length f (r .field) (r .nameLength) l)))
+
+  pub standard-counted : (r .kind ≡ 1 → ⊥) → {n k : ℕ} → n ≡ min (to + 1) tooMany → k ≡ least (λ _. r .field) → q ≡ min (n + k) tooMany → Counts [] [] to (fieldText (content f r)) q
+  standard-counted e a b c = field-standard f r e (zero-counted a) (counts-number (r .field) b c)
+
+module _ (bytes : List ℕ) {size to q : ℕ} (e : size ≡ length bytes) where
+  pub universal-counted : (format : ℕ) {k n : ℕ} → k ≡ least (λ _. format) → n ≡ min (k + size) tooMany → ((s : List ℕ) → n ≡ min (length s) tooMany → Counts [] [] to (sized s) q)
+      → Counts [] [] to (sized (joined (vlq format ∷ bytes ∷ []))) q
+  universal-counted format a b p = p (joined (vlq format ∷ bytes ∷ [])) (omega (arith, vlq-length format, length-append (vlq format) (bytes ++ []), length-append bytes []))
+
+  pub version-counted : (declared : ℕ) {k n : ℕ} → k ≡ least (λ _. declared) → n ≡ min (to + k) tooMany → ((s : List ℕ) → size ≡ min (length s) tooMany → Counts [] [] n (sized s) q)
+      → size ≤ tooMany → Counts [] [] to (joined (vlq declared ∷ sized bytes ∷ [])) q
+  version-counted declared a b p few = put-two (vlq declared) (sized bytes) (counts-number declared a b) (p bytes (omega arith))
+
+module _ (f : List ℕ) (row : ℕ) (title us : List ℕ) (k : ℕ) {r : Item} (e : r ≡ itemFrom us (k * itemWidth)) {to q : ℕ} where
+  pub title-counted : k ≡ row → Counts [] [] to (contentText (titled title (content f r))) q → Counts [] [] to (contentText (contentAt f row title us k)) q
+  title-counted h p = content-title f row title us k e h (rw e at p)
+
+  pub file-counted : (k ≡ row → ⊥) → ItemIn (length f) (itemFrom us (k * itemWidth)) → ((bytes : List ℕ) → r .size ≡ length bytes → Counts [] [] to (contentText (titled bytes (content f r))) q)
+      → Counts [] [] to (contentText (contentAt f row title us k)) q
+  file-counted h i p =
+      let (a, b) = row-inside e i in
+      let z : r .place + r .size - r .place ≡ r .size = omega arith in
+      let bytes : List ℕ = take (r .place + r .size - r .place) (drop (r .place) f) in
+      content-file f row title us k e h refl
+      (subst (λ (v : Item). Counts [] [] to (contentText (titled bytes (content f v))) q) e (p bytes (rw z (sym (part-length f (r .place) (r .size) a)))))
+
+-- rows `first` to k are counted
+pub record Summing (us : List ℕ) (first end row size next k : ℕ) : Type 0 where
+  pub within : (first ≤ k) × (k ≤ end)
+  pub counted : (f title : List ℕ) → ItemRows (length f) end us → size ≡ length title → Going [] [] 0 next
+      (itemsText (contentsFrom f row title us first (end - first))) (itemsText (contentsFrom f row title us k (end - k)))
+
+pub summing-start : {us : List ℕ} {first end row size : ℕ} → first ≤ end → Summing us first end row size 0 first
+summing-start l = record { within = (omega arith, l); counted = λ f title i e. going-start [] (omega arith) refl }
+
+pub summing-on : {us : List ℕ} {first end row size next k : ℕ} → Summing us first end row size next k → k < end → {q : ℕ}
+    → ((f title : List ℕ) → ItemIn (length f) (itemFrom us (k * itemWidth)) → size ≡ length title → Counts [] [] next (rowText f row title us k end) q) → Summing us first end row size q (k + 1)
+summing-on {us} {end = end} {row} {k = k} w l p =
+    let i = w .within in
+    record { within = (omega arith, omega arith); counted = λ f title inside e. going-on (rows-on f row title us end k l) (w .counted f title inside e) (p f title (inside .1 k l) e) }
+
+pub summing-end : {us : List ℕ} {first end row size next k : ℕ} → Summing us first end row size next k → end ≤ k → (f title : List ℕ) → ItemRows (length f) end us → size ≡ length title
+    → Counts [] [] 0 (itemsText (contentsFrom f row title us first (end - first))) next
+summing-end {us} {end = end} {row} {k = k} w l f title inside e = going-end (rows-end f row title us end k l) (w .counted f title inside e)

@@ -1,7 +1,7 @@
 // Writes item rows anew: each content in its shortest form, and one of them with another title.
 ghost use mathlib.Core.Path.{_≡_};
 ghost use mathlib.Core.List.{List, _∷_, []};
-ghost use Prim.Native.Nat.{ℕ, suc, _≤_, _<_, _*_, _+_, _-_};
+ghost use Prim.Native.Nat.{ℕ, suc, _≤_, _<_, _*_, _+_, _-_, min};
 ghost use lib.ListN.{length};
 ghost use Rattle.cursor.specs.Vlq.{vlq, joined, sized};
 ghost use Rattle.metadata.specs.Tables.{itemWidth};
@@ -9,7 +9,7 @@ ghost use Rattle.tree.specs.Rows.{itemFrom, ItemIn, ItemRows};
 ghost use Rattle.title.specs.Description.{content, titled};
 ghost use Rattle.title.specs.Text as text;
 ghost use Rattle.title.specs.Text.{fieldText, itemText, contentText, itemsText};
-ghost use Rattle.room.specs.Counts.{Counts};
+ghost use Rattle.room.specs.Counts.{Counts, tooMany};
 ghost use Rattle.contents.specs.Contents.{contentAt, contentsFrom, rowText};
 use cursor::Item;
 
@@ -154,6 +154,84 @@ pub fn put_items(
     let mut k = first;
     while k < end {
         next = put_item(out, next, file, items, k, end, row, title);
+        k = k + 1;
+    }
+    next
+}
+
+// Counts the bytes of a block of so many bytes with its length, from `to` on. What is counted is as what is put, with no buffer.
+fn measure_block(to: usize, size: usize) -> usize
+    ensures { λ r. ⌜ ((s : List ℕ) → size ≡ min (length s) tooMany → Counts [] [] to (sized s) r) ⌝ }
+{
+    room::on(room::on(to, room::vlq_size(size as u64)), size)
+}
+
+// Counts the bytes of the field of an item row.
+fn measure_field(to: usize, item: Item) -> usize
+    ensures { λ r. ⌜ ((f : List ℕ) → ItemIn (length f) item → Counts [] [] to (fieldText (content f item)) r) ⌝ }
+{
+    if item.kind == 1 {
+        return measure_block(to, item.nameLength as usize);
+    }
+    room::on(room::on(to, 1), room::vlq_size(item.field))
+}
+
+// Counts the bytes of the content of an item row with data of so many bytes.
+fn measure_content(to: usize, item: Item, size: usize) -> usize
+    ensures { λ r. ⌜ ((f bytes : List ℕ) → size ≡ length bytes → Counts [] [] to (contentText (titled bytes (content f item))) r) ⌝ }
+{
+    if item.version == 0 {
+        return measure_block(to, room::on(room::vlq_size(item.format), size));
+    }
+    measure_block(room::on(to, room::vlq_size(item.declared)), size)
+}
+
+// Counts the bytes of the content of item row k: row `row` with a title of so many bytes, and another with the file's data.
+fn measure_content_at(to: usize, items: &[u64], k: usize, row: usize, size: usize) -> usize
+    requires { ⌜ k * itemWidth + itemWidth ≤ length (now items) ⌝ }
+    ensures { λ r. ⌜ ((f title : List ℕ) → ItemIn (length f) (itemFrom (now (items .entry)) (k * itemWidth)) → size ≡ length title → Counts [] [] to (contentText (contentAt f row title (now (items .entry)) k)) r) ⌝ }
+{
+    let item = tree::item_at(items, k);
+    if row == k {
+        return measure_content(to, item, size);
+    }
+    measure_content(to, item, item.size as usize)
+}
+
+// Counts the bytes of what the item of row k has before its contents, the rows before row `end`.
+fn measure_start(to: usize, items: &[u64], k: usize, end: usize) -> usize
+    requires { ⌜ (k < end) × (end * itemWidth ≤ length (now items)) ⌝ }
+    ensures { λ r. ⌜ ((f : List ℕ) (row : ℕ) (title : List ℕ) → ItemIn (length f) (itemFrom (now (items .entry)) (k * itemWidth)) → Counts [] [] to (itemText (contentAt f row title (now (items .entry)) k) (suc (text.further (contentsFrom f row title (now (items .entry)) (k + 1) (end - (k + 1)))))) r) ⌝ }
+{
+    let item = tree::item_at(items, k);
+    let a = measure_field(to, item);
+    if item.version == 0 {
+        return room::on(a, 1);
+    }
+    room::on(a, room::vlq_size(1 + further(items, k + 1, end)))
+}
+
+// Counts the bytes of item row k, with what its item has before it where it is the first of the item.
+fn measure_item(to: usize, items: &[u64], k: usize, end: usize, row: usize, size: usize) -> usize
+    requires { ⌜ (k < end) × (end * itemWidth ≤ length (now items)) ⌝ }
+    ensures { λ r. ⌜ ((f title : List ℕ) → ItemIn (length f) (itemFrom (now (items .entry)) (k * itemWidth)) → size ≡ length title → Counts [] [] to (rowText f row title (now (items .entry)) k end) r) ⌝ }
+{
+    if tree::item_at(items, k).version <= 1 {
+        let a = measure_start(to, items, k, end);
+        return measure_content_at(a, items, k, row, size);
+    }
+    measure_content_at(to, items, k, row, size)
+}
+
+// The bytes of the item rows from row `first` on, up to row `end`, where row `row` has a title of so many bytes.
+pub fn items_size(items: &[u64], first: usize, end: usize, row: usize, size: usize) -> usize
+    requires { ⌜ (first ≤ end) × (end * itemWidth ≤ length (now items)) ⌝ }
+    ensures { λ r. ⌜ ((f title : List ℕ) → ItemRows (length f) end (now (items .entry)) → size ≡ length title → Counts [] [] 0 (itemsText (contentsFrom f row title (now (items .entry)) first (end - first))) r) ⌝ }
+{
+    let mut next: usize = 0;
+    let mut k = first;
+    while k < end {
+        next = measure_item(next, items, k, end, row, size);
         k = k + 1;
     }
     next

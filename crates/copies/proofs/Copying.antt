@@ -2,7 +2,7 @@
 -- Assumes nothing.
 use mathlib.Core.Path.{_≡_, refl, sym, ap, _∙_, subst}
 use mathlib.Core.List.{List, [], _∷_, _++_, append-assoc, append-nil}
-use Prim.Native.Nat.{ℕ, zero, suc, _+_, _-_, _≤_, _<_}
+use Prim.Native.Nat.{ℕ, zero, suc, _+_, _-_, _≤_, _<_, min}
 use native.Mathlib.Omega.{arith}
 use lib.ListN.{length}
 use borrow.Author.Tests.{ne-eqb}
@@ -16,6 +16,7 @@ use Rattle.machine.proofs.Laws.{running, andThen, run-times, run-timed}
 use Rattle.machine.proofs.Wp.{at-end}
 use Rattle.cursor.proofs.Leaves.{Any, any-free, guid-on, manufacturer-on}
 use Rattle.title.specs.Description.{answer, copied, identifierText, unpackerText, entryText, tableText}
+use Rattle.title.proofs.Counted.{counts-part}
 use Rattle.room.specs.Counts.{Counts, tooMany}
 use Rattle.room.proofs.Counting.{counts-none, counts-then, counts-as, put-sized}
 use Rattle.copies.specs.Told.{numberText, Copies}
@@ -105,6 +106,13 @@ guid-inside f at e = at-end any-free f (guid-on {U = Any} unpackFrame (length f)
 
 pub maker-inside : (f : List ℕ) (at : ℕ) {q : ℕ} → run (manufacturer unpackFrame (length f)) f at ≡ ok tt q → (at < q) × (q ≤ at + 3) × (q ≤ length f)
 maker-inside f at e = at-end any-free f (manufacturer-on {U = Any} unpackFrame (length f) at) e
+
+-- counted as they are
+pub guid-counted : (f : List ℕ) (at : ℕ) {q : ℕ} → run (guid unpackFrame (length f)) f at ≡ ok tt q → {to r : ℕ} → r ≡ min (to + (q - at)) tooMany → Counts [] [] to (part f at (q - at)) r
+guid-counted f at {q} read e = counts-part f at (q - at) (omega (arith, guid-inside f at read)) e
+
+pub maker-counted : (f : List ℕ) (at : ℕ) {q : ℕ} → run (manufacturer unpackFrame (length f)) f at ≡ ok tt q → {to r : ℕ} → r ≡ min (to + (q - at)) tooMany → Counts [] [] to (part f at (q - at)) r
+maker-counted f at {q} read e = counts-part f at (q - at) (omega (arith, maker-inside f at read)) e
 
 module _ (f : List ℕ) (kind at : ℕ) where
   pub guid-no : kind ≡ 3 → {n p : ℕ} → run (guid unpackFrame (length f)) f at ≡ refused n p → run (identifierText f kind) f at ≡ refused n p
@@ -317,6 +325,31 @@ block-copied x j v w =
     let k : b ≡ a = ok-left (sym h ∙ e) in
     let l : answer x ≡ a = ap answer e in
     rw l (put-sized a p v (counts-as k q))
+
+-- one that was measured: it stands in a file, or is copied
+pub block-same : {o o₁ o₂ : List ℕ} {s s₁ s₂ n : ℕ} {t body : List ℕ} → Counts [] [] 0 body n → t ≡ body → Counts o o₁ s (vlq n) s₁ → Counts o₁ o₂ s₁ t s₂ → Counts o o₂ s (sized body) s₂
+block-same {body = body} k e v w = put-sized body k v (counts-as e w)
+
+pub block-measured : {o o₁ o₂ : List ℕ} {s s₁ n m : ℕ} {d : Cursor} (x : Out (List ℕ)) → Counts [] [] 0 (answer x) n → Counts o o₁ s (vlq n) s₁ → Copies o₁ o₂ s₁ (copying.To m d) x
+    → Counts o o₂ s (sized (answer x)) m
+block-measured x k v w =
+    let (b, h, q) = w .is in
+    put-sized (answer x) k v (counts-as (sym (ap answer h)) q)
+
+no-bytes : (s : List ℕ) → length s ≡ 0 → s ≡ []
+no-bytes [] e = refl
+no-bytes (b ∷ s) e = absurd (omega arith)
+
+pub block-empty : {o o₁ : List ℕ} {s s₁ n : ℕ} (body : List ℕ) → Counts [] [] 0 body n → n ≡ 0 → Counts o o₁ s (vlq n) s₁ → Counts o o₁ s (sized body) s₁
+block-empty {o₁ = o₁} body k z v =
+    let a = k .after in
+    put-sized body k v (counts-as (sym (no-bytes body (omega arith))) (counts-none o₁ (omega (arith, v .after))))
+
+pub block-some : {n m p : ℕ} {B : Type 0} (x : Out (List ℕ)) → x ≡ refused m p → Counts [] [] 0 (answer x) n → ((n ≡ 0) → ⊥) → B
+block-some x e k some =
+    let a = k .after in
+    let b : length (answer x) ≡ 0 = ap (λ v. length (answer v)) e in
+    absurd (some (omega arith))
 
 pub block-none : {o o′ : List ℕ} {s r n p : ℕ} (x : Out (List ℕ)) → x ≡ refused n p → Counts o o′ s (vlq 0) r → Counts o o′ s (sized (answer x)) r
 unfolding sized

@@ -6,8 +6,9 @@ ghost use Rattle.machine.specs.Machine.{run, times};
 ghost use Rattle.cursor.specs.Rows.{Frame};
 ghost use Rattle.cursor.specs.Vlq.{sized};
 ghost use Rattle.title.specs.Description.{answer, unpackerText, identifierText, entryText, tableText, shape};
+ghost use Rattle.title.specs.Title.{Bytes};
 ghost use Rattle.room.specs.Counts.{Counts};
-ghost use Rattle.copies.specs.Told.{numberText, Copies};
+ghost use Rattle.copies.specs.Told.{numberText, Copies, PackedAs};
 use cursor::Cursor;
 use cursor::FilePlace;
 use cursor::Node;
@@ -97,23 +98,140 @@ fn copy_unpackers(out: &mut [u8], to: usize, file: &[u8], c: Cursor, count: u64)
     Copied::To(next, at)
 }
 
-// Puts the unpackers of a node row with their length. Those of a file that was read are never refused.
-pub fn put_unpackers(out: &mut [u8], to: usize, file: &[u8], row: Node) -> usize
-    requires { ⌜ length (now file) < 2 ^ 28 ⌝ }
-    ensures { λ r. ⌜ Counts (now (out .entry)) (now (out .exit)) to (sized (shape (now (file .entry)) row .unpackers)) r ⌝ }
+// Counts the bytes of the number at c, from `to` on. What is counted is as what is put, with no buffer.
+fn measure_number(to: usize, file: &[u8], c: Cursor) -> Copied
+    ensures { λ r. ⌜ ((κ : Frame) → Copies [] [] to r (run (numberText κ (now (file .entry))) (now (file .entry)) (c .at .0))) ⌝ }
 {
-    let at = FilePlace(row.unpackers as usize);
-    let count = row.unpackerCount;
-    let mut scratch = [0u8; 1];
-    match copy_unpackers(&mut scratch, 0, file, Cursor { at }, count) {
-        Copied::Refused(_, _) => room::put_number(out, to, 0),
-        Copied::To(n, _) => {
-            let a = room::put_number(out, to, n as u64);
-            match copy_unpackers(out, a, file, Cursor { at }, count) {
-                Copied::Refused(_, _) => a,
-                Copied::To(b, _) => b,
+    match c.number(file, FilePlace(file.len()), cursor::CUT_SHORT) {
+        Numbered::Refused(n, p) => Copied::Refused(n, p),
+        Numbered::Is(v, d) => Copied::To(room::on(to, room::vlq_size(v)), d),
+    }
+}
+
+// Counts the bytes of what names the unpacker at c, which is of that kind.
+fn measure_identifier(to: usize, file: &[u8], c: Cursor, kind: u64) -> Copied
+    requires { ⌜ length (now file) < 2 ^ 28 ⌝ }
+    ensures { λ r. ⌜ Copies [] [] to r (run (identifierText (now (file .entry)) kind) (now (file .entry)) (c .at .0)) ⌝ }
+{
+    let start = c.at;
+    let end = FilePlace(file.len());
+    if kind == 3 {
+        return match c.guid(file, end) {
+            Passed::Refused(n, p) => Copied::Refused(n, p),
+            Passed::To(d) => {
+                let after = d.at;
+                Copied::To(room::on(to, after.0 - start.0), d)
+            }
+        };
+    }
+    if kind == 1 {
+        return match c.manufacturer(file, end) {
+            Passed::Refused(n, p) => Copied::Refused(n, p),
+            Passed::To(d) => {
+                let after = d.at;
+                measure_number(room::on(to, after.0 - start.0), file, d)
+            }
+        };
+    }
+    measure_number(to, file, c)
+}
+
+// Counts the bytes of the unpacker at c.
+fn measure_unpacker(to: usize, file: &[u8], c: Cursor) -> Copied
+    requires { ⌜ length (now file) < 2 ^ 28 ⌝ }
+    ensures { λ r. ⌜ Copies [] [] to r (run (unpackerText (now (file .entry)) []) (now (file .entry)) (c .at .0)) ⌝ }
+{
+    match c.number(file, FilePlace(file.len()), cursor::CUT_SHORT) {
+        Numbered::Refused(n, p) => Copied::Refused(n, p),
+        Numbered::Is(kind, d) => {
+            let a = room::on(to, room::vlq_size(kind));
+            match measure_identifier(a, file, d, kind) {
+                Copied::Refused(n, p) => Copied::Refused(n, p),
+                Copied::To(b, e) => measure_number(b, file, e),
             }
         }
+    }
+}
+
+// Counts the bytes of the unpackers at c, of which there are so many.
+fn measure_unpackers(file: &[u8], c: Cursor, count: u64) -> Copied
+    requires { ⌜ length (now file) < 2 ^ 28 ⌝ }
+    ensures { λ r. ⌜ Copies [] [] 0 r (run (times count (unpackerText (now (file .entry))) []) (now (file .entry)) (c .at .0)) ⌝ }
+{
+    let mut size: usize = 0;
+    let mut at = c;
+    let mut left = count;
+    while 0 < left {
+        match measure_unpacker(size, file, at) {
+            Copied::Refused(n, p) => return Copied::Refused(n, p),
+            Copied::To(a, d) => {
+                size = a;
+                at = d;
+            }
+        }
+        left = left - 1;
+    }
+    Copied::To(size, at)
+}
+
+// Every element of a file is below 256. The compiler leaves nothing of this loop, which is here for its contract.
+pub fn know_bytes(file: &[u8])
+    ensures { λ _. ⌜ Bytes (now (file .entry)) ⌝ }
+{
+    let mut i: usize = 0;
+    while i < file.len() {
+        cursor::wide(file[i]);
+        i = i + 1;
+    }
+}
+
+// Unpackers as they are written: how many bytes they have, and whether the file has them just so.
+pub struct Packed {
+    pub size: usize,
+    pub same: bool,
+}
+
+// Measures the unpackers of a node row. Those of a file that was read are never refused. Where the file has no more bytes than their shortest form, it has that form.
+pub fn unpackers_of(file: &[u8], row: Node) -> Packed
+    requires { ⌜ length (now file) < 2 ^ 28 ⌝ }
+    ensures { λ r. ⌜ PackedAs (now (file .entry)) row r ⌝ }
+{
+    let at = FilePlace(row.unpackers as usize);
+    match measure_unpackers(file, Cursor { at }, row.unpackerCount) {
+        Copied::Refused(_, _) => Packed {
+            size: 0,
+            same: false,
+        },
+        Copied::To(size, d) => {
+            let end = d.at;
+            if end.0 - at.0 != size {
+                return Packed { size, same: false };
+            }
+            if file.len() < end.0 {
+                return Packed { size, same: false };
+            }
+            know_bytes(file);
+            Packed { size, same: true }
+        }
+    }
+}
+
+// Puts the unpackers of a node row, which were measured, with their length.
+pub fn put_unpackers(out: &mut [u8], to: usize, file: &[u8], row: Node, p: Packed) -> usize
+    requires { ⌜ (length (now file) < 2 ^ 28) × PackedAs (now file) row p ⌝ }
+    ensures { λ r. ⌜ Counts (now (out .entry)) (now (out .exit)) to (sized (shape (now (file .entry)) row .unpackers)) r ⌝ }
+{
+    let a = room::put_number(out, to, p.size as u64);
+    if p.size == 0 {
+        return a;
+    }
+    let at = FilePlace(row.unpackers as usize);
+    if p.same {
+        return room::put_part(out, a, file, at.0, p.size);
+    }
+    match copy_unpackers(out, a, file, Cursor { at }, row.unpackerCount) {
+        Copied::Refused(_, _) => a,
+        Copied::To(b, _) => b,
     }
 }
 

@@ -16,19 +16,24 @@ use Rattle.cursor.proofs.Lies.{joined-length}
 use Rattle.title.specs.Description.{Content, Shape, shape}
 use Rattle.title.specs.Text.{referenceText, itemsText, headerSize, lengthBytes, headerOf, framed, ownText, nodeText}
 use Rattle.title.proofs.Sizes.{framed-length, framed-most}
-use Rattle.room.specs.Counts.{Counts}
+use Rattle.title.proofs.Counted.{counts-number, counts-part, counts-sized}
+use Rattle.room.specs.Counts.{Counts, tooMany}
 use Rattle.room.proofs.Counting.{counts-as, counts-then, put-two, put-block, part-length}
 use Rattle.retitle.specs.Passes.{sizeStop, bodySize, restText, Framed}
 use Rattle.retitle.specs.declared.Frame.{Frame}
+use Rattle.retitle.proofs.Lengths.{few}
 
 -- ---- what follows the header
 
-pub body-most : (r : Node) → bodySize r ≤ r .extent
+body-most : (r : Node) → bodySize r ≤ r .extent
 body-most r = by (eqb (r .contained) 0)
   where
     by : (b : Bool) → cond b (r .extent) 0 ≤ r .extent
     by true = omega arith
     by false = omega arith
+
+pub body-inside : (f : List ℕ) (r : Node) → r .target + r .extent ≤ length f → {size : ℕ} → size ≡ bodySize r → r .target + size ≤ length f
+body-inside f r l e = omega (arith, body-most r)
 
 body-is : (f : List ℕ) (r : Node) → part f (r .target) (bodySize r) ≡ shape f r .body
 unfolding shape
@@ -51,6 +56,22 @@ pub own-put : (f : List ℕ) (r : Node) {size : ℕ} → size ≡ bodySize r →
     (referenceText (r .reference) (part f (r .target) size)) n → Counts o o′ s (ownText (shape f r)) n
 unfolding ownText shape
 own-put f r e p = counts-as (ap (referenceText (r .reference)) (ap (part f (r .target)) e ∙ body-is f r)) p
+
+-- ---- what is only counted
+
+-- a number's bytes, from the first on
+first-number : (v : ℕ) {n : ℕ} → n ≡ least (λ _. v) → Counts [] [] 0 (vlq v) n
+first-number v e = counts-number v e (omega (arith, few v e))
+
+module _ (f : List ℕ) (reference place size : ℕ) (inside : place + size ≤ length f) {a : ℕ} (ea : a ≡ least (λ _. reference)) where
+  pub uri-counted : reference ≡ 4 → {b c d : ℕ} → b ≡ least (λ _. size) → c ≡ min (a + b) tooMany → d ≡ min (c + size) tooMany → Counts [] [] 0 (referenceText reference (part f place size)) d
+  uri-counted uri eb ec ed = reference-uri f reference place size (first-number reference ea) inside uri (counts-number size eb ec) (counts-part f place size inside ed)
+
+  pub inline-counted : (reference ≡ 4 → ⊥) → {c : ℕ} → c ≡ min (a + size) tooMany → Counts [] [] 0 (referenceText reference (part f place size)) c
+  inline-counted other ec = reference-inline f reference place size (first-number reference ea) other (counts-part f place size inside ec)
+
+pub unpackers-counted : (s : List ℕ) {n a b : ℕ} → Counts [] [] 0 s n → a ≡ least (λ _. n) → b ≡ min (a + n) tooMany → Counts [] [] 0 (sized s) b
+unpackers-counted s {n} p ea eb = counts-sized s (omega (arith, p .after)) ea (omega (arith, few n ea)) eb
 
 -- ---- its two lengths
 
@@ -140,12 +161,6 @@ module _ (s : Shape) (cs : List Content) (n : ℕ) where
     ]
 
 -- ---- the whole, but for the nodes in it
-
-pub texts-few : (s : Shape) (cs : List Content) (n : ℕ) {m : ℕ} → m ≡ length (itemsText cs) → length (nodeText s cs n) + n < sizeStop → m ≤ sizeStop
-texts-few s cs n e l = omega (arith, texts-within s cs n)
-
-pub stopped-not : (s : Shape) (cs : List Content) (n : ℕ) {m : ℕ} → m ≡ length (itemsText cs) → length (nodeText s cs n) + n < sizeStop → m ≡ min (length (itemsText cs)) sizeStop
-stopped-not s cs n e l = omega (arith, texts-within s cs n)
 
 module _ (s : Shape) (cs : List Content) (n : ℕ) {r : Frame} (w : Framed s cs n r) (small : length (nodeText s cs n) + n < sizeStop) where
   within : r .size < sizeStop

@@ -1,6 +1,7 @@
 -- The two passes, row by row.
 -- Assumes nothing.
 use mathlib.Core.Path.{_≡_, refl, sym, ap, ap₂, _∙_, subst}
+use mathlib.Core.Bool.{Bool, false}
 use mathlib.Core.List.{List, [], _∷_}
 use Prim.Native.Nat.{ℕ, zero, suc, _+_, _-_, _≤_, _<_, min}
 use native.Mathlib.Decide.{decLe, decLt}
@@ -17,7 +18,9 @@ use Rattle.title.proofs.Nodes.{whole-length}
 use Rattle.room.specs.Counts.{Counts, tooMany}
 use Rattle.room.proofs.Counting.{Going, going-start, going-on, going-end, counts-as}
 use Rattle.contents.specs.Contents.{contentsFrom}
-use Rattle.retitle.specs.Passes.{sizeStop, sumOf, Task, firstItem, nodeOf, shapeOf, contentsOf, outerFrom, innerOf, Sound, Measured, Framed}
+use Rattle.copies.specs.Told.{PackedAs}
+use Rattle.copies.specs.declared.Packed.{Packed}
+use Rattle.retitle.specs.Passes.{sizeStop, sumOf, Task, firstItem, nodeOf, shapeOf, contentsOf, outerFrom, innerOf, Sound, Laid, Measured, Framed}
 use Rattle.retitle.specs.declared.Frame.{Frame}
 use Rattle.retitle.proofs.Rows.{first-on, first-start, rows-fit, outer-end, outer-on, text-on, inner-within}
 use Rattle.retitle.proofs.Nodes.{texts-within}
@@ -83,29 +86,33 @@ drop-set (x ∷ l) (suc k) a h = let e : suc k + 1 ≡ suc (k + 1) = omega arith
 -- ---- the first pass
 
 -- the rows from row i on are measured; `end` is the first item row of row i, and the stack's words from `top` on are the sizes of the nodes that no other of these holds
-pub record Measuring (x : Task) (i end top : ℕ) (sizes metadata inner : List ℕ) : Type 0 where
+pub record Measuring (x : Task) (i end top : ℕ) (sizes metadata packed : List ℕ) (same : List Bool) (headers lengths : List ℕ) : Type 0 where
   pub within : i ≤ x .count
   pub first : end ≡ firstItem (x .nodes) i
   pub room : (top ≤ mostNodes) × (mostNodes ≤ top + (x .count - i))
-  pub long : (length sizes ≡ mostNodes) × (length metadata ≡ mostNodes) × (length inner ≡ mostNodes)
+  pub stacked : length sizes ≡ mostNodes
+  pub long : (length metadata ≡ mostNodes) × (length packed ≡ mostNodes) × (length same ≡ mostNodes) × (length headers ≡ mostNodes) × (length lengths ≡ mostNodes)
   pub stack : drop top sizes ≡ stops (outerFrom x i)
-  pub measured : Measured x i metadata inner
+  pub measured : Measured x i metadata packed same headers lengths
 
 gone : (l : List ℕ) {n : ℕ} → length l ≡ n → drop n l ≡ []
 gone l e = rw e at (drop-length l)
 
-pub measuring-start : {x : Task} → Sound x → {sizes metadata inner : List ℕ} → length sizes ≡ mostNodes → length metadata ≡ mostNodes →
-    length inner ≡ mostNodes → Measuring x (x .count) (x .total) mostNodes sizes metadata inner
-measuring-start s {sizes} a b c = record {
+pub measuring-start : {x : Task} → Sound x → {sizes metadata packed : List ℕ} {same : List Bool} {headers lengths : List ℕ} → length sizes ≡ mostNodes
+    → (length metadata ≡ mostNodes) × (length packed ≡ mostNodes) × (length same ≡ mostNodes) × (length headers ≡ mostNodes) × (length lengths ≡ mostNodes)
+    → Measuring x (x .count) (x .total) mostNodes sizes metadata packed same headers lengths
+measuring-start s {sizes} a b = record {
   within = omega arith;
   first = sym (s .all-items);
   room = (omega arith, omega arith);
-  long = (a, b, c);
+  stacked = a;
+  long = b;
   stack = gone sizes a ∙ sym (ap stops (outer-end s));
-  measured = record { texts = λ j l m. absurd (omega arith); inners = λ j l m. absurd (omega arith) };
+  measured = record { laid = λ j l m. absurd (omega arith) };
 }
 
-module _ {x : Task} (s : Sound x) {i end top : ℕ} {sizes metadata inner : List ℕ} (w : Measuring x i end top sizes metadata inner) (some : 0 < i) where
+module _ {x : Task} (s : Sound x) {i end top : ℕ} {sizes metadata packed : List ℕ} {same : List Bool} {headers lengths : List ℕ}
+    (w : Measuring x i end top sizes metadata packed same headers lengths) (some : 0 < i) where
   -- the row before row i
   abbrev j : ℕ
   j = i - 1
@@ -131,7 +138,7 @@ module _ {x : Task} (s : Sound x) {i end top : ℕ} {sizes metadata inner : List
   -- the stack has the nodes that this one holds, and room for one more
   stack-has : top + contained ≤ mostNodes
   stack-has =
-      let l = w .long .0 in
+      let l = w .stacked in
       let r = w .room .0 in
       omega (arith, length-drop top sizes, ap length stack-is, stops-length below, s .nodes-follow j here)
 
@@ -145,10 +152,11 @@ module _ {x : Task} (s : Sound x) {i end top : ℕ} {sizes metadata inner : List
       (omega (arith, s .items-inside .0), λ k l. s .items-inside .1 k (omega arith))
 
   -- what is known of the row
-  module _ {m n : ℕ} {f : Frame} (em : m ≡ min
+  module _ {m n : ℕ} {p : Packed} {f : Frame} (em : m ≡ min
       (length (itemsText (contentsFrom (x .file) (x .row) (x .title) (x .items) (end - nodeOf x j .rows) (end - (end - nodeOf x j .rows)))))
       sizeStop)
       (en : n ≡ min (sumOf (part sizes top (top + contained - top))) sizeStop)
+      (ep : PackedAs (x .file) (nodeOf x j) p)
       (ef : (cs : List Content) → m ≡ min (length (itemsText cs)) sizeStop → Framed (shapeOf x j) cs n f) where
     texts-are : m ≡ min (length (itemsText (contentsOf x j))) sizeStop
     texts-are =
@@ -173,34 +181,64 @@ module _ {x : Task} (s : Sound x) {i end top : ℕ} {sizes metadata inner : List
           | no l ↦ omega arith
         ]
 
-    measuring-on : Measuring x j (end - nodeOf x j .rows) (top + contained - 1) (set sizes (top + contained - 1) (f .size)) (set metadata j m) (set inner j n)
+    laid-here : Laid x j m (p .size) (p .same) (f .header) (f .size)
+    laid-here = record { texts = texts-are; unpackers = ep; framed = subst (λ v. Framed (shapeOf x j) (contentsOf x j) v f) inner-is (ef (contentsOf x j) texts-are) }
+
+    here-in : {n : ℕ} → n ≡ mostNodes → j < n
+    here-in e = omega (arith, here, s .few)
+
+    laid-on : (k : ℕ) → j ≤ k → k < x .count → Laid x k (getD (set metadata j m) k 0) (getD (set packed j (p .size)) k 0) (getD (set same j (p .same)) k false)
+        (getD (set headers j (f .header)) k 0) (getD (set lengths j (f .size)) k 0)
+    laid-on k a b = elim (decLe i k) [
+      | yes c ↦
+          let o : (k ≡ j) → ⊥ = λ z. omega arith in
+          rw (
+            getD-set-other metadata j k m 0 o,
+            getD-set-other packed j k (p .size) 0 o,
+            getD-set-other same j k (p .same) false o,
+            getD-set-other headers j k (f .header) 0 o,
+            getD-set-other lengths j k (f .size) 0 o,
+          ) (w .measured .laid k c b)
+      | no c ↦
+          let z : k ≡ j = omega arith in
+          let l = w .long in
+          rw z (rw (
+            getD-set-same metadata j m 0 (here-in (l .0)),
+            getD-set-same packed j (p .size) 0 (here-in (l .1)),
+            getD-set-same same j (p .same) false (here-in (l .2)),
+            getD-set-same headers j (f .header) 0 (here-in (l .3)),
+            getD-set-same lengths j (f .size) 0 (here-in (l .4)),
+          ) laid-here)
+    ]
+
+    measuring-on : Measuring x j (end - nodeOf x j .rows) (top + contained - 1) (set sizes (top + contained - 1) (f .size)) (set metadata j m) (set packed j (p .size))
+        (set same j (p .same)) (set headers j (f .header)) (set lengths j (f .size))
     measuring-on =
         let e = first-is in
         let l = w .long in
+        let t = w .stacked in
         let h = stack-has in
         let o = stack-room in
         let r = w .room .1 in
-        let p : top + contained - 1 + 1 ≡ top + contained = omega arith in
+        let q : top + contained - 1 + 1 ≡ top + contained = omega arith in
         record {
           within = omega (arith, here);
           first = omega arith;
           room = (omega arith, omega arith);
-          long = (length-set sizes (top + contained - 1) (f .size) ∙ l .0, length-set metadata j m ∙ l .1, length-set inner j n ∙ l .2);
+          stacked = length-set sizes (top + contained - 1) (f .size) ∙ t;
+          long = (
+            length-set metadata j m ∙ l .0,
+            length-set packed j (p .size) ∙ l .1,
+            length-set same j (p .same) ∙ l .2,
+            length-set headers j (f .header) ∙ l .3,
+            length-set lengths j (f .size) ∙ l .4,
+          );
           stack =
               drop-set sizes (top + contained - 1) (f .size) (omega arith)
               ∙ ap₂ (λ (v : ℕ) (vs : List ℕ). v ∷ vs) size-is
-              (ap (λ k. drop k sizes) p ∙ sym (drop-drop contained top sizes) ∙ ap (drop contained) stack-is ∙ drop-stops contained below)
+              (ap (λ k. drop k sizes) q ∙ sym (drop-drop contained top sizes) ∙ ap (drop contained) stack-is ∙ drop-stops contained below)
               ∙ sym (ap stops (outer-on s j here));
-          measured = record {
-            texts = λ k a b. elim (decLe i k) [
-              | yes c ↦ getD-set-other metadata j k m 0 (λ z. omega arith) ∙ w .measured .texts k c b
-              | no c ↦ let z : k ≡ j = omega arith in rw z (getD-set-same metadata j m 0 (omega (arith, here, s .few)) ∙ texts-are)
-            ];
-            inners = λ k a b. elim (decLe i k) [
-              | yes c ↦ getD-set-other inner j k n 0 (λ z. omega arith) ∙ w .measured .inners k c b
-              | no c ↦ let z : k ≡ j = omega arith in rw z (getD-set-same inner j n 0 (omega (arith, here, s .few)) ∙ inner-is)
-            ];
-          };
+          measured = record { laid = laid-on };
         }
 
   -- by the row that was read
@@ -214,24 +252,26 @@ module _ {x : Task} (s : Sound x) {i end top : ℕ} {sizes metadata inner : List
     pub inside-row : r .target + r .extent ≤ length (x .file)
     inside-row = rw er (s .bodies-inside j here)
 
-    pub measuring-row : {m n : ℕ} {f : Frame} → m ≡ min
+    pub measuring-row : {m n : ℕ} {p : Packed} {f : Frame} → m ≡ min
         (length (itemsText (contentsFrom (x .file) (x .row) (x .title) (x .items) (end - r .rows) (end - (end - r .rows))))) sizeStop → n ≡ min
-        (sumOf (part sizes top (top + r .contained - top))) sizeStop
+        (sumOf (part sizes top (top + r .contained - top))) sizeStop → PackedAs (x .file) r p
         → ((cs : List Content) → m ≡ min (length (itemsText cs)) sizeStop → Framed (shape (x .file) r) cs n f) → Measuring x j (end - r .rows)
-        (top + r .contained - 1) (set sizes (top + r .contained - 1) (f .size)) (set metadata j m) (set inner j n)
-    measuring-row em en ef = rw er (measuring-on (rw er at em) (rw er at en) (rw er at ef))
+        (top + r .contained - 1) (set sizes (top + r .contained - 1) (f .size)) (set metadata j m) (set packed j (p .size)) (set same j (p .same))
+        (set headers j (f .header)) (set lengths j (f .size))
+    measuring-row em en ep ef = rw er (measuring-on (rw er at em) (rw er at en) (rw er at ep) (rw er at ef))
 
 -- all rows are measured
-module _ {x : Task} {i end top : ℕ} {sizes metadata inner : List ℕ} (w : Measuring x i end top sizes metadata inner) (none : i ≤ 0) where
+module _ {x : Task} {i end top : ℕ} {sizes metadata packed : List ℕ} {same : List Bool} {headers lengths : List ℕ}
+    (w : Measuring x i end top sizes metadata packed same headers lengths) (none : i ≤ 0) where
   at-first : i ≡ 0
   at-first = omega arith
 
-  pub measured-all : Measured x 0 metadata inner
-  measured-all = subst (λ k. Measured x k metadata inner) at-first (w .measured)
+  pub measured-all : Measured x 0 metadata packed same headers lengths
+  measured-all = subst (λ k. Measured x k metadata packed same headers lengths) at-first (w .measured)
 
   pub tree-size : {r : ℕ} → r ≡ min (sumOf (part sizes top (mostNodes - top))) sizeStop → r ≡ min (length (joined (outerFrom x 0))) sizeStop
   tree-size e =
-      let l = w .long .0 in
+      let l = w .stacked in
       let a : part sizes top (mostNodes - top) ≡ stops (outerFrom x 0) = take-all (mostNodes - top) (drop top sizes)
       (omega (arith, length-drop top sizes)) ∙ w .stack ∙ ap (λ k. stops (outerFrom x k)) at-first in
       e ∙ ap (λ v. min (sumOf v) sizeStop) a ∙ sum-stops (outerFrom x 0)
@@ -248,7 +288,7 @@ pub putting-start : {x : Task} (o : List ℕ) {to : ℕ} → to ≤ tooMany → 
 putting-start {x} o l = record { within = omega arith; first-is = sym (first-start (x .nodes)); going = going-start o l refl }
 
 module _ {x : Task} (s : Sound x) {o o′ : List ℕ} {to next first i : ℕ} (w : Putting x o o′ to next first i) (l : i < x .count)
-    {metadata inner : List ℕ} (measured : Measured x 0 metadata inner) (small : length (joined (outerFrom x 0)) < sizeStop) where
+    {m u : ℕ} {b : Bool} {h z : ℕ} (laid : Laid x i m u b h z) (small : length (joined (outerFrom x 0)) < sizeStop) where
   -- the contents by the code's numbers
   abbrev contents : List Content
   contents = contentsFrom (x .file) (x .row) (x .title) (x .items) first (first + nodeOf x i .rows - first)
@@ -273,24 +313,27 @@ module _ {x : Task} (s : Sound x) {o o′ : List ℕ} {to next first i : ℕ} (w
         inner-within s i l,
       )
 
-  inner-are : getD inner i 0 ≡ innerOf x i
-  inner-are = let e = measured .inners i (omega arith) l in let k = node-small in omega arith
-
-  texts-here : getD metadata i 0 ≡ length (itemsText contents)
+  texts-here : m ≡ length (itemsText contents)
   texts-here =
-      let e = measured .texts i (omega arith) l in
+      let e = laid .texts in
       let k = node-small in
-      let m = texts-within (shapeOf x i) (contentsOf x i) (innerOf x i) in
+      let t = texts-within (shapeOf x i) (contentsOf x i) (innerOf x i) in
       rw contents-are (omega arith)
 
-  small-here : length (nodeText (shapeOf x i) contents (getD inner i 0)) + getD inner i 0 < sizeStop
-  small-here = rw (contents-are, inner-are) node-small
+  framed-here : Framed (shapeOf x i) contents (innerOf x i) (record { header = h; size = z })
+  framed-here =
+      let k = node-small in
+      let e : min (innerOf x i) sizeStop ≡ innerOf x i = omega arith in
+      rw contents-are (rw e at (laid .framed))
 
-  putting-on : {o″ : List ℕ} {r : ℕ} → Counts o′ o″ next (nodeText (shapeOf x i) contents (getD inner i 0)) r → Putting x o o″ to r (first + nodeOf x i .rows) (i + 1)
+  small-here : length (nodeText (shapeOf x i) contents (innerOf x i)) + innerOf x i < sizeStop
+  small-here = rw contents-are node-small
+
+  putting-on : {o″ : List ℕ} {r : ℕ} → Counts o′ o″ next (nodeText (shapeOf x i) contents (innerOf x i)) r → Putting x o o″ to r (first + nodeOf x i .rows) (i + 1)
   putting-on p = record {
     within = omega arith;
     first-is = ap (λ n. n + nodeOf x i .rows) (w .first-is) ∙ sym (first-on (x .nodes) i);
-    going = going-on (text-on s i l) (w .going) (counts-as (ap₂ (nodeText (shapeOf x i)) contents-are inner-are) p);
+    going = going-on (text-on s i l) (w .going) (counts-as (ap (λ v. nodeText (shapeOf x i) v (innerOf x i)) contents-are) p);
   }
 
 -- by the row that was read
@@ -304,18 +347,19 @@ module _ {x : Task} (s : Sound x) {o o′ : List ℕ} {to next first i : ℕ} (w
   pub items-room : ItemRows (length (x .file)) (first + r .rows) (x .items)
   items-room = let e = rows-room in (omega (arith, s .items-inside .0), λ k m. s .items-inside .1 k (omega arith))
 
-  module _ {metadata inner : List ℕ} (measured : Measured x 0 metadata inner) (small : length (joined (outerFrom x 0)) < sizeStop) where
-    pub texts-row : getD metadata i 0 ≡ length (itemsText (contentsFrom (x .file) (x .row) (x .title) (x .items) first (first + r .rows - first)))
-    texts-row = rw er (texts-here s w l measured small)
+  module _ {m u : ℕ} {b : Bool} {h z : ℕ} (laid : Laid x i m u b h z) (small : length (joined (outerFrom x 0)) < sizeStop) where
+    pub texts-row : m ≡ length (itemsText (contentsFrom (x .file) (x .row) (x .title) (x .items) first (first + r .rows - first)))
+    texts-row = rw er (texts-here s w l laid small)
 
-    pub small-row : length (nodeText (shape (x .file) r) (contentsFrom (x .file) (x .row) (x .title) (x .items) first (first + r .rows - first))
-        (getD inner i 0)) + getD inner i 0 < sizeStop
-    small-row = rw er (small-here s w l measured small)
+    pub packed-row : PackedAs (x .file) r (record { size = u; same = b })
+    packed-row = rw er (laid .unpackers)
 
-    pub putting-row : {o″ : List ℕ} {q : ℕ} → Counts o′ o″ next
-        (nodeText (shape (x .file) r) (contentsFrom (x .file) (x .row) (x .title) (x .items) first (first + r .rows - first)) (getD inner i 0))
-        q → Putting x o o″ to q (first + r .rows) (i + 1)
-    putting-row p = rw er (putting-on s w l measured small (rw er at p))
+    pub putting-row : {o″ : List ℕ} {q : ℕ}
+        → ((inner : ℕ) → Framed (shape (x .file) r) (contentsFrom (x .file) (x .row) (x .title) (x .items) first (first + r .rows - first)) inner (record { header = h; size = z })
+        → length (nodeText (shape (x .file) r) (contentsFrom (x .file) (x .row) (x .title) (x .items) first (first + r .rows - first)) inner) + inner < sizeStop
+        → Counts o′ o″ next (nodeText (shape (x .file) r) (contentsFrom (x .file) (x .row) (x .title) (x .items) first (first + r .rows - first)) inner) q)
+        → Putting x o o″ to q (first + r .rows) (i + 1)
+    putting-row p = rw er (putting-on s w l laid small ((rw er at p) (innerOf x i) (framed-here s w l laid small) (small-here s w l laid small)))
 
 pub putting-end : {x : Task} (s : Sound x) {o o′ : List ℕ} {to next first i : ℕ} → Putting x o o′ to next first i → x .count ≤ i → Counts o o′ to (joined (outerFrom x 0)) next
 putting-end {x} s {i = i} w l =

@@ -1,7 +1,7 @@
 -- What the code works on: a file, its tables, and the title; nodes and contents by their rows, and the bytes of the nodes from a row on.
 -- Assumes nothing.
 use mathlib.Core.Path.{_≡_}
-use mathlib.Core.Bool.{cond}
+use mathlib.Core.Bool.{Bool, false, cond}
 use mathlib.Core.List.{List, [], _∷_, map}
 use Prim.Native.Nat.{ℕ, zero, suc, _+_, _-_, _*_, _^_, _≤_, _<_, min}
 use lib.Dec.{eqb}
@@ -13,6 +13,7 @@ use Rattle.tree.specs.Rows.{nodeFrom, nodesFrom, ItemRows}
 use Rattle.title.specs.Description.{Content, Shape, shape}
 use Rattle.title.specs.Text.{itemsText, headerOf, ownText, nodeText, outer}
 use Rattle.contents.specs.Contents.{contentsFrom}
+use Rattle.copies.specs.Told.{PackedAs}
 use Rattle.retitle.specs.declared.Frame.{Frame}
 
 -- no file has so many bytes: a size that is measured stops there
@@ -90,7 +91,12 @@ pub record Sound (x : Task) : Type 0 where
   pub all-items : firstItem (x .nodes) (x .count) ≡ x .total
   pub nodes-follow : (i : ℕ) → i < x .count → nodeOf x i .contained ≤ length (outerFrom x (i + 1))
 
--- the first pass was at the rows from row i on: the bytes of a node's contents, and of the nodes that it holds, each stopped
-pub record Measured (x : Task) (i : ℕ) (metadata inner : List ℕ) : Type 0 where
-  pub texts : (j : ℕ) → i ≤ j → j < x .count → getD metadata j 0 ≡ min (length (itemsText (contentsOf x j))) sizeStop
-  pub inners : (j : ℕ) → i ≤ j → j < x .count → getD inner j 0 ≡ min (innerOf x j) sizeStop
+-- what the first pass found of row j: the bytes of its contents, stopped; of its unpackers; its two lengths
+pub record Laid (x : Task) (j metadata packed : ℕ) (same : Bool) (header size : ℕ) : Type 0 where
+  pub texts : metadata ≡ min (length (itemsText (contentsOf x j))) sizeStop
+  pub unpackers : PackedAs (x .file) (nodeOf x j) (record { size = packed; same = same })
+  pub framed : Framed (shapeOf x j) (contentsOf x j) (min (innerOf x j) sizeStop) (record { header = header; size = size })
+
+-- it was at the rows from row i on
+pub record Measured (x : Task) (i : ℕ) (metadata packed : List ℕ) (same : List Bool) (headers lengths : List ℕ) : Type 0 where
+  pub laid : (j : ℕ) → i ≤ j → j < x .count → Laid x j (getD metadata j 0) (getD packed j 0) (getD same j false) (getD headers j 0) (getD lengths j 0)

@@ -2,8 +2,8 @@
 // from the first row to the last.
 ghost use mathlib.Core.Path.{_≡_};
 ghost use mathlib.Core.Bool.{true, false};
-ghost use mathlib.Core.List.{List};
-ghost use Prim.Native.Nat.{_≤_, _<_, _^_, _*_, _+_, _-_, min};
+ghost use mathlib.Core.List.{List, []};
+ghost use Prim.Native.Nat.{ℕ, _≤_, _<_, _^_, _*_, _+_, _-_, min};
 ghost use lib.ListN.{length, take, drop};
 ghost use Rattle.machine.specs.Machine.{run};
 ghost use Rattle.cursor.specs.Vlq.{part, least, joined, sized};
@@ -20,9 +20,11 @@ ghost use Rattle.title.specs.Description.{Content, answer, tableText, openingSi
 ghost use Rattle.title.specs.Text.{itemsText, referenceText, nodeText, headerSize, lengthBytes, startWith, lastBytes, startAt, fileBytes, fileOf};
 ghost use Rattle.title.specs.Title.{elsewhere, isNoTitle, titledFile, correctTitle};
 ghost use Rattle.contents.specs.Contents.{contentsFrom};
+ghost use Rattle.copies.specs.Told.{PackedAs};
 ghost use Rattle.retitle.specs.Passes.{sizeStop, bodySize, Framed, sumOf, task, Sound, Measured, outerFrom};
 ghost use Rattle.retitle.specs.Stands.{Stands, refusalOf};
 ghost use Rattle.retitle.specs.Told.{Fills, Wrote};
+use copies::Packed;
 use cursor::FilePlace;
 use cursor::Node;
 use header::Extent;
@@ -138,22 +140,25 @@ fn put_reference(
     room::put_part(out, a, file, place.0, size)
 }
 
-// NodeHeaderLength and NodeLength of a node row, whose item rows have `metadata` bytes, and whose nodes have `inner`.
-fn frame_of(file: &[u8], row: Node, metadata: usize, inner: usize) -> Frame
-    requires { ⌜ (row .target + row .extent ≤ length (now file)) × (length (now file) < 2 ^ 28) × (metadata ≤ sizeStop) × (inner ≤ sizeStop) ⌝ }
-    ensures { λ r. ⌜ ((cs : List Content) → metadata ≡ min (length (itemsText cs)) sizeStop → Framed (shape (now (file .entry)) row) cs inner r) ⌝ }
+// Counts the bytes of ReferenceTypeID, and of a URI or inline data of so many bytes.
+fn measure_reference(reference: u64, size: usize) -> usize
+    ensures { λ r. ⌜ ((f : List ℕ) (place : ℕ) → place + size ≤ length f → Counts [] [] 0 (referenceText reference (part f place size)) r) ⌝ }
 {
-    let mut scratch = [0u8; 1];
-    let unpackers = stopped(copies::put_unpackers(&mut scratch, 0, file, row));
+    let a = room::vlq_size(reference);
+    if reference == 4 {
+        return room::on(room::on(a, room::vlq_size(size as u64)), size);
+    }
+    room::on(a, size)
+}
+
+// NodeHeaderLength and NodeLength of a node row, whose item rows have `metadata` bytes, whose unpackers have `packed`, and whose nodes have `inner`.
+fn frame_of(row: Node, metadata: usize, packed: usize, inner: usize) -> Frame
+    requires { ⌜ (metadata ≤ sizeStop) × (inner ≤ sizeStop) ⌝ }
+    ensures { λ r. ⌜ ((f : List ℕ) (cs : List Content) → row .target + row .extent ≤ length f → Counts [] [] 0 (shape f row .unpackers) packed → metadata ≡ min (length (itemsText cs)) sizeStop → Framed (shape f row) cs inner r) ⌝ }
+{
+    let unpackers = stopped(room::on(room::vlq_size(packed as u64), packed));
     let body = body_size(row) as usize;
-    let own = stopped(put_reference(
-        &mut scratch,
-        0,
-        file,
-        row.reference,
-        FilePlace(row.target as usize),
-        body,
-    ));
+    let own = stopped(measure_reference(row.reference, body));
     let fixed = room::vlq_size(row.contained)
         + room::vlq_size(metadata as u64)
         + metadata
@@ -164,7 +169,7 @@ fn frame_of(file: &[u8], row: Node, metadata: usize, inner: usize) -> Frame
     Frame { header, size }
 }
 
-// Puts a node row, but for the nodes that it holds, which have `inner` bytes; its item rows are those from row `first` on, up to row `end`, and have `metadata` bytes.
+// Puts a node row, but for the nodes that it holds; its item rows are those from row `first` on, up to row `end`. All its lengths were measured.
 fn put_node(
     out: &mut [u8],
     to: usize,
@@ -176,19 +181,19 @@ fn put_node(
     row: usize,
     title: &[u8],
     metadata: usize,
-    inner: usize,
+    packed: Packed,
+    frame: Frame,
 ) -> usize
     requires rows { ⌜ (node .target + node .extent ≤ length (now file)) × (length (now file) < 2 ^ 28) × (first ≤ end) × ItemRows (length (now file)) end (now items) ⌝ }
-    requires sizes { ⌜ (metadata ≡ length (itemsText (contentsFrom (now file) row (now title) (now items) first (end - first)))) × (length (nodeText (shape (now file) node) (contentsFrom (now file) row (now title) (now items) first (end - first)) inner) + inner < sizeStop) ⌝ }
-    ensures { λ r. ⌜ Counts (now (out .entry)) (now (out .exit)) to (nodeText (shape (now (file .entry)) node) (contentsFrom (now (file .entry)) row (now (title .entry)) (now (items .entry)) first (end - first)) inner) r ⌝ }
+    requires sizes { ⌜ (metadata ≡ length (itemsText (contentsFrom (now file) row (now title) (now items) first (end - first)))) × PackedAs (now file) node packed ⌝ }
+    ensures { λ r. ⌜ ((inner : ℕ) → Framed (shape (now (file .entry)) node) (contentsFrom (now (file .entry)) row (now (title .entry)) (now (items .entry)) first (end - first)) inner frame → length (nodeText (shape (now (file .entry)) node) (contentsFrom (now (file .entry)) row (now (title .entry)) (now (items .entry)) first (end - first)) inner) + inner < sizeStop → Counts (now (out .entry)) (now (out .exit)) to (nodeText (shape (now (file .entry)) node) (contentsFrom (now (file .entry)) row (now (title .entry)) (now (items .entry)) first (end - first)) inner) r) ⌝ }
 {
-    let f = frame_of(file, node, metadata, inner);
-    let a = room::put_number(out, to, f.size as u64);
+    let a = room::put_number(out, to, frame.size as u64);
     let b = room::put_number(out, a, node.contained);
-    let c = room::put_number(out, b, f.header as u64);
+    let c = room::put_number(out, b, frame.header as u64);
     let d = room::put_number(out, c, metadata as u64);
     let e = contents::put_items(out, d, file, items, first, end, row, title);
-    let g = copies::put_unpackers(out, e, file, node);
+    let g = copies::put_unpackers(out, e, file, node, packed);
     let body = body_size(node) as usize;
     put_reference(
         out,
@@ -198,22 +203,6 @@ fn put_node(
         FilePlace(node.target as usize),
         body,
     )
-}
-
-// The bytes of the item rows from row `first` on, up to row `end`.
-fn items_size(
-    file: &[u8],
-    items: &[u64],
-    first: usize,
-    end: usize,
-    row: usize,
-    title: &[u8],
-) -> usize
-    requires { ⌜ (first ≤ end) × ItemRows (length (now file)) end (now items) ⌝ }
-    ensures { λ r. ⌜ r ≡ min (length (itemsText (contentsFrom (now (file .entry)) row (now (title .entry)) (now (items .entry)) first (end - first)))) sizeStop ⌝ }
-{
-    let mut scratch = [0u8; 1];
-    stopped(contents::put_items(&mut scratch, 0, file, items, first, end, row, title))
 }
 
 // The sum of the words from word `from` on, up to word `end`.
@@ -230,7 +219,7 @@ fn sum(words: &[usize], from: usize, end: usize) -> usize
     r
 }
 
-// The first pass, from the last row to the first: for each node the bytes of its item rows, into `metadata`, and of the nodes that it holds, into `inner`.
+// The first pass, from the last row to the first: for each node the bytes of its item rows, into `metadata`, of its unpackers, into `packed` and `same`, and its two lengths.
 // The answer: the bytes of the tree. `sizes` is a stack, which grows down from its end: the sizes of the nodes from row i on that no other of these holds.
 fn measure_tree(
     file: &[u8],
@@ -241,10 +230,14 @@ fn measure_tree(
     row: usize,
     title: &[u8],
     metadata: &mut [usize],
-    inner: &mut [usize],
+    packed: &mut [usize],
+    same: &mut [bool],
+    headers: &mut [usize],
+    lengths: &mut [usize],
 ) -> usize
-    requires { ⌜ Sound (task (now file) (now nodes) (now items) count total row (now title)) × (length (now metadata) ≡ mostNodes) × (length (now inner) ≡ mostNodes) ⌝ }
-    ensures measured { λ _. ⌜ Measured (task (now (file .entry)) (now (nodes .entry)) (now (items .entry)) count total row (now (title .entry))) 0 (now (metadata .exit)) (now (inner .exit)) ⌝ }
+    requires task { ⌜ Sound (task (now file) (now nodes) (now items) count total row (now title)) ⌝ }
+    requires room { ⌜ (length (now metadata) ≡ mostNodes) × (length (now packed) ≡ mostNodes) × (length (now same) ≡ mostNodes) × (length (now headers) ≡ mostNodes) × (length (now lengths) ≡ mostNodes) ⌝ }
+    ensures measured { λ _. ⌜ Measured (task (now (file .entry)) (now (nodes .entry)) (now (items .entry)) count total row (now (title .entry))) 0 (now (metadata .exit)) (now (packed .exit)) (now (same .exit)) (now (headers .exit)) (now (lengths .exit)) ⌝ }
     ensures tree { λ r. ⌜ r ≡ min (length (joined (outerFrom (task (now (file .entry)) (now (nodes .entry)) (now (items .entry)) count total row (now (title .entry))) 0))) sizeStop ⌝ }
 {
     let mut sizes = [0usize; cursor::MOST_NODES];
@@ -256,11 +249,15 @@ fn measure_tree(
         let node = tree::node_at(nodes, i);
         let first = end - node.rows as usize;
         let below = top + node.contained as usize;
-        let m = items_size(file, items, first, end, row, title);
+        let m = stopped(contents::items_size(items, first, end, row, title.len()));
+        let p = copies::unpackers_of(file, node);
         let n = sum(&sizes, top, below);
-        let f = frame_of(file, node, m, n);
+        let f = frame_of(node, m, p.size, n);
         metadata[i] = m;
-        inner[i] = n;
+        packed[i] = p.size;
+        same[i] = p.same;
+        headers[i] = f.header;
+        lengths[i] = f.size;
         top = below - 1;
         sizes[top] = f.size;
         end = first;
@@ -280,9 +277,13 @@ fn put_tree(
     row: usize,
     title: &[u8],
     metadata: &[usize],
-    inner: &[usize],
+    packed: &[usize],
+    same: &[bool],
+    headers: &[usize],
+    lengths: &[usize],
 ) -> usize
-    requires rows { ⌜ Sound (task (now file) (now nodes) (now items) count total row (now title)) × Measured (task (now file) (now nodes) (now items) count total row (now title)) 0 (now metadata) (now inner) × (length (now metadata) ≡ mostNodes) × (length (now inner) ≡ mostNodes) ⌝ }
+    requires rows { ⌜ Sound (task (now file) (now nodes) (now items) count total row (now title)) × Measured (task (now file) (now nodes) (now items) count total row (now title)) 0 (now metadata) (now packed) (now same) (now headers) (now lengths) ⌝ }
+    requires room { ⌜ (length (now metadata) ≡ mostNodes) × (length (now packed) ≡ mostNodes) × (length (now same) ≡ mostNodes) × (length (now headers) ≡ mostNodes) × (length (now lengths) ≡ mostNodes) ⌝ }
     requires small { ⌜ length (joined (outerFrom (task (now file) (now nodes) (now items) count total row (now title)) 0)) < sizeStop ⌝ }
     ensures { λ r. ⌜ Counts (now (out .entry)) (now (out .exit)) to (joined (outerFrom (task (now (file .entry)) (now (nodes .entry)) (now (items .entry)) count total row (now (title .entry))) 0)) r ⌝ }
 {
@@ -292,6 +293,14 @@ fn put_tree(
     while i < count {
         let node = tree::node_at(nodes, i);
         let end = first + node.rows as usize;
+        let p = Packed {
+            size: packed[i],
+            same: same[i],
+        };
+        let f = Frame {
+            header: headers[i],
+            size: lengths[i],
+        };
         next = put_node(
             out,
             next,
@@ -303,7 +312,8 @@ fn put_tree(
             row,
             title,
             metadata[i],
-            inner[i],
+            p,
+            f,
         );
         first = end;
         i = i + 1;
@@ -329,7 +339,10 @@ fn put_file(
     ensures { λ r. ⌜ Fills (now (out .entry)) (now (out .exit)) (fileOf (take (opening .0) (now (file .entry))) (sized (answer (run (tableText (now (file .entry))) (now (file .entry)) (opening .0)))) (part (now (file .entry)) (extent .end .0) (extent .start .0 - extent .end .0)) (joined (outerFrom (task (now (file .entry)) (now (nodes .entry)) (now (items .entry)) count total row (now (title .entry))) 0)) (drop (extent .last .0 + 1) (now (file .entry)))) r ⌝ }
 {
     let mut metadata = [0usize; cursor::MOST_NODES];
-    let mut inner = [0usize; cursor::MOST_NODES];
+    let mut packed = [0usize; cursor::MOST_NODES];
+    let mut same = [false; cursor::MOST_NODES];
+    let mut headers = [0usize; cursor::MOST_NODES];
+    let mut lengths = [0usize; cursor::MOST_NODES];
     let tree = measure_tree(
         file,
         nodes,
@@ -339,7 +352,10 @@ fn put_file(
         row,
         title,
         &mut metadata,
-        &mut inner,
+        &mut packed,
+        &mut same,
+        &mut headers,
+        &mut lengths,
     );
     if tree == SIZE_STOP {
         return tree;
@@ -372,7 +388,10 @@ fn put_file(
         row,
         title,
         &metadata,
-        &inner,
+        &packed,
+        &same,
+        &headers,
+        &lengths,
     );
     room::put_part(out, g, file, rest.0, after)
 }

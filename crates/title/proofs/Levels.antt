@@ -118,6 +118,32 @@ module _ {f : List ℕ} (row : Node) (r : Shape) (cs : List Content) {at q : ℕ
       (covers-on (w .contained-covers)
       (covers-on (covers-as (ap vlq (sym e₂)) (w .header-is .covers)) (covers-on (w .rest-covers) (covers-last (w .own-covers)))))) h
 
+  -- a node has no fewer bytes than its text; and where it has no more, that text
+  whole-covers : at + row .size < 2 ^ 28 → Covers f (q + inlineSize row) inner (at + row .size) → Covers f at (wholeText r cs inner) (at + row .size)
+  whole-covers big h =
+      let z = span-size in
+      let y = node-exact r cs inner (omega arith) in
+      record {
+        short = omega arith;
+        tight = λ bytes k.
+            let u : spanOf r cs inner .size ≡ row .size = omega arith in
+            span-covers h u (span-tight u .0) .tight bytes k;
+      }
+
+-- ---- each node by itself
+
+-- a node's text with these contents and these bytes of the nodes that it holds, and the bytes of the file for it
+pub record Whole (f : List ℕ) (row : Node) (cs : List Content) : Type 0 where
+  pub inner : List ℕ
+  pub alone : row .contained ≡ 0 → inner ≡ []
+  pub covers : Covers f (row .start) (wholeText (shape f row) cs inner) (row .start + row .size)
+  pub inside : row .start + row .size ≤ length f
+
+-- in row order
+abbrev pub Each : List ℕ → List Node → List Content → Type 0
+Each f [] cs = Unit {0}
+Each f (r ∷ rs) cs = Whole f r (take (r .rows) cs) × Each f rs (drop (r .rows) cs)
+
 -- ---- what is collected: node rows as they are, and contents
 
 pub record Raw : Type 0 where
@@ -200,8 +226,13 @@ pub record Level (f : List ℕ) (x : Context) (end n : ℕ) (σ : Raw) (at : ℕ
   pub outer-is : (ss : List Shape) (ds : List Content) → outer (map (shape f) rows ++ ss) (contents ++ ds) ≡ texts ++ outer ss ds
   pub sizes-are : (ss : List Shape) (ds : List Content) → spans (map (shape f) rows ++ ss) (contents ++ ds) ≡ sizes ++ spans ss ds
   pub bound : AllStay (map (shape f) rows) → Bound f rows sizes texts at q
+  pub each : AllStay (map (shape f) rows) → (ss : List Node) (ds : List Content) → Each f ss ds → Each f (rows ++ ss) (contents ++ ds)
   pub room : m .items ≤ x .limits .items
   pub inside : q ≤ end
+
+no-texts : (ss : List (List ℕ)) → length ss ≡ 0 → joined ss ≡ []
+no-texts [] e = refl
+no-texts (s ∷ ss) e = absurd (omega arith)
 
 bound-none : (f : List ℕ) (at : ℕ) → Bound f [] [] [] at at
 bound-none f at = record { covers = covers-none at; over = none; tight = λ _. none }
@@ -232,6 +263,7 @@ module _ (f : List ℕ) (x : Context) (end : ℕ) where
     outer-is = λ ss ds. refl;
     sizes-are = λ ss ds. refl;
     bound = λ _. bound-none f at;
+    each = λ _ ss ds w. w;
     room = r;
     inside = l;
   }
@@ -268,6 +300,11 @@ module _ (f : List ℕ) (x : Context) (end : ℕ) where
         bound = λ a. let b : AllStay (map (shape f) (s .rows) ++ map (shape f) (t .rows)) = rw e at a in bound-on (s .texts) (t .texts)
             (s .bound (stay-left (map (shape f) (s .rows)) (map (shape f) (t .rows)) b))
             (t .bound (stay-right (map (shape f) (s .rows)) (map (shape f) (t .rows)) b));
+        each = λ a ss ds w.
+            let b : AllStay (map (shape f) (s .rows) ++ map (shape f) (t .rows)) = rw e at a in
+            rw (append-assoc (s .rows) (t .rows) ss, append-assoc (s .contents) (t .contents) ds)
+            (s .each (stay-left (map (shape f) (s .rows)) (map (shape f) (t .rows)) b) (t .rows ++ ss) (t .contents ++ ds)
+            (t .each (stay-right (map (shape f) (s .rows)) (map (shape f) (t .rows)) b) ss ds w));
         room = t .room;
         inside = t .inside;
       }
@@ -275,12 +312,12 @@ module _ (f : List ℕ) (x : Context) (end : ℕ) where
   -- a node, from its front and the nodes that it holds
   level-one : (big : length f < 2 ^ 28) (o : end ≤ length f) {at q : ℕ} {m₂ : Made} {σ υ : Raw} (τ : Raw) {limits : Limits}
       {types : List Declared} {parent depth : ℕ} {m : Made} (row : Node) (cs : List Content)
-      → Front limits types parent depth m (shape f row) cs → shape f row .contained ≡ row .contained → τ .nodes ≡ σ .nodes → τ .items ≡ σ .items
+      → Front limits types parent depth m (shape f row) cs → shape f row .contained ≡ row .contained → row .start ≡ at → length cs ≡ row .rows → τ .nodes ≡ σ .nodes → τ .items ≡ σ .items
       ++ cs → (Stays (shape f row) → Spans f row (shape f row) cs at q) → at + row .size ≤ end
       → Level f x (at + row .size) (row .contained) (record { nodes = τ .nodes ++ row ∷ []; items = τ .items }) (q + inlineSize row) m₂ (at + row .size) υ
       → Level f x end 1 σ at m₂ (at + row .size) υ
   unfolding outer spans
-  level-one big o {at} {q} {σ = σ} τ row cs fr contained left₁ left₂ wide inside t =
+  level-one big o {at} {q} {σ = σ} τ row cs fr contained start counted left₁ left₂ wide inside t =
       let r : Shape = shape f row in
       let e = fr .counted in
       let l : length (t .texts) ≡ r .contained = t .count ∙ sym contained in
@@ -320,12 +357,7 @@ module _ (f : List ℕ) (x : Context) (end : ℕ) where
             let z = span-size row r cs w inner i in
             let y = node-exact r cs inner (omega arith) in
             record {
-              covers = covers-last (record {
-                short = omega arith;
-                tight = λ bytes k.
-                    let u : spanOf r cs inner .size ≡ row .size = omega arith in
-                    span-covers row r cs w inner i (b .covers) u (span-tight row r cs w inner i u .0) .tight bytes k;
-              });
+              covers = covers-last (whole-covers row r cs w inner i (omega arith) (b .covers));
               over = more {r = row} h z (b .over);
               tight = λ k.
                   let j = length-append (wholeText r cs inner) [] in
@@ -333,9 +365,26 @@ module _ (f : List ℕ) (x : Context) (end : ℕ) where
                   let v = span-tight row r cs w inner i u in
                   more {r = row} (v .0) u (b .tight (v .1));
             };
+        each = λ a ss ds v.
+            let b = t .bound (a .1) in
+            let w = wide (a .0) in
+            let c = whole-covers row r cs w inner (b .covers .short) (omega arith) (b .covers) in
+            rw (append-assoc cs (t .contents) ds, take-at cs (t .contents ++ ds) (row .rows) counted, drop-at cs (t .contents ++ ds) (row .rows) counted) (
+              record {
+                inner = inner;
+                alone = λ z. no-texts (t .texts) (t .count ∙ z);
+                covers = subst (λ v. Covers f v (wholeText r cs inner) (v + row .size)) (sym start) c;
+                inside = omega (arith, start);
+              },
+              t .each (a .1) ss ds v,
+            );
         room = t .room;
         inside = inside;
       }
+
+counted-rows : (f : List ℕ) (row : Node) (cs : List Content) → length cs ≡ shape f row .rows → length cs ≡ row .rows
+unfolding shape
+counted-rows f row cs e = e
 
 -- ---- the tree
 
@@ -388,7 +437,7 @@ module _ (f : List ℕ) (big : length f < 2 ^ 28) (x : Context) where
       let b = t .inside in
       let e : p ≡ at + w .row .size = omega (arith, leb-true (at + w .row .size) p full) in
       post-ret (subst (λ v. Level f x end 1 σ at m₂ v υ) (sym e)
-      (level-one f x end big o τ (w .row) cs fr (shape-contained f (w .row)) left₁ left₂ wide a
+      (level-one f x end big o τ (w .row) cs fr (shape-contained f (w .row)) (y .start) (counted-rows f (w .row) cs (fr .counted)) left₁ left₂ wide a
       (subst (λ v. Level f x (at + w .row .size) (w .row .contained) (record { nodes = τ .nodes ++ w .row ∷ []; items = τ .items }) (q + inlineSize (w .row)) m₂ v υ) e t))))))
 
   times-level : (d : ℕ) → Levels d → Levels (suc d)

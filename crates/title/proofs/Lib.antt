@@ -27,3 +27,4 @@ pub mod Alike
 pub mod Private
 pub mod Twins
 pub mod Listed
+pub mod Counted

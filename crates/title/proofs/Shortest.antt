@@ -30,7 +30,7 @@ use Rattle.title.proofs.Covers.{Covers, covers-on, covers-as, covers-to
 use Rattle.title.proofs.Nodes.{AllStay}
 use Rattle.title.proofs.Headers.{HeaderSays, header-says}
 use Rattle.title.proofs.Follows.{stay-elsewhere, log-is-tree}
-use Rattle.title.proofs.Levels.{Span, spans, none, more, Over, Exactly, Raw, Level, tree-level}
+use Rattle.title.proofs.Levels.{Span, spans, none, more, Over, Exactly, Each, Raw, Level, tree-level}
 
 -- ---- the tree of what is said
 
@@ -167,6 +167,20 @@ module _ (lim : Limits) (g : List ℕ) {h : Header} {ns : List Node} {is : List 
             (omega arith) (omega arith) (w .3) in
             covers-whole (covers-as (text-is d) text) bytes l;
       }
+
+  -- each node by itself
+  pub rows-stand : AllStay (map (shape g) ns) → Each g ns (map (content g) is)
+  rows-stand stay =
+      let r = read-back lim g reads in
+      let w = header-of r in
+      let p : P Made = treeOf lim (length g) h in
+      let log : Events = trace p g (h .extent .start) in
+      let q : r .log ≡ log = log-is-tree lim g h log (lim .nodes) (r .follows) (ap elsewhere (r .nodes-are) ∙ stay-elsewhere g ns stay) in
+      let (t, a, b) = tree-level g (w .4) (context lim h (length g)) (h .extent .last + 1) (h .extent .start) (omega arith) (omega arith) (r .tree-is) in
+      let rows-are : t .rows ≡ ns = a ∙ sym (ap nodesOf q) ∙ r .nodes-are in
+      let contents-are : t .contents ≡ map (content g) is = b ∙ ap (map (content g)) (sym (ap itemsOf q) ∙ r .items-are) in
+      let e = t .each (subst (λ v. AllStay (map (shape g) v)) (sym rows-are) stay) [] [] tt in
+      rw (append-nil (t .rows), append-nil (t .contents), rows-are, contents-are) at e
 
 -- ---- each number is the least of all files that say the same
 

@@ -8,6 +8,9 @@
 //! The tables and the room for the sheet are full. Each call fills or clears all of them. The correction
 //! of a title is timed on files without reference 2 and 3.
 //!
+//! Then it times the correction of a title on the files of [`timed::titles`] beside reading the tree and
+//! copying the file.
+//!
 //! Then it times the proved reader on files of growing size, with tables and room of just the size
 //! that each file needs, and prints the nanoseconds per byte of the file. At last it times both on moving
 //! sheets of growing size, of either edition, and prints the nanoseconds per byte of the sheet.
@@ -280,6 +283,7 @@ fn main() -> ExitCode {
     };
     let [.., question] = QUESTIONS;
     print_times("folders", &about, &mut lent, question, repetitions);
+    titles(&mut lent, repetitions);
     growth(repetitions);
     sheets(repetitions);
     ExitCode::SUCCESS
@@ -309,6 +313,36 @@ fn print_times(
         plain,
         proved / plain
     );
+}
+
+/// Times the correction of a title beside what it cannot do without: to read the tree, and to copy the
+/// file.
+fn titles(lent: &mut Lent, repetitions: usize) {
+    println!("\nthe proved reader, a corrected title over reading the tree and copying the file");
+    println!(
+        "{:16}{:>8}{:>12}{:>12}{:>8}",
+        "file", "bytes", "title", "both", "ratio"
+    );
+    const BOTH: Ask = |about, lent| {
+        let size = about.file.len();
+        let tree = xmf::read_tree(&about.file, &mut lent.nodes, &mut lent.items);
+        lent.sheet[..size].copy_from_slice(black_box(&about.file));
+        match tree {
+            Ok(tree) => Ok(tree.items as u64),
+            Err(refusal) => Err(refusal.number),
+        }
+    };
+    let [.., (_, correct, _)] = QUESTIONS;
+    for (name, file) in timed::titles() {
+        let about = Subject::new(name, file);
+        correct(&about, lent).expect("a title that is corrected");
+        let [title, both] = times(&about, lent, [correct, BOTH], repetitions);
+        println!(
+            "{name:16}{:>8}{title:>12.0}{both:>12.0}{:>8.2}",
+            about.file.len(),
+            title / both
+        );
+    }
 }
 
 /// Times the proved reader on files of growing size.

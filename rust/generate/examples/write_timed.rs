@@ -16,7 +16,8 @@ fn main() -> ExitCode {
         return ExitCode::from(2);
     };
     let folders = ("folders", folders_title(SEED, 15).0);
-    for (name, file) in timed::all(SEED).into_iter().chain([folders]) {
+    let files = timed::all(SEED).into_iter().chain([folders]);
+    for (name, file) in files.chain(timed::titles()) {
         let path = Path::new(folder).join(name).with_extension("xmf");
         if let Err(error) = fs::write(&path, file) {
             eprintln!("{}: {error}", path.display());

@@ -40,6 +40,39 @@ pub fn all(seed: u64) -> Vec<(&'static str, Vec<u8>)> {
     ]
 }
 
+/// Files whose title in item row 0 is corrected, each with its name. All numbers are in their shortest
+/// form but in the last one, where they have four bytes.
+pub fn titles() -> Vec<(&'static str, Vec<u8>)> {
+    let title = || vec![Item::standard(8, 0, b"title")];
+    let packed = |name: UnpackerName, count: usize| {
+        let mut root = Node::inline(&[]).with_items(title());
+        root.unpackers = vec![Unpacker { name, size: 2 }; count];
+        File::new(MOBILE, root)
+    };
+    let mut bare = levels([const { Vec::new() }; 2]);
+    bare.root = bare.root.with_items(title());
+    let mut padded = packed(UnpackerName::Standard(1), 5_000);
+    padded.widths = Widths::Four;
+    let guid = [&[0x90; 15][..], &[1]].concat();
+    vec![
+        ("title_full", encode(&levels(common_items())).bytes),
+        ("title_bare", encode(&bare).bytes),
+        (
+            "title_unpackers",
+            encode(&packed(UnpackerName::Standard(1), 20_000)).bytes,
+        ),
+        (
+            "title_makers",
+            encode(&packed(UnpackerName::Manufacturer(vec![0x43], 1), 15_000)).bytes,
+        ),
+        (
+            "title_guids",
+            encode(&packed(UnpackerName::Guid(guid), 3_300)).bytes,
+        ),
+        ("title_padded", encode(&padded).bytes),
+    ]
+}
+
 /// 256 nodes: a root, 15 folders in it, 16 file nodes in each. The first items are those of a folder,
 /// the second those of a file node.
 fn levels([folder, leaf]: [Vec<Item>; 2]) -> File {

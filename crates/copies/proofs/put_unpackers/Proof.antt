@@ -1,13 +1,39 @@
--- `put_unpackers` measures the unpackers, and puts their length and them.
+-- `put_unpackers` puts the length, and the unpackers as they stand in the file, or one by one.
 -- Assumes nothing.
-use Rattle.copies.proofs.Copying.{block-none, block-copied, block-never, copied-was, copied-no}
+use Rattle.copies.proofs.Copying.{block-same, block-measured, block-empty, block-some, copied-was, copied-no}
 use Rattle.title.specs.Description.{shape}
 use borrow.Author.Needs.{needs}
 use Rattle.copies.proofs.put_unpackers.Statement.{statement}
 use Rattle.copies.proofs.put_unpackers.Tie as tie
 
-slice-aggregate-copy-unpackers : tie.Need-slice-aggregate-copy-unpackers
-slice-aggregate-copy-unpackers c = search needs
+put-number-requires : tie.Need-put-number-requires
+put-number-requires c κs = search needs
+
+same-length : tie.Need-same-length
+same-length c = search needs
+
+returns : tie.Need-returns
+returns c =
+    let at-put-number = c .before .before .before .before in
+    let entry = at-put-number .before .before .before .before in
+    block-empty _ (entry .pre .1 .size) (c .if1 .taken) (at-put-number .put-number .ensures)
+
+put-part-requires : tie.Need-put-part-requires
+put-part-requires c κs =
+    let at-if2 = c .before in
+    let entry = at-if2 .before .before .before .before .before .before .before .before .before in
+    entry .pre .1 .same (at-if2 .if2 .taken) .0
+
+same-length-2 : tie.Need-same-length-2
+same-length-2 c = search needs
+
+returns-2 : tie.Need-returns-2
+returns-2 c =
+    let at-put-part = c .before .before in
+    let at-if2 = at-put-part .before .before in
+    let at-put-number = at-if2 .before .before .before .before .before in
+    let entry = at-put-number .before .before .before .before in
+    block-same (entry .pre .1 .size) (entry .pre .1 .same (at-if2 .if2 .taken) .1) (at-put-number .put-number .ensures) (at-put-part .put-part .ensures)
 
 copy-unpackers-requires : tie.Need-copy-unpackers-requires
 copy-unpackers-requires c κs = search needs
@@ -15,45 +41,8 @@ copy-unpackers-requires c κs = search needs
 enum-told : tie.Need-enum-told
 enum-told c = search needs
 
-put-number-requires : tie.Need-put-number-requires
-put-number-requires c κs = search needs
-
-enum-known-n : tie.Need-enum-known-n
-enum-known-n c = search needs
-
-put-number-requires-2 : tie.Need-put-number-requires-2
-put-number-requires-2 c κs = search needs
-
-copy-unpackers-requires-2 : tie.Need-copy-unpackers-requires-2
-copy-unpackers-requires-2 c κs = search needs
-
-enum-told-2 : tie.Need-enum-told-2
-enum-told-2 c = search needs
-
 enum-known-b : tie.Need-enum-known-b
 enum-known-b c = search needs
-
-same-length : tie.Need-same-length
-same-length c = search needs
-
-returns : tie.Need-returns
-unfolding shape
-returns c =
-    let at-put-number = c .before .before in
-    let at-enum-told = at-put-number .before .before in
-    let at-copy-unpackers = at-enum-told .before .before .before in
-    block-none _ (copied-no (copied-was (at-copy-unpackers .copy-unpackers .ensures) (at-enum-told .enum-told .given .1))) (at-put-number .put-number .ensures)
-
-same-length-2 : tie.Need-same-length-2
-same-length-2 c = search needs
-
-returns-2 : tie.Need-returns-2
-returns-2 c =
-    let at-copy-unpackers2 = c .before .before .before .before in
-    let at-n = at-copy-unpackers2 .before .before .before .before .before .before .before in
-    let at-copy-unpackers = at-n .before .before .before in
-    block-never _ (copied-was (at-copy-unpackers .copy-unpackers .ensures) (at-n .n .given .1))
-    (copied-no (copied-was (at-copy-unpackers2 .copy-unpackers2 .ensures) (c .enum-told2 .given .1)))
 
 same-length-3 : tie.Need-same-length-3
 same-length-3 c = search needs
@@ -61,29 +50,37 @@ same-length-3 c = search needs
 returns-3 : tie.Need-returns-3
 unfolding shape
 returns-3 c =
-    let at-copy-unpackers2 = c .before .before .before .before .before in
-    let at-put-number2 = at-copy-unpackers2 .before .before .before .before in
-    let at-n = at-put-number2 .before .before .before in
-    let at-copy-unpackers = at-n .before .before .before in
-    block-copied _ (copied-was (at-copy-unpackers .copy-unpackers .ensures) (at-n .n .given .1)) (at-put-number2 .put-number2 .ensures)
-    (copied-was (at-copy-unpackers2 .copy-unpackers2 .ensures) (c .before .b .given .1))
+    let at-copy-unpackers = c .before .before .before .before in
+    let at-if1 = at-copy-unpackers .before .before .before in
+    let entry = at-if1 .before .before .before .before .before .before .before .before in
+    block-some _ (copied-no (copied-was (at-copy-unpackers .copy-unpackers .ensures) (c .enum-told .given .1))) (entry .pre .1 .size) (at-if1 .if1 .left)
+
+same-length-4 : tie.Need-same-length-4
+same-length-4 c = search needs
+
+returns-4 : tie.Need-returns-4
+unfolding shape
+returns-4 c =
+    let at-b = c .before in
+    let at-copy-unpackers = at-b .before .before .before .before in
+    let at-put-number = at-copy-unpackers .before .before .before .before .before .before .before in
+    let entry = at-put-number .before .before .before .before in
+    block-measured _ (entry .pre .1 .size) (at-put-number .put-number .ensures) (copied-was (at-copy-unpackers .copy-unpackers .ensures) (at-b .b .given .1))
 
 pub put-unpackers-spec : {M : Type 1} → statement M
 put-unpackers-spec =
     tie.close
     (tie.spec
-    slice-aggregate-copy-unpackers
-    copy-unpackers-requires
-    enum-told
     put-number-requires
-    enum-known-n
-    put-number-requires-2
-    copy-unpackers-requires-2
-    enum-told-2
-    enum-known-b
     same-length
     returns
+    put-part-requires
     same-length-2
     returns-2
+    copy-unpackers-requires
+    enum-told
+    enum-known-b
     same-length-3
-    returns-3)
+    returns-3
+    same-length-4
+    returns-4)

@@ -14,11 +14,24 @@ slice-aggregate-measure-tree c = search needs
 slice-aggregate-measure-tree-2 : tie.Need-slice-aggregate-measure-tree-2
 slice-aggregate-measure-tree-2 c = search needs
 
+slice-aggregate-measure-tree-3 : tie.Need-slice-aggregate-measure-tree-3
+slice-aggregate-measure-tree-3 c = search needs
+
+slice-aggregate-measure-tree-4 : tie.Need-slice-aggregate-measure-tree-4
+slice-aggregate-measure-tree-4 c = search needs
+
+slice-aggregate-measure-tree-5 : tie.Need-slice-aggregate-measure-tree-5
+slice-aggregate-measure-tree-5 c = search needs
+
 measure-tree-requires : tie.Need-measure-tree-requires
-measure-tree-requires c κs = search needs
+measure-tree-requires c κs =
+    let entry = c .before .before .before .before .before .before .before .before .before .before in
+    (entry .pre .0, (omega arith, omega arith, omega arith, omega arith, omega arith))
 
 returns : tie.Need-returns
-returns c = file-stops _ _ _ _ _ (c .before .before .before .measure-tree .ensures .1) (c .if1 .taken)
+returns c =
+    let at-measure-tree = c .before .before .before .before .before .before in
+    file-stops _ _ _ _ _ (at-measure-tree .measure-tree .ensures .1) (c .if1 .taken)
 
 slice-aggregate-put-types : tie.Need-slice-aggregate-put-types
 slice-aggregate-put-types c = search needs
@@ -30,49 +43,66 @@ stopped-requires : tie.Need-stopped-requires
 stopped-requires c κs = search needs
 
 sub-gap : tie.Need-sub-gap
-sub-gap c = search needs
+sub-gap c =
+    let entry = c .before .before .before .before .before .before .before .before .before .before .before .before .before .before .before .before .before .before .before .before .before .before .before .before .before .before in
+    omega (arith, entry .pre .1)
 
 add-after : tie.Need-add-after
-add-after c = search needs
+add-after c =
+    let entry = c .before .before .before .before .before .before .before .before .before .before .before .before .before .before .before .before .before .before .before .before .before .before .before .before .before .before .before in
+    omega (arith, entry .pre .1, entry .pre .0 .small)
 
 sub-after : tie.Need-sub-after
-sub-after c = search needs
+sub-after c =
+    let entry = c .before .before .before .before .before .before .before .before .before .before .before .before .before .before .before .before .before .before .before .before .before .before .before .before .before .before .before .before in
+    omega (arith, entry .pre .1)
 
 add-tree-start : tie.Need-add-tree-start
-add-tree-start c = search needs
+add-tree-start c =
+    let at-stopped = c .before .before .before .before .before .before .before .before in
+    let at-measure-tree = at-stopped .before .before .before .before .before .before .before .before .before .before in
+    let entry = at-measure-tree .before .before .before .before .before .before .before .before .before .before .before in
+    omega (arith, entry .pre .1, entry .pre .0 .small, at-stopped .stopped .ensures, at-measure-tree .measure-tree .ensures .1)
 
 add-tree-start-2 : tie.Need-add-tree-start-2
-add-tree-start-2 c = search needs
+add-tree-start-2 c =
+    let at-stopped = c .before .before .before .before .before .before .before .before in
+    let at-measure-tree = at-stopped .before .before .before .before .before .before .before .before .before .before in
+    let entry = at-measure-tree .before .before .before .before .before .before .before .before .before .before .before in
+    omega (arith, entry .pre .1, entry .pre .0 .small, at-stopped .stopped .ensures, at-measure-tree .measure-tree .ensures .1)
 
 tree-start-requires : tie.Need-tree-start-requires
-tree-start-requires c κs = search needs
+tree-start-requires c κs =
+    let at-stopped = c .before .before .before .before .before .before .before .before in
+    let at-measure-tree = at-stopped .before .before .before .before .before .before .before .before .before .before in
+    let entry = at-measure-tree .before .before .before .before .before .before .before .before .before .before .before in
+    (omega (arith, entry .pre .1, entry .pre .0 .small, at-stopped .stopped .ensures, at-measure-tree .measure-tree .ensures .1), omega (arith, entry .pre .1, entry .pre .0 .small, at-stopped .stopped .ensures, at-measure-tree .measure-tree .ensures .1), omega (arith, entry .pre .1, entry .pre .0 .small, at-stopped .stopped .ensures, at-measure-tree .measure-tree .ensures .1))
 
 add-stop : tie.Need-add-stop
 add-stop c =
     let at-stopped = c .before .before .before .before .before .before .before .before .before in
-    let at-measure-tree = at-stopped .before .before .before .before .before .before .before in
-    let entry = at-measure-tree .before .before .before .before .before .before .before .before in
+    let at-measure-tree = at-stopped .before .before .before .before .before .before .before .before .before .before in
+    let entry = at-measure-tree .before .before .before .before .before .before .before .before .before .before .before in
     omega (arith, tree-few _ _ _ (c .tree-start .ensures), at-measure-tree .measure-tree .ensures .1, at-stopped .stopped .ensures, entry .pre .1)
 
 add-size : tie.Need-add-size
 add-size c =
     let at-stopped = c .before .before .before .before .before .before .before .before .before in
-    let at-measure-tree = at-stopped .before .before .before .before .before .before .before in
-    let entry = at-measure-tree .before .before .before .before .before .before .before .before in
+    let at-measure-tree = at-stopped .before .before .before .before .before .before .before .before .before .before in
+    let entry = at-measure-tree .before .before .before .before .before .before .before .before .before .before .before in
     omega (arith, tree-few _ _ _ (c .tree-start .ensures), at-measure-tree .measure-tree .ensures .1, at-stopped .stopped .ensures, entry .pre .1)
 
 put-part-requires : tie.Need-put-part-requires
-put-part-requires c κs = search needs
+put-part-requires c κs =
+    let entry = c .before .before .before .before .before .before .before .before .before .before .before .before .before .before .before .before .before .before .before .before .before .before .before .before .before .before .before .before .before .before .before in
+    omega (arith, entry .pre .1)
 
 put-number-requires : tie.Need-put-number-requires
 put-number-requires c κs = search needs
 
 put-types-requires-2 : tie.Need-put-types-requires-2
 put-types-requires-2 c κs =
-    let back = c .before .before .before .before .before .before .before .before .before .before .before .before .before .before
-    .before .before .before .before .before .before .before .before .before .before .before .before .before .before
-    .before .before .before .before .before in
-    let entry = back in
+    let entry = c .before .before .before .before .before .before .before .before .before .before .before .before .before .before .before .before .before .before .before .before .before .before .before .before .before .before .before .before .before .before .before .before .before .before .before .before .before .before .before in
     entry .pre .0 .small
 
 put-number-requires-2 : tie.Need-put-number-requires-2
@@ -88,62 +118,62 @@ put-number-requires-3 c κs = search needs
 
 put-part-requires-2 : tie.Need-put-part-requires-2
 put-part-requires-2 c κs =
-    let back = c .before .before .before .before .before .before .before .before .before .before .before .before .before .before
-    .before .before .before .before .before .before .before .before .before .before .before .before .before .before
-    .before .before .before .before .before .before .before .before .before .before .before .before .before .before
-    .before .before .before in
-    let entry = back in
+    let entry = c .before .before .before .before .before .before .before .before .before .before .before .before .before .before .before .before .before .before .before .before .before .before .before .before .before .before .before .before .before .before .before .before .before .before .before .before .before .before .before .before .before .before .before .before .before .before .before .before .before .before .before in
     omega (arith, entry .pre .1)
 
 slice-aggregate-put-tree : tie.Need-slice-aggregate-put-tree
 slice-aggregate-put-tree c =
-    let back = c .before .before .before .before .before .before .before .before .before .before .before .before .before .before
-    .before .before .before .before .before .before .before .before .before .before .before .before .before .before
-    .before .before .before .before .before .before .before .before .before .before .before .before .before .before in
-    let at-measure-tree = back in
+    let at-measure-tree = c .before .before .before .before .before .before .before .before .before .before .before .before .before .before .before .before .before .before .before .before .before .before .before .before .before .before .before .before .before .before .before .before .before .before .before .before .before .before .before .before .before .before .before .before .before in
     omega (arith, at-measure-tree .measure-tree .kept)
 
 slice-aggregate-put-tree-2 : tie.Need-slice-aggregate-put-tree-2
 slice-aggregate-put-tree-2 c =
-    let back = c .before .before .before .before .before .before .before .before .before .before .before .before .before .before
-    .before .before .before .before .before .before .before .before .before .before .before .before .before .before
-    .before .before .before .before .before .before .before .before .before .before .before .before .before .before
-    .before in
-    let at-measure-tree = back in
+    let at-measure-tree = c .before .before .before .before .before .before .before .before .before .before .before .before .before .before .before .before .before .before .before .before .before .before .before .before .before .before .before .before .before .before .before .before .before .before .before .before .before .before .before .before .before .before .before .before .before .before in
+    omega (arith, at-measure-tree .measure-tree .kept)
+
+slice-aggregate-put-tree-3 : tie.Need-slice-aggregate-put-tree-3
+slice-aggregate-put-tree-3 c =
+    let at-measure-tree = c .before .before .before .before .before .before .before .before .before .before .before .before .before .before .before .before .before .before .before .before .before .before .before .before .before .before .before .before .before .before .before .before .before .before .before .before .before .before .before .before .before .before .before .before .before .before .before in
+    omega (arith, at-measure-tree .measure-tree .kept)
+
+slice-aggregate-put-tree-4 : tie.Need-slice-aggregate-put-tree-4
+slice-aggregate-put-tree-4 c =
+    let at-measure-tree = c .before .before .before .before .before .before .before .before .before .before .before .before .before .before .before .before .before .before .before .before .before .before .before .before .before .before .before .before .before .before .before .before .before .before .before .before .before .before .before .before .before .before .before .before .before .before .before .before in
+    omega (arith, at-measure-tree .measure-tree .kept)
+
+slice-aggregate-put-tree-5 : tie.Need-slice-aggregate-put-tree-5
+slice-aggregate-put-tree-5 c =
+    let at-measure-tree = c .before .before .before .before .before .before .before .before .before .before .before .before .before .before .before .before .before .before .before .before .before .before .before .before .before .before .before .before .before .before .before .before .before .before .before .before .before .before .before .before .before .before .before .before .before .before .before .before .before in
     omega (arith, at-measure-tree .measure-tree .kept)
 
 put-tree-requires : tie.Need-put-tree-requires
 put-tree-requires c κs =
-    let back = c .before .before .before .before .before .before .before .before .before .before .before .before .before .before
-    .before .before .before .before .before .before .before .before .before .before .before .before .before .before
-    .before .before .before .before .before .before .before .before .before .before .before .before in
-    let at-if1 = back in
-    let at-measure-tree = at-if1 .before .before .before in
-    let entry = at-measure-tree .before .before .before .before .before .before .before .before in (
+    let at-if1 = c .before .before .before .before .before .before .before .before .before .before .before .before .before .before .before .before .before .before .before .before .before .before .before .before .before .before .before .before .before .before .before .before .before .before .before .before .before .before .before .before .before .before .before in
+    let at-measure-tree = at-if1 .before .before .before .before .before .before in
+    let entry = at-measure-tree .before .before .before .before .before .before .before .before .before .before .before in (
+      (entry .pre .0, at-measure-tree .measure-tree .ensures .0),
       (
-        entry .pre .0,
-        at-measure-tree .measure-tree .ensures .0,
-        omega (arith, at-measure-tree .measure-tree .kept),
-        omega
-            (arith, at-measure-tree .measure-tree .kept),
+        (
+          omega (arith, at-measure-tree .measure-tree .kept),
+          omega (arith, at-measure-tree .measure-tree .kept),
+          omega (arith, at-measure-tree .measure-tree .kept),
+          omega (arith, at-measure-tree .measure-tree .kept),
+          omega (arith, at-measure-tree .measure-tree .kept),
+        ),
+        omega (arith, at-measure-tree .measure-tree .ensures .1, at-if1 .if1 .left),
       ),
-      omega (arith, at-measure-tree .measure-tree .ensures .1, at-if1 .if1 .left),
     )
 
 put-part-requires-3 : tie.Need-put-part-requires-3
 put-part-requires-3 c κs =
-    let back = c .before .before .before .before .before .before .before .before .before .before .before .before .before .before
-    .before .before .before .before .before .before .before .before .before .before .before .before .before .before
-    .before .before .before .before .before .before .before .before .before .before .before .before .before .before
-    .before .before .before .before .before .before .before .before .before .before .before .before .before in
-    let entry = back in
+    let entry = c .before .before .before .before .before .before .before .before .before .before .before .before .before .before .before .before .before .before .before .before .before .before .before .before .before .before .before .before .before .before .before .before .before .before .before .before .before .before .before .before .before .before .before .before .before .before .before .before .before .before .before .before .before .before .before .before .before .before .before .before .before .before .before .before in
     omega (arith, entry .pre .1)
 
 same-length : tie.Need-same-length
 same-length c =
     let at-put-part3 = c .before .before in
     let at-put-tree = at-put-part3 .before .before .before .before in
-    let at-put-part2 = at-put-tree .before .before .before .before .before .before in
+    let at-put-part2 = at-put-tree .before .before .before .before .before .before .before .before .before in
     let at-put-number3 = at-put-part2 .before .before .before .before in
     let at-put-number2 = at-put-number3 .before .before .before .before in
     let at-put-types2 = at-put-number2 .before .before .before .before in
@@ -165,7 +195,7 @@ returns-2 : tie.Need-returns-2
 returns-2 c =
     let at-put-part3 = c .before .before in
     let at-put-tree = at-put-part3 .before .before .before .before in
-    let at-put-part2 = at-put-tree .before .before .before .before .before .before in
+    let at-put-part2 = at-put-tree .before .before .before .before .before .before .before .before .before in
     let at-put-number3 = at-put-part2 .before .before .before .before in
     let at-put-number2 = at-put-number3 .before .before .before .before in
     let at-put-types2 = at-put-number2 .before .before .before .before in
@@ -175,8 +205,8 @@ returns-2 c =
     let at-stopped = at-tree-start .before .before .before .before .before .before .before .before .before in
     let at-put-types = at-stopped .before .before in
     let at-if1 = at-put-types .before .before in
-    let at-measure-tree = at-if1 .before .before .before in
-    let entry = at-measure-tree .before .before .before .before .before .before .before .before in
+    let at-measure-tree = at-if1 .before .before .before .before .before .before in
+    let entry = at-measure-tree .before .before .before .before .before .before .before .before .before .before .before in
     copied-put _ _ _ _ _ _ _ (entry .pre .1) (stopped-length (at-put-types .put-types .ensures) (at-stopped .stopped .ensures))
     (omega (arith, at-measure-tree .measure-tree .ensures .1, at-if1 .if1 .left)) (at-tree-start .tree-start .ensures)
     (at-put-part .put-part .ensures) (at-put-number .put-number .ensures) (at-put-types2 .put-types2 .ensures)
@@ -189,6 +219,9 @@ put-file-spec =
     (tie.spec
     slice-aggregate-measure-tree
     slice-aggregate-measure-tree-2
+    slice-aggregate-measure-tree-3
+    slice-aggregate-measure-tree-4
+    slice-aggregate-measure-tree-5
     measure-tree-requires
     returns
     slice-aggregate-put-types
@@ -211,6 +244,9 @@ put-file-spec =
     put-part-requires-2
     slice-aggregate-put-tree
     slice-aggregate-put-tree-2
+    slice-aggregate-put-tree-3
+    slice-aggregate-put-tree-4
+    slice-aggregate-put-tree-5
     put-tree-requires
     put-part-requires-3
     same-length

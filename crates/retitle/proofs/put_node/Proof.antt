@@ -1,16 +1,11 @@
 -- `put_node` puts the three numbers, the rest of the header, and what follows it.
 -- Assumes nothing.
-use native.Mathlib.Omega.{arith}
+use Prim.Native.Nat.{ℕ}
 use Rattle.title.specs.Description.{shape}
-use Rattle.retitle.proofs.Nodes.{body-most, own-put, texts-few, node-put, stopped-not}
+use Rattle.retitle.proofs.Nodes.{body-inside, own-put, node-put}
 use borrow.Author.Needs.{needs}
 use Rattle.retitle.proofs.put_node.Statement.{statement}
 use Rattle.retitle.proofs.put_node.Tie as tie
-
-frame-of-requires : tie.Need-frame-of-requires
-frame-of-requires c κs =
-    let entry = c .before .before .before .before in
-    (entry .pre .0 .0, entry .pre .0 .1, texts-few _ _ _ (entry .pre .1 .0) (entry .pre .1 .1), omega (arith, entry .pre .1))
 
 put-number-requires : tie.Need-put-number-requires
 put-number-requires c κs = search needs
@@ -29,16 +24,17 @@ put-items-requires c κs = search needs
 
 put-unpackers-requires : tie.Need-put-unpackers-requires
 put-unpackers-requires c κs =
-    let entry = c .before .before .before .before .before .before .before .before .before .before .before .before .before .before .before .before .before .before .before .before .before .before .before .before .before .before in
-    entry .pre .0 .1
+    let entry = c .before .before .before .before .before .before .before .before .before .before .before .before .before .before .before .before .before .before .before .before .before .before .before .before .before in
+    (entry .pre .0 .1, entry .pre .1 .1)
 
 body-size-requires : tie.Need-body-size-requires
 body-size-requires c κs = search needs
 
 put-reference-requires : tie.Need-put-reference-requires
 put-reference-requires c κs =
-    let entry = c .before .before .before .before .before .before .before .before .before .before .before .before .before .before .before .before .before .before .before .before .before .before .before .before .before .before .before .before .before .before .before in
-    omega (arith, c .before .body-size .ensures, body-most (entry .args .node), entry .pre .0 .0)
+    let at-body-size = c .before in
+    let entry = at-body-size .before .before .before .before .before .before .before .before .before .before .before .before .before .before .before .before .before .before .before .before .before .before .before .before .before .before .before .before .before in
+    body-inside (entry .args .file .now) (entry .args .node) (entry .pre .0 .0) (at-body-size .body-size .ensures)
 
 same-length : tie.Need-same-length
 same-length c = search needs
@@ -54,18 +50,15 @@ returns c =
     let at-put-number3 = at-put-number4 .before .before .before .before in
     let at-put-number2 = at-put-number3 .before .before .before .before in
     let at-put-number = at-put-number2 .before .before .before .before in
-    let at-frame-of = at-put-number .before .before in
-    let entry = at-frame-of .before .before .before .before .before in
-    node-put _ _ _ (at-frame-of .frame-of .ensures _ (stopped-not _ _ _ (entry .pre .1 .0) (entry .pre .1 .1))) (entry .pre .1 .1)
-    (entry .pre .1 .0) (at-put-number .put-number .ensures) (at-put-number2 .put-number2 .ensures) (at-put-number3 .put-number3 .ensures)
-    (at-put-number4 .put-number4 .ensures) (at-put-items .put-items .ensures) (at-put-unpackers .put-unpackers .ensures)
+    let entry = at-put-number .before .before .before .before .before .before in
+    λ (inner : ℕ) framed small. node-put _ _ inner framed small (entry .pre .1 .0) (at-put-number .put-number .ensures) (at-put-number2 .put-number2 .ensures)
+    (at-put-number3 .put-number3 .ensures) (at-put-number4 .put-number4 .ensures) (at-put-items .put-items .ensures) (at-put-unpackers .put-unpackers .ensures)
     (own-put (entry .args .file .now) (entry .args .node) (at-body-size .body-size .ensures) (at-put-reference .put-reference .ensures))
 
 pub put-node-spec : {M : Type 1} → statement M
 put-node-spec =
     tie.close
     (tie.spec
-    frame-of-requires
     put-number-requires
     put-number-requires-2
     put-number-requires-3

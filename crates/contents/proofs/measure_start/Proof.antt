@@ -1,0 +1,67 @@
+-- `measure_start` counts the field, and the number of versions: 0 for a universal content.
+-- Assumes nothing.
+use mathlib.Core.List.{List}
+use Prim.Native.Nat.{ℕ}
+use Rattle.title.proofs.Counted.{counts-number}
+use Rattle.contents.proofs.Putting.{start-universal, start-versions, row-inside, zero-counted}
+use borrow.Author.Needs.{needs}
+use Rattle.contents.proofs.measure_start.Statement.{statement}
+use Rattle.contents.proofs.measure_start.Tie as tie
+
+item-at-requires : tie.Need-item-at-requires
+item-at-requires c κs = search needs
+
+measure-field-requires : tie.Need-measure-field-requires
+measure-field-requires c κs = search needs
+
+on-requires : tie.Need-on-requires
+on-requires c κs = search needs
+
+returns : tie.Need-returns
+returns c =
+    let at-if1 = c .before in
+    let at-measure-field = at-if1 .before .before in
+    let at-item-at = at-measure-field .before in
+    λ (f : List ℕ) (row : ℕ) (title : List ℕ) inside. start-universal f row title _ _ (at-item-at .item-at .ensures) _
+    (at-measure-field .measure-field .ensures f (row-inside (at-item-at .item-at .ensures) inside)) (at-if1 .if1 .taken) (zero-counted (c .on .ensures))
+
+add-further : tie.Need-add-further
+add-further c = search needs
+
+further-requires : tie.Need-further-requires
+further-requires c κs = search needs
+
+add-vlq-size : tie.Need-add-vlq-size
+add-vlq-size c = search needs
+
+vlq-size-requires : tie.Need-vlq-size-requires
+vlq-size-requires c κs = search needs
+
+on-requires-2 : tie.Need-on-requires-2
+on-requires-2 c κs = search needs
+
+returns-2 : tie.Need-returns-2
+returns-2 c =
+    let at-vlq-size = c .before in
+    let at-further = at-vlq-size .before in
+    let at-if1 = at-further .before in
+    let at-measure-field = at-if1 .before .before in
+    let at-item-at = at-measure-field .before in
+    λ (f : List ℕ) (row : ℕ) (title : List ℕ) inside. start-versions f row title _ _ (at-item-at .item-at .ensures) _
+    (at-measure-field .measure-field .ensures f (row-inside (at-item-at .item-at .ensures) inside)) (at-if1 .if1 .left) (at-further .further .ensures .0 f row title)
+    (counts-number _ (at-vlq-size .vlq-size .ensures) (c .on2 .ensures))
+
+pub measure-start-spec : {M : Type 1} → statement M
+measure-start-spec =
+    tie.close
+    (tie.spec
+    item-at-requires
+    measure-field-requires
+    on-requires
+    returns
+    add-further
+    further-requires
+    add-vlq-size
+    vlq-size-requires
+    on-requires-2
+    returns-2)
