@@ -9,9 +9,8 @@ run() { # WORD..
 }
 # The same through a filter, whose status counts as well.
 view() { # FILTER WORD..
-    filter=$1 paint='' utf8='' program=$core
+    filter=$1 paint='' utf8=''
     shift
-    [ "$1" != show ] || program=show_lines
     case ${color?} in
     always) paint=1 ;;
     auto) [ ! -t 1 ] || [ -n "${NO_COLOR-}" ] || [ "${TERM-dumb}" = dumb ] || paint=1 ;;
@@ -20,7 +19,7 @@ view() { # FILTER WORD..
     exec 4>&1 6>/dev/null
     [ "$filter" != meaning.awk ] || exec 6>&2
     finish "$({
-        { "$program" --status=3 "$@" 3>&5 4>&- 5>&- 6>&-; printf ,%s $? >&5; } |
+        { "$core" --status=3 "$@" 3>&5 4>&- 5>&- 6>&-; printf ,%s $? >&5; } |
             XMF_SHARE=${share?} LC_ALL=C awk -v color="$paint" -v utf8="$utf8" -v flags="${flags?}" -v several=$(($# > 2)) -f "${share?}/safe.awk" -f "$share/$filter" >&4 2>&6 4>&- 5>&- 6>&-
         printf ,%s $? >&5
     } 5>&1)"

@@ -815,6 +815,48 @@ timeout 20 sh -c 'cat mobile.xmf >"$1"' sh "$work/fifo2" &
 "$xmf" show mobile.xmf >"$work/wanted"
 run "$xmf" show "$work/fifo2"
 judge 'show, a FIFO' '' 0
+# a file that gets other contents meanwhile is shown as it was at one moment
+python3 - "$xmf" "$work" >"$work/mixed" <<'END'
+import os, subprocess, sys, threading
+
+command, work = sys.argv[1:]
+contents = [open(name, "rb").read() for name in ("mobile.xmf", "folders.xmf")]
+name = os.path.join(work, "turning.xmf")
+stopped = threading.Event()
+
+
+def put(data):
+    with open(name + ".new", "wb") as new:
+        new.write(data)
+    os.rename(name + ".new", name)
+
+
+def shown():
+    return subprocess.run([command, "show", name], capture_output=True, check=False)
+
+
+wanted = []
+for data in contents:
+    put(data)
+    wanted.append(shown().stdout)
+
+
+def turn():
+    while not stopped.is_set():
+        for data in contents:
+            put(data)
+
+
+turning = threading.Thread(target=turn)
+turning.start()
+got = [shown() for _ in range(60)]
+stopped.set()
+turning.join()
+seen = {run.stdout for run in got}
+print("one at a time" if seen <= set(wanted) and len(seen) == 2 and not any(run.returncode or run.stderr for run in got) else got)
+END
+[ "$(cat "$work/mixed")" = 'one at a time' ]
+count $? 'show, a file that changes meanwhile'
 {
     head -c 20 cut.xmf
     sleep 1
@@ -1140,7 +1182,7 @@ if [ "$(id -u)" -eq 0 ] && mkdir "$work/disk" && mount -t tmpfs -o size=16k tmpf
     [ $? -eq 1 ] && [ -s "$work/error" ]
     count $? 'a full disk at standard output'
     rm "$work/disk/out"
-    # a full TMPDIR changes nothing, but for show of what is no regular file
+    # a full TMPDIR changes nothing
     "$xmf" sheet worked.xmf >"$work/wanted"
     run env TMPDIR="$work/disk" "$xmf" sheet worked.xmf
     judge 'a full TMPDIR, sheet' '' 0
@@ -1152,10 +1194,8 @@ if [ "$(id -u)" -eq 0 ] && mkdir "$work/disk" && mount -t tmpfs -o size=16k tmpf
     "$xmf" show mobile.xmf >"$work/wanted"
     run env TMPDIR="$work/disk" "$xmf" show mobile.xmf
     judge 'a full TMPDIR, show' '' 0
-    # what can be read only once is held there
     run env TMPDIR="$work/disk" "$xmf" show - <mobile.xmf
-    [ "$status" -eq 1 ] && grep -qx 'xmf: -: could not be held in a temporary file' "$work/error" && [ "$(ls "$work/disk")" = full ]
-    count $? 'a full TMPDIR, show of standard input'
+    judge 'a full TMPDIR, show of standard input' '' 0
     if [ -f "$root/target/staticlib/libcapi.a" ]; then
         run "$root/install" "$work/disk/prefix"
         [ "$status" -eq 1 ] && [ -s "$work/error" ] && [ -z "$(find "$work/disk" -type f ! -name full)" ]

@@ -1,12 +1,1 @@
-pub mod Ending
-pub mod Answering
-pub mod Origin
-pub mod Found
-pub mod Retitling
-pub mod Mended
-pub mod Needing
-pub mod Accounting
-pub mod Totalled
-pub mod Tagging
-pub mod Running
 pub mod Questioned

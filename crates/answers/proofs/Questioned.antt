@@ -5,7 +5,7 @@ use mathlib.Core.List.{List}
 use Prim.Native.Nat.{ℕ, _≤_, _<_}
 use lib.ListN.{length}
 use borrow.Author.Tests.{lt-ltb, le-ltb}
-use Rattle.answers.specs.Answer.{answer, tooLongLine, closed}
+use Rattle.lines.specs.Answer.{answer, tooLongLine, closed}
 use Rattle.answers.specs.Questions.{answerTo, answerOf}
 use Rattle.answers.specs.declared.asked.Asked.{Asked}
 

@@ -6,13 +6,17 @@ use Prim.Native.Nat.{ℕ}
 use lib.Dec.{ltb}
 use lib.ListN.{length}
 use Rattle.find.specs.Told.{wantedOf}
-use Rattle.answers.specs.Answer.{Answer, answer, tooLongLine, closed}
-use Rattle.answers.specs.Printed.{sheetAnswer, movedAnswer, checkAnswer, verdictAnswer, placeAnswer, resourceAnswer, originAnswer, rowsAnswer, foundAnswer, titlesAnswer, correctedAnswer, retitledAnswer, utf8Answer, utf16Answer}
-use Rattle.answers.specs.Bytes.{bytesAnswer, bytesLineAnswer}
-use Rattle.answers.specs.Tags.{rowTagAnswer, tagAnswer}
-use Rattle.answers.specs.Runs.{runsAnswer}
-use Rattle.answers.specs.Mended.{mendedAnswer, mendLinesAnswer}
-use Rattle.answers.specs.Needed.{needsAnswer, rowNeedsAnswer, countAnswer}
+use Rattle.lines.specs.Answer.{Answer, answer, tooLongLine, closed}
+use Rattle.outputs.specs.Printed.{sheetAnswer, movedAnswer, utf8Answer, utf16Answer}
+use Rattle.checks.specs.Checked.{checkAnswer, verdictAnswer}
+use Rattle.places.specs.Places.{placeAnswer, resourceAnswer, originAnswer}
+use Rattle.tables.specs.Rows.{rowsAnswer, foundAnswer}
+use Rattle.titles.specs.Titles.{titlesAnswer, correctedAnswer, retitledAnswer}
+use Rattle.usage.specs.Bytes.{bytesAnswer, bytesLineAnswer}
+use Rattle.frames.specs.Tags.{rowTagAnswer, tagAnswer}
+use Rattle.spans.specs.Runs.{runsAnswer}
+use Rattle.outputs.specs.Mended.{mendedAnswer, mendLinesAnswer}
+use Rattle.needs.specs.Needed.{needsAnswer, rowNeedsAnswer, countAnswer}
 use Rattle.answers.specs.declared.asked.Asked.{Asked}
 use Rattle.answers.specs.declared.asked.Asked.the-variants as asked
 

@@ -1,11 +1,11 @@
 // Every question that the command asks of a file, and the answer.
 ghost use lib.ListN.{length};
 ghost use Rattle.io.specs.Counts.{Counts};
-ghost use Rattle.answers.specs.Answer.{Gives};
+ghost use Rattle.lines.specs.Answer.{Gives};
 ghost use Rattle.answers.specs.Questions.{answerOf};
-use crate::lines::Made;
-use crate::tags::Frames;
 use find::Field;
+use frames::Frames;
+use lines::Made;
 
 // A question. Its numbers are rows, but for the channel and the resource of `Count`. The name or the title that a question has is lent beside it. What is asked
 // of a sheet (`Moved`), of a tag (`Tag`) or of a text (the conversions) is lent as the file.
@@ -44,38 +44,36 @@ pub fn make(asked: Asked, word: &[u8], file: &[u8], tail: &[u8], text: &mut [u8]
     ensures { λ r. ⌜ Gives (length (now (text .entry))) r (now (text .exit)) (answerOf (now (word .entry)) (now (tail .entry)) (length (now (text .entry))) (now (file .entry)) asked) ⌝ }
 {
     if file.len() > program::LONGEST {
-        return crate::lines::refuse_long(text, tail);
+        return lines::refuse_long(text, tail);
     }
     match asked {
-        Asked::Sheet => crate::sheets::make_sheet(file, false, tail, text),
-        Asked::Sheet2 => crate::sheets::make_sheet(file, true, tail, text),
-        Asked::Moved => crate::sheets::make_moved(file, text),
-        Asked::Check => crate::checks::make_check(file, tail, text),
-        Asked::Rows => crate::rows::make_rows(file, text),
-        Asked::Verdict => crate::verdicts::make_verdict(file, tail, text),
-        Asked::Near(row, field) => crate::finds::make_found(file, true, row, field, word, text),
-        Asked::Own(row, field) => crate::finds::make_found(file, false, row, field, word, text),
-        Asked::Place(row) => crate::places::make_place(file, row, text),
-        Asked::Resource(row) => crate::places::make_resource(file, row, text),
-        Asked::Origin(row) => crate::places::make_origin(file, row, text),
-        Asked::Needs => crate::needs::make_needs(file, text),
-        Asked::RowNeeds(row) => crate::needs::make_row_needs(file, row, text),
+        Asked::Sheet => outputs::make_sheet(file, false, tail, text),
+        Asked::Sheet2 => outputs::make_sheet(file, true, tail, text),
+        Asked::Moved => outputs::make_moved(file, text),
+        Asked::Check => checks::make_check(file, tail, text),
+        Asked::Rows => tables::make_rows(file, text),
+        Asked::Verdict => checks::make_verdict(file, tail, text),
+        Asked::Near(row, field) => tables::make_found(file, true, row, field, word, text),
+        Asked::Own(row, field) => tables::make_found(file, false, row, field, word, text),
+        Asked::Place(row) => places::make_place(file, row, text),
+        Asked::Resource(row) => places::make_resource(file, row, text),
+        Asked::Origin(row) => places::make_origin(file, row, text),
+        Asked::Needs => needs::make_needs(file, text),
+        Asked::RowNeeds(row) => needs::make_row_needs(file, row, text),
         Asked::Count(row, channel, resource) => {
-            crate::needs::make_count(file, row, channel, resource, text)
+            needs::make_count(file, row, channel, resource, text)
         }
-        Asked::Bytes => crate::kinds::make_bytes(file, tail, text),
-        Asked::BytesLine => crate::kinds::make_bytes_line(file, tail, text),
-        Asked::RowTag(row, meant, which) => {
-            crate::tags::make_row_tag(file, row, meant, which, text)
-        }
-        Asked::Tag(which) => crate::tags::make_tag(file, which, text),
-        Asked::Titles => crate::titles::make_titles(file, text),
-        Asked::Corrected(row) => crate::titles::make_corrected(file, row, word, text),
-        Asked::Retitled(row) => crate::titles::make_retitled(file, row, word, text),
-        Asked::Utf8 => crate::texts::make_utf8(file, text),
-        Asked::Utf16 => crate::texts::make_utf16(file, text),
-        Asked::Runs => crate::runs::make_runs(file, text),
-        Asked::Mended => crate::mending::make_mended(file, text),
-        Asked::MendLines => crate::mending::make_mend_lines(file, text),
+        Asked::Bytes => usage::make_bytes(file, tail, text),
+        Asked::BytesLine => usage::make_bytes_line(file, tail, text),
+        Asked::RowTag(row, meant, which) => { frames::make_row_tag(file, row, meant, which, text) }
+        Asked::Tag(which) => frames::make_tag(file, which, text),
+        Asked::Titles => titles::make_titles(file, text),
+        Asked::Corrected(row) => titles::make_corrected(file, row, word, text),
+        Asked::Retitled(row) => titles::make_retitled(file, row, word, text),
+        Asked::Utf8 => outputs::make_utf8(file, text),
+        Asked::Utf16 => outputs::make_utf16(file, text),
+        Asked::Runs => spans::make_runs(file, text),
+        Asked::Mended => outputs::make_mended(file, text),
+        Asked::MendLines => outputs::make_mend_lines(file, text),
     }
 }

@@ -1,32 +1,14 @@
-// What the command prints: for each question a function that makes the answer's text in a lent buffer, and one for all of them.
+// What the command prints: one function for all questions, which makes the answer's text in a lent buffer.
 mod asked;
-mod checks;
-mod finds;
-mod kinds;
-mod lines;
-mod mending;
-mod needs;
-mod notes;
-mod places;
-mod rows;
-mod runs;
-mod sheets;
-mod sums;
-mod tags;
-mod texts;
-mod titles;
-mod verdicts;
 
 pub use asked::Asked;
 pub use asked::make;
+pub use frames::Frames;
 pub use lines::Made;
 pub use lines::put_field;
 pub use lines::put_head;
-pub use notes::put_changes;
-pub use notes::put_safe;
-pub use sums::Sums;
-pub use sums::add_file;
-pub use sums::make_sums;
-pub use sums::no_sums;
-pub use tags::Frames;
 pub use titles::title_format;
+pub use usage::Sums;
+pub use usage::add_file;
+pub use usage::make_sums;
+pub use usage::no_sums;

@@ -47,19 +47,23 @@ use Rattle.title.specs.Title.{elsewhere, isNoTitle}
 use Rattle.promises.specs.Promises as page
 use Rattle.promises.specs.Promises.{full}
 use Rattle.promises.proofs.Kept.{reads-same, asks-alike, find-alike, find-own-alike, fields-alike, mobile-alike, sheet-alike, sheet2-alike, shown-alike}
-use Rattle.answers.specs.Answer.{Answer, answer, plainly, nothing, tooLongLine, closed, fitted, printed, reads}
-use Rattle.answers.specs.Printed.{sheetAnswer, okLine, checked, checkAnswer, judged, verdictAnswer, placed, placeAnswer, origin, originAnswer, allRows, rowsAnswer, itemRow, foundLines, foundBy, foundAnswer}
-use Rattle.answers.specs.Printed.{titleLine, titleLines, titles, titlesAnswer, rowText, titleFormat}
-use Rattle.answers.specs.Needed.{countLine, needsIn, itemNeeds, rowNeeds, both, needsFrom, needs, needsAnswer, answers, shownNeeds, shownCount, ofRow, rowNeedsAnswer, countAnswer}
-use Rattle.answers.specs.Mended.{mendLinesAnswer}
-use Rattle.answers.specs.Runs.{runsShown, runsAnswer}
-use Rattle.answers.specs.Bytes.{kindsIn, lined, bytesAnswer, inLine, bytesLineAnswer, plusFile}
-use Rattle.answers.specs.Tags.{tagLines, withheld, shownTag, rowTagAnswer}
+use Rattle.lines.specs.Answer.{Answer, answer, plainly, nothing, tooLongLine, closed, fitted, printed, reads}
+use Rattle.outputs.specs.Printed.{sheetAnswer}
+use Rattle.checks.specs.Checked.{okLine, checked, checkAnswer, judged, verdictAnswer}
+use Rattle.places.specs.Places.{placed, placeAnswer, origin, originAnswer}
+use Rattle.tables.specs.Rows.{allRows, rowsAnswer, itemRow, foundLines, foundBy, foundAnswer}
+use Rattle.titles.specs.Titles.{titleLine, titleLines, titles, titlesAnswer, titleFormat}
+use Rattle.notes.specs.Changes.{rowText}
+use Rattle.needs.specs.Needed.{countLine, needsIn, itemNeeds, rowNeeds, both, needsFrom, needs, needsAnswer, answers, shownNeeds, shownCount, ofRow, rowNeedsAnswer, countAnswer}
+use Rattle.outputs.specs.Mended.{mendLinesAnswer}
+use Rattle.spans.specs.Runs.{runsShown, runsAnswer}
+use Rattle.usage.specs.Bytes.{kindsIn, lined, bytesAnswer, inLine, bytesLineAnswer, plusFile}
+use Rattle.frames.specs.Tags.{tagLines, withheld, shownTag, rowTagAnswer}
 use Rattle.answers.specs.Questions.{answerTo, answerOf}
 use Rattle.answers.specs.declared.asked.Asked.{Asked}
 use Rattle.answers.specs.declared.asked.Asked.the-variants as asked
-use Rattle.answers.specs.declared.tags.Frames.{Frames}
-use Rattle.answers.proofs.Found.{stands}
+use Rattle.frames.specs.declared.Frames.{Frames}
+use Rattle.tables.proofs.Found.{stands}
 use Rattle.secrecy.specs.Private.{handsOut, SameAnswers, SameTitles, SameSums, Unseen}
 
 -- ---- where a test holds, and where it does not

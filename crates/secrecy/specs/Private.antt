@@ -12,15 +12,17 @@ use Rattle.room.specs.Room.{good}
 use Rattle.tree.specs.Reading.{rows}
 use Rattle.tree.specs.Hidden.{isHidden, DifferInPrivate}
 use Rattle.account.specs.declared.Totals.{Totals}
-use Rattle.answers.specs.Answer.{nothing, reads}
-use Rattle.answers.specs.Printed.{itemRow, foundLines, titleLine, rowText, titleFormat}
-use Rattle.answers.specs.Needed.{rowNeeds, shownNeeds, shownCount}
-use Rattle.answers.specs.Bytes.{plusFile}
-use Rattle.answers.specs.Tags.{shownTag}
+use Rattle.lines.specs.Answer.{nothing, reads}
+use Rattle.tables.specs.Rows.{itemRow, foundLines}
+use Rattle.titles.specs.Titles.{titleLine, titleFormat}
+use Rattle.notes.specs.Changes.{rowText}
+use Rattle.needs.specs.Needed.{rowNeeds, shownNeeds, shownCount}
+use Rattle.usage.specs.Bytes.{plusFile}
+use Rattle.frames.specs.Tags.{shownTag}
 use Rattle.answers.specs.Questions.{answerOf}
 use Rattle.answers.specs.declared.asked.Asked.{Asked}
 use Rattle.answers.specs.declared.asked.Asked.the-variants as asked
-use Rattle.answers.specs.declared.tags.Frames.{Frames}
+use Rattle.frames.specs.declared.Frames.{Frames}
 
 -- The questions whose answer hands out bytes: a resource, and the file with another content; those where there is no file at all, but a sheet, a tag or a text that is
 -- converted; and the tag of a hidden row, where it is asked for as such. Whoever asks them wants the bytes.

@@ -1,7 +1,8 @@
 -- How many bytes a line has at least, by the size of its row's data.
 -- Assumes nothing.
 use mathlib.Core.Path.{_≡_, refl, ap}
-use mathlib.Core.Bool.{Bool, true, false, cond}
+use mathlib.Core.Bool.{Bool, true, false, cond, _&&_}
+use mathlib.Core.Logic.{_⊎_, inl, inr}
 use mathlib.Core.List.{List, [], _∷_}
 use Prim.Native.Nat.{ℕ, _+_, _*_, _/_, _%_, _≤_, _<_}
 use native.Mathlib.Decide.{decLt}
@@ -9,20 +10,21 @@ use native.Mathlib.Omega.{arith}
 use lib.Dec.{ltb, eqb}
 use lib.ListN.{length, drop, length-append, length-take, List·getD-eq-default}
 use lib.Seq.{getD-take, getD-drop}
-use borrow.Author.Tests.{eq-eqb, ne-eqb, eqb-true, eqb-false}
+use borrow.Author.Tests.{eq-eqb, ne-eqb, eqb-true, eqb-false, lt-ltb, le-ltb}
 use Rattle.cursor.specs.Vlq.{part}
 use Rattle.cursor.specs.declared.Item.{Item}
 use Rattle.room.specs.Room.{Result, good, bad}
 use Rattle.room.proofs.Counting.{part-length}
+use Rattle.tree.specs.Rows.{ItemIn}
 use Rattle.tree.specs.Hidden.{isHidden}
 use Rattle.unicode.specs.Unicode.{bytesOf, bytes16, utf8, first16, chars, bytesAll, unmark, toUtf8}
 use Rattle.unicode.proofs.Walk.{Bytes, write-all}
 use Rattle.unicode.proofs.Sixteen.{short16, long16, form16}
 use Rattle.unicode.proofs.Eight.{four8, some8}
 use Rattle.unicode.proofs.Back.{written-good}
-use Rattle.sheet.specs.Sheet.{plain, hexed, escaped, escapedPart, shownByte, shown, shownOr, unicodeText, tabbed, textOf, itemLine, visibleLine}
-use Rattle.sheet.specs.Inside.{leastLine}
-use Rattle.sheet.proofs.Lines.{text-unicode, text-plain}
+use Rattle.sheet.specs.Sheet.{plain, hexed, escaped, escapedPart, shownByte, shown, shownOr, unicodeText, tabbed, label, textOf, itemLine, visibleLine}
+use Rattle.sheet.specs.Inside.{leastText, leastLine}
+use Rattle.sheet.proofs.Lines.{text-unicode, text-plain, label-custom}
 
 -- ---- a byte of text for each byte
 
@@ -105,7 +107,7 @@ converted-least d h e =
 
 -- ---- a part of bytes has bytes
 
-part-bytes : (f : List ℕ) (at n : ℕ) → Bytes f → Bytes (part f at n)
+pub part-bytes : (f : List ℕ) (at n : ℕ) → Bytes f → Bytes (part f at n)
 part-bytes f at n h i = elim (decLt i n) [
   | yes l ↦ rw (getD-take n (drop at f) i 0 l, getD-drop at f i 0) (h (at + i))
   | no l ↦ let e = length-take n (drop at f) in rw (List·getD-eq-default (part f at n) 0 {n = i} (omega arith)) (omega arith)
@@ -122,27 +124,49 @@ module _ (f : List ℕ) (h : Bytes f) where
   unfolding unicodeText
   unicode-least at n l = shown-or (part f at n) (escapedPart f at n) n (part-bytes f at n h) (part-length f at n l) (escaped-least f at n l) (toUtf8 (part f at n)) refl
 
-  module _ (r : Item) (l : r .place + r .size ≤ length f) where
-    -- a line has more bytes than its text, by two at least
-    over : length (textOf f r) + 2 ≤ length (itemLine f r)
+  module _ (r : Item) (in-file : ItemIn (length f) r) where
+    -- a line has more bytes than its label and its text, by two at least
+    over : length (label f r) + length (textOf f r) + 2 ≤ length (itemLine f r)
     unfolding itemLine tabbed
     over = simp length-append (omega arith)
 
+    name-in : r .kind ≡ 1 → (r .kind ≡ 0) ⊎ (r .field + r .nameLength ≤ length f) → r .field + r .nameLength ≤ length f
+    name-in e (inl z) = absurd (omega arith)
+    name-in e (inr l) = l
+
+    name-least : r .kind ≡ 1 → r .nameLength ≤ length (itemLine f r)
+    unfolding tabbed
+    name-least e =
+        let x = escaped-least f (r .field) (r .nameLength) (name-in e (in-file .1)) in
+        let y = ap length (label-custom f r e) in
+        let z = over in
+        omega arith
+
     line-by : (p : Bool) → eqb (r .format) 2 ≡ p → cond p (r .size / 2) (r .size) ≤ length (itemLine f r)
     line-by true e =
-        let x = unicode-least (r .place) (r .size) l in
+        let x = unicode-least (r .place) (r .size) (in-file .0) in
         let y = ap length (text-unicode f r (eqb-true (r .format) 2 e)) in
         let z = over in
         omega arith
     line-by false e =
-        let x = escaped-least f (r .place) (r .size) l in
+        let x = escaped-least f (r .place) (r .size) (in-file .0) in
         let y = ap length (text-plain f r (eqb-false (r .format) 2 e)) in
         let z = over in
         omega arith
 
-    visible-by : (p : Bool) → cond p 0 (cond (eqb (r .format) 2) (r .size / 2) (r .size)) ≤ length (cond p [] (itemLine f r))
+    text-least : leastText r ≤ length (itemLine f r)
+    unfolding leastText
+    text-least = line-by (eqb (r .format) 2) refl
+
+    named-by : (p q : Bool) → eqb (r .kind) 1 ≡ p → cond (p && q) (r .nameLength) (leastText r) ≤ length (itemLine f r)
+    named-by true true e = name-least (eqb-true (r .kind) 1 e)
+    named-by true false e = text-least
+    named-by false q e = text-least
+
+    visible-by : (p : Bool)
+        → cond p 0 (cond (eqb (r .kind) 1 && ltb (r .size) (r .nameLength)) (r .nameLength) (leastText r)) ≤ length (cond p [] (itemLine f r))
     visible-by true = omega arith
-    visible-by false = line-by (eqb (r .format) 2) refl
+    visible-by false = named-by (eqb (r .kind) 1) (ltb (r .size) (r .nameLength)) refl
 
     pub line-least : leastLine r ≤ length (visibleLine f r)
     unfolding leastLine visibleLine
@@ -154,10 +178,23 @@ pub least-hidden : (r : Item) → r .format % 2 ≡ 1 → 0 ≡ leastLine r
 unfolding leastLine isHidden
 least-hidden r e = simp (eq-eqb (r .format % 2) 1 e)
 
-pub least-unicode : (r : Item) → r .format ≡ 2 → r .size / 2 ≡ leastLine r
+pub least-name : (r : Item) → (r .format % 2 ≡ 1 → ⊥) → r .kind ≡ 1 → r .size < r .nameLength → r .nameLength ≡ leastLine r
 unfolding leastLine isHidden
-least-unicode r e = rw e refl
+least-name r n e l = simp (ne-eqb (r .format % 2) 1 n, eq-eqb (r .kind) 1 e, lt-ltb (r .size) (r .nameLength) l)
 
-pub least-plain : (r : Item) → (r .format % 2 ≡ 1 → ⊥) → (r .format ≡ 2 → ⊥) → r .size ≡ leastLine r
-unfolding leastLine isHidden
-least-plain r n m = simp (ne-eqb (r .format % 2) 1 n, ne-eqb (r .format) 2 m)
+module _ (r : Item) (n : r .format % 2 ≡ 1 → ⊥) where
+  pub least-standard : (r .kind ≡ 1 → ⊥) → leastText r ≡ leastLine r
+  unfolding leastLine isHidden
+  least-standard m = simp (ne-eqb (r .format % 2) 1 n, ne-eqb (r .kind) 1 m)
+
+  pub least-custom : r .kind ≡ 1 → r .nameLength ≤ r .size → leastText r ≡ leastLine r
+  unfolding leastLine isHidden
+  least-custom e l = simp (ne-eqb (r .format % 2) 1 n, eq-eqb (r .kind) 1 e, le-ltb (r .size) (r .nameLength) l)
+
+pub least-unicode : (r : Item) → r .format ≡ 2 → r .size / 2 ≡ leastText r
+unfolding leastText
+least-unicode r e = simp (eq-eqb (r .format) 2 e)
+
+pub least-plain : (r : Item) → (r .format ≡ 2 → ⊥) → r .size ≡ leastText r
+unfolding leastText
+least-plain r m = simp (ne-eqb (r .format) 2 m)

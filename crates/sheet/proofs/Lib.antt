@@ -6,3 +6,4 @@ pub mod Shown
 pub mod Listed
 pub mod Filling
 pub mod Least
+pub mod LowBytes

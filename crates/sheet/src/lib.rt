@@ -11,7 +11,7 @@ ghost use Rattle.sheet.specs.Sheet.{hexDigits, plain, hexed, escaped, es
 ghost use Rattle.room.specs.Counts.{Counts};
 ghost use Rattle.room.specs.Told.{told};
 ghost use Rattle.unicode.specs.Unicode.{utf8, toUtf8, isGood};
-ghost use Rattle.sheet.specs.Inside.{PlainUpTo, Fills, leastLine};
+ghost use Rattle.sheet.specs.Inside.{PlainUpTo, Fills, leastText, leastLine, letter, Letters, lows};
 use cursor::Item;
 use cursor::Node;
 use room::Written;
@@ -197,7 +197,61 @@ fn put_shown_char(out: &mut [u8], to: usize, c: u64) -> usize
     unicode::put8(out, to, c)
 }
 
-// Puts UTF-16 that converts, as it is shown.
+// Whether the unit at a place is a byte that stands for itself.
+fn is_letter(units: &[u8], at: usize) -> bool
+    requires { ⌜ at + 2 ≤ length (now units) ⌝ }
+    ensures { λ r. ⌜ r ≡ letter (now (units .entry)) at ⌝ }
+{
+    if units[at] != 0 {
+        return false;
+    }
+    is_plain(units[at + 1])
+}
+
+// How many such units follow each other from a place on.
+fn letters(units: &[u8], from: usize) -> usize
+    requires { ⌜ from ≤ length (now units) ⌝ }
+    ensures { λ r. ⌜ Letters (now (units .entry)) from r ⌝ }
+{
+    let most = (units.len() - from) / 2;
+    let mut n = 0;
+    while n < most {
+        if !is_letter(units, from + 2 * n) {
+            return n;
+        }
+        n = n + 1;
+    }
+    n
+}
+
+// The same where the first character is known: one from 80h up is none of them.
+fn letters_with(units: &[u8], from: usize, first: u64) -> usize
+    requires { ⌜ from ≤ length (now units) ⌝ }
+    ensures { λ r. ⌜ Letters (now (units .entry)) from r ⌝ }
+{
+    if 0x80 <= first {
+        return 0;
+    }
+    letters(units, from)
+}
+
+// Puts the low bytes of `size` units.
+fn put_lows(out: &mut [u8], to: usize, units: &[u8], from: usize, size: usize) -> usize
+    requires { ⌜ from + 2 * size ≤ length (now units) ⌝ }
+    ensures { λ r. ⌜ Counts (now (out .entry)) (now (out .exit)) to (lows (now (units .entry)) from size) r ⌝ }
+{
+    if room::room_at(out.len(), to) < size {
+        return room::on(to, size);
+    }
+    let mut i = 0;
+    while i < size {
+        out[to + i] = units[from + 2 * i + 1];
+        i = i + 1;
+    }
+    to + size
+}
+
+// Puts UTF-16 that converts, as it is shown. Letters that stand for themselves are put together.
 fn put_shown(out: &mut [u8], to: usize, units: &[u8]) -> usize
     requires { ⌜ isGood (toUtf8 (now units)) ≡ true ⌝ }
     ensures { λ r. ⌜ Counts (now (out .entry)) (now (out .exit)) to (shownOr (toUtf8 (now (units .entry))) []) r ⌝ }
@@ -210,20 +264,31 @@ fn put_shown(out: &mut [u8], to: usize, units: &[u8]) -> usize
                 return next;
             }
             Character::Is(value, size) => {
-                next = put_shown_char(out, next, value);
-                at = at + size;
+                let n = letters_with(units, at, value);
+                if 0 < n {
+                    next = put_lows(out, next, units, at, n);
+                    at = at + 2 * n;
+                } else {
+                    next = put_shown_char(out, next, value);
+                    at = at + size;
+                }
             }
         }
     }
     next
 }
 
-// Puts `size` bytes of the file, which are UTF-16: converted, or as text where they do not convert.
+// Puts `size` bytes of the file, which are UTF-16: converted, or as text where they do not convert. Where all units are letters that stand for themselves, they convert.
 fn put_unicode(out: &mut [u8], to: usize, file: &[u8], from: usize, size: usize) -> usize
     requires { ⌜ from + size ≤ length (now file) ⌝ }
     ensures { λ r. ⌜ Counts (now (out .entry)) (now (out .exit)) to (unicodeText (now (file .entry)) from size) r ⌝ }
 {
     let end = from + size;
+    let mark = unicode::after_mark(&file[from..end]);
+    let n = letters(&file[from..end], mark);
+    if mark + 2 * n == size {
+        return put_lows(out, to, &file[from..end], mark, n);
+    }
     if unicode::converts(&file[from..end]) {
         return put_shown(out, to, &file[from..end]);
     }
@@ -267,30 +332,46 @@ pub fn put_visible_line(out: &mut [u8], to: usize, file: &[u8], items: &[u64], i
     put_item_line(out, to, file, items, i)
 }
 
-// A count of bytes that the line of an item row has at least. None of its text is read for that: a byte of data gives a byte of text, and two bytes of UTF-16
-// give one, but for a mark; and a line has more than its text.
-fn least_line(row: Item) -> u64
-    ensures { λ r. ⌜ r ≡ leastLine row ⌝ }
+// A count of bytes that the line of a visible item row has at least, by its data: a byte gives a byte of text, and two bytes of UTF-16 give one, but for a mark;
+// and a line has more than its text.
+fn least_text(row: Item) -> u64
+    ensures { λ r. ⌜ r ≡ leastText row ⌝ }
 {
-    if row.format % 2 == 1 {
-        return 0;
-    }
     if row.format != 2 {
         return row.size;
     }
     row.size / 2
 }
 
-// Puts the line of item row i, if the row is visible. Past the room's end nothing is counted, and no text is read whose line must end there.
+// A count of bytes that the line of an item row has at least, by its name and its data. No byte of the file is read for that.
+fn least_line(row: Item) -> u64
+    ensures { λ r. ⌜ r ≡ leastLine row ⌝ }
+{
+    if row.format % 2 == 1 {
+        return 0;
+    }
+    if row.kind != 1 {
+        return least_text(row);
+    }
+    if row.size < row.nameLength {
+        return row.nameLength;
+    }
+    least_text(row)
+}
+
+// Puts the line of item row i, if the row is visible. Where the file is longer than the room, nothing is counted past the room's end, and no byte is read of a
+// line that must end there; a shorter file is read to its end at little cost.
 fn put_row_line(out: &mut [u8], to: usize, file: &[u8], items: &[u64], i: usize) -> usize
     requires { ⌜ (i * itemWidth + itemWidth ≤ length (now items)) × ItemIn (length (now file)) (itemFrom (now items) (i * itemWidth)) ⌝ }
     ensures { λ r. ⌜ Fills (now (out .entry)) (now (out .exit)) to (visibleLine (now (file .entry)) (itemFrom (now (items .entry)) (i * itemWidth))) r ⌝ }
 {
-    if out.len() < to {
-        return to;
-    }
-    if ((out.len() - to) as u64) < least_line(tree::item_at(items, i)) {
-        return room::TOO_MANY;
+    if out.len() < file.len() {
+        if out.len() < to {
+            return to;
+        }
+        if ((out.len() - to) as u64) < least_line(tree::item_at(items, i)) {
+            return room::TOO_MANY;
+        }
     }
     put_visible_line(out, to, file, items, i)
 }

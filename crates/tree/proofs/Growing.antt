@@ -3,7 +3,7 @@
 use mathlib.Core.Path.{_≡_, refl, sym, ap, ap₂, _∙_, subst}
 use mathlib.Core.Bool.{Bool, true, false, cond, not, _&&_, _||_}
 use mathlib.Core.List.{List, [], _∷_, _++_}
-use Prim.Native.Nat.{ℕ, zero, suc, _+_, _*_, _-_, _≤_, _<_}
+use Prim.Native.Nat.{ℕ, zero, suc, _+_, _*_, _-_, _≤_, _<_, min}
 use native.Mathlib.Nat.{zero-add}
 use native.Mathlib.Omega.{arith}
 use borrow.Author.Tests.{lt-ltb, le-ltb, eq-eqb, ne-eqb}
@@ -29,7 +29,8 @@ use Rattle.tree.specs.Reading.{nodeOf, nodesOf, itemsOf, allNodes, Resul
 use Rattle.node.specs.Node.{outsideTree}
 use Rattle.tree.specs.Tree.{node, detached}
 use Rattle.tree.specs.Rows.{nodeFrom, nodeAt, noNode, nodesIn, rowStarting, Rising}
-use Rattle.tree.specs.Told.{Stands, AllBefore, said, left, Leaves}
+use Rattle.tree.specs.Told.{Stands, Spanned, Spans, said, left, Leaves}
+use Rattle.tree.specs.declared.Span.{Span}
 use Rattle.room.proofs.Sets.{sets-front}
 use Rattle.tree.proofs.Filled.{filled, puts-fills, nodes-length}
 use Rattle.tree.proofs.Nodes.{one-node}
@@ -37,6 +38,7 @@ use Rattle.tree.proofs.Follow.{target, Reached, known, added, reached}
 use Rattle.tree.proofs.Ends.{detached-inside, detached-ends}
 use Rattle.tree.proofs.Starts.{detached-row}
 use Rattle.tree.proofs.Parents.{row-front}
+use Rattle.tree.proofs.Targets.{taken-over, taken-more}
 use Rattle.tree.proofs.Shown.{part-is}
 use Rattle.tree.proofs.TreeRows.{tree-few, attached, tree-still}
 use Rattle.tree.proofs.Rows.{node-at, in-front, nodes-back, node-in}
@@ -270,55 +272,68 @@ more-stands lim f h {σ = σ} {log = log} {log′ = log′} {r = r} z s (added a
 pub same-state : {v w : State} → good v ≡ good w → v ≡ w
 same-state e = cc
 
--- the rows of the longer log lie before b′, if the one more row does
-more-before : (lim : Limits) (f : List ℕ) (h : Header) {log log′ : Events} {tree b b′ : ℕ} {r : Node} → h .extent .start ≤ length f → Reached lim f h log r log′
-    → AllBefore tree (nodesOf log) b → b ≤ b′
-    → (length (nodesOf log) < length (nodesOf log′) → nodeAt (nodesOf log′) (length (nodesOf log)) .start + nodeAt (nodesOf log′) (length (nodesOf log)) .size ≤ b′)
-    → AllBefore tree (nodesOf log′) b′
+-- the rows of the longer log lie in the span with the one more row
+more-spanned : (lim : Limits) (f : List ℕ) (h : Header) {log log′ : Events} {tree : ℕ} {v v′ : Span} {r : Node} → h .extent .start ≤ length f → Reached lim f h log r log′
+    → Spanned tree (length f) (nodesOf log) v → (length (nodesOf log′) ≤ length (nodesOf log) → v′ ≡ v)
+    → (length (nodesOf log) < length (nodesOf log′) → Spans (nodeAt (nodesOf log′) (length (nodesOf log))) v v′) → Spanned tree (length f) (nodesOf log′) v′
 unfolding detachedAt
-more-before lim f h z (known x y) old l new = rw y λ i a k. let q = old i a k in (omega arith, omega arith)
-more-before lim f h {log} {log′} {tree} {b} {b′} {r} z (added s y) old l new = λ i a k.
-    let x = context lim h (length f) in
+more-spanned lim f h {tree = tree} {v} {v′} z (known x y) old same new =
+    let e = ap (λ es. length (nodesOf es)) y in
+    subst (λ es. Spanned tree (length f) (nodesOf es) v′) (sym y) (subst (Spanned tree (length f) _) (sym (same (omega arith))) old)
+more-spanned lim f h {log} {log′} {tree} {v} {v′} {r} z (added s y) old same new =
     let inside = part-is h (length f) (r .target) z .0 in
-    let w = detached-row f x _ _ _ (madeBy log) (r .target) inside (s .runs) in
-    let v = detached-ends x f (r .target) _ _ _ _ inside (s .runs) in
-    let n : nodesOf log′ ≡ nodesOf log ++ (w .row ∷ []) = ap nodesOf y ∙ rows-on nodeOf log _ ∙ ap (λ v. nodesOf log ++ v) (w .rows-are ∙ ap (λ v. w .row ∷ v) (w .alone refl)) in
-    let c = ap length n ∙ length-append (nodesOf log) (w .row ∷ []) in
-    elim (decLt i (length (nodesOf log))) [
-      | yes m ↦ (let e = ap (λ v. nodeAt v i) n ∙ row-front (nodesOf log) (w .row ∷ []) i m in let q = old i a m in
-          subst (λ (p : Node). (p .start < b′) × (p .start + p .size ≤ b′)) (sym e) (omega arith, omega arith))
-      | no m ↦ (let j : length (nodesOf log) ≡ i = omega arith in
-          let e : nodeAt (nodesOf log′) (length (nodesOf log)) ≡ w .row = ap (λ v. nodeAt v (length (nodesOf log))) n ∙ getD-append-seam (nodesOf log) (w .row) [] noNode in
-          let q : w .row .start + w .row .size ≤ b′ = subst (λ (p : Node). p .start + p .size ≤ b′) e (new (omega arith)) in
-          let at = w .start in
-          let end = w .stop in
-          subst (λ v. (nodeAt (nodesOf log′) v .start < b′) × (nodeAt (nodesOf log′) v .start + nodeAt (nodesOf log′) v .size ≤ b′)) j
-          (subst (λ (p : Node). (p .start < b′) × (p .start + p .size ≤ b′)) (sym e) (omega arith, q)))
-    ]
+    let w = detached-row f (context lim h (length f)) _ _ _ (madeBy log) (r .target) inside (s .runs) in
+    let q = detached-ends (context lim h (length f)) f (r .target) _ _ _ _ inside (s .runs) in
+    let ns = nodesOf log in
+    let n : nodesOf log′ ≡ ns ++ (w .row ∷ []) = ap nodesOf y ∙ rows-on nodeOf log _ ∙ ap (λ v. ns ++ v) (w .rows-are ∙ ap (λ v. w .row ∷ v) (w .alone refl)) in
+    let c = ap length n ∙ length-append ns (w .row ∷ []) in
+    let last : nodeAt (ns ++ (w .row ∷ [])) (length ns) ≡ w .row = getD-append-seam ns (w .row) [] noNode in
+    let wide : Spans (w .row) v v′ = subst (λ (p : Node). Spans p v v′) (ap (λ v. nodeAt v (length ns)) n ∙ last) (new (omega arith)) in
+    let at = w .start in
+    let end = w .stop in
+    let some : 0 < w .row .size = omega arith in
+    let b = wide .beyond-is in
+    subst (λ v. Spanned tree (length f) v v′) (sym n) (record {
+      rows = λ i a k. elim (decLt i (length ns)) [
+        | yes m ↦ (let o = old .rows i a m in
+            subst (λ (p : Node). (p .detached ≡ 1) × (0 < p .size) × (p .start + p .size ≤ v′ .beyond .0)) (sym (row-front ns (w .row ∷ []) i m)) (o .0, o .1, omega arith))
+        | no m ↦ (let j : length ns ≡ i = omega (arith, length-append ns (w .row ∷ [])) in
+            subst (λ (p : Node). (p .detached ≡ 1) × (0 < p .size) × (p .start + p .size ≤ v′ .beyond .0))
+            (sym (ap (nodeAt (ns ++ (w .row ∷ []))) (sym j) ∙ last)) (w .detached-is, some, omega arith))
+      ];
+      first-is = wide .first-is ∙ ap (min (w .row .start)) (old .first-is) ∙ sym (taken-more ns (w .row) (length f) (w .detached-is) some);
+    })
 
 module _ (lim : Limits) (f : List ℕ) (h : Header) (tree : ℕ) (t₀ u₀ : List ℕ) (m₀ : Made) where
-  -- with row i next, the rows m made, those of detached nodes before b, and the tables t and u: what is left comes to what the whole comes to
-  pub record Following (i : ℕ) (t u : List ℕ) (m : Made) (b : ℕ) (σ : State) (log₀ : Events) : Type 0 where
+  -- with row i next, the rows m made, those of detached nodes in the span v, and the tables t and u: what is left comes to what the whole comes to
+  pub record Following (i : ℕ) (t u : List ℕ) (m : Made) (v : Span) (σ : State) (log₀ : Events) : Type 0 where
     pub log : Events
     pub stands : Stands lim (length f) σ log tree t u m
-    pub before : AllBefore tree (nodesOf log) b
+    pub spanned : Spanned tree (length f) (nodesOf log) v
     pub same : follow (lim .nodes) lim f h 0 (good log₀) ≡ follow (lim .nodes - i) lim f h i (good log)
 
-  abbrev pub Follows : ℕ → List ℕ → List ℕ → Made → ℕ → Type 0
-  Follows i t u m b = (σ : State) (log₀ : Events) → Stands lim (length f) σ log₀ tree t₀ u₀ m₀ → Following i t u m b σ log₀
+  abbrev pub Follows : ℕ → List ℕ → List ℕ → Made → Span → Type 0
+  Follows i t u m v = (σ : State) (log₀ : Events) → Stands lim (length f) σ log₀ tree t₀ u₀ m₀ → Following i t u m v σ log₀
 
-  pub follows-begun : m₀ .nodes ≤ tree → Follows 0 t₀ u₀ m₀ 0
-  follows-begun l σ log₀ s = record {
-    log = log₀;
-    stands = s;
-    before = λ i a k. let n = node-count s in absurd (omega arith);
-    same = ap (λ k. follow k lim f h 0 (good log₀)) (let e : lim .nodes ≡ lim .nodes - 0 = omega arith in e);
-  }
+  pub follows-begun : m₀ .nodes ≤ tree → {v : Span} → v .first .0 ≡ length f → Follows 0 t₀ u₀ m₀ v
+  follows-begun l e σ log₀ s =
+      let n = node-count s in
+      let o = s .first .tree-is in
+      record {
+        log = log₀;
+        stands = s;
+        spanned = record {
+          rows = λ i a k. absurd (omega arith);
+          first-is = e ∙ sym (taken-over (nodesOf log₀) 0 (length f) (λ i k d z. let y = attached (nodesOf log₀) i (omega arith) in absurd (omega arith)));
+        };
+        same = ap (λ k. follow k lim f h 0 (good log₀)) (let e : lim .nodes ≡ lim .nodes - 0 = omega arith in e);
+      }
 
-  module _ {i : ℕ} {t u : List ℕ} {m : Made} {b : ℕ} (w : Follows i t u m b) where
-    -- the rows that stand in the table lie before b
-    pub follows-before : lim .nodes * nodeWidth ≤ length t → (σ : State) (log₀ : Events) → Stands lim (length f) σ log₀ tree t₀ u₀ m₀ → AllBefore tree (nodesIn (m .nodes) t) b
-    follows-before room σ log₀ s = let x = w σ log₀ s in subst (λ v. AllBefore tree v b) (sym (rows-stand (x .stands) room)) (x .before)
+  module _ {i : ℕ} {t u : List ℕ} {m : Made} {v : Span} (w : Follows i t u m v) where
+    -- the rows that stand in the table lie in the span
+    pub follows-spanned : lim .nodes * nodeWidth ≤ length t → (σ : State) (log₀ : Events) → Stands lim (length f) σ log₀ tree t₀ u₀ m₀
+        → Spanned tree (length f) (nodesIn (m .nodes) t) v
+    follows-spanned room σ log₀ s = let x = w σ log₀ s in subst (λ ns. Spanned tree (length f) ns v) (sym (rows-stand (x .stands) room)) (x .spanned)
 
     -- a row is left: what it leads to
     turn : (σ : State) (log₀ : Events) (s : Stands lim (length f) σ log₀ tree t₀ u₀ m₀) → i < m .nodes
@@ -370,20 +385,18 @@ module _ (lim : Limits) (f : List ℕ) (h : Header) (tree : ℕ) (t₀ u₀ : Li
             }
             by (bad a b) q y fits = let v : _≡_ {A = ℕ} 0 1 = cc in absurd (omega arith)
 
-        pub follows-on : lim .nodes * nodeWidth ≤ length t′ → {b′ : ℕ} → b ≤ b′
-            → (m .nodes < n .nodes → nodeAt (nodesIn (n .nodes) t′) (m .nodes) .start + nodeAt (nodesIn (n .nodes) t′) (m .nodes) .size ≤ b′) → Follows (i + 1) t′ u′ n b′
-        follows-on room {b′} lb new σ log₀ s =
+        pub follows-on : lim .nodes * nodeWidth ≤ length t′ → {v′ : Span} → (n .nodes ≤ m .nodes → v′ ≡ v)
+            → (m .nodes < n .nodes → Spans (nodeAt (nodesIn (n .nodes) t′) (m .nodes)) v v′) → Follows (i + 1) t′ u′ n v′
+        follows-on room {v′} same new σ log₀ s =
             let x = w σ log₀ s in
             let y = follows-next σ log₀ s in
             let e₁ = node-count (x .stands) in
             let e₂ = node-count (y .stands) in
-            let rows = rows-stand (y .stands) room in
             record {
               log = y .log;
               stands = y .stands;
-              before = more-before lim f h z (y .came) (x .before) lb λ l₁.
-                  subst (λ v. nodeAt (nodesOf (y .log)) v .start + nodeAt (nodesOf (y .log)) v .size ≤ b′) e₁
-                  (subst (λ v. nodeAt v (m .nodes) .start + nodeAt v (m .nodes) .size ≤ b′) rows (new (omega arith)));
+              spanned = more-spanned lim f h z (y .came) (x .spanned) (λ l₁. same (omega arith)) λ l₁.
+                  subst (λ k. Spans (nodeAt (nodesOf (y .log)) k) v v′) e₁ (subst (λ ns. Spans (nodeAt ns (m .nodes)) v v′) (rows-stand (y .stands) room) (new (omega arith)));
               same = y .same;
             }
 

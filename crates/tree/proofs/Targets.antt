@@ -2,13 +2,14 @@
 -- Assumes nothing.
 use mathlib.Core.Path.{_≡_, refl, sym, ap, _∙_, subst}
 use mathlib.Core.Bool.{Bool, true, false, cond, _&&_}
-use mathlib.Core.List.{List, [], _∷_}
+use mathlib.Core.Logic.{_⊎_, inl, inr}
+use mathlib.Core.List.{List, [], _∷_, _++_}
 use Prim.Native.Nat.{ℕ, zero, suc, _+_, _*_, _≤_, _<_, min, max}
 use native.Mathlib.Omega.{arith}
 use native.Mathlib.Decide.{decLt}
 use lib.Dec.{eqb, ltb, leb}
 use lib.ListN.{length, take, drop, drop-of-length-le}
-use borrow.Author.Tests.{eq-eqb, ne-eqb, lt-ltb, le-ltb, le-leb, lt-leb}
+use borrow.Author.Tests.{eq-eqb, ne-eqb, eqb-true, lt-ltb, le-ltb, ltb-true, ltb-false, le-leb, lt-leb}
 use Rattle.machine.specs.Machine.{Out, run}
 use Rattle.cursor.specs.Rows.{referenceFrame}
 use Rattle.cursor.specs.Leaves.{number}
@@ -19,7 +20,8 @@ use Rattle.header.specs.declared.Extent.{Extent}
 use Rattle.metadata.specs.Tables.{nodeWidth}
 use Rattle.tree.specs.Reading.{placeOf, offsetAt, outside, partEnd, firstTaken}
 use Rattle.tree.specs.Rows.{nodeFrom, nodesIn, nodeAt, rowStarting, Rising}
-use Rattle.tree.specs.Told.{AllBefore}
+use Rattle.tree.specs.Told.{Spanned}
+use Rattle.tree.specs.declared.Span.{Span}
 use Rattle.tree.proofs.Rows.{node-at, nodes-in-length, in-front}
 
 -- ---- outside header and tree
@@ -201,7 +203,7 @@ pub taken-done : (ws : List ℕ) (count tree place end i : ℕ) → i ≡ tree �
 taken-done ws count tree place end i e l a = let c = nodes-in-length ws count in ap (λ v. firstTaken (drop v (nodesIn count ws)) place end) e
     ∙ taken-all (nodesIn count ws) tree place end (omega arith) a
 
--- ---- rows that end at or before the place need not be asked
+-- ---- a place before or behind all detached nodes: their rows need not be asked
 
 -- a row that starts there is among the first k
 start-front : (ns : List Node) (k p : ℕ) → rowStarting (take k ns) p < k → k ≤ length ns → rowStarting ns p < length ns
@@ -215,13 +217,12 @@ start-front (r ∷ ns) (suc k) p l m = by (eqb (r .start) p) l (λ z. start-fron
     by true z rest = omega arith
     by false z rest = let w = rest (omega arith) in omega arith
 
--- none does, where the rows from row k on start before it
-start-none : (ns : List Node) (k p : ℕ) → k ≤ rowStarting (take k ns) p → ((i : ℕ) → k ≤ i → i < length ns → nodeAt ns i .start < p) → length ns ≤ rowStarting ns p
+-- none does, where none of the first k does and none of the others
+start-none : (ns : List Node) (k p : ℕ) → k ≤ rowStarting (take k ns) p → ((i : ℕ) → k ≤ i → i < length ns → nodeAt ns i .start ≡ p → ⊥) → length ns ≤ rowStarting ns p
 unfolding rowStarting
 start-none [] k p l h = omega arith
 start-none (r ∷ ns) zero p l h =
-    let z : r .start < p = h 0 (omega arith) (omega arith) in
-    let n : (r .start ≡ p) → ⊥ = λ e. omega arith in
+    let n : (r .start ≡ p) → ⊥ = h 0 (omega arith) (omega arith) in
     let w = start-none ns 0 p (omega arith) (λ i a b. h (suc i) (omega arith) (omega arith)) in
     rw (ne-eqb _ _ n) (omega arith)
 start-none (r ∷ ns) (suc k) p l h = by (eqb (r .start) p) l (λ z. start-none ns k p z (λ i a b. h (suc i) (omega arith) (omega arith)))
@@ -231,7 +232,7 @@ start-none (r ∷ ns) (suc k) p l h = by (eqb (r .start) p) l (λ z. start-none 
     by true z rest = absurd (omega arith)
     by false z rest = let w = rest (omega arith) in omega arith
 
--- and those rows take nothing from it on
+-- rows that end at or before p take nothing from it on
 taken-front : (ns : List Node) (k p end : ℕ) → ((i : ℕ) → k ≤ i → i < length ns → nodeAt ns i .start + nodeAt ns i .size ≤ p) → firstTaken (take k ns) p end ≡ firstTaken ns p end
 unfolding firstTaken
 taken-front [] zero p end h = refl
@@ -243,7 +244,69 @@ taken-front (r ∷ ns) (suc k) p end h =
     ap (λ v. cond (eqb (r .detached) 1 && ltb p (r .start + r .size)) (min (max p (r .start)) v) v)
     (taken-front ns k p end (λ i a b. h (suc i) (omega arith) (omega arith)))
 
-module _ (ws : List ℕ) {tree k count b : ℕ} (place : ℕ) (asked : (tree ≤ k) × (k ≤ count) × (k < count → b ≤ place)) where
+-- rows that start at e or later take nothing before it
+pub taken-over : (ns : List Node) (p e : ℕ) → ((i : ℕ) → i < length ns → nodeAt ns i .detached ≡ 1 → 0 < nodeAt ns i .start + nodeAt ns i .size → e ≤ nodeAt ns i .start)
+    → firstTaken ns p e ≡ e
+unfolding firstTaken
+taken-over [] p e h = refl
+taken-over (r ∷ ns) p e h = by (eqb (r .detached) 1) refl (ltb p (r .start + r .size)) refl (taken-over ns p e (λ i l. h (suc i) (omega arith)))
+  where
+    by : (b : Bool) → eqb (r .detached) 1 ≡ b → (c : Bool) → ltb p (r .start + r .size) ≡ c → firstTaken ns p e ≡ e
+        → (cond (b && c) (min (max p (r .start)) (firstTaken ns p e)) (firstTaken ns p e)) ≡ e
+    by true x true y rest =
+        let a = ltb-true p (r .start + r .size) y in
+        let l : e ≤ r .start = h 0 (omega arith) (eqb-true (r .detached) 1 x) (omega arith) in
+        omega arith
+    by true x false y rest = rest
+    by false x c y rest = rest
+
+-- the first byte that any has is one that each has or comes before
+pub taken-least : (ns : List Node) (size i : ℕ) → i < length ns → nodeAt ns i .detached ≡ 1 → 0 < nodeAt ns i .start + nodeAt ns i .size → firstTaken ns 0 size ≤ nodeAt ns i .start
+unfolding firstTaken
+taken-least [] size i l d z = absurd (omega arith)
+taken-least (r ∷ ns) size zero l d z =
+    let e₁ : eqb (r .detached) 1 ≡ true = eq-eqb _ _ d in
+    let e₂ : ltb 0 (r .start + r .size) ≡ true = lt-ltb _ _ z in
+    rw (e₁, e₂) (omega arith)
+taken-least (r ∷ ns) size (suc i) l d z = by (eqb (r .detached) 1 && ltb 0 (r .start + r .size)) (taken-least ns size i (omega arith) d z)
+  where
+    by : (b : Bool) → firstTaken ns 0 size ≤ nodeAt ns i .start → (cond b (min (max 0 (r .start)) (firstTaken ns 0 size)) (firstTaken ns 0 size)) ≤ nodeAt ns i .start
+    by true x = omega arith
+    by false x = x
+
+-- from a place before it on, it is the first
+taken-low : (ns : List Node) (p end size : ℕ) → end ≤ size → p < firstTaken ns 0 size → firstTaken ns p end ≡ min (firstTaken ns 0 size) end
+unfolding firstTaken
+taken-low [] p end size l h = omega arith
+taken-low (r ∷ ns) p end size l h = by (eqb (r .detached) 1) (ltb 0 (r .start + r .size)) refl (ltb p (r .start + r .size)) refl h (taken-low ns p end size l)
+  where
+    by : (b c : Bool) → ltb 0 (r .start + r .size) ≡ c → (d : Bool) → ltb p (r .start + r .size) ≡ d
+        → p < (cond (b && c) (min (max 0 (r .start)) (firstTaken ns 0 size)) (firstTaken ns 0 size))
+        → (p < firstTaken ns 0 size → firstTaken ns p end ≡ min (firstTaken ns 0 size) end)
+        → (cond (b && d) (min (max p (r .start)) (firstTaken ns p end)) (firstTaken ns p end))
+        ≡ min (cond (b && c) (min (max 0 (r .start)) (firstTaken ns 0 size)) (firstTaken ns 0 size)) end
+    by false c x d y m rest = rest m
+    by true true x true y m rest = let e = rest (omega arith) in omega arith
+    by true true x false y m rest = let a = ltb-false p (r .start + r .size) y in absurd (omega arith)
+    by true false x true y m rest = let a = ltb-false 0 (r .start + r .size) x in let a′ = ltb-true p (r .start + r .size) y in absurd (omega arith)
+    by true false x false y m rest = rest m
+
+-- one more row
+pub taken-more : (ns : List Node) (r : Node) (size : ℕ) → r .detached ≡ 1 → 0 < r .size → firstTaken (ns ++ (r ∷ [])) 0 size ≡ min (r .start) (firstTaken ns 0 size)
+unfolding firstTaken
+taken-more [] r size d z =
+    let e₁ : eqb (r .detached) 1 ≡ true = eq-eqb _ _ d in
+    let e₂ : ltb 0 (r .start + r .size) ≡ true = lt-ltb 0 (r .start + r .size) (omega arith) in
+    rw (e₁, e₂) (omega arith)
+taken-more (q ∷ ns) r size d z = by (eqb (q .detached) 1 && ltb 0 (q .start + q .size)) (taken-more ns r size d z)
+  where
+    by : (b : Bool) → firstTaken (ns ++ (r ∷ [])) 0 size ≡ min (r .start) (firstTaken ns 0 size)
+        → (cond b (min (max 0 (q .start)) (firstTaken (ns ++ (r ∷ [])) 0 size)) (firstTaken (ns ++ (r ∷ [])) 0 size))
+        ≡ min (r .start) (cond b (min (max 0 (q .start)) (firstTaken ns 0 size)) (firstTaken ns 0 size))
+    by true x = omega arith
+    by false x = x
+
+module _ (ws : List ℕ) {tree k count : ℕ} (place : ℕ) (span : Span) (asked : (tree ≤ k) × (k ≤ count) × (k < count → (span .beyond .0 ≤ place) ⊎ (place < span .first .0))) where
   pub row-asked : (i : ℕ) → i < k → nodeAt (nodesIn k ws) i ≡ nodeAt (nodesIn count ws) i
   row-asked i l = node-at ws k i l ∙ sym (node-at ws count i (omega arith))
 
@@ -254,17 +317,44 @@ module _ (ws : List ℕ) {tree k count b : ℕ} (place : ℕ) (asked : (tree ≤
       let w = start-front (nodesIn count ws) k place (omega arith) (omega arith) in
       omega arith
 
-  module _ (before : AllBefore tree (nodesIn count ws) b) where
+  module _ {size : ℕ} (s : Spanned tree size (nodesIn count ws) span) where
+    other : (i : ℕ) → k ≤ i → i < length (nodesIn count ws) → nodeAt (nodesIn count ws) i .start ≡ place → ⊥
+    other i a z e =
+        let c = nodes-in-length ws count in
+        let y = s .rows i (omega arith) z in
+        let f = s .first-is in
+        elim (asked .2 (omega arith)) [
+          | inl x ↦ omega arith
+          | inr x ↦ omega (arith, taken-least (nodesIn count ws) size i z (y .0) (omega arith))
+        ]
+
     pub asked-none : {q : ℕ} → q ≡ rowStarting (nodesIn k ws) place → k ≤ q → count ≤ rowStarting (nodesIn count ws) place
     asked-none {q} e l =
         let c = nodes-in-length ws count in
         let y : q ≡ rowStarting (take k (nodesIn count ws)) place = e ∙ ap (λ v. rowStarting v place) (in-front ws k count (asked .1)) in
-        let w = start-none (nodesIn count ws) k place (omega arith)
-        (λ i a z. let y = before i (omega arith) z in let x = asked .2 (omega arith) in omega arith) in
+        let w = start-none (nodesIn count ws) k place (omega arith) other in
         omega arith
 
-    pub asked-taken : (end : ℕ) → firstTaken (nodesIn k ws) place end ≡ firstTaken (nodesIn count ws) place end
-    asked-taken end =
+    pub asked-taken : {end e taken : ℕ} → end ≤ size → (place < span .first .0 → e ≡ min (span .first .0) end) × (span .first .0 ≤ place → e ≡ end)
+        → taken ≡ firstTaken (nodesIn k ws) place e → taken ≡ firstTaken (nodesIn count ws) place end
+    asked-taken {end} {e} {taken} l h t =
         let c = nodes-in-length ws count in
-        ap (λ v. firstTaken v place end) (in-front ws k count (asked .1)) ∙ taken-front (nodesIn count ws) k place end
-        (λ i a z. let y = before i (omega arith) z in let x = asked .2 (omega arith) in omega arith)
+        let f = s .first-is in
+        t ∙ (elim (decLt place (span .first .0)) [
+          | yes m ↦ (let e₁ = h .0 m in
+              taken-over (nodesIn k ws) place e
+              (λ i a d z.
+              let b = nodes-in-length ws k in
+              let r = row-asked i (omega arith) in
+              omega (
+                arith,
+                ap (λ (x : Node). x .start) r,
+                taken-least (nodesIn count ws) size i (omega arith) (sym (ap (λ (x : Node). x .detached) r) ∙ d) (subst (λ (x : Node). 0 < x .start + x .size) r z),
+              ))
+              ∙ (e₁ ∙ ap (λ v. min v end) f ∙ sym (taken-low (nodesIn count ws) place end size l (omega arith))))
+          | no m ↦ (let e₁ : e ≡ end = h .1 (omega arith) in
+              ap (firstTaken (nodesIn k ws) place) e₁ ∙ ap (λ v. firstTaken v place end) (in-front ws k count (asked .1)) ∙ taken-front (nodesIn count ws) k place end
+              (λ i a z.
+              let y = s .rows i (omega arith) z in
+              elim (asked .2 (omega arith)) [ inl x ↦ omega arith | inr x ↦ absurd (omega arith) ]))
+        ])

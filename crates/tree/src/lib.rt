@@ -1,6 +1,7 @@
 // Reads the tree of a file into two lent tables, one of node rows and one of item rows.
 ghost use mathlib.Core.Path.{_≡_};
 ghost use mathlib.Core.List.{List};
+ghost use mathlib.Core.Logic.{_⊎_};
 ghost use Prim.Native.Nat.{ℕ, _≤_, _<_, _^_, _*_, _+_, min, max};
 ghost use lib.ListN.{length, replicate};
 ghost use lib.Seq.{sets};
@@ -16,7 +17,7 @@ ghost use Rattle.tree.specs.Tree.{mostDepth, folder, node, tree};
 ghost use Rattle.tree.specs.Reading.{nodesOf, good, context, offsetAt, outside, partEnd, firstTaken, followRow, follow, readOf, answerOf, nodeTable, itemTable};
 ghost use Rattle.tree.specs.Rows.{nodeFrom, itemFrom, nodeAt, nodesIn, rowStarting, Rising};
 ghost use Rattle.tree.specs.Asking.{reads, readsBehind, nodesRead, itemsRead};
-ghost use Rattle.tree.specs.Told.{Lent, Stands, AllBefore, Leaves};
+ghost use Rattle.tree.specs.Told.{Lent, Stands, Spanned, Spans, Leaves};
 use cursor::Cursor;
 use cursor::FilePlace;
 use cursor::Item;
@@ -42,6 +43,12 @@ pub struct Summary {
     pub tree: usize,
     pub nodes: usize,
     pub items: usize,
+}
+
+// Where the detached nodes lie that were read: `first` is the first byte that one of them has, or the file's end, and all end at or before `beyond`.
+struct Span {
+    first: FilePlace,
+    beyond: FilePlace,
 }
 
 pub enum Read {
@@ -436,30 +443,51 @@ fn offset_at(file: &[u8], nodes: &[u64], count: usize, i: usize) -> FilePlace
     }
 }
 
-// How many rows are asked about a place: where all detached nodes end at or before it, the tree's alone.
-fn rows_asked(tree: usize, count: usize, place: FilePlace, beyond: FilePlace) -> usize
+// How many rows are asked about a place: where it lies before all detached nodes or behind them, the tree's alone.
+fn rows_asked(tree: usize, count: usize, place: FilePlace, span: Span) -> usize
     requires { ⌜ tree ≤ count ⌝ }
-    ensures { λ r. ⌜ (tree ≤ r) × (r ≤ count) × (r < count → beyond .0 ≤ place .0) ⌝ }
+    ensures { λ r. ⌜ (tree ≤ r) × (r ≤ count) × (r < count → (span .beyond .0 ≤ place .0) ⊎ (place .0 < span .first .0)) ⌝ }
 {
+    let first = span.first;
+    let beyond = span.beyond;
     if beyond.0 <= place.0 {
+        return tree;
+    }
+    if place.0 < first.0 {
         return tree;
     }
     count
 }
 
-// A place that row `known` ends at or before, if there is one more than `known` rows, and not before `beyond`.
-fn beyond_row(nodes: &[u64], known: usize, count: usize, beyond: FilePlace) -> FilePlace
-    requires { ⌜ (count * nodeWidth ≤ length (now nodes)) × ((i : ℕ) → i < count → nodeAt (nodesIn count (now nodes)) i .start + nodeAt (nodesIn count (now nodes)) i .size < 2 ^ 28) ⌝ }
-    ensures { λ r. ⌜ (beyond .0 ≤ r .0) × (known < count → nodeAt (nodesIn count (now (nodes .entry))) known .start + nodeAt (nodesIn count (now (nodes .entry))) known .size ≤ r .0) ⌝ }
+// `end`, or for a place before all detached nodes the first byte that one of them has, if that comes sooner.
+fn end_asked(place: FilePlace, end: FilePlace, span: Span) -> FilePlace
+    ensures { λ r. ⌜ (place .0 < span .first .0 → r .0 ≡ min (span .first .0) (end .0)) × (span .first .0 ≤ place .0 → r .0 ≡ end .0) ⌝ }
 {
-    if count <= known {
-        return beyond;
+    let first = span.first;
+    if place.0 < first.0 {
+        return FilePlace(lesser(first.0, end.0));
     }
-    let row = node_at(nodes, known);
-    FilePlace(greater(beyond.0, (row.start + row.size) as usize))
+    end
 }
 
-// Follows row i: reads the node that it refers to, if that one has no row yet. The detached rows lie before `beyond`.
+// The span with the node of row `known`, if there are more rows than `known`.
+fn with_row(nodes: &[u64], known: usize, count: usize, span: Span) -> Span
+    requires { ⌜ (count * nodeWidth ≤ length (now nodes)) × ((i : ℕ) → i < count → nodeAt (nodesIn count (now nodes)) i .start + nodeAt (nodesIn count (now nodes)) i .size < 2 ^ 28) ⌝ }
+    ensures { λ r. ⌜ (count ≤ known → r ≡ span) × (known < count → Spans (nodeAt (nodesIn count (now (nodes .entry))) known) span r) ⌝ }
+{
+    if count <= known {
+        return span;
+    }
+    let row = node_at(nodes, known);
+    let first = span.first;
+    let beyond = span.beyond;
+    Span {
+        first: FilePlace(lesser(row.start as usize, first.0)),
+        beyond: FilePlace(greater(beyond.0, (row.start + row.size) as usize)),
+    }
+}
+
+// Follows row i: reads the node that it refers to, if that one has no row yet. `span` says where the detached nodes lie.
 fn follow_row(
     file: &[u8],
     types: &[u64],
@@ -470,9 +498,9 @@ fn follow_row(
     tree: usize,
     i: usize,
     made: Made,
-    beyond: FilePlace,
+    span: Span,
 ) -> Walked
-    requires { ⌜ Lent h lim (now file) (now types) (now nodes) (now items) × (i < made .nodes) × ((σ : State) × (log : Events) × Stands lim (length (now file)) σ log tree (now nodes) (now items) made) × AllBefore tree (nodesIn (made .nodes) (now nodes)) (beyond .0) ⌝ }
+    requires { ⌜ Lent h lim (now file) (now types) (now nodes) (now items) × (i < made .nodes) × ((σ : State) × (log : Events) × Stands lim (length (now file)) σ log tree (now nodes) (now items) made) × Spanned tree (length (now file)) (nodesIn (made .nodes) (now nodes)) span ⌝ }
     ensures { λ r. ⌜ ((σ : State) (log : Events) → Stands lim (length (now (file .entry))) σ log tree (now (nodes .entry)) (now (items .entry)) made
         → Leaves lim σ r (now (nodes .exit)) (now (items .exit)) (followRow lim (now (file .entry)) (headerOf h (now (types .entry))) log (nodeAt (nodesOf log) i))) ⌝ }
 {
@@ -482,7 +510,7 @@ fn follow_row(
         return Walked::Done(made, here);
     }
     let to = FilePlace(row.target as usize);
-    let asked = rows_asked(tree, made.nodes, to, beyond);
+    let asked = rows_asked(tree, made.nodes, to, span);
     if row_starting(nodes, tree, asked, to) < asked {
         return Walked::Done(made, here);
     }
@@ -490,7 +518,7 @@ fn follow_row(
     let extent = h.extent;
     if is_outside(extent, file.len(), to) {
         let end = part_end(extent, file.len(), to);
-        let taken = first_taken(nodes, tree, asked, to, end);
+        let taken = first_taken(nodes, tree, asked, to, end_asked(to, end, span));
         let headerEnd = extent.end;
         let scope = Scope {
             limits: lim,
@@ -538,13 +566,16 @@ fn follow_all(
 {
     let mut m = made;
     let mut i = 0;
-    // All detached nodes that were read end at or before here. Most lead on to a later place, which is not looked for among them.
-    let mut beyond = FilePlace(0);
+    // A place before or behind all detached nodes that were read is not looked for among them. In a chain, most lead to such a place.
+    let mut span = Span {
+        first: FilePlace(file.len()),
+        beyond: FilePlace(0),
+    };
     while i < m.nodes {
-        match follow_row(file, types, nodes, items, h, lim, made.nodes, i, m, beyond) {
+        match follow_row(file, types, nodes, items, h, lim, made.nodes, i, m, span) {
             Walked::Refused(n, p) => return Walked::Refused(n, p),
             Walked::Done(n, _) => {
-                beyond = beyond_row(nodes, m.nodes, n.nodes, beyond);
+                span = with_row(nodes, m.nodes, n.nodes, span);
                 m = n;
             }
         }

@@ -22,12 +22,12 @@ unfoldable pub after : List ℕ → Result (List ℕ) → Result (List ℕ)
 after a (good t) = good (a ++ t)
 after a (bad n p) = bad n p
 
-after-after : (a b : List ℕ) (r : Result (List ℕ)) → after a (after b r) ≡ after (a ++ b) r
+pub after-after : (a b : List ℕ) (r : Result (List ℕ)) → after a (after b r) ≡ after (a ++ b) r
 unfolding after
 after-after a b (good t) = ap good (sym (append-assoc a b t))
 after-after a b (bad n p) = refl
 
-after-none : (r : Result (List ℕ)) → r ≡ after [] r
+pub after-none : (r : Result (List ℕ)) → r ≡ after [] r
 unfolding after
 after-none (good t) = refl
 after-none (bad n p) = refl
@@ -47,7 +47,7 @@ char-in form d h at e l =
     let z = length-drop at d in
     (w .0, w₁, omega arith)
 
-step : {Fine : List ℕ → Type 0} {first : List ℕ → Char} (put : ℕ → List ℕ) {own : ℕ → List ℕ} → Form Scalar Fine first own → (d : List ℕ) →
+pub step : {Fine : List ℕ → Type 0} {first : List ℕ → Char} (put : ℕ → List ℕ) {own : ℕ → List ℕ} → Form Scalar Fine first own → (d : List ℕ) →
     Fine d → (at : ℕ) {c n : ℕ} → char c n ≡ first (drop at d)
     → at < length d → converted first put at (drop at d) ≡ after (put c) (converted first put (at + n) (drop (at + n) d))
 unfolding converted

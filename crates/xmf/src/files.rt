@@ -1,10 +1,15 @@
 // Files that are read, and files that are made.
 ghost use mathlib.Core.Path.{_≡_};
+ghost use mathlib.Core.List.{[]};
 ghost use lib.ListN.{length};
 ghost use Rattle.io.specs.Counts.{Counts};
+ghost use Rattle.lines.specs.Answer.{Gives};
+ghost use Rattle.answers.specs.Questions.{answerOf};
+ghost use Rattle.answers.specs.declared.asked.Asked.the-variants as question;
 use crate::messages;
 use crate::words::Number;
 use answers::Asked;
+use answers::Made;
 use libc::STDERR_FILENO;
 use libc::STDIN_FILENO;
 use libc::STDOUT_FILENO;
@@ -192,9 +197,17 @@ fn say_origin(name: &[u8], file: &[u8], row: usize) {
     io::write_all(STDERR_FILENO, &text[..n]);
 }
 
+// Makes the resource of a node row; or the line of the refusal.
+fn make_resource(file: &[u8], row: usize, text: &mut [u8]) -> Made
+    ensures { λ r. ⌜ Counts (r .size) (now (text .exit)) ⌝ }
+    ensures { λ r. ⌜ Gives (length (now (text .entry))) r (now (text .exit)) (answerOf [] [] (length (now (text .entry))) (now (file .entry)) (question.Resource row)) ⌝ }
+{
+    answers::make(Asked::Resource(row), b"", file, b"", text)
+}
+
 fn extract_from(name: &[u8], file: &[u8], row: usize) -> u64 {
     let mut text = io::large_buffer();
-    let made = answers::make(Asked::Resource(row), b"", file, b"", &mut text);
+    let made = make_resource(file, row, &mut text);
     let n = made.size;
     if made.status != 0 {
         return say_refusal(&text[..n], made.status);
@@ -249,7 +262,7 @@ fn has_high(bytes: &[u8]) -> bool {
 // Says what changed.
 fn say_changes(old: &[u8], new: &[u8], row: usize) {
     let mut text = io::buffer();
-    let end = answers::put_changes(&mut text, old, new, row);
+    let end = notes::put_changes(&mut text, old, new, row);
     let n = messages::within(end, &text);
     io::write_all(STDERR_FILENO, &text[..n]);
 }
@@ -269,10 +282,19 @@ fn may_type(name: &[u8], file: &[u8], row: usize, title: &[u8]) -> bool {
     true
 }
 
+// Makes what a question about a file, or a text, is answered by: for `correct` the file with other data in an item row, for `convert` the converted text; or the line of
+// the refusal.
+fn make_bytes(asked: Asked, word: &[u8], file: &[u8], text: &mut [u8]) -> Made
+    ensures { λ r. ⌜ Counts (r .size) (now (text .exit)) ⌝ }
+    ensures { λ r. ⌜ Gives (length (now (text .entry))) r (now (text .exit)) (answerOf (now (word .entry)) [] (length (now (text .entry))) (now (file .entry)) asked) ⌝ }
+{
+    answers::make(asked, word, file, b"", text)
+}
+
 // Corrects the data of an item row.
 fn correct_data(file: &[u8], row: usize, asked: Asked, bytes: &[u8]) -> u64 {
     let mut text = io::large_buffer();
-    let made = answers::make(asked, bytes, file, b"", &mut text);
+    let made = make_bytes(asked, bytes, file, &mut text);
     let n = made.size;
     if made.status != 0 {
         return say_refusal(&text[..n], made.status);
@@ -447,10 +469,18 @@ fn say_mended(file: &[u8]) {
     io::write_all(STDERR_FILENO, &text[..n]);
 }
 
-// Makes the copy whose header is mended.
+// Makes the copy whose header is mended; or the line of the refusal.
+fn make_mended(file: &[u8], text: &mut [u8]) -> Made
+    ensures { λ r. ⌜ Counts (r .size) (now (text .exit)) ⌝ }
+    ensures { λ r. ⌜ Gives (length (now (text .entry))) r (now (text .exit)) (answerOf [] [] (length (now (text .entry))) (now (file .entry)) question.Mended) ⌝ }
+{
+    answers::make(Asked::Mended, b"", file, b"", text)
+}
+
+// Hands it out.
 fn mend_from(file: &[u8]) -> u64 {
     let mut text = io::large_buffer();
-    let made = answers::make(Asked::Mended, b"", file, b"", &mut text);
+    let made = make_mended(file, &mut text);
     let n = made.size;
     if made.status != 0 {
         return say_refusal(&text[..n], made.status);
@@ -489,7 +519,7 @@ pub fn mend(count: usize) -> u64 {
 
 fn convert_from(asked: Asked, file: &[u8]) -> u64 {
     let mut text = io::large_buffer();
-    let made = answers::make(asked, b"", file, b"", &mut text);
+    let made = make_bytes(asked, b"", file, &mut text);
     let n = made.size;
     if made.status != 0 {
         return say_refusal(&text[..n], made.status);

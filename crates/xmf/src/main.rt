@@ -7,26 +7,31 @@ mod files;
 mod messages;
 mod runs;
 mod shelves;
+mod shows;
 mod sums;
 mod tags;
 mod words;
 
+ghost use mathlib.Core.Path.{_≡_};
+ghost use Rattle.xmf.specs.Status.{worst};
 use answers::Asked;
 use find::Field;
 use libc::STDOUT_FILENO;
 use words::Number;
 
-// Where a file's name stands: nowhere, at the end of the line, before an answer that is no refusal and on standard error, or on a line of its own.
+// Where a file's name stands: nowhere, at the end of the line, before an answer that is no refusal and on standard error, or on a line of its own. `Shown` is for the view
+// of `show`.
 enum Mode {
     Plain,
     Field,
     Above,
     Head,
     Quiet,
+    Shown,
 }
 
 // What became of one file: its status; or standard output failed.
-enum Ended {
+pub enum Ended {
     Status(u64),
     Stopped,
 }
@@ -39,6 +44,7 @@ fn in_line(mode: Mode) -> bool {
         Mode::Plain => false,
         Mode::Head => false,
         Mode::Quiet => false,
+        Mode::Shown => false,
     }
 }
 
@@ -74,6 +80,7 @@ fn write_before(mode: Mode, name: &[u8], status: u64) -> bool {
         Mode::Plain => true,
         Mode::Field => true,
         Mode::Quiet => true,
+        Mode::Shown => true,
     }
 }
 
@@ -85,6 +92,19 @@ fn is_quiet(mode: Mode) -> bool {
         Mode::Field => false,
         Mode::Above => false,
         Mode::Head => false,
+        Mode::Shown => false,
+    }
+}
+
+// Whether a mode is the one for `show`.
+fn is_shown(mode: Mode) -> bool {
+    match mode {
+        Mode::Shown => true,
+        Mode::Plain => false,
+        Mode::Field => false,
+        Mode::Above => false,
+        Mode::Head => false,
+        Mode::Quiet => false,
     }
 }
 
@@ -121,6 +141,9 @@ fn answer(asked: Asked, mode: Mode, word: &[u8], name: &[u8], file: &[u8]) -> En
 
 // Answers for the file with this name.
 fn answer_named(asked: Asked, mode: Mode, word: &[u8], name: &[u8]) -> Ended {
+    if is_shown(mode) {
+        return shows::show_named(name);
+    }
     let mut file = program::file_buffer();
     let got = files::read_named(name, &mut file);
     if !got.right {
@@ -143,7 +166,9 @@ fn answer_file(asked: Asked, mode: Mode, word: &[u8], i: usize) -> Ended {
 }
 
 // The worse of two statuses: 1, then 2, then 3, then 0.
-pub fn worse(a: u64, b: u64) -> u64 {
+pub fn worse(a: u64, b: u64) -> u64
+    ensures { λ r. ⌜ r ≡ worst a b ⌝ }
+{
     if a == 0 {
         return b;
     }
@@ -304,6 +329,9 @@ fn run(count: usize) -> u64 {
     }
     if words::is_word(2, b"check") {
         return answer_files(Asked::Check, Mode::Field, 3, count);
+    }
+    if words::is_word(2, b"show") {
+        return answer_files(Asked::Sheet, Mode::Shown, 3, count);
     }
     if words::is_word(2, b"rows") {
         return one(Asked::Rows, count);

@@ -24,7 +24,7 @@ pub fn within(n: usize, buf: &[u8]) -> usize
 // Writes a name, safe on a terminal.
 pub fn say_safe(name: &[u8]) {
     let mut text = line_buffer();
-    let end = answers::put_safe(&mut text, 0, name, name.len());
+    let end = notes::put_safe(&mut text, 0, name, name.len());
     let n = within(end, &text);
     io::write_all(STDERR_FILENO, &text[..n]);
 }

@@ -1,7 +1,5 @@
-// The shelf file: 16 cards of four 8-byte numbers, high byte first, then 16 parts of 65,536 bytes. A call reads it whole and, where it changes the shelf, puts a new
-// file in its place; the script holds a lock meanwhile.
-ghost use Prim.Native.Nat.{_+_, _≤_, _<_};
-ghost use lib.ListN.{length};
+// The calls on the file of a shelf, whose bytes are `shelf_file`'s. A call reads the file whole and, where it changes the shelf, puts a new file in its place; the script
+// holds a lock meanwhile.
 use crate::files;
 use crate::messages;
 use crate::words::Number;
@@ -10,91 +8,8 @@ use libc::STDOUT_FILENO;
 use shelf::Got;
 use shelf::Outcome;
 
-// The bytes of the cards.
-const CARDS: usize = 512;
-
 // The bytes of the file.
-const SIZE: usize = 1049088;
-
-// ---- numbers in bytes
-
-// A byte as a number.
-fn byte(b: u8) -> u64
-    ensures { λ r. ⌜ r < 256 ⌝ }
-{
-    b as u64
-}
-
-// Four bytes as a number.
-fn four_in(file: &[u8], at: usize) -> u64
-    requires { ⌜ at + 4 ≤ length (now file) ⌝ }
-    ensures { λ r. ⌜ r < 4294967296 ⌝ }
-{
-    let a = byte(file[at]);
-    let b = byte(file[at + 1]);
-    let c = byte(file[at + 2]);
-    let d = byte(file[at + 3]);
-    a * 16777216 + b * 65536 + c * 256 + d
-}
-
-// The low byte of a number.
-fn low(value: u64) -> u8 {
-    (value % 256) as u8
-}
-
-// ---- the cards
-
-// Word i of the cards.
-fn word_in(file: &[u8], i: usize) -> u64 {
-    if file.len() < CARDS {
-        return 0;
-    }
-    if i >= 64 {
-        return 0;
-    }
-    let high = four_in(file, i * 8);
-    let rest = four_in(file, i * 8 + 4);
-    high * 4294967296 + rest
-}
-
-// Stores it.
-fn put_word(file: &mut [u8], i: usize, value: u64) {
-    if file.len() < CARDS {
-        return;
-    }
-    if i >= 64 {
-        return;
-    }
-    let bytes = [
-        low(value / 72057594037927936),
-        low(value / 281474976710656),
-        low(value / 1099511627776),
-        low(value / 4294967296),
-        low(value / 16777216),
-        low(value / 65536),
-        low(value / 256),
-        low(value),
-    ];
-    room::store_bytes(file, i * 8, &bytes);
-}
-
-// Reads the words of the cards.
-fn read_cards(file: &[u8], words: &mut [u64]) {
-    let mut i = 0;
-    while i < words.len() {
-        words[i] = word_in(file, i);
-        i = i + 1;
-    }
-}
-
-// Stores them.
-fn store_cards(file: &mut [u8], words: &[u64]) {
-    let mut i = 0;
-    while i < words.len() {
-        put_word(file, i, words[i]);
-        i = i + 1;
-    }
-}
+const SIZE: usize = shelf_file::SIZE;
 
 // ---- the file
 
@@ -195,24 +110,17 @@ fn replace(name: &[u8], mode: u64, file: &[u8]) -> u64 {
 // Says a refusal.
 fn refused(number: u64, place: usize) -> u64 {
     let mut line = io::buffer();
-    let a = room::put_bytes(&mut line, 0, b"R\t");
-    let b = room::put_decimal(&mut line, a, number);
-    let c = room::put_bytes(&mut line, b, b"\t");
-    let d = room::put_decimal(&mut line, c, place as u64);
-    let e = room::put_bytes(&mut line, d, b"\n");
-    let n = messages::within(e, &line);
+    let end = shelf_file::put_refusal(&mut line, number, place);
+    let n = messages::within(end, &line);
     io::write_all(STDERR_FILENO, &line[..n]);
     2
 }
 
-// What a call leaves: a refusal's line, or the new cards and the text in the file.
-fn leave(name: &[u8], mode: u64, file: &mut [u8], words: &[u64], outcome: Outcome) -> u64 {
+// What a call leaves: a refusal's line, or its bytes as the file.
+fn leave(name: &[u8], mode: u64, file: &[u8], outcome: Outcome) -> u64 {
     match outcome {
         Outcome::Refused(number, place) => refused(number, place),
-        Outcome::Done => {
-            store_cards(file, words);
-            replace(name, mode, file)
-        }
+        Outcome::Done => replace(name, mode, file),
     }
 }
 
@@ -227,23 +135,13 @@ fn put_on(
     sheet: &[u8],
     file: &mut [u8],
 ) -> u64 {
-    if file.len() < CARDS {
-        return 1;
-    }
-    let mut words = [0u64; 64];
-    read_cards(file, &mut words);
-    let outcome = shelf::put_words(&mut words, &mut file[CARDS..], desk, call, boat, sheet);
-    leave(name, mode, file, &words, outcome)
+    let outcome = shelf_file::put(file, desk, call, boat, sheet);
+    leave(name, mode, file, outcome)
 }
 
 fn drop_from(name: &[u8], mode: u64, desk: u64, call: u64, boat: u64, file: &mut [u8]) -> u64 {
-    if file.len() < CARDS {
-        return 1;
-    }
-    let mut words = [0u64; 64];
-    read_cards(file, &mut words);
-    let outcome = shelf::drop_words(&mut words, &mut file[CARDS..], desk, call, boat);
-    leave(name, mode, file, &words, outcome)
+    let outcome = shelf_file::drop(file, desk, call, boat);
+    leave(name, mode, file, outcome)
 }
 
 // Writes a sheet to standard output.
@@ -256,13 +154,8 @@ fn give(sheet: &[u8]) -> u64 {
 }
 
 fn get_from(desk: u64, call: u64, boat: u64, file: &[u8]) -> u64 {
-    if file.len() < CARDS {
-        return 1;
-    }
-    let mut words = [0u64; 64];
-    read_cards(file, &mut words);
     let mut sheet = io::large_buffer();
-    match shelf::get_words(&words, &file[CARDS..], desk, call, boat, &mut sheet) {
+    match shelf_file::get(file, desk, call, boat, &mut sheet) {
         Got::Refused(number, place) => refused(number, place),
         Got::Sheet(size) => {
             let n = messages::within(size, &sheet);
@@ -374,12 +267,9 @@ fn labelled(name: &[u8], count: usize) -> u64 {
 }
 
 // Makes a fresh shelf.
-fn make_of(name: &[u8], zeros: [u8; SIZE]) -> u64 {
-    replace(name, 4096, &zeros)
-}
-
 fn make(name: &[u8]) -> u64 {
-    make_of(name, [0u8; SIZE])
+    let file = shelf_file::new();
+    replace(name, 4096, &file)
 }
 
 // `new` SHELF; or `put`, `get` or `drop`, SHELF MODE DESK CALL BOAT, and for put the sheet's name. MODE is that of a new file, 4096 where it is the usual one.

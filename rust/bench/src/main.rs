@@ -31,7 +31,7 @@ const LEAST: Duration = Duration::from_micros(200);
 
 /// What is asked about each file. The verdict is asked where the file is judged to its end, or
 /// nearly so; a file that fails the first check tells nothing of it.
-const ASKED: [(&str, &[&str]); 19] = [
+const ASKED: [(&str, &[&str]); 20] = [
     (
         "large",
         &["tree", "find", "resolve", "account", "sheet", "sheet2"],
@@ -51,6 +51,7 @@ const ASKED: [(&str, &[&str]); 19] = [
     ("children", &["tree", "verdict", "sheet"]),
     ("contents", &["tree", "verdict", "account", "sheet"]),
     ("detached", &["tree"]),
+    ("backward", &["tree"]),
     ("scattered", &["tree"]),
     (
         "worked",

@@ -33,8 +33,12 @@ pub fn all(seed: u64) -> Vec<(&'static str, Vec<u8>)> {
         ("over", encode(&titled(0, &vec![b'a'; 4_000_000])).bytes),
         ("children", encode(&children()).bytes),
         ("contents", encode(&contents()).bytes),
-        ("detached", encode(&detached(1)).bytes),
-        ("scattered", encode(&detached(101)).bytes),
+        ("detached", encode(&detached(|link| link)).bytes),
+        ("backward", encode(&detached(|link| LINKS - 1 - link)).bytes),
+        (
+            "scattered",
+            encode(&detached(|link| link * 101 % LINKS)).bytes,
+        ),
         ("worked", samples::worked()),
         ("resource", cases::large_resource(seed)),
     ]
@@ -164,17 +168,20 @@ fn contents() -> File {
     File::new(MOBILE, Node::folder(vec![child]))
 }
 
-/// A chain of references 3 through 254 detached nodes, of which each leads to the one so many places
-/// on: with 1 in file order.
-fn detached(step: usize) -> File {
-    const NODES: usize = 254;
-    let first = Node::new(Contents::Node(Place::Detached(0)));
-    let mut file = File::new(MOBILE, Node::folder(vec![first]));
-    for number in 0..NODES {
-        file.add_detached(match (number + step) % NODES {
-            0 => Node::inline(&[7]),
-            next => Node::new(Contents::Node(Place::Detached(next))),
-        });
+/// How many detached nodes are in a chain. With a root and the node that leads to the first of them they
+/// are as many as there may be rows.
+const LINKS: usize = 254;
+
+/// A chain of references 3 through detached nodes: `number` says which of them in file order is a link.
+fn detached(number: impl Fn(usize) -> usize) -> File {
+    let reference = |link| Node::new(Contents::Node(Place::Detached(number(link))));
+    let mut file = File::new(MOBILE, Node::folder(vec![reference(0)]));
+    let mut nodes = vec![Node::inline(&[7]); LINKS];
+    for link in 1..LINKS {
+        nodes[number(link - 1)] = reference(link);
+    }
+    for node in nodes {
+        file.add_detached(node);
     }
     file
 }

@@ -16,12 +16,6 @@ abbrev μ-loop : tie.MeasureT-loop
 loop-holds : tie.Need-loop-holds Inv-loop μ-loop
 loop-holds c = counting-start _ _ _ (c .before .pre .0)
 
-item-at-requires : tie.Need-item-at-requires Inv-loop μ-loop
-item-at-requires c κs = search needs
-
-sub-result : tie.Need-sub-result Inv-loop μ-loop
-sub-result c = search needs
-
 returns : tie.Need-returns Inv-loop μ-loop
 returns c =
     let at-item-at = c .before .before in
@@ -29,33 +23,12 @@ returns c =
     let at-loop = at-loop-test .before in
     (counting-stop (at-loop-test .loop-test .taken) (at-item-at .item-at .ensures) (c .if1 .taken) (at-loop .loop .inv), omega arith)
 
-add-k : tie.Need-add-k Inv-loop μ-loop
-add-k c = search needs
-
-loop-less : tie.Need-loop-less Inv-loop μ-loop
-loop-less c = search needs
-
 loop-again : tie.Need-loop-again Inv-loop μ-loop
 loop-again c = counting-on (c .before .before .before .loop-test .taken) (c .before .before .item-at .ensures) (c .if1 .left) (c .before .before .before .before .loop .inv)
-
-sub-result-2 : tie.Need-sub-result-2 Inv-loop μ-loop
-sub-result-2 c = search needs
 
 returns-2 : tie.Need-returns-2 Inv-loop μ-loop
 returns-2 c = (counting-end (c .loop-test .left) (c .before .loop .inv), omega arith)
 
 pub further-spec : {M : Type 1} → statement M
-further-spec =
-    tie.close
-    (tie.spec
-    Inv-loop
-    μ-loop
-    loop-holds
-    item-at-requires
-    sub-result
-    returns
-    add-k
-    loop-less
-    loop-again
-    sub-result-2
-    returns-2)
+further-spec = tie.close (tie.spec Inv-loop μ-loop loop-holds (λ c κs. search needs) (λ c. search needs) returns (λ c. search needs) (λ c. search needs) loop-again
+    (λ c. search needs) returns-2)

@@ -7,15 +7,6 @@ use borrow.Author.Needs.{needs}
 use Rattle.contents.proofs.measure_block.Statement.{statement}
 use Rattle.contents.proofs.measure_block.Tie as tie
 
-vlq-size-requires : tie.Need-vlq-size-requires
-vlq-size-requires c κs = search needs
-
-on-requires : tie.Need-on-requires
-on-requires c κs = search needs
-
-on-requires-2 : tie.Need-on-requires-2
-on-requires-2 c κs = search needs
-
 returns : tie.Need-returns
 returns c =
     let at-on = c .before in
@@ -23,10 +14,4 @@ returns c =
     λ (s : List ℕ) e. counts-sized s e (at-vlq-size .vlq-size .ensures) (at-on .on .ensures) (c .on2 .ensures)
 
 pub measure-block-spec : {M : Type 1} → statement M
-measure-block-spec =
-    tie.close
-    (tie.spec
-    vlq-size-requires
-    on-requires
-    on-requires-2
-    returns)
+measure-block-spec = tie.close (tie.spec (λ c κs. search needs) (λ c κs. search needs) (λ c κs. search needs) returns)

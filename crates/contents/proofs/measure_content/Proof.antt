@@ -9,15 +9,6 @@ use borrow.Author.Needs.{needs}
 use Rattle.contents.proofs.measure_content.Statement.{statement}
 use Rattle.contents.proofs.measure_content.Tie as tie
 
-vlq-size-requires : tie.Need-vlq-size-requires
-vlq-size-requires c κs = search needs
-
-on-requires : tie.Need-on-requires
-on-requires c κs = search needs
-
-measure-block-requires : tie.Need-measure-block-requires
-measure-block-requires c κs = search needs
-
 returns : tie.Need-returns
 returns c =
     let at-on = c .before in
@@ -25,15 +16,6 @@ returns c =
     let at-if1 = at-vlq-size .before in
     λ (f bytes : List ℕ) e. content-universal f refl bytes (at-if1 .if1 .taken)
     (universal-counted bytes e _ (at-vlq-size .vlq-size .ensures) (at-on .on .ensures) (c .measure-block .ensures))
-
-vlq-size-requires-2 : tie.Need-vlq-size-requires-2
-vlq-size-requires-2 c κs = search needs
-
-on-requires-2 : tie.Need-on-requires-2
-on-requires-2 c κs = search needs
-
-measure-block-requires-2 : tie.Need-measure-block-requires-2
-measure-block-requires-2 c κs = search needs
 
 returns-2 : tie.Need-returns-2
 returns-2 c =
@@ -44,14 +26,5 @@ returns-2 c =
     (version-counted bytes e _ (at-vlq-size2 .vlq-size2 .ensures) (at-on2 .on2 .ensures) (c .measure-block2 .ensures) (omega arith))
 
 pub measure-content-spec : {M : Type 1} → statement M
-measure-content-spec =
-    tie.close
-    (tie.spec
-    vlq-size-requires
-    on-requires
-    measure-block-requires
-    returns
-    vlq-size-requires-2
-    on-requires-2
-    measure-block-requires-2
-    returns-2)
+measure-content-spec = tie.close (tie.spec (λ c κs. search needs) (λ c κs. search needs) (λ c κs. search needs) returns (λ c κs. search needs) (λ c κs. search needs)
+    (λ c κs. search needs) returns-2)

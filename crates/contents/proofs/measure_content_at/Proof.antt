@@ -8,20 +8,11 @@ use borrow.Author.Needs.{needs}
 use Rattle.contents.proofs.measure_content_at.Statement.{statement}
 use Rattle.contents.proofs.measure_content_at.Tie as tie
 
-item-at-requires : tie.Need-item-at-requires
-item-at-requires c κs = search needs
-
-measure-content-requires : tie.Need-measure-content-requires
-measure-content-requires c κs = search needs
-
 returns : tie.Need-returns
 returns c =
     let at-if1 = c .before in
     let at-item-at = at-if1 .before in
     λ (f title : List ℕ) inside e. title-counted f _ title _ _ (at-item-at .item-at .ensures) (sym (at-if1 .if1 .taken)) (c .measure-content .ensures f title e)
-
-measure-content-requires-2 : tie.Need-measure-content-requires-2
-measure-content-requires-2 c κs = search needs
 
 returns-2 : tie.Need-returns-2
 returns-2 c =
@@ -30,11 +21,4 @@ returns-2 c =
     λ (f title : List ℕ) inside e. file-counted f _ title _ _ (at-item-at .item-at .ensures) (λ z. at-if1 .if1 .left (sym z)) inside (c .measure-content2 .ensures f)
 
 pub measure-content-at-spec : {M : Type 1} → statement M
-measure-content-at-spec =
-    tie.close
-    (tie.spec
-    item-at-requires
-    measure-content-requires
-    returns
-    measure-content-requires-2
-    returns-2)
+measure-content-at-spec = tie.close (tie.spec (λ c κs. search needs) (λ c κs. search needs) returns (λ c κs. search needs) returns-2)

@@ -8,20 +8,8 @@ use borrow.Author.Needs.{needs}
 use Rattle.contents.proofs.measure_field.Statement.{statement}
 use Rattle.contents.proofs.measure_field.Tie as tie
 
-measure-block-requires : tie.Need-measure-block-requires
-measure-block-requires c κs = search needs
-
 returns : tie.Need-returns
 returns c = λ (f : List ℕ) inside. custom-counted f _ inside (omega arith) (c .before .if1 .taken) (c .measure-block .ensures)
-
-on-requires : tie.Need-on-requires
-on-requires c κs = search needs
-
-vlq-size-requires : tie.Need-vlq-size-requires
-vlq-size-requires c κs = search needs
-
-on-requires-2 : tie.Need-on-requires-2
-on-requires-2 c κs = search needs
 
 returns-2 : tie.Need-returns-2
 returns-2 c =
@@ -30,12 +18,4 @@ returns-2 c =
     λ (f : List ℕ) inside. standard-counted f _ (at-on .before .if1 .left) (at-on .on .ensures) (at-vlq-size .vlq-size .ensures) (c .on2 .ensures)
 
 pub measure-field-spec : {M : Type 1} → statement M
-measure-field-spec =
-    tie.close
-    (tie.spec
-    measure-block-requires
-    returns
-    on-requires
-    vlq-size-requires
-    on-requires-2
-    returns-2)
+measure-field-spec = tie.close (tie.spec (λ c κs. search needs) returns (λ c κs. search needs) (λ c κs. search needs) (λ c κs. search needs) returns-2)

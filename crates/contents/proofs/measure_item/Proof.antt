@@ -7,15 +7,6 @@ use borrow.Author.Needs.{needs}
 use Rattle.contents.proofs.measure_item.Statement.{statement}
 use Rattle.contents.proofs.measure_item.Tie as tie
 
-item-at-requires : tie.Need-item-at-requires
-item-at-requires c κs = search needs
-
-measure-start-requires : tie.Need-measure-start-requires
-measure-start-requires c κs = search needs
-
-measure-content-at-requires : tie.Need-measure-content-at-requires
-measure-content-at-requires c κs = search needs
-
 returns : tie.Need-returns
 returns c =
     let at-measure-start = c .before in
@@ -24,9 +15,6 @@ returns c =
     λ (f title : List ℕ) inside e. row-first f _ title _ _ (at-item-at .item-at .ensures) _ (at-if1 .if1 .taken) (at-measure-start .measure-start .ensures f _ title inside)
     (c .measure-content-at .ensures f title inside e)
 
-measure-content-at-requires-2 : tie.Need-measure-content-at-requires-2
-measure-content-at-requires-2 c κs = search needs
-
 returns-2 : tie.Need-returns-2
 returns-2 c =
     let at-if1 = c .before in
@@ -34,12 +22,4 @@ returns-2 c =
     λ (f title : List ℕ) inside e. row-further f _ title _ _ (at-item-at .item-at .ensures) _ (at-if1 .if1 .left) (c .measure-content-at2 .ensures f title inside e)
 
 pub measure-item-spec : {M : Type 1} → statement M
-measure-item-spec =
-    tie.close
-    (tie.spec
-    item-at-requires
-    measure-start-requires
-    measure-content-at-requires
-    returns
-    measure-content-at-requires-2
-    returns-2)
+measure-item-spec = tie.close (tie.spec (λ c κs. search needs) (λ c κs. search needs) (λ c κs. search needs) returns (λ c κs. search needs) returns-2)

@@ -8,15 +8,6 @@ use borrow.Author.Needs.{needs}
 use Rattle.contents.proofs.measure_start.Statement.{statement}
 use Rattle.contents.proofs.measure_start.Tie as tie
 
-item-at-requires : tie.Need-item-at-requires
-item-at-requires c κs = search needs
-
-measure-field-requires : tie.Need-measure-field-requires
-measure-field-requires c κs = search needs
-
-on-requires : tie.Need-on-requires
-on-requires c κs = search needs
-
 returns : tie.Need-returns
 returns c =
     let at-if1 = c .before in
@@ -24,21 +15,6 @@ returns c =
     let at-item-at = at-measure-field .before in
     λ (f : List ℕ) (row : ℕ) (title : List ℕ) inside. start-universal f row title _ _ (at-item-at .item-at .ensures) _
     (at-measure-field .measure-field .ensures f (row-inside (at-item-at .item-at .ensures) inside)) (at-if1 .if1 .taken) (zero-counted (c .on .ensures))
-
-add-further : tie.Need-add-further
-add-further c = search needs
-
-further-requires : tie.Need-further-requires
-further-requires c κs = search needs
-
-add-vlq-size : tie.Need-add-vlq-size
-add-vlq-size c = search needs
-
-vlq-size-requires : tie.Need-vlq-size-requires
-vlq-size-requires c κs = search needs
-
-on-requires-2 : tie.Need-on-requires-2
-on-requires-2 c κs = search needs
 
 returns-2 : tie.Need-returns-2
 returns-2 c =
@@ -52,16 +28,5 @@ returns-2 c =
     (counts-number _ (at-vlq-size .vlq-size .ensures) (c .on2 .ensures))
 
 pub measure-start-spec : {M : Type 1} → statement M
-measure-start-spec =
-    tie.close
-    (tie.spec
-    item-at-requires
-    measure-field-requires
-    on-requires
-    returns
-    add-further
-    further-requires
-    add-vlq-size
-    vlq-size-requires
-    on-requires-2
-    returns-2)
+measure-start-spec = tie.close (tie.spec (λ c κs. search needs) (λ c κs. search needs) (λ c κs. search needs) returns (λ c. search needs) (λ c κs. search needs)
+    (λ c. search needs) (λ c κs. search needs) (λ c κs. search needs) returns-2)

@@ -7,15 +7,6 @@ use borrow.Author.Needs.{needs}
 use Rattle.contents.proofs.put_content_at.Statement.{statement}
 use Rattle.contents.proofs.put_content_at.Tie as tie
 
-item-at-requires : tie.Need-item-at-requires
-item-at-requires c κs = search needs
-
-put-content-requires : tie.Need-put-content-requires
-put-content-requires c κs = search needs
-
-same-length : tie.Need-same-length
-same-length c = search needs
-
 returns : tie.Need-returns
 returns c =
     let at-put-content = c .before .before in
@@ -26,20 +17,8 @@ returns c =
 add-end : tie.Need-add-end
 add-end c = omega (arith, row-inside (c .before .item-at .ensures) (c .before .before .before .before .before .before .pre .1) .0)
 
-sub-put-content : tie.Need-sub-put-content
-sub-put-content c = search needs
-
-part-put-content-start : tie.Need-part-put-content-start
-part-put-content-start c = search needs
-
 part-put-content-end : tie.Need-part-put-content-end
 part-put-content-end c = omega (arith, row-inside (c .before .before .item-at .ensures) (c .before .before .before .before .before .before .before .pre .1) .0)
-
-put-content-requires-2 : tie.Need-put-content-requires-2
-put-content-requires-2 c κs = search needs
-
-same-length-2 : tie.Need-same-length-2
-same-length-2 c = search needs
 
 returns-2 : tie.Need-returns-2
 returns-2 c =
@@ -49,17 +28,5 @@ returns-2 c =
     content-file _ _ _ _ _ (at-item-at .item-at .ensures) (at-if1 .if1 .left) refl (at-put-content2 .put-content2 .ensures _)
 
 pub put-content-at-spec : {M : Type 1} → statement M
-put-content-at-spec =
-    tie.close
-    (tie.spec
-    item-at-requires
-    put-content-requires
-    same-length
-    returns
-    add-end
-    sub-put-content
-    part-put-content-start
-    part-put-content-end
-    put-content-requires-2
-    same-length-2
-    returns-2)
+put-content-at-spec = tie.close (tie.spec (λ c κs. search needs) (λ c κs. search needs) (λ c. search needs) returns add-end (λ c. search needs) (λ c. search needs)
+    part-put-content-end (λ c κs. search needs) (λ c. search needs) returns-2)

@@ -6,17 +6,11 @@ use borrow.Author.Needs.{needs}
 use Rattle.contents.proofs.put_field.Statement.{statement}
 use Rattle.contents.proofs.put_field.Tie as tie
 
-put-number-requires : tie.Need-put-number-requires
-put-number-requires c κs = search needs
-
 put-part-requires : tie.Need-put-part-requires
 put-part-requires c κs =
     let at-if1 = c .before .before .before .before .before in
     let entry = at-if1 .before .before .before .before in
     name-in (entry .args .item) (entry .pre) (at-if1 .if1 .taken)
-
-same-length : tie.Need-same-length
-same-length c = search needs
 
 returns : tie.Need-returns
 returns c =
@@ -26,15 +20,6 @@ returns c =
     let entry = at-if1 .before .before .before .before in
     field-custom _ _ (entry .pre) (at-if1 .if1 .taken) (at-put-number .put-number .ensures) (at-put-part .put-part .ensures)
 
-put-number-requires-2 : tie.Need-put-number-requires-2
-put-number-requires-2 c κs = search needs
-
-put-number-requires-3 : tie.Need-put-number-requires-3
-put-number-requires-3 c κs = search needs
-
-same-length-2 : tie.Need-same-length-2
-same-length-2 c = search needs
-
 returns-2 : tie.Need-returns-2
 returns-2 c =
     let at-put-number3 = c .before .before in
@@ -43,14 +28,5 @@ returns-2 c =
     field-standard _ _ (at-if1 .if1 .left) (at-put-number2 .put-number2 .ensures) (at-put-number3 .put-number3 .ensures)
 
 pub put-field-spec : {M : Type 1} → statement M
-put-field-spec =
-    tie.close
-    (tie.spec
-    put-number-requires
-    put-part-requires
-    same-length
-    returns
-    put-number-requires-2
-    put-number-requires-3
-    same-length-2
-    returns-2)
+put-field-spec = tie.close (tie.spec (λ c κs. search needs) put-part-requires (λ c. search needs) returns (λ c κs. search needs) (λ c κs. search needs)
+    (λ c. search needs) returns-2)

@@ -5,18 +5,6 @@ use borrow.Author.Needs.{needs}
 use Rattle.contents.proofs.put_item.Statement.{statement}
 use Rattle.contents.proofs.put_item.Tie as tie
 
-item-at-requires : tie.Need-item-at-requires
-item-at-requires c κs = search needs
-
-put-start-requires : tie.Need-put-start-requires
-put-start-requires c κs = search needs
-
-put-content-at-requires : tie.Need-put-content-at-requires
-put-content-at-requires c κs = search needs
-
-same-length : tie.Need-same-length
-same-length c = search needs
-
 returns : tie.Need-returns
 returns c =
     let at-put-content-at = c .before .before in
@@ -24,12 +12,6 @@ returns c =
     let at-if1 = at-put-start .before .before in
     let at-item-at = at-if1 .before .before in
     row-first _ _ _ _ _ (at-item-at .item-at .ensures) _ (at-if1 .if1 .taken) (at-put-start .put-start .ensures _ _) (at-put-content-at .put-content-at .ensures)
-
-put-content-at-requires-2 : tie.Need-put-content-at-requires-2
-put-content-at-requires-2 c κs = search needs
-
-same-length-2 : tie.Need-same-length-2
-same-length-2 c = search needs
 
 returns-2 : tie.Need-returns-2
 returns-2 c =
@@ -39,14 +21,5 @@ returns-2 c =
     row-further _ _ _ _ _ (at-item-at .item-at .ensures) _ (at-if1 .if1 .left) (at-put-content-at2 .put-content-at2 .ensures)
 
 pub put-item-spec : {M : Type 1} → statement M
-put-item-spec =
-    tie.close
-    (tie.spec
-    item-at-requires
-    put-start-requires
-    put-content-at-requires
-    same-length
-    returns
-    put-content-at-requires-2
-    same-length-2
-    returns-2)
+put-item-spec = tie.close (tie.spec (λ c κs. search needs) (λ c κs. search needs) (λ c κs. search needs) (λ c. search needs) returns (λ c κs. search needs)
+    (λ c. search needs) returns-2)

@@ -26,12 +26,6 @@ put-item-requires c κs =
     let entry = c .before .before .before .before .before .before .before in
     (omega arith, omega (arith, entry .pre .1 .0), entry .pre .1 .1 _ (c .before .loop-test .taken))
 
-add-k : tie.Need-add-k Inv-loop μ-loop
-add-k c = search needs
-
-loop-less : tie.Need-loop-less Inv-loop μ-loop
-loop-less c = search needs
-
 loop-again : tie.Need-loop-again Inv-loop μ-loop
 loop-again c =
     let at-put-item = c .before .before in
@@ -46,15 +40,4 @@ returns : tie.Need-returns Inv-loop μ-loop
 returns c = going-end (rows-end _ _ _ _ _ _ (c .loop-test .left)) (c .before .loop .inv .2)
 
 pub put-items-spec : {M : Type 1} → statement M
-put-items-spec =
-    tie.close
-    (tie.spec
-    Inv-loop
-    μ-loop
-    loop-holds
-    put-item-requires
-    add-k
-    loop-less
-    loop-again
-    same-length
-    returns)
+put-items-spec = tie.close (tie.spec Inv-loop μ-loop loop-holds put-item-requires (λ c. search needs) (λ c. search needs) loop-again same-length returns)

@@ -6,17 +6,8 @@ use borrow.Author.Needs.{needs}
 use Rattle.contents.proofs.put_start.Statement.{statement}
 use Rattle.contents.proofs.put_start.Tie as tie
 
-item-at-requires : tie.Need-item-at-requires
-item-at-requires c κs = search needs
-
 put-field-requires : tie.Need-put-field-requires
 put-field-requires c κs = row-inside (c .before .item-at .ensures) (c .before .before .before .before .before .pre .2)
-
-put-number-requires : tie.Need-put-number-requires
-put-number-requires c κs = search needs
-
-same-length : tie.Need-same-length
-same-length c = search needs
 
 returns : tie.Need-returns
 returns c =
@@ -26,20 +17,8 @@ returns c =
     let at-item-at = at-put-field .before .before in
     λ row title. start-universal _ row title _ _ (at-item-at .item-at .ensures) _ (at-put-field .put-field .ensures) (at-if1 .if1 .taken) (at-put-number .put-number .ensures)
 
-add-further : tie.Need-add-further
-add-further c = search needs
-
-further-requires : tie.Need-further-requires
-further-requires c κs = search needs
-
 add-put-number : tie.Need-add-put-number
 add-put-number c = omega (arith, c .further .ensures .1)
-
-put-number-requires-2 : tie.Need-put-number-requires-2
-put-number-requires-2 c κs = search needs
-
-same-length-2 : tie.Need-same-length-2
-same-length-2 c = search needs
 
 returns-2 : tie.Need-returns-2
 returns-2 c =
@@ -52,17 +31,5 @@ returns-2 c =
     (at-further .further .ensures .0 _ _ _) (at-put-number2 .put-number2 .ensures)
 
 pub put-start-spec : {M : Type 1} → statement M
-put-start-spec =
-    tie.close
-    (tie.spec
-    item-at-requires
-    put-field-requires
-    put-number-requires
-    same-length
-    returns
-    add-further
-    further-requires
-    add-put-number
-    put-number-requires-2
-    same-length-2
-    returns-2)
+put-start-spec = tie.close (tie.spec (λ c κs. search needs) put-field-requires (λ c κs. search needs) (λ c. search needs) returns (λ c. search needs)
+    (λ c κs. search needs) add-put-number (λ c κs. search needs) (λ c. search needs) returns-2)

@@ -5,21 +5,6 @@ use borrow.Author.Needs.{needs}
 use Rattle.contents.proofs.put_universal.Statement.{statement}
 use Rattle.contents.proofs.put_universal.Tie as tie
 
-vlq-size-requires : tie.Need-vlq-size-requires
-vlq-size-requires c κs = search needs
-
-on-requires : tie.Need-on-requires
-on-requires c κs = search needs
-
-put-number-requires : tie.Need-put-number-requires
-put-number-requires c κs = search needs
-
-put-text-requires : tie.Need-put-text-requires
-put-text-requires c κs = search needs
-
-same-length : tie.Need-same-length
-same-length c = search needs
-
 returns : tie.Need-returns
 returns c =
     let at-put-text = c .before .before in
@@ -31,4 +16,4 @@ returns c =
     (at-put-number .put-number .ensures) (at-put-text .put-text .ensures)
 
 pub put-universal-spec : {M : Type 1} → statement M
-put-universal-spec = tie.close (tie.spec vlq-size-requires on-requires put-number-requires put-text-requires same-length returns)
+put-universal-spec = tie.close (tie.spec (λ c κs. search needs) (λ c κs. search needs) (λ c κs. search needs) (λ c κs. search needs) (λ c. search needs) returns)

@@ -6,18 +6,6 @@ use borrow.Author.Needs.{needs}
 use Rattle.contents.proofs.put_version.Statement.{statement}
 use Rattle.contents.proofs.put_version.Tie as tie
 
-put-number-requires : tie.Need-put-number-requires
-put-number-requires c κs = search needs
-
-put-number-requires-2 : tie.Need-put-number-requires-2
-put-number-requires-2 c κs = search needs
-
-put-bytes-requires : tie.Need-put-bytes-requires
-put-bytes-requires c κs = search needs
-
-same-length : tie.Need-same-length
-same-length c = search needs
-
 returns : tie.Need-returns
 returns c =
     let at-put-bytes = c .before .before in
@@ -26,11 +14,4 @@ returns c =
     put-two _ _ (at-put-number .put-number .ensures) (put-block _ _ refl (at-put-number2 .put-number2 .ensures) (at-put-bytes .put-bytes .ensures))
 
 pub put-version-spec : {M : Type 1} → statement M
-put-version-spec =
-    tie.close
-    (tie.spec
-    put-number-requires
-    put-number-requires-2
-    put-bytes-requires
-    same-length
-    returns)
+put-version-spec = tie.close (tie.spec (λ c κs. search needs) (λ c κs. search needs) (λ c κs. search needs) (λ c. search needs) returns)

@@ -12,36 +12,6 @@ use borrow.Author.Needs.{needs}
 use Rattle.copies.proofs.copy_entry.Statement.{statement}
 use Rattle.copies.proofs.copy_entry.Tie as tie
 
-copy-number-requires : tie.Need-copy-number-requires
-copy-number-requires c κs = search needs
-
-enum-known-n : tie.Need-enum-known-n
-enum-known-n c = search needs
-
-enum-known-a : tie.Need-enum-known-a
-enum-known-a c = search needs
-
-copy-number-requires-2 : tie.Need-copy-number-requires-2
-copy-number-requires-2 c κs = search needs
-
-enum-known-n-2 : tie.Need-enum-known-n-2
-enum-known-n-2 c = search needs
-
-enum-known-b : tie.Need-enum-known-b
-enum-known-b c = search needs
-
-block-requires : tie.Need-block-requires
-block-requires c κs = search needs
-
-enum-known-n-3 : tie.Need-enum-known-n-3
-enum-known-n-3 c = search needs
-
-enum-known-size : tie.Need-enum-known-size
-enum-known-size c = search needs
-
-put-number-requires : tie.Need-put-number-requires
-put-number-requires c κs = search needs
-
 put-part-requires : tie.Need-put-part-requires
 put-part-requires c κs =
     let at-size = c .before .before .before .before .before .before .before in
@@ -55,14 +25,8 @@ on-requires c κs =
     let entry = at-block .before .before .before .before .before .before .before .before .before .before .before .before .before .before .before .before .before in
     omega (arith, entry .pre, block-inside fileFrame 3 _ _ _ (was numberTold (at-block .block .ensures fileFrame) (at-size .size .given .1)))
 
-same-length : tie.Need-same-length
-same-length c = search needs
-
 returns : tie.Need-returns
 returns c = record { is = type-no _ _ (copied-no (copied-was (c .before .before .before .before .before .copy-number .ensures fileFrame) (c .before .n .given .1))) }
-
-same-length-2 : tie.Need-same-length-2
-same-length-2 c = search needs
 
 returns-2 : tie.Need-returns-2
 returns-2 c =
@@ -71,9 +35,6 @@ returns-2 c =
     let at-copy-number = at-a .before .before .before .before in
     let k = number-was fileFrame _ _ (copied-answer (copied-was (at-copy-number .copy-number .ensures fileFrame) (at-a .a .given .1))) in
     record { is = format-no _ _ (k .read) (copied-no (copied-was (at-copy-number2 .copy-number2 .ensures fileFrame) (c .before .n2 .given .1))) }
-
-same-length-3 : tie.Need-same-length-3
-same-length-3 c = search needs
 
 returns-3 : tie.Need-returns-3
 returns-3 c =
@@ -123,26 +84,6 @@ returns-4 c =
     }
 
 pub copy-entry-spec : {M : Type 1} → statement M
-copy-entry-spec =
-    tie.close
-    (tie.spec
-    copy-number-requires
-    enum-known-n
-    enum-known-a
-    copy-number-requires-2
-    enum-known-n-2
-    enum-known-b
-    block-requires
-    enum-known-n-3
-    enum-known-size
-    put-number-requires
-    put-part-requires
-    on-requires
-    same-length
-    returns
-    same-length-2
-    returns-2
-    same-length-3
-    returns-3
-    same-length-4
-    returns-4)
+copy-entry-spec = tie.close (tie.spec (λ c κs. search needs) (λ c. search needs) (λ c. search needs) (λ c κs. search needs) (λ c. search needs) (λ c. search needs)
+    (λ c κs. search needs) (λ c. search needs) (λ c. search needs) (λ c κs. search needs) put-part-requires on-requires (λ c. search needs)
+    returns (λ c. search needs) returns-2 (λ c. search needs) returns-3 same-length-4 returns-4)

@@ -10,15 +10,6 @@ use borrow.Author.Needs.{needs}
 use Rattle.copies.proofs.copy_identifier.Statement.{statement}
 use Rattle.copies.proofs.copy_identifier.Tie as tie
 
-guid-requires : tie.Need-guid-requires
-guid-requires c κs = search needs
-
-enum-known-n : tie.Need-enum-known-n
-enum-known-n c = search needs
-
-enum-known-d : tie.Need-enum-known-d
-enum-known-d c = search needs
-
 sub-put-part : tie.Need-sub-put-part
 sub-put-part c =
     let at-d = c .before .before .before .before .before in
@@ -39,9 +30,6 @@ returns c =
     let at-if1 = at-guid .before in
     record { is = guid-no _ _ _ (at-if1 .if1 .taken) (was passTold (at-guid .guid .ensures unpackFrame) (c .before .n .given .1)) }
 
-same-length : tie.Need-same-length
-same-length c = search needs
-
 returns-2 : tie.Need-returns-2
 returns-2 c =
     let at-put-part = c .before .before in
@@ -49,15 +37,6 @@ returns-2 c =
     let at-guid = at-d .before .before in
     let at-if1 = at-guid .before in
     record { is = (_, guid-is _ _ _ (at-if1 .if1 .taken) (was passTold (at-guid .guid .ensures unpackFrame) (at-d .d .given .1)), at-put-part .put-part .ensures) }
-
-manufacturer-requires : tie.Need-manufacturer-requires
-manufacturer-requires c κs = search needs
-
-enum-known-n-2 : tie.Need-enum-known-n-2
-enum-known-n-2 c = search needs
-
-enum-known-d-2 : tie.Need-enum-known-d-2
-enum-known-d-2 c = search needs
 
 sub-put-part-2 : tie.Need-sub-put-part-2
 sub-put-part-2 c =
@@ -73,17 +52,11 @@ put-part-requires-2 c κs =
     let entry = at-manufacturer .before .before .before .before .before .before in
     omega (arith, maker-inside (entry .args .file .now) (entry .args .c .at .0) (was passTold (at-manufacturer .manufacturer .ensures unpackFrame) (at-d2 .d2 .given .1)))
 
-copy-number-requires : tie.Need-copy-number-requires
-copy-number-requires c κs = search needs
-
 returns-3 : tie.Need-returns-3
 returns-3 c =
     let at-manufacturer = c .before .before .before in
     let at-if2 = at-manufacturer .before in
     record { is = maker-no _ _ _ (at-if2 .if2 .taken) (was passTold (at-manufacturer .manufacturer .ensures unpackFrame) (c .before .n2 .given .1)) }
-
-same-length-2 : tie.Need-same-length-2
-same-length-2 c = search needs
 
 returns-4 : tie.Need-returns-4
 returns-4 c =
@@ -96,12 +69,6 @@ returns-4 c =
     (was passTold (at-manufacturer .manufacturer .ensures unpackFrame) (at-d2 .d2 .given .1))))
     (copies-after _ _ (at-put-part2 .put-part2 .ensures) (at-copy-number .copy-number .ensures unpackFrame))
 
-copy-number-requires-2 : tie.Need-copy-number-requires-2
-copy-number-requires-2 c κs = search needs
-
-same-length-3 : tie.Need-same-length-3
-same-length-3 c = search needs
-
 returns-5 : tie.Need-returns-5
 returns-5 c =
     let at-copy-number2 = c .before .before in
@@ -110,26 +77,6 @@ returns-5 c =
     copies-as (sym (other-is _ _ _ (at-if1 .if1 .left) (at-if2 .if2 .left))) (at-copy-number2 .copy-number2 .ensures unpackFrame)
 
 pub copy-identifier-spec : {M : Type 1} → statement M
-copy-identifier-spec =
-    tie.close
-    (tie.spec
-    guid-requires
-    enum-known-n
-    enum-known-d
-    sub-put-part
-    put-part-requires
-    returns
-    same-length
-    returns-2
-    manufacturer-requires
-    enum-known-n-2
-    enum-known-d-2
-    sub-put-part-2
-    put-part-requires-2
-    copy-number-requires
-    returns-3
-    same-length-2
-    returns-4
-    copy-number-requires-2
-    same-length-3
-    returns-5)
+copy-identifier-spec = tie.close (tie.spec (λ c κs. search needs) (λ c. search needs) (λ c. search needs) sub-put-part put-part-requires returns (λ c. search needs)
+    returns-2 (λ c κs. search needs) (λ c. search needs) (λ c. search needs) sub-put-part-2 put-part-requires-2 (λ c κs. search needs) returns-3
+    (λ c. search needs) returns-4 (λ c κs. search needs) (λ c. search needs) returns-5)

@@ -7,23 +7,8 @@ use borrow.Author.Needs.{needs}
 use Rattle.copies.proofs.copy_number.Statement.{statement}
 use Rattle.copies.proofs.copy_number.Tie as tie
 
-number-requires : tie.Need-number-requires
-number-requires c κs = search needs
-
-enum-known-n : tie.Need-enum-known-n
-enum-known-n c = search needs
-
-enum-known-v : tie.Need-enum-known-v
-enum-known-v c = search needs
-
-put-number-requires : tie.Need-put-number-requires
-put-number-requires c κs = search needs
-
 returns : tie.Need-returns
 returns c = λ κ. record { is = number-no κ _ _ (was numberTold (c .before .before .before .number .ensures κ) (c .before .n .given .1)) }
-
-same-length : tie.Need-same-length
-same-length c = search needs
 
 returns-2 : tie.Need-returns-2
 returns-2 c =
@@ -33,13 +18,4 @@ returns-2 c =
     λ κ. record { is = (_, number-is κ _ _ (was numberTold (at-number .number .ensures κ) (at-v .v .given .1)), at-put-number .put-number .ensures) }
 
 pub copy-number-spec : {M : Type 1} → statement M
-copy-number-spec =
-    tie.close
-    (tie.spec
-    number-requires
-    enum-known-n
-    enum-known-v
-    put-number-requires
-    returns
-    same-length
-    returns-2)
+copy-number-spec = tie.close (tie.spec (λ c κs. search needs) (λ c. search needs) (λ c. search needs) (λ c κs. search needs) returns (λ c. search needs) returns-2)

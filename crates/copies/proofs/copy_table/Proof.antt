@@ -9,39 +9,6 @@ use borrow.Author.Needs.{needs}
 use Rattle.copies.proofs.copy_table.Statement.{statement}
 use Rattle.copies.proofs.copy_table.Tie as tie
 
-number-requires : tie.Need-number-requires
-number-requires c κs = search needs
-
-enum-known-n : tie.Need-enum-known-n
-enum-known-n c = search needs
-
-enum-known-d : tie.Need-enum-known-d
-enum-known-d c = search needs
-
-block-requires : tie.Need-block-requires
-block-requires c κs = search needs
-
-enum-known-n-2 : tie.Need-enum-known-n-2
-enum-known-n-2 c = search needs
-
-enum-known-e : tie.Need-enum-known-e
-enum-known-e c = search needs
-
-number-requires-2 : tie.Need-number-requires-2
-number-requires-2 c κs = search needs
-
-enum-known-n-3 : tie.Need-enum-known-n-3
-enum-known-n-3 c = search needs
-
-enum-known-count : tie.Need-enum-known-count
-enum-known-count c = search needs
-
-put-number-requires : tie.Need-put-number-requires
-put-number-requires c κs = search needs
-
-copy-entries-requires : tie.Need-copy-entries-requires
-copy-entries-requires c κs = search needs
-
 returns : tie.Need-returns
 returns c = record { is = size-no _ _ (was numberTold (c .before .before .before .number .ensures fileFrame) (c .before .n .given .1)) }
 
@@ -68,9 +35,6 @@ returns-3 c =
           (was numberTold (at-number2 .number2 .ensures fileFrame) (c .before .n3 .given .1));
     }
 
-same-length : tie.Need-same-length
-same-length c = search needs
-
 returns-4 : tie.Need-returns-4
 returns-4 c =
     let at-copy-entries = c .before .before in
@@ -87,22 +51,6 @@ returns-4 c =
     (copies-after _ _ (at-put-number .put-number .ensures) (at-copy-entries .copy-entries .ensures))
 
 pub copy-table-spec : {M : Type 1} → statement M
-copy-table-spec =
-    tie.close
-    (tie.spec
-    number-requires
-    enum-known-n
-    enum-known-d
-    block-requires
-    enum-known-n-2
-    enum-known-e
-    number-requires-2
-    enum-known-n-3
-    enum-known-count
-    put-number-requires
-    copy-entries-requires
-    returns
-    returns-2
-    returns-3
-    same-length
-    returns-4)
+copy-table-spec = tie.close (tie.spec (λ c κs. search needs) (λ c. search needs) (λ c. search needs) (λ c κs. search needs) (λ c. search needs) (λ c. search needs)
+    (λ c κs. search needs) (λ c. search needs) (λ c. search needs) (λ c κs. search needs) (λ c κs. search needs) returns returns-2 returns-3
+    (λ c. search needs) returns-4)

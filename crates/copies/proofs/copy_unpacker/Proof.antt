@@ -9,35 +9,8 @@ use borrow.Author.Needs.{needs}
 use Rattle.copies.proofs.copy_unpacker.Statement.{statement}
 use Rattle.copies.proofs.copy_unpacker.Tie as tie
 
-number-requires : tie.Need-number-requires
-number-requires c κs = search needs
-
-enum-known-n : tie.Need-enum-known-n
-enum-known-n c = search needs
-
-enum-known-kind : tie.Need-enum-known-kind
-enum-known-kind c = search needs
-
-put-number-requires : tie.Need-put-number-requires
-put-number-requires c κs = search needs
-
-copy-identifier-requires : tie.Need-copy-identifier-requires
-copy-identifier-requires c κs = search needs
-
-enum-known-n-2 : tie.Need-enum-known-n-2
-enum-known-n-2 c = search needs
-
-enum-known-b : tie.Need-enum-known-b
-enum-known-b c = search needs
-
-copy-number-requires : tie.Need-copy-number-requires
-copy-number-requires c κs = search needs
-
 returns : tie.Need-returns
 returns c = record { is = kind-no _ _ (was numberTold (c .before .before .before .number .ensures unpackFrame) (c .before .n .given .1)) }
-
-same-length : tie.Need-same-length
-same-length c = search needs
 
 returns-2 : tie.Need-returns-2
 returns-2 c =
@@ -48,9 +21,6 @@ returns-2 c =
       is = name-no _ _ (was numberTold (at-number .number .ensures unpackFrame) (at-kind .kind .given .1))
           (copied-no (copied-was (at-copy-identifier .copy-identifier .ensures) (c .before .n2 .given .1)));
     }
-
-same-length-2 : tie.Need-same-length-2
-same-length-2 c = search needs
 
 returns-3 : tie.Need-returns-3
 returns-3 c =
@@ -66,19 +36,5 @@ returns-3 c =
     (copies-after _ _ (copied-puts k) (at-copy-number .copy-number .ensures unpackFrame)))
 
 pub copy-unpacker-spec : {M : Type 1} → statement M
-copy-unpacker-spec =
-    tie.close
-    (tie.spec
-    number-requires
-    enum-known-n
-    enum-known-kind
-    put-number-requires
-    copy-identifier-requires
-    enum-known-n-2
-    enum-known-b
-    copy-number-requires
-    returns
-    same-length
-    returns-2
-    same-length-2
-    returns-3)
+copy-unpacker-spec = tie.close (tie.spec (λ c κs. search needs) (λ c. search needs) (λ c. search needs) (λ c κs. search needs) (λ c κs. search needs) (λ c. search needs)
+    (λ c. search needs) (λ c κs. search needs) returns (λ c. search needs) returns-2 (λ c. search needs) returns-3)

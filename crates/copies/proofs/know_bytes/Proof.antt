@@ -16,17 +16,8 @@ abbrev μ-loop : tie.MeasureT-loop
 loop-holds : tie.Need-loop-holds Inv-loop μ-loop
 loop-holds c = below-none _
 
-shared-slice-read-wide : tie.Need-shared-slice-read-wide Inv-loop μ-loop
-shared-slice-read-wide c = omega arith
-
 wide-requires : tie.Need-wide-requires Inv-loop μ-loop
 wide-requires c κs = tt
-
-add-i : tie.Need-add-i Inv-loop μ-loop
-add-i c = omega arith
-
-loop-less : tie.Need-loop-less Inv-loop μ-loop
-loop-less c = omega arith
 
 loop-again : tie.Need-loop-again Inv-loop μ-loop
 loop-again c = below-on (c .before .before .before .loop .inv) (c .wide .ensures)
@@ -35,15 +26,4 @@ returns : tie.Need-returns Inv-loop μ-loop
 returns c = below-all (c .before .loop .inv) (c .loop-test .left)
 
 pub know-bytes-spec : {M : Type 1} → statement M
-know-bytes-spec =
-    tie.close
-    (tie.spec
-    Inv-loop
-    μ-loop
-    loop-holds
-    shared-slice-read-wide
-    wide-requires
-    add-i
-    loop-less
-    loop-again
-    returns)
+know-bytes-spec = tie.close (tie.spec Inv-loop μ-loop loop-holds (λ c. omega arith) wide-requires (λ c. omega arith) (λ c. omega arith) loop-again returns)

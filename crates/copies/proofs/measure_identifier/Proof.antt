@@ -10,24 +10,12 @@ use borrow.Author.Needs.{needs}
 use Rattle.copies.proofs.measure_identifier.Statement.{statement}
 use Rattle.copies.proofs.measure_identifier.Tie as tie
 
-guid-requires : tie.Need-guid-requires
-guid-requires c κs = search needs
-
-enum-known-n : tie.Need-enum-known-n
-enum-known-n c = search needs
-
-enum-known-d : tie.Need-enum-known-d
-enum-known-d c = search needs
-
 sub-on : tie.Need-sub-on
 sub-on c =
     let at-d = c .before .before .before .before in
     let at-guid = at-d .before .before in
     let entry = at-guid .before .before .before .before in
     omega (arith, guid-inside (entry .args .file .now) (entry .args .c .at .0) (was passTold (at-guid .guid .ensures unpackFrame) (at-d .d .given .1)))
-
-on-requires : tie.Need-on-requires
-on-requires c κs = search needs
 
 returns : tie.Need-returns
 returns c =
@@ -43,27 +31,12 @@ returns-2 c =
     let read = was passTold (at-guid .guid .ensures unpackFrame) (at-d .d .given .1) in
     record { is = (_, guid-is _ _ _ (at-if1 .if1 .taken) read, guid-counted _ _ read (c .on .ensures)) }
 
-manufacturer-requires : tie.Need-manufacturer-requires
-manufacturer-requires c κs = search needs
-
-enum-known-n-2 : tie.Need-enum-known-n-2
-enum-known-n-2 c = search needs
-
-enum-known-d-2 : tie.Need-enum-known-d-2
-enum-known-d-2 c = search needs
-
 sub-on-2 : tie.Need-sub-on-2
 sub-on-2 c =
     let at-d2 = c .before .before .before .before in
     let at-manufacturer = at-d2 .before .before in
     let entry = at-manufacturer .before .before .before .before .before in
     omega (arith, maker-inside (entry .args .file .now) (entry .args .c .at .0) (was passTold (at-manufacturer .manufacturer .ensures unpackFrame) (at-d2 .d2 .given .1)))
-
-on-requires-2 : tie.Need-on-requires-2
-on-requires-2 c κs = search needs
-
-measure-number-requires : tie.Need-measure-number-requires
-measure-number-requires c κs = search needs
 
 returns-3 : tie.Need-returns-3
 returns-3 c =
@@ -80,9 +53,6 @@ returns-4 c =
     let read = was passTold (at-manufacturer .manufacturer .ensures unpackFrame) (at-d2 .d2 .given .1) in
     copies-as (sym (maker-is _ _ _ (at-if2 .if2 .taken) read)) (copies-after _ _ (maker-counted _ _ read (at-on2 .on2 .ensures)) (c .measure-number .ensures unpackFrame))
 
-measure-number-requires-2 : tie.Need-measure-number-requires-2
-measure-number-requires-2 c κs = search needs
-
 returns-5 : tie.Need-returns-5
 returns-5 c =
     let at-if2 = c .before in
@@ -90,23 +60,6 @@ returns-5 c =
     copies-as (sym (other-is _ _ _ (at-if1 .if1 .left) (at-if2 .if2 .left))) (c .measure-number2 .ensures unpackFrame)
 
 pub measure-identifier-spec : {M : Type 1} → statement M
-measure-identifier-spec =
-    tie.close
-    (tie.spec
-    guid-requires
-    enum-known-n
-    enum-known-d
-    sub-on
-    on-requires
-    returns
-    returns-2
-    manufacturer-requires
-    enum-known-n-2
-    enum-known-d-2
-    sub-on-2
-    on-requires-2
-    measure-number-requires
-    returns-3
-    returns-4
-    measure-number-requires-2
-    returns-5)
+measure-identifier-spec = tie.close (tie.spec (λ c κs. search needs) (λ c. search needs) (λ c. search needs) sub-on (λ c κs. search needs) returns returns-2
+    (λ c κs. search needs) (λ c. search needs) (λ c. search needs) sub-on-2 (λ c κs. search needs) (λ c κs. search needs) returns-3 returns-4
+    (λ c κs. search needs) returns-5)

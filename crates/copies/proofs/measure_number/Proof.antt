@@ -8,21 +8,6 @@ use borrow.Author.Needs.{needs}
 use Rattle.copies.proofs.measure_number.Statement.{statement}
 use Rattle.copies.proofs.measure_number.Tie as tie
 
-number-requires : tie.Need-number-requires
-number-requires c κs = search needs
-
-enum-known-n : tie.Need-enum-known-n
-enum-known-n c = search needs
-
-enum-known-v : tie.Need-enum-known-v
-enum-known-v c = search needs
-
-vlq-size-requires : tie.Need-vlq-size-requires
-vlq-size-requires c κs = search needs
-
-on-requires : tie.Need-on-requires
-on-requires c κs = search needs
-
 returns : tie.Need-returns
 returns c = λ κ. record { is = number-no κ _ _ (was numberTold (c .before .before .before .number .ensures κ) (c .before .n .given .1)) }
 
@@ -40,13 +25,4 @@ returns-2 c =
     }
 
 pub measure-number-spec : {M : Type 1} → statement M
-measure-number-spec =
-    tie.close
-    (tie.spec
-    number-requires
-    enum-known-n
-    enum-known-v
-    vlq-size-requires
-    on-requires
-    returns
-    returns-2)
+measure-number-spec = tie.close (tie.spec (λ c κs. search needs) (λ c. search needs) (λ c. search needs) (λ c κs. search needs) (λ c κs. search needs) returns returns-2)

@@ -10,33 +10,6 @@ use borrow.Author.Needs.{needs}
 use Rattle.copies.proofs.measure_unpacker.Statement.{statement}
 use Rattle.copies.proofs.measure_unpacker.Tie as tie
 
-number-requires : tie.Need-number-requires
-number-requires c κs = search needs
-
-enum-known-n : tie.Need-enum-known-n
-enum-known-n c = search needs
-
-enum-known-kind : tie.Need-enum-known-kind
-enum-known-kind c = search needs
-
-vlq-size-requires : tie.Need-vlq-size-requires
-vlq-size-requires c κs = search needs
-
-on-requires : tie.Need-on-requires
-on-requires c κs = search needs
-
-measure-identifier-requires : tie.Need-measure-identifier-requires
-measure-identifier-requires c κs = search needs
-
-enum-known-n-2 : tie.Need-enum-known-n-2
-enum-known-n-2 c = search needs
-
-enum-known-b : tie.Need-enum-known-b
-enum-known-b c = search needs
-
-measure-number-requires : tie.Need-measure-number-requires
-measure-number-requires c κs = search needs
-
 returns : tie.Need-returns
 returns c = record { is = kind-no _ _ (was numberTold (c .before .before .before .number .ensures unpackFrame) (c .before .n .given .1)) }
 
@@ -64,18 +37,5 @@ returns-3 c =
     (copies-after _ _ (copied-puts k) (c .measure-number .ensures unpackFrame)))
 
 pub measure-unpacker-spec : {M : Type 1} → statement M
-measure-unpacker-spec =
-    tie.close
-    (tie.spec
-    number-requires
-    enum-known-n
-    enum-known-kind
-    vlq-size-requires
-    on-requires
-    measure-identifier-requires
-    enum-known-n-2
-    enum-known-b
-    measure-number-requires
-    returns
-    returns-2
-    returns-3)
+measure-unpacker-spec = tie.close (tie.spec (λ c κs. search needs) (λ c. search needs) (λ c. search needs) (λ c κs. search needs) (λ c κs. search needs)
+    (λ c κs. search needs) (λ c. search needs) (λ c. search needs) (λ c κs. search needs) returns returns-2 returns-3)

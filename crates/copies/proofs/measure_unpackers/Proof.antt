@@ -17,12 +17,6 @@ abbrev μ-loop : tie.MeasureT-loop
 loop-holds : tie.Need-loop-holds Inv-loop μ-loop
 loop-holds c = copying-start _ _ _ _ _ _ (omega arith)
 
-measure-unpacker-requires : tie.Need-measure-unpacker-requires Inv-loop μ-loop
-measure-unpacker-requires c κs = search needs
-
-enum-known-n : tie.Need-enum-known-n Inv-loop μ-loop
-enum-known-n c = search needs
-
 returns : tie.Need-returns Inv-loop μ-loop
 returns c =
     let at-measure-unpacker = c .before .before .before in
@@ -32,15 +26,6 @@ returns c =
       is = copying-no (unpacker-behind _) (at-loop .loop .inv) (at-loop-test .loop-test .taken)
           (copied-no (copied-was (at-measure-unpacker .measure-unpacker .ensures) (c .before .n .given .1)));
     }
-
-enum-known-a : tie.Need-enum-known-a Inv-loop μ-loop
-enum-known-a c = search needs
-
-sub-left : tie.Need-sub-left Inv-loop μ-loop
-sub-left c = search needs
-
-loop-less : tie.Need-loop-less Inv-loop μ-loop
-loop-less c = search needs
 
 loop-again : tie.Need-loop-again Inv-loop μ-loop
 loop-again c =
@@ -54,17 +39,5 @@ returns-2 : tie.Need-returns-2 Inv-loop μ-loop
 returns-2 c = record { is = copying-end (unpacker-behind _) (c .before .loop .inv) (c .loop-test .left) }
 
 pub measure-unpackers-spec : {M : Type 1} → statement M
-measure-unpackers-spec =
-    tie.close
-    (tie.spec
-    Inv-loop
-    μ-loop
-    loop-holds
-    measure-unpacker-requires
-    enum-known-n
-    returns
-    enum-known-a
-    sub-left
-    loop-less
-    loop-again
-    returns-2)
+measure-unpackers-spec = tie.close (tie.spec Inv-loop μ-loop loop-holds (λ c κs. search needs) (λ c. search needs) returns (λ c. search needs) (λ c. search needs)
+    (λ c. search needs) loop-again returns-2)

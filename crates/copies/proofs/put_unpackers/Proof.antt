@@ -6,12 +6,6 @@ use borrow.Author.Needs.{needs}
 use Rattle.copies.proofs.put_unpackers.Statement.{statement}
 use Rattle.copies.proofs.put_unpackers.Tie as tie
 
-put-number-requires : tie.Need-put-number-requires
-put-number-requires c κs = search needs
-
-same-length : tie.Need-same-length
-same-length c = search needs
-
 returns : tie.Need-returns
 returns c =
     let at-put-number = c .before .before .before .before in
@@ -24,9 +18,6 @@ put-part-requires c κs =
     let entry = at-if2 .before .before .before .before .before .before .before .before .before in
     entry .pre .1 .same (at-if2 .if2 .taken) .0
 
-same-length-2 : tie.Need-same-length-2
-same-length-2 c = search needs
-
 returns-2 : tie.Need-returns-2
 returns-2 c =
     let at-put-part = c .before .before in
@@ -35,18 +26,6 @@ returns-2 c =
     let entry = at-put-number .before .before .before .before in
     block-same (entry .pre .1 .size) (entry .pre .1 .same (at-if2 .if2 .taken) .1) (at-put-number .put-number .ensures) (at-put-part .put-part .ensures)
 
-copy-unpackers-requires : tie.Need-copy-unpackers-requires
-copy-unpackers-requires c κs = search needs
-
-enum-told : tie.Need-enum-told
-enum-told c = search needs
-
-enum-known-b : tie.Need-enum-known-b
-enum-known-b c = search needs
-
-same-length-3 : tie.Need-same-length-3
-same-length-3 c = search needs
-
 returns-3 : tie.Need-returns-3
 unfolding shape
 returns-3 c =
@@ -54,9 +33,6 @@ returns-3 c =
     let at-if1 = at-copy-unpackers .before .before .before in
     let entry = at-if1 .before .before .before .before .before .before .before .before in
     block-some _ (copied-no (copied-was (at-copy-unpackers .copy-unpackers .ensures) (c .enum-told .given .1))) (entry .pre .1 .size) (at-if1 .if1 .left)
-
-same-length-4 : tie.Need-same-length-4
-same-length-4 c = search needs
 
 returns-4 : tie.Need-returns-4
 unfolding shape
@@ -68,19 +44,5 @@ returns-4 c =
     block-measured _ (entry .pre .1 .size) (at-put-number .put-number .ensures) (copied-was (at-copy-unpackers .copy-unpackers .ensures) (at-b .b .given .1))
 
 pub put-unpackers-spec : {M : Type 1} → statement M
-put-unpackers-spec =
-    tie.close
-    (tie.spec
-    put-number-requires
-    same-length
-    returns
-    put-part-requires
-    same-length-2
-    returns-2
-    copy-unpackers-requires
-    enum-told
-    enum-known-b
-    same-length-3
-    returns-3
-    same-length-4
-    returns-4)
+put-unpackers-spec = tie.close (tie.spec (λ c κs. search needs) (λ c. search needs) returns put-part-requires (λ c. search needs) returns-2 (λ c κs. search needs)
+    (λ c. search needs) (λ c. search needs) (λ c. search needs) returns-3 (λ c. search needs) returns-4)

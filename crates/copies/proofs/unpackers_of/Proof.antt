@@ -7,15 +7,6 @@ use borrow.Author.Needs.{needs}
 use Rattle.copies.proofs.unpackers_of.Statement.{statement}
 use Rattle.copies.proofs.unpackers_of.Tie as tie
 
-measure-unpackers-requires : tie.Need-measure-unpackers-requires
-measure-unpackers-requires c κs = search needs
-
-enum-told : tie.Need-enum-told
-enum-told c = search needs
-
-enum-known-size : tie.Need-enum-known-size
-enum-known-size c = search needs
-
 sub-if1 : tie.Need-sub-if1
 sub-if1 c =
     let at-size = c .before .before .before .before in
@@ -34,9 +25,6 @@ returns-2 c =
     let at-measure-unpackers = at-size .before .before in
     packed-other _ _ (copied-was (at-measure-unpackers .measure-unpackers .ensures) (at-size .size .given .1))
 
-know-bytes-requires : tie.Need-know-bytes-requires
-know-bytes-requires c κs = search needs
-
 returns-3 : tie.Need-returns-3
 returns-3 c =
     let at-measure-unpackers = c .before .before in
@@ -52,15 +40,5 @@ returns-4 c =
     packed-same _ _ (copied-was (at-measure-unpackers .measure-unpackers .ensures) (at-size .size .given .1)) (entry .pre) (c .know-bytes .ensures) (at-if1 .if1 .left) (at-if2 .if2 .left)
 
 pub unpackers-of-spec : {M : Type 1} → statement M
-unpackers-of-spec =
-    tie.close
-    (tie.spec
-    measure-unpackers-requires
-    enum-told
-    enum-known-size
-    sub-if1
-    returns
-    returns-2
-    know-bytes-requires
-    returns-3
+unpackers-of-spec = tie.close (tie.spec (λ c κs. search needs) (λ c. search needs) (λ c. search needs) sub-if1 returns returns-2 (λ c κs. search needs) returns-3
     returns-4)

@@ -10,18 +10,6 @@ use borrow.Author.Needs.{needs}
 use Rattle.retitle.proofs.correct_title.Statement.{statement}
 use Rattle.retitle.proofs.correct_title.Tie as tie
 
-read-file-requires : tie.Need-read-file-requires
-read-file-requires c κs = search needs
-
-enum-known-n : tie.Need-enum-known-n
-enum-known-n c = search needs
-
-clear-bytes-requires : tie.Need-clear-bytes-requires
-clear-bytes-requires c κs = search needs
-
-enum-known-s : tie.Need-enum-known-s
-enum-known-s c = search needs
-
 write-titled-requires : tie.Need-write-titled-requires
 write-titled-requires c κs =
     let at-s = c .before .before .before .before in
@@ -30,21 +18,6 @@ write-titled-requires c κs =
     stands (entry .args .file .now) (length (entry .args .nodes .now)) (length (entry .args .items .now))
     (standing (entry .args .file .now) _ _ _ (at-read-file .read-file .ensures .0) (at-read-file .read-file .ensures .1 .0)
     (at-read-file .read-file .ensures .1 .1) (at-s .s .given .1))
-
-enum-known-n-2 : tie.Need-enum-known-n-2
-enum-known-n-2 c = search needs
-
-clear-all-requires : tie.Need-clear-all-requires
-clear-all-requires c κs = search needs
-
-clear-bytes-requires-2 : tie.Need-clear-bytes-requires-2
-clear-bytes-requires-2 c κs = search needs
-
-enum-known-size : tie.Need-enum-known-size
-enum-known-size c = search needs
-
-clear-bytes-from-requires : tie.Need-clear-bytes-from-requires
-clear-bytes-from-requires c κs = search needs
 
 slice-reshare-prefix-written : tie.Need-slice-reshare-prefix-written
 slice-reshare-prefix-written c =
@@ -83,18 +56,6 @@ slice-aggregate-written c =
       at-clear-bytes-from .clear-bytes-from .kept,
     )))
 
-read-file-requires-2 : tie.Need-read-file-requires-2
-read-file-requires-2 c κs = search needs
-
-same-length : tie.Need-same-length
-same-length c = search needs
-
-same-length-2 : tie.Need-same-length-2
-same-length-2 c = search needs
-
-same-length-3 : tie.Need-same-length-3
-same-length-3 c = search needs
-
 returns : tie.Need-returns
 returns c =
     let at-clear-bytes = c .before .before in
@@ -104,15 +65,6 @@ returns c =
     asked-refused (entry .args .file .now) (length (entry .args .nodes .now)) (length (entry .args .items .now)) (entry .args .row)
     (entry .args .title .now) (length (entry .args .out .now)) (at-read-file .read-file .ensures .0) (at-n .n .given .1)
     (at-read-file .read-file .ensures .1 .0) (at-read-file .read-file .ensures .1 .1) (at-clear-bytes .clear-bytes .ensures)
-
-same-length-4 : tie.Need-same-length-4
-same-length-4 c = search needs
-
-same-length-5 : tie.Need-same-length-5
-same-length-5 c = search needs
-
-same-length-6 : tie.Need-same-length-6
-same-length-6 c = search needs
 
 returns-2 : tie.Need-returns-2
 returns-2 c =
@@ -132,15 +84,6 @@ returns-2 c =
     (zeros (at-clear-all .clear-all .ensures .1) (at-read-file .read-file .kept .1 .1 .0))
     (zeros (at-clear-bytes2 .clear-bytes2 .ensures) (at-write-titled .write-titled .kept .0))
 
-same-length-7 : tie.Need-same-length-7
-same-length-7 c = search needs
-
-same-length-8 : tie.Need-same-length-8
-same-length-8 c = search needs
-
-same-length-9 : tie.Need-same-length-9
-same-length-9 c = search needs
-
 returns-3 : tie.Need-returns-3
 returns-3 c =
     let at-read-file2 = c .before .before .before .before in
@@ -159,31 +102,7 @@ returns-3 c =
     (at-read-file .read-file .kept .1 .1 .0) (at-read-file2 .read-file2 .ensures .1 .0) (at-read-file2 .read-file2 .ensures .1 .1)
 
 pub correct-title-spec : {M : Type 1} → statement M
-correct-title-spec =
-    tie.close
-    (tie.spec
-    read-file-requires
-    enum-known-n
-    clear-bytes-requires
-    enum-known-s
-    write-titled-requires
-    enum-known-n-2
-    clear-all-requires
-    clear-bytes-requires-2
-    enum-known-size
-    clear-bytes-from-requires
-    slice-reshare-prefix-written
-    slice-aggregate-written
-    read-file-requires-2
-    same-length
-    same-length-2
-    same-length-3
-    returns
-    same-length-4
-    same-length-5
-    same-length-6
-    returns-2
-    same-length-7
-    same-length-8
-    same-length-9
-    returns-3)
+correct-title-spec = tie.close (tie.spec (λ c κs. search needs) (λ c. search needs) (λ c κs. search needs) (λ c. search needs) write-titled-requires (λ c. search needs)
+    (λ c κs. search needs) (λ c κs. search needs) (λ c. search needs) (λ c κs. search needs) slice-reshare-prefix-written
+    slice-aggregate-written (λ c κs. search needs) (λ c. search needs) (λ c. search needs) (λ c. search needs) returns (λ c. search needs)
+    (λ c. search needs) (λ c. search needs) returns-2 (λ c. search needs) (λ c. search needs) (λ c. search needs) returns-3)

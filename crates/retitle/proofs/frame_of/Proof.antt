@@ -12,30 +12,6 @@ use borrow.Author.Needs.{needs}
 use Rattle.retitle.proofs.frame_of.Statement.{statement}
 use Rattle.retitle.proofs.frame_of.Tie as tie
 
-vlq-size-requires : tie.Need-vlq-size-requires
-vlq-size-requires c κs = search needs
-
-on-requires : tie.Need-on-requires
-on-requires c κs = search needs
-
-stopped-requires : tie.Need-stopped-requires
-stopped-requires c κs = search needs
-
-body-size-requires : tie.Need-body-size-requires
-body-size-requires c κs = search needs
-
-measure-reference-requires : tie.Need-measure-reference-requires
-measure-reference-requires c κs = search needs
-
-stopped-requires-2 : tie.Need-stopped-requires-2
-stopped-requires-2 c κs = search needs
-
-vlq-size-requires-2 : tie.Need-vlq-size-requires-2
-vlq-size-requires-2 c κs = search needs
-
-vlq-size-requires-3 : tie.Need-vlq-size-requires-3
-vlq-size-requires-3 c κs = search needs
-
 add-fixed : tie.Need-add-fixed
 add-fixed c =
     let at-vlq-size2 = c .before in
@@ -80,9 +56,6 @@ add-stopped c =
     let at-stopped = at-stopped2 .before .before .before in
     omega (arith, header-few _ _ (c .header-size .ensures), length-few _ _ (at-length-bytes .length-bytes .ensures), few _ (at-vlq-size2 .vlq-size2 .ensures), few _ (at-vlq-size3 .vlq-size3 .ensures), at-stopped .stopped .ensures, at-stopped2 .stopped2 .ensures)
 
-stopped-requires-3 : tie.Need-stopped-requires-3
-stopped-requires-3 c κs = search needs
-
 returns : tie.Need-returns
 unfolding shape
 returns c =
@@ -104,23 +77,6 @@ returns c =
     (at-header-size .header-size .ensures ∙ ap (headerSize _) (at-length-bytes .length-bytes .ensures)) (c .stopped3 .ensures)
 
 pub frame-of-spec : {M : Type 1} → statement M
-frame-of-spec =
-    tie.close
-    (tie.spec
-    vlq-size-requires
-    on-requires
-    stopped-requires
-    body-size-requires
-    measure-reference-requires
-    stopped-requires-2
-    vlq-size-requires-2
-    vlq-size-requires-3
-    add-fixed
-    add-fixed-2
-    add-fixed-3
-    add-contents
-    length-bytes-requires
-    header-size-requires
-    add-stopped
-    stopped-requires-3
-    returns)
+frame-of-spec = tie.close (tie.spec (λ c κs. search needs) (λ c κs. search needs) (λ c κs. search needs) (λ c κs. search needs) (λ c κs. search needs)
+    (λ c κs. search needs) (λ c κs. search needs) (λ c κs. search needs) add-fixed add-fixed-2 add-fixed-3 add-contents length-bytes-requires
+    header-size-requires add-stopped (λ c κs. search needs) returns)

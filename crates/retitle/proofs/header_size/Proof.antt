@@ -8,12 +8,6 @@ use borrow.Author.Needs.{needs}
 use Rattle.retitle.proofs.header_size.Statement.{statement}
 use Rattle.retitle.proofs.header_size.Tie as tie
 
-add-self-bytes : tie.Need-add-self-bytes
-add-self-bytes c = search needs
-
-self-bytes-requires : tie.Need-self-bytes-requires
-self-bytes-requires c κs = search needs
-
 add-result : tie.Need-add-result
 add-result c = omega (arith, c .self-bytes .ensures, least-in (λ k. k + (c .before .args .a + c .before .args .fixed)) .1)
 
@@ -24,5 +18,4 @@ returns : tie.Need-returns
 returns c = header-found (c .before .args .fixed) (c .before .args .a) (c .self-bytes .ensures)
 
 pub header-size-spec : {M : Type 1} → statement M
-header-size-spec =
-    tie.close (tie.spec add-self-bytes self-bytes-requires add-result add-result-2 returns)
+header-size-spec = tie.close (tie.spec (λ c. search needs) (λ c κs. search needs) add-result add-result-2 returns)

@@ -5,9 +5,6 @@ use borrow.Author.Needs.{needs}
 use Rattle.retitle.proofs.is_no_title.Statement.{statement}
 use Rattle.retitle.proofs.is_no_title.Tie as tie
 
-item-at-requires : tie.Need-item-at-requires
-item-at-requires c κs = search needs
-
 returns : tie.Need-returns
 returns c = hidden (c .before .before .item-at .ensures) (c .if1 .taken)
 
@@ -15,9 +12,4 @@ returns-2 : tie.Need-returns-2
 returns-2 c = unhidden (c .before .before .before .item-at .ensures) (c .before .if1 .left)
 
 pub is-no-title-spec : {M : Type 1} → statement M
-is-no-title-spec =
-    tie.close
-    (tie.spec
-    item-at-requires
-    returns
-    returns-2)
+is-no-title-spec = tie.close (tie.spec (λ c κs. search needs) returns returns-2)

@@ -9,26 +9,14 @@ use borrow.Author.Needs.{needs}
 use Rattle.retitle.proofs.length_bytes.Statement.{statement}
 use Rattle.retitle.proofs.length_bytes.Tie as tie
 
-header-size-requires : tie.Need-header-size-requires
-header-size-requires c κs = search needs
-
 add-one : tie.Need-add-one
 add-one c = omega (arith, header-few _ _ (c .header-size .ensures))
-
-header-size-requires-2 : tie.Need-header-size-requires-2
-header-size-requires-2 c κs = search needs
 
 add-two : tie.Need-add-two
 add-two c = omega (arith, header-few _ _ (c .header-size2 .ensures))
 
-header-size-requires-3 : tie.Need-header-size-requires-3
-header-size-requires-3 c κs = search needs
-
 add-three : tie.Need-add-three
 add-three c = omega (arith, header-few _ _ (c .header-size3 .ensures))
-
-least-bytes-requires : tie.Need-least-bytes-requires
-least-bytes-requires c κs = search needs
 
 returns : tie.Need-returns
 unfolding lengthBytes
@@ -42,14 +30,4 @@ returns c =
     (ap (λ n. n + entry .args .contents) (c .before .header-size3 .ensures))
 
 pub length-bytes-spec : {M : Type 1} → statement M
-length-bytes-spec =
-    tie.close
-    (tie.spec
-    header-size-requires
-    add-one
-    header-size-requires-2
-    add-two
-    header-size-requires-3
-    add-three
-    least-bytes-requires
-    returns)
+length-bytes-spec = tie.close (tie.spec (λ c κs. search needs) add-one (λ c κs. search needs) add-two (λ c κs. search needs) add-three (λ c κs. search needs) returns)

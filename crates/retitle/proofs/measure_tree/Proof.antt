@@ -21,9 +21,6 @@ loop-holds c =
     let entry = c .before .before .before .before .before .before .before .before .before in
     measuring-start (entry .pre .0) refl (entry .pre .1)
 
-sub-i : tie.Need-sub-i Inv-loop μ-loop
-sub-i c = omega arith
-
 node-at-requires : tie.Need-node-at-requires Inv-loop μ-loop
 node-at-requires c κs =
     let at-loop = c .before in
@@ -51,16 +48,10 @@ items-size-requires c κs =
     let entry = at-loop .before .before .before .before .before .before .before .before .before .before in
     (omega (arith, first-row (entry .pre .0) (at-loop .loop .inv) (at-loop-test .loop-test .taken) (c .node-at .ensures)), items-here (entry .pre .0) (at-loop .loop .inv) (at-loop-test .loop-test .taken) .0)
 
-stopped-requires : tie.Need-stopped-requires Inv-loop μ-loop
-stopped-requires c κs = search needs
-
 unpackers-of-requires : tie.Need-unpackers-of-requires Inv-loop μ-loop
 unpackers-of-requires c κs =
     let entry = c .before .before .before .before .before .before .before .before .before .before .before .before .before .before in
     entry .pre .0 .small
-
-slice-aggregate-sum : tie.Need-slice-aggregate-sum Inv-loop μ-loop
-slice-aggregate-sum c = search needs
 
 sum-requires : tie.Need-sum-requires Inv-loop μ-loop
 sum-requires c κs =
@@ -161,9 +152,6 @@ array-write-sizes c =
     let entry = at-loop .before .before .before .before .before .before .before .before .before .before in
     omega (arith, stack-row (entry .pre .0) (at-loop .loop .inv) (at-loop-test .loop-test .taken) (at-node-at .node-at .ensures), stack-room (entry .pre .0) (at-loop .loop .inv) (at-loop-test .loop-test .taken), at-loop .loop .inv .stacked)
 
-loop-less : tie.Need-loop-less Inv-loop μ-loop
-loop-less c = omega arith
-
 loop-again : tie.Need-loop-again Inv-loop μ-loop
 loop-again c =
     let at-sum = c .before in
@@ -177,9 +165,6 @@ loop-again c =
     measuring-row (entry .pre .0) (at-loop .loop .inv) (at-loop-test .loop-test .taken) (at-node-at .node-at .ensures)
     (stopped-length (at-items-size .items-size .ensures _ _ (items-here (entry .pre .0) (at-loop .loop .inv) (at-loop-test .loop-test .taken)) refl) (at-stopped .stopped .ensures)) (at-sum .sum .ensures) (at-unpackers-of .unpackers-of .ensures)
     (λ cs e. c .frame-of .ensures _ cs (inside-row (entry .pre .0) (at-loop .loop .inv) (at-loop-test .loop-test .taken) (at-node-at .node-at .ensures)) (at-unpackers-of .unpackers-of .ensures .size) e)
-
-slice-aggregate-sum-2 : tie.Need-slice-aggregate-sum-2 Inv-loop μ-loop
-slice-aggregate-sum-2 c = search needs
 
 sum-requires-2 : tie.Need-sum-requires-2 Inv-loop μ-loop
 sum-requires-2 c κs =
@@ -223,41 +208,7 @@ returns c =
     (measured-all (at-loop .loop .inv) (at-loop-test .loop-test .left), tree-size (at-loop .loop .inv) (at-loop-test .loop-test .left) (c .sum2 .ensures))
 
 pub measure-tree-spec : {M : Type 1} → statement M
-measure-tree-spec =
-    tie.close
-    (tie.spec
-    Inv-loop
-    μ-loop
-    loop-holds
-    sub-i
-    node-at-requires
-    sub-first
-    add-below
-    items-size-requires
-    stopped-requires
-    unpackers-of-requires
-    slice-aggregate-sum
-    sum-requires
-    frame-of-requires
-    mul-metadata
-    slice-write-metadata
-    mul-packed
-    slice-write-packed
-    slice-write-same
-    mul-headers
-    slice-write-headers
-    mul-lengths
-    slice-write-lengths
-    sub-top
-    mul-sizes
-    array-write-sizes
-    loop-less
-    loop-again
-    slice-aggregate-sum-2
-    sum-requires-2
-    same-length
-    same-length-2
-    same-length-3
-    same-length-4
-    same-length-5
-    returns)
+measure-tree-spec = tie.close (tie.spec Inv-loop μ-loop loop-holds (λ c. omega arith) node-at-requires sub-first add-below items-size-requires (λ c κs. search needs)
+    unpackers-of-requires (λ c. search needs) sum-requires frame-of-requires mul-metadata slice-write-metadata mul-packed slice-write-packed
+    slice-write-same mul-headers slice-write-headers mul-lengths slice-write-lengths sub-top mul-sizes array-write-sizes (λ c. omega arith)
+    loop-again (λ c. search needs) sum-requires-2 same-length same-length-2 same-length-3 same-length-4 same-length-5 returns)

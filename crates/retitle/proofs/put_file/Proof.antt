@@ -8,21 +8,6 @@ use borrow.Author.Needs.{needs}
 use Rattle.retitle.proofs.put_file.Statement.{statement}
 use Rattle.retitle.proofs.put_file.Tie as tie
 
-slice-aggregate-measure-tree : tie.Need-slice-aggregate-measure-tree
-slice-aggregate-measure-tree c = search needs
-
-slice-aggregate-measure-tree-2 : tie.Need-slice-aggregate-measure-tree-2
-slice-aggregate-measure-tree-2 c = search needs
-
-slice-aggregate-measure-tree-3 : tie.Need-slice-aggregate-measure-tree-3
-slice-aggregate-measure-tree-3 c = search needs
-
-slice-aggregate-measure-tree-4 : tie.Need-slice-aggregate-measure-tree-4
-slice-aggregate-measure-tree-4 c = search needs
-
-slice-aggregate-measure-tree-5 : tie.Need-slice-aggregate-measure-tree-5
-slice-aggregate-measure-tree-5 c = search needs
-
 measure-tree-requires : tie.Need-measure-tree-requires
 measure-tree-requires c κs =
     let entry = c .before .before .before .before .before .before .before .before .before .before in
@@ -32,15 +17,6 @@ returns : tie.Need-returns
 returns c =
     let at-measure-tree = c .before .before .before .before .before .before in
     file-stops _ _ _ _ _ (at-measure-tree .measure-tree .ensures .1) (c .if1 .taken)
-
-slice-aggregate-put-types : tie.Need-slice-aggregate-put-types
-slice-aggregate-put-types c = search needs
-
-put-types-requires : tie.Need-put-types-requires
-put-types-requires c κs = search needs
-
-stopped-requires : tie.Need-stopped-requires
-stopped-requires c κs = search needs
 
 sub-gap : tie.Need-sub-gap
 sub-gap c =
@@ -97,24 +73,15 @@ put-part-requires c κs =
     let entry = c .before .before .before .before .before .before .before .before .before .before .before .before .before .before .before .before .before .before .before .before .before .before .before .before .before .before .before .before .before .before .before in
     omega (arith, entry .pre .1)
 
-put-number-requires : tie.Need-put-number-requires
-put-number-requires c κs = search needs
-
 put-types-requires-2 : tie.Need-put-types-requires-2
 put-types-requires-2 c κs =
     let entry = c .before .before .before .before .before .before .before .before .before .before .before .before .before .before .before .before .before .before .before .before .before .before .before .before .before .before .before .before .before .before .before .before .before .before .before .before .before .before .before in
     entry .pre .0 .small
 
-put-number-requires-2 : tie.Need-put-number-requires-2
-put-number-requires-2 c κs = search needs
-
 sub-put-number : tie.Need-sub-put-number
 sub-put-number c =
     let at-tree-start = c .before .before .before .before .before .before .before .before .before .before .before .before .before .before .before .before .before in
     omega (arith, tree-few _ _ _ (at-tree-start .tree-start .ensures))
-
-put-number-requires-3 : tie.Need-put-number-requires-3
-put-number-requires-3 c κs = search needs
 
 put-part-requires-2 : tie.Need-put-part-requires-2
 put-part-requires-2 c κs =
@@ -214,40 +181,8 @@ returns-2 c =
     (at-put-tree .put-tree .ensures) (at-put-part3 .put-part3 .ensures)
 
 pub put-file-spec : {M : Type 1} → statement M
-put-file-spec =
-    tie.close
-    (tie.spec
-    slice-aggregate-measure-tree
-    slice-aggregate-measure-tree-2
-    slice-aggregate-measure-tree-3
-    slice-aggregate-measure-tree-4
-    slice-aggregate-measure-tree-5
-    measure-tree-requires
-    returns
-    slice-aggregate-put-types
-    put-types-requires
-    stopped-requires
-    sub-gap
-    add-after
-    sub-after
-    add-tree-start
-    add-tree-start-2
-    tree-start-requires
-    add-stop
-    add-size
-    put-part-requires
-    put-number-requires
-    put-types-requires-2
-    put-number-requires-2
-    sub-put-number
-    put-number-requires-3
-    put-part-requires-2
-    slice-aggregate-put-tree
-    slice-aggregate-put-tree-2
-    slice-aggregate-put-tree-3
-    slice-aggregate-put-tree-4
-    slice-aggregate-put-tree-5
-    put-tree-requires
-    put-part-requires-3
-    same-length
-    returns-2)
+put-file-spec = tie.close (tie.spec (λ c. search needs) (λ c. search needs) (λ c. search needs) (λ c. search needs) (λ c. search needs) measure-tree-requires returns
+    (λ c. search needs) (λ c κs. search needs) (λ c κs. search needs) sub-gap add-after sub-after add-tree-start add-tree-start-2
+    tree-start-requires add-stop add-size put-part-requires (λ c κs. search needs) put-types-requires-2 (λ c κs. search needs) sub-put-number
+    (λ c κs. search needs) put-part-requires-2 slice-aggregate-put-tree slice-aggregate-put-tree-2 slice-aggregate-put-tree-3
+    slice-aggregate-put-tree-4 slice-aggregate-put-tree-5 put-tree-requires put-part-requires-3 same-length returns-2)

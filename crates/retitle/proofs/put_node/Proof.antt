@@ -7,37 +7,16 @@ use borrow.Author.Needs.{needs}
 use Rattle.retitle.proofs.put_node.Statement.{statement}
 use Rattle.retitle.proofs.put_node.Tie as tie
 
-put-number-requires : tie.Need-put-number-requires
-put-number-requires c κs = search needs
-
-put-number-requires-2 : tie.Need-put-number-requires-2
-put-number-requires-2 c κs = search needs
-
-put-number-requires-3 : tie.Need-put-number-requires-3
-put-number-requires-3 c κs = search needs
-
-put-number-requires-4 : tie.Need-put-number-requires-4
-put-number-requires-4 c κs = search needs
-
-put-items-requires : tie.Need-put-items-requires
-put-items-requires c κs = search needs
-
 put-unpackers-requires : tie.Need-put-unpackers-requires
 put-unpackers-requires c κs =
     let entry = c .before .before .before .before .before .before .before .before .before .before .before .before .before .before .before .before .before .before .before .before .before .before .before .before .before in
     (entry .pre .0 .1, entry .pre .1 .1)
-
-body-size-requires : tie.Need-body-size-requires
-body-size-requires c κs = search needs
 
 put-reference-requires : tie.Need-put-reference-requires
 put-reference-requires c κs =
     let at-body-size = c .before in
     let entry = at-body-size .before .before .before .before .before .before .before .before .before .before .before .before .before .before .before .before .before .before .before .before .before .before .before .before .before .before .before .before .before in
     body-inside (entry .args .file .now) (entry .args .node) (entry .pre .0 .0) (at-body-size .body-size .ensures)
-
-same-length : tie.Need-same-length
-same-length c = search needs
 
 returns : tie.Need-returns
 unfolding shape
@@ -56,16 +35,5 @@ returns c =
     (own-put (entry .args .file .now) (entry .args .node) (at-body-size .body-size .ensures) (at-put-reference .put-reference .ensures))
 
 pub put-node-spec : {M : Type 1} → statement M
-put-node-spec =
-    tie.close
-    (tie.spec
-    put-number-requires
-    put-number-requires-2
-    put-number-requires-3
-    put-number-requires-4
-    put-items-requires
-    put-unpackers-requires
-    body-size-requires
-    put-reference-requires
-    same-length
-    returns)
+put-node-spec = tie.close (tie.spec (λ c κs. search needs) (λ c κs. search needs) (λ c κs. search needs) (λ c κs. search needs) (λ c κs. search needs)
+    put-unpackers-requires (λ c κs. search needs) put-reference-requires (λ c. search needs) returns)

@@ -5,18 +5,6 @@ use borrow.Author.Needs.{needs}
 use Rattle.retitle.proofs.put_reference.Statement.{statement}
 use Rattle.retitle.proofs.put_reference.Tie as tie
 
-put-number-requires : tie.Need-put-number-requires
-put-number-requires c κs = search needs
-
-put-number-requires-2 : tie.Need-put-number-requires-2
-put-number-requires-2 c κs = search needs
-
-put-part-requires : tie.Need-put-part-requires
-put-part-requires c κs = search needs
-
-same-length : tie.Need-same-length
-same-length c = search needs
-
 returns : tie.Need-returns
 returns c =
     let at-put-part = c .before .before in
@@ -28,12 +16,6 @@ returns c =
     (at-put-number .put-number .ensures) (entry .pre) (at-if1 .if1 .taken) (at-put-number2 .put-number2 .ensures)
     (at-put-part .put-part .ensures)
 
-put-part-requires-2 : tie.Need-put-part-requires-2
-put-part-requires-2 c κs = search needs
-
-same-length-2 : tie.Need-same-length-2
-same-length-2 c = search needs
-
 returns-2 : tie.Need-returns-2
 returns-2 c =
     let at-put-part2 = c .before .before in
@@ -44,4 +26,5 @@ returns-2 c =
     (at-put-number .put-number .ensures) (at-if1 .if1 .left) (at-put-part2 .put-part2 .ensures)
 
 pub put-reference-spec : {M : Type 1} → statement M
-put-reference-spec = tie.close (tie.spec put-number-requires put-number-requires-2 put-part-requires same-length returns put-part-requires-2 same-length-2 returns-2)
+put-reference-spec = tie.close (tie.spec (λ c κs. search needs) (λ c κs. search needs) (λ c κs. search needs) (λ c. search needs) returns (λ c κs. search needs)
+    (λ c. search needs) returns-2)

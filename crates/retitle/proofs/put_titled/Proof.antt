@@ -9,21 +9,6 @@ use borrow.Author.Needs.{needs}
 use Rattle.retitle.proofs.put_titled.Statement.{statement}
 use Rattle.retitle.proofs.put_titled.Tie as tie
 
-slice-aggregate-read-header : tie.Need-slice-aggregate-read-header
-slice-aggregate-read-header c = search needs
-
-read-header-requires : tie.Need-read-header-requires
-read-header-requires c κs = search needs
-
-enum-told : tie.Need-enum-told
-enum-told c = search needs
-
-enum-known-h : tie.Need-enum-known-h
-enum-known-h c = search needs
-
-opening-of-requires : tie.Need-opening-of-requires
-opening-of-requires c κs = search needs
-
 put-file-requires : tie.Need-put-file-requires
 put-file-requires c κs =
     let at-opening-of = c .before .before in
@@ -42,9 +27,6 @@ returns c =
     λ (lim : Limits) (h : Header) reads. never-refused lim _ reads (at-read-header .read-header .result)
     (at-read-header .read-header .last .1 .0) (at-read-header .read-header .ensures .0) (c .enum-told .given .1)
 
-same-length : tie.Need-same-length
-same-length c = search needs
-
 returns-2 : tie.Need-returns-2
 returns-2 c =
     let at-put-file = c .before .before in
@@ -58,15 +40,5 @@ returns-2 c =
     (tree-is (entry .pre .0) (entry .pre .1) _ _)) (at-put-file .put-file .ensures)
 
 pub put-titled-spec : {M : Type 1} → statement M
-put-titled-spec =
-    tie.close
-    (tie.spec
-    slice-aggregate-read-header
-    read-header-requires
-    enum-told
-    enum-known-h
-    opening-of-requires
-    put-file-requires
-    returns
-    same-length
-    returns-2)
+put-titled-spec = tie.close (tie.spec (λ c. search needs) (λ c κs. search needs) (λ c. search needs) (λ c. search needs) (λ c κs. search needs) put-file-requires
+    returns (λ c. search needs) returns-2)

@@ -15,9 +15,6 @@ abbrev μ-loop : tie.MeasureT-loop
 loop-holds : tie.Need-loop-holds Inv-loop μ-loop
 loop-holds c = looking-start _ _
 
-node-at-requires : tie.Need-node-at-requires Inv-loop μ-loop
-node-at-requires c κs = search needs
-
 returns : tie.Need-returns Inv-loop μ-loop
 returns c = looking-two (c .before .before .before .before .loop .inv) (c .before .before .before .loop-test .taken) (c .before .before .node-at .ensures) (c .if1 .taken)
 
@@ -28,12 +25,6 @@ returns-2 c =
     let at-loop-test = at-node-at .before in
     let at-loop = at-loop-test .before in
     looking-three (at-loop .loop .inv) (at-loop-test .loop-test .taken) (at-node-at .node-at .ensures) (at-if1 .if1 .left) (c .if2 .taken)
-
-add-i : tie.Need-add-i Inv-loop μ-loop
-add-i c = search needs
-
-loop-less : tie.Need-loop-less Inv-loop μ-loop
-loop-less c = search needs
 
 loop-again : tie.Need-loop-again Inv-loop μ-loop
 loop-again c =
@@ -47,16 +38,4 @@ returns-3 : tie.Need-returns-3 Inv-loop μ-loop
 returns-3 c = looking-end (c .before .loop .inv) (c .loop-test .left)
 
 pub refers-elsewhere-spec : {M : Type 1} → statement M
-refers-elsewhere-spec =
-    tie.close
-    (tie.spec
-    Inv-loop
-    μ-loop
-    loop-holds
-    node-at-requires
-    returns
-    returns-2
-    add-i
-    loop-less
-    loop-again
-    returns-3)
+refers-elsewhere-spec = tie.close (tie.spec Inv-loop μ-loop loop-holds (λ c κs. search needs) returns returns-2 (λ c. search needs) (λ c. search needs) loop-again returns-3)

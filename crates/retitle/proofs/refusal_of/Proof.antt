@@ -8,12 +8,6 @@ use Rattle.retitle.proofs.refusal_of.Tie as tie
 returns : tie.Need-returns
 returns c = refuses-row _ _ _ _ _ (c .if1 .taken)
 
-refers-elsewhere-requires : tie.Need-refers-elsewhere-requires
-refers-elsewhere-requires c κs = search needs
-
-is-no-title-requires : tie.Need-is-no-title-requires
-is-no-title-requires c κs = search needs
-
 returns-2 : tie.Need-returns-2
 returns-2 c = refuses-reference _ _ _ _ _ (c .before .before .before .if1 .left) (c .before .before .refers-elsewhere .ensures) (c .before .is-no-title .ensures) (c .if2 .taken)
 
@@ -32,6 +26,4 @@ returns-4 c =
     refuses-none _ _ _ _ _ (at-if1 .if1 .left) (at-refers-elsewhere .refers-elsewhere .ensures) (at-is-no-title .is-no-title .ensures) (c .before .if2 .left) (c .if3 .left)
 
 pub refusal-of-spec : {M : Type 1} → statement M
-refusal-of-spec =
-    tie.close
-    (tie.spec returns refers-elsewhere-requires is-no-title-requires returns-2 returns-3 returns-4)
+refusal-of-spec = tie.close (tie.spec returns (λ c κs. search needs) (λ c κs. search needs) returns-2 returns-3 returns-4)

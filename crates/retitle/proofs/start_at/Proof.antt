@@ -9,18 +9,6 @@ use borrow.Author.Needs.{needs}
 use Rattle.retitle.proofs.start_at.Statement.{statement}
 use Rattle.retitle.proofs.start_at.Tie as tie
 
-start-with-requires : tie.Need-start-with-requires
-start-with-requires c κs = search needs
-
-start-with-requires-2 : tie.Need-start-with-requires-2
-start-with-requires-2 c κs = search needs
-
-start-with-requires-3 : tie.Need-start-with-requires-3
-start-with-requires-3 c κs = search needs
-
-least-bytes-requires : tie.Need-least-bytes-requires
-least-bytes-requires c κs = search needs
-
 start-with-requires-4 : tie.Need-start-with-requires-4
 unfolding startBytes
 start-with-requires-4 c κs =
@@ -49,12 +37,4 @@ returns c =
     (at-start-with .start-with .ensures) (at-start-with2 .start-with2 .ensures) (at-start-with3 .start-with3 .ensures))
 
 pub start-at-spec : {M : Type 1} → statement M
-start-at-spec =
-    tie.close
-    (tie.spec
-    start-with-requires
-    start-with-requires-2
-    start-with-requires-3
-    least-bytes-requires
-    start-with-requires-4
-    returns)
+start-at-spec = tie.close (tie.spec (λ c κs. search needs) (λ c κs. search needs) (λ c κs. search needs) (λ c κs. search needs) start-with-requires-4 returns)

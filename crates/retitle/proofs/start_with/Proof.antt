@@ -6,21 +6,11 @@ use borrow.Author.Needs.{needs}
 use Rattle.retitle.proofs.start_with.Statement.{statement}
 use Rattle.retitle.proofs.start_with.Tie as tie
 
-add-result : tie.Need-add-result
-add-result c = search needs
-
-last-bytes-requires : tie.Need-last-bytes-requires
-last-bytes-requires c κs = search needs
-
 add-result-2 : tie.Need-add-result-2
 add-result-2 c = omega (arith, last-few _ _ _ _ (c .last-bytes .ensures))
 
 add-result-3 : tie.Need-add-result-3
 add-result-3 c = omega (arith, last-few _ _ _ _ (c .last-bytes .ensures))
 
-returns : tie.Need-returns
-returns c = search needs
-
 pub start-with-spec : {M : Type 1} → statement M
-start-with-spec =
-    tie.close (tie.spec add-result last-bytes-requires add-result-2 add-result-3 returns)
+start-with-spec = tie.close (tie.spec (λ c. search needs) (λ c κs. search needs) add-result-2 add-result-3 (λ c. search needs))

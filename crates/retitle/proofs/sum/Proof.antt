@@ -16,24 +16,6 @@ abbrev μ-loop : tie.MeasureT-loop
 loop-holds : tie.Need-loop-holds Inv-loop μ-loop
 loop-holds c = adding-start _ _ _ (c .before .pre .0)
 
-mul-on : tie.Need-mul-on Inv-loop μ-loop
-mul-on c = search needs
-
-shared-slice-read-on : tie.Need-shared-slice-read-on Inv-loop μ-loop
-shared-slice-read-on c = search needs
-
-on-requires : tie.Need-on-requires Inv-loop μ-loop
-on-requires c κs = search needs
-
-stopped-requires : tie.Need-stopped-requires Inv-loop μ-loop
-stopped-requires c κs = search needs
-
-add-k : tie.Need-add-k Inv-loop μ-loop
-add-k c = search needs
-
-loop-less : tie.Need-loop-less Inv-loop μ-loop
-loop-less c = search needs
-
 loop-again : tie.Need-loop-again Inv-loop μ-loop
 loop-again c =
     let at-loop-test = c .before .before .before in
@@ -45,17 +27,5 @@ returns : tie.Need-returns Inv-loop μ-loop
 returns c = adding-end (c .before .loop .inv) (c .loop-test .left)
 
 pub sum-spec : {M : Type 1} → statement M
-sum-spec =
-    tie.close
-    (tie.spec
-    Inv-loop
-    μ-loop
-    loop-holds
-    mul-on
-    shared-slice-read-on
-    on-requires
-    stopped-requires
-    add-k
-    loop-less
-    loop-again
-    returns)
+sum-spec = tie.close (tie.spec Inv-loop μ-loop loop-holds (λ c. search needs) (λ c. search needs) (λ c κs. search needs) (λ c κs. search needs)
+    (λ c. search needs) (λ c. search needs) loop-again returns)

@@ -10,17 +10,11 @@ use borrow.Author.Needs.{needs}
 use Rattle.retitle.proofs.tree_start.Statement.{statement}
 use Rattle.retitle.proofs.tree_start.Tie as tie
 
-start-at-requires : tie.Need-start-at-requires
-start-at-requires c κs = search needs
-
 add-one : tie.Need-add-one
 add-one c = omega (arith, start-few _ _ _ (c .start-at .ensures))
 
 add-one-2 : tie.Need-add-one-2
 add-one-2 c = omega (arith, start-few _ _ _ (c .start-at .ensures))
-
-start-at-requires-2 : tie.Need-start-at-requires-2
-start-at-requires-2 c κs = search needs
 
 add-two : tie.Need-add-two
 add-two c = omega (arith, start-few _ _ _ (c .start-at2 .ensures))
@@ -28,17 +22,11 @@ add-two c = omega (arith, start-few _ _ _ (c .start-at2 .ensures))
 add-two-2 : tie.Need-add-two-2
 add-two-2 c = omega (arith, start-few _ _ _ (c .start-at2 .ensures))
 
-start-at-requires-3 : tie.Need-start-at-requires-3
-start-at-requires-3 c κs = search needs
-
 add-three : tie.Need-add-three
 add-three c = omega (arith, start-few _ _ _ (c .start-at3 .ensures))
 
 add-three-2 : tie.Need-add-three-2
 add-three-2 c = omega (arith, start-few _ _ _ (c .start-at3 .ensures))
-
-least-bytes-requires : tie.Need-least-bytes-requires
-least-bytes-requires c κs = search needs
 
 start-at-requires-4 : tie.Need-start-at-requires-4
 start-at-requires-4 c κs =
@@ -64,18 +52,5 @@ returns c =
     (ap (λ s. s + entry .args .tree + entry .args .after) (at-start-at3 .start-at3 .ensures)))
 
 pub tree-start-spec : {M : Type 1} → statement M
-tree-start-spec =
-    tie.close
-    (tie.spec
-    start-at-requires
-    add-one
-    add-one-2
-    start-at-requires-2
-    add-two
-    add-two-2
-    start-at-requires-3
-    add-three
-    add-three-2
-    least-bytes-requires
-    start-at-requires-4
-    returns)
+tree-start-spec = tie.close (tie.spec (λ c κs. search needs) add-one add-one-2 (λ c κs. search needs) add-two add-two-2 (λ c κs. search needs) add-three add-three-2
+    (λ c κs. search needs) start-at-requires-4 returns)

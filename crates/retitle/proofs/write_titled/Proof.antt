@@ -9,17 +9,11 @@ use borrow.Author.Needs.{needs}
 use Rattle.retitle.proofs.write_titled.Statement.{statement}
 use Rattle.retitle.proofs.write_titled.Tie as tie
 
-refusal-of-requires : tie.Need-refusal-of-requires
-refusal-of-requires c κs = search needs
-
 returns : tie.Need-returns
 returns c = λ (lim : Limits) (h : Header) reads. record { is = rows-refuse _ _ _ _ _ _ _ (c .before .refusal-of .ensures) (c .if1 .taken) }
 
 put-titled-requires : tie.Need-put-titled-requires
 put-titled-requires c κs = (c .before .before .before .before .before .before .before .before .pre, rows-stay _ _ _ (c .before .before .refusal-of .ensures) (c .before .if1 .left))
-
-same-length : tie.Need-same-length
-same-length c = search needs
 
 returns-2 : tie.Need-returns-2
 returns-2 c =
@@ -30,9 +24,6 @@ returns-2 c =
       is = too-large _ _ _ _ _ _ _ (at-refusal-of .refusal-of .ensures) (at-if1 .if1 .left) refl
           (at-put-titled .put-titled .ensures lim h reads) (omega (arith, c .if2 .taken));
     }
-
-same-length-2 : tie.Need-same-length-2
-same-length-2 c = search needs
 
 returns-3 : tie.Need-returns-3
 returns-3 c =
@@ -45,9 +36,6 @@ returns-3 c =
           (omega (arith, c .if3 .taken, at-put-titled .put-titled .kept));
     }
 
-same-length-3 : tie.Need-same-length-3
-same-length-3 c = search needs
-
 returns-4 : tie.Need-returns-4
 returns-4 c =
     let at-put-titled = c .before .before .before .before in
@@ -58,15 +46,5 @@ returns-4 c =
     (omega (arith, c .if3 .left, at-put-titled .put-titled .kept))
 
 pub write-titled-spec : {M : Type 1} → statement M
-write-titled-spec =
-    tie.close
-    (tie.spec
-    refusal-of-requires
-    returns
-    put-titled-requires
-    same-length
-    returns-2
-    same-length-2
-    returns-3
-    same-length-3
+write-titled-spec = tie.close (tie.spec (λ c κs. search needs) returns put-titled-requires (λ c. search needs) returns-2 (λ c. search needs) returns-3 (λ c. search needs)
     returns-4)

@@ -18,26 +18,8 @@ Inv-loop out₀ to file from size end hex next₀ at₀ out next at = (at ≤ en
 abbrev μ-loop : tie.MeasureT-loop
 μ-loop out₀ to file from size end hex next₀ at₀ out next at = end - at
 
-add-end : tie.Need-add-end Inv-loop μ-loop
-add-end c = omega arith
-
-hex-digits-requires : tie.Need-hex-digits-requires Inv-loop μ-loop
-hex-digits-requires c κs = search needs
-
 loop-holds : tie.Need-loop-holds Inv-loop μ-loop
 loop-holds c = (omega arith, omega arith, going-start _ (omega arith) (put-start _ _ _ refl))
-
-shared-slice-read-byte : tie.Need-shared-slice-read-byte Inv-loop μ-loop
-shared-slice-read-byte c = omega arith
-
-is-plain-requires : tie.Need-is-plain-requires Inv-loop μ-loop
-is-plain-requires c κs = search needs
-
-plain-end-requires : tie.Need-plain-end-requires Inv-loop μ-loop
-plain-end-requires c κs = omega arith
-
-add-plain-end : tie.Need-add-plain-end Inv-loop μ-loop
-add-plain-end c = omega arith
 
 sub-put-part : tie.Need-sub-put-part Inv-loop μ-loop
 sub-put-part c = omega (arith, c .before .plain-end .ensures .0 .within)
@@ -66,12 +48,6 @@ loop-again c =
 put-hex-requires : tie.Need-put-hex-requires Inv-loop μ-loop
 put-hex-requires c κs = c .before .before .before .before .before .before .before .hex-digits .ensures
 
-add-at : tie.Need-add-at Inv-loop μ-loop
-add-at c = omega arith
-
-loop-less-2 : tie.Need-loop-less-2 Inv-loop μ-loop
-loop-less-2 c = omega arith
-
 loop-again-2 : tie.Need-loop-again-2 Inv-loop μ-loop
 loop-again-2 c =
     let at-put-hex = c .before .before in
@@ -93,25 +69,6 @@ returns : tie.Need-returns Inv-loop μ-loop
 returns c = going-end (put-none _ _ _ (c .loop-test .left)) (c .before .loop .inv .2)
 
 pub put-escaped-spec : {M : Type 1} → statement M
-put-escaped-spec =
-    tie.close
-    (tie.spec
-    Inv-loop
-    μ-loop
-    add-end
-    hex-digits-requires
-    loop-holds
-    shared-slice-read-byte
-    is-plain-requires
-    add-plain-end
-    plain-end-requires
-    sub-put-part
-    put-part-requires
-    loop-less
-    loop-again
-    put-hex-requires
-    add-at
-    loop-less-2
-    loop-again-2
-    same-length
-    returns)
+put-escaped-spec = tie.close (tie.spec Inv-loop μ-loop (λ c. omega arith) (λ c κs. search needs) loop-holds (λ c. omega arith) (λ c κs. search needs) (λ c. omega arith)
+    (λ c κs. omega arith) sub-put-part put-part-requires loop-less loop-again put-hex-requires (λ c. omega arith) (λ c. omega arith)
+    loop-again-2 same-length returns)

@@ -31,20 +31,11 @@ node-at-requires c κs = omega (arith, c .before .before .before .before .before
 rows-end-requires : tie.Need-rows-end-requires Inv-loop μ-loop
 rows-end-requires c κs = c .before .before .loop .inv .0
 
-put-node-line-requires : tie.Need-put-node-line-requires Inv-loop μ-loop
-put-node-line-requires c κs = search needs
-
 put-item-lines-requires : tie.Need-put-item-lines-requires Inv-loop μ-loop
 put-item-lines-requires c κs =
     let e = c .before .before .before .before .before .rows-end .ensures in
     let p = c .before .before .before .before .before .before .before .before .before .before .before .before .before .pre .1 in
     (omega arith, (omega (arith, p .0), λ j l. p .1 j (omega arith)))
-
-add-i : tie.Need-add-i Inv-loop μ-loop
-add-i c = omega arith
-
-loop-less : tie.Need-loop-less Inv-loop μ-loop
-loop-less c = omega arith
 
 loop-again : tie.Need-loop-again Inv-loop μ-loop
 loop-again c =
@@ -67,18 +58,5 @@ returns c =
     filling-end (groups-end (a .file .now) (a .nodes .now) (a .items .now) (a .rows) (a .contents) (s .i) (s .first) (c .loop-test .left)) (s .inv .1)
 
 pub put-group-lines-spec : {M : Type 1} → statement M
-put-group-lines-spec =
-    tie.close
-    (tie.spec
-    Inv-loop
-    μ-loop
-    loop-holds
-    node-at-requires
-    rows-end-requires
-    put-node-line-requires
-    put-item-lines-requires
-    add-i
-    loop-less
-    loop-again
-    same-length
-    returns)
+put-group-lines-spec = tie.close (tie.spec Inv-loop μ-loop loop-holds node-at-requires rows-end-requires (λ c κs. search needs) put-item-lines-requires (λ c. omega arith)
+    (λ c. omega arith) loop-again same-length returns)

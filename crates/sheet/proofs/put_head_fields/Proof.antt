@@ -5,24 +5,6 @@ use borrow.Author.Needs.{needs}
 use Rattle.sheet.proofs.put_head_fields.Statement.{statement}
 use Rattle.sheet.proofs.put_head_fields.Tie as tie
 
-put-version-requires : tie.Need-put-version-requires
-put-version-requires c κs = search needs
-
-put-number-requires : tie.Need-put-number-requires
-put-number-requires c κs = search needs
-
-put-number-requires-2 : tie.Need-put-number-requires-2
-put-number-requires-2 c κs = search needs
-
-put-number-requires-3 : tie.Need-put-number-requires-3
-put-number-requires-3 c κs = search needs
-
-put-byte-requires : tie.Need-put-byte-requires
-put-byte-requires c κs = search needs
-
-same-length : tie.Need-same-length
-same-length c = search needs
-
 returns : tie.Need-returns
 returns c =
     let at-put-byte = c .before .before in
@@ -35,13 +17,5 @@ returns c =
     counts-then (counts-then nodes (at-put-number3 .put-number3 .ensures)) (at-put-byte .put-byte .ensures)
 
 pub put-head-fields-spec : {M : Type 1} → statement M
-put-head-fields-spec =
-    tie.close
-    (tie.spec
-    put-version-requires
-    put-number-requires
-    put-number-requires-2
-    put-number-requires-3
-    put-byte-requires
-    same-length
-    returns)
+put-head-fields-spec = tie.close (tie.spec (λ c κs. search needs) (λ c κs. search needs) (λ c κs. search needs) (λ c κs. search needs) (λ c κs. search needs)
+    (λ c. search needs) returns)

@@ -9,50 +9,17 @@ use borrow.Author.Needs.{needs}
 use Rattle.sheet.proofs.put_hex.Statement.{statement}
 use Rattle.sheet.proofs.put_hex.Tie as tie
 
-room-at-requires : tie.Need-room-at-requires
-room-at-requires c κs = search needs
-
-on-requires : tie.Need-on-requires
-on-requires c κs = search needs
-
 returns : tie.Need-returns
 returns c =
     let at-room-at = c .before .before in
     let entry = at-room-at .before .before in
     counts-as (hexed-is (entry .args .byte) (entry .pre)) (counts-over _ (c .on .ensures) (omega (arith, at-room-at .room-at .ensures, c .before .if1 .taken)))
 
-slice-write-out : tie.Need-slice-write-out
-slice-write-out c = search needs
-
-cast-out : tie.Need-cast-out
-cast-out c = search needs
-
-element-copy-out-out : tie.Need-element-copy-out-out
-element-copy-out-out c = search needs
-
-add-out : tie.Need-add-out
-add-out c = search needs
-
 slice-write-out-2 : tie.Need-slice-write-out-2
 slice-write-out-2 c = simp length-set (omega (arith, c .before .before .room-at .ensures, c .before .if1 .left))
 
-cast-out-2 : tie.Need-cast-out-2
-cast-out-2 c = search needs
-
-element-copy-out-out-2 : tie.Need-element-copy-out-out-2
-element-copy-out-out-2 c = search needs
-
-add-out-2 : tie.Need-add-out-2
-add-out-2 c = search needs
-
 slice-write-out-3 : tie.Need-slice-write-out-3
 slice-write-out-3 c = simp length-set (omega (arith, c .before .before .before .room-at .ensures, c .before .before .if1 .left))
-
-add-result : tie.Need-add-result
-add-result c = search needs
-
-same-length : tie.Need-same-length
-same-length c = search needs
 
 returns-2 : tie.Need-returns-2
 returns-2 c =
@@ -65,21 +32,6 @@ returns-2 c =
     (getD (entry .args .hex .now) (entry .args .byte % 16) 0)))
 
 pub put-hex-spec : {M : Type 1} → statement M
-put-hex-spec =
-    tie.close
-    (tie.spec
-    room-at-requires
-    on-requires
-    returns
-    slice-write-out
-    cast-out
-    element-copy-out-out
-    add-out
-    slice-write-out-2
-    cast-out-2
-    element-copy-out-out-2
-    add-out-2
-    slice-write-out-3
-    add-result
-    same-length
-    returns-2)
+put-hex-spec = tie.close (tie.spec (λ c κs. search needs) (λ c κs. search needs) returns (λ c. search needs) (λ c. search needs) (λ c. search needs)
+    (λ c. search needs) slice-write-out-2 (λ c. search needs) (λ c. search needs) (λ c. search needs) slice-write-out-3 (λ c. search needs)
+    (λ c. search needs) returns-2)

@@ -6,14 +6,8 @@ use borrow.Author.Needs.{needs}
 use Rattle.sheet.proofs.put_item_line.Statement.{statement}
 use Rattle.sheet.proofs.put_item_line.Tie as tie
 
-put-byte-requires : tie.Need-put-byte-requires
-put-byte-requires c κs = search needs
-
 item-at-requires : tie.Need-item-at-requires
 item-at-requires c κs = c .before .before .before .before .before .before .before .before .pre .0
-
-put-number-requires : tie.Need-put-number-requires
-put-number-requires c κs = search needs
 
 item-at-requires-2 : tie.Need-item-at-requires-2
 item-at-requires-2 c κs = c .before .before .before .before .before .before .before .before .before .before .before .before .before .pre .0
@@ -24,19 +18,10 @@ put-label-requires c κs = rw (c .item-at2 .ensures) (c .before .before .before 
 item-at-requires-3 : tie.Need-item-at-requires-3
 item-at-requires-3 c κs = c .before .before .before .before .before .before .before .before .before .before .before .before .before .before .before .before .before .before .pre .0
 
-put-number-requires-2 : tie.Need-put-number-requires-2
-put-number-requires-2 c κs = search needs
-
 item-at-requires-4 : tie.Need-item-at-requires-4
 item-at-requires-4 c κs =
     let entry = c .before .before .before .before .before .before .before .before .before .before .before .before .before .before .before .before .before .before .before .before .before .before .before in
     entry .pre .0
-
-put-number-requires-3 : tie.Need-put-number-requires-3
-put-number-requires-3 c κs = search needs
-
-put-byte-requires-2 : tie.Need-put-byte-requires-2
-put-byte-requires-2 c κs = search needs
 
 item-at-requires-5 : tie.Need-item-at-requires-5
 item-at-requires-5 c κs =
@@ -47,9 +32,6 @@ put-text-requires : tie.Need-put-text-requires
 put-text-requires c κs =
     let entry = c .before .before .before .before .before .before .before .before .before .before .before .before .before .before .before .before .before .before .before .before .before .before .before .before .before .before .before .before .before .before .before .before .before in
     rw (c .item-at5 .ensures) (entry .pre .1)
-
-put-byte-requires-3 : tie.Need-put-byte-requires-3
-put-byte-requires-3 c κs = search needs
 
 returns : tie.Need-returns
 returns c =
@@ -77,21 +59,6 @@ same-length : tie.Need-same-length
 same-length c = returns c .long
 
 pub put-item-line-spec : {M : Type 1} → statement M
-put-item-line-spec =
-    tie.close
-    (tie.spec
-    put-byte-requires
-    item-at-requires
-    put-number-requires
-    item-at-requires-2
-    put-label-requires
-    item-at-requires-3
-    put-number-requires-2
-    item-at-requires-4
-    put-number-requires-3
-    put-byte-requires-2
-    item-at-requires-5
-    put-text-requires
-    put-byte-requires-3
-    same-length
-    returns)
+put-item-line-spec = tie.close (tie.spec (λ c κs. search needs) item-at-requires (λ c κs. search needs) item-at-requires-2 put-label-requires item-at-requires-3
+    (λ c κs. search needs) item-at-requires-4 (λ c κs. search needs) (λ c κs. search needs) item-at-requires-5 put-text-requires
+    (λ c κs. search needs) same-length returns)

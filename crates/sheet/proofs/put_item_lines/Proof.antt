@@ -25,12 +25,6 @@ put-row-line-requires c κs =
     let entry = c .before .before .before .before .before .before in
     (omega (arith, entry .pre .1 .0), entry .pre .1 .1 _ (c .before .loop-test .taken))
 
-add-i : tie.Need-add-i Inv-loop μ-loop
-add-i c = omega arith
-
-loop-less : tie.Need-loop-less Inv-loop μ-loop
-loop-less c = omega arith
-
 loop-again : tie.Need-loop-again Inv-loop μ-loop
 loop-again c =
     let at-put-row-line = c .before .before in
@@ -45,15 +39,4 @@ returns : tie.Need-returns Inv-loop μ-loop
 returns c = filling-end (items-end _ _ _ _ (c .loop-test .left)) (c .before .loop .inv .1)
 
 pub put-item-lines-spec : {M : Type 1} → statement M
-put-item-lines-spec =
-    tie.close
-    (tie.spec
-    Inv-loop
-    μ-loop
-    loop-holds
-    put-row-line-requires
-    add-i
-    loop-less
-    loop-again
-    same-length
-    returns)
+put-item-lines-spec = tie.close (tie.spec Inv-loop μ-loop loop-holds put-row-line-requires (λ c. omega arith) (λ c. omega arith) loop-again same-length returns)

@@ -7,23 +7,11 @@ use borrow.Author.Needs.{needs}
 use Rattle.sheet.proofs.put_label.Statement.{statement}
 use Rattle.sheet.proofs.put_label.Tie as tie
 
-put-byte-requires : tie.Need-put-byte-requires
-put-byte-requires c κs = search needs
-
-put-byte-requires-2 : tie.Need-put-byte-requires-2
-put-byte-requires-2 c κs = search needs
-
-put-byte-requires-3 : tie.Need-put-byte-requires-3
-put-byte-requires-3 c κs = search needs
-
 put-escaped-requires : tie.Need-put-escaped-requires
 put-escaped-requires c κs =
     let at-if1 = c .before .before .before .before .before .before .before .before .before in
     let entry = at-if1 .before .before .before .before .before .before .before .before in
     name-in (entry .args .row) (entry .pre) (at-if1 .if1 .taken)
-
-same-length : tie.Need-same-length
-same-length c = search needs
 
 returns : tie.Need-returns
 returns c =
@@ -36,15 +24,6 @@ returns c =
     (counts-then (counts-then (counts-then (at-put-byte .put-byte .ensures) (at-put-byte2 .put-byte2 .ensures))
     (at-put-byte3 .put-byte3 .ensures)) (at-put-escaped .put-escaped .ensures))
 
-put-byte-requires-4 : tie.Need-put-byte-requires-4
-put-byte-requires-4 c κs = search needs
-
-put-number-requires : tie.Need-put-number-requires
-put-number-requires c κs = search needs
-
-same-length-2 : tie.Need-same-length-2
-same-length-2 c = search needs
-
 returns-2 : tie.Need-returns-2
 returns-2 c =
     let at-put-number = c .before .before in
@@ -55,16 +34,5 @@ returns-2 c =
     (counts-then (counts-then (at-put-byte .put-byte .ensures) (at-put-byte4 .put-byte4 .ensures)) (at-put-number .put-number .ensures))
 
 pub put-label-spec : {M : Type 1} → statement M
-put-label-spec =
-    tie.close
-    (tie.spec
-    put-byte-requires
-    put-byte-requires-2
-    put-byte-requires-3
-    put-escaped-requires
-    same-length
-    returns
-    put-byte-requires-4
-    put-number-requires
-    same-length-2
-    returns-2)
+put-label-spec = tie.close (tie.spec (λ c κs. search needs) (λ c κs. search needs) (λ c κs. search needs) put-escaped-requires (λ c. search needs) returns
+    (λ c κs. search needs) (λ c κs. search needs) (λ c. search needs) returns-2)

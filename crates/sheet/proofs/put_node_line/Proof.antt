@@ -11,30 +11,6 @@ use Rattle.sheet.proofs.put_node_line.Tie as tie
 returns : tie.Need-returns
 returns c = fills-past _ (omega arith) (c .if1 .taken) (omega (arith, c .if1 .taken))
 
-put-byte-requires : tie.Need-put-byte-requires
-put-byte-requires c κs = search needs
-
-put-number-requires : tie.Need-put-number-requires
-put-number-requires c κs = search needs
-
-put-number-requires-2 : tie.Need-put-number-requires-2
-put-number-requires-2 c κs = search needs
-
-put-number-requires-3 : tie.Need-put-number-requires-3
-put-number-requires-3 c κs = search needs
-
-put-number-requires-4 : tie.Need-put-number-requires-4
-put-number-requires-4 c κs = search needs
-
-put-number-requires-5 : tie.Need-put-number-requires-5
-put-number-requires-5 c κs = search needs
-
-put-number-requires-6 : tie.Need-put-number-requires-6
-put-number-requires-6 c κs = search needs
-
-put-byte-requires-2 : tie.Need-put-byte-requires-2
-put-byte-requires-2 c κs = search needs
-
 returns-2 : tie.Need-returns-2
 returns-2 c =
     let at-put-byte2 = c .before .before in
@@ -55,17 +31,5 @@ same-length : tie.Need-same-length
 same-length c = returns-2 c .long
 
 pub put-node-line-spec : {M : Type 1} → statement M
-put-node-line-spec =
-    tie.close
-    (tie.spec
-    returns
-    put-byte-requires
-    put-number-requires
-    put-number-requires-2
-    put-number-requires-3
-    put-number-requires-4
-    put-number-requires-5
-    put-number-requires-6
-    put-byte-requires-2
-    same-length
-    returns-2)
+put-node-line-spec = tie.close (tie.spec returns (λ c κs. search needs) (λ c κs. search needs) (λ c κs. search needs) (λ c κs. search needs) (λ c κs. search needs)
+    (λ c κs. search needs) (λ c κs. search needs) (λ c κs. search needs) same-length returns-2)

@@ -23,15 +23,6 @@ loop-holds c = (omega arith, filling-start _ (omega arith) (sym (nodes-start _ _
 node-at-requires : tie.Need-node-at-requires Inv-loop μ-loop
 node-at-requires c κs = omega (arith, c .before .before .before .before .before .pre)
 
-put-node-line-requires : tie.Need-put-node-line-requires Inv-loop μ-loop
-put-node-line-requires c κs = search needs
-
-add-i : tie.Need-add-i Inv-loop μ-loop
-add-i c = omega arith
-
-loop-less : tie.Need-loop-less Inv-loop μ-loop
-loop-less c = omega arith
-
 loop-again : tie.Need-loop-again Inv-loop μ-loop
 loop-again c =
     let at-put-node-line = c .before .before in
@@ -47,16 +38,5 @@ returns : tie.Need-returns Inv-loop μ-loop
 returns c = filling-end (nodes-end _ _ _ (c .loop-test .left)) (c .before .loop .inv .1)
 
 pub put-node-lines-spec : {M : Type 1} → statement M
-put-node-lines-spec =
-    tie.close
-    (tie.spec
-    Inv-loop
-    μ-loop
-    loop-holds
-    node-at-requires
-    put-node-line-requires
-    add-i
-    loop-less
-    loop-again
-    same-length
+put-node-lines-spec = tie.close (tie.spec Inv-loop μ-loop loop-holds node-at-requires (λ c κs. search needs) (λ c. omega arith) (λ c. omega arith) loop-again same-length
     returns)

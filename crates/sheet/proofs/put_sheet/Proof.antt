@@ -8,20 +8,8 @@ use borrow.Author.Needs.{needs}
 use Rattle.sheet.proofs.put_sheet.Statement.{statement}
 use Rattle.sheet.proofs.put_sheet.Tie as tie
 
-slice-aggregate-put-bytes : tie.Need-slice-aggregate-put-bytes
-slice-aggregate-put-bytes c = search needs
-
-put-bytes-requires : tie.Need-put-bytes-requires
-put-bytes-requires c κs = search needs
-
-put-head-fields-requires : tie.Need-put-head-fields-requires
-put-head-fields-requires c κs = search needs
-
 put-group-lines-requires : tie.Need-put-group-lines-requires
 put-group-lines-requires c κs = c .before .before .before .before .before .before .before .before .before .before .before .before .before .before .before .pre
-
-same-length : tie.Need-same-length
-same-length c = search needs
 
 returns : tie.Need-returns
 returns c =
@@ -32,15 +20,6 @@ returns c =
     (c .before .before .before .before .before .before .before .before .before .before .before .before .before .if1 .taken))
     (fills-then head (c .before .before .put-group-lines .ensures))
 
-slice-aggregate-put-bytes-2 : tie.Need-slice-aggregate-put-bytes-2
-slice-aggregate-put-bytes-2 c = search needs
-
-put-bytes-requires-2 : tie.Need-put-bytes-requires-2
-put-bytes-requires-2 c κs = search needs
-
-put-head-fields-requires-2 : tie.Need-put-head-fields-requires-2
-put-head-fields-requires-2 c κs = search needs
-
 put-node-lines-requires : tie.Need-put-node-lines-requires
 put-node-lines-requires c κs = c .before .before .before .before .before .before .before .before .before .before .before .before .before .before .before .pre .0
 
@@ -48,9 +27,6 @@ put-item-lines-requires : tie.Need-put-item-lines-requires
 put-item-lines-requires c κs =
     let entry = c .before .before .before .before .before .before .before .before .before .before .before .before .before .before .before .before .before .before .before in
     (omega arith, entry .pre .1)
-
-same-length-2 : tie.Need-same-length-2
-same-length-2 c = search needs
 
 returns-2 : tie.Need-returns-2
 returns-2 c =
@@ -64,19 +40,6 @@ returns-2 c =
     (fills-then (fills-then head (at-put-node-lines .put-node-lines .ensures)) (c .before .before .put-item-lines .ensures))
 
 pub put-sheet-spec : {M : Type 1} → statement M
-put-sheet-spec =
-    tie.close
-    (tie.spec
-    slice-aggregate-put-bytes
-    put-bytes-requires
-    put-head-fields-requires
-    put-group-lines-requires
-    same-length
-    returns
-    slice-aggregate-put-bytes-2
-    put-bytes-requires-2
-    put-head-fields-requires-2
-    put-node-lines-requires
-    put-item-lines-requires
-    same-length-2
+put-sheet-spec = tie.close (tie.spec (λ c. search needs) (λ c κs. search needs) (λ c κs. search needs) put-group-lines-requires (λ c. search needs) returns
+    (λ c. search needs) (λ c κs. search needs) (λ c κs. search needs) put-node-lines-requires put-item-lines-requires (λ c. search needs)
     returns-2)

@@ -6,31 +6,11 @@ use borrow.Author.Needs.{needs}
 use Rattle.sheet.proofs.put_text.Statement.{statement}
 use Rattle.sheet.proofs.put_text.Tie as tie
 
-put-unicode-requires : tie.Need-put-unicode-requires
-put-unicode-requires c κs = search needs
-
-same-length : tie.Need-same-length
-same-length c = search needs
-
 returns : tie.Need-returns
 returns c = counts-as (text-unicode _ _ (c .before .before .before .before .if1 .taken)) (c .before .before .put-unicode .ensures)
-
-put-escaped-requires : tie.Need-put-escaped-requires
-put-escaped-requires c κs = search needs
-
-same-length-2 : tie.Need-same-length-2
-same-length-2 c = search needs
 
 returns-2 : tie.Need-returns-2
 returns-2 c = counts-as (text-plain _ _ (c .before .before .before .before .if1 .left)) (c .before .before .put-escaped .ensures)
 
 pub put-text-spec : {M : Type 1} → statement M
-put-text-spec =
-    tie.close
-    (tie.spec
-    put-unicode-requires
-    same-length
-    returns
-    put-escaped-requires
-    same-length-2
-    returns-2)
+put-text-spec = tie.close (tie.spec (λ c κs. search needs) (λ c. search needs) returns (λ c κs. search needs) (λ c. search needs) returns-2)

@@ -3,81 +3,73 @@
 use mathlib.Core.Path.{refl, sym, _∙_}
 use Rattle.room.proofs.Counting.{counts-as, lent-part}
 use Rattle.sheet.proofs.Shown.{unicode-good, unicode-bad}
+use Rattle.sheet.proofs.LowBytes.{lent-length, letters-text}
+use native.Mathlib.Omega.{arith}
 use borrow.Author.Needs.{needs}
 use Rattle.sheet.proofs.put_unicode.Statement.{statement}
 use Rattle.sheet.proofs.put_unicode.Tie as tie
 
-add-end : tie.Need-add-end
-add-end c = search needs
+letters-requires : tie.Need-letters-requires
+letters-requires c κs = c .before .after-mark .ensures .1
 
-sub-converts : tie.Need-sub-converts
-sub-converts c = search needs
+mul-if1 : tie.Need-mul-if1
+mul-if1 c =
+    let entry = c .before .before .before .before .before .before in
+    let a = entry .args in
+    let long = lent-length (a .file .now) (a .from) (a .size) (entry .pre) (lent-part (a .file .now) (a .from) (a .size) refl) in
+    omega (arith, long, c .letters .ensures .inside)
 
-part-converts-start : tie.Need-part-converts-start
-part-converts-start c = search needs
+add-if1 : tie.Need-add-if1
+add-if1 c =
+    let entry = c .before .before .before .before .before .before in
+    let a = entry .args in
+    let long = lent-length (a .file .now) (a .from) (a .size) (entry .pre) (lent-part (a .file .now) (a .from) (a .size) refl) in
+    omega (arith, long, c .letters .ensures .inside)
 
-part-converts-end : tie.Need-part-converts-end
-part-converts-end c = search needs
-
-converts-requires : tie.Need-converts-requires
-converts-requires c κs = search needs
-
-sub-put-shown : tie.Need-sub-put-shown
-sub-put-shown c = search needs
-
-part-put-shown-start : tie.Need-part-put-shown-start
-part-put-shown-start c = search needs
-
-part-put-shown-end : tie.Need-part-put-shown-end
-part-put-shown-end c = search needs
-
-put-shown-requires : tie.Need-put-shown-requires
-put-shown-requires c κs = sym (c .before .before .before .converts .ensures) ∙ c .before .before .if1 .taken
-
-same-length : tie.Need-same-length
-same-length c = search needs
+put-lows-requires : tie.Need-put-lows-requires
+put-lows-requires c κs = c .before .before .before .letters .ensures .inside
 
 returns : tie.Need-returns
 returns c =
-    let at-put-shown = c .before .before in
-    let at-if1 = at-put-shown .before .before .before in
-    let at-converts = at-if1 .before in
-    let entry = at-converts .before .before .before .before in
-    counts-as (unicode-good (entry .args .file .now) (entry .args .from) (entry .args .size)
-    (lent-part (entry .args .file .now) (entry .args .from) (entry .args .size) refl) (at-converts .converts .ensures) (at-if1 .if1 .taken))
-    (at-put-shown .put-shown .ensures)
+    let at-put-lows = c .before .before in
+    let at-if1 = at-put-lows .before .before .before in
+    let at-letters = at-if1 .before in
+    let at-after-mark = at-letters .before .before in
+    let at-shared-slice-known = at-after-mark .before .before in
+    let entry = at-shared-slice-known .before .before in
+    let a = entry .args in
+    letters-text (a .file .now) (a .from) (a .size) (entry .pre) (lent-part (a .file .now) (a .from) (a .size) refl)
+    (λ i. omega (arith, at-shared-slice-known .shared-slice-known .given i)) (at-after-mark .after-mark .ensures .0) (at-after-mark .after-mark .ensures .1)
+    (at-letters .letters .ensures) (at-if1 .if1 .taken) (omega arith) (at-put-lows .put-lows .ensures)
 
-put-escaped-requires : tie.Need-put-escaped-requires
-put-escaped-requires c κs = search needs
-
-same-length-2 : tie.Need-same-length-2
-same-length-2 c = search needs
+put-shown-requires : tie.Need-put-shown-requires
+put-shown-requires c κs = sym (c .before .before .before .converts .ensures) ∙ c .before .before .if2 .taken
 
 returns-2 : tie.Need-returns-2
 returns-2 c =
+    let at-put-shown = c .before .before in
+    let at-if2 = at-put-shown .before .before .before in
+    let at-converts = at-if2 .before in
+    let at-letters = at-converts .before .before .before in
+    let entry = at-letters .before .before .before .before .before .before in
+    counts-as (unicode-good (entry .args .file .now) (entry .args .from) (entry .args .size)
+    (lent-part (entry .args .file .now) (entry .args .from) (entry .args .size) refl) (at-converts .converts .ensures) (at-if2 .if2 .taken))
+    (at-put-shown .put-shown .ensures)
+
+returns-3 : tie.Need-returns-3
+returns-3 c =
     let at-put-escaped = c .before .before in
-    let at-if1 = at-put-escaped .before .before in
-    let at-converts = at-if1 .before in
-    let entry = at-converts .before .before .before .before in
+    let at-if2 = at-put-escaped .before .before in
+    let at-converts = at-if2 .before in
+    let at-letters = at-converts .before .before .before in
+    let entry = at-letters .before .before .before .before .before .before in
     counts-as (unicode-bad (entry .args .file .now) (entry .args .from) (entry .args .size)
-    (lent-part (entry .args .file .now) (entry .args .from) (entry .args .size) refl) (at-converts .converts .ensures) (at-if1 .if1 .left))
+    (lent-part (entry .args .file .now) (entry .args .from) (entry .args .size) refl) (at-converts .converts .ensures) (at-if2 .if2 .left))
     (at-put-escaped .put-escaped .ensures)
 
 pub put-unicode-spec : {M : Type 1} → statement M
-put-unicode-spec =
-    tie.close
-    (tie.spec
-    add-end
-    sub-converts
-    part-converts-start
-    part-converts-end
-    converts-requires
-    sub-put-shown
-    part-put-shown-start
-    part-put-shown-end
-    put-shown-requires
-    same-length
-    returns
-    put-escaped-requires
-    same-length-2
-    returns-2)
+put-unicode-spec = tie.close (tie.spec (λ c. search needs) (λ c. search needs) (λ c. search needs) (λ c. search needs) (λ c κs. search needs) (λ c. search needs)
+    (λ c. search needs) (λ c. search needs) letters-requires mul-if1 add-if1 (λ c. search needs) (λ c. search needs) (λ c. search needs)
+    put-lows-requires (λ c. search needs) returns (λ c. search needs) (λ c. search needs) (λ c. search needs) (λ c κs. search needs)
+    (λ c. search needs) (λ c. search needs) (λ c. search needs) put-shown-requires (λ c. search needs) returns-2 (λ c κs. search needs)
+    (λ c. search needs) returns-3)

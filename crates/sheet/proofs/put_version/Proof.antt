@@ -6,21 +6,6 @@ use borrow.Author.Needs.{needs}
 use Rattle.sheet.proofs.put_version.Statement.{statement}
 use Rattle.sheet.proofs.put_version.Tie as tie
 
-put-decimal-requires : tie.Need-put-decimal-requires
-put-decimal-requires c κs = search needs
-
-put-byte-requires : tie.Need-put-byte-requires
-put-byte-requires c κs = search needs
-
-put-decimal-requires-2 : tie.Need-put-decimal-requires-2
-put-decimal-requires-2 c κs = search needs
-
-put-decimal-requires-3 : tie.Need-put-decimal-requires-3
-put-decimal-requires-3 c κs = search needs
-
-same-length : tie.Need-same-length
-same-length c = search needs
-
 returns : tie.Need-returns
 returns c =
     let at-put-decimal3 = c .before .before in
@@ -32,12 +17,4 @@ returns c =
     (at-put-decimal2 .put-decimal2 .ensures)) (at-put-decimal3 .put-decimal3 .ensures))
 
 pub put-version-spec : {M : Type 1} → statement M
-put-version-spec =
-    tie.close
-    (tie.spec
-    put-decimal-requires
-    put-byte-requires
-    put-decimal-requires-2
-    put-decimal-requires-3
-    same-length
-    returns)
+put-version-spec = tie.close (tie.spec (λ c κs. search needs) (λ c κs. search needs) (λ c κs. search needs) (λ c κs. search needs) (λ c. search needs) returns)

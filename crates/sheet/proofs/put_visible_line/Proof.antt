@@ -7,17 +7,8 @@ use borrow.Author.Needs.{needs}
 use Rattle.sheet.proofs.put_visible_line.Statement.{statement}
 use Rattle.sheet.proofs.put_visible_line.Tie as tie
 
-item-at-requires : tie.Need-item-at-requires
-item-at-requires c κs = search needs
-
 returns : tie.Need-returns
 returns c = counts-as (line-hidden _ _ (c .before .before .item-at .ensures) (c .if1 .taken)) (counts-none _ (omega arith))
-
-put-item-line-requires : tie.Need-put-item-line-requires
-put-item-line-requires c κs = search needs
-
-same-length : tie.Need-same-length
-same-length c = search needs
 
 returns-2 : tie.Need-returns-2
 returns-2 c =
@@ -27,11 +18,4 @@ returns-2 c =
     counts-as (line-shown _ _ (at-item-at .item-at .ensures) (at-if1 .if1 .left)) (at-put-item-line .put-item-line .ensures)
 
 pub put-visible-line-spec : {M : Type 1} → statement M
-put-visible-line-spec =
-    tie.close
-    (tie.spec
-    item-at-requires
-    returns
-    put-item-line-requires
-    same-length
-    returns-2)
+put-visible-line-spec = tie.close (tie.spec (λ c κs. search needs) returns (λ c κs. search needs) (λ c. search needs) returns-2)

@@ -1,6 +1,5 @@
 -- `write_edition` answers, and leaves tables and sheet, as `writeIn` says of what the file reads as.
 -- Assumes nothing.
-use lib.ListN.{length}
 use Rattle.tree.proofs.Rows.{standing}
 use Rattle.tree.proofs.Own.{item-rows}
 use Rattle.sheet.proofs.Asked.{asked-refused, asked-good, asked-full, zeros}
@@ -9,39 +8,12 @@ use borrow.Author.Needs.{needs}
 use Rattle.sheet.proofs.write_edition.Statement.{statement}
 use Rattle.sheet.proofs.write_edition.Tie as tie
 
-read-file-requires : tie.Need-read-file-requires
-read-file-requires c κs = search needs
-
-enum-known-n : tie.Need-enum-known-n
-enum-known-n c = search needs
-
-clear-bytes-requires : tie.Need-clear-bytes-requires
-clear-bytes-requires c κs = search needs
-
-enum-known-s : tie.Need-enum-known-s
-enum-known-s c = search needs
-
 put-sheet-requires : tie.Need-put-sheet-requires
 put-sheet-requires c κs =
     let a = c .before .before .before .before .before .before .before .before .before .before .before .before .before .before .before .before .before .args in
     let f = c .before .before .before .before .before .before .before .before .before .before .read-file .ensures in
     let w = standing (a .file .now) _ _ _ (f .0) (f .1 .0) (f .1 .1) (c .before .before .before .before .s .given .1) in
     (w .node-room, item-rows w)
-
-clear-all-requires : tie.Need-clear-all-requires
-clear-all-requires c κs = search needs
-
-clear-bytes-requires-2 : tie.Need-clear-bytes-requires-2
-clear-bytes-requires-2 c κs = search needs
-
-same-length : tie.Need-same-length
-same-length c = search needs
-
-same-length-2 : tie.Need-same-length-2
-same-length-2 c = search needs
-
-same-length-3 : tie.Need-same-length-3
-same-length-3 c = search needs
 
 returns : tie.Need-returns
 returns c =
@@ -55,33 +27,12 @@ returns c =
     asked-full (a .second) (a .file .now) _ _ (a .sheet .now) _ (f .ensures .1 .0) (f .ensures .1 .1) w (p .ensures) (omega (arith, full, p .kept .0))
     (zeros (z .0) (f .kept .1 .0)) (zeros (z .1) (f .kept .1 .1 .0)) (zeros (c .before .before .clear-bytes2 .ensures) (p .kept .0))
 
-clear-bytes-from-requires : tie.Need-clear-bytes-from-requires
-clear-bytes-from-requires c κs = search needs
-
-same-length-4 : tie.Need-same-length-4
-same-length-4 c = search needs
-
-same-length-5 : tie.Need-same-length-5
-same-length-5 c = search needs
-
-same-length-6 : tie.Need-same-length-6
-same-length-6 c = search needs
-
 returns-2 : tie.Need-returns-2
 returns-2 c =
     let a = c .before .before .before .before .before .before .before .before .before .before .before .before .before .before .before .before .before .before .args in
     let f = c .before .before .before .before .before .before .before .before .before .before .before .read-file .ensures in
     asked-refused (a .second) (a .file .now) _ _ (a .sheet .now) _ (f .1 .0) (f .1 .1) (f .0)
     (c .before .before .before .before .before .n .given .1) (c .before .before .clear-bytes .ensures)
-
-same-length-7 : tie.Need-same-length-7
-same-length-7 c = search needs
-
-same-length-8 : tie.Need-same-length-8
-same-length-8 c = search needs
-
-same-length-9 : tie.Need-same-length-9
-same-length-9 c = search needs
 
 returns-3 : tie.Need-returns-3
 returns-3 c =
@@ -96,26 +47,6 @@ returns-3 c =
     (omega (arith, good)) (c .before .before .clear-bytes-from .ensures)
 
 pub write-edition-spec : {M : Type 1} → statement M
-write-edition-spec =
-    tie.close
-    (tie.spec
-    read-file-requires
-    enum-known-n
-    clear-bytes-requires
-    enum-known-s
-    put-sheet-requires
-    clear-all-requires
-    clear-bytes-requires-2
-    same-length
-    same-length-2
-    same-length-3
-    returns
-    clear-bytes-from-requires
-    same-length-4
-    same-length-5
-    same-length-6
-    returns-2
-    same-length-7
-    same-length-8
-    same-length-9
-    returns-3)
+write-edition-spec = tie.close (tie.spec (λ c κs. search needs) (λ c. search needs) (λ c κs. search needs) (λ c. search needs) put-sheet-requires (λ c κs. search needs)
+    (λ c κs. search needs) (λ c. search needs) (λ c. search needs) (λ c. search needs) returns (λ c κs. search needs) (λ c. search needs)
+    (λ c. search needs) (λ c. search needs) returns-2 (λ c. search needs) (λ c. search needs) (λ c. search needs) returns-3)

@@ -15,33 +15,6 @@ returns c =
     let x = dropping (label (a .desk) (a .call) (a .boat)) in
     (other-answer x (a .file .now) (c .if1 .taken), other-file x (a .file .now) (c .if1 .taken))
 
-words-in-requires : tie.Need-words-in-requires
-words-in-requires c κs = search needs
-
-slice-aggregate-drop-words : tie.Need-slice-aggregate-drop-words
-slice-aggregate-drop-words c = search needs
-
-sub-drop-words : tie.Need-sub-drop-words
-sub-drop-words c = search needs
-
-part-drop-words-start : tie.Need-part-drop-words-start
-part-drop-words-start c = search needs
-
-part-drop-words-end : tie.Need-part-drop-words-end
-part-drop-words-end c = search needs
-
-drop-words-requires : tie.Need-drop-words-requires
-drop-words-requires c κs = search needs
-
-slice-aggregate-put-words : tie.Need-slice-aggregate-put-words
-slice-aggregate-put-words c = search needs
-
-put-words-requires : tie.Need-put-words-requires
-put-words-requires c κs = search needs
-
-same-length : tie.Need-same-length
-same-length c = search needs
-
 returns-2 : tie.Need-returns-2
 returns-2 c =
     let at-put-words = c .before .before in
@@ -55,17 +28,5 @@ returns-2 c =
     (at-put-words .put-words .ensures)
 
 pub drop-spec : {M : Type 1} → statement M
-drop-spec =
-    tie.close
-    (tie.spec
-    returns
-    words-in-requires
-    slice-aggregate-drop-words
-    sub-drop-words
-    part-drop-words-start
-    part-drop-words-end
-    drop-words-requires
-    slice-aggregate-put-words
-    put-words-requires
-    same-length
-    returns-2)
+drop-spec = tie.close (tie.spec returns (λ c κs. search needs) (λ c. search needs) (λ c. search needs) (λ c. search needs) (λ c. search needs)
+    (λ c κs. search needs) (λ c. search needs) (λ c κs. search needs) (λ c. search needs) returns-2)

@@ -20,21 +20,6 @@ abbrev μ-loop : tie.MeasureT-loop
 loop-holds : tie.Need-loop-holds Inv-loop μ-loop
 loop-holds c = going-start _ (omega arith) refl
 
-mul-put-eight : tie.Need-mul-put-eight Inv-loop μ-loop
-mul-put-eight c = omega arith
-
-shared-slice-read-put-eight : tie.Need-shared-slice-read-put-eight Inv-loop μ-loop
-shared-slice-read-put-eight c = omega arith
-
-put-eight-requires : tie.Need-put-eight-requires Inv-loop μ-loop
-put-eight-requires c κs = search needs
-
-add-i : tie.Need-add-i Inv-loop μ-loop
-add-i c = omega arith
-
-loop-less : tie.Need-loop-less Inv-loop μ-loop
-loop-less c = omega arith
-
 loop-again : tie.Need-loop-again Inv-loop μ-loop
 loop-again c =
     let at-put-eight = c .before .before in
@@ -48,17 +33,5 @@ returns : tie.Need-returns Inv-loop μ-loop
 returns c = going-end (eights-none _ _ (c .loop-test .left)) (c .before .loop .inv)
 
 pub put-words-spec : {M : Type 1} → statement M
-put-words-spec =
-    tie.close
-    (tie.spec
-    Inv-loop
-    μ-loop
-    loop-holds
-    mul-put-eight
-    shared-slice-read-put-eight
-    put-eight-requires
-    add-i
-    loop-less
-    loop-again
-    same-length
-    returns)
+put-words-spec = tie.close (tie.spec Inv-loop μ-loop loop-holds (λ c. omega arith) (λ c. omega arith) (λ c κs. search needs) (λ c. omega arith) (λ c. omega arith)
+    loop-again same-length returns)

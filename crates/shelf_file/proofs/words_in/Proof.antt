@@ -30,12 +30,6 @@ mul-words c = record { fits = omega (arith, c .before .loop-test .taken) }
 array-write-words : tie.Need-array-write-words Inv-loop μ-loop
 array-write-words c = c .before .loop-test .taken
 
-add-i : tie.Need-add-i Inv-loop μ-loop
-add-i c = omega arith
-
-loop-less : tie.Need-loop-less Inv-loop μ-loop
-loop-less c = omega arith
-
 loop-again : tie.Need-loop-again Inv-loop μ-loop
 loop-again c = word-more _ _ _ (c .before .loop-test .taken) (c .word-at .ensures) (c .before .before .loop .inv)
 
@@ -43,17 +37,5 @@ returns : tie.Need-returns Inv-loop μ-loop
 returns c = words-all _ _ _ refl (c .loop-test .left) (c .before .loop .inv)
 
 pub words-in-spec : {M : Type 1} → statement M
-words-in-spec =
-    tie.close
-    (tie.spec
-    Inv-loop
-    μ-loop
-    loop-holds
-    mul-word-at
-    word-at-requires
-    mul-words
-    array-write-words
-    add-i
-    loop-less
-    loop-again
-    returns)
+words-in-spec = tie.close (tie.spec Inv-loop μ-loop loop-holds mul-word-at word-at-requires mul-words array-write-words (λ c. omega arith) (λ c. omega arith)
+    loop-again returns)

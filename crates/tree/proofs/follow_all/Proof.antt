@@ -5,21 +5,21 @@ use Prim.Native.Nat.{_-_}
 use lib.ListN.{length}
 use mathlib.Core.Path.{_≡_}
 use Rattle.header.specs.Told.{headerOf}
-use Rattle.tree.proofs.Growing.{stand-few, stand-inside, Follows, follows-begun, follows-before, follows-no, follows-next, follows-on, follows-done}
+use Rattle.tree.proofs.Growing.{stand-few, stand-inside, Follows, follows-begun, follows-spanned, follows-no, follows-next, follows-on, follows-done}
 use native.Mathlib.Omega.{arith}
 use borrow.Author.Needs.{needs}
 use Rattle.tree.proofs.follow_all.Statement.{statement}
 use Rattle.tree.proofs.follow_all.Tie as tie
 
 abbrev Inv-loop : tie.InvT-loop
-Inv-loop file types nodes₀ items₀ h lim made m₀ i₀ beyond₀ nodes items m i beyond = Follows lim file (headerOf h types) (made .nodes) nodes₀ items₀ made i
-    nodes items m (beyond .0) × (length nodes ≡ length nodes₀) × (length items ≡ length items₀)
+Inv-loop file types nodes₀ items₀ h lim made m₀ i₀ span₀ nodes items m i span = Follows lim file (headerOf h types) (made .nodes) nodes₀ items₀ made i
+    nodes items m span × (length nodes ≡ length nodes₀) × (length items ≡ length items₀)
 
 abbrev μ-loop : tie.MeasureT-loop
-μ-loop file types nodes₀ items₀ h lim made m₀ i₀ beyond₀ nodes items m i beyond = lim .nodes - i
+μ-loop file types nodes₀ items₀ h lim made m₀ i₀ span₀ nodes items m i span = lim .nodes - i
 
 loop-holds : tie.Need-loop-holds Inv-loop μ-loop
-loop-holds c = (follows-begun _ _ _ _ _ _ _ (omega arith), refl, refl)
+loop-holds c = (follows-begun _ _ _ _ _ _ _ (omega arith) refl, refl, refl)
 
 follow-row-requires : tie.Need-follow-row-requires Inv-loop μ-loop
 follow-row-requires c κs =
@@ -31,7 +31,7 @@ follow-row-requires c κs =
     let p = entry .pre .0 in
     let a = at-loop .loop .inv .1 in
     let b = at-loop .loop .inv .2 in
-    (omega (arith, p), at-if1 .if1 .taken, (w .0, x .log, x .stands), follows-before _ _ _ _ _ _ _ (at-loop .loop .inv .0) (omega (arith, p .nodes-in, a)) (w .0) (w .1) (w .2))
+    (omega (arith, p), at-if1 .if1 .taken, (w .0, x .log, x .stands), follows-spanned _ _ _ _ _ _ _ (at-loop .loop .inv .0) (omega (arith, p .nodes-in, a)) (w .0) (w .1) (w .2))
 
 same-length : tie.Need-same-length Inv-loop μ-loop
 same-length c =
@@ -52,8 +52,8 @@ returns c =
     let at-loop = at-if1 .before .before in
     follows-no _ _ _ _ _ _ _ (at-loop .loop .inv .0) (at-if1 .if1 .taken) (at-follow-row .follow-row .ensures) (c .before .n .given .1)
 
-beyond-row-requires : tie.Need-beyond-row-requires Inv-loop μ-loop
-beyond-row-requires c κs =
+with-row-requires : tie.Need-with-row-requires Inv-loop μ-loop
+with-row-requires c κs =
     let at-n2 = c .before .before in
     let at-follow-row = at-n2 .before .before .before .before .before .before in
     let at-if1 = at-follow-row .before .before .before in
@@ -85,7 +85,7 @@ loop-again c =
     let kept = at-follow-row .follow-row .kept .1 .1 in
     let long = kept .0 ∙ at-loop .loop .inv .1 in (
       follows-on _ _ _ _ _ _ _ (at-loop .loop .inv .0) (at-if1 .if1 .taken) (at-follow-row .follow-row .ensures) (entry .pre .0 .start-in)
-          (at-n2 .n2 .given .1) (kept .0) (kept .1 .0) (omega (arith, entry .pre .0 .nodes-in, long)) (c .beyond-row .ensures .0) (c .beyond-row .ensures .1),
+          (at-n2 .n2 .given .1) (kept .0) (kept .1 .0) (omega (arith, entry .pre .0 .nodes-in, long)) (c .with-row .ensures .0) (c .with-row .ensures .1),
       long,
       kept .1 .0 ∙ at-loop .loop .inv .2,
     )
@@ -101,4 +101,4 @@ returns-2 c = follows-done _ _ _ _ _ _ _ (c .before .before .loop .inv .0) (c .i
 
 pub follow-all-spec : {M : Type 1} → statement M
 follow-all-spec = tie.close (tie.spec Inv-loop μ-loop loop-holds follow-row-requires (λ c. search needs) same-length same-length-2 returns (λ c. search needs)
-    beyond-row-requires (λ c. omega arith) loop-less loop-again same-length-3 same-length-4 returns-2)
+    with-row-requires (λ c. omega arith) loop-less loop-again same-length-3 same-length-4 returns-2)

@@ -2,7 +2,6 @@
 -- Assumes nothing.
 use mathlib.Core.Path.{refl, sym, ap, _∙_}
 use Prim.Native.Nat.{_+_}
-use lib.ListN.{length}
 use Rattle.cursor.specs.declared.Node.{Node}
 use Rattle.header.specs.Told.{headerOf}
 use Rattle.tree.proofs.Growing.{stand-few, stand-rising, stand-inside, stand-attached, part-in, reach-other, reach-known, reach-nowhere, reach-node}
@@ -43,7 +42,7 @@ returns-2 c =
     let at-node-at = at-rows-asked .before .before .before in
     let entry = at-node-at .before .before .before .before .before .before in
     λ σ log s. reach-known _ _ _ s (entry .pre .0 .nodes-in) _ (entry .pre .1) (at-node-at .node-at .ensures) refl
-    (asked-found (entry .args .nodes .now) _ (at-rows-asked .rows-asked .ensures) (at-row-starting .row-starting .ensures) (c .if2 .taken)) _
+    (asked-found (entry .args .nodes .now) _ (entry .args .span) (at-rows-asked .rows-asked .ensures) (at-row-starting .row-starting .ensures) (c .if2 .taken)) _
 
 offset-at-requires : tie.Need-offset-at-requires
 offset-at-requires c κs =
@@ -53,12 +52,12 @@ offset-at-requires c κs =
 
 first-taken-requires : tie.Need-first-taken-requires
 first-taken-requires c κs =
-    let at-rows-asked = c .before .before .before .before .before .before .before .before .before .before in
+    let at-rows-asked = c .before .before .before .before .before .before .before .before .before .before .before in
     let entry = at-rows-asked .before .before .before .before .before .before .before .before .before in
     let s = entry .pre .2 .2 in
     let room = entry .pre .0 .nodes-in in
     let asked = at-rows-asked .rows-asked .ensures in
-    let same = row-asked (entry .args .nodes .now) _ asked in (
+    let same = row-asked (entry .args .nodes .now) _ (entry .args .span) asked in (
       asked .0,
       omega (arith, asked .1, stand-few s room .1),
       (λ i l. let w = stand-inside s room i (omega (arith, asked .1)) in omega (arith, entry .pre .0 .short, ap (λ (r : Node). r .start + r .size) (same i l))),
@@ -67,7 +66,7 @@ first-taken-requires c κs =
 
 read-children-requires : tie.Need-read-children-requires
 read-children-requires c κs =
-    let at-part-end = c .before .before .before .before .before in
+    let at-part-end = c .before .before .before .before .before .before in
     let entry = at-part-end .before .before .before .before .before .before .before .before .before .before .before .before .before .before .before .before .before .before in
     let s = entry .pre .2 .2 in let p = part-in (headerOf (entry .args .h) (entry .args .types .now)) _ _ (entry .pre .0 .start-in)
     (at-part-end .part-end .ensures (headerOf (entry .args .h) (entry .args .types .now)) refl) in omega
@@ -77,7 +76,8 @@ returns-3 : tie.Need-returns-3
 returns-3 c =
     let at-read-children = c .before .before .before .before in
     let at-first-taken = at-read-children .before .before .before .before in
-    let at-part-end = at-first-taken .before .before in
+    let at-end-asked = at-first-taken .before in
+    let at-part-end = at-end-asked .before .before in
     let at-if3 = at-part-end .before in
     let at-is-outside = at-if3 .before in
     let at-offset-at = at-is-outside .before .before in
@@ -89,12 +89,14 @@ returns-3 c =
     let entry = at-node-at .before .before .before .before .before .before in
     let t = entry .args .nodes .now in
     let asked = at-rows-asked .rows-asked .ensures in
-    let before = entry .pre .3 in
+    let span = entry .args .span in
+    let inside = part-in (headerOf (entry .args .h) (entry .args .types .now)) _ _ (entry .pre .0 .start-in)
+    (at-part-end .part-end .ensures (headerOf (entry .args .h) (entry .args .types .now)) refl) in
     λ σ log s. reach-node _ _ (headerOf (entry .args .h) (entry .args .types .now)) s (entry .pre .0 .nodes-in) _ (entry .pre .1)
-    (at-node-at .node-at .ensures) (at-if1 .if1 .left) refl (asked-none t _ asked before (at-row-starting .row-starting .ensures) (at-if2 .if2 .left))
+    (at-node-at .node-at .ensures) (at-if1 .if1 .left) refl (asked-none t _ span asked (entry .pre .3) (at-row-starting .row-starting .ensures) (at-if2 .if2 .left))
     (sym (at-if3 .if3 .taken) ∙ at-is-outside .is-outside .ensures (headerOf (entry .args .h) (entry .args .types .now)) refl)
     (at-offset-at .offset-at .ensures) (at-part-end .part-end .ensures (headerOf (entry .args .h) (entry .args .types .now)) refl)
-    (at-first-taken .first-taken .ensures ∙ asked-taken t _ asked before _) (at-read-children .read-children .ensures)
+    (asked-taken t _ span asked (entry .pre .3) inside (at-end-asked .end-asked .ensures) (at-first-taken .first-taken .ensures)) (at-read-children .read-children .ensures)
 
 returns-4 : tie.Need-returns-4
 returns-4 c =
@@ -105,7 +107,8 @@ returns-4 c =
     let at-if1 = at-rows-asked .before in
     let at-node-at = at-if1 .before .before in
     let entry = at-node-at .before .before .before .before .before .before in
-    let none = asked-none (entry .args .nodes .now) _ (at-rows-asked .rows-asked .ensures) (entry .pre .3) (at-row-starting .row-starting .ensures) (at-if2 .if2 .left) in
+    let none = asked-none (entry .args .nodes .now) _ (entry .args .span) (at-rows-asked .rows-asked .ensures) (entry .pre .3)
+    (at-row-starting .row-starting .ensures) (at-if2 .if2 .left) in
     λ σ log s. reach-nowhere _ _ (headerOf (entry .args .h) (entry .args .types .now)) s (entry .pre .0 .nodes-in) _ (entry .pre .1)
     (at-node-at .node-at .ensures) (at-if1 .if1 .left) refl none
     (sym (c .if3 .left) ∙ c .before .is-outside .ensures (headerOf (entry .args .h) (entry .args .types .now)) refl)
@@ -113,5 +116,5 @@ returns-4 c =
 
 pub follow-row-spec : {M : Type 1} → statement M
 follow-row-spec = tie.close (tie.spec node-at-requires (λ c. search needs) returns rows-asked-requires row-starting-requires (λ c. search needs) returns-2
-    offset-at-requires (λ c κs. search needs) (λ c κs. search needs) first-taken-requires (λ c. omega arith) read-children-requires
-    (λ c. search needs) (λ c. search needs) returns-3 (λ c. search needs) returns-4)
+    offset-at-requires (λ c κs. search needs) (λ c κs. search needs) (λ c κs. search needs) first-taken-requires (λ c. omega arith)
+    read-children-requires (λ c. search needs) (λ c. search needs) returns-3 (λ c. search needs) returns-4)

@@ -8,15 +8,6 @@ use borrow.Author.Needs.{needs}
 use Rattle.unicode.proofs.after_mark.Statement.{statement}
 use Rattle.unicode.proofs.after_mark.Tie as tie
 
-char16-requires : tie.Need-char16-requires
-char16-requires c κs = search needs
-
-enum-told : tie.Need-enum-told
-enum-told c = search needs
-
-enum-known-value : tie.Need-enum-known-value
-enum-known-value c = search needs
-
 returns : tie.Need-returns
 returns c =
     let at-value = c .before .before in
@@ -45,5 +36,4 @@ returns-3 c =
     )
 
 pub after-mark-spec : {M : Type 1} → statement M
-after-mark-spec =
-    tie.close (tie.spec char16-requires enum-told enum-known-value returns returns-2 returns-3)
+after-mark-spec = tie.close (tie.spec (λ c κs. search needs) (λ c. search needs) (λ c. search needs) returns returns-2 returns-3)

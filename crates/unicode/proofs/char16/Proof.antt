@@ -5,14 +5,8 @@ use borrow.Author.Needs.{needs}
 use Rattle.unicode.proofs.char16.Statement.{statement}
 use Rattle.unicode.proofs.char16.Tie as tie
 
-room-at-requires : tie.Need-room-at-requires
-room-at-requires c κs = search needs
-
 returns : tie.Need-returns
 returns c = none-left (c .before .before .before .args .units .now) (c .before .before .before .args .at) (c .before .room-at .ensures) (c .if1 .taken)
-
-unit-requires : tie.Need-unit-requires
-unit-requires c κs = search needs
 
 returns-2 : tie.Need-returns-2
 returns-2 c =
@@ -47,12 +41,6 @@ returns-5 c =
     lone-end (entry .args .units .now) (entry .args .at) (at-room-at .room-at .ensures) (at-if1 .if1 .left) (at-unit .unit .ensures .0)
     (at-if2 .if2 .left) (c .before .if4 .left) (c .if5 .taken)
 
-add-unit : tie.Need-add-unit
-add-unit c = search needs
-
-unit-requires-2 : tie.Need-unit-requires-2
-unit-requires-2 c κs = search needs
-
 returns-6 : tie.Need-returns-6
 returns-6 c =
     let at-if5 = c .before .before in
@@ -78,15 +66,6 @@ returns-7 c =
     late-unit (entry .args .units .now) (entry .args .at) (at-room-at .room-at .ensures) (at-if1 .if1 .left) (at-unit .unit .ensures .0)
     (at-if2 .if2 .left) (at-if4 .if4 .left) (at-if5 .if5 .left) (at-unit2 .unit2 .ensures .0) (c .if7 .taken)
 
-mul-t9 : tie.Need-mul-t9
-mul-t9 c = search needs
-
-add-t10 : tie.Need-add-t10
-add-t10 c = search needs
-
-add-t12 : tie.Need-add-t12
-add-t12 c = search needs
-
 returns-8 : tie.Need-returns-8
 returns-8 c =
     let at-unit2 = c .before .before in
@@ -101,21 +80,5 @@ returns-8 c =
     (at-if2 .if2 .left) (at-if4 .if4 .left) (at-if5 .if5 .left) (at-unit2 .unit2 .ensures .0) (c .before .if6 .left) (c .if7 .left)
 
 pub char16-spec : {M : Type 1} → statement M
-char16-spec =
-    tie.close
-    (tie.spec
-    room-at-requires
-    returns
-    unit-requires
-    returns-2
-    returns-3
-    returns-4
-    returns-5
-    add-unit
-    unit-requires-2
-    returns-6
-    returns-7
-    mul-t9
-    add-t10
-    add-t12
-    returns-8)
+char16-spec = tie.close (tie.spec (λ c κs. search needs) returns (λ c κs. search needs) returns-2 returns-3 returns-4 returns-5 (λ c. search needs)
+    (λ c κs. search needs) returns-6 returns-7 (λ c. search needs) (λ c. search needs) (λ c. search needs) returns-8)

@@ -9,12 +9,6 @@ use Rattle.unicode.proofs.char8.Tie as tie
 returns : tie.Need-returns
 returns c = no-byte (c .before .before .args .text .now) (c .before .before .args .at) (c .if1 .taken)
 
-shared-slice-read-wide : tie.Need-shared-slice-read-wide
-shared-slice-read-wide c = search needs
-
-wide-requires : tie.Need-wide-requires
-wide-requires c κs = search needs
-
 returns-2 : tie.Need-returns-2
 returns-2 c =
     let at-if1 = c .before .before .before in
@@ -28,12 +22,6 @@ returns-3 c =
     let entry = at-if1 .before .before in
     tail-byte (entry .args .text .now) (entry .args .at) (at-if1 .if1 .left) (at-wide .wide .ensures .0) (c .before .if2 .left) (c .if3 .taken)
 
-add-read-tails : tie.Need-add-read-tails
-add-read-tails c = search needs
-
-read-tails-requires : tie.Need-read-tails-requires
-read-tails-requires c κs = search needs
-
 returns-4 : tie.Need-returns-4
 returns-4 c =
     let at-if3 = c .before .before in
@@ -42,12 +30,6 @@ returns-4 c =
     let entry = at-if1 .before .before in
     c .read-tails .ensures ∙ two-bytes (entry .args .text .now) (entry .args .at) (at-if1 .if1 .left) (at-wide .wide .ensures .0) (at-if3 .if3 .left) (c .before .if4 .taken)
 
-add-read-tails-2 : tie.Need-add-read-tails-2
-add-read-tails-2 c = search needs
-
-read-tails-requires-2 : tie.Need-read-tails-requires-2
-read-tails-requires-2 c κs = search needs
-
 returns-5 : tie.Need-returns-5
 returns-5 c =
     let at-if4 = c .before .before in
@@ -55,12 +37,6 @@ returns-5 c =
     let at-if1 = at-wide .before .before in
     let entry = at-if1 .before .before in
     c .read-tails2 .ensures ∙ three-bytes (entry .args .text .now) (entry .args .at) (at-if1 .if1 .left) (at-wide .wide .ensures .0) (at-if4 .if4 .left) (c .before .if5 .taken)
-
-add-read-tails-3 : tie.Need-add-read-tails-3
-add-read-tails-3 c = search needs
-
-read-tails-requires-3 : tie.Need-read-tails-requires-3
-read-tails-requires-3 c κs = search needs
 
 returns-6 : tie.Need-returns-6
 returns-6 c =
@@ -78,21 +54,5 @@ returns-7 c =
     wrong-byte (entry .args .text .now) (entry .args .at) (at-if1 .if1 .left) (at-wide .wide .ensures .0) (c .if6 .left)
 
 pub char8-spec : {M : Type 1} → statement M
-char8-spec =
-    tie.close
-    (tie.spec
-    returns
-    shared-slice-read-wide
-    wide-requires
-    returns-2
-    returns-3
-    add-read-tails
-    read-tails-requires
-    returns-4
-    add-read-tails-2
-    read-tails-requires-2
-    returns-5
-    add-read-tails-3
-    read-tails-requires-3
-    returns-6
-    returns-7)
+char8-spec = tie.close (tie.spec returns (λ c. search needs) (λ c κs. search needs) returns-2 returns-3 (λ c. search needs) (λ c κs. search needs) returns-4
+    (λ c. search needs) (λ c κs. search needs) returns-5 (λ c. search needs) (λ c κs. search needs) returns-6 returns-7)

@@ -20,12 +20,6 @@ abbrev μ-loop : tie.MeasureT-loop
 loop-holds : tie.Need-loop-holds Inv-loop μ-loop
 loop-holds c = check-start (c .before .args .units .now)
 
-char16-requires : tie.Need-char16-requires Inv-loop μ-loop
-char16-requires c κs = search needs
-
-enum-told : tie.Need-enum-told Inv-loop μ-loop
-enum-told c = search needs
-
 returns : tie.Need-returns Inv-loop μ-loop
 returns c =
     let at-char16 = c .before .before in
@@ -33,9 +27,6 @@ returns c =
     let at-loop = at-loop-test .before in
     let entry = at-loop .before .before in
     check-bad (entry .args .units .now) _ (at-loop-test .loop-test .taken) (at-loop .loop .inv) (sym (ap charTold (c .enum-told .given .1)) ∙ at-char16 .char16 .ensures)
-
-enum-known-size : tie.Need-enum-known-size Inv-loop μ-loop
-enum-known-size c = search needs
 
 add-at : tie.Need-add-at Inv-loop μ-loop
 add-at c =
@@ -72,17 +63,5 @@ returns-2 : tie.Need-returns-2 Inv-loop μ-loop
 returns-2 c = check-end (c .before .before .before .args .units .now) _ (c .loop-test .left) (c .before .loop .inv)
 
 pub converts-spec : {M : Type 1} → statement M
-converts-spec =
-    tie.close
-    (tie.spec
-    Inv-loop
-    μ-loop
-    loop-holds
-    char16-requires
-    enum-told
-    returns
-    enum-known-size
-    add-at
-    loop-less
-    loop-again
+converts-spec = tie.close (tie.spec Inv-loop μ-loop loop-holds (λ c κs. search needs) (λ c. search needs) returns (λ c. search needs) add-at loop-less loop-again
     returns-2)

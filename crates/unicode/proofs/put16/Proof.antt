@@ -6,29 +6,8 @@ use borrow.Author.Needs.{needs}
 use Rattle.unicode.proofs.put16.Statement.{statement}
 use Rattle.unicode.proofs.put16.Tie as tie
 
-put-unit-requires : tie.Need-put-unit-requires
-put-unit-requires c κs = search needs
-
-same-length : tie.Need-same-length
-same-length c = search needs
-
 returns : tie.Need-returns
 returns c = counts-as (short-bytes _ (c .before .before .before .before .if1 .taken)) (c .before .before .put-unit .ensures)
-
-add-put-unit : tie.Need-add-put-unit
-add-put-unit c = search needs
-
-put-unit-requires-2 : tie.Need-put-unit-requires-2
-put-unit-requires-2 c κs = search needs
-
-add-put-unit-2 : tie.Need-add-put-unit-2
-add-put-unit-2 c = search needs
-
-put-unit-requires-3 : tie.Need-put-unit-requires-3
-put-unit-requires-3 c κs = search needs
-
-same-length-2 : tie.Need-same-length-2
-same-length-2 c = search needs
 
 returns-2 : tie.Need-returns-2
 returns-2 c =
@@ -38,15 +17,5 @@ returns-2 c =
     counts-as (long-bytes _ (at-if1 .if1 .left)) (counts-then (at-put-unit2 .put-unit2 .ensures) (at-put-unit3 .put-unit3 .ensures))
 
 pub put16-spec : {M : Type 1} → statement M
-put16-spec =
-    tie.close
-    (tie.spec
-    put-unit-requires
-    same-length
-    returns
-    add-put-unit
-    put-unit-requires-2
-    add-put-unit-2
-    put-unit-requires-3
-    same-length-2
-    returns-2)
+put16-spec = tie.close (tie.spec (λ c κs. search needs) (λ c. search needs) returns (λ c. search needs) (λ c κs. search needs) (λ c. search needs)
+    (λ c κs. search needs) (λ c. search needs) returns-2)

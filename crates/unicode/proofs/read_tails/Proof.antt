@@ -19,12 +19,6 @@ loop-holds c = tails-start _ (c .before .pre .0) (c .before .pre .1) (c .before 
 returns : tie.Need-returns Inv-loop μ-loop
 returns c = tails-none (c .before .before .loop .inv) (c .before .loop-test .taken) (c .if1 .taken)
 
-shared-slice-read-wide : tie.Need-shared-slice-read-wide Inv-loop μ-loop
-shared-slice-read-wide c = search needs
-
-wide-requires : tie.Need-wide-requires Inv-loop μ-loop
-wide-requires c κs = search needs
-
 returns-2 : tie.Need-returns-2 Inv-loop μ-loop
 returns-2 c =
     let at-if1 = c .before .before .before in
@@ -45,15 +39,6 @@ mul-v c = omega (arith, c .before .before .before .before .before .before .loop 
 
 add-v : tie.Need-add-v Inv-loop μ-loop
 add-v c = omega (arith, c .before .before .before .before .before .before .loop .inv .small, c .before .before .wide .ensures .1)
-
-add-at : tie.Need-add-at Inv-loop μ-loop
-add-at c = search needs
-
-sub-left : tie.Need-sub-left Inv-loop μ-loop
-sub-left c = search needs
-
-loop-less : tie.Need-loop-less Inv-loop μ-loop
-loop-less c = search needs
 
 loop-again : tie.Need-loop-again Inv-loop μ-loop
 loop-again c =
@@ -94,25 +79,5 @@ returns-8 c =
     tails-over (at-loop .loop .inv) (at-loop-test .loop-test .left) (at-if4 .if4 .left) (c .if7 .left)
 
 pub read-tails-spec : {M : Type 1} → statement M
-read-tails-spec =
-    tie.close
-    (tie.spec
-    Inv-loop
-    μ-loop
-    loop-holds
-    returns
-    shared-slice-read-wide
-    wide-requires
-    returns-2
-    returns-3
-    mul-v
-    add-v
-    add-at
-    sub-left
-    loop-less
-    loop-again
-    returns-4
-    returns-5
-    returns-6
-    returns-7
-    returns-8)
+read-tails-spec = tie.close (tie.spec Inv-loop μ-loop loop-holds returns (λ c. search needs) (λ c κs. search needs) returns-2 returns-3 mul-v add-v (λ c. search needs)
+    (λ c. search needs) (λ c. search needs) loop-again returns-4 returns-5 returns-6 returns-7 returns-8)

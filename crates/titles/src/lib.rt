@@ -1,0 +1,103 @@
+// The contents that can be corrected, and the file with another one.
+ghost use mathlib.Core.Path.{_≡_};
+ghost use Prim.Native.Nat.{_≤_, _+_, _*_};
+ghost use lib.ListN.{length};
+ghost use Rattle.metadata.specs.Tables.{itemWidth};
+ghost use Rattle.room.specs.Counts.{Counts};
+ghost use Rattle.tree.specs.Rows.{itemFrom, itemsIn, ItemIn, ItemRows};
+ghost use Rattle.lines.specs.Answer.{reads, Gives};
+ghost use Rattle.titles.specs.Titles.{titleLine, titleLines, titlesAnswer, titleFormat, correctedAnswer, retitledAnswer};
+use lines::Made;
+use lines::conclude;
+use lines::refuse;
+use lines::settle;
+use room::Written;
+use tree::Read;
+
+// Puts the line of an item row, if it is visible and universal: its number, and its line on the sheet.
+fn put_title_line(out: &mut [u8], to: usize, file: &[u8], items: &[u64], row: usize) -> usize
+    requires { ⌜ (row * itemWidth + itemWidth ≤ length (now items)) × ItemIn (length (now file)) (itemFrom (now items) (row * itemWidth)) ⌝ }
+    ensures { λ r. ⌜ Counts (now (out .entry)) (now (out .exit)) to (titleLine (now (file .entry)) row (itemFrom (now (items .entry)) (row * itemWidth))) r ⌝ }
+{
+    if retitle::is_no_title(items, row) {
+        return to;
+    }
+    let a = room::put_decimal(out, to, row as u64);
+    let b = room::put_byte(out, a, 0x09);
+    sheet::put_item_line(out, b, file, items, row)
+}
+
+// Puts the lines of all titles.
+fn put_title_lines(out: &mut [u8], file: &[u8], items: &[u64], count: usize) -> usize
+    requires { ⌜ ItemRows (length (now file)) count (now items) ⌝ }
+    ensures { λ r. ⌜ Counts (now (out .entry)) (now (out .exit)) 0 (titleLines (now (file .entry)) 0 (itemsIn count (now (items .entry)))) r ⌝ }
+{
+    let mut next: usize = 0;
+    let mut i = 0;
+    while i < count {
+        next = put_title_line(out, next, file, items, i);
+        i = i + 1;
+    }
+    next
+}
+
+pub fn make_titles(file: &[u8], text: &mut [u8]) -> Made
+    ensures { λ r. ⌜ Gives (length (now (text .entry))) r (now (text .exit)) (titlesAnswer (length (now (text .entry))) (now (file .entry))) ⌝ }
+{
+    let mut nodes = program::node_table();
+    let mut items = program::item_table();
+    match tree::read_file(file, &mut nodes, &mut items) {
+        Read::Refused(n, p) => refuse(text, b"", n, p.0),
+        Read::Is(s) => {
+            if retitle::refers_elsewhere(&nodes, s.nodes) {
+                return refuse(text, b"", cursor::REFERS_ELSEWHERE, 0);
+            }
+            let end = put_title_lines(text, file, &items, s.items);
+            conclude(text, b"", end, 0)
+        }
+    }
+}
+
+// The format of an item row that is visible and universal; 1 for any other.
+pub fn title_format(file: &[u8], row: usize) -> u64
+    ensures { λ r. ⌜ r ≡ titleFormat row (reads (now (file .entry))) ⌝ }
+{
+    let mut nodes = program::node_table();
+    let mut items = program::item_table();
+    match tree::read_file(file, &mut nodes, &mut items) {
+        Read::Refused(n, p) => 1,
+        Read::Is(s) => {
+            if s.items <= row {
+                return 1;
+            }
+            if retitle::is_no_title(&items, row) {
+                return 1;
+            }
+            tree::item_at(&items, row).format
+        }
+    }
+}
+
+// The file with these bytes as the data of an item row.
+pub fn make_corrected(file: &[u8], row: usize, bytes: &[u8], text: &mut [u8]) -> Made
+    ensures { λ r. ⌜ Gives (length (now (text .entry))) r (now (text .exit)) (correctedAnswer (length (now (text .entry))) row (now (bytes .entry)) (now (file .entry))) ⌝ }
+{
+    let mut nodes = program::node_table();
+    let mut items = program::item_table();
+    let written = retitle::correct_title(file, &mut nodes, &mut items, row, bytes, text);
+    settle(text, b"", written)
+}
+
+// The file with this title in an item row; the title of a row in UTF-16 is converted.
+pub fn make_retitled(file: &[u8], row: usize, title: &[u8], text: &mut [u8]) -> Made
+    ensures { λ r. ⌜ Gives (length (now (text .entry))) r (now (text .exit)) (retitledAnswer (length (now (text .entry))) row (now (title .entry)) (now (file .entry))) ⌝ }
+{
+    if title_format(file, row) != 2 {
+        return make_corrected(file, row, title, text);
+    }
+    let mut units = io::large_buffer();
+    match unicode::to_utf16(title, &mut units) {
+        Written::Refused(n, p) => refuse(text, b"", n, p),
+        Written::Bytes(n) => make_corrected(file, row, &units[..n], text),
+    }
+}
