@@ -20,17 +20,23 @@ returns c =
 
 sub-gap : tie.Need-sub-gap
 sub-gap c =
-    let entry = c .before .before .before .before .before .before .before .before .before .before .before .before .before .before .before .before .before .before .before .before .before .before .before .before .before .before in
+    let back = c .before .before .before .before .before .before .before .before .before .before .before .before .before .before
+    .before .before .before .before .before .before .before .before .before .before .before .before in
+    let entry = back in
     omega (arith, entry .pre .1)
 
 add-after : tie.Need-add-after
 add-after c =
-    let entry = c .before .before .before .before .before .before .before .before .before .before .before .before .before .before .before .before .before .before .before .before .before .before .before .before .before .before .before in
+    let back = c .before .before .before .before .before .before .before .before .before .before .before .before .before .before
+    .before .before .before .before .before .before .before .before .before .before .before .before .before in
+    let entry = back in
     omega (arith, entry .pre .1, entry .pre .0 .small)
 
 sub-after : tie.Need-sub-after
 sub-after c =
-    let entry = c .before .before .before .before .before .before .before .before .before .before .before .before .before .before .before .before .before .before .before .before .before .before .before .before .before .before .before .before in
+    let back = c .before .before .before .before .before .before .before .before .before .before .before .before .before .before
+    .before .before .before .before .before .before .before .before .before .before .before .before .before .before in
+    let entry = back in
     omega (arith, entry .pre .1)
 
 add-tree-start : tie.Need-add-tree-start
@@ -49,10 +55,16 @@ add-tree-start-2 c =
 
 tree-start-requires : tie.Need-tree-start-requires
 tree-start-requires c κs =
-    let at-stopped = c .before .before .before .before .before .before .before .before in
+    let back = c .before .before .before .before .before .before .before .before in
+    let at-stopped = back in
     let at-measure-tree = at-stopped .before .before .before .before .before .before .before .before .before .before in
-    let entry = at-measure-tree .before .before .before .before .before .before .before .before .before .before .before in
-    (omega (arith, entry .pre .1, entry .pre .0 .small, at-stopped .stopped .ensures, at-measure-tree .measure-tree .ensures .1), omega (arith, entry .pre .1, entry .pre .0 .small, at-stopped .stopped .ensures, at-measure-tree .measure-tree .ensures .1), omega (arith, entry .pre .1, entry .pre .0 .small, at-stopped .stopped .ensures, at-measure-tree .measure-tree .ensures .1))
+    let entry = at-measure-tree .before .before .before .before .before .before .before .before .before .before .before in (
+      omega (arith, entry .pre .1, entry .pre .0 .small, at-stopped .stopped .ensures, at-measure-tree .measure-tree .ensures .1),
+      omega
+          (arith, entry .pre .1, entry .pre .0 .small, at-stopped .stopped .ensures, at-measure-tree .measure-tree .ensures .1),
+      omega
+          (arith, entry .pre .1, entry .pre .0 .small, at-stopped .stopped .ensures, at-measure-tree .measure-tree .ensures .1),
+    )
 
 add-stop : tie.Need-add-stop
 add-stop c =
@@ -70,12 +82,18 @@ add-size c =
 
 put-part-requires : tie.Need-put-part-requires
 put-part-requires c κs =
-    let entry = c .before .before .before .before .before .before .before .before .before .before .before .before .before .before .before .before .before .before .before .before .before .before .before .before .before .before .before .before .before .before .before in
+    let back = c .before .before .before .before .before .before .before .before .before .before .before .before .before .before
+    .before .before .before .before .before .before .before .before .before .before .before .before .before .before
+    .before .before .before in
+    let entry = back in
     omega (arith, entry .pre .1)
 
 put-types-requires-2 : tie.Need-put-types-requires-2
 put-types-requires-2 c κs =
-    let entry = c .before .before .before .before .before .before .before .before .before .before .before .before .before .before .before .before .before .before .before .before .before .before .before .before .before .before .before .before .before .before .before .before .before .before .before .before .before .before .before in
+    let back = c .before .before .before .before .before .before .before .before .before .before .before .before .before .before
+    .before .before .before .before .before .before .before .before .before .before .before .before .before .before
+    .before .before .before .before .before .before .before .before .before .before .before in
+    let entry = back in
     entry .pre .0 .small
 
 sub-put-number : tie.Need-sub-put-number
@@ -85,37 +103,65 @@ sub-put-number c =
 
 put-part-requires-2 : tie.Need-put-part-requires-2
 put-part-requires-2 c κs =
-    let entry = c .before .before .before .before .before .before .before .before .before .before .before .before .before .before .before .before .before .before .before .before .before .before .before .before .before .before .before .before .before .before .before .before .before .before .before .before .before .before .before .before .before .before .before .before .before .before .before .before .before .before .before in
+    let back = c .before .before .before .before .before .before .before .before .before .before .before .before .before .before
+    .before .before .before .before .before .before .before .before .before .before .before .before .before .before
+    .before .before .before .before .before .before .before .before .before .before .before .before .before .before
+    .before .before .before .before .before .before .before .before .before in
+    let entry = back in
     omega (arith, entry .pre .1)
 
 slice-aggregate-put-tree : tie.Need-slice-aggregate-put-tree
 slice-aggregate-put-tree c =
-    let at-measure-tree = c .before .before .before .before .before .before .before .before .before .before .before .before .before .before .before .before .before .before .before .before .before .before .before .before .before .before .before .before .before .before .before .before .before .before .before .before .before .before .before .before .before .before .before .before .before in
+    let back = c .before .before .before .before .before .before .before .before .before .before .before .before .before .before
+    .before .before .before .before .before .before .before .before .before .before .before .before .before .before
+    .before .before .before .before .before .before .before .before .before .before .before .before .before .before
+    .before .before .before in
+    let at-measure-tree = back in
     omega (arith, at-measure-tree .measure-tree .kept)
 
 slice-aggregate-put-tree-2 : tie.Need-slice-aggregate-put-tree-2
 slice-aggregate-put-tree-2 c =
-    let at-measure-tree = c .before .before .before .before .before .before .before .before .before .before .before .before .before .before .before .before .before .before .before .before .before .before .before .before .before .before .before .before .before .before .before .before .before .before .before .before .before .before .before .before .before .before .before .before .before .before in
+    let back = c .before .before .before .before .before .before .before .before .before .before .before .before .before .before
+    .before .before .before .before .before .before .before .before .before .before .before .before .before .before
+    .before .before .before .before .before .before .before .before .before .before .before .before .before .before
+    .before .before .before .before in
+    let at-measure-tree = back in
     omega (arith, at-measure-tree .measure-tree .kept)
 
 slice-aggregate-put-tree-3 : tie.Need-slice-aggregate-put-tree-3
 slice-aggregate-put-tree-3 c =
-    let at-measure-tree = c .before .before .before .before .before .before .before .before .before .before .before .before .before .before .before .before .before .before .before .before .before .before .before .before .before .before .before .before .before .before .before .before .before .before .before .before .before .before .before .before .before .before .before .before .before .before .before in
+    let back = c .before .before .before .before .before .before .before .before .before .before .before .before .before .before
+    .before .before .before .before .before .before .before .before .before .before .before .before .before .before
+    .before .before .before .before .before .before .before .before .before .before .before .before .before .before
+    .before .before .before .before .before in
+    let at-measure-tree = back in
     omega (arith, at-measure-tree .measure-tree .kept)
 
 slice-aggregate-put-tree-4 : tie.Need-slice-aggregate-put-tree-4
 slice-aggregate-put-tree-4 c =
-    let at-measure-tree = c .before .before .before .before .before .before .before .before .before .before .before .before .before .before .before .before .before .before .before .before .before .before .before .before .before .before .before .before .before .before .before .before .before .before .before .before .before .before .before .before .before .before .before .before .before .before .before .before in
+    let back = c .before .before .before .before .before .before .before .before .before .before .before .before .before .before
+    .before .before .before .before .before .before .before .before .before .before .before .before .before .before
+    .before .before .before .before .before .before .before .before .before .before .before .before .before .before
+    .before .before .before .before .before .before in
+    let at-measure-tree = back in
     omega (arith, at-measure-tree .measure-tree .kept)
 
 slice-aggregate-put-tree-5 : tie.Need-slice-aggregate-put-tree-5
 slice-aggregate-put-tree-5 c =
-    let at-measure-tree = c .before .before .before .before .before .before .before .before .before .before .before .before .before .before .before .before .before .before .before .before .before .before .before .before .before .before .before .before .before .before .before .before .before .before .before .before .before .before .before .before .before .before .before .before .before .before .before .before .before in
+    let back = c .before .before .before .before .before .before .before .before .before .before .before .before .before .before
+    .before .before .before .before .before .before .before .before .before .before .before .before .before .before
+    .before .before .before .before .before .before .before .before .before .before .before .before .before .before
+    .before .before .before .before .before .before .before in
+    let at-measure-tree = back in
     omega (arith, at-measure-tree .measure-tree .kept)
 
 put-tree-requires : tie.Need-put-tree-requires
 put-tree-requires c κs =
-    let at-if1 = c .before .before .before .before .before .before .before .before .before .before .before .before .before .before .before .before .before .before .before .before .before .before .before .before .before .before .before .before .before .before .before .before .before .before .before .before .before .before .before .before .before .before .before in
+    let back = c .before .before .before .before .before .before .before .before .before .before .before .before .before .before
+    .before .before .before .before .before .before .before .before .before .before .before .before .before .before
+    .before .before .before .before .before .before .before .before .before .before .before .before .before .before
+    .before in
+    let at-if1 = back in
     let at-measure-tree = at-if1 .before .before .before .before .before .before in
     let entry = at-measure-tree .before .before .before .before .before .before .before .before .before .before .before in (
       (entry .pre .0, at-measure-tree .measure-tree .ensures .0),
@@ -123,9 +169,11 @@ put-tree-requires c κs =
         (
           omega (arith, at-measure-tree .measure-tree .kept),
           omega (arith, at-measure-tree .measure-tree .kept),
+          omega
+              (arith, at-measure-tree .measure-tree .kept),
           omega (arith, at-measure-tree .measure-tree .kept),
-          omega (arith, at-measure-tree .measure-tree .kept),
-          omega (arith, at-measure-tree .measure-tree .kept),
+          omega
+              (arith, at-measure-tree .measure-tree .kept),
         ),
         omega (arith, at-measure-tree .measure-tree .ensures .1, at-if1 .if1 .left),
       ),
@@ -133,7 +181,12 @@ put-tree-requires c κs =
 
 put-part-requires-3 : tie.Need-put-part-requires-3
 put-part-requires-3 c κs =
-    let entry = c .before .before .before .before .before .before .before .before .before .before .before .before .before .before .before .before .before .before .before .before .before .before .before .before .before .before .before .before .before .before .before .before .before .before .before .before .before .before .before .before .before .before .before .before .before .before .before .before .before .before .before .before .before .before .before .before .before .before .before .before .before .before .before .before in
+    let back = c .before .before .before .before .before .before .before .before .before .before .before .before .before .before
+    .before .before .before .before .before .before .before .before .before .before .before .before .before .before
+    .before .before .before .before .before .before .before .before .before .before .before .before .before .before
+    .before .before .before .before .before .before .before .before .before .before .before .before .before .before
+    .before .before .before .before .before .before .before .before in
+    let entry = back in
     omega (arith, entry .pre .1)
 
 same-length : tie.Need-same-length

@@ -86,11 +86,26 @@ shared-slice-read-put-node-2 c =
 
 put-node-requires : tie.Need-put-node-requires Inv-loop μ-loop
 put-node-requires c κs =
-    let at-node-at = c .before .before .before .before .before .before in
+    let back = c .before .before .before .before .before .before in
+    let at-node-at = back in
     let at-loop-test = at-node-at .before in
     let at-loop = at-loop-test .before in
-    let entry = at-loop .before .before .before .before .before .before .before .before .before .before .before in
-    ((inside-here (entry .pre .0 .0) (at-loop .loop .inv) (at-loop-test .loop-test .taken) (at-node-at .node-at .ensures), entry .pre .0 .0 .small, omega arith, items-room (entry .pre .0 .0) (at-loop .loop .inv) (at-loop-test .loop-test .taken) (at-node-at .node-at .ensures)), (texts-row (entry .pre .0 .0) (at-loop .loop .inv) (at-loop-test .loop-test .taken) (at-node-at .node-at .ensures) (entry .pre .0 .1 .laid _ (omega arith) (at-loop-test .loop-test .taken)) (entry .pre .1 .1), packed-row (entry .pre .0 .0) (at-loop .loop .inv) (at-loop-test .loop-test .taken) (at-node-at .node-at .ensures) (entry .pre .0 .1 .laid _ (omega arith) (at-loop-test .loop-test .taken)) (entry .pre .1 .1)))
+    let entry = at-loop .before .before .before .before .before .before .before .before .before .before .before in (
+      (
+        inside-here (entry .pre .0 .0) (at-loop .loop .inv) (at-loop-test .loop-test .taken) (at-node-at .node-at .ensures),
+        entry .pre .0 .0 .small,
+        omega arith,
+        items-room (entry .pre .0 .0) (at-loop .loop .inv) (at-loop-test .loop-test .taken)
+            (at-node-at .node-at .ensures),
+      ),
+      (
+        texts-row (entry .pre .0 .0) (at-loop .loop .inv) (at-loop-test .loop-test .taken) (at-node-at .node-at .ensures)
+            (entry .pre .0 .1 .laid _ (omega arith) (at-loop-test .loop-test .taken)) (entry .pre .1 .1),
+        packed-row (entry .pre .0 .0)
+            (at-loop .loop .inv) (at-loop-test .loop-test .taken) (at-node-at .node-at .ensures)
+            (entry .pre .0 .1 .laid _ (omega arith) (at-loop-test .loop-test .taken)) (entry .pre .1 .1),
+      ),
+    )
 
 add-i : tie.Need-add-i Inv-loop μ-loop
 add-i c =
@@ -104,12 +119,14 @@ loop-less c =
 
 loop-again : tie.Need-loop-again Inv-loop μ-loop
 loop-again c =
-    let at-put-node = c .before .before in
+    let back = c .before .before in
+    let at-put-node = back in
     let at-node-at = at-put-node .before .before .before .before .before .before .before in
     let at-loop-test = at-node-at .before in
     let at-loop = at-loop-test .before in
     let entry = at-loop .before .before .before .before .before .before .before .before .before .before .before in
-    putting-row (entry .pre .0 .0) (at-loop .loop .inv) (at-loop-test .loop-test .taken) (at-node-at .node-at .ensures) (entry .pre .0 .1 .laid _ (omega arith) (at-loop-test .loop-test .taken)) (entry .pre .1 .1) (at-put-node .put-node .ensures)
+    putting-row (entry .pre .0 .0) (at-loop .loop .inv) (at-loop-test .loop-test .taken) (at-node-at .node-at .ensures)
+    (entry .pre .0 .1 .laid _ (omega arith) (at-loop-test .loop-test .taken)) (entry .pre .1 .1) (at-put-node .put-node .ensures)
 
 same-length : tie.Need-same-length Inv-loop μ-loop
 same-length c =
