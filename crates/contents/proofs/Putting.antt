@@ -215,12 +215,14 @@ unfolding least from
 zero-counted e = counts-number 0 {n = 1} refl e
 
 module _ (f : List ℕ) (r : Item) {to q : ℕ} where
-  pub custom-counted : ItemIn (length f) r → r .nameLength ≤ tooMany → r .kind ≡ 1 → ((s : List ℕ) → r .nameLength ≡ min (length s) tooMany → Counts [] [] to (sized s) q) → Counts [] [] to (fieldText (content f r)) q
+  pub custom-counted : ItemIn (length f) r → r .nameLength ≤ tooMany → r .kind ≡ 1 →
+      ((s : List ℕ) → r .nameLength ≡ min (length s) tooMany → Counts [] [] to (sized s) q) → Counts [] [] to (fieldText (content f r)) q
   unfolding fieldText content
   custom-counted (a, inl z) few e p = absurd (omega arith)
   custom-counted (a, inr l) few e p = rw (eq-eqb (r .kind) 1 e) (p (part f (r .field) (r .nameLength)) (omega (arith, part-length f (r .field) (r .nameLength) l)))
 
-  pub standard-counted : (r .kind ≡ 1 → ⊥) → {n k : ℕ} → n ≡ min (to + 1) tooMany → k ≡ least (λ _. r .field) → q ≡ min (n + k) tooMany → Counts [] [] to (fieldText (content f r)) q
+  pub standard-counted : (r .kind ≡ 1 → ⊥) → {n k : ℕ} → n ≡ min (to + 1) tooMany → k ≡ least (λ _. r .field) → q ≡ min (n + k) tooMany →
+      Counts [] [] to (fieldText (content f r)) q
   standard-counted e a b c = field-standard f r e (zero-counted a) (counts-number (r .field) b c)
 
 module _ (bytes : List ℕ) {size to q : ℕ} (e : size ≡ length bytes) where
@@ -228,7 +230,8 @@ module _ (bytes : List ℕ) {size to q : ℕ} (e : size ≡ length bytes) where
       → Counts [] [] to (sized (joined (vlq format ∷ bytes ∷ []))) q
   universal-counted format a b p = p (joined (vlq format ∷ bytes ∷ [])) (omega (arith, vlq-length format, length-append (vlq format) (bytes ++ []), length-append bytes []))
 
-  pub version-counted : (declared : ℕ) {k n : ℕ} → k ≡ least (λ _. declared) → n ≡ min (to + k) tooMany → ((s : List ℕ) → size ≡ min (length s) tooMany → Counts [] [] n (sized s) q)
+  pub version-counted : (declared : ℕ) {k n : ℕ} → k ≡ least (λ _. declared) → n ≡ min (to + k) tooMany →
+      ((s : List ℕ) → size ≡ min (length s) tooMany → Counts [] [] n (sized s) q)
       → size ≤ tooMany → Counts [] [] to (joined (vlq declared ∷ sized bytes ∷ [])) q
   version-counted declared a b p few = put-two (vlq declared) (sized bytes) (counts-number declared a b) (p bytes (omega arith))
 
@@ -236,7 +239,8 @@ module _ (f : List ℕ) (row : ℕ) (title us : List ℕ) (k : ℕ) {r : Item} (
   pub title-counted : k ≡ row → Counts [] [] to (contentText (titled title (content f r))) q → Counts [] [] to (contentText (contentAt f row title us k)) q
   title-counted h p = content-title f row title us k e h (rw e at p)
 
-  pub file-counted : (k ≡ row → ⊥) → ItemIn (length f) (itemFrom us (k * itemWidth)) → ((bytes : List ℕ) → r .size ≡ length bytes → Counts [] [] to (contentText (titled bytes (content f r))) q)
+  pub file-counted : (k ≡ row → ⊥) → ItemIn (length f) (itemFrom us (k * itemWidth)) →
+      ((bytes : List ℕ) → r .size ≡ length bytes → Counts [] [] to (contentText (titled bytes (content f r))) q)
       → Counts [] [] to (contentText (contentAt f row title us k)) q
   file-counted h i p =
       let (a, b) = row-inside e i in
@@ -255,11 +259,17 @@ pub summing-start : {us : List ℕ} {first end row size : ℕ} → first ≤ end
 summing-start l = record { within = (omega arith, l); counted = λ f title i e. going-start [] (omega arith) refl }
 
 pub summing-on : {us : List ℕ} {first end row size next k : ℕ} → Summing us first end row size next k → k < end → {q : ℕ}
-    → ((f title : List ℕ) → ItemIn (length f) (itemFrom us (k * itemWidth)) → size ≡ length title → Counts [] [] next (rowText f row title us k end) q) → Summing us first end row size q (k + 1)
+    → ((f title : List ℕ) → ItemIn (length f) (itemFrom us (k * itemWidth)) → size ≡ length title → Counts [] [] next
+    (rowText f row title us k end) q) → Summing us first end row size q (k + 1)
 summing-on {us} {end = end} {row} {k = k} w l p =
     let i = w .within in
-    record { within = (omega arith, omega arith); counted = λ f title inside e. going-on (rows-on f row title us end k l) (w .counted f title inside e) (p f title (inside .1 k l) e) }
+    record {
+      within = (omega arith, omega arith);
+      counted = λ f title inside e. going-on (rows-on f row title us end k l)
+          (w .counted f title inside e) (p f title (inside .1 k l) e);
+    }
 
-pub summing-end : {us : List ℕ} {first end row size next k : ℕ} → Summing us first end row size next k → end ≤ k → (f title : List ℕ) → ItemRows (length f) end us → size ≡ length title
+pub summing-end : {us : List ℕ} {first end row size next k : ℕ} → Summing us first end row size next k → end ≤ k → (f title : List ℕ) →
+    ItemRows (length f) end us → size ≡ length title
     → Counts [] [] 0 (itemsText (contentsFrom f row title us first (end - first))) next
 summing-end {us} {end = end} {row} {k = k} w l f title inside e = going-end (rows-end f row title us end k l) (w .counted f title inside e)

@@ -108,10 +108,12 @@ pub maker-inside : (f : List ℕ) (at : ℕ) {q : ℕ} → run (manufacturer unp
 maker-inside f at e = at-end any-free f (manufacturer-on {U = Any} unpackFrame (length f) at) e
 
 -- counted as they are
-pub guid-counted : (f : List ℕ) (at : ℕ) {q : ℕ} → run (guid unpackFrame (length f)) f at ≡ ok tt q → {to r : ℕ} → r ≡ min (to + (q - at)) tooMany → Counts [] [] to (part f at (q - at)) r
+pub guid-counted : (f : List ℕ) (at : ℕ) {q : ℕ} → run (guid unpackFrame (length f)) f at ≡ ok tt q → {to r : ℕ} → r ≡ min (to + (q - at))
+    tooMany → Counts [] [] to (part f at (q - at)) r
 guid-counted f at {q} read e = counts-part f at (q - at) (omega (arith, guid-inside f at read)) e
 
-pub maker-counted : (f : List ℕ) (at : ℕ) {q : ℕ} → run (manufacturer unpackFrame (length f)) f at ≡ ok tt q → {to r : ℕ} → r ≡ min (to + (q - at)) tooMany → Counts [] [] to (part f at (q - at)) r
+pub maker-counted : (f : List ℕ) (at : ℕ) {q : ℕ} → run (manufacturer unpackFrame (length f)) f at ≡ ok tt q → {to r : ℕ} → r ≡ min
+    (to + (q - at)) tooMany → Counts [] [] to (part f at (q - at)) r
 maker-counted f at {q} read e = counts-part f at (q - at) (omega (arith, maker-inside f at read)) e
 
 module _ (f : List ℕ) (kind at : ℕ) where
@@ -327,7 +329,8 @@ block-copied x j v w =
     rw l (put-sized a p v (counts-as k q))
 
 -- one that was measured: it stands in a file, or is copied
-pub block-same : {o o₁ o₂ : List ℕ} {s s₁ s₂ n : ℕ} {t body : List ℕ} → Counts [] [] 0 body n → t ≡ body → Counts o o₁ s (vlq n) s₁ → Counts o₁ o₂ s₁ t s₂ → Counts o o₂ s (sized body) s₂
+pub block-same : {o o₁ o₂ : List ℕ} {s s₁ s₂ n : ℕ} {t body : List ℕ} → Counts [] [] 0 body n → t ≡ body → Counts o o₁ s (vlq n) s₁ → Counts
+    o₁ o₂ s₁ t s₂ → Counts o o₂ s (sized body) s₂
 block-same {body = body} k e v w = put-sized body k v (counts-as e w)
 
 pub block-measured : {o o₁ o₂ : List ℕ} {s s₁ n m : ℕ} {d : Cursor} (x : Out (List ℕ)) → Counts [] [] 0 (answer x) n → Counts o o₁ s (vlq n) s₁ → Copies o₁ o₂ s₁ (copying.To m d) x

@@ -1,6 +1,7 @@
 pub mod Lengths
 pub mod Nodes
 pub mod Rows
+pub mod Runs
 pub mod Passes
 pub mod Files
 pub mod Refusals

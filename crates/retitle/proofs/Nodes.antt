@@ -64,7 +64,8 @@ first-number : (v : ℕ) {n : ℕ} → n ≡ least (λ _. v) → Counts [] [] 0 
 first-number v e = counts-number v e (omega (arith, few v e))
 
 module _ (f : List ℕ) (reference place size : ℕ) (inside : place + size ≤ length f) {a : ℕ} (ea : a ≡ least (λ _. reference)) where
-  pub uri-counted : reference ≡ 4 → {b c d : ℕ} → b ≡ least (λ _. size) → c ≡ min (a + b) tooMany → d ≡ min (c + size) tooMany → Counts [] [] 0 (referenceText reference (part f place size)) d
+  pub uri-counted : reference ≡ 4 → {b c d : ℕ} → b ≡ least (λ _. size) → c ≡ min (a + b) tooMany → d ≡ min (c + size) tooMany → Counts [] []
+      0 (referenceText reference (part f place size)) d
   uri-counted uri eb ec ed = reference-uri f reference place size (first-number reference ea) inside uri (counts-number size eb ec) (counts-part f place size inside ed)
 
   pub inline-counted : (reference ≡ 4 → ⊥) → {c : ℕ} → c ≡ min (a + size) tooMany → Counts [] [] 0 (referenceText reference (part f place size)) c

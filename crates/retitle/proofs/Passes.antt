@@ -2,7 +2,7 @@
 -- Assumes nothing.
 use mathlib.Core.Path.{_≡_, refl, sym, ap, ap₂, _∙_, subst}
 use mathlib.Core.Bool.{Bool, false}
-use mathlib.Core.List.{List, [], _∷_}
+use mathlib.Core.List.{List, [], _∷_, _++_, append-assoc}
 use Prim.Native.Nat.{ℕ, zero, suc, _+_, _-_, _≤_, _<_, min}
 use native.Mathlib.Decide.{decLe, decLt}
 use native.Mathlib.Omega.{arith}
@@ -16,12 +16,14 @@ use Rattle.title.specs.Description.{Content, shape}
 use Rattle.title.specs.Text.{itemsText, nodeText, wholeText}
 use Rattle.title.proofs.Nodes.{whole-length}
 use Rattle.room.specs.Counts.{Counts, tooMany}
-use Rattle.room.proofs.Counting.{Going, going-start, going-on, going-end, counts-as}
+use Rattle.room.proofs.Counting.{Going, going-start, going-on, going-end}
 use Rattle.contents.specs.Contents.{contentsFrom}
 use Rattle.copies.specs.Told.{PackedAs}
 use Rattle.copies.specs.declared.Packed.{Packed}
-use Rattle.retitle.specs.Passes.{sizeStop, sumOf, Task, firstItem, nodeOf, shapeOf, contentsOf, outerFrom, innerOf, Sound, Laid, Measured, Framed}
+use Rattle.retitle.specs.Passes.{sizeStop, sumOf, Task, firstItem, nodeOf, shapeOf, contentsOf, outerFrom, innerOf, Outside, Leaf, Sound, Laid, Measured, Framed}
+use Rattle.retitle.specs.Told.{Appends}
 use Rattle.retitle.specs.declared.Frame.{Frame}
+use Rattle.retitle.specs.declared.Run.{Run}
 use Rattle.retitle.proofs.Rows.{first-on, first-start, rows-fit, outer-end, outer-on, text-on, inner-within}
 use Rattle.retitle.proofs.Nodes.{texts-within}
 
@@ -278,16 +280,17 @@ module _ {x : Task} {i end top : ℕ} {sizes metadata packed : List ℕ} {same :
 
 -- ---- the second pass
 
--- the rows before row i are put, and `first` is the first item row of row i
-pub record Putting (x : Task) (o o′ : List ℕ) (to next first i : ℕ) : Type 0 where
+-- the rows before row i are appended, and `first` is the first item row of row i
+pub record Putting (x : Task) (o o′ : List ℕ) (to : ℕ) (r : Run) (first i : ℕ) : Type 0 where
   pub within : i ≤ x .count
   pub first-is : first ≡ firstItem (x .nodes) i
-  pub going : Going o o′ to next (joined (outerFrom x 0)) (joined (outerFrom x i))
+  pub inside : r .from + r .size ≤ length (x .file)
+  pub going : Going o o′ to (r .next) (joined (outerFrom x 0)) (part (x .file) (r .from) (r .size) ++ joined (outerFrom x i))
 
-pub putting-start : {x : Task} (o : List ℕ) {to : ℕ} → to ≤ tooMany → Putting x o o to to 0 0
-putting-start {x} o l = record { within = omega arith; first-is = sym (first-start (x .nodes)); going = going-start o l refl }
+pub putting-start : {x : Task} (o : List ℕ) {to : ℕ} → to ≤ tooMany → Putting x o o to (record { next = to; from = 0; size = 0 }) 0 0
+putting-start {x} o l = record { within = omega arith; first-is = sym (first-start (x .nodes)); inside = omega arith; going = going-start o l refl }
 
-module _ {x : Task} (s : Sound x) {o o′ : List ℕ} {to next first i : ℕ} (w : Putting x o o′ to next first i) (l : i < x .count)
+module _ {x : Task} (s : Sound x) {o o′ : List ℕ} {to : ℕ} {run : Run} {first i : ℕ} (w : Putting x o o′ to run first i) (l : i < x .count)
     {m u : ℕ} {b : Bool} {h z : ℕ} (laid : Laid x i m u b h z) (small : length (joined (outerFrom x 0)) < sizeStop) where
   -- the contents by the code's numbers
   abbrev contents : List Content
@@ -303,13 +306,14 @@ module _ {x : Task} (s : Sound x) {o o′ : List ℕ} {to next first i : ℕ} (w
   node-small =
       let g = w .going in
       let t : List ℕ = nodeText (shapeOf x i) (contentsOf x i) (innerOf x i) in
+      let p : List ℕ = part (x .file) (run .from) (run .size) in
       omega (
         arith,
-        length-append (g .done) (joined (outerFrom x i)),
+        length-append (g .done) (p ++ joined (outerFrom x i)),
+        length-append p (joined (outerFrom x i)),
         ap length (g .left),
         ap length (text-on s i l),
-        length-append t
-            (joined (outerFrom x (i + 1))),
+        length-append t (joined (outerFrom x (i + 1))),
         inner-within s i l,
       )
 
@@ -329,20 +333,40 @@ module _ {x : Task} (s : Sound x) {o o′ : List ℕ} {to next first i : ℕ} (w
   small-here : length (nodeText (shapeOf x i) contents (innerOf x i)) + innerOf x i < sizeStop
   small-here = rw contents-are node-small
 
-  putting-on : {o″ : List ℕ} {r : ℕ} → Counts o′ o″ next (nodeText (shapeOf x i) contents (innerOf x i)) r → Putting x o o″ to r (first + nodeOf x i .rows) (i + 1)
-  putting-on p = record {
-    within = omega arith;
-    first-is = ap (λ n. n + nodeOf x i .rows) (w .first-is) ∙ sym (first-on (x .nodes) i);
-    going = going-on (text-on s i l) (w .going) (counts-as (ap (λ v. nodeText (shapeOf x i) v (innerOf x i)) contents-are) p);
-  }
+  leaf-here : Leaf (x .file) (nodeOf x i) contents (Outside (x .row) first (first + nodeOf x i .rows))
+  leaf-here = rw (contents-are, w .first-is) (s .leaves i l)
+
+  -- one that holds no nodes
+  inner-none : nodeOf x i .contained ≡ 0 → innerOf x i ≡ 0
+  inner-none e = ap (λ v. length (joined (take v (outerFrom x (i + 1))))) e
+
+  putting-on : {o″ : List ℕ} {r : Run} → Appends (x .file) o′ o″ run (nodeText (shapeOf x i) contents (innerOf x i)) r → Putting x o o″ to r (first + nodeOf x i .rows) (i + 1)
+  putting-on {r = r} a =
+      let p : List ℕ = part (x .file) (run .from) (run .size) in
+      let q : List ℕ = part (x .file) (r .from) (r .size) in
+      let t : List ℕ = nodeText (shapeOf x i) (contentsOf x i) (innerOf x i) in
+      let rest : List ℕ = joined (outerFrom x (i + 1)) in
+      let e : nodeText (shapeOf x i) contents (innerOf x i) ≡ t = ap (λ v. nodeText (shapeOf x i) v (innerOf x i)) contents-are in
+      record {
+        within = omega arith;
+        first-is = ap (λ n. n + nodeOf x i .rows) (w .first-is) ∙ sym (first-on (x .nodes) i);
+        inside = a .inside;
+        going = going-on
+            (ap (λ v. p ++ v) (text-on s i l) ∙ sym (append-assoc p t rest) ∙ ap (λ v. (p ++ v) ++ rest) (sym e) ∙ ap (λ v. v ++ rest) (sym (a .text)) ∙
+            append-assoc (a .put) q rest)
+            (w .going) (a .counts);
+      }
 
 -- by the row that was read
-module _ {x : Task} (s : Sound x) {o o′ : List ℕ} {to next first i : ℕ} (w : Putting x o o′ to next first i) (l : i < x .count) {r : Node} (er : r ≡ nodeOf x i) where
+module _ {x : Task} (s : Sound x) {o o′ : List ℕ} {to : ℕ} {run : Run} {first i : ℕ} (w : Putting x o o′ to run first i) (l : i < x .count) {r : Node} (er : r ≡ nodeOf x i) where
   pub rows-room : first + r .rows ≤ x .total
   rows-room = rw (er, w .first-is) (rows-fit s i l)
 
   pub inside-here : r .target + r .extent ≤ length (x .file)
   inside-here = rw er (s .bodies-inside i l)
+
+  pub node-here : r .start + r .size ≤ length (x .file)
+  node-here = rw er (s .nodes-inside i l)
 
   pub items-room : ItemRows (length (x .file)) (first + r .rows) (x .items)
   items-room = let e = rows-room in (omega (arith, s .items-inside .0), λ k m. s .items-inside .1 k (omega arith))
@@ -354,15 +378,21 @@ module _ {x : Task} (s : Sound x) {o o′ : List ℕ} {to next first i : ℕ} (w
     pub packed-row : PackedAs (x .file) r (record { size = u; same = b })
     packed-row = rw er (laid .unpackers)
 
-    pub putting-row : {o″ : List ℕ} {q : ℕ}
-        → ((inner : ℕ) → Framed (shape (x .file) r) (contentsFrom (x .file) (x .row) (x .title) (x .items) first (first + r .rows - first)) inner (record { header = h; size = z })
-        → length (nodeText (shape (x .file) r) (contentsFrom (x .file) (x .row) (x .title) (x .items) first (first + r .rows - first)) inner) + inner < sizeStop
-        → Counts o′ o″ next (nodeText (shape (x .file) r) (contentsFrom (x .file) (x .row) (x .title) (x .items) first (first + r .rows - first)) inner) q)
-        → Putting x o o″ to q (first + r .rows) (i + 1)
-    putting-row p = rw er (putting-on s w l laid small ((rw er at p) (innerOf x i) (framed-here s w l laid small) (small-here s w l laid small)))
+    pub leaf-row : Leaf (x .file) r (contentsFrom (x .file) (x .row) (x .title) (x .items) first (first + r .rows - first)) (Outside (x .row) first (first + r .rows))
+    leaf-row = rw er (leaf-here s w l laid small)
 
-pub putting-end : {x : Task} (s : Sound x) {o o′ : List ℕ} {to next first i : ℕ} → Putting x o o′ to next first i → x .count ≤ i → Counts o o′ to (joined (outerFrom x 0)) next
-putting-end {x} s {i = i} w l =
+    pub putting-row : {o″ : List ℕ} {q : Run}
+        → ((inner : ℕ) → (r .contained ≡ 0 → inner ≡ 0)
+        → Framed (shape (x .file) r) (contentsFrom (x .file) (x .row) (x .title) (x .items) first (first + r .rows - first)) inner (record { header = h; size = z })
+        → length (nodeText (shape (x .file) r) (contentsFrom (x .file) (x .row) (x .title) (x .items) first (first + r .rows - first)) inner) + inner < sizeStop
+        → Appends (x .file) o′ o″ run (nodeText (shape (x .file) r) (contentsFrom (x .file) (x .row) (x .title) (x .items) first (first + r .rows - first)) inner) q)
+        → Putting x o o″ to q (first + r .rows) (i + 1)
+    putting-row p = rw er (putting-on s w l laid small
+        ((rw er at p) (innerOf x i) (inner-none s w l laid small) (framed-here s w l laid small) (small-here s w l laid small)))
+
+pub putting-end : {x : Task} (s : Sound x) {o o′ : List ℕ} {to : ℕ} {r : Run} {first i : ℕ} → Putting x o o′ to r first i → x .count ≤ i → {o″ : List ℕ} {n : ℕ}
+    → Counts o′ o″ (r .next) (part (x .file) (r .from) (r .size)) n → Counts o o″ to (joined (outerFrom x 0)) n
+putting-end {x} s {i = i} w l p =
     let k = w .within in
     let e : i ≡ x .count = omega arith in
-    going-end (ap (λ v. joined (outerFrom x v)) e ∙ ap joined (outer-end s)) (w .going)
+    going-end (ap (λ v. joined (outerFrom x v)) e ∙ ap joined (outer-end s)) (going-on refl (w .going) p)

@@ -1,6 +1,6 @@
 -- The rows of a file that was read are as the passes want them, and what they put is the file with that title.
 -- Assumes nothing.
-use mathlib.Core.Path.{_≡_, refl, ap, _∙_, subst}
+use mathlib.Core.Path.{_≡_, refl, sym, ap, _∙_, subst}
 use mathlib.Core.Logic.{_⊎_, inl, inr}
 use mathlib.Core.Bool.{false}
 use mathlib.Core.List.{List, [], _∷_, _++_, append-assoc, append-nil, map}
@@ -9,8 +9,9 @@ use native.Mathlib.Omega.{arith}
 use lib.ListN.{length, drop, length-append, length-map}
 use lib.Seq.{drop-at}
 use borrow.Author.Tests.{eq-eqb, ne-eqb}
-use Rattle.cursor.specs.Vlq.{joined}
+use Rattle.cursor.specs.Vlq.{part, joined}
 use Rattle.cursor.specs.declared.Node.{Node}
+use Rattle.cursor.proofs.Lies.{lies-part}
 use Rattle.header.specs.Types.{Declared}
 use Rattle.metadata.specs.declared.Limits.{Limits}
 use Rattle.metadata.specs.declared.Made.{Made}
@@ -18,15 +19,18 @@ use Rattle.metadata.specs.Tables.{itemWidth}
 use Rattle.tree.specs.Rows.{nodesFrom, itemFrom, itemsFrom, nodesIn, itemsIn, nodeAt, rowsFrom}
 use Rattle.tree.proofs.Rows.{accepted, node-at, item-at, nodes-in-length, items-in-length}
 use Rattle.title.specs.Description.{Content, content, Shape, shape, titled, titledAt}
-use Rattle.title.specs.Text.{outer}
+use Rattle.title.specs.Text.{nodeText, wholeText, outer}
 use Rattle.title.specs.Title.{elsewhere}
 use Rattle.title.proofs.Nodes.{Nodes, none, more, nodes-length, nodes-outer, AllStay}
 use Rattle.title.proofs.Follows.{all-stay}
 use Rattle.title.proofs.Theorem.{grammar}
+use Rattle.title.proofs.Covers.{Covers, covers-as}
+use Rattle.title.proofs.Levels.{Whole, Each}
+use Rattle.title.proofs.Shortest.{rows-stand}
 use Rattle.contents.specs.Contents.{contentAt, contentsFrom}
-use Rattle.retitle.specs.Passes.{Task, task, firstItem, nodeOf, shapeOf, outerFrom, Sound}
+use Rattle.retitle.specs.Passes.{Task, task, firstItem, nodeOf, shapeOf, contentsOf, outerFrom, Outside, Leaf, Sound}
 use Rattle.retitle.specs.Stands.{Stands}
-use Rattle.retitle.proofs.Rows.{contents-drop, nodes-on, first-on, first-start}
+use Rattle.retitle.proofs.Rows.{contents-take, contents-drop, nodes-on, first-on, first-start}
 
 -- ---- node rows and item rows one after the other
 
@@ -123,6 +127,16 @@ module _ (f : List ℕ) (row : ℕ) (title us : List ℕ) where
   titled-contents k (suc n) zero e = rw (eq-eqb k row (omega arith)) (ap (λ v. titled title (content f (itemFrom us (k * itemWidth))) ∷ v) (other-contents (k + 1) n (omega arith)))
   titled-contents k (suc n) (suc i) e = rw (ne-eqb k row (λ z. omega arith)) (ap (λ v. content f (itemFrom us (k * itemWidth)) ∷ v) (titled-contents (k + 1) n i (omega arith)))
 
+  -- where the title is behind them, or before
+  plain-contents : (k n : ℕ) → k + n ≤ row → contentsFrom f row title us k n ≡ map (content f) (itemsFrom k n us)
+  unfolding contentsFrom contentAt rowsFrom
+  plain-contents k zero l = refl
+  plain-contents k (suc n) l = rw (ne-eqb k row (λ e. omega arith)) (ap (λ v. content f (itemFrom us (k * itemWidth)) ∷ v) (plain-contents (k + 1) n (omega arith)))
+
+  outside-contents : (k n : ℕ) → Outside row k (k + n) → contentsFrom f row title us k n ≡ map (content f) (itemsFrom k n us)
+  outside-contents k n (inl l) = other-contents k n l
+  outside-contents k n (inr l) = plain-contents k n l
+
   pub contents-titled : (n : ℕ) → contentsFrom f row title us 0 n ≡ titledAt row title (map (content f) (itemsIn n us))
   unfolding itemsIn
   contents-titled n = titled-contents 0 n row (omega arith)
@@ -174,6 +188,69 @@ module _ {f t u : List ℕ} {count total : ℕ} (w : Stands f t u count total) (
       let b = stay-at f ns (all-stay f ns here) i k in
       rw e at (other a b)
 
+  -- ---- each node by itself
+
+  -- the contents of the file: no row gets the title
+  abbrev plain : ℕ → ℕ → List Content
+  plain k n = contentsFrom f total title u k n
+
+  abbrev EachFrom : ℕ → Type 0
+  EachFrom i = Each f (nodesFrom i (count - i) t) (plain (firstItem t i) (total - firstItem t i))
+
+  each-begin : EachFrom 0
+  unfolding nodesIn itemsIn
+  each-begin =
+      let a = rows-stand (w .limits) f (w .reads) (all-stay f ns here) in
+      let e₁ : total - 0 ≡ total = omega arith in
+      let e₂ : count - 0 ≡ count = omega arith in
+      rw (first-start t, e₁, e₂, plain-contents f total title u 0 total (omega arith)) a
+
+  module _ (i : ℕ) (l : i < count) (e : EachFrom i) where
+    rows-left : nodeOf x i .rows ≤ total - firstItem t i
+    rows-left = rows-within x i l (from-row x begin i (omega arith))
+
+    each-here : Each f (nodeOf x i ∷ nodesFrom (i + 1) (count - (i + 1)) t) (plain (firstItem t i) (total - firstItem t i))
+    each-here = subst (λ v. Each f v (plain (firstItem t i) (total - firstItem t i))) (nodes-on t count i l) e
+
+    whole-here : Whole f (nodeOf x i) (plain (firstItem t i) (nodeOf x i .rows))
+    whole-here = subst (Whole f (nodeOf x i)) (contents-take f total title u (firstItem t i) (nodeOf x i .rows) (total - firstItem t i) rows-left) (each-here .0)
+
+    each-next : EachFrom (i + 1)
+    each-next =
+        let a : ℕ = firstItem t i in
+        let n : ℕ = nodeOf x i .rows in
+        let k : total - a - n ≡ total - (a + n) = omega arith in
+        rw (first-on t i, ← k, ← contents-drop f total title u a n (total - a) rows-left) (each-here .1)
+
+  each-row : (i : ℕ) → i ≤ count → EachFrom i
+  each-row zero l = each-begin
+  each-row (suc i) l = let e : i + 1 ≡ suc i = omega arith in subst EachFrom e (each-next i (omega arith) (each-row i (omega arith)))
+
+  whole-row : (i : ℕ) → i < count → Whole f (nodeOf x i) (plain (firstItem t i) (nodeOf x i .rows))
+  whole-row i l = whole-here i l (each-row i (omega arith))
+
+  leaf-covers : (i : ℕ) → i < count → nodeOf x i .contained ≡ 0 → Covers f (nodeOf x i .start) (nodeText (shapeOf x i) (plain (firstItem t i) (nodeOf x i .rows)) 0)
+      (nodeOf x i .start + nodeOf x i .size)
+  unfolding wholeText
+  leaf-covers i l z =
+      let h = whole-row i l in
+      let cs : List Content = plain (firstItem t i) (nodeOf x i .rows) in
+      covers-as (ap (wholeText (shapeOf x i) cs) (h .alone z) ∙ append-nil (nodeText (shapeOf x i) cs 0)) (h .covers)
+
+  leaf : (i : ℕ) → i < count → Leaf f (nodeOf x i) (contentsOf x i) (Outside row (firstItem t i) (firstItem t i + nodeOf x i .rows))
+  leaf i l bytes z own e =
+      let a : ℕ = firstItem t i in
+      let n : ℕ = nodeOf x i .rows in
+      let fit = from-row x begin i (omega arith) .fits in
+      let k = rows-within x i l (from-row x begin i (omega arith)) in
+      let same : contentsOf x i ≡ plain a n = outside-contents f row title u a n own ∙ sym (plain-contents f total title u a n (omega arith)) in
+      let size : length (nodeText (shapeOf x i) (plain a n) 0) ≡ nodeOf x i .size = sym (ap (λ v. length (nodeText (shapeOf x i) v 0)) same) ∙ e in
+      let h = leaf-covers i l z in
+      let inside = whole-row i l .inside in
+      ap (λ v. nodeText (shapeOf x i) v 0) same
+      ∙ sym (lies-part {g = f} {p = nodeOf x i .start} (record { inside = omega arith; same = h .tight bytes (omega arith) .byte }))
+      ∙ ap (part f (nodeOf x i .start)) size
+
   pub ready : Sound x
   ready =
       let a = accepted (w .limits) f (w .reads) in
@@ -186,6 +263,8 @@ module _ {f t u : List ℕ} {count total : ℕ} (w : Stands f t u count total) (
         bodies-inside = node-inside;
         all-items = from-end x (from-row x begin count (omega arith));
         nodes-follow = λ i l. nodes-there x i l (from-row x begin i (omega arith));
+        nodes-inside = λ i l. whole-row i l .inside;
+        leaves = leaf;
       }
 
   pub tree-is : joined (outer (map (shape f) ns) (titledAt row title (map (content f) (itemsIn total u)))) ≡ joined (outerFrom x 0)

@@ -14,7 +14,7 @@ use Rattle.contents.specs.Contents.{contentAt, contentsFrom}
 use Rattle.retitle.specs.Passes.{Task, firstItem, nodeOf, shapeOf, contentsOf, outerFrom, innerOf, Sound}
 
 module _ (f : List ℕ) (row : ℕ) (title us : List ℕ) where
-  contents-take : (k n m : ℕ) → n ≤ m → take n (contentsFrom f row title us k m) ≡ contentsFrom f row title us k n
+  pub contents-take : (k n m : ℕ) → n ≤ m → take n (contentsFrom f row title us k m) ≡ contentsFrom f row title us k n
   unfolding contentsFrom
   contents-take k zero m l = refl
   contents-take k (suc n) zero l = absurd (omega arith)

@@ -1,16 +1,18 @@
 -- What the code works on: a file, its tables, and the title; nodes and contents by their rows, and the bytes of the nodes from a row on.
 -- Assumes nothing.
 use mathlib.Core.Path.{_≡_}
+use mathlib.Core.Logic.{_⊎_}
 use mathlib.Core.Bool.{Bool, false, cond}
 use mathlib.Core.List.{List, [], _∷_, map}
 use Prim.Native.Nat.{ℕ, zero, suc, _+_, _-_, _*_, _^_, _≤_, _<_, min}
 use lib.Dec.{eqb}
 use lib.ListN.{length, getD, take}
-use Rattle.cursor.specs.Vlq.{joined, sized}
+use Rattle.cursor.specs.Vlq.{part, joined, sized}
 use Rattle.cursor.specs.declared.Node.{Node}
 use Rattle.metadata.specs.Tables.{nodeWidth, mostNodes}
 use Rattle.tree.specs.Rows.{nodeFrom, nodesFrom, ItemRows}
 use Rattle.title.specs.Description.{Content, Shape, shape}
+use Rattle.title.specs.Title.{Bytes}
 use Rattle.title.specs.Text.{itemsText, headerOf, ownText, nodeText, outer}
 use Rattle.contents.specs.Contents.{contentsFrom}
 use Rattle.copies.specs.Told.{PackedAs}
@@ -81,6 +83,14 @@ module _ (x : Task) where
   abbrev pub innerOf : ℕ → ℕ
   innerOf i = length (joined (take (nodeOf i .contained) (outerFrom (i + 1))))
 
+-- row `row` is not among those from `first` on, up to `end`
+abbrev pub Outside : (row first end : ℕ) → Type 0
+Outside row first end = (row < first) ⊎ (end ≤ row)
+
+-- a node that holds none, whose contents are the file's, and that has no more bytes in the file than its text: the file has that text
+abbrev pub Leaf : List ℕ → Node → List Content → Type 0 → Type 0
+Leaf f r cs own = Bytes f → r .contained ≡ 0 → own → length (nodeText (shape f r) cs 0) ≡ r .size → nodeText (shape f r) cs 0 ≡ part f (r .start) (r .size)
+
 -- what is known of the rows: they and what they name lie in the tables and in the file, item rows belong to node rows, and a node's nodes follow it
 pub record Sound (x : Task) : Type 0 where
   pub small : length (x .file) < 2 ^ 28
@@ -90,6 +100,8 @@ pub record Sound (x : Task) : Type 0 where
   pub bodies-inside : (i : ℕ) → i < x .count → nodeOf x i .target + nodeOf x i .extent ≤ length (x .file)
   pub all-items : firstItem (x .nodes) (x .count) ≡ x .total
   pub nodes-follow : (i : ℕ) → i < x .count → nodeOf x i .contained ≤ length (outerFrom x (i + 1))
+  pub nodes-inside : (i : ℕ) → i < x .count → nodeOf x i .start + nodeOf x i .size ≤ length (x .file)
+  pub leaves : (i : ℕ) → i < x .count → Leaf (x .file) (nodeOf x i) (contentsOf x i) (Outside (x .row) (firstItem (x .nodes) i) (firstItem (x .nodes) i + nodeOf x i .rows))
 
 -- what the first pass found of row j: the bytes of its contents, stopped; of its unpackers; its two lengths
 pub record Laid (x : Task) (j metadata packed : ℕ) (same : Bool) (header size : ℕ) : Type 0 where

@@ -21,9 +21,9 @@ ghost use Rattle.title.specs.Text.{itemsText, referenceText, nodeText, headerSi
 ghost use Rattle.title.specs.Title.{elsewhere, isNoTitle, titledFile, correctTitle};
 ghost use Rattle.contents.specs.Contents.{contentsFrom};
 ghost use Rattle.copies.specs.Told.{PackedAs};
-ghost use Rattle.retitle.specs.Passes.{sizeStop, bodySize, Framed, sumOf, task, Sound, Measured, outerFrom};
+ghost use Rattle.retitle.specs.Passes.{sizeStop, bodySize, Framed, sumOf, task, Outside, Leaf, Sound, Measured, outerFrom};
 ghost use Rattle.retitle.specs.Stands.{Stands, refusalOf};
-ghost use Rattle.retitle.specs.Told.{Fills, Wrote};
+ghost use Rattle.retitle.specs.Told.{Fills, Wrote, Appends};
 use copies::Packed;
 use cursor::FilePlace;
 use cursor::Node;
@@ -35,6 +35,13 @@ use tree::Read;
 // NodeHeaderLength and NodeLength.
 struct Frame {
     header: usize,
+    size: usize,
+}
+
+// Bytes are put up to `next`; `size` bytes of the file, from `from` on, are to be put behind them.
+struct Run {
+    next: usize,
+    from: usize,
     size: usize,
 }
 
@@ -205,6 +212,88 @@ fn put_node(
     )
 }
 
+// Whether a node row has the bytes of the file: it holds no nodes, is no shorter there, and none of its item rows, from row `first` on, up to row `end`, gets the title.
+fn stands(node: Node, first: usize, end: usize, row: usize, size: usize) -> bool
+    ensures { λ r. ⌜ (r ≡ true → (node .contained ≡ 0) × (size ≡ node .size) × Outside row first end) ⌝ }
+{
+    if node.contained != 0 {
+        return false;
+    }
+    if node.size as usize != size {
+        return false;
+    }
+    if row < first {
+        return true;
+    }
+    if end <= row {
+        return true;
+    }
+    false
+}
+
+// Appends `size` bytes of the file, from `from` on.
+fn extend(out: &mut [u8], file: &[u8], run: Run, from: usize, size: usize) -> Run
+    requires { ⌜ (run .from + run .size ≤ length (now file)) × (from + size ≤ length (now file)) ⌝ }
+    ensures { λ r. ⌜ Appends (now (file .entry)) (now (out .entry)) (now (out .exit)) run (part (now (file .entry)) from size) r ⌝ }
+{
+    if run.from + run.size == from {
+        return Run {
+            next: run.next,
+            from: run.from,
+            size: run.size + size,
+        };
+    }
+    let next = room::put_part(out, run.next, file, run.from, run.size);
+    Run { next, from, size }
+}
+
+// Appends a node row, but for the nodes that it holds: as it stands in the file, or anew.
+fn put_row(
+    out: &mut [u8],
+    file: &[u8],
+    run: Run,
+    node: Node,
+    items: &[u64],
+    first: usize,
+    end: usize,
+    row: usize,
+    title: &[u8],
+    metadata: usize,
+    packed: Packed,
+    frame: Frame,
+) -> Run
+    requires rows { ⌜ (node .target + node .extent ≤ length (now file)) × (length (now file) < 2 ^ 28) × (first ≤ end) × ItemRows (length (now file)) end (now items) ⌝ }
+    requires sizes { ⌜ (metadata ≡ length (itemsText (contentsFrom (now file) row (now title) (now items) first (end - first)))) × PackedAs (now file) node packed ⌝ }
+    requires inside { ⌜ (run .from + run .size ≤ length (now file)) × (node .start + node .size ≤ length (now file)) ⌝ }
+    requires leaf { ⌜ Leaf (now file) node (contentsFrom (now file) row (now title) (now items) first (end - first)) (Outside row first end) ⌝ }
+    ensures { λ r. ⌜ ((inner : ℕ) → (node .contained ≡ 0 → inner ≡ 0) → Framed (shape (now (file .entry)) node) (contentsFrom (now (file .entry)) row (now (title .entry)) (now (items .entry)) first (end - first)) inner frame → length (nodeText (shape (now (file .entry)) node) (contentsFrom (now (file .entry)) row (now (title .entry)) (now (items .entry)) first (end - first)) inner) + inner < sizeStop → Appends (now (file .entry)) (now (out .entry)) (now (out .exit)) run (nodeText (shape (now (file .entry)) node) (contentsFrom (now (file .entry)) row (now (title .entry)) (now (items .entry)) first (end - first)) inner) r) ⌝ }
+{
+    if stands(node, first, end, row, frame.size) {
+        copies::know_bytes(file);
+        return extend(out, file, run, node.start as usize, frame.size);
+    }
+    let a = room::put_part(out, run.next, file, run.from, run.size);
+    let next = put_node(
+        out,
+        a,
+        file,
+        node,
+        items,
+        first,
+        end,
+        row,
+        title,
+        metadata,
+        packed,
+        frame,
+    );
+    Run {
+        next,
+        from: 0,
+        size: 0,
+    }
+}
+
 // The sum of the words from word `from` on, up to word `end`.
 fn sum(words: &[usize], from: usize, end: usize) -> usize
     requires { ⌜ (from ≤ end) × (end ≤ length (now words)) ⌝ }
@@ -265,7 +354,7 @@ fn measure_tree(
     sum(&sizes, top, cursor::MOST_NODES)
 }
 
-// The second pass, from the first row to the last: puts the nodes.
+// The second pass, from the first row to the last: puts the nodes. Those that stand in the file end to end are copied at once.
 fn put_tree(
     out: &mut [u8],
     to: usize,
@@ -287,24 +376,24 @@ fn put_tree(
     requires small { ⌜ length (joined (outerFrom (task (now file) (now nodes) (now items) count total row (now title)) 0)) < sizeStop ⌝ }
     ensures { λ r. ⌜ Counts (now (out .entry)) (now (out .exit)) to (joined (outerFrom (task (now (file .entry)) (now (nodes .entry)) (now (items .entry)) count total row (now (title .entry))) 0)) r ⌝ }
 {
-    let mut next = to;
+    let mut run = Run {
+        next: to,
+        from: 0,
+        size: 0,
+    };
     let mut first: usize = 0;
     let mut i: usize = 0;
     while i < count {
         let node = tree::node_at(nodes, i);
         let end = first + node.rows as usize;
-        let p = Packed {
-            size: packed[i],
-            same: same[i],
-        };
-        let f = Frame {
-            header: headers[i],
-            size: lengths[i],
-        };
-        next = put_node(
+        let size = packed[i];
+        let kept = same[i];
+        let header = headers[i];
+        let whole = lengths[i];
+        run = put_row(
             out,
-            next,
             file,
+            run,
             node,
             items,
             first,
@@ -312,13 +401,16 @@ fn put_tree(
             row,
             title,
             metadata[i],
-            p,
-            f,
+            Packed { size, same: kept },
+            Frame {
+                header,
+                size: whole,
+            },
         );
         first = end;
         i = i + 1;
     }
-    next
+    room::put_part(out, run.next, file, run.from, run.size)
 }
 
 // Puts the file, whose FileLength begins at `opening`.

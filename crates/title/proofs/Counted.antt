@@ -23,7 +23,8 @@ pub counts-part : (f : List ℕ) (at n : ℕ) → at + n ≤ length f → {to r 
 counts-part f at n l e = counts-empty (part f at n) (omega (arith, part-length f at n l))
 
 -- a block, by its length
-pub counts-sized : (s : List ℕ) {to n k r q : ℕ} → n ≡ min (length s) tooMany → k ≡ least (λ _. n) → r ≡ min (to + k) tooMany → q ≡ min (r + n) tooMany → Counts [] [] to (sized s) q
+pub counts-sized : (s : List ℕ) {to n k r q : ℕ} → n ≡ min (length s) tooMany → k ≡ least (λ _. n) → r ≡ min (to + k) tooMany → q ≡ min
+    (r + n) tooMany → Counts [] [] to (sized s) q
 counts-sized s {n = n} a b c d = counts-empty (sized s) (elim (decLt (length s) tooMany) [
   | yes l ↦ let i : n ≡ length s = omega arith in let v : least (λ _. n) ≡ length (vlq (length s)) = rw i (sym (vlq-length (length s))) in omega (arith, sized-length s)
   | no l ↦ omega (arith, sized-length s)

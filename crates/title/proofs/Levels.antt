@@ -312,7 +312,8 @@ module _ (f : List ℕ) (x : Context) (end : ℕ) where
   -- a node, from its front and the nodes that it holds
   level-one : (big : length f < 2 ^ 28) (o : end ≤ length f) {at q : ℕ} {m₂ : Made} {σ υ : Raw} (τ : Raw) {limits : Limits}
       {types : List Declared} {parent depth : ℕ} {m : Made} (row : Node) (cs : List Content)
-      → Front limits types parent depth m (shape f row) cs → shape f row .contained ≡ row .contained → row .start ≡ at → length cs ≡ row .rows → τ .nodes ≡ σ .nodes → τ .items ≡ σ .items
+      → Front limits types parent depth m (shape f row) cs → shape f row .contained ≡ row .contained → row .start ≡ at → length cs ≡ row .rows →
+      τ .nodes ≡ σ .nodes → τ .items ≡ σ .items
       ++ cs → (Stays (shape f row) → Spans f row (shape f row) cs at q) → at + row .size ≤ end
       → Level f x (at + row .size) (row .contained) (record { nodes = τ .nodes ++ row ∷ []; items = τ .items }) (q + inlineSize row) m₂ (at + row .size) υ
       → Level f x end 1 σ at m₂ (at + row .size) υ

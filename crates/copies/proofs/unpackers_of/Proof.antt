@@ -37,7 +37,8 @@ returns-4 c =
     let at-size = at-if1 .before .before .before .before .before in
     let at-measure-unpackers = at-size .before .before in
     let entry = at-measure-unpackers .before .before in
-    packed-same _ _ (copied-was (at-measure-unpackers .measure-unpackers .ensures) (at-size .size .given .1)) (entry .pre) (c .know-bytes .ensures) (at-if1 .if1 .left) (at-if2 .if2 .left)
+    packed-same _ _ (copied-was (at-measure-unpackers .measure-unpackers .ensures) (at-size .size .given .1)) (entry .pre)
+    (c .know-bytes .ensures) (at-if1 .if1 .left) (at-if2 .if2 .left)
 
 pub unpackers-of-spec : {M : Type 1} → statement M
 unpackers-of-spec = tie.close (tie.spec (λ c κs. search needs) (λ c. search needs) (λ c. search needs) sub-if1 returns returns-2 (λ c κs. search needs) returns-3

@@ -54,7 +54,16 @@ add-stopped c =
     let at-vlq-size2 = at-vlq-size3 .before in
     let at-stopped2 = at-vlq-size2 .before in
     let at-stopped = at-stopped2 .before .before .before in
-    omega (arith, header-few _ _ (c .header-size .ensures), length-few _ _ (at-length-bytes .length-bytes .ensures), few _ (at-vlq-size2 .vlq-size2 .ensures), few _ (at-vlq-size3 .vlq-size3 .ensures), at-stopped .stopped .ensures, at-stopped2 .stopped2 .ensures)
+    omega (
+      arith,
+      header-few _ _ (c .header-size .ensures),
+      length-few _ _ (at-length-bytes .length-bytes .ensures),
+      few _
+          (at-vlq-size2 .vlq-size2 .ensures),
+      few _ (at-vlq-size3 .vlq-size3 .ensures),
+      at-stopped .stopped .ensures,
+      at-stopped2 .stopped2 .ensures,
+    )
 
 returns : tie.Need-returns
 unfolding shape
@@ -72,7 +81,8 @@ returns c =
     let entry = at-vlq-size .before in
     λ (f : List ℕ) (cs : List Content) inside packed e. framed-by _ cs _ e
     (stopped-length (unpackers-counted _ packed (at-vlq-size .vlq-size .ensures) (at-on .on .ensures)) (at-stopped .stopped .ensures))
-    (stopped-length (own-put f (entry .args .row) (at-body-size .body-size .ensures) (at-measure-reference .measure-reference .ensures f _ (body-inside f (entry .args .row) inside (at-body-size .body-size .ensures))))
+    (stopped-length (own-put f (entry .args .row) (at-body-size .body-size .ensures)
+    (at-measure-reference .measure-reference .ensures f _ (body-inside f (entry .args .row) inside (at-body-size .body-size .ensures))))
     (at-stopped2 .stopped2 .ensures)) (at-vlq-size2 .vlq-size2 .ensures) (at-vlq-size3 .vlq-size3 .ensures)
     (at-header-size .header-size .ensures ∙ ap (headerSize _) (at-length-bytes .length-bytes .ensures)) (c .stopped3 .ensures)
 

@@ -13,7 +13,8 @@ returns c =
     let at-vlq-size2 = at-on .before in
     let at-if1 = at-vlq-size2 .before in
     let at-vlq-size = at-if1 .before in
-    λ (f : List ℕ) (place : ℕ) inside. uri-counted f _ place _ inside (at-vlq-size .vlq-size .ensures) (at-if1 .if1 .taken) (at-vlq-size2 .vlq-size2 .ensures) (at-on .on .ensures) (c .on2 .ensures)
+    λ (f : List ℕ) (place : ℕ) inside. uri-counted f _ place _ inside (at-vlq-size .vlq-size .ensures) (at-if1 .if1 .taken)
+    (at-vlq-size2 .vlq-size2 .ensures) (at-on .on .ensures) (c .on2 .ensures)
 
 returns-2 : tie.Need-returns-2
 returns-2 c =

@@ -45,8 +45,11 @@ items-size-requires : tie.Need-items-size-requires Inv-loop μ-loop
 items-size-requires c κs =
     let at-loop-test = c .before in
     let at-loop = at-loop-test .before in
-    let entry = at-loop .before .before .before .before .before .before .before .before .before .before in
-    (omega (arith, first-row (entry .pre .0) (at-loop .loop .inv) (at-loop-test .loop-test .taken) (c .node-at .ensures)), items-here (entry .pre .0) (at-loop .loop .inv) (at-loop-test .loop-test .taken) .0)
+    let entry = at-loop .before .before .before .before .before .before .before .before .before .before in (
+      omega (arith, first-row (entry .pre .0) (at-loop .loop .inv) (at-loop-test .loop-test .taken) (c .node-at .ensures)),
+      items-here
+          (entry .pre .0) (at-loop .loop .inv) (at-loop-test .loop-test .taken) .0,
+    )
 
 unpackers-of-requires : tie.Need-unpackers-of-requires Inv-loop μ-loop
 unpackers-of-requires c κs =
@@ -150,7 +153,13 @@ array-write-sizes c =
     let at-loop-test = at-node-at .before in
     let at-loop = at-loop-test .before in
     let entry = at-loop .before .before .before .before .before .before .before .before .before .before in
-    omega (arith, stack-row (entry .pre .0) (at-loop .loop .inv) (at-loop-test .loop-test .taken) (at-node-at .node-at .ensures), stack-room (entry .pre .0) (at-loop .loop .inv) (at-loop-test .loop-test .taken), at-loop .loop .inv .stacked)
+    omega (
+      arith,
+      stack-row (entry .pre .0) (at-loop .loop .inv) (at-loop-test .loop-test .taken) (at-node-at .node-at .ensures),
+      stack-room
+          (entry .pre .0) (at-loop .loop .inv) (at-loop-test .loop-test .taken),
+      at-loop .loop .inv .stacked,
+    )
 
 loop-again : tie.Need-loop-again Inv-loop μ-loop
 loop-again c =
@@ -163,8 +172,11 @@ loop-again c =
     let at-loop = at-loop-test .before in
     let entry = at-loop .before .before .before .before .before .before .before .before .before .before in
     measuring-row (entry .pre .0) (at-loop .loop .inv) (at-loop-test .loop-test .taken) (at-node-at .node-at .ensures)
-    (stopped-length (at-items-size .items-size .ensures _ _ (items-here (entry .pre .0) (at-loop .loop .inv) (at-loop-test .loop-test .taken)) refl) (at-stopped .stopped .ensures)) (at-sum .sum .ensures) (at-unpackers-of .unpackers-of .ensures)
-    (λ cs e. c .frame-of .ensures _ cs (inside-row (entry .pre .0) (at-loop .loop .inv) (at-loop-test .loop-test .taken) (at-node-at .node-at .ensures)) (at-unpackers-of .unpackers-of .ensures .size) e)
+    (stopped-length (at-items-size .items-size .ensures _ _ (items-here (entry .pre .0) (at-loop .loop .inv) (at-loop-test .loop-test .taken))
+    refl) (at-stopped .stopped .ensures)) (at-sum .sum .ensures) (at-unpackers-of .unpackers-of .ensures)
+    (λ cs e. c .frame-of .ensures _ cs
+    (inside-row (entry .pre .0) (at-loop .loop .inv) (at-loop-test .loop-test .taken) (at-node-at .node-at .ensures))
+    (at-unpackers-of .unpackers-of .ensures .size) e)
 
 sum-requires-2 : tie.Need-sum-requires-2 Inv-loop μ-loop
 sum-requires-2 c κs =

@@ -20,23 +20,20 @@ returns c =
 
 sub-gap : tie.Need-sub-gap
 sub-gap c =
-    let back = c .before .before .before .before .before .before .before .before .before .before .before .before .before .before
+    let entry = c .before .before .before .before .before .before .before .before .before .before .before .before .before .before
     .before .before .before .before .before .before .before .before .before .before .before .before in
-    let entry = back in
     omega (arith, entry .pre .1)
 
 add-after : tie.Need-add-after
 add-after c =
-    let back = c .before .before .before .before .before .before .before .before .before .before .before .before .before .before
+    let entry = c .before .before .before .before .before .before .before .before .before .before .before .before .before .before
     .before .before .before .before .before .before .before .before .before .before .before .before .before in
-    let entry = back in
     omega (arith, entry .pre .1, entry .pre .0 .small)
 
 sub-after : tie.Need-sub-after
 sub-after c =
-    let back = c .before .before .before .before .before .before .before .before .before .before .before .before .before .before
+    let entry = c .before .before .before .before .before .before .before .before .before .before .before .before .before .before
     .before .before .before .before .before .before .before .before .before .before .before .before .before .before in
-    let entry = back in
     omega (arith, entry .pre .1)
 
 add-tree-start : tie.Need-add-tree-start
@@ -55,8 +52,7 @@ add-tree-start-2 c =
 
 tree-start-requires : tie.Need-tree-start-requires
 tree-start-requires c κs =
-    let back = c .before .before .before .before .before .before .before .before in
-    let at-stopped = back in
+    let at-stopped = c .before .before .before .before .before .before .before .before in
     let at-measure-tree = at-stopped .before .before .before .before .before .before .before .before .before .before in
     let entry = at-measure-tree .before .before .before .before .before .before .before .before .before .before .before in (
       omega (arith, entry .pre .1, entry .pre .0 .small, at-stopped .stopped .ensures, at-measure-tree .measure-tree .ensures .1),
@@ -82,18 +78,16 @@ add-size c =
 
 put-part-requires : tie.Need-put-part-requires
 put-part-requires c κs =
-    let back = c .before .before .before .before .before .before .before .before .before .before .before .before .before .before
+    let entry = c .before .before .before .before .before .before .before .before .before .before .before .before .before .before
     .before .before .before .before .before .before .before .before .before .before .before .before .before .before
     .before .before .before in
-    let entry = back in
     omega (arith, entry .pre .1)
 
 put-types-requires-2 : tie.Need-put-types-requires-2
 put-types-requires-2 c κs =
-    let back = c .before .before .before .before .before .before .before .before .before .before .before .before .before .before
+    let entry = c .before .before .before .before .before .before .before .before .before .before .before .before .before .before
     .before .before .before .before .before .before .before .before .before .before .before .before .before .before
     .before .before .before .before .before .before .before .before .before .before .before in
-    let entry = back in
     entry .pre .0 .small
 
 sub-put-number : tie.Need-sub-put-number
@@ -103,65 +97,58 @@ sub-put-number c =
 
 put-part-requires-2 : tie.Need-put-part-requires-2
 put-part-requires-2 c κs =
-    let back = c .before .before .before .before .before .before .before .before .before .before .before .before .before .before
+    let entry = c .before .before .before .before .before .before .before .before .before .before .before .before .before .before
     .before .before .before .before .before .before .before .before .before .before .before .before .before .before
     .before .before .before .before .before .before .before .before .before .before .before .before .before .before
     .before .before .before .before .before .before .before .before .before in
-    let entry = back in
     omega (arith, entry .pre .1)
 
 slice-aggregate-put-tree : tie.Need-slice-aggregate-put-tree
 slice-aggregate-put-tree c =
-    let back = c .before .before .before .before .before .before .before .before .before .before .before .before .before .before
+    let at-measure-tree = c .before .before .before .before .before .before .before .before .before .before .before .before .before .before
     .before .before .before .before .before .before .before .before .before .before .before .before .before .before
     .before .before .before .before .before .before .before .before .before .before .before .before .before .before
     .before .before .before in
-    let at-measure-tree = back in
     omega (arith, at-measure-tree .measure-tree .kept)
 
 slice-aggregate-put-tree-2 : tie.Need-slice-aggregate-put-tree-2
 slice-aggregate-put-tree-2 c =
-    let back = c .before .before .before .before .before .before .before .before .before .before .before .before .before .before
+    let at-measure-tree = c .before .before .before .before .before .before .before .before .before .before .before .before .before .before
     .before .before .before .before .before .before .before .before .before .before .before .before .before .before
     .before .before .before .before .before .before .before .before .before .before .before .before .before .before
     .before .before .before .before in
-    let at-measure-tree = back in
     omega (arith, at-measure-tree .measure-tree .kept)
 
 slice-aggregate-put-tree-3 : tie.Need-slice-aggregate-put-tree-3
 slice-aggregate-put-tree-3 c =
-    let back = c .before .before .before .before .before .before .before .before .before .before .before .before .before .before
+    let at-measure-tree = c .before .before .before .before .before .before .before .before .before .before .before .before .before .before
     .before .before .before .before .before .before .before .before .before .before .before .before .before .before
     .before .before .before .before .before .before .before .before .before .before .before .before .before .before
     .before .before .before .before .before in
-    let at-measure-tree = back in
     omega (arith, at-measure-tree .measure-tree .kept)
 
 slice-aggregate-put-tree-4 : tie.Need-slice-aggregate-put-tree-4
 slice-aggregate-put-tree-4 c =
-    let back = c .before .before .before .before .before .before .before .before .before .before .before .before .before .before
+    let at-measure-tree = c .before .before .before .before .before .before .before .before .before .before .before .before .before .before
     .before .before .before .before .before .before .before .before .before .before .before .before .before .before
     .before .before .before .before .before .before .before .before .before .before .before .before .before .before
     .before .before .before .before .before .before in
-    let at-measure-tree = back in
     omega (arith, at-measure-tree .measure-tree .kept)
 
 slice-aggregate-put-tree-5 : tie.Need-slice-aggregate-put-tree-5
 slice-aggregate-put-tree-5 c =
-    let back = c .before .before .before .before .before .before .before .before .before .before .before .before .before .before
+    let at-measure-tree = c .before .before .before .before .before .before .before .before .before .before .before .before .before .before
     .before .before .before .before .before .before .before .before .before .before .before .before .before .before
     .before .before .before .before .before .before .before .before .before .before .before .before .before .before
     .before .before .before .before .before .before .before in
-    let at-measure-tree = back in
     omega (arith, at-measure-tree .measure-tree .kept)
 
 put-tree-requires : tie.Need-put-tree-requires
 put-tree-requires c κs =
-    let back = c .before .before .before .before .before .before .before .before .before .before .before .before .before .before
+    let at-if1 = c .before .before .before .before .before .before .before .before .before .before .before .before .before .before
     .before .before .before .before .before .before .before .before .before .before .before .before .before .before
     .before .before .before .before .before .before .before .before .before .before .before .before .before .before
     .before in
-    let at-if1 = back in
     let at-measure-tree = at-if1 .before .before .before .before .before .before in
     let entry = at-measure-tree .before .before .before .before .before .before .before .before .before .before .before in (
       (entry .pre .0, at-measure-tree .measure-tree .ensures .0),
@@ -169,11 +156,9 @@ put-tree-requires c κs =
         (
           omega (arith, at-measure-tree .measure-tree .kept),
           omega (arith, at-measure-tree .measure-tree .kept),
-          omega
-              (arith, at-measure-tree .measure-tree .kept),
           omega (arith, at-measure-tree .measure-tree .kept),
-          omega
-              (arith, at-measure-tree .measure-tree .kept),
+          omega (arith, at-measure-tree .measure-tree .kept),
+          omega (arith, at-measure-tree .measure-tree .kept),
         ),
         omega (arith, at-measure-tree .measure-tree .ensures .1, at-if1 .if1 .left),
       ),
@@ -181,12 +166,11 @@ put-tree-requires c κs =
 
 put-part-requires-3 : tie.Need-put-part-requires-3
 put-part-requires-3 c κs =
-    let back = c .before .before .before .before .before .before .before .before .before .before .before .before .before .before
+    let entry = c .before .before .before .before .before .before .before .before .before .before .before .before .before .before
     .before .before .before .before .before .before .before .before .before .before .before .before .before .before
     .before .before .before .before .before .before .before .before .before .before .before .before .before .before
     .before .before .before .before .before .before .before .before .before .before .before .before .before .before
     .before .before .before .before .before .before .before .before in
-    let entry = back in
     omega (arith, entry .pre .1)
 
 same-length : tie.Need-same-length

@@ -9,13 +9,16 @@ use Rattle.retitle.proofs.put_node.Tie as tie
 
 put-unpackers-requires : tie.Need-put-unpackers-requires
 put-unpackers-requires c κs =
-    let entry = c .before .before .before .before .before .before .before .before .before .before .before .before .before .before .before .before .before .before .before .before .before .before .before .before .before in
+    let entry = c .before .before .before .before .before .before .before .before .before .before .before .before .before .before
+    .before .before .before .before .before .before .before .before .before .before .before in
     (entry .pre .0 .1, entry .pre .1 .1)
 
 put-reference-requires : tie.Need-put-reference-requires
 put-reference-requires c κs =
     let at-body-size = c .before in
-    let entry = at-body-size .before .before .before .before .before .before .before .before .before .before .before .before .before .before .before .before .before .before .before .before .before .before .before .before .before .before .before .before .before in
+    let entry = at-body-size .before .before .before .before .before .before .before .before .before .before .before .before .before .before
+    .before .before .before .before .before .before .before .before .before .before .before .before .before .before
+    .before in
     body-inside (entry .args .file .now) (entry .args .node) (entry .pre .0 .0) (at-body-size .body-size .ensures)
 
 returns : tie.Need-returns

@@ -1,19 +1,20 @@
--- `put_tree` goes from the first row to the last. The invariant: the rows before row i are put.
+-- `put_tree` goes from the first row to the last. The invariant: the rows before row i are appended.
 -- Assumes nothing.
 use native.Mathlib.Omega.{arith}
+use mathlib.Core.Path.{_∙_}
 use Prim.Native.Nat.{_-_}
 use Rattle.room.proofs.Counting.{going-length}
 use Rattle.retitle.specs.Passes.{task}
-use Rattle.retitle.proofs.Passes.{Putting, putting-start, rows-room, inside-here, items-room, texts-row, packed-row, putting-row, putting-end}
+use Rattle.retitle.proofs.Passes.{Putting, putting-start, rows-room, inside-here, node-here, items-room, texts-row, packed-row, leaf-row, putting-row, putting-end}
 use Rattle.retitle.proofs.put_tree.Statement.{statement}
 use Rattle.retitle.proofs.put_tree.Tie as tie
 
 abbrev Inv-loop : tie.InvT-loop
-Inv-loop out₀ to file nodes items count total row title metadata packed same headers lengths next₀ first₀ i₀ out next first i =
-    Putting (task file nodes items count total row title) out₀ out to next first i
+Inv-loop out₀ to file nodes items count total row title metadata packed same headers lengths run₀ first₀ i₀ out run first i =
+    Putting (task file nodes items count total row title) out₀ out to run first i
 
 abbrev μ-loop : tie.MeasureT-loop
-μ-loop out₀ to file nodes items count total row title metadata packed same headers lengths next₀ first₀ i₀ out next first i = count - i
+μ-loop out₀ to file nodes items count total row title metadata packed same headers lengths run₀ first₀ i₀ out run first i = count - i
 
 loop-holds : tie.Need-loop-holds Inv-loop μ-loop
 loop-holds c = putting-start _ (omega arith)
@@ -30,80 +31,76 @@ add-end c =
     let entry = at-loop .before .before .before .before .before .before .before .before .before .before .before in
     omega (arith, rows-room (entry .pre .0 .0) (at-loop .loop .inv) (at-loop-test .loop-test .taken) (c .node-at .ensures), entry .pre .0 .0 .items-inside .0)
 
-mul-t23 : tie.Need-mul-t23 Inv-loop μ-loop
-mul-t23 c =
+mul-size : tie.Need-mul-size Inv-loop μ-loop
+mul-size c =
     let at-loop-test = c .before in
     let entry = at-loop-test .before .before .before .before .before .before .before .before .before .before .before .before in
     omega (arith, at-loop-test .loop-test .taken, entry .pre .0 .0 .few)
 
-shared-slice-read-t25 : tie.Need-shared-slice-read-t25 Inv-loop μ-loop
-shared-slice-read-t25 c =
+shared-slice-read-size : tie.Need-shared-slice-read-size Inv-loop μ-loop
+shared-slice-read-size c =
     let at-loop-test = c .before .before in
     let entry = at-loop-test .before .before .before .before .before .before .before .before .before .before .before .before in
     omega (arith, at-loop-test .loop-test .taken, entry .pre .0 .0 .few, entry .pre .1 .0)
 
-shared-slice-read-t22 : tie.Need-shared-slice-read-t22 Inv-loop μ-loop
-shared-slice-read-t22 c =
+shared-slice-read-kept : tie.Need-shared-slice-read-kept Inv-loop μ-loop
+shared-slice-read-kept c =
     let at-loop-test = c .before .before .before in
     let entry = at-loop-test .before .before .before .before .before .before .before .before .before .before .before .before in
     omega (arith, at-loop-test .loop-test .taken, entry .pre .0 .0 .few, entry .pre .1 .0)
 
-mul-t23-2 : tie.Need-mul-t23-2 Inv-loop μ-loop
-mul-t23-2 c =
+mul-header : tie.Need-mul-header Inv-loop μ-loop
+mul-header c =
     let at-loop-test = c .before .before .before in
     let entry = at-loop-test .before .before .before .before .before .before .before .before .before .before .before .before in
     omega (arith, at-loop-test .loop-test .taken, entry .pre .0 .0 .few)
 
-shared-slice-read-t25-2 : tie.Need-shared-slice-read-t25-2 Inv-loop μ-loop
-shared-slice-read-t25-2 c =
+shared-slice-read-header : tie.Need-shared-slice-read-header Inv-loop μ-loop
+shared-slice-read-header c =
     let at-loop-test = c .before .before .before .before in
     let entry = at-loop-test .before .before .before .before .before .before .before .before .before .before .before .before in
     omega (arith, at-loop-test .loop-test .taken, entry .pre .0 .0 .few, entry .pre .1 .0)
 
-mul-put-node : tie.Need-mul-put-node Inv-loop μ-loop
-mul-put-node c =
+mul-whole : tie.Need-mul-whole Inv-loop μ-loop
+mul-whole c =
     let at-loop-test = c .before .before .before .before in
     let entry = at-loop-test .before .before .before .before .before .before .before .before .before .before .before .before in
     omega (arith, at-loop-test .loop-test .taken, entry .pre .0 .0 .few)
 
-shared-slice-read-put-node : tie.Need-shared-slice-read-put-node Inv-loop μ-loop
-shared-slice-read-put-node c =
+shared-slice-read-whole : tie.Need-shared-slice-read-whole Inv-loop μ-loop
+shared-slice-read-whole c =
     let at-loop-test = c .before .before .before .before .before in
     let entry = at-loop-test .before .before .before .before .before .before .before .before .before .before .before .before in
     omega (arith, at-loop-test .loop-test .taken, entry .pre .0 .0 .few, entry .pre .1 .0)
 
-mul-put-node-2 : tie.Need-mul-put-node-2 Inv-loop μ-loop
-mul-put-node-2 c =
+mul-put-row : tie.Need-mul-put-row Inv-loop μ-loop
+mul-put-row c =
     let at-loop-test = c .before .before .before .before .before .before in
     let entry = at-loop-test .before .before .before .before .before .before .before .before .before .before .before .before in
     omega (arith, at-loop-test .loop-test .taken, entry .pre .0 .0 .few)
 
-shared-slice-read-put-node-2 : tie.Need-shared-slice-read-put-node-2 Inv-loop μ-loop
-shared-slice-read-put-node-2 c =
+shared-slice-read-put-row : tie.Need-shared-slice-read-put-row Inv-loop μ-loop
+shared-slice-read-put-row c =
     let at-loop-test = c .before .before .before .before .before .before .before in
     let entry = at-loop-test .before .before .before .before .before .before .before .before .before .before .before .before in
     omega (arith, at-loop-test .loop-test .taken, entry .pre .0 .0 .few, entry .pre .1 .0)
 
-put-node-requires : tie.Need-put-node-requires Inv-loop μ-loop
-put-node-requires c κs =
-    let back = c .before .before .before .before .before .before in
-    let at-node-at = back in
+put-row-requires : tie.Need-put-row-requires Inv-loop μ-loop
+put-row-requires c κs =
+    let at-node-at = c .before .before .before .before .before .before in
     let at-loop-test = at-node-at .before in
     let at-loop = at-loop-test .before in
-    let entry = at-loop .before .before .before .before .before .before .before .before .before .before .before in (
+    let entry = at-loop .before .before .before .before .before .before .before .before .before .before .before in
+    let sound = entry .pre .0 .0 in
+    let inv = at-loop .loop .inv in
+    let within = at-loop-test .loop-test .taken in
+    let row = at-node-at .node-at .ensures in
+    let laid = entry .pre .0 .1 .laid _ (omega arith) within in
+    let small = entry .pre .1 .1 in (
+      (inside-here sound inv within row, sound .small, omega arith, items-room sound inv within row),
       (
-        inside-here (entry .pre .0 .0) (at-loop .loop .inv) (at-loop-test .loop-test .taken) (at-node-at .node-at .ensures),
-        entry .pre .0 .0 .small,
-        omega arith,
-        items-room (entry .pre .0 .0) (at-loop .loop .inv) (at-loop-test .loop-test .taken)
-            (at-node-at .node-at .ensures),
-      ),
-      (
-        texts-row (entry .pre .0 .0) (at-loop .loop .inv) (at-loop-test .loop-test .taken) (at-node-at .node-at .ensures)
-            (entry .pre .0 .1 .laid _ (omega arith) (at-loop-test .loop-test .taken)) (entry .pre .1 .1),
-        packed-row (entry .pre .0 .0)
-            (at-loop .loop .inv) (at-loop-test .loop-test .taken) (at-node-at .node-at .ensures)
-            (entry .pre .0 .1 .laid _ (omega arith) (at-loop-test .loop-test .taken)) (entry .pre .1 .1),
+        (texts-row sound inv within row laid small, packed-row sound inv within row laid small),
+        ((inv .inside, node-here sound inv within row), leaf-row sound inv within row laid small),
       ),
     )
 
@@ -119,25 +116,33 @@ loop-less c =
 
 loop-again : tie.Need-loop-again Inv-loop μ-loop
 loop-again c =
-    let back = c .before .before in
-    let at-put-node = back in
-    let at-node-at = at-put-node .before .before .before .before .before .before .before in
+    let at-put-row = c .before .before in
+    let at-node-at = at-put-row .before .before .before .before .before .before .before in
     let at-loop-test = at-node-at .before in
     let at-loop = at-loop-test .before in
     let entry = at-loop .before .before .before .before .before .before .before .before .before .before .before in
     putting-row (entry .pre .0 .0) (at-loop .loop .inv) (at-loop-test .loop-test .taken) (at-node-at .node-at .ensures)
-    (entry .pre .0 .1 .laid _ (omega arith) (at-loop-test .loop-test .taken)) (entry .pre .1 .1) (at-put-node .put-node .ensures)
+    (entry .pre .0 .1 .laid _ (omega arith) (at-loop-test .loop-test .taken)) (entry .pre .1 .1)
+    (at-put-row .put-row .ensures)
+
+put-part-requires : tie.Need-put-part-requires Inv-loop μ-loop
+put-part-requires c κs =
+    let at-loop = c .before .before in
+    at-loop .loop .inv .inside
 
 same-length : tie.Need-same-length Inv-loop μ-loop
 same-length c =
-    let at-loop = c .before in
-    going-length (at-loop .loop .inv .going)
+    let at-put-part = c .before .before in
+    let at-loop = at-put-part .before .before .before in
+    at-put-part .put-part .ensures .long ∙ going-length (at-loop .loop .inv .going)
 
 returns : tie.Need-returns Inv-loop μ-loop
 returns c =
-    let at-loop = c .before in
+    let at-put-part = c .before .before in
+    let at-loop-test = at-put-part .before .before in
+    let at-loop = at-loop-test .before in
     let entry = at-loop .before .before .before .before .before .before .before .before .before .before .before in
-    putting-end (entry .pre .0 .0) (at-loop .loop .inv) (c .loop-test .left)
+    putting-end (entry .pre .0 .0) (at-loop .loop .inv) (at-loop-test .loop-test .left) (at-put-part .put-part .ensures)
 
 pub put-tree-spec : {M : Type 1} → statement M
 put-tree-spec =
@@ -148,18 +153,19 @@ put-tree-spec =
     loop-holds
     node-at-requires
     add-end
-    mul-t23
-    shared-slice-read-t25
-    shared-slice-read-t22
-    mul-t23-2
-    shared-slice-read-t25-2
-    mul-put-node
-    shared-slice-read-put-node
-    mul-put-node-2
-    shared-slice-read-put-node-2
-    put-node-requires
+    mul-size
+    shared-slice-read-size
+    shared-slice-read-kept
+    mul-header
+    shared-slice-read-header
+    mul-whole
+    shared-slice-read-whole
+    mul-put-row
+    shared-slice-read-put-row
+    put-row-requires
     add-i
     loop-less
     loop-again
+    put-part-requires
     same-length
     returns)
