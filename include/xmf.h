@@ -25,7 +25,7 @@
  *
  * Stack
  *
- * A call that takes a file needs at most 12 kB of stack, xmf_correct_title 19 kB, any other call 1 kB
+ * A call that takes a file needs at most 12 kB of stack, xmf_correct_title 22 kB, any other call 1 kB
  * (tools/stack.sh measures it; 1 kB is 1,024 bytes). What the dynamic linker needs when it first looks up
  * memset or memcpy, the two functions that the library takes from the C library, is not counted.
  *
