@@ -9,11 +9,12 @@
 
 built_say() { printf '%s: %s\n' "${prefix?}" "$1" >&2; }
 
-# Looks among all that a build of these crates depends on; becomes find, so it stands in $(..) or in a pipeline.
+# Looks among all that makes the program of these crates and what is proved of it: code, contracts, definitions, and what a case program reads. The
+# text of a proof changes neither, so proofs, which are most of the files, are not looked at. Becomes find, so it stands in $(..) or in a pipeline.
 built_find() { # CRATES TEST..
     list=$1
     shift
-    set -- -name must-fail -prune -o "$@"
+    set -- \( -name proofs -o -name must-fail \) -prune -o "$@"
     for crate in $list; do set -- "crates/$crate" "$@"; done
     CDPATH='' cd -- "${root?}" && exec find crates.txt "$@" 2>&1
 }

@@ -431,12 +431,16 @@ echo '// changed again' >>"$copy/crates/tree/src/lib.rt"
 touch -d 2001-01-01 "$copy/crates/tree/src/lib.rt"
 run_copy
 judge 'a changed source with an old time' "$(building_program "crates/tree/src/lib.rt $newer" "$above_tree")" 0
-: >"$copy/crates/machine/proofs/New.antt"
+: >"$copy/crates/machine/specs/New.antt"
 run_copy
-judge 'a new proof' "$(building_program "crates/machine/proofs $newer")" 0
-rm "$copy/crates/machine/proofs/New.antt"
+judge 'a new definition' "$(building_program "crates/machine/specs $newer")" 0
+rm "$copy/crates/machine/specs/New.antt"
 run_copy
-judge 'a file that is gone' "$(building_program "crates/machine/proofs $newer")" 0
+judge 'a file that is gone' "$(building_program "crates/machine/specs $newer")" 0
+echo '-- changed' >>"$copy/crates/machine/proofs/Lib.antt"
+run_copy
+judge 'the text of a proof' '' 0
+cat "$root/crates/machine/proofs/Lib.antt" >"$copy/crates/machine/proofs/Lib.antt"
 echo '# changed' >>"$copy/crates.txt"
 run_copy
 judge 'a changed list of crates' "$(building_program "crates.txt $newer" '')" 0
