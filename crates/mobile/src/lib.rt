@@ -12,7 +12,7 @@ ghost use Rattle.tree.specs.Asking.{answered, nodesLeft, itemsLeft};
 ghost use Rattle.tree.specs.Own.{those, part, Tables};
 ghost use Rattle.description.specs.Row.{isField};
 ghost use Rattle.mobile.specs.Mobile.{all, roleOfType, roleOfRow, roleOf, filesOnly, isPlain, plainReferences, noUnpackers, isNeed, areNeeds, isShort, fieldSize, isSmall, smallFields, verdict, mobile};
-ghost use Rattle.mobile.specs.Pass.{besides, child, children, oneTuneOf, tuneNeedsOf};
+ghost use Rattle.mobile.specs.Pass.{besides, child, children, oneTuneOf, tuneNeedsOf, later};
 ghost use Rattle.mobile.specs.Told.{told, NextRow};
 use cursor::Cursor;
 use cursor::FilePlace;
@@ -380,26 +380,11 @@ fn small_fields(nodes: &[u64], items: &[u64], n: usize, m: usize) -> bool
     small_items(items, m)
 }
 
-// The number of the first check that fails, 0 if none.
-fn verdict(file: &[u8], nodes: &[u64], items: &[u64], s: Summary) -> u64
-    requires { ⌜ Tables (now file) (now nodes) (now items) (s .nodes) (s .items) ⌝ }
-    ensures { λ r. ⌜ ((h : Header) → s ≡ summary h (nodesIn (s .nodes) (now (nodes .entry))) (itemsIn (s .items) (now (items .entry))) → r ≡ verdict (now (file .entry)) h (nodesIn (s .nodes) (now (nodes .entry))) (itemsIn (s .items) (now (items .entry)))) ⌝ }
+// The first of checks 5 to 8 that fails, 0 if none. The children are gone through once.
+fn later_verdict(file: &[u8], nodes: &[u64], items: &[u64], n: usize, m: usize) -> u64
+    requires { ⌜ Tables (now file) (now nodes) (now items) n m ⌝ }
+    ensures { λ r. ⌜ r ≡ later (now (file .entry)) (nodesIn n (now (nodes .entry))) (itemsIn m (now (items .entry))) ⌝ }
 {
-    let edition = s.edition;
-    if !right_edition(s.version, edition.kind, edition.revision) {
-        return 1;
-    }
-    let n = s.nodes;
-    let m = s.items;
-    if !files_only(nodes, n) {
-        return 2;
-    }
-    if !plain_references(nodes, n) {
-        return 3;
-    }
-    if !no_unpackers(nodes, n) {
-        return 4;
-    }
     let c = children_of(file, nodes, items, n, m);
     if !c.typed {
         return 5;
@@ -416,6 +401,29 @@ fn verdict(file: &[u8], nodes: &[u64], items: &[u64], s: Summary) -> u64
         return 8;
     }
     0
+}
+
+// The first check that fails, 0 if none.
+fn verdict(file: &[u8], nodes: &[u64], items: &[u64], s: Summary) -> u64
+    requires { ⌜ Tables (now file) (now nodes) (now items) (s .nodes) (s .items) ⌝ }
+    ensures { λ r. ⌜ ((h : Header) → s ≡ summary h (nodesIn (s .nodes) (now (nodes .entry))) (itemsIn (s .items) (now (items .entry)))
+        → r ≡ verdict (now (file .entry)) h (nodesIn (s .nodes) (now (nodes .entry))) (itemsIn (s .items) (now (items .entry)))) ⌝ }
+{
+    let edition = s.edition;
+    if !right_edition(s.version, edition.kind, edition.revision) {
+        return 1;
+    }
+    let n = s.nodes;
+    if !files_only(nodes, n) {
+        return 2;
+    }
+    if !plain_references(nodes, n) {
+        return 3;
+    }
+    if !no_unpackers(nodes, n) {
+        return 4;
+    }
+    later_verdict(file, nodes, items, n, s.items)
 }
 
 // Judges Mobile XMF: reads the file into the two tables and gives the verdict.
