@@ -4,11 +4,11 @@ ghost use mathlib.Core.List.{List};
 ghost use Prim.Native.Nat.{ℕ, _≤_, _<_, _+_, _*_};
 ghost use lib.ListN.{length};
 ghost use lib.Seq.{sets};
-ghost use Rattle.machine.specs.Machine.{run, exec, times};
+ghost use Rattle.machine.specs.Machine.{run, times};
 ghost use Rattle.cursor.specs.Told.{Readable};
-ghost use Rattle.metadata.specs.Tables.{itemWidth, itemWords, put, state};
+ghost use Rattle.metadata.specs.Tables.{itemWidth, itemWords};
 ghost use Rattle.metadata.specs.Metadata.{field, contents, itemFrame, rowOf, universal, version, rowsFor, item, metaItems, metadata};
-ghost use Rattle.metadata.specs.Told.{ItemRoom, Room, contextOf, counts, walked, fieldTold, contentsTold, itemTold, CommonTold, Gives};
+ghost use Rattle.metadata.specs.Told.{ItemRoom, Room, counts, fieldTold, contentsTold, itemTold, CommonTold, Makes};
 use cursor::Cursor;
 use cursor::FilePlace;
 use cursor::Item;
@@ -214,7 +214,7 @@ fn read_universal(
     rows: usize,
 ) -> RowsResult
     requires { ⌜ Readable (end .0) (now file) × ItemRoom scope (now items) (counts (l .node) rows) ⌝ }
-    ensures { λ r. ⌜ ((t ws : List ℕ) → Gives (scope .limits) (walked (l .node) r) t (now (items .exit)) (exec put (universal (contextOf scope ws (length (now (file .entry)))) l (end .0) (counts (l .node) rows)) (now (file .entry)) (c .at .0) (state t (now (items .entry)) (counts (l .node) rows)))) ⌝ }
+    ensures { λ r. ⌜ ((ws : List ℕ) → Makes scope (l .node) rows (λ x. universal x l (end .0)) (now (file .entry)) ws (now (items .entry)) (now (items .exit)) (c .at .0) r) ⌝ }
 {
     let place = c.at;
     let limits = scope.limits;
@@ -255,7 +255,7 @@ fn read_version(
     rows: usize,
 ) -> RowsResult
     requires { ⌜ Room scope (now file) (now types) (now items) (end .0) (counts (l .node) rows) × (before ≤ rows) ⌝ }
-    ensures { λ r. ⌜ ((t : List ℕ) → Gives (scope .limits) (walked (l .node) r) t (now (items .exit)) (exec put (version (contextOf scope (now (types .entry)) (length (now (file .entry)))) l (end .0) before (counts (l .node) rows)) (now (file .entry)) (c .at .0) (state t (now (items .entry)) (counts (l .node) rows)))) ⌝ }
+    ensures { λ r. ⌜ Makes scope (l .node) rows (λ x. version x l (end .0) before) (now (file .entry)) (now (types .entry)) (now (items .entry)) (now (items .exit)) (c .at .0) r ⌝ }
 {
     let place = c.at;
     let limits = scope.limits;
@@ -297,7 +297,7 @@ fn read_versions(
     rows: usize,
 ) -> RowsResult
     requires { ⌜ Room scope (now file) (now types) (now items) (end .0) (counts (l .node) rows) ⌝ }
-    ensures { λ r. ⌜ ((t : List ℕ) → Gives (scope .limits) (walked (l .node) r) t (now (items .exit)) (exec put (times count (version (contextOf scope (now (types .entry)) (length (now (file .entry)))) l (end .0) rows) (counts (l .node) rows)) (now (file .entry)) (c .at .0) (state t (now (items .entry)) (counts (l .node) rows)))) ⌝ }
+    ensures { λ r. ⌜ Makes scope (l .node) rows (λ x. times count (version x l (end .0) rows)) (now (file .entry)) (now (types .entry)) (now (items .entry)) (now (items .exit)) (c .at .0) r ⌝ }
 {
     let before = rows;
     let mut next = c;
@@ -329,7 +329,7 @@ fn read_rows(
     rows: usize,
 ) -> RowsResult
     requires { ⌜ Room scope (now file) (now types) (now items) (end .0) (counts (l .node) rows) ⌝ }
-    ensures { λ r. ⌜ ((t : List ℕ) → Gives (scope .limits) (walked (l .node) r) t (now (items .exit)) (exec put (rowsFor (contextOf scope (now (types .entry)) (length (now (file .entry)))) l (end .0) contents (counts (l .node) rows)) (now (file .entry)) (c .at .0) (state t (now (items .entry)) (counts (l .node) rows)))) ⌝ }
+    ensures { λ r. ⌜ Makes scope (l .node) rows (λ x. rowsFor x l (end .0) contents) (now (file .entry)) (now (types .entry)) (now (items .entry)) (now (items .exit)) (c .at .0) r ⌝ }
 {
     match contents {
         Contents::Universal => read_universal(c, file, items, scope, l, end, rows),
@@ -395,7 +395,7 @@ fn read_item(
     rows: usize,
 ) -> RowsResult
     requires { ⌜ Room scope (now file) (now types) (now items) (end .0) (counts node rows) ⌝ }
-    ensures { λ r. ⌜ ((t : List ℕ) → Gives (scope .limits) (walked node r) t (now (items .exit)) (exec put (item (contextOf scope (now (types .entry)) (length (now (file .entry)))) node index (end .0) (counts node rows)) (now (file .entry)) (c .at .0) (state t (now (items .entry)) (counts node rows)))) ⌝ }
+    ensures { λ r. ⌜ Makes scope node rows (λ x. item x node index (end .0)) (now (file .entry)) (now (types .entry)) (now (items .entry)) (now (items .exit)) (c .at .0) r ⌝ }
 {
     let limits = scope.limits;
     if rows < limits.items {
@@ -444,7 +444,7 @@ fn read_items(
     rows: usize,
 ) -> RowsResult
     requires { ⌜ Room scope (now file) (now types) (now items) (end .0) (counts node rows) ⌝ }
-    ensures { λ r. ⌜ ((t : List ℕ) → Gives (scope .limits) (walked node r) t (now (items .exit)) (exec put (metaItems (contextOf scope (now (types .entry)) (length (now (file .entry)))) node (end .0) (counts node rows)) (now (file .entry)) (c .at .0) (state t (now (items .entry)) (counts node rows)))) ⌝ }
+    ensures { λ r. ⌜ Makes scope node rows (λ x. metaItems x node (end .0)) (now (file .entry)) (now (types .entry)) (now (items .entry)) (now (items .exit)) (c .at .0) r ⌝ }
 {
     let stop = end.0;
     let mut next = c;
@@ -478,7 +478,7 @@ pub fn read_metadata(
     rows: usize,
 ) -> RowsResult
     requires { ⌜ Room scope (now file) (now types) (now items) (end .0) (counts node rows) ⌝ }
-    ensures { λ r. ⌜ ((t : List ℕ) → Gives (scope .limits) (walked node r) t (now (items .exit)) (exec put (metadata (contextOf scope (now (types .entry)) (length (now (file .entry)))) node (end .0) (counts node rows)) (now (file .entry)) (c .at .0) (state t (now (items .entry)) (counts node rows)))) ⌝ }
+    ensures { λ r. ⌜ Makes scope node rows (λ x. metadata x node (end .0)) (now (file .entry)) (now (types .entry)) (now (items .entry)) (now (items .exit)) (c .at .0) r ⌝ }
 {
     match c.block(file, end, cursor::BAD_NODE) {
         Numbered::Refused(n, p) => RowsResult::Refused(n, p),
