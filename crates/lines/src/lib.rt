@@ -4,9 +4,7 @@ ghost use mathlib.Core.List.{List};
 ghost use Prim.Native.Nat.{ℕ};
 ghost use lib.ListN.{length};
 ghost use Rattle.room.specs.Counts.{Counts};
-ghost use Rattle.room.specs.Room.{Result, counted, kept};
-ghost use Rattle.room.specs.Told.{told};
-ghost use Rattle.lines.specs.Answer.{answer, plainly, nameField, ended, headLine, refusalLine, tooLongLine, closed, refusedBy, fitted, printed, Gives};
+ghost use Rattle.lines.specs.Answer.{answer, nameField, ended, headLine, refusalLine, tooLongLine, closed, refusedBy, fitted, Gives, Settles};
 use room::Written;
 
 // The status, and how many bytes at the start of the buffer are the text.
@@ -97,7 +95,7 @@ pub fn conclude(text: &mut [u8], tail: &[u8], end: usize, status: u64) -> Made
 
 // The answer whose text a call wrote into the buffer, or refused.
 pub fn settle(text: &mut [u8], tail: &[u8], written: Written) -> Made
-    ensures { λ r. ⌜ ((room : ℕ) (x : Result (List ℕ)) → length (now (text .entry)) ≡ room → told written ≡ counted x → now (text .entry) ≡ kept room x → Gives room r (now (text .exit)) (printed room (now (tail .entry)) plainly x)) ⌝ }
+    ensures { λ r. ⌜ Settles written (now (tail .entry)) (now (text .entry)) (now (text .exit)) r ⌝ }
 {
     match written {
         Written::Refused(n, p) => refuse(text, tail, n, p),

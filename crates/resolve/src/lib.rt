@@ -5,8 +5,7 @@ ghost use lib.ListN.{length};
 ghost use Rattle.metadata.specs.Tables.{nodeWidth};
 ghost use Rattle.tree.specs.Rows.{nodesIn, Rising};
 ghost use Rattle.tree.specs.Asking.{answered, nodesLeft, itemsLeft};
-ghost use Rattle.room.specs.Room.{padded};
-ghost use Rattle.resolve.specs.Resolve.{chain, resolveRow, resolve, part, copyInto};
+ghost use Rattle.resolve.specs.Resolve.{chain, resolveRow, resolve, copyInto, copyLeft};
 ghost use Rattle.resolve.specs.Told.{told, Given, Linked};
 use cursor::FilePlace;
 use tree::Read;
@@ -102,7 +101,7 @@ pub fn copy_resource(
     ensures answer { λ r. ⌜ told r ≡ answered (now (nodes .entry)) (now (items .entry)) (now (file .entry)) (copyInto row (length (now (out .entry)))) ⌝ }
     ensures nodes { λ _. ⌜ now (nodes .exit) ≡ nodesLeft (now (nodes .entry)) (now (items .entry)) (now (file .entry)) (copyInto row (length (now (out .entry)))) ⌝ }
     ensures items { λ _. ⌜ now (items .exit) ≡ itemsLeft (now (nodes .entry)) (now (items .entry)) (now (file .entry)) (copyInto row (length (now (out .entry)))) ⌝ }
-    ensures out { λ _. ⌜ now (out .exit) ≡ padded (length (now (out .entry))) (part (now (file .entry)) (answered (now (nodes .entry)) (now (items .entry)) (now (file .entry)) (copyInto row (length (now (out .entry)))))) ⌝ }
+    ensures out { λ _. ⌜ now (out .exit) ≡ copyLeft (now (out .entry)) (now (nodes .entry)) (now (items .entry)) (now (file .entry)) row ⌝ }
 {
     match resolve(file, nodes, items, row) {
         Resolved::Refused(n, p) => {
