@@ -27,9 +27,10 @@ use Rattle.node.specs.declared.Reference.{Reference}
 use Rattle.node.specs.declared.Bounds.{Bounds}
 use Rattle.node.specs.declared.Front.{Front}
 use Rattle.tree.specs.Tree.{folder, detached}
-use Rattle.tree.specs.Reading.{nodeOf, nodesOf, rows}
-use Rattle.tree.proofs.Follow.{ReadAs}
-use Rattle.tree.proofs.EachNode.{OfRow, own-row, by-nodes}
+use Rattle.rows.specs.Rows.{nodeOf, nodesOf}
+use Rattle.file.specs.Reading.{rows}
+use Rattle.file.proofs.Follow.{ReadAs}
+use Rattle.file_laws.proofs.EachNode.{OfRow, own-row, by-nodes}
 use Rattle.account.specs.Account.{sumOver}
 use Rattle.account.specs.ByRows.{metaAt, metaEnd, contentsAt}
 use Rattle.account.proofs.Places.{count}

@@ -11,9 +11,9 @@ use Rattle.cursor.specs.declared.Node.{Node}
 use Rattle.cursor.specs.declared.Item.{Item}
 use Rattle.header.specs.Header.{Header}
 use Rattle.metadata.specs.declared.Limits.{Limits}
-use Rattle.tree.specs.Reading.{rows, readFile}
-use Rattle.tree.specs.Hidden.{isHidden}
-use Rattle.tree.proofs.Rows.{accepted}
+use Rattle.file.specs.Reading.{rows, readFile}
+use Rattle.file.specs.Hidden.{isHidden}
+use Rattle.file.proofs.Rows.{accepted}
 use Rattle.account.specs.Account.{counts, eventsOf, sumOver}
 use Rattle.account.specs.ByRows.{plus, withNode, withItem, folded, none, nothing, inNodes, inItems, together, kindsBy}
 use Rattle.account.specs.declared.Kinds.{Kinds}

@@ -8,15 +8,16 @@ use lib.Dec.{leb}
 use lib.ListN.{length, replicate}
 use borrow.Author.Tests.{le-leb, lt-leb}
 use Rattle.cursor.specs.declared.FilePlace.{FilePlace}
-use Rattle.metadata.specs.Tables.{nodeWidth, itemWidth, limits}
-use Rattle.tree.specs.Reading.{readFile, readOf, nodeTable, itemTable}
-use Rattle.tree.specs.Rows.{nodesIn, itemsIn, nodeAt, nodeFrom}
-use Rattle.tree.specs.Asking.{Result, good, bad, ask, keptNodes, keptItems}
-use Rattle.tree.specs.declared.Summary.{Summary}
-use Rattle.tree.specs.declared.Read.{Read}
-use Rattle.tree.specs.declared.Read.the-variants as read
-use Rattle.tree.proofs.Rows.{node-at, nodes-in-length, Standing, standing}
-use Rattle.tree.proofs.Exits.{says-unread, says-answer}
+use Rattle.rows.specs.Rows.{nodeWidth, itemWidth, nodesIn, itemsIn, nodeAt, nodeFrom}
+use Rattle.metadata.specs.Tables.{limits}
+use Rattle.file.specs.Reading.{readFile, readOf, nodeTable, itemTable}
+use Rattle.file.specs.Asking.{Result, good, bad, ask, keptNodes, keptItems}
+use Rattle.file.specs.declared.Summary.{Summary}
+use Rattle.file.specs.declared.Read.{Read}
+use Rattle.file.specs.declared.Read.the-variants as read
+use Rattle.rows.proofs.Rows.{node-at, nodes-in-length}
+use Rattle.file.proofs.Rows.{Standing, standing}
+use Rattle.file.proofs.Exits.{says-unread, says-answer}
 use Rattle.account.specs.Account.{kindsOf, counts, eventsOf}
 use Rattle.account.specs.ByRows.{Inside, NodesInside, kindsBy}
 use Rattle.account.specs.Totals.{mostFiles, added, refusedOne, oneMore, allowed, totalsLeft}

@@ -4,8 +4,7 @@ use mathlib.Core.Path.{_≡_, refl, sym, ap, _∙_}
 use mathlib.Core.List.{List}
 use Prim.Native.Nat.{ℕ, suc, _+_, _*_, _-_, _≤_, _<_}
 use native.Mathlib.Omega.{arith}
-use Rattle.metadata.specs.Tables.{nodeWidth, itemWidth}
-use Rattle.tree.specs.Rows.{rowsFrom, nodeFrom, itemFrom, nodesIn, itemsIn}
+use Rattle.rows.specs.Rows.{nodeWidth, itemWidth, rowsFrom, nodeFrom, itemFrom, nodesIn, itemsIn}
 use Rattle.account.specs.ByRows.{withNode, withItem, folded, none, nothing, inNodes, inItems}
 use Rattle.account.specs.declared.Frames.{Frames}
 use Rattle.account.specs.declared.Data.{Data}

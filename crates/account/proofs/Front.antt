@@ -27,7 +27,7 @@ use Rattle.node.specs.declared.Head.{Head}
 use Rattle.node.specs.declared.Front.{Front}
 use Rattle.node.proofs.Uses.{head-uses, unpackers-use, reference-uses}
 use Rattle.node.proofs.Ends.{unpackers-on, head-inside}
-use Rattle.tree.specs.Hidden.{isHidden}
+use Rattle.file.specs.Hidden.{isHidden}
 use Rattle.account.specs.Account.{kindOf}
 use Rattle.account.specs.ByRows.{metaAt, metaEnd}
 use Rattle.account.proofs.Places.{count}

@@ -8,7 +8,7 @@ use borrow.Author.Tests.{eq-eqb, ne-eqb}
 use Rattle.cursor.specs.Rows.{nodeFrame, metaFrame, inlineSize}
 use Rattle.cursor.specs.declared.Node.{Node}
 use Rattle.cursor.specs.declared.Item.{Item}
-use Rattle.tree.specs.Hidden.{isHidden}
+use Rattle.file.specs.Hidden.{isHidden}
 use Rattle.account.specs.ByRows.{plus, behind, spanned, numberAt, metaAt, metaEnd, contentsAt, withNode, withItem, inNodes, inItems, together, kindsBy}
 use Rattle.account.specs.declared.Kinds.{Kinds}
 use Rattle.account.specs.declared.Frames.{Frames}

@@ -15,10 +15,11 @@ use Rattle.machine.proofs.Wp.{All}
 use Rattle.header.specs.Header.{Header, header}
 use Rattle.metadata.specs.declared.Limits.{Limits}
 use Rattle.metadata.proofs.Ends.{Nothing, Inside}
-use Rattle.tree.specs.Reading.{itemsOf, rows, readFile}
-use Rattle.tree.specs.Hidden.{isHidden}
-use Rattle.tree.proofs.Follow.{read-back}
-use Rattle.tree.proofs.Shown.{header-of, log-inside}
+use Rattle.rows.specs.Rows.{itemsOf}
+use Rattle.file.specs.Reading.{rows, readFile}
+use Rattle.file.specs.Hidden.{isHidden}
+use Rattle.file.proofs.Follow.{read-back}
+use Rattle.file.proofs.Shown.{header-of, log-inside}
 use Rattle.account.specs.Account.{kind, size, placesOf, counts, eventsOf, sumOver}
 use Rattle.account.specs.ByRows.{metaAt, metaEnd, contentsAt}
 use Rattle.account.specs.declared.Kinds.{Kinds}

@@ -13,9 +13,8 @@ use Rattle.cursor.specs.Leaves.{number}
 use Rattle.cursor.specs.declared.Node.{Node}
 use Rattle.cursor.specs.declared.Item.{Item}
 use Rattle.cursor.specs.Told.{Readable}
-use Rattle.metadata.specs.Tables.{nodeWidth}
-use Rattle.tree.specs.Hidden.{isHidden}
-use Rattle.tree.specs.Rows.{nodeFrom}
+use Rattle.rows.specs.Rows.{nodeWidth, nodeFrom}
+use Rattle.file.specs.Hidden.{isHidden}
 use Rattle.account.specs.declared.Kinds.{Kinds}
 use Rattle.account.specs.declared.Frames.{Frames}
 use Rattle.account.specs.declared.Data.{Data}

@@ -7,8 +7,7 @@ ghost use Rattle.cursor.specs.Rows.{Frame, inlineSize};
 ghost use Rattle.cursor.specs.Refusals.{cutShort};
 ghost use Rattle.cursor.specs.Leaves.{number};
 ghost use Rattle.cursor.specs.Told.{Readable};
-ghost use Rattle.metadata.specs.Tables.{itemWidth};
-ghost use Rattle.tree.specs.Rows.{nodesIn, itemsIn};
+ghost use Rattle.rows.specs.Rows.{itemWidth, nodesIn, itemsIn};
 ghost use Rattle.account.specs.ByRows.{behind, spanned, metaAt, contentsAt, withNode, inNodes, withItem, inItems, together, kindsBy, Inside, NodesInside};
 ghost use Rattle.account.specs.Totals.{plusKinds, added, refusedOne};
 ghost use Rattle.account.specs.Told.{told, totalsIn, answer, totalsAfter, nodesAfter, itemsAfter};
@@ -17,7 +16,7 @@ use cursor::FilePlace;
 use cursor::Item;
 use cursor::Node;
 use cursor::Numbered;
-use tree::Read;
+use file::Read;
 
 mod marks;
 
@@ -163,7 +162,7 @@ fn in_nodes(file: &[u8], nodes: &[u64], count: usize) -> Frames
     };
     let mut i = 0;
     while i < count {
-        sum = with_node(sum, file, tree::node_at(nodes, i));
+        sum = with_node(sum, file, rows::node_at(nodes, i));
         i = i + 1;
     }
     sum
@@ -198,7 +197,7 @@ fn in_items(items: &[u64], count: usize) -> Data
     };
     let mut i = 0;
     while i < count {
-        sum = with_item(sum, tree::item_at(items, i));
+        sum = with_item(sum, rows::item_at(items, i));
         i = i + 1;
     }
     sum
@@ -306,10 +305,10 @@ pub fn account(file: &[u8], nodes: &mut [u64], items: &mut [u64], totals: Totals
     ensures items { λ _. ⌜ now (items .exit) ≡ itemsAfter totals (now (nodes .entry)) (now (items .entry)) (now (file .entry)) ⌝ }
 {
     if MOST_FILES <= totals.files {
-        tree::clear_all(nodes, items);
+        rows::clear_all(nodes, items);
         return Accounted::Refused(cursor::TOO_MANY_FILES, 0, totals);
     }
-    match tree::read_file(file, nodes, items) {
+    match file::read_file(file, nodes, items) {
         Read::Refused(n, p) => {
             let left = add_refused(totals);
             Accounted::Refused(n, p.0, left)

@@ -2,10 +2,9 @@
 ghost use mathlib.Core.Path.{_≡_};
 ghost use Prim.Native.Nat.{_*_, _≤_, min};
 ghost use lib.ListN.{length};
-ghost use Rattle.metadata.specs.Tables.{itemWidth};
+ghost use Rattle.rows.specs.Rows.{itemWidth, nodesIn, itemsIn};
 ghost use Rattle.room.specs.Room.{counted, kept};
 ghost use Rattle.room.specs.Told.{told};
-ghost use Rattle.tree.specs.Rows.{nodesIn, itemsIn};
 ghost use Rattle.account.specs.ByRows.{folded, Inside, NodesInside};
 ghost use Rattle.account.specs.ByPlace.{overNode, overItem, kindByRows};
 ghost use Rattle.account.specs.Marks.{marked, nodesMarked, itemsMarked, Shows, Becomes, spanned};
@@ -16,8 +15,8 @@ use crate::meta_at;
 use cursor::FilePlace;
 use cursor::Item;
 use cursor::Node;
+use file::Read;
 use room::Written;
-use tree::Read;
 
 // The nine kinds.
 pub const OF_HEADER: u8 = 0;
@@ -99,7 +98,7 @@ fn mark_nodes(marks: &mut [u8], file: &[u8], nodes: &[u64], count: usize)
 {
     let mut i = 0;
     while i < count {
-        mark_node(marks, file, tree::node_at(nodes, i));
+        mark_node(marks, file, rows::node_at(nodes, i));
         i = i + 1;
     }
 }
@@ -111,7 +110,7 @@ fn mark_items(marks: &mut [u8], items: &[u64], count: usize)
 {
     let mut i = 0;
     while i < count {
-        mark_item(marks, tree::item_at(items, i));
+        mark_item(marks, rows::item_at(items, i));
         i = i + 1;
     }
 }
@@ -142,7 +141,7 @@ pub fn mark(file: &[u8], nodes: &mut [u64], items: &mut [u64], marks: &mut [u8])
     ensures items { λ _. ⌜ now (items .exit) ≡ itemsMarked (now (nodes .entry)) (now (items .entry)) (now (file .entry)) (length (now (marks .entry))) ⌝ }
     ensures marks { λ _. ⌜ now (marks .exit) ≡ kept (length (now (marks .entry))) (marked (now (nodes .entry)) (now (items .entry)) (now (file .entry)) (length (now (marks .entry)))) ⌝ }
 {
-    match tree::read_file(file, nodes, items) {
+    match file::read_file(file, nodes, items) {
         Read::Refused(n, p) => {
             room::clear_bytes(marks);
             Written::Refused(n, p.0)
@@ -150,7 +149,7 @@ pub fn mark(file: &[u8], nodes: &mut [u64], items: &mut [u64], marks: &mut [u8])
         Read::Is(s) => {
             let size = file.len();
             if marks.len() < size {
-                tree::clear_all(nodes, items);
+                rows::clear_all(nodes, items);
                 room::clear_bytes(marks);
                 return Written::Refused(cursor::NO_ROOM, 0);
             }

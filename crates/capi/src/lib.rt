@@ -16,7 +16,7 @@ pub extern "C" fn xmf_read_tree(
 )
     ensures { λ _. ⌜ Leaves readTree (now (file .entry)) (now (nodes .entry) ∷ now (items .entry) ∷ []) (now (nodes .exit) ∷ now (items .exit) ∷ []) (now (answer .entry)) (now (answer .exit)) ⌝ }
 {
-    words::put_tree(answer, tree::read_tree(file, nodes, items));
+    words::put_tree(answer, file::read_tree(file, nodes, items));
 }
 
 // Finds the nearest item of a field, from a node row: of the standard number (kind 0), or of the custom name (any other kind).

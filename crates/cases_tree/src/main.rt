@@ -4,8 +4,8 @@
 // or a word that was not lent is no longer 7.
 ghost use Prim.Native.Nat.{_≤_};
 ghost use lib.ListN.{length};
+use file::Answer;
 use libc::STDIN_FILENO;
-use tree::Answer;
 
 // Puts a version, which is in hundredths, as `1.01`.
 fn put_version(out: &mut [u8], at: usize, version: u64) -> usize {
@@ -74,7 +74,7 @@ fn show_tree(
 fn read(file: &[u8], nodes: &mut [u64], n: usize, items: &mut [u64], m: usize) -> Answer
     requires { ⌜ (n ≤ length (now nodes)) × (m ≤ length (now items)) ⌝ }
 {
-    tree::read_tree(file, &mut nodes[0..n], &mut items[0..m])
+    file::read_tree(file, &mut nodes[0..n], &mut items[0..m])
 }
 
 // Runs one case over these buffers and writes the answer; answers whether the line is a case.

@@ -5,7 +5,7 @@ use mathlib.Core.List.{List, _∷_, _++_}
 use Prim.Native.Nat.{ℕ}
 use lib.Dec.{eqb}
 use lib.ListN.{length}
-use Rattle.tree.specs.Asking.{Counts, counts, ask}
+use Rattle.file.specs.Asking.{Counts, counts, ask}
 use Rattle.sheet.specs.Sheet.{tabbed, number, versionText}
 use Rattle.mobile.specs.Mobile.{mobile}
 use Rattle.lines.specs.Answer.{Answer, answer, plainly, ended, printed, reads}

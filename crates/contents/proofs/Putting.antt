@@ -11,8 +11,7 @@ use lib.ListN.{length, take, drop, length-append}
 use borrow.Author.Tests.{eq-eqb, ne-eqb, le-leb, lt-leb, lt-ltb, le-ltb}
 use Rattle.cursor.specs.Vlq.{part, from, least, vlq, joined, sized}
 use Rattle.cursor.specs.declared.Item.{Item}
-use Rattle.metadata.specs.Tables.{itemWidth}
-use Rattle.tree.specs.Rows.{itemFrom, ItemIn, ItemRows}
+use Rattle.rows.specs.Rows.{itemWidth, itemFrom, ItemIn, ItemRows}
 use Rattle.title.specs.Description.{Content, content, titled}
 use Rattle.title.specs.Text.{further, fieldText, itemText, universalText, versionText, contentText, itemsText}
 use Rattle.cursor.proofs.Least.{vlq-length}

@@ -5,8 +5,7 @@ use mathlib.Core.List.{List, [], _∷_}
 use Prim.Native.Nat.{ℕ, zero, suc, _+_, _-_, _*_}
 use lib.Dec.{eqb, leb}
 use Rattle.cursor.specs.Vlq.{joined}
-use Rattle.metadata.specs.Tables.{itemWidth}
-use Rattle.tree.specs.Rows.{itemFrom}
+use Rattle.rows.specs.Rows.{itemWidth, itemFrom}
 use Rattle.title.specs.Description.{Content, content, titled}
 use Rattle.title.specs.Text.{further, itemText, contentText}
 

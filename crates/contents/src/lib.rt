@@ -4,8 +4,7 @@ ghost use mathlib.Core.List.{List, _∷_, []};
 ghost use Prim.Native.Nat.{ℕ, suc, _≤_, _<_, _*_, _+_, _-_, min};
 ghost use lib.ListN.{length};
 ghost use Rattle.cursor.specs.Vlq.{vlq, joined, sized};
-ghost use Rattle.metadata.specs.Tables.{itemWidth};
-ghost use Rattle.tree.specs.Rows.{itemFrom, ItemIn, ItemRows};
+ghost use Rattle.rows.specs.Rows.{itemWidth, itemFrom, ItemIn, ItemRows};
 ghost use Rattle.title.specs.Description.{content, titled};
 ghost use Rattle.title.specs.Text as text;
 ghost use Rattle.title.specs.Text.{fieldText, itemText, contentText, itemsText};
@@ -44,7 +43,7 @@ fn put_content(out: &mut [u8], to: usize, items: &[u64], k: usize, bytes: &[u8])
     requires { ⌜ k * itemWidth + itemWidth ≤ length (now items) ⌝ }
     ensures { λ r. ⌜ ((f : List ℕ) → Counts (now (out .entry)) (now (out .exit)) to (contentText (titled (now (bytes .entry)) (content f (itemFrom (now (items .entry)) (k * itemWidth))))) r) ⌝ }
 {
-    let item = tree::item_at(items, k);
+    let item = rows::item_at(items, k);
     if item.version == 0 {
         return put_universal(out, to, item.format, bytes);
     }
@@ -64,7 +63,7 @@ fn put_content_at(
     requires { ⌜ (k * itemWidth + itemWidth ≤ length (now items)) × ItemIn (length (now file)) (itemFrom (now items) (k * itemWidth)) ⌝ }
     ensures { λ r. ⌜ Counts (now (out .entry)) (now (out .exit)) to (contentText (contentAt (now (file .entry)) row (now (title .entry)) (now (items .entry)) k)) r ⌝ }
 {
-    let item = tree::item_at(items, k);
+    let item = rows::item_at(items, k);
     if k == row {
         return put_content(out, to, items, k, title);
     }
@@ -94,7 +93,7 @@ fn further(items: &[u64], first: usize, end: usize) -> u64
 {
     let mut k = first;
     while k < end {
-        if tree::item_at(items, k).version <= 1 {
+        if rows::item_at(items, k).version <= 1 {
             return (k - first) as u64;
         }
         k = k + 1;
@@ -107,7 +106,7 @@ fn put_start(out: &mut [u8], to: usize, file: &[u8], items: &[u64], k: usize, en
     requires { ⌜ (k < end) × (end * itemWidth ≤ length (now items)) × ItemIn (length (now file)) (itemFrom (now items) (k * itemWidth)) ⌝ }
     ensures { λ r. ⌜ ((row : ℕ) (title : List ℕ) → Counts (now (out .entry)) (now (out .exit)) to (itemText (contentAt (now (file .entry)) row title (now (items .entry)) k) (suc (text.further (contentsFrom (now (file .entry)) row title (now (items .entry)) (k + 1) (end - (k + 1)))))) r) ⌝ }
 {
-    let item = tree::item_at(items, k);
+    let item = rows::item_at(items, k);
     let a = put_field(out, to, file, item);
     if item.version == 0 {
         return room::put_number(out, a, 0);
@@ -129,7 +128,7 @@ fn put_item(
     requires { ⌜ (k < end) × (end * itemWidth ≤ length (now items)) × ItemIn (length (now file)) (itemFrom (now items) (k * itemWidth)) ⌝ }
     ensures { λ r. ⌜ Counts (now (out .entry)) (now (out .exit)) to (rowText (now (file .entry)) row (now (title .entry)) (now (items .entry)) k end) r ⌝ }
 {
-    if tree::item_at(items, k).version <= 1 {
+    if rows::item_at(items, k).version <= 1 {
         let a = put_start(out, to, file, items, k, end);
         return put_content_at(out, a, file, items, k, row, title);
     }
@@ -191,7 +190,7 @@ fn measure_content_at(to: usize, items: &[u64], k: usize, row: usize, size: usiz
     requires { ⌜ k * itemWidth + itemWidth ≤ length (now items) ⌝ }
     ensures { λ r. ⌜ ((f title : List ℕ) → ItemIn (length f) (itemFrom (now (items .entry)) (k * itemWidth)) → size ≡ length title → Counts [] [] to (contentText (contentAt f row title (now (items .entry)) k)) r) ⌝ }
 {
-    let item = tree::item_at(items, k);
+    let item = rows::item_at(items, k);
     if row == k {
         return measure_content(to, item, size);
     }
@@ -203,7 +202,7 @@ fn measure_start(to: usize, items: &[u64], k: usize, end: usize) -> usize
     requires { ⌜ (k < end) × (end * itemWidth ≤ length (now items)) ⌝ }
     ensures { λ r. ⌜ ((f : List ℕ) (row : ℕ) (title : List ℕ) → ItemIn (length f) (itemFrom (now (items .entry)) (k * itemWidth)) → Counts [] [] to (itemText (contentAt f row title (now (items .entry)) k) (suc (text.further (contentsFrom f row title (now (items .entry)) (k + 1) (end - (k + 1)))))) r) ⌝ }
 {
-    let item = tree::item_at(items, k);
+    let item = rows::item_at(items, k);
     let a = measure_field(to, item);
     if item.version == 0 {
         return room::on(a, 1);
@@ -216,7 +215,7 @@ fn measure_item(to: usize, items: &[u64], k: usize, end: usize, row: usize, size
     requires { ⌜ (k < end) × (end * itemWidth ≤ length (now items)) ⌝ }
     ensures { λ r. ⌜ ((f title : List ℕ) → ItemIn (length f) (itemFrom (now (items .entry)) (k * itemWidth)) → size ≡ length title → Counts [] [] to (rowText f row title (now (items .entry)) k end) r) ⌝ }
 {
-    if tree::item_at(items, k).version <= 1 {
+    if rows::item_at(items, k).version <= 1 {
         let a = measure_start(to, items, k, end);
         return measure_content_at(a, items, k, row, size);
     }

@@ -9,7 +9,7 @@ use lib.ListN.{length}
 use Rattle.cursor.specs.Refusals.{noRoom}
 use Rattle.room.specs.Room.{Result, good, bad, padded}
 use Rattle.metadata.specs.Tables.{fullNodes, fullItems, limits}
-use Rattle.tree.specs.Reading.{Reading, readFile}
+use Rattle.file.specs.Reading.{Reading, readFile}
 use Rattle.sheet.specs.Sheet.{tabbed, number, escapedPart}
 use Rattle.lines.specs.declared.Made.{Made}
 

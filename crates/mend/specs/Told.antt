@@ -11,7 +11,7 @@ use Rattle.header.specs.Types.{typesOf, mostTypes}
 use Rattle.header.specs.Told.{editionOf}
 use Rattle.room.specs.Room.{Result, good, bad, kept}
 use Rattle.metadata.specs.Tables.{limits}
-use Rattle.tree.specs.Asking.{writtenNodes, writtenItems}
+use Rattle.file.specs.Asking.{writtenNodes, writtenItems}
 use Rattle.mend.specs.Fields as spec
 use Rattle.mend.specs.Fields.{width}
 use Rattle.mend.specs.Mend.{Mended, setTo, bothLines, fitting, mend}

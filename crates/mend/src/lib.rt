@@ -12,19 +12,19 @@ ghost use Rattle.room.specs.Counts.{Counts};
 ghost use Rattle.mend.specs.Fields.{numberField, fields};
 ghost use Rattle.room.specs.Room.{bad, padded, kept};
 ghost use Rattle.metadata.specs.Tables.{limits};
-ghost use Rattle.tree.specs.Reading.{readFile};
-ghost use Rattle.tree.specs.Asking.{nodesWritten, itemsWritten};
+ghost use Rattle.file.specs.Reading.{readFile};
+ghost use Rattle.file.specs.Asking.{nodesWritten, itemsWritten};
 ghost use Rattle.mend.specs.Mend.{numberAt, tabbed, line, bothLines, setTo, mended, accepted};
 ghost use Rattle.mend.specs.Told.{fieldOf, fieldTold, fieldsOf, fieldsTold, FewTypes, FieldsIn, soundFor, told, sizesOf, copyIn, linesIn, asked, Ends, Set};
 use cursor::Cursor;
 use cursor::FilePlace;
 use cursor::Numbered;
+use file::Read;
 use header::Edition;
 use header::EditionResult;
 use header::Extent;
 use header::Header;
 use header::Typed;
-use tree::Read;
 
 // A number of the header, with its place and the place after it.
 pub struct Field {
@@ -233,7 +233,7 @@ fn no_room(nodes: &mut [u64], items: &mut [u64], copy: &mut [u8], lines: &mut [u
     ensures copy { λ _. ⌜ now (copy .exit) ≡ replicate (length (now (copy .entry))) 0 ⌝ }
     ensures lines { λ _. ⌜ now (lines .exit) ≡ replicate (length (now (lines .entry))) 0 ⌝ }
 {
-    tree::clear_all(nodes, items);
+    rows::clear_all(nodes, items);
     room::clear_bytes(copy);
     room::clear_bytes(lines);
     Mending::Refused(cursor::NO_ROOM, 0)
@@ -288,7 +288,7 @@ fn refuse_unchanged(
 {
     room::clear_bytes(copy);
     room::clear_bytes(lines);
-    match tree::read_file(file, nodes, items) {
+    match file::read_file(file, nodes, items) {
         Read::Refused(n, p) => Mending::Refused(n, p.0),
         Read::Is(s) => Mending::Refused(s.version, 0),
     }
@@ -332,7 +332,7 @@ pub fn mend(
                 types: w.types,
                 extent,
             };
-            match tree::read_behind(file, &types, nodes, items, h) {
+            match file::read_behind(file, &types, nodes, items, h) {
                 Read::Refused(m, q) => refuse_unchanged(file, nodes, items, copy, lines),
                 Read::Is(s) => write_mended(file, nodes, items, copy, lines, w, last),
             }

@@ -11,7 +11,8 @@ use Rattle.cursor.specs.Leaves.{block}
 use Rattle.cursor.specs.Leaves as leaves
 use Rattle.cursor.specs.Told.{Readable}
 use Rattle.header.specs.Types.{typesOf}
-use Rattle.metadata.specs.Tables.{State, state, itemWidth}
+use Rattle.metadata.specs.Tables.{State, state}
+use Rattle.rows.specs.Rows.{itemWidth}
 use Rattle.metadata.specs.Metadata.{Context, itemFrame}
 use Rattle.metadata.specs.declared.Limits.{Limits}
 use Rattle.metadata.specs.declared.Made.{Made}

@@ -1,12 +1,11 @@
 // Metadata: the items of a node, and their rows in the item table.
 ghost use mathlib.Core.Path.{_≡_};
 ghost use mathlib.Core.List.{List};
-ghost use Prim.Native.Nat.{ℕ, _≤_, _<_, _+_, _*_};
+ghost use Prim.Native.Nat.{ℕ, _≤_, _<_, _+_};
 ghost use lib.ListN.{length};
-ghost use lib.Seq.{sets};
 ghost use Rattle.machine.specs.Machine.{run, exec, times};
 ghost use Rattle.cursor.specs.Told.{Readable};
-ghost use Rattle.metadata.specs.Tables.{itemWidth, itemWords, put, state};
+ghost use Rattle.metadata.specs.Tables.{put, state};
 ghost use Rattle.metadata.specs.Metadata.{field, contents, itemFrame, rowOf, universal, version, rowsFor, item, metaItems, metadata};
 ghost use Rattle.metadata.specs.Told.{ItemRoom, Room, contextOf, counts, walked, fieldTold, contentsTold, itemTold, CommonTold, Gives};
 use cursor::Cursor;
@@ -90,26 +89,6 @@ pub enum RowsResult {
 pub enum Walked {
     Done(Made, Cursor),
     Refused(u64, FilePlace),
-}
-
-// Stores an item row behind the `made` rows that are there.
-fn put_item(items: &mut [u64], made: usize, row: Item)
-    requires { ⌜ made * itemWidth + itemWidth ≤ length (now items) ⌝ }
-    ensures { λ _. ⌜ now (items .exit) ≡ sets (now (items .entry)) (made * itemWidth) (itemWords row) ⌝ }
-{
-    let words = [
-        row.node,
-        row.item,
-        row.kind,
-        row.field,
-        row.nameLength,
-        row.version,
-        row.declared,
-        row.format,
-        row.place,
-        row.size,
-    ];
-    room::store(items, made * cursor::ITEM_WIDTH, &words);
 }
 
 // The field here: 0 and a standard number, or an XString, which is a custom name.
@@ -234,7 +213,7 @@ fn read_universal(
                 Numbered::Is(format, e) => {
                     let data = e.at;
                     let made = rows + 1;
-                    put_item(items, rows, row_of(l, 0, 0, format, data, stop.0 - data.0));
+                    rows::put_item(items, rows, row_of(l, 0, 0, format, data, stop.0 - data.0));
                     RowsResult::Done(made, after)
                 }
             }
@@ -272,7 +251,7 @@ fn read_version(
                     let data = e.at;
                     let made = rows + 1;
                     let number = made - before;
-                    put_item(
+                    rows::put_item(
                         items,
                         rows,
                         row_of(l, number, of, format, data, size as usize),
@@ -409,7 +388,7 @@ fn read_item(
             };
             let data = c.on(5);
             let made = rows + 1;
-            put_item(
+            rows::put_item(
                 items,
                 rows,
                 row_of(l, 0, 0, format, data.at, size as usize - 1),
@@ -466,7 +445,7 @@ fn read_items(
 }
 
 // The metadata of a node whose header ends at `end`: a length, and items end to end. After a refusal nothing is said of the item table, which may
-// hold some of the rows: `tree::read_file` clears it then.
+// hold some of the rows: `file::read_file` clears it then.
 pub fn read_metadata(
     c: Cursor,
     file: &[u8],

@@ -9,15 +9,15 @@ use borrow.Author.Tests.{not-true, not-false}
 use Rattle.cursor.specs.declared.Node.{Node}
 use Rattle.cursor.specs.declared.Item.{Item}
 use Rattle.header.specs.Header.{Header}
-use Rattle.metadata.specs.Tables.{itemWidth}
-use Rattle.tree.specs.Reading.{Reading, summary, nodeTable, itemTable}
-use Rattle.tree.specs.Rows.{nodesIn, itemsIn, itemFrom, itemAt}
-use Rattle.tree.specs.Asking.{good}
-use Rattle.tree.specs.Own.{those, part}
-use Rattle.tree.specs.declared.Summary.{Summary}
-use Rattle.tree.proofs.Rows.{item-at, items-in-length, Standing}
-use Rattle.tree.proofs.Exits.{Says, says-answer}
-use Rattle.tree.proofs.Own.{part-all}
+use Rattle.rows.specs.Rows.{itemWidth, nodesIn, itemsIn, itemFrom, itemAt}
+use Rattle.file.specs.Reading.{Reading, summary, nodeTable, itemTable}
+use Rattle.file.specs.Asking.{good}
+use Rattle.file.specs.Own.{those, part}
+use Rattle.file.specs.declared.Summary.{Summary}
+use Rattle.rows.proofs.Rows.{item-at, items-in-length}
+use Rattle.file.proofs.Rows.{Standing}
+use Rattle.file.proofs.Exits.{Says, says-answer}
+use Rattle.file.proofs.Own.{part-all}
 use Rattle.description.specs.Row.{isField}
 use Rattle.mobile.specs.Mobile.{all, isEmpty, rightEdition, filesOnly, plainReferences, noUnpackers, isNeed, areNeeds, isShort, isSmall, smallFields, check, verdict, mobile}
 use Rattle.mobile.specs.Pass.{children, oneTuneOf, tuneNeedsOf, verdictBy}

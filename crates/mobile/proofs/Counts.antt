@@ -11,7 +11,7 @@ use borrow.Author.Tests.{ne-eqb, lt-leb}
 use Rattle.cursor.specs.declared.Node.{Node}
 use Rattle.cursor.specs.declared.Item.{Item}
 use Rattle.header.specs.Header.{Header}
-use Rattle.tree.specs.Own.{itemsOf, those, own}
+use Rattle.file.specs.Own.{itemsOf, those, own}
 use Rattle.description.specs.Row.{isField}
 use Rattle.mobile.specs.Mobile.{all, isEmpty, roleOf, isTune, isInstruments, isOther, rowsFrom, childrenThat, eachTyped, oneTune, areNeeds, tuneNeeds, rightEdition, filesOnly, plainReferences, noUnpackers, smallFields, check, verdict}
 use Rattle.mobile.specs.Pass.{besides, child, childrenFrom, children, oneTuneOf, tuneNeedsOf, verdictBy}

@@ -16,8 +16,8 @@ use Rattle.cursor.specs.declared.Item.{Item}
 use Rattle.cursor.proofs.Leaves.{number-same}
 use Rattle.machine.proofs.Agree.{Agree}
 use Rattle.header.specs.Header.{Header}
-use Rattle.tree.specs.Rows.{itemAt}
-use Rattle.tree.specs.Own.{Numbered, itemsOf, numbered, those, isOwn, own}
+use Rattle.rows.specs.Rows.{itemAt}
+use Rattle.file.specs.Own.{Numbered, itemsOf, numbered, those, isOwn, own}
 use Rattle.description.specs.Row.{isField, isBinary}
 use Rattle.description.proofs.Tests.{field-is}
 use Rattle.description.proofs.Depends.{readable-same}

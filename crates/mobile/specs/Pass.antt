@@ -8,7 +8,7 @@ use lib.ListN.{drop}
 use Rattle.cursor.specs.declared.Node.{Node}
 use Rattle.cursor.specs.declared.Item.{Item}
 use Rattle.header.specs.Header.{Header}
-use Rattle.tree.specs.Own.{itemsOf, those, own}
+use Rattle.file.specs.Own.{itemsOf, those, own}
 use Rattle.description.specs.Row.{isField}
 use Rattle.mobile.specs.Mobile.{roleOf, rightEdition, filesOnly, plainReferences, noUnpackers, areNeeds, smallFields, check}
 use Rattle.mobile.specs.declared.Role.{Role}

@@ -486,7 +486,7 @@ fn row_of(
     }
 }
 
-// A node up to its contents. After a refusal nothing is said of the item table, which may hold some of the rows: `tree::read_file` clears it then.
+// A node up to its contents. After a refusal nothing is said of the item table, which may hold some of the rows: `file::read_file` clears it then.
 pub fn read_front(
     c: Cursor,
     file: &[u8],

@@ -6,7 +6,7 @@ ghost use Rattle.room.specs.Counts.{Counts};
 ghost use Rattle.lines.specs.Answer.{reads};
 ghost use Rattle.notes.specs.Safe.{isSafe, safeSize, safeText};
 ghost use Rattle.notes.specs.Changes.{rowText, titleField, changesText};
-use tree::Read;
+use file::Read;
 use unicode::Character;
 
 // Whether a character does nothing but stand where it is: no control character, not U+2028 to U+202E, not U+2066 to U+2069.
@@ -91,7 +91,7 @@ fn put_row_text(out: &mut [u8], file: &[u8], row: usize) -> usize
 {
     let mut nodes = program::node_table();
     let mut items = program::item_table();
-    match tree::read_file(file, &mut nodes, &mut items) {
+    match file::read_file(file, &mut nodes, &mut items) {
         Read::Refused(n, p) => 0,
         Read::Is(s) => {
             if s.items <= row {
@@ -100,7 +100,7 @@ fn put_row_text(out: &mut [u8], file: &[u8], row: usize) -> usize
             if retitle::is_no_title(&items, row) {
                 return 0;
             }
-            sheet::put_text(out, 0, file, tree::item_at(&items, row))
+            sheet::put_text(out, 0, file, rows::item_at(&items, row))
         }
     }
 }

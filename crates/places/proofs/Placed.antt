@@ -8,8 +8,8 @@ use Rattle.cursor.specs.Vlq.{part}
 use Rattle.cursor.specs.declared.FilePlace.{FilePlace}
 use Rattle.metadata.specs.Tables.{fullNodes, fullItems, limits}
 use Rattle.room.specs.Room.{good, bad}
-use Rattle.tree.specs.Reading.{readFile}
-use Rattle.tree.specs.Asking.{ask}
+use Rattle.file.specs.Reading.{readFile}
+use Rattle.file.specs.Asking.{ask}
 use Rattle.sheet.specs.Sheet.{number}
 use Rattle.resolve.specs.Resolve.{resolve}
 use Rattle.resolve.specs.Told as resolution

@@ -77,7 +77,7 @@ pub fn make_origin(file: &[u8], row: usize, text: &mut [u8]) -> Made
     match resolve::resolve(file, &mut nodes, &mut items, row) {
         Resolved::Refused(n, p) => refuse(text, b"", n, p),
         Resolved::At(place, size, last, hops) => {
-            let reference = tree::node_at(&nodes, last).reference;
+            let reference = rows::node_at(&nodes, last).reference;
             let end = put_origin(text, place.0, size, last, hops, reference);
             conclude(text, b"", end, 0)
         }

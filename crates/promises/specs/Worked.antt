@@ -13,11 +13,11 @@ use Rattle.metadata.specs.Metadata.{field, contents, itemFrame, universal, decl
 use Rattle.node.specs.Node.{headerLength, head, value, identifier, unpacker, entries, unpackers, resource, nodePlace, uriPlace, target, reference, rest, front}
 use Rattle.tree.specs.Tree as tree
 use Rattle.tree.specs.Tree.{folder, node}
-use Rattle.tree.specs.Reading.{rows, refusal, logged, startsAt, offsetAt, isMissing, outside, partEnd, firstTaken, detachedAt, followRow, follow, reading, readTree, readFile, nodeTable, itemTable}
+use Rattle.file.specs.Reading.{rows, refusal, logged, startsAt, offsetAt, isMissing, outside, partEnd, firstTaken, detachedAt, followRow, follow, reading, readTree, readFile, nodeTable, itemTable}
 use Rattle.cursor.specs.declared.Node.{Node}
-use Rattle.tree.specs.Asking.{Result, good, bad, ask, counts}
-use Rattle.tree.specs.Hidden.{isHidden}
-use Rattle.tree.specs.Own as own
+use Rattle.file.specs.Asking.{Result, good, bad, ask, counts}
+use Rattle.file.specs.Hidden.{isHidden}
+use Rattle.file.specs.Own as own
 use Rattle.find.specs.Find as find
 use Rattle.resolve.specs.Resolve as resolve
 use Rattle.description.specs.Row as row

@@ -7,9 +7,9 @@ use lib.Dec.{ltb, leb, eqb}
 use lib.ListN.{length, take, drop}
 use Rattle.cursor.specs.Refusals.{noSuchRow, endsAtFolder, endsAtUri, tooManyHops, noRoom}
 use Rattle.cursor.specs.declared.Node.{Node}
-use Rattle.tree.specs.Rows.{nodeAt}
-unfoldable pub use Rattle.tree.specs.Rows.{rowStarting}
-use Rattle.tree.specs.Asking.{Asks, Result, good, bad}
+use Rattle.rows.specs.Rows.{nodeAt}
+unfoldable pub use Rattle.rows.specs.Rows.{rowStarting}
+use Rattle.file.specs.Asking.{Asks, Result, good, bad}
 
 -- place and length of the resource, the row whose unpackers apply, the number of references followed
 pub record Resource : Type 0 where

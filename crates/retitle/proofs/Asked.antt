@@ -17,13 +17,13 @@ use Rattle.header.specs.Header.{Header}
 use Rattle.metadata.specs.Tables.{limits}
 use Rattle.metadata.specs.declared.Limits.{Limits}
 use Rattle.room.specs.Room.{Result, good, bad, padded, counted, kept}
-use Rattle.tree.specs.Rows.{itemAt, nodesIn, itemsIn}
-use Rattle.tree.specs.Reading.{rows, readFile, readOf, nodeTable, itemTable}
-use Rattle.tree.specs.Asking.{ask, keptNodes, keptItems, writtenNodes, writtenItems}
-use Rattle.tree.specs.declared.Summary.{Summary}
-use Rattle.tree.specs.declared.Read.{Read}
-use Rattle.tree.specs.declared.Read.the-variants as read
-use Rattle.tree.proofs.Rows.{Standing, ask-refused, refused-nodes, refused-items, ask-is}
+use Rattle.rows.specs.Rows.{itemAt, nodesIn, itemsIn}
+use Rattle.file.specs.Reading.{rows, readFile, readOf, nodeTable, itemTable}
+use Rattle.file.specs.Asking.{ask, keptNodes, keptItems, writtenNodes, writtenItems}
+use Rattle.file.specs.declared.Summary.{Summary}
+use Rattle.file.specs.declared.Read.{Read}
+use Rattle.file.specs.declared.Read.the-variants as read
+use Rattle.file.proofs.Rows.{Standing, ask-refused, refused-nodes, refused-items, ask-is}
 use Rattle.title.specs.Title.{elsewhere, isNoTitle, titledFile, fitting, correctTitle}
 use Rattle.room.specs.Counts.{Counts}
 use Rattle.room.proofs.Counting.{counts-exact}

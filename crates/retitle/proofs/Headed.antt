@@ -16,9 +16,9 @@ use Rattle.header.specs.declared.Header.{Header}
 use Rattle.header.specs.declared.Headed.{Headed}
 use Rattle.header.specs.declared.Headed.the-variants as headed
 use Rattle.metadata.specs.declared.Limits.{Limits}
-use Rattle.tree.specs.Reading.{rows, readFile}
-use Rattle.tree.proofs.Follow.{read-back}
-use Rattle.tree.proofs.Shown.{header-of}
+use Rattle.file.specs.Reading.{rows, readFile}
+use Rattle.file.proofs.Follow.{read-back}
+use Rattle.file.proofs.Shown.{header-of}
 use Rattle.title.specs.Description.{answer, tableText, openingSize, content, shape, titledAt}
 use Rattle.title.specs.Text.{outer, fileOf}
 use Rattle.title.specs.Title.{titledFile}

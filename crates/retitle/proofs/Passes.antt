@@ -11,7 +11,7 @@ use lib.Seq.{drop-cons, drop-length, drop-drop, take-all, getD-set-same, getD-se
 use Rattle.cursor.specs.Vlq.{part, joined}
 use Rattle.cursor.specs.declared.Node.{Node}
 use Rattle.metadata.specs.Tables.{mostNodes}
-use Rattle.tree.specs.Rows.{ItemRows}
+use Rattle.rows.specs.Rows.{ItemRows}
 use Rattle.title.specs.Description.{Content, shape}
 use Rattle.title.specs.Text.{itemsText, nodeText, wholeText}
 use Rattle.title.proofs.Nodes.{whole-length}

@@ -15,9 +15,9 @@ use Rattle.cursor.proofs.Lies.{lies-part}
 use Rattle.header.specs.Types.{Declared}
 use Rattle.metadata.specs.declared.Limits.{Limits}
 use Rattle.metadata.specs.declared.Made.{Made}
-use Rattle.metadata.specs.Tables.{itemWidth}
-use Rattle.tree.specs.Rows.{nodesFrom, itemFrom, itemsFrom, nodesIn, itemsIn, nodeAt, rowsFrom}
-use Rattle.tree.proofs.Rows.{accepted, node-at, item-at, nodes-in-length, items-in-length}
+use Rattle.rows.specs.Rows.{itemWidth, nodesFrom, itemFrom, itemsFrom, nodesIn, itemsIn, nodeAt, rowsFrom}
+use Rattle.file.proofs.Rows.{accepted}
+use Rattle.rows.proofs.Rows.{node-at, item-at, nodes-in-length, items-in-length}
 use Rattle.title.specs.Description.{Content, content, Shape, shape, titled, titledAt}
 use Rattle.title.specs.Text.{nodeText, wholeText, outer}
 use Rattle.title.specs.Title.{elsewhere}

@@ -10,10 +10,9 @@ use lib.ListN.{length}
 use borrow.Author.Tests.{eq-eqb, ne-eqb, le-leb, lt-leb}
 use Rattle.cursor.specs.declared.Node.{Node}
 use Rattle.cursor.specs.declared.Item.{Item}
-use Rattle.metadata.specs.Tables.{nodeWidth, itemWidth}
-use Rattle.tree.specs.Rows.{nodeFrom, nodesFrom, nodesIn, itemFrom, itemsIn, rowsFrom}
-use Rattle.tree.specs.Hidden.{isHidden}
-use Rattle.tree.proofs.Rows.{item-at, items-in-length}
+use Rattle.rows.specs.Rows.{nodeWidth, itemWidth, nodeFrom, nodesFrom, nodesIn, itemFrom, itemsIn, rowsFrom}
+use Rattle.file.specs.Hidden.{isHidden}
+use Rattle.rows.proofs.Rows.{item-at, items-in-length}
 use Rattle.title.specs.Title.{elsewhere, isNoTitle}
 use Rattle.retitle.specs.Stands.{refusalOf}
 use Rattle.retitle.proofs.Rows.{nodes-on}

@@ -6,8 +6,7 @@ use Prim.Native.Nat.{ℕ, zero, suc, _+_, _-_, _*_, _≤_, _<_}
 use native.Mathlib.Omega.{arith}
 use lib.ListN.{length, take, drop, length-append, take-append-drop}
 use Rattle.cursor.specs.Vlq.{joined}
-use Rattle.metadata.specs.Tables.{nodeWidth}
-use Rattle.tree.specs.Rows.{nodeFrom, nodesFrom, rowsFrom}
+use Rattle.rows.specs.Rows.{nodeWidth, nodeFrom, nodesFrom, rowsFrom}
 use Rattle.title.specs.Description.{Content, Shape, shape}
 use Rattle.title.specs.Text.{nodeText, wholeText, outer}
 use Rattle.contents.specs.Contents.{contentAt, contentsFrom}

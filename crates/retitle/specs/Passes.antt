@@ -9,8 +9,8 @@ use lib.Dec.{eqb}
 use lib.ListN.{length, getD, take}
 use Rattle.cursor.specs.Vlq.{part, joined, sized}
 use Rattle.cursor.specs.declared.Node.{Node}
-use Rattle.metadata.specs.Tables.{nodeWidth, mostNodes}
-use Rattle.tree.specs.Rows.{nodeFrom, nodesFrom, ItemRows}
+use Rattle.rows.specs.Rows.{nodeWidth, nodeFrom, nodesFrom, ItemRows}
+use Rattle.metadata.specs.Tables.{mostNodes}
 use Rattle.title.specs.Description.{Content, Shape, shape}
 use Rattle.title.specs.Title.{Bytes}
 use Rattle.title.specs.Text.{itemsText, headerOf, ownText, nodeText, outer}

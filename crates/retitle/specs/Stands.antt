@@ -10,10 +10,10 @@ use Rattle.cursor.specs.Refusals.{noSuchRow, refersElsewhere, notATitle}
 use Rattle.cursor.specs.declared.Node.{Node}
 use Rattle.cursor.specs.declared.Item.{Item}
 use Rattle.header.specs.Header.{Header}
-use Rattle.metadata.specs.Tables.{nodeWidth, itemWidth, mostNodes}
+use Rattle.rows.specs.Rows.{nodeWidth, itemWidth, itemAt, nodesIn, itemsIn}
+use Rattle.metadata.specs.Tables.{mostNodes}
 use Rattle.metadata.specs.declared.Limits.{Limits}
-use Rattle.tree.specs.Rows.{itemAt, nodesIn, itemsIn}
-use Rattle.tree.specs.Reading.{rows, readFile}
+use Rattle.file.specs.Reading.{rows, readFile}
 use Rattle.title.specs.Title.{elsewhere, isNoTitle}
 
 pub record Stands (f nodes items : List ℕ) (count total : ℕ) : Type 0 where

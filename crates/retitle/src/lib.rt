@@ -8,14 +8,14 @@ ghost use lib.ListN.{length, take, drop};
 ghost use Rattle.machine.specs.Machine.{run};
 ghost use Rattle.cursor.specs.Vlq.{part, least, joined, sized};
 ghost use Rattle.header.specs.Header.{Header};
-ghost use Rattle.metadata.specs.Tables.{nodeWidth, itemWidth, mostNodes};
+ghost use Rattle.rows.specs.Rows.{nodeWidth, itemWidth, itemFrom, nodesIn, itemsIn, ItemRows};
+ghost use Rattle.metadata.specs.Tables.{mostNodes};
 ghost use Rattle.metadata.specs.declared.Limits.{Limits};
 ghost use Rattle.room.specs.Room.{counted, kept};
 ghost use Rattle.room.specs.Counts.{Counts};
 ghost use Rattle.room.specs.Told.{told};
-ghost use Rattle.tree.specs.Rows.{itemFrom, nodesIn, itemsIn, ItemRows};
-ghost use Rattle.tree.specs.Reading.{rows, readFile};
-ghost use Rattle.tree.specs.Asking.{answered, nodesWritten, itemsWritten};
+ghost use Rattle.file.specs.Reading.{rows, readFile};
+ghost use Rattle.file.specs.Asking.{answered, nodesWritten, itemsWritten};
 ghost use Rattle.title.specs.Description.{Content, answer, tableText, openingSize, shape};
 ghost use Rattle.title.specs.Text.{itemsText, referenceText, nodeText, headerSize, lengthBytes, startWith, lastBytes, startAt, fileBytes, fileOf};
 ghost use Rattle.title.specs.Title.{elsewhere, isNoTitle, titledFile, correctTitle};
@@ -27,10 +27,10 @@ ghost use Rattle.retitle.specs.Told.{Fills, Wrote, Appends};
 use copies::Packed;
 use cursor::FilePlace;
 use cursor::Node;
+use file::Read;
 use header::Extent;
 use header::Headed;
 use room::Written;
-use tree::Read;
 
 // NodeHeaderLength and NodeLength.
 struct Frame {
@@ -335,7 +335,7 @@ fn measure_tree(
     let mut i = count;
     while 0 < i {
         i = i - 1;
-        let node = tree::node_at(nodes, i);
+        let node = rows::node_at(nodes, i);
         let first = end - node.rows as usize;
         let below = top + node.contained as usize;
         let m = stopped(contents::items_size(items, first, end, row, title.len()));
@@ -384,7 +384,7 @@ fn put_tree(
     let mut first: usize = 0;
     let mut i: usize = 0;
     while i < count {
-        let node = tree::node_at(nodes, i);
+        let node = rows::node_at(nodes, i);
         let end = first + node.rows as usize;
         let size = packed[i];
         let kept = same[i];
@@ -542,7 +542,7 @@ pub fn refers_elsewhere(nodes: &[u64], count: usize) -> bool
 {
     let mut i: usize = 0;
     while i < count {
-        let node = tree::node_at(nodes, i);
+        let node = rows::node_at(nodes, i);
         if node.reference == 2 {
             return true;
         }
@@ -559,7 +559,7 @@ pub fn is_no_title(items: &[u64], row: usize) -> bool
     requires { ⌜ row * itemWidth + itemWidth ≤ length (now items) ⌝ }
     ensures { λ r. ⌜ r ≡ isNoTitle (itemFrom (now (items .entry)) (row * itemWidth)) ⌝ }
 {
-    let item = tree::item_at(items, row);
+    let item = rows::item_at(items, row);
     if item.format % 2 == 1 {
         return true;
     }
@@ -627,21 +627,21 @@ pub fn correct_title(
     ensures items { λ _. ⌜ now (items .exit) ≡ itemsWritten (now (nodes .entry)) (now (items .entry)) (answered (now (nodes .entry)) (now (items .entry)) (now (file .entry)) (correctTitle row (now (title .entry)) (length (now (out .entry))))) ⌝ }
     ensures out { λ _. ⌜ now (out .exit) ≡ kept (length (now (out .entry))) (answered (now (nodes .entry)) (now (items .entry)) (now (file .entry)) (correctTitle row (now (title .entry)) (length (now (out .entry))))) ⌝ }
 {
-    match tree::read_file(file, nodes, items) {
+    match file::read_file(file, nodes, items) {
         Read::Refused(n, p) => {
             room::clear_bytes(out);
             Written::Refused(n, p.0)
         }
         Read::Is(s) => match write_titled(out, file, nodes, items, s.nodes, s.items, row, title) {
             Written::Refused(n, p) => {
-                tree::clear_all(nodes, items);
+                rows::clear_all(nodes, items);
                 room::clear_bytes(out);
                 Written::Refused(n, p)
             }
             Written::Bytes(size) => {
                 room::clear_bytes_from(out, size);
                 let written = &out[..size];
-                tree::read_file(written, nodes, items);
+                file::read_file(written, nodes, items);
                 Written::Bytes(size)
             }
         },

@@ -19,11 +19,12 @@ use Rattle.metadata.specs.Tables.{fullNodes, fullItems, limits}
 use Rattle.metadata.specs.declared.Limits.{Limits}
 use Rattle.room.specs.Room.{Result, good, bad}
 use Rattle.room.specs.Decimal.{decimal}
-use Rattle.tree.specs.Reading.{rows, readFile}
-use Rattle.tree.specs.Rows.{itemAt}
-use Rattle.tree.specs.Asking.{Asks, counts, ask}
-use Rattle.tree.specs.Own.{Numbered}
-use Rattle.tree.specs.Hidden.{isHidden, DifferInPrivate}
+use Rattle.file.specs.Reading.{rows, readFile}
+use Rattle.rows.specs.Rows.{itemAt}
+use Rattle.file.specs.Asking.{Asks, counts, ask}
+use Rattle.file.specs.Own.{Numbered}
+use Rattle.file.specs.Hidden.{isHidden}
+use Rattle.file_laws.specs.Private.{DifferInPrivate}
 use Rattle.find.specs.Find.{Wanted}
 use Rattle.find.specs.Told.{question, wantedOf}
 use Rattle.resolve.specs.Resolve.{resolve}

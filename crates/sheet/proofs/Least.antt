@@ -15,8 +15,8 @@ use Rattle.cursor.specs.Vlq.{part}
 use Rattle.cursor.specs.declared.Item.{Item}
 use Rattle.room.specs.Room.{Result, good, bad}
 use Rattle.room.proofs.Counting.{part-length}
-use Rattle.tree.specs.Rows.{ItemIn}
-use Rattle.tree.specs.Hidden.{isHidden}
+use Rattle.rows.specs.Rows.{ItemIn}
+use Rattle.file.specs.Hidden.{isHidden}
 use Rattle.unicode.specs.Unicode.{bytesOf, bytes16, utf8, first16, chars, bytesAll, unmark, toUtf8}
 use Rattle.unicode.proofs.Walk.{Bytes, write-all}
 use Rattle.unicode.proofs.Sixteen.{short16, long16, form16}

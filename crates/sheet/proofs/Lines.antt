@@ -9,10 +9,9 @@ use lib.ListN.{length, take, drop}
 use borrow.Author.Tests.{eq-eqb, ne-eqb}
 use Rattle.cursor.specs.declared.Node.{Node}
 use Rattle.cursor.specs.declared.Item.{Item}
-use Rattle.metadata.specs.Tables.{nodeWidth, itemWidth}
-use Rattle.tree.specs.Rows.{nodeFrom, itemFrom, nodesFrom, itemsFrom, nodesIn, itemsIn, rowsFrom}
-use Rattle.tree.proofs.Rows.{nodes-in-length, items-in-length}
-use Rattle.tree.specs.Hidden.{isHidden}
+use Rattle.rows.specs.Rows.{nodeWidth, itemWidth, nodeFrom, itemFrom, nodesFrom, itemsFrom, nodesIn, itemsIn, rowsFrom}
+use Rattle.rows.proofs.Rows.{nodes-in-length, items-in-length}
+use Rattle.file.specs.Hidden.{isHidden}
 use Rattle.room.specs.Decimal.{decimal}
 use Rattle.sheet.specs.Sheet.{escapedPart, unicodeText, tabbed, number, versionText, headFields, firstLine, nodeLine, label, textOf, itemLine, visibleLine, nodeLines, itemLines, linesOf, firstLine2, groupLines, lines2Of, linesIn}
 

@@ -8,7 +8,7 @@ use lib.Dec.{ltb, eqb}
 use lib.ListN.{length, getD}
 use Rattle.cursor.specs.Vlq.{part}
 use Rattle.cursor.specs.declared.Item.{Item}
-use Rattle.tree.specs.Hidden.{isHidden}
+use Rattle.file.specs.Hidden.{isHidden}
 use Rattle.room.specs.Counts.{Counts, tooMany}
 use Rattle.sheet.specs.Sheet.{plain, escapedPart}
 

@@ -13,8 +13,8 @@ use Rattle.cursor.specs.Refusals.{noRoom}
 unfoldable pub use Rattle.room.specs.Room.{fitting, counted, kept}
 use Rattle.room.specs.Decimal.{decimal}
 use Rattle.header.specs.Header.{Header}
-use Rattle.tree.specs.Asking.{Asks}
-use Rattle.tree.specs.Hidden.{isHidden}
+use Rattle.file.specs.Asking.{Asks}
+use Rattle.file.specs.Hidden.{isHidden}
 use Rattle.unicode.specs.Unicode.{bytesAll, toUtf8}
 
 -- ---- numbers and bytes

@@ -4,9 +4,8 @@ ghost use mathlib.Core.Bool.{true};
 ghost use mathlib.Core.List.{[]};
 ghost use Prim.Native.Nat.{_≤_, _<_, _*_, _+_, _-_, min};
 ghost use lib.ListN.{length};
-ghost use Rattle.metadata.specs.Tables.{nodeWidth, itemWidth};
-ghost use Rattle.tree.specs.Rows.{itemFrom, nodesIn, itemsFrom, itemsIn, ItemIn, ItemRows};
-ghost use Rattle.tree.specs.Asking.{answered, nodesLeft, itemsLeft};
+ghost use Rattle.rows.specs.Rows.{nodeWidth, itemWidth, itemFrom, nodesIn, itemsFrom, itemsIn, ItemIn, ItemRows};
+ghost use Rattle.file.specs.Asking.{answered, nodesLeft, itemsLeft};
 ghost use Rattle.sheet.specs.Sheet.{hexDigits, plain, hexed, escaped, escapedPart, shown, shownOr, unicodeText, number, versionText, headFields, nodeLine, label, textOf, itemLine, visibleLine, nodeLines, itemLines, groupLines, linesIn, write, write2, writeIn, counted, kept};
 ghost use Rattle.room.specs.Counts.{Counts};
 ghost use Rattle.room.specs.Told.{told};
@@ -14,8 +13,8 @@ ghost use Rattle.unicode.specs.Unicode.{utf8, toUtf8, isGood};
 ghost use Rattle.sheet.specs.Inside.{PlainUpTo, Fills, leastText, leastLine, letter, Letters, lows};
 use cursor::Item;
 use cursor::Node;
+use file::Read;
 use room::Written;
-use tree::Read;
 use unicode::Character;
 
 // Puts a tab and a decimal number.
@@ -165,7 +164,7 @@ fn put_node_lines(out: &mut [u8], to: usize, nodes: &[u64], count: usize) -> usi
     let mut next = to;
     let mut i = 0;
     while i < count {
-        next = put_node_line(out, next, i, tree::node_at(nodes, i));
+        next = put_node_line(out, next, i, rows::node_at(nodes, i));
         i = i + 1;
     }
     next
@@ -312,12 +311,12 @@ pub fn put_item_line(out: &mut [u8], to: usize, file: &[u8], items: &[u64], i: u
     ensures { λ r. ⌜ Counts (now (out .entry)) (now (out .exit)) to (itemLine (now (file .entry)) (itemFrom (now (items .entry)) (i * itemWidth))) r ⌝ }
 {
     let a = room::put_byte(out, to, b'M');
-    let b = put_number(out, a, tree::item_at(items, i).node);
-    let c = put_label(out, b, file, tree::item_at(items, i));
-    let d = put_number(out, c, tree::item_at(items, i).version);
-    let e = put_number(out, d, tree::item_at(items, i).format);
+    let b = put_number(out, a, rows::item_at(items, i).node);
+    let c = put_label(out, b, file, rows::item_at(items, i));
+    let d = put_number(out, c, rows::item_at(items, i).version);
+    let e = put_number(out, d, rows::item_at(items, i).format);
     let f = room::put_byte(out, e, 0x09);
-    let g = put_text(out, f, file, tree::item_at(items, i));
+    let g = put_text(out, f, file, rows::item_at(items, i));
     room::put_byte(out, g, 0x0a)
 }
 
@@ -326,7 +325,7 @@ pub fn put_visible_line(out: &mut [u8], to: usize, file: &[u8], items: &[u64], i
     requires { ⌜ (i * itemWidth + itemWidth ≤ length (now items)) × ItemIn (length (now file)) (itemFrom (now items) (i * itemWidth)) ⌝ }
     ensures { λ r. ⌜ Counts (now (out .entry)) (now (out .exit)) to (visibleLine (now (file .entry)) (itemFrom (now (items .entry)) (i * itemWidth))) r ⌝ }
 {
-    if tree::item_at(items, i).format % 2 == 1 {
+    if rows::item_at(items, i).format % 2 == 1 {
         return to;
     }
     put_item_line(out, to, file, items, i)
@@ -369,7 +368,7 @@ fn put_row_line(out: &mut [u8], to: usize, file: &[u8], items: &[u64], i: usize)
         if out.len() < to {
             return to;
         }
-        if ((out.len() - to) as u64) < least_line(tree::item_at(items, i)) {
+        if ((out.len() - to) as u64) < least_line(rows::item_at(items, i)) {
             return room::TOO_MANY;
         }
     }
@@ -425,7 +424,7 @@ fn put_group_lines(
     let mut i = 0;
     let mut first = 0;
     while i < rows {
-        let row = tree::node_at(nodes, i);
+        let row = rows::node_at(nodes, i);
         let end = rows_end(first, row.rows, contents);
         next = put_node_line(out, next, i, row);
         next = put_item_lines(out, next, file, items, first, end);
@@ -473,7 +472,7 @@ fn write_edition(
     ensures items { λ _. ⌜ now (items .exit) ≡ itemsLeft (now (nodes .entry)) (now (items .entry)) (now (file .entry)) (writeIn second (length (now (sheet .entry)))) ⌝ }
     ensures sheet { λ _. ⌜ now (sheet .exit) ≡ kept (length (now (sheet .entry))) (answered (now (nodes .entry)) (now (items .entry)) (now (file .entry)) (writeIn second (length (now (sheet .entry))))) ⌝ }
 {
-    match tree::read_file(file, nodes, items) {
+    match file::read_file(file, nodes, items) {
         Read::Refused(n, p) => {
             room::clear_bytes(sheet);
             Written::Refused(n, p.0)
@@ -490,7 +489,7 @@ fn write_edition(
                 second,
             );
             if sheet.len() < end {
-                tree::clear_all(nodes, items);
+                rows::clear_all(nodes, items);
                 room::clear_bytes(sheet);
                 return Written::Refused(cursor::NO_ROOM, 0);
             }

@@ -12,10 +12,10 @@ use Rattle.cursor.specs.declared.Node.{Node}
 use Rattle.cursor.specs.declared.Item.{Item}
 use Rattle.header.specs.Header.{Header}
 use Rattle.metadata.specs.declared.Limits.{Limits}
-use Rattle.tree.specs.Rows.{itemAt}
-use Rattle.tree.specs.Reading.{rows, readFile}
-use Rattle.tree.specs.Asking.{Result, good, bad, ask}
-use Rattle.tree.specs.Hidden.{isHidden}
+use Rattle.rows.specs.Rows.{itemAt}
+use Rattle.file.specs.Reading.{rows, readFile}
+use Rattle.file.specs.Asking.{Result, good, bad, ask}
+use Rattle.file.specs.Hidden.{isHidden}
 use Rattle.title.specs.Description.{Content, content, shape, Description, described, titled, titledAt, retitled}
 use Rattle.title.specs.Text.{fileText}
 use Rattle.title.specs.Title.{Bytes, Says, NowhereLonger, elsewhere, isNoTitle, titledFile, fitting, correctTitle}

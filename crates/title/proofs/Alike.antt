@@ -30,8 +30,9 @@ use Rattle.metadata.specs.declared.Limits.{Limits}
 use Rattle.metadata.specs.declared.Contents.the-variants as contents
 use Rattle.metadata.proofs.Ways.{contents-universal, contents-versions, frame-all}
 use Rattle.tree.specs.Tree.{folder, node, tree}
-use Rattle.tree.specs.Hidden.{isHidden, mayDiffer}
-use Rattle.tree.proofs.Demand.{privateData}
+use Rattle.file.specs.Hidden.{isHidden}
+use Rattle.file_laws.specs.Private.{mayDiffer}
+use Rattle.file_laws.proofs.Demand.{privateData}
 use Rattle.title.specs.Description.{Content, content, Shape}
 use Rattle.title.specs.Text.{further, fieldText, itemText, universalText, versionText, contentText, itemsText, headerOf, framed, ownText, nodeText, wholeText, outer}
 use Rattle.node.specs.Node.{inTree, head, unpackers, uriPlace, target, reference, rest, front}

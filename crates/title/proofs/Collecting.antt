@@ -10,7 +10,7 @@ use Rattle.cursor.specs.declared.Node.{Node}
 use Rattle.cursor.specs.declared.Item.{Item}
 use Rattle.cursor.proofs.Quiet.{IgnoresPlain, still, exec-puts}
 use Rattle.cursor.proofs.Post.{Meets, Post}
-use Rattle.tree.specs.Reading.{nodesOf, itemsOf}
+use Rattle.rows.specs.Rows.{nodesOf, itemsOf}
 use Rattle.title.specs.Description.{Content, content, Shape, shape}
 
 pub record Collected : Type 0 where

@@ -20,11 +20,11 @@ use Rattle.machine.proofs.Stable.{Kept}
 use Rattle.header.specs.Header.{Header, header}
 use Rattle.header.proofs.Ends.{header-on}
 use Rattle.metadata.specs.declared.Limits.{Limits}
-use Rattle.tree.specs.Hidden.{mayDiffer, DifferInPrivate}
-use Rattle.tree.specs.Rows.{itemAt}
-use Rattle.tree.specs.Reading.{nodesOf, rows, readFile, context}
-use Rattle.tree.proofs.Follow.{treeOf, read-back}
-use Rattle.tree.proofs.Demand.{privateData, Alike, private-alike, RowAlike, rows-alike, demand3}
+use Rattle.file_laws.specs.Private.{mayDiffer, DifferInPrivate}
+use Rattle.rows.specs.Rows.{itemAt, nodesOf}
+use Rattle.file.specs.Reading.{rows, readFile, context}
+use Rattle.file.proofs.Follow.{treeOf, read-back}
+use Rattle.file_laws.proofs.Demand.{privateData, Alike, private-alike, RowAlike, rows-alike, demand3}
 use Rattle.title.specs.Description.{Content, content, shape, described, titled, titledAt, openingSize, tableText, answer}
 use Rattle.title.specs.Text.{outer, fileOf}
 use Rattle.title.specs.Title.{elsewhere, titledFile}

@@ -15,9 +15,9 @@ use Rattle.machine.proofs.Laws.{rows-on}
 use Rattle.header.specs.Header.{Header, header}
 use Rattle.metadata.specs.declared.Limits.{Limits}
 use Rattle.metadata.specs.declared.Made.{Made}
-use Rattle.tree.specs.Rows.{nodeAt}
-use Rattle.tree.specs.Reading.{nodeOf, nodesOf, itemsOf, good, rows, logged, isMissing, followRow, follow, reading, readTree, readFile}
-use Rattle.tree.proofs.Follow.{target, treeOf, Reached, known, added, followed}
+use Rattle.rows.specs.Rows.{nodeAt, nodeOf, nodesOf, itemsOf}
+use Rattle.file.specs.Reading.{good, rows, logged, isMissing, followRow, follow, reading, readTree, readFile}
+use Rattle.file.proofs.Follow.{target, treeOf, Reached, known, added, followed}
 use Rattle.title.specs.Description.{shape}
 use Rattle.title.specs.Title.{elsewhere}
 use Rattle.title.proofs.Nodes.{AllStay}

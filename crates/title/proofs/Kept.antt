@@ -29,8 +29,8 @@ use Rattle.node.proofs.Uses.{unpackers-use, reference-uses, front-uses}
 use Rattle.node.proofs.Ends.{head-inside}
 use Rattle.tree.specs.Tree as tree
 use Rattle.tree.specs.Tree.{folder}
-use Rattle.tree.specs.Reading.{nodesOf}
-use Rattle.tree.proofs.Demand.{privateData}
+use Rattle.rows.specs.Rows.{nodesOf}
+use Rattle.file_laws.proofs.Demand.{privateData}
 use Rattle.title.specs.Description.{shape, answer, unpackerText}
 use Rattle.title.proofs.UnpackersSay.{unpackers-reread}
 use Rattle.title.proofs.Regions.{all-bytes, Keeping, keep-step, keep-ret, keep-check, keep-place, keep-skip, keep-after}

@@ -29,7 +29,7 @@ use Rattle.node.proofs.Uses.{front-uses}
 use Rattle.node.proofs.Ends.{FrontIn, front-on, inline-fits}
 use Rattle.tree.specs.Tree as tree
 use Rattle.tree.specs.Tree.{folder}
-use Rattle.tree.specs.Reading.{nodesOf, itemsOf}
+use Rattle.rows.specs.Rows.{nodesOf, itemsOf}
 use Rattle.title.specs.Description.{Content, content, Shape, shape}
 use Rattle.title.specs.Text.{headerOf, framed, ownText, nodeText, wholeText, outer}
 use Rattle.title.proofs.Sizes.{header-least, framed-length}

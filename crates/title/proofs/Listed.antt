@@ -9,7 +9,7 @@ use Rattle.cursor.specs.declared.Item.{Item}
 use Rattle.header.specs.Header.{Header}
 use Rattle.room.specs.Room.{Among}
 use Rattle.room.proofs.Listed.{among-if}
-use Rattle.tree.specs.Rows.{itemAt}
+use Rattle.rows.specs.Rows.{itemAt}
 use Rattle.title.specs.Title.{elsewhere, isNoTitle, titledFile, fitting, correctTitle, refusals}
 
 pub title-listed : (i : ℕ) (text : List ℕ) (room : ℕ) (f : List ℕ) (h : Header) (ns : List Node) (is : List Item) → Among refusals (correctTitle i text room f h ns is)

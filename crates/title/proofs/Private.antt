@@ -19,13 +19,14 @@ use Rattle.header.specs.Header.{Header}
 use Rattle.metadata.specs.declared.Limits.{Limits}
 use Rattle.metadata.specs.declared.Made.{Made}
 use Rattle.metadata.proofs.Ends.{Nothing, Inside}
-use Rattle.tree.specs.Hidden.{HiddenData, InlineData, InDetached, InParts, Private, DifferInPrivate}
-use Rattle.tree.specs.Reading.{nodesOf, itemsOf, context}
+use Rattle.file_laws.specs.Private.{HiddenData, InlineData, InDetached, InParts, Private, DifferInPrivate}
+use Rattle.rows.specs.Rows.{nodesOf, itemsOf}
+use Rattle.file.specs.Reading.{context}
 use Rattle.tree.proofs.Ends.{tree-inside}
 use Rattle.tree.proofs.Nodes.{inline-is}
 use Rattle.tree.proofs.Starts.{tree-attached}
-use Rattle.tree.proofs.Follow.{treeOf}
-use Rattle.tree.proofs.Demand.{privateData}
+use Rattle.file.proofs.Follow.{treeOf}
+use Rattle.file_laws.proofs.Demand.{privateData}
 
 -- ---- a byte of what was read and passed is private, or has what is not
 

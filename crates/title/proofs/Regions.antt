@@ -14,7 +14,7 @@ use Rattle.cursor.proofs.Quiet.{Quiet, still, exec-puts}
 use Rattle.machine.proofs.Stable.{Chain, endOf, chain, ends, Held}
 use Rattle.machine.proofs.Log.{held-parts}
 use Rattle.cursor.proofs.Post.{Meets}
-use Rattle.tree.proofs.Demand.{privateData}
+use Rattle.file_laws.proofs.Demand.{privateData}
 
 -- ---- all bytes of a part that makes no row
 

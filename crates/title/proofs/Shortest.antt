@@ -18,10 +18,10 @@ use Rattle.header.specs.Header.{Header}
 use Rattle.metadata.specs.Metadata.{Context}
 use Rattle.metadata.specs.declared.Limits.{Limits}
 use Rattle.metadata.specs.declared.Made.{Made}
-use Rattle.tree.specs.Rows.{nodeAt}
-use Rattle.tree.specs.Reading.{nodesOf, itemsOf, rows, readFile, context}
-use Rattle.tree.proofs.Shown.{header-of}
-use Rattle.tree.proofs.Follow.{treeOf, read-back}
+use Rattle.rows.specs.Rows.{nodeAt, nodesOf, itemsOf}
+use Rattle.file.specs.Reading.{rows, readFile, context}
+use Rattle.file.proofs.Shown.{header-of}
+use Rattle.file.proofs.Follow.{treeOf, read-back}
 use Rattle.title.specs.Description.{content, shape, Description, described, openingSize, answer}
 use Rattle.title.specs.Text.{outer, treeStart, assembled, fileOf, fileText}
 use Rattle.title.specs.Title.{Bytes, Says, NowhereLonger, elsewhere}

@@ -25,8 +25,9 @@ use Rattle.header.proofs.Ends.{header-on}
 use Rattle.metadata.specs.declared.Limits.{Limits}
 use Rattle.metadata.specs.declared.Made.{Made}
 use Rattle.tree.specs.Tree.{tree}
-use Rattle.tree.specs.Reading.{nodesOf, itemsOf, rows, readFile, context}
-use Rattle.tree.proofs.Follow.{treeOf, read-back}
+use Rattle.rows.specs.Rows.{nodesOf, itemsOf}
+use Rattle.file.specs.Reading.{rows, readFile, context}
+use Rattle.file.proofs.Follow.{treeOf, read-back}
 use Rattle.title.specs.Description.{Content, content, Shape, shape, Description, described, titled, titledAt, retitled, openingSize, tableText, answer}
 use Rattle.title.specs.Text.{itemsText, headerOf, framed, ownText, nodeText, wholeText, outer, fileOf, fileText}
 use Rattle.title.specs.Title.{Says, elsewhere, titledFile}

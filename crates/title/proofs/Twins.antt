@@ -16,9 +16,10 @@ use Rattle.machine.proofs.Agree.{AgreeUpTo, agree-on}
 use Rattle.header.specs.Header.{Header, header}
 use Rattle.metadata.specs.declared.Limits.{Limits}
 use Rattle.metadata.specs.declared.Made.{Made}
-use Rattle.tree.specs.Hidden.{DifferInPrivate}
-use Rattle.tree.specs.Reading.{nodesOf, itemsOf, rows, readFile, context}
-use Rattle.tree.proofs.Follow.{treeOf}
+use Rattle.file_laws.specs.Private.{DifferInPrivate}
+use Rattle.rows.specs.Rows.{nodesOf, itemsOf}
+use Rattle.file.specs.Reading.{rows, readFile, context}
+use Rattle.file.proofs.Follow.{treeOf}
 use Rattle.title.specs.Description.{Content, Shape, openingSize}
 use Rattle.title.specs.Text.{outer, treeStart, fileOf}
 use Rattle.title.specs.Title.{elsewhere}

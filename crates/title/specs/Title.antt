@@ -11,10 +11,10 @@ use Rattle.cursor.specs.declared.Node.{Node}
 use Rattle.cursor.specs.declared.Item.{Item}
 use Rattle.header.specs.Header.{Header}
 use Rattle.metadata.specs.declared.Limits.{Limits}
-use Rattle.tree.specs.Rows.{nodeAt, itemAt}
-use Rattle.tree.specs.Reading.{rows, readFile}
-use Rattle.tree.specs.Asking.{Result, good, bad}
-use Rattle.tree.specs.Hidden.{isHidden}
+use Rattle.rows.specs.Rows.{nodeAt, itemAt}
+use Rattle.file.specs.Reading.{rows, readFile}
+use Rattle.file.specs.Asking.{Result, good, bad}
+use Rattle.file.specs.Hidden.{isHidden}
 use Rattle.title.specs.Description.{Description, described, retitled}
 use Rattle.title.specs.Text.{fileText}
 

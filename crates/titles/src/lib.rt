@@ -2,17 +2,16 @@
 ghost use mathlib.Core.Path.{_≡_};
 ghost use Prim.Native.Nat.{_≤_, _+_, _*_};
 ghost use lib.ListN.{length};
-ghost use Rattle.metadata.specs.Tables.{itemWidth};
+ghost use Rattle.rows.specs.Rows.{itemWidth, itemFrom, itemsIn, ItemIn, ItemRows};
 ghost use Rattle.room.specs.Counts.{Counts};
-ghost use Rattle.tree.specs.Rows.{itemFrom, itemsIn, ItemIn, ItemRows};
 ghost use Rattle.lines.specs.Answer.{reads, Gives};
 ghost use Rattle.titles.specs.Titles.{titleLine, titleLines, titlesAnswer, titleFormat, correctedAnswer, retitledAnswer};
+use file::Read;
 use lines::Made;
 use lines::conclude;
 use lines::refuse;
 use lines::settle;
 use room::Written;
-use tree::Read;
 
 // Puts the line of an item row, if it is visible and universal: its number, and its line on the sheet.
 fn put_title_line(out: &mut [u8], to: usize, file: &[u8], items: &[u64], row: usize) -> usize
@@ -46,7 +45,7 @@ pub fn make_titles(file: &[u8], text: &mut [u8]) -> Made
 {
     let mut nodes = program::node_table();
     let mut items = program::item_table();
-    match tree::read_file(file, &mut nodes, &mut items) {
+    match file::read_file(file, &mut nodes, &mut items) {
         Read::Refused(n, p) => refuse(text, b"", n, p.0),
         Read::Is(s) => {
             if retitle::refers_elsewhere(&nodes, s.nodes) {
@@ -64,7 +63,7 @@ pub fn title_format(file: &[u8], row: usize) -> u64
 {
     let mut nodes = program::node_table();
     let mut items = program::item_table();
-    match tree::read_file(file, &mut nodes, &mut items) {
+    match file::read_file(file, &mut nodes, &mut items) {
         Read::Refused(n, p) => 1,
         Read::Is(s) => {
             if s.items <= row {
@@ -73,7 +72,7 @@ pub fn title_format(file: &[u8], row: usize) -> u64
             if retitle::is_no_title(&items, row) {
                 return 1;
             }
-            tree::item_at(&items, row).format
+            rows::item_at(&items, row).format
         }
     }
 }

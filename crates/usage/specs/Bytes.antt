@@ -8,7 +8,7 @@ use lib.ListN.{length}
 use Rattle.cursor.specs.Refusals.{tooManyFiles}
 use Rattle.metadata.specs.Tables.{fullNodes, fullItems, limits}
 use Rattle.room.specs.Room.{Result, good, bad}
-use Rattle.tree.specs.Asking.{ask}
+use Rattle.file.specs.Asking.{ask}
 use Rattle.sheet.specs.Sheet.{number}
 use Rattle.account.specs.Account.{kindsOf}
 use Rattle.account.specs.ByRows.{plus}

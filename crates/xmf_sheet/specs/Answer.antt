@@ -6,8 +6,8 @@ use Prim.Native.Nat.{ℕ}
 use lib.Dec.{ltb}
 use lib.ListN.{length}
 use Rattle.metadata.specs.Tables.{fullNodes, fullItems, limits}
-use Rattle.tree.specs.Reading.{readFile}
-use Rattle.tree.specs.Asking.{Result, good, bad, ask}
+use Rattle.file.specs.Reading.{readFile}
+use Rattle.file.specs.Asking.{Result, good, bad, ask}
 use Rattle.sheet.specs.Sheet.{number, write}
 
 -- `R`, number, place

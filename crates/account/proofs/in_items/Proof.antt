@@ -2,8 +2,7 @@
 -- Assumes nothing.
 use Prim.Native.Nat.{_-_, _≤_}
 use native.Mathlib.Omega.{arith}
-use Rattle.metadata.specs.Tables.{itemWidth}
-use Rattle.tree.specs.Rows.{itemFrom}
+use Rattle.rows.specs.Rows.{itemWidth, itemFrom}
 use Rattle.account.specs.ByRows.{withItem}
 use Rattle.account.proofs.Folding.{Folding, folding-begun, folding-on, items-done}
 use borrow.Author.Needs.{needs}

@@ -3,8 +3,7 @@
 use mathlib.Core.Path.{sym, subst}
 use Prim.Native.Nat.{_-_, _≤_}
 use native.Mathlib.Omega.{arith}
-use Rattle.metadata.specs.Tables.{nodeWidth}
-use Rattle.tree.specs.Rows.{nodeFrom}
+use Rattle.rows.specs.Rows.{nodeWidth, nodeFrom}
 use Rattle.account.specs.ByRows.{withNode, Inside}
 use Rattle.account.proofs.Folding.{Folding, folding-begun, folding-on, nodes-done}
 use Rattle.account.proofs.in_nodes.Statement.{statement}

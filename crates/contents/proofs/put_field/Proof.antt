@@ -1,6 +1,6 @@
 -- `put_field` puts a custom name with its length, or 0 and a standard number.
 -- Assumes nothing.
-use Rattle.tree.proofs.Rows.{name-in}
+use Rattle.rows.proofs.Rows.{name-in}
 use Rattle.contents.proofs.Putting.{field-custom, field-standard}
 use borrow.Author.Needs.{needs}
 use Rattle.contents.proofs.put_field.Statement.{statement}

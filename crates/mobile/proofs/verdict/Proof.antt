@@ -1,7 +1,7 @@
 -- `verdict` gives the number of the first check that fails.
 -- Assumes nothing.
 use mathlib.Core.Path.{refl, ap, _∙_}
-use Rattle.tree.specs.Rows.{nodesIn, itemsIn}
+use Rattle.rows.specs.Rows.{nodesIn, itemsIn}
 use Rattle.mobile.specs.Pass.{oneTuneOf, tuneNeedsOf}
 use Rattle.mobile.specs.declared.Children.{Children}
 use Rattle.mobile.proofs.Checks.{stop, skip, verdict-by}

@@ -4,7 +4,7 @@ use native.Mathlib.Omega.{arith}
 use mathlib.Core.Path.{sym}
 use lib.ListN.{length}
 use lib.Seq.{length-take-le}
-use Rattle.tree.proofs.Rows.{standing}
+use Rattle.file.proofs.Rows.{standing}
 use Rattle.retitle.proofs.Asked.{asked-refused, reads-as, stands, asked-bad, file-inside, asked-good, zeros}
 use borrow.Author.Needs.{needs}
 use Rattle.retitle.proofs.correct_title.Statement.{statement}

@@ -2,7 +2,7 @@
 -- Assumes nothing.
 use Prim.Native.Nat.{_-_, _≤_}
 use mathlib.Core.Path.{refl}
-use Rattle.tree.specs.Rows.{itemsFrom}
+use Rattle.rows.specs.Rows.{itemsFrom}
 use Rattle.sheet.specs.Sheet.{itemLines}
 use Rattle.sheet.proofs.Filling.{Filling, filling-start, filling-on, filling-end, filling-length}
 use native.Mathlib.Omega.{arith}

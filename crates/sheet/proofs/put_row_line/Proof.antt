@@ -2,8 +2,7 @@
 -- Assumes nothing.
 use mathlib.Core.Path.{ap, _∙_}
 use Prim.Native.Nat.{_*_}
-use Rattle.metadata.specs.Tables.{itemWidth}
-use Rattle.tree.specs.Rows.{itemFrom}
+use Rattle.rows.specs.Rows.{itemWidth, itemFrom}
 use Rattle.sheet.specs.Inside.{leastLine}
 use Rattle.sheet.proofs.Filling.{fills-past, fills-counts}
 use Rattle.sheet.proofs.Least.{line-least}
