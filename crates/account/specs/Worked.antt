@@ -14,7 +14,8 @@ use Rattle.metadata.specs.Metadata.{field, contents, itemFrame, universal, decl
 use Rattle.node.specs.Node.{headerLength, head, value, identifier, unpacker, entries, unpackers, resource, nodePlace, uriPlace, target, reference, rest, front}
 use Rattle.tree.specs.Tree as tree
 use Rattle.tree.specs.Tree.{folder, node}
-use Rattle.file.specs.Reading.{logged, startsAt, offsetAt, isMissing, outside, partEnd, firstTaken, detachedAt, followRow, follow, reading, readTree, readFile}
+use Rattle.file.specs.Reading.{logged, detachedAt, followRow, follow, reading, readTree, readFile}
+use Rattle.targets.specs.Targets.{startsAt, offsetAt, isMissing, outside, partEnd, firstTaken}
 use Rattle.room.specs.Room.{padded, fitting, kept}
 use Rattle.file.specs.Asking.{Result, good, bad, ask}
 use Rattle.file.specs.Hidden.{isHidden}

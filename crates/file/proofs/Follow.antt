@@ -19,7 +19,8 @@ use Rattle.metadata.specs.declared.Limits.{Limits}
 use Rattle.metadata.specs.declared.Made.{Made}
 use Rattle.tree.specs.Tree.{tree}
 use Rattle.rows.specs.Rows.{nodesOf, itemsOf, nodeAt}
-use Rattle.file.specs.Reading.{Result, good, bad, rows, refusal, logged, isMissing, offsetAt, outside, detachedAt, followRow, follow, context, logFrom, reading, readTree, readFile}
+use Rattle.file.specs.Reading.{Result, good, bad, rows, refusal, logged, detachedAt, followRow, follow, context, logFrom, reading, readTree, readFile}
+use Rattle.targets.specs.Targets.{isMissing, offsetAt, outside}
 
 no : {A B : Type 0} {n p : ℕ} {a : A} → bad n p ≡ good a → B
 no e = let z : _≡_ {A = ℕ} 0 1 = cc in absurd (omega arith)

@@ -26,11 +26,13 @@ use Rattle.metadata.specs.declared.Limits.{Limits}
 use Rattle.metadata.specs.declared.Made.{Made}
 use Rattle.metadata.specs.declared.Walked.{Walked}
 use Rattle.metadata.specs.declared.Walked.the-variants.{Done, Refused}
-use Rattle.file.specs.Reading.{Result, good, bad, madeBy, logged, startsAt, isMissing, offsetAt, outside, partEnd, firstTaken, detachedAt, followRow, follow, context}
+use Rattle.file.specs.Reading.{Result, good, bad, madeBy, logged, detachedAt, followRow, follow, context}
+use Rattle.targets.specs.Targets.{startsAt, isMissing, offsetAt, outside, partEnd, firstTaken}
 use Rattle.node.specs.Node.{outsideTree}
 use Rattle.tree.specs.Tree.{node, detached}
-use Rattle.file.specs.Told.{Stands, Spanned, Spans, said, left, Leaves}
-use Rattle.file.specs.declared.Span.{Span}
+use Rattle.file.specs.Told.{Stands, said, left, Leaves}
+use Rattle.targets.specs.Told.{Spanned, Spans}
+use Rattle.targets.specs.declared.Span.{Span}
 use Rattle.room.proofs.Sets.{sets-front}
 use Rattle.file.proofs.Filled.{filled, puts-fills}
 use Rattle.rows.proofs.Rows.{nodes-length, node-at, in-front, nodes-back}
@@ -39,7 +41,7 @@ use Rattle.file.proofs.Follow.{target, Reached, known, added, reached}
 use Rattle.tree.proofs.Ends.{detached-inside, detached-ends}
 use Rattle.tree.proofs.Starts.{detached-row}
 use Rattle.file.proofs.Parents.{row-front}
-use Rattle.file.proofs.Targets.{taken-over, taken-more}
+use Rattle.targets.proofs.Targets.{taken-over, taken-more}
 use Rattle.file.proofs.Shown.{part-is}
 use Rattle.file.proofs.TreeRows.{tree-few, attached, tree-still}
 use Rattle.file.proofs.Rows.{node-in}

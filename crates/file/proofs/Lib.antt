@@ -1,7 +1,6 @@
 pub mod Follow
 pub mod Shown
 pub mod TreeRows
-pub mod Targets
 pub mod Filled
 pub mod Growing
 pub mod Whole

@@ -19,7 +19,8 @@ use Rattle.header.specs.Header.{Header, header}
 use Rattle.header.proofs.Ends.{header-on}
 use Rattle.metadata.specs.declared.Limits.{Limits}
 use Rattle.metadata.proofs.Ends.{OfNames, Nothing, Given, inside-free, Inside}
-use Rattle.file.specs.Reading.{good, outside, partEnd, detachedAt, context}
+use Rattle.file.specs.Reading.{good, detachedAt, context}
+use Rattle.targets.specs.Targets.{outside, partEnd}
 use Rattle.tree.proofs.Ends.{tree-shows, detached-shows}
 use Rattle.file.proofs.Follow.{treeOf, target, Reached, known, added, followed, ReadAs}
 

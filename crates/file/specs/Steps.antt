@@ -13,7 +13,8 @@ use Rattle.metadata.specs.declared.Limits.{Limits}
 use Rattle.metadata.specs.declared.Made.{Made}
 use Rattle.tree.specs.Tree.{tree}
 use Rattle.rows.specs.Rows.{nodeAt, nodesOf}
-use Rattle.file.specs.Reading.{Result, good, bad, context, logged, offsetAt, isMissing, outside, detachedAt, followRow}
+use Rattle.file.specs.Reading.{Result, good, bad, context, logged, detachedAt, followRow}
+use Rattle.targets.specs.Targets.{offsetAt, isMissing, outside}
 
 -- those of a row: the node that it leads to is read now, if it has no row and lies outside header and tree
 unfoldable pub reachSteps : Limits → List ℕ → Header → Events → Node → Events

@@ -2,11 +2,10 @@
 -- Assumes nothing.
 use mathlib.Core.Path.{_≡_}
 use mathlib.Core.List.{List}
-use Prim.Native.Nat.{ℕ, _+_, _*_, _^_, _≤_, _<_, min, max}
+use Prim.Native.Nat.{ℕ, _+_, _*_, _^_, _≤_, _<_}
 use lib.ListN.{length, take}
 use Rattle.machine.specs.Machine.{puts}
 use Rattle.cursor.specs.Rows.{Events}
-use Rattle.cursor.specs.declared.Node.{Node}
 use Rattle.header.specs.declared.Header.{Header}
 use Rattle.metadata.specs.Tables.{State, state, put}
 use Rattle.rows.specs.Rows.{nodeWidth, itemWidth, nodesOf, nodeAt, treeRows, Rising}
@@ -15,9 +14,8 @@ use Rattle.metadata.specs.declared.Made.{Made}
 use Rattle.metadata.specs.declared.Walked.{Walked}
 use Rattle.metadata.specs.declared.Walked.the-variants as all
 use Rattle.metadata.specs.Told.{Fits}
-use Rattle.file.specs.Reading.{firstTaken, Result, good, bad}
+use Rattle.file.specs.Reading.{Result, good, bad}
 use Rattle.file.specs.Asking.{Counts}
-use Rattle.file.specs.declared.Span.{Span}
 use Rattle.file.specs.declared.Answer.{Answer}
 use Rattle.file.specs.declared.Answer.the-variants as answer
 
@@ -47,16 +45,6 @@ pub record Stands (lim : Limits) (size : ℕ) (σ : State) (log : Events) (tree 
   pub long : (length t ≡ length (σ .nodes)) × (length u ≡ length (σ .items))
   pub inside : (i : ℕ) → i < length (nodesOf log) → (nodeAt (nodesOf log) i .header ≤ nodeAt (nodesOf log) i .size) × (nodeAt (nodesOf log) i .start + nodeAt (nodesOf log) i .size ≤ size)
   pub first : TreeFirst tree log
-
--- the rows behind the first `tree` are of detached nodes that lie in the span; its first byte is the first that any has, in a file of `size` bytes
-pub record Spanned (tree size : ℕ) (ns : List Node) (s : Span) : Type 0 where
-  pub rows : (i : ℕ) → tree ≤ i → i < length ns → (nodeAt ns i .detached ≡ 1) × (0 < nodeAt ns i .size) × (nodeAt ns i .start + nodeAt ns i .size ≤ s .beyond .0)
-  pub first-is : s .first .0 ≡ firstTaken ns 0 size
-
--- the span s and the node r lie in the span s′, which begins where the sooner of them does
-pub record Spans (r : Node) (s s′ : Span) : Type 0 where
-  pub first-is : s′ .first .0 ≡ min (r .start) (s .first .0)
-  pub beyond-is : s′ .beyond .0 ≡ max (s .beyond .0) (r .start + r .size)
 
 -- what a call says that followed rows: the log's refusal; or its counts, with the tables as the log leaves them
 abbrev pub said : Walked → List ℕ → List ℕ → Result State

@@ -1,26 +1,21 @@
 // Reads a file into two lent tables, one of node rows and one of item rows: its tree, and the nodes that references 3 lead to.
 ghost use mathlib.Core.Path.{_≡_};
-ghost use mathlib.Core.Logic.{_⊎_};
-ghost use Prim.Native.Nat.{ℕ, _≤_, _<_, _^_, _*_, _+_, min, max};
+ghost use Prim.Native.Nat.{_≤_, _<_, _^_, _*_, _+_};
 ghost use lib.ListN.{length};
 ghost use Rattle.machine.specs.Machine.{exec};
-ghost use Rattle.header.specs.Told.{headerOf, extentOf};
-ghost use Rattle.header.specs.Header as spec;
-ghost use Rattle.rows.specs.Rows.{nodeWidth, nodesOf, nodeAt, nodesIn};
+ghost use Rattle.header.specs.Told.{headerOf};
+ghost use Rattle.rows.specs.Rows.{nodesOf, nodeAt, nodesIn};
 ghost use Rattle.metadata.specs.Tables.{State, limits, put, state};
 ghost use Rattle.metadata.specs.Told.{Gives};
 ghost use Rattle.cursor.specs.Rows.{Events};
 ghost use Rattle.tree.specs.Tree.{tree};
-ghost use Rattle.file.specs.Reading.{good, context, offsetAt, outside, partEnd, firstTaken, followRow, follow, readOf, answerOf, nodeTable, itemTable};
+ghost use Rattle.file.specs.Reading.{good, context, followRow, follow, readOf, answerOf, nodeTable, itemTable};
 ghost use Rattle.file.specs.Asking.{reads, readsBehind, nodesRead, itemsRead};
-ghost use Rattle.file.specs.Told.{Lent, Stands, Spanned, Spans, Leaves};
+ghost use Rattle.file.specs.Told.{Lent, Stands, Leaves};
+ghost use Rattle.targets.specs.Told.{Spanned};
 use cursor::Cursor;
 use cursor::FilePlace;
-use cursor::Node;
-use cursor::NodePlace;
-use cursor::Numbered;
 use header::Edition;
-use header::Extent;
 use header::Headed;
 use header::Header;
 use metadata::Limits;
@@ -28,6 +23,7 @@ use metadata::Made;
 use metadata::Scope;
 use metadata::Walked;
 use node::Bounds;
+use targets::Span;
 
 // What is kept of an accepted file besides its rows: where its header ends, how many rows there are, and how many of the node rows are the tree's.
 pub struct Summary {
@@ -37,12 +33,6 @@ pub struct Summary {
     pub tree: usize,
     pub nodes: usize,
     pub items: usize,
-}
-
-// Where the detached nodes lie that were read: `first` is the first byte that one of them has, or the file's end, and all end at or before `beyond`.
-struct Span {
-    first: FilePlace,
-    beyond: FilePlace,
 }
 
 pub enum Read {
@@ -56,24 +46,12 @@ pub enum Answer {
     Refused(u64, usize),
 }
 
-fn lesser(a: usize, b: usize) -> usize
-    ensures { λ r. ⌜ r ≡ min a b ⌝ }
-{
-    if a <= b { a } else { b }
-}
-
-fn greater(a: usize, b: usize) -> usize
-    ensures { λ r. ⌜ r ≡ max a b ⌝ }
-{
-    if a <= b { b } else { a }
-}
-
 // The rows that tables of so many words hold.
 fn room_of(nodes: usize, items: usize) -> Limits
     ensures { λ r. ⌜ r ≡ limits nodes items ⌝ }
 {
-    let n = lesser(cursor::MOST_NODES, nodes / cursor::NODE_WIDTH);
-    let i = lesser(cursor::MOST_ITEMS, items / cursor::ITEM_WIDTH);
+    let n = targets::lesser(cursor::MOST_NODES, nodes / cursor::NODE_WIDTH);
+    let i = targets::lesser(cursor::MOST_ITEMS, items / cursor::ITEM_WIDTH);
     Limits { nodes: n, items: i }
 }
 
@@ -122,119 +100,6 @@ fn read_root(
     )
 }
 
-// The first byte from `place` on that a detached node has; `end` if none before that. No row before row `tree` is detached.
-fn first_taken(
-    nodes: &[u64],
-    tree: usize,
-    count: usize,
-    place: FilePlace,
-    end: FilePlace,
-) -> FilePlace
-    requires { ⌜ (tree ≤ count) × (count * nodeWidth ≤ length (now nodes)) × ((i : ℕ) → i < count → nodeAt (nodesIn count (now nodes)) i .start + nodeAt (nodesIn count (now nodes)) i .size < 2 ^ 28) × ((i : ℕ) → i < tree → nodeAt (nodesIn count (now nodes)) i .detached ≡ 0) ⌝ }
-    ensures { λ r. ⌜ r .0 ≡ firstTaken (nodesIn count (now (nodes .entry))) (place .0) (end .0) ⌝ }
-{
-    let mut i = count;
-    let mut taken = end.0;
-    while tree < i {
-        i = i - 1;
-        let row = rows::node_at(nodes, i);
-        if row.detached == 1 {
-            if place.0 < (row.start + row.size) as usize {
-                taken = lesser(greater(place.0, row.start as usize), taken);
-            }
-        }
-    }
-    FilePlace(taken)
-}
-
-// Whether the place lies in a file of `size` bytes, outside header and tree.
-fn is_outside(extent: Extent, size: usize, place: FilePlace) -> bool
-    ensures { λ r. ⌜ ((h : spec.Header) → h .extent ≡ extentOf extent → r ≡ outside h size (place .0)) ⌝ }
-{
-    let end = extent.end;
-    let start = extent.start;
-    let last = extent.last;
-    if place.0 < end.0 {
-        return false;
-    }
-    if size <= place.0 {
-        return false;
-    }
-    if place.0 < start.0 {
-        return true;
-    }
-    last.0 < place.0
-}
-
-// The end of the part that the place lies in.
-fn part_end(extent: Extent, size: usize, place: FilePlace) -> FilePlace
-    ensures { λ r. ⌜ ((h : spec.Header) → h .extent ≡ extentOf extent → r .0 ≡ partEnd h size (place .0)) ⌝ }
-{
-    let start = extent.start;
-    if place.0 < start.0 {
-        return start;
-    }
-    FilePlace(size)
-}
-
-// The place of row i's offset, found again from its header.
-fn offset_at(file: &[u8], nodes: &[u64], count: usize, i: usize) -> FilePlace
-    requires { ⌜ (i < count) × (count * nodeWidth ≤ length (now nodes)) × (nodeAt (nodesIn count (now nodes)) i .start + nodeAt (nodesIn count (now nodes)) i .header ≤ length (now file)) × (length (now file) < 2 ^ 28) ⌝ }
-    ensures { λ r. ⌜ r .0 ≡ offsetAt (now (file .entry)) (nodeAt (nodesIn count (now (nodes .entry))) i) ⌝ }
-{
-    let row = rows::node_at(nodes, i);
-    let start = FilePlace(row.start as usize);
-    let at = start.of(NodePlace(row.header as usize));
-    match (Cursor { at }).number(file, FilePlace(file.len()), cursor::CUT_SHORT) {
-        Numbered::Refused(_, place) => place,
-        Numbered::Is(_, next) => next.at,
-    }
-}
-
-// How many rows are asked about a place: where it lies before all detached nodes or behind them, the tree's alone.
-fn rows_asked(tree: usize, count: usize, place: FilePlace, span: Span) -> usize
-    requires { ⌜ tree ≤ count ⌝ }
-    ensures { λ r. ⌜ (tree ≤ r) × (r ≤ count) × (r < count → (span .beyond .0 ≤ place .0) ⊎ (place .0 < span .first .0)) ⌝ }
-{
-    let first = span.first;
-    let beyond = span.beyond;
-    if beyond.0 <= place.0 {
-        return tree;
-    }
-    if place.0 < first.0 {
-        return tree;
-    }
-    count
-}
-
-// `end`, or for a place before all detached nodes the first byte that one of them has, if that comes sooner.
-fn end_asked(place: FilePlace, end: FilePlace, span: Span) -> FilePlace
-    ensures { λ r. ⌜ (place .0 < span .first .0 → r .0 ≡ min (span .first .0) (end .0)) × (span .first .0 ≤ place .0 → r .0 ≡ end .0) ⌝ }
-{
-    let first = span.first;
-    if place.0 < first.0 {
-        return FilePlace(lesser(first.0, end.0));
-    }
-    end
-}
-
-// The span with the node of row `known`, if there are more rows than `known`.
-fn with_row(nodes: &[u64], known: usize, count: usize, span: Span) -> Span
-    requires { ⌜ (count * nodeWidth ≤ length (now nodes)) × ((i : ℕ) → i < count → nodeAt (nodesIn count (now nodes)) i .start + nodeAt (nodesIn count (now nodes)) i .size < 2 ^ 28) ⌝ }
-    ensures { λ r. ⌜ (count ≤ known → r ≡ span) × (known < count → Spans (nodeAt (nodesIn count (now (nodes .entry))) known) span r) ⌝ }
-{
-    if count <= known {
-        return span;
-    }
-    let row = rows::node_at(nodes, known);
-    let first = span.first;
-    let beyond = span.beyond;
-    Span {
-        first: FilePlace(lesser(row.start as usize, first.0)),
-        beyond: FilePlace(greater(beyond.0, (row.start + row.size) as usize)),
-    }
-}
-
 // Follows row i: reads the node that it refers to, if that one has no row yet. `span` says where the detached nodes lie.
 fn follow_row(
     file: &[u8],
@@ -258,15 +123,15 @@ fn follow_row(
         return Walked::Done(made, here);
     }
     let to = FilePlace(row.target as usize);
-    let asked = rows_asked(tree, made.nodes, to, span);
+    let asked = targets::rows_asked(tree, made.nodes, to, span);
     if rows::row_starting(nodes, tree, asked, to) < asked {
         return Walked::Done(made, here);
     }
-    let offset = offset_at(file, nodes, made.nodes, i);
+    let offset = targets::offset_at(file, nodes, made.nodes, i);
     let extent = h.extent;
-    if is_outside(extent, file.len(), to) {
-        let end = part_end(extent, file.len(), to);
-        let taken = first_taken(nodes, tree, asked, to, end_asked(to, end, span));
+    if targets::is_outside(extent, file.len(), to) {
+        let end = targets::part_end(extent, file.len(), to);
+        let taken = targets::first_taken(nodes, tree, asked, to, targets::end_asked(to, end, span));
         let headerEnd = extent.end;
         let scope = Scope {
             limits: lim,
@@ -323,7 +188,7 @@ fn follow_all(
         match follow_row(file, types, nodes, items, h, lim, made.nodes, i, m, span) {
             Walked::Refused(n, p) => return Walked::Refused(n, p),
             Walked::Done(n, _) => {
-                span = with_row(nodes, m.nodes, n.nodes, span);
+                span = targets::with_row(nodes, m.nodes, n.nodes, span);
                 m = n;
             }
         }

@@ -31,7 +31,8 @@ use Rattle.metadata.proofs.Ends.{Nothing, Given, Inside}
 use Rattle.node.specs.Node.{headerLength, head, front, outsideTree}
 use Rattle.tree.specs.Tree.{tree, node, detached}
 use Rattle.rows.specs.Rows.{nodeOf, nodesOf, itemsOf, nodeAt, itemAt}
-use Rattle.file.specs.Reading.{Result, good, bad, rows, madeBy, logged, offsetAt, outside, partEnd, firstTaken, detachedAt, followRow, follow, logFrom, reading, context, readTree, readFile}
+use Rattle.file.specs.Reading.{Result, good, bad, rows, madeBy, logged, detachedAt, followRow, follow, logFrom, reading, context, readTree, readFile}
+use Rattle.targets.specs.Targets.{offsetAt, outside, partEnd, firstTaken}
 use Rattle.file_laws.specs.Private.{mayDiffer, HiddenData, InlineData, InDetached, InParts, Private, DifferInPrivate, DifferInHidden}
 use Rattle.tree.proofs.Ends.{tree-ends, detached-ends}
 use Rattle.tree.proofs.Nodes.{inline-is}

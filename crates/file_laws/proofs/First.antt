@@ -25,7 +25,8 @@ use Rattle.metadata.specs.declared.Limits.{Limits}
 use Rattle.metadata.specs.declared.Made.{Made}
 use Rattle.metadata.proofs.Limited.{room, Less}
 use Rattle.rows.specs.Rows.{nodeAt, nodeOf, itemOf, nodesOf, itemsOf}
-use Rattle.file.specs.Reading.{Result, good, bad, rows, refusal, logged, isMissing, outside, offsetAt, followRow, follow, reading, readTree, readFile}
+use Rattle.file.specs.Reading.{Result, good, bad, rows, refusal, logged, followRow, follow, reading, readTree, readFile}
+use Rattle.targets.specs.Targets.{isMissing, outside, offsetAt}
 use Rattle.file.specs.Steps.{reachSteps, followSteps, treeSteps, steps}
 use Rattle.file.proofs.Follow.{treeOf, target, Reached, known, added, reached, ReadAs, read-back, stops}
 use Rattle.file_laws.proofs.Limited.{Fits, count-nodes, count-items, nodes-on, items-on, rowsIn, tree-limited, target-limited, tree-fits, more-fits}

@@ -25,7 +25,8 @@ use Rattle.node.specs.declared.Bounds.{Bounds}
 use Rattle.node.proofs.Limited.{front-limited}
 use Rattle.tree.specs.Tree.{folder, node, tree, detached}
 use Rattle.rows.specs.Rows.{nodeOf, itemOf, nodesOf, itemsOf, nodeAt}
-use Rattle.file.specs.Reading.{Result, good, bad, rows, madeBy, logged, outside, detachedAt, followRow, follow, context, reading, readTree, readFile}
+use Rattle.file.specs.Reading.{Result, good, bad, rows, madeBy, logged, detachedAt, followRow, follow, context, reading, readTree, readFile}
+use Rattle.targets.specs.Targets.{outside}
 use Rattle.file.proofs.Follow.{treeOf, target, stepped, Reached, known, added, reached, followed, ReadAs, read-back, stops}
 
 -- ---- a node

@@ -18,7 +18,8 @@ use Rattle.machine.proofs.Laws.{rows-on}
 use Rattle.header.specs.Header.{Header}
 use Rattle.metadata.specs.declared.Limits.{Limits}
 use Rattle.rows.specs.Rows.{nodeOf, nodesOf, noNode, nodeAt}
-use Rattle.file.specs.Reading.{good, startsAt, isMissing, detachedAt, context, rows, readFile}
+use Rattle.file.specs.Reading.{good, detachedAt, context, rows, readFile}
+use Rattle.targets.specs.Targets.{startsAt, isMissing}
 use Rattle.tree.proofs.Starts.{detached-row}
 use Rattle.file.proofs.Shown.{part-is, header-of}
 use Rattle.file.proofs.Follow.{target, Reached, known, added, followed, ReadAs, read-back}

@@ -21,7 +21,8 @@ use Rattle.node.specs.declared.Bounds.{Bounds}
 use Rattle.node.proofs.Uses.{front-uses}
 use Rattle.tree.specs.Tree.{folder, node, tree, detached}
 use Rattle.rows.specs.Rows.{nodeAt, nodesOf}
-use Rattle.file.specs.Reading.{Result, good, bad, refusal, logged, isMissing, offsetAt, outside, detachedAt, followRow, follow, reading, context, readTree, readFile}
+use Rattle.file.specs.Reading.{Result, good, bad, refusal, logged, detachedAt, followRow, follow, reading, context, readTree, readFile}
+use Rattle.targets.specs.Targets.{isMissing, offsetAt, outside}
 
 -- ---- the tree
 

@@ -30,7 +30,8 @@ use Rattle.node.proofs.Ends.{front-on, inline-fits}
 use Rattle.node.proofs.Stays.{front-stays}
 use Rattle.tree.specs.Tree.{folder, node, tree, detached}
 use Rattle.rows.specs.Rows.{nodeAt, nodesOf}
-use Rattle.file.specs.Reading.{Result, good, bad, refusal, placeOf, logged, isMissing, offsetAt, outside, detachedAt, followRow, follow, reading, context, readTree, readFile}
+use Rattle.file.specs.Reading.{Result, good, bad, refusal, logged, detachedAt, followRow, follow, reading, context, readTree, readFile}
+use Rattle.targets.specs.Targets.{placeOf, isMissing, offsetAt, outside}
 use Rattle.tree.proofs.Ends.{tree-inside, detached-inside}
 use Rattle.file.proofs.Follow.{target}
 use Rattle.file.proofs.Shown.{outside-is, part-is}

@@ -18,7 +18,8 @@ use Rattle.metadata.specs.declared.Limits.{Limits}
 use Rattle.metadata.specs.declared.Made.{Made}
 use Rattle.tree.specs.Tree.{tree, detached}
 use Rattle.rows.specs.Rows.{nodeAt, nodeOf, nodesOf}
-use Rattle.file.specs.Reading.{Result, good, bad, rows, placeOf, logged, isMissing, offsetAt, outside, detachedAt, followRow, follow, context, reading, readTree}
+use Rattle.file.specs.Reading.{Result, good, bad, rows, logged, detachedAt, followRow, follow, context, reading, readTree}
+use Rattle.targets.specs.Targets.{placeOf, isMissing, offsetAt, outside}
 use Rattle.tree.proofs.Starts.{From, tree-from, detached-from}
 use Rattle.file.proofs.Shown.{outside-is, part-is}
 use Rattle.file.proofs.Follow.{treeOf, target, Reached, known, added, reached}

@@ -13,7 +13,8 @@ use Rattle.metadata.specs.Metadata.{field, contents, itemFrame, universal, decl
 use Rattle.node.specs.Node.{headerLength, head, value, identifier, unpacker, entries, unpackers, resource, nodePlace, uriPlace, target, reference, rest, front}
 use Rattle.tree.specs.Tree as tree
 use Rattle.tree.specs.Tree.{folder, node}
-use Rattle.file.specs.Reading.{rows, refusal, logged, startsAt, offsetAt, isMissing, outside, partEnd, firstTaken, detachedAt, followRow, follow, reading, readTree, readFile, nodeTable, itemTable}
+use Rattle.file.specs.Reading.{rows, refusal, logged, detachedAt, followRow, follow, reading, readTree, readFile, nodeTable, itemTable}
+use Rattle.targets.specs.Targets.{startsAt, offsetAt, isMissing, outside, partEnd, firstTaken}
 use Rattle.cursor.specs.declared.Node.{Node}
 use Rattle.file.specs.Asking.{Result, good, bad, ask, counts}
 use Rattle.file.specs.Hidden.{isHidden}

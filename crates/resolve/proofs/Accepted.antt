@@ -14,7 +14,8 @@ use Rattle.cursor.specs.declared.Node.{Node}
 use Rattle.cursor.specs.declared.Item.{Item}
 use Rattle.header.specs.Header.{Header}
 use Rattle.metadata.specs.declared.Limits.{Limits}
-use Rattle.file.specs.Reading.{Reading, rows, refusal, startsAt, readFile}
+use Rattle.file.specs.Reading.{Reading, rows, refusal, readFile}
+use Rattle.targets.specs.Targets.{startsAt}
 use Rattle.rows.specs.Rows.{nodeAt, NodeIn}
 use Rattle.file.specs.Asking.{Result, good, bad, ask}
 use Rattle.file.proofs.Rows.{accepted}

@@ -16,7 +16,8 @@ use Rattle.header.specs.Header.{Header, header}
 use Rattle.metadata.specs.declared.Limits.{Limits}
 use Rattle.metadata.specs.declared.Made.{Made}
 use Rattle.rows.specs.Rows.{nodeAt, nodeOf, nodesOf, itemsOf}
-use Rattle.file.specs.Reading.{good, rows, logged, isMissing, followRow, follow, reading, readTree, readFile}
+use Rattle.file.specs.Reading.{good, rows, logged, followRow, follow, reading, readTree, readFile}
+use Rattle.targets.specs.Targets.{isMissing}
 use Rattle.file.proofs.Follow.{target, treeOf, Reached, known, added, followed}
 use Rattle.title.specs.Description.{shape}
 use Rattle.title.specs.Title.{elsewhere}

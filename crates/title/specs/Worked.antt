@@ -16,7 +16,8 @@ use Rattle.node.specs.Node as node
 use Rattle.node.specs.Node.{headerLength, value, identifier, unpacker, entries, unpackers, resource, nodePlace, uriPlace, target, reference}
 use Rattle.tree.specs.Tree as tree
 use Rattle.tree.specs.Tree.{folder}
-use Rattle.file.specs.Reading.{logged, startsAt, offsetAt, isMissing, outside, partEnd, firstTaken, detachedAt, followRow, follow, reading, readTree, readFile}
+use Rattle.file.specs.Reading.{logged, detachedAt, followRow, follow, reading, readTree, readFile}
+use Rattle.targets.specs.Targets.{startsAt, offsetAt, isMissing, outside, partEnd, firstTaken}
 use Rattle.file.specs.Asking.{Result, good, bad, ask}
 use Rattle.file.specs.Hidden.{isHidden}
 use Rattle.title.specs.Description as described

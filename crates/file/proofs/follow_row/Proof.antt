@@ -5,7 +5,7 @@ use Prim.Native.Nat.{_+_}
 use Rattle.cursor.specs.declared.Node.{Node}
 use Rattle.header.specs.Told.{headerOf}
 use Rattle.file.proofs.Growing.{stand-few, stand-rising, stand-inside, stand-attached, part-in, reach-other, reach-known, reach-nowhere, reach-node}
-use Rattle.file.proofs.Targets.{row-asked, asked-found, asked-none, asked-taken}
+use Rattle.targets.proofs.Targets.{row-asked, asked-found, asked-none, asked-taken}
 use native.Mathlib.Omega.{arith}
 use borrow.Author.Needs.{needs}
 use Rattle.file.proofs.follow_row.Statement.{statement}

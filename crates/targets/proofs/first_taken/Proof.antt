@@ -4,11 +4,11 @@ use mathlib.Core.Path.{ap, _∙_}
 use Prim.Native.Nat.{_-_, _+_, _≤_, min}
 use Rattle.cursor.specs.declared.Node.{Node}
 use Rattle.rows.proofs.Rows.{row-is}
-use Rattle.file.proofs.Targets.{TakenTo, taken-begun, taken-here, taken-past, taken-other, taken-done}
+use Rattle.targets.proofs.Targets.{TakenTo, taken-begun, taken-here, taken-past, taken-other, taken-done}
 use native.Mathlib.Omega.{arith}
 use borrow.Author.Needs.{needs}
-use Rattle.file.proofs.first_taken.Statement.{statement}
-use Rattle.file.proofs.first_taken.Tie as tie
+use Rattle.targets.proofs.first_taken.Statement.{statement}
+use Rattle.targets.proofs.first_taken.Tie as tie
 
 abbrev Inv-loop : tie.InvT-loop
 Inv-loop nodes tree count place i₀ taken₀ i taken = (tree ≤ i) × (i ≤ count) × TakenTo nodes count (place .0) taken₀ i taken

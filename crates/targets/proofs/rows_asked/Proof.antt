@@ -2,8 +2,8 @@
 -- Assumes nothing.
 use mathlib.Core.Logic.{inl, inr}
 use native.Mathlib.Omega.{arith}
-use Rattle.file.proofs.rows_asked.Statement.{statement}
-use Rattle.file.proofs.rows_asked.Tie as tie
+use Rattle.targets.proofs.rows_asked.Statement.{statement}
+use Rattle.targets.proofs.rows_asked.Tie as tie
 
 returns : tie.Need-returns
 returns c = (omega arith, c .before .before .before .before .before .pre, λ l. inl (c .if1 .taken))

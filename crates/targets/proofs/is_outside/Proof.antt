@@ -1,9 +1,9 @@
 -- `is_outside` says what `outside` says.
 -- Assumes nothing.
-use Rattle.file.proofs.Targets.{out-header, out-file, out-before, out-after}
+use Rattle.targets.proofs.Targets.{out-header, out-file, out-before, out-after}
 use native.Mathlib.Omega.{arith}
-use Rattle.file.proofs.is_outside.Statement.{statement}
-use Rattle.file.proofs.is_outside.Tie as tie
+use Rattle.targets.proofs.is_outside.Statement.{statement}
+use Rattle.targets.proofs.is_outside.Tie as tie
 
 returns : tie.Need-returns
 returns c = λ h e. out-header h _ _ e (c .if1 .taken)

@@ -1,8 +1,8 @@
 -- `part_end` gives what `partEnd` gives.
 -- Assumes nothing.
-use Rattle.file.proofs.Targets.{part-before, part-after}
-use Rattle.file.proofs.part_end.Statement.{statement}
-use Rattle.file.proofs.part_end.Tie as tie
+use Rattle.targets.proofs.Targets.{part-before, part-after}
+use Rattle.targets.proofs.part_end.Statement.{statement}
+use Rattle.targets.proofs.part_end.Tie as tie
 
 returns : tie.Need-returns
 returns c = λ h e. part-before h _ _ e (c .if1 .taken)

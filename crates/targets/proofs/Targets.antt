@@ -18,9 +18,9 @@ use Rattle.header.specs.Header.{Header}
 use Rattle.header.specs.Told.{extentOf}
 use Rattle.header.specs.declared.Extent.{Extent}
 use Rattle.rows.specs.Rows.{nodeWidth, nodeFrom, nodesIn, nodeAt, rowStarting}
-use Rattle.file.specs.Reading.{placeOf, offsetAt, outside, partEnd, firstTaken}
-use Rattle.file.specs.Told.{Spanned}
-use Rattle.file.specs.declared.Span.{Span}
+use Rattle.targets.specs.Targets.{placeOf, offsetAt, outside, partEnd, firstTaken}
+use Rattle.targets.specs.Told.{Spanned}
+use Rattle.targets.specs.declared.Span.{Span}
 use Rattle.rows.proofs.Rows.{node-at, nodes-in-length, in-front, row-is}
 
 -- ---- outside header and tree

@@ -6,8 +6,8 @@ use Rattle.cursor.specs.declared.Node.{Node}
 use Rattle.rows.proofs.Rows.{row-is}
 use native.Mathlib.Omega.{arith}
 use borrow.Author.Needs.{needs}
-use Rattle.file.proofs.with_row.Statement.{statement}
-use Rattle.file.proofs.with_row.Tie as tie
+use Rattle.targets.proofs.with_row.Statement.{statement}
+use Rattle.targets.proofs.with_row.Tie as tie
 
 returns : tie.Need-returns
 returns c = (λ l. refl, λ l. absurd (omega (arith, c .if1 .taken)))

@@ -7,11 +7,11 @@ use Rattle.cursor.specs.Told.{numberTold}
 use Rattle.cursor.specs.declared.Node.{Node}
 use Rattle.machine.proofs.Laws.{was}
 use Rattle.rows.proofs.Rows.{row-is}
-use Rattle.file.proofs.Targets.{offset-is}
+use Rattle.targets.proofs.Targets.{offset-is}
 use native.Mathlib.Omega.{arith}
 use borrow.Author.Needs.{needs}
-use Rattle.file.proofs.offset_at.Statement.{statement}
-use Rattle.file.proofs.offset_at.Tie as tie
+use Rattle.targets.proofs.offset_at.Statement.{statement}
+use Rattle.targets.proofs.offset_at.Tie as tie
 
 node-at-requires : tie.Need-node-at-requires
 node-at-requires c κs = omega (arith, c .before .before .pre)
