@@ -15,7 +15,7 @@ use Rattle.tree.specs.declared.Read.{Read}
 use Rattle.tree.specs.declared.Read.the-variants as read
 use Rattle.tree.specs.declared.Summary.{Summary}
 use Rattle.tree.proofs.Rows.{Standing}
-use Rattle.sheet.specs.Sheet.{tabbed, number, versionText}
+use Rattle.text.specs.Text.{tabbed, number, versionText}
 use Rattle.mobile.specs.Mobile.{mobile}
 use Rattle.mobile.specs.Told as verdict
 use Rattle.mobile.specs.declared.Judged.{Judged}

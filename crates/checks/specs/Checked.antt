@@ -6,7 +6,7 @@ use Prim.Native.Nat.{ℕ}
 use lib.Dec.{eqb}
 use lib.ListN.{length}
 use Rattle.tree.specs.Asking.{Counts, counts, ask}
-use Rattle.sheet.specs.Sheet.{tabbed, number, versionText}
+use Rattle.text.specs.Text.{tabbed, number, versionText}
 use Rattle.mobile.specs.Mobile.{mobile}
 use Rattle.lines.specs.Answer.{Answer, answer, plainly, ended, printed, reads}
 

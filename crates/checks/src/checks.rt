@@ -14,8 +14,8 @@ fn put_ok(out: &mut [u8], tail: &[u8], version: u64, size: usize) -> usize
     ensures { λ r. ⌜ Counts (now (out .entry)) (now (out .exit)) 0 (okLine (now (tail .entry)) version size) r ⌝ }
 {
     let a = room::put_bytes(out, 0, b"ok\t");
-    let b = sheet::put_version(out, a, version);
-    let c = sheet::put_number(out, b, size as u64);
+    let b = text::put_version(out, a, version);
+    let c = text::put_number(out, b, size as u64);
     put_end(out, c, tail)
 }
 

@@ -25,7 +25,8 @@ use Rattle.tree.specs.Reading.{rows, readFile}
 use Rattle.tree.proofs.Order.{spread, in-row-order}
 use Rattle.unicode.specs.Unicode.{bytesAll, toUtf8}
 use Rattle.unicode.proofs.Walk.{Bytes}
-use Rattle.sheet.specs.Sheet.{plain, hexed, escaped, escapedPart, shownOr, unicodeText, tabbed, number, versionText, firstLine, firstLine2, nodeLine, label, textOf, itemLine, visibleLine, linesOf, lines2Of, sheetOf, fitting, linesIn, write, write2, writeIn}
+use Rattle.text.specs.Text.{plain, hexed, escaped, escapedPart, shownOr, unicodeText, tabbed, number, versionText}
+use Rattle.sheet.specs.Sheet.{firstLine, firstLine2, nodeLine, label, textOf, itemLine, visibleLine, linesOf, lines2Of, sheetOf, fitting, linesIn, write, write2, writeIn}
 use Rattle.sheet.specs.Sheet as sheet
 use Rattle.editions.specs.declared.State.{State}
 use Rattle.editions.specs.Sheets.{Lines, same, value, isVersion, fits, parted, fields, field, word, written, lead, kind, node, item, judged, WellFormed, move}

@@ -43,11 +43,11 @@ fn put_frame(out: &mut [u8], to: usize, i: usize, x: TagFrame) -> usize
 {
     let name = name_bytes(x.name);
     let a = room::put_byte(out, to, b'F');
-    let b = sheet::put_number(out, a, i as u64);
+    let b = text::put_number(out, a, i as u64);
     let c = room::put_byte(out, b, 0x09);
-    let d = sheet::put_escaped(out, c, &name, 0, 4);
-    let e = sheet::put_number(out, d, x.place as u64);
-    let f = sheet::put_number(out, e, x.size as u64);
+    let d = text::put_escaped(out, c, &name, 0, 4);
+    let e = text::put_number(out, d, x.place as u64);
+    let f = text::put_number(out, e, x.size as u64);
     room::put_byte(out, f, 0x0a)
 }
 

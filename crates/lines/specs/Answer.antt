@@ -10,7 +10,7 @@ use Rattle.cursor.specs.Refusals.{noRoom}
 use Rattle.room.specs.Room.{Result, good, bad, padded}
 use Rattle.metadata.specs.Tables.{fullNodes, fullItems, limits}
 use Rattle.tree.specs.Reading.{Reading, readFile}
-use Rattle.sheet.specs.Sheet.{tabbed, number, escapedPart}
+use Rattle.text.specs.Text.{tabbed, number, escapedPart}
 use Rattle.lines.specs.declared.Made.{Made}
 
 -- 0 answered, 2 refused, 3 answered and not Mobile XMF; 1 no answer

@@ -20,7 +20,7 @@ pub fn put_field(out: &mut [u8], name: &[u8]) -> usize
     ensures { λ r. ⌜ Counts (now (out .entry)) (now (out .exit)) 0 (nameField (now (name .entry))) r ⌝ }
 {
     let next = room::put_byte(out, 0, 0x09);
-    sheet::put_escaped(out, next, name, 0, name.len())
+    text::put_escaped(out, next, name, 0, name.len())
 }
 
 // Puts the end of a line: the field that ends it, if there is one, and the line's end.
@@ -44,8 +44,8 @@ fn put_refusal(out: &mut [u8], tail: &[u8], number: u64, place: usize) -> usize
     ensures { λ r. ⌜ Counts (now (out .entry)) (now (out .exit)) 0 (refusalLine (now (tail .entry)) number place) r ⌝ }
 {
     let a = room::put_byte(out, 0, b'R');
-    let b = sheet::put_number(out, a, number);
-    let c = sheet::put_number(out, b, place as u64);
+    let b = text::put_number(out, a, number);
+    let c = text::put_number(out, b, place as u64);
     put_end(out, c, tail)
 }
 

@@ -25,7 +25,7 @@ use Rattle.tree.specs.declared.Read.{Read}
 use Rattle.tree.specs.declared.Read.the-variants as read
 use Rattle.tree.specs.declared.Summary.{Summary}
 use Rattle.tree.proofs.Rows.{Standing, item-at, items-in-length}
-use Rattle.sheet.specs.Sheet as sheet
+use Rattle.text.specs.Text as text
 use Rattle.description.specs.Row.{isField, isBinary, isDescription}
 use Rattle.description.specs.Description.{numbers, lists, table, description}
 use Rattle.description.specs.Count.{dataRead, countIn}
@@ -36,8 +36,8 @@ use Rattle.needs.specs.declared.Put.the-variants as put
 use Rattle.lines.proofs.Ending.{padded-none, printed-bad}
 use Rattle.lines.proofs.Reading.{unread, known}
 
-pub count-is : (row channel resource count : ℕ) → (0x43 ∷ []) ++ sheet.number row ++ sheet.number channel ++ sheet.number resource ++
-    sheet.number count ++ (0x0A ∷ []) ≡ countLine row channel resource count
+pub count-is : (row channel resource count : ℕ) → (0x43 ∷ []) ++ text.number row ++ text.number channel ++ text.number resource ++
+    text.number count ++ (0x0A ∷ []) ≡ countLine row channel resource count
 unfolding countLine
 count-is row channel resource count = refl
 

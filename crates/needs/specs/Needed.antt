@@ -14,7 +14,7 @@ use Rattle.room.specs.Counts.{Counts}
 use Rattle.tree.specs.Rows.{itemAt}
 use Rattle.tree.specs.Hidden.{isHidden}
 use Rattle.tree.specs.Asking.{Asks, ask}
-use Rattle.sheet.specs.Sheet.{number}
+use Rattle.text.specs.Text.{number}
 use Rattle.description.specs.Row.{isDescription}
 use Rattle.description.specs.Description.{Description}
 use Rattle.description.specs.Count.{dataRead, countIn}

@@ -40,10 +40,10 @@ fn put_count(
     ensures { λ r. ⌜ Counts (now (out .entry)) (now (out .exit)) to (countLine row channel resource count) r ⌝ }
 {
     let a = room::put_byte(out, to, b'C');
-    let b = sheet::put_number(out, a, row as u64);
-    let c = sheet::put_number(out, b, channel);
-    let d = sheet::put_number(out, c, resource);
-    let e = sheet::put_number(out, d, count);
+    let b = text::put_number(out, a, row as u64);
+    let c = text::put_number(out, b, channel);
+    let d = text::put_number(out, c, resource);
+    let e = text::put_number(out, d, count);
     room::put_byte(out, e, 0x0a)
 }
 

@@ -19,7 +19,8 @@ use Rattle.tree.specs.declared.Read.{Read}
 use Rattle.tree.specs.declared.Read.the-variants as read
 use Rattle.tree.specs.declared.Summary.{Summary}
 use Rattle.tree.proofs.Rows.{Standing}
-use Rattle.sheet.specs.Sheet.{tabbed, number, textOf}
+use Rattle.text.specs.Text.{tabbed, number}
+use Rattle.sheet.specs.Sheet.{textOf}
 use Rattle.title.specs.Title.{isNoTitle}
 use Rattle.lines.specs.Answer.{reads}
 use Rattle.lines.proofs.Reading.{refused, accepted, count-is, row-is}

@@ -7,7 +7,8 @@ use lib.Dec.{leb}
 use lib.ListN.{length}
 use Rattle.tree.specs.Rows.{itemAt}
 use Rattle.tree.specs.Reading.{Reading, rows, refusal}
-use Rattle.sheet.specs.Sheet.{tabbed, number, textOf}
+use Rattle.text.specs.Text.{tabbed, number}
+use Rattle.sheet.specs.Sheet.{textOf}
 use Rattle.title.specs.Title.{isNoTitle}
 use Rattle.lines.specs.Answer.{reads}
 use Rattle.notes.specs.Safe.{safeText}

@@ -75,7 +75,7 @@ pub fn put_safe(out: &mut [u8], to: usize, text: &[u8], most: usize) -> usize
             if most <= at {
                 return put_cut(out, next);
             }
-            next = sheet::put_escaped(out, next, text, at, 1);
+            next = text::put_escaped(out, next, text, at, 1);
             at = at + 1;
         } else {
             next = room::put_part(out, next, text, at, size);
@@ -133,7 +133,7 @@ pub fn put_changes(out: &mut [u8], old: &[u8], new: &[u8], row: usize) -> usize
     let b = put_title(out, a, old, row);
     let c = put_title(out, b, new, row);
     let d = room::put_bytes(out, c, b"\nlength");
-    let e = sheet::put_number(out, d, old.len() as u64);
-    let f = sheet::put_number(out, e, new.len() as u64);
+    let e = text::put_number(out, d, old.len() as u64);
+    let f = text::put_number(out, e, new.len() as u64);
     room::put_byte(out, f, 0x0a)
 }

@@ -10,7 +10,7 @@ use Rattle.room.specs.Room.{Result, good, bad}
 use Rattle.room.specs.Decimal.{decimal}
 use Rattle.tree.specs.Rows.{nodeAt}
 use Rattle.tree.specs.Asking.{Asks, ask}
-use Rattle.sheet.specs.Sheet.{number}
+use Rattle.text.specs.Text.{number}
 use Rattle.resolve.specs.Resolve.{Resource, resolve, resolveRow}
 use Rattle.lines.specs.Answer.{Answer, plainly, printed, reads}
 

@@ -13,10 +13,10 @@ fn put_place(out: &mut [u8], place: usize, size: usize, row: usize, hops: u64) -
     ensures { λ r. ⌜ Counts (now (out .entry)) (now (out .exit)) 0 (placeLine (record { place = place; size = size; row = row; hops = hops })) r ⌝ }
 {
     let a = room::put_byte(out, 0, b'P');
-    let b = sheet::put_number(out, a, place as u64);
-    let c = sheet::put_number(out, b, size as u64);
-    let d = sheet::put_number(out, c, row as u64);
-    let e = sheet::put_number(out, d, hops);
+    let b = text::put_number(out, a, place as u64);
+    let c = text::put_number(out, b, size as u64);
+    let d = text::put_number(out, c, row as u64);
+    let e = text::put_number(out, d, hops);
     room::put_byte(out, e, 0x0a)
 }
 

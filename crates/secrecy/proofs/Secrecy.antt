@@ -41,7 +41,8 @@ use Rattle.mend.specs.Mend.{mended, changes, repair, fitting, mend}
 use Rattle.mend.specs.Told.{linesIn}
 use Rattle.mend.proofs.Theorem.{mended-length, still}
 use Rattle.mend.proofs.Alike.{mended-alike}
-use Rattle.sheet.specs.Sheet.{tabbed, textOf, visibleLine, write, write2}
+use Rattle.text.specs.Text.{tabbed}
+use Rattle.sheet.specs.Sheet.{textOf, visibleLine, write, write2}
 use Rattle.sheet.proofs.Depends.{Shown, text-same, line-same, visible-same}
 use Rattle.title.specs.Title.{elsewhere, isNoTitle}
 use Rattle.promises.specs.Promises as page

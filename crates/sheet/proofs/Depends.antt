@@ -16,7 +16,8 @@ use Rattle.header.specs.Header.{Header}
 use Rattle.tree.specs.Rows.{itemAt}
 use Rattle.tree.specs.Hidden.{isHidden}
 use Rattle.unicode.specs.Unicode.{bytesAll}
-use Rattle.sheet.specs.Sheet.{escaped, escapedPart, unicodeText, tabbed, number, label, textOf, itemLine, visibleLine, itemLines, linesOf, sheetOf, groupLines, lines2Of}
+use Rattle.text.specs.Text.{escaped, escapedPart, unicodeText, tabbed, number}
+use Rattle.sheet.specs.Sheet.{label, textOf, itemLine, visibleLine, itemLines, linesOf, sheetOf, groupLines, lines2Of}
 
 -- the files agree on a row's data where its format is even, and on its custom name
 abbrev pub Shown : List ℕ → List ℕ → Item → Type 0

@@ -15,7 +15,7 @@ use Rattle.tree.specs.declared.Read.{Read}
 use Rattle.tree.specs.declared.Read.the-variants as read
 use Rattle.tree.specs.declared.Summary.{Summary}
 use Rattle.tree.proofs.Rows.{Standing}
-use Rattle.sheet.specs.Sheet.{number}
+use Rattle.text.specs.Text.{number}
 use Rattle.lines.specs.Answer.{plainly, refusedBy, fitted, printed}
 use Rattle.tables.specs.Rows.{nodeNumbers, itemNumbers, nodeRow, itemRow, nodeRows, itemRows, allRows, rowsAnswer}
 use Rattle.lines.proofs.Ending.{printed-good, printed-bad}

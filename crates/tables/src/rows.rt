@@ -17,35 +17,35 @@ use tree::Read;
 fn put_node_words(out: &mut [u8], to: usize, row: Node) -> usize
     ensures { λ r. ⌜ Counts (now (out .entry)) (now (out .exit)) to (nodeNumbers row) r ⌝ }
 {
-    let a = sheet::put_number(out, to, row.start);
-    let b = sheet::put_number(out, a, row.size);
-    let c = sheet::put_number(out, b, row.header);
-    let d = sheet::put_number(out, c, row.contained);
-    let e = sheet::put_number(out, d, row.parent);
-    let f = sheet::put_number(out, e, row.depth);
-    let g = sheet::put_number(out, f, row.reference);
-    let h = sheet::put_number(out, g, row.target);
-    let i = sheet::put_number(out, h, row.extent);
-    let j = sheet::put_number(out, i, row.unpackers);
-    let k = sheet::put_number(out, j, row.unpackerCount);
-    let l = sheet::put_number(out, k, row.rows);
-    sheet::put_number(out, l, row.detached)
+    let a = text::put_number(out, to, row.start);
+    let b = text::put_number(out, a, row.size);
+    let c = text::put_number(out, b, row.header);
+    let d = text::put_number(out, c, row.contained);
+    let e = text::put_number(out, d, row.parent);
+    let f = text::put_number(out, e, row.depth);
+    let g = text::put_number(out, f, row.reference);
+    let h = text::put_number(out, g, row.target);
+    let i = text::put_number(out, h, row.extent);
+    let j = text::put_number(out, i, row.unpackers);
+    let k = text::put_number(out, j, row.unpackerCount);
+    let l = text::put_number(out, k, row.rows);
+    text::put_number(out, l, row.detached)
 }
 
 // Puts the words of an item row.
 fn put_item_words(out: &mut [u8], to: usize, row: Item) -> usize
     ensures { λ r. ⌜ Counts (now (out .entry)) (now (out .exit)) to (itemNumbers row) r ⌝ }
 {
-    let a = sheet::put_number(out, to, row.node);
-    let b = sheet::put_number(out, a, row.item);
-    let c = sheet::put_number(out, b, row.kind);
-    let d = sheet::put_number(out, c, row.field);
-    let e = sheet::put_number(out, d, row.nameLength);
-    let f = sheet::put_number(out, e, row.version);
-    let g = sheet::put_number(out, f, row.declared);
-    let h = sheet::put_number(out, g, row.format);
-    let i = sheet::put_number(out, h, row.place);
-    sheet::put_number(out, i, row.size)
+    let a = text::put_number(out, to, row.node);
+    let b = text::put_number(out, a, row.item);
+    let c = text::put_number(out, b, row.kind);
+    let d = text::put_number(out, c, row.field);
+    let e = text::put_number(out, d, row.nameLength);
+    let f = text::put_number(out, e, row.version);
+    let g = text::put_number(out, f, row.declared);
+    let h = text::put_number(out, g, row.format);
+    let i = text::put_number(out, h, row.place);
+    text::put_number(out, i, row.size)
 }
 
 // Puts the line of node row i.
@@ -53,7 +53,7 @@ fn put_node_row(out: &mut [u8], to: usize, i: usize, row: Node) -> usize
     ensures { λ r. ⌜ Counts (now (out .entry)) (now (out .exit)) to (nodeRow i row) r ⌝ }
 {
     let a = room::put_byte(out, to, b'n');
-    let b = sheet::put_number(out, a, i as u64);
+    let b = text::put_number(out, a, i as u64);
     let c = put_node_words(out, b, row);
     room::put_byte(out, c, 0x0a)
 }
@@ -63,7 +63,7 @@ pub fn put_item_row(out: &mut [u8], to: usize, letter: u8, i: usize, row: Item) 
     ensures { λ r. ⌜ Counts (now (out .entry)) (now (out .exit)) to (itemRow letter i row) r ⌝ }
 {
     let a = room::put_byte(out, to, letter);
-    let b = sheet::put_number(out, a, i as u64);
+    let b = text::put_number(out, a, i as u64);
     let c = put_item_words(out, b, row);
     room::put_byte(out, c, 0x0a)
 }

@@ -26,7 +26,8 @@ use Rattle.tree.specs.declared.Read.{Read}
 use Rattle.tree.specs.declared.Read.the-variants as read
 use Rattle.tree.specs.declared.Summary.{Summary}
 use Rattle.tree.proofs.Rows.{Standing}
-use Rattle.sheet.specs.Sheet.{tabbed, itemLine}
+use Rattle.text.specs.Text.{tabbed}
+use Rattle.sheet.specs.Sheet.{itemLine}
 use Rattle.title.specs.Title.{elsewhere, isNoTitle, correctTitle}
 use Rattle.unicode.specs.Unicode.{toUtf16}
 use Rattle.lines.specs.Answer.{plainly, refusedBy, fitted, printed, reads}

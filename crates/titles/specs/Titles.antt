@@ -12,7 +12,8 @@ use Rattle.room.specs.Decimal.{decimal}
 use Rattle.tree.specs.Rows.{itemAt}
 use Rattle.tree.specs.Reading.{Reading, rows, refusal}
 use Rattle.tree.specs.Asking.{Asks, ask}
-use Rattle.sheet.specs.Sheet.{tabbed, itemLine}
+use Rattle.text.specs.Text.{tabbed}
+use Rattle.sheet.specs.Sheet.{itemLine}
 use Rattle.title.specs.Title.{elsewhere, isNoTitle, correctTitle}
 use Rattle.unicode.specs.Unicode.{toUtf16}
 use Rattle.lines.specs.Answer.{Answer, plainly, refusedBy, printed, reads}
