@@ -1,22 +1,23 @@
 -- How many bytes a line has at least, by the sizes of its row's name and data.
 -- Assumes nothing.
-use mathlib.Core.Path.{_≡_, refl, ap}
+use mathlib.Core.Path.{_≡_, refl, sym, ap}
 use mathlib.Core.Bool.{Bool, true, false, cond, _&&_}
 use mathlib.Core.List.{List, []}
-use Prim.Native.Nat.{ℕ, _+_, _/_, _%_, _≤_, _<_}
+use Prim.Native.Nat.{ℕ, zero, suc, _+_, _*_, _-_, _/_, _%_, _≤_, _<_}
 use native.Mathlib.Omega.{arith}
-use lib.Dec.{ltb, eqb}
+use lib.Dec.{ltb, leb, eqb}
 use lib.ListN.{length, length-append}
-use borrow.Author.Tests.{eq-eqb, ne-eqb, eqb-true, eqb-false, lt-ltb, le-ltb}
+use borrow.Author.Tests.{eq-eqb, ne-eqb, eqb-true, eqb-false, lt-ltb, le-ltb, lt-leb, le-leb}
 use Rattle.cursor.specs.declared.Item.{Item}
-use Rattle.tree.specs.Rows.{ItemIn}
+use Rattle.metadata.specs.Tables.{itemWidth}
+use Rattle.tree.specs.Rows.{itemFrom, itemsFrom, rowsFrom, ItemIn}
 use Rattle.tree.specs.Hidden.{isHidden}
 use Rattle.tree.proofs.Rows.{name-in}
 use Rattle.unicode.proofs.Walk.{Bytes}
 use Rattle.text.specs.Text.{tabbed}
 use Rattle.text.proofs.Least.{escaped-least, unicode-least}
-use Rattle.sheet.specs.Sheet.{label, textOf, itemLine, visibleLine}
-use Rattle.sheet.specs.Inside.{leastText, leastLine}
+use Rattle.sheet.specs.Sheet.{label, textOf, itemLine, visibleLine, itemLines}
+use Rattle.sheet.specs.Inside.{leastText, leastLine, leastLines}
 use Rattle.sheet.proofs.Lines.{text-unicode, text-plain, label-custom}
 
 -- ---- the bytes of a line
@@ -64,6 +65,34 @@ module _ (f : List ℕ) (h : Bytes f) (r : Item) (in-file : ItemIn (length f) r)
   pub line-least : leastLine r ≤ length (visibleLine f r)
   unfolding leastLine visibleLine
   line-least = visible-by (isHidden r)
+
+-- ---- rows
+
+module _ (us : List ℕ) where
+  pub least-on : (i end : ℕ) → i < end → leastLines (itemsFrom i (end - i) us) ≡ leastLine (itemFrom us (i * itemWidth)) + leastLines
+      (itemsFrom (i + 1) (end - (i + 1)) us)
+  unfolding rowsFrom leastLines
+  least-on i end l = let e : end - i ≡ suc (end - (i + 1)) = omega arith in rw e
+
+  pub least-end : (i end : ℕ) → end ≤ i → leastLines (itemsFrom i (end - i) us) ≡ 0
+  unfolding rowsFrom leastLines
+  least-end i end l = let e : end - i ≡ 0 = omega arith in rw e
+
+  pub lines-least : (f : List ℕ) → Bytes f → (i n : ℕ) → ((j : ℕ) → j < i + n → ItemIn (length f) (itemFrom us (j * itemWidth)))
+      → leastLines (itemsFrom i n us) ≤ length (itemLines f (itemsFrom i n us))
+  unfolding rowsFrom leastLines itemLines
+  lines-least f h i zero p = omega arith
+  lines-least f h i (suc n) p =
+      let x = line-least f h (itemFrom us (i * itemWidth)) (p i (omega arith)) in
+      let y = lines-least f h (i + 1) n (λ j l. p j (omega arith)) in
+      let z = length-append (visibleLine f (itemFrom us (i * itemWidth))) (itemLines f (itemsFrom (i + 1) n us)) in
+      omega arith
+
+pub over-room : (need size : ℕ) → size < need → false ≡ leb need size
+over-room need size l = sym (lt-leb need size l)
+
+pub in-room : (need size : ℕ) → need ≤ size → true ≡ leb need size
+in-room need size l = sym (le-leb need size l)
 
 -- ---- the count that the code makes
 

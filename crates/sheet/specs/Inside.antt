@@ -2,7 +2,7 @@
 -- Assumes nothing.
 use mathlib.Core.Path.{_≡_}
 use mathlib.Core.Bool.{cond, _&&_}
-use mathlib.Core.List.{List}
+use mathlib.Core.List.{List, [], _∷_}
 use Prim.Native.Nat.{ℕ, _+_, _/_, _≤_, _<_}
 use lib.Dec.{ltb, eqb}
 use lib.ListN.{length}
@@ -24,3 +24,8 @@ leastText r = cond (eqb (r .format) 2) (r .size / 2) (r .size)
 -- no line of the row is shorter, whatever its name and data are
 unfoldable pub leastLine : Item → ℕ
 leastLine r = cond (isHidden r) 0 (cond (eqb (r .kind) 1 && ltb (r .size) (r .nameLength)) (r .nameLength) (leastText r))
+
+-- nor are the lines of rows
+unfoldable pub leastLines : List Item → ℕ
+leastLines [] = 0
+leastLines (r ∷ rs) = leastLine r + leastLines rs

@@ -1,6 +1,7 @@
 // Writes the support sheet of a file: its nodes and its visible metadata, as lines of text, in two editions.
 ghost use mathlib.Core.Path.{_≡_};
 ghost use Prim.Native.Nat.{_≤_, _*_, _+_, _-_, min};
+ghost use lib.Dec.{leb};
 ghost use lib.ListN.{length};
 ghost use Rattle.metadata.specs.Tables.{nodeWidth, itemWidth};
 ghost use Rattle.tree.specs.Rows.{itemFrom, nodesIn, itemsFrom, itemsIn, ItemIn, ItemRows};
@@ -8,7 +9,7 @@ ghost use Rattle.tree.specs.Asking.{answered, nodesLeft, itemsLeft};
 ghost use Rattle.sheet.specs.Sheet.{headFields, nodeLine, label, textOf, itemLine, visibleLine, nodeLines, itemLines, groupLines, linesIn, write, write2, writeIn, counted, kept};
 ghost use Rattle.room.specs.Counts.{Counts};
 ghost use Rattle.room.specs.Told.{told};
-ghost use Rattle.sheet.specs.Inside.{Fills, leastText, leastLine};
+ghost use Rattle.sheet.specs.Inside.{Fills, leastText, leastLine, leastLines};
 use cursor::Item;
 use cursor::Node;
 use room::Written;
@@ -142,24 +143,29 @@ fn least_line(row: Item) -> u64
     least_text(row)
 }
 
-// Puts the line of item row i, if the row is visible. Where the file is longer than the room, nothing is counted past the room's end, and no byte is read of a
-// line that must end there; a shorter file is read to its end at little cost.
-fn put_row_line(out: &mut [u8], to: usize, file: &[u8], items: &[u64], i: usize) -> usize
-    requires { ⌜ (i * itemWidth + itemWidth ≤ length (now items)) × ItemIn (length (now file)) (itemFrom (now items) (i * itemWidth)) ⌝ }
-    ensures { λ r. ⌜ Fills (now (out .entry)) (now (out .exit)) to (visibleLine (now (file .entry)) (itemFrom (now (items .entry)) (i * itemWidth))) r ⌝ }
+// Whether the lines of item rows from one row up to another can fit from a place on, by what each has at least.
+fn may_fit(size: usize, to: usize, items: &[u64], from: usize, end: usize) -> bool
+    requires { ⌜ (from ≤ end) × (end * itemWidth ≤ length (now items)) ⌝ }
+    ensures { λ r. ⌜ r ≡ leb (to + leastLines (itemsFrom from (end - from) (now (items .entry)))) size ⌝ }
 {
-    if out.len() < file.len() {
-        if out.len() < to {
-            return to;
-        }
-        if ((out.len() - to) as u64) < least_line(tree::item_at(items, i)) {
-            return room::TOO_MANY;
-        }
+    if size < to {
+        return false;
     }
-    put_visible_line(out, to, file, items, i)
+    let mut left = (size - to) as u64;
+    let mut i = from;
+    while i < end {
+        let least = least_line(tree::item_at(items, i));
+        if left < least {
+            return false;
+        }
+        left = left - least;
+        i = i + 1;
+    }
+    true
 }
 
-// Puts the lines of the visible item rows from one row up to another.
+// Puts the lines of the visible item rows from one row up to another, up to the first that ends past the room. Where the file is longer than the room, no byte
+// is read of lines that cannot all fit; a shorter file is read to its end at little cost.
 fn put_item_lines(
     out: &mut [u8],
     to: usize,
@@ -171,10 +177,18 @@ fn put_item_lines(
     requires { ⌜ (from ≤ end) × ItemRows (length (now file)) end (now items) ⌝ }
     ensures { λ r. ⌜ Fills (now (out .entry)) (now (out .exit)) to (itemLines (now (file .entry)) (itemsFrom from (end - from) (now (items .entry)))) r ⌝ }
 {
+    if out.len() < file.len() {
+        if !may_fit(out.len(), to, items, from, end) {
+            return room::TOO_MANY;
+        }
+    }
     let mut next = to;
     let mut i = from;
     while i < end {
-        next = put_row_line(out, next, file, items, i);
+        next = put_visible_line(out, next, file, items, i);
+        if out.len() < next {
+            return next;
+        }
         i = i + 1;
     }
     next

@@ -62,7 +62,7 @@ module _ (f : List ℕ) where
       let d : at + (m - at) ≡ m = omega arith in
       rw (e, take-add (m - at) (end - m) (drop at f), drop-drop (m - at) at f, d)
 
-  escaped-cut : (at m end : ℕ) → at ≤ m → m ≤ end → escapedPart f at (end - at) ≡ escapedPart f at (m - at) ++ escapedPart f m (end - m)
+  pub escaped-cut : (at m end : ℕ) → at ≤ m → m ≤ end → escapedPart f at (end - at) ≡ escapedPart f at (m - at) ++ escapedPart f m (end - m)
   unfolding escapedPart
   escaped-cut at m end a b = ap (bytesAll escaped) (part-cut at m end a b) ∙ all-append escaped (part f at (m - at)) (part f m (end - m))
 
@@ -88,6 +88,14 @@ module _ (f : List ℕ) where
       let w = q .within in
       record { within = omega arith; same = escaped-cut from at to v w ∙ ap₂ (λ (a b : List ℕ). a ++ b) (p .same) (q .same) ∙ sym (part-cut from at to v w) }
 
+  -- ---- bytes in hex, one more
+
+  pub hexed-more : (from at : ℕ) → from ≤ at → at < length f → plain (getD f at 0) ≡ false
+      → escapedPart f from (at - from) ++ hexed (getD f at 0) ≡ escapedPart f from (at + 1 - from)
+  hexed-more from at l m h =
+      ap (λ (b : List ℕ). escapedPart f from (at - from) ++ b) (escaped-hex (getD f at 0) h ∙ sym (escaped-one at m))
+      ∙ sym (escaped-cut from at (at + 1) l (omega arith))
+
   -- ---- what is still to be put
 
   pub put-plain : (at stop end : ℕ) → stop ≤ end → PlainUpTo f at stop → escapedPart f at (end - at) ≡ part f at (stop - at) ++ escapedPart f stop (end - stop)
@@ -98,6 +106,10 @@ module _ (f : List ℕ) where
   put-hexed at end l m h =
       escaped-cut at (at + 1) end (omega arith) (omega arith) ∙ ap (λ (a : List ℕ). a ++ escapedPart f (at + 1) (end - (at + 1)))
       (escaped-one at m ∙ sym (escaped-hex (getD f at 0) h))
+
+  pub escaped-none : (at : ℕ) → escapedPart f at (at - at) ≡ []
+  unfolding escapedPart bytesAll
+  escaped-none at = let e : at - at ≡ 0 = omega arith in rw e
 
   pub put-none : (at end : ℕ) → end ≤ at → escapedPart f at (end - at) ≡ []
   unfolding escapedPart bytesAll

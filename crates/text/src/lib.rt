@@ -2,7 +2,7 @@
 ghost use mathlib.Core.Path.{_≡_};
 ghost use mathlib.Core.Bool.{true};
 ghost use mathlib.Core.List.{[]};
-ghost use Prim.Native.Nat.{_≤_, _<_, _*_, _+_};
+ghost use Prim.Native.Nat.{_≤_, _<_, _*_, _+_, _-_};
 ghost use lib.ListN.{length};
 ghost use Rattle.room.specs.Counts.{Counts};
 ghost use Rattle.unicode.specs.Unicode.{utf8, toUtf8, isGood};
@@ -81,7 +81,31 @@ fn plain_end(file: &[u8], from: usize, end: usize) -> usize
     at
 }
 
-// Puts `size` bytes of the file as text. Bytes that stand for themselves are put together.
+// Where bytes that were put end: in the room and in the file.
+struct Run {
+    next: usize,
+    at: usize,
+}
+
+// Puts the bytes from `from` on up to the first that stands for itself, in hex.
+fn put_hexes(out: &mut [u8], to: usize, file: &[u8], from: usize, end: usize, hex: &[u8; 16]) -> Run
+    requires { ⌜ (now hex ≡ hexDigits) × (from ≤ end) × (end ≤ length (now file)) ⌝ }
+    ensures { λ r. ⌜ (from ≤ r .at) × (r .at ≤ end) × Counts (now (out .entry)) (now (out .exit)) to (escapedPart (now (file .entry)) from (r .at - from)) (r .next) ⌝ }
+{
+    let mut next = to;
+    let mut at = from;
+    while at < end {
+        let byte = file[at];
+        if is_plain(byte) {
+            return Run { next: next, at: at };
+        }
+        next = put_hex(out, next, byte, hex);
+        at = at + 1;
+    }
+    Run { next: next, at: at }
+}
+
+// Puts `size` bytes of the file as text. Bytes that stand for themselves are put together, and so are bytes in hex.
 pub fn put_escaped(out: &mut [u8], to: usize, file: &[u8], from: usize, size: usize) -> usize
     requires { ⌜ from + size ≤ length (now file) ⌝ }
     ensures { λ r. ⌜ Counts (now (out .entry)) (now (out .exit)) to (escapedPart (now (file .entry)) from size) r ⌝ }
@@ -97,8 +121,10 @@ pub fn put_escaped(out: &mut [u8], to: usize, file: &[u8], from: usize, size: us
             next = room::put_part(out, next, file, at, stop - at);
             at = stop;
         } else {
-            next = put_hex(out, next, byte, &hex);
-            at = at + 1;
+            let one = put_hex(out, next, byte, &hex);
+            let run = put_hexes(out, one, file, at + 1, end, &hex);
+            next = run.next;
+            at = run.at;
         }
     }
     next
@@ -163,6 +189,15 @@ fn letters_with(units: &[u8], from: usize, first: u64) -> usize
     letters(units, from)
 }
 
+// Whether the last unit is such a byte.
+fn ends_in_letter(units: &[u8]) -> bool {
+    let size = units.len();
+    if size < 2 {
+        return false;
+    }
+    is_letter(units, size - 2)
+}
+
 // Puts the low bytes of `size` units.
 fn put_lows(out: &mut [u8], to: usize, units: &[u8], from: usize, size: usize) -> usize
     requires { ⌜ from + 2 * size ≤ length (now units) ⌝ }
@@ -206,16 +241,18 @@ fn put_shown(out: &mut [u8], to: usize, units: &[u8]) -> usize
     next
 }
 
-// Puts `size` bytes of the file, which are UTF-16: converted, or as text where they do not convert. Where all units are letters that stand for themselves, they convert.
+// Puts `size` bytes of the file, which are UTF-16: converted, or as text where they do not convert. Where all units are letters that stand for themselves, they convert; the last one tells most texts of which that is not so.
 pub fn put_unicode(out: &mut [u8], to: usize, file: &[u8], from: usize, size: usize) -> usize
     requires { ⌜ from + size ≤ length (now file) ⌝ }
     ensures { λ r. ⌜ Counts (now (out .entry)) (now (out .exit)) to (unicodeText (now (file .entry)) from size) r ⌝ }
 {
     let end = from + size;
-    let mark = unicode::after_mark(&file[from..end]);
-    let n = letters(&file[from..end], mark);
-    if mark + 2 * n == size {
-        return put_lows(out, to, &file[from..end], mark, n);
+    if ends_in_letter(&file[from..end]) {
+        let mark = unicode::after_mark(&file[from..end]);
+        let n = letters(&file[from..end], mark);
+        if mark + 2 * n == size {
+            return put_lows(out, to, &file[from..end], mark, n);
+        }
     }
     if unicode::converts(&file[from..end]) {
         return put_shown(out, to, &file[from..end]);

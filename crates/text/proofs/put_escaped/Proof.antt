@@ -5,7 +5,7 @@ use Prim.Native.Nat.{_-_, _≤_}
 use lib.ListN.{length}
 use Rattle.text.specs.Text.{escapedPart}
 use Rattle.room.proofs.Counting.{Going, going-start, going-on, going-end, going-length}
-use Rattle.text.proofs.Escapes.{plain-one, plain-join, put-plain, put-hexed, put-none, put-start}
+use Rattle.text.proofs.Escapes.{plain-one, plain-join, put-plain, put-hexed, put-none, put-start, escaped-cut}
 use borrow.Author.Needs.{needs}
 use native.Mathlib.Omega.{arith}
 use Rattle.text.proofs.put_escaped.Statement.{statement}
@@ -48,19 +48,25 @@ loop-again c =
 put-hex-requires : tie.Need-put-hex-requires Inv-loop μ-loop
 put-hex-requires c κs = c .before .before .before .before .before .before .before .hex-digits .ensures
 
+put-hexes-requires : tie.Need-put-hexes-requires Inv-loop μ-loop
+put-hexes-requires c κs = (c .before .before .before .before .before .before .before .before .before .before .before .before .hex-digits .ensures, omega arith, omega arith)
+
+loop-less-2 : tie.Need-loop-less-2 Inv-loop μ-loop
+loop-less-2 c = omega (arith, c .before .before .put-hexes .ensures .0, c .before .before .put-hexes .ensures .1)
+
 loop-again-2 : tie.Need-loop-again-2 Inv-loop μ-loop
 loop-again-2 c =
-    let at-put-hex = c .before .before in
+    let at-put-hexes = c .before .before in
+    let at-put-hex = at-put-hexes .before .before .before .before .before in
     let at-if1 = at-put-hex .before .before .before in
     let at-is-plain = at-if1 .before in
     let at-loop-test = at-is-plain .before .before in
-    let at-loop = at-loop-test .before in (
-      omega arith,
-      omega arith,
-      going-on
-          (put-hexed _ _ _ (at-loop-test .loop-test .taken) (omega arith) (sym (at-is-plain .is-plain .ensures) ∙ at-if1 .if1 .left))
-          (at-loop .loop .inv .2) (at-put-hex .put-hex .ensures),
-    )
+    let at-loop = at-loop-test .before in
+    let hexes = at-put-hexes .put-hexes .ensures in
+    let one = going-on
+    (put-hexed _ _ _ (at-loop-test .loop-test .taken) (omega arith) (sym (at-is-plain .is-plain .ensures) ∙ at-if1 .if1 .left))
+    (at-loop .loop .inv .2) (at-put-hex .put-hex .ensures) in
+    (hexes .1, omega arith, going-on (escaped-cut _ _ _ _ (hexes .0) (hexes .1)) one (hexes .2))
 
 same-length : tie.Need-same-length Inv-loop μ-loop
 same-length c = going-length (c .before .loop .inv .2)
@@ -70,5 +76,5 @@ returns c = going-end (put-none _ _ _ (c .loop-test .left)) (c .before .loop .in
 
 pub put-escaped-spec : {M : Type 1} → statement M
 put-escaped-spec = tie.close (tie.spec Inv-loop μ-loop (λ c. omega arith) (λ c κs. search needs) loop-holds (λ c. omega arith) (λ c κs. search needs) (λ c. omega arith)
-    (λ c κs. omega arith) sub-put-part put-part-requires loop-less loop-again put-hex-requires (λ c. omega arith) (λ c. omega arith)
+    (λ c κs. omega arith) sub-put-part put-part-requires loop-less loop-again put-hex-requires (λ c. omega arith) put-hexes-requires loop-less-2
     loop-again-2 same-length returns)
