@@ -6,7 +6,10 @@ ghost use lib.Dec.{eqb};
 ghost use Prim.Native.Nat.{ℕ, _≤_, _<_, _+_};
 ghost use lib.ListN.{length};
 ghost use Rattle.machine.specs.Machine.{run, exec};
-ghost use Rattle.cursor.specs.Told.{Readable, passTold};
+ghost use Rattle.cursor.specs.Rows.{unpackFrame};
+ghost use Rattle.cursor.specs.Refusals.{cutShort};
+ghost use Rattle.cursor.specs.Leaves.{number};
+ghost use Rattle.cursor.specs.Told.{Readable, numberTold, passTold};
 ghost use Rattle.metadata.specs.Tables.{put, state};
 ghost use Rattle.metadata.specs.Told.{Room, contextOf};
 ghost use Rattle.node.specs.Node.{headerLength, head, value, identifier, unpacker, entries, unpackers, resource, nodePlace, uriPlace, target, reference, rest, rowOf, front};
@@ -209,11 +212,11 @@ fn is_common(c: Cursor, file: &[u8], end: FilePlace) -> bool
     ensures { λ r. ⌜ CommonTold r (now (file .entry)) (end .0) (c .at .0) ⌝ }
 {
     let place = c.at;
-    if end.0 - place.0 < 3 {
-        return false;
-    }
     let kind = c.byte(file);
     if !is_numbered(kind.value) {
+        return false;
+    }
+    if end.0 - place.0 < 3 {
         return false;
     }
     let name = kind.next.byte(file);
@@ -227,6 +230,19 @@ fn is_common(c: Cursor, file: &[u8], end: FilePlace) -> bool
     true
 }
 
+// The kind of an unpacker, a number. That it is one byte below 4 is asked once, and then nothing more is asked of it.
+fn read_kind(c: Cursor, file: &[u8], end: FilePlace) -> Numbered
+    requires { ⌜ (end .0 ≤ length (now file)) × (c .at .0 < end .0) ⌝ }
+    ensures { λ r. ⌜ numberTold r ≡ run (number unpackFrame cutShort (end .0)) (now (file .entry)) (c .at .0) ⌝ }
+{
+    let first = c.byte(file);
+    if first.value < 4 {
+        let next = first.next;
+        return Numbered::Is(first.value, next);
+    }
+    c.number(file, end, cursor::CUT_SHORT)
+}
+
 // An unpacker: its kind, what names it, its decoded size.
 fn read_unpacker(c: Cursor, file: &[u8], end: FilePlace) -> Passed
     requires { ⌜ Readable (end .0) (now file) × (c .at .0 < end .0) ⌝ }
@@ -237,7 +253,7 @@ fn read_unpacker(c: Cursor, file: &[u8], end: FilePlace) -> Passed
         return Passed::To(c.on(3));
     }
     let place = c.at;
-    match c.number(file, end, cursor::CUT_SHORT) {
+    match read_kind(c, file, end) {
         Numbered::Refused(n, p) => Passed::Refused(n, p),
         Numbered::Is(kind, d) => {
             if 3 < kind {
