@@ -27,10 +27,12 @@ use Rattle.tree.proofs.Rows.{Standing, ask-refused, refused-nodes, refused-item
 use Rattle.title.specs.Title.{elsewhere, isNoTitle, titledFile, fitting, correctTitle}
 use Rattle.room.specs.Counts.{Counts}
 use Rattle.room.proofs.Counting.{counts-exact}
-use Rattle.retitle.specs.Passes.{sizeStop}
-use Rattle.retitle.specs.Stands.{Stands, refusalOf}
+use Rattle.rewrite.specs.Passes.{sizeStop}
+use Rattle.titled.specs.Stands.{Stands}
+use Rattle.titled.specs.Told.{Fills}
+use Rattle.retitle.specs.Refusals.{refusalOf}
 use Rattle.room.specs.Told.{told}
-use Rattle.retitle.specs.Told.{Fills, Wrote}
+use Rattle.retitle.specs.Told.{Wrote}
 use Rattle.room.specs.declared.Written.{Written}
 use Rattle.room.specs.declared.Written.the-variants as written
 

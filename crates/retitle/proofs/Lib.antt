@@ -1,10 +1,2 @@
-pub mod Lengths
-pub mod Nodes
-pub mod Rows
-pub mod Runs
-pub mod Passes
-pub mod Files
 pub mod Refusals
-pub mod Ready
-pub mod Headed
 pub mod Asked

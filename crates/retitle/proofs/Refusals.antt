@@ -15,8 +15,8 @@ use Rattle.tree.specs.Rows.{nodeFrom, nodesFrom, nodesIn, itemFrom, itemsIn, ro
 use Rattle.tree.specs.Hidden.{isHidden}
 use Rattle.tree.proofs.Rows.{item-at, items-in-length}
 use Rattle.title.specs.Title.{elsewhere, isNoTitle}
-use Rattle.retitle.specs.Stands.{refusalOf}
-use Rattle.retitle.proofs.Rows.{nodes-on}
+use Rattle.retitle.specs.Refusals.{refusalOf}
+use Rattle.rewrite.proofs.Rows.{nodes-on}
 
 -- ---- reference 2 or 3
 

@@ -1,3 +1,2 @@
-pub mod Passes
-pub mod Stands
+pub mod Refusals
 pub mod Told

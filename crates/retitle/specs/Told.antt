@@ -1,21 +1,19 @@
--- What the writers of the file leave in the buffer.
+-- What the call answers, and what it leaves in the tables and the buffer.
 -- Assumes nothing.
 use mathlib.Core.Path.{_≡_}
-use mathlib.Core.List.{List, _++_}
-use Prim.Native.Nat.{ℕ, _+_, _≤_, _<_}
+use mathlib.Core.List.{List}
+use Prim.Native.Nat.{ℕ, _≤_}
 use lib.ListN.{length, take}
-use Rattle.cursor.specs.Vlq.{part}
+use Rattle.header.specs.Header.{Header}
+use Rattle.metadata.specs.declared.Limits.{Limits}
 use Rattle.room.specs.Room.{Result, good, bad}
-use Rattle.room.specs.Counts.{Counts}
-use Rattle.retitle.specs.Passes.{sizeStop}
-use Rattle.retitle.specs.declared.Run.{Run}
 use Rattle.room.specs.declared.Written.{Written}
 use Rattle.room.specs.declared.Written.the-variants as written
-
--- bytes are put from the buffer's first byte on; of those of a file that is too large only that is said
-pub record Fills (out out′ bytes : List ℕ) (r : ℕ) : Type 0 where
-  pub small : length bytes < sizeStop → Counts out out′ 0 bytes r
-  pub large : sizeStop ≤ length bytes → sizeStop ≤ r
+use Rattle.tree.specs.Rows.{nodesIn, itemsIn}
+use Rattle.tree.specs.Reading.{rows, readFile}
+use Rattle.tree.specs.Asking.{answered, nodesWritten, itemsWritten}
+use Rattle.title.specs.Title.{correctTitle}
+use Rattle.rewrite.specs.Passes.{Task}
 
 -- by the answer: the file stands at the buffer's front; or there is none, and nothing is said of the buffer
 abbrev pub WroteAs : (out : List ℕ) → Written → Result (List ℕ) → Type 0
@@ -25,9 +23,18 @@ WroteAs out (written.Refused n p) o = o ≡ bad n p
 pub record Wrote (out : List ℕ) (r : Written) (o : Result (List ℕ)) : Type 0 where
   pub is : WroteAs out r o
 
--- Bytes are appended to what is put and to a part of the file that is to be put behind it: the one or the other grows.
-pub record Appends (f out out′ : List ℕ) (r : Run) (bytes : List ℕ) (r′ : Run) : Type 0 where
-  pub inside : r′ .from + r′ .size ≤ length f
-  pub put : List ℕ
-  pub counts : Counts out out′ (r .next) put (r′ .next)
-  pub text : put ++ part f (r′ .from) (r′ .size) ≡ part f (r .from) (r .size) ++ bytes
+-- of a file that reads as the task's rows the answer is as the question's
+abbrev pub WroteTitled : Task → (out out′ : List ℕ) → Written → Type 0
+WroteTitled x out out′ r =
+    (lim : Limits) (h : Header) → readFile lim (x .file) ≡ rows h (nodesIn (x .count) (x .nodes)) (itemsIn (x .total) (x .items))
+    → Wrote out′ r (correctTitle (x .row) (x .title) (length out) (x .file) h (nodesIn (x .count) (x .nodes)) (itemsIn (x .total) (x .items)))
+
+-- the question's answer, and what it leaves in the tables
+abbrev pub corrected : (nodes items file : List ℕ) → (row : ℕ) → (title out : List ℕ) → Result (List ℕ)
+corrected nodes items file row title out = answered nodes items file (correctTitle row title (length out))
+
+abbrev pub nodesCorrected : (nodes items file : List ℕ) → (row : ℕ) → (title out : List ℕ) → List ℕ
+nodesCorrected nodes items file row title out = nodesWritten nodes items (corrected nodes items file row title out)
+
+abbrev pub itemsCorrected : (nodes items file : List ℕ) → (row : ℕ) → (title out : List ℕ) → List ℕ
+itemsCorrected nodes items file row title out = itemsWritten nodes items (corrected nodes items file row title out)
