@@ -5,10 +5,7 @@ ghost use lib.Dec.{eqb};
 ghost use Prim.Native.Nat.{ℕ, _≤_, _<_, _+_};
 ghost use lib.ListN.{length};
 ghost use Rattle.machine.specs.Machine.{run};
-ghost use Rattle.cursor.specs.Rows.{unpackFrame};
-ghost use Rattle.cursor.specs.Refusals.{cutShort};
-ghost use Rattle.cursor.specs.Leaves.{number};
-ghost use Rattle.cursor.specs.Told.{Readable, numberTold, passTold};
+ghost use Rattle.cursor.specs.Told.{Readable, passTold};
 ghost use Rattle.metadata.specs.Told.{Room};
 ghost use Rattle.node.specs.Node.{headerLength, head, value, identifier, unpacker, entries, unpackers, resource, nodePlace, uriPlace, target, reference, rest, rowOf};
 ghost use Rattle.node.specs.Told.{headTold, CommonTold, unpackerTold, unpackersTold, referenceTold, restTold, frontRun, FrontTold};
@@ -228,19 +225,6 @@ fn is_common(c: Cursor, file: &[u8], end: FilePlace) -> bool
     true
 }
 
-// The kind of an unpacker, a number. That it is one byte below 4 is asked once, and then nothing more is asked of it.
-fn read_kind(c: Cursor, file: &[u8], end: FilePlace) -> Numbered
-    requires { ⌜ (end .0 ≤ length (now file)) × (c .at .0 < end .0) ⌝ }
-    ensures { λ r. ⌜ numberTold r ≡ run (number unpackFrame cutShort (end .0)) (now (file .entry)) (c .at .0) ⌝ }
-{
-    let first = c.byte(file);
-    if first.value < 4 {
-        let next = first.next;
-        return Numbered::Is(first.value, next);
-    }
-    c.number(file, end, cursor::CUT_SHORT)
-}
-
 // An unpacker: its kind, what names it, its decoded size.
 fn read_unpacker(c: Cursor, file: &[u8], end: FilePlace) -> Passed
     requires { ⌜ Readable (end .0) (now file) × (c .at .0 < end .0) ⌝ }
@@ -251,7 +235,7 @@ fn read_unpacker(c: Cursor, file: &[u8], end: FilePlace) -> Passed
         return Passed::To(c.on(3));
     }
     let place = c.at;
-    match read_kind(c, file, end) {
+    match c.number(file, end, cursor::CUT_SHORT) {
         Numbered::Refused(n, p) => Passed::Refused(n, p),
         Numbered::Is(kind, d) => {
             if 3 < kind {
