@@ -1,4 +1,4 @@
-// Runs the cases that standard input holds, a line each, and writes the answer of each.
+// Runs the cases that standard input holds, a line each, and writes the answer of each: a line, two for a shelf, and an empty one where the question is none.
 //
 // The first word of a line is the question, and a single letter one of the command's. Most questions go on with the file's bytes in hex, the node words and the
 // item words to lend. The lent words are the first of tables that hold 7 in every word; the answer ends with ` stale` where a word that was not lent is no longer 7.
