@@ -3,13 +3,13 @@ ghost use mathlib.Core.Path.{_≡_};
 ghost use Prim.Native.Nat.{_+_, _*_, _^_, _≤_, _<_};
 ghost use lib.ListN.{length};
 ghost use Rattle.machine.specs.Machine.{run};
-ghost use Rattle.cursor.specs.Rows.{Frame, inlineSize};
+ghost use Rattle.cursor.specs.Rows.{metaFrame, inlineSize};
 ghost use Rattle.cursor.specs.Refusals.{cutShort};
 ghost use Rattle.cursor.specs.Leaves.{number};
 ghost use Rattle.cursor.specs.Told.{Readable};
 ghost use Rattle.metadata.specs.Tables.{itemWidth};
 ghost use Rattle.tree.specs.Rows.{nodesIn, itemsIn};
-ghost use Rattle.account.specs.ByRows.{behind, spanned, metaAt, contentsAt, withNode, inNodes, withItem, inItems, together, kindsBy, Inside, NodesInside};
+ghost use Rattle.account.specs.ByRows.{behind, spanned, metaAt, ownSize, withNode, inNodes, withItem, inItems, together, kindsBy, Inside, NodesInside, SmallFrames, SmallData, Fits, RowsFit};
 ghost use Rattle.account.specs.Totals.{plusKinds, added, refusedOne};
 ghost use Rattle.account.specs.Told.{told, totalsIn, answer, totalsAfter, nodesAfter, itemsAfter};
 use cursor::Cursor;
@@ -36,18 +36,18 @@ pub struct Kinds {
     pub rest: usize,
 }
 
-// The own bytes of nodes; the metadata's are with its data.
+// The own bytes of nodes: their three numbers, the metadata with its data, all up to the reference, all, and inline data.
 struct Frames {
     nodes: usize,
     metadata: usize,
-    unpackers: usize,
-    references: usize,
+    headers: usize,
+    own: usize,
     inline: usize,
 }
 
-// The data of item rows.
+// The data of item rows: all, and the hidden.
 struct Data {
-    visible: usize,
+    all: usize,
     hidden: usize,
 }
 
@@ -67,22 +67,32 @@ pub enum Accounted {
 // The most files that are summed.
 pub const MOST_FILES: usize = 1000;
 
-// The place behind the number at `at`, in a part that ends at `end`.
-fn after_number(file: &[u8], end: usize, at: usize) -> usize
-    requires { ⌜ end ≤ length (now file) ⌝ }
-    ensures { λ r. ⌜ ((κ : Frame) → r ≡ behind (run (number κ cutShort end) (now (file .entry)) at)) ⌝ }
+// The place behind the number at `at`, which ends with its first byte below 80h and has at most four.
+fn after_number(file: &[u8], at: usize) -> usize
+    requires { ⌜ (at + 4 ≤ length (now file)) × (length (now file) < 2 ^ 28) ⌝ }
+    ensures { λ r. ⌜ r ≡ behind (now (file .entry)) at ⌝ }
 {
-    match (Cursor { at: FilePlace(at) }).number(file, FilePlace(end), cursor::CUT_SHORT) {
-        Numbered::Refused(_, place) => place.0,
-        Numbered::Is(_, next) => next.at.0,
+    if file[at] < 128 {
+        return at + 1;
     }
+    if file[at + 1] < 128 {
+        return at + 2;
+    }
+    if file[at + 2] < 128 {
+        return at + 3;
+    }
+    at + 4
 }
 
-// The place behind the number at `at` and so many bytes as it says.
+// The place behind the number at `at`, in a part that ends at `end`, and so many bytes as it says. Almost every one is one byte.
 fn after_block(file: &[u8], end: usize, at: usize) -> usize
-    requires { ⌜ Readable end (now file) ⌝ }
-    ensures { λ r. ⌜ ((κ : Frame) → r ≡ spanned (run (number κ cutShort end) (now (file .entry)) at)) ⌝ }
+    requires { ⌜ (at < end) × Readable end (now file) ⌝ }
+    ensures { λ r. ⌜ r ≡ spanned (run (number metaFrame cutShort end) (now (file .entry)) at) ⌝ }
 {
+    let first = cursor::wide(file[at]);
+    if first < 128 {
+        return at + 1 + first as usize;
+    }
     match (Cursor { at: FilePlace(at) }).number(file, FilePlace(end), cursor::CUT_SHORT) {
         Numbered::Refused(_, place) => place.0,
         Numbered::Is(n, next) => next.at.0 + n as usize,
@@ -91,25 +101,23 @@ fn after_block(file: &[u8], end: usize, at: usize) -> usize
 
 // Where a node's metadata begins: behind its three numbers.
 fn meta_at(file: &[u8], row: Node) -> usize
-    requires { ⌜ row .start + row .size ≤ length (now file) ⌝ }
+    requires { ⌜ Inside (now file) row ⌝ }
     ensures { λ r. ⌜ r ≡ metaAt (now (file .entry)) row ⌝ }
 {
-    let start = row.start as usize;
-    let end = start + row.size as usize;
-    let contained = after_number(file, end, start);
-    let header = after_number(file, end, contained);
-    after_number(file, end, header)
+    let contained = after_number(file, row.start as usize);
+    let header = after_number(file, contained);
+    after_number(file, header)
 }
 
-// Where its contents begin.
-fn contents_at(row: Node) -> usize
-    requires { ⌜ row .start + row .size < 2 ^ 28 ⌝ }
-    ensures { λ r. ⌜ r ≡ contentsAt row ⌝ }
+// The bytes that it has without the nodes in it.
+fn own_size(row: Node) -> usize
+    requires { ⌜ 0 < ownSize row ⌝ }
+    ensures { λ r. ⌜ r ≡ ownSize row ⌝ }
 {
-    if row.reference == 1 {
-        return row.target as usize;
+    if row.contained == 0 {
+        return row.size as usize;
     }
-    (row.start + row.size) as usize
+    (row.target - row.start) as usize
 }
 
 // The bytes of its inline data.
@@ -126,39 +134,33 @@ fn inline_size(row: Node) -> usize
 
 // A node's own bytes, added to these.
 fn with_node(k: Frames, file: &[u8], row: Node) -> Frames
-    requires { ⌜ Inside (now file) row ⌝ }
+    requires { ⌜ Inside (now file) row × SmallFrames (withNode (now file) k row) ⌝ }
     ensures { λ r. ⌜ r ≡ withNode (now (file .entry)) k row ⌝ }
 {
     let start = row.start as usize;
-    let end = start + row.size as usize;
     let meta = meta_at(file, row);
-    let unpackers = after_block(file, end, meta);
-    let reference = start + row.header as usize;
-    let contents = contents_at(row);
-    let nodes = room::on(k.nodes, room::room_at(meta, start));
-    let metadata = room::on(k.metadata, room::room_at(unpackers, meta));
-    let unpacking = room::on(k.unpackers, room::room_at(reference, unpackers));
-    let references = room::on(k.references, room::room_at(contents, reference));
-    let inline = room::on(k.inline, inline_size(row));
+    let unpackers = after_block(file, start + row.size as usize, meta);
+    let own = own_size(row);
+    let inline = inline_size(row);
     Frames {
-        nodes,
-        metadata,
-        unpackers: unpacking,
-        references,
-        inline,
+        nodes: k.nodes + (meta - start),
+        metadata: k.metadata + (unpackers - meta),
+        headers: k.headers + row.header as usize,
+        own: k.own + own,
+        inline: k.inline + inline,
     }
 }
 
 // The own bytes of all nodes.
 fn in_nodes(file: &[u8], nodes: &[u64], count: usize) -> Frames
-    requires { ⌜ NodesInside (now file) count (now nodes) ⌝ }
+    requires { ⌜ NodesInside (now file) count (now nodes) × SmallFrames (inNodes (now file) (nodesIn count (now nodes))) ⌝ }
     ensures { λ r. ⌜ r ≡ inNodes (now (file .entry)) (nodesIn count (now (nodes .entry))) ⌝ }
 {
     let mut sum = Frames {
         nodes: 0,
         metadata: 0,
-        unpackers: 0,
-        references: 0,
+        headers: 0,
+        own: 0,
         inline: 0,
     };
     let mut i = 0;
@@ -171,31 +173,21 @@ fn in_nodes(file: &[u8], nodes: &[u64], count: usize) -> Frames
 
 // The data of an item row, added to this.
 fn with_item(d: Data, row: Item) -> Data
+    requires { ⌜ SmallData (withItem d row) ⌝ }
     ensures { λ r. ⌜ r ≡ withItem d row ⌝ }
 {
-    if row.format % 2 == 1 {
-        let hidden = room::on(d.hidden, row.size as usize);
-        return Data {
-            visible: d.visible,
-            hidden,
-        };
-    }
-    let visible = room::on(d.visible, row.size as usize);
     Data {
-        visible,
-        hidden: d.hidden,
+        all: d.all + row.size as usize,
+        hidden: d.hidden + (row.format % 2 * row.size) as usize,
     }
 }
 
 // The data of all item rows.
 fn in_items(items: &[u64], count: usize) -> Data
-    requires { ⌜ count * itemWidth ≤ length (now items) ⌝ }
+    requires { ⌜ (count * itemWidth ≤ length (now items)) × SmallData (inItems (itemsIn count (now items))) ⌝ }
     ensures { λ r. ⌜ r ≡ inItems (itemsIn count (now (items .entry))) ⌝ }
 {
-    let mut sum = Data {
-        visible: 0,
-        hidden: 0,
-    };
+    let mut sum = Data { all: 0, hidden: 0 };
     let mut i = 0;
     while i < count {
         sum = with_item(sum, tree::item_at(items, i));
@@ -204,27 +196,21 @@ fn in_items(items: &[u64], count: usize) -> Data
     sum
 }
 
-// The counts of a file of `size` bytes whose header ends at `end`: the data is taken out of the metadata, and all else is what is left.
+// The counts of a file of `size` bytes whose header ends at `end`: each kind is what others leave.
 fn together(size: usize, end: FilePlace, k: Frames, d: Data) -> Kinds
+    requires { ⌜ Fits size (end .0) k d ⌝ }
     ensures { λ r. ⌜ r ≡ together size (end .0) k d ⌝ }
 {
-    let metadata = room::room_at(k.metadata, room::on(d.visible, d.hidden));
-    let last = room::on(k.references, k.inline);
-    let behind = room::on(k.unpackers, last);
-    let inner = room::on(k.metadata, behind);
-    let own = room::on(k.nodes, inner);
-    let all = room::on(end.0, own);
-    let rest = room::room_at(size, all);
     Kinds {
         header: end.0,
         nodes: k.nodes,
-        metadata,
-        visible: d.visible,
+        metadata: k.metadata - d.all,
+        visible: d.all - d.hidden,
         hidden: d.hidden,
-        unpackers: k.unpackers,
-        references: k.references,
+        unpackers: k.headers - k.nodes - k.metadata,
+        references: k.own - k.headers - k.inline,
         inline: k.inline,
-        rest,
+        rest: size - end.0 - k.own,
     }
 }
 
@@ -237,7 +223,7 @@ fn kinds_of(
     count: usize,
     rows: usize,
 ) -> Kinds
-    requires { ⌜ NodesInside (now file) count (now nodes) × (rows * itemWidth ≤ length (now items)) ⌝ }
+    requires { ⌜ RowsFit (now file) (end .0) count (now nodes) rows (now items) ⌝ }
     ensures { λ r. ⌜ r ≡ kindsBy (now (file .entry)) (end .0) (nodesIn count (now (nodes .entry))) (itemsIn rows (now (items .entry))) ⌝ }
 {
     let own = in_nodes(file, nodes, count);

@@ -1,16 +1,15 @@
 // The kind of each place of a file, as a mark in a lent buffer.
 ghost use mathlib.Core.Path.{_≡_};
-ghost use Prim.Native.Nat.{_*_, _≤_, min};
+ghost use Prim.Native.Nat.{_+_, _*_, _^_, _≤_, _<_, min};
 ghost use lib.ListN.{length};
 ghost use Rattle.metadata.specs.Tables.{itemWidth};
 ghost use Rattle.room.specs.Room.{counted, kept};
 ghost use Rattle.room.specs.Told.{told};
 ghost use Rattle.tree.specs.Rows.{nodesIn, itemsIn};
-ghost use Rattle.account.specs.ByRows.{folded, Inside, NodesInside};
+ghost use Rattle.account.specs.ByRows.{contentsAt, folded, Inside, NodesInside};
 ghost use Rattle.account.specs.ByPlace.{overNode, overItem, kindByRows};
 ghost use Rattle.account.specs.Marks.{marked, nodesMarked, itemsMarked, Shows, Becomes, spanned};
 use crate::after_block;
-use crate::contents_at;
 use crate::inline_size;
 use crate::meta_at;
 use cursor::FilePlace;
@@ -58,6 +57,17 @@ fn fill(marks: &mut [u8], from: usize, to: usize, kind: u8)
         marks[at] = kind;
         at = at + 1;
     }
+}
+
+// Where a node's contents begin.
+fn contents_at(row: Node) -> usize
+    requires { ⌜ row .start + row .size < 2 ^ 28 ⌝ }
+    ensures { λ r. ⌜ r ≡ contentsAt row ⌝ }
+{
+    if row.reference == 1 {
+        return row.target as usize;
+    }
+    (row.start + row.size) as usize
 }
 
 // Marks the parts of a node.

@@ -1,7 +1,6 @@
 -- `mark_node` marks the parts of a node.
 -- Assumes nothing.
 use native.Mathlib.Omega.{arith}
-use Rattle.cursor.specs.Rows.{metaFrame}
 use Rattle.account.proofs.Ways.{spans}
 use Rattle.account.proofs.Marking.{past, node-spans}
 use borrow.Author.Needs.{needs}
@@ -22,7 +21,7 @@ returns c =
     let after-meta-at = after-after-block .before in
     let entry = after-meta-at .before .before .before in
     let meta = after-meta-at .meta-at .ensures in
-    let unpackers = spans _ _ meta (after-after-block .after-block .ensures metaFrame) in
+    let unpackers = spans _ _ meta (after-after-block .after-block .ensures) in
     let inline = past _ _ _ (omega (
       arith,
       entry .good,

@@ -2,8 +2,8 @@
 -- Assumes nothing.
 use Rattle.account.proofs.Ways.{contents-one, contents-other}
 use borrow.Author.Needs.{needs}
-use Rattle.account.proofs.contents_at.Statement.{statement}
-use Rattle.account.proofs.contents_at.Tie as tie
+use Rattle.account.proofs.marks.contents_at.Statement.{statement}
+use Rattle.account.proofs.marks.contents_at.Tie as tie
 
 returns : tie.Need-returns
 returns c = contents-one _ (c .if1 .taken)
