@@ -208,7 +208,7 @@ front-ordered x parent depth s m f at {w} {q} e =
     let e₂ = number-ended f nodeFrame 3 stop (n .p₁) (n .second) in
     let e₃ = number-ended f nodeFrame 3 stop (n .p₂) (n .third) in
     let r₁ : metaAt f row ≡ y .p = rw (e₁, e₂, e₃) refl in
-    let r₂ : metaEnd f row ≡ y .p′ = rw (e₁, e₂, e₃, again) (sym k) in
+    let r₂ : metaEnd f row ≡ y .p′ = rw (e₁, e₂, e₃, again) (omega arith) in
     record {
       is = y;
       begins = subst (λ (v : Node). v .start ≡ at) (y .row-is) refl;

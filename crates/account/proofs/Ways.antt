@@ -12,11 +12,11 @@ use Rattle.cursor.specs.Refusals.{cutShort}
 use Rattle.cursor.specs.Leaves.{number}
 use Rattle.cursor.specs.declared.Node.{Node}
 use Rattle.cursor.specs.declared.Item.{Item}
-use Rattle.account.specs.ByRows.{behind, spanned, metaAt, metaEnd, contentsAt, ownSize, inNodes, inItems, together, kindsBy, Inside}
+use Rattle.account.specs.ByRows.{lastByte, behind, counted, metaAt, metaEnd, contentsAt, ownSize, inNodes, inItems, together, kindsBy, Inside}
 use Rattle.account.specs.declared.Kinds.{Kinds}
 use Rattle.account.specs.declared.Frames.{Frames}
 use Rattle.account.specs.declared.Data.{Data}
-use Rattle.account.proofs.Numbers.{ended-on}
+use Rattle.account.proofs.Numbers.{last-on}
 
 module _ (f : List ℕ) (r : Node) where
   -- each of the three numbers begins where at least four bytes are left
@@ -24,9 +24,9 @@ module _ (f : List ℕ) (r : Node) where
   unfolding metaAt
   four-left i =
       let p = behind f (r .start) in
-      let a = ended-on f 3 (r .start) in
-      let b = ended-on f 3 p in
-      let c = ended-on f 3 (behind f p) in
+      let a = last-on f 3 (r .start) in
+      let b = last-on f 3 p in
+      let c = last-on f 3 (behind f p) in
       (omega arith, omega arith, omega arith)
 
   -- it begins behind the node's first byte
@@ -34,17 +34,17 @@ module _ (f : List ℕ) (r : Node) where
   unfolding metaAt
   from-start =
       let p = behind f (r .start) in
-      omega (arith, ended-on f 3 (r .start), ended-on f 3 p, ended-on f 3 (behind f p))
+      omega (arith, last-on f 3 (r .start), last-on f 3 p, last-on f 3 (behind f p))
 
   -- one behind the other
-  pub thrice : {a b c : ℕ} → a ≡ behind f (r .start) → b ≡ behind f a → c ≡ behind f b → c ≡ metaAt f r
+  pub thrice : {a b c : ℕ} → a ≡ lastByte f (r .start) → b ≡ lastByte f (a + 1) → c ≡ lastByte f (b + 1) → c + 1 ≡ metaAt f r
   unfolding metaAt
-  thrice x y z = z ∙ ap (behind f) (y ∙ ap (behind f) x)
+  thrice x y z = rw (z, y, x) refl
 
   -- the fourth, and what it counts
-  pub spans : {a b : ℕ} → a ≡ metaAt f r → b ≡ spanned (run (number metaFrame cutShort (r .start + r .size)) f a) → b ≡ metaEnd f r
+  pub spans : {a b : ℕ} → a ≡ metaAt f r → b ≡ counted a (run (number metaFrame cutShort (r .start + r .size)) f a) → a + b ≡ metaEnd f r
   unfolding metaEnd
-  spans x y = y ∙ ap (λ v. spanned (run (number metaFrame cutShort (r .start + r .size)) f v)) x
+  spans x y = rw (y, x) refl
 
 module _ (r : Node) where
   pub contents-one : r .reference ≡ 1 → r .target ≡ contentsAt r

@@ -25,18 +25,22 @@ plus a b = min (a + b) tooMany
 
 -- ---- where the parts of a node begin
 
--- behind the first byte below 80h, from p on, where so many may come after that at p
-unfoldable pub ended : List ℕ → (more p : ℕ) → ℕ
-ended f zero p = p + 1
-ended f (suc more) p = cond (ltb (getD f p 0) 0x80) (p + 1) (ended f more (p + 1))
+-- the first byte below 80h, from p on, where so many may come after that at p
+unfoldable pub lastFrom : List ℕ → (more p : ℕ) → ℕ
+lastFrom f zero p = p
+lastFrom f (suc more) p = cond (ltb (getD f p 0) 0x80) p (lastFrom f more (p + 1))
 
--- behind the number at p
+-- the last byte of the number at p, and the place behind it
+abbrev pub lastByte : List ℕ → ℕ → ℕ
+lastByte f p = lastFrom f 3 p
+
 abbrev pub behind : List ℕ → ℕ → ℕ
-behind f p = ended f 3 p
+behind f p = lastByte f p + 1
 
-abbrev pub spanned : Out ℕ → ℕ
-spanned (ok n q) = q + n
-spanned (refused n p) = p
+-- the bytes of the number at p, and so many as it says
+abbrev pub counted : ℕ → Out ℕ → ℕ
+counted p (ok n q) = q + n - p
+counted p (refused n q) = 0
 
 -- a node's metadata: behind its three numbers
 unfoldable pub metaAt : List ℕ → Node → ℕ
@@ -44,7 +48,7 @@ metaAt f r = behind f (behind f (behind f (r .start)))
 
 -- its unpackers: behind the metadata's length and what it counts
 unfoldable pub metaEnd : List ℕ → Node → ℕ
-metaEnd f r = spanned (run (number metaFrame cutShort (r .start + r .size)) f (metaAt f r))
+metaEnd f r = metaAt f r + counted (metaAt f r) (run (number metaFrame cutShort (r .start + r .size)) f (metaAt f r))
 
 -- its contents: where a reference 1 leads, and else the node's end
 unfoldable pub contentsAt : Node → ℕ

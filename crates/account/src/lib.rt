@@ -9,7 +9,7 @@ ghost use Rattle.cursor.specs.Leaves.{number};
 ghost use Rattle.cursor.specs.Told.{Readable};
 ghost use Rattle.metadata.specs.Tables.{itemWidth};
 ghost use Rattle.tree.specs.Rows.{nodesIn, itemsIn};
-ghost use Rattle.account.specs.ByRows.{behind, spanned, metaAt, ownSize, withNode, inNodes, withItem, inItems, together, kindsBy, Inside, NodesInside, SmallFrames, SmallData, Fits, RowsFit};
+ghost use Rattle.account.specs.ByRows.{lastByte, counted, metaAt, ownSize, withNode, inNodes, withItem, inItems, together, kindsBy, Inside, NodesInside, SmallFrames, SmallData, Fits, RowsFit};
 ghost use Rattle.account.specs.Totals.{plusKinds, added, refusedOne};
 ghost use Rattle.account.specs.Told.{told, totalsIn, answer, totalsAfter, nodesAfter, itemsAfter};
 use cursor::Cursor;
@@ -67,35 +67,35 @@ pub enum Accounted {
 // The most files that are summed.
 pub const MOST_FILES: usize = 1000;
 
-// The place behind the number at `at`, which ends with its first byte below 80h and has at most four.
-fn after_number(file: &[u8], at: usize) -> usize
+// The last byte of the number at `at`: its first below 80h, of at most four.
+fn last_byte(file: &[u8], at: usize) -> usize
     requires { ⌜ (at + 4 ≤ length (now file)) × (length (now file) < 2 ^ 28) ⌝ }
-    ensures { λ r. ⌜ r ≡ behind (now (file .entry)) at ⌝ }
+    ensures { λ r. ⌜ (r ≡ lastByte (now (file .entry)) at) × (r < at + 4) ⌝ }
 {
     if file[at] < 128 {
-        return at + 1;
+        return at;
     }
     if file[at + 1] < 128 {
-        return at + 2;
+        return at + 1;
     }
     if file[at + 2] < 128 {
-        return at + 3;
+        return at + 2;
     }
-    at + 4
+    at + 3
 }
 
-// The place behind the number at `at`, in a part that ends at `end`, and so many bytes as it says. Almost every one is one byte.
-fn after_block(file: &[u8], end: usize, at: usize) -> usize
+// The bytes of the number at `at`, in a part that ends at `end`, and so many as it says. Almost every such number is one byte.
+fn block_size(file: &[u8], end: usize, at: usize) -> usize
     requires { ⌜ (at < end) × Readable end (now file) ⌝ }
-    ensures { λ r. ⌜ r ≡ spanned (run (number metaFrame cutShort end) (now (file .entry)) at) ⌝ }
+    ensures { λ r. ⌜ r ≡ counted at (run (number metaFrame cutShort end) (now (file .entry)) at) ⌝ }
 {
     let first = cursor::wide(file[at]);
     if first < 128 {
-        return at + 1 + first as usize;
+        return 1 + first as usize;
     }
     match (Cursor { at: FilePlace(at) }).number(file, FilePlace(end), cursor::CUT_SHORT) {
-        Numbered::Refused(_, place) => place.0,
-        Numbered::Is(n, next) => next.at.0 + n as usize,
+        Numbered::Refused(_, _) => 0,
+        Numbered::Is(n, next) => next.at.0 + n as usize - at,
     }
 }
 
@@ -104,9 +104,9 @@ fn meta_at(file: &[u8], row: Node) -> usize
     requires { ⌜ Inside (now file) row ⌝ }
     ensures { λ r. ⌜ r ≡ metaAt (now (file .entry)) row ⌝ }
 {
-    let contained = after_number(file, row.start as usize);
-    let header = after_number(file, contained);
-    after_number(file, header)
+    let contained = last_byte(file, row.start as usize) + 1;
+    let header = last_byte(file, contained) + 1;
+    last_byte(file, header) + 1
 }
 
 // The bytes that it has without the nodes in it.
@@ -139,12 +139,12 @@ fn with_node(k: Frames, file: &[u8], row: Node) -> Frames
 {
     let start = row.start as usize;
     let meta = meta_at(file, row);
-    let unpackers = after_block(file, start + row.size as usize, meta);
+    let block = block_size(file, start + row.size as usize, meta);
     let own = own_size(row);
     let inline = inline_size(row);
     Frames {
         nodes: k.nodes + (meta - start),
-        metadata: k.metadata + (unpackers - meta),
+        metadata: k.metadata + block,
         headers: k.headers + row.header as usize,
         own: k.own + own,
         inline: k.inline + inline,

@@ -9,7 +9,7 @@ ghost use Rattle.tree.specs.Rows.{nodesIn, itemsIn};
 ghost use Rattle.account.specs.ByRows.{contentsAt, folded, Inside, NodesInside};
 ghost use Rattle.account.specs.ByPlace.{overNode, overItem, kindByRows};
 ghost use Rattle.account.specs.Marks.{marked, nodesMarked, itemsMarked, Shows, Becomes, spanned};
-use crate::after_block;
+use crate::block_size;
 use crate::inline_size;
 use crate::meta_at;
 use cursor::FilePlace;
@@ -78,7 +78,7 @@ fn mark_node(marks: &mut [u8], file: &[u8], row: Node)
     let start = row.start as usize;
     let end = start + row.size as usize;
     let meta = meta_at(file, row);
-    let unpackers = after_block(file, end, meta);
+    let unpackers = meta + block_size(file, end, meta);
     let reference = start + row.header as usize;
     let contents = contents_at(row);
     let behind = room::on(contents, inline_size(row));
