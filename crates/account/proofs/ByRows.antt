@@ -31,7 +31,7 @@ use Rattle.tree.specs.Reading.{nodeOf, nodesOf, rows}
 use Rattle.tree.proofs.Follow.{ReadAs}
 use Rattle.tree.proofs.EachNode.{OfRow, own-row, by-nodes}
 use Rattle.account.specs.Account.{sumOver}
-use Rattle.account.specs.ByRows.{metaAt, metaEnd, contentsAt, ownSize}
+use Rattle.account.specs.ByRows.{metaAt, metaEnd, contentsAt, followSize, frontSize}
 use Rattle.account.proofs.Places.{count}
 use Rattle.account.proofs.Spent.{count-on}
 use Rattle.cursor.proofs.Apart.{at-place, at-check}
@@ -78,7 +78,7 @@ no e = let z : _≡_ {A = ℕ} 0 1 = cc in absurd (omega arith)
 
 pub data Behind (f : List ℕ) (r : Node) (q : ℕ) : Type 0 where
   one : r .reference ≡ 1 → r .target ≡ q → r .extent ≡ r .start + r .size - q → q ≤ r .start + r .size → Behind f r q
-  other : r .contained ≡ 0 → 1 < r .reference → r .start + r .size ≡ q → Behind f r q
+  other : 1 < r .reference → r .start + r .size ≡ q → Behind f r q
 
 -- a reference 1 ends where its target begins, which runs to the node's end; any other is no folder's
 abbrev pub Told : (contained end at : ℕ) → Reference → ℕ → Type 0
@@ -136,18 +136,13 @@ front-reference x parent depth s m f at {w} {q} e body {b} {v} r =
         let r′ = subst (λ i. run (folder (at + i .size) (times (i .contained) body (plusNode made))) f (q + inlineSize i) ≡ ok b v) (sym z) r in
         let i : inlineSize (rowOf at h parent depth d o u n) ≡ 0 = simp (ne-eqb (o .kind) 1 (λ e. omega arith)) (never-inline (eqb (h .contained) 0) (o .extent)) in
         let j = nothing-left (h .contained) (k .0) (at + h .size .0) body (plusNode made) f _ r′ in
-        subst (λ i. Behind f i q) z (other (k .0) (k .1) (omega arith))
+        subst (λ i. Behind f i q) z (other (k .1) (omega arith))
 
--- it and the inline data are all that the node has of its own
-pub own-is : (f : List ℕ) (r : Node) (q : ℕ) → Behind f r q → r .start < q → (q + inlineSize r ≡ r .start + ownSize r) × (ownSize r ≤ r .size)
-unfolding ownSize
-own-is f r q (one i j k l) s = by (eqb (r .contained) 0)
-  where
-    by : (b : Bool) → (q + sizeIf (b && eqb (r .reference) 1) (r .extent) ≡ r .start + (cond b (r .size) (r .target - r .start))) ×
-        ((cond b (r .size) (r .target - r .start)) ≤ r .size)
-    by true = rw (eq-eqb (r .reference) 1 i) (omega arith, omega arith)
-    by false = (omega arith, omega arith)
-own-is f r q (other c i j) s = rw (eq-eqb (r .contained) 0 c, ne-eqb (r .reference) 1 (λ z. omega arith)) (omega arith, omega arith)
+-- it is the last of what stands before the contents
+pub front-is-all : (f : List ℕ) (r : Node) (q : ℕ) → Behind f r q → r .start < q → q ≡ r .start + frontSize r
+unfolding followSize
+front-is-all f r q (one i j k l) s = rw (eq-eqb (r .reference) 1 i) (omega arith)
+front-is-all f r q (other i j) s = rw (ne-eqb (r .reference) 1 (λ z. omega arith)) (omega arith)
 
 -- so it ends where the contents begin
 pub contents-at : (x : Context) (parent depth : ℕ) (s : Bounds) (m : Made) (f : List ℕ) (at : ℕ) {w : Front} {q : ℕ} → run (front x parent depth s m) f at ≡ ok w q
@@ -158,7 +153,7 @@ contents-at x parent depth s m f at {w} {q} e body r = by (front-reference x par
   where
     by : Behind f (w .row) q → (cond (eqb (w .row .reference) 1) (w .row .target) (w .row .start + w .row .size)) ≡ q
     by (one i j k l) = rw (eq-eqb (w .row .reference) 1 i) j
-    by (other c i j) = rw (ne-eqb (w .row .reference) 1 (λ z. omega arith)) j
+    by (other i j) = rw (ne-eqb (w .row .reference) 1 (λ z. omega arith)) j
 
 -- ---- the kinds, by rows
 

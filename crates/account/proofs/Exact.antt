@@ -13,11 +13,11 @@ use Rattle.metadata.specs.declared.Limits.{Limits}
 use Rattle.tree.specs.Reading.{rows, readFile}
 use Rattle.tree.proofs.Rows.{accepted}
 use Rattle.account.specs.Account.{counts, eventsOf, sumOver}
-use Rattle.account.specs.ByRows.{metaAt, metaEnd, ownSize, withNode, withItem, folded, none, nothing, inNodes, inItems, together, kindsBy, SmallFrames, SmallData, Fits}
+use Rattle.account.specs.ByRows.{metaAt, metaEnd, frontSize, withNode, withItem, folded, none, nothing, inNodes, inItems, together, kindsBy, SmallFrames, SmallData, Fits}
 use Rattle.account.specs.declared.Kinds.{Kinds}
 use Rattle.account.specs.declared.Frames.{Frames}
 use Rattle.account.specs.declared.Data.{Data}
-use Rattle.account.proofs.Parts.{rows-parts, headers-sum, own-sum}
+use Rattle.account.proofs.Parts.{rows-parts, headers-sum, fronts-sum}
 use Rattle.account.proofs.Whole.{both-data, hidden-data, rows-count}
 
 -- ---- a field of what is folded is a sum over the rows
@@ -33,7 +33,7 @@ module _ (f : List ℕ) (ns : List Node) (k : Frames) where
     nodes : s .nodes ≡ k .nodes + sumOver (λ r. metaAt f r - r .start) ns
     metadata : s .metadata ≡ k .metadata + sumOver (λ r. metaEnd f r - metaAt f r) ns
     headers : s .headers ≡ k .headers + sumOver (λ r. r .header) ns
-    own : s .own ≡ k .own + sumOver ownSize ns
+    fronts : s .fronts ≡ k .fronts + sumOver frontSize ns
     inline : s .inline ≡ k .inline + sumOver inlineSize ns
 
   summed : Summed (folded (withNode f) k ns)
@@ -41,7 +41,7 @@ module _ (f : List ℕ) (ns : List Node) (k : Frames) where
     nodes = folds (withNode f) (λ k. k .nodes) _ (λ k r. refl) ns k;
     metadata = folds (withNode f) (λ k. k .metadata) _ (λ k r. refl) ns k;
     headers = folds (withNode f) (λ k. k .headers) _ (λ k r. refl) ns k;
-    own = folds (withNode f) (λ k. k .own) _ (λ k r. refl) ns k;
+    fronts = folds (withNode f) (λ k. k .fronts) _ (λ k r. refl) ns k;
     inline = folds (withNode f) (λ k. k .inline) _ (λ k r. refl) ns k;
   }
 
@@ -49,7 +49,7 @@ module _ (f : List ℕ) (ns : List Node) (k : Frames) where
   pub small-frames : SmallFrames (folded (withNode f) k ns) → SmallFrames k
   small-frames l =
       let s = summed in
-      (omega (arith, s .nodes), omega (arith, s .metadata), omega (arith, s .headers), omega (arith, s .own), omega (arith, s .inline))
+      (omega (arith, s .nodes), omega (arith, s .metadata), omega (arith, s .headers), omega (arith, s .fronts), omega (arith, s .inline))
 
 module _ (is : List Item) (d : Data) where
   data-summed : (folded withItem d is .all ≡ d .all + sumOver (λ r. r .size) is) × (folded withItem d is .hidden ≡ d .hidden + sumOver (λ r. r .format % 2 * r .size) is)
@@ -73,7 +73,7 @@ module _ (lim : Limits) (f : List ℕ) {h : Header} {ns : List Node} {is : List 
     nodes : k .nodes ≡ c .nodes
     metadata : k .metadata ≡ c .metadata + c .visible + c .hidden
     headers : k .headers ≡ k .nodes + k .metadata + c .unpackers
-    own : k .own ≡ k .headers + c .references + c .inline
+    fronts : k .fronts ≡ k .headers + c .references
     inline : k .inline ≡ c .inline
     hidden : d .hidden ≡ c .hidden
     all : d .all ≡ c .visible + c .hidden
@@ -88,7 +88,7 @@ module _ (lim : Limits) (f : List ℕ) {h : Header} {ns : List Node} {is : List 
         nodes = omega (arith, s .nodes, R .frames);
         metadata = omega (arith, s .metadata, R .metas);
         headers = omega (arith, s .nodes, s .metadata, s .headers, R .unpacks, headers-sum f ns p);
-        own = omega (arith, s .headers, s .own, R .refs, R .inlines, own-sum f ns p);
+        fronts = omega (arith, s .headers, s .fronts, R .refs, fronts-sum f ns p);
         inline = omega (arith, s .inline, R .inlines);
         hidden = omega (arith, R .hidden, hidden-data is);
         all = omega (arith, R .visible, R .hidden, both-data is);
@@ -101,8 +101,8 @@ module _ (lim : Limits) (f : List ℕ) {h : Header} {ns : List Node} {is : List 
       by : (k : Frames) (d : Data) → Sums k d → together (length f) (h .extent .end) k d ≡ c
       by k d s = let R = rows-count lim f r in
           nine (omega (arith, R .headers)) (s .nodes) (omega (arith, s .metadata, s .all)) (omega (arith, s .all, s .hidden)) (s .hidden)
-          (omega (arith, s .headers)) (omega (arith, s .own, s .inline)) (s .inline)
-          (omega (arith, s .own, s .headers, s .metadata, s .nodes, R .headers, R .total))
+          (omega (arith, s .headers)) (omega (arith, s .fronts)) (s .inline)
+          (omega (arith, s .inline, s .fronts, s .headers, s .metadata, s .nodes, R .headers, R .total))
 
   pub rows-fit : Fits (length f) (h .extent .end) (inNodes f ns) (inItems is)
   rows-fit = by (inNodes f ns) (inItems is) sums
@@ -110,8 +110,8 @@ module _ (lim : Limits) (f : List ℕ) {h : Header} {ns : List Node} {is : List 
       by : (k : Frames) (d : Data) → Sums k d → Fits (length f) (h .extent .end) k d
       by k d s = let R = rows-count lim f r in (
         omega (arith, s .headers),
-        omega (arith, s .own, s .inline),
-        omega (arith, s .own, s .headers, s .metadata, s .nodes, R .headers, R .total),
+        omega (arith, s .fronts),
+        omega (arith, s .inline, s .fronts, s .headers, s .metadata, s .nodes, R .headers, R .total),
         omega (arith, s .all, s .hidden),
         omega (arith, s .all, s .metadata),
         accepted lim f r .small,

@@ -44,7 +44,7 @@ module _ (f : List ℕ) (nsize isize : ℕ) {r : Read} {u v : List ℕ} (e : r �
         let x = w .sound .nodes-inside i (subst (λ n. i < n) len m) in
         let y : nodeAt (w .ns) i ≡ nodeFrom u (i * nodeWidth) = ap (λ ns. nodeAt ns i) (sym (w .nodes-are)) ∙ node-at u (s .nodes) i m in
         let p = each-at (Parts f) (w .ns) (rows-parts f (limits nsize isize) (w .reads)) i (subst (λ n. i < n) len m) in
-        subst (Inside f) y (p .metas, p .unpacks, omega (arith, p .refers, p .owns), p .ends, (x .1, w .sound .small)),
+        subst (Inside f) y (p .metas, p .unpacks, omega (arith, p .refers, p .fronts), (x .1, w .sound .small)),
   )
 
   pub rows-stand : RowsFit f (s .headerEnd .0) (s .nodes) u (s .items) v

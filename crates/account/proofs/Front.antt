@@ -1,7 +1,7 @@
 -- A node up to its contents spends its bytes so: the three numbers, the metadata, the unpackers, the reference, each from where the one before ends.
 -- The places are read off its row and four numbers that are read again.
 -- Assumes nothing.
-use mathlib.Core.Path.{_≡_, refl, sym, ap, _∙_, subst}
+use mathlib.Core.Path.{_≡_, refl, ap, _∙_, subst}
 use mathlib.Core.Bool.{Bool, true, false, cond, _||_}
 use mathlib.Core.List.{List, _++_, append-nil}
 use Prim.Native.Nat.{ℕ, _+_, _-_, _≤_, _<_}

@@ -1,4 +1,4 @@
--- The parts of each node of an accepted file follow each other, and are all that it has without the nodes in it; so sums over parts are sums over what they make.
+-- The parts of each node of an accepted file follow each other, up to its contents; so sums over parts are sums over what they make.
 -- Assumes nothing.
 use mathlib.Core.Path.{_≡_, subst}
 use mathlib.Core.List.{List, [], _∷_, _++_}
@@ -8,7 +8,7 @@ use lib.ListN.{length}
 use Rattle.machine.specs.Machine.{rowsOf}
 use Rattle.machine.proofs.Laws.{rows-on}
 use Rattle.machine.proofs.Wp.{at-end}
-use Rattle.cursor.specs.Rows.{inlineSize, Events}
+use Rattle.cursor.specs.Rows.{Events}
 use Rattle.cursor.specs.declared.Node.{Node}
 use Rattle.cursor.specs.declared.Item.{Item}
 use Rattle.cursor.proofs.Leaves.{any-free}
@@ -19,17 +19,16 @@ use Rattle.tree.specs.Rows.{nodeAt}
 use Rattle.tree.proofs.Follow.{read-back}
 use Rattle.tree.proofs.EachNode.{OfRow, own-row, by-nodes}
 use Rattle.account.specs.Account.{sumOver}
-use Rattle.account.specs.ByRows.{metaAt, metaEnd, contentsAt, ownSize}
+use Rattle.account.specs.ByRows.{metaAt, metaEnd, contentsAt, frontSize}
 use Rattle.account.proofs.Front.{front-ordered, front-spends}
-use Rattle.account.proofs.ByRows.{reference-told, front-reference, own-is, contents-at}
+use Rattle.account.proofs.ByRows.{reference-told, front-reference, front-is-all, contents-at}
 
 pub record Parts (f : List ℕ) (r : Node) : Type 0 where
   pub numbers : r .start ≤ metaAt f r
   pub metas : metaAt f r < metaEnd f r
   pub unpacks : metaEnd f r < r .start + r .header
   pub refers : r .start + r .header < contentsAt r
-  pub owns : contentsAt r + inlineSize r ≡ r .start + ownSize r
-  pub ends : ownSize r ≤ r .size
+  pub fronts : contentsAt r ≡ r .start + frontSize r
 
 -- ---- each row of a list
 
@@ -67,15 +66,14 @@ module _ (f : List ℕ) where
       let t = at-end any-free f (reference-told (x .headerEnd) (x .size) (z .is .h .contained) (at + z .is .h .size .0) (z .is .left .p)) (z .is .left .referred) in
       let h = front-reference x parent depth s m f at e body r in
       let c = contents-at x parent depth s m f at e body r in
-      let o = own-is f (w .row) q h (omega (arith, z .header-end, t .0)) in
+      let o = front-is-all f (w .row) q h (omega (arith, z .header-end, t .0)) in
       rw (own-row x parent depth s m f at e) (
         record {
           numbers = omega (arith, y .frames);
           metas = omega (arith, z .meta-at, z .meta-end, z .apart .0);
           unpacks = omega (arith, z .meta-end, z .header-end, z .apart .1);
           refers = omega (arith, z .header-end, t .0);
-          owns = omega (arith, o .0);
-          ends = o .1;
+          fronts = omega (arith, o);
         },
         tt,
       )
@@ -90,7 +88,6 @@ module _ (f : List ℕ) where
   headers-sum [] a = omega arith
   headers-sum (r ∷ ns) a = let h = headers-sum ns (a .1) in let p = a .0 in omega (arith, p .numbers, p .metas, p .unpacks)
 
-  pub own-sum : (ns : List Node) → Each (Parts f) ns → sumOver ownSize ns
-      ≡ sumOver (λ r. r .header) ns + sumOver (λ r. contentsAt r - (r .start + r .header)) ns + sumOver inlineSize ns
-  own-sum [] a = omega arith
-  own-sum (r ∷ ns) a = let h = own-sum ns (a .1) in let p = a .0 in omega (arith, p .refers, p .owns)
+  pub fronts-sum : (ns : List Node) → Each (Parts f) ns → sumOver frontSize ns ≡ sumOver (λ r. r .header) ns + sumOver (λ r. contentsAt r - (r .start + r .header)) ns
+  fronts-sum [] a = omega arith
+  fronts-sum (r ∷ ns) a = let h = fronts-sum ns (a .1) in let p = a .0 in omega (arith, p .refers, p .fronts)

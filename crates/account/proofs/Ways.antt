@@ -1,8 +1,8 @@
 -- What one row gives, from what its calls gave and the tests of its words.
 -- Assumes nothing.
-use mathlib.Core.Path.{_≡_, refl, ap, ap₂, _∙_}
+use mathlib.Core.Path.{_≡_, refl, ap₂, _∙_}
 use mathlib.Core.List.{List}
-use Prim.Native.Nat.{ℕ, _+_, _-_, _≤_, _<_}
+use Prim.Native.Nat.{ℕ, _+_, _≤_, _<_}
 use native.Mathlib.Omega.{arith}
 use lib.ListN.{length}
 use borrow.Author.Tests.{eq-eqb, ne-eqb}
@@ -12,7 +12,7 @@ use Rattle.cursor.specs.Refusals.{cutShort}
 use Rattle.cursor.specs.Leaves.{number}
 use Rattle.cursor.specs.declared.Node.{Node}
 use Rattle.cursor.specs.declared.Item.{Item}
-use Rattle.account.specs.ByRows.{lastByte, behind, counted, metaAt, metaEnd, contentsAt, ownSize, inNodes, inItems, together, kindsBy, Inside}
+use Rattle.account.specs.ByRows.{lastByte, behind, counted, metaAt, metaEnd, contentsAt, followSize, inNodes, inItems, together, kindsBy, Inside}
 use Rattle.account.specs.declared.Kinds.{Kinds}
 use Rattle.account.specs.declared.Frames.{Frames}
 use Rattle.account.specs.declared.Data.{Data}
@@ -55,13 +55,13 @@ module _ (r : Node) where
   unfolding contentsAt
   contents-other e = rw (ne-eqb (r .reference) 1 e) refl
 
-  pub own-file : r .contained ≡ 0 → r .size ≡ ownSize r
-  unfolding ownSize
-  own-file e = rw (eq-eqb (r .contained) 0 e) refl
+  pub follow-one : r .reference ≡ 1 → r .extent ≡ followSize r
+  unfolding followSize
+  follow-one e = rw (eq-eqb (r .reference) 1 e) refl
 
-  pub own-folder : ((r .contained ≡ 0) → ⊥) → r .target - r .start ≡ ownSize r
-  unfolding ownSize
-  own-folder e = rw (ne-eqb (r .contained) 0 e) refl
+  pub follow-none : ((r .reference ≡ 1) → ⊥) → 0 ≡ followSize r
+  unfolding followSize
+  follow-none e = rw (ne-eqb (r .reference) 1 e) refl
 
 -- the counts of a file, in three calls
 pub in-turn : (f : List ℕ) (end : ℕ) (ns : List Node) (is : List Item) {a : Frames} {b : Data} {c : Kinds} → a ≡ inNodes f ns → b ≡ inItems

@@ -54,19 +54,22 @@ metaEnd f r = metaAt f r + counted (metaAt f r) (run (number metaFrame cutShort 
 unfoldable pub contentsAt : Node → ℕ
 contentsAt r = cond (eqb (r .reference) 1) (r .target) (r .start + r .size)
 
--- how many bytes it has without the nodes in it
-unfoldable pub ownSize : Node → ℕ
-ownSize r = cond (eqb (r .contained) 0) (r .size) (r .target - r .start)
+-- what follows a reference 1, which runs to the node's end; and the bytes before the contents
+unfoldable pub followSize : Node → ℕ
+followSize r = cond (eqb (r .reference) 1) (r .extent) 0
+
+abbrev pub frontSize : Node → ℕ
+frontSize r = r .size - followSize r
 
 -- ---- sums over rows
 
--- the own bytes of nodes: the three numbers; the metadata with its data; all up to the reference; all; inline data
+-- the own bytes of nodes: the three numbers; the metadata with its data; all before the reference; all before the contents; inline data
 abbrev pub withNode : List ℕ → Frames → Node → Frames
 withNode f k r = record {
   nodes = k .nodes + (metaAt f r - r .start);
   metadata = k .metadata + (metaEnd f r - metaAt f r);
   headers = k .headers + r .header;
-  own = k .own + ownSize r;
+  fronts = k .fronts + frontSize r;
   inline = k .inline + inlineSize r;
 }
 
@@ -80,7 +83,7 @@ folded add s [] = s
 folded add s (r ∷ rs) = folded add (add s r) rs
 
 abbrev pub none : Frames
-none = record { nodes = 0; metadata = 0; headers = 0; own = 0; inline = 0 }
+none = record { nodes = 0; metadata = 0; headers = 0; fronts = 0; inline = 0 }
 
 abbrev pub inNodes : List ℕ → List Node → Frames
 inNodes f ns = folded (withNode f) none ns
@@ -101,9 +104,9 @@ together size end k d = record {
   visible = d .all - d .hidden;
   hidden = d .hidden;
   unpackers = k .headers - k .nodes - k .metadata;
-  references = k .own - k .headers - k .inline;
+  references = k .fronts - k .headers;
   inline = k .inline;
-  rest = size - end - k .own;
+  rest = size - end - k .fronts - k .inline;
 }
 
 unfoldable pub kindsBy : List ℕ → (end : ℕ) → List Node → List Item → Kinds
@@ -112,7 +115,7 @@ kindsBy f end ns is = together (length f) end (inNodes f ns) (inItems is)
 -- ---- what the code knows of the rows: the parts of a node follow each other, and it lies in the file, which is no longer than an accepted one may be
 
 abbrev pub Inside : List ℕ → Node → Type 0
-Inside f r = (metaAt f r < metaEnd f r) × (metaEnd f r < r .start + r .header) × (r .header < ownSize r) × (ownSize r ≤ r .size) × Readable (r .start + r .size) f
+Inside f r = (metaAt f r < metaEnd f r) × (metaEnd f r < r .start + r .header) × (r .header < frontSize r) × Readable (r .start + r .size) f
 
 -- n rows stand in the words, each so
 abbrev pub NodesInside : List ℕ → (n : ℕ) → List ℕ → Type 0
@@ -120,14 +123,14 @@ NodesInside f n ws = (n * nodeWidth ≤ length ws) × ((i : ℕ) → i < n → I
 
 -- sums are no greater than an accepted file may be long
 abbrev pub SmallFrames : Frames → Type 0
-SmallFrames k = (k .nodes < 2 ^ 28) × (k .metadata < 2 ^ 28) × (k .headers < 2 ^ 28) × (k .own < 2 ^ 28) × (k .inline < 2 ^ 28)
+SmallFrames k = (k .nodes < 2 ^ 28) × (k .metadata < 2 ^ 28) × (k .headers < 2 ^ 28) × (k .fronts < 2 ^ 28) × (k .inline < 2 ^ 28)
 
 abbrev pub SmallData : Data → Type 0
 SmallData d = (d .all < 2 ^ 28) × (d .hidden < 2 ^ 28)
 
 -- and none is greater than what it is taken out of
 abbrev pub Fits : (size end : ℕ) → Frames → Data → Type 0
-Fits size end k d = (k .nodes + k .metadata ≤ k .headers) × (k .headers + k .inline ≤ k .own) × (end + k .own ≤ size) × (d .hidden ≤ d .all) × (d .all ≤ k .metadata) × (size < 2 ^ 28)
+Fits size end k d = (k .nodes + k .metadata ≤ k .headers) × (k .headers ≤ k .fronts) × (end + k .fronts + k .inline ≤ size) × (d .hidden ≤ d .all) × (d .all ≤ k .metadata) × (size < 2 ^ 28)
 
 abbrev pub RowsFit : List ℕ → (end nodeCount : ℕ) → List ℕ → (itemCount : ℕ) → List ℕ → Type 0
 RowsFit f end n ws m vs = NodesInside f n ws × (m * itemWidth ≤ length vs) × Fits (length f) end (inNodes f (nodesIn n ws)) (inItems (itemsIn m vs))

@@ -9,7 +9,7 @@ ghost use Rattle.cursor.specs.Leaves.{number};
 ghost use Rattle.cursor.specs.Told.{Readable};
 ghost use Rattle.metadata.specs.Tables.{itemWidth};
 ghost use Rattle.tree.specs.Rows.{nodesIn, itemsIn};
-ghost use Rattle.account.specs.ByRows.{lastByte, counted, metaAt, ownSize, withNode, inNodes, withItem, inItems, together, kindsBy, Inside, NodesInside, SmallFrames, SmallData, Fits, RowsFit};
+ghost use Rattle.account.specs.ByRows.{lastByte, counted, metaAt, followSize, withNode, inNodes, withItem, inItems, together, kindsBy, Inside, NodesInside, SmallFrames, SmallData, Fits, RowsFit};
 ghost use Rattle.account.specs.Totals.{plusKinds, added, refusedOne};
 ghost use Rattle.account.specs.Told.{told, totalsIn, answer, totalsAfter, nodesAfter, itemsAfter};
 use cursor::Cursor;
@@ -36,12 +36,12 @@ pub struct Kinds {
     pub rest: usize,
 }
 
-// The own bytes of nodes: their three numbers, the metadata with its data, all up to the reference, all, and inline data.
+// The own bytes of nodes: their three numbers, the metadata with its data, all before the reference, all before the contents, and inline data.
 struct Frames {
     nodes: usize,
     metadata: usize,
     headers: usize,
-    own: usize,
+    fronts: usize,
     inline: usize,
 }
 
@@ -109,15 +109,14 @@ fn meta_at(file: &[u8], row: Node) -> usize
     last_byte(file, header) + 1
 }
 
-// The bytes that it has without the nodes in it.
-fn own_size(row: Node) -> usize
-    requires { ⌜ 0 < ownSize row ⌝ }
-    ensures { λ r. ⌜ r ≡ ownSize row ⌝ }
+// The bytes that follow its reference 1, which are its contents.
+fn follow_size(row: Node) -> usize
+    ensures { λ r. ⌜ r ≡ followSize row ⌝ }
 {
-    if row.contained == 0 {
-        return row.size as usize;
+    if row.reference == 1 {
+        return row.extent as usize;
     }
-    (row.target - row.start) as usize
+    0
 }
 
 // The bytes of its inline data.
@@ -137,17 +136,18 @@ fn with_node(k: Frames, file: &[u8], row: Node) -> Frames
     requires { ⌜ Inside (now file) row × SmallFrames (withNode (now file) k row) ⌝ }
     ensures { λ r. ⌜ r ≡ withNode (now (file .entry)) k row ⌝ }
 {
+    let headers = k.headers + row.header as usize;
+    let fronts = k.fronts + (row.size as usize - follow_size(row));
+    let inline = k.inline + inline_size(row);
     let start = row.start as usize;
     let meta = meta_at(file, row);
     let block = block_size(file, start + row.size as usize, meta);
-    let own = own_size(row);
-    let inline = inline_size(row);
     Frames {
         nodes: k.nodes + (meta - start),
         metadata: k.metadata + block,
-        headers: k.headers + row.header as usize,
-        own: k.own + own,
-        inline: k.inline + inline,
+        headers,
+        fronts,
+        inline,
     }
 }
 
@@ -160,7 +160,7 @@ fn in_nodes(file: &[u8], nodes: &[u64], count: usize) -> Frames
         nodes: 0,
         metadata: 0,
         headers: 0,
-        own: 0,
+        fronts: 0,
         inline: 0,
     };
     let mut i = 0;
@@ -208,9 +208,9 @@ fn together(size: usize, end: FilePlace, k: Frames, d: Data) -> Kinds
         visible: d.all - d.hidden,
         hidden: d.hidden,
         unpackers: k.headers - k.nodes - k.metadata,
-        references: k.own - k.headers - k.inline,
+        references: k.fronts - k.headers,
         inline: k.inline,
-        rest: size - end.0 - k.own,
+        rest: size - end.0 - k.fronts - k.inline,
     }
 }
 
