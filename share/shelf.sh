@@ -1,6 +1,6 @@
 # shellcheck shell=sh disable=SC2094 # the temporary file is written, then read
 # Sourced by xmf: the calls of the shelf. A call holds a lock on the folder of the shelf's file while it runs. The system takes the lock away when the call's
-# processes have ended, however they end, and nothing is left in the folder. A shelf that is changed gets a new file in the place of the old one (crates/xmf/src/shelves.rt).
+# processes have ended, however they end, and nothing is left in the folder. A shelf that is changed gets a new file in the place of the old one (crates/storage/src/replaced.rt).
 case $#,$1 in
 1,new | [45],put | 4,get | 4,drop) ;;
 *) usage 'new; put DESK CALL BOAT [SHEET]; get DESK CALL BOAT; or drop DESK CALL BOAT' ;;

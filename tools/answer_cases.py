@@ -1,14 +1,16 @@
 #!/usr/bin/env python3
-"""Makes the cases of crates/cases_answers, its files stdin and stdout: questions of the command, and their answers.
+"""Makes the command's cases of crates/cases, the lines of its files stdin and stdout whose question is a single letter: questions of the command, and their
+answers.
 
 The answers are not the program's. A plain reader of accepted files, a mover of sheets, a walk over ID3 tags and a mender, written from the rules, make
-the texts; what the reader refuses, the verdicts, the files with another title and the conversions are those of the cases of crates/cases_*. Before anything is
+the texts; what the reader refuses, the verdicts, the files with another title and the conversions are those of the other cases. Before anything is
 written, all of this is compared with all of those cases that it can answer.
 
-Run it in the repository's folder: python3 tools/answer_cases.py. It fails, and writes nothing, where an answer of crates/cases_* is not its own. The
-program is then compared with what it wrote by `rt check cases_answers`, which fails at a byte that differs, in stdin or in stdout.
+Run it in the repository's folder: python3 tools/answer_cases.py. It fails, and writes nothing, where an answer of the other cases is not its own. Those stay
+as they are, in front. The program is then compared with what it wrote by `rt check cases`, which fails at a byte that differs, in stdin or in stdout.
 """
 
+import functools
 import itertools
 import re
 
@@ -490,16 +492,24 @@ def tag_answer(tag, one=None):
     return 0, frame_lines(tag, one)
 
 
-# ---- the cases of the questions, as the crates have them
+# ---- the cases of the questions, as crates/cases has them
 
 
-def cases(name):
+@functools.cache
+def others():
+    """All cases but the command's: the line of the case, and the lines of the answer, two for a shelf."""
+    with open("crates/cases/stdin") as cases, open("crates/cases/stdout") as answers:
+        pairs = [(case, [next(answers) for _ in range(2 if case.startswith("shelf ") else 1)]) for case in cases]
+        assert not answers.read()
+    return [(case, said) for case, said in pairs if case[1] != " "]
+
+
+def cases(*questions):
     """Words of the case, and words of the answer; whole tables only."""
-    with open(f"crates/cases_{name}/stdin") as cases, open(f"crates/cases_{name}/stdout") as answers:
-        for case, said in zip(cases, answers, strict=True):
-            words = case.split()
-            if len(words) < 4 or words[0].startswith(("utf", "move")) or words[2:4] == FULL:
-                yield words, said.split()
+    for case, (said, *_) in others():
+        words = case.split()
+        if words[0] in questions and (len(words) < 4 or words[0] in ("utf8", "utf16", "move") or words[2:4] == FULL):
+            yield words, said.split()
 
 
 def unhex(word):
@@ -535,23 +545,23 @@ def compare():
             rows = ["n:" + ";".join(",".join(map(str, r)) for r in file.nodes), "i:" + ";".join(",".join(map(str, r)) for r in file.items)]
             same(words, ["ok", file.version, str(len(file.nodes)), str(len(file.items)), *rows], said[:6])
     own = range(18, 24)
-    for words, said in cases("find"):
+    for words, said in cases("find", "findown"):
         if said[0] == "ok" or int(said[1]) in own:
             file = File(unhex(words[1]))
             wanted = int(words[6]) if words[5] == "S" else unhex(words[6])
             asked(words, [said[0], *" ".join(said[1:]).replace(",", " ").split()], lambda: (k := file.find(int(words[4]), wanted, words[0] == "find"), *(file.items[k] if said[0] == "ok" else [])))
     for words, said in cases("resolve"):
-        if words[0] == "resolve" and (said[0] == "ok" or int(said[1]) in own):
+        if said[0] == "ok" or int(said[1]) in own:
             asked(words, said[:5], lambda: File(unhex(words[1])).resolve(int(words[4])))
-    for words, said in cases("sheet"):
+    for words, said in cases("sheet", "sheet2"):
         if said[0] == "ok":
             same(words, File(unhex(words[1])).sheet(words[0] == "sheet2"), unhex(said[1]))
     for words, said in cases("move"):
         asked(words, said, lambda: [fitting(moved(unhex(words[1])), int(words[2])).hex() or "-"])
-    for words, said in cases("account"):
-        if words[0] == "bytes" and said[0] == "ok":
+    for words, said in cases("bytes"):
+        if said[0] == "ok":
             asked(words, said, lambda: File(unhex(words[1])).counts())
-    for words, said in cases("id3"):
+    for words, said in cases("id3", "id3frame"):
         if words[0] == "id3":
             asked(words, said, lambda: [len(frames(unhex(words[1])))])
         else:
@@ -560,8 +570,8 @@ def compare():
         if said[0] == "ok" or said[1] == "22":
             parts = mended(unhex(words[1]))
             asked(words, said, lambda: [fitting(part, int(room)).hex() or "-" for part, room in zip(parts, words[4:6])])
-    for words, said in cases("description"):
-        if words[0] == "count" and (said[0] == "ok" or int(said[1]) in (18, 23, 25)):
+    for words, said in cases("count"):
+        if said[0] == "ok" or int(said[1]) in (18, 23, 25):
             file = File(unhex(words[1]))
             row, channel, resource = map(int, words[4:7])
 
@@ -737,9 +747,9 @@ def later(made, tree):
     for number, (words, said) in sorted(shortest.items()):
         for others in "SbBuf", "uhFHS":
             made.refuse(unhex(words[1]), number, int(said[2]), others)
-    for words, _ in spread(((w, s) for w, s in small(cases("sheet")) if w[0] == "sheet2" and s[0] == "ok"), 12):
+    for words, _ in spread(((w, s) for w, s in small(cases("sheet2")) if s[0] == "ok"), 12):
         made.ask(File(unhex(words[1])), "S", room=int(words[4]))
-    for words, _ in spread(((w, s) for w, s in small(cases("account")) if w[0] == "bytes" and s[0] == "ok"), 15):
+    for words, _ in spread(((w, s) for w, s in small(cases("bytes")) if s[0] == "ok"), 15):
         for question in "bBu":
             made.ask(File(unhex(words[1])), question)
     # of sheets, all that is moved in each direction, and refusals at many lines
@@ -753,8 +763,7 @@ def later(made, tree):
     # of tags, each refusal with its places, and tags of no, one and more frames
     groups = {}
     for words, said in cases("id3"):
-        if words[0] == "id3":
-            groups.setdefault(tuple(said), []).append(unhex(words[1]))
+        groups.setdefault(tuple(said), []).append(unhex(words[1]))
     for tags in groups.values():
         for tag in spread(tags, 1):
             made.tag(tag)
@@ -787,8 +796,8 @@ def main():
     for number in numbers:
         for words, said in spread(((w, s) for w, s in tree if s[:2] == ["R", str(number)]), 1):
             made.refuse(unhex(words[1]), number, int(said[2]))
-    for words, said in spread(small(cases("description")), 60):
-        if words[0] == "count" and (said[0] == "ok" or int(said[1]) in (18, 23, 25)):
+    for words, said in spread(small(cases("count")), 60):
+        if said[0] == "ok" or int(said[1]) in (18, 23, 25):
             file = File(unhex(words[1]))
             made.ask(file, "k", tuple(map(int, words[4:7])))
             made.ask(file, "i", (int(words[4]),))
@@ -811,14 +820,17 @@ def main():
         except (IndexError, KeyError, UnicodeDecodeError):
             pass
     for name, letter in ("utf8", "8"), ("utf16", "6"):
-        for words, said in spread(((w, s) for w, s in cases("unicode") if w[0] == name and len(w[1]) < 200), 40):
+        for words, said in spread(((w, s) for w, s in cases(name) if len(w[1]) < 200), 40):
             room = int(words[2])
             said = (0, unhex(said[1])) if said[0] == "ok" else refused(room, b"", *map(int, said[1:]))
             made.add(letter, unhex(words[1]), said, room=room)
     later(made, tree)
-    with open("crates/cases_answers/stdin", "w") as lines:
+    kept = others()
+    with open("crates/cases/stdin", "w") as lines:
+        lines.writelines(case for case, _ in kept)
         lines.writelines(line + "\n" for line in made.lines)
-    with open("crates/cases_answers/stdout", "w") as lines:
+    with open("crates/cases/stdout", "w") as lines:
+        lines.writelines(line for _, said in kept for line in said)
         lines.writelines(line + "\n" for line in made.lines.values())
     print(f"{tried} answers of the questions compared, {len(made.lines)} cases made")
 

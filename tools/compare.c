@@ -1,8 +1,8 @@
 // Two builds of the proved reader, for tools/compare.sh, which renames the functions of the first to before_*.
 //   compare QUESTION FILE                  both take turns: the median time of a call, in nanoseconds, and the ratio after to before
 //   compare BUILD QUESTION FILE CALLS      so many calls of one build, before or after, whose instructions are counted
-// QUESTION is tree, sheet, verdict, find (a field that is on no node, from the last row on, so that all of its path is looked at) or correct (the title of the first item
-// row that takes another). Tables and buffer are full. Both builds must leave the same.
+// QUESTION is tree, sheet, verdict, account (with totals that are all zero), find (a field that is on no node, from the last row on, so that all of its path is looked at)
+// or correct (the title of the first item row that takes another). Tables and buffer are full. Both builds must leave the same.
 #include <stdint.h>
 #include <stdio.h>
 #include <stdlib.h>
@@ -15,21 +15,24 @@ enum { NODE_WORDS = XMF_ALL_NODE_WORDS, ITEM_WORDS = XMF_ALL_ITEM_WORDS, ROOM = 
 
 typedef void table_call(const uint8_t *, size_t, uint64_t *, size_t, uint64_t *, size_t, uint64_t *, size_t);
 typedef void sheet_call(const uint8_t *, size_t, uint64_t *, size_t, uint64_t *, size_t, uint8_t *, size_t, uint64_t *, size_t);
+typedef void totals_call(const uint8_t *, size_t, uint64_t *, size_t, uint64_t *, size_t, uint64_t *, size_t, uint64_t *, size_t);
 typedef void find_call(const uint8_t *, size_t, uint64_t *, size_t, uint64_t *, size_t, size_t, uint64_t, uint64_t, const uint8_t *, size_t, uint64_t *, size_t);
 typedef void title_call(const uint8_t *, size_t, uint64_t *, size_t, uint64_t *, size_t, size_t, const uint8_t *, size_t, uint8_t *, size_t, uint64_t *, size_t);
 table_call before_read_tree, before_judge;
 sheet_call before_write_sheet;
+totals_call before_account;
 find_call before_find;
 title_call before_correct_title;
 
 static table_call *const trees[] = {before_read_tree, xmf_read_tree};
 static table_call *const verdicts[] = {before_judge, xmf_judge};
 static sheet_call *const sheets[] = {before_write_sheet, xmf_write_sheet};
+static totals_call *const accounts[] = {before_account, xmf_account};
 static find_call *const finds[] = {before_find, xmf_find};
 static title_call *const titles[] = {before_correct_title, xmf_correct_title};
 
 struct lent {
-    uint64_t nodes[NODE_WORDS], items[ITEM_WORDS], answer[WORDS];
+    uint64_t nodes[NODE_WORDS], items[ITEM_WORDS], totals[XMF_TOTAL_WORDS], answer[WORDS];
     uint8_t sheet[ROOM];
 };
 
@@ -44,6 +47,10 @@ static void call(int build, char question) {
     switch (question) {
     case 's':
         sheets[build](file, size, l->nodes, NODE_WORDS, l->items, ITEM_WORDS, l->sheet, ROOM, l->answer, WORDS);
+        break;
+    case 'a':
+        memset(l->totals, 0, sizeof l->totals);
+        accounts[build](file, size, l->nodes, NODE_WORDS, l->items, ITEM_WORDS, l->totals, XMF_TOTAL_WORDS, l->answer, WORDS);
         break;
     case 'f':
         finds[build](file, size, l->nodes, NODE_WORDS, l->items, ITEM_WORDS, last_row, 0, 0xfffffff, NULL, 0, l->answer, WORDS);

@@ -31,7 +31,7 @@ printf '%-12s %-8s %10s %10s %6s' file question 'ns before' after ratio
 if command -v valgrind >/dev/null; then printf ' %12s %10s %6s' 'instructions' after ratio; fi
 echo
 for file in "$@"; do
-    for question in tree sheet verdict find correct; do
+    for question in tree sheet verdict account find correct; do
         line=$("$work/compare" "$question" "$file")
         if command -v valgrind >/dev/null; then
             b=$(instructions before "$question" "$file")

@@ -29,10 +29,11 @@ use Rattle.node.specs.Node.{head, unpackers, reference, front}
 use Rattle.node.specs.declared.Bounds.{Bounds}
 use Rattle.node.specs.declared.Front.{Front}
 use Rattle.node.proofs.Uses.{head-uses, unpackers-use, reference-uses}
-use Rattle.tree.specs.Reading.{nodeOf, nodesOf, itemsOf, rows, readFile}
-use Rattle.tree.proofs.EachNode.{ownEvents, OfRow, own-row, by-nodes}
-use Rattle.tree.proofs.Follow.{ReadAs, read-back}
-use Rattle.tree.proofs.Shown.{header-of, log-inside}
+use Rattle.rows.specs.Rows.{nodeOf, nodesOf, itemsOf}
+use Rattle.file.specs.Reading.{rows, readFile}
+use Rattle.file_laws.proofs.EachNode.{ownEvents, OfRow, own-row, by-nodes}
+use Rattle.file.proofs.Follow.{ReadAs, read-back}
+use Rattle.file.proofs.Shown.{header-of, log-inside}
 use Rattle.account.specs.Account.{kindOfFrame, kindOfPlain, kindOf, kind, size, kindAt, Had, IsOf, eventsOf}
 use Rattle.account.specs.ByRows.{contentsAt, folded}
 use Rattle.account.specs.ByPlace.{Span, over, headerSpan, nodeSpans, itemSpan, overNode, overItem, kindByRows}

@@ -27,11 +27,12 @@ use Rattle.node.specs.declared.Reference.{Reference}
 use Rattle.node.specs.declared.Bounds.{Bounds}
 use Rattle.node.specs.declared.Front.{Front}
 use Rattle.tree.specs.Tree.{folder, detached}
-use Rattle.tree.specs.Reading.{nodeOf, nodesOf, rows}
-use Rattle.tree.proofs.Follow.{ReadAs}
-use Rattle.tree.proofs.EachNode.{OfRow, own-row, by-nodes}
+use Rattle.rows.specs.Rows.{nodeOf, nodesOf}
+use Rattle.file.specs.Reading.{rows}
+use Rattle.file.proofs.Follow.{ReadAs}
+use Rattle.file_laws.proofs.EachNode.{OfRow, own-row, by-nodes}
 use Rattle.account.specs.Account.{sumOver}
-use Rattle.account.specs.ByRows.{metaAt, metaEnd, contentsAt}
+use Rattle.account.specs.ByRows.{metaAt, metaEnd, contentsAt, followSize, frontSize}
 use Rattle.account.proofs.Places.{count}
 use Rattle.account.proofs.Spent.{count-on}
 use Rattle.cursor.proofs.Apart.{at-place, at-check}
@@ -76,13 +77,13 @@ module _ (t : ℕ → Bool) (c : Node → ℕ) (f : List ℕ) where
 no : {X : Type 0} → false ≡ true → X
 no e = let z : _≡_ {A = ℕ} 0 1 = cc in absurd (omega arith)
 
-data Behind (f : List ℕ) (r : Node) (q : ℕ) : Type 0 where
-  one : r .reference ≡ 1 → r .target ≡ q → Behind f r q
+pub data Behind (f : List ℕ) (r : Node) (q : ℕ) : Type 0 where
+  one : r .reference ≡ 1 → r .target ≡ q → r .extent ≡ r .start + r .size - q → q ≤ r .start + r .size → Behind f r q
   other : 1 < r .reference → r .start + r .size ≡ q → Behind f r q
 
--- a reference 1 ends where its target begins; any other is no folder's
-abbrev Told : (contained end : ℕ) → Reference → ℕ → Type 0
-Told contained end r q = (q ≤ end) × (((r .kind ≡ 1) × (r .target ≡ q)) ⊎ ((contained ≡ 0) × (1 < r .kind)))
+-- a reference 1 ends where its target begins, which runs to the node's end; any other is no folder's
+abbrev pub Told : (contained end at : ℕ) → Reference → ℕ → Type 0
+Told contained end at r q = (at < q) × (q ≤ end) × (((r .kind ≡ 1) × (r .target ≡ q) × (r .extent ≡ end - q)) ⊎ ((contained ≡ 0) × (1 < r .kind)))
 
 no-folder : (contained r : ℕ) → (eqb contained 0 || eqb r 1) ≡ true → eqb r 1 ≡ false → contained ≡ 0
 no-folder contained r a b = by (eqb contained 0) (eqb r 1) refl a b
@@ -92,15 +93,15 @@ no-folder contained r a b = by (eqb contained 0) (eqb r 1) refl a b
     by false true e a b = no (sym b)
     by false false e a b = no a
 
-reference-told : (headerEnd size contained end at : ℕ) → Wp Any (reference headerEnd size contained end) (Told contained end) at
+pub reference-told : (headerEnd size contained end at : ℕ) → Wp Any (reference headerEnd size contained end) (Told contained end at) at
 unfolding reference target resource nodePlace uriPlace
 reference-told headerEnd size contained end at =
     wp-place _ at (wp-after (number-on _ _ end at) λ r q x. wp-check _ _ λ t. wp-check _ _ λ u. wp-check _ _ λ v.
-    wp-if (λ a. wp-place _ q (wp-ret (omega arith, inl (eqb-true r 1 a, refl)))) λ a.
+    wp-if (λ a. wp-place _ q (wp-ret (omega arith, omega arith, inl (eqb-true r 1 a, refl, refl)))) λ a.
     let z = no-folder contained r v a in
-    wp-if (λ b. wp-place _ q (wp-after (number-on _ _ end q) λ o p y. wp-check _ _ λ c. wp-check _ _ λ d. wp-ret (omega arith, inr (z, omega arith)))) λ b.
-    wp-if (λ c. wp-after (number-on _ _ end q) λ o p y. wp-ret (omega arith, inr (z, omega arith)))
-    λ c. wp-after (block-on _ _ end q) λ n p y. wp-place _ p (wp-skip _ _ tt (λ _. wp-ret (omega arith, inr (z, omega arith)))))
+    wp-if (λ b. wp-place _ q (wp-after (number-on _ _ end q) λ o p y. wp-check _ _ λ c. wp-check _ _ λ d. wp-ret (omega arith, omega arith, inr (z, omega arith)))) λ b.
+    wp-if (λ c. wp-after (number-on _ _ end q) λ o p y. wp-ret (omega arith, omega arith, inr (z, omega arith)))
+    λ c. wp-after (block-on _ _ end q) λ n p y. wp-place _ p (wp-skip _ _ tt (λ _. wp-ret (omega arith, omega arith, inr (z, omega arith)))))
 
 ok-place : {A : Type 0} {a b : A} {p q : ℕ} → _≡_ {A = Out A} (ok a p) (ok b q) → p ≡ q
 ok-place e = cc
@@ -120,7 +121,7 @@ never-inline : (c : Bool) (n : ℕ) → sizeIf (c && false) n ≡ 0
 never-inline true n = refl
 never-inline false n = refl
 
-front-reference : (x : Context) (parent depth : ℕ) (s : Bounds) (m : Made) (f : List ℕ) (at : ℕ) {w : Front} {q : ℕ} → run (front x parent depth s m) f at ≡ ok w q
+pub front-reference : (x : Context) (parent depth : ℕ) (s : Bounds) (m : Made) (f : List ℕ) (at : ℕ) {w : Front} {q : ℕ} → run (front x parent depth s m) f at ≡ ok w q
     → (body : Made → P Made) {b : Made} {v : ℕ} → run (folder (at + w .row .size) (times (w .row .contained) body (plusNode (w .made)))) f
     (q + inlineSize (w .row)) ≡ ok b v → Behind f (w .row) q
 front-reference x parent depth s m f at {w} {q} e body {b} {v} r =
@@ -129,14 +130,20 @@ front-reference x parent depth s m f at {w} {q} e body {b} {v} r =
     by (y .h) parent depth (s .detached) (y .o .reference) (y .o .unpackers) (y .m′ .items - m .items) (w .row) (w .made) (y .row-is) t r
   where
     by : (h : Head) (parent depth d : ℕ) (o : Reference) (u : Unpackers) (n : ℕ) (row : Node) (made : Made) → rowOf at h parent depth d o u n ≡
-        row → Told (h .contained) (at + h .size .0) o q
+        row → {p : ℕ} → Told (h .contained) (at + h .size .0) p o q
         → run (folder (at + row .size) (times (row .contained) body (plusNode made))) f (q + inlineSize row) ≡ ok b v → Behind f row q
-    by h parent depth d o u n row made z (l, inl k) r = subst (λ i. Behind f i q) z (one (k .0) (k .1))
-    by h parent depth d o u n row made z (l, inr k) r =
+    by h parent depth d o u n row made z (_, l, inl k) r = subst (λ i. Behind f i q) z (one (k .0) (k .1) (k .2) l)
+    by h parent depth d o u n row made z (_, l, inr k) r =
         let r′ = subst (λ i. run (folder (at + i .size) (times (i .contained) body (plusNode made))) f (q + inlineSize i) ≡ ok b v) (sym z) r in
         let i : inlineSize (rowOf at h parent depth d o u n) ≡ 0 = simp (ne-eqb (o .kind) 1 (λ e. omega arith)) (never-inline (eqb (h .contained) 0) (o .extent)) in
         let j = nothing-left (h .contained) (k .0) (at + h .size .0) body (plusNode made) f _ r′ in
         subst (λ i. Behind f i q) z (other (k .1) (omega arith))
+
+-- it is the last of what stands before the contents
+pub front-is-all : (f : List ℕ) (r : Node) (q : ℕ) → Behind f r q → r .start < q → q ≡ r .start + frontSize r
+unfolding followSize
+front-is-all f r q (one i j k l) s = rw (eq-eqb (r .reference) 1 i) (omega arith)
+front-is-all f r q (other i j) s = rw (ne-eqb (r .reference) 1 (λ z. omega arith)) (omega arith)
 
 -- so it ends where the contents begin
 pub contents-at : (x : Context) (parent depth : ℕ) (s : Bounds) (m : Made) (f : List ℕ) (at : ℕ) {w : Front} {q : ℕ} → run (front x parent depth s m) f at ≡ ok w q
@@ -146,7 +153,7 @@ unfolding contentsAt
 contents-at x parent depth s m f at {w} {q} e body r = by (front-reference x parent depth s m f at e body r)
   where
     by : Behind f (w .row) q → (cond (eqb (w .row .reference) 1) (w .row .target) (w .row .start + w .row .size)) ≡ q
-    by (one i j) = rw (eq-eqb (w .row .reference) 1 i) j
+    by (one i j k l) = rw (eq-eqb (w .row .reference) 1 i) j
     by (other i j) = rw (ne-eqb (w .row .reference) 1 (λ z. omega arith)) j
 
 -- ---- the kinds, by rows

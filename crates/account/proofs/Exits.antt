@@ -4,25 +4,28 @@ use mathlib.Core.Path.{_≡_, refl, sym, ap, ap₂, _∙_, subst}
 use mathlib.Core.Bool.{true, false}
 use mathlib.Core.List.{List}
 use Prim.Native.Nat.{ℕ, _*_, _≤_, _<_}
+use native.Mathlib.Omega.{arith}
 use lib.Dec.{leb}
 use lib.ListN.{length, replicate}
 use borrow.Author.Tests.{le-leb, lt-leb}
 use Rattle.cursor.specs.declared.FilePlace.{FilePlace}
-use Rattle.metadata.specs.Tables.{nodeWidth, itemWidth, limits}
-use Rattle.tree.specs.Reading.{readFile, readOf, nodeTable, itemTable}
-use Rattle.tree.specs.Rows.{nodesIn, itemsIn, nodeAt, nodeFrom}
-use Rattle.tree.specs.Asking.{Result, good, bad, ask, keptNodes, keptItems}
-use Rattle.tree.specs.declared.Summary.{Summary}
-use Rattle.tree.specs.declared.Read.{Read}
-use Rattle.tree.specs.declared.Read.the-variants as read
-use Rattle.tree.proofs.Rows.{node-at, nodes-in-length, Standing, standing}
-use Rattle.tree.proofs.Exits.{says-unread, says-answer}
+use Rattle.rows.specs.Rows.{nodeWidth, itemWidth, nodesIn, itemsIn, nodeAt, nodeFrom}
+use Rattle.metadata.specs.Tables.{limits}
+use Rattle.file.specs.Reading.{readFile, readOf, nodeTable, itemTable}
+use Rattle.file.specs.Asking.{Result, good, bad, ask, keptNodes, keptItems}
+use Rattle.file.specs.declared.Summary.{Summary}
+use Rattle.file.specs.declared.Read.{Read}
+use Rattle.file.specs.declared.Read.the-variants as read
+use Rattle.rows.proofs.Rows.{node-at, nodes-in-length}
+use Rattle.file.proofs.Rows.{Standing, standing}
+use Rattle.file.proofs.Exits.{says-unread, says-answer}
 use Rattle.account.specs.Account.{kindsOf, counts, eventsOf}
-use Rattle.account.specs.ByRows.{Inside, NodesInside, kindsBy}
+use Rattle.account.specs.ByRows.{Inside, NodesInside, RowsFit, kindsBy}
 use Rattle.account.specs.Totals.{mostFiles, added, refusedOne, oneMore, allowed, totalsLeft}
 use Rattle.account.specs.declared.Kinds.{Kinds}
 use Rattle.account.specs.declared.Totals.{Totals}
-use Rattle.account.proofs.Exact.{kinds-are}
+use Rattle.account.proofs.Parts.{Parts, each-at, rows-parts}
+use Rattle.account.proofs.Exact.{kinds-are, rows-fit}
 
 -- ---- what the code knows of the rows that were read
 
@@ -41,7 +44,15 @@ module _ (f : List ℕ) (nsize isize : ℕ) {r : Read} {u v : List ℕ} (e : r �
         let len : s .nodes ≡ length (w .ns) = sym (nodes-in-length u (s .nodes)) ∙ ap length (w .nodes-are) in
         let x = w .sound .nodes-inside i (subst (λ n. i < n) len m) in
         let y : nodeAt (w .ns) i ≡ nodeFrom u (i * nodeWidth) = ap (λ ns. nodeAt ns i) (sym (w .nodes-are)) ∙ node-at u (s .nodes) i m in
-        subst (Inside f) y (x .0, (x .1, w .sound .small)),
+        let p = each-at (Parts f) (w .ns) (rows-parts f (limits nsize isize) (w .reads)) i (subst (λ n. i < n) len m) in
+        subst (Inside f) y (p .metas, p .unpacks, omega (arith, p .refers, p .fronts), (x .1, w .sound .small)),
+  )
+
+  pub rows-stand : RowsFit f (s .headerEnd .0) (s .nodes) u (s .items) v
+  rows-stand = let w = stands in (
+    nodes-stand,
+    items-stand,
+    rw (ap (λ (y : Summary). y .headerEnd .0) (w .summed), w .nodes-are, w .items-are) (rows-fit (limits nsize isize) f (w .reads)),
   )
 
 -- ---- the ways out

@@ -15,11 +15,12 @@ use Rattle.machine.proofs.Wp.{All}
 use Rattle.header.specs.Header.{Header, header}
 use Rattle.metadata.specs.declared.Limits.{Limits}
 use Rattle.metadata.proofs.Ends.{Nothing, Inside}
-use Rattle.tree.specs.Reading.{nodesOf, rows, logFrom, readFile}
-use Rattle.tree.specs.Hidden.{DifferInPrivate}
-use Rattle.tree.proofs.Follow.{ReadAs, read-back, log-is}
-use Rattle.tree.proofs.Shown.{header-of, log-inside}
-use Rattle.tree.proofs.Demand.{Taken, Parts, all-sound, private-alike, privateData}
+use Rattle.rows.specs.Rows.{nodesOf}
+use Rattle.file.specs.Reading.{rows, logFrom, readFile}
+use Rattle.file_laws.specs.Private.{DifferInPrivate}
+use Rattle.file.proofs.Follow.{ReadAs, read-back, log-is}
+use Rattle.file.proofs.Shown.{header-of, log-inside}
+use Rattle.file_laws.proofs.Demand.{Taken, Parts, all-sound, private-alike, privateData}
 use Rattle.account.specs.Account.{logged, eventsOf, kindsOf}
 use Rattle.account.specs.Marks.{marksOf}
 use Rattle.account.proofs.Places.{Counted, all-counted}

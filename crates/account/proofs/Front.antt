@@ -1,10 +1,10 @@
 -- A node up to its contents spends its bytes so: the three numbers, the metadata, the unpackers, the reference, each from where the one before ends.
 -- The places are read off its row and four numbers that are read again.
 -- Assumes nothing.
-use mathlib.Core.Path.{_≡_, refl, sym, ap, _∙_, subst}
+use mathlib.Core.Path.{_≡_, refl, ap, _∙_, subst}
 use mathlib.Core.Bool.{Bool, true, false, cond, _||_}
 use mathlib.Core.List.{List, _++_, append-nil}
-use Prim.Native.Nat.{ℕ, _+_, _-_, _≤_}
+use Prim.Native.Nat.{ℕ, _+_, _-_, _≤_, _<_}
 use native.Mathlib.Omega.{arith}
 use borrow.Author.Tests.{leb-true}
 use lib.Dec.{T, eqb, leb}
@@ -27,9 +27,10 @@ use Rattle.node.specs.declared.Head.{Head}
 use Rattle.node.specs.declared.Front.{Front}
 use Rattle.node.proofs.Uses.{head-uses, unpackers-use, reference-uses}
 use Rattle.node.proofs.Ends.{unpackers-on, head-inside}
-use Rattle.tree.specs.Hidden.{isHidden}
+use Rattle.file.specs.Hidden.{isHidden}
 use Rattle.account.specs.Account.{kindOf}
 use Rattle.account.specs.ByRows.{metaAt, metaEnd}
+use Rattle.account.proofs.Numbers.{number-ended}
 use Rattle.account.proofs.Places.{count}
 use Rattle.account.proofs.Spent.{others, spends, spends-none, count-on}
 use Rattle.cursor.proofs.Apart.{at-place, at-check, at-ret, block-number}
@@ -183,6 +184,7 @@ pub record Ordered (x : Context) (parent depth : ℕ) (s : Bounds) (m : Made) (f
   pub meta-at : metaAt f (w .row) ≡ is .p
   pub meta-end : metaEnd f (w .row) ≡ is .p′
   pub header-end : w .row .start + w .row .header ≡ is .left .p
+  pub apart : (is .p < is .p′) × (is .p′ < is .left .p)
 
 pub front-ordered : (x : Context) (parent depth : ℕ) (s : Bounds) (m : Made) (f : List ℕ) (at : ℕ) {w : Front} {q : ℕ} → run
     (front x parent depth s m) f at ≡ ok w q → Ordered x parent depth s m f at w q
@@ -202,14 +204,18 @@ front-ordered x parent depth s m f at {w} {q} e =
     let b = number-inside metaFrame 8 (t .end) f (y .p) (t .length-is) in
     let again = number-wider metaFrame 8 3 (t .end) stop f (y .p) (t .length-is) (omega arith) in
     let row = rowOf at h parent depth (s .detached) (y .o .reference) (y .o .unpackers) (y .m′ .items - m .items) in
-    let r₁ : metaAt f row ≡ y .p = rw (n .first, n .second, n .third) refl in
-    let r₂ : metaEnd f row ≡ y .p′ = rw (n .first, n .second, n .third, again) (sym k) in
+    let e₁ = number-ended f nodeFrame 3 stop at (n .first) in
+    let e₂ = number-ended f nodeFrame 3 stop (n .p₁) (n .second) in
+    let e₃ = number-ended f nodeFrame 3 stop (n .p₂) (n .third) in
+    let r₁ : metaAt f row ≡ y .p = rw (e₁, e₂, e₃) refl in
+    let r₂ : metaEnd f row ≡ y .p′ = rw (e₁, e₂, e₃, again) (omega arith) in
     record {
       is = y;
       begins = subst (λ (v : Node). v .start ≡ at) (y .row-is) refl;
       meta-at = subst (λ (v : Node). metaAt f v ≡ y .p) (y .row-is) r₁;
       meta-end = subst (λ (v : Node). metaEnd f v ≡ y .p′) (y .row-is) r₂;
       header-end = subst (λ (v : Node). v .start + v .header ≡ l .p) (y .row-is) (omega arith);
+      apart = (omega arith, omega arith);
     }
 
 -- ---- what they spend

@@ -1,8 +1,10 @@
 pub mod Places
 pub mod Spent
+pub mod Numbers
 pub mod Front
 pub mod File
 pub mod ByRows
+pub mod Parts
 pub mod Whole
 pub mod Exact
 pub mod Folding

@@ -11,9 +11,9 @@ use Rattle.cursor.specs.Refusals.{ofReader, isAllowed}
 use Rattle.metadata.specs.declared.Limits.{Limits}
 use Rattle.room.specs.Room.{Among}
 use Rattle.room.proofs.Listed.{allowed-front, among-if}
-use Rattle.tree.specs.Reading.{Reading, rows, refusal, readFile}
-use Rattle.tree.specs.Asking.{Result, good, bad, ask}
-use Rattle.tree.proofs.Listed.{refusal-listed}
+use Rattle.file.specs.Reading.{Reading, rows, refusal, readFile}
+use Rattle.file.specs.Asking.{Result, good, bad, ask}
+use Rattle.file_laws.proofs.Listed.{refusal-listed}
 use Rattle.account.specs.Account.{kindsOf}
 use Rattle.account.specs.Totals.{mostFiles, oneMore, allowed, totalsLeft, byAnswer, refusals}
 use Rattle.account.specs.declared.Kinds.{Kinds}

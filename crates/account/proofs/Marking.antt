@@ -13,21 +13,21 @@ use Rattle.cursor.specs.Rows.{inlineSize, Events}
 use Rattle.cursor.specs.declared.FilePlace.{FilePlace}
 use Rattle.cursor.specs.declared.Node.{Node}
 use Rattle.cursor.specs.declared.Item.{Item}
-use Rattle.metadata.specs.Tables.{nodeWidth, itemWidth, limits}
+use Rattle.rows.specs.Rows.{nodeWidth, itemWidth, rowsFrom, nodeFrom, itemFrom, nodesIn, itemsIn}
+use Rattle.metadata.specs.Tables.{limits}
 use Rattle.room.specs.Counts.{tooMany}
 use Rattle.room.specs.Room.{Result, good, bad, padded, fitting, counted, kept}
 use Rattle.room.specs.Told.{told}
 use Rattle.room.specs.declared.Written.{Written}
 use Rattle.room.specs.declared.Written.the-variants as written
-use Rattle.tree.specs.Hidden.{isHidden}
-use Rattle.tree.specs.Reading.{Reading, readFile, readOf, nodeTable, itemTable}
-use Rattle.tree.specs.Rows.{rowsFrom, nodeFrom, itemFrom, nodesIn, itemsIn}
-use Rattle.tree.specs.Asking.{ask, keptNodes, keptItems}
-use Rattle.tree.specs.declared.Summary.{Summary}
-use Rattle.tree.specs.declared.Read.{Read}
-use Rattle.tree.specs.declared.Read.the-variants as read
-use Rattle.tree.proofs.Rows.{Standing, standing}
-use Rattle.tree.proofs.Exits as exits
+use Rattle.file.specs.Hidden.{isHidden}
+use Rattle.file.specs.Reading.{Reading, readFile, readOf, nodeTable, itemTable}
+use Rattle.file.specs.Asking.{ask, keptNodes, keptItems}
+use Rattle.file.specs.declared.Summary.{Summary}
+use Rattle.file.specs.declared.Read.{Read}
+use Rattle.file.specs.declared.Read.the-variants as read
+use Rattle.file.proofs.Rows.{Standing, standing}
+use Rattle.file.proofs.Exits as exits
 use Rattle.account.specs.Account.{kindAt, kindsFrom, eventsOf}
 use Rattle.account.specs.ByRows.{metaAt, metaEnd, contentsAt, folded}
 use Rattle.account.specs.ByPlace.{overNode, overItem, kindByRows}

@@ -12,7 +12,7 @@ use borrow.Author.Tests.{ne-eqb, ltb-true, leb-true, le-leb, lt-leb, lt-ltb, le-
 use lib.Dec.{T, eqb, ltb, leb}
 use Rattle.machine.specs.Machine.{Event, seen, passed}
 use Rattle.cursor.specs.Rows.{Frame, fileFrame, nodeFrame, metaFrame, unpackFrame, referenceFrame, language, name, uri, Part, nodeRow, itemRow, plain, Events}
-use Rattle.tree.specs.Hidden.{isHidden}
+use Rattle.file.specs.Hidden.{isHidden}
 use Rattle.account.specs.Account.{kind, first, size, hasByte, kindAt, Had, IsOf, places, placesOf}
 use Rattle.machine.proofs.Stable.{Has, Covers, Separate}
 

@@ -1,10 +1,11 @@
 -- The nine counts of an accepted file by its rows, and by four numbers of each node that are read again.
 -- Assumes nothing.
-use mathlib.Core.Path.{_≡_, refl, sym, ap, _∙_, subst}
+use mathlib.Core.Path.{_≡_, refl, sym, ap, ap₂, _∙_, subst}
 use mathlib.Core.Bool.{Bool, true, false, cond}
 use mathlib.Core.List.{List, [], _∷_, _++_}
-use Prim.Native.Nat.{ℕ, _+_, _-_, _<_}
+use Prim.Native.Nat.{ℕ, _+_, _*_, _-_, _%_, _<_}
 use native.Mathlib.Omega.{arith}
+use borrow.Author.Tests.{eqb-true, eqb-false}
 use lib.Dec.{T, eqb}
 use lib.ListN.{length}
 use Rattle.machine.specs.Machine.{Event, seen, passed, trace, rowsOf}
@@ -15,10 +16,11 @@ use Rattle.machine.proofs.Wp.{All}
 use Rattle.header.specs.Header.{Header, header}
 use Rattle.metadata.specs.declared.Limits.{Limits}
 use Rattle.metadata.proofs.Ends.{Nothing, Inside}
-use Rattle.tree.specs.Reading.{itemsOf, rows, readFile}
-use Rattle.tree.specs.Hidden.{isHidden}
-use Rattle.tree.proofs.Follow.{read-back}
-use Rattle.tree.proofs.Shown.{header-of, log-inside}
+use Rattle.rows.specs.Rows.{itemsOf}
+use Rattle.file.specs.Reading.{rows, readFile}
+use Rattle.file.specs.Hidden.{isHidden}
+use Rattle.file.proofs.Follow.{read-back}
+use Rattle.file.proofs.Shown.{header-of, log-inside}
 use Rattle.account.specs.Account.{kind, size, placesOf, counts, eventsOf, sumOver}
 use Rattle.account.specs.ByRows.{metaAt, metaEnd, contentsAt}
 use Rattle.account.specs.declared.Kinds.{Kinds}
@@ -57,6 +59,29 @@ data-sums (passed (itemRow r) p n ∷ es) top a = let (x, y) = data-sums es top 
 data-sums (passed (plain language) p n ∷ es) top a = let (x, y) = data-sums es top (a .1) in (omega arith, omega arith)
 data-sums (passed (plain name) p n ∷ es) top a = let (x, y) = data-sums es top (a .1) in (omega arith, omega arith)
 data-sums (passed (plain uri) p n ∷ es) top a = let (x, y) = data-sums es top (a .1) in (omega arith, omega arith)
+
+-- both are all of it; hidden is that of an odd format
+pub both-data : (is : List Item) → sumOver (λ r. r .size) is ≡ sumOver (dataOf false) is + sumOver (dataOf true) is
+unfolding dataOf
+both-data [] = refl
+both-data (r ∷ is) = let h = both-data is in by (isHidden r) h
+  where
+    by : (b : Bool) → sumOver (λ r. r .size) is ≡ sumOver (dataOf false) is + sumOver (dataOf true) is
+        → r .size + sumOver (λ r. r .size) is ≡ (cond b 0 (r .size)) + sumOver (dataOf false) is + ((cond b (r .size) 0) + sumOver (dataOf true) is)
+    by true h = omega arith
+    by false h = omega arith
+
+odd-data : (r : Item) → r .format % 2 * r .size ≡ dataOf true r
+unfolding dataOf isHidden
+odd-data r = by (eqb (r .format % 2) 1) refl
+  where
+    by : (b : Bool) → eqb (r .format % 2) 1 ≡ b → r .format % 2 * r .size ≡ (cond b (r .size) 0)
+    by true e = rw (eqb-true (r .format % 2) 1 e) (omega arith)
+    by false e = let z : r .format % 2 ≡ 0 = omega (arith, eqb-false (r .format % 2) 1 e) in rw z (omega arith)
+
+pub hidden-data : (is : List Item) → sumOver (λ r. r .format % 2 * r .size) is ≡ sumOver (dataOf true) is
+hidden-data [] = refl
+hidden-data (r ∷ is) = ap₂ _+_ (odd-data r) (hidden-data is)
 
 -- the metadata's three kinds
 three : (e : Event Frame Part) (s : ℕ) → (cond (eqb 2 (kind e)) s 0) + (cond (eqb 3 (kind e)) s 0) + (cond (eqb 4 (kind e)) s 0) ≡ (cond (ofMeta (kind e)) s 0)

@@ -11,9 +11,9 @@ use Rattle.machine.specs.Machine.{Event, seen, passed, trace}
 use Rattle.cursor.specs.Rows.{Frame, fileFrame, nodeFrame, metaFrame, unpackFrame, referenceFrame, Plain, language, name, uri, Part, nodeRow, itemRow, plain, Events}
 use Rattle.header.specs.Header.{Header, header}
 use Rattle.metadata.specs.declared.Limits.{Limits}
-use Rattle.tree.specs.Hidden.{isHidden}
-use Rattle.tree.specs.Reading.{logFrom}
-use Rattle.tree.specs.Asking.{Result, good, bad, Asks}
+use Rattle.file.specs.Hidden.{isHidden}
+use Rattle.file.specs.Reading.{logFrom}
+use Rattle.file.specs.Asking.{Result, good, bad, Asks}
 use Rattle.account.specs.declared.Kinds.{Kinds}
 
 -- ---- the nine kinds, by number

@@ -8,7 +8,7 @@ use lib.Dec.{leb, ltb}
 use Rattle.cursor.specs.Rows.{inlineSize}
 use Rattle.cursor.specs.declared.Node.{Node}
 use Rattle.cursor.specs.declared.Item.{Item}
-use Rattle.tree.specs.Hidden.{isHidden}
+use Rattle.file.specs.Hidden.{isHidden}
 use Rattle.account.specs.Account.{ofHeader, ofNodes, ofMetadata, visibleData, hiddenData, ofUnpackers, ofReferences, inlineData, allElse}
 use Rattle.account.specs.ByRows.{metaAt, metaEnd, contentsAt, folded}
 

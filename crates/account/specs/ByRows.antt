@@ -2,69 +2,79 @@
 -- Assumes nothing.
 use mathlib.Core.Bool.{cond}
 use mathlib.Core.List.{List, [], _∷_}
-use Prim.Native.Nat.{ℕ, _+_, _*_, _-_, _≤_, _<_, min}
-use lib.Dec.{eqb}
-use lib.ListN.{length}
+use Prim.Native.Nat.{ℕ, zero, suc, _+_, _*_, _-_, _%_, _^_, _≤_, _<_, min}
+use lib.Dec.{eqb, ltb}
+use lib.ListN.{length, getD}
 use Rattle.room.specs.Counts.{tooMany}
 use Rattle.machine.specs.Machine.{Out, ok, refused, run}
-use Rattle.cursor.specs.Rows.{Frame, nodeFrame, metaFrame, inlineSize}
+use Rattle.cursor.specs.Rows.{metaFrame, inlineSize}
 use Rattle.cursor.specs.Refusals.{cutShort}
 use Rattle.cursor.specs.Leaves.{number}
 use Rattle.cursor.specs.declared.Node.{Node}
 use Rattle.cursor.specs.declared.Item.{Item}
 use Rattle.cursor.specs.Told.{Readable}
-use Rattle.metadata.specs.Tables.{nodeWidth}
-use Rattle.tree.specs.Hidden.{isHidden}
-use Rattle.tree.specs.Rows.{nodeFrom}
+use Rattle.rows.specs.Rows.{nodeWidth, itemWidth, nodeFrom, nodesIn, itemsIn}
 use Rattle.account.specs.declared.Kinds.{Kinds}
 use Rattle.account.specs.declared.Frames.{Frames}
 use Rattle.account.specs.declared.Data.{Data}
 
--- a sum stays at the greatest number
+-- a sum over files stays at the greatest number
 abbrev pub plus : ℕ → ℕ → ℕ
 plus a b = min (a + b) tooMany
 
 -- ---- where the parts of a node begin
 
-abbrev pub behind : Out ℕ → ℕ
-behind (ok n q) = q
-behind (refused n p) = p
+-- the first byte below 80h, from p on, where so many may come after that at p
+unfoldable pub lastFrom : List ℕ → (more p : ℕ) → ℕ
+lastFrom f zero p = p
+lastFrom f (suc more) p = cond (ltb (getD f p 0) 0x80) p (lastFrom f more (p + 1))
 
-abbrev pub spanned : Out ℕ → ℕ
-spanned (ok n q) = q + n
-spanned (refused n p) = p
+-- the last byte of the number at p, and the place behind it
+abbrev pub lastByte : List ℕ → ℕ → ℕ
+lastByte f p = lastFrom f 3 p
 
--- the number at p, in the node of row r
-abbrev pub numberAt : Frame → List ℕ → Node → ℕ → Out ℕ
-numberAt κ f r p = run (number κ cutShort (r .start + r .size)) f p
+abbrev pub behind : List ℕ → ℕ → ℕ
+behind f p = lastByte f p + 1
 
--- its metadata: behind its three numbers
+-- the bytes of the number at p, and so many as it says
+abbrev pub counted : ℕ → Out ℕ → ℕ
+counted p (ok n q) = q + n - p
+counted p (refused n q) = 0
+
+-- a node's metadata: behind its three numbers
 unfoldable pub metaAt : List ℕ → Node → ℕ
-metaAt f r = behind (numberAt nodeFrame f r (behind (numberAt nodeFrame f r (behind (numberAt nodeFrame f r (r .start))))))
+metaAt f r = behind f (behind f (behind f (r .start)))
 
 -- its unpackers: behind the metadata's length and what it counts
 unfoldable pub metaEnd : List ℕ → Node → ℕ
-metaEnd f r = spanned (numberAt metaFrame f r (metaAt f r))
+metaEnd f r = metaAt f r + counted (metaAt f r) (run (number metaFrame cutShort (r .start + r .size)) f (metaAt f r))
 
 -- its contents: where a reference 1 leads, and else the node's end
 unfoldable pub contentsAt : Node → ℕ
 contentsAt r = cond (eqb (r .reference) 1) (r .target) (r .start + r .size)
 
+-- what follows a reference 1, which runs to the node's end; and the bytes before the contents
+unfoldable pub followSize : Node → ℕ
+followSize r = cond (eqb (r .reference) 1) (r .extent) 0
+
+abbrev pub frontSize : Node → ℕ
+frontSize r = r .size - followSize r
+
 -- ---- sums over rows
 
--- the own bytes of a node; the metadata's are with its data
+-- the own bytes of nodes: the three numbers; the metadata with its data; all before the reference; all before the contents; inline data
 abbrev pub withNode : List ℕ → Frames → Node → Frames
 withNode f k r = record {
-  nodes = plus (k .nodes) (metaAt f r - r .start);
-  metadata = plus (k .metadata) (metaEnd f r - metaAt f r);
-  unpackers = plus (k .unpackers) (r .start + r .header - metaEnd f r);
-  references = plus (k .references) (contentsAt r - (r .start + r .header));
-  inline = plus (k .inline) (inlineSize r);
+  nodes = k .nodes + (metaAt f r - r .start);
+  metadata = k .metadata + (metaEnd f r - metaAt f r);
+  headers = k .headers + r .header;
+  fronts = k .fronts + frontSize r;
+  inline = k .inline + inlineSize r;
 }
 
--- the data of an item row
-unfoldable pub withItem : Data → Item → Data
-withItem d r = cond (isHidden r) (record { visible = d .visible; hidden = plus (d .hidden) (r .size) }) (record { visible = plus (d .visible) (r .size); hidden = d .hidden })
+-- the data of item rows: all, and that of an odd format
+abbrev pub withItem : Data → Item → Data
+withItem d r = record { all = d .all + r .size; hidden = d .hidden + r .format % 2 * r .size }
 
 -- row after row
 unfoldable pub folded : {S A : Type 0} → (S → A → S) → S → List A → S
@@ -72,40 +82,54 @@ folded add s [] = s
 folded add s (r ∷ rs) = folded add (add s r) rs
 
 abbrev pub none : Frames
-none = record { nodes = 0; metadata = 0; unpackers = 0; references = 0; inline = 0 }
+none = record { nodes = 0; metadata = 0; headers = 0; fronts = 0; inline = 0 }
 
 abbrev pub inNodes : List ℕ → List Node → Frames
 inNodes f ns = folded (withNode f) none ns
 
 abbrev pub nothing : Data
-nothing = record { visible = 0; hidden = 0 }
+nothing = record { all = 0; hidden = 0 }
 
 abbrev pub inItems : List Item → Data
 inItems is = folded withItem nothing is
 
--- ---- all together, in a file of `size` bytes whose header ends at `end`: the data is taken out of the metadata, and all else is what is left
+-- ---- all together, in a file of `size` bytes whose header ends at `end`: each kind is what others leave
 
 abbrev pub together : (size end : ℕ) → Frames → Data → Kinds
 together size end k d = record {
   header = end;
   nodes = k .nodes;
-  metadata = k .metadata - plus (d .visible) (d .hidden);
-  visible = d .visible;
+  metadata = k .metadata - d .all;
+  visible = d .all - d .hidden;
   hidden = d .hidden;
-  unpackers = k .unpackers;
-  references = k .references;
+  unpackers = k .headers - k .nodes - k .metadata;
+  references = k .fronts - k .headers;
   inline = k .inline;
-  rest = size - plus end (plus (k .nodes) (plus (k .metadata) (plus (k .unpackers) (plus (k .references) (k .inline)))));
+  rest = size - end - k .fronts - k .inline;
 }
 
 unfoldable pub kindsBy : List ℕ → (end : ℕ) → List Node → List Item → Kinds
 kindsBy f end ns is = together (length f) end (inNodes f ns) (inItems is)
 
--- ---- what the code knows of the rows: a node's header lies in it, and it in the file, which is no longer than an accepted one may be
+-- ---- what the code knows of the rows: the parts of a node follow each other, and it lies in the file, which is no longer than an accepted one may be
 
 abbrev pub Inside : List ℕ → Node → Type 0
-Inside f r = (r .header ≤ r .size) × Readable (r .start + r .size) f
+Inside f r = (metaAt f r < metaEnd f r) × (metaEnd f r < r .start + r .header) × (r .header < frontSize r) × Readable (r .start + r .size) f
 
 -- n rows stand in the words, each so
 abbrev pub NodesInside : List ℕ → (n : ℕ) → List ℕ → Type 0
 NodesInside f n ws = (n * nodeWidth ≤ length ws) × ((i : ℕ) → i < n → Inside f (nodeFrom ws (i * nodeWidth)))
+
+-- sums are no greater than an accepted file may be long
+abbrev pub SmallFrames : Frames → Type 0
+SmallFrames k = (k .nodes < 2 ^ 28) × (k .metadata < 2 ^ 28) × (k .headers < 2 ^ 28) × (k .fronts < 2 ^ 28) × (k .inline < 2 ^ 28)
+
+abbrev pub SmallData : Data → Type 0
+SmallData d = (d .all < 2 ^ 28) × (d .hidden < 2 ^ 28)
+
+-- and none is greater than what it is taken out of
+abbrev pub Fits : (size end : ℕ) → Frames → Data → Type 0
+Fits size end k d = (k .nodes + k .metadata ≤ k .headers) × (k .headers ≤ k .fronts) × (end + k .fronts + k .inline ≤ size) × (d .hidden ≤ d .all) × (d .all ≤ k .metadata) × (size < 2 ^ 28)
+
+abbrev pub RowsFit : List ℕ → (end nodeCount : ℕ) → List ℕ → (itemCount : ℕ) → List ℕ → Type 0
+RowsFit f end n ws m vs = NodesInside f n ws × (m * itemWidth ≤ length vs) × Fits (length f) end (inNodes f (nodesIn n ws)) (inItems (itemsIn m vs))

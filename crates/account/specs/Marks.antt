@@ -7,7 +7,7 @@ use lib.ListN.{length, getD}
 use Rattle.room.specs.Room.{Result, good, fitting}
 use Rattle.metadata.specs.Tables.{limits}
 use Rattle.metadata.specs.declared.Limits.{Limits}
-use Rattle.tree.specs.Asking.{Asks, reads, answered, keptNodes, keptItems}
+use Rattle.file.specs.Asking.{Asks, reads, answered, keptNodes, keptItems}
 use Rattle.account.specs.Account.{kindsFrom, eventsOf}
 use Rattle.account.specs.ByPlace.{over}
 

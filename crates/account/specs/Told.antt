@@ -4,7 +4,7 @@ use mathlib.Core.List.{List, [], _∷_}
 use Prim.Native.Nat.{ℕ}
 use lib.ListN.{length}
 use Rattle.metadata.specs.Tables.{limits}
-use Rattle.tree.specs.Asking.{Result, good, bad, keptNodes, keptItems, reads, answered}
+use Rattle.file.specs.Asking.{Result, good, bad, keptNodes, keptItems, reads, answered}
 use Rattle.account.specs.Account.{kindsOf}
 use Rattle.account.specs.Totals.{allowed, totalsLeft}
 use Rattle.account.specs.declared.Kinds.{Kinds}

@@ -6,7 +6,7 @@ use mathlib.Core.List.{List, [], _∷_}
 use Prim.Native.Nat.{ℕ}
 use lib.Dec.{eqb, leb}
 use Rattle.cursor.specs.Refusals.{tooManyFiles}
-use Rattle.tree.specs.Asking.{Result, good, bad}
+use Rattle.file.specs.Asking.{Result, good, bad}
 use Rattle.account.specs.ByRows.{plus}
 use Rattle.account.specs.declared.Kinds.{Kinds}
 use Rattle.account.specs.declared.Totals.{Totals}

@@ -14,10 +14,11 @@ use Rattle.metadata.specs.Metadata.{field, contents, itemFrame, universal, decl
 use Rattle.node.specs.Node.{headerLength, head, value, identifier, unpacker, entries, unpackers, resource, nodePlace, uriPlace, target, reference, rest, front}
 use Rattle.tree.specs.Tree as tree
 use Rattle.tree.specs.Tree.{folder, node}
-use Rattle.tree.specs.Reading.{logged, startsAt, offsetAt, isMissing, outside, partEnd, firstTaken, detachedAt, followRow, follow, reading, readTree, readFile}
+use Rattle.file.specs.Reading.{logged, detachedAt, followRow, follow, reading, readTree, readFile}
+use Rattle.targets.specs.Targets.{startsAt, offsetAt, isMissing, outside, partEnd, firstTaken}
 use Rattle.room.specs.Room.{padded, fitting, kept}
-use Rattle.tree.specs.Asking.{Result, good, bad, ask}
-use Rattle.tree.specs.Hidden.{isHidden}
+use Rattle.file.specs.Asking.{Result, good, bad, ask}
+use Rattle.file.specs.Hidden.{isHidden}
 use Rattle.account.specs.Account.{kindAt, kindsFrom, places, eventsOf, kindsOf}
 use Rattle.account.specs.Marks.{marksOf}
 use Rattle.account.specs.Totals.{allowed, totalsLeft}

@@ -3,13 +3,12 @@ ghost use mathlib.Core.Path.{_≡_};
 ghost use Prim.Native.Nat.{_+_, _*_, _^_, _≤_, _<_};
 ghost use lib.ListN.{length};
 ghost use Rattle.machine.specs.Machine.{run};
-ghost use Rattle.cursor.specs.Rows.{Frame, inlineSize};
+ghost use Rattle.cursor.specs.Rows.{metaFrame, inlineSize};
 ghost use Rattle.cursor.specs.Refusals.{cutShort};
 ghost use Rattle.cursor.specs.Leaves.{number};
 ghost use Rattle.cursor.specs.Told.{Readable};
-ghost use Rattle.metadata.specs.Tables.{itemWidth};
-ghost use Rattle.tree.specs.Rows.{nodesIn, itemsIn};
-ghost use Rattle.account.specs.ByRows.{behind, spanned, metaAt, contentsAt, withNode, inNodes, withItem, inItems, together, kindsBy, Inside, NodesInside};
+ghost use Rattle.rows.specs.Rows.{itemWidth, nodesIn, itemsIn};
+ghost use Rattle.account.specs.ByRows.{lastByte, counted, metaAt, followSize, withNode, inNodes, withItem, inItems, together, kindsBy, Inside, NodesInside, SmallFrames, SmallData, Fits, RowsFit};
 ghost use Rattle.account.specs.Totals.{plusKinds, added, refusedOne};
 ghost use Rattle.account.specs.Told.{told, totalsIn, answer, totalsAfter, nodesAfter, itemsAfter};
 use cursor::Cursor;
@@ -17,7 +16,7 @@ use cursor::FilePlace;
 use cursor::Item;
 use cursor::Node;
 use cursor::Numbered;
-use tree::Read;
+use file::Read;
 
 mod marks;
 
@@ -36,18 +35,18 @@ pub struct Kinds {
     pub rest: usize,
 }
 
-// The own bytes of nodes; the metadata's are with its data.
+// The own bytes of nodes: their three numbers, the metadata with its data, all before the reference, all before the contents, and inline data.
 struct Frames {
     nodes: usize,
     metadata: usize,
-    unpackers: usize,
-    references: usize,
+    headers: usize,
+    fronts: usize,
     inline: usize,
 }
 
-// The data of item rows.
+// The data of item rows: all, and the hidden.
 struct Data {
-    visible: usize,
+    all: usize,
     hidden: usize,
 }
 
@@ -67,49 +66,56 @@ pub enum Accounted {
 // The most files that are summed.
 pub const MOST_FILES: usize = 1000;
 
-// The place behind the number at `at`, in a part that ends at `end`.
-fn after_number(file: &[u8], end: usize, at: usize) -> usize
-    requires { ⌜ end ≤ length (now file) ⌝ }
-    ensures { λ r. ⌜ ((κ : Frame) → r ≡ behind (run (number κ cutShort end) (now (file .entry)) at)) ⌝ }
+// The last byte of the number at `at`: its first below 80h, of at most four.
+fn last_byte(file: &[u8], at: usize) -> usize
+    requires { ⌜ (at + 4 ≤ length (now file)) × (length (now file) < 2 ^ 28) ⌝ }
+    ensures { λ r. ⌜ (r ≡ lastByte (now (file .entry)) at) × (r < at + 4) ⌝ }
 {
-    match (Cursor { at: FilePlace(at) }).number(file, FilePlace(end), cursor::CUT_SHORT) {
-        Numbered::Refused(_, place) => place.0,
-        Numbered::Is(_, next) => next.at.0,
+    if file[at] < 128 {
+        return at;
     }
+    if file[at + 1] < 128 {
+        return at + 1;
+    }
+    if file[at + 2] < 128 {
+        return at + 2;
+    }
+    at + 3
 }
 
-// The place behind the number at `at` and so many bytes as it says.
-fn after_block(file: &[u8], end: usize, at: usize) -> usize
-    requires { ⌜ Readable end (now file) ⌝ }
-    ensures { λ r. ⌜ ((κ : Frame) → r ≡ spanned (run (number κ cutShort end) (now (file .entry)) at)) ⌝ }
+// The bytes of the number at `at`, in a part that ends at `end`, and so many as it says. Almost every such number is one byte.
+fn block_size(file: &[u8], end: usize, at: usize) -> usize
+    requires { ⌜ (at < end) × Readable end (now file) ⌝ }
+    ensures { λ r. ⌜ r ≡ counted at (run (number metaFrame cutShort end) (now (file .entry)) at) ⌝ }
 {
+    let first = cursor::wide(file[at]);
+    if first < 128 {
+        return 1 + first as usize;
+    }
     match (Cursor { at: FilePlace(at) }).number(file, FilePlace(end), cursor::CUT_SHORT) {
-        Numbered::Refused(_, place) => place.0,
-        Numbered::Is(n, next) => next.at.0 + n as usize,
+        Numbered::Refused(_, _) => 0,
+        Numbered::Is(n, next) => next.at.0 + n as usize - at,
     }
 }
 
 // Where a node's metadata begins: behind its three numbers.
 fn meta_at(file: &[u8], row: Node) -> usize
-    requires { ⌜ row .start + row .size ≤ length (now file) ⌝ }
+    requires { ⌜ Inside (now file) row ⌝ }
     ensures { λ r. ⌜ r ≡ metaAt (now (file .entry)) row ⌝ }
 {
-    let start = row.start as usize;
-    let end = start + row.size as usize;
-    let contained = after_number(file, end, start);
-    let header = after_number(file, end, contained);
-    after_number(file, end, header)
+    let contained = last_byte(file, row.start as usize) + 1;
+    let header = last_byte(file, contained) + 1;
+    last_byte(file, header) + 1
 }
 
-// Where its contents begin.
-fn contents_at(row: Node) -> usize
-    requires { ⌜ row .start + row .size < 2 ^ 28 ⌝ }
-    ensures { λ r. ⌜ r ≡ contentsAt row ⌝ }
+// The bytes that follow its reference 1, which are its contents.
+fn follow_size(row: Node) -> usize
+    ensures { λ r. ⌜ r ≡ followSize row ⌝ }
 {
     if row.reference == 1 {
-        return row.target as usize;
+        return row.extent as usize;
     }
-    (row.start + row.size) as usize
+    0
 }
 
 // The bytes of its inline data.
@@ -126,44 +132,39 @@ fn inline_size(row: Node) -> usize
 
 // A node's own bytes, added to these.
 fn with_node(k: Frames, file: &[u8], row: Node) -> Frames
-    requires { ⌜ Inside (now file) row ⌝ }
+    requires { ⌜ Inside (now file) row × SmallFrames (withNode (now file) k row) ⌝ }
     ensures { λ r. ⌜ r ≡ withNode (now (file .entry)) k row ⌝ }
 {
+    let headers = k.headers + row.header as usize;
+    let fronts = k.fronts + (row.size as usize - follow_size(row));
+    let inline = k.inline + inline_size(row);
     let start = row.start as usize;
-    let end = start + row.size as usize;
     let meta = meta_at(file, row);
-    let unpackers = after_block(file, end, meta);
-    let reference = start + row.header as usize;
-    let contents = contents_at(row);
-    let nodes = room::on(k.nodes, room::room_at(meta, start));
-    let metadata = room::on(k.metadata, room::room_at(unpackers, meta));
-    let unpacking = room::on(k.unpackers, room::room_at(reference, unpackers));
-    let references = room::on(k.references, room::room_at(contents, reference));
-    let inline = room::on(k.inline, inline_size(row));
+    let block = block_size(file, start + row.size as usize, meta);
     Frames {
-        nodes,
-        metadata,
-        unpackers: unpacking,
-        references,
+        nodes: k.nodes + (meta - start),
+        metadata: k.metadata + block,
+        headers,
+        fronts,
         inline,
     }
 }
 
 // The own bytes of all nodes.
 fn in_nodes(file: &[u8], nodes: &[u64], count: usize) -> Frames
-    requires { ⌜ NodesInside (now file) count (now nodes) ⌝ }
+    requires { ⌜ NodesInside (now file) count (now nodes) × SmallFrames (inNodes (now file) (nodesIn count (now nodes))) ⌝ }
     ensures { λ r. ⌜ r ≡ inNodes (now (file .entry)) (nodesIn count (now (nodes .entry))) ⌝ }
 {
     let mut sum = Frames {
         nodes: 0,
         metadata: 0,
-        unpackers: 0,
-        references: 0,
+        headers: 0,
+        fronts: 0,
         inline: 0,
     };
     let mut i = 0;
     while i < count {
-        sum = with_node(sum, file, tree::node_at(nodes, i));
+        sum = with_node(sum, file, rows::node_at(nodes, i));
         i = i + 1;
     }
     sum
@@ -171,60 +172,44 @@ fn in_nodes(file: &[u8], nodes: &[u64], count: usize) -> Frames
 
 // The data of an item row, added to this.
 fn with_item(d: Data, row: Item) -> Data
+    requires { ⌜ SmallData (withItem d row) ⌝ }
     ensures { λ r. ⌜ r ≡ withItem d row ⌝ }
 {
-    if row.format % 2 == 1 {
-        let hidden = room::on(d.hidden, row.size as usize);
-        return Data {
-            visible: d.visible,
-            hidden,
-        };
-    }
-    let visible = room::on(d.visible, row.size as usize);
     Data {
-        visible,
-        hidden: d.hidden,
+        all: d.all + row.size as usize,
+        hidden: d.hidden + (row.format % 2 * row.size) as usize,
     }
 }
 
 // The data of all item rows.
 fn in_items(items: &[u64], count: usize) -> Data
-    requires { ⌜ count * itemWidth ≤ length (now items) ⌝ }
+    requires { ⌜ (count * itemWidth ≤ length (now items)) × SmallData (inItems (itemsIn count (now items))) ⌝ }
     ensures { λ r. ⌜ r ≡ inItems (itemsIn count (now (items .entry))) ⌝ }
 {
-    let mut sum = Data {
-        visible: 0,
-        hidden: 0,
-    };
+    let mut sum = Data { all: 0, hidden: 0 };
     let mut i = 0;
     while i < count {
-        sum = with_item(sum, tree::item_at(items, i));
+        sum = with_item(sum, rows::item_at(items, i));
         i = i + 1;
     }
     sum
 }
 
-// The counts of a file of `size` bytes whose header ends at `end`: the data is taken out of the metadata, and all else is what is left.
+// The counts of a file of `size` bytes whose header ends at `end`: each kind is what others leave.
 fn together(size: usize, end: FilePlace, k: Frames, d: Data) -> Kinds
+    requires { ⌜ Fits size (end .0) k d ⌝ }
     ensures { λ r. ⌜ r ≡ together size (end .0) k d ⌝ }
 {
-    let metadata = room::room_at(k.metadata, room::on(d.visible, d.hidden));
-    let last = room::on(k.references, k.inline);
-    let behind = room::on(k.unpackers, last);
-    let inner = room::on(k.metadata, behind);
-    let own = room::on(k.nodes, inner);
-    let all = room::on(end.0, own);
-    let rest = room::room_at(size, all);
     Kinds {
         header: end.0,
         nodes: k.nodes,
-        metadata,
-        visible: d.visible,
+        metadata: k.metadata - d.all,
+        visible: d.all - d.hidden,
         hidden: d.hidden,
-        unpackers: k.unpackers,
-        references: k.references,
+        unpackers: k.headers - k.nodes - k.metadata,
+        references: k.fronts - k.headers,
         inline: k.inline,
-        rest,
+        rest: size - end.0 - k.fronts - k.inline,
     }
 }
 
@@ -237,7 +222,7 @@ fn kinds_of(
     count: usize,
     rows: usize,
 ) -> Kinds
-    requires { ⌜ NodesInside (now file) count (now nodes) × (rows * itemWidth ≤ length (now items)) ⌝ }
+    requires { ⌜ RowsFit (now file) (end .0) count (now nodes) rows (now items) ⌝ }
     ensures { λ r. ⌜ r ≡ kindsBy (now (file .entry)) (end .0) (nodesIn count (now (nodes .entry))) (itemsIn rows (now (items .entry))) ⌝ }
 {
     let own = in_nodes(file, nodes, count);
@@ -306,10 +291,10 @@ pub fn account(file: &[u8], nodes: &mut [u64], items: &mut [u64], totals: Totals
     ensures items { λ _. ⌜ now (items .exit) ≡ itemsAfter totals (now (nodes .entry)) (now (items .entry)) (now (file .entry)) ⌝ }
 {
     if MOST_FILES <= totals.files {
-        tree::clear_all(nodes, items);
+        rows::clear_all(nodes, items);
         return Accounted::Refused(cursor::TOO_MANY_FILES, 0, totals);
     }
-    match tree::read_file(file, nodes, items) {
+    match file::read_file(file, nodes, items) {
         Read::Refused(n, p) => {
             let left = add_refused(totals);
             Accounted::Refused(n, p.0, left)

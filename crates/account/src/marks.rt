@@ -1,23 +1,21 @@
 // The kind of each place of a file, as a mark in a lent buffer.
 ghost use mathlib.Core.Path.{_≡_};
-ghost use Prim.Native.Nat.{_*_, _≤_, min};
+ghost use Prim.Native.Nat.{_+_, _*_, _^_, _≤_, _<_, min};
 ghost use lib.ListN.{length};
-ghost use Rattle.metadata.specs.Tables.{itemWidth};
+ghost use Rattle.rows.specs.Rows.{itemWidth, nodesIn, itemsIn};
 ghost use Rattle.room.specs.Room.{counted, kept};
 ghost use Rattle.room.specs.Told.{told};
-ghost use Rattle.tree.specs.Rows.{nodesIn, itemsIn};
-ghost use Rattle.account.specs.ByRows.{folded, Inside, NodesInside};
+ghost use Rattle.account.specs.ByRows.{contentsAt, folded, Inside, NodesInside};
 ghost use Rattle.account.specs.ByPlace.{overNode, overItem, kindByRows};
 ghost use Rattle.account.specs.Marks.{marked, nodesMarked, itemsMarked, Shows, Becomes, spanned};
-use crate::after_block;
-use crate::contents_at;
+use crate::block_size;
 use crate::inline_size;
 use crate::meta_at;
 use cursor::FilePlace;
 use cursor::Item;
 use cursor::Node;
+use file::Read;
 use room::Written;
-use tree::Read;
 
 // The nine kinds.
 pub const OF_HEADER: u8 = 0;
@@ -60,6 +58,17 @@ fn fill(marks: &mut [u8], from: usize, to: usize, kind: u8)
     }
 }
 
+// Where a node's contents begin.
+fn contents_at(row: Node) -> usize
+    requires { ⌜ row .start + row .size < 2 ^ 28 ⌝ }
+    ensures { λ r. ⌜ r ≡ contentsAt row ⌝ }
+{
+    if row.reference == 1 {
+        return row.target as usize;
+    }
+    (row.start + row.size) as usize
+}
+
 // Marks the parts of a node.
 fn mark_node(marks: &mut [u8], file: &[u8], row: Node)
     requires { ⌜ Inside (now file) row ⌝ }
@@ -68,7 +77,7 @@ fn mark_node(marks: &mut [u8], file: &[u8], row: Node)
     let start = row.start as usize;
     let end = start + row.size as usize;
     let meta = meta_at(file, row);
-    let unpackers = after_block(file, end, meta);
+    let unpackers = meta + block_size(file, end, meta);
     let reference = start + row.header as usize;
     let contents = contents_at(row);
     let behind = room::on(contents, inline_size(row));
@@ -99,7 +108,7 @@ fn mark_nodes(marks: &mut [u8], file: &[u8], nodes: &[u64], count: usize)
 {
     let mut i = 0;
     while i < count {
-        mark_node(marks, file, tree::node_at(nodes, i));
+        mark_node(marks, file, rows::node_at(nodes, i));
         i = i + 1;
     }
 }
@@ -111,7 +120,7 @@ fn mark_items(marks: &mut [u8], items: &[u64], count: usize)
 {
     let mut i = 0;
     while i < count {
-        mark_item(marks, tree::item_at(items, i));
+        mark_item(marks, rows::item_at(items, i));
         i = i + 1;
     }
 }
@@ -142,7 +151,7 @@ pub fn mark(file: &[u8], nodes: &mut [u64], items: &mut [u64], marks: &mut [u8])
     ensures items { λ _. ⌜ now (items .exit) ≡ itemsMarked (now (nodes .entry)) (now (items .entry)) (now (file .entry)) (length (now (marks .entry))) ⌝ }
     ensures marks { λ _. ⌜ now (marks .exit) ≡ kept (length (now (marks .entry))) (marked (now (nodes .entry)) (now (items .entry)) (now (file .entry)) (length (now (marks .entry)))) ⌝ }
 {
-    match tree::read_file(file, nodes, items) {
+    match file::read_file(file, nodes, items) {
         Read::Refused(n, p) => {
             room::clear_bytes(marks);
             Written::Refused(n, p.0)
@@ -150,7 +159,7 @@ pub fn mark(file: &[u8], nodes: &mut [u64], items: &mut [u64], marks: &mut [u8])
         Read::Is(s) => {
             let size = file.len();
             if marks.len() < size {
-                tree::clear_all(nodes, items);
+                rows::clear_all(nodes, items);
                 room::clear_bytes(marks);
                 return Written::Refused(cursor::NO_ROOM, 0);
             }

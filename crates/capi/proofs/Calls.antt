@@ -8,8 +8,8 @@ use Rattle.cursor.specs.declared.Node.{Node}
 use Rattle.cursor.specs.declared.Item.{Item}
 use Rattle.header.specs.Header.{Header}
 use Rattle.room.specs.Room.{counted, kept}
-use Rattle.tree.specs.Reading.{rows}
-use Rattle.tree.specs.Hidden.{DifferInPrivate}
+use Rattle.file.specs.Reading.{rows}
+use Rattle.file_laws.specs.Private.{DifferInPrivate}
 use Rattle.find.specs.Find.{Wanted, standard, custom}
 use Rattle.account.specs.Told as accounted
 use Rattle.account.specs.Told.{told, totalsIn, kindWords, totalWords, totalsAfter, nodesAfter, itemsAfter}

@@ -16,7 +16,7 @@ pub extern "C" fn xmf_read_tree(
 )
     ensures { λ _. ⌜ Leaves readTree (now (file .entry)) (now (nodes .entry) ∷ now (items .entry) ∷ []) (now (nodes .exit) ∷ now (items .exit) ∷ []) (now (answer .entry)) (now (answer .exit)) ⌝ }
 {
-    words::put_tree(answer, tree::read_tree(file, nodes, items));
+    words::put_tree(answer, file::read_tree(file, nodes, items));
 }
 
 // Finds the nearest item of a field, from a node row: of the standard number (kind 0), or of the custom name (any other kind).
@@ -31,7 +31,8 @@ pub extern "C" fn xmf_find(
     name: &[u8],
     answer: &mut [u64],
 )
-    ensures { λ _. ⌜ Leaves (findItem (asked kind number (now (name .entry))) row) (now (file .entry)) (now (nodes .entry) ∷ now (items .entry) ∷ []) (now (nodes .exit) ∷ now (items .exit) ∷ []) (now (answer .entry)) (now (answer .exit)) ⌝ }
+    ensures { λ _. ⌜ Leaves (findItem (asked kind number (now (name .entry))) row) (now (file .entry)) (now (nodes .entry) ∷ now (items .entry) ∷ [])
+        (now (nodes .exit) ∷ now (items .exit) ∷ []) (now (answer .entry)) (now (answer .exit)) ⌝ }
 {
     if kind == 0 {
         words::put_found(answer, find::find_standard(file, nodes, items, row, number));
@@ -52,7 +53,8 @@ pub extern "C" fn xmf_find_own(
     name: &[u8],
     answer: &mut [u64],
 )
-    ensures { λ _. ⌜ Leaves (findOwn (asked kind number (now (name .entry))) row) (now (file .entry)) (now (nodes .entry) ∷ now (items .entry) ∷ []) (now (nodes .exit) ∷ now (items .exit) ∷ []) (now (answer .entry)) (now (answer .exit)) ⌝ }
+    ensures { λ _. ⌜ Leaves (findOwn (asked kind number (now (name .entry))) row) (now (file .entry)) (now (nodes .entry) ∷ now (items .entry) ∷ [])
+        (now (nodes .exit) ∷ now (items .exit) ∷ []) (now (answer .entry)) (now (answer .exit)) ⌝ }
 {
     if kind == 0 {
         words::put_found(
@@ -73,7 +75,8 @@ pub extern "C" fn xmf_resolve(
     row: usize,
     answer: &mut [u64],
 )
-    ensures { λ _. ⌜ Leaves (resolveRow row) (now (file .entry)) (now (nodes .entry) ∷ now (items .entry) ∷ []) (now (nodes .exit) ∷ now (items .exit) ∷ []) (now (answer .entry)) (now (answer .exit)) ⌝ }
+    ensures { λ _. ⌜ Leaves (resolveRow row) (now (file .entry)) (now (nodes .entry) ∷ now (items .entry) ∷ [])
+        (now (nodes .exit) ∷ now (items .exit) ∷ []) (now (answer .entry)) (now (answer .exit)) ⌝ }
 {
     words::put_resolved(answer, resolve::resolve(file, nodes, items, row));
 }
@@ -88,7 +91,8 @@ pub extern "C" fn xmf_resource(
     out: &mut [u8],
     answer: &mut [u64],
 )
-    ensures { λ _. ⌜ Leaves (copyResource row) (now (file .entry)) (now (nodes .entry) ∷ now (items .entry) ∷ now (out .entry) ∷ []) (now (nodes .exit) ∷ now (items .exit) ∷ now (out .exit) ∷ []) (now (answer .entry)) (now (answer .exit)) ⌝ }
+    ensures { λ _. ⌜ Leaves (copyResource row) (now (file .entry)) (now (nodes .entry) ∷ now (items .entry) ∷ now (out .entry) ∷ [])
+        (now (nodes .exit) ∷ now (items .exit) ∷ now (out .exit) ∷ []) (now (answer .entry)) (now (answer .exit)) ⌝ }
 {
     words::put_resolved(answer, resolve::copy_resource(file, nodes, items, row, out));
 }
@@ -104,7 +108,8 @@ pub extern "C" fn xmf_voice_count(
     resource: u64,
     answer: &mut [u64],
 )
-    ensures { λ _. ⌜ Leaves (countFor «item_row» channel resource) (now (file .entry)) (now (nodes .entry) ∷ now (items .entry) ∷ []) (now (nodes .exit) ∷ now (items .exit) ∷ []) (now (answer .entry)) (now (answer .exit)) ⌝ }
+    ensures { λ _. ⌜ Leaves (countFor «item_row» channel resource) (now (file .entry)) (now (nodes .entry) ∷ now (items .entry) ∷ [])
+        (now (nodes .exit) ∷ now (items .exit) ∷ []) (now (answer .entry)) (now (answer .exit)) ⌝ }
 {
     words::put_counted(
         answer,
@@ -129,7 +134,8 @@ pub extern "C" fn xmf_account(
     totals: &mut [u64],
     answer: &mut [u64],
 )
-    ensures { λ _. ⌜ LeavesTotals (now (file .entry)) (now (nodes .entry)) (now (items .entry)) (now (nodes .exit)) (now (items .exit)) (now (totals .entry)) (now (totals .exit)) (now (answer .entry)) (now (answer .exit)) ⌝ }
+    ensures { λ _. ⌜ LeavesTotals (now (file .entry)) (now (nodes .entry)) (now (items .entry))
+        (now (nodes .exit)) (now (items .exit)) (now (totals .entry)) (now (totals .exit)) (now (answer .entry)) (now (answer .exit)) ⌝ }
 {
     let before = words::read_totals(totals);
     let said = account::account(file, nodes, items, before);
@@ -146,7 +152,8 @@ pub extern "C" fn xmf_write_sheet(
     sheet: &mut [u8],
     answer: &mut [u64],
 )
-    ensures { λ _. ⌜ Leaves writeSheet (now (file .entry)) (now (nodes .entry) ∷ now (items .entry) ∷ now (sheet .entry) ∷ []) (now (nodes .exit) ∷ now (items .exit) ∷ now (sheet .exit) ∷ []) (now (answer .entry)) (now (answer .exit)) ⌝ }
+    ensures { λ _. ⌜ Leaves writeSheet (now (file .entry)) (now (nodes .entry) ∷ now (items .entry) ∷ now (sheet .entry) ∷ [])
+        (now (nodes .exit) ∷ now (items .exit) ∷ now (sheet .exit) ∷ []) (now (answer .entry)) (now (answer .exit)) ⌝ }
 {
     words::put_written(answer, sheet::write_sheet(file, nodes, items, sheet));
 }
@@ -160,7 +167,8 @@ pub extern "C" fn xmf_write_sheet2(
     sheet: &mut [u8],
     answer: &mut [u64],
 )
-    ensures { λ _. ⌜ Leaves writeSheet2 (now (file .entry)) (now (nodes .entry) ∷ now (items .entry) ∷ now (sheet .entry) ∷ []) (now (nodes .exit) ∷ now (items .exit) ∷ now (sheet .exit) ∷ []) (now (answer .entry)) (now (answer .exit)) ⌝ }
+    ensures { λ _. ⌜ Leaves writeSheet2 (now (file .entry)) (now (nodes .entry) ∷ now (items .entry) ∷ now (sheet .entry) ∷ [])
+        (now (nodes .exit) ∷ now (items .exit) ∷ now (sheet .exit) ∷ []) (now (answer .entry)) (now (answer .exit)) ⌝ }
 {
     words::put_written(answer, sheet::write_sheet2(file, nodes, items, sheet));
 }
@@ -176,11 +184,12 @@ pub extern "C" fn xmf_correct_title(
     out: &mut [u8],
     answer: &mut [u64],
 )
-    ensures { λ _. ⌜ Leaves (correctTitle row (now (title .entry))) (now (file .entry)) (now (nodes .entry) ∷ now (items .entry) ∷ now (out .entry) ∷ []) (now (nodes .exit) ∷ now (items .exit) ∷ now (out .exit) ∷ []) (now (answer .entry)) (now (answer .exit)) ⌝ }
+    ensures { λ _. ⌜ Leaves (correctTitle row (now (title .entry))) (now (file .entry)) (now (nodes .entry) ∷ now (items .entry) ∷ now (out .entry) ∷ [])
+        (now (nodes .exit) ∷ now (items .exit) ∷ now (out .exit) ∷ []) (now (answer .entry)) (now (answer .exit)) ⌝ }
 {
     words::put_written(
         answer,
-        retitle::correct_title(file, nodes, items, row, title, out),
+        title::correct_title(file, nodes, items, row, title, out),
     );
 }
 
@@ -195,7 +204,8 @@ pub extern "C" fn xmf_mend(
     lines: &mut [u8],
     answer: &mut [u64],
 )
-    ensures { λ _. ⌜ Leaves mendHeader (now (file .entry)) (now (nodes .entry) ∷ now (items .entry) ∷ now (copy .entry) ∷ now (lines .entry) ∷ []) (now (nodes .exit) ∷ now (items .exit) ∷ now (copy .exit) ∷ now (lines .exit) ∷ []) (now (answer .entry)) (now (answer .exit)) ⌝ }
+    ensures { λ _. ⌜ Leaves mendHeader (now (file .entry)) (now (nodes .entry) ∷ now (items .entry) ∷ now (copy .entry) ∷ now (lines .entry) ∷ [])
+        (now (nodes .exit) ∷ now (items .exit) ∷ now (copy .exit) ∷ now (lines .exit) ∷ []) (now (answer .entry)) (now (answer .exit)) ⌝ }
 {
     words::put_mended(answer, mend::mend(file, nodes, items, copy, lines));
 }
@@ -252,7 +262,8 @@ pub extern "C" fn xmf_shelf_put(
     sheet: &[u8],
     answer: &mut [u64],
 )
-    ensures { λ _. ⌜ LeavesShelf (putting (label desk call boat) (now (sheet .entry))) (now (cards .entry)) (now (cards .exit)) (now (text .entry)) (now (text .exit)) (now (answer .entry)) (now (answer .exit)) ⌝ }
+    ensures { λ _. ⌜ LeavesShelf (putting (label desk call boat) (now (sheet .entry)))
+        (now (cards .entry)) (now (cards .exit)) (now (text .entry)) (now (text .exit)) (now (answer .entry)) (now (answer .exit)) ⌝ }
 {
     words::put_outcome(
         answer,

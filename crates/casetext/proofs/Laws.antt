@@ -1,5 +1,5 @@
 -- Laws of the definitions that the contracts cite. Assumes nothing.
-use mathlib.Core.Bool.{Bool, true, false, not, false≢true}
+use mathlib.Core.Bool.{true, false, false≢true}
 use mathlib.Core.List.{List, [], _∷_, _++_}
 use mathlib.Core.Path.{_≡_, refl, sym, ap, ap₂, _∙_, subst}
 use Prim.Native.Nat.{ℕ, zero, suc, _+_, _-_, _*_, _/_, _≤_, _<_, min}
@@ -11,7 +11,7 @@ use lib.ListN.{length, take, drop, getD, set, drop-of-length-le, length-take, le
 use lib.Seq.{sets, length-sets, take-suc, take-all, length-take-le, drop-cons, getD-set-same, getD-set-other, getD-take, getD-drop}
 use borrow.Author.Count.{below-more}
 use borrow.Author.Tests.{lt-ltb, le-ltb}
-use Rattle.casetext.specs.Text.{FirstMark, Clean, Ends, Puts, digitOf, valueFrom, byteAt, SpellsBytes}
+use Rattle.casetext.specs.Text.{FirstMark, Ends, Puts, digitOf, valueFrom, byteAt, SpellsBytes}
 
 -- a place within the buffer and not before `at` is an end
 pub ends : (out : List ℕ) (at r : ℕ) → r ≤ length out → min at (length out) ≤ r → Ends out at r
@@ -154,37 +154,13 @@ module _ (l : List ℕ) (a e : ℕ) (start : a ≤ e) (end : e ≤ length l) whe
   pub part-at : (k : ℕ) → k < e - a → getD (take (e - a) (drop a l)) k 0 ≡ getD l (a + k) 0
   part-at k h = getD-take (e - a) (drop a l) k 0 h ∙ getD-drop a l k 0
 
-  -- what holds of each word of a part holds of each word of the whole from `a` to `e`
-  pub part-all : (v : ℕ) → ((k : ℕ) → k < length (take (e - a) (drop a l)) → getD (take (e - a) (drop a l)) k 0 ≡ v) → (k : ℕ) → a ≤ k → k < e → getD l k 0 ≡ v
-  part-all v all k f h =
-      let i : k - a < e - a = omega arith in
-      let q : k ≡ a + (k - a) = omega arith in
-      ap (λ (x : ℕ). getD l x 0) q ∙ sym (part-at (k - a) i) ∙ all (k - a) (omega (arith, part-length))
+-- the part from `from` to the next mark is within the text and has no mark
+pub part-within : (l : List ℕ) (mark from end : ℕ) → from ≤ length l → FirstMark l from mark end → length (take (end - from) (drop from l)) ≤ length l
+part-within l mark from end h m = simp (length-take, length-drop) (omega arith)
 
--- the field from `from` to the next space is within the line and has no space
-pub field-within : (l : List ℕ) (from end : ℕ) → from ≤ length l → FirstMark l from 32 end → length (take (end - from) (drop from l)) ≤ length l
-field-within l from end h m = simp (length-take, length-drop) (omega arith)
-
-pub field-unmarked : (l : List ℕ) (from end : ℕ) → from ≤ length l → FirstMark l from 32 end
-    → (k : ℕ) → k < length (take (end - from) (drop from l)) → getD (take (end - from) (drop from l)) k 0 ≡ 32 → ⊥
-field-unmarked l from end h m k g q =
+pub part-unmarked : (l : List ℕ) (mark from end : ℕ) → from ≤ length l → FirstMark l from mark end
+    → (k : ℕ) → k < length (take (end - from) (drop from l)) → getD (take (end - from) (drop from l)) k 0 ≡ mark → ⊥
+part-unmarked l mark from end h m k g q =
     let s : from ≤ end = omega (arith, m .after) in
     let j : k < end - from = omega (arith, part-length l from end s (m .within)) in
     m .before (from + k) (omega arith) (omega arith) (sym (part-at l from end s (m .within) k j) ∙ q)
-
--- and of each word of a part, where it holds of each word of the whole from `a` to `e`
-pub each-part : (l : List ℕ) (a e v : ℕ) → a ≤ e → e ≤ length l → ((k : ℕ) → a ≤ k → k < e → getD l k 0 ≡ v) → (k : ℕ) → k < length
-    (take (e - a) (drop a l)) → getD (take (e - a) (drop a l)) k 0 ≡ v
-each-part l a e v s t all k h = let n = part-length l a e s t in part-at l a e s t k (omega arith) ∙ all (a + k) (omega arith) (omega arith)
-
--- a test that fails and holds
-pub not-both : {A : Type 0} (b : Bool) → not b ≡ true → b ≡ true → A
-not-both true e f = absurd (false≢true e)
-not-both false e f = absurd (false≢true f)
-
--- both parts of a table are as they must be
-pub clean : (l : List ℕ) (used lent : ℕ) → used ≤ lent → lent ≤ length l
-    → ((k : ℕ) → k < length (take (lent - used) (drop used l)) → getD (take (lent - used) (drop used l)) k 0 ≡ 0)
-    → ((k : ℕ) → k < length (take (length l - lent) (drop lent l)) → getD (take (length l - lent) (drop lent l)) k 0 ≡ 7)
-    → Clean l used lent
-clean l used lent s e clear same = record { cleared = part-all l used lent s e 0 clear; kept = part-all l lent (length l) e (omega arith) 7 same }

@@ -53,15 +53,3 @@ pub record SpellsBytes (digits bytes : List ℕ) (count : ℕ) (right : Bool) : 
   pub whole : right ≡ true → (length digits ≡ count * 2) ⊎ ((length digits ≡ 1) × (getD digits 0 0 ≡ 45))
   pub taken : (n : ℕ) → length digits ≡ n * 2 → n ≤ length bytes → ((k : ℕ) → k < length digits → digitOf (getD digits k 0) ≤ 15) → right ≡ true
   pub dash : length digits ≡ 1 → getD digits 0 0 ≡ 45 → right ≡ true
-
--- a case has its bytes at the start of file, and lends no more words than there is room for
-pub record Lends (file : List ℕ) (nodeRoom itemRoom bytes nodes items : ℕ) : Type 0 where
-  pub within : bytes ≤ length file
-  pub counted : bytes ≡ length (take bytes file)
-  pub nodesFit : nodes ≤ nodeRoom
-  pub itemsFit : items ≤ itemRoom
-
--- words from `used` to `lent` are 0, and those from `lent` on are 7, which is what a stale word holds
-pub record Clean (words : List ℕ) (used lent : ℕ) : Type 0 where
-  pub cleared : (k : ℕ) → used ≤ k → k < lent → getD words k 0 ≡ 0
-  pub kept : (k : ℕ) → lent ≤ k → k < length words → getD words k 0 ≡ 7

@@ -5,15 +5,8 @@ ghost use lib.ListN.{length, replicate};
 // What every lent word holds before a call.
 pub const STALE: u64 = 7;
 
-// 2,097,152 zeros, for all of the text that standard input holds.
-pub fn text_buffer() -> [u8; 2097152]
-    ensures { λ r. ⌜ 2097152 ≡ length r ⌝ }
-{
-    [0; 2097152]
-}
-
-// 262,144 zeros, for the text of one answer.
-pub fn answer_buffer() -> [u8; 262144]
+// 262,144 zeros, for the text of one answer, and for lines of standard input.
+pub fn text_buffer() -> [u8; 262144]
     ensures { λ r. ⌜ 262144 ≡ length r ⌝ }
 {
     [0; 262144]

@@ -1,8 +1,7 @@
 // Lines of a text and fields of a line.
 ghost use mathlib.Core.Path.{_≡_};
-ghost use mathlib.Core.Bool.{_&&_};
+ghost use mathlib.Core.Bool.{true};
 ghost use Prim.Native.Nat.{ℕ, _+_, _≤_, _<_};
-ghost use lib.Dec.{eqb};
 ghost use lib.ListN.{length, getD};
 ghost use Rattle.casetext.specs.Text.{FirstMark};
 
@@ -21,7 +20,7 @@ pub fn find_mark(text: &[u8], from: usize, mark: u8) -> usize
 }
 
 // The place after a mark at `end`, or the text's length where `end` is not before it.
-pub fn after(text: &[u8], end: usize) -> usize
+fn after(text: &[u8], end: usize) -> usize
     ensures within { λ r. ⌜ r ≤ length (now (text .entry)) ⌝ }
     ensures next { λ r. ⌜ (end < length (now (text .entry)) → r ≡ end + 1) ⌝ }
 {
@@ -31,17 +30,27 @@ pub fn after(text: &[u8], end: usize) -> usize
     text.len()
 }
 
-// Where the field with this index starts, or the line's length where there are fewer fields.
-fn field_start(line: &[u8], index: usize) -> usize
-    ensures { λ r. ⌜ r ≤ length (now (line .entry)) ⌝ }
+// Where the part with this index, from 0, of a text starts, or the text's length where there are fewer parts; single marks separate the parts.
+pub fn part_start(text: &[u8], mark: u8, index: usize) -> usize
+    ensures { λ r. ⌜ r ≤ length (now (text .entry)) ⌝ }
 {
     let mut at = 0;
     let mut left = index;
     while left > 0 {
-        at = after(line, find_mark(line, at, b' '));
+        at = after(text, find_mark(text, at, mark));
         left -= 1;
     }
     at
+}
+
+// That part; no bytes where there are fewer parts.
+pub fn part(text: &[u8], mark: u8, index: usize) -> &[u8]
+    ensures within { λ r. ⌜ length (now r) ≤ length (now (text .entry)) ⌝ }
+    ensures unmarked { λ r. ⌜ ((k : ℕ) → k < length (now r) → getD (now r) k 0 ≡ mark → ⊥) ⌝ }
+{
+    let start = part_start(text, mark, index);
+    let end = find_mark(text, start, mark);
+    &text[start..end]
 }
 
 // The field with this index, from 0, of fields that single spaces separate; no bytes where there are fewer fields.
@@ -49,17 +58,23 @@ pub fn field(line: &[u8], index: usize) -> &[u8]
     ensures within { λ r. ⌜ length (now r) ≤ length (now (line .entry)) ⌝ }
     ensures unmarked { λ r. ⌜ ((k : ℕ) → k < length (now r) → getD (now r) k 0 ≡ 32 → ⊥) ⌝ }
 {
-    let start = field_start(line, index);
-    let end = find_mark(line, start, b' ');
-    &line[start..end]
+    part(line, b' ', index)
 }
 
-// Whether a field is this one letter.
-pub fn is_letter(field: &[u8], letter: u8) -> bool
-    ensures { λ r. ⌜ r ≡ (eqb (length (now (field .entry))) 1 && eqb (getD (now (field .entry)) 0 0) letter) ⌝ }
+// Whether two texts are the same.
+pub fn is_same(one: &[u8], two: &[u8]) -> bool
+    ensures same { λ r. ⌜ (r ≡ true → now (one .entry) ≡ now (two .entry)) ⌝ }
+    ensures only { λ r. ⌜ (now (one .entry) ≡ now (two .entry) → r ≡ true) ⌝ }
 {
-    if field.len() != 1 {
+    if one.len() != two.len() {
         return false;
     }
-    field[0] == letter
+    let mut i = 0;
+    while i < one.len() {
+        if one[i] != two[i] {
+            return false;
+        }
+        i += 1;
+    }
+    true
 }

@@ -1,7 +1,8 @@
 // Numbers and bytes read from a field.
 ghost use mathlib.Core.Path.{_≡_};
 ghost use Prim.Native.Nat.{_≤_};
-ghost use Rattle.casetext.specs.Text.{digitOf, Spells, SpellsBytes, Lends};
+ghost use Rattle.casetext.specs.Text.{digitOf, Spells, SpellsBytes};
+ghost use Rattle.io.specs.Counts.{Counts};
 use crate::fields::field;
 
 // A number, and whether the field spells it; 0 where it spells none.
@@ -13,14 +14,6 @@ pub struct Number {
 // How many bytes were decoded, and whether they are all that the field spells.
 pub struct Decoded {
     pub count: usize,
-    pub right: bool,
-}
-
-// What every case starts with: how many bytes the file has, how many node words and how many item words are lent.
-pub struct Case {
-    pub bytes: usize,
-    pub nodes: usize,
-    pub items: usize,
     pub right: bool,
 }
 
@@ -120,31 +113,24 @@ pub fn read_hex(digits: &[u8], bytes: &mut [u8]) -> Decoded
     }
 }
 
-// Reads the field with this index as a decimal number of at most `most`.
-pub fn read_number(line: &[u8], index: usize, most: usize) -> Number
-    ensures { λ r. ⌜ r .value ≤ most ⌝ }
+// The field with this index as a decimal number of at most `most`; 0 where it is none.
+pub fn read_number(line: &[u8], index: usize, most: usize) -> usize
+    ensures { λ r. ⌜ r ≤ most ⌝ }
 {
     let number = read_decimal(field(line, index));
     if number.value > most {
-        return Number {
-            value: 0,
-            right: false,
-        };
+        return 0;
     }
-    number
+    number.value
 }
 
-// Reads the bytes of a case into the start of `file`, and the numbers of words to lend, each at most the room for them.
-pub fn read_case(line: &[u8], file: &mut [u8], node_room: usize, item_room: usize) -> Case
-    ensures { λ r. ⌜ Lends (now (file .exit)) «node_room» «item_room» (r .bytes) (r .nodes) (r .items) ⌝ }
+// Decodes the field with this index into the start of `bytes`, and answers how many there are; 0 where it spells none, or more than have room.
+pub fn read_bytes(line: &[u8], index: usize, bytes: &mut [u8]) -> usize
+    ensures { λ r. ⌜ Counts r (now (bytes .exit)) ⌝ }
 {
-    let decoded = read_hex(field(line, 1), file);
-    let nodes = read_number(line, 2, node_room);
-    let items = read_number(line, 3, item_room);
-    Case {
-        bytes: decoded.count,
-        nodes: nodes.value,
-        items: items.value,
-        right: decoded.right && nodes.right && items.right,
+    let decoded = read_hex(field(line, index), bytes);
+    if decoded.right {
+        return decoded.count;
     }
+    0
 }

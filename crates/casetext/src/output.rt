@@ -66,14 +66,14 @@ fn put_mark(out: &mut [u8], at: usize, mark: u8, index: usize) -> usize
     put_byte(out, at, mark)
 }
 
-// Puts words in decimal, with commas between them.
-pub fn put_words(out: &mut [u8], at: usize, words: &[u64]) -> usize
+// Puts words in decimal, with `mark` between them.
+pub fn put_words(out: &mut [u8], at: usize, words: &[u64], mark: u8) -> usize
     ensures { λ r. ⌜ Ends (now (out .exit)) at r ⌝ }
 {
     let mut end = start(out, at);
     let mut i = 0;
     while i < words.len() {
-        end = put_mark(out, end, b',', i);
+        end = put_mark(out, end, mark, i);
         end = put_decimal(out, end, words[i]);
         i += 1;
     }
@@ -96,16 +96,23 @@ fn row_end(from: usize, width: usize, length: usize) -> usize
     length
 }
 
-// Puts rows of `width` words, with semicolons between rows.
-pub fn put_rows(out: &mut [u8], at: usize, words: &[u64], width: usize) -> usize
+// Puts rows of `width` words, with `mark` between rows and `comma` between words.
+pub fn put_rows(
+    out: &mut [u8],
+    at: usize,
+    words: &[u64],
+    width: usize,
+    mark: u8,
+    comma: u8,
+) -> usize
     ensures { λ r. ⌜ Ends (now (out .exit)) at r ⌝ }
 {
     let mut end = start(out, at);
     let mut i = 0;
     while i < words.len() {
         let next = row_end(i, width, words.len());
-        end = put_mark(out, end, b';', i);
-        end = put_words(out, end, &words[i..next]);
+        end = put_mark(out, end, mark, i);
+        end = put_words(out, end, &words[i..next], comma);
         i = next;
     }
     end

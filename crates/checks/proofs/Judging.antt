@@ -9,13 +9,13 @@ use borrow.Author.Tests.{eq-eqb, ne-eqb}
 use Rattle.cursor.specs.declared.FilePlace.{FilePlace}
 use Rattle.metadata.specs.Tables.{fullNodes, fullItems, limits}
 use Rattle.room.specs.Room.{good, bad}
-use Rattle.tree.specs.Reading.{readOf, readFile}
-use Rattle.tree.specs.Asking.{ask, counts}
-use Rattle.tree.specs.declared.Read.{Read}
-use Rattle.tree.specs.declared.Read.the-variants as read
-use Rattle.tree.specs.declared.Summary.{Summary}
-use Rattle.tree.proofs.Rows.{Standing}
-use Rattle.sheet.specs.Sheet.{tabbed, number, versionText}
+use Rattle.file.specs.Reading.{readOf, readFile}
+use Rattle.file.specs.Asking.{ask, counts}
+use Rattle.file.specs.declared.Read.{Read}
+use Rattle.file.specs.declared.Read.the-variants as read
+use Rattle.file.specs.declared.Summary.{Summary}
+use Rattle.file.proofs.Rows.{Standing}
+use Rattle.text.specs.Text.{tabbed, number, versionText}
 use Rattle.mobile.specs.Mobile.{mobile}
 use Rattle.mobile.specs.Told as verdict
 use Rattle.mobile.specs.declared.Judged.{Judged}

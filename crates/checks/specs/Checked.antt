@@ -5,8 +5,8 @@ use mathlib.Core.List.{List, _∷_, _++_}
 use Prim.Native.Nat.{ℕ}
 use lib.Dec.{eqb}
 use lib.ListN.{length}
-use Rattle.tree.specs.Asking.{Counts, counts, ask}
-use Rattle.sheet.specs.Sheet.{tabbed, number, versionText}
+use Rattle.file.specs.Asking.{Counts, counts, ask}
+use Rattle.text.specs.Text.{tabbed, number, versionText}
 use Rattle.mobile.specs.Mobile.{mobile}
 use Rattle.lines.specs.Answer.{Answer, answer, plainly, ended, printed, reads}
 

@@ -15,7 +15,7 @@ fn put_verdict(out: &mut [u8], tail: &[u8], verdict: u64) -> usize
     ensures { λ r. ⌜ Counts (now (out .entry)) (now (out .exit)) 0 (verdictLine (now (tail .entry)) verdict) r ⌝ }
 {
     let a = room::put_byte(out, 0, b'V');
-    let b = sheet::put_number(out, a, verdict);
+    let b = text::put_number(out, a, verdict);
     put_end(out, b, tail)
 }
 

@@ -14,7 +14,7 @@ use Rattle.machine.proofs.Within.{Within, same, after, ends, checks, places, co
 use Rattle.cursor.proofs.Within.{next-within, number-within, manufacturer-within}
 use Rattle.machine.proofs.Agree.{Agree}
 use Rattle.header.specs.Header.{Header}
-use Rattle.tree.specs.Rows.{itemAt}
+use Rattle.rows.specs.Rows.{itemAt}
 use Rattle.description.specs.Row.{isDescription}
 use Rattle.description.specs.Description.{value, aByte, guid, identifier, resource, numbers, lists, table, description}
 use Rattle.description.specs.Count.{dataRead, isReadable, isRead, countOf, countIn, countRow, countFor}

@@ -9,16 +9,17 @@ use borrow.Author.Tests.{lt-ltb, le-ltb, not-true, not-false}
 use Rattle.machine.specs.Machine.{run}
 use Rattle.cursor.specs.declared.FilePlace.{FilePlace}
 use Rattle.cursor.specs.declared.Item.{Item}
-use Rattle.metadata.specs.Tables.{itemWidth, limits}
-use Rattle.tree.specs.Reading.{readFile, readOf, nodeTable, itemTable}
-use Rattle.tree.specs.Rows.{itemFrom, itemsIn, ItemRows}
-use Rattle.tree.specs.Asking.{Result, good, bad}
-use Rattle.tree.specs.declared.Summary.{Summary}
-use Rattle.tree.specs.declared.Read.{Read}
-use Rattle.tree.specs.declared.Read.the-variants as read
-use Rattle.tree.proofs.Rows.{item-at, items-in-length, Standing, standing}
-use Rattle.tree.proofs.Exits.{Says, says-unread, says-refused, says-answer}
-use Rattle.tree.proofs.Own.{item-rows}
+use Rattle.rows.specs.Rows.{itemWidth, itemFrom, itemsIn, ItemRows}
+use Rattle.metadata.specs.Tables.{limits}
+use Rattle.file.specs.Reading.{readFile, readOf, nodeTable, itemTable}
+use Rattle.file.specs.Asking.{Result, good, bad}
+use Rattle.file.specs.declared.Summary.{Summary}
+use Rattle.file.specs.declared.Read.{Read}
+use Rattle.file.specs.declared.Read.the-variants as read
+use Rattle.rows.proofs.Rows.{item-at, items-in-length}
+use Rattle.file.proofs.Rows.{Standing, standing}
+use Rattle.file.proofs.Exits.{Says, says-unread, says-refused, says-answer}
+use Rattle.file.proofs.Own.{item-rows}
 use Rattle.description.specs.Row.{isField, isBinary, isDescription}
 use Rattle.description.specs.Description.{description}
 use Rattle.description.specs.Count.{dataRead, countOf, countIn, countRow, countFor}

@@ -11,7 +11,7 @@ use Rattle.cursor.specs.declared.Item.{Item}
 use Rattle.header.specs.Header.{Header}
 use Rattle.room.specs.Room.{Among}
 use Rattle.room.proofs.Listed.{among-if}
-use Rattle.tree.specs.Rows.{itemAt}
+use Rattle.rows.specs.Rows.{itemAt}
 use Rattle.description.specs.Row.{isDescription}
 use Rattle.description.specs.Description.{Description}
 use Rattle.description.specs.Count.{dataRead, countAt, countOf, countIn, countRow, countFor, refusals}

@@ -16,7 +16,7 @@ use Rattle.cursor.proofs.Stays.{Inside, Stays, after, ends, places, checks, cou
 use Rattle.header.specs.Header.{Header}
 use Rattle.room.specs.Room.{bad, PlacedIn}
 use Rattle.room.proofs.Listed.{placed-if}
-use Rattle.tree.specs.Rows.{itemAt, ItemsIn}
+use Rattle.rows.specs.Rows.{itemAt, ItemsIn}
 use Rattle.description.specs.Row.{isDescription}
 use Rattle.description.specs.Description.{Description, value, aByte, guid, identifier, resource, numbers, lists, table, description}
 use Rattle.description.specs.Count.{dataRead, countAt, countOf, countIn, countRow, countFor}

@@ -18,7 +18,7 @@ use Rattle.cursor.specs.declared.Item.{Item}
 use Rattle.machine.proofs.Laws.{running, andThen, run-times, run-timed}
 use Rattle.machine.proofs.Wp.{Wp, at-end, wp-after, wp-weaken, wp-ret, wp-check, wp-place, wp-times}
 use Rattle.cursor.proofs.Leaves.{Any, any-free, next-on, number-on, manufacturer-on}
-use Rattle.tree.specs.Asking.{Result, good, bad}
+use Rattle.file.specs.Asking.{Result, good, bad}
 use Rattle.description.specs.Description.{value, aByte, guid, identifier, resource, numbers, Description, lists, table, description}
 use Rattle.description.specs.Count.{dataRead, isRead, isReadable, countAt, countOf}
 use Rattle.description.specs.Told.{picked}

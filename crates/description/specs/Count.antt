@@ -8,8 +8,8 @@ use lib.ListN.{length, getD}
 use Rattle.machine.specs.Machine.{Out, ok, refused, run}
 use Rattle.cursor.specs.Refusals.{noSuchRow, noSuchItem, badDescription}
 use Rattle.cursor.specs.declared.Item.{Item}
-use Rattle.tree.specs.Rows.{itemAt}
-use Rattle.tree.specs.Asking.{Result, good, bad, Asks}
+use Rattle.rows.specs.Rows.{itemAt}
+use Rattle.file.specs.Asking.{Result, good, bad, Asks}
 use Rattle.description.specs.Row.{isDescription}
 use Rattle.description.specs.Description.{Description, description}
 

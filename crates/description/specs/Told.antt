@@ -4,7 +4,7 @@ use mathlib.Core.List.{List}
 use Prim.Native.Nat.{ℕ}
 use lib.ListN.{getD}
 use Rattle.machine.specs.Machine.{Out, ok, refused}
-use Rattle.tree.specs.Asking.{Result, good, bad}
+use Rattle.file.specs.Asking.{Result, good, bad}
 use Rattle.description.specs.declared.Counted.{Counted}
 use Rattle.description.specs.declared.Counted.the-variants as counted
 

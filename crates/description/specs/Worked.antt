@@ -6,7 +6,7 @@ use Prim.Native.Nat.{ℕ}
 use lib.ListN.{length, take}
 use Rattle.machine.specs.Machine.{run, _>>=_, _>>_, if_then_else_, place, check, times}
 use Rattle.cursor.specs.Leaves.{next, digits, number, manufacturer}
-use Rattle.tree.specs.Asking.{Result, good, bad}
+use Rattle.file.specs.Asking.{Result, good, bad}
 use Rattle.description.specs.Description.{value, aByte, guid, identifier, resource, numbers, lists, table, description}
 use Rattle.description.specs.Count.{countAt, countOf}
 

@@ -4,8 +4,8 @@ ghost use Prim.Native.Nat.{_≤_, _<_, _^_, _*_, _+_};
 ghost use lib.ListN.{length};
 ghost use Rattle.machine.specs.Machine.{run, times};
 ghost use Rattle.cursor.specs.Told.{numberTold, passTold};
-ghost use Rattle.tree.specs.Rows.{itemsIn, ItemIn, ItemRows};
-ghost use Rattle.tree.specs.Asking.{answered, nodesLeft, itemsLeft};
+ghost use Rattle.rows.specs.Rows.{itemsIn, ItemIn, ItemRows};
+ghost use Rattle.file.specs.Asking.{answered, nodesLeft, itemsLeft};
 ghost use Rattle.description.specs.Row.{isField, isBinary};
 ghost use Rattle.description.specs.Description.{value, guid, identifier, resource, numbers, lists, table, description};
 ghost use Rattle.description.specs.Count.{isReadable, countOf, countIn, countRow, countFor};
@@ -15,7 +15,7 @@ use cursor::FilePlace;
 use cursor::Item;
 use cursor::Numbered;
 use cursor::Passed;
-use tree::Read;
+use file::Read;
 
 // The count; or a refusal, as number and place.
 pub enum Counted {
@@ -290,7 +290,7 @@ fn count_row(
     if count <= row {
         return Counted::Refused(cursor::NO_SUCH_ROW, 0);
     }
-    count_in(file, tree::item_at(items, row), channel, resource)
+    count_in(file, rows::item_at(items, row), channel, resource)
 }
 
 // Reads the file, and the content description that is the item row: its count of a channel and a resource.
@@ -306,12 +306,12 @@ pub fn count_for(
     ensures nodes { λ _. ⌜ now (nodes .exit) ≡ nodesLeft (now (nodes .entry)) (now (items .entry)) (now (file .entry)) (countFor «item_row» channel resource) ⌝ }
     ensures items { λ _. ⌜ now (items .exit) ≡ itemsLeft (now (nodes .entry)) (now (items .entry)) (now (file .entry)) (countFor «item_row» channel resource) ⌝ }
 {
-    match tree::read_file(file, nodes, items) {
+    match file::read_file(file, nodes, items) {
         Read::Refused(n, p) => Counted::Refused(n, p.0),
         Read::Is(s) => match count_row(file, items, s.items, item_row, channel, resource) {
             Counted::Count(n) => Counted::Count(n),
             Counted::Refused(n, p) => {
-                tree::clear_all(nodes, items);
+                rows::clear_all(nodes, items);
                 Counted::Refused(n, p)
             }
         },

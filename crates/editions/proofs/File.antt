@@ -18,14 +18,15 @@ use Rattle.cursor.proofs.Lies.{part-length}
 use Rattle.room.specs.Room.{Result, good, bad}
 use Rattle.room.specs.Decimal.{digits, decimal}
 use Rattle.header.specs.Header.{Header}
-use Rattle.metadata.specs.Tables.{nodeWords, itemWords}
+use Rattle.rows.specs.Rows.{nodeWords, itemWords}
 use Rattle.metadata.specs.declared.Limits.{Limits}
-use Rattle.tree.specs.Hidden.{isHidden}
-use Rattle.tree.specs.Reading.{rows, readFile}
-use Rattle.tree.proofs.Order.{spread, in-row-order}
+use Rattle.file.specs.Hidden.{isHidden}
+use Rattle.file.specs.Reading.{rows, readFile}
+use Rattle.file.proofs.Order.{spread, in-row-order}
 use Rattle.unicode.specs.Unicode.{bytesAll, toUtf8}
 use Rattle.unicode.proofs.Walk.{Bytes}
-use Rattle.sheet.specs.Sheet.{plain, hexed, escaped, escapedPart, shownOr, unicodeText, tabbed, number, versionText, firstLine, firstLine2, nodeLine, label, textOf, itemLine, visibleLine, linesOf, lines2Of, sheetOf, fitting, linesIn, write, write2, writeIn}
+use Rattle.text.specs.Text.{plain, hexed, escaped, escapedPart, shownOr, unicodeText, tabbed, number, versionText}
+use Rattle.sheet.specs.Sheet.{firstLine, firstLine2, nodeLine, label, textOf, itemLine, visibleLine, linesOf, lines2Of, sheetOf, fitting, linesIn, write, write2, writeIn}
 use Rattle.sheet.specs.Sheet as sheet
 use Rattle.editions.specs.declared.State.{State}
 use Rattle.editions.specs.Sheets.{Lines, same, value, isVersion, fits, parted, fields, field, word, written, lead, kind, node, item, judged, WellFormed, move}
@@ -33,8 +34,8 @@ use Rattle.editions.proofs.Order.{Items}
 use Rattle.editions.proofs.Bytes.{Clean, AllClean, written-parted}
 use Rattle.editions.proofs.Bytes as pieces
 use Rattle.editions.proofs.Back.{FirstBody, tests, first-third, first-fourth, renamed-is, first-is, first-says, judged-well, moved-on, move-is, moves}
-use Rattle.tree.proofs.Small.{Each, IsVersion}
-use Rattle.tree.proofs.Words.{each-by, Below, Named, SmallRows, small-rows}
+use Rattle.file_laws.proofs.Small.{Each, IsVersion}
+use Rattle.file_laws.proofs.Words.{each-by, Below, Named, SmallRows, small-rows}
 use Rattle.editions.proofs.Spelled.{value-decimal, spelled, clean-decimal, clean-append, tabs, clean-tabs, fields-are, node-text, node-ended, node-kind, Text, escaped-text, shown-text, item-text, standard-ended, standard-kind, custom-ended, custom-kind}
 use Rattle.editions.proofs.Rows.{nodeLines, itemLines, groupLines, owners, NodesAre, ItemsAre, first-body, first-to-second}
 

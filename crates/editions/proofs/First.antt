@@ -10,7 +10,7 @@ use lib.ListN.{length, getD, drop}
 use lib.Seq.{slice, slice-cons, slice-empty, length-slice}
 use borrow.Author.Tests.{eq-eqb, ne-eqb}
 use Rattle.room.specs.Decimal.{decimal, digits}
-use Rattle.sheet.specs.Sheet.{versionText}
+use Rattle.text.specs.Text.{versionText}
 use Rattle.editions.specs.Sheets.{parted, fields, field, same, value, isNumber, isVersion, fits, word, isFirst}
 use Rattle.editions.specs.Reads.{numberOf, fieldsAt, FieldIs, NoField, NumberIs}
 use Rattle.editions.specs.Told.{LeadIs}

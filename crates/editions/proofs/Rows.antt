@@ -11,7 +11,7 @@ use lib.ListN.{length, take, drop, replicate, take-append-drop}
 use Rattle.editions.specs.Sheets.{Lines, node, kind, nodesOf, itemsOf, reordered}
 use Rattle.editions.proofs.Order.{Rows, Items, Groups, groups-items, items-nodes, items-items, none-nodes, none-items, nodes-node, items-node, items-lower, first-rows, first-low, second-back}
 use Rattle.editions.proofs.Back.{FirstBody}
-use Rattle.tree.proofs.Small.{Each}
+use Rattle.file_laws.proofs.Small.{Each}
 
 -- from cons to its parts
 no-cons : {A : Type 0} (x : A) (xs : List A) → x ∷ xs ≡ [] → ⊥
@@ -31,7 +31,7 @@ module _ {N I : Type 0} (rows : N → ℕ) (owner : I → ℕ) (nodeLine : ℕ �
   groupLines k [] is = []
   groupLines k (r ∷ rs) is = nodeLine k r ∷ itemLines (take (rows r) is) ++ groupLines (k + 1) rs (drop (rows r) is)
 
-  -- the owners of the items: for each node its row number as many times as its row says (crates/tree/proofs/Order.antt, `InOrder`)
+  -- the owners of the items: for each node its row number as many times as its row says (crates/file/proofs/Order.antt, `InOrder`)
   abbrev pub owners : ℕ → List N → List ℕ
   owners k [] = []
   owners k (r ∷ rs) = replicate (rows r) k ++ owners (k + 1) rs

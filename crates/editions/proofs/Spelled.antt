@@ -11,11 +11,11 @@ use lib.Dec.{eqb, leb, ltb}
 use borrow.Author.Tests.{eq-eqb, ne-eqb, leb-true, le-leb, lt-ltb, le-ltb, not-true}
 use Rattle.room.specs.Decimal.{digits, decimal}
 use Rattle.unicode.specs.Unicode.{bytesAll}
-use Rattle.sheet.specs.Sheet.{hexDigits, hexDigit, plain, hexed, escaped, shownByte, shown}
+use Rattle.text.specs.Text.{hexDigits, hexDigit, plain, hexed, escaped, shownByte, shown}
 use Rattle.editions.specs.Sheets.{Lines, same, value, isNumber, isEven, isText, isName, isEscape, itself, nibble, parted, onFirst, fields, field, fits, isNode, isItem, kind, node, item}
 use Rattle.editions.proofs.Shape.{both-true}
 use Rattle.editions.proofs.Bytes.{Clean, AllClean, piece}
-use Rattle.tree.proofs.Small.{Each}
+use Rattle.file_laws.proofs.Small.{Each}
 use Rattle.editions.proofs.Numbers.{Digits, digits-are, same-self}
 
 -- ---- numbers

@@ -10,7 +10,7 @@ use lib.Dec.{eqb, leb, ltb}
 use lib.ListN.{length, getD}
 use lib.Seq.{slice, slice-cons, slice-empty, length-slice}
 use borrow.Author.Tests.{eq-eqb, ne-eqb, lt-ltb, le-ltb}
-use Rattle.sheet.specs.Sheet.{hexDigits, hexDigit, plain, hexed, escaped}
+use Rattle.text.specs.Text.{hexDigits, hexDigit, plain, hexed, escaped}
 use Rattle.editions.specs.Sheets.{same, nibble, isEscape, itself, isText, isName}
 use Rattle.editions.specs.Reads.{NoField, NameIs}
 use Rattle.editions.proofs.Places.{Next}

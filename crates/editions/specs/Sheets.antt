@@ -9,7 +9,7 @@ use lib.ListN.{length, getD, drop}
 use Rattle.cursor.specs.Refusals.{noRoom, badSheet}
 use Rattle.room.specs.Room.{Result, good, bad}
 use Rattle.room.specs.Decimal.{decimal}
-use Rattle.sheet.specs.Sheet.{plain, escaped, versionText}
+use Rattle.text.specs.Text.{plain, escaped, versionText}
 use Rattle.editions.specs.declared.State.{State}
 
 -- ---- lines and fields

@@ -6,7 +6,7 @@ use Prim.Native.Nat.{ℕ}
 use lib.ListN.{take}
 use Rattle.room.specs.Room.{good, bad}
 use Rattle.room.specs.Decimal.{digits, decimal}
-use Rattle.sheet.specs.Sheet.{hexDigits, hexDigit, plain, hexed, escaped, versionText}
+use Rattle.text.specs.Text.{hexDigits, hexDigit, plain, hexed, escaped, versionText}
 use Rattle.editions.specs.Sheets.{parted, fields, field, written, same, value, isNumber, isEven, nibble, isEscape, itself, isText, isName, isVersion, fits, isFirst, isNode, isItem, kind, judge, agreeing, judged, picked, spread, reordered, renamed, lead, behind, movedLines, isSecond, move}
 
 -- `XMF`, 2.00, 56, 2, 3

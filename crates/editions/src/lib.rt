@@ -5,7 +5,7 @@ ghost use Prim.Native.Nat.{_≤_, _<_, _+_, _-_, _^_};
 ghost use lib.ListN.{length, drop, replicate};
 ghost use lib.Seq.{slice};
 ghost use Rattle.room.specs.Room.{good, bad};
-ghost use Rattle.sheet.specs.Sheet.{hexDigits};
+ghost use Rattle.text.specs.Text.{hexDigits};
 ghost use Rattle.editions.specs.Sheets.{parted, lead, isNumber, nibble, isEscape, itself, isText, isVersion, fits, word, kind, stands, after, start, judge};
 ghost use Rattle.editions.specs.Reads.{numberOf, fieldsAt, FieldIs, LetterIs, isTail, isLabelled};
 ghost use Rattle.editions.specs.Told.{NumberAt, NameAt, lineTold, WordAt, LeadAt, stepTold, bodyTold, JudgedAs};
@@ -196,7 +196,7 @@ fn is_escape(x: u8, y: u8, hex: &[u8; 16]) -> bool
     if 0x100 <= v {
         return false;
     }
-    if sheet::is_plain(v as u8) {
+    if text::is_plain(v as u8) {
         return false;
     }
     if x != hex[(v / 16) as usize] {
@@ -209,7 +209,7 @@ fn is_escape(x: u8, y: u8, hex: &[u8; 16]) -> bool
 fn is_itself(b: u8, two: bool) -> bool
     ensures { λ r. ⌜ r ≡ itself two b ⌝ }
 {
-    if sheet::is_plain(b) {
+    if text::is_plain(b) {
         return true;
     }
     if two {
@@ -223,7 +223,7 @@ fn is_text(line: &[u8], from: usize, end: usize, two: bool) -> bool
     requires { ⌜ (from ≤ end) × (end ≤ length (now line)) ⌝ }
     ensures { λ r. ⌜ r ≡ isText two (slice from end (now (line .entry))) ⌝ }
 {
-    let hex = sheet::hex_digits();
+    let hex = text::hex_digits();
     let mut i = from;
     while i < end {
         let b = line[i];

@@ -12,17 +12,17 @@ use borrow.Author.Tests.{lt-ltb, le-ltb}
 use Rattle.cursor.specs.declared.Node.{Node}
 use Rattle.cursor.specs.declared.Item.{Item}
 use Rattle.cursor.specs.declared.FilePlace.{FilePlace}
-use Rattle.metadata.specs.Tables.{nodeWidth}
-use Rattle.tree.specs.Reading.{Reading, readOf, nodeTable, itemTable}
-use Rattle.tree.specs.declared.Read.{Read}
-use Rattle.tree.specs.declared.Read.the-variants as read
-use Rattle.tree.specs.Rows.{nodeFrom, nodesIn, itemsIn, nodeAt}
-use Rattle.tree.specs.Asking.{Result, good, bad}
-use Rattle.tree.specs.Own.{Numbered, numbered, firstRow, part, Tables}
-use Rattle.tree.specs.declared.Summary.{Summary}
-use Rattle.tree.proofs.Rows.{node-at, nodes-in-length, Standing}
-use Rattle.tree.proofs.Exits as exits
-use Rattle.tree.proofs.Own.{first-next, rows-in, end-in, end-next, own-are}
+use Rattle.rows.specs.Rows.{nodeWidth, nodeFrom, nodesIn, itemsIn, nodeAt}
+use Rattle.file.specs.Reading.{Reading, readOf, nodeTable, itemTable}
+use Rattle.file.specs.declared.Read.{Read}
+use Rattle.file.specs.declared.Read.the-variants as read
+use Rattle.file.specs.Asking.{Result, good, bad}
+use Rattle.file.specs.Own.{Numbered, numbered, firstRow, part, Tables}
+use Rattle.file.specs.declared.Summary.{Summary}
+use Rattle.rows.proofs.Rows.{node-at, nodes-in-length}
+use Rattle.file.proofs.Rows.{Standing}
+use Rattle.file.proofs.Exits as exits
+use Rattle.file.proofs.Own.{first-next, rows-in, end-in, end-next, own-are}
 use Rattle.find.specs.Find.{Wanted, among, look, rowsUp, path, orElse, firstAnswer, nearest, find, findOwn}
 use Rattle.find.specs.Told.{told, foundBy, question}
 use Rattle.find.specs.declared.Found.{Found}

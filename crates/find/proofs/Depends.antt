@@ -12,9 +12,9 @@ use Rattle.cursor.specs.declared.Node.{Node}
 use Rattle.cursor.specs.declared.Item.{Item}
 use Rattle.machine.proofs.Agree.{Agree}
 use Rattle.header.specs.Header.{Header}
-use Rattle.tree.specs.Rows.{itemAt}
-use Rattle.tree.specs.Asking.{Result, good, bad}
-use Rattle.tree.specs.Own.{Numbered, numbered, those, isOwn, own}
+use Rattle.rows.specs.Rows.{itemAt}
+use Rattle.file.specs.Asking.{Result, good, bad}
+use Rattle.file.specs.Own.{Numbered, numbered, those, isOwn, own}
 use Rattle.find.specs.Find.{Wanted, standard, custom, sameBytes, matches, among, look, path, orElse, firstAnswer, nearest, find, findOwn}
 
 module _ (f g : List ℕ) where

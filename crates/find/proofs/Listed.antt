@@ -9,7 +9,7 @@ use Rattle.cursor.specs.declared.Item.{Item}
 use Rattle.header.specs.Header.{Header}
 use Rattle.room.specs.Room.{Result, good, bad, Among}
 use Rattle.room.proofs.Listed.{among-if}
-use Rattle.tree.specs.Own.{Numbered}
+use Rattle.file.specs.Own.{Numbered}
 use Rattle.find.specs.Find.{Wanted, matches, among, look, orElse, firstAnswer, path, nearest, find, findOwn, refusals}
 
 module _ (f : List ℕ) (w : Wanted) where

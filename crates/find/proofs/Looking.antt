@@ -6,12 +6,11 @@ use mathlib.Core.List.{List}
 use Prim.Native.Nat.{ℕ, _+_, _*_, _≤_, _<_}
 use native.Mathlib.Omega.{arith}
 use Rattle.cursor.specs.declared.Item.{Item}
-use Rattle.metadata.specs.Tables.{itemWidth}
-use Rattle.tree.specs.Rows.{itemsIn, itemFrom}
-use Rattle.tree.specs.Asking.{Result, good, bad}
-use Rattle.tree.specs.Own.{Numbered, numbered, part}
-use Rattle.tree.proofs.Rows.{item-at, items-in-length}
-use Rattle.tree.proofs.Own.{part-next, part-none}
+use Rattle.rows.specs.Rows.{itemWidth, itemsIn, itemFrom}
+use Rattle.file.specs.Asking.{Result, good, bad}
+use Rattle.file.specs.Own.{Numbered, numbered, part}
+use Rattle.rows.proofs.Rows.{item-at, items-in-length}
+use Rattle.file.proofs.Own.{part-next, part-none}
 use Rattle.find.specs.Find.{Wanted, matches, among}
 
 -- the look at the rows from i on and before `end`

@@ -7,8 +7,8 @@ use Prim.Native.Nat.{ℕ, zero, suc, _+_, _<_}
 use native.Mathlib.Omega.{arith}
 use lib.ListN.{length}
 use Rattle.cursor.specs.declared.Node.{Node}
-use Rattle.tree.specs.Rows.{nodeAt}
-use Rattle.tree.proofs.Parents.{Rooted}
+use Rattle.rows.specs.Rows.{nodeAt}
+use Rattle.file.proofs.Parents.{Rooted}
 use Rattle.find.specs.Find.{path}
 use Rattle.find.proofs.Climbing.{path-top, path-up}
 

@@ -8,9 +8,9 @@ use lib.ListN.{length, getD}
 use Rattle.cursor.specs.Refusals.{noSuchRow, noSuchItem}
 use Rattle.cursor.specs.declared.Node.{Node}
 use Rattle.cursor.specs.declared.Item.{Item}
-use Rattle.tree.specs.Rows.{nodeAt}
-use Rattle.tree.specs.Asking.{Asks, Result, good, bad}
-use Rattle.tree.specs.Own.{Numbered, own}
+use Rattle.rows.specs.Rows.{nodeAt}
+use Rattle.file.specs.Asking.{Asks, Result, good, bad}
+use Rattle.file.specs.Own.{Numbered, own}
 
 -- the field that is looked for: a standard number, or a custom name's bytes
 pub data Wanted : Type 0 where

@@ -5,8 +5,8 @@ use mathlib.Core.List.{List}
 use Prim.Native.Nat.{ℕ}
 use Rattle.cursor.specs.declared.Node.{Node}
 use Rattle.cursor.specs.declared.Item.{Item}
-use Rattle.tree.specs.Asking.{Asks, Result, good, bad}
-use Rattle.tree.specs.Own.{Numbered}
+use Rattle.file.specs.Asking.{Asks, Result, good, bad}
+use Rattle.file.specs.Own.{Numbered}
 use Rattle.find.specs.Find.{Wanted, standard, custom, look, nearest, find, findOwn}
 use Rattle.find.specs.declared.Field.{Field}
 use Rattle.find.specs.declared.Field.the-variants as field

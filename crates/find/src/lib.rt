@@ -2,14 +2,13 @@
 ghost use mathlib.Core.Path.{_≡_};
 ghost use Prim.Native.Nat.{_≤_, _<_, _*_, _+_};
 ghost use lib.ListN.{length};
-ghost use Rattle.metadata.specs.Tables.{nodeWidth};
-ghost use Rattle.tree.specs.Rows.{nodesIn, itemsIn, ItemIn, ItemRows};
-ghost use Rattle.tree.specs.Asking.{answered, nodesLeft, itemsLeft};
-ghost use Rattle.tree.specs.Own.{numbered, part, firstRow, Tables};
+ghost use Rattle.rows.specs.Rows.{nodeWidth, nodesIn, itemsIn, ItemIn, ItemRows};
+ghost use Rattle.file.specs.Asking.{answered, nodesLeft, itemsLeft};
+ghost use Rattle.file.specs.Own.{numbered, part, firstRow, Tables};
 ghost use Rattle.find.specs.Find.{standard, custom, sameBytes, matches, among, nearest, find, findOwn};
 ghost use Rattle.find.specs.Told.{wantedOf, told, foundBy, question};
 use cursor::Item;
-use tree::Read;
+use file::Read;
 
 // The field that is looked for: a standard number, or the custom name that is lent beside it.
 pub enum Field {
@@ -86,7 +85,7 @@ fn look(
 {
     let mut i = first;
     while i < end {
-        let row = tree::item_at(items, i);
+        let row = rows::item_at(items, i);
         if is_wanted(file, row, field, name) {
             return Found::Item(i, row);
         }
@@ -104,7 +103,7 @@ fn rows_end(nodes: &[u64], n: usize, from: usize, first: usize, k: usize) -> usi
     let mut end = first;
     while k + 1 < i {
         i = i - 1;
-        let row = tree::node_at(nodes, i);
+        let row = rows::node_at(nodes, i);
         end = end - row.rows as usize;
     }
     end
@@ -126,7 +125,7 @@ fn climb(
     requires { ⌜ Tables (now file) (now nodes) (now items) n m × (k < n) × (end ≡ firstRow (nodesIn n (now nodes)) (k + 1)) ⌝ }
     ensures { λ r. ⌜ told r ≡ nearest (now (file .entry)) (wantedOf field (now (name .entry))) (nodesIn n (now (nodes .entry))) (itemsIn m (now (items .entry))) k ⌝ }
 {
-    let row = tree::node_at(nodes, k);
+    let row = rows::node_at(nodes, k);
     let first = end - row.rows as usize;
     match look(file, items, m, first, end, field, name) {
         Found::Item(i, item) => Found::Item(i, item),
@@ -160,7 +159,7 @@ fn found_by(
     if climbs {
         return climb(file, nodes, items, n, m, k, end, field, name);
     }
-    let row = tree::node_at(nodes, k);
+    let row = rows::node_at(nodes, k);
     look(file, items, m, end - row.rows as usize, end, field, name)
 }
 
@@ -178,11 +177,11 @@ fn find_field(
     ensures nodes { λ _. ⌜ now (nodes .exit) ≡ nodesLeft (now (nodes .entry)) (now (items .entry)) (now (file .entry)) (question climbs (wantedOf field (now (name .entry))) row) ⌝ }
     ensures items { λ _. ⌜ now (items .exit) ≡ itemsLeft (now (nodes .entry)) (now (items .entry)) (now (file .entry)) (question climbs (wantedOf field (now (name .entry))) row) ⌝ }
 {
-    match tree::read_file(file, nodes, items) {
+    match file::read_file(file, nodes, items) {
         Read::Refused(n, p) => Found::Refused(n, p.0),
         Read::Is(s) => {
             if s.nodes <= row {
-                tree::clear_all(nodes, items);
+                rows::clear_all(nodes, items);
                 return Found::Refused(cursor::NO_SUCH_ROW, 0);
             }
             match found_by(
@@ -198,7 +197,7 @@ fn find_field(
             ) {
                 Found::Item(i, item) => Found::Item(i, item),
                 Found::Refused(n, p) => {
-                    tree::clear_all(nodes, items);
+                    rows::clear_all(nodes, items);
                     Found::Refused(n, p)
                 }
             }

@@ -14,7 +14,7 @@ use Rattle.cursor.specs.declared.Item.{Item}
 use Rattle.room.specs.Room.{good, bad}
 use Rattle.room.specs.Counts.{Counts}
 use Rattle.room.proofs.Counting.{lent-part, Going, going-start, going-on, going-end}
-use Rattle.sheet.specs.Sheet.{tabbed, number, escapedPart}
+use Rattle.text.specs.Text.{tabbed, number, escapedPart}
 use Rattle.id3.specs.Frames.{framesOf, noFrame, countIn, frameIn, frameCount, frameAt}
 use Rattle.id3.specs.Told.{countTold, frameTold}
 use Rattle.id3.specs.declared.TagFrame.{TagFrame}

@@ -7,9 +7,9 @@ use Rattle.machine.specs.Machine.{Out, ok, refused}
 use Rattle.cursor.specs.Vlq.{part}
 use Rattle.cursor.specs.declared.Item.{Item}
 use Rattle.room.specs.Room.{Result, good, bad}
-use Rattle.tree.specs.Hidden.{isHidden}
-use Rattle.tree.specs.Asking.{ask}
-use Rattle.sheet.specs.Sheet.{number}
+use Rattle.file.specs.Hidden.{isHidden}
+use Rattle.file.specs.Asking.{ask}
+use Rattle.text.specs.Text.{number}
 use Rattle.id3.specs.Frames.{framesOf, frameAt}
 use Rattle.id3.specs.declared.TagFrame.{TagFrame}
 use Rattle.lines.specs.Answer.{Answer, plainly, nothing, nameField, printed, reads}

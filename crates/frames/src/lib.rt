@@ -3,12 +3,13 @@ ghost use mathlib.Core.Path.{_≡_};
 ghost use mathlib.Core.List.{[]};
 ghost use lib.ListN.{length};
 ghost use Rattle.room.specs.Counts.{Counts};
-ghost use Rattle.tree.specs.Rows.{ItemIn};
+ghost use Rattle.rows.specs.Rows.{ItemIn};
 ghost use Rattle.lines.specs.Answer.{printed, Gives};
 ghost use Rattle.needs.specs.Needed.{Puts};
 ghost use Rattle.frames.specs.Tags.{nameBytes, frameLine, allLines, oneLine, tagLines, tagAnswer, withheld, shownTag, rowTagAnswer};
 ghost use Rattle.id3.specs.Frames.{framesOf, frameAt};
 use cursor::Item;
+use file::Read;
 use id3::FrameCount;
 use id3::Framed;
 use id3::TagFrame;
@@ -17,7 +18,6 @@ use lines::refuse;
 use needs::Put;
 use needs::hidden;
 use needs::put_answered;
-use tree::Read;
 
 // All frames, or the frame of a number.
 pub enum Frames {
@@ -43,11 +43,11 @@ fn put_frame(out: &mut [u8], to: usize, i: usize, x: TagFrame) -> usize
 {
     let name = name_bytes(x.name);
     let a = room::put_byte(out, to, b'F');
-    let b = sheet::put_number(out, a, i as u64);
+    let b = text::put_number(out, a, i as u64);
     let c = room::put_byte(out, b, 0x09);
-    let d = sheet::put_escaped(out, c, &name, 0, 4);
-    let e = sheet::put_number(out, d, x.place as u64);
-    let f = sheet::put_number(out, e, x.size as u64);
+    let d = text::put_escaped(out, c, &name, 0, 4);
+    let e = text::put_number(out, d, x.place as u64);
+    let f = text::put_number(out, e, x.size as u64);
     room::put_byte(out, f, 0x0a)
 }
 
@@ -137,13 +137,13 @@ pub fn make_row_tag(file: &[u8], row: usize, meant: bool, which: Frames, text: &
 {
     let mut nodes = program::node_table();
     let mut items = program::item_table();
-    match tree::read_file(file, &mut nodes, &mut items) {
+    match file::read_file(file, &mut nodes, &mut items) {
         Read::Refused(n, p) => refuse(text, b"", n, p.0),
         Read::Is(s) => {
             if s.items <= row {
                 return refuse(text, b"", cursor::NO_SUCH_ROW, 0);
             }
-            make_item_tag(file, row, tree::item_at(&items, row), meant, which, text)
+            make_item_tag(file, row, rows::item_at(&items, row), meant, which, text)
         }
     }
 }

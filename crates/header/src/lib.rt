@@ -296,7 +296,7 @@ fn read_extent(c: Cursor, file: &[u8]) -> Bounded
     }
 }
 
-// The whole file header; the declared types go into the lent table. Called by `tree::read_file` alone, which lends a table of its own and does not
+// The whole file header; the declared types go into the lent table. Called by `file::read_file` alone, which lends a table of its own and does not
 // look at it after a refusal: nothing is said of it then.
 pub fn read_header(file: &[u8], types: &mut [u64]) -> Headed
     requires { ⌜ 64 ≤ length (now types) ⌝ }

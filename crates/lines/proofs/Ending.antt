@@ -14,7 +14,7 @@ use Rattle.room.specs.Told.{told}
 use Rattle.room.specs.declared.Written.{Written}
 use Rattle.room.specs.declared.Written.the-variants as written
 use Rattle.room.proofs.Counting.{wrote-all, wrote-past}
-use Rattle.sheet.specs.Sheet.{tabbed, number, escapedPart}
+use Rattle.text.specs.Text.{tabbed, number, escapedPart}
 use Rattle.lines.specs.Answer.{Answer, answer, plainly, nameField, ended, headLine, refusalLine, tooLongLine, closed, refusedBy, fitted, printed, Gives}
 use Rattle.lines.specs.declared.Made.{Made}
 

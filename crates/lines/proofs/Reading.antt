@@ -9,15 +9,16 @@ use Rattle.cursor.specs.declared.FilePlace.{FilePlace}
 use Rattle.cursor.specs.declared.Node.{Node}
 use Rattle.cursor.specs.declared.Item.{Item}
 use Rattle.header.specs.Header.{Header}
-use Rattle.metadata.specs.Tables.{fullNodes, fullItems, itemWidth, limits}
+use Rattle.metadata.specs.Tables.{fullNodes, fullItems, limits}
+use Rattle.rows.specs.Rows.{itemWidth, itemFrom, itemAt, rowsFrom}
 use Rattle.room.specs.Room.{Result, good, bad}
-use Rattle.tree.specs.Rows.{itemFrom, itemAt, rowsFrom}
-use Rattle.tree.specs.Reading.{Reading, rows, refusal, readOf, readFile}
-use Rattle.tree.specs.Asking.{ask}
-use Rattle.tree.specs.declared.Read.{Read}
-use Rattle.tree.specs.declared.Read.the-variants as read
-use Rattle.tree.specs.declared.Summary.{Summary}
-use Rattle.tree.proofs.Rows.{Standing, ask-refused, ask-is, item-at, items-in-length}
+use Rattle.file.specs.Reading.{Reading, rows, refusal, readOf, readFile}
+use Rattle.file.specs.Asking.{ask}
+use Rattle.file.specs.declared.Read.{Read}
+use Rattle.file.specs.declared.Read.the-variants as read
+use Rattle.file.specs.declared.Summary.{Summary}
+use Rattle.file.proofs.Rows.{Standing, ask-refused, ask-is}
+use Rattle.rows.proofs.Rows.{item-at, items-in-length}
 use Rattle.lines.specs.Answer.{reads}
 
 -- ---- the lines of rows that stand in a table, one row after the other

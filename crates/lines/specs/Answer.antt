@@ -7,10 +7,12 @@ use Prim.Native.Nat.{ℕ}
 use lib.Dec.{leb}
 use lib.ListN.{length}
 use Rattle.cursor.specs.Refusals.{noRoom}
-use Rattle.room.specs.Room.{Result, good, bad, padded}
+use Rattle.room.specs.Room.{Result, good, bad, padded, counted, kept}
+use Rattle.room.specs.Told.{told}
+use Rattle.room.specs.declared.Written.{Written}
 use Rattle.metadata.specs.Tables.{fullNodes, fullItems, limits}
-use Rattle.tree.specs.Reading.{Reading, readFile}
-use Rattle.sheet.specs.Sheet.{tabbed, number, escapedPart}
+use Rattle.file.specs.Reading.{Reading, readFile}
+use Rattle.text.specs.Text.{tabbed, number, escapedPart}
 use Rattle.lines.specs.declared.Made.{Made}
 
 -- 0 answered, 2 refused, 3 answered and not Mobile XMF; 1 no answer
@@ -79,3 +81,8 @@ pub record Gives (room : ℕ) (r : Made) (text : List ℕ) (a : Answer) : Type 0
   pub status-is : r .status ≡ a .status
   pub size-is : r .size ≡ length (a .text)
   pub text-is : text ≡ padded room (a .text)
+
+-- of a call that filled the buffer, whatever its outcome x: `before` is what it left there, `after` what is left with a refusal's line in its place
+abbrev pub Settles : Written → (tail before after : List ℕ) → Made → Type 0
+Settles written tail before after r =
+    (room : ℕ) (x : Result (List ℕ)) → length before ≡ room → told written ≡ counted x → before ≡ kept room x → Gives room r after (printed room tail plainly x)

@@ -1,12 +1,9 @@
 // An answer: its status and its text. What every answer's text shares: how a line ends, and what becomes of a refusal and of a text that has no room.
-ghost use mathlib.Core.Path.{_≡_};
 ghost use mathlib.Core.List.{List};
 ghost use Prim.Native.Nat.{ℕ};
 ghost use lib.ListN.{length};
 ghost use Rattle.room.specs.Counts.{Counts};
-ghost use Rattle.room.specs.Room.{Result, counted, kept};
-ghost use Rattle.room.specs.Told.{told};
-ghost use Rattle.lines.specs.Answer.{answer, plainly, nameField, ended, headLine, refusalLine, tooLongLine, closed, refusedBy, fitted, printed, Gives};
+ghost use Rattle.lines.specs.Answer.{answer, nameField, ended, headLine, refusalLine, tooLongLine, closed, refusedBy, fitted, Gives, Settles};
 use room::Written;
 
 // The status, and how many bytes at the start of the buffer are the text.
@@ -20,7 +17,7 @@ pub fn put_field(out: &mut [u8], name: &[u8]) -> usize
     ensures { λ r. ⌜ Counts (now (out .entry)) (now (out .exit)) 0 (nameField (now (name .entry))) r ⌝ }
 {
     let next = room::put_byte(out, 0, 0x09);
-    sheet::put_escaped(out, next, name, 0, name.len())
+    text::put_escaped(out, next, name, 0, name.len())
 }
 
 // Puts the end of a line: the field that ends it, if there is one, and the line's end.
@@ -44,8 +41,8 @@ fn put_refusal(out: &mut [u8], tail: &[u8], number: u64, place: usize) -> usize
     ensures { λ r. ⌜ Counts (now (out .entry)) (now (out .exit)) 0 (refusalLine (now (tail .entry)) number place) r ⌝ }
 {
     let a = room::put_byte(out, 0, b'R');
-    let b = sheet::put_number(out, a, number);
-    let c = sheet::put_number(out, b, place as u64);
+    let b = text::put_number(out, a, number);
+    let c = text::put_number(out, b, place as u64);
     put_end(out, c, tail)
 }
 
@@ -97,7 +94,7 @@ pub fn conclude(text: &mut [u8], tail: &[u8], end: usize, status: u64) -> Made
 
 // The answer whose text a call wrote into the buffer, or refused.
 pub fn settle(text: &mut [u8], tail: &[u8], written: Written) -> Made
-    ensures { λ r. ⌜ ((room : ℕ) (x : Result (List ℕ)) → length (now (text .entry)) ≡ room → told written ≡ counted x → now (text .entry) ≡ kept room x → Gives room r (now (text .exit)) (printed room (now (tail .entry)) plainly x)) ⌝ }
+    ensures { λ r. ⌜ Settles written (now (tail .entry)) (now (text .entry)) (now (text .exit)) r ⌝ }
 {
     match written {
         Written::Refused(n, p) => refuse(text, tail, n, p),

@@ -17,11 +17,12 @@ use Rattle.header.specs.Header.{Header, header}
 use Rattle.metadata.specs.declared.Limits.{Limits}
 use Rattle.metadata.specs.declared.Made.{Made}
 use Rattle.tree.specs.Tree.{tree, detached}
-use Rattle.tree.specs.Rows.{nodeAt}
-use Rattle.tree.specs.Reading.{nodeOf, nodesOf, Result, good, bad, rows, placeOf, logged, isMissing, offsetAt, outside, detachedAt, followRow, follow, context, reading, readTree}
+use Rattle.rows.specs.Rows.{nodeAt, nodeOf, nodesOf}
+use Rattle.file.specs.Reading.{Result, good, bad, rows, logged, detachedAt, followRow, follow, context, reading, readTree}
+use Rattle.targets.specs.Targets.{placeOf, isMissing, offsetAt, outside}
 use Rattle.tree.proofs.Starts.{From, tree-from, detached-from}
-use Rattle.tree.proofs.Shown.{outside-is, part-is}
-use Rattle.tree.proofs.Follow.{treeOf, target, Reached, known, added, reached}
+use Rattle.file.proofs.Shown.{outside-is, part-is}
+use Rattle.file.proofs.Follow.{treeOf, target, Reached, known, added, reached}
 
 -- a program reads nothing before the place where it begins
 pub forward : {K W A : Type 0} (m : Prog K W A) (f g : List ℕ) (at : ℕ) → ((k : ℕ) → at ≤ k → getD f k 0 ≡ getD g k 0) → (run m f at ≡ run m g at) × (trace m f at ≡ trace m g at)

@@ -18,12 +18,13 @@ use Rattle.machine.proofs.Wp.{All}
 use Rattle.header.specs.Header.{Header, header}
 use Rattle.metadata.specs.declared.Limits.{Limits}
 use Rattle.metadata.proofs.Ends.{Nothing, Inside}
-use Rattle.tree.specs.Reading.{nodesOf, itemsOf, rows, readFile}
-use Rattle.tree.specs.Hidden.{HiddenData, InlineData, Private, DifferInPrivate}
+use Rattle.rows.specs.Rows.{nodesOf, itemsOf}
+use Rattle.file.specs.Reading.{rows, readFile}
+use Rattle.file_laws.specs.Private.{HiddenData, InlineData, Private, DifferInPrivate}
 use Rattle.tree.proofs.Nodes.{inline-is}
-use Rattle.tree.proofs.Follow.{read-back}
-use Rattle.tree.proofs.Shown.{header-of, log-inside}
-use Rattle.tree.proofs.Demand.{all-sound, demand3}
+use Rattle.file.proofs.Follow.{read-back}
+use Rattle.file.proofs.Shown.{header-of, log-inside}
+use Rattle.file_laws.proofs.Demand.{all-sound, demand3}
 use Rattle.mend.specs.Fields.{Fields, fields, Hold}
 use Rattle.mend.specs.Mend.{setTo, lastOf, mended, linesOf, changes, accepted}
 use Rattle.mend.proofs.Parts.{Parts, Judged, places, fields-parts, parts-fields, headerFor, parts-header, valued, valued-parts}

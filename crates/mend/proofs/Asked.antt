@@ -14,11 +14,11 @@ use Rattle.machine.proofs.Laws.{never}
 use Rattle.metadata.specs.Tables.{limits}
 use Rattle.metadata.specs.declared.Limits.{Limits}
 use Rattle.room.specs.Room.{Result, good, bad, kept}
-use Rattle.tree.specs.Reading.{Reading, rows, refusal, readTree, readFile, readOf, nodeTable, itemTable}
-use Rattle.tree.specs.Asking.{writtenNodes, writtenItems}
-use Rattle.tree.specs.declared.Summary.{Summary}
-use Rattle.tree.specs.declared.Read.{Read}
-use Rattle.tree.specs.declared.Read.the-variants as read
+use Rattle.file.specs.Reading.{Reading, rows, refusal, readTree, readFile, readOf, nodeTable, itemTable}
+use Rattle.file.specs.Asking.{writtenNodes, writtenItems}
+use Rattle.file.specs.declared.Summary.{Summary}
+use Rattle.file.specs.declared.Read.{Read}
+use Rattle.file.specs.declared.Read.the-variants as read
 use Rattle.mend.specs.Fields.{Fields, fields}
 use Rattle.mend.specs.Mend.{setTo, numberAt, lastOf, bothLines, mended, changes, linesOf, Mended, fitting, accepted, mend}
 use Rattle.mend.specs.declared.FieldsRead.{FieldsRead}

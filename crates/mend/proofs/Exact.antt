@@ -22,8 +22,8 @@ use Rattle.metadata.specs.declared.Limits.{Limits}
 use Rattle.metadata.specs.declared.Made.{Made}
 use Rattle.node.specs.Node.{head, front}
 use Rattle.tree.specs.Tree.{node, tree}
-use Rattle.tree.specs.Reading.{rows, readFile}
-use Rattle.tree.proofs.Follow.{read-back}
+use Rattle.file.specs.Reading.{rows, readFile}
+use Rattle.file.proofs.Follow.{read-back}
 use Rattle.mend.specs.Fields.{Fields, Hold}
 use Rattle.mend.specs.Mend.{setTo, valueOf, numberAt, lastOf, setRight, mended}
 use Rattle.mend.proofs.Parts.{Parts, places, parts-fields, Judged, headerFor, header-parts, valued, Valued, valued-parts}

@@ -19,11 +19,11 @@ use Rattle.cursor.proofs.Least.{in-bytes-length}
 use Rattle.metadata.specs.Tables.{limits}
 use Rattle.room.specs.Room.{Result, good, bad, padded, kept}
 use Rattle.room.proofs.Sets.{sets-front, padded-behind}
-use Rattle.tree.specs.Reading.{Reading, rows, refusal, readFile, readOf, nodeTable, itemTable}
-use Rattle.tree.specs.Asking.{ask, writtenNodes, writtenItems}
-use Rattle.tree.specs.declared.Summary.{Summary}
-use Rattle.tree.specs.declared.Read.{Read}
-use Rattle.tree.specs.declared.Read.the-variants as read
+use Rattle.file.specs.Reading.{Reading, rows, refusal, readFile, readOf, nodeTable, itemTable}
+use Rattle.file.specs.Asking.{ask, writtenNodes, writtenItems}
+use Rattle.file.specs.declared.Summary.{Summary}
+use Rattle.file.specs.declared.Read.{Read}
+use Rattle.file.specs.declared.Read.the-variants as read
 use Rattle.mend.specs.Fields.{width, Fields}
 use Rattle.mend.specs.Mend.{valueOf, numberAt, withField, setTo, bothLines, mended, fitting, accepted, mend}
 use Rattle.mend.specs.Told.{FieldsIn, soundFor, setting, Sizes, Set, Ends}

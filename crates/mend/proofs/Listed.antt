@@ -10,10 +10,10 @@ use Rattle.cursor.specs.Refusals.{ofReader}
 use Rattle.metadata.specs.declared.Limits.{Limits}
 use Rattle.room.specs.Room.{Among, PlacedIn, bad, good}
 use Rattle.room.proofs.Listed.{allowed-front}
-use Rattle.tree.specs.Reading.{Reading, rows, refusal, readFile}
-use Rattle.tree.specs.Asking.{ask}
-use Rattle.tree.proofs.Listed.{refusal-listed}
-use Rattle.tree.proofs.Stays.{refusal-inside}
+use Rattle.file.specs.Reading.{Reading, rows, refusal, readFile}
+use Rattle.file.specs.Asking.{ask}
+use Rattle.file_laws.proofs.Listed.{refusal-listed}
+use Rattle.file_laws.proofs.Stays.{refusal-inside}
 use Rattle.mend.specs.Mend.{Mended, mended, repair, fitting, accepted, mend, refusals}
 
 module _ (room space : ℕ) (m : Mended) where

@@ -16,9 +16,9 @@ use Rattle.cursor.specs.declared.Item.{Item}
 use Rattle.machine.proofs.Laws.{never}
 use Rattle.header.specs.Header.{Header, header}
 use Rattle.metadata.specs.declared.Limits.{Limits}
-use Rattle.tree.specs.Reading.{Reading, rows, refusal, readTree, readFile}
-use Rattle.tree.specs.Asking.{good, bad, ask}
-use Rattle.tree.proofs.Follow.{read-back}
+use Rattle.file.specs.Reading.{Reading, rows, refusal, readTree, readFile}
+use Rattle.file.specs.Asking.{good, bad, ask}
+use Rattle.file.proofs.Follow.{read-back}
 use Rattle.mend.specs.Fields.{width, Fields, fields, Hold}
 use Rattle.mend.specs.Mend.{withField, setTo, lastOf, setRight, mended, line, bothLines, linesOf, changes, Mended, repair, fitting, accepted, mend, Mendable}
 use Rattle.mend.proofs.Bytes.{number-fits, fitted}

@@ -14,8 +14,8 @@ use Rattle.cursor.specs.Leaves.{number}
 use Rattle.cursor.specs.Vlq.{inBytes}
 use Rattle.room.specs.Decimal.{decimal}
 use Rattle.metadata.specs.declared.Limits.{Limits}
-use Rattle.tree.specs.Reading.{Reading, rows, refusal, readFile}
-use Rattle.tree.specs.Asking.{Result, good, bad, ask}
+use Rattle.file.specs.Reading.{Reading, rows, refusal, readFile}
+use Rattle.file.specs.Asking.{Result, good, bad, ask}
 use Rattle.mend.specs.Fields.{Field, width, Fields, fields, Hold}
 
 -- ---- the mended file

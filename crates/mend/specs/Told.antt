@@ -11,7 +11,7 @@ use Rattle.header.specs.Types.{typesOf, mostTypes}
 use Rattle.header.specs.Told.{editionOf}
 use Rattle.room.specs.Room.{Result, good, bad, kept}
 use Rattle.metadata.specs.Tables.{limits}
-use Rattle.tree.specs.Asking.{writtenNodes, writtenItems}
+use Rattle.file.specs.Asking.{writtenNodes, writtenItems, nodesWritten, itemsWritten}
 use Rattle.mend.specs.Fields as spec
 use Rattle.mend.specs.Fields.{width}
 use Rattle.mend.specs.Mend.{Mended, setTo, bothLines, fitting, mend}
@@ -90,6 +90,19 @@ linesIn (bad n p) = bad n p
 -- the question, of the tables, the buffers and the file that are lent
 abbrev pub asked : (nodes items copy lines file : List ℕ) → Result Mended
 asked nodes items copy lines file = mend (limits (length nodes) (length items)) (length copy) (length lines) file
+
+-- what it leaves in each of them
+abbrev pub nodesAfter : (nodes items copy lines file : List ℕ) → List ℕ
+nodesAfter nodes items copy lines file = nodesWritten nodes items (copyIn (asked nodes items copy lines file))
+
+abbrev pub itemsAfter : (nodes items copy lines file : List ℕ) → List ℕ
+itemsAfter nodes items copy lines file = itemsWritten nodes items (copyIn (asked nodes items copy lines file))
+
+abbrev pub copyAfter : (nodes items copy lines file : List ℕ) → List ℕ
+copyAfter nodes items copy lines file = kept (length copy) (copyIn (asked nodes items copy lines file))
+
+abbrev pub linesAfter : (nodes items copy lines file : List ℕ) → List ℕ
+linesAfter nodes items copy lines file = kept (length lines) (linesIn (asked nodes items copy lines file))
 
 -- the same, of their sizes; and all that it leaves: answer, tables, buffers
 pub record Ends (f : List ℕ) (nsize isize room space : ℕ) (r : Result Sizes) (t u c l : List ℕ) : Type 0 where

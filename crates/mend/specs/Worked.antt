@@ -16,8 +16,9 @@ use Rattle.node.specs.Node.{headerLength, head, value, identifier, unpacker, en
 use Rattle.room.specs.Decimal as decimal
 use Rattle.tree.specs.Tree as tree
 use Rattle.tree.specs.Tree.{folder, node}
-use Rattle.tree.specs.Reading.{logged, startsAt, offsetAt, isMissing, outside, partEnd, firstTaken, detachedAt, followRow, follow, reading, readTree, readFile}
-use Rattle.tree.specs.Asking.{Result, good, bad, ask}
+use Rattle.file.specs.Reading.{logged, detachedAt, followRow, follow, reading, readTree, readFile}
+use Rattle.targets.specs.Targets.{startsAt, offsetAt, isMissing, outside, partEnd, firstTaken}
+use Rattle.file.specs.Asking.{Result, good, bad, ask}
 use Rattle.mend.specs.Fields.{numberField, fields}
 use Rattle.mend.specs.Mend.{withField, setTo, numberAt, lastOf, setRight, mended, tabbed, line, bothLines, linesOf, changes, Mended, fitting, mend}
 

@@ -10,21 +10,20 @@ ghost use lib.Seq.{sets};
 ghost use Rattle.cursor.specs.Vlq.{inBytes};
 ghost use Rattle.room.specs.Counts.{Counts};
 ghost use Rattle.mend.specs.Fields.{numberField, fields};
-ghost use Rattle.room.specs.Room.{bad, padded, kept};
+ghost use Rattle.room.specs.Room.{bad, padded};
 ghost use Rattle.metadata.specs.Tables.{limits};
-ghost use Rattle.tree.specs.Reading.{readFile};
-ghost use Rattle.tree.specs.Asking.{nodesWritten, itemsWritten};
+ghost use Rattle.file.specs.Reading.{readFile};
 ghost use Rattle.mend.specs.Mend.{numberAt, tabbed, line, bothLines, setTo, mended, accepted};
-ghost use Rattle.mend.specs.Told.{fieldOf, fieldTold, fieldsOf, fieldsTold, FewTypes, FieldsIn, soundFor, told, sizesOf, copyIn, linesIn, asked, Ends, Set};
+ghost use Rattle.mend.specs.Told.{fieldOf, fieldTold, fieldsOf, fieldsTold, FewTypes, FieldsIn, soundFor, told, sizesOf, asked, nodesAfter, itemsAfter, copyAfter, linesAfter, Ends, Set};
 use cursor::Cursor;
 use cursor::FilePlace;
 use cursor::Numbered;
+use file::Read;
 use header::Edition;
 use header::EditionResult;
 use header::Extent;
 use header::Header;
 use header::Typed;
-use tree::Read;
 
 // A number of the header, with its place and the place after it.
 pub struct Field {
@@ -233,7 +232,7 @@ fn no_room(nodes: &mut [u64], items: &mut [u64], copy: &mut [u8], lines: &mut [u
     ensures copy { λ _. ⌜ now (copy .exit) ≡ replicate (length (now (copy .entry))) 0 ⌝ }
     ensures lines { λ _. ⌜ now (lines .exit) ≡ replicate (length (now (lines .entry))) 0 ⌝ }
 {
-    tree::clear_all(nodes, items);
+    rows::clear_all(nodes, items);
     room::clear_bytes(copy);
     room::clear_bytes(lines);
     Mending::Refused(cursor::NO_ROOM, 0)
@@ -261,7 +260,8 @@ fn write_mended(
     last: usize,
 ) -> Mending
     requires { ⌜ ((ws : List ℕ) → FieldsIn (fieldsOf w ws) (length (now file))) ⌝ }
-    ensures { λ r. ⌜ ((ws : List ℕ) → Set (now (file .entry)) (fieldsOf w ws) last (told r) (now (nodes .entry)) (now (items .entry)) (length (now (copy .entry))) (length (now (lines .entry))) (now (nodes .exit)) (now (items .exit)) (now (copy .exit)) (now (lines .exit))) ⌝ }
+    ensures { λ r. ⌜ ((ws : List ℕ) → Set (now (file .entry)) (fieldsOf w ws) last (told r) (now (nodes .entry)) (now (items .entry)) (length (now (copy .entry))) (length (now (lines .entry)))
+        (now (nodes .exit)) (now (items .exit)) (now (copy .exit)) (now (lines .exit))) ⌝ }
 {
     let n = put_lines(lines, w, file.len(), last);
     if copy.len() < file.len() {
@@ -284,11 +284,12 @@ fn refuse_unchanged(
     lines: &mut [u8],
 ) -> Mending
     requires { ⌜ accepted (readFile (limits (length (now nodes)) (length (now items))) (mended (now file))) ≡ false ⌝ }
-    ensures { λ r. ⌜ Ends (now (file .entry)) (length (now (nodes .entry))) (length (now (items .entry))) (length (now (copy .entry))) (length (now (lines .entry))) (told r) (now (nodes .exit)) (now (items .exit)) (now (copy .exit)) (now (lines .exit)) ⌝ }
+    ensures { λ r. ⌜ Ends (now (file .entry)) (length (now (nodes .entry))) (length (now (items .entry))) (length (now (copy .entry))) (length (now (lines .entry)))
+        (told r) (now (nodes .exit)) (now (items .exit)) (now (copy .exit)) (now (lines .exit)) ⌝ }
 {
     room::clear_bytes(copy);
     room::clear_bytes(lines);
-    match tree::read_file(file, nodes, items) {
+    match file::read_file(file, nodes, items) {
         Read::Refused(n, p) => Mending::Refused(n, p.0),
         Read::Is(s) => Mending::Refused(s.version, 0),
     }
@@ -305,10 +306,10 @@ pub fn mend(
     lines: &mut [u8],
 ) -> Mending
     ensures answer { λ r. ⌜ told r ≡ sizesOf (asked (now (nodes .entry)) (now (items .entry)) (now (copy .entry)) (now (lines .entry)) (now (file .entry))) ⌝ }
-    ensures nodes { λ _. ⌜ now (nodes .exit) ≡ nodesWritten (now (nodes .entry)) (now (items .entry)) (copyIn (asked (now (nodes .entry)) (now (items .entry)) (now (copy .entry)) (now (lines .entry)) (now (file .entry)))) ⌝ }
-    ensures items { λ _. ⌜ now (items .exit) ≡ itemsWritten (now (nodes .entry)) (now (items .entry)) (copyIn (asked (now (nodes .entry)) (now (items .entry)) (now (copy .entry)) (now (lines .entry)) (now (file .entry)))) ⌝ }
-    ensures copy { λ _. ⌜ now (copy .exit) ≡ kept (length (now (copy .entry))) (copyIn (asked (now (nodes .entry)) (now (items .entry)) (now (copy .entry)) (now (lines .entry)) (now (file .entry)))) ⌝ }
-    ensures lines { λ _. ⌜ now (lines .exit) ≡ kept (length (now (lines .entry))) (linesIn (asked (now (nodes .entry)) (now (items .entry)) (now (copy .entry)) (now (lines .entry)) (now (file .entry)))) ⌝ }
+    ensures nodes { λ _. ⌜ now (nodes .exit) ≡ nodesAfter (now (nodes .entry)) (now (items .entry)) (now (copy .entry)) (now (lines .entry)) (now (file .entry)) ⌝ }
+    ensures items { λ _. ⌜ now (items .exit) ≡ itemsAfter (now (nodes .entry)) (now (items .entry)) (now (copy .entry)) (now (lines .entry)) (now (file .entry)) ⌝ }
+    ensures copy { λ _. ⌜ now (copy .exit) ≡ copyAfter (now (nodes .entry)) (now (items .entry)) (now (copy .entry)) (now (lines .entry)) (now (file .entry)) ⌝ }
+    ensures lines { λ _. ⌜ now (lines .exit) ≡ linesAfter (now (nodes .entry)) (now (items .entry)) (now (copy .entry)) (now (lines .entry)) (now (file .entry)) ⌝ }
 {
     let mut types = [0u64; header::MOST_TYPES * 2];
     match read_fields(file, &mut types) {
@@ -332,7 +333,7 @@ pub fn mend(
                 types: w.types,
                 extent,
             };
-            match tree::read_behind(file, &types, nodes, items, h) {
+            match file::read_behind(file, &types, nodes, items, h) {
                 Read::Refused(m, q) => refuse_unchanged(file, nodes, items, copy, lines),
                 Read::Is(s) => write_mended(file, nodes, items, copy, lines, w, last),
             }

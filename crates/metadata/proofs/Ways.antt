@@ -20,7 +20,8 @@ use Rattle.machine.proofs.Wp.{at-end}
 use Rattle.cursor.proofs.Leaves.{Any, any-free, number-inside, block-inside, number-short, block-all}
 use Rattle.cursor.proofs.Quiet.{exec-number, exec-block}
 use Rattle.header.specs.Types.{known, unknown, formatOf}
-use Rattle.metadata.specs.Tables.{itemWidth, State, state, put, itemWords, plusItem}
+use Rattle.rows.specs.Rows.{itemWidth, itemWords}
+use Rattle.metadata.specs.Tables.{State, state, put, plusItem}
 use Rattle.metadata.specs.Metadata.{Context, field, contents, itemFrame, rowOf, universal, declaredFormat, version, rowsFor, item, Count, nextItem, metaItems, metadata}
 use Rattle.metadata.specs.Told.{Reads, CommonTold, Gives}
 use Rattle.metadata.specs.declared.Made.{Made}

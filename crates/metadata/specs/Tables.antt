@@ -1,28 +1,12 @@
--- The two lent tables: how a row becomes words, how many rows there may be, and what a run leaves in the tables.
+-- The two lent tables: how many rows there may be, and what a run leaves in the tables.
 -- Assumes nothing.
-use mathlib.Core.List.{List, [], _∷_}
+use mathlib.Core.List.{List}
 use Prim.Native.Nat.{ℕ, _+_, _*_, _/_, min}
 use lib.Seq.{sets}
 use Rattle.cursor.specs.Rows.{Part, nodeRow, itemRow, plain}
-use Rattle.cursor.specs.declared.Node.{Node}
-use Rattle.cursor.specs.declared.Item.{Item}
+use Rattle.rows.specs.Rows.{nodeWidth, itemWidth, nodeWords, itemWords}
 use Rattle.metadata.specs.declared.Limits.{Limits}
 use Rattle.metadata.specs.declared.Made.{Made}
-
--- ---- rows as words
-
-abbrev pub nodeWidth : ℕ
-nodeWidth = 13
-
-abbrev pub itemWidth : ℕ
-itemWidth = 10
-
-abbrev pub nodeWords : Node → List ℕ
-nodeWords r =
-    r .start ∷ r .size ∷ r .header ∷ r .contained ∷ r .parent ∷ r .depth ∷ r .reference ∷ r .target ∷ r .extent ∷ r .unpackers ∷ r .unpackerCount ∷ r .rows ∷ r .detached ∷ []
-
-abbrev pub itemWords : Item → List ℕ
-itemWords r = r .node ∷ r .item ∷ r .kind ∷ r .field ∷ r .nameLength ∷ r .version ∷ r .declared ∷ r .format ∷ r .place ∷ r .size ∷ []
 
 -- ---- how many
 

@@ -4,14 +4,15 @@ use mathlib.Core.Path.{_≡_}
 use mathlib.Core.List.{List}
 use Prim.Native.Nat.{ℕ, _+_, _*_, _≤_}
 use lib.ListN.{length}
-use Rattle.machine.specs.Machine.{Out, ok, refused, run}
-use Rattle.cursor.specs.Rows.{metaFrame}
+use Rattle.machine.specs.Machine.{Out, ok, refused, run, exec}
+use Rattle.cursor.specs.Rows.{P, metaFrame}
 use Rattle.cursor.specs.Refusals.{cutShort}
 use Rattle.cursor.specs.Leaves.{block}
 use Rattle.cursor.specs.Leaves as leaves
 use Rattle.cursor.specs.Told.{Readable}
 use Rattle.header.specs.Types.{typesOf}
-use Rattle.metadata.specs.Tables.{State, state, itemWidth}
+use Rattle.metadata.specs.Tables.{State, state, put}
+use Rattle.rows.specs.Rows.{itemWidth}
 use Rattle.metadata.specs.Metadata.{Context, itemFrame}
 use Rattle.metadata.specs.declared.Limits.{Limits}
 use Rattle.metadata.specs.declared.Made.{Made}
@@ -97,3 +98,10 @@ counts node n = record { nodes = node; items = n }
 abbrev pub walked : ℕ → RowsResult → Walked
 walked node (rows.Done n c) = all.Done (counts node n) c
 walked node (rows.Refused n p) = all.Refused n p
+
+-- what a call answered that reads item rows of node row `node`, `rows` of them made before it, from place `at` on, and the item table before and after it: what the
+-- program p gives from there, in the context of the call, over the rows made so far
+abbrev pub Makes : Scope → (node rows : ℕ) → (p : Context → Made → P Made) → (file types before after : List ℕ) → (at : ℕ) → RowsResult → Type 0
+Makes scope node rows p file types before after at r =
+    (t : List ℕ) → Gives (scope .limits) (walked node r) t after
+    (exec put (p (contextOf scope types (length file)) (counts node rows)) file at (state t before (counts node rows)))

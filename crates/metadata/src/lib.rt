@@ -1,14 +1,12 @@
 // Metadata: the items of a node, and their rows in the item table.
 ghost use mathlib.Core.Path.{_≡_};
 ghost use mathlib.Core.List.{List};
-ghost use Prim.Native.Nat.{ℕ, _≤_, _<_, _+_, _*_};
+ghost use Prim.Native.Nat.{ℕ, _≤_, _<_, _+_};
 ghost use lib.ListN.{length};
-ghost use lib.Seq.{sets};
-ghost use Rattle.machine.specs.Machine.{run, exec, times};
+ghost use Rattle.machine.specs.Machine.{run, times};
 ghost use Rattle.cursor.specs.Told.{Readable};
-ghost use Rattle.metadata.specs.Tables.{itemWidth, itemWords, put, state};
 ghost use Rattle.metadata.specs.Metadata.{field, contents, itemFrame, rowOf, universal, version, rowsFor, item, metaItems, metadata};
-ghost use Rattle.metadata.specs.Told.{ItemRoom, Room, contextOf, counts, walked, fieldTold, contentsTold, itemTold, CommonTold, Gives};
+ghost use Rattle.metadata.specs.Told.{ItemRoom, Room, counts, fieldTold, contentsTold, itemTold, CommonTold, Makes};
 use cursor::Cursor;
 use cursor::FilePlace;
 use cursor::Item;
@@ -90,26 +88,6 @@ pub enum RowsResult {
 pub enum Walked {
     Done(Made, Cursor),
     Refused(u64, FilePlace),
-}
-
-// Stores an item row behind the `made` rows that are there.
-fn put_item(items: &mut [u64], made: usize, row: Item)
-    requires { ⌜ made * itemWidth + itemWidth ≤ length (now items) ⌝ }
-    ensures { λ _. ⌜ now (items .exit) ≡ sets (now (items .entry)) (made * itemWidth) (itemWords row) ⌝ }
-{
-    let words = [
-        row.node,
-        row.item,
-        row.kind,
-        row.field,
-        row.nameLength,
-        row.version,
-        row.declared,
-        row.format,
-        row.place,
-        row.size,
-    ];
-    room::store(items, made * cursor::ITEM_WIDTH, &words);
 }
 
 // The field here: 0 and a standard number, or an XString, which is a custom name.
@@ -214,7 +192,7 @@ fn read_universal(
     rows: usize,
 ) -> RowsResult
     requires { ⌜ Readable (end .0) (now file) × ItemRoom scope (now items) (counts (l .node) rows) ⌝ }
-    ensures { λ r. ⌜ ((t ws : List ℕ) → Gives (scope .limits) (walked (l .node) r) t (now (items .exit)) (exec put (universal (contextOf scope ws (length (now (file .entry)))) l (end .0) (counts (l .node) rows)) (now (file .entry)) (c .at .0) (state t (now (items .entry)) (counts (l .node) rows)))) ⌝ }
+    ensures { λ r. ⌜ ((ws : List ℕ) → Makes scope (l .node) rows (λ x. universal x l (end .0)) (now (file .entry)) ws (now (items .entry)) (now (items .exit)) (c .at .0) r) ⌝ }
 {
     let place = c.at;
     let limits = scope.limits;
@@ -234,7 +212,7 @@ fn read_universal(
                 Numbered::Is(format, e) => {
                     let data = e.at;
                     let made = rows + 1;
-                    put_item(items, rows, row_of(l, 0, 0, format, data, stop.0 - data.0));
+                    rows::put_item(items, rows, row_of(l, 0, 0, format, data, stop.0 - data.0));
                     RowsResult::Done(made, after)
                 }
             }
@@ -255,7 +233,7 @@ fn read_version(
     rows: usize,
 ) -> RowsResult
     requires { ⌜ Room scope (now file) (now types) (now items) (end .0) (counts (l .node) rows) × (before ≤ rows) ⌝ }
-    ensures { λ r. ⌜ ((t : List ℕ) → Gives (scope .limits) (walked (l .node) r) t (now (items .exit)) (exec put (version (contextOf scope (now (types .entry)) (length (now (file .entry)))) l (end .0) before (counts (l .node) rows)) (now (file .entry)) (c .at .0) (state t (now (items .entry)) (counts (l .node) rows)))) ⌝ }
+    ensures { λ r. ⌜ Makes scope (l .node) rows (λ x. version x l (end .0) before) (now (file .entry)) (now (types .entry)) (now (items .entry)) (now (items .exit)) (c .at .0) r ⌝ }
 {
     let place = c.at;
     let limits = scope.limits;
@@ -272,7 +250,7 @@ fn read_version(
                     let data = e.at;
                     let made = rows + 1;
                     let number = made - before;
-                    put_item(
+                    rows::put_item(
                         items,
                         rows,
                         row_of(l, number, of, format, data, size as usize),
@@ -297,7 +275,7 @@ fn read_versions(
     rows: usize,
 ) -> RowsResult
     requires { ⌜ Room scope (now file) (now types) (now items) (end .0) (counts (l .node) rows) ⌝ }
-    ensures { λ r. ⌜ ((t : List ℕ) → Gives (scope .limits) (walked (l .node) r) t (now (items .exit)) (exec put (times count (version (contextOf scope (now (types .entry)) (length (now (file .entry)))) l (end .0) rows) (counts (l .node) rows)) (now (file .entry)) (c .at .0) (state t (now (items .entry)) (counts (l .node) rows)))) ⌝ }
+    ensures { λ r. ⌜ Makes scope (l .node) rows (λ x. times count (version x l (end .0) rows)) (now (file .entry)) (now (types .entry)) (now (items .entry)) (now (items .exit)) (c .at .0) r ⌝ }
 {
     let before = rows;
     let mut next = c;
@@ -329,7 +307,7 @@ fn read_rows(
     rows: usize,
 ) -> RowsResult
     requires { ⌜ Room scope (now file) (now types) (now items) (end .0) (counts (l .node) rows) ⌝ }
-    ensures { λ r. ⌜ ((t : List ℕ) → Gives (scope .limits) (walked (l .node) r) t (now (items .exit)) (exec put (rowsFor (contextOf scope (now (types .entry)) (length (now (file .entry)))) l (end .0) contents (counts (l .node) rows)) (now (file .entry)) (c .at .0) (state t (now (items .entry)) (counts (l .node) rows)))) ⌝ }
+    ensures { λ r. ⌜ Makes scope (l .node) rows (λ x. rowsFor x l (end .0) contents) (now (file .entry)) (now (types .entry)) (now (items .entry)) (now (items .exit)) (c .at .0) r ⌝ }
 {
     match contents {
         Contents::Universal => read_universal(c, file, items, scope, l, end, rows),
@@ -395,7 +373,7 @@ fn read_item(
     rows: usize,
 ) -> RowsResult
     requires { ⌜ Room scope (now file) (now types) (now items) (end .0) (counts node rows) ⌝ }
-    ensures { λ r. ⌜ ((t : List ℕ) → Gives (scope .limits) (walked node r) t (now (items .exit)) (exec put (item (contextOf scope (now (types .entry)) (length (now (file .entry)))) node index (end .0) (counts node rows)) (now (file .entry)) (c .at .0) (state t (now (items .entry)) (counts node rows)))) ⌝ }
+    ensures { λ r. ⌜ Makes scope node rows (λ x. item x node index (end .0)) (now (file .entry)) (now (types .entry)) (now (items .entry)) (now (items .exit)) (c .at .0) r ⌝ }
 {
     let limits = scope.limits;
     if rows < limits.items {
@@ -409,7 +387,7 @@ fn read_item(
             };
             let data = c.on(5);
             let made = rows + 1;
-            put_item(
+            rows::put_item(
                 items,
                 rows,
                 row_of(l, 0, 0, format, data.at, size as usize - 1),
@@ -444,7 +422,7 @@ fn read_items(
     rows: usize,
 ) -> RowsResult
     requires { ⌜ Room scope (now file) (now types) (now items) (end .0) (counts node rows) ⌝ }
-    ensures { λ r. ⌜ ((t : List ℕ) → Gives (scope .limits) (walked node r) t (now (items .exit)) (exec put (metaItems (contextOf scope (now (types .entry)) (length (now (file .entry)))) node (end .0) (counts node rows)) (now (file .entry)) (c .at .0) (state t (now (items .entry)) (counts node rows)))) ⌝ }
+    ensures { λ r. ⌜ Makes scope node rows (λ x. metaItems x node (end .0)) (now (file .entry)) (now (types .entry)) (now (items .entry)) (now (items .exit)) (c .at .0) r ⌝ }
 {
     let stop = end.0;
     let mut next = c;
@@ -466,7 +444,7 @@ fn read_items(
 }
 
 // The metadata of a node whose header ends at `end`: a length, and items end to end. After a refusal nothing is said of the item table, which may
-// hold some of the rows: `tree::read_file` clears it then.
+// hold some of the rows: `file::read_file` clears it then.
 pub fn read_metadata(
     c: Cursor,
     file: &[u8],
@@ -478,7 +456,7 @@ pub fn read_metadata(
     rows: usize,
 ) -> RowsResult
     requires { ⌜ Room scope (now file) (now types) (now items) (end .0) (counts node rows) ⌝ }
-    ensures { λ r. ⌜ ((t : List ℕ) → Gives (scope .limits) (walked node r) t (now (items .exit)) (exec put (metadata (contextOf scope (now (types .entry)) (length (now (file .entry)))) node (end .0) (counts node rows)) (now (file .entry)) (c .at .0) (state t (now (items .entry)) (counts node rows)))) ⌝ }
+    ensures { λ r. ⌜ Makes scope node rows (λ x. metadata x node (end .0)) (now (file .entry)) (now (types .entry)) (now (items .entry)) (now (items .exit)) (c .at .0) r ⌝ }
 {
     match c.block(file, end, cursor::BAD_NODE) {
         Numbered::Refused(n, p) => RowsResult::Refused(n, p),

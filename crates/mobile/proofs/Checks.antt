@@ -9,20 +9,21 @@ use borrow.Author.Tests.{not-true, not-false}
 use Rattle.cursor.specs.declared.Node.{Node}
 use Rattle.cursor.specs.declared.Item.{Item}
 use Rattle.header.specs.Header.{Header}
-use Rattle.metadata.specs.Tables.{itemWidth}
-use Rattle.tree.specs.Reading.{Reading, summary, nodeTable, itemTable}
-use Rattle.tree.specs.Rows.{nodesIn, itemsIn, itemFrom, itemAt}
-use Rattle.tree.specs.Asking.{good}
-use Rattle.tree.specs.Own.{those, part}
-use Rattle.tree.specs.declared.Summary.{Summary}
-use Rattle.tree.proofs.Rows.{item-at, items-in-length, Standing}
-use Rattle.tree.proofs.Exits.{Says, says-answer}
-use Rattle.tree.proofs.Own.{part-all}
+use Rattle.rows.specs.Rows.{itemWidth, nodesIn, itemsIn, itemFrom, itemAt}
+use Rattle.file.specs.Reading.{Reading, summary, nodeTable, itemTable}
+use Rattle.file.specs.Asking.{good}
+use Rattle.file.specs.Own.{those, part}
+use Rattle.file.specs.declared.Summary.{Summary}
+use Rattle.rows.proofs.Rows.{item-at, items-in-length}
+use Rattle.file.proofs.Rows.{Standing}
+use Rattle.file.proofs.Exits.{Says, says-answer}
+use Rattle.file.proofs.Own.{part-all}
 use Rattle.description.specs.Row.{isField}
 use Rattle.mobile.specs.Mobile.{all, isEmpty, rightEdition, filesOnly, plainReferences, noUnpackers, isNeed, areNeeds, isShort, isSmall, smallFields, check, verdict, mobile}
-use Rattle.mobile.specs.Pass.{children, oneTuneOf, tuneNeedsOf, verdictBy}
+use Rattle.mobile.specs.Pass.{children, oneTuneOf, tuneNeedsOf, laterBy, later, verdictBy}
 use Rattle.mobile.specs.Told.{NextRow}
 use Rattle.mobile.proofs.Counts.{by-pass}
+use Rattle.mobile.specs.declared.Children.{Children}
 use Rattle.mobile.specs.declared.Few.{Few}
 use Rattle.mobile.specs.declared.Few.the-variants as few
 
@@ -123,15 +124,17 @@ pub skip : (n : ℕ) {later r : ℕ} {b d : Bool} → b ≡ d → not b ≡ fals
 unfolding check
 skip n {later} {r} {b} e t k = k ∙ sym (ap (λ x. check n x later) (sym e ∙ not-false b t))
 
+-- c is what the code says of the children
+pub later-by : (f : List ℕ) (ns : List Node) (is : List Item) {c : Children} → c ≡ children f ns is
+    → {r : ℕ} → r ≡ check 5 (c .typed) (check 6 (oneTuneOf (c .tunes) (c .instruments)) (check 7 (tuneNeedsOf f (c .tunes) is) (check 8 (smallFields ns is) 0)))
+    → r ≡ later f ns is
+unfolding laterBy
+later-by f ns is e t = t ∙ ap (λ (c : Children). laterBy f c ns is) e
+
 -- b is what the code says of the header
 pub verdict-by : (f : List ℕ) (h : Header) (ns : List Node) (is : List Item) {s : Summary} → s ≡ summary h ns is
     → {b : Bool} → b ≡ (eqb (s .version) 200 && (eqb (s .edition .kind) 2 && eqb (s .edition .revision) 1))
-    → {r : ℕ} → r ≡ check 1 b
-    (check 2 (filesOnly ns)
-    (check 3 (plainReferences ns)
-    (check 4 (noUnpackers ns)
-    (check 5 (children f ns is .typed)
-    (check 6 (oneTuneOf (children f ns is .tunes) (children f ns is .instruments)) (check 7 (tuneNeedsOf f (children f ns is .tunes) is) (check 8 (smallFields ns is) 0)))))))
+    → {r : ℕ} → r ≡ check 1 b (check 2 (filesOnly ns) (check 3 (plainReferences ns) (check 4 (noUnpackers ns) (later f ns is))))
     → r ≡ verdict f h ns is
 unfolding verdictBy rightEdition
 verdict-by f h ns is e k t =

@@ -11,10 +11,10 @@ use borrow.Author.Tests.{ne-eqb, lt-leb}
 use Rattle.cursor.specs.declared.Node.{Node}
 use Rattle.cursor.specs.declared.Item.{Item}
 use Rattle.header.specs.Header.{Header}
-use Rattle.tree.specs.Own.{itemsOf, those, own}
+use Rattle.file.specs.Own.{itemsOf, those, own}
 use Rattle.description.specs.Row.{isField}
 use Rattle.mobile.specs.Mobile.{all, isEmpty, roleOf, isTune, isInstruments, isOther, rowsFrom, childrenThat, eachTyped, oneTune, areNeeds, tuneNeeds, rightEdition, filesOnly, plainReferences, noUnpackers, smallFields, check, verdict}
-use Rattle.mobile.specs.Pass.{besides, child, childrenFrom, children, oneTuneOf, tuneNeedsOf, verdictBy}
+use Rattle.mobile.specs.Pass.{besides, child, childrenFrom, children, oneTuneOf, tuneNeedsOf, laterBy, verdictBy}
 use Rattle.mobile.specs.declared.Role.{Role}
 use Rattle.mobile.specs.declared.Role.the-variants as role
 use Rattle.mobile.specs.declared.Few.{Few}
@@ -84,7 +84,7 @@ six f (t ∷ u ∷ ts) ks is later =
 -- ---- the verdict
 
 pub by-pass : (f : List ℕ) (h : Header) (ns : List Node) (is : List Item) → verdictBy f (children f ns is) h ns is ≡ verdict f h ns is
-unfolding verdict verdictBy children childrenThat eachTyped
+unfolding verdict verdictBy laterBy children childrenThat eachTyped
 by-pass f h ns is =
     ap (λ (c : Children). verdictBy f c h ns is) (pass-keeps f is 1 (drop 1 ns))
     ∙ ap (λ n. check 1 (rightEdition h) (check 2 (filesOnly ns) (check 3 (plainReferences ns) (check 4 (noUnpackers ns) (check 5 (isEmpty (rowsFrom isOther f is 1 (drop 1 ns))) n)))))

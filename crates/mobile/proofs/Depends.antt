@@ -16,13 +16,13 @@ use Rattle.cursor.specs.declared.Item.{Item}
 use Rattle.cursor.proofs.Leaves.{number-same}
 use Rattle.machine.proofs.Agree.{Agree}
 use Rattle.header.specs.Header.{Header}
-use Rattle.tree.specs.Rows.{itemAt}
-use Rattle.tree.specs.Own.{Numbered, itemsOf, numbered, those, isOwn, own}
+use Rattle.rows.specs.Rows.{itemAt}
+use Rattle.file.specs.Own.{Numbered, itemsOf, numbered, those, isOwn, own}
 use Rattle.description.specs.Row.{isField, isBinary}
 use Rattle.description.proofs.Tests.{field-is}
 use Rattle.description.proofs.Depends.{readable-same}
 use Rattle.mobile.specs.Mobile.{all, isEmpty, roleOfNumber, roleOfRow, roleOfRows, roleOf, isNeed, areNeeds, verdict}
-use Rattle.mobile.specs.Pass.{child, childrenFrom, children, tuneNeedsOf, verdictBy}
+use Rattle.mobile.specs.Pass.{child, childrenFrom, children, tuneNeedsOf, laterBy, verdictBy}
 use Rattle.mobile.proofs.Counts.{by-pass}
 use Rattle.mobile.specs.declared.Role.{Role}
 use Rattle.mobile.specs.declared.Role.the-variants as role
@@ -128,7 +128,7 @@ module _ (f g : List ℕ) where
   each-of n is a = each-at (Of n) _ is (λ i l e. let x = field-is (itemAt is i) n e in a i l (x .0) (x .1))
 
   pass-depends : (h : Header) (ns : List Node) (is : List Item) → Agreed 3 is → Agreed 13 is → verdictBy f (children f ns is) h ns is ≡ verdictBy g (children g ns is) h ns is
-  unfolding verdictBy children
+  unfolding verdictBy laterBy children
   pass-depends h ns is a b =
       ap (λ (c : Children). verdictBy f c h ns is) (children-same is (each-of 3 is a) 1 (drop 1 ns))
       ∙ rw (needs-same (children g ns is .tunes) is (each-of 13 is b)) refl

@@ -8,11 +8,10 @@ use native.Mathlib.Omega.{arith}
 use lib.ListN.{length, getD, drop, drop-of-length-le}
 use Rattle.cursor.specs.declared.Node.{Node}
 use Rattle.cursor.specs.declared.Item.{Item}
-use Rattle.metadata.specs.Tables.{nodeWidth, itemWidth}
-use Rattle.tree.specs.Rows.{nodeFrom, itemFrom, nodesIn, itemsIn, itemAt, noNode, noItem}
-use Rattle.tree.proofs.Rows.{node-at, item-at, nodes-in-length, items-in-length}
-use Rattle.tree.specs.Own.{those, part}
-use Rattle.tree.proofs.Own.{drop-next, part-next, part-none}
+use Rattle.rows.specs.Rows.{nodeWidth, itemWidth, nodeFrom, itemFrom, nodesIn, itemsIn, itemAt, noNode, noItem}
+use Rattle.rows.proofs.Rows.{node-at, item-at, nodes-in-length, items-in-length}
+use Rattle.file.specs.Own.{those, part}
+use Rattle.file.proofs.Own.{drop-next, part-next, part-none}
 use Rattle.description.specs.Row.{isField}
 use Rattle.mobile.specs.Mobile.{all}
 use Rattle.mobile.specs.Told.{NextRow}

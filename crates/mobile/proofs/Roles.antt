@@ -14,11 +14,10 @@ use Rattle.cursor.specs.Rows.{metaFrame}
 use Rattle.cursor.specs.Leaves.{number}
 use Rattle.cursor.specs.declared.Node.{Node}
 use Rattle.cursor.specs.declared.Item.{Item}
-use Rattle.metadata.specs.Tables.{nodeWidth, itemWidth}
-use Rattle.tree.specs.Rows.{nodeFrom, itemFrom, nodesIn, itemsIn, itemAt, noNode}
-use Rattle.tree.specs.Own.{itemsOf, own, firstRow, part, Tables}
-use Rattle.tree.proofs.Rows.{item-at, nodes-in-length}
-use Rattle.tree.proofs.Own.{items-numbered, drop-next, own-are}
+use Rattle.rows.specs.Rows.{nodeWidth, itemWidth, nodeFrom, itemFrom, nodesIn, itemsIn, itemAt, noNode}
+use Rattle.file.specs.Own.{itemsOf, own, firstRow, part, Tables}
+use Rattle.rows.proofs.Rows.{item-at, nodes-in-length}
+use Rattle.file.proofs.Own.{items-numbered, drop-next, own-are}
 use Rattle.description.specs.Row.{isBinary}
 use Rattle.mobile.specs.Mobile.{roleOfType, roleOfNumber, roleOfRow, roleOfRows, roleOf}
 use Rattle.mobile.specs.Pass.{child, noChildren, childrenFrom, children}

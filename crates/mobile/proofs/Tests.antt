@@ -10,9 +10,8 @@ use lib.ListN.{drop}
 use borrow.Author.Tests.{eq-eqb, ne-eqb, le-leb, lt-leb, not-true, not-false}
 use Rattle.cursor.specs.declared.Node.{Node}
 use Rattle.cursor.specs.declared.Item.{Item}
-use Rattle.metadata.specs.Tables.{nodeWidth}
-use Rattle.tree.specs.Rows.{nodeFrom, nodesIn, nodeAt, rowsFrom}
-use Rattle.tree.proofs.Rows.{node-at}
+use Rattle.rows.specs.Rows.{nodeWidth, nodeFrom, nodesIn, nodeAt, rowsFrom}
+use Rattle.rows.proofs.Rows.{node-at}
 use Rattle.description.specs.Row.{isBinary}
 use Rattle.description.specs.Count.{isReadable}
 use Rattle.mobile.specs.Mobile.{all, roleOfType, isFile, filesOnly, isPlain, plainReferences, isUnpacked, noUnpackers, isNeed, isShort, fieldSize, isSmall}

@@ -1,5 +1,5 @@
 -- The Mobile verdict (01, Questions): eight checks in order, the number of the first that fails, 0 if none.
--- A node's own item rows are those of tree/specs/Own.antt, a readable field 13 is that of description/specs/Count.antt. Assumes nothing.
+-- A node's own item rows are those of file/specs/Own.antt, a readable field 13 is that of description/specs/Count.antt. Assumes nothing.
 use mathlib.Core.Bool.{Bool, true, false, cond, not, _&&_, _||_}
 use mathlib.Core.List.{List, [], _∷_}
 use Prim.Native.Nat.{ℕ, _+_}
@@ -12,9 +12,9 @@ use Rattle.cursor.specs.Leaves.{number}
 use Rattle.cursor.specs.declared.Node.{Node}
 use Rattle.cursor.specs.declared.Item.{Item}
 use Rattle.header.specs.Header.{Header}
-use Rattle.tree.specs.Rows.{nodeAt}
-use Rattle.tree.specs.Asking.{Result, good}
-use Rattle.tree.specs.Own.{itemsOf, those, own}
+use Rattle.rows.specs.Rows.{nodeAt}
+use Rattle.file.specs.Asking.{Result, good}
+use Rattle.file.specs.Own.{itemsOf, those, own}
 use Rattle.description.specs.Row.{isField, isBinary}
 use Rattle.description.specs.Count.{isReadable}
 use Rattle.mobile.specs.declared.Role.{Role}

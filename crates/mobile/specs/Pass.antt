@@ -8,7 +8,7 @@ use lib.ListN.{drop}
 use Rattle.cursor.specs.declared.Node.{Node}
 use Rattle.cursor.specs.declared.Item.{Item}
 use Rattle.header.specs.Header.{Header}
-use Rattle.tree.specs.Own.{itemsOf, those, own}
+use Rattle.file.specs.Own.{itemsOf, those, own}
 use Rattle.description.specs.Row.{isField}
 use Rattle.mobile.specs.Mobile.{roleOf, rightEdition, filesOnly, plainReferences, noUnpackers, areNeeds, smallFields, check}
 use Rattle.mobile.specs.declared.Role.{Role}
@@ -55,6 +55,17 @@ tuneNeedsOf f (few.One t) is = areNeeds f t (those (isField 13) is)
 tuneNeedsOf f few.None is = false
 tuneNeedsOf f few.More is = false
 
+-- checks 5 to 8, by them
+unfoldable pub laterBy : List ℕ → Children → List Node → List Item → ℕ
+laterBy f c ns is =
+    check 5 (c .typed)
+    (check 6 (oneTuneOf (c .tunes) (c .instruments))
+    (check 7 (tuneNeedsOf f (c .tunes) is)
+    (check 8 (smallFields ns is) 0)))
+
+abbrev pub later : List ℕ → List Node → List Item → ℕ
+later f ns is = laterBy f (children f ns is) ns is
+
 -- the verdict by them
 unfoldable pub verdictBy : List ℕ → Children → Header → List Node → List Item → ℕ
 verdictBy f c h ns is =
@@ -62,7 +73,4 @@ verdictBy f c h ns is =
     (check 2 (filesOnly ns)
     (check 3 (plainReferences ns)
     (check 4 (noUnpackers ns)
-    (check 5 (c .typed)
-    (check 6 (oneTuneOf (c .tunes) (c .instruments))
-    (check 7 (tuneNeedsOf f (c .tunes) is)
-    (check 8 (smallFields ns is) 0)))))))
+    (laterBy f c ns is))))

@@ -4,9 +4,9 @@ use mathlib.Core.Path.{_≡_}
 use mathlib.Core.List.{List, [], _∷_}
 use Prim.Native.Nat.{ℕ, _+_, _≤_, _<_}
 use Rattle.cursor.specs.declared.Item.{Item}
-use Rattle.tree.specs.Rows.{itemAt}
-use Rattle.tree.specs.Asking.{Result, good, bad}
-use Rattle.tree.specs.Own.{those, part}
+use Rattle.rows.specs.Rows.{itemAt}
+use Rattle.file.specs.Asking.{Result, good, bad}
+use Rattle.file.specs.Own.{those, part}
 use Rattle.description.specs.Row.{isField}
 use Rattle.mobile.specs.declared.Judged.{Judged}
 use Rattle.mobile.specs.declared.Judged.the-variants as judged

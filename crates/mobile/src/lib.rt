@@ -5,22 +5,21 @@ ghost use Prim.Native.Nat.{_≤_, _<_, _*_, _+_};
 ghost use lib.Dec.{eqb};
 ghost use lib.ListN.{length};
 ghost use Rattle.header.specs.Header.{Header};
-ghost use Rattle.metadata.specs.Tables.{nodeWidth, itemWidth};
-ghost use Rattle.tree.specs.Reading.{summary};
-ghost use Rattle.tree.specs.Rows.{nodesIn, itemsIn, ItemIn, ItemRows};
-ghost use Rattle.tree.specs.Asking.{answered, nodesLeft, itemsLeft};
-ghost use Rattle.tree.specs.Own.{those, part, Tables};
+ghost use Rattle.rows.specs.Rows.{nodeWidth, itemWidth, nodesIn, itemsIn, ItemIn, ItemRows};
+ghost use Rattle.file.specs.Reading.{summary};
+ghost use Rattle.file.specs.Asking.{answered, nodesLeft, itemsLeft};
+ghost use Rattle.file.specs.Own.{those, part, Tables};
 ghost use Rattle.description.specs.Row.{isField};
 ghost use Rattle.mobile.specs.Mobile.{all, roleOfType, roleOfRow, roleOf, filesOnly, isPlain, plainReferences, noUnpackers, isNeed, areNeeds, isShort, fieldSize, isSmall, smallFields, verdict, mobile};
-ghost use Rattle.mobile.specs.Pass.{besides, child, children, oneTuneOf, tuneNeedsOf};
+ghost use Rattle.mobile.specs.Pass.{besides, child, children, oneTuneOf, tuneNeedsOf, later};
 ghost use Rattle.mobile.specs.Told.{told, NextRow};
 use cursor::Cursor;
 use cursor::FilePlace;
 use cursor::Item;
 use cursor::Node;
 use cursor::Numbered;
-use tree::Read;
-use tree::Summary;
+use file::Read;
+use file::Summary;
 
 // What a child is, by its type: a tune (0 or 1), instruments (5), or something else, which may not stand here.
 enum Role {
@@ -70,13 +69,13 @@ fn files_only(nodes: &[u64], many: usize) -> bool
     if many == 0 {
         return false;
     }
-    let root = tree::node_at(nodes, 0);
+    let root = rows::node_at(nodes, 0);
     if root.contained == 0 {
         return false;
     }
     let mut i = 1;
     while i < many {
-        let row = tree::node_at(nodes, i);
+        let row = rows::node_at(nodes, i);
         if row.contained != 0 {
             return false;
         }
@@ -101,7 +100,7 @@ fn plain_references(nodes: &[u64], many: usize) -> bool
 {
     let mut i = 0;
     while i < many {
-        let row = tree::node_at(nodes, i);
+        let row = rows::node_at(nodes, i);
         if !is_plain(row) {
             return false;
         }
@@ -117,7 +116,7 @@ fn no_unpackers(nodes: &[u64], many: usize) -> bool
 {
     let mut i = 0;
     while i < many {
-        let row = tree::node_at(nodes, i);
+        let row = rows::node_at(nodes, i);
         if row.unpackerCount != 0 {
             return false;
         }
@@ -133,7 +132,7 @@ fn next_row(items: &[u64], many: usize, field: u64, from: usize, end: usize) -> 
 {
     let mut i = from;
     while i < end {
-        if description::is_field(tree::item_at(items, i), field) {
+        if description::is_field(rows::item_at(items, i), field) {
             return i;
         }
         i = i + 1;
@@ -201,7 +200,7 @@ fn role_of(file: &[u8], items: &[u64], many: usize, at: usize, end: usize) -> Ro
     if second < end {
         return Role::Other;
     }
-    role_of_row(file, tree::item_at(items, first))
+    role_of_row(file, rows::item_at(items, first))
 }
 
 // The child in the row besides others of its kind.
@@ -261,7 +260,7 @@ fn children_of(file: &[u8], nodes: &[u64], items: &[u64], n: usize, m: usize) ->
     let mut i = n;
     while 1 < i {
         i = i - 1;
-        let row = tree::node_at(nodes, i);
+        let row = rows::node_at(nodes, i);
         let at = end - row.rows as usize;
         c = child(role_of(file, items, m, at, end), i, c);
         end = at;
@@ -308,7 +307,7 @@ fn are_needs(file: &[u8], items: &[u64], many: usize, tune: usize) -> bool
         return false;
     }
     while i < many {
-        if !is_need(file, tree::item_at(items, i), tune) {
+        if !is_need(file, rows::item_at(items, i), tune) {
             return false;
         }
         i = next_row(items, many, 13, i + 1, many);
@@ -335,7 +334,7 @@ fn short_headers(nodes: &[u64], many: usize) -> bool
 {
     let mut i = 0;
     while i < many {
-        let row = tree::node_at(nodes, i);
+        let row = rows::node_at(nodes, i);
         if 65535 < row.header {
             return false;
         }
@@ -361,7 +360,7 @@ fn small_items(items: &[u64], many: usize) -> bool
 {
     let mut i = 0;
     while i < many {
-        if 256 < field_size(tree::item_at(items, i)) {
+        if 256 < field_size(rows::item_at(items, i)) {
             return false;
         }
         i = i + 1;
@@ -380,26 +379,11 @@ fn small_fields(nodes: &[u64], items: &[u64], n: usize, m: usize) -> bool
     small_items(items, m)
 }
 
-// The number of the first check that fails, 0 if none.
-fn verdict(file: &[u8], nodes: &[u64], items: &[u64], s: Summary) -> u64
-    requires { ⌜ Tables (now file) (now nodes) (now items) (s .nodes) (s .items) ⌝ }
-    ensures { λ r. ⌜ ((h : Header) → s ≡ summary h (nodesIn (s .nodes) (now (nodes .entry))) (itemsIn (s .items) (now (items .entry))) → r ≡ verdict (now (file .entry)) h (nodesIn (s .nodes) (now (nodes .entry))) (itemsIn (s .items) (now (items .entry)))) ⌝ }
+// The first of checks 5 to 8 that fails, 0 if none. The children are gone through once.
+fn later_verdict(file: &[u8], nodes: &[u64], items: &[u64], n: usize, m: usize) -> u64
+    requires { ⌜ Tables (now file) (now nodes) (now items) n m ⌝ }
+    ensures { λ r. ⌜ r ≡ later (now (file .entry)) (nodesIn n (now (nodes .entry))) (itemsIn m (now (items .entry))) ⌝ }
 {
-    let edition = s.edition;
-    if !right_edition(s.version, edition.kind, edition.revision) {
-        return 1;
-    }
-    let n = s.nodes;
-    let m = s.items;
-    if !files_only(nodes, n) {
-        return 2;
-    }
-    if !plain_references(nodes, n) {
-        return 3;
-    }
-    if !no_unpackers(nodes, n) {
-        return 4;
-    }
     let c = children_of(file, nodes, items, n, m);
     if !c.typed {
         return 5;
@@ -418,13 +402,36 @@ fn verdict(file: &[u8], nodes: &[u64], items: &[u64], s: Summary) -> u64
     0
 }
 
+// The first check that fails, 0 if none.
+fn verdict(file: &[u8], nodes: &[u64], items: &[u64], s: Summary) -> u64
+    requires { ⌜ Tables (now file) (now nodes) (now items) (s .nodes) (s .items) ⌝ }
+    ensures { λ r. ⌜ ((h : Header) → s ≡ summary h (nodesIn (s .nodes) (now (nodes .entry))) (itemsIn (s .items) (now (items .entry)))
+        → r ≡ verdict (now (file .entry)) h (nodesIn (s .nodes) (now (nodes .entry))) (itemsIn (s .items) (now (items .entry)))) ⌝ }
+{
+    let edition = s.edition;
+    if !right_edition(s.version, edition.kind, edition.revision) {
+        return 1;
+    }
+    let n = s.nodes;
+    if !files_only(nodes, n) {
+        return 2;
+    }
+    if !plain_references(nodes, n) {
+        return 3;
+    }
+    if !no_unpackers(nodes, n) {
+        return 4;
+    }
+    later_verdict(file, nodes, items, n, s.items)
+}
+
 // Judges Mobile XMF: reads the file into the two tables and gives the verdict.
 pub fn judge(file: &[u8], nodes: &mut [u64], items: &mut [u64]) -> Judged
     ensures answer { λ r. ⌜ told r ≡ answered (now (nodes .entry)) (now (items .entry)) (now (file .entry)) mobile ⌝ }
     ensures nodes { λ _. ⌜ now (nodes .exit) ≡ nodesLeft (now (nodes .entry)) (now (items .entry)) (now (file .entry)) mobile ⌝ }
     ensures items { λ _. ⌜ now (items .exit) ≡ itemsLeft (now (nodes .entry)) (now (items .entry)) (now (file .entry)) mobile ⌝ }
 {
-    match tree::read_file(file, nodes, items) {
+    match file::read_file(file, nodes, items) {
         Read::Refused(n, p) => Judged::Refused(n, p.0),
         Read::Is(s) => Judged::Verdict(verdict(file, nodes, items, s)),
     }

@@ -5,8 +5,8 @@ use mathlib.Core.List.{List, [], _∷_}
 use Prim.Native.Nat.{ℕ, _+_, _-_, _≤_, _<_}
 use lib.ListN.{length, drop}
 use lib.Seq.{slice}
-use Rattle.editions.specs.Sheets.{parted, item, kind, itemsOf}
-use Rattle.editions.specs.Reads.{AllKnown}
+use Rattle.editions.specs.Sheets.{parted, written, item, kind, nodesOf, itemsOf}
+use Rattle.editions.specs.Reads.{AllKnown, walk}
 use Rattle.mover.specs.declared.ItemAt.{ItemAt}
 use Rattle.mover.specs.declared.ItemAt.the-variants as standing
 
@@ -18,6 +18,10 @@ itemLines s (standing.Nothing) = []
 abbrev pub Right : List ℕ → (low : ℕ) → ItemAt → Type 0
 Right s low (standing.Is at end k) = (low ≤ at) × (at < length s) × (at ≤ end) × (end ≤ length s) × (kind (slice at end s) ≡ item k) × AllKnown (parted 0x0A (drop (end + 1) s))
 Right s low (standing.Nothing) = Unit {0}
+
+-- the bytes of a sheet whose node lines have the item lines of their rows behind them
+abbrev pub grouped : List ℕ → List ℕ
+grouped s = written (walk 0 (nodesOf (parted 0x0A s)) (itemsOf (parted 0x0A s)))
 
 -- how many bytes of the sheet are left where it begins
 abbrev pub leftOf : List ℕ → ItemAt → ℕ

@@ -7,10 +7,10 @@ ghost use lib.Seq.{slice};
 ghost use Rattle.room.specs.Room.{fitting, counted, kept};
 ghost use Rattle.room.specs.Counts.{Counts};
 ghost use Rattle.room.specs.Told.{told};
-ghost use Rattle.editions.specs.Sheets.{parted, written, word, item, kind, judge, picked, isKind, nodesOf, itemsOf, movedLines, move};
-ghost use Rattle.editions.specs.Reads.{Known, AllKnown, runOf, pastRun, walk};
+ghost use Rattle.editions.specs.Sheets.{parted, written, word, item, kind, judge, picked, isKind, itemsOf, movedLines, move};
+ghost use Rattle.editions.specs.Reads.{Known, AllKnown, runOf, pastRun};
 ghost use Rattle.editions.specs.Told.{Well};
-ghost use Rattle.mover.specs.Told.{itemLines, Right};
+ghost use Rattle.mover.specs.Told.{itemLines, Right, grouped};
 use editions::Found;
 use editions::Judged;
 use room::Written;
@@ -127,7 +127,7 @@ fn put_run(out: &mut [u8], to: usize, sheet: &[u8], first: ItemAt, row: u64) -> 
 // Puts each node line from a place on, and behind it the item lines of its row: one cursor goes over the node lines, one over the item lines.
 fn put_groups(out: &mut [u8], to: usize, sheet: &[u8], from: usize) -> usize
     requires { ⌜ (from ≤ length (now sheet)) × AllKnown (parted 0x0A (drop from (now sheet))) ⌝ }
-    ensures { λ r. ⌜ Counts (now (out .entry)) (now (out .exit)) to (written (walk 0 (nodesOf (parted 0x0A (drop from (now (sheet .entry))))) (itemsOf (parted 0x0A (drop from (now (sheet .entry))))))) r ⌝ }
+    ensures { λ r. ⌜ Counts (now (out .entry)) (now (out .exit)) to (grouped (drop from (now (sheet .entry)))) r ⌝ }
 {
     let mut next = to;
     let mut at = from;

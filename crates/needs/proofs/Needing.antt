@@ -13,19 +13,20 @@ use Rattle.cursor.specs.Leaves.{number}
 use Rattle.machine.proofs.Laws.{running, andThen}
 use Rattle.cursor.specs.declared.FilePlace.{FilePlace}
 use Rattle.cursor.specs.declared.Item.{Item}
-use Rattle.metadata.specs.Tables.{fullNodes, fullItems, itemWidth, limits}
+use Rattle.metadata.specs.Tables.{fullNodes, fullItems, limits}
+use Rattle.rows.specs.Rows.{itemWidth, itemFrom, itemsIn, itemAt, rowsFrom}
 use Rattle.room.specs.Room.{Result, good, bad, padded}
 use Rattle.room.specs.Counts.{Counts, tooMany}
 use Rattle.room.proofs.Counting.{counts-none, counts-then, counts-as}
-use Rattle.tree.specs.Rows.{itemFrom, itemsIn, itemAt, rowsFrom}
-use Rattle.tree.specs.Reading.{readOf, readFile}
-use Rattle.tree.specs.Hidden.{isHidden}
-use Rattle.tree.specs.Asking.{ask}
-use Rattle.tree.specs.declared.Read.{Read}
-use Rattle.tree.specs.declared.Read.the-variants as read
-use Rattle.tree.specs.declared.Summary.{Summary}
-use Rattle.tree.proofs.Rows.{Standing, item-at, items-in-length}
-use Rattle.sheet.specs.Sheet as sheet
+use Rattle.file.specs.Reading.{readOf, readFile}
+use Rattle.file.specs.Hidden.{isHidden}
+use Rattle.file.specs.Asking.{ask}
+use Rattle.file.specs.declared.Read.{Read}
+use Rattle.file.specs.declared.Read.the-variants as read
+use Rattle.file.specs.declared.Summary.{Summary}
+use Rattle.file.proofs.Rows.{Standing}
+use Rattle.rows.proofs.Rows.{item-at, items-in-length}
+use Rattle.text.specs.Text as text
 use Rattle.description.specs.Row.{isField, isBinary, isDescription}
 use Rattle.description.specs.Description.{numbers, lists, table, description}
 use Rattle.description.specs.Count.{dataRead, countIn}
@@ -36,8 +37,8 @@ use Rattle.needs.specs.declared.Put.the-variants as put
 use Rattle.lines.proofs.Ending.{padded-none, printed-bad}
 use Rattle.lines.proofs.Reading.{unread, known}
 
-pub count-is : (row channel resource count : ℕ) → (0x43 ∷ []) ++ sheet.number row ++ sheet.number channel ++ sheet.number resource ++
-    sheet.number count ++ (0x0A ∷ []) ≡ countLine row channel resource count
+pub count-is : (row channel resource count : ℕ) → (0x43 ∷ []) ++ text.number row ++ text.number channel ++ text.number resource ++
+    text.number count ++ (0x0A ∷ []) ≡ countLine row channel resource count
 unfolding countLine
 count-is row channel resource count = refl
 

@@ -11,10 +11,10 @@ use Rattle.cursor.specs.Refusals.{noSuchRow, noSuchItem, badDescription}
 use Rattle.cursor.specs.declared.Item.{Item}
 use Rattle.room.specs.Room.{Result, good, bad}
 use Rattle.room.specs.Counts.{Counts}
-use Rattle.tree.specs.Rows.{itemAt}
-use Rattle.tree.specs.Hidden.{isHidden}
-use Rattle.tree.specs.Asking.{Asks, ask}
-use Rattle.sheet.specs.Sheet.{number}
+use Rattle.rows.specs.Rows.{itemAt}
+use Rattle.file.specs.Hidden.{isHidden}
+use Rattle.file.specs.Asking.{Asks, ask}
+use Rattle.text.specs.Text.{number}
 use Rattle.description.specs.Row.{isDescription}
 use Rattle.description.specs.Description.{Description}
 use Rattle.description.specs.Count.{dataRead, countIn}

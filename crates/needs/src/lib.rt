@@ -6,7 +6,7 @@ ghost use lib.ListN.{length};
 ghost use Rattle.machine.specs.Machine.{run};
 ghost use Rattle.room.specs.Counts.{Counts};
 ghost use Rattle.room.specs.Room.{Result};
-ghost use Rattle.tree.specs.Rows.{itemsIn, ItemIn, ItemRows};
+ghost use Rattle.rows.specs.Rows.{itemsIn, ItemIn, ItemRows};
 ghost use Rattle.description.specs.Row.{isDescription};
 ghost use Rattle.description.specs.Description.{table, description};
 ghost use Rattle.lines.specs.Answer.{nothing, plainly, printed, Gives};
@@ -17,10 +17,10 @@ use cursor::Item;
 use cursor::Numbered;
 use cursor::Passed;
 use description::Counted;
+use file::Read;
 use lines::Made;
 use lines::conclude;
 use lines::refuse;
-use tree::Read;
 
 // The place after what was put; or a refusal's number and place.
 pub enum Put {
@@ -40,10 +40,10 @@ fn put_count(
     ensures { λ r. ⌜ Counts (now (out .entry)) (now (out .exit)) to (countLine row channel resource count) r ⌝ }
 {
     let a = room::put_byte(out, to, b'C');
-    let b = sheet::put_number(out, a, row as u64);
-    let c = sheet::put_number(out, b, channel);
-    let d = sheet::put_number(out, c, resource);
-    let e = sheet::put_number(out, d, count);
+    let b = text::put_number(out, a, row as u64);
+    let c = text::put_number(out, b, channel);
+    let d = text::put_number(out, c, resource);
+    let e = text::put_number(out, d, count);
     room::put_byte(out, e, 0x0a)
 }
 
@@ -84,13 +84,13 @@ pub fn make_count(file: &[u8], row: usize, channel: u64, resource: u64, text: &m
 {
     let mut nodes = program::node_table();
     let mut items = program::item_table();
-    match tree::read_file(file, &mut nodes, &mut items) {
+    match file::read_file(file, &mut nodes, &mut items) {
         Read::Refused(n, p) => refuse(text, b"", n, p.0),
         Read::Is(s) => {
             if s.items <= row {
                 return refuse(text, b"", cursor::NO_SUCH_ROW, 0);
             }
-            let item = tree::item_at(&items, row);
+            let item = rows::item_at(&items, row);
             make_row_count(file, row, item, channel, resource, text)
         }
     }
@@ -192,7 +192,7 @@ fn put_needs(out: &mut [u8], file: &[u8], items: &[u64], count: usize) -> Put
     let mut next = 0;
     let mut i = 0;
     while i < count {
-        match put_row_needs(out, next, file, i, tree::item_at(items, i)) {
+        match put_row_needs(out, next, file, i, rows::item_at(items, i)) {
             Put::Refused(n, p) => return Put::Refused(n, p),
             Put::To(to) => next = to,
         }
@@ -217,7 +217,7 @@ pub fn make_needs(file: &[u8], text: &mut [u8]) -> Made
 {
     let mut nodes = program::node_table();
     let mut items = program::item_table();
-    match tree::read_file(file, &mut nodes, &mut items) {
+    match file::read_file(file, &mut nodes, &mut items) {
         Read::Refused(n, p) => refuse(text, b"", n, p.0),
         Read::Is(s) => {
             let put = put_needs(text, file, &items, s.items);
@@ -246,13 +246,13 @@ pub fn make_row_needs(file: &[u8], row: usize, text: &mut [u8]) -> Made
 {
     let mut nodes = program::node_table();
     let mut items = program::item_table();
-    match tree::read_file(file, &mut nodes, &mut items) {
+    match file::read_file(file, &mut nodes, &mut items) {
         Read::Refused(n, p) => refuse(text, b"", n, p.0),
         Read::Is(s) => {
             if s.items <= row {
                 return refuse(text, b"", cursor::NO_SUCH_ROW, 0);
             }
-            make_item_needs(file, row, tree::item_at(&items, row), text)
+            make_item_needs(file, row, rows::item_at(&items, row), text)
         }
     }
 }

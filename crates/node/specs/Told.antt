@@ -4,11 +4,16 @@ use mathlib.Core.Path.{_≡_}
 use mathlib.Core.Bool.{Bool, true, false}
 use mathlib.Core.List.{List}
 use Prim.Native.Nat.{ℕ, _+_, _≤_}
-use Rattle.machine.specs.Machine.{Out, ok, refused, run}
+use lib.ListN.{length}
+use Rattle.machine.specs.Machine.{Out, ok, refused, run, exec}
 use Rattle.cursor.specs.declared.Passed.{Passed}
 use Rattle.cursor.specs.declared.Passed.the-variants as passing
-use Rattle.metadata.specs.Tables.{State, state}
+use Rattle.metadata.specs.Tables.{State, state, put}
+use Rattle.metadata.specs.Told.{contextOf}
+use Rattle.metadata.specs.declared.Made.{Made}
+use Rattle.metadata.specs.declared.Scope.{Scope}
 use Rattle.metadata.specs.declared.Limits.{Limits}
+use Rattle.node.specs.declared.Bounds.{Bounds}
 use Rattle.node.specs.declared.Head.{Head}
 use Rattle.node.specs.declared.Headed.{Headed}
 use Rattle.node.specs.declared.Headed.the-variants as headed
@@ -18,7 +23,7 @@ use Rattle.node.specs.declared.Unpacked.the-variants as unpacked
 use Rattle.node.specs.declared.Reference.{Reference}
 use Rattle.node.specs.declared.ReferenceResult.{ReferenceResult}
 use Rattle.node.specs.declared.ReferenceResult.the-variants as referred
-use Rattle.node.specs.Node.{unpacker, Rest}
+use Rattle.node.specs.Node.{unpacker, Rest, front}
 use Rattle.node.specs.declared.RestResult.{RestResult}
 use Rattle.node.specs.declared.RestResult.the-variants as rested
 use Rattle.node.specs.declared.Front.{Front}
@@ -63,3 +68,11 @@ FrontFits lim (fronted.Refused n p) = Unit {0}
 pub record Fronts (lim : Limits) (r : FrontResult) (t u : List ℕ) (o : Out (Front × State)) : Type 0 where
   pub answer : frontTold r t u ≡ o
   pub fits : FrontFits lim r
+
+-- a node up to its contents, from `at` on, over tables
+abbrev pub frontRun : Scope → (types file : List ℕ) → (parent depth : ℕ) → Bounds → Made → (at : ℕ) → State → Out (Front × State)
+frontRun scope types file parent depth s made at σ = exec put (front (contextOf scope types (length file)) parent depth s made) file at σ
+
+-- whatever the node table holds, which is not touched
+abbrev pub FrontTold : (State → Out (Front × State)) → Made → Limits → FrontResult → (items items′ : List ℕ) → Type 0
+FrontTold go made lim r items items′ = (t : List ℕ) → Fronts lim r t items′ (go (state t items made))

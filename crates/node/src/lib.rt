@@ -1,16 +1,14 @@
 // A node up to its contents: its three numbers, metadata, unpackers, reference.
 ghost use mathlib.Core.Path.{_≡_};
 ghost use mathlib.Core.Bool.{not, _||_};
-ghost use mathlib.Core.List.{List};
 ghost use lib.Dec.{eqb};
 ghost use Prim.Native.Nat.{ℕ, _≤_, _<_, _+_};
 ghost use lib.ListN.{length};
-ghost use Rattle.machine.specs.Machine.{run, exec};
+ghost use Rattle.machine.specs.Machine.{run};
 ghost use Rattle.cursor.specs.Told.{Readable, passTold};
-ghost use Rattle.metadata.specs.Tables.{put, state};
-ghost use Rattle.metadata.specs.Told.{Room, contextOf};
-ghost use Rattle.node.specs.Node.{headerLength, head, value, identifier, unpacker, entries, unpackers, resource, nodePlace, uriPlace, target, reference, rest, rowOf, front};
-ghost use Rattle.node.specs.Told.{headTold, CommonTold, unpackerTold, unpackersTold, referenceTold, restTold, Fronts};
+ghost use Rattle.metadata.specs.Told.{Room};
+ghost use Rattle.node.specs.Node.{headerLength, head, value, identifier, unpacker, entries, unpackers, resource, nodePlace, uriPlace, target, reference, rest, rowOf};
+ghost use Rattle.node.specs.Told.{headTold, CommonTold, unpackerTold, unpackersTold, referenceTold, restTold, frontRun, FrontTold};
 use cursor::Cursor;
 use cursor::FilePlace;
 use cursor::Node;
@@ -209,11 +207,11 @@ fn is_common(c: Cursor, file: &[u8], end: FilePlace) -> bool
     ensures { λ r. ⌜ CommonTold r (now (file .entry)) (end .0) (c .at .0) ⌝ }
 {
     let place = c.at;
-    if end.0 - place.0 < 3 {
-        return false;
-    }
     let kind = c.byte(file);
     if !is_numbered(kind.value) {
+        return false;
+    }
+    if end.0 - place.0 < 3 {
         return false;
     }
     let name = kind.next.byte(file);
@@ -486,7 +484,7 @@ fn row_of(
     }
 }
 
-// A node up to its contents. After a refusal nothing is said of the item table, which may hold some of the rows: `tree::read_file` clears it then.
+// A node up to its contents. After a refusal nothing is said of the item table, which may hold some of the rows: `file::read_file` clears it then.
 pub fn read_front(
     c: Cursor,
     file: &[u8],
@@ -499,7 +497,7 @@ pub fn read_front(
     made: Made,
 ) -> FrontResult
     requires { ⌜ Room scope (now file) (now types) (now items) (s .end .0) made ⌝ }
-    ensures { λ r. ⌜ ((t : List ℕ) → Fronts (scope .limits) r t (now (items .exit)) (exec put (front (contextOf scope (now (types .entry)) (length (now (file .entry)))) parent depth s made) (now (file .entry)) (c .at .0) (state t (now (items .entry)) made))) ⌝ }
+    ensures { λ r. ⌜ FrontTold (frontRun scope (now (types .entry)) (now (file .entry)) parent depth s made (c .at .0)) made (scope .limits) r (now (items .entry)) (now (items .exit)) ⌝ }
 {
     let start = c.at;
     match read_head(c, file, s) {

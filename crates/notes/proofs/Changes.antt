@@ -10,17 +10,18 @@ use lib.Seq.{take-append-seam}
 use borrow.Author.Tests.{le-leb, lt-leb}
 use Rattle.cursor.specs.declared.FilePlace.{FilePlace}
 use Rattle.cursor.specs.declared.Item.{Item}
-use Rattle.metadata.specs.Tables.{fullNodes, fullItems, itemWidth, limits}
+use Rattle.metadata.specs.Tables.{fullNodes, fullItems, limits}
+use Rattle.rows.specs.Rows.{itemWidth, itemFrom}
 use Rattle.room.specs.Counts.{Counts}
 use Rattle.room.proofs.Counting.{wrote-front, wrote-past}
-use Rattle.tree.specs.Rows.{itemFrom}
-use Rattle.tree.specs.Reading.{readOf, readFile}
-use Rattle.tree.specs.declared.Read.{Read}
-use Rattle.tree.specs.declared.Read.the-variants as read
-use Rattle.tree.specs.declared.Summary.{Summary}
-use Rattle.tree.proofs.Rows.{Standing}
-use Rattle.sheet.specs.Sheet.{tabbed, number, textOf}
-use Rattle.title.specs.Title.{isNoTitle}
+use Rattle.file.specs.Reading.{readOf, readFile}
+use Rattle.file.specs.declared.Read.{Read}
+use Rattle.file.specs.declared.Read.the-variants as read
+use Rattle.file.specs.declared.Summary.{Summary}
+use Rattle.file.proofs.Rows.{Standing}
+use Rattle.text.specs.Text.{tabbed, number}
+use Rattle.sheet.specs.Sheet.{textOf}
+use Rattle.title_text.specs.Title.{isNoTitle}
 use Rattle.lines.specs.Answer.{reads}
 use Rattle.lines.proofs.Reading.{refused, accepted, count-is, row-is}
 use Rattle.notes.specs.Safe.{safeText}

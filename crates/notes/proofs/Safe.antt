@@ -16,8 +16,8 @@ use Rattle.unicode.specs.declared.Character.{Character}
 use Rattle.unicode.specs.declared.Character.the-variants as character
 use Rattle.unicode.proofs.Eight.{lead-one, form8}
 use Rattle.unicode.proofs.Converting.{char-in}
-use Rattle.sheet.specs.Sheet.{plain, hexed, escaped, escapedPart}
-use Rattle.sheet.proofs.Escapes.{plain-low, plain-high, escaped-hex}
+use Rattle.text.specs.Text.{plain, hexed, escaped, escapedPart}
+use Rattle.text.proofs.Escapes.{plain-low, plain-high, escaped-hex}
 use Rattle.notes.specs.Safe.{isSafe, sizeIf, safeSize, Piece, piece, pieces, cutAt, safeText}
 
 -- ---- the ranges of characters

@@ -5,10 +5,11 @@ use mathlib.Core.List.{List, [], _∷_, _++_}
 use Prim.Native.Nat.{ℕ}
 use lib.Dec.{leb}
 use lib.ListN.{length}
-use Rattle.tree.specs.Rows.{itemAt}
-use Rattle.tree.specs.Reading.{Reading, rows, refusal}
-use Rattle.sheet.specs.Sheet.{tabbed, number, textOf}
-use Rattle.title.specs.Title.{isNoTitle}
+use Rattle.rows.specs.Rows.{itemAt}
+use Rattle.file.specs.Reading.{Reading, rows, refusal}
+use Rattle.text.specs.Text.{tabbed, number}
+use Rattle.sheet.specs.Sheet.{textOf}
+use Rattle.title_text.specs.Title.{isNoTitle}
 use Rattle.lines.specs.Answer.{reads}
 use Rattle.notes.specs.Safe.{safeText}
 

@@ -6,7 +6,7 @@ use Prim.Native.Nat.{ℕ, zero, suc, _-_}
 use lib.Dec.{leb}
 use lib.ListN.{take}
 use Rattle.unicode.specs.Unicode.{Char, char, none, first8}
-use Rattle.sheet.specs.Sheet.{hexed}
+use Rattle.text.specs.Text.{hexed}
 
 -- ---- which characters are safe, by their scalar values
 

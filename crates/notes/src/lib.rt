@@ -6,7 +6,7 @@ ghost use Rattle.room.specs.Counts.{Counts};
 ghost use Rattle.lines.specs.Answer.{reads};
 ghost use Rattle.notes.specs.Safe.{isSafe, safeSize, safeText};
 ghost use Rattle.notes.specs.Changes.{rowText, titleField, changesText};
-use tree::Read;
+use file::Read;
 use unicode::Character;
 
 // Whether a character does nothing but stand where it is: no control character, not U+2028 to U+202E, not U+2066 to U+2069.
@@ -75,7 +75,7 @@ pub fn put_safe(out: &mut [u8], to: usize, text: &[u8], most: usize) -> usize
             if most <= at {
                 return put_cut(out, next);
             }
-            next = sheet::put_escaped(out, next, text, at, 1);
+            next = text::put_escaped(out, next, text, at, 1);
             at = at + 1;
         } else {
             next = room::put_part(out, next, text, at, size);
@@ -91,16 +91,16 @@ fn put_row_text(out: &mut [u8], file: &[u8], row: usize) -> usize
 {
     let mut nodes = program::node_table();
     let mut items = program::item_table();
-    match tree::read_file(file, &mut nodes, &mut items) {
+    match file::read_file(file, &mut nodes, &mut items) {
         Read::Refused(n, p) => 0,
         Read::Is(s) => {
             if s.items <= row {
                 return 0;
             }
-            if retitle::is_no_title(&items, row) {
+            if title::is_no_title(&items, row) {
                 return 0;
             }
-            sheet::put_text(out, 0, file, tree::item_at(&items, row))
+            sheet::put_text(out, 0, file, rows::item_at(&items, row))
         }
     }
 }
@@ -133,7 +133,7 @@ pub fn put_changes(out: &mut [u8], old: &[u8], new: &[u8], row: usize) -> usize
     let b = put_title(out, a, old, row);
     let c = put_title(out, b, new, row);
     let d = room::put_bytes(out, c, b"\nlength");
-    let e = sheet::put_number(out, d, old.len() as u64);
-    let f = sheet::put_number(out, e, new.len() as u64);
+    let e = text::put_number(out, d, old.len() as u64);
+    let f = text::put_number(out, e, new.len() as u64);
     room::put_byte(out, f, 0x0a)
 }

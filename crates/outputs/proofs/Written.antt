@@ -5,8 +5,8 @@ use mathlib.Core.Bool.{Bool}
 use mathlib.Core.List.{List}
 use Prim.Native.Nat.{ℕ}
 use Rattle.metadata.specs.Tables.{fullNodes, fullItems, limits}
-use Rattle.tree.specs.Reading.{readFile}
-use Rattle.tree.specs.Asking.{ask}
+use Rattle.file.specs.Reading.{readFile}
+use Rattle.file.specs.Asking.{ask}
 use Rattle.sheet.specs.Sheet.{writeIn}
 use Rattle.lines.specs.Answer.{plainly, printed}
 use Rattle.outputs.specs.Printed.{sheetAnswer}

@@ -4,7 +4,7 @@ use mathlib.Core.Bool.{Bool}
 use mathlib.Core.List.{List, []}
 use Prim.Native.Nat.{ℕ}
 use Rattle.room.specs.Room.{fitting}
-use Rattle.tree.specs.Asking.{ask}
+use Rattle.file.specs.Asking.{ask}
 use Rattle.sheet.specs.Sheet.{writeIn}
 use Rattle.editions.specs.Sheets.{move}
 use Rattle.unicode.specs.Unicode.{toUtf8, toUtf16}

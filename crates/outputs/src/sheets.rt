@@ -3,7 +3,7 @@ ghost use mathlib.Core.Path.{_≡_};
 ghost use lib.ListN.{length};
 ghost use Rattle.room.specs.Room.{counted, kept};
 ghost use Rattle.room.specs.Told.{told};
-ghost use Rattle.tree.specs.Asking.{answered};
+ghost use Rattle.file.specs.Asking.{answered};
 ghost use Rattle.sheet.specs.Sheet.{writeIn};
 ghost use Rattle.lines.specs.Answer.{Gives};
 ghost use Rattle.outputs.specs.Printed.{sheetAnswer, movedAnswer};

@@ -12,13 +12,14 @@ use Rattle.cursor.specs.declared.FilePlace.{FilePlace}
 use Rattle.cursor.specs.declared.Node.{Node}
 use Rattle.cursor.specs.declared.Item.{Item}
 use Rattle.header.specs.Header.{Header}
-use Rattle.metadata.specs.Tables.{fullNodes, fullItems, nodeWidth, limits}
+use Rattle.metadata.specs.Tables.{fullNodes, fullItems, limits}
+use Rattle.rows.specs.Rows.{nodeWidth, nodeFrom, nodeAt}
 use Rattle.room.specs.Room.{Result, good, bad}
 use Rattle.room.specs.Decimal.{decimal}
-use Rattle.tree.specs.Rows.{nodeFrom, nodeAt}
-use Rattle.tree.specs.Reading.{Reading, rows, refusal, readOf, readFile, summary, nodeTable, itemTable}
-use Rattle.tree.specs.Asking.{ask, keptNodes}
-use Rattle.tree.proofs.Rows.{standing, ask-is, node-at}
+use Rattle.file.specs.Reading.{Reading, rows, refusal, readOf, readFile, summary, nodeTable, itemTable}
+use Rattle.file.specs.Asking.{ask, keptNodes}
+use Rattle.file.proofs.Rows.{standing, ask-is}
+use Rattle.rows.proofs.Rows.{node-at}
 use Rattle.resolve.specs.Resolve.{Resource, rowStarting, resourceOf, reached, chain, resolveRow, resolve}
 use Rattle.resolve.specs.Told as resolution
 use Rattle.resolve.specs.declared.Resolved.{Resolved}

@@ -8,9 +8,9 @@ use Rattle.cursor.specs.Vlq.{part}
 use Rattle.cursor.specs.declared.FilePlace.{FilePlace}
 use Rattle.metadata.specs.Tables.{fullNodes, fullItems, limits}
 use Rattle.room.specs.Room.{good, bad}
-use Rattle.tree.specs.Reading.{readFile}
-use Rattle.tree.specs.Asking.{ask}
-use Rattle.sheet.specs.Sheet.{number}
+use Rattle.file.specs.Reading.{readFile}
+use Rattle.file.specs.Asking.{ask}
+use Rattle.text.specs.Text.{number}
 use Rattle.resolve.specs.Resolve.{resolve}
 use Rattle.resolve.specs.Told as resolution
 use Rattle.resolve.specs.declared.Resolved.{Resolved}

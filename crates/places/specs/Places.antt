@@ -8,9 +8,9 @@ use Rattle.cursor.specs.Vlq.{part}
 use Rattle.cursor.specs.declared.Node.{Node}
 use Rattle.room.specs.Room.{Result, good, bad}
 use Rattle.room.specs.Decimal.{decimal}
-use Rattle.tree.specs.Rows.{nodeAt}
-use Rattle.tree.specs.Asking.{Asks, ask}
-use Rattle.sheet.specs.Sheet.{number}
+use Rattle.rows.specs.Rows.{nodeAt}
+use Rattle.file.specs.Asking.{Asks, ask}
+use Rattle.text.specs.Text.{number}
 use Rattle.resolve.specs.Resolve.{Resource, resolve, resolveRow}
 use Rattle.lines.specs.Answer.{Answer, plainly, printed, reads}
 

@@ -13,10 +13,10 @@ fn put_place(out: &mut [u8], place: usize, size: usize, row: usize, hops: u64) -
     ensures { λ r. ⌜ Counts (now (out .entry)) (now (out .exit)) 0 (placeLine (record { place = place; size = size; row = row; hops = hops })) r ⌝ }
 {
     let a = room::put_byte(out, 0, b'P');
-    let b = sheet::put_number(out, a, place as u64);
-    let c = sheet::put_number(out, b, size as u64);
-    let d = sheet::put_number(out, c, row as u64);
-    let e = sheet::put_number(out, d, hops);
+    let b = text::put_number(out, a, place as u64);
+    let c = text::put_number(out, b, size as u64);
+    let d = text::put_number(out, c, row as u64);
+    let e = text::put_number(out, d, hops);
     room::put_byte(out, e, 0x0a)
 }
 
@@ -77,7 +77,7 @@ pub fn make_origin(file: &[u8], row: usize, text: &mut [u8]) -> Made
     match resolve::resolve(file, &mut nodes, &mut items, row) {
         Resolved::Refused(n, p) => refuse(text, b"", n, p),
         Resolved::At(place, size, last, hops) => {
-            let reference = tree::node_at(&nodes, last).reference;
+            let reference = rows::node_at(&nodes, last).reference;
             let end = put_origin(text, place.0, size, last, hops, reference);
             conclude(text, b"", end, 0)
         }

@@ -45,7 +45,7 @@ fn name_buffer() -> [u8; 12288]
 // Says on standard error what failed and why, after the program's name. The name is written as names are on a sheet.
 pub fn fail(program: &[u8], name: &[u8]) {
     let mut text = name_buffer();
-    let n = sheet::put_escaped(&mut text, 0, name, 0, name.len());
+    let n = text::put_escaped(&mut text, 0, name, 0, name.len());
     io::write_all(STDERR_FILENO, program);
     io::write_all(STDERR_FILENO, b": ");
     if n > 12288 {

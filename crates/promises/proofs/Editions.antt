@@ -13,8 +13,8 @@ use Rattle.cursor.specs.declared.Node.{Node}
 use Rattle.cursor.specs.declared.Item.{Item}
 use Rattle.header.specs.Header.{Header}
 use Rattle.metadata.specs.Tables.{limits}
-use Rattle.tree.specs.Reading.{Reading, rows, refusal}
-use Rattle.tree.specs.Asking.{Result, good, bad, ask}
+use Rattle.file.specs.Reading.{Reading, rows, refusal}
+use Rattle.file.specs.Asking.{Result, good, bad, ask}
 use Rattle.room.specs.Room as room
 use Rattle.room.proofs.Listed.{fitted}
 use Rattle.sheet.specs.Sheet.{linesIn, writeIn, refusals}

@@ -22,19 +22,20 @@ use Rattle.header.specs.Header.{Header}
 use Rattle.metadata.specs.Tables.{fullNodes, fullItems, limits}
 use Rattle.metadata.specs.declared.Limits.{Limits}
 use Rattle.metadata.proofs.Limited.{Less}
-use Rattle.tree.specs.Reading.{Reading, rows, refusal, readFile, answerOf, nodeTable, itemTable}
-use Rattle.tree.specs.Rows.{itemAt}
-use Rattle.tree.specs.Told as tree
-use Rattle.tree.specs.Asking.{Result, good, bad, ask, keptNodes, keptItems, writtenNodes, writtenItems, Asks, counts}
-use Rattle.tree.specs.Hidden.{isHidden, mayDiffer, DifferInPrivate}
-use Rattle.tree.proofs.Demand.{Alike, RowAlike, privateData, private-alike, rows-alike}
-use Rattle.tree.proofs.Limited.{no-less, to-wider, to-narrower}
-use Rattle.tree.proofs.First.{steps-made, to-either}
-use Rattle.tree.proofs.Listed.{refusal-listed}
-use Rattle.tree.proofs.Stays.{refusal-inside}
-use Rattle.tree.proofs.Rows.{accepted}
-use Rattle.tree.proofs.Parents.{all-rooted}
-use Rattle.tree.proofs.Apart.{all-apart}
+use Rattle.file.specs.Reading.{Reading, rows, refusal, readFile, answerOf, nodeTable, itemTable}
+use Rattle.rows.specs.Rows.{itemAt}
+use Rattle.file.specs.Told as tree
+use Rattle.file.specs.Asking.{Result, good, bad, ask, keptNodes, keptItems, writtenNodes, writtenItems, Asks, counts}
+use Rattle.file.specs.Hidden.{isHidden}
+use Rattle.file_laws.specs.Private.{mayDiffer, DifferInPrivate}
+use Rattle.file_laws.proofs.Demand.{Alike, RowAlike, privateData, private-alike, rows-alike}
+use Rattle.file_laws.proofs.Limited.{no-less, to-wider, to-narrower}
+use Rattle.file_laws.proofs.First.{steps-made, to-either}
+use Rattle.file_laws.proofs.Listed.{refusal-listed}
+use Rattle.file_laws.proofs.Stays.{refusal-inside}
+use Rattle.file.proofs.Rows.{accepted}
+use Rattle.file.proofs.Parents.{all-rooted}
+use Rattle.file_laws.proofs.Apart.{all-apart}
 use Rattle.find.specs.Find as find
 use Rattle.find.proofs.Listed.{find-listed, find-own-listed}
 use Rattle.find.proofs.Depends.{find-same, find-own-same}
@@ -63,10 +64,10 @@ use Rattle.sheet.specs.Sheet as sheet
 use Rattle.sheet.proofs.Listed.{sheet-listed, sheet2-listed}
 use Rattle.sheet.proofs.Depends.{Shown, sheet-same, sheet2-same}
 use Rattle.editions.proofs.Listed.{move-listed}
-use Rattle.title.specs.Title as title
-use Rattle.title.proofs.Again.{corrected, correct-says, correct-least, correct-only, correct-again}
-use Rattle.title.proofs.Listed.{title-listed}
-use Rattle.title.proofs.Demand as titles
+use Rattle.title_text.specs.Title as title
+use Rattle.title_text.proofs.Again.{corrected, correct-says, correct-least, correct-only, correct-again}
+use Rattle.title_text.proofs.Listed.{title-listed}
+use Rattle.title_text.proofs.Demand as titles
 use Rattle.mend.specs.Mend as mend
 use Rattle.mend.specs.Mend.{mended, changes, repair}
 use Rattle.mend.specs.Told.{sizeWords, sizesOf, copyIn, linesIn, asked}

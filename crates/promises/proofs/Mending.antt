@@ -9,7 +9,7 @@ use native.Mathlib.Omega.{arith}
 use lib.ListN.{length}
 use Rattle.metadata.specs.Tables.{limits}
 use Rattle.metadata.specs.declared.Limits.{Limits}
-use Rattle.tree.specs.Reading.{rows, readFile}
+use Rattle.file.specs.Reading.{rows, readFile}
 use Rattle.mend.specs.Fields.{fields}
 use Rattle.mend.specs.Mend as mend
 use Rattle.mend.specs.Mend.{setTo, mended, changes, repair, accepted}

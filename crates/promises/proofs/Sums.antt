@@ -12,8 +12,8 @@ use borrow.Author.Tests.{ne-eqb, le-leb, lt-leb}
 use Rattle.cursor.specs.Refusals.{ofReader, isAllowed}
 use Rattle.metadata.specs.Tables.{limits}
 use Rattle.room.specs.Room.{Among}
-use Rattle.tree.specs.Asking.{Result, good, bad, ask}
-use Rattle.tree.proofs.Rows.{accepted}
+use Rattle.file.specs.Asking.{Result, good, bad, ask}
+use Rattle.file.proofs.Rows.{accepted}
 use Rattle.account.specs.Account.{kindsOf}
 use Rattle.account.specs.Totals.{mostFiles, zeros, added, refusedOne, allowed, byAnswer}
 use Rattle.account.specs.Told.{kindWords, totalWords}

@@ -11,11 +11,11 @@ use Rattle.cursor.specs.Refusals.{tooManyFiles}
 use Rattle.cursor.specs.declared.Node.{Node}
 use Rattle.cursor.specs.declared.Item.{Item}
 use Rattle.header.specs.Header.{Header}
-use Rattle.tree.specs.Reading.{rows, answerOf}
-use Rattle.tree.specs.Told as tree
-use Rattle.tree.specs.declared.Answer.{Answer}
-use Rattle.tree.specs.Asking.{Asks, Result, reads, nodesRead, itemsRead, answered, nodesLeft, itemsLeft, nodesWritten, itemsWritten}
-use Rattle.tree.specs.Hidden.{DifferInPrivate}
+use Rattle.file.specs.Reading.{rows, answerOf}
+use Rattle.file.specs.Told as tree
+use Rattle.file.specs.declared.Answer.{Answer}
+use Rattle.file.specs.Asking.{Asks, Result, reads, nodesRead, itemsRead, answered, nodesLeft, itemsLeft, nodesWritten, itemsWritten}
+use Rattle.file_laws.specs.Private.{DifferInPrivate}
 use Rattle.find.specs.Find.{Wanted, find, findOwn}
 use Rattle.find.specs.Told as found
 use Rattle.find.specs.declared.Found.{Found}
@@ -36,7 +36,7 @@ use Rattle.account.specs.declared.Totals.{Totals}
 use Rattle.account.specs.declared.Accounted.{Accounted}
 use Rattle.sheet.specs.Sheet.{write, write2}
 use Rattle.editions.specs.Sheets.{move}
-use Rattle.title.specs.Title as title
+use Rattle.title_text.specs.Title as title
 use Rattle.mend.specs.Told as mended
 use Rattle.mend.specs.Told.{sizeWords, sizesOf, copyIn, linesIn, asked}
 use Rattle.mend.specs.declared.Mending.{Mending}
@@ -68,7 +68,7 @@ pub record Fills (bytes : Result (List ℕ)) (buffer : List ℕ) (says : Result 
 
 -- a call that was made: its question, the tables and buffers lent, as they were, the file, and what it left
 pub data Called : Question → (lent : List (List ℕ)) → (file : List ℕ) → Outcome → Type 0 where
-  -- tree::read_tree
+  -- file::read_tree
   read-tree : {nodes items f t u : List ℕ} (r : Answer)
       → r ≡ answerOf (reads nodes items f) → t ≡ nodesRead nodes items f → u ≡ itemsRead nodes items f
       → Called readTree (nodes ∷ items ∷ []) f (left treeValues (tree.told r) (t ∷ u ∷ []))
@@ -112,7 +112,7 @@ pub data Called : Question → (lent : List (List ℕ)) → (file : List ℕ) �
       → Fills (answered nodes items f (write2 (length sheet))) sheet (written.told r) v
       → t ≡ nodesLeft nodes items f (write2 (length sheet)) → u ≡ itemsLeft nodes items f (write2 (length sheet))
       → Called writeSheet2 (nodes ∷ items ∷ sheet ∷ []) f (left oneValue (written.told r) (t ∷ u ∷ v ∷ []))
-  -- retitle::correct_title
+  -- title::correct_title
   correct-title : {nodes items out f t u v : List ℕ} (item : ℕ) (text : List ℕ) (r : Written)
       → Fills (answered nodes items f (title.correctTitle item text (length out))) out (written.told r) v
       → t ≡ nodesWritten nodes items (answered nodes items f (title.correctTitle item text (length out)))

@@ -13,12 +13,13 @@ use Rattle.metadata.specs.Metadata.{field, contents, itemFrame, universal, decl
 use Rattle.node.specs.Node.{headerLength, head, value, identifier, unpacker, entries, unpackers, resource, nodePlace, uriPlace, target, reference, rest, front}
 use Rattle.tree.specs.Tree as tree
 use Rattle.tree.specs.Tree.{folder, node}
-use Rattle.tree.specs.Reading.{logged, startsAt, offsetAt, isMissing, outside, partEnd, firstTaken, detachedAt, followRow, follow, reading, readTree, readFile, nodeTable, itemTable}
-use Rattle.tree.specs.Asking.{ask}
-use Rattle.tree.specs.Hidden.{isHidden}
-use Rattle.title.specs.Description as described
-use Rattle.title.specs.Text as text
-use Rattle.title.specs.Title as title
+use Rattle.file.specs.Reading.{logged, detachedAt, followRow, follow, reading, readTree, readFile, nodeTable, itemTable}
+use Rattle.targets.specs.Targets.{startsAt, offsetAt, isMissing, outside, partEnd, firstTaken}
+use Rattle.file.specs.Asking.{ask}
+use Rattle.file.specs.Hidden.{isHidden}
+use Rattle.title_text.specs.Description as described
+use Rattle.title_text.specs.Text as text
+use Rattle.title_text.specs.Title as title
 use Rattle.room.specs.Room as room
 use Rattle.promises.specs.Promises.{correctTitle, reads, leaves, outcome}
 use Rattle.promises.specs.Worked.{worked}

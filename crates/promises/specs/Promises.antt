@@ -15,13 +15,13 @@ use Rattle.cursor.specs.Vlq.{part}
 use Rattle.cursor.specs.declared.Node.{Node}
 use Rattle.cursor.specs.declared.Item.{Item}
 use Rattle.header.specs.Header.{Header}
-use Rattle.metadata.specs.Tables.{limits, nodeWidth, itemWidth, mostNodes, mostItems, itemWords}
-use Rattle.tree.specs.Reading.{Reading, rows, refusal, readFile, nodesOf, itemsOf, nodeTable, itemTable}
-use Rattle.tree.specs.Steps.{steps}
-use Rattle.tree.specs.Asking.{Asks, Result, good, bad, ask, Counts, counts}
-use Rattle.tree.specs.Hidden.{DifferInPrivate}
-use Rattle.tree.specs.Rows.{nodeAt}
-use Rattle.tree.specs.Own.{Numbered}
+use Rattle.metadata.specs.Tables.{limits, mostNodes, mostItems}
+use Rattle.rows.specs.Rows.{nodeWidth, itemWidth, itemWords, nodesOf, itemsOf, nodeAt}
+use Rattle.file.specs.Reading.{Reading, rows, refusal, readFile, nodeTable, itemTable}
+use Rattle.file.specs.Steps.{steps}
+use Rattle.file.specs.Asking.{Asks, Result, good, bad, ask, Counts, counts}
+use Rattle.file_laws.specs.Private.{DifferInPrivate}
+use Rattle.file.specs.Own.{Numbered}
 use Rattle.find.specs.Find as find
 use Rattle.resolve.specs.Resolve as resolve
 use Rattle.account.specs.Account.{kindAt, IsOf, placesOf, eventsOf, kindsOf, sumOver}
@@ -36,9 +36,9 @@ use Rattle.mobile.specs.Mobile as mobile
 use Rattle.sheet.specs.Sheet as sheet
 use Rattle.editions.specs.Sheets as mover
 use Rattle.editions.specs.Sheets.{WellFormed, OtherEdition}
-use Rattle.title.specs.Description.{described, retitled}
-use Rattle.title.specs.Title as title
-use Rattle.title.specs.Title.{Bytes, Says, NowhereLonger}
+use Rattle.title_text.specs.Description.{described, retitled}
+use Rattle.title_text.specs.Title as title
+use Rattle.title_text.specs.Title.{Bytes, Says, NowhereLonger}
 use Rattle.mend.specs.Fields.{Fields, fields, Hold, Elsewhere}
 use Rattle.mend.specs.Mend as mend
 use Rattle.mend.specs.Mend.{withField, setTo, lastOf, mended, changes}

@@ -14,11 +14,12 @@ use Rattle.cursor.specs.declared.Node.{Node}
 use Rattle.cursor.specs.declared.Item.{Item}
 use Rattle.header.specs.Header.{Header}
 use Rattle.metadata.specs.declared.Limits.{Limits}
-use Rattle.tree.specs.Reading.{Reading, rows, refusal, startsAt, readFile}
-use Rattle.tree.specs.Rows.{nodeAt, NodeIn}
-use Rattle.tree.specs.Asking.{Result, good, bad, ask}
-use Rattle.tree.proofs.Rows.{accepted}
-use Rattle.tree.proofs.Links.{led}
+use Rattle.file.specs.Reading.{Reading, rows, refusal, readFile}
+use Rattle.targets.specs.Targets.{startsAt}
+use Rattle.rows.specs.Rows.{nodeAt, NodeIn}
+use Rattle.file.specs.Asking.{Result, good, bad, ask}
+use Rattle.file.proofs.Rows.{accepted}
+use Rattle.file_laws.proofs.Links.{led}
 use Rattle.resolve.specs.Resolve.{Resource, rowStarting, resourceOf, reached, chain, resolveRow, resolve}
 use Rattle.resolve.specs.Told.{Linked}
 use Rattle.resolve.proofs.Chain.{reached-folder, reached-one, reached-two, reached-three, reached-uri}

@@ -7,10 +7,9 @@ use native.Mathlib.Omega.{arith}
 use lib.ListN.{length}
 use borrow.Author.Tests.{eq-eqb, ne-eqb, lt-ltb, le-ltb}
 use Rattle.cursor.specs.declared.Node.{Node}
-use Rattle.metadata.specs.Tables.{nodeWidth}
-use Rattle.tree.specs.Rows.{nodeFrom, nodesIn, nodeAt}
-use Rattle.tree.specs.Asking.{Result, good, bad}
-use Rattle.tree.proofs.Rows.{node-at, nodes-in-length}
+use Rattle.rows.specs.Rows.{nodeWidth, nodeFrom, nodesIn, nodeAt}
+use Rattle.file.specs.Asking.{Result, good, bad}
+use Rattle.rows.proofs.Rows.{node-at, nodes-in-length}
 use Rattle.resolve.specs.Resolve.{Resource, rowStarting, resourceOf, reached, chain, resolveRow}
 use Rattle.resolve.specs.Told.{Linked}
 

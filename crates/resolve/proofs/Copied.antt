@@ -12,8 +12,8 @@ use Rattle.cursor.specs.declared.FilePlace.{FilePlace}
 use Rattle.room.specs.Room.{padded}
 use Rattle.room.proofs.Sets.{sets-front, padded-behind}
 use Rattle.metadata.specs.Tables.{limits}
-use Rattle.tree.specs.Reading.{Reading, rows, refusal, readFile}
-use Rattle.tree.specs.Asking.{Result, good, bad, ask, keptNodes, keptItems}
+use Rattle.file.specs.Reading.{Reading, rows, refusal, readFile}
+use Rattle.file.specs.Asking.{Result, good, bad, ask, keptNodes, keptItems}
 use Rattle.resolve.specs.Resolve.{Resource, resolve, part, fitting, copyInto}
 use Rattle.resolve.specs.Told.{told}
 use Rattle.resolve.specs.declared.Resolved.{Resolved}

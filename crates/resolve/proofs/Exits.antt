@@ -6,16 +6,17 @@ use Prim.Native.Nat.{ℕ, _+_, _*_, _-_, _≤_}
 use native.Mathlib.Omega.{arith}
 use lib.ListN.{length, replicate, take, drop}
 use Rattle.cursor.specs.declared.FilePlace.{FilePlace}
-use Rattle.metadata.specs.Tables.{nodeWidth, limits}
-use Rattle.tree.specs.Reading.{readFile, readOf, nodeTable, itemTable}
-use Rattle.tree.specs.Rows.{nodesIn, treeRows, Rising}
-use Rattle.tree.specs.Asking.{Result, good, bad, ask}
-use Rattle.tree.specs.declared.Summary.{Summary}
-use Rattle.tree.specs.declared.Read.{Read}
-use Rattle.tree.specs.declared.Read.the-variants as read
-use Rattle.tree.proofs.Rows.{in-front, Standing, standing}
-use Rattle.tree.proofs.Exits.{Says, says-unread, says-refused, says-answer}
-use Rattle.tree.proofs.TreeRows.{tree-few, rows-rise}
+use Rattle.rows.specs.Rows.{nodeWidth, nodesIn, treeRows, Rising}
+use Rattle.metadata.specs.Tables.{limits}
+use Rattle.file.specs.Reading.{readFile, readOf, nodeTable, itemTable}
+use Rattle.file.specs.Asking.{Result, good, bad, ask}
+use Rattle.file.specs.declared.Summary.{Summary}
+use Rattle.file.specs.declared.Read.{Read}
+use Rattle.file.specs.declared.Read.the-variants as read
+use Rattle.rows.proofs.Rows.{in-front}
+use Rattle.file.proofs.Rows.{Standing, standing}
+use Rattle.file.proofs.Exits.{Says, says-unread, says-refused, says-answer}
+use Rattle.file.proofs.TreeRows.{tree-few, rows-rise}
 use Rattle.resolve.specs.Resolve.{Resource, resolveRow, resolve, part}
 use Rattle.resolve.specs.Told.{told, Linked}
 use Rattle.resolve.specs.declared.Resolved.{Resolved}

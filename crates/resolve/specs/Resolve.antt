@@ -7,9 +7,10 @@ use lib.Dec.{ltb, leb, eqb}
 use lib.ListN.{length, take, drop}
 use Rattle.cursor.specs.Refusals.{noSuchRow, endsAtFolder, endsAtUri, tooManyHops, noRoom}
 use Rattle.cursor.specs.declared.Node.{Node}
-use Rattle.tree.specs.Rows.{nodeAt}
-unfoldable pub use Rattle.tree.specs.Rows.{rowStarting}
-use Rattle.tree.specs.Asking.{Asks, Result, good, bad}
+use Rattle.rows.specs.Rows.{nodeAt}
+unfoldable pub use Rattle.rows.specs.Rows.{rowStarting}
+use Rattle.room.specs.Room.{padded}
+use Rattle.file.specs.Asking.{Asks, Result, good, bad, answered}
 
 -- place and length of the resource, the row whose unpackers apply, the number of references followed
 pub record Resource : Type 0 where
@@ -61,6 +62,10 @@ fitting room (bad n p) = bad n p
 
 unfoldable pub copyInto : (row room : ℕ) → Asks Resource
 copyInto row room f h ns is = fitting room (resolve row f h ns is)
+
+-- what the call leaves in the buffer: the resource's bytes, and zeros behind them
+abbrev pub copyLeft : (out nodes items file : List ℕ) → (row : ℕ) → List ℕ
+copyLeft out nodes items file row = padded (length out) (part file (answered nodes items file (copyInto row (length out))))
 
 -- their own refusals, after the reader's
 abbrev pub refusals : List ℕ

@@ -5,8 +5,8 @@ use mathlib.Core.List.{List}
 use Prim.Native.Nat.{ℕ, _<_}
 use lib.ListN.{length}
 use Rattle.cursor.specs.declared.Node.{Node}
-use Rattle.tree.specs.Rows.{nodeAt}
-use Rattle.tree.specs.Asking.{Result, good, bad, answered, nodesLeft, itemsLeft}
+use Rattle.rows.specs.Rows.{nodeAt}
+use Rattle.file.specs.Asking.{Result, good, bad, answered, nodesLeft, itemsLeft}
 use Rattle.resolve.specs.Resolve.{Resource, rowStarting, resolve, part}
 use Rattle.resolve.specs.declared.Resolved.{Resolved}
 use Rattle.resolve.specs.declared.Resolved.the-variants as resolved

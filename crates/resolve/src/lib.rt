@@ -2,14 +2,12 @@
 ghost use mathlib.Core.Path.{_≡_};
 ghost use Prim.Native.Nat.{_≤_, _<_, _*_, _+_};
 ghost use lib.ListN.{length};
-ghost use Rattle.metadata.specs.Tables.{nodeWidth};
-ghost use Rattle.tree.specs.Rows.{nodesIn, Rising};
-ghost use Rattle.tree.specs.Asking.{answered, nodesLeft, itemsLeft};
-ghost use Rattle.room.specs.Room.{padded};
-ghost use Rattle.resolve.specs.Resolve.{chain, resolveRow, resolve, part, copyInto};
+ghost use Rattle.rows.specs.Rows.{nodeWidth, nodesIn, Rising};
+ghost use Rattle.file.specs.Asking.{answered, nodesLeft, itemsLeft};
+ghost use Rattle.resolve.specs.Resolve.{chain, resolveRow, resolve, copyInto, copyLeft};
 ghost use Rattle.resolve.specs.Told.{told, Given, Linked};
 use cursor::FilePlace;
-use tree::Read;
+use file::Read;
 
 // The references that are followed at most.
 pub const MOST_HOPS: u64 = 4;
@@ -25,7 +23,7 @@ fn follow(nodes: &[u64], tree: usize, count: usize, left: u64, k: usize, hops: u
     requires { ⌜ (count * nodeWidth ≤ length (now nodes)) × (k < count) × (hops + left ≤ 4) × Linked (nodesIn count (now nodes)) × (tree ≤ count) × Rising (nodesIn tree (now nodes)) ⌝ }
     ensures { λ r. ⌜ told r ≡ chain left (nodesIn count (now (nodes .entry))) k hops ⌝ }
 {
-    let row = tree::node_at(nodes, k);
+    let row = rows::node_at(nodes, k);
     if row.contained != 0 {
         return Resolved::Refused(cursor::ENDS_AT_FOLDER, 0);
     }
@@ -45,7 +43,7 @@ fn follow(nodes: &[u64], tree: usize, count: usize, left: u64, k: usize, hops: u
     if left == 0 {
         return Resolved::Refused(cursor::TOO_MANY_HOPS, 0);
     }
-    let next = tree::row_starting(nodes, tree, count, place);
+    let next = rows::row_starting(nodes, tree, count, place);
     follow(nodes, tree, count, left - 1, next, hops + 1)
 }
 
@@ -66,11 +64,11 @@ pub fn resolve(file: &[u8], nodes: &mut [u64], items: &mut [u64], row: usize) ->
     ensures nodes { λ _. ⌜ now (nodes .exit) ≡ nodesLeft (now (nodes .entry)) (now (items .entry)) (now (file .entry)) (resolve row) ⌝ }
     ensures items { λ _. ⌜ now (items .exit) ≡ itemsLeft (now (nodes .entry)) (now (items .entry)) (now (file .entry)) (resolve row) ⌝ }
 {
-    match tree::read_file(file, nodes, items) {
+    match file::read_file(file, nodes, items) {
         Read::Refused(n, p) => Resolved::Refused(n, p.0),
         Read::Is(s) => match resolve_row(nodes, s.tree, s.nodes, row) {
             Resolved::Refused(n, p) => {
-                tree::clear_all(nodes, items);
+                rows::clear_all(nodes, items);
                 Resolved::Refused(n, p)
             }
             Resolved::At(place, size, last, hops) => Resolved::At(place, size, last, hops),
@@ -102,7 +100,7 @@ pub fn copy_resource(
     ensures answer { λ r. ⌜ told r ≡ answered (now (nodes .entry)) (now (items .entry)) (now (file .entry)) (copyInto row (length (now (out .entry)))) ⌝ }
     ensures nodes { λ _. ⌜ now (nodes .exit) ≡ nodesLeft (now (nodes .entry)) (now (items .entry)) (now (file .entry)) (copyInto row (length (now (out .entry)))) ⌝ }
     ensures items { λ _. ⌜ now (items .exit) ≡ itemsLeft (now (nodes .entry)) (now (items .entry)) (now (file .entry)) (copyInto row (length (now (out .entry)))) ⌝ }
-    ensures out { λ _. ⌜ now (out .exit) ≡ padded (length (now (out .entry))) (part (now (file .entry)) (answered (now (nodes .entry)) (now (items .entry)) (now (file .entry)) (copyInto row (length (now (out .entry)))))) ⌝ }
+    ensures out { λ _. ⌜ now (out .exit) ≡ copyLeft (now (out .entry)) (now (nodes .entry)) (now (items .entry)) (now (file .entry)) row ⌝ }
 {
     match resolve(file, nodes, items, row) {
         Resolved::Refused(n, p) => {
@@ -116,7 +114,7 @@ pub fn copy_resource(
                 room::clear_bytes_from(out, size);
                 return Resolved::At(place, size, last, hops);
             }
-            tree::clear_all(nodes, items);
+            rows::clear_all(nodes, items);
             room::clear_bytes(out);
             Resolved::Refused(cursor::NO_ROOM, 0)
         }

@@ -19,11 +19,12 @@ use Rattle.metadata.specs.Tables.{fullNodes, fullItems, limits}
 use Rattle.metadata.specs.declared.Limits.{Limits}
 use Rattle.room.specs.Room.{Result, good, bad}
 use Rattle.room.specs.Decimal.{decimal}
-use Rattle.tree.specs.Reading.{rows, readFile}
-use Rattle.tree.specs.Rows.{itemAt}
-use Rattle.tree.specs.Asking.{Asks, counts, ask}
-use Rattle.tree.specs.Own.{Numbered}
-use Rattle.tree.specs.Hidden.{isHidden, DifferInPrivate}
+use Rattle.file.specs.Reading.{rows, readFile}
+use Rattle.rows.specs.Rows.{itemAt}
+use Rattle.file.specs.Asking.{Asks, counts, ask}
+use Rattle.file.specs.Own.{Numbered}
+use Rattle.file.specs.Hidden.{isHidden}
+use Rattle.file_laws.specs.Private.{DifferInPrivate}
 use Rattle.find.specs.Find.{Wanted}
 use Rattle.find.specs.Told.{question, wantedOf}
 use Rattle.resolve.specs.Resolve.{resolve}
@@ -41,9 +42,10 @@ use Rattle.mend.specs.Mend.{mended, changes, repair, fitting, mend}
 use Rattle.mend.specs.Told.{linesIn}
 use Rattle.mend.proofs.Theorem.{mended-length, still}
 use Rattle.mend.proofs.Alike.{mended-alike}
-use Rattle.sheet.specs.Sheet.{tabbed, textOf, visibleLine, write, write2}
+use Rattle.text.specs.Text.{tabbed}
+use Rattle.sheet.specs.Sheet.{textOf, visibleLine, write, write2}
 use Rattle.sheet.proofs.Depends.{Shown, text-same, line-same, visible-same}
-use Rattle.title.specs.Title.{elsewhere, isNoTitle}
+use Rattle.title_text.specs.Title.{elsewhere, isNoTitle}
 use Rattle.promises.specs.Promises as page
 use Rattle.promises.specs.Promises.{full}
 use Rattle.promises.proofs.Kept.{reads-same, asks-alike, find-alike, find-own-alike, fields-alike, mobile-alike, sheet-alike, sheet2-alike, shown-alike}

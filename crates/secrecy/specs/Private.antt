@@ -9,8 +9,9 @@ use Rattle.cursor.specs.declared.Node.{Node}
 use Rattle.cursor.specs.declared.Item.{Item}
 use Rattle.header.specs.Header.{Header}
 use Rattle.room.specs.Room.{good}
-use Rattle.tree.specs.Reading.{rows}
-use Rattle.tree.specs.Hidden.{isHidden, DifferInPrivate}
+use Rattle.file.specs.Reading.{rows}
+use Rattle.file.specs.Hidden.{isHidden}
+use Rattle.file_laws.specs.Private.{DifferInPrivate}
 use Rattle.account.specs.declared.Totals.{Totals}
 use Rattle.lines.specs.Answer.{nothing, reads}
 use Rattle.tables.specs.Rows.{itemRow, foundLines}

@@ -10,15 +10,15 @@ use Rattle.cursor.specs.declared.FilePlace.{FilePlace}
 use Rattle.cursor.specs.declared.Node.{Node}
 use Rattle.cursor.specs.declared.Item.{Item}
 use Rattle.header.specs.Header.{Header}
-use Rattle.tree.specs.Reading.{Reading, readOf, nodeTable, itemTable}
-use Rattle.tree.specs.Rows.{nodesIn, itemsIn}
+use Rattle.file.specs.Reading.{Reading, readOf, nodeTable, itemTable}
+use Rattle.rows.specs.Rows.{nodesIn, itemsIn}
 use Rattle.room.specs.Room.{Result, good, bad}
-use Rattle.tree.specs.Asking.{ask, keptNodes, keptItems}
-use Rattle.tree.specs.declared.Summary.{Summary}
-use Rattle.tree.specs.declared.Read.{Read}
-use Rattle.tree.specs.declared.Read.the-variants as read
-use Rattle.tree.proofs.Rows.{Standing}
-use Rattle.tree.proofs.Exits as exits
+use Rattle.file.specs.Asking.{ask, keptNodes, keptItems}
+use Rattle.file.specs.declared.Summary.{Summary}
+use Rattle.file.specs.declared.Read.{Read}
+use Rattle.file.specs.declared.Read.the-variants as read
+use Rattle.file.proofs.Rows.{Standing}
+use Rattle.file.proofs.Exits as exits
 use Rattle.sheet.specs.Sheet.{sheetOf, linesIn, fitting, write, write2, writeIn, counted, kept}
 use Rattle.room.specs.Told.{told}
 use Rattle.room.specs.Counts.{tooMany}

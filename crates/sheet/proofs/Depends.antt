@@ -13,10 +13,11 @@ use Rattle.cursor.specs.declared.Item.{Item}
 use Rattle.machine.proofs.Agree.{Agree}
 use Rattle.cursor.proofs.Agree.{part-same}
 use Rattle.header.specs.Header.{Header}
-use Rattle.tree.specs.Rows.{itemAt}
-use Rattle.tree.specs.Hidden.{isHidden}
+use Rattle.rows.specs.Rows.{itemAt}
+use Rattle.file.specs.Hidden.{isHidden}
 use Rattle.unicode.specs.Unicode.{bytesAll}
-use Rattle.sheet.specs.Sheet.{escaped, escapedPart, unicodeText, tabbed, number, label, textOf, itemLine, visibleLine, itemLines, linesOf, sheetOf, groupLines, lines2Of}
+use Rattle.text.specs.Text.{escaped, escapedPart, unicodeText, tabbed, number}
+use Rattle.sheet.specs.Sheet.{label, textOf, itemLine, visibleLine, itemLines, linesOf, sheetOf, groupLines, lines2Of}
 
 -- the files agree on a row's data where its format is even, and on its custom name
 abbrev pub Shown : List ℕ → List ℕ → Item → Type 0

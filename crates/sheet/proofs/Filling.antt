@@ -68,5 +68,13 @@ filling-on {x = x} {rest′ = rest′} e g p = record {
 pub filling-end : {o o′ : List ℕ} {s r : ℕ} {whole rest : List ℕ} → rest ≡ [] → Filling o o′ s r whole rest → Fills o o′ s whole r
 filling-end e g = fills-as (sym (append-nil (g .done)) ∙ ap (λ v. g .done ++ v) (sym e) ∙ g .left) (g .puts)
 
+-- it stops where it is past the room
+pub filling-past : {o o′ : List ℕ} {s r : ℕ} {whole rest : List ℕ} → Filling o o′ s r whole rest → length o < r → Fills o o′ s whole r
+filling-past {rest = rest} g l =
+    let x = g .puts .past l in
+    let y = ap length (g .left) in
+    let z = length-append (g .done) rest in
+    record { fits = λ n. absurd (omega arith); past = λ n. omega arith; most = g .puts .most; long = g .puts .long }
+
 pub filling-length : {o o′ : List ℕ} {s r : ℕ} {whole rest : List ℕ} → Filling o o′ s r whole rest → length o′ ≡ length o
 filling-length g = g .puts .long

@@ -3,28 +3,19 @@
 use mathlib.Core.Path.{_≡_, refl, sym, ap, ap₂, _∙_}
 use mathlib.Core.Bool.{Bool, true, false}
 use mathlib.Core.List.{List, [], _∷_, _++_, append-assoc}
-use Prim.Native.Nat.{ℕ, zero, suc, _+_, _*_, _-_, _/_, _%_, _≤_, _<_, min}
+use Prim.Native.Nat.{ℕ, zero, suc, _+_, _*_, _-_, _%_, _≤_, _<_, min}
 use native.Mathlib.Omega.{arith}
 use lib.ListN.{length, take, drop}
 use borrow.Author.Tests.{eq-eqb, ne-eqb}
 use Rattle.cursor.specs.declared.Node.{Node}
 use Rattle.cursor.specs.declared.Item.{Item}
-use Rattle.metadata.specs.Tables.{nodeWidth, itemWidth}
-use Rattle.tree.specs.Rows.{nodeFrom, itemFrom, nodesFrom, itemsFrom, nodesIn, itemsIn, rowsFrom}
-use Rattle.tree.proofs.Rows.{nodes-in-length, items-in-length}
-use Rattle.tree.specs.Hidden.{isHidden}
-use Rattle.room.specs.Decimal.{decimal}
-use Rattle.sheet.specs.Sheet.{escapedPart, unicodeText, tabbed, number, versionText, headFields, firstLine, nodeLine, label, textOf, itemLine, visibleLine, nodeLines, itemLines, linesOf, firstLine2, groupLines, lines2Of, linesIn}
+use Rattle.rows.specs.Rows.{nodeWidth, itemWidth, nodeFrom, itemFrom, nodesFrom, itemsFrom, nodesIn, itemsIn, rowsFrom}
+use Rattle.rows.proofs.Rows.{nodes-in-length, items-in-length}
+use Rattle.file.specs.Hidden.{isHidden}
+use Rattle.text.specs.Text.{escapedPart, unicodeText, tabbed, number}
+use Rattle.sheet.specs.Sheet.{headFields, firstLine, nodeLine, label, textOf, itemLine, visibleLine, nodeLines, itemLines, linesOf, firstLine2, groupLines, lines2Of, linesIn}
 
 -- ---- lines, as the bytes that are put one after the other
-
-pub number-is : (n : ℕ) → (0x09 ∷ []) ++ decimal n ≡ number n
-unfolding number tabbed
-number-is n = refl
-
-pub version-is : (v : ℕ) → decimal (v / 100) ++ (0x2E ∷ []) ++ decimal (v / 10 % 10) ++ decimal (v % 10) ≡ versionText v
-unfolding versionText
-version-is v = simp append-assoc
 
 pub node-is : (i : ℕ) (r : Node)
     → (0x4E ∷ []) ++ number i ++ number (r .parent) ++ number (r .depth) ++ number (r .reference) ++ number (r .target) ++ number (r .extent) ++ (0x0A ∷ []) ≡ nodeLine i r

@@ -16,9 +16,9 @@ use Rattle.room.specs.Room.{Result, good, bad, padded, counted, kept}
 use Rattle.room.specs.Told.{told}
 use Rattle.room.specs.declared.Written.{Written}
 use Rattle.room.specs.declared.Written.the-variants as written
-use Rattle.tree.specs.Reading.{readFile}
-use Rattle.tree.specs.Asking.{ask}
-use Rattle.sheet.specs.Sheet.{tabbed, number}
+use Rattle.file.specs.Reading.{readFile}
+use Rattle.file.specs.Asking.{ask}
+use Rattle.text.specs.Text.{tabbed, number}
 use Rattle.account.specs.Marks.{marksOf}
 use Rattle.lines.specs.Answer.{plainly, refusedBy, fitted, reads}
 use Rattle.spans.specs.Runs.{Run, begun, longer, runsOn, runsFrom, runsOf, names, nameOf, runLine, runLines, runsAt, Ends, runsShown, runsAnswer}

@@ -7,8 +7,8 @@ use Prim.Native.Nat.{ℕ, _+_, _-_, _≤_, _<_}
 use lib.Dec.{eqb}
 use lib.ListN.{length, getD, drop}
 use Rattle.metadata.specs.Tables.{fullNodes, fullItems, limits}
-use Rattle.tree.specs.Asking.{ask}
-use Rattle.sheet.specs.Sheet.{tabbed, number}
+use Rattle.file.specs.Asking.{ask}
+use Rattle.text.specs.Text.{tabbed, number}
 use Rattle.account.specs.Marks.{marksOf}
 use Rattle.lines.specs.Answer.{Answer, plainly, printed, reads}
 use Rattle.usage.specs.Bytes.{headerName, nodesName, metadataName, visibleName, hiddenName, unpackersName, referencesName, inlineName, restName}

@@ -3,7 +3,7 @@ ghost use Prim.Native.Nat.{_<_};
 ghost use lib.ListN.{length};
 ghost use Rattle.room.specs.Counts.{Counts};
 ghost use Rattle.lines.specs.Answer.{Gives};
-ghost use Rattle.sheet.specs.Sheet.{tabbed};
+ghost use Rattle.text.specs.Text.{tabbed};
 ghost use Rattle.spans.specs.Runs.{runsOf, nameOf, runLine, runLines, Ends, runsAnswer};
 use lines::Made;
 use lines::conclude;
@@ -33,8 +33,8 @@ fn put_run(out: &mut [u8], to: usize, place: usize, size: usize, kind: u8) -> us
     ensures { λ r. ⌜ Counts (now (out .entry)) (now (out .exit)) to (runLine (record { place = place; size = size; kind = kind })) r ⌝ }
 {
     let a = room::put_byte(out, to, b'K');
-    let b = sheet::put_number(out, a, place as u64);
-    let c = sheet::put_number(out, b, size as u64);
+    let b = text::put_number(out, a, place as u64);
+    let c = text::put_number(out, b, size as u64);
     let d = put_name(out, c, kind);
     room::put_byte(out, d, 0x0a)
 }

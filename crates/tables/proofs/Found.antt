@@ -10,14 +10,15 @@ use lib.ListN.{length}
 use Rattle.cursor.specs.declared.Node.{Node}
 use Rattle.cursor.specs.declared.Item.{Item}
 use Rattle.header.specs.Header.{Header}
-use Rattle.metadata.specs.Tables.{fullNodes, fullItems, itemWidth, limits}
+use Rattle.metadata.specs.Tables.{fullNodes, fullItems, limits}
+use Rattle.rows.specs.Rows.{itemWidth, itemFrom, itemAt, ItemIn}
 use Rattle.room.specs.Room.{Result, good, bad}
-use Rattle.tree.specs.Rows.{itemFrom, itemAt, ItemIn}
-use Rattle.tree.specs.Reading.{Reading, rows, readOf, readFile, summary, nodeTable, itemTable}
-use Rattle.tree.specs.Asking.{ask, keptItems}
-use Rattle.tree.specs.Own.{Numbered, numbered, those, own}
-use Rattle.tree.proofs.Rows.{Standing, standing, item-at, items-in-length}
-use Rattle.tree.proofs.Own.{item-rows}
+use Rattle.file.specs.Reading.{Reading, rows, readOf, readFile, summary, nodeTable, itemTable}
+use Rattle.file.specs.Asking.{ask, keptItems}
+use Rattle.file.specs.Own.{Numbered, numbered, those, own}
+use Rattle.file.proofs.Rows.{Standing, standing}
+use Rattle.rows.proofs.Rows.{item-at, items-in-length}
+use Rattle.file.proofs.Own.{item-rows}
 use Rattle.sheet.specs.Sheet.{visibleLine}
 use Rattle.find.specs.Find.{Wanted, matches, among, look, orElse, firstAnswer, path, nearest, find, findOwn}
 use Rattle.find.specs.Told.{told, question}

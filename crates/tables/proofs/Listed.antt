@@ -7,15 +7,15 @@ use native.Mathlib.Omega.{arith}
 use Rattle.cursor.specs.declared.FilePlace.{FilePlace}
 use Rattle.cursor.specs.declared.Node.{Node}
 use Rattle.cursor.specs.declared.Item.{Item}
-use Rattle.metadata.specs.Tables.{fullNodes, fullItems, nodeWidth, itemWidth, limits}
+use Rattle.metadata.specs.Tables.{fullNodes, fullItems, limits}
+use Rattle.rows.specs.Rows.{nodeWidth, itemWidth, nodeFrom, nodesIn, itemFrom, itemsIn, rowsFrom}
 use Rattle.room.specs.Room.{good, bad}
-use Rattle.tree.specs.Rows.{nodeFrom, nodesIn, itemFrom, itemsIn, rowsFrom}
-use Rattle.tree.specs.Reading.{rows, readOf, readFile}
-use Rattle.tree.specs.declared.Read.{Read}
-use Rattle.tree.specs.declared.Read.the-variants as read
-use Rattle.tree.specs.declared.Summary.{Summary}
-use Rattle.tree.proofs.Rows.{Standing}
-use Rattle.sheet.specs.Sheet.{number}
+use Rattle.file.specs.Reading.{rows, readOf, readFile}
+use Rattle.file.specs.declared.Read.{Read}
+use Rattle.file.specs.declared.Read.the-variants as read
+use Rattle.file.specs.declared.Summary.{Summary}
+use Rattle.file.proofs.Rows.{Standing}
+use Rattle.text.specs.Text.{number}
 use Rattle.lines.specs.Answer.{plainly, refusedBy, fitted, printed}
 use Rattle.tables.specs.Rows.{nodeNumbers, itemNumbers, nodeRow, itemRow, nodeRows, itemRows, allRows, rowsAnswer}
 use Rattle.lines.proofs.Ending.{printed-good, printed-bad}

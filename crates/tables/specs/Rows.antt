@@ -6,10 +6,11 @@ use Prim.Native.Nat.{ℕ, _+_}
 use Rattle.cursor.specs.declared.Node.{Node}
 use Rattle.cursor.specs.declared.Item.{Item}
 use Rattle.room.specs.Room.{good}
-use Rattle.tree.specs.Reading.{rows}
-use Rattle.tree.specs.Asking.{Asks, ask}
-use Rattle.tree.specs.Own.{Numbered}
-use Rattle.sheet.specs.Sheet.{number, visibleLine}
+use Rattle.file.specs.Reading.{rows}
+use Rattle.file.specs.Asking.{Asks, ask}
+use Rattle.file.specs.Own.{Numbered}
+use Rattle.text.specs.Text.{number}
+use Rattle.sheet.specs.Sheet.{visibleLine}
 use Rattle.find.specs.Find.{Wanted}
 use Rattle.find.specs.Told.{question}
 use Rattle.lines.specs.Answer.{Answer, plainly, printed, reads}

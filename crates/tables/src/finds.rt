@@ -2,10 +2,9 @@
 ghost use mathlib.Core.Path.{_≡_};
 ghost use Prim.Native.Nat.{_≤_, _+_, _*_};
 ghost use lib.ListN.{length};
-ghost use Rattle.metadata.specs.Tables.{itemWidth};
+ghost use Rattle.rows.specs.Rows.{itemWidth, itemFrom, ItemIn};
 ghost use Rattle.room.specs.Counts.{Counts};
-ghost use Rattle.tree.specs.Rows.{itemFrom, ItemIn};
-ghost use Rattle.tree.specs.Asking.{answered, itemsLeft};
+ghost use Rattle.file.specs.Asking.{answered, itemsLeft};
 ghost use Rattle.find.specs.Find.{standard, custom};
 ghost use Rattle.find.specs.Told.{wantedOf, told, question};
 ghost use Rattle.lines.specs.Answer.{Gives};
@@ -76,7 +75,7 @@ fn put_found(out: &mut [u8], file: &[u8], items: &[u64], i: usize) -> usize
     requires { ⌜ (i * itemWidth + itemWidth ≤ length (now items)) × ItemIn (length (now file)) (itemFrom (now items) (i * itemWidth)) ⌝ }
     ensures { λ r. ⌜ Counts (now (out .entry)) (now (out .exit)) 0 (foundLines (now (file .entry)) (record { row = i; item = itemFrom (now (items .entry)) (i * itemWidth) })) r ⌝ }
 {
-    let next = crate::rows::put_item_row(out, 0, b'I', i, tree::item_at(items, i));
+    let next = crate::all_rows::put_item_row(out, 0, b'I', i, rows::item_at(items, i));
     sheet::put_visible_line(out, next, file, items, i)
 }
 

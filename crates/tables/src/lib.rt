@@ -1,6 +1,6 @@
 // Every row of the two tables, and the item row of a field.
+mod all_rows;
 mod finds;
-mod rows;
 
+pub use all_rows::make_rows;
 pub use finds::make_found;
-pub use rows::make_rows;

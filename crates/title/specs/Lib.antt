@@ -1,4 +1,2 @@
-pub mod Description
-pub mod Text
-pub mod Title
-pub mod Worked
+pub mod Refusals
+pub mod Told

@@ -11,7 +11,8 @@ use lib.Seq.{take-append-seam}
 use borrow.Author.Tests.{eq-eqb, ne-eqb, le-leb, lt-leb}
 use Rattle.cursor.specs.declared.FilePlace.{FilePlace}
 use Rattle.cursor.specs.declared.Item.{Item}
-use Rattle.metadata.specs.Tables.{fullNodes, fullItems, itemWidth, limits}
+use Rattle.metadata.specs.Tables.{fullNodes, fullItems, limits}
+use Rattle.rows.specs.Rows.{itemWidth, nodesIn, itemFrom, itemsIn, rowsFrom}
 use Rattle.io.specs.Counts.{Counts}
 use Rattle.io.proofs.Counting.{counts}
 use Rattle.room.specs.Room.{Result, good, bad, padded, fitting, counted, kept}
@@ -19,15 +20,15 @@ use Rattle.room.specs.Told.{told}
 use Rattle.room.specs.Decimal.{decimal}
 use Rattle.room.specs.declared.Written.{Written}
 use Rattle.room.specs.declared.Written.the-variants as written
-use Rattle.tree.specs.Rows.{nodesIn, itemFrom, itemsIn, rowsFrom}
-use Rattle.tree.specs.Reading.{readOf, readFile}
-use Rattle.tree.specs.Asking.{ask}
-use Rattle.tree.specs.declared.Read.{Read}
-use Rattle.tree.specs.declared.Read.the-variants as read
-use Rattle.tree.specs.declared.Summary.{Summary}
-use Rattle.tree.proofs.Rows.{Standing}
-use Rattle.sheet.specs.Sheet.{tabbed, itemLine}
-use Rattle.title.specs.Title.{elsewhere, isNoTitle, correctTitle}
+use Rattle.file.specs.Reading.{readOf, readFile}
+use Rattle.file.specs.Asking.{ask}
+use Rattle.file.specs.declared.Read.{Read}
+use Rattle.file.specs.declared.Read.the-variants as read
+use Rattle.file.specs.declared.Summary.{Summary}
+use Rattle.file.proofs.Rows.{Standing}
+use Rattle.text.specs.Text.{tabbed}
+use Rattle.sheet.specs.Sheet.{itemLine}
+use Rattle.title_text.specs.Title.{elsewhere, isNoTitle, correctTitle}
 use Rattle.unicode.specs.Unicode.{toUtf16}
 use Rattle.lines.specs.Answer.{plainly, refusedBy, fitted, printed, reads}
 use Rattle.titles.specs.Titles.{titleLine, titleLines, titles, titlesAnswer, titleFormat, typed, typedAnswer, correctedAnswer, retitledAnswer}

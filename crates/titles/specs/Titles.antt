@@ -9,11 +9,12 @@ use Rattle.cursor.specs.Refusals.{refersElsewhere}
 use Rattle.cursor.specs.declared.Item.{Item}
 use Rattle.room.specs.Room.{Result, good, bad, fitting}
 use Rattle.room.specs.Decimal.{decimal}
-use Rattle.tree.specs.Rows.{itemAt}
-use Rattle.tree.specs.Reading.{Reading, rows, refusal}
-use Rattle.tree.specs.Asking.{Asks, ask}
-use Rattle.sheet.specs.Sheet.{tabbed, itemLine}
-use Rattle.title.specs.Title.{elsewhere, isNoTitle, correctTitle}
+use Rattle.rows.specs.Rows.{itemAt}
+use Rattle.file.specs.Reading.{Reading, rows, refusal}
+use Rattle.file.specs.Asking.{Asks, ask}
+use Rattle.text.specs.Text.{tabbed}
+use Rattle.sheet.specs.Sheet.{itemLine}
+use Rattle.title_text.specs.Title.{elsewhere, isNoTitle, correctTitle}
 use Rattle.unicode.specs.Unicode.{toUtf16}
 use Rattle.lines.specs.Answer.{Answer, plainly, refusedBy, printed, reads}
 

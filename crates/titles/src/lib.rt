@@ -2,24 +2,23 @@
 ghost use mathlib.Core.Path.{_≡_};
 ghost use Prim.Native.Nat.{_≤_, _+_, _*_};
 ghost use lib.ListN.{length};
-ghost use Rattle.metadata.specs.Tables.{itemWidth};
+ghost use Rattle.rows.specs.Rows.{itemWidth, itemFrom, itemsIn, ItemIn, ItemRows};
 ghost use Rattle.room.specs.Counts.{Counts};
-ghost use Rattle.tree.specs.Rows.{itemFrom, itemsIn, ItemIn, ItemRows};
 ghost use Rattle.lines.specs.Answer.{reads, Gives};
 ghost use Rattle.titles.specs.Titles.{titleLine, titleLines, titlesAnswer, titleFormat, correctedAnswer, retitledAnswer};
+use file::Read;
 use lines::Made;
 use lines::conclude;
 use lines::refuse;
 use lines::settle;
 use room::Written;
-use tree::Read;
 
 // Puts the line of an item row, if it is visible and universal: its number, and its line on the sheet.
 fn put_title_line(out: &mut [u8], to: usize, file: &[u8], items: &[u64], row: usize) -> usize
     requires { ⌜ (row * itemWidth + itemWidth ≤ length (now items)) × ItemIn (length (now file)) (itemFrom (now items) (row * itemWidth)) ⌝ }
     ensures { λ r. ⌜ Counts (now (out .entry)) (now (out .exit)) to (titleLine (now (file .entry)) row (itemFrom (now (items .entry)) (row * itemWidth))) r ⌝ }
 {
-    if retitle::is_no_title(items, row) {
+    if title::is_no_title(items, row) {
         return to;
     }
     let a = room::put_decimal(out, to, row as u64);
@@ -46,10 +45,10 @@ pub fn make_titles(file: &[u8], text: &mut [u8]) -> Made
 {
     let mut nodes = program::node_table();
     let mut items = program::item_table();
-    match tree::read_file(file, &mut nodes, &mut items) {
+    match file::read_file(file, &mut nodes, &mut items) {
         Read::Refused(n, p) => refuse(text, b"", n, p.0),
         Read::Is(s) => {
-            if retitle::refers_elsewhere(&nodes, s.nodes) {
+            if title::refers_elsewhere(&nodes, s.nodes) {
                 return refuse(text, b"", cursor::REFERS_ELSEWHERE, 0);
             }
             let end = put_title_lines(text, file, &items, s.items);
@@ -64,16 +63,16 @@ pub fn title_format(file: &[u8], row: usize) -> u64
 {
     let mut nodes = program::node_table();
     let mut items = program::item_table();
-    match tree::read_file(file, &mut nodes, &mut items) {
+    match file::read_file(file, &mut nodes, &mut items) {
         Read::Refused(n, p) => 1,
         Read::Is(s) => {
             if s.items <= row {
                 return 1;
             }
-            if retitle::is_no_title(&items, row) {
+            if title::is_no_title(&items, row) {
                 return 1;
             }
-            tree::item_at(&items, row).format
+            rows::item_at(&items, row).format
         }
     }
 }
@@ -84,7 +83,7 @@ pub fn make_corrected(file: &[u8], row: usize, bytes: &[u8], text: &mut [u8]) ->
 {
     let mut nodes = program::node_table();
     let mut items = program::item_table();
-    let written = retitle::correct_title(file, &mut nodes, &mut items, row, bytes, text);
+    let written = title::correct_title(file, &mut nodes, &mut items, row, bytes, text);
     settle(text, b"", written)
 }
 

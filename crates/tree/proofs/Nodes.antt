@@ -14,7 +14,8 @@ use Rattle.cursor.specs.declared.Cursor.{Cursor}
 use Rattle.cursor.specs.declared.FilePlace.{FilePlace}
 use Rattle.machine.proofs.Laws.{executing, andThen, ran, exec-times, exec-timed}
 use Rattle.machine.proofs.Wp.{at-end}
-use Rattle.metadata.specs.Tables.{nodeWidth, State, state, put, nodeWords, plusNode}
+use Rattle.rows.specs.Rows.{nodeWidth, nodeWords}
+use Rattle.metadata.specs.Tables.{State, state, put, plusNode}
 use Rattle.metadata.specs.Metadata.{Context}
 use Rattle.metadata.specs.Told.{Gives}
 use Rattle.metadata.specs.declared.Limits.{Limits}

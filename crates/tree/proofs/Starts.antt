@@ -27,8 +27,7 @@ use Rattle.node.proofs.Ends.{FrontIn, front-on}
 use Rattle.node.proofs.Order.{front-orders}
 use Rattle.node.proofs.Uses.{front-uses}
 use Rattle.tree.specs.Tree.{folder, node, tree, detached}
-use Rattle.tree.specs.Reading.{nodeOf, nodesOf}
-use Rattle.tree.specs.Rows.{nodeAt, Rising}
+use Rattle.rows.specs.Rows.{nodeOf, nodesOf, nodeAt, Rising}
 
 -- ---- rows that rise
 

@@ -1,72 +1,17 @@
--- What a call is lent, what the answer says, rows that stand in the tables, and what following them leaves there.
+-- What a call that reads nodes answers and leaves in the tables.
 -- Assumes nothing.
-use mathlib.Core.Path.{_≡_}
 use mathlib.Core.List.{List}
-use Prim.Native.Nat.{ℕ, _+_, _*_, _^_, _≤_, _<_, min, max}
-use lib.ListN.{length, take}
-use Rattle.machine.specs.Machine.{puts}
-use Rattle.cursor.specs.Rows.{Events}
-use Rattle.cursor.specs.declared.Node.{Node}
-use Rattle.header.specs.declared.Header.{Header}
-use Rattle.metadata.specs.Tables.{State, state, put, nodeWidth, itemWidth}
-use Rattle.metadata.specs.declared.Limits.{Limits}
+use Prim.Native.Nat.{ℕ}
+use lib.ListN.{length}
+use Rattle.machine.specs.Machine.{exec}
+use Rattle.cursor.specs.Rows.{P}
+use Rattle.metadata.specs.Tables.{put, state}
+use Rattle.metadata.specs.Metadata.{Context}
+use Rattle.metadata.specs.Told.{contextOf, Gives}
 use Rattle.metadata.specs.declared.Made.{Made}
+use Rattle.metadata.specs.declared.Scope.{Scope}
 use Rattle.metadata.specs.declared.Walked.{Walked}
-use Rattle.metadata.specs.declared.Walked.the-variants as all
-use Rattle.metadata.specs.Told.{Fits}
-use Rattle.tree.specs.Reading.{nodesOf, firstTaken, Result, good, bad}
-use Rattle.tree.specs.Rows.{nodeAt, treeRows, Rising}
-use Rattle.tree.specs.Asking.{Counts}
-use Rattle.tree.specs.declared.Span.{Span}
-use Rattle.tree.specs.declared.Answer.{Answer}
-use Rattle.tree.specs.declared.Answer.the-variants as answer
 
-abbrev pub told : Answer → Result Counts
-told (answer.Tree version nodes items) = good (record { version = version; nodes = nodes; items = items })
-told (answer.Refused n p) = bad n p
-
--- what is lent to a call that reads by the header h: the tree lies in the file, the declared types stand in their table, and both tables hold as many rows as there may be
-pub record Lent (h : Header) (lim : Limits) (file types nodes items : List ℕ) : Type 0 where
-  pub last-in : h .extent .last .0 < length file
-  pub start-in : h .extent .start .0 ≤ length file
-  pub short : length file < 2 ^ 28
-  pub types-in : h .types * 2 ≤ length types
-  pub nodes-in : lim .nodes * nodeWidth ≤ length nodes
-  pub items-in : lim .items * itemWidth ≤ length items
-
--- the log's first `tree` rows are the tree's, and rise
-pub record TreeFirst (tree : ℕ) (log : Events) : Type 0 where
-  pub tree-is : treeRows (nodesOf log) ≡ tree
-  pub rising : Rising (take tree (nodesOf log))
-
--- The tables t and u are what the log left there, from the state σ on, and its first `tree` rows are the tree's.
-pub record Stands (lim : Limits) (size : ℕ) (σ : State) (log : Events) (tree : ℕ) (t u : List ℕ) (m : Made) : Type 0 where
-  pub empty : σ .made ≡ record { nodes = 0; items = 0 }
-  pub fills : puts put log σ ≡ state t u m
-  pub fits : (m .nodes ≤ lim .nodes) × (m .items ≤ lim .items)
-  pub long : (length t ≡ length (σ .nodes)) × (length u ≡ length (σ .items))
-  pub inside : (i : ℕ) → i < length (nodesOf log) → (nodeAt (nodesOf log) i .header ≤ nodeAt (nodesOf log) i .size) × (nodeAt (nodesOf log) i .start + nodeAt (nodesOf log) i .size ≤ size)
-  pub first : TreeFirst tree log
-
--- the rows behind the first `tree` are of detached nodes that lie in the span; its first byte is the first that any has, in a file of `size` bytes
-pub record Spanned (tree size : ℕ) (ns : List Node) (s : Span) : Type 0 where
-  pub rows : (i : ℕ) → tree ≤ i → i < length ns → (nodeAt ns i .detached ≡ 1) × (0 < nodeAt ns i .size) × (nodeAt ns i .start + nodeAt ns i .size ≤ s .beyond .0)
-  pub first-is : s .first .0 ≡ firstTaken ns 0 size
-
--- the span s and the node r lie in the span s′, which begins where the sooner of them does
-pub record Spans (r : Node) (s s′ : Span) : Type 0 where
-  pub first-is : s′ .first .0 ≡ min (r .start) (s .first .0)
-  pub beyond-is : s′ .beyond .0 ≡ max (s .beyond .0) (r .start + r .size)
-
--- what a call says that followed rows: the log's refusal; or its counts, with the tables as the log leaves them
-abbrev pub said : Walked → List ℕ → List ℕ → Result State
-said (all.Done m c) t u = good (state t u m)
-said (all.Refused n p) t u = bad n (p .0)
-
-abbrev pub left : State → Result Events → Result State
-left σ (good log) = good (puts put log σ)
-left σ (bad n p) = bad n p
-
-pub record Leaves (lim : Limits) (σ : State) (r : Walked) (t u : List ℕ) (o : Result Events) : Type 0 where
-  pub answer : said r t u ≡ left σ o
-  pub fits : Fits lim r
+-- from place `at` on, with the rows `made` before it, the tables t and u before it and t′ and u′ after it: what the program p gives from there, in the context of the call
+abbrev pub Reads : Scope → (p : Context → P Made) → (file types : List ℕ) → (at : ℕ) → (made : Made) → (t u t′ u′ : List ℕ) → Walked → Type 0
+Reads scope p file types at made t u t′ u′ r = Gives (scope .limits) r t′ u′ (exec put (p (contextOf scope types (length file))) file at (state t u made))

@@ -9,7 +9,7 @@ use lib.ListN.{length}
 use borrow.Author.Tests.{le-leb, lt-leb, le-ltb, lt-ltb}
 use Rattle.metadata.specs.Tables.{fullNodes, fullItems, limits}
 use Rattle.room.specs.Room.{Result, good, bad}
-use Rattle.tree.specs.Reading.{readFile}
+use Rattle.file.specs.Reading.{readFile}
 use Rattle.account.specs.Account.{kindsOf, sumOver}
 use Rattle.account.specs.ByRows.{plus}
 use Rattle.account.specs.Totals.{mostFiles, zeros, plusKinds, oneMore}

@@ -18,7 +18,7 @@ pub fn put_kind(out: &mut [u8], to: usize, name: &[u8], bytes: usize) -> usize
     ensures { λ r. ⌜ Counts (now (out .entry)) (now (out .exit)) to (kindLine (now (name .entry)) bytes) r ⌝ }
 {
     let a = room::put_bytes(out, to, name);
-    let b = sheet::put_number(out, a, bytes as u64);
+    let b = text::put_number(out, a, bytes as u64);
     room::put_byte(out, b, 0x0a)
 }
 
@@ -57,16 +57,16 @@ fn put_in_line(out: &mut [u8], tail: &[u8], k: Kinds) -> usize
     ensures { λ r. ⌜ Counts (now (out .entry)) (now (out .exit)) 0 (bytesLine (now (tail .entry)) k) r ⌝ }
 {
     let letter = room::put_byte(out, 0, b'B');
-    let a = sheet::put_number(out, letter, k.header as u64);
-    let b = sheet::put_number(out, a, k.nodes as u64);
-    let c = sheet::put_number(out, b, k.metadata as u64);
-    let d = sheet::put_number(out, c, k.visible as u64);
-    let e = sheet::put_number(out, d, k.hidden as u64);
-    let f = sheet::put_number(out, e, k.unpackers as u64);
-    let g = sheet::put_number(out, f, k.references as u64);
-    let h = sheet::put_number(out, g, k.inline as u64);
-    let i = sheet::put_number(out, h, k.rest as u64);
-    let j = sheet::put_number(out, i, total(k) as u64);
+    let a = text::put_number(out, letter, k.header as u64);
+    let b = text::put_number(out, a, k.nodes as u64);
+    let c = text::put_number(out, b, k.metadata as u64);
+    let d = text::put_number(out, c, k.visible as u64);
+    let e = text::put_number(out, d, k.hidden as u64);
+    let f = text::put_number(out, e, k.unpackers as u64);
+    let g = text::put_number(out, f, k.references as u64);
+    let h = text::put_number(out, g, k.inline as u64);
+    let i = text::put_number(out, h, k.rest as u64);
+    let j = text::put_number(out, i, total(k) as u64);
     put_end(out, j, tail)
 }
 

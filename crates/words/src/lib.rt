@@ -2,7 +2,7 @@
 ghost use mathlib.Core.Path.{_≡_};
 ghost use mathlib.Core.List.{_∷_, []};
 ghost use lib.ListN.{length, getD};
-ghost use Rattle.tree.specs.Told as told_tree;
+ghost use Rattle.file.specs.Told as told_tree;
 ghost use Rattle.find.specs.Told as told_find;
 ghost use Rattle.resolve.specs.Told as told_resolve;
 ghost use Rattle.description.specs.Told as told_description;
@@ -21,6 +21,7 @@ use account::Accounted;
 use account::Kinds;
 use account::Totals;
 use description::Counted;
+use file::Answer;
 use find::Found;
 use id3::FrameCount;
 use id3::Framed;
@@ -30,7 +31,6 @@ use resolve::Resolved;
 use room::Written;
 use shelf::Got;
 use shelf::Outcome;
-use tree::Answer;
 
 // Stores the words from the buffer's first word on, as many as fit.
 fn put_front(buffer: &mut [u64], words: &[u64])

@@ -1,7 +1,5 @@
 // The bytes of many files, summed by kind.
-use crate::messages;
 use answers::Sums;
-use libc::STDOUT_FILENO;
 
 // The sums so far, and the worst status of the files.
 struct Summing {
@@ -9,14 +7,12 @@ struct Summing {
     status: u64,
 }
 
-// Adds the file with this name. A file that could not be read is none of the files.
-fn add_named(so: Summing, name: &[u8]) -> Summing {
+// Adds the file that argument i names. A file that could not be read is none of the files.
+fn add(so: Summing, i: usize) -> Summing {
     let before = so.sums;
-    let status = so.status;
     let mut file = program::file_buffer();
-    let got = crate::files::read_named(name, &mut file);
+    let got = storage::read_at(i, b"a file's name", &mut file);
     if !got.right {
-        messages::failed(name);
         return Summing {
             sums: before,
             status: 1,
@@ -24,19 +20,10 @@ fn add_named(so: Summing, name: &[u8]) -> Summing {
     }
     let n = got.size;
     let sums = answers::add_file(before, &file[..n]);
-    Summing { sums, status }
-}
-
-// Adds the file that argument i names.
-fn add(so: Summing, i: usize) -> Summing {
-    let sums = so.sums;
-    let mut name = io::buffer();
-    let n = os::arg(i, &mut name);
-    if os::errno() != 0 {
-        messages::failed(b"a file's name");
-        return Summing { sums, status: 1 };
+    Summing {
+        sums,
+        status: so.status,
     }
-    add_named(so, &name[..n])
 }
 
 // Writes the sums; answers the status.
@@ -45,11 +32,10 @@ fn write_sums(so: Summing) -> u64 {
     let mut text = io::large_buffer();
     let made = answers::make_sums(sums, &mut text);
     let n = made.size;
-    if !io::write_all(STDOUT_FILENO, &text[..n]) {
-        messages::failed(b"standard output");
+    if !console::write(&text[..n]) {
         return 1;
     }
-    crate::worse(so.status, made.status)
+    asking::worse(so.status, made.status)
 }
 
 // Sums the files that the arguments from `first` on name.

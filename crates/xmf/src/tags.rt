@@ -1,34 +1,22 @@
 // The frames of ID3 tags.
-use crate::messages;
-use crate::words;
-use crate::words::Number;
 use answers::Asked;
 use answers::Frames;
-use libc::STDOUT_FILENO;
-
-// Writes an answer; answers the status.
-fn write(text: &[u8], status: u64) -> u64 {
-    if !io::write_all(STDOUT_FILENO, text) {
-        messages::failed(b"standard output");
-        return 1;
-    }
-    status
-}
+use spelling::Number;
 
 // Answers for a hidden row, where it is meant, and says that it is hidden.
 fn hidden_tag(name: &[u8], file: &[u8], row: usize, meant: bool, which: Frames) -> u64 {
     if !meant {
-        messages::trouble(name, b"the item row is hidden: --hidden");
+        console::trouble(name, b"the item row is hidden: --hidden");
         return 1;
     }
-    messages::trouble(
+    console::trouble(
         name,
         b"the item row is hidden: what stands here is not for tickets",
     );
     let mut text = io::large_buffer();
     let made = answers::make(Asked::RowTag(row, true, which), b"", file, b"", &mut text);
     let n = made.size;
-    write(&text[..n], made.status)
+    console::write_answer(&text[..n], made.status)
 }
 
 // Answers for the tag of an item row. It is asked for as a visible one first: so it is known whether it is hidden.
@@ -39,14 +27,13 @@ fn row_tag(name: &[u8], file: &[u8], row: usize, meant: bool, which: Frames) -> 
         return hidden_tag(name, file, row, meant, which);
     }
     let n = made.size;
-    write(&text[..n], made.status)
+    console::write_answer(&text[..n], made.status)
 }
 
 fn named_tag(name: &[u8], row: usize, meant: bool, which: Frames) -> u64 {
     let mut file = program::file_buffer();
-    let got = crate::files::read_named(name, &mut file);
+    let got = storage::read(name, &mut file);
     if !got.right {
-        messages::failed(name);
         return 1;
     }
     let n = got.size;
@@ -57,14 +44,14 @@ fn rows_tag(row: usize, which: Frames) -> u64 {
     let mut name = io::buffer();
     let n = os::arg(4, &mut name);
     if os::errno() != 0 {
-        messages::failed(b"the file's name");
+        console::failed(b"the file's name");
         return 1;
     }
-    named_tag(&name[..n], row, words::is_word(3, b"hidden"), which)
+    named_tag(&name[..n], row, console::is_word(3, b"hidden"), which)
 }
 
 fn one_frame(row: usize) -> u64 {
-    match words::number_at(6) {
+    match console::number_at(6) {
         Number::None => 1,
         Number::Is(frame) => rows_tag(row, Frames::One(frame as usize)),
     }
@@ -74,10 +61,10 @@ fn one_frame(row: usize) -> u64 {
 pub fn tags(count: usize) -> u64 {
     if count != 6 {
         if count != 7 {
-            return messages::usage();
+            return console::usage();
         }
     }
-    match words::number_at(5) {
+    match console::number_at(5) {
         Number::None => 1,
         Number::Is(row) => {
             if count == 7 {
@@ -91,10 +78,10 @@ pub fn tags(count: usize) -> u64 {
 // What is asked of a tag: TAGFILE, and perhaps a frame's number
 pub fn own_tag(count: usize) -> u64 {
     if count != 5 {
-        return crate::one(Asked::Tag(Frames::All), count);
+        return asking::one(Asked::Tag(Frames::All), count);
     }
-    match words::number_at(4) {
+    match console::number_at(4) {
         Number::None => 1,
-        Number::Is(frame) => crate::answer_one(Asked::Tag(Frames::One(frame as usize)), b"", 3),
+        Number::Is(frame) => asking::answer_one(Asked::Tag(Frames::One(frame as usize)), b"", 3),
     }
 }

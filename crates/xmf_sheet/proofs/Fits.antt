@@ -15,9 +15,10 @@ use Rattle.room.specs.Room.{padded}
 use Rattle.room.specs.Counts as room
 use Rattle.program.proofs.Starts.{starts}
 use Rattle.room.proofs.Decimal.{few-digits}
-use Rattle.tree.specs.Reading.{readFile, Reading, rows, refusal}
-use Rattle.tree.specs.Asking.{Result, good, bad, ask}
-use Rattle.sheet.specs.Sheet.{tabbed, number, fitting, write, counted, kept, sheetOf}
+use Rattle.file.specs.Reading.{readFile, Reading, rows, refusal}
+use Rattle.file.specs.Asking.{Result, good, bad, ask}
+use Rattle.text.specs.Text.{tabbed, number}
+use Rattle.sheet.specs.Sheet.{fitting, write, counted, kept, sheetOf}
 use Rattle.room.specs.Told.{told}
 use Rattle.room.specs.declared.Written.{Written}
 use Rattle.room.specs.declared.Written.the-variants as written

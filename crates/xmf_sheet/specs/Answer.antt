@@ -6,9 +6,10 @@ use Prim.Native.Nat.{ℕ}
 use lib.Dec.{ltb}
 use lib.ListN.{length}
 use Rattle.metadata.specs.Tables.{fullNodes, fullItems, limits}
-use Rattle.tree.specs.Reading.{readFile}
-use Rattle.tree.specs.Asking.{Result, good, bad, ask}
-use Rattle.sheet.specs.Sheet.{number, write}
+use Rattle.file.specs.Reading.{readFile}
+use Rattle.file.specs.Asking.{Result, good, bad, ask}
+use Rattle.text.specs.Text.{number}
+use Rattle.sheet.specs.Sheet.{write}
 
 -- `R`, number, place
 unfoldable pub refusalLine : ℕ → ℕ → List ℕ

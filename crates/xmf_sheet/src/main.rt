@@ -17,8 +17,8 @@ fn put_refusal(out: &mut [u8], number: u64, place: usize) -> usize
     ensures { λ r. ⌜ room.Counts (now (out .entry)) (now (out .exit)) 0 (refusalLine number place) r ⌝ }
 {
     let a = room::put_byte(out, 0, b'R');
-    let b = sheet::put_number(out, a, number);
-    let c = sheet::put_number(out, b, place as u64);
+    let b = text::put_number(out, a, number);
+    let c = text::put_number(out, b, place as u64);
     room::put_byte(out, c, 0x0a)
 }
 

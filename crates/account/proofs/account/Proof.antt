@@ -1,6 +1,6 @@
 -- `account` answers what the file gives, and adds it to the totals; a 1,001st file is refused first.
 -- Assumes nothing.
-use Rattle.account.proofs.Exits.{ends-full, ends-unread, nodes-stand, items-stand, ends-counted}
+use Rattle.account.proofs.Exits.{ends-full, ends-unread, rows-stand, ends-counted}
 use borrow.Author.Needs.{needs}
 use Rattle.account.proofs.account.Statement.{statement}
 use Rattle.account.proofs.account.Tie as tie
@@ -15,7 +15,7 @@ kinds-of-requires : tie.Need-kinds-of-requires
 kinds-of-requires c κs =
     let read = c .before .before .before .before .before .before .before .before .before .read-file .ensures in
     let is = c .before .before .before .s .given .1 in
-    (nodes-stand _ _ _ (read .0) (read .1 .0) (read .1 .1) is, items-stand _ _ _ (read .0) (read .1 .0) (read .1 .1) is)
+    rows-stand _ _ _ (read .0) (read .1 .0) (read .1 .1) is
 
 returns-2 : tie.Need-returns-2
 returns-2 c =

@@ -2,11 +2,9 @@
 -- Assumes nothing.
 use Prim.Native.Nat.{_-_, _≤_}
 use native.Mathlib.Omega.{arith}
-use Rattle.metadata.specs.Tables.{itemWidth}
-use Rattle.tree.specs.Rows.{itemFrom}
+use Rattle.rows.specs.Rows.{itemWidth, itemFrom}
 use Rattle.account.specs.ByRows.{withItem}
-use Rattle.account.proofs.Folding.{Folding, folding-begun, folding-on, items-done}
-use borrow.Author.Needs.{needs}
+use Rattle.account.proofs.Folding.{Folding, folding-begun, folding-on, items-done, items-small}
 use Rattle.account.proofs.in_items.Statement.{statement}
 use Rattle.account.proofs.in_items.Tie as tie
 
@@ -22,6 +20,11 @@ loop-holds c = (omega arith, folding-begun _ _ _ _ _ _)
 item-at-requires : tie.Need-item-at-requires Inv-loop μ-loop
 item-at-requires c κs = omega (arith, c .before .before .before .pre)
 
+with-item-requires : tie.Need-with-item-requires Inv-loop μ-loop
+with-item-requires c κs =
+    let entry = c .before .before .before .before in
+    rw (c .item-at .ensures) (items-small _ _ (omega arith) (c .before .before .loop .inv .1) (entry .pre .1))
+
 loop-again : tie.Need-loop-again Inv-loop μ-loop
 loop-again c = (omega arith, folding-on _ _ _ _ _ _ (omega arith) (c .before .before .before .loop .inv .1) (c .before .item-at .ensures) (c .with-item .ensures))
 
@@ -29,4 +32,4 @@ returns : tie.Need-returns Inv-loop μ-loop
 returns c = items-done _ _ (omega arith) (c .before .loop .inv .1)
 
 pub in-items-spec : {M : Type 1} → statement M
-in-items-spec = tie.close (tie.spec Inv-loop μ-loop loop-holds item-at-requires (λ c κs. search needs) (λ c. omega arith) (λ c. omega arith) loop-again returns)
+in-items-spec = tie.close (tie.spec Inv-loop μ-loop loop-holds item-at-requires with-item-requires (λ c. omega arith) (λ c. omega arith) loop-again returns)

@@ -1,12 +1,10 @@
 -- `in_nodes` adds row after row. The invariant: what is left to do is what the rows from row i on give.
 -- Assumes nothing.
-use mathlib.Core.Path.{sym, subst}
 use Prim.Native.Nat.{_-_, _≤_}
 use native.Mathlib.Omega.{arith}
-use Rattle.metadata.specs.Tables.{nodeWidth}
-use Rattle.tree.specs.Rows.{nodeFrom}
-use Rattle.account.specs.ByRows.{withNode, Inside}
-use Rattle.account.proofs.Folding.{Folding, folding-begun, folding-on, nodes-done}
+use Rattle.rows.specs.Rows.{nodeWidth, nodeFrom}
+use Rattle.account.specs.ByRows.{withNode}
+use Rattle.account.proofs.Folding.{Folding, folding-begun, folding-on, nodes-done, nodes-small}
 use Rattle.account.proofs.in_nodes.Statement.{statement}
 use Rattle.account.proofs.in_nodes.Tie as tie
 
@@ -25,7 +23,7 @@ node-at-requires c κs = omega (arith, c .before .before .before .before .pre)
 with-node-requires : tie.Need-with-node-requires Inv-loop μ-loop
 with-node-requires c κs =
     let entry = c .before .before .before .before .before in
-    subst (Inside (entry .args .file .now)) (sym (c .node-at .ensures)) (entry .pre .1 _ (omega arith))
+    rw (c .node-at .ensures) (entry .pre .0 .1 _ (omega arith), nodes-small _ _ _ (omega arith) (c .before .before .loop .inv .1) (entry .pre .1))
 
 loop-again : tie.Need-loop-again Inv-loop μ-loop
 loop-again c = (omega arith, folding-on _ _ _ _ _ _ (omega arith) (c .before .before .before .loop .inv .1) (c .before .node-at .ensures) (c .with-node .ensures))

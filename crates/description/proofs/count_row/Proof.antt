@@ -1,7 +1,7 @@
 -- `count_row` gives what `countRow` gives.
 -- Assumes nothing.
 use native.Mathlib.Omega.{arith}
-use Rattle.tree.proofs.Own.{row-in}
+use Rattle.file.proofs.Own.{row-in}
 use Rattle.description.proofs.Exits.{row-none, row-there}
 use Rattle.description.proofs.count_row.Statement.{statement}
 use Rattle.description.proofs.count_row.Tie as tie

@@ -10,7 +10,7 @@ use borrow.Fn.PlainCycle.{Measures, is, falls, and}
 use Rattle.find.proofs.climb.Reads as climb
 use Rattle.find.proofs.climb.Kinds as climb-kinds
 use Rattle.find.proofs.+climb.Lts-climb as climb-lts
-use Rattle.tree.proofs.node_at.Reads as node-at-reads
+use Rattle.rows.proofs.node_at.Reads as node-at-reads
 use Rattle.find.proofs.look.Reads as look-reads
 use Rattle.find.proofs.rows_end.Reads as rows-end-reads
 use Rattle.find.proofs.+climb.{statement}

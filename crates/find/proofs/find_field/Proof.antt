@@ -4,9 +4,9 @@ use lib.ListN.{length, replicate}
 use mathlib.Core.Path.{_∙_, ap}
 use Prim.Native.Nat.{ℕ}
 use Rattle.metadata.specs.Tables.{limits}
-use Rattle.tree.specs.Reading.{readFile}
-use Rattle.tree.proofs.Rows.{standing}
-use Rattle.tree.proofs.Own.{tables}
+use Rattle.file.specs.Reading.{readFile}
+use Rattle.file.proofs.Rows.{standing}
+use Rattle.file.proofs.Own.{tables}
 use Rattle.find.specs.Told.{wantedOf}
 use Rattle.find.proofs.Climbing.{says-refused, says-no-row, says-no-item, says-item}
 use borrow.Author.Needs.{needs}

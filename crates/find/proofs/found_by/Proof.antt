@@ -1,8 +1,8 @@
 -- `found_by` finds what `foundBy` says: it climbs from the node, or looks at it alone.
 -- Assumes nothing.
 use Rattle.find.specs.Told.{wantedOf}
-use Rattle.tree.specs.Rows.{nodesIn, itemsIn}
-use Rattle.tree.proofs.Own.{end-begin}
+use Rattle.rows.specs.Rows.{nodesIn, itemsIn}
+use Rattle.file.proofs.Own.{end-begin}
 use Rattle.find.proofs.Climbing.{own-rows, own-end, looks, by-climb, by-look}
 use native.Mathlib.Omega.{arith}
 use Rattle.find.proofs.found_by.Statement.{statement}

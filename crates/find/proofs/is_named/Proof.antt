@@ -1,7 +1,7 @@
 -- `is_named` says what `matches` says of a custom name, test by test.
 -- Assumes nothing.
 use native.Mathlib.Omega.{arith}
-use Rattle.tree.proofs.Rows.{name-in}
+use Rattle.rows.proofs.Rows.{name-in}
 use Rattle.find.proofs.Matching.{named-empty, named-kind, named-size, named-bytes}
 use Rattle.find.proofs.is_named.Statement.{statement}
 use Rattle.find.proofs.is_named.Tie as tie

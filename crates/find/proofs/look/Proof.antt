@@ -2,8 +2,8 @@
 -- Assumes nothing.
 use mathlib.Core.Path.{_≡_, refl}
 use Prim.Native.Nat.{_-_}
-use Rattle.tree.specs.Rows.{itemsIn}
-use Rattle.tree.proofs.Own.{row-in}
+use Rattle.rows.specs.Rows.{itemsIn}
+use Rattle.file.proofs.Own.{row-in}
 use Rattle.find.specs.Told.{wantedOf}
 use Rattle.find.proofs.Looking.{looked, row-found, row-other, row-none}
 use native.Mathlib.Omega.{arith}

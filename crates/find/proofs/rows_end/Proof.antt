@@ -3,8 +3,8 @@
 use Prim.Native.Nat.{_<_, _≤_, _-_}
 use Rattle.find.proofs.Climbing.{EndsAt, back-rows, back-one}
 use mathlib.Core.Path.{ap, _∙_}
-use Rattle.tree.specs.Rows.{nodesIn}
-use Rattle.tree.specs.Own.{firstRow}
+use Rattle.rows.specs.Rows.{nodesIn}
+use Rattle.file.specs.Own.{firstRow}
 use native.Mathlib.Omega.{arith}
 use Rattle.find.proofs.rows_end.Statement.{statement}
 use Rattle.find.proofs.rows_end.Tie as tie

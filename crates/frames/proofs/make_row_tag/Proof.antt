@@ -1,8 +1,8 @@
 -- `make_row_tag` answers the frames of the tag in an item row, or the refusal.
 -- Assumes nothing.
 use native.Mathlib.Omega.{arith}
-use Rattle.tree.proofs.Rows.{standing}
-use Rattle.tree.proofs.Own.{item-rows}
+use Rattle.file.proofs.Rows.{standing}
+use Rattle.file.proofs.Own.{item-rows}
 use Rattle.frames.specs.Tags.{shownTag, rowTagAnswer}
 use Rattle.lines.proofs.Ending.{gives-as}
 use Rattle.needs.proofs.Needing.{of-unread, of-past, of-row}

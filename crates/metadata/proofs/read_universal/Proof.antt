@@ -14,14 +14,14 @@ use Rattle.metadata.proofs.read_universal.Statement.{statement}
 use Rattle.metadata.proofs.read_universal.Tie as tie
 
 returns : tie.Need-returns
-returns c = λ t ws. no (universal-limit _ _ _ _ _ _ _ (c .if1 .taken))
+returns c = λ ws t. no (universal-limit _ _ _ _ _ _ _ (c .if1 .taken))
 
 returns-2 : tie.Need-returns-2
 returns-2 c =
     let at-size = c .before .before in
     let at-block = at-size .before .before in
     let at-if1 = at-block .before in
-    λ t ws. no (universal-zero _ _ _ _ _ _ _ (at-if1 .if1 .left) (was numberTold (at-block .block .ensures metaFrame) (at-size .size .given .1)) (c .if2 .taken))
+    λ ws t. no (universal-zero _ _ _ _ _ _ _ (at-if1 .if1 .left) (was numberTold (at-block .block .ensures metaFrame) (at-size .size .given .1)) (c .if2 .taken))
 
 on-requires : tie.Need-on-requires
 on-requires c κs = omega (arith, block-inside metaFrame _ _ _ _ (was numberTold (c .before .before .before .before .block .ensures metaFrame) (c .before .before .size .given .1)))
@@ -48,7 +48,7 @@ returns-3 : tie.Need-returns-3
 returns-3 c =
     let at-block = c .before .before .before in
     let at-if1 = at-block .before in
-    λ t ws. no (universal-length _ _ _ _ _ _ _ (at-if1 .if1 .left) (was numberTold (at-block .block .ensures metaFrame) (c .before .n .given .1)))
+    λ ws t. no (universal-length _ _ _ _ _ _ _ (at-if1 .if1 .left) (was numberTold (at-block .block .ensures metaFrame) (c .before .n .given .1)))
 
 returns-4 : tie.Need-returns-4
 returns-4 c =
@@ -58,7 +58,7 @@ returns-4 c =
     let at-size = at-if2 .before .before in
     let at-block = at-size .before .before in
     let at-if1 = at-block .before in
-    λ t ws. no (universal-format _ _ _ _ _ _ _ (at-if1 .if1 .left)
+    λ ws t. no (universal-format _ _ _ _ _ _ _ (at-if1 .if1 .left)
     (was numberTold (at-block .block .ensures metaFrame) (at-size .size .given .1)) (at-if2 .if2 .left) (at-on .on .ensures)
     (was numberTold (at-number .number .ensures metaFrame) (c .before .n2 .given .1)))
 
@@ -74,7 +74,7 @@ returns-5 c =
     let at-block = at-size .before .before in
     let at-if1 = at-block .before in
     let entry = at-if1 .before .before .before .before .before .before in
-    λ t ws. yes (universal-row _ _ _ _ _ _ (state t _ _) (at-if1 .if1 .left)
+    λ ws t. yes (universal-row _ _ _ _ _ _ (state t _ _) (at-if1 .if1 .left)
     (was numberTold (at-block .block .ensures metaFrame) (at-size .size .given .1)) (at-if2 .if2 .left) (at-on .on .ensures)
     (was numberTold (at-number .number .ensures metaFrame) (at-format .format .given .1)) (at-row-of .row-of .ensures)
     (at-put-item .put-item .ensures)) (omega (arith, entry .pre, at-if1 .if1 .left))

@@ -3,7 +3,7 @@
 use borrow.Author.Tests.{not-true, not-false}
 use mathlib.Core.Path.{sym}
 use Prim.Native.Nat.{_-_, _≤_}
-use Rattle.tree.proofs.Own.{row-in}
+use Rattle.file.proofs.Own.{row-in}
 use Rattle.mobile.proofs.Checks.{NeedsLeft, needs-none, needs-begin, needs-no, needs-on}
 use native.Mathlib.Omega.{arith}
 use Rattle.mobile.proofs.are_needs.Statement.{statement}

@@ -3,9 +3,9 @@
 use mathlib.Core.Path.{_≡_}
 use Prim.Native.Nat.{_-_, _≤_}
 use lib.ListN.{drop}
-use Rattle.tree.specs.Rows.{nodesIn, itemsIn}
-use Rattle.tree.specs.Own.{firstRow}
-use Rattle.tree.proofs.Own.{end-begin, rows-in, end-in, end-next}
+use Rattle.rows.specs.Rows.{nodesIn, itemsIn}
+use Rattle.file.specs.Own.{firstRow}
+use Rattle.file.proofs.Own.{end-begin, rows-in, end-in, end-next}
 use Rattle.mobile.specs.Pass.{childrenFrom}
 use Rattle.mobile.proofs.Roles.{children-begin, children-end, child-next}
 use native.Mathlib.Omega.{arith}

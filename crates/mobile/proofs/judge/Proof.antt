@@ -1,8 +1,8 @@
 -- `judge` gives the verdict of the file's reading, or its refusal, and leaves the tables as the reader does.
 -- Assumes nothing.
-use Rattle.tree.proofs.Rows.{standing}
-use Rattle.tree.proofs.Exits.{says-unread}
-use Rattle.tree.proofs.Own.{tables}
+use Rattle.file.proofs.Rows.{standing}
+use Rattle.file.proofs.Exits.{says-unread}
+use Rattle.file.proofs.Own.{tables}
 use Rattle.mobile.specs.Mobile.{mobile}
 use Rattle.mobile.proofs.Checks.{judged}
 use borrow.Author.Needs.{needs}

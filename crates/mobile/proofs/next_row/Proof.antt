@@ -2,8 +2,8 @@
 -- Assumes nothing.
 use mathlib.Core.Path.{_≡_, refl}
 use Prim.Native.Nat.{_-_, _≤_}
-use Rattle.tree.specs.Rows.{itemsIn}
-use Rattle.tree.specs.Own.{those, part}
+use Rattle.rows.specs.Rows.{itemsIn}
+use Rattle.file.specs.Own.{those, part}
 use Rattle.description.specs.Row.{isField}
 use Rattle.mobile.proofs.Lists.{next-here, next-on, next-none}
 use native.Mathlib.Omega.{arith}

@@ -1,6 +1,6 @@
 -- `role_of` says what `roleOf` says: the rows of field 3 are looked for twice.
 -- Assumes nothing.
-use Rattle.tree.proofs.Own.{row-in}
+use Rattle.file.proofs.Own.{row-in}
 use Rattle.mobile.proofs.Roles.{role-none, role-two, role-one}
 use native.Mathlib.Omega.{arith}
 use borrow.Author.Needs.{needs}

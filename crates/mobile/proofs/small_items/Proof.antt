@@ -3,7 +3,7 @@
 use mathlib.Core.Path.{_≡_, refl}
 use Prim.Native.Nat.{_-_, _≤_}
 use lib.ListN.{drop}
-use Rattle.tree.specs.Rows.{itemsIn}
+use Rattle.rows.specs.Rows.{itemsIn}
 use Rattle.mobile.specs.Mobile.{all, isSmall}
 use Rattle.mobile.proofs.Lists.{items-no, items-on, items-yes}
 use Rattle.mobile.proofs.Tests.{small-no, small-yes}

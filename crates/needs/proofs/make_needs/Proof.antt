@@ -1,7 +1,7 @@
 -- `make_needs` answers the counts of all visible content descriptions, or the refusal.
 -- Assumes nothing.
-use Rattle.tree.proofs.Rows.{standing}
-use Rattle.tree.proofs.Own.{item-rows}
+use Rattle.file.proofs.Rows.{standing}
+use Rattle.file.proofs.Own.{item-rows}
 use Rattle.lines.proofs.Ending.{gives-as}
 use Rattle.needs.proofs.Needing.{needs-bad, needs-good}
 use borrow.Author.Needs.{needs}

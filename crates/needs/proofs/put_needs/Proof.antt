@@ -4,7 +4,7 @@ use Prim.Native.Nat.{_-_, _≤_}
 use mathlib.Core.Path.{_∙_}
 use native.Mathlib.Omega.{arith}
 use lib.ListN.{length}
-use Rattle.tree.specs.Rows.{itemsFrom, itemsIn}
+use Rattle.rows.specs.Rows.{itemsFrom, itemsIn}
 use Rattle.needs.specs.Needed.{needsFrom}
 use Rattle.needs.proofs.Needing.{Needing, needing-start, needing-on, needing-no, needing-end, puts-bad, puts-good}
 use borrow.Author.Needs.{needs}

@@ -26,12 +26,12 @@ returns-5 c =
     let at-if3 = at-byte3 .before in
     let at-byte2 = at-if3 .before .before in
     let at-if2 = at-byte2 .before in
-    let at-is-numbered = at-if2 .before in
+    let at-if1 = at-if2 .before .before .before in
+    let at-is-numbered = at-if1 .before in
     let at-byte = at-is-numbered .before in
-    let at-if1 = at-byte .before in
-    unpacker-common _ _ _ (at-byte .byte .ensures) (at-byte2 .byte2 .ensures) (at-byte3 .byte3 .ensures) (omega (arith, at-if1 .if1 .left))
-    (sym (not-false _ (at-if2 .if2 .left)) ∙ at-is-numbered .is-numbered .ensures) (at-if3 .if3 .left) (c .if4 .left)
+    unpacker-common _ _ _ (at-byte .byte .ensures) (at-byte2 .byte2 .ensures) (at-byte3 .byte3 .ensures) (omega (arith, at-if2 .if2 .left))
+    (sym (not-false _ (at-if1 .if1 .left)) ∙ at-is-numbered .is-numbered .ensures) (at-if3 .if3 .left) (c .if4 .left)
 
 pub is-common-spec : {M : Type 1} → statement M
-is-common-spec = tie.close (tie.spec (λ c. search needs) returns (λ c κs. search needs) (λ c κs. search needs) returns-2 (λ c κs. search needs) returns-3
+is-common-spec = tie.close (tie.spec (λ c κs. search needs) (λ c κs. search needs) returns (λ c. search needs) returns-2 (λ c κs. search needs) returns-3
     (λ c κs. search needs) returns-4 returns-5)

@@ -2,8 +2,8 @@
 -- Assumes nothing.
 use native.Mathlib.Omega.{arith}
 use Rattle.room.proofs.Counting.{counts-none, counts-as}
-use Rattle.tree.proofs.Rows.{standing}
-use Rattle.tree.proofs.Own.{item-rows}
+use Rattle.file.proofs.Rows.{standing}
+use Rattle.file.proofs.Own.{item-rows}
 use Rattle.notes.proofs.Changes.{text-refused, text-past, text-none, text-is}
 use borrow.Author.Needs.{needs}
 use Rattle.notes.proofs.put_row_text.Statement.{statement}

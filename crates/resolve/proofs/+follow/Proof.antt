@@ -8,8 +8,8 @@ use borrow.Fn.PlainCycle.{Measures, is, falls, and}
 use Rattle.resolve.proofs.follow.Reads as follow
 use Rattle.resolve.proofs.follow.Kinds as follow-kinds
 use Rattle.resolve.proofs.+follow.Lts-follow as follow-lts
-use Rattle.tree.proofs.node_at.Reads as node-at-reads
-use Rattle.tree.proofs.row_starting.Reads as row-starting-reads
+use Rattle.rows.proofs.node_at.Reads as node-at-reads
+use Rattle.rows.proofs.row_starting.Reads as row-starting-reads
 use Rattle.resolve.proofs.+follow.{statement}
 use Rattle.resolve.proofs.+follow.Tie.{close}
 

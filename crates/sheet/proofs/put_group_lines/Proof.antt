@@ -3,7 +3,7 @@
 -- Assumes nothing.
 use Prim.Native.Nat.{_-_, _≤_}
 use mathlib.Core.Path.{refl}
-use Rattle.tree.specs.Rows.{nodesFrom, nodesIn, itemsFrom, itemsIn}
+use Rattle.rows.specs.Rows.{nodesFrom, nodesIn, itemsFrom, itemsIn}
 use Rattle.sheet.specs.Sheet.{groupLines}
 use Rattle.sheet.proofs.Filling.{Filling, filling-start, filling-on, filling-end, filling-length}
 use native.Mathlib.Omega.{arith}

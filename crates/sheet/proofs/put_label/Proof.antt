@@ -1,7 +1,7 @@
 -- `put_label` puts the field of an item row.
 -- Assumes nothing.
 use Rattle.room.proofs.Counting.{counts-then, counts-as}
-use Rattle.tree.proofs.Rows.{name-in}
+use Rattle.rows.proofs.Rows.{name-in}
 use Rattle.sheet.proofs.Lines.{label-standard, label-custom}
 use borrow.Author.Needs.{needs}
 use Rattle.sheet.proofs.put_label.Statement.{statement}

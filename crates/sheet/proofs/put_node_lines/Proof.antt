@@ -2,7 +2,7 @@
 -- Assumes nothing.
 use Prim.Native.Nat.{_-_, _≤_}
 use mathlib.Core.Path.{sym}
-use Rattle.tree.specs.Rows.{nodesFrom, nodesIn}
+use Rattle.rows.specs.Rows.{nodesFrom, nodesIn}
 use Rattle.sheet.specs.Sheet.{nodeLines}
 use Rattle.sheet.proofs.Filling.{Filling, filling-start, filling-on, filling-end, filling-length}
 use Rattle.sheet.proofs.Lines.{nodes-on, nodes-end, nodes-start}

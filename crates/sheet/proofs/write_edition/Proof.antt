@@ -1,7 +1,7 @@
 -- `write_edition` answers, and leaves tables and sheet, as `writeIn` says of what the file reads as.
 -- Assumes nothing.
-use Rattle.tree.proofs.Rows.{standing}
-use Rattle.tree.proofs.Own.{item-rows}
+use Rattle.file.proofs.Rows.{standing}
+use Rattle.file.proofs.Own.{item-rows}
 use Rattle.sheet.proofs.Asked.{asked-refused, asked-good, asked-full, zeros}
 use native.Mathlib.Omega.{arith}
 use borrow.Author.Needs.{needs}

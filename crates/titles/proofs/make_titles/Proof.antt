@@ -1,7 +1,7 @@
 -- `make_titles` answers the list, or the refusal.
 -- Assumes nothing.
-use Rattle.tree.proofs.Rows.{standing}
-use Rattle.tree.proofs.Own.{item-rows}
+use Rattle.file.proofs.Rows.{standing}
+use Rattle.file.proofs.Own.{item-rows}
 use Rattle.lines.proofs.Ending.{gives-as}
 use Rattle.titles.proofs.Retitling.{titles-bad, titles-none, titles-good}
 use borrow.Author.Needs.{needs}

@@ -4,7 +4,7 @@ use Prim.Native.Nat.{_-_, _≤_}
 use mathlib.Core.Path.{sym}
 use native.Mathlib.Omega.{arith}
 use Rattle.room.proofs.Counting.{Going, going-start, going-on, going-end, going-length}
-use Rattle.tree.specs.Rows.{itemsFrom, itemsIn}
+use Rattle.rows.specs.Rows.{itemsFrom, itemsIn}
 use Rattle.titles.specs.Titles.{titleLines}
 use Rattle.lines.proofs.Reading.{lines-on, lines-end}
 use Rattle.titles.proofs.Retitling.{titles-lined, titles-start}

@@ -1,7 +1,7 @@
 -- `title_format` is the format of a row that can be corrected, else 1.
 -- Assumes nothing.
 use native.Mathlib.Omega.{arith}
-use Rattle.tree.proofs.Rows.{standing}
+use Rattle.file.proofs.Rows.{standing}
 use Rattle.titles.proofs.Retitling.{format-refused, format-past, format-none, format-is}
 use borrow.Author.Needs.{needs}
 use Rattle.titles.proofs.title_format.Statement.{statement}

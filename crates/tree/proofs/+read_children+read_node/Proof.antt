@@ -25,7 +25,7 @@ use Rattle.tree.proofs.read_node.Kinds as read-node-kinds
 use Rattle.tree.proofs.+read_children+read_node.Lts-read_node as read-node-lts
 use Rattle.cursor.proofs.FilePlace.of.Reads as of-reads
 use Rattle.node.proofs.read_front.Reads as read-front-reads
-use Rattle.tree.proofs.put_node.Reads as put-node-reads
+use Rattle.rows.proofs.put_node.Reads as put-node-reads
 use Rattle.tree.proofs.past_inline.Reads as past-inline-reads
 use Rattle.tree.proofs.end_node.Reads as end-node-reads
 use Rattle.tree.proofs.+read_children+read_node.{statement}

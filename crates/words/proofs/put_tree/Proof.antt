@@ -1,6 +1,6 @@
 -- `put_tree` puts the words of the first question's answer.
 -- Assumes nothing.
-use Rattle.tree.specs.Told.{told}
+use Rattle.file.specs.Told.{told}
 use Rattle.promises.specs.Promises.{treeValues}
 use Rattle.words.proofs.Putting.{put-as}
 use borrow.Author.Needs.{needs}

@@ -2,8 +2,7 @@
 -- Assumes nothing.
 use Prim.Native.Nat.{_-_, _≤_}
 use native.Mathlib.Omega.{arith}
-use Rattle.metadata.specs.Tables.{itemWidth}
-use Rattle.tree.specs.Rows.{itemFrom}
+use Rattle.rows.specs.Rows.{itemWidth, itemFrom}
 use Rattle.account.specs.ByPlace.{overItem}
 use Rattle.account.proofs.Marking.{Painting, painting-begun, painting-on, items-painted}
 use borrow.Author.Needs.{needs}

@@ -1,12 +1,16 @@
 -- `mark_node` marks the parts of a node.
 -- Assumes nothing.
 use native.Mathlib.Omega.{arith}
-use Rattle.cursor.specs.Rows.{metaFrame}
 use Rattle.account.proofs.Ways.{spans}
 use Rattle.account.proofs.Marking.{past, node-spans}
 use borrow.Author.Needs.{needs}
 use Rattle.account.proofs.marks.mark_node.Statement.{statement}
 use Rattle.account.proofs.marks.mark_node.Tie as tie
+
+add-unpackers : tie.Need-add-unpackers
+add-unpackers c =
+    let entry = c .before .before .before .before in
+    omega (arith, spans (entry .args .file .now) (entry .args .row) (c .before .meta-at .ensures) (c .block-size .ensures), entry .pre)
 
 returns : tie.Need-returns
 returns c =
@@ -18,11 +22,11 @@ returns c =
     let after-on = after-fill .before .before in
     let after-inline-size = after-on .before in
     let after-contents-at = after-inline-size .before in
-    let after-after-block = after-contents-at .before in
-    let after-meta-at = after-after-block .before in
+    let after-block-size = after-contents-at .before in
+    let after-meta-at = after-block-size .before in
     let entry = after-meta-at .before .before .before in
     let meta = after-meta-at .meta-at .ensures in
-    let unpackers = spans _ _ meta (after-after-block .after-block .ensures metaFrame) in
+    let unpackers = spans _ _ meta (after-block-size .block-size .ensures) in
     let inline = past _ _ _ (omega (
       arith,
       entry .good,
@@ -36,6 +40,6 @@ returns c =
     (after-fill3 .fill3 .ensures) (after-fill4 .fill4 .ensures) inline
 
 pub mark-node-spec : {M : Type 1} → statement M
-mark-node-spec = tie.close (tie.spec (λ c. search needs) (λ c κs. search needs) (λ c κs. search needs) (λ c. search needs) (λ c κs. search needs)
+mark-node-spec = tie.close (tie.spec (λ c. search needs) (λ c κs. search needs) (λ c κs. search needs) add-unpackers (λ c. search needs) (λ c κs. search needs)
     (λ c κs. search needs) (λ c κs. search needs) (λ c κs. search needs) (λ c κs. search needs) (λ c κs. search needs) (λ c κs. search needs)
     (λ c κs. search needs) (λ c. search needs) returns)

@@ -3,8 +3,7 @@
 use mathlib.Core.Path.{sym, subst}
 use Prim.Native.Nat.{_-_, _≤_}
 use native.Mathlib.Omega.{arith}
-use Rattle.metadata.specs.Tables.{nodeWidth}
-use Rattle.tree.specs.Rows.{nodeFrom}
+use Rattle.rows.specs.Rows.{nodeWidth, nodeFrom}
 use Rattle.account.specs.ByRows.{Inside}
 use Rattle.account.specs.ByPlace.{overNode}
 use Rattle.account.proofs.Marking.{Painting, painting-begun, painting-on, nodes-painted}

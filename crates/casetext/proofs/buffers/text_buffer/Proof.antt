@@ -7,7 +7,7 @@ use Rattle.casetext.proofs.buffers.text_buffer.Statement.{statement}
 use Rattle.casetext.proofs.buffers.text_buffer.Tie as tie
 
 returns : tie.Need-returns
-returns c = sym (length-replicate {0} {A = ℕ} 2097152 0)
+returns c = sym (length-replicate {0} {A = ℕ} 262144 0)
 
 pub text-buffer-spec : {M : Type 1} → statement M
 text-buffer-spec = tie.close (tie.spec returns)

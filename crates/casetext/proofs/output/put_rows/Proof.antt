@@ -9,10 +9,10 @@ use Rattle.casetext.proofs.output.put_rows.Statement.{statement}
 use Rattle.casetext.proofs.output.put_rows.Tie as tie
 
 abbrev Inv-loop : tie.InvT-loop
-Inv-loop out₀ at words width end₀ i₀ out end i = (length out ≡ length out₀) × (min at (length out) ≤ end) × (end ≤ length out) × (i ≤ length words)
+Inv-loop out₀ at words width mark comma end₀ i₀ out end i = (length out ≡ length out₀) × (min at (length out) ≤ end) × (end ≤ length out) × (i ≤ length words)
 
 abbrev μ-loop : tie.MeasureT-loop
-μ-loop out₀ at words width end₀ i₀ out end i = length words - i
+μ-loop out₀ at words width mark comma end₀ i₀ out end i = length words - i
 
 returns : tie.Need-returns Inv-loop μ-loop
 returns c = ends _ _ _ (omega arith) (omega arith)

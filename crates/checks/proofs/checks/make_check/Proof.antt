@@ -1,6 +1,6 @@
 -- `make_check` answers version and length of an accepted file, or the refusal.
 -- Assumes nothing.
-use Rattle.tree.proofs.Rows.{standing}
+use Rattle.file.proofs.Rows.{standing}
 use Rattle.lines.proofs.Ending.{gives-as}
 use Rattle.checks.proofs.Judging.{check-bad, check-good}
 use borrow.Author.Needs.{needs}

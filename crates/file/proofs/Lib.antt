@@ -1,0 +1,11 @@
+pub mod Follow
+pub mod Shown
+pub mod TreeRows
+pub mod Filled
+pub mod Growing
+pub mod Whole
+pub mod Rows
+pub mod Exits
+pub mod Order
+pub mod Parents
+pub mod Own

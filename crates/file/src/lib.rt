@@ -1,0 +1,268 @@
+// Reads a file into two lent tables, one of node rows and one of item rows: its tree, and the nodes that references 3 lead to.
+ghost use mathlib.Core.Path.{_≡_};
+ghost use Prim.Native.Nat.{_≤_, _<_, _^_, _*_, _+_};
+ghost use lib.ListN.{length};
+ghost use Rattle.header.specs.Told.{headerOf};
+ghost use Rattle.rows.specs.Rows.{nodesOf, nodeAt, nodesIn};
+ghost use Rattle.metadata.specs.Tables.{State, limits};
+ghost use Rattle.metadata.specs.Told.{Gives};
+ghost use Rattle.cursor.specs.Rows.{Events};
+ghost use Rattle.file.specs.Reading.{good, followRow, follow, readOf, answerOf};
+ghost use Rattle.file.specs.Asking.{reads, readsBehind, nodesRead, itemsRead, nodesBehind, itemsBehind};
+ghost use Rattle.file.specs.Told.{Lent, treeRun, Stands, Stand, Leaves};
+ghost use Rattle.targets.specs.Told.{Spanned};
+use cursor::Cursor;
+use cursor::FilePlace;
+use header::Edition;
+use header::Headed;
+use header::Header;
+use metadata::Limits;
+use metadata::Made;
+use metadata::Scope;
+use metadata::Walked;
+use node::Bounds;
+use targets::Span;
+
+// What is kept of an accepted file besides its rows: where its header ends, how many rows there are, and how many of the node rows are the tree's.
+pub struct Summary {
+    pub version: u64,
+    pub edition: Edition,
+    pub headerEnd: FilePlace,
+    pub tree: usize,
+    pub nodes: usize,
+    pub items: usize,
+}
+
+pub enum Read {
+    Is(Summary),
+    Refused(u64, FilePlace),
+}
+
+// The first question's answer: version (100, 101, 200), number of node rows, number of item rows; or the refusal's number and place.
+pub enum Answer {
+    Tree(u64, usize, usize),
+    Refused(u64, usize),
+}
+
+// The rows that tables of so many words hold.
+fn room_of(nodes: usize, items: usize) -> Limits
+    ensures { λ r. ⌜ r ≡ limits nodes items ⌝ }
+{
+    let n = targets::lesser(cursor::MOST_NODES, nodes / cursor::NODE_WIDTH);
+    let i = targets::lesser(cursor::MOST_ITEMS, items / cursor::ITEM_WIDTH);
+    Limits { nodes: n, items: i }
+}
+
+// The tree of a file whose header is h, into tables with room for so many rows.
+fn read_root(
+    file: &[u8],
+    types: &[u64],
+    nodes: &mut [u64],
+    items: &mut [u64],
+    h: Header,
+    lim: Limits,
+) -> Walked
+    requires { ⌜ Lent h lim (now file) (now types) (now nodes) (now items) ⌝ }
+    ensures { λ r. ⌜ Gives lim r (now (nodes .exit)) (now (items .exit)) (treeRun h lim (now (types .entry)) (now (file .entry)) (now (nodes .entry)) (now (items .entry))) ⌝ }
+{
+    let extent = h.extent;
+    let start = extent.start;
+    let last = extent.last;
+    let headerEnd = extent.end;
+    let scope = Scope {
+        limits: lim,
+        types: h.types,
+        headerEnd,
+    };
+    let none = Made { nodes: 0, items: 0 };
+    let end = FilePlace(last.0 + 1);
+    let s = Bounds {
+        least: end,
+        end,
+        taken: end,
+        offset: FilePlace(0),
+        detached: 0,
+    };
+    tree::read_children(
+        Cursor { at: start },
+        file,
+        types,
+        nodes,
+        items,
+        scope,
+        cursor::MOST_DEPTH,
+        0,
+        s,
+        1,
+        none,
+    )
+}
+
+// Follows row i: reads the node that it refers to, if that one has no row yet. `span` says where the detached nodes lie.
+fn follow_row(
+    file: &[u8],
+    types: &[u64],
+    nodes: &mut [u64],
+    items: &mut [u64],
+    h: Header,
+    lim: Limits,
+    tree: usize,
+    i: usize,
+    made: Made,
+    span: Span,
+) -> Walked
+    requires { ⌜ Lent h lim (now file) (now types) (now nodes) (now items) × (i < made .nodes) × Stand lim (length (now file)) tree (now nodes) (now items) made × Spanned tree (length (now file)) (nodesIn (made .nodes) (now nodes)) span ⌝ }
+    ensures { λ r. ⌜ ((σ : State) (log : Events) → Stands lim (length (now (file .entry))) σ log tree (now (nodes .entry)) (now (items .entry)) made
+        → Leaves lim σ r (now (nodes .exit)) (now (items .exit)) (followRow lim (now (file .entry)) (headerOf h (now (types .entry))) log (nodeAt (nodesOf log) i))) ⌝ }
+{
+    let here = Cursor { at: FilePlace(0) };
+    let row = rows::node_at(nodes, i);
+    if row.reference != 3 {
+        return Walked::Done(made, here);
+    }
+    let to = FilePlace(row.target as usize);
+    let asked = targets::rows_asked(tree, made.nodes, to, span);
+    if rows::row_starting(nodes, tree, asked, to) < asked {
+        return Walked::Done(made, here);
+    }
+    let offset = targets::offset_at(file, nodes, made.nodes, i);
+    let extent = h.extent;
+    if targets::is_outside(extent, file.len(), to) {
+        let end = targets::part_end(extent, file.len(), to);
+        let taken = targets::first_taken(nodes, tree, asked, to, targets::end_asked(to, end, span));
+        let headerEnd = extent.end;
+        let scope = Scope {
+            limits: lim,
+            types: h.types,
+            headerEnd,
+        };
+        let s = Bounds {
+            least: FilePlace(0),
+            end,
+            taken,
+            offset,
+            detached: 1,
+        };
+        let levels = cursor::MOST_DEPTH + 1;
+        return tree::read_children(
+            Cursor { at: to },
+            file,
+            types,
+            nodes,
+            items,
+            scope,
+            levels,
+            made.nodes,
+            s,
+            1,
+            made,
+        );
+    }
+    Walked::Refused(cursor::BAD_TARGET, offset)
+}
+
+// Follows the rows from the first on, in row order, over the growing table.
+fn follow_all(
+    file: &[u8],
+    types: &[u64],
+    nodes: &mut [u64],
+    items: &mut [u64],
+    h: Header,
+    lim: Limits,
+    made: Made,
+) -> Walked
+    requires { ⌜ Lent h lim (now file) (now types) (now nodes) (now items) × Stand lim (length (now file)) (made .nodes) (now nodes) (now items) made ⌝ }
+    ensures { λ r. ⌜ ((σ : State) (log : Events) → Stands lim (length (now (file .entry))) σ log (made .nodes) (now (nodes .entry)) (now (items .entry)) made
+        → Leaves lim σ r (now (nodes .exit)) (now (items .exit)) (follow (lim .nodes) lim (now (file .entry)) (headerOf h (now (types .entry))) 0 (good log))) ⌝ }
+{
+    let mut m = made;
+    let mut i = 0;
+    // A place before or behind all detached nodes that were read is not looked for among them. In a chain, most lead to such a place.
+    let mut span = Span {
+        first: FilePlace(file.len()),
+        beyond: FilePlace(0),
+    };
+    while i < m.nodes {
+        match follow_row(file, types, nodes, items, h, lim, made.nodes, i, m, span) {
+            Walked::Refused(n, p) => return Walked::Refused(n, p),
+            Walked::Done(n, _) => {
+                span = targets::with_row(nodes, m.nodes, n.nodes, span);
+                m = n;
+            }
+        }
+        i = i + 1;
+    }
+    Walked::Done(m, Cursor { at: FilePlace(0) })
+}
+
+// Reads what follows the header h into the two tables: the tree, and what is referred to from there.
+pub fn read_behind(
+    file: &[u8],
+    types: &[u64],
+    nodes: &mut [u64],
+    items: &mut [u64],
+    h: Header,
+) -> Read
+    requires { ⌜ (h .extent .start .0 ≤ h .extent .last .0) × (h .extent .last .0 < length (now file)) × (length (now file) < 2 ^ 28) × (h .types * 2 ≤ length (now types)) ⌝ }
+    ensures answer { λ r. ⌜ r ≡ readOf (readsBehind (now (nodes .entry)) (now (items .entry)) (now (file .entry)) (headerOf h (now (types .entry)))) ⌝ }
+    ensures nodes { λ _. ⌜ now (nodes .exit) ≡ nodesBehind (now (nodes .entry)) (now (items .entry)) (now (file .entry)) (headerOf h (now (types .entry))) ⌝ }
+    ensures items { λ _. ⌜ now (items .exit) ≡ itemsBehind (now (nodes .entry)) (now (items .entry)) (now (file .entry)) (headerOf h (now (types .entry))) ⌝ }
+{
+    let lim = room_of(nodes.len(), items.len());
+    match read_root(file, types, nodes, items, h, lim) {
+        Walked::Refused(n, p) => {
+            rows::clear_all(nodes, items);
+            Read::Refused(n, p)
+        }
+        Walked::Done(tree, _) => match follow_all(file, types, nodes, items, h, lim, tree) {
+            Walked::Refused(n, p) => {
+                rows::clear_all(nodes, items);
+                Read::Refused(n, p)
+            }
+            Walked::Done(m, _) => {
+                room::clear_from(nodes, m.nodes * cursor::NODE_WIDTH);
+                room::clear_from(items, m.items * cursor::ITEM_WIDTH);
+                let edition = h.edition;
+                let extent = h.extent;
+                let headerEnd = extent.end;
+                let is = Summary {
+                    version: h.version,
+                    edition,
+                    headerEnd,
+                    tree: tree.nodes,
+                    nodes: m.nodes,
+                    items: m.items,
+                };
+                Read::Is(is)
+            }
+        },
+    }
+}
+
+// Reads a file into the two tables: the start of every question.
+pub fn read_file(file: &[u8], nodes: &mut [u64], items: &mut [u64]) -> Read
+    ensures answer { λ r. ⌜ r ≡ readOf (reads (now (nodes .entry)) (now (items .entry)) (now (file .entry))) ⌝ }
+    ensures nodes { λ _. ⌜ now (nodes .exit) ≡ nodesRead (now (nodes .entry)) (now (items .entry)) (now (file .entry)) ⌝ }
+    ensures items { λ _. ⌜ now (items .exit) ≡ itemsRead (now (nodes .entry)) (now (items .entry)) (now (file .entry)) ⌝ }
+{
+    let mut types = [0u64; header::MOST_TYPES * 2];
+    match header::read_header(file, &mut types) {
+        Headed::Refused(n, p) => {
+            rows::clear_all(nodes, items);
+            Read::Refused(n, p)
+        }
+        Headed::Is(h) => read_behind(file, &types, nodes, items, h),
+    }
+}
+
+// The first question: reads the tree into the two tables.
+pub fn read_tree(file: &[u8], nodes: &mut [u64], items: &mut [u64]) -> Answer
+    ensures answer { λ r. ⌜ r ≡ answerOf (reads (now (nodes .entry)) (now (items .entry)) (now (file .entry))) ⌝ }
+    ensures nodes { λ _. ⌜ now (nodes .exit) ≡ nodesRead (now (nodes .entry)) (now (items .entry)) (now (file .entry)) ⌝ }
+    ensures items { λ _. ⌜ now (items .exit) ≡ itemsRead (now (nodes .entry)) (now (items .entry)) (now (file .entry)) ⌝ }
+{
+    match read_file(file, nodes, items) {
+        Read::Refused(n, p) => Answer::Refused(n, p.0),
+        Read::Is(s) => Answer::Tree(s.version, s.nodes, s.items),
+    }
+}

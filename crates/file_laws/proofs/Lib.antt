@@ -1,0 +1,10 @@
+pub mod Demand
+pub mod Apart
+pub mod Limited
+pub mod First
+pub mod Links
+pub mod Listed
+pub mod Stays
+pub mod EachNode
+pub mod Small
+pub mod Words

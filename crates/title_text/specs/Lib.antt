@@ -1,0 +1,4 @@
+pub mod Description
+pub mod Text
+pub mod Title
+pub mod Worked
