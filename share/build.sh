@@ -66,11 +66,12 @@ built_look() {
     newer=$(built_newer "$crates" "$mark")
     [ -n "$newer" ] || return
     why="$newer is newer than $result"
-    # if times alone changed, the mark becomes as new as the look at the contents, where this user may write
-    (printf '%s\n' "$kit" "$sum" "$crates" >"$root/$mark.$$") 2>/dev/null
+    # if times alone changed, the mark becomes as new as the look at the contents, where this user may write and the disk has room
+    whole=''
+    (printf '%s\n' "$kit" "$sum" "$crates" >"$root/$mark.$$") 2>/dev/null && whole=1
     if [ -n "$sum" ] && [ "$(built_sum "$crates")" = "$sum" ]; then
         why=''
-        mv -f "$root/$mark.$$" "$root/$mark" 2>/dev/null
+        [ -z "$whole" ] || mv -f "$root/$mark.$$" "$root/$mark" 2>/dev/null
     fi
     rm -f "$root/$mark.$$" 2>/dev/null
 }
