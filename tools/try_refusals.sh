@@ -68,7 +68,7 @@ text = text[text.index("pub fn meaning") : text.index("not in the list")]
 found = re.findall(r'(\d+) => (?:\{\s*)?"((?:[^"\\]|\\\n)*)"', text)
 compare("rust/xmf", meanings, [(int(n), words(m.replace("\\\n", ""))) for n, m in found])
 
-text = read("crates/cursor/specs/Refusals.antt")
+text = read("crates/cursor/specs/Refusals.antt") + read("crates/room/specs/Room.antt")
 compare("Refusals.antt", names, sorted((int(n), a) for a, n in re.findall(r"^(\w+) = (\d+)$", text, re.M)))
 text = read("crates/cursor/src/lib.rt")
 compare("cursor", constants, [(int(n), a) for a, n in re.findall(r"^pub const (\w+): u64 = (\d+);$", text, re.M)])

@@ -264,8 +264,7 @@ module _ (f : List ℕ) where
 
   own-match : OfRow Match match-nil match-on f
   own-match x parent depth s m at w q e body b v r =
-      let z = front-ordered x parent depth s m f at e in
-      let c = contents-at x parent depth s m f at e body r in
+      let z = front-ordered x parent depth s m f at e in let c = contents-at x parent depth s m f at e body r in
       let n = own-row x parent depth s m f at e in record {
         sound = λ k κ h. elim (subst (λ ns. Some (OfNode f) ns k κ) n h) [ inl o ↦ own-sound x parent depth s m at w q e z c k κ o | inr o ↦ absurd o ];
         complete = λ k κ h. let (κ′, o) = own-complete x parent depth s m at w q e z c k κ h in (κ′, subst (λ ns. Some (OfNode f) ns k κ′) (sym n) (inl o));

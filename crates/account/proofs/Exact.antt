@@ -80,9 +80,7 @@ module _ (lim : Limits) (f : List ℕ) {h : Header} {ns : List Node} {is : List 
 
   sums : Sums (inNodes f ns) (inItems is)
   sums =
-      let s = summed f ns none in
-      let (a, b) = data-summed is nothing in
-      let R = rows-count lim f r in
+      let s = summed f ns none in let (a, b) = data-summed is nothing in let R = rows-count lim f r in
       let p = rows-parts f lim r in
       record {
         nodes = omega (arith, s .nodes, R .frames);

@@ -59,8 +59,7 @@ module _ (lim : Limits) (f g : List ℕ) {h : Header} {ns : List Node} {is : Lis
   events-alike : eventsOf lim g h ≡ eventsOf lim f h
   unfolding eventsOf
   events-alike =
-      let x = private-alike lim f g r d in
-      let e = header-same (read-back lim f r) (x .read-as) in
+      let x = private-alike lim f g r d in let e = header-same (read-back lim f r) (x .read-as) in
       let l = subst (λ v. logFrom lim g v ≡ logFrom lim f v) (sym e) (x .same-log) in
       let t = stable privateData (header (length f)) f g 0 (x .keeps-header) .1 in
       rw (l, ← d .same-length, ← t) refl

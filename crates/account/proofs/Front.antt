@@ -48,15 +48,13 @@ head-numbers : (s : Bounds) (f : List ℕ) (at : ℕ) {h : Head} {q : ℕ} → r
 unfolding head headerLength
 head-numbers s f at {h} {q} e =
     let x = split (number nodeFrame 3 (s .end .0)) _ f at (at-place f at _ e .0) in
-    let c₁ = at-check f (x .p) _ _ _ _ (x .second) in
-    let c₂ = at-check f (x .p) _ _ _ _ (c₁ .1) in
+    let c₁ = at-check f (x .p) _ _ _ _ (x .second) in let c₂ = at-check f (x .p) _ _ _ _ (c₁ .1) in
     let c₃ = at-check f (x .p) _ _ _ _ (c₂ .1) in
     let y = split (number nodeFrame 3 (at + x .a)) _ f (x .p) (c₃ .1) in
     let c₄ = at-check f (y .p) _ _ _ _ (y .second) in
     let z = split (number nodeFrame 3 (at + x .a)) _ f (y .p) (at-place f (y .p) _ (c₄ .1) .0) in
     let c₅ = at-check f (z .p) _ _ _ _ (at-place f (z .p) _ (z .second) .0) in
-    let c₆ = at-check f (z .p) _ _ _ _ (c₅ .1) in
-    let r = at-ret f (z .p) _ (c₆ .1) in
+    let c₆ = at-check f (z .p) _ _ _ _ (c₅ .1) in let r = at-ret f (z .p) _ (c₆ .1) in
     let i = number-inside nodeFrame 3 (at + x .a) f (x .p) (y .first) in
     subst (λ v. Numbers f (at + v .size .0) at v q) (r .0) (record {
       p₁ = x .p;
@@ -122,8 +120,7 @@ rest-is : (headerEnd size contained inner stop : ℕ) (f : List ℕ) (at : ℕ) 
     (rest headerEnd size contained inner stop) f at ≡ ok o q → RestIs headerEnd size contained inner stop f at o q
 unfolding rest
 rest-is headerEnd size contained inner stop f at {o} {q} e =
-    let d = split (unpackers contained inner) _ f at e in
-    let k = at-place f (d .p) _ (d .second) in
+    let d = split (unpackers contained inner) _ f at e in let k = at-place f (d .p) _ (d .second) in
     let c = at-check f (d .p) _ _ _ _ (k .0) in
     let g = split (reference headerEnd size contained stop) (λ r. ret (record { unpackers = d .a; reference = r })) f (d .p) (c .1) in
     let r = at-ret f (g .p) _ (g .second) in
@@ -154,8 +151,7 @@ pub front-is : (x : Context) (parent depth : ℕ) (s : Bounds) (m : Made) (f : L
     (front x parent depth s m) f at ≡ ok w q → FrontIs x parent depth s m f at w q
 unfolding front
 front-is x parent depth s m f at {w} {q} e =
-    let k = at-place f at _ e in
-    let a = split (head s) _ f at (k .0) in
+    let k = at-place f at _ e in let a = split (head s) _ f at (k .0) in
     let b = split (metadata x (m .nodes) (at + a .a .header .0) m) _ f (a .p) (a .second) in
     let c = split (rest (x .headerEnd) (x .size) (a .a .contained) (at + a .a .header .0) (at + a .a .size .0))
     (λ o. ret (record { row = rowOf at (a .a) parent depth (s .detached) (o .reference) (o .unpackers) (b .a .items - m .items); made = b .a })) f (b .p) (b .second) in
@@ -190,17 +186,12 @@ pub front-ordered : (x : Context) (parent depth : ℕ) (s : Bounds) (m : Made) (
     (front x parent depth s m) f at ≡ ok w q → Ordered x parent depth s m f at w q
 unfolding metaAt metaEnd
 front-ordered x parent depth s m f at {w} {q} e =
-    let y = front-is x parent depth s m f at e in
-    let h = y .h in
-    let inner = at + h .header .0 in
-    let stop = at + h .size .0 in
-    let n = head-numbers s f at (y .headed) in
+    let y = front-is x parent depth s m f at e in let h = y .h in let inner = at + h .header .0 in
+    let stop = at + h .size .0 in let n = head-numbers s f at (y .headed) in
     let t = meta-ends x (m .nodes) inner m f (y .p) (y .told) in
-    let l = y .left in
-    let i = head-inside s f at (y .headed) in
+    let l = y .left in let i = head-inside s f at (y .headed) in
     let u = at-end (inside-free 0 0) f (unpackers-on Nothing 0 0 (h .contained) inner (y .p′)) (l .unpacked) in
-    let v = l .reached in
-    let k = t .ends-at in
+    let v = l .reached in let k = t .ends-at in
     let b = number-inside metaFrame 8 (t .end) f (y .p) (t .length-is) in
     let again = number-wider metaFrame 8 3 (t .end) stop f (y .p) (t .length-is) (omega arith) in
     let row = rowOf at h parent depth (s .detached) (y .o .reference) (y .o .unpackers) (y .m′ .items - m .items) in
@@ -223,20 +214,12 @@ front-ordered x parent depth s m f at {w} {q} e =
 pub front-spends : (x : Context) (parent depth : ℕ) (s : Bounds) (m : Made) (f : List ℕ) (at : ℕ) {w : Front} {q : ℕ} → run (front x parent depth s m) f at ≡ ok w q
     → Spent f (w .row) q (trace (front x parent depth s m) f at)
 front-spends x parent depth s m f at {w} {q} e =
-    let z = front-ordered x parent depth s m f at e in
-    let y = z .is in
-    let l = y .left in
-    let h = y .h in
-    let inner = at + h .header .0 in
-    let stop = at + h .size .0 in
-    let meta = metadata x (m .nodes) inner m in
+    let z = front-ordered x parent depth s m f at e in let y = z .is in let l = y .left in let h = y .h in
+    let inner = at + h .header .0 in let stop = at + h .size .0 in let meta = metadata x (m .nodes) inner m in
     let unpack = unpackers (h .contained) inner in
     let refer = reference (x .headerEnd) (x .size) (h .contained) stop in
     let others-of = rest (x .headerEnd) (x .size) (h .contained) inner stop in
-    let i = z .begins in
-    let j = z .meta-at in
-    let k = z .meta-end in
-    let n = z .header-end in
+    let i = z .begins in let j = z .meta-at in let k = z .meta-end in let n = z .header-end in
     let sum : (t : ℕ → Bool) → count t (trace (front x parent depth s m) f at)
     ≡ count t (trace (head s) f at) + (count t (trace meta f (y .p)) + (count t (trace unpack f (y .p′)) + count t (trace refer f (l .p)))) =
     λ t. omega (

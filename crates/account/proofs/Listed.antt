@@ -7,10 +7,9 @@ use Prim.Native.Nat.{ℕ}
 use native.Mathlib.Omega.{arith}
 use lib.Dec.{T, leb}
 use borrow.Author.Tests.{ne-eqb}
-use Rattle.cursor.specs.Refusals.{ofReader, isAllowed}
+use Rattle.cursor.specs.Refusals.{ofReader, isAllowed, Among}
 use Rattle.metadata.specs.declared.Limits.{Limits}
-use Rattle.room.specs.Room.{Among}
-use Rattle.room.proofs.Listed.{allowed-front, among-if}
+use Rattle.cursor.proofs.Listed.{allowed-front, among-if}
 use Rattle.file.specs.Reading.{Reading, rows, refusal, readFile}
 use Rattle.file.specs.Asking.{Result, good, bad, ask}
 use Rattle.file_laws.proofs.Listed.{refusal-listed}

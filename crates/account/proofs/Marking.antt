@@ -190,8 +190,7 @@ marks-are : (es : Events) (size : ℕ) (t : List ℕ) → size ≤ length t → 
     → t′ ≡ padded (length t) (kindsFrom es 0 size)
 unfolding padded
 marks-are es size t l h e =
-    let n = length-take-le size t l in
-    let z = kinds-length es 0 size in
+    let n = length-take-le size t l in let z = kinds-length es 0 size in
     let same : take size t ≡ kindsFrom es 0 size = ext-getD 0 _ _ (n ∙ sym z)
     (λ i m. let j : i < size = omega arith in let o : 0 + i ≡ i = omega arith in getD-take size t i 0 j ∙ h i j ∙ ap (kindAt es) (sym o) ∙
     sym (kinds-at es 0 size i j)) in

@@ -61,8 +61,7 @@ module _ (f : List ℕ) where
 
   own-parts : OfRow Have have-none have-on f
   own-parts x parent depth s m at w q e body b v r =
-      let z = front-ordered x parent depth s m f at e in
-      let y = front-spends x parent depth s m f at e in
+      let z = front-ordered x parent depth s m f at e in let y = front-spends x parent depth s m f at e in
       let t = at-end any-free f (reference-told (x .headerEnd) (x .size) (z .is .h .contained) (at + z .is .h .size .0) (z .is .left .p)) (z .is .left .referred) in
       let h = front-reference x parent depth s m f at e body r in
       let c = contents-at x parent depth s m f at e body r in

@@ -184,10 +184,8 @@ pub record Counted (n : ℕ) (es : Events) : Type 0 where
 
 pub all-counted : (n : ℕ) (es : Events) → Separate es → ((k : ℕ) → Covers es k → k < n) → Counted n es
 all-counted n es s l =
-    let c = counted (λ κ. not (eqb 8 κ)) refl n es s l in
-    let a = all-kinds es in
-    let b = places-not (λ k. eqb 8 (kindAt es k)) n in
-    let e = eight-kinds es in
+    let c = counted (λ κ. not (eqb 8 κ)) refl n es s l in let a = all-kinds es in
+    let b = places-not (λ k. eqb 8 (kindAt es k)) n in let e = eight-kinds es in
     record { each = λ κ h. counted (eqb κ) (ne-eqb κ 8 (λ z. omega arith)) n es s l; all-else = omega arith; total = omega arith }
 
 -- ---- each place has exactly one kind

@@ -23,9 +23,7 @@ module _ (f : List ℕ) (r : Node) where
   pub four-left : Inside f r → (r .start + 4 ≤ length f) × (behind f (r .start) + 4 ≤ length f) × (behind f (behind f (r .start)) + 4 ≤ length f)
   unfolding metaAt
   four-left i =
-      let p = behind f (r .start) in
-      let a = last-on f 3 (r .start) in
-      let b = last-on f 3 p in
+      let p = behind f (r .start) in let a = last-on f 3 (r .start) in let b = last-on f 3 p in
       let c = last-on f 3 (behind f p) in
       (omega arith, omega arith, omega arith)
 

@@ -125,13 +125,10 @@ module _ (lim : Limits) (f : List ℕ) {h : Header} {ns : List Node} {is : List 
 
   pub rows-count : RowsCount (counts (length f) (eventsOf lim f h))
   rows-count =
-      let a = read-back lim f r in
-      let b = by-rows f lim a in
-      let d = data-sums (a .log) (length f) (log-inside a) in
+      let a = read-back lim f r in let b = by-rows f lim a in let d = data-sums (a .log) (length f) (log-inside a) in
       let v = d .0 ∙ ap (sumOver (dataOf false)) (a .items-are) in
       let u = d .1 ∙ ap (sumOver (dataOf true)) (a .items-are) in
-      let t = three-kinds (a .log) in
-      let y = no-sum ns in
+      let t = three-kinds (a .log) in let y = no-sum ns in
       let x = spends (eqb 0) (header-uses tt tt (length f)) f 0 (a .header-is) in
       let top = trace (header (length f)) f 0 in
       let on : (s : ℕ → Bool) → count s (top ++ a .log) ≡ count s top + count s (a .log) = λ s. count-on s top (a .log) in

@@ -15,7 +15,7 @@ use Rattle.node.specs.Node.{headerLength, head, value, identifier, unpacker, en
 use Rattle.tree.specs.Tree as tree
 use Rattle.tree.specs.Tree.{folder, node}
 use Rattle.file.specs.Reading.{logged, detachedAt, followRow, follow, reading, readTree, readFile}
-use Rattle.targets.specs.Targets.{startsAt, offsetAt, isMissing, outside, partEnd, firstTaken}
+use Rattle.targets.specs.Targets.{startsAt, offsetAt, isMissing, outside, partEnd, isTaken, firstOf, firstTaken}
 use Rattle.room.specs.Room.{padded, fitting, kept}
 use Rattle.file.specs.Asking.{Result, good, bad, ask}
 use Rattle.file.specs.Hidden.{isHidden}
@@ -77,5 +77,5 @@ cases : (given worked ≡ good (record { header = 21; nodes = 6; metadata = 17; 
     × (totalWords (totalsLeft (after 0) (given worked)) ≡ 1 ∷ 0 ∷ 21 ∷ 6 ∷ 17 ∷ 4 ∷ 2 ∷ 2 ∷ 2 ∷ 2 ∷ 0 ∷ [])
     × (totalWords (totalsLeft (after 1) (given (take 55 worked))) ≡ 2 ∷ 2 ∷ 0 ∷ 0 ∷ 0 ∷ 0 ∷ 0 ∷ 0 ∷ 0 ∷ 0 ∷ 0 ∷ [])
     × (totalWords (totalsLeft (after 1000) (given worked)) ≡ 1000 ∷ 1000 ∷ 0 ∷ 0 ∷ 0 ∷ 0 ∷ 0 ∷ 0 ∷ 0 ∷ 0 ∷ 0 ∷ [])
-unfolding run trace rowsOf _>>=_ _>>_ if_then_else_ place skip check turns many times next digits number block manufacturer guid formatOf four opening edition fileLength entry typesTable extent header field contents itemFrame universal declaredFormat version rowsFor item nextItem metaItems metadata headerLength head value identifier unpacker entries unpackers resource nodePlace uriPlace target reference rest front folder node tree.tree startsAt offsetAt isMissing logged outside partEnd firstTaken detachedAt followRow follow tree.detached reading readTree readFile ask isHidden kindAt kindsFrom places eventsOf kindsOf allowed totalsLeft padded fitting kept marksOf given kindsIn marksIn
+unfolding run trace rowsOf _>>=_ _>>_ if_then_else_ place skip check turns many times next digits number block manufacturer guid formatOf four opening edition fileLength entry typesTable extent header field contents itemFrame universal declaredFormat version rowsFor item nextItem metaItems metadata headerLength head value identifier unpacker entries unpackers resource nodePlace uriPlace target reference rest front folder node tree.tree startsAt offsetAt isMissing logged outside partEnd isTaken firstOf firstTaken detachedAt followRow follow tree.detached reading readTree readFile ask isHidden kindAt kindsFrom places eventsOf kindsOf allowed totalsLeft padded fitting kept marksOf given kindsIn marksIn
 cases = (refl, refl, refl, refl, refl, refl, refl, refl, refl, refl, refl, refl, refl)

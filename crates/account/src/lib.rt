@@ -3,6 +3,7 @@ ghost use mathlib.Core.Path.{_≡_};
 ghost use Prim.Native.Nat.{_+_, _*_, _^_, _≤_, _<_};
 ghost use lib.ListN.{length};
 ghost use Rattle.machine.specs.Machine.{run};
+ghost use Rattle.room.specs.Moments.{old, new};
 ghost use Rattle.cursor.specs.Rows.{metaFrame, inlineSize};
 ghost use Rattle.cursor.specs.Refusals.{cutShort};
 ghost use Rattle.cursor.specs.Leaves.{number};
@@ -69,7 +70,7 @@ pub const MOST_FILES: usize = 1000;
 // The last byte of the number at `at`: its first below 80h, of at most four.
 fn last_byte(file: &[u8], at: usize) -> usize
     requires { ⌜ (at + 4 ≤ length (now file)) × (length (now file) < 2 ^ 28) ⌝ }
-    ensures { λ r. ⌜ (r ≡ lastByte (now (file .entry)) at) × (r < at + 4) ⌝ }
+    ensures { λ r. ⌜ (r ≡ lastByte (old file) at) × (r < at + 4) ⌝ }
 {
     if file[at] < 128 {
         return at;
@@ -86,7 +87,7 @@ fn last_byte(file: &[u8], at: usize) -> usize
 // The bytes of the number at `at`, in a part that ends at `end`, and so many as it says. Almost every such number is one byte.
 fn block_size(file: &[u8], end: usize, at: usize) -> usize
     requires { ⌜ (at < end) × Readable end (now file) ⌝ }
-    ensures { λ r. ⌜ r ≡ counted at (run (number metaFrame cutShort end) (now (file .entry)) at) ⌝ }
+    ensures { λ r. ⌜ r ≡ counted at (run (number metaFrame cutShort end) (old file) at) ⌝ }
 {
     let first = cursor::wide(file[at]);
     if first < 128 {
@@ -101,7 +102,7 @@ fn block_size(file: &[u8], end: usize, at: usize) -> usize
 // Where a node's metadata begins: behind its three numbers.
 fn meta_at(file: &[u8], row: Node) -> usize
     requires { ⌜ Inside (now file) row ⌝ }
-    ensures { λ r. ⌜ r ≡ metaAt (now (file .entry)) row ⌝ }
+    ensures { λ r. ⌜ r ≡ metaAt (old file) row ⌝ }
 {
     let contained = last_byte(file, row.start as usize) + 1;
     let header = last_byte(file, contained) + 1;
@@ -133,7 +134,7 @@ fn inline_size(row: Node) -> usize
 // A node's own bytes, added to these.
 fn with_node(k: Frames, file: &[u8], row: Node) -> Frames
     requires { ⌜ Inside (now file) row × SmallFrames (withNode (now file) k row) ⌝ }
-    ensures { λ r. ⌜ r ≡ withNode (now (file .entry)) k row ⌝ }
+    ensures { λ r. ⌜ r ≡ withNode (old file) k row ⌝ }
 {
     let headers = k.headers + row.header as usize;
     let fronts = k.fronts + (row.size as usize - follow_size(row));
@@ -153,7 +154,7 @@ fn with_node(k: Frames, file: &[u8], row: Node) -> Frames
 // The own bytes of all nodes.
 fn in_nodes(file: &[u8], nodes: &[u64], count: usize) -> Frames
     requires { ⌜ NodesInside (now file) count (now nodes) × SmallFrames (inNodes (now file) (nodesIn count (now nodes))) ⌝ }
-    ensures { λ r. ⌜ r ≡ inNodes (now (file .entry)) (nodesIn count (now (nodes .entry))) ⌝ }
+    ensures { λ r. ⌜ r ≡ inNodes (old file) (nodesIn count (old nodes)) ⌝ }
 {
     let mut sum = Frames {
         nodes: 0,
@@ -184,7 +185,7 @@ fn with_item(d: Data, row: Item) -> Data
 // The data of all item rows.
 fn in_items(items: &[u64], count: usize) -> Data
     requires { ⌜ (count * itemWidth ≤ length (now items)) × SmallData (inItems (itemsIn count (now items))) ⌝ }
-    ensures { λ r. ⌜ r ≡ inItems (itemsIn count (now (items .entry))) ⌝ }
+    ensures { λ r. ⌜ r ≡ inItems (itemsIn count (old items)) ⌝ }
 {
     let mut sum = Data { all: 0, hidden: 0 };
     let mut i = 0;
@@ -223,7 +224,7 @@ fn kinds_of(
     rows: usize,
 ) -> Kinds
     requires { ⌜ RowsFit (now file) (end .0) count (now nodes) rows (now items) ⌝ }
-    ensures { λ r. ⌜ r ≡ kindsBy (now (file .entry)) (end .0) (nodesIn count (now (nodes .entry))) (itemsIn rows (now (items .entry))) ⌝ }
+    ensures { λ r. ⌜ r ≡ kindsBy (old file) (end .0) (nodesIn count (old nodes)) (itemsIn rows (old items)) ⌝ }
 {
     let own = in_nodes(file, nodes, count);
     let data = in_items(items, rows);
@@ -285,10 +286,10 @@ fn add_refused(t: Totals) -> Totals
 
 // Reads the file and counts its bytes by kind; the totals with them added. A refused file is one more file and one more refused; a 1,001st is neither.
 pub fn account(file: &[u8], nodes: &mut [u64], items: &mut [u64], totals: Totals) -> Accounted
-    ensures answer { λ r. ⌜ told r ≡ answer totals (now (nodes .entry)) (now (items .entry)) (now (file .entry)) ⌝ }
-    ensures totals { λ r. ⌜ totalsIn r ≡ totalsAfter totals (now (nodes .entry)) (now (items .entry)) (now (file .entry)) ⌝ }
-    ensures nodes { λ _. ⌜ now (nodes .exit) ≡ nodesAfter totals (now (nodes .entry)) (now (items .entry)) (now (file .entry)) ⌝ }
-    ensures items { λ _. ⌜ now (items .exit) ≡ itemsAfter totals (now (nodes .entry)) (now (items .entry)) (now (file .entry)) ⌝ }
+    ensures answer { λ r. ⌜ told r ≡ answer totals (old nodes) (old items) (old file) ⌝ }
+    ensures totals { λ r. ⌜ totalsIn r ≡ totalsAfter totals (old nodes) (old items) (old file) ⌝ }
+    ensures nodes { λ _. ⌜ new nodes ≡ nodesAfter totals (old nodes) (old items) (old file) ⌝ }
+    ensures items { λ _. ⌜ new items ≡ itemsAfter totals (old nodes) (old items) (old file) ⌝ }
 {
     if MOST_FILES <= totals.files {
         rows::clear_all(nodes, items);

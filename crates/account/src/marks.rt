@@ -2,6 +2,7 @@
 ghost use mathlib.Core.Path.{_≡_};
 ghost use Prim.Native.Nat.{_+_, _*_, _^_, _≤_, _<_, min};
 ghost use lib.ListN.{length};
+ghost use Rattle.room.specs.Moments.{old, new};
 ghost use Rattle.rows.specs.Rows.{itemWidth, nodesIn, itemsIn};
 ghost use Rattle.room.specs.Room.{counted, kept};
 ghost use Rattle.room.specs.Told.{told};
@@ -48,7 +49,7 @@ fn lesser(a: usize, b: usize) -> usize
 
 // Marks the places from one up to another, as far as there are marks.
 fn fill(marks: &mut [u8], from: usize, to: usize, kind: u8)
-    ensures { λ _. ⌜ Becomes (now (marks .entry)) (now (marks .exit)) (spanned from to kind) ⌝ }
+    ensures { λ _. ⌜ Becomes (old marks) (new marks) (spanned from to kind) ⌝ }
 {
     let end = lesser(to, marks.len());
     let mut at = from;
@@ -72,7 +73,7 @@ fn contents_at(row: Node) -> usize
 // Marks the parts of a node.
 fn mark_node(marks: &mut [u8], file: &[u8], row: Node)
     requires { ⌜ Inside (now file) row ⌝ }
-    ensures { λ _. ⌜ Becomes (now (marks .entry)) (now (marks .exit)) (λ m. overNode (now (file .entry)) m row) ⌝ }
+    ensures { λ _. ⌜ Becomes (old marks) (new marks) (λ m. overNode (old file) m row) ⌝ }
 {
     let start = row.start as usize;
     let end = start + row.size as usize;
@@ -90,7 +91,7 @@ fn mark_node(marks: &mut [u8], file: &[u8], row: Node)
 
 // Marks the data of an item row.
 fn mark_item(marks: &mut [u8], row: Item)
-    ensures { λ _. ⌜ Becomes (now (marks .entry)) (now (marks .exit)) (λ m. overItem m row) ⌝ }
+    ensures { λ _. ⌜ Becomes (old marks) (new marks) (λ m. overItem m row) ⌝ }
 {
     let place = row.place as usize;
     let end = room::on(place, row.size as usize);
@@ -104,7 +105,7 @@ fn mark_item(marks: &mut [u8], row: Item)
 // Marks the parts of all nodes.
 fn mark_nodes(marks: &mut [u8], file: &[u8], nodes: &[u64], count: usize)
     requires { ⌜ NodesInside (now file) count (now nodes) ⌝ }
-    ensures { λ _. ⌜ Becomes (now (marks .entry)) (now (marks .exit)) (λ m. folded (overNode (now (file .entry))) m (nodesIn count (now (nodes .entry)))) ⌝ }
+    ensures { λ _. ⌜ Becomes (old marks) (new marks) (λ m. folded (overNode (old file)) m (nodesIn count (old nodes))) ⌝ }
 {
     let mut i = 0;
     while i < count {
@@ -116,7 +117,7 @@ fn mark_nodes(marks: &mut [u8], file: &[u8], nodes: &[u64], count: usize)
 // Marks the data of all item rows.
 fn mark_items(marks: &mut [u8], items: &[u64], count: usize)
     requires { ⌜ count * itemWidth ≤ length (now items) ⌝ }
-    ensures { λ _. ⌜ Becomes (now (marks .entry)) (now (marks .exit)) (λ m. folded overItem m (itemsIn count (now (items .entry)))) ⌝ }
+    ensures { λ _. ⌜ Becomes (old marks) (new marks) (λ m. folded overItem m (itemsIn count (old items))) ⌝ }
 {
     let mut i = 0;
     while i < count {
@@ -136,7 +137,7 @@ fn mark_rows(
     rows: usize,
 )
     requires { ⌜ NodesInside (now file) count (now nodes) × (rows * itemWidth ≤ length (now items)) ⌝ }
-    ensures { λ _. ⌜ Shows (now (marks .exit)) (kindByRows (now (file .entry)) (end .0) (nodesIn count (now (nodes .entry))) (itemsIn rows (now (items .entry)))) ⌝ }
+    ensures { λ _. ⌜ Shows (new marks) (kindByRows (old file) (end .0) (nodesIn count (old nodes)) (itemsIn rows (old items))) ⌝ }
 {
     fill(marks, 0, marks.len(), ALL_ELSE);
     fill(marks, 0, end.0, OF_HEADER);
@@ -146,10 +147,10 @@ fn mark_rows(
 
 // Reads the file and stores the kind of each of its places; 0 behind them. The answer is the number of places.
 pub fn mark(file: &[u8], nodes: &mut [u64], items: &mut [u64], marks: &mut [u8]) -> Written
-    ensures answer { λ r. ⌜ told r ≡ counted (marked (now (nodes .entry)) (now (items .entry)) (now (file .entry)) (length (now (marks .entry)))) ⌝ }
-    ensures nodes { λ _. ⌜ now (nodes .exit) ≡ nodesMarked (now (nodes .entry)) (now (items .entry)) (now (file .entry)) (length (now (marks .entry))) ⌝ }
-    ensures items { λ _. ⌜ now (items .exit) ≡ itemsMarked (now (nodes .entry)) (now (items .entry)) (now (file .entry)) (length (now (marks .entry))) ⌝ }
-    ensures marks { λ _. ⌜ now (marks .exit) ≡ kept (length (now (marks .entry))) (marked (now (nodes .entry)) (now (items .entry)) (now (file .entry)) (length (now (marks .entry)))) ⌝ }
+    ensures answer { λ r. ⌜ told r ≡ counted (marked (old nodes) (old items) (old file) (length (old marks))) ⌝ }
+    ensures nodes { λ _. ⌜ new nodes ≡ nodesMarked (old nodes) (old items) (old file) (length (old marks)) ⌝ }
+    ensures items { λ _. ⌜ new items ≡ itemsMarked (old nodes) (old items) (old file) (length (old marks)) ⌝ }
+    ensures marks { λ _. ⌜ new marks ≡ kept (length (old marks)) (marked (old nodes) (old items) (old file) (length (old marks))) ⌝ }
 {
     match file::read_file(file, nodes, items) {
         Read::Refused(n, p) => {

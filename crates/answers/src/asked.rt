@@ -1,5 +1,6 @@
 // Every question that the command asks of a file, and the answer.
 ghost use lib.ListN.{length};
+ghost use Rattle.room.specs.Moments.{old, new};
 ghost use Rattle.io.specs.Counts.{Counts};
 ghost use Rattle.lines.specs.Answer.{Gives};
 ghost use Rattle.answers.specs.Questions.{answerOf};
@@ -40,8 +41,8 @@ pub enum Asked {
 
 // Makes the answer for a file, whose line ends in the field that is lent.
 pub fn make(asked: Asked, word: &[u8], file: &[u8], tail: &[u8], text: &mut [u8]) -> Made
-    ensures { λ r. ⌜ Counts (r .size) (now (text .exit)) ⌝ }
-    ensures { λ r. ⌜ Gives (length (now (text .entry))) r (now (text .exit)) (answerOf (now (word .entry)) (now (tail .entry)) (length (now (text .entry))) (now (file .entry)) asked) ⌝ }
+    ensures { λ r. ⌜ Counts (r .size) (new text) ⌝ }
+    ensures { λ r. ⌜ Gives (length (old text)) r (new text) (answerOf (old word) (old tail) (length (old text)) (old file) asked) ⌝ }
 {
     if file.len() > program::LONGEST {
         return lines::refuse_long(text, tail);

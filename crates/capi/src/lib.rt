@@ -1,6 +1,7 @@
 // The questions, the conversions of text and the shelf for C and Rust. Each slice passes as a pointer and a length. The last one is a lent buffer of words for the answer: refusal
 // number (0: none), place, then the answer's values, and zeros; a short buffer gets what fits.
 ghost use mathlib.Core.List.{_∷_, []};
+ghost use Rattle.room.specs.Moments.{old, new};
 ghost use Rattle.shelf.specs.Shelf.{label};
 ghost use Rattle.shelf.specs.Runs.{putting, dropping};
 ghost use Rattle.promises.specs.Promises.{readTree, findItem, findOwn, resolveRow, copyResource, countFor, judgeMobile, writeSheet, writeSheet2, correctTitle, mendHeader, toUtf8, toUtf16, moveSheet, countFrames, tagFrame};
@@ -14,7 +15,7 @@ pub extern "C" fn xmf_read_tree(
     items: &mut [u64],
     answer: &mut [u64],
 )
-    ensures { λ _. ⌜ Leaves readTree (now (file .entry)) (now (nodes .entry) ∷ now (items .entry) ∷ []) (now (nodes .exit) ∷ now (items .exit) ∷ []) (now (answer .entry)) (now (answer .exit)) ⌝ }
+    ensures { λ _. ⌜ Leaves readTree (old file) (old nodes ∷ old items ∷ []) (new nodes ∷ new items ∷ []) (old answer) (new answer) ⌝ }
 {
     words::put_tree(answer, file::read_tree(file, nodes, items));
 }
@@ -31,8 +32,7 @@ pub extern "C" fn xmf_find(
     name: &[u8],
     answer: &mut [u64],
 )
-    ensures { λ _. ⌜ Leaves (findItem (asked kind number (now (name .entry))) row) (now (file .entry)) (now (nodes .entry) ∷ now (items .entry) ∷ [])
-        (now (nodes .exit) ∷ now (items .exit) ∷ []) (now (answer .entry)) (now (answer .exit)) ⌝ }
+    ensures { λ _. ⌜ Leaves (findItem (asked kind number (old name)) row) (old file) (old nodes ∷ old items ∷ []) (new nodes ∷ new items ∷ []) (old answer) (new answer) ⌝ }
 {
     if kind == 0 {
         words::put_found(answer, find::find_standard(file, nodes, items, row, number));
@@ -53,8 +53,7 @@ pub extern "C" fn xmf_find_own(
     name: &[u8],
     answer: &mut [u64],
 )
-    ensures { λ _. ⌜ Leaves (findOwn (asked kind number (now (name .entry))) row) (now (file .entry)) (now (nodes .entry) ∷ now (items .entry) ∷ [])
-        (now (nodes .exit) ∷ now (items .exit) ∷ []) (now (answer .entry)) (now (answer .exit)) ⌝ }
+    ensures { λ _. ⌜ Leaves (findOwn (asked kind number (old name)) row) (old file) (old nodes ∷ old items ∷ []) (new nodes ∷ new items ∷ []) (old answer) (new answer) ⌝ }
 {
     if kind == 0 {
         words::put_found(
@@ -75,8 +74,7 @@ pub extern "C" fn xmf_resolve(
     row: usize,
     answer: &mut [u64],
 )
-    ensures { λ _. ⌜ Leaves (resolveRow row) (now (file .entry)) (now (nodes .entry) ∷ now (items .entry) ∷ [])
-        (now (nodes .exit) ∷ now (items .exit) ∷ []) (now (answer .entry)) (now (answer .exit)) ⌝ }
+    ensures { λ _. ⌜ Leaves (resolveRow row) (old file) (old nodes ∷ old items ∷ []) (new nodes ∷ new items ∷ []) (old answer) (new answer) ⌝ }
 {
     words::put_resolved(answer, resolve::resolve(file, nodes, items, row));
 }
@@ -91,8 +89,7 @@ pub extern "C" fn xmf_resource(
     out: &mut [u8],
     answer: &mut [u64],
 )
-    ensures { λ _. ⌜ Leaves (copyResource row) (now (file .entry)) (now (nodes .entry) ∷ now (items .entry) ∷ now (out .entry) ∷ [])
-        (now (nodes .exit) ∷ now (items .exit) ∷ now (out .exit) ∷ []) (now (answer .entry)) (now (answer .exit)) ⌝ }
+    ensures { λ _. ⌜ Leaves (copyResource row) (old file) (old nodes ∷ old items ∷ old out ∷ []) (new nodes ∷ new items ∷ new out ∷ []) (old answer) (new answer) ⌝ }
 {
     words::put_resolved(answer, resolve::copy_resource(file, nodes, items, row, out));
 }
@@ -108,8 +105,7 @@ pub extern "C" fn xmf_voice_count(
     resource: u64,
     answer: &mut [u64],
 )
-    ensures { λ _. ⌜ Leaves (countFor «item_row» channel resource) (now (file .entry)) (now (nodes .entry) ∷ now (items .entry) ∷ [])
-        (now (nodes .exit) ∷ now (items .exit) ∷ []) (now (answer .entry)) (now (answer .exit)) ⌝ }
+    ensures { λ _. ⌜ Leaves (countFor «item_row» channel resource) (old file) (old nodes ∷ old items ∷ []) (new nodes ∷ new items ∷ []) (old answer) (new answer) ⌝ }
 {
     words::put_counted(
         answer,
@@ -120,7 +116,7 @@ pub extern "C" fn xmf_voice_count(
 // Judges Mobile XMF. Answer: the verdict.
 #[no_mangle]
 pub extern "C" fn xmf_judge(file: &[u8], nodes: &mut [u64], items: &mut [u64], answer: &mut [u64])
-    ensures { λ _. ⌜ Leaves judgeMobile (now (file .entry)) (now (nodes .entry) ∷ now (items .entry) ∷ []) (now (nodes .exit) ∷ now (items .exit) ∷ []) (now (answer .entry)) (now (answer .exit)) ⌝ }
+    ensures { λ _. ⌜ Leaves judgeMobile (old file) (old nodes ∷ old items ∷ []) (new nodes ∷ new items ∷ []) (old answer) (new answer) ⌝ }
 {
     words::put_judged(answer, mobile::judge(file, nodes, items));
 }
@@ -134,8 +130,7 @@ pub extern "C" fn xmf_account(
     totals: &mut [u64],
     answer: &mut [u64],
 )
-    ensures { λ _. ⌜ LeavesTotals (now (file .entry)) (now (nodes .entry)) (now (items .entry))
-        (now (nodes .exit)) (now (items .exit)) (now (totals .entry)) (now (totals .exit)) (now (answer .entry)) (now (answer .exit)) ⌝ }
+    ensures { λ _. ⌜ LeavesTotals (old file) (old nodes) (old items) (new nodes) (new items) (old totals) (new totals) (old answer) (new answer) ⌝ }
 {
     let before = words::read_totals(totals);
     let said = account::account(file, nodes, items, before);
@@ -152,8 +147,7 @@ pub extern "C" fn xmf_write_sheet(
     sheet: &mut [u8],
     answer: &mut [u64],
 )
-    ensures { λ _. ⌜ Leaves writeSheet (now (file .entry)) (now (nodes .entry) ∷ now (items .entry) ∷ now (sheet .entry) ∷ [])
-        (now (nodes .exit) ∷ now (items .exit) ∷ now (sheet .exit) ∷ []) (now (answer .entry)) (now (answer .exit)) ⌝ }
+    ensures { λ _. ⌜ Leaves writeSheet (old file) (old nodes ∷ old items ∷ old sheet ∷ []) (new nodes ∷ new items ∷ new sheet ∷ []) (old answer) (new answer) ⌝ }
 {
     words::put_written(answer, sheet::write_sheet(file, nodes, items, sheet));
 }
@@ -167,8 +161,7 @@ pub extern "C" fn xmf_write_sheet2(
     sheet: &mut [u8],
     answer: &mut [u64],
 )
-    ensures { λ _. ⌜ Leaves writeSheet2 (now (file .entry)) (now (nodes .entry) ∷ now (items .entry) ∷ now (sheet .entry) ∷ [])
-        (now (nodes .exit) ∷ now (items .exit) ∷ now (sheet .exit) ∷ []) (now (answer .entry)) (now (answer .exit)) ⌝ }
+    ensures { λ _. ⌜ Leaves writeSheet2 (old file) (old nodes ∷ old items ∷ old sheet ∷ []) (new nodes ∷ new items ∷ new sheet ∷ []) (old answer) (new answer) ⌝ }
 {
     words::put_written(answer, sheet::write_sheet2(file, nodes, items, sheet));
 }
@@ -184,8 +177,7 @@ pub extern "C" fn xmf_correct_title(
     out: &mut [u8],
     answer: &mut [u64],
 )
-    ensures { λ _. ⌜ Leaves (correctTitle row (now (title .entry))) (now (file .entry)) (now (nodes .entry) ∷ now (items .entry) ∷ now (out .entry) ∷ [])
-        (now (nodes .exit) ∷ now (items .exit) ∷ now (out .exit) ∷ []) (now (answer .entry)) (now (answer .exit)) ⌝ }
+    ensures { λ _. ⌜ Leaves (correctTitle row (old title)) (old file) (old nodes ∷ old items ∷ old out ∷ []) (new nodes ∷ new items ∷ new out ∷ []) (old answer) (new answer) ⌝ }
 {
     words::put_written(
         answer,
@@ -204,8 +196,8 @@ pub extern "C" fn xmf_mend(
     lines: &mut [u8],
     answer: &mut [u64],
 )
-    ensures { λ _. ⌜ Leaves mendHeader (now (file .entry)) (now (nodes .entry) ∷ now (items .entry) ∷ now (copy .entry) ∷ now (lines .entry) ∷ [])
-        (now (nodes .exit) ∷ now (items .exit) ∷ now (copy .exit) ∷ now (lines .exit) ∷ []) (now (answer .entry)) (now (answer .exit)) ⌝ }
+    ensures { λ _. ⌜ Leaves mendHeader (old file) (old nodes ∷ old items ∷ old copy ∷ old lines ∷ [])
+        (new nodes ∷ new items ∷ new copy ∷ new lines ∷ []) (old answer) (new answer) ⌝ }
 {
     words::put_mended(answer, mend::mend(file, nodes, items, copy, lines));
 }
@@ -214,7 +206,7 @@ pub extern "C" fn xmf_mend(
 // stands outside demand 3.
 #[no_mangle]
 pub extern "C" fn xmf_utf16_to_utf8(units: &[u8], text: &mut [u8], answer: &mut [u64])
-    ensures { λ _. ⌜ Leaves (toUtf8 (now (units .entry))) [] (now (text .entry) ∷ []) (now (text .exit) ∷ []) (now (answer .entry)) (now (answer .exit)) ⌝ }
+    ensures { λ _. ⌜ Leaves (toUtf8 (old units)) [] (old text ∷ []) (new text ∷ []) (old answer) (new answer) ⌝ }
 {
     words::put_written(answer, unicode::to_utf8(units, text));
 }
@@ -222,7 +214,7 @@ pub extern "C" fn xmf_utf16_to_utf8(units: &[u8], text: &mut [u8], answer: &mut 
 // Converts UTF-8 into UTF-16, high byte first. Answer: bytes written.
 #[no_mangle]
 pub extern "C" fn xmf_utf8_to_utf16(text: &[u8], units: &mut [u8], answer: &mut [u64])
-    ensures { λ _. ⌜ Leaves (toUtf16 (now (text .entry))) [] (now (units .entry) ∷ []) (now (units .exit) ∷ []) (now (answer .entry)) (now (answer .exit)) ⌝ }
+    ensures { λ _. ⌜ Leaves (toUtf16 (old text)) [] (old units ∷ []) (new units ∷ []) (old answer) (new answer) ⌝ }
 {
     words::put_written(answer, unicode::to_utf16(text, units));
 }
@@ -230,7 +222,7 @@ pub extern "C" fn xmf_utf8_to_utf16(text: &[u8], units: &mut [u8], answer: &mut 
 // Moves a sheet to the other edition. Answer: bytes written.
 #[no_mangle]
 pub extern "C" fn xmf_move_sheet(sheet: &[u8], out: &mut [u8], answer: &mut [u64])
-    ensures { λ _. ⌜ Leaves (moveSheet (now (sheet .entry))) [] (now (out .entry) ∷ []) (now (out .exit) ∷ []) (now (answer .entry)) (now (answer .exit)) ⌝ }
+    ensures { λ _. ⌜ Leaves (moveSheet (old sheet)) [] (old out ∷ []) (new out ∷ []) (old answer) (new answer) ⌝ }
 {
     words::put_written(answer, mover::move_sheet(sheet, out));
 }
@@ -238,7 +230,7 @@ pub extern "C" fn xmf_move_sheet(sheet: &[u8], out: &mut [u8], answer: &mut [u64
 // Counts the frames of an ID3v2.4 tag. Answer: how many there are. It walks what it is given, hidden contents too, and stands outside demand 3.
 #[no_mangle]
 pub extern "C" fn xmf_id3_count(tag: &[u8], answer: &mut [u64])
-    ensures { λ _. ⌜ Leaves (countFrames (now (tag .entry))) [] [] [] (now (answer .entry)) (now (answer .exit)) ⌝ }
+    ensures { λ _. ⌜ Leaves (countFrames (old tag)) [] [] [] (old answer) (new answer) ⌝ }
 {
     words::put_frame_count(answer, id3::frame_count(tag));
 }
@@ -246,7 +238,7 @@ pub extern "C" fn xmf_id3_count(tag: &[u8], answer: &mut [u64])
 // Gives the tag's frame of a number, from 0 in file order. Answer: the name's four bytes as one number, the first one highest; its contents' place in the tag, and length.
 #[no_mangle]
 pub extern "C" fn xmf_id3_frame(tag: &[u8], number: usize, answer: &mut [u64])
-    ensures { λ _. ⌜ Leaves (tagFrame (now (tag .entry)) number) [] [] [] (now (answer .entry)) (now (answer .exit)) ⌝ }
+    ensures { λ _. ⌜ Leaves (tagFrame (old tag) number) [] [] [] (old answer) (new answer) ⌝ }
 {
     words::put_frame(answer, id3::frame(tag, number));
 }
@@ -262,8 +254,7 @@ pub extern "C" fn xmf_shelf_put(
     sheet: &[u8],
     answer: &mut [u64],
 )
-    ensures { λ _. ⌜ LeavesShelf (putting (label desk call boat) (now (sheet .entry)))
-        (now (cards .entry)) (now (cards .exit)) (now (text .entry)) (now (text .exit)) (now (answer .entry)) (now (answer .exit)) ⌝ }
+    ensures { λ _. ⌜ LeavesShelf (putting (label desk call boat) (old sheet)) (old cards) (new cards) (old text) (new text) (old answer) (new answer) ⌝ }
 {
     words::put_outcome(
         answer,
@@ -282,7 +273,7 @@ pub extern "C" fn xmf_shelf_get(
     out: &mut [u8],
     answer: &mut [u64],
 )
-    ensures { λ _. ⌜ LeavesSheet (label desk call boat) (now (cards .entry)) (now (text .entry)) (now (out .entry)) (now (out .exit)) (now (answer .entry)) (now (answer .exit)) ⌝ }
+    ensures { λ _. ⌜ LeavesSheet (label desk call boat) (old cards) (old text) (old out) (new out) (old answer) (new answer) ⌝ }
 {
     words::put_got(answer, shelf::get_words(cards, text, desk, call, boat, out));
 }
@@ -297,7 +288,7 @@ pub extern "C" fn xmf_shelf_drop(
     boat: u64,
     answer: &mut [u64],
 )
-    ensures { λ _. ⌜ LeavesShelf (dropping (label desk call boat)) (now (cards .entry)) (now (cards .exit)) (now (text .entry)) (now (text .exit)) (now (answer .entry)) (now (answer .exit)) ⌝ }
+    ensures { λ _. ⌜ LeavesShelf (dropping (label desk call boat)) (old cards) (new cards) (old text) (new text) (old answer) (new answer) ⌝ }
 {
     words::put_outcome(answer, shelf::drop_words(cards, text, desk, call, boat));
 }

@@ -2,12 +2,12 @@
 ghost use mathlib.Core.Path.{_≡_};
 ghost use Prim.Native.Nat.{ℕ, _/_, _≤_, _<_, min};
 ghost use lib.ListN.{length, getD, take};
-ghost use Rattle.room.specs.Room.{counted, kept};
+ghost use Rattle.room.specs.Moments.{old, new};
 ghost use Rattle.shelf.specs.Shelf.{label, freshCard};
-ghost use Rattle.shelf.specs.Runs.{putting, getting, dropping, answer, next};
+ghost use Rattle.shelf.specs.Runs.{putting, dropping};
 ghost use Rattle.shelf.specs.Rows.{rowOf};
 ghost use Rattle.shelf.specs.Words.{cardsOf, wordsWith};
-ghost use Rattle.shelf.specs.Told.{toldOutcome, toldGot};
+ghost use Rattle.shelf.specs.Told.{toldOutcome, toldGot, ChangesIn, Gets};
 use shelf::Card;
 use shelf::Got;
 use shelf::Outcome;
@@ -25,7 +25,7 @@ fn count(words: usize) -> usize
 
 // Card i of those that are in words, or a fresh one.
 fn card_in(words: &[u64], i: usize) -> Card
-    ensures { λ r. ⌜ r ≡ getD (cardsOf (now (words .entry))) i freshCard ⌝ }
+    ensures { λ r. ⌜ r ≡ getD (cardsOf (old words)) i freshCard ⌝ }
 {
     if i < words.len() / 4 {
         let k = i * 4;
@@ -46,7 +46,7 @@ fn card_in(words: &[u64], i: usize) -> Card
 
 // The cards that are in words, and fresh ones.
 fn load_row(words: &[u64]) -> [Card; 20]
-    ensures { λ r. ⌜ (length r ≡ 20) × ((k : ℕ) → k < 20 → getD r k freshCard ≡ getD (cardsOf (now (words .entry))) k freshCard) ⌝ }
+    ensures { λ r. ⌜ (length r ≡ 20) × ((k : ℕ) → k < 20 → getD r k freshCard ≡ getD (cardsOf (old words)) k freshCard) ⌝ }
 {
     let mut row = [Card {
         desk: 0,
@@ -65,7 +65,7 @@ fn load_row(words: &[u64]) -> [Card; 20]
 
 // Stores the cards in their words, as many as there are words for.
 fn store_row(words: &mut [u64], row: [Card; 20])
-    ensures { λ _. ⌜ now (words .exit) ≡ wordsWith (now (words .entry)) (take (min (length (now (words .entry)) / 4) 20) row) ⌝ }
+    ensures { λ _. ⌜ new words ≡ wordsWith (old words) (take (min (length (old words) / 4) 20) row) ⌝ }
 {
     let n = count(words.len());
     let mut i = 0usize;
@@ -89,9 +89,7 @@ fn put_row(
     sheet: &[u8],
 ) -> Outcome
     requires { ⌜ n ≡ min (length (now words) / 4) 20 ⌝ }
-    ensures { λ r. ⌜ (toldOutcome r ≡ answer (putting (label desk call boat) (now (sheet .entry))) (rowOf (take n row) (now (text .entry))))
-        × (now (words .exit) ≡ wordsWith (now (words .entry)) (next (putting (label desk call boat) (now (sheet .entry))) (rowOf (take n row) (now (text .entry))) .cards))
-        × (now (text .exit) ≡ next (putting (label desk call boat) (now (sheet .entry))) (rowOf (take n row) (now (text .entry))) .text) ⌝ }
+    ensures { λ r. ⌜ ChangesIn (old words) (putting (label desk call boat) (old sheet)) (rowOf (take n row) (old text)) (toldOutcome r) (new words) (new text) ⌝ }
 {
     let mut cards = row;
     let answer = shelf::put(&mut cards[..n], text, desk, call, boat, sheet);
@@ -110,8 +108,7 @@ fn get_row(
     out: &mut [u8],
 ) -> Got
     requires { ⌜ n ≤ 20 ⌝ }
-    ensures { λ r. ⌜ (toldGot r ≡ counted (answer (getting (label desk call boat) (length (now (out .entry)))) (rowOf (take n row) (now (text .entry)))))
-        × (now (out .exit) ≡ kept (length (now (out .entry))) (answer (getting (label desk call boat) (length (now (out .entry)))) (rowOf (take n row) (now (text .entry))))) ⌝ }
+    ensures { λ r. ⌜ Gets (label desk call boat) (rowOf (take n row) (old text)) (toldGot r) (old out) (new out) ⌝ }
 {
     let cards = row;
     shelf::get(&cards[..n], text, desk, call, boat, out)
@@ -128,9 +125,7 @@ fn drop_row(
     boat: u64,
 ) -> Outcome
     requires { ⌜ n ≡ min (length (now words) / 4) 20 ⌝ }
-    ensures { λ r. ⌜ (toldOutcome r ≡ answer (dropping (label desk call boat)) (rowOf (take n row) (now (text .entry))))
-        × (now (words .exit) ≡ wordsWith (now (words .entry)) (next (dropping (label desk call boat)) (rowOf (take n row) (now (text .entry))) .cards))
-        × (now (text .exit) ≡ next (dropping (label desk call boat)) (rowOf (take n row) (now (text .entry))) .text) ⌝ }
+    ensures { λ r. ⌜ ChangesIn (old words) (dropping (label desk call boat)) (rowOf (take n row) (old text)) (toldOutcome r) (new words) (new text) ⌝ }
 {
     let mut cards = row;
     let answer = shelf::drop(&mut cards[..n], text, desk, call, boat);
@@ -147,9 +142,7 @@ pub fn put(
     boat: u64,
     sheet: &[u8],
 ) -> Outcome
-    ensures { λ r. ⌜ (toldOutcome r ≡ answer (putting (label desk call boat) (now (sheet .entry))) (rowOf (take 20 (cardsOf (now (words .entry)))) (now (text .entry))))
-        × (now (words .exit) ≡ wordsWith (now (words .entry)) (next (putting (label desk call boat) (now (sheet .entry))) (rowOf (take 20 (cardsOf (now (words .entry)))) (now (text .entry))) .cards))
-        × (now (text .exit) ≡ next (putting (label desk call boat) (now (sheet .entry))) (rowOf (take 20 (cardsOf (now (words .entry)))) (now (text .entry))) .text) ⌝ }
+    ensures { λ r. ⌜ ChangesIn (old words) (putting (label desk call boat) (old sheet)) (rowOf (take 20 (cardsOf (old words))) (old text)) (toldOutcome r) (new words) (new text) ⌝ }
 {
     let n = count(words.len());
     let row = load_row(words);
@@ -157,8 +150,7 @@ pub fn put(
 }
 
 pub fn get(words: &[u64], text: &[u8], desk: u64, call: u64, boat: u64, out: &mut [u8]) -> Got
-    ensures { λ r. ⌜ (toldGot r ≡ counted (answer (getting (label desk call boat) (length (now (out .entry)))) (rowOf (take 20 (cardsOf (now (words .entry)))) (now (text .entry)))))
-        × (now (out .exit) ≡ kept (length (now (out .entry))) (answer (getting (label desk call boat) (length (now (out .entry)))) (rowOf (take 20 (cardsOf (now (words .entry)))) (now (text .entry))))) ⌝ }
+    ensures { λ r. ⌜ Gets (label desk call boat) (rowOf (take 20 (cardsOf (old words))) (old text)) (toldGot r) (old out) (new out) ⌝ }
 {
     let n = count(words.len());
     let row = load_row(words);
@@ -166,9 +158,7 @@ pub fn get(words: &[u64], text: &[u8], desk: u64, call: u64, boat: u64, out: &mu
 }
 
 pub fn drop(words: &mut [u64], text: &mut [u8], desk: u64, call: u64, boat: u64) -> Outcome
-    ensures { λ r. ⌜ (toldOutcome r ≡ answer (dropping (label desk call boat)) (rowOf (take 20 (cardsOf (now (words .entry)))) (now (text .entry))))
-        × (now (words .exit) ≡ wordsWith (now (words .entry)) (next (dropping (label desk call boat)) (rowOf (take 20 (cardsOf (now (words .entry)))) (now (text .entry))) .cards))
-        × (now (text .exit) ≡ next (dropping (label desk call boat)) (rowOf (take 20 (cardsOf (now (words .entry)))) (now (text .entry))) .text) ⌝ }
+    ensures { λ r. ⌜ ChangesIn (old words) (dropping (label desk call boat)) (rowOf (take 20 (cardsOf (old words))) (old text)) (toldOutcome r) (new words) (new text) ⌝ }
 {
     let n = count(words.len());
     let row = load_row(words);

@@ -49,8 +49,7 @@ put-more l at bytes i {out} {out′} {end} {r} h q a b =
           let v : r ≡ end + 1 = b .fits (omega arith) in
           record { wrote = b .wrote ∙ ap (λ k. set out k (getD bytes i 0)) z ∙ sym goal; fits = λ u. omega arith; over = λ u. omega arith }
       | no y ↦
-          let z : end ≡ length l = a .over (omega arith) in
-          let v : r ≡ length out = b .over (omega arith) in
+          let z : end ≡ length l = a .over (omega arith) in let v : r ≡ length out = b .over (omega arith) in
           record {
             wrote = b .wrote ∙ sym (set-past out end (getD bytes i 0) (omega arith)) ∙ set-past out (at + i) (getD bytes i 0) (omega arith) ∙ sym goal;
             fits = λ u. omega arith;
@@ -76,15 +75,12 @@ digit-between b g h =
 
 pub digit-letter : (b : ℕ) → 97 ≤ b → b < 103 → digitOf b ≡ b - 87
 digit-letter b g h =
-    let i : 48 ≤ b = omega arith in
-    let j : 58 ≤ b = omega arith in
+    let i : 48 ≤ b = omega arith in let j : 58 ≤ b = omega arith in
     simp (le-ltb b 48 i, le-ltb b 58 j, le-ltb b 97 g, lt-ltb b 103 h)
 
 pub digit-high : (b : ℕ) → 103 ≤ b → digitOf b ≡ 16
 digit-high b g =
-    let i : 48 ≤ b = omega arith in
-    let j : 58 ≤ b = omega arith in
-    let k : 97 ≤ b = omega arith in
+    let i : 48 ≤ b = omega arith in let j : 58 ≤ b = omega arith in let k : 97 ≤ b = omega arith in
     simp (le-ltb b 48 i, le-ltb b 58 j, le-ltb b 97 k, le-ltb b 103 g)
 
 -- one more digit of a number
@@ -138,8 +134,7 @@ rows-none n w e = sym (ap (λ (x : ℕ). n * x) e ∙ mul-zero n)
 -- rows that do not fit
 pub rows-over : (n w m : ℕ) → (w ≡ 0 → ⊥) → m / w < n → n * w ≤ m → ⊥
 rows-over n w m e h l =
-    let p : 0 < w = omega arith in
-    let q : n ≤ m / w = le-div-iff-mul-le p .1 l in
+    let p : 0 < w = omega arith in let q : n ≤ m / w = le-div-iff-mul-le p .1 l in
     omega arith
 
 -- rows that fit

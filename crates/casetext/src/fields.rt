@@ -3,11 +3,12 @@ ghost use mathlib.Core.Path.{_≡_};
 ghost use mathlib.Core.Bool.{true};
 ghost use Prim.Native.Nat.{ℕ, _+_, _≤_, _<_};
 ghost use lib.ListN.{length, getD};
+ghost use Rattle.room.specs.Moments.{old};
 ghost use Rattle.casetext.specs.Text.{FirstMark};
 
 // The place of the first `mark` of `text` from `from` on, or the text's length where there is none.
 pub fn find_mark(text: &[u8], from: usize, mark: u8) -> usize
-    ensures { λ r. ⌜ FirstMark (now (text .entry)) from mark r ⌝ }
+    ensures { λ r. ⌜ FirstMark (old text) from mark r ⌝ }
 {
     let mut i = from;
     while i < text.len() {
@@ -21,8 +22,8 @@ pub fn find_mark(text: &[u8], from: usize, mark: u8) -> usize
 
 // The place after a mark at `end`, or the text's length where `end` is not before it.
 fn after(text: &[u8], end: usize) -> usize
-    ensures within { λ r. ⌜ r ≤ length (now (text .entry)) ⌝ }
-    ensures next { λ r. ⌜ (end < length (now (text .entry)) → r ≡ end + 1) ⌝ }
+    ensures within { λ r. ⌜ r ≤ length (old text) ⌝ }
+    ensures next { λ r. ⌜ (end < length (old text) → r ≡ end + 1) ⌝ }
 {
     if end < text.len() {
         return end + 1;
@@ -32,7 +33,7 @@ fn after(text: &[u8], end: usize) -> usize
 
 // Where the part with this index, from 0, of a text starts, or the text's length where there are fewer parts; single marks separate the parts.
 pub fn part_start(text: &[u8], mark: u8, index: usize) -> usize
-    ensures { λ r. ⌜ r ≤ length (now (text .entry)) ⌝ }
+    ensures { λ r. ⌜ r ≤ length (old text) ⌝ }
 {
     let mut at = 0;
     let mut left = index;
@@ -45,7 +46,7 @@ pub fn part_start(text: &[u8], mark: u8, index: usize) -> usize
 
 // That part; no bytes where there are fewer parts.
 pub fn part(text: &[u8], mark: u8, index: usize) -> &[u8]
-    ensures within { λ r. ⌜ length (now r) ≤ length (now (text .entry)) ⌝ }
+    ensures within { λ r. ⌜ length (now r) ≤ length (old text) ⌝ }
     ensures unmarked { λ r. ⌜ ((k : ℕ) → k < length (now r) → getD (now r) k 0 ≡ mark → ⊥) ⌝ }
 {
     let start = part_start(text, mark, index);
@@ -55,7 +56,7 @@ pub fn part(text: &[u8], mark: u8, index: usize) -> &[u8]
 
 // The field with this index, from 0, of fields that single spaces separate; no bytes where there are fewer fields.
 pub fn field(line: &[u8], index: usize) -> &[u8]
-    ensures within { λ r. ⌜ length (now r) ≤ length (now (line .entry)) ⌝ }
+    ensures within { λ r. ⌜ length (now r) ≤ length (old line) ⌝ }
     ensures unmarked { λ r. ⌜ ((k : ℕ) → k < length (now r) → getD (now r) k 0 ≡ 32 → ⊥) ⌝ }
 {
     part(line, b' ', index)
@@ -63,8 +64,8 @@ pub fn field(line: &[u8], index: usize) -> &[u8]
 
 // Whether two texts are the same.
 pub fn is_same(one: &[u8], two: &[u8]) -> bool
-    ensures same { λ r. ⌜ (r ≡ true → now (one .entry) ≡ now (two .entry)) ⌝ }
-    ensures only { λ r. ⌜ (now (one .entry) ≡ now (two .entry) → r ≡ true) ⌝ }
+    ensures same { λ r. ⌜ (r ≡ true → old one ≡ old two) ⌝ }
+    ensures only { λ r. ⌜ (old one ≡ old two → r ≡ true) ⌝ }
 {
     if one.len() != two.len() {
         return false;

@@ -1,6 +1,7 @@
 // Numbers and bytes read from a field.
 ghost use mathlib.Core.Path.{_≡_};
 ghost use Prim.Native.Nat.{_≤_};
+ghost use Rattle.room.specs.Moments.{old, new};
 ghost use Rattle.casetext.specs.Text.{digitOf, Spells, SpellsBytes};
 ghost use Rattle.io.specs.Counts.{Counts};
 use crate::fields::field;
@@ -19,7 +20,7 @@ pub struct Decoded {
 
 // Reads a decimal number that a word holds.
 pub fn read_decimal(digits: &[u8]) -> Number
-    ensures { λ r. ⌜ Spells (now (digits .entry)) (r .value) (r .right) ⌝ }
+    ensures { λ r. ⌜ Spells (old digits) (r .value) (r .right) ⌝ }
 {
     let mut value: usize = 0;
     let mut i = 0;
@@ -73,7 +74,7 @@ fn digit(b: u8) -> u8
 
 // Decodes lower-case hex, two digits to a byte, into the start of `bytes`; a single `-` stands for no bytes.
 pub fn read_hex(digits: &[u8], bytes: &mut [u8]) -> Decoded
-    ensures { λ r. ⌜ SpellsBytes (now (digits .entry)) (now (bytes .exit)) (r .count) (r .right) ⌝ }
+    ensures { λ r. ⌜ SpellsBytes (old digits) (new bytes) (r .count) (r .right) ⌝ }
 {
     if digits.len() == 1 {
         return Decoded {
@@ -126,7 +127,7 @@ pub fn read_number(line: &[u8], index: usize, most: usize) -> usize
 
 // Decodes the field with this index into the start of `bytes`, and answers how many there are; 0 where it spells none, or more than have room.
 pub fn read_bytes(line: &[u8], index: usize, bytes: &mut [u8]) -> usize
-    ensures { λ r. ⌜ Counts r (now (bytes .exit)) ⌝ }
+    ensures { λ r. ⌜ Counts r (new bytes) ⌝ }
 {
     let decoded = read_hex(field(line, index), bytes);
     if decoded.right {

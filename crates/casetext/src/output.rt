@@ -3,20 +3,21 @@ ghost use mathlib.Core.Path.{_≡_};
 ghost use Prim.Native.Nat.{_+_, _≤_, _<_, min};
 ghost use mathlib.Core.List.{_∷_, []};
 ghost use lib.ListN.{length, set};
+ghost use Rattle.room.specs.Moments.{old, new};
 ghost use Rattle.casetext.specs.Text.{Ends, Puts, digitOf};
 use libc::STDOUT_FILENO;
 
 // Where text can be put: `at`, or the buffer's length where `at` is past it.
 fn start(out: &[u8], at: usize) -> usize
-    ensures { λ r. ⌜ r ≡ min at (length (now (out .entry))) ⌝ }
+    ensures { λ r. ⌜ r ≡ min at (length (old out)) ⌝ }
 {
     if at < out.len() { at } else { out.len() }
 }
 
 // Puts one byte.
 pub fn put_byte(out: &mut [u8], at: usize, byte: u8) -> usize
-    ensures ends { λ r. ⌜ Ends (now (out .exit)) at r ⌝ }
-    ensures wrote { λ r. ⌜ Puts (now (out .entry)) (now (out .exit)) at (byte ∷ []) r ⌝ }
+    ensures ends { λ r. ⌜ Ends (new out) at r ⌝ }
+    ensures wrote { λ r. ⌜ Puts (old out) (new out) at (byte ∷ []) r ⌝ }
 {
     if at < out.len() {
         out[at] = byte;
@@ -27,8 +28,8 @@ pub fn put_byte(out: &mut [u8], at: usize, byte: u8) -> usize
 
 // Puts some bytes.
 pub fn put(out: &mut [u8], at: usize, bytes: &[u8]) -> usize
-    ensures ends { λ r. ⌜ Ends (now (out .exit)) at r ⌝ }
-    ensures wrote { λ r. ⌜ Puts (now (out .entry)) (now (out .exit)) at (now (bytes .entry)) r ⌝ }
+    ensures ends { λ r. ⌜ Ends (new out) at r ⌝ }
+    ensures wrote { λ r. ⌜ Puts (old out) (new out) at (old bytes) r ⌝ }
 {
     let mut end = start(out, at);
     let mut i = 0;
@@ -41,7 +42,7 @@ pub fn put(out: &mut [u8], at: usize, bytes: &[u8]) -> usize
 
 // Puts a number in decimal.
 pub fn put_decimal(out: &mut [u8], at: usize, n: u64) -> usize
-    ensures { λ r. ⌜ Ends (now (out .exit)) at r ⌝ }
+    ensures { λ r. ⌜ Ends (new out) at r ⌝ }
 {
     let mut digits = [0u8; 20];
     let k = io::decimal(n, &mut digits);
@@ -50,7 +51,7 @@ pub fn put_decimal(out: &mut [u8], at: usize, n: u64) -> usize
 
 // Puts a space and a number in decimal.
 pub fn put_spaced(out: &mut [u8], at: usize, n: u64) -> usize
-    ensures { λ r. ⌜ Ends (now (out .exit)) at r ⌝ }
+    ensures { λ r. ⌜ Ends (new out) at r ⌝ }
 {
     let end = put_byte(out, at, b' ');
     put_decimal(out, end, n)
@@ -58,7 +59,7 @@ pub fn put_spaced(out: &mut [u8], at: usize, n: u64) -> usize
 
 // Puts `mark` before each part but the first, which has index 0.
 fn put_mark(out: &mut [u8], at: usize, mark: u8, index: usize) -> usize
-    ensures { λ r. ⌜ Ends (now (out .exit)) at r ⌝ }
+    ensures { λ r. ⌜ Ends (new out) at r ⌝ }
 {
     if index == 0 {
         return put(out, at, &[]);
@@ -68,7 +69,7 @@ fn put_mark(out: &mut [u8], at: usize, mark: u8, index: usize) -> usize
 
 // Puts words in decimal, with `mark` between them.
 pub fn put_words(out: &mut [u8], at: usize, words: &[u64], mark: u8) -> usize
-    ensures { λ r. ⌜ Ends (now (out .exit)) at r ⌝ }
+    ensures { λ r. ⌜ Ends (new out) at r ⌝ }
 {
     let mut end = start(out, at);
     let mut i = 0;
@@ -105,7 +106,7 @@ pub fn put_rows(
     mark: u8,
     comma: u8,
 ) -> usize
-    ensures { λ r. ⌜ Ends (now (out .exit)) at r ⌝ }
+    ensures { λ r. ⌜ Ends (new out) at r ⌝ }
 {
     let mut end = start(out, at);
     let mut i = 0;
@@ -133,7 +134,7 @@ fn glyph(d: u8) -> u8
 
 // Puts bytes in lower-case hex, or `-` where there are none.
 pub fn put_hex(out: &mut [u8], at: usize, bytes: &[u8]) -> usize
-    ensures { λ r. ⌜ Ends (now (out .exit)) at r ⌝ }
+    ensures { λ r. ⌜ Ends (new out) at r ⌝ }
 {
     if bytes.len() == 0 {
         return put_byte(out, at, b'-');
@@ -151,7 +152,7 @@ pub fn put_hex(out: &mut [u8], at: usize, bytes: &[u8]) -> usize
 
 // Puts a refusal, as `R NUMBER PLACE`.
 pub fn put_refusal(out: &mut [u8], at: usize, number: u64, place: usize) -> usize
-    ensures { λ r. ⌜ Ends (now (out .exit)) at r ⌝ }
+    ensures { λ r. ⌜ Ends (new out) at r ⌝ }
 {
     let mut end = put_byte(out, at, b'R');
     end = put_spaced(out, end, number);
@@ -160,7 +161,7 @@ pub fn put_refusal(out: &mut [u8], at: usize, number: u64, place: usize) -> usiz
 
 // Puts a line end, if there is room for it, and writes the line to standard output; answers whether all of it was written.
 pub fn write_line(out: &mut [u8], at: usize) -> bool
-    ensures { λ _. ⌜ now (out .exit) ≡ set (now (out .entry)) at 0x0a ⌝ }
+    ensures { λ _. ⌜ new out ≡ set (old out) at 0x0a ⌝ }
 {
     if at < out.len() {
         out[at] = b'\n';

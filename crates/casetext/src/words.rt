@@ -3,11 +3,12 @@ ghost use mathlib.Core.Path.{_≡_};
 ghost use mathlib.Core.Bool.{true};
 ghost use Prim.Native.Nat.{ℕ, _*_, _≤_, _<_};
 ghost use lib.ListN.{length, getD};
+ghost use Rattle.room.specs.Moments.{old};
 
 // Whether every word is `value`.
 pub fn is_all(words: &[u64], value: u64) -> bool
-    ensures all { λ r. ⌜ (r ≡ true → (k : ℕ) → k < length (now (words .entry)) → getD (now (words .entry)) k 0 ≡ value) ⌝ }
-    ensures only { λ r. ⌜ (((k : ℕ) → k < length (now (words .entry)) → getD (now (words .entry)) k 0 ≡ value) → r ≡ true) ⌝ }
+    ensures all { λ r. ⌜ (r ≡ true → (k : ℕ) → k < length (old words) → getD (old words) k 0 ≡ value) ⌝ }
+    ensures only { λ r. ⌜ (((k : ℕ) → k < length (old words) → getD (old words) k 0 ≡ value) → r ≡ true) ⌝ }
 {
     let mut i = 0;
     while i < words.len() {

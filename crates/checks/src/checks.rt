@@ -1,5 +1,6 @@
 // Whether a file is accepted.
 ghost use lib.ListN.{length};
+ghost use Rattle.room.specs.Moments.{old, new};
 ghost use Rattle.room.specs.Counts.{Counts};
 ghost use Rattle.lines.specs.Answer.{Gives};
 ghost use Rattle.checks.specs.Checked.{okLine, checkAnswer};
@@ -11,7 +12,7 @@ use lines::refuse;
 
 // Puts the line of an accepted file: its version and its length.
 fn put_ok(out: &mut [u8], tail: &[u8], version: u64, size: usize) -> usize
-    ensures { λ r. ⌜ Counts (now (out .entry)) (now (out .exit)) 0 (okLine (now (tail .entry)) version size) r ⌝ }
+    ensures { λ r. ⌜ Counts (old out) (new out) 0 (okLine (old tail) version size) r ⌝ }
 {
     let a = room::put_bytes(out, 0, b"ok\t");
     let b = text::put_version(out, a, version);
@@ -20,7 +21,7 @@ fn put_ok(out: &mut [u8], tail: &[u8], version: u64, size: usize) -> usize
 }
 
 pub fn make_check(file: &[u8], tail: &[u8], text: &mut [u8]) -> Made
-    ensures { λ r. ⌜ Gives (length (now (text .entry))) r (now (text .exit)) (checkAnswer (length (now (text .entry))) (now (tail .entry)) (now (file .entry))) ⌝ }
+    ensures { λ r. ⌜ Gives (length (old text)) r (new text) (checkAnswer (length (old text)) (old tail) (old file)) ⌝ }
 {
     let mut nodes = program::node_table();
     let mut items = program::item_table();

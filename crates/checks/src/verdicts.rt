@@ -1,6 +1,7 @@
 // Whether a file is Mobile XMF.
 ghost use mathlib.Core.Path.{_≡_};
 ghost use lib.ListN.{length};
+ghost use Rattle.room.specs.Moments.{old, new};
 ghost use Rattle.room.specs.Counts.{Counts};
 ghost use Rattle.lines.specs.Answer.{Gives};
 ghost use Rattle.checks.specs.Checked.{verdictLine, verdictStatus, verdictAnswer};
@@ -12,7 +13,7 @@ use mobile::Judged;
 
 // Puts the line of a verdict.
 fn put_verdict(out: &mut [u8], tail: &[u8], verdict: u64) -> usize
-    ensures { λ r. ⌜ Counts (now (out .entry)) (now (out .exit)) 0 (verdictLine (now (tail .entry)) verdict) r ⌝ }
+    ensures { λ r. ⌜ Counts (old out) (new out) 0 (verdictLine (old tail) verdict) r ⌝ }
 {
     let a = room::put_byte(out, 0, b'V');
     let b = text::put_number(out, a, verdict);
@@ -30,7 +31,7 @@ fn verdict_status(verdict: u64) -> u64
 }
 
 pub fn make_verdict(file: &[u8], tail: &[u8], text: &mut [u8]) -> Made
-    ensures { λ r. ⌜ Gives (length (now (text .entry))) r (now (text .exit)) (verdictAnswer (length (now (text .entry))) (now (tail .entry)) (now (file .entry))) ⌝ }
+    ensures { λ r. ⌜ Gives (length (old text)) r (new text) (verdictAnswer (length (old text)) (old tail) (old file)) ⌝ }
 {
     let mut nodes = program::node_table();
     let mut items = program::item_table();

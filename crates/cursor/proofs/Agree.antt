@@ -7,7 +7,7 @@ use native.Mathlib.Omega.{arith}
 use lib.ListN.{length, drop, length-take, length-drop}
 use lib.Seq.{ext-getD, getD-take, getD-drop}
 use Rattle.machine.proofs.Agree.{Agree}
-use Rattle.cursor.specs.Vlq.{part}
+use Rattle.room.specs.Parts.{part}
 
 pub part-same : (f g : List ℕ) → length f ≡ length g → (at n : ℕ) → Agree f g at n → part f at n ≡ part g at n
 part-same f g e at n h =

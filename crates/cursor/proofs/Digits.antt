@@ -57,15 +57,13 @@ module _ (κ : Frame) (past end p : ℕ) {f : List ℕ} where
   pub digits-were : (left v at : ℕ) {w q : ℕ} → run (digits κ past end p left v) f at ≡ ok w q → Digits f left v at w q × (q ≤ end)
   digits-were zero v at e = never (sym (digits-none κ past end p f at v 0 refl) ∙ e)
   digits-were (suc left) v at {w} {q} e =
-      let some : (suc left ≡ 0) → ⊥ = λ z. omega arith in
-      let a : suc left - 1 ≡ left = omega arith in
+      let some : (suc left ≡ 0) → ⊥ = λ z. omega arith in let a : suc left - 1 ≡ left = omega arith in
       elim (decLt at end) [
         | no n ↦ never (sym (digits-missing κ past end p f at v (suc left) some (omega arith)) ∙ e)
         | yes i ↦ elim (decLt (getD f at 0) 128) [
           | yes s ↦
               let r : ok (v * 128 + getD f at 0) (at + 1) ≡ ok w q = sym (digits-last κ past end p f at v (suc left) some i s) ∙ e in
-              let x : v * 128 + getD f at 0 ≡ w = cc in
-              let y : at + 1 ≡ q = cc in
+              let x : v * 128 + getD f at 0 ≡ w = cc in let y : at + 1 ≡ q = cc in
               (rw (← x, ← y) (final s), omega arith)
           | no s ↦ let (d, l) = digits-were left (v * 128 + getD f at 0 % 128) (at + 1)
               (rw a at (sym (digits-more κ past end p f at v (suc left) some i (omega arith)) ∙ e)) in (further {at = at} (omega arith) d, l)

@@ -132,10 +132,8 @@ module _ (κ : Frame) (end : ℕ) (f : List ℕ) (at : ℕ) where
       pub manufacturer-three : at + 3 ≤ end → ok tt (at + 3) ≡ run (manufacturer κ end) f at
       unfolding manufacturer next
       manufacturer-three h =
-          let z′ : getD f at 0 ≡ 0 = rw is at z in
-          let l₁ : at + 1 < end = omega arith in
-          let l₂ : at + 1 + 1 < end = omega arith in
-          let e : at + 1 + 1 + 1 ≡ at + 3 = omega arith in
+          let z′ : getD f at 0 ≡ 0 = rw is at z in let l₁ : at + 1 < end = omega arith in
+          let l₂ : at + 1 + 1 < end = omega arith in let e : at + 1 + 1 + 1 ≡ at + 3 = omega arith in
           simp (running, lt-ltb _ _ l, eq-eqb _ _ z′, lt-ltb _ _ l₁, lt-ltb _ _ l₂, e)
 
 -- ---- a number, given or refused, depends on the bytes of its part alone

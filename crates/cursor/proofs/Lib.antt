@@ -1,4 +1,5 @@
 pub mod Apart
+pub mod Listed
 pub mod Uses
 pub mod Quiet
 pub mod Digits
@@ -7,9 +8,6 @@ pub mod Agree
 pub mod Leaves
 pub mod Order
 pub mod Limited
-pub mod Least
-pub mod Lies
-pub mod Back
 pub mod Wider
 pub mod Post
 pub mod Runs

@@ -32,9 +32,7 @@ module _ {A : Type 0} (f : List ℕ) (body : A → P A) where
   pub times-more : (k : ℕ) (s : A) (p : ℕ) {t u : A} {q r : ℕ} → run (times k body s) f p ≡ ok t q → run (body t) f q ≡ ok u r → run (times (suc k) body s) f p ≡ ok u r
   unfolding times
   times-more zero s p {t} {u} {q} {r} e₁ e₂ =
-      let w : ok s p ≡ ok t q = simp running at e₁ in
-      let a : s ≡ t = cc in
-      let b : p ≡ q = cc in
+      let w : ok s p ≡ ok t q = simp running at e₁ in let a : s ≡ t = cc in let b : p ≡ q = cc in
       let e : run (body s) f p ≡ ok u r = rw (a, b) e₂ in
       simp (running, e)
   times-more (suc k) s p {t} {u} {q} {r} e₁ e₂ = by (run (body s) f p) refl (λ s₁ p₁ e₃. times-more k s₁ p₁ e₃ e₂)

@@ -27,7 +27,6 @@ block-wider κ past past′ end end′ f at {w} {q} e l = by (run (number κ pas
       | no m ↦ never (block-past κ past end f at x (omega arith) ∙ e)
       | yes m ↦
           let y : ok v r ≡ ok w q = block-all κ past end f at x m ∙ e in
-          let y₁ : v ≡ w = cc in
-          let y₂ : r ≡ q = cc in
+          let y₁ : v ≡ w = cc in let y₂ : r ≡ q = cc in
           sym (block-all κ past′ end′ f at (number-wider κ past past′ end end′ f at (x ∙ y) (omega arith)) l)
     ]

@@ -1,5 +1,4 @@
 pub mod Rows
 pub mod Refusals
 pub mod Leaves
-pub mod Vlq
 pub mod Told

@@ -2,8 +2,9 @@
 -- Assumes nothing.
 use mathlib.Core.Bool.{Bool, false, not, _&&_, _||_}
 use mathlib.Core.List.{List, [], _∷_}
-use Prim.Native.Nat.{ℕ}
-use lib.Dec.{eqb}
+use Prim.Native.Nat.{ℕ, _≤_}
+use lib.Dec.{T, eqb}
+use Rattle.room.specs.Room.{Result, good, bad, noRoom}
 
 abbrev pub notXmf : ℕ
 notXmf = 1
@@ -73,8 +74,7 @@ endsAtUri = 20
 abbrev pub tooManyHops : ℕ
 tooManyHops = 21
 
-abbrev pub noRoom : ℕ
-noRoom = 22
+-- 22 is `noRoom`, of `room`
 
 abbrev pub noSuchItem : ℕ
 noSuchItem = 23
@@ -164,3 +164,13 @@ isOneOf n (m ∷ ms) = eqb n m || isOneOf n ms
 -- whether refusal n at p is one of these: n is, and p is 0 if n names no field
 abbrev pub isAllowed : List ℕ → (n p : ℕ) → Bool
 isAllowed ns n p = isOneOf n ns && (not (isOneOf n placeless) || eqb p 0)
+
+-- its refusal, if it is one, is among these
+abbrev pub Among : {A : Type 0} → List ℕ → Result A → Type 0
+Among ns (good a) = Unit {0}
+Among ns (bad n p) = T (isAllowed ns n p)
+
+-- its refusal, if it is one that names a place of a file, names one of a file of `size` bytes
+abbrev pub PlacedIn : {A : Type 0} → (size : ℕ) → Result A → Type 0
+PlacedIn size (good a) = Unit {0}
+PlacedIn size (bad n p) = T (isOneOf n inFile) → p ≤ size

@@ -3,6 +3,7 @@ ghost use mathlib.Core.Path.{_≡_};
 ghost use Prim.Native.Nat.{_≤_, _<_, _^_, _+_};
 ghost use lib.ListN.{length};
 ghost use Rattle.machine.specs.Machine.{run};
+ghost use Rattle.room.specs.Moments.{old};
 ghost use Rattle.cursor.specs.Rows.{Frame};
 ghost use Rattle.cursor.specs.Leaves.{number, block, manufacturer, guid};
 ghost use Rattle.cursor.specs.Told.{ByteTold, numberTold, passTold};
@@ -180,7 +181,7 @@ impl Cursor {
     // The byte here. One below 80h is the whole number.
     pub fn byte(self, file: &[u8]) -> Byte
         requires { ⌜ self .at .0 < length (now file) ⌝ }
-        ensures { λ r. ⌜ ByteTold r (now (file .entry)) (self .at .0) ⌝ }
+        ensures { λ r. ⌜ ByteTold r (old file) (self .at .0) ⌝ }
     {
         let at = self.at.0;
         let value = wide(file[at]);
@@ -191,7 +192,7 @@ impl Cursor {
     // The number here, in a part that ends at `end`; `past` is the refusal of one that runs past it.
     pub fn number(self, file: &[u8], end: FilePlace, past: u64) -> Numbered
         requires { ⌜ end .0 ≤ length (now file) ⌝ }
-        ensures { λ r. ⌜ ((κ : Frame) → numberTold r ≡ run (number κ past (end .0)) (now (file .entry)) (self .at .0)) ⌝ }
+        ensures { λ r. ⌜ ((κ : Frame) → numberTold r ≡ run (number κ past (end .0)) (old file) (self .at .0)) ⌝ }
     {
         let start = self.at;
         let stop = end.0;
@@ -238,7 +239,7 @@ impl Cursor {
     // The length here, with the block that it counts; the cursor is then at the block.
     pub fn block(self, file: &[u8], end: FilePlace, past: u64) -> Numbered
         requires { ⌜ end .0 ≤ length (now file) ⌝ }
-        ensures { λ r. ⌜ ((κ : Frame) → numberTold r ≡ run (block κ past (end .0)) (now (file .entry)) (self .at .0)) ⌝ }
+        ensures { λ r. ⌜ ((κ : Frame) → numberTold r ≡ run (block κ past (end .0)) (old file) (self .at .0)) ⌝ }
     {
         let place = self.at;
         match self.number(file, end, past) {
@@ -256,7 +257,7 @@ impl Cursor {
     // The manufacturer here: one byte, or three when the first is 0.
     pub fn manufacturer(self, file: &[u8], end: FilePlace) -> Passed
         requires { ⌜ end .0 ≤ length (now file) ⌝ }
-        ensures { λ r. ⌜ ((κ : Frame) → passTold r ≡ run (manufacturer κ (end .0)) (now (file .entry)) (self .at .0)) ⌝ }
+        ensures { λ r. ⌜ ((κ : Frame) → passTold r ≡ run (manufacturer κ (end .0)) (old file) (self .at .0)) ⌝ }
     {
         let place = self.at;
         let at = place.0;
@@ -280,7 +281,7 @@ impl Cursor {
     // The GUID here: 1 to 19 bytes, ended by the first below 80h.
     pub fn guid(self, file: &[u8], end: FilePlace) -> Passed
         requires { ⌜ end .0 ≤ length (now file) ⌝ }
-        ensures { λ r. ⌜ ((κ : Frame) → passTold r ≡ run (guid κ (end .0)) (now (file .entry)) (self .at .0)) ⌝ }
+        ensures { λ r. ⌜ ((κ : Frame) → passTold r ≡ run (guid κ (end .0)) (old file) (self .at .0)) ⌝ }
     {
         let start = self.at;
         let stop = end.0;

@@ -9,8 +9,8 @@ use Rattle.machine.specs.Machine.{Out, ok, refused}
 use Rattle.cursor.specs.declared.Node.{Node}
 use Rattle.cursor.specs.declared.Item.{Item}
 use Rattle.header.specs.Header.{Header}
-use Rattle.room.specs.Room.{Among}
-use Rattle.room.proofs.Listed.{among-if}
+use Rattle.cursor.specs.Refusals.{Among}
+use Rattle.cursor.proofs.Listed.{among-if}
 use Rattle.rows.specs.Rows.{itemAt}
 use Rattle.description.specs.Row.{isDescription}
 use Rattle.description.specs.Description.{Description}

@@ -14,8 +14,9 @@ use Rattle.cursor.specs.declared.Node.{Node}
 use Rattle.cursor.specs.declared.Item.{Item}
 use Rattle.cursor.proofs.Stays.{Inside, Stays, after, ends, places, checks, counts, next-stays, number-stays, manufacturer-stays}
 use Rattle.header.specs.Header.{Header}
-use Rattle.room.specs.Room.{bad, PlacedIn}
-use Rattle.room.proofs.Listed.{placed-if}
+use Rattle.room.specs.Room.{bad}
+use Rattle.cursor.specs.Refusals.{PlacedIn}
+use Rattle.cursor.proofs.Listed.{placed-if}
 use Rattle.rows.specs.Rows.{itemAt, ItemsIn}
 use Rattle.description.specs.Row.{isDescription}
 use Rattle.description.specs.Description.{Description, value, aByte, guid, identifier, resource, numbers, lists, table, description}

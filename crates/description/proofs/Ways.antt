@@ -40,8 +40,7 @@ module _ (end p : ℕ) (f : List ℕ) where
   unfolding times aByte next
   bytes-all zero at l = let e : at + 0 ≡ at = omega arith in simp (running, e)
   bytes-all (suc n) at l =
-      let h : at < end = omega arith in
-      let e : at + suc n ≡ at + 1 + n = omega arith in
+      let h : at < end = omega arith in let e : at + suc n ≡ at + 1 + n = omega arith in
       simp (running, lt-ltb _ _ h) (ap (ok tt) e ∙ bytes-all n (at + 1) (omega arith))
 
   bytes-cut : (n at : ℕ) → 0 < n → end < at + n → refused 3 p ≡ run (times n (λ _. aByte end p) tt) f at

@@ -3,6 +3,7 @@ ghost use mathlib.Core.Path.{_≡_};
 ghost use Prim.Native.Nat.{_≤_, _<_, _^_, _*_, _+_};
 ghost use lib.ListN.{length};
 ghost use Rattle.machine.specs.Machine.{run, times};
+ghost use Rattle.room.specs.Moments.{old, new};
 ghost use Rattle.cursor.specs.Told.{numberTold, passTold};
 ghost use Rattle.rows.specs.Rows.{itemsIn, ItemIn, ItemRows};
 ghost use Rattle.file.specs.Asking.{answered, nodesLeft, itemsLeft};
@@ -26,7 +27,7 @@ pub enum Counted {
 // A number whose value is not kept.
 fn read_value(c: Cursor, file: &[u8], end: FilePlace) -> Passed
     requires { ⌜ end .0 ≤ length (now file) ⌝ }
-    ensures { λ r. ⌜ passTold r ≡ run (value (end .0)) (now (file .entry)) (c .at .0) ⌝ }
+    ensures { λ r. ⌜ passTold r ≡ run (value (end .0)) (old file) (c .at .0) ⌝ }
 {
     match c.number(file, end, cursor::CUT_SHORT) {
         Numbered::Refused(n, p) => Passed::Refused(n, p),
@@ -37,7 +38,7 @@ fn read_value(c: Cursor, file: &[u8], end: FilePlace) -> Passed
 // A GUID: sixteen plain bytes.
 fn read_guid(c: Cursor, file: &[u8], end: FilePlace) -> Passed
     requires { ⌜ end .0 ≤ length (now file) ⌝ }
-    ensures { λ r. ⌜ passTold r ≡ run (guid (end .0)) (now (file .entry)) (c .at .0) ⌝ }
+    ensures { λ r. ⌜ passTold r ≡ run (guid (end .0)) (old file) (c .at .0) ⌝ }
 {
     let place = c.at;
     let at = place.0;
@@ -55,7 +56,7 @@ fn read_guid(c: Cursor, file: &[u8], end: FilePlace) -> Passed
 // What names a resource of the kind.
 fn read_identifier(c: Cursor, file: &[u8], kind: u64, end: FilePlace) -> Passed
     requires { ⌜ end .0 ≤ length (now file) ⌝ }
-    ensures { λ r. ⌜ passTold r ≡ run (identifier kind (end .0)) (now (file .entry)) (c .at .0) ⌝ }
+    ensures { λ r. ⌜ passTold r ≡ run (identifier kind (end .0)) (old file) (c .at .0) ⌝ }
 {
     if kind == 3 {
         return read_guid(c, file, end);
@@ -75,7 +76,7 @@ fn read_identifier(c: Cursor, file: &[u8], kind: u64, end: FilePlace) -> Passed
 // A resource: its kind, and what names it.
 fn read_resource(c: Cursor, file: &[u8], end: FilePlace) -> Passed
     requires { ⌜ end .0 ≤ length (now file) ⌝ }
-    ensures { λ r. ⌜ passTold r ≡ run (resource (end .0)) (now (file .entry)) (c .at .0) ⌝ }
+    ensures { λ r. ⌜ passTold r ≡ run (resource (end .0)) (old file) (c .at .0) ⌝ }
 {
     let place = c.at;
     match c.number(file, end, cursor::CUT_SHORT) {
@@ -92,7 +93,7 @@ fn read_resource(c: Cursor, file: &[u8], end: FilePlace) -> Passed
 // So many resources.
 fn read_resources(c: Cursor, file: &[u8], end: FilePlace, count: u64) -> Passed
     requires { ⌜ end .0 ≤ length (now file) ⌝ }
-    ensures { λ r. ⌜ passTold r ≡ run (times count (λ _. resource (end .0)) tt) (now (file .entry)) (c .at .0) ⌝ }
+    ensures { λ r. ⌜ passTold r ≡ run (times count (λ _. resource (end .0)) tt) (old file) (c .at .0) ⌝ }
 {
     let mut next = c;
     let mut left = count;
@@ -109,7 +110,7 @@ fn read_resources(c: Cursor, file: &[u8], end: FilePlace, count: u64) -> Passed
 // So many numbers, of which the one at `index` is kept.
 fn read_numbers(c: Cursor, file: &[u8], end: FilePlace, count: u64, index: u64) -> Numbered
     requires { ⌜ end .0 ≤ length (now file) ⌝ }
-    ensures { λ r. ⌜ numberTold r ≡ picked index (run (numbers count (end .0)) (now (file .entry)) (c .at .0)) ⌝ }
+    ensures { λ r. ⌜ numberTold r ≡ picked index (run (numbers count (end .0)) (old file) (c .at .0)) ⌝ }
 {
     let mut next = c;
     let mut i = 0;
@@ -132,7 +133,7 @@ fn read_numbers(c: Cursor, file: &[u8], end: FilePlace, count: u64, index: u64) 
 // The resource list and the group list.
 pub fn read_lists(c: Cursor, file: &[u8], end: FilePlace, resources: u64) -> Passed
     requires { ⌜ end .0 ≤ length (now file) ⌝ }
-    ensures { λ r. ⌜ passTold r ≡ run (lists resources (end .0)) (now (file .entry)) (c .at .0) ⌝ }
+    ensures { λ r. ⌜ passTold r ≡ run (lists resources (end .0)) (old file) (c .at .0) ⌝ }
 {
     match read_resources(c, file, end, resources) {
         Passed::Refused(n, p) => Passed::Refused(n, p),
@@ -168,7 +169,7 @@ fn read_table(
     resource: u64,
 ) -> Counted
     requires { ⌜ (end .0 ≤ length (now file)) × (channels < 2 ^ 28) × (resources < 2 ^ 28) ⌝ }
-    ensures { λ r. ⌜ told r ≡ countOf channel resource (run (table channels resources (end .0)) (now (file .entry)) (c .at .0)) ⌝ }
+    ensures { λ r. ⌜ told r ≡ countOf channel resource (run (table channels resources (end .0)) (old file) (c .at .0)) ⌝ }
 {
     let index = index_of(channels, resources, channel, resource);
     match read_numbers(c, file, end, channels * resources, index) {
@@ -192,7 +193,7 @@ fn read_table(
 // The whole item, which is `size` bytes from `place` on: the count of a channel and a resource.
 fn count_of(file: &[u8], place: usize, size: usize, channel: u64, resource: u64) -> Counted
     requires { ⌜ place + size ≤ length (now file) ⌝ }
-    ensures { λ r. ⌜ told r ≡ countOf channel resource (run (description (place + size)) (now (file .entry)) place) ⌝ }
+    ensures { λ r. ⌜ told r ≡ countOf channel resource (run (description (place + size)) (old file) place) ⌝ }
 {
     let end = FilePlace(place + size);
     let c = Cursor {
@@ -224,7 +225,7 @@ fn count_of(file: &[u8], place: usize, size: usize, channel: u64, resource: u64)
 // Whether the row's data, which lies in the file, is readable.
 pub fn is_readable(file: &[u8], row: Item) -> bool
     requires { ⌜ ItemIn (length (now file)) row ⌝ }
-    ensures { λ r. ⌜ r ≡ isReadable (now (file .entry)) row ⌝ }
+    ensures { λ r. ⌜ r ≡ isReadable (old file) row ⌝ }
 {
     match count_of(file, row.place as usize, row.size as usize, 0, 0) {
         Counted::Count(_) => true,
@@ -258,7 +259,7 @@ pub fn is_binary(row: Item) -> bool
 // The answer for a row whose data lies in the file.
 pub fn count_in(file: &[u8], row: Item, channel: u64, resource: u64) -> Counted
     requires { ⌜ ItemIn (length (now file)) row ⌝ }
-    ensures { λ r. ⌜ told r ≡ countIn (now (file .entry)) channel resource row ⌝ }
+    ensures { λ r. ⌜ told r ≡ countIn (old file) channel resource row ⌝ }
 {
     if !is_field(row, 13) {
         return Counted::Refused(cursor::NO_SUCH_ITEM, 0);
@@ -285,7 +286,7 @@ fn count_row(
     resource: u64,
 ) -> Counted
     requires { ⌜ ItemRows (length (now file)) count (now items) ⌝ }
-    ensures { λ r. ⌜ told r ≡ countRow (now (file .entry)) row channel resource (itemsIn count (now (items .entry))) ⌝ }
+    ensures { λ r. ⌜ told r ≡ countRow (old file) row channel resource (itemsIn count (old items)) ⌝ }
 {
     if count <= row {
         return Counted::Refused(cursor::NO_SUCH_ROW, 0);
@@ -302,9 +303,9 @@ pub fn count_for(
     channel: u64,
     resource: u64,
 ) -> Counted
-    ensures answer { λ r. ⌜ told r ≡ answered (now (nodes .entry)) (now (items .entry)) (now (file .entry)) (countFor «item_row» channel resource) ⌝ }
-    ensures nodes { λ _. ⌜ now (nodes .exit) ≡ nodesLeft (now (nodes .entry)) (now (items .entry)) (now (file .entry)) (countFor «item_row» channel resource) ⌝ }
-    ensures items { λ _. ⌜ now (items .exit) ≡ itemsLeft (now (nodes .entry)) (now (items .entry)) (now (file .entry)) (countFor «item_row» channel resource) ⌝ }
+    ensures answer { λ r. ⌜ told r ≡ answered (old nodes) (old items) (old file) (countFor «item_row» channel resource) ⌝ }
+    ensures nodes { λ _. ⌜ new nodes ≡ nodesLeft (old nodes) (old items) (old file) (countFor «item_row» channel resource) ⌝ }
+    ensures items { λ _. ⌜ new items ≡ itemsLeft (old nodes) (old items) (old file) (countFor «item_row» channel resource) ⌝ }
 {
     match file::read_file(file, nodes, items) {
         Read::Refused(n, p) => Counted::Refused(n, p.0),

@@ -212,8 +212,7 @@ judged-shape e (f ∷ l ∷ ls) s h =
 fine-body : (e : Bool) (body : Lines) (n m : ℕ) → Body e body n m → Fine e start 2 (body ++ [] ∷ []) n m
 fine-body false body n m b = rw (b .count, b .whole) (fine-first start 2 n (b .ns) (b .ms) refl (b .rows) (b .low))
 fine-body true body n m (g, c) =
-    let f = fine-second start 2 n body refl g in
-    let k = f .has in
+    let f = fine-second start 2 n body refl g in let k = f .has in
     record { end = f .end; judges = f .judges; ends = f .ends; has = omega arith }
 
 judged-on : (e : Bool) (f : List ℕ) (body : Lines) → judged e (f ∷ body ++ [] ∷ []) ≡ cond (isFirst e f) (agreeing f (judge e start 2 (body ++ [] ∷ []))) (bad badSheet 1)
@@ -277,10 +276,7 @@ moved-on e f body = ap (λ (v : Lines). renamed e f ∷ v) (reordered-end e body
 over : (e : Bool) (ls : Lines) → Whole e ls → Over e ls
 unfolding lead behind
 over e ls w =
-    let f = w .first in
-    let body = w .body in
-    let l = lead-shape e f (w .leads) in
-    let f′ = renamed e f in
+    let f = w .first in let body = w .body in let l = lead-shape e f (w .leads) in let f′ = renamed e f in
     let same-tail : f′ ≡ word (not e) ++ 0x09 ∷ l .tail = ap (renamed e) (l .whole) ∙ renamed-is e (l .tail) in
     let third : field 3 f′ ≡ field 3 f = ap (field 3) same-tail ∙ first-third (not e) (l .tail) ∙ sym (first-third e (l .tail)) ∙ ap (field 3) (sym (l .whole)) in
     let fourth : field 4 f′ ≡ field 4 f = ap (field 4) same-tail ∙ first-fourth (not e) (l .tail) ∙ sym (first-fourth e (l .tail)) ∙ ap (field 4) (sym (l .whole)) in
@@ -319,10 +315,7 @@ says-edition e ls w = let l = lead-shape e (w .first) (w .leads) in rw (w .whole
 pub moves : (e : Bool) (s : List ℕ) → WellFormed e s → (t : List ℕ) × (move s ≡ good t) × OtherEdition e s t × (move t ≡ good s)
 unfolding lead behind
 moves e s (st, j) =
-    let ls = lines s in
-    let w = judged-shape e ls st j in
-    let o = over e ls w in
-    let t = written (movedLines e ls) in
+    let ls = lines s in let w = judged-shape e ls st j in let o = over e ls w in let t = written (movedLines e ls) in
     let there : move s ≡ good t = move-is s e ls refl (says-edition e ls w) ∙ rw j refl in
     let ps : lines t ≡ o .first ∷ o .body ++ [] ∷ [] = ap (λ (v : Lines). lines (written v)) (o .moves) ∙ written-parted (o .first ∷ o .body) (o .clean (clean-parted 0x0A s)) in
     let back : move t ≡ good s = move-is t (not e) (o .first ∷ o .body ++ [] ∷ []) ps (o .says) ∙ rw (o .judges) (ap good (o .returns s refl)) in

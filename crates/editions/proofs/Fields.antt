@@ -181,8 +181,7 @@ module _ (l : List ℕ) (at : ℕ) (in-line : at ≤ length l) where
   module _ (h : 2 ≤ length l - at) (tab : getD l (at + 1) 0 ≡ 0x09) where
     two-first : drop at l ≡ getD l at 0 ∷ 0x09 ∷ drop (at + 2) l
     two-first =
-        let a : at < length l = omega arith in
-        let b : at + 1 < length l = omega arith in
+        let a : at < length l = omega arith in let b : at + 1 < length l = omega arith in
         let c : suc (at + 1) ≡ at + 2 = omega arith in
         drop-cons l at 0 a
         ∙ ap (λ (v : List ℕ). getD l at 0 ∷ v) (ap (λ n. drop n l) (sym (add-one at)) ∙ drop-cons l (at + 1) 0 b ∙ ap₂ (λ (x : ℕ) (n : ℕ). x ∷ drop n l) tab c)

@@ -11,10 +11,10 @@ use lib.Dec.{eqb, leb}
 use lib.ListN.{length, getD, take, drop, replicate, length-append, length-take}
 use lib.Seq.{getD-take, getD-drop}
 use borrow.Author.Tests.{eq-eqb, ne-eqb, eqb-true, eqb-false, le-leb}
-use Rattle.cursor.specs.Vlq.{part}
+use Rattle.room.specs.Parts.{part}
 use Rattle.cursor.specs.declared.Node.{Node}
 use Rattle.cursor.specs.declared.Item.{Item}
-use Rattle.cursor.proofs.Lies.{part-length}
+use Rattle.room.proofs.Counting.{part-length}
 use Rattle.room.specs.Room.{Result, good, bad}
 use Rattle.room.specs.Decimal.{digits, decimal}
 use Rattle.header.specs.Header.{Header}
@@ -348,8 +348,7 @@ module _ (f : List ℕ) (bytes : Bytes f) (h : Header) (ns : List Node) (is : Li
   -- the first edition is well formed
   first-well : (t : State) × (judged false (firstOf false ∷ body ++ [] ∷ []) ≡ good t)
   first-well =
-      let m = length (theItems f is) in
-      let z : 0 + length ns ≡ length ns = omega arith in
+      let m = length (theItems f is) in let z : 0 + length ns ≡ length ns = omega arith in
       let b = subst (λ k. FirstBody body k m) z (first-body rowsOf nodeOf nodeText (itemTexts f) ns is kinds-nodes kinds-items owned) in
       let a = counts-agree (h .version) (length f) (length ns) (length is) (p .version) (p .size) (p .node-count) (p .item-count) m (few-lines f is) in
       judged-well false (firstOf false) body (length ns) m (first-is false texts texts-fit) b a
@@ -375,12 +374,10 @@ module _ (lim : Limits) (f : List ℕ) (bytes : Bytes f) {h : Header} {ns : List
   -- both editions, the first moved over and back
   both : WellFormed false (edition false) × WellFormed true (edition true) × (move (edition false) ≡ good (edition true)) × (move (edition true) ≡ good (edition false))
   both =
-      let small = small-rows lim f e in
-      let order = in-row-order lim f e .items-follow in
+      let small = small-rows lim f e in let order = in-row-order lim f e .items-follow in
       let w = well f bytes h ns is small order in
       let (t, there, o, back) = moves false (edition false) w in
-      let there′ = over f bytes h ns is small order in
-      let q : t ≡ edition true = cc in
+      let there′ = over f bytes h ns is small order in let q : t ≡ edition true = cc in
       (w, subst (WellFormed true) q (o .is), there′, rw q at back)
 
   pub file-well : (second : Bool) → WellFormed second (edition second)

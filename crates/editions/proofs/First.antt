@@ -72,10 +72,8 @@ module _ (l : List ℕ) (from end : ℕ) (m : end ≤ length l) where
 
     four : slice from end l ≡ a ∷ b ∷ c ∷ d ∷ []
     four =
-        let e₁ : suc from ≡ from + 1 = omega arith in
-        let e₂ : suc (from + 1) ≡ from + 2 = omega arith in
-        let e₃ : suc (from + 2) ≡ from + 3 = omega arith in
-        let e₄ : suc (from + 3) ≡ end = omega arith in
+        let e₁ : suc from ≡ from + 1 = omega arith in let e₂ : suc (from + 1) ≡ from + 2 = omega arith in
+        let e₃ : suc (from + 2) ≡ from + 3 = omega arith in let e₄ : suc (from + 3) ≡ end = omega arith in
         slice-cons from end l 0 (omega arith) m
         ∙ ap (λ v. a ∷ v) (ap (λ k. slice k end l) e₁ ∙ slice-cons (from + 1) end l 0 (omega arith) m
         ∙ ap (λ v. b ∷ v) (ap (λ k. slice k end l) e₂ ∙ slice-cons (from + 2) end l 0 (omega arith) m

@@ -7,8 +7,8 @@ use Prim.Native.Nat.{ℕ, suc, _+_, _≤_, _<_}
 use native.Mathlib.Omega.{arith}
 use lib.Dec.{eqb, leb}
 use lib.ListN.{length}
-use Rattle.cursor.specs.Refusals.{badSheet}
-use Rattle.room.specs.Room.{Result, good, bad, Among}
+use Rattle.cursor.specs.Refusals.{badSheet, Among}
+use Rattle.room.specs.Room.{Result, good, bad}
 use Rattle.editions.specs.declared.State.{State}
 use Rattle.editions.specs.Sheets.{Lines, lines, same, value, field, isFirst, kind, start, stands, after, judge, agreeing, judged, isSecond, answered, move, refusals}
 use Rattle.editions.proofs.Bytes.{some-piece}

@@ -44,8 +44,7 @@ decimal-more n l h = digits-more 19 n l ∙ ap (λ v. v ++ (0x30 + n % 10) ∷ [
 -- one digit more
 decimal-next : (v d : ℕ) → 0 < v → v ≤ 0xFFFFFFF → d < 10 → decimal (v * 10 + d) ≡ decimal v ++ (0x30 + d) ∷ []
 decimal-next v d z s l =
-    let q : (v * 10 + d) / 10 ≡ v = omega arith in
-    let r : (v * 10 + d) % 10 ≡ d = omega arith in
+    let q : (v * 10 + d) / 10 ≡ v = omega arith in let r : (v * 10 + d) % 10 ≡ d = omega arith in
     decimal-more (v * 10 + d) (omega arith) (omega arith) ∙ ap₂ (λ (x y : ℕ). decimal x ++ (0x30 + y) ∷ []) q r
 
 -- ---- decimals are digits, the first of them not 0
@@ -170,13 +169,11 @@ module _ {t : List ℕ} {v : ℕ} (d : ℕ) {rest : List ℕ} (r : Reading t v (
     spelled = inr (elim (r .spelled) [
       | inl (e, z) ↦
           let n : d ≡ 0x30 → ⊥ = headed-not d rest (subst Headed (r .whole ∙ ap (λ (u : List ℕ). u ++ d ∷ rest) e) h) in
-          let w : v * 10 + (d - 0x30) ≡ d - 0x30 = omega arith in
-          let y : 0x30 + (d - 0x30) % 10 ≡ d = omega arith in
+          let w : v * 10 + (d - 0x30) ≡ d - 0x30 = omega arith in let y : 0x30 + (d - 0x30) % 10 ≡ d = omega arith in
           let p : 0 < d - 0x30 = positive n in
           (omega arith, ap (λ (u : List ℕ). u ++ d ∷ []) e ∙ ap (λ (x : ℕ). x ∷ []) (sym y) ∙ sym (decimal-one (d - 0x30) (omega arith)) ∙ ap decimal (sym w))
       | inr (z, e) ↦
-          let s = r .small in
-          let y : 0x30 + (d - 0x30) ≡ d = omega arith in
+          let s = r .small in let y : 0x30 + (d - 0x30) ≡ d = omega arith in
           (omega arith, ap₂ (λ (u : List ℕ) (x : ℕ). u ++ x ∷ []) e (sym y) ∙ sym (decimal-next v (d - 0x30) z s (omega arith)))
     ]);
     says = r .says ∙ value-on v d rest;

@@ -276,8 +276,7 @@ groups-spread p (l ∷ ls) n′ (inl (e, g)) =
     ∙ ap (λ (v : Lines). l ∷ v) (groups-spread (p + 1) ls n′ g)
     )
 groups-spread p (l ∷ ls) n′ (inr (k, e, d, g)) =
-    let q : k ≡ p = omega arith in
-    let e′ : kind l ≡ item p = e ∙ ap item q in
+    let q : k ≡ p = omega arith in let e′ : kind l ≡ item p = e ∙ ap item q in
     ap₂ (λ (v w : Lines). v ++ w) (at-same l ls e′) (
     ap (λ (v : Lines). spread v (l ∷ ls)) (nodes-item l ls e)
     ∙ spread-past (p + 1) (nodesOf ls) n′ (groups-rows (p + 1) ls n′ g) l e (omega arith) ls

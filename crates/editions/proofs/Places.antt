@@ -44,9 +44,7 @@ lead-is w ps = refl
 next-on : (c : ℕ) (s : List ℕ) (at : ℕ) → at ≤ length s → (ps : Lines) → parted c (drop at s) ≡ ps → {r : ℕ} → r ≡ at + length (lead ps) → Next c s at r
 next-on c s at l [] p e = absurd (some-piece c (drop at s) p)
 next-on c s at l (w ∷ []) p {r} e =
-    let u : drop at s ≡ w = alone-back c (drop at s) w p in
-    let a = ap length u in
-    let b = length-drop at s in
+    let u : drop at s ≡ w = alone-back c (drop at s) w p in let a = ap length u in let b = length-drop at s in
     let d = ap length (lead-is w []) in
     let q : r ≡ at + length w = omega arith in
     let z : slice at r s ≡ w = ap (λ (n : ℕ). slice at n s) q ∙ slice-take at (length w) s l ∙ ap (take (length w)) (u ∙ sym (no-more w)) ∙ take-at w [] (length w) refl in
@@ -56,12 +54,8 @@ next-on c s at l (w ∷ []) p {r} e =
     no-more [] = refl
     no-more (b ∷ w) = ap (λ (v : List ℕ). b ∷ v) (no-more w)
 next-on c s at l (w ∷ x ∷ rest) p {r} e =
-    let k = split c (drop at s) w x rest p in
-    let a = ap length (k .whole) in
-    let f = length-append w (c ∷ k .tail) in
-    let b = length-drop at s in
-    let d = ap length (lead-is w (x ∷ rest)) in
-    let q : r ≡ at + length w = omega arith in
+    let k = split c (drop at s) w x rest p in let a = ap length (k .whole) in let f = length-append w (c ∷ k .tail) in
+    let b = length-drop at s in let d = ap length (lead-is w (x ∷ rest)) in let q : r ≡ at + length w = omega arith in
     let z : slice at r s ≡ w = ap (λ (n : ℕ). slice at n s) q ∙ slice-take at (length w) s l ∙ ap (take (length w)) (k .whole) ∙ take-at w (c ∷ k .tail) (length w) refl in
     let g : r + 1 ≡ at + (length w + 1) = omega arith in
     let y : drop (r + 1) s ≡ k .tail = ap (λ (n : ℕ). drop n s) g ∙ sym (drop-drop (length w + 1) at s) ∙ ap (drop (length w + 1)) (k .whole) ∙

@@ -57,8 +57,7 @@ module _ {N I : Type 0} (rows : N → ℕ) (owner : I → ℕ) (nodeLine : ℕ �
   taken zero k is rest a e = (tt, e, a)
   taken (suc c) k [] rest a e = absurd (no-cons k (replicate c k ++ rest) (sym e))
   taken (suc c) k (i ∷ is) rest (o, a) e =
-      let q : owner i ≡ k = head-eq-of-cons-eq e in
-      let r = taken c k is rest a (tail-eq-of-cons-eq e) in
+      let q : owner i ≡ k = head-eq-of-cons-eq e in let r = taken c k is rest a (tail-eq-of-cons-eq e) in
       let m : Items k (k + 1) (itemLine i) = subst (λ (j : ℕ). Items j (j + 1) (itemLine i)) q o in
       (joined k (k + 1) (itemLine i) (itemLines (take c is)) k (omega arith) (omega arith) m (r .0), r .1, r .2)
 

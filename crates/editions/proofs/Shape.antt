@@ -70,9 +70,7 @@ module _ (s s′ : State) (l : List ℕ) (rest : Lines) where
       }
   first-on (item k) e h r = elim (r .early) [
     | inl z ↦
-        let (x, y) = item-stands false s k h in
-        let q : s .nodes ≡ s′ .nodes = rw z at (r .rows) in
-        let c = r .count in
+        let (x, y) = item-stands false s k h in let q : s .nodes ≡ s′ .nodes = rw z at (r .rows) in let c = r .count in
         record {
           ns = [];
           ms = l ∷ r .ms;
@@ -124,9 +122,7 @@ module _ (s s′ : State) (l : List ℕ) (rest : Lines) (low : s .least ≡ s .n
         count = r .count ∙ ap (λ (v : Lines). s .items + length v) (sym (items-node l (r .body) e));
       }
   second-on (item k) e h r =
-      let (x, y) = item-stands true s k h in
-      let c = r .count in
-      let d = ap length (items-item l (r .body) e) in
+      let (x, y) = item-stands true s k h in let c = r .count in let d = ap length (items-item l (r .body) e) in
       record {
         body = l ∷ r .body;
         whole = ap (λ (v : Lines). l ∷ v) (r .whole);
@@ -193,8 +189,7 @@ fine-items s n (l ∷ ms) (k, e, a, b, m) =
 
 pub fine-first : (s : State) (n n′ : ℕ) (ns ms : Lines) → s .items ≡ 0 → Rows (s .nodes) ns n′ → Items (s .least) n′ ms → Fine false s n ((ns ++ ms) ++ [] ∷ []) n′ (length ms)
 fine-first s n n′ [] ms z r m =
-    let f = fine-items s n ms (rw (sym r) at m) in
-    let a = f .ends in let b = f .has in
+    let f = fine-items s n ms (rw (sym r) at m) in let a = f .ends in let b = f .has in
     record { end = f .end; judges = f .judges; ends = omega arith; has = omega arith }
 fine-first s n n′ (l ∷ ns) ms z (e, r) m =
     fine-on false s n l (ns ++ ms) e (simp (eq-eqb (s .nodes) (s .nodes) refl, eq-eqb (s .items) 0 z)) (fine-first (after false s (node (s .nodes))) (n + 1) n′ ns ms z r m)
@@ -208,6 +203,5 @@ fine-second s n n′ (l ∷ ls) low (inl (e, g)) =
 fine-second s n n′ (l ∷ ls) low (inr (k, e, d, g)) =
     let t = after true s (item k) in
     let f = fine-on true s n l ls e (simp (le-leb (s .least) k (omega arith), lt-ltb k (s .nodes) (omega arith))) (fine-second t (n + 1) n′ ls (omega arith) g) in
-    let a = f .has in
-    let y = ap length (items-item l ls e) in
+    let a = f .has in let y = ap length (items-item l ls e) in
     record { end = f .end; judges = f .judges; ends = f .ends; has = omega arith }

@@ -122,8 +122,7 @@ module _ {s : List ℕ} {from end : ℕ} {two : Bool} {i : ℕ} (g : Spelling s 
       module _ (z : b ≡ 0x5C) (l : 3 ≤ end - i) {x y : ℕ} (e₁ : x ≡ getD s (i + 1) 0) (e₂ : y ≡ getD s (i + 2) 0) where
         three : slice i end s ≡ 0x5C ∷ x ∷ y ∷ slice (i + 3) end s
         three =
-            let a : suc (i + 1) ≡ i + 2 = omega arith in
-            let d : suc (i + 2) ≡ i + 3 = omega arith in
+            let a : suc (i + 1) ≡ i + 2 = omega arith in let d : suc (i + 2) ≡ i + 3 = omega arith in
             cons e
             ∙ rw (z, slice-cons (i + 1) end s 0 (omega arith) (g .inside), a, slice-cons (i + 2) end s 0 (omega arith) (g .inside), d, ← e₁, ← e₂) refl
 

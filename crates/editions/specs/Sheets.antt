@@ -6,8 +6,8 @@ use mathlib.Core.List.{List, [], _∷_, _++_}
 use Prim.Native.Nat.{ℕ, _+_, _*_, _-_, _%_}
 use lib.Dec.{ltb, leb, eqb}
 use lib.ListN.{length, getD, drop}
-use Rattle.cursor.specs.Refusals.{noRoom, badSheet}
-use Rattle.room.specs.Room.{Result, good, bad}
+use Rattle.cursor.specs.Refusals.{badSheet}
+use Rattle.room.specs.Room.{noRoom, Result, good, bad}
 use Rattle.room.specs.Decimal.{decimal}
 use Rattle.text.specs.Text.{plain, escaped, versionText}
 use Rattle.editions.specs.declared.State.{State}

@@ -4,6 +4,7 @@ ghost use mathlib.Core.Bool.{cond};
 ghost use Prim.Native.Nat.{_≤_, _<_, _+_, _-_, _^_};
 ghost use lib.ListN.{length, drop, replicate};
 ghost use lib.Seq.{slice};
+ghost use Rattle.room.specs.Moments.{old};
 ghost use Rattle.room.specs.Room.{good, bad};
 ghost use Rattle.text.specs.Text.{hexDigits};
 ghost use Rattle.editions.specs.Sheets.{parted, lead, isNumber, nibble, isEscape, itself, isText, isVersion, fits, word, kind, stands, after, start, judge};
@@ -75,7 +76,7 @@ pub enum Judged {
 // The end of the piece that begins at `at`: the place of the next byte c, or the end.
 pub fn piece_end(text: &[u8], at: usize, c: u8) -> usize
     requires { ⌜ at ≤ length (now text) ⌝ }
-    ensures { λ r. ⌜ (r ≤ length (now (text .entry))) × (r ≡ at + length (lead (parted c (drop at (now (text .entry)))))) ⌝ }
+    ensures { λ r. ⌜ (r ≤ length (old text)) × (r ≡ at + length (lead (parted c (drop at (old text))))) ⌝ }
 {
     let mut i = at;
     while i < text.len() {
@@ -90,7 +91,7 @@ pub fn piece_end(text: &[u8], at: usize, c: u8) -> usize
 // The number of a field in 01's spelling, or NONE.
 fn read_number(line: &[u8], from: usize, end: usize) -> u64
     requires { ⌜ (from ≤ end) × (end ≤ length (now line)) ⌝ }
-    ensures { λ r. ⌜ r ≡ numberOf (slice from end (now (line .entry))) ⌝ }
+    ensures { λ r. ⌜ r ≡ numberOf (slice from end (old line)) ⌝ }
 {
     if end <= from {
         return NONE;
@@ -123,7 +124,7 @@ fn read_number(line: &[u8], from: usize, end: usize) -> u64
 // The number at a place, with another field behind it.
 pub fn number_field(line: &[u8], at: usize) -> Found
     requires { ⌜ at ≤ length (now line) ⌝ }
-    ensures { λ r. ⌜ NumberAt (now (line .entry)) at r ⌝ }
+    ensures { λ r. ⌜ NumberAt (old line) at r ⌝ }
 {
     let end = piece_end(line, at, 0x09);
     if line.len() <= end {
@@ -139,7 +140,7 @@ pub fn number_field(line: &[u8], at: usize) -> Found
 // Whether so many numbers, and nothing more, stand from a place on.
 fn are_numbers(line: &[u8], at: usize, count: usize) -> bool
     requires { ⌜ (at ≤ length (now line)) × (0 < count) ⌝ }
-    ensures { λ r. ⌜ r ≡ fits (replicate count isNumber) (fieldsAt (now (line .entry)) at) ⌝ }
+    ensures { λ r. ⌜ r ≡ fits (replicate count isNumber) (fieldsAt (old line) at) ⌝ }
 {
     let mut from = at;
     let mut left = count;
@@ -160,7 +161,7 @@ fn are_numbers(line: &[u8], at: usize, count: usize) -> bool
 // The letter at a place, with a tab behind it; 0 where there is none.
 pub fn letter(line: &[u8], at: usize) -> u8
     requires { ⌜ at ≤ length (now line) ⌝ }
-    ensures { λ r. ⌜ LetterIs (now (line .entry)) at r ⌝ }
+    ensures { λ r. ⌜ LetterIs (old line) at r ⌝ }
 {
     if line.len() - at < 2 {
         return 0;
@@ -221,7 +222,7 @@ fn is_itself(b: u8, two: bool) -> bool
 // Whether a field is a text in 01's spelling; `two`: of format 2.
 fn is_text(line: &[u8], from: usize, end: usize, two: bool) -> bool
     requires { ⌜ (from ≤ end) × (end ≤ length (now line)) ⌝ }
-    ensures { λ r. ⌜ r ≡ isText two (slice from end (now (line .entry))) ⌝ }
+    ensures { λ r. ⌜ r ≡ isText two (slice from end (old line)) ⌝ }
 {
     let hex = text::hex_digits();
     let mut i = from;
@@ -248,7 +249,7 @@ fn is_text(line: &[u8], from: usize, end: usize, two: bool) -> bool
 // The name at a place, with another field behind it.
 fn name_field(line: &[u8], at: usize) -> Passed
     requires { ⌜ at ≤ length (now line) ⌝ }
-    ensures { λ r. ⌜ NameAt (now (line .entry)) at r ⌝ }
+    ensures { λ r. ⌜ NameAt (old line) at r ⌝ }
 {
     let end = piece_end(line, at, 0x09);
     if line.len() <= end {
@@ -268,7 +269,7 @@ fn name_field(line: &[u8], at: usize) -> Passed
 // Whether version, format and text, and nothing more, stand from a place on.
 fn is_tail(line: &[u8], at: usize) -> bool
     requires { ⌜ at ≤ length (now line) ⌝ }
-    ensures { λ r. ⌜ r ≡ isTail (fieldsAt (now (line .entry)) at) ⌝ }
+    ensures { λ r. ⌜ r ≡ isTail (fieldsAt (old line) at) ⌝ }
 {
     match number_field(line, at) {
         Found::No => false,
@@ -291,7 +292,7 @@ fn is_tail(line: &[u8], at: usize) -> bool
 // The same, with the label before them: `S` and a number, or `C` and a name.
 fn is_labelled(line: &[u8], at: usize) -> bool
     requires { ⌜ at ≤ length (now line) ⌝ }
-    ensures { λ r. ⌜ r ≡ isLabelled (fieldsAt (now (line .entry)) at) ⌝ }
+    ensures { λ r. ⌜ r ≡ isLabelled (fieldsAt (old line) at) ⌝ }
 {
     let b = letter(line, at);
     if b == b'S' {
@@ -311,7 +312,7 @@ fn is_labelled(line: &[u8], at: usize) -> bool
 
 // What a line is.
 fn read_line(line: &[u8]) -> Line
-    ensures { λ r. ⌜ lineTold r ≡ kind (now (line .entry)) ⌝ }
+    ensures { λ r. ⌜ lineTold r ≡ kind (old line) ⌝ }
 {
     let b = letter(line, 0);
     if b == b'N' {
@@ -344,7 +345,7 @@ fn read_line(line: &[u8]) -> Line
 // Whether a field is one of the three versions.
 fn is_version(line: &[u8], from: usize, end: usize) -> bool
     requires { ⌜ (from ≤ end) × (end ≤ length (now line)) ⌝ }
-    ensures { λ r. ⌜ r ≡ isVersion (slice from end (now (line .entry))) ⌝ }
+    ensures { λ r. ⌜ r ≡ isVersion (slice from end (old line)) ⌝ }
 {
     if end - from != 4 {
         return false;
@@ -369,7 +370,7 @@ fn is_version(line: &[u8], from: usize, end: usize) -> bool
 
 // The first word, with a field behind it.
 fn read_word(line: &[u8]) -> Word
-    ensures { λ r. ⌜ WordAt (now (line .entry)) r ⌝ }
+    ensures { λ r. ⌜ WordAt (old line) r ⌝ }
 {
     if line.len() < 4 {
         return Word::No;
@@ -401,7 +402,7 @@ fn read_word(line: &[u8]) -> Word
 // The rest of the first line, behind the edition's word: version, length, and the counts of nodes and items.
 fn read_counts(line: &[u8], at: usize, second: bool) -> Lead
     requires { ⌜ FieldIs (now line) 0 (word second) at ⌝ }
-    ensures { λ r. ⌜ LeadAt (now (line .entry)) r ⌝ }
+    ensures { λ r. ⌜ LeadAt (old line) r ⌝ }
 {
     let end = piece_end(line, at, 0x09);
     if line.len() <= end {
@@ -431,7 +432,7 @@ fn read_counts(line: &[u8], at: usize, second: bool) -> Lead
 
 // The first line.
 fn read_first(line: &[u8]) -> Lead
-    ensures { λ r. ⌜ LeadAt (now (line .entry)) r ⌝ }
+    ensures { λ r. ⌜ LeadAt (old line) r ⌝ }
 {
     match read_word(line) {
         Word::No => Lead::No,
@@ -488,7 +489,7 @@ fn step(second: bool, t: State, line: Line) -> Stepped
 // Judges the lines from a place on, the second one first.
 fn judge_body(sheet: &[u8], from: usize, second: bool) -> Body
     requires { ⌜ from ≤ length (now sheet) ⌝ }
-    ensures { λ r. ⌜ bodyTold r ≡ judge second start 2 (parted 0x0A (drop from (now (sheet .entry)))) ⌝ }
+    ensures { λ r. ⌜ bodyTold r ≡ judge second start 2 (parted 0x0A (drop from (old sheet))) ⌝ }
 {
     let mut t = State {
         nodes: 0,
@@ -515,7 +516,7 @@ fn judge_body(sheet: &[u8], from: usize, second: bool) -> Body
 
 // Judges a sheet.
 pub fn judge(sheet: &[u8]) -> Judged
-    ensures { λ r. ⌜ JudgedAs (now (sheet .entry)) r ⌝ }
+    ensures { λ r. ⌜ JudgedAs (old sheet) r ⌝ }
 {
     let stop = piece_end(sheet, 0, 0x0a);
     if sheet.len() <= stop {

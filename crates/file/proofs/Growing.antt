@@ -65,9 +65,7 @@ module _ {lim : Limits} {size : ℕ} {σ : State} {log : Events} {tree : ℕ} {t
   pub rows-stand : lim .nodes * nodeWidth ≤ length t → nodesIn (m .nodes) t ≡ nodesOf log
   rows-stand room =
       let n = nodes-length (nodesOf log) in
-      let c = node-count in
-      let f = s .fits .0 in
-      let l = s .long .0 in
+      let c = node-count in let f = s .fits .0 in let l = s .long .0 in
       let e : t ≡ allNodes (nodesOf log) ++ drop (length (allNodes (nodesOf log))) (σ .nodes) =
       sym (ap (λ (v : State). v .nodes) fills) ∙ ap (λ (v : Made). filled log (record { nodes = σ .nodes; items = σ .items; made = v }) .nodes)
       (s .empty) ∙ sets-front (σ .nodes) (allNodes (nodesOf log)) (omega arith) in
@@ -292,10 +290,7 @@ more-spanned lim f h {log} {log′} {tree} {v} {v′} {r} z (added s y) old same
     let c = ap length n ∙ length-append ns (w .row ∷ []) in
     let last : nodeAt (ns ++ (w .row ∷ [])) (length ns) ≡ w .row = getD-append-seam ns (w .row) [] noNode in
     let wide : Spans (w .row) v v′ = subst (λ (p : Node). Spans p v v′) (ap (λ v. nodeAt v (length ns)) n ∙ last) (new (omega arith)) in
-    let at = w .start in
-    let end = w .stop in
-    let some : 0 < w .row .size = omega arith in
-    let b = wide .beyond-is in
+    let at = w .start in let end = w .stop in let some : 0 < w .row .size = omega arith in let b = wide .beyond-is in
     subst (λ v. Spanned tree (length f) v v′) (sym n) (record {
       rows = λ i a k. elim (decLt i (length ns)) [
         | yes m ↦ (let o = old .rows i a m in
@@ -320,8 +315,7 @@ module _ (lim : Limits) (f : List ℕ) (h : Header) (tree : ℕ) (t₀ u₀ : Li
 
   pub follows-begun : m₀ .nodes ≤ tree → {v : Span} → v .first .0 ≡ length f → Follows 0 t₀ u₀ m₀ v
   follows-begun l e σ log₀ s =
-      let n = node-count s in
-      let o = s .first .tree-is in
+      let n = node-count s in let o = s .first .tree-is in
       record {
         log = log₀;
         stands = s;
@@ -343,9 +337,7 @@ module _ (lim : Limits) (f : List ℕ) (h : Header) (tree : ℕ) (t₀ u₀ : Li
         → follow (lim .nodes) lim f h 0 (good log₀) ≡ follow (lim .nodes - (i + 1)) lim f h (i + 1) (followRow lim f h (w σ log₀ s .log) (nodeAt (nodesOf (w σ log₀ s .log)) i))
     unfolding follow
     turn σ log₀ s l =
-        let x = w σ log₀ s in
-        let n = node-count (x .stands) in
-        let q = x .stands .fits .0 in
+        let x = w σ log₀ s in let n = node-count (x .stands) in let q = x .stands .fits .0 in
         let k : lim .nodes - i ≡ suc (lim .nodes - (i + 1)) = omega arith in
         let b : ltb i (length (nodesOf (x .log))) ≡ true = lt-ltb i (length (nodesOf (x .log))) (omega arith) in
         x .same ∙ ap (λ v. follow v lim f h i (good (x .log))) k ∙ rw b refl
@@ -374,8 +366,7 @@ module _ (lim : Limits) (f : List ℕ) (h : Header) (tree : ℕ) (t₀ u₀ : Li
       module _ (z : h .extent .start ≤ length f) {n : Made} {c : Cursor} (e : r ≡ Done n c) (j : length t′ ≡ length t) (k : length u′ ≡ length u) where
         pub follows-next : (σ : State) (log₀ : Events) (s : Stands lim (length f) σ log₀ tree t₀ u₀ m₀) → Next n σ log₀ s
         follows-next σ log₀ s =
-            let x = w σ log₀ s in
-            let a = g σ (x .log) (x .stands) in
+            let x = w σ log₀ s in let a = g σ (x .log) (x .stands) in
             by (followRow lim f h (x .log) (nodeAt (nodesOf (x .log)) i)) refl (ap (λ v. said v t′ u′) (sym e) ∙ a .answer) (subst (Fits lim) e (a .fits))
           where
             by : (o : Result Events) → followRow lim f h (w σ log₀ s .log) (nodeAt (nodesOf (w σ log₀ s .log)) i) ≡ o → good (state t′ u′ n) ≡ left σ o →
@@ -391,9 +382,7 @@ module _ (lim : Limits) (f : List ℕ) (h : Header) (tree : ℕ) (t₀ u₀ : Li
         pub follows-on : lim .nodes * nodeWidth ≤ length t′ → {v′ : Span} → (n .nodes ≤ m .nodes → v′ ≡ v)
             → (m .nodes < n .nodes → Spans (nodeAt (nodesIn (n .nodes) t′) (m .nodes)) v v′) → Follows (i + 1) t′ u′ n v′
         follows-on room {v′} same new σ log₀ s =
-            let x = w σ log₀ s in
-            let y = follows-next σ log₀ s in
-            let e₁ = node-count (x .stands) in
+            let x = w σ log₀ s in let y = follows-next σ log₀ s in let e₁ = node-count (x .stands) in
             let e₂ = node-count (y .stands) in
             record {
               log = y .log;
@@ -407,8 +396,7 @@ module _ (lim : Limits) (f : List ℕ) (h : Header) (tree : ℕ) (t₀ u₀ : Li
         (Done m c) t u (follow (lim .nodes) lim f h 0 (good log₀))
     unfolding follow
     follows-done l c σ log₀ s =
-        let x = w σ log₀ s in
-        let n = node-count (x .stands) in
+        let x = w σ log₀ s in let n = node-count (x .stands) in
         rw (x .same) (by (lim .nodes - i) (le-ltb i (length (nodesOf (x .log))) (omega arith)) (leaves-same (x .stands) c))
       where
         by : (k : ℕ) → ltb i (length (nodesOf (w σ log₀ s .log))) ≡ false → Leaves lim σ (Done m c) t u (good (w σ log₀ s .log)) → Leaves lim σ

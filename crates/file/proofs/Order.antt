@@ -107,8 +107,7 @@ more-log f x end taken offset at log i e =
     let w = in-order f at (detached-orders x end taken offset (madeBy log)) e in
     let k = length (nodesOf log) in
     let o : Ordered k 0 es (w .nodes) 0 = subst (λ v. Ordered k 0 es (w .nodes) v) (w .ends .1) (w .ordered) in
-    let a = ordered-on 0 0 log es k 0 (w .nodes) 0 i o in
-    let c = counted 0 0 (log ++ es) (w .nodes) 0 a in
+    let a = ordered-on 0 0 log es k 0 (w .nodes) 0 i o in let c = counted 0 0 (log ++ es) (w .nodes) 0 a in
     let n : length (nodesOf (log ++ es)) ≡ w .nodes = omega arith in
     rw n a
 

@@ -77,8 +77,7 @@ module _ (j : ℕ) (rest : List ℕ) where
   own-run zero i is e h = own-none j i is (rw e h)
   own-run (suc c) i [] e h = let z : _≡_ {A = ℕ} 0 1 = cc in absurd (omega arith)
   own-run (suc c) i (r ∷ is) e h =
-      let a : r .node ≡ j = cc in
-      let b : nodesOf is ≡ replicate c j ++ rest = cc in
+      let a : r .node ≡ j = cc in let b : nodesOf is ≡ replicate c j ++ rest = cc in
       own-here j (record { row = i; item = r }) (numbered (i + 1) is) a ∙ ap (λ v. record { row = i; item = r } ∷ v) (own-run c (i + 1) is b h)
 
   own-rest : (k c i : ℕ) (is : List Item) → nodesOf is ≡ replicate c j ++ rest → j < k → those (isOwn k) (numbered i is) ≡ those (isOwn k) (numbered (i + c) (drop c is))
@@ -86,8 +85,7 @@ module _ (j : ℕ) (rest : List ℕ) where
   own-rest k zero i is e l = let z : i + 0 ≡ i = omega arith in rw z
   own-rest k (suc c) i [] e l = let z : _≡_ {A = ℕ} 0 1 = cc in absurd (omega arith)
   own-rest k (suc c) i (r ∷ is) e l =
-      let a : r .node ≡ j = cc in
-      let b : nodesOf is ≡ replicate c j ++ rest = cc in
+      let a : r .node ≡ j = cc in let b : nodesOf is ≡ replicate c j ++ rest = cc in
       let z : i + 1 + c ≡ i + suc c = omega arith in
       own-past k (record { row = i; item = r }) (numbered (i + 1) is) (λ q. omega arith) ∙ own-rest k c (i + 1) is b l ∙ ap (λ (x : ℕ). those (isOwn k) (numbered x (drop c is))) z
 
@@ -104,8 +102,7 @@ runs-from : (j i : ℕ) (ns : List Node) (is : List Item) → nodesOf is ≡ spr
 unfolding firstRow
 runs-from j i [] is e k l = absurd (omega arith)
 runs-from j i (r ∷ ns) is e zero l =
-    let a : j + 0 ≡ j = omega arith in
-    let b : i + 0 ≡ i = omega arith in
+    let a : j + 0 ≡ j = omega arith in let b : i + 0 ≡ i = omega arith in
     rw (a, b) (own-run j (spread (j + 1) ns) (r .rows) i is e (from-spread (j + 1) (j + 1) ns (omega arith)))
 runs-from j i (r ∷ ns) is e (suc k) l =
     let a : j + suc k ≡ j + 1 + k = omega arith in

@@ -211,8 +211,7 @@ module _ (lim : Limits) (f : List ℕ) (h : Header) where
 
 pub all-rooted : (lim : Limits) (f : List ℕ) {h : Header} {ns : List Node} {is : List Item} → readFile lim f ≡ rows h ns is → (i : ℕ) → i < length ns → Rooted ns i
 all-rooted lim f {h} r =
-    let a = read-back lim f r in
-    let b = header-of a in
+    let a = read-back lim f r in let b = header-of a in
     let t : AllRooted (trace (treeOf lim (length f) h) f (h .extent .start)) = tree-rooted lim f h (b .3) (a .tree-is) in
     let w = followed lim f h (λ i. AllRooted) (λ i log log′ o l. more-rooted lim f h log log′ _ (omega arith) o) (lim .nodes) 0 _
     (λ log e. subst AllRooted (same e) t) (a .follows) in

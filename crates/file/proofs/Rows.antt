@@ -102,8 +102,7 @@ module _ (f : List ℕ) (lim : Limits) (nsize isize : ℕ) {s : Summary} where
       let z : s ≡ summary h ns is = cc in
       let cn : s .nodes ≡ length ns = ap (λ (x : Summary). x .nodes) z in
       let ci : s .items ≡ length is = ap (λ (x : Summary). x .items) z in
-      let ln = nodes-length ns in
-      let li = items-length is in
+      let ln = nodes-length ns in let li = items-length is in
       record {
         h = h;
         ns = ns;

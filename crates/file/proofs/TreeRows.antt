@@ -85,8 +85,7 @@ module _ (lim : Limits) (f : List ℕ) (h : Header) where
       let es = trace (target lim f h log r) f (r .target) in
       let w = detached-row f (context lim h (length f)) _ _ _ _ (r .target) (part-is h (length f) (r .target) z .0) (s .runs) in
       let n : nodesOf log′ ≡ nodesOf log ++ (w .row ∷ w .others) = ap nodesOf y ∙ rows-on nodeOf log es ∙ ap (λ v. nodesOf log ++ v) (w .rows-are) in
-      let l = tree-few (nodesOf log) in
-      let e = t .tree-is in
+      let l = tree-few (nodesOf log) in let e = t .tree-is in
       record {
         tree-is = ap treeRows n ∙ behind (nodesOf log) (w .row) (w .others) (w .detached-is) ∙ e;
         rising = subst Rising (sym (ap (take tree) n ∙ take-front tree (nodesOf log) (w .row ∷ w .others) (omega arith))) (t .rising);
@@ -104,7 +103,6 @@ module _ (lim : Limits) (f : List ℕ) (h : Header) where
 -- the tree's rows of an accepted file rise
 pub rows-rise : (lim : Limits) (f : List ℕ) {h : Header} {ns : List Node} {is : List Item} → readFile lim f ≡ rows h ns is → Rising (take (treeRows ns) ns)
 rows-rise lim f {h} {ns} e =
-    let a = read-back lim f e in
-    let b = header-of a in
+    let a = read-back lim f e in let b = header-of a in
     let t = tree-followed lim f h (lim .nodes) 0 _ (omega arith) (tree-first lim f h (b .3) (a .tree-is)) (a .follows) in
     subst (λ v. Rising (take (treeRows v) v)) (a .nodes-are) (subst (λ k. Rising (take k (nodesOf (a .log)))) (sym (t .tree-is)) (t .rising))

@@ -113,10 +113,8 @@ module _ (file t u : List ℕ) where
       -- the tree's rows stand in the tables
       whole-stand : {m : Made} {c : Cursor} → r ≡ Done m c → Stands room (length file) start (trace (treeOf room (length file) h) file (h .extent .start)) (m .nodes) t′ u′ m
       whole-stand {m} {c} d =
-          let x = context room h (length file) in
-          let mt = treeOf room (length file) h in
-          let es = trace mt file (h .extent .start) in
-          let e = ran-tree d in
+          let x = context room h (length file) in let mt = treeOf room (length file) h in
+          let es = trace mt file (h .extent .start) in let e = ran-tree d in
           let f : _≡_ {A = Out (Made × State)} (ok (m, puts put es start) (c .at .0)) (ok (m, state t′ u′ m) (c .at .0)) =
           ap (λ o. still o (puts put es start)) (sym e) ∙ sym (exec-puts put mt file (h .extent .start) start) ∙ done gives d in
           let k : puts put es start ≡ state t′ u′ m = ap (λ (y : Made × State). y .1) (same f) in
@@ -201,8 +199,7 @@ module _ (file t u : List ℕ) where
                 let z : filled log start ≡ state t″ u″ n = sym (puts-fills log start) ∙ sym (same-state y) in
                 let cn : n .nodes ≡ length (nodesOf log) = sym (ap (λ (σ : State). σ .made .nodes) z) ∙ zero-add _ in
                 let ci : n .items ≡ length (itemsOf log) = sym (ap (λ (σ : State). σ .made .items) z) ∙ zero-add _ in
-                let ln = nodes-length (nodesOf log) in
-                let li = items-length (itemsOf log) in
+                let ln = nodes-length (nodesOf log) in let li = items-length (itemsOf log) in
                 let tn : t″ ≡ allNodes (nodesOf log) ++ drop (length (allNodes (nodesOf log))) t = sym (ap (λ (σ : State). σ .nodes) z) ∙ sets-front t
                 (allNodes (nodesOf log)) (omega arith) in
                 let ui : u″ ≡ allItems (itemsOf log) ++ drop (length (allItems (itemsOf log))) u = sym (ap (λ (σ : State). σ .items) z) ∙ sets-front u

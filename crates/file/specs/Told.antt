@@ -9,13 +9,15 @@ use Rattle.cursor.specs.Rows.{Events}
 use Rattle.header.specs.declared.Header.{Header}
 use Rattle.header.specs.Told.{headerOf}
 use Rattle.metadata.specs.Tables.{State, state, put}
-use Rattle.rows.specs.Rows.{nodeWidth, itemWidth, nodesOf, nodeAt, treeRows, Rising}
+use Rattle.rows.specs.Rows.{nodeWidth, itemWidth, nodesIn, nodesOf, nodeAt, treeRows, Rising}
 use Rattle.metadata.specs.declared.Limits.{Limits}
 use Rattle.metadata.specs.declared.Made.{Made}
 use Rattle.metadata.specs.declared.Walked.{Walked}
 use Rattle.metadata.specs.declared.Walked.the-variants as all
 use Rattle.metadata.specs.Told.{Fits}
 use Rattle.tree.specs.Tree.{tree}
+use Rattle.targets.specs.declared.Span.{Span}
+use Rattle.targets.specs.Told.{Spanned}
 use Rattle.file.specs.Reading.{Result, good, bad, context}
 use Rattle.file.specs.Asking.{Counts}
 use Rattle.file.specs.declared.Answer.{Answer}
@@ -57,6 +59,11 @@ pub record Stands (lim : Limits) (size : ℕ) (σ : State) (log : Events) (tree 
 abbrev pub Stand : Limits → (size tree : ℕ) → (t u : List ℕ) → Made → Type 0
 Stand lim size tree t u m = (σ : State) × (log : Events) × Stands lim size σ log tree t u m
 
+-- they do, row i is among them, and the span says where the detached nodes of the others lie
+abbrev pub CanFollow : Header → Limits → (file types nodes items : List ℕ) → (tree i : ℕ) → Made → Span → Type 0
+CanFollow h lim file types nodes items tree i made span =
+    Lent h lim file types nodes items × (i < made .nodes) × Stand lim (length file) tree nodes items made × Spanned tree (length file) (nodesIn (made .nodes) nodes) span
+
 -- what a call says that followed rows: the log's refusal; or its counts, with the tables as the log leaves them
 abbrev pub said : Walked → List ℕ → List ℕ → Result State
 said (all.Done m c) t u = good (state t u m)
@@ -69,3 +76,7 @@ left σ (bad n p) = bad n p
 pub record Leaves (lim : Limits) (σ : State) (r : Walked) (t u : List ℕ) (o : Result Events) : Type 0 where
   pub answer : said r t u ≡ left σ o
   pub fits : Fits lim r
+
+-- from every log that left the tables t and u, it goes on to what `next` gives, and the tables are then t′ and u′
+abbrev pub Follows : Limits → (file : List ℕ) → (tree : ℕ) → Made → (t u t′ u′ : List ℕ) → Walked → (next : Events → Result Events) → Type 0
+Follows lim file tree made t u t′ u′ r next = (σ : State) (log : Events) → Stands lim (length file) σ log tree t u made → Leaves lim σ r t′ u′ (next log)

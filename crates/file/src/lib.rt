@@ -2,15 +2,14 @@
 ghost use mathlib.Core.Path.{_≡_};
 ghost use Prim.Native.Nat.{_≤_, _<_, _^_, _*_, _+_};
 ghost use lib.ListN.{length};
+ghost use Rattle.room.specs.Moments.{old, new};
 ghost use Rattle.header.specs.Told.{headerOf};
-ghost use Rattle.rows.specs.Rows.{nodesOf, nodeAt, nodesIn};
-ghost use Rattle.metadata.specs.Tables.{State, limits};
+ghost use Rattle.rows.specs.Rows.{nodesOf, nodeAt};
+ghost use Rattle.metadata.specs.Tables.{limits};
 ghost use Rattle.metadata.specs.Told.{Gives};
-ghost use Rattle.cursor.specs.Rows.{Events};
 ghost use Rattle.file.specs.Reading.{good, followRow, follow, readOf, answerOf};
 ghost use Rattle.file.specs.Asking.{reads, readsBehind, nodesRead, itemsRead, nodesBehind, itemsBehind};
-ghost use Rattle.file.specs.Told.{Lent, treeRun, Stands, Stand, Leaves};
-ghost use Rattle.targets.specs.Told.{Spanned};
+ghost use Rattle.file.specs.Told.{Lent, treeRun, Stand, CanFollow, Follows};
 use cursor::Cursor;
 use cursor::FilePlace;
 use header::Edition;
@@ -63,7 +62,7 @@ fn read_root(
     lim: Limits,
 ) -> Walked
     requires { ⌜ Lent h lim (now file) (now types) (now nodes) (now items) ⌝ }
-    ensures { λ r. ⌜ Gives lim r (now (nodes .exit)) (now (items .exit)) (treeRun h lim (now (types .entry)) (now (file .entry)) (now (nodes .entry)) (now (items .entry))) ⌝ }
+    ensures { λ r. ⌜ Gives lim r (new nodes) (new items) (treeRun h lim (old types) (old file) (old nodes) (old items)) ⌝ }
 {
     let extent = h.extent;
     let start = extent.start;
@@ -111,9 +110,9 @@ fn follow_row(
     made: Made,
     span: Span,
 ) -> Walked
-    requires { ⌜ Lent h lim (now file) (now types) (now nodes) (now items) × (i < made .nodes) × Stand lim (length (now file)) tree (now nodes) (now items) made × Spanned tree (length (now file)) (nodesIn (made .nodes) (now nodes)) span ⌝ }
-    ensures { λ r. ⌜ ((σ : State) (log : Events) → Stands lim (length (now (file .entry))) σ log tree (now (nodes .entry)) (now (items .entry)) made
-        → Leaves lim σ r (now (nodes .exit)) (now (items .exit)) (followRow lim (now (file .entry)) (headerOf h (now (types .entry))) log (nodeAt (nodesOf log) i))) ⌝ }
+    requires { ⌜ CanFollow h lim (now file) (now types) (now nodes) (now items) tree i made span ⌝ }
+    ensures { λ r. ⌜ Follows lim (old file) tree made (old nodes) (old items) (new nodes) (new items) r
+        (λ log. followRow lim (old file) (headerOf h (old types)) log (nodeAt (nodesOf log) i)) ⌝ }
 {
     let here = Cursor { at: FilePlace(0) };
     let row = rows::node_at(nodes, i);
@@ -172,8 +171,8 @@ fn follow_all(
     made: Made,
 ) -> Walked
     requires { ⌜ Lent h lim (now file) (now types) (now nodes) (now items) × Stand lim (length (now file)) (made .nodes) (now nodes) (now items) made ⌝ }
-    ensures { λ r. ⌜ ((σ : State) (log : Events) → Stands lim (length (now (file .entry))) σ log (made .nodes) (now (nodes .entry)) (now (items .entry)) made
-        → Leaves lim σ r (now (nodes .exit)) (now (items .exit)) (follow (lim .nodes) lim (now (file .entry)) (headerOf h (now (types .entry))) 0 (good log))) ⌝ }
+    ensures { λ r. ⌜ Follows lim (old file) (made .nodes) made (old nodes) (old items) (new nodes) (new items) r
+        (λ log. follow (lim .nodes) lim (old file) (headerOf h (old types)) 0 (good log)) ⌝ }
 {
     let mut m = made;
     let mut i = 0;
@@ -204,9 +203,9 @@ pub fn read_behind(
     h: Header,
 ) -> Read
     requires { ⌜ (h .extent .start .0 ≤ h .extent .last .0) × (h .extent .last .0 < length (now file)) × (length (now file) < 2 ^ 28) × (h .types * 2 ≤ length (now types)) ⌝ }
-    ensures answer { λ r. ⌜ r ≡ readOf (readsBehind (now (nodes .entry)) (now (items .entry)) (now (file .entry)) (headerOf h (now (types .entry)))) ⌝ }
-    ensures nodes { λ _. ⌜ now (nodes .exit) ≡ nodesBehind (now (nodes .entry)) (now (items .entry)) (now (file .entry)) (headerOf h (now (types .entry))) ⌝ }
-    ensures items { λ _. ⌜ now (items .exit) ≡ itemsBehind (now (nodes .entry)) (now (items .entry)) (now (file .entry)) (headerOf h (now (types .entry))) ⌝ }
+    ensures answer { λ r. ⌜ r ≡ readOf (readsBehind (old nodes) (old items) (old file) (headerOf h (old types))) ⌝ }
+    ensures nodes { λ _. ⌜ new nodes ≡ nodesBehind (old nodes) (old items) (old file) (headerOf h (old types)) ⌝ }
+    ensures items { λ _. ⌜ new items ≡ itemsBehind (old nodes) (old items) (old file) (headerOf h (old types)) ⌝ }
 {
     let lim = room_of(nodes.len(), items.len());
     match read_root(file, types, nodes, items, h, lim) {
@@ -241,9 +240,9 @@ pub fn read_behind(
 
 // Reads a file into the two tables: the start of every question.
 pub fn read_file(file: &[u8], nodes: &mut [u64], items: &mut [u64]) -> Read
-    ensures answer { λ r. ⌜ r ≡ readOf (reads (now (nodes .entry)) (now (items .entry)) (now (file .entry))) ⌝ }
-    ensures nodes { λ _. ⌜ now (nodes .exit) ≡ nodesRead (now (nodes .entry)) (now (items .entry)) (now (file .entry)) ⌝ }
-    ensures items { λ _. ⌜ now (items .exit) ≡ itemsRead (now (nodes .entry)) (now (items .entry)) (now (file .entry)) ⌝ }
+    ensures answer { λ r. ⌜ r ≡ readOf (reads (old nodes) (old items) (old file)) ⌝ }
+    ensures nodes { λ _. ⌜ new nodes ≡ nodesRead (old nodes) (old items) (old file) ⌝ }
+    ensures items { λ _. ⌜ new items ≡ itemsRead (old nodes) (old items) (old file) ⌝ }
 {
     let mut types = [0u64; header::MOST_TYPES * 2];
     match header::read_header(file, &mut types) {
@@ -257,9 +256,9 @@ pub fn read_file(file: &[u8], nodes: &mut [u64], items: &mut [u64]) -> Read
 
 // The first question: reads the tree into the two tables.
 pub fn read_tree(file: &[u8], nodes: &mut [u64], items: &mut [u64]) -> Answer
-    ensures answer { λ r. ⌜ r ≡ answerOf (reads (now (nodes .entry)) (now (items .entry)) (now (file .entry))) ⌝ }
-    ensures nodes { λ _. ⌜ now (nodes .exit) ≡ nodesRead (now (nodes .entry)) (now (items .entry)) (now (file .entry)) ⌝ }
-    ensures items { λ _. ⌜ now (items .exit) ≡ itemsRead (now (nodes .entry)) (now (items .entry)) (now (file .entry)) ⌝ }
+    ensures answer { λ r. ⌜ r ≡ answerOf (reads (old nodes) (old items) (old file)) ⌝ }
+    ensures nodes { λ _. ⌜ new nodes ≡ nodesRead (old nodes) (old items) (old file) ⌝ }
+    ensures items { λ _. ⌜ new items ≡ itemsRead (old nodes) (old items) (old file) ⌝ }
 {
     match read_file(file, nodes, items) {
         Read::Refused(n, p) => Answer::Refused(n, p.0),

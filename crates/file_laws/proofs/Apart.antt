@@ -85,8 +85,7 @@ module _ (lim : Limits) (f : List ℕ) (h : Header) where
       let p = part-is h (length f) (r .target) z in
       let u = detached-ends x f (r .target) _ _ _ _ (p .0) (s .runs) in
       let w = detached-row f x _ _ _ (madeBy log) (r .target) (p .0) (s .runs) in
-      let at = w .start in
-      let end = w .stop in
+      let at = w .start in let end = w .stop in
       let n : nodesOf log′ ≡ nodesOf log ++ (w .row ∷ []) = ap nodesOf y ∙ rows-on nodeOf log _ ∙ ap (λ v. nodesOf log ++ v) (w .rows-are ∙ ap (λ v. w .row ∷ v) (w .alone refl)) in
       let meets : (k : ℕ) → r .target ≤ k → k < s .after → Within lim f h (nodesOf log) k → ⊥ = λ k lo hi t. meets-none lim f h (nodesOf log)
       (r .target) (s .after) k (o .2) (p .1) (u .1) (u .2) t lo hi in
@@ -103,8 +102,7 @@ module _ (lim : Limits) (f : List ℕ) (h : Header) where
 
 pub all-apart : (lim : Limits) (f : List ℕ) {h : Header} {ns : List Node} {is : List Item} → readFile lim f ≡ rows h ns is → AllApart h ns
 all-apart lim f {h} r =
-    let a = read-back lim f r in
-    let b = header-of a in
+    let a = read-back lim f r in let b = header-of a in
     let t : Apart lim f h (trace (treeOf lim (length f) h) f (h .extent .start)) = tree-apart lim f h (b .3) (a .tree-is) in
     let w = followed lim f h (λ i. Apart lim f h) (λ i log log′ o l. step-apart lim f h log log′ _ (omega arith) o) (lim .nodes) 0 _
     (λ log e. subst (Apart lim f h) (same e) t) (a .follows) in

@@ -2,16 +2,16 @@
 -- that agree on every other byte of header, tree and detached nodes read alike. With everything free: the frame bytes alone decide. With hidden data
 -- and inline data free: demand 3 for the first question. What the other questions use besides: custom names, and the data of rows that are not free, agree too.
 -- Assumes nothing.
-use mathlib.Core.Path.{_≡_, refl, sym, ap, ap₂, _∙_, subst}
+use mathlib.Core.Path.{_≡_, refl, sym, ap, _∙_, subst}
 use mathlib.Core.Bool.{Bool, true, false, cond, not, _&&_}
 use mathlib.Core.Logic.{_⊎_, inl, inr}
 use mathlib.Core.List.{List, [], _∷_, _++_, append-assoc, append-nil}
-use Prim.Native.Nat.{ℕ, zero, suc, _+_, _≤_, _<_, min, max}
+use Prim.Native.Nat.{ℕ, zero, suc, _+_, _-_, _≤_, _<_}
 use native.Mathlib.Nat.{lt-of-not-le}
 use native.Mathlib.Decide.{decLe}
 use native.Mathlib.Omega.{arith}
-use borrow.Author.Tests.{lt-ltb, eq-eqb}
-use lib.Dec.{T, eqb, ltb}
+use borrow.Author.Tests.{lt-ltb, le-leb, eq-eqb}
+use lib.Dec.{T, eqb, ltb, leb}
 use lib.ListN.{length, getD, List·getD-eq-default}
 use Rattle.machine.specs.Machine.{ok, seen, passed, run, trace, rowsOf, place}
 use Rattle.cursor.specs.Rows.{Part, nodeRow, itemRow, language, name, uri, plain, hasInline, Events}
@@ -32,8 +32,9 @@ use Rattle.node.specs.Node.{headerLength, head, front, outsideTree}
 use Rattle.tree.specs.Tree.{tree, node, detached}
 use Rattle.rows.specs.Rows.{nodeOf, nodesOf, itemsOf, nodeAt, itemAt}
 use Rattle.file.specs.Reading.{Result, good, bad, rows, madeBy, logged, detachedAt, followRow, follow, logFrom, reading, context, readTree, readFile}
-use Rattle.targets.specs.Targets.{offsetAt, outside, partEnd, firstTaken}
-use Rattle.file_laws.specs.Private.{mayDiffer, HiddenData, InlineData, InDetached, InParts, Private, DifferInPrivate, DifferInHidden}
+use Rattle.targets.specs.Targets.{offsetAt, outside, partEnd, isTaken, firstTaken}
+use Rattle.targets.proofs.Taken.{or-yes, first-before}
+use Rattle.file_laws.specs.Private.{mayDiffer, HiddenData, InlineData, InDetached, InParts, Private, DifferInPrivate}
 use Rattle.tree.proofs.Ends.{tree-ends, detached-ends}
 use Rattle.tree.proofs.Nodes.{inline-is}
 use Rattle.tree.proofs.Starts.{detached-row, From, tree-from, detached-from}
@@ -75,8 +76,7 @@ module _ (free : Part → Bool) (lim : Limits) (f g : List ℕ) (l : length f �
   unfolding followRow detachedAt logged
   reach-same log r keep (known x y) = rw x (ap good (sym y))
   reach-same log r {log′} keep (added s y) =
-      let m = target lim f h log r in
-      let es = trace m f (r .target) in
+      let m = target lim f h log r in let es = trace m f (r .target) in
       let keeps : Kept free f g es = held-parts free _ log es (subst (Kept free f g) y keep) .1 in
       let (a, b) = stable free m f g (r .target) keeps in
       let n = detached-near (context lim h (length f)) (partEnd h (length f) (r .target))
@@ -200,17 +200,15 @@ taken-after : (ns : List Node) (at k : ℕ) → From at ns → Taken ns k → at
 taken-after (r ∷ ns) at k h (inl x) = omega arith
 taken-after (r ∷ ns) at k h (inr y) = taken-after ns at k (h .1) y
 
+taken-is : (ns : List Node) (k : ℕ) → Taken ns k → isTaken ns k ≡ true
+unfolding isTaken
+taken-is (r ∷ ns) k (inl x) = rw (eq-eqb _ _ (x .0), le-leb (r .start) k (omega arith), lt-ltb k (r .start + r .size) (omega arith)) refl
+taken-is (r ∷ ns) k (inr y) = rw (taken-is ns k y) (or-yes (eqb (r .detached) 1 && (leb (r .start) k && ltb k (r .start + r .size))))
+
 -- none before the first
 from-taken : (ns : List Node) (p end k : ℕ) → p ≤ k → Taken ns k → firstTaken ns p end ≤ k
 unfolding firstTaken
-from-taken (r ∷ ns) p end k l (inl x) =
-    let b : (eqb (r .detached) 1 && ltb p (r .start + r .size)) ≡ true = ap₂ _&&_ (eq-eqb _ _ (x .0)) (lt-ltb p (r .start + r .size) (omega arith)) in
-    rw b (omega arith)
-from-taken (r ∷ ns) p end k l (inr y) = let z = from-taken ns p end k l y in by (eqb (r .detached) 1 && ltb p (r .start + r .size)) z
-  where
-    by : (b : Bool) → firstTaken ns p end ≤ k → (cond b (min (max p (r .start)) (firstTaken ns p end)) (firstTaken ns p end)) ≤ k
-    by true z = omega arith
-    by false z = z
+from-taken ns p end k l t = first-before ns (end - p) p k l (taken-is ns k t)
 
 module _ (lim : Limits) (f : List ℕ) (h : Header) where
   -- k lies in the tree or in a detached node; and where these lie
@@ -225,9 +223,7 @@ module _ (lim : Limits) (f : List ℕ) (h : Header) where
   tree-lies : {m : Made} {q : ℕ} → run (treeOf lim (length f) h) f (h .extent .start) ≡ ok m q → h .extent .last < length f → h .extent .end ≤ h .extent .start
       → Lies (trace (treeOf lim (length f) h) f (h .extent .start))
   tree-lies e l z =
-      let m = treeOf lim (length f) h in
-      let x = context lim h (length f) in
-      let v = ends m f (h .extent .start) e in
+      let m = treeOf lim (length f) h in let x = context lim h (length f) in let v = ends m f (h .extent .start) e in
       let u = tree-ends x f (h .extent .start) (h .extent .last + 1) (omega arith) e in
       record {
         sound = sound-in (λ k a. inl (a .0, omega arith)) (sound-run (trace m f (h .extent .start)) (h .extent .start) (chain m f (h .extent .start)));
@@ -250,9 +246,7 @@ module _ (lim : Limits) (f : List ℕ) (h : Header) where
   unfolding detachedAt
   more-lies log log′ r z s (known x y) = rw y s
   more-lies log log′ r z s (added t y) =
-      let x = context lim h (length f) in
-      let m = target lim f h log r in
-      let es = trace m f (r .target) in
+      let x = context lim h (length f) in let m = target lim f h log r in let es = trace m f (r .target) in
       let o = outside-is h (length f) (r .target) (t .is-outside) in
       let p = part-is h (length f) (r .target) z in
       let u = detached-ends x f (r .target) _ _ _ _ (p .0) (t .runs) in
@@ -272,8 +266,7 @@ module _ (lim : Limits) (f : List ℕ) (h : Header) where
 
   log-lies : {ns : List Node} {is : List Item} (a : ReadAs lim f h ns is) → Lies (a .log)
   log-lies a =
-      let w = header-of a in
-      let t = tree-lies (a .tree-is) (w .3) (omega arith) in
+      let w = header-of a in let t = tree-lies (a .tree-is) (w .3) (omega arith) in
       followed lim f h (λ i. Lies) (λ i log log′ s l. more-lies log log′ _ (omega arith) s) (lim .nodes) 0 _ (λ log e. subst Lies (same e) t) (a .follows) .1
     where
       same : {x y : Events} → good x ≡ good y → x ≡ y
@@ -285,9 +278,7 @@ module _ (lim : Limits) (f : List ℕ) (h : Header) where
 
   pub all-sound : {ns : List Node} {is : List Item} (a : ReadAs lim f h ns is) → Sound (Parts (nodesOf (a .log))) (trace (header (length f)) f 0 ++ a .log)
   all-sound a =
-      let w = header-of a in
-      let z = ends (header (length f)) f 0 (a .header-is) in
-      let l = log-lies a in
+      let w = header-of a in let z = ends (header (length f)) f 0 (a .header-is) in let l = log-lies a in
       sound-on (sound-in (λ k b. let c = b .1 in omega arith) (sound-run (trace (header (length f)) f 0) 0 (chain (header (length f)) f 0))) (l .sound)
       (λ k b. elim [ inl c ↦ omega arith | inr c ↦ (let d = l .behind k c in omega arith) ])
 
@@ -335,8 +326,7 @@ inline-free [] end size k a (i, l, z, o, lo, hi) = absurd (omega arith)
 inline-free (seen κ p ∷ es) end size k a h = inline-free es end size k a h
 inline-free (passed (nodeRow r) p n ∷ es) end size k a (zero, l, z, o, lo, hi) =
     let t : T (hasInline r) = simp (eq-eqb _ _ z, eq-eqb _ _ o) tt in
-    let e = a .0 .4 t in
-    let y : n ≡ r .extent = a .0 .3 ∙ inline-is r z o in
+    let e = a .0 .4 t in let y : n ≡ r .extent = a .0 .3 ∙ inline-is r z o in
     inl (t, omega arith, omega arith)
 inline-free (passed (nodeRow r) p n ∷ es) end size k a (suc i, l, z, o, lo, hi) = inr (inline-free es end size k (a .1) (i, omega arith, z, o, lo, hi))
 inline-free (passed (itemRow r) p n ∷ es) end size k a h = inr (inline-free es end size k (a .1) h)
@@ -373,10 +363,6 @@ private-alike lim f g {h} {ns} {is} r d =
 pub demand3 : (lim : Limits) (f g : List ℕ) {h : Header} {ns : List Node} {is : List Item} → readFile lim f ≡ rows h ns is → DifferInPrivate
     h ns is f g → readFile lim g ≡ readFile lim f
 demand3 lim f g r d = private-alike lim f g r d .same-reading
-
--- files that differ in hidden data alone are among these
-pub hidden-private : {h : Header} {ns : List Node} {is : List Item} {f g : List ℕ} → DifferInHidden is f g → DifferInPrivate h ns is f g
-hidden-private d = record { same-length = d .same-length; elsewhere = λ k l o. d .elsewhere k l λ x. o (inl x) }
 
 -- ---- the frame bytes alone
 

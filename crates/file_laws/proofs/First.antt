@@ -105,8 +105,7 @@ module _ (lim : Limits) (f : List ℕ) {h : Header} {ns : List Node} {is : List 
 
   pub steps-made : readFile lim f ≡ rows h ns is → (nodesOf (steps lim f) ≡ ns) × (itemsOf (steps lim f) ≡ is)
   steps-made e =
-      let a = read-back lim f e in
-      let hs = trace (header (length f)) f 0 in
+      let a = read-back lim f e in let hs = trace (header (length f)) f 0 in
       let w = no-rows hs (used f 0 (header-uses {S = passing NoRow} tt tt (length f))) in (
         ap nodesOf (all-steps a) ∙ rows-on nodeOf hs (a .log) ∙ ap (λ v. v ++ nodesOf (a .log)) (w .0) ∙ a .nodes-are,
         ap itemsOf (all-steps a) ∙ rows-on itemOf hs (a .log) ∙ ap (λ v. v ++ itemsOf (a .log)) (w .1) ∙ a .items-are,

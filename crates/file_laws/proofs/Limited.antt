@@ -127,8 +127,7 @@ module _ (from to lim : Limits) (f : List ℕ) (h : Header)
   unfolding follow
   follow-as zero k′ i log e l a b = let z = same-good e in stays k′ i log (subst (λ v. length (nodesOf v) ≤ i) (sym z) (omega arith)) ∙ ap good z
   follow-as (suc k) k′ i log {log′} e l a b =
-      let (es, g) = grown from f h (suc k) i log e in
-      let n = nodes-on log es in
+      let (es, g) = grown from f h (suc k) i log e in let n = nodes-on log es in
       let longer : length (nodesOf log) ≤ length (nodesOf log′) = rw g (omega arith) in
       by k′ (ltb i (length (nodesOf log))) refl longer b e (λ log₁ z j c. follow-as k j (i + 1) log₁ z l (omega arith) c)
     where

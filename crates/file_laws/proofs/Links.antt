@@ -61,8 +61,7 @@ module _ (lim : Limits) (f : List ℕ) (h : Header) where
       found : (a : ℕ) (b : Bool) → (eqb a 3 && not b) ≡ false → a ≡ 3 → b ≡ true
       found a b e q = not-false b (sym (ap (λ v. v && not b) (eq-eqb a 3 q)) ∙ e)
   one-led i log log′ z l s (added t y) =
-      let r = nodeAt (nodesOf log) i in
-      let es = trace (target lim f h log r) f (r .target) in
+      let r = nodeAt (nodesOf log) i in let es = trace (target lim f h log r) f (r .target) in
       let n = rows-on nodeOf log es in
       let w = detached-row f (context lim h (length f)) _ _ _ _ (r .target) (part-is h (length f) (r .target) z .0) (t .runs) in
       let old : (j : ℕ) → j < length (nodesOf log) → nodeAt (nodesOf log ++ nodesOf es) j ≡ nodeAt (nodesOf log) j = λ j m. List·getD-append
@@ -79,8 +78,7 @@ module _ (lim : Limits) (f : List ℕ) (h : Header) where
   log-led : {ns : List Node} {is : List Item} (a : ReadAs lim f h ns is) → (j : ℕ) → j < length (nodesOf (a .log)) → nodeAt (nodesOf (a .log))
       j .reference ≡ 3 → startsAt (nodesOf (a .log)) (nodeAt (nodesOf (a .log)) j .target) ≡ true
   log-led a j m q =
-      let b = header-of a in
-      let t = tree-fits (no-less lim) f h (a .tree-is) in
+      let b = header-of a in let t = tree-fits (no-less lim) f h (a .tree-is) in
       let w = followed lim f h (λ i log. Led i log × Fits lim log)
       (λ i log log′ s l r. (one-led i log log′ (omega arith) l (s .0) r, more-fits (no-less lim) f h log log′ _ (s .1) r)) (lim .nodes) 0 _
       (λ log e. ((λ j k. absurd (omega arith)), subst (Fits lim) (same e) t)) (a .follows) in

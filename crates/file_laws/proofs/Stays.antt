@@ -131,8 +131,7 @@ module _ (lim : Limits) (f : List ℕ) {n p : ℕ} where
   of-header : (o : Out Header) → run (header (length f)) f 0 ≡ o → readTree lim f o ≡ refusal n p → p ≤ length f
   unfolding readTree
   of-header (ok h q) e z =
-      let w = at-end any-free f (header-on (length f)) e in
-      let x = context lim h (length f) in
+      let w = at-end any-free f (header-on (length f)) e in let x = context lim h (length f) in
       let i : h .extent .last + 1 ≤ length f = omega arith in
       of-log h _ (follow-in f lim h (omega arith) (lim .nodes) 0 _
       (logged-in f [] _ _ tt (tree-inside x f (h .extent .start) _ i) (tree-stays x _ i i .from (h .extent .start) (omega arith) .inside))) z

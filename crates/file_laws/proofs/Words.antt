@@ -124,15 +124,12 @@ module _ {lim : Limits} {f : List ℕ} {h : Header} {ns : List Node} {is : List 
 -- an accepted file has no more rows than bytes
 pub rows-few : (lim : Limits) (f : List ℕ) {h : Header} {ns : List Node} {is : List Item} → readFile lim f ≡ rows h ns is → length ns + length is ≤ length f
 rows-few lim f {h} {ns} {is} e =
-    let a = read-back lim f e in
-    let w = header-of a in
-    let s = all-sound lim f h a in
+    let a = read-back lim f e in let w = header-of a in let s = all-sound lim f h a in
     let hs = trace (header (length f)) f 0 in
     let i : (i : ℕ) → i < length (nodesOf (a .log)) → NodeIn (length f) (nodeAt (nodesOf (a .log)) i) = subst
     (λ v. (i : ℕ) → i < length v → NodeIn (length f) (nodeAt v i)) (sym (a .nodes-are)) (accepted lim f e .nodes-inside) in
     let m = no-more (length f) (hs ++ a .log) (s .apart) (λ k c. inside (nodesOf (a .log)) i w k (s .within k c)) in
-    let o = spent-on hs (a .log) in
-    let l = log-few a .1 in
+    let o = spent-on hs (a .log) in let l = log-few a .1 in
     let x = ap length (a .nodes-are) in let y = ap length (a .items-are) in
     omega arith
   where
@@ -206,8 +203,7 @@ module _ (size : ℕ) (l : size < 2 ^ 28) where
   item-below most m r (a, v, d, f, inl (k, s, z)) (i, j) n =
       ((n, (omega arith, (omega arith, (s, (omega arith, (omega arith, (d, (f, (omega arith, (omega arith, tt)))))))))), inl k)
   item-below most m r (a, v, d, f, inr (k, s)) i n =
-      let j = name-in r i k in
-      let c = i .0 in
+      let j = name-in r i k in let c = i .0 in
       ((n, (omega arith, (omega arith, (omega arith, (omega arith, (omega arith, (d, (f, (omega arith, (omega arith, tt)))))))))), inr (k, s, j))
 
 -- tables of any size: those that just hold the rows would do
@@ -220,9 +216,7 @@ pub small-rows : (lim : Limits) (f : List ℕ) {h : Header} {ns : List Node} {is
 small-rows lim f {h} {ns} {is} e =
     let few = rows-few lim f e in
     let a = read-back (record { nodes = length ns; items = length is }) f (just lim f e) in
-    let c = accepted lim f e in
-    let o = in-row-order lim f e in
-    let s = c .small in
+    let c = accepted lim f e in let o = in-row-order lim f e in let s = c .small in
     let n = sym (map-length (λ (r : Item). r .node) is) ∙ ap length (o .items-follow) in
     record {
       version = head-is a .0;

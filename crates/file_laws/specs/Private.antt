@@ -43,8 +43,3 @@ Private h ns is k = HiddenData is k ⊎ InlineData ns k ⊎ (InParts h ns k → 
 pub record DifferInPrivate (h : Header) (ns : List Node) (is : List Item) (f g : List ℕ) : Type 0 where
   pub same-length : length f ≡ length g
   pub elsewhere : (k : ℕ) → k < length f → (Private h ns is k → ⊥) → getD f k 0 ≡ getD g k 0
-
--- the same, in hidden data alone
-pub record DifferInHidden (is : List Item) (f g : List ℕ) : Type 0 where
-  pub same-length : length f ≡ length g
-  pub elsewhere : (k : ℕ) → k < length f → (HiddenData is k → ⊥) → getD f k 0 ≡ getD g k 0

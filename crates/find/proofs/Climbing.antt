@@ -53,8 +53,7 @@ module _ (ns : List Node) (k : ℕ) where
   pub path-up : nodeAt ns k .parent < k → path ns k ≡ k ∷ path ns (nodeAt ns k .parent)
   unfolding path rowsUp
   path-up h =
-      let q = nodeAt ns k .parent in
-      let s : k + 1 ≡ suc k = omega arith in
+      let q = nodeAt ns k .parent in let s : k + 1 ≡ suc k = omega arith in
       let e : ltb (nodeAt ns k .parent) k ≡ true = lt-ltb _ _ h in
       ap (λ (n : ℕ). rowsUp ns n k) s ∙ simp e (ap (λ (v : List ℕ). k ∷ v) (enough ns k (q + 1) q h (omega arith)))
 
@@ -89,8 +88,7 @@ EndsAt ws n i end = end ≡ firstRow (nodesIn n ws) i
 module _ (ws : List ℕ) (n i : ℕ) (some : 0 < i) (l : i ≤ n) {r : Node} (e : r ≡ nodeFrom ws ((i - 1) * nodeWidth)) {end : ℕ} (a : EndsAt ws n i end) where
   rows-are : end ≡ firstRow (nodesIn n ws) (i - 1) + r .rows
   rows-are =
-      let q : i ≡ i - 1 + 1 = omega arith in
-      let c = nodes-in-length ws n in
+      let q : i ≡ i - 1 + 1 = omega arith in let c = nodes-in-length ws n in
       a ∙ ap (firstRow (nodesIn n ws)) q ∙ first-next (nodesIn n ws) (i - 1) (omega arith) ∙ ap
       (λ (x : Node). firstRow (nodesIn n ws) (i - 1) + x .rows) (node-at ws n (i - 1) (omega arith) ∙ sym e)
 

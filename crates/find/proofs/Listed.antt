@@ -7,8 +7,9 @@ use lib.ListN.{length}
 use Rattle.cursor.specs.declared.Node.{Node}
 use Rattle.cursor.specs.declared.Item.{Item}
 use Rattle.header.specs.Header.{Header}
-use Rattle.room.specs.Room.{Result, good, bad, Among}
-use Rattle.room.proofs.Listed.{among-if}
+use Rattle.room.specs.Room.{Result, good, bad}
+use Rattle.cursor.specs.Refusals.{Among}
+use Rattle.cursor.proofs.Listed.{among-if}
 use Rattle.file.specs.Own.{Numbered}
 use Rattle.find.specs.Find.{Wanted, matches, among, look, orElse, firstAnswer, path, nearest, find, findOwn, refusals}
 

@@ -30,8 +30,7 @@ module _ (f : List ℕ) (at : ℕ) (name : List ℕ) (i : ℕ) (h : Comparing f 
   pub bytes-on : i < length name → getD f (at + i) 0 ≡ getD name i 0 → Comparing f at name (i + 1)
   unfolding sameBytes
   bytes-on l e =
-      let a : at + i + 1 ≡ at + (i + 1) = omega arith in
-      let b : suc i ≡ i + 1 = omega arith in
+      let a : at + i + 1 ≡ at + (i + 1) = omega arith in let b : suc i ≡ i + 1 = omega arith in
       h ∙ ap (sameBytes f (at + i)) (drop-cons name i 0 l) ∙ (simp (eq-eqb _ _ e)) ∙ ap₂ (λ (x : ℕ) (y : ℕ). sameBytes f x (drop y name)) a b
 
   pub bytes-all : length name ≤ i → true ≡ sameBytes f at name

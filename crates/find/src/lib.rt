@@ -2,6 +2,7 @@
 ghost use mathlib.Core.Path.{_≡_};
 ghost use Prim.Native.Nat.{_≤_, _<_, _*_, _+_};
 ghost use lib.ListN.{length};
+ghost use Rattle.room.specs.Moments.{old, new};
 ghost use Rattle.rows.specs.Rows.{nodeWidth, nodesIn, itemsIn, ItemIn, ItemRows};
 ghost use Rattle.file.specs.Asking.{answered, nodesLeft, itemsLeft};
 ghost use Rattle.file.specs.Own.{numbered, part, firstRow, Tables};
@@ -25,7 +26,7 @@ pub enum Found {
 // Whether the file's bytes from `at` on are those of the name.
 fn same_bytes(file: &[u8], at: usize, name: &[u8]) -> bool
     requires { ⌜ at + length (now name) ≤ length (now file) ⌝ }
-    ensures { λ r. ⌜ r ≡ sameBytes (now (file .entry)) at (now (name .entry)) ⌝ }
+    ensures { λ r. ⌜ r ≡ sameBytes (old file) at (old name) ⌝ }
 {
     let mut i = 0;
     while i < name.len() {
@@ -40,7 +41,7 @@ fn same_bytes(file: &[u8], at: usize, name: &[u8]) -> bool
 // Whether the row is of that custom name.
 fn is_named(file: &[u8], row: Item, name: &[u8]) -> bool
     requires { ⌜ ItemIn (length (now file)) row ⌝ }
-    ensures { λ r. ⌜ r ≡ matches (now (file .entry)) (custom (now (name .entry))) row ⌝ }
+    ensures { λ r. ⌜ r ≡ matches (old file) (custom (old name)) row ⌝ }
 {
     if name.len() == 0 {
         return false;
@@ -57,7 +58,7 @@ fn is_named(file: &[u8], row: Item, name: &[u8]) -> bool
 // Whether the row is of that field.
 fn is_wanted(file: &[u8], row: Item, field: Field, name: &[u8]) -> bool
     requires { ⌜ ItemIn (length (now file)) row ⌝ }
-    ensures { λ r. ⌜ r ≡ matches (now (file .entry)) (wantedOf field (now (name .entry))) row ⌝ }
+    ensures { λ r. ⌜ r ≡ matches (old file) (wantedOf field (old name)) row ⌝ }
 {
     match field {
         Field::Custom => is_named(file, row, name),
@@ -81,7 +82,7 @@ fn look(
     name: &[u8],
 ) -> Found
     requires { ⌜ ItemRows (length (now file)) m (now items) × (end ≤ m) ⌝ }
-    ensures { λ r. ⌜ told r ≡ among (now (file .entry)) (wantedOf field (now (name .entry))) (numbered first (part (itemsIn m (now (items .entry))) first end)) ⌝ }
+    ensures { λ r. ⌜ told r ≡ among (old file) (wantedOf field (old name)) (numbered first (part (itemsIn m (old items)) first end)) ⌝ }
 {
     let mut i = first;
     while i < end {
@@ -97,7 +98,7 @@ fn look(
 // The item row behind node k's own rows, where those of node `from`, which is later, begin at `first`. Goes back over the node rows between the two.
 fn rows_end(nodes: &[u64], n: usize, from: usize, first: usize, k: usize) -> usize
     requires { ⌜ (n * nodeWidth ≤ length (now nodes)) × (k < from) × (from ≤ n) × (first ≡ firstRow (nodesIn n (now nodes)) from) ⌝ }
-    ensures { λ r. ⌜ r ≡ firstRow (nodesIn n (now (nodes .entry))) (k + 1) ⌝ }
+    ensures { λ r. ⌜ r ≡ firstRow (nodesIn n (old nodes)) (k + 1) ⌝ }
 {
     let mut i = from;
     let mut end = first;
@@ -123,7 +124,7 @@ fn climb(
     name: &[u8],
 ) -> Found
     requires { ⌜ Tables (now file) (now nodes) (now items) n m × (k < n) × (end ≡ firstRow (nodesIn n (now nodes)) (k + 1)) ⌝ }
-    ensures { λ r. ⌜ told r ≡ nearest (now (file .entry)) (wantedOf field (now (name .entry))) (nodesIn n (now (nodes .entry))) (itemsIn m (now (items .entry))) k ⌝ }
+    ensures { λ r. ⌜ told r ≡ nearest (old file) (wantedOf field (old name)) (nodesIn n (old nodes)) (itemsIn m (old items)) k ⌝ }
 {
     let row = rows::node_at(nodes, k);
     let first = end - row.rows as usize;
@@ -153,7 +154,7 @@ fn found_by(
     climbs: bool,
 ) -> Found
     requires { ⌜ Tables (now file) (now nodes) (now items) n m × (k < n) ⌝ }
-    ensures { λ r. ⌜ told r ≡ foundBy climbs (now (file .entry)) (wantedOf field (now (name .entry))) (nodesIn n (now (nodes .entry))) (itemsIn m (now (items .entry))) k ⌝ }
+    ensures { λ r. ⌜ told r ≡ foundBy climbs (old file) (wantedOf field (old name)) (nodesIn n (old nodes)) (itemsIn m (old items)) k ⌝ }
 {
     let end = rows_end(nodes, n, n, m, k);
     if climbs {
@@ -173,9 +174,9 @@ fn find_field(
     name: &[u8],
     climbs: bool,
 ) -> Found
-    ensures answer { λ r. ⌜ told r ≡ answered (now (nodes .entry)) (now (items .entry)) (now (file .entry)) (question climbs (wantedOf field (now (name .entry))) row) ⌝ }
-    ensures nodes { λ _. ⌜ now (nodes .exit) ≡ nodesLeft (now (nodes .entry)) (now (items .entry)) (now (file .entry)) (question climbs (wantedOf field (now (name .entry))) row) ⌝ }
-    ensures items { λ _. ⌜ now (items .exit) ≡ itemsLeft (now (nodes .entry)) (now (items .entry)) (now (file .entry)) (question climbs (wantedOf field (now (name .entry))) row) ⌝ }
+    ensures answer { λ r. ⌜ told r ≡ answered (old nodes) (old items) (old file) (question climbs (wantedOf field (old name)) row) ⌝ }
+    ensures nodes { λ _. ⌜ new nodes ≡ nodesLeft (old nodes) (old items) (old file) (question climbs (wantedOf field (old name)) row) ⌝ }
+    ensures items { λ _. ⌜ new items ≡ itemsLeft (old nodes) (old items) (old file) (question climbs (wantedOf field (old name)) row) ⌝ }
 {
     match file::read_file(file, nodes, items) {
         Read::Refused(n, p) => Found::Refused(n, p.0),
@@ -213,9 +214,9 @@ pub fn find_standard(
     row: usize,
     number: u64,
 ) -> Found
-    ensures answer { λ r. ⌜ told r ≡ answered (now (nodes .entry)) (now (items .entry)) (now (file .entry)) (find (standard number) row) ⌝ }
-    ensures nodes { λ _. ⌜ now (nodes .exit) ≡ nodesLeft (now (nodes .entry)) (now (items .entry)) (now (file .entry)) (find (standard number) row) ⌝ }
-    ensures items { λ _. ⌜ now (items .exit) ≡ itemsLeft (now (nodes .entry)) (now (items .entry)) (now (file .entry)) (find (standard number) row) ⌝ }
+    ensures answer { λ r. ⌜ told r ≡ answered (old nodes) (old items) (old file) (find (standard number) row) ⌝ }
+    ensures nodes { λ _. ⌜ new nodes ≡ nodesLeft (old nodes) (old items) (old file) (find (standard number) row) ⌝ }
+    ensures items { λ _. ⌜ new items ≡ itemsLeft (old nodes) (old items) (old file) (find (standard number) row) ⌝ }
 {
     find_field(file, nodes, items, row, Field::Standard(number), b"", true)
 }
@@ -228,9 +229,9 @@ pub fn find_custom(
     row: usize,
     name: &[u8],
 ) -> Found
-    ensures answer { λ r. ⌜ told r ≡ answered (now (nodes .entry)) (now (items .entry)) (now (file .entry)) (find (custom (now (name .entry))) row) ⌝ }
-    ensures nodes { λ _. ⌜ now (nodes .exit) ≡ nodesLeft (now (nodes .entry)) (now (items .entry)) (now (file .entry)) (find (custom (now (name .entry))) row) ⌝ }
-    ensures items { λ _. ⌜ now (items .exit) ≡ itemsLeft (now (nodes .entry)) (now (items .entry)) (now (file .entry)) (find (custom (now (name .entry))) row) ⌝ }
+    ensures answer { λ r. ⌜ told r ≡ answered (old nodes) (old items) (old file) (find (custom (old name)) row) ⌝ }
+    ensures nodes { λ _. ⌜ new nodes ≡ nodesLeft (old nodes) (old items) (old file) (find (custom (old name)) row) ⌝ }
+    ensures items { λ _. ⌜ new items ≡ itemsLeft (old nodes) (old items) (old file) (find (custom (old name)) row) ⌝ }
 {
     find_field(file, nodes, items, row, Field::Custom, name, true)
 }
@@ -243,9 +244,9 @@ pub fn find_own_standard(
     row: usize,
     number: u64,
 ) -> Found
-    ensures answer { λ r. ⌜ told r ≡ answered (now (nodes .entry)) (now (items .entry)) (now (file .entry)) (findOwn (standard number) row) ⌝ }
-    ensures nodes { λ _. ⌜ now (nodes .exit) ≡ nodesLeft (now (nodes .entry)) (now (items .entry)) (now (file .entry)) (findOwn (standard number) row) ⌝ }
-    ensures items { λ _. ⌜ now (items .exit) ≡ itemsLeft (now (nodes .entry)) (now (items .entry)) (now (file .entry)) (findOwn (standard number) row) ⌝ }
+    ensures answer { λ r. ⌜ told r ≡ answered (old nodes) (old items) (old file) (findOwn (standard number) row) ⌝ }
+    ensures nodes { λ _. ⌜ new nodes ≡ nodesLeft (old nodes) (old items) (old file) (findOwn (standard number) row) ⌝ }
+    ensures items { λ _. ⌜ new items ≡ itemsLeft (old nodes) (old items) (old file) (findOwn (standard number) row) ⌝ }
 {
     find_field(file, nodes, items, row, Field::Standard(number), b"", false)
 }
@@ -258,9 +259,9 @@ pub fn find_own_custom(
     row: usize,
     name: &[u8],
 ) -> Found
-    ensures answer { λ r. ⌜ told r ≡ answered (now (nodes .entry)) (now (items .entry)) (now (file .entry)) (findOwn (custom (now (name .entry))) row) ⌝ }
-    ensures nodes { λ _. ⌜ now (nodes .exit) ≡ nodesLeft (now (nodes .entry)) (now (items .entry)) (now (file .entry)) (findOwn (custom (now (name .entry))) row) ⌝ }
-    ensures items { λ _. ⌜ now (items .exit) ≡ itemsLeft (now (nodes .entry)) (now (items .entry)) (now (file .entry)) (findOwn (custom (now (name .entry))) row) ⌝ }
+    ensures answer { λ r. ⌜ told r ≡ answered (old nodes) (old items) (old file) (findOwn (custom (old name)) row) ⌝ }
+    ensures nodes { λ _. ⌜ new nodes ≡ nodesLeft (old nodes) (old items) (old file) (findOwn (custom (old name)) row) ⌝ }
+    ensures items { λ _. ⌜ new items ≡ itemsLeft (old nodes) (old items) (old file) (findOwn (custom (old name)) row) ⌝ }
 {
     find_field(file, nodes, items, row, Field::Custom, name, false)
 }

@@ -9,7 +9,7 @@ use lib.ListN.{length, take, drop, getD}
 use lib.Seq.{drop-cons, drop-length}
 use borrow.Author.Tests.{lt-ltb}
 use Rattle.machine.specs.Machine.{Out, ok, refused}
-use Rattle.cursor.specs.Vlq.{part}
+use Rattle.room.specs.Parts.{part}
 use Rattle.cursor.specs.declared.Item.{Item}
 use Rattle.room.specs.Room.{good, bad}
 use Rattle.room.specs.Counts.{Counts}
@@ -76,16 +76,14 @@ module _ (s : List ℕ) where
       framing-on {x} k p =
           let m = g .many in
           let h : good x ≡ good (getD (g .all) i noFrame) = sym (ap frameTold k) ∙ there in
-          let y : getD (g .all) i noFrame ≡ x = cc in
-          let z : suc i ≡ i + 1 = omega arith in
+          let y : getD (g .all) i noFrame ≡ x = cc in let z : suc i ≡ i + 1 = omega arith in
           let d = rw z at (drop-cons (g .all) i noFrame (omega arith)) in
           record { all = g .all; behind = g .behind; walked = g .walked; many = m; going = going-on (rw (d, y) refl) (g .going) p }
 
     pub framing-end : count ≤ i → i ≤ count → (w : List ℕ) × (allLines (framesOf s) ≡ good w) × Counts o o′ 0 w next
     unfolding allLines frameLines
     framing-end l u =
-        let m = g .many in
-        let e : i ≡ length (g .all) = omega arith in
+        let m = g .many in let e : i ≡ length (g .all) = omega arith in
         (frameLines 0 (g .all), rw (g .walked), going-end (rw (e, drop-length (g .all)) refl) (g .going))
 
 -- ---- one frame

@@ -2,6 +2,7 @@
 ghost use mathlib.Core.Path.{_≡_};
 ghost use mathlib.Core.List.{[]};
 ghost use lib.ListN.{length};
+ghost use Rattle.room.specs.Moments.{old, new};
 ghost use Rattle.room.specs.Counts.{Counts};
 ghost use Rattle.rows.specs.Rows.{ItemIn};
 ghost use Rattle.lines.specs.Answer.{printed, Gives};
@@ -39,7 +40,7 @@ fn name_bytes(name: u64) -> [u8; 4]
 
 // Puts the line of a frame.
 fn put_frame(out: &mut [u8], to: usize, i: usize, x: TagFrame) -> usize
-    ensures { λ r. ⌜ Counts (now (out .entry)) (now (out .exit)) to (frameLine i x) r ⌝ }
+    ensures { λ r. ⌜ Counts (old out) (new out) to (frameLine i x) r ⌝ }
 {
     let name = name_bytes(x.name);
     let a = room::put_byte(out, to, b'F');
@@ -53,7 +54,7 @@ fn put_frame(out: &mut [u8], to: usize, i: usize, x: TagFrame) -> usize
 
 // Puts the lines of all frames. The tag is walked once for each.
 fn put_frames(out: &mut [u8], tag: &[u8]) -> Put
-    ensures { λ r. ⌜ Puts (now (out .entry)) (now (out .exit)) 0 (allLines (framesOf (now (tag .entry)))) r ⌝ }
+    ensures { λ r. ⌜ Puts (old out) (new out) 0 (allLines (framesOf (old tag))) r ⌝ }
 {
     match id3::frame_count(tag) {
         FrameCount::Refused(n, p) => Put::Refused(n, p),
@@ -74,7 +75,7 @@ fn put_frames(out: &mut [u8], tag: &[u8]) -> Put
 
 // Puts the line of one frame.
 fn put_one(out: &mut [u8], tag: &[u8], i: usize) -> Put
-    ensures { λ r. ⌜ Puts (now (out .entry)) (now (out .exit)) 0 (oneLine i (frameAt i (now (tag .entry)))) r ⌝ }
+    ensures { λ r. ⌜ Puts (old out) (new out) 0 (oneLine i (frameAt i (old tag))) r ⌝ }
 {
     match id3::frame(tag, i) {
         Framed::Refused(n, p) => Put::Refused(n, p),
@@ -84,7 +85,7 @@ fn put_one(out: &mut [u8], tag: &[u8], i: usize) -> Put
 
 // Puts the lines that are asked for.
 fn put_tag(out: &mut [u8], tag: &[u8], which: Frames) -> Put
-    ensures { λ r. ⌜ Puts (now (out .entry)) (now (out .exit)) 0 (tagLines which (now (tag .entry))) r ⌝ }
+    ensures { λ r. ⌜ Puts (old out) (new out) 0 (tagLines which (old tag)) r ⌝ }
 {
     match which {
         Frames::All => put_frames(out, tag),
@@ -93,7 +94,7 @@ fn put_tag(out: &mut [u8], tag: &[u8], which: Frames) -> Put
 }
 
 pub fn make_tag(tag: &[u8], which: Frames, text: &mut [u8]) -> Made
-    ensures { λ r. ⌜ Gives (length (now (text .entry))) r (now (text .exit)) (tagAnswer (length (now (text .entry))) which (now (tag .entry))) ⌝ }
+    ensures { λ r. ⌜ Gives (length (old text)) r (new text) (tagAnswer (length (old text)) which (old tag)) ⌝ }
 {
     let put = put_tag(text, tag, which);
     put_answered(text, put)
@@ -122,7 +123,7 @@ fn make_item_tag(
     text: &mut [u8],
 ) -> Made
     requires { ⌜ ItemIn (length (now file)) item ⌝ }
-    ensures { λ r. ⌜ Gives (length (now (text .entry))) r (now (text .exit)) (printed (length (now (text .entry))) [] (λ a. a) (shownTag meant which (now (file .entry)) row item)) ⌝ }
+    ensures { λ r. ⌜ Gives (length (old text)) r (new text) (printed (length (old text)) [] (λ a. a) (shownTag meant which (old file) row item)) ⌝ }
 {
     if is_withheld(item, meant) {
         return hidden(text);
@@ -133,7 +134,7 @@ fn make_item_tag(
 }
 
 pub fn make_row_tag(file: &[u8], row: usize, meant: bool, which: Frames, text: &mut [u8]) -> Made
-    ensures { λ r. ⌜ Gives (length (now (text .entry))) r (now (text .exit)) (rowTagAnswer (length (now (text .entry))) row meant which (now (file .entry))) ⌝ }
+    ensures { λ r. ⌜ Gives (length (old text)) r (new text) (rowTagAnswer (length (old text)) row meant which (old file)) ⌝ }
 {
     let mut nodes = program::node_table();
     let mut items = program::item_table();

@@ -51,6 +51,5 @@ module _ {f : List ℕ} where
   pub header-stays : Stays f (header (length f))
   unfolding header
   header-stays =
-      let size = length f in
-      let o : size ≤ size = omega arith in
+      let size = length f in let o : size ≤ size = omega arith in
       after (opening-stays size o) λ v. after (edition-stays size o v) λ e. follows (length-stays size o) (after (types-stay size o) λ ds. after (extent-stays size o) λ x. ends)

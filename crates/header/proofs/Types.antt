@@ -54,9 +54,7 @@ pub declared : (n t f : ℕ) (ws : List ℕ) → n * 2 + 2 ≤ length ws
     → typesOf (n + 1) (set (set ws (n * 2) t) (n * 2 + 1) f) ≡ typesOf n ws ++ (record { type = t; format = f } ∷ [])
 unfolding typesOf
 declared n t f ws l =
-    let a : n + 1 ≡ suc n = omega arith in
-    let b : 0 + n ≡ n = omega arith in
-    let s = set ws (n * 2) t in
+    let a : n + 1 ≡ suc n = omega arith in let b : 0 + n ≡ n = omega arith in let s = set ws (n * 2) t in
     let k : length s ≡ length ws = length-set ws (n * 2) t in
     let x : getD (set s (n * 2 + 1) f) (n * 2) 0 ≡ t = getD-set-other s (n * 2 + 1) (n * 2) f 0 (λ e. omega arith) ∙ getD-set-same ws (n * 2) t 0 (omega arith) in
     let y : getD (set s (n * 2 + 1) f) (n * 2 + 1) 0 ≡ f = getD-set-same s (n * 2 + 1) f 0 (omega arith) in

@@ -50,14 +50,10 @@ module _ (past end : ℕ) (f : List ℕ) (at : ℕ) where
       → ok ((a * 256 + b) * 65536 + (c * 256 + d)) q ≡ run (four past end) f at
   unfolding four next
   four-all h {a} {b} {c} {d} ea eb ec ed eq =
-      let l₀ : at < end = omega arith in
-      let l₁ : at + 1 < end = omega arith in
-      let l₂ : at + 1 + 1 < end = omega arith in
-      let l₃ : at + 1 + 1 + 1 < end = omega arith in
-      let e₂ : at + 1 + 1 ≡ at + 2 = omega arith in
-      let e₃ : at + 2 + 1 ≡ at + 3 = omega arith in
-      let e₄ : at + 3 + 1 ≡ at + 4 = omega arith in
-      let l₂′ : at + 2 < end = omega arith in
+      let l₀ : at < end = omega arith in let l₁ : at + 1 < end = omega arith in
+      let l₂ : at + 1 + 1 < end = omega arith in let l₃ : at + 1 + 1 + 1 < end = omega arith in
+      let e₂ : at + 1 + 1 ≡ at + 2 = omega arith in let e₃ : at + 2 + 1 ≡ at + 3 = omega arith in
+      let e₄ : at + 3 + 1 ≡ at + 4 = omega arith in let l₂′ : at + 2 < end = omega arith in
       let l₃′ : at + 3 < end = omega arith in
       let v : (a * 256 + b) * 65536 + (c * 256 + d) ≡ ((a * 256 + b) * 256 + c) * 256 + d = omega arith in
       rw (v, eq) (simp (running, lt-ltb _ _ l₀, lt-ltb _ _ l₁, e₂, lt-ltb _ _ l₂′, e₃, lt-ltb _ _ l₃′, e₄, ea, eb, ec, ed))

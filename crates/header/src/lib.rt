@@ -4,6 +4,7 @@ ghost use mathlib.Core.List.{_∷_, [], _++_};
 ghost use Prim.Native.Nat.{_≤_, _<_, _+_, _*_, _^_};
 ghost use lib.ListN.{length};
 ghost use Rattle.machine.specs.Machine.{run, times};
+ghost use Rattle.room.specs.Moments.{old, new};
 ghost use Rattle.cursor.specs.Told.{Readable, numberTold, passTold};
 ghost use Rattle.header.specs.Types.{typesOf, formatOf, foundTold};
 ghost use Rattle.header.specs.Header.{four, opening, edition, fileLength, entry, typesTable, extent, header};
@@ -66,7 +67,7 @@ pub enum Headed {
 // The format of a type, if it is declared.
 pub fn format_of(types: &[u64], count: usize, of: u64) -> Found
     requires { ⌜ count * 2 ≤ length (now types) ⌝ }
-    ensures { λ r. ⌜ foundTold r ≡ formatOf (typesOf count (now (types .entry))) of ⌝ }
+    ensures { λ r. ⌜ foundTold r ≡ formatOf (typesOf count (old types)) of ⌝ }
 {
     let mut i = 0;
     while i < count {
@@ -81,7 +82,7 @@ pub fn format_of(types: &[u64], count: usize, of: u64) -> Found
 // Declares one more type.
 fn declare(types: &mut [u64], count: usize, of: u64, format: u64)
     requires { ⌜ count * 2 + 2 ≤ length (now types) ⌝ }
-    ensures { λ _. ⌜ typesOf (count + 1) (now (types .exit)) ≡ typesOf count (now (types .entry)) ++ (record { type = of; format = format } ∷ []) ⌝ }
+    ensures { λ _. ⌜ typesOf (count + 1) (new types) ≡ typesOf count (old types) ++ (record { type = of; format = format } ∷ []) ⌝ }
 {
     types[count * 2] = of;
     types[count * 2 + 1] = format;
@@ -90,7 +91,7 @@ fn declare(types: &mut [u64], count: usize, of: u64, format: u64)
 // Four bytes as one number, high byte first.
 fn read_four(c: Cursor, file: &[u8], end: FilePlace, past: u64) -> Numbered
     requires { ⌜ (end .0 ≤ length (now file)) × (c .at .0 ≤ end .0) ⌝ }
-    ensures { λ r. ⌜ numberTold r ≡ run (four past (end .0)) (now (file .entry)) (c .at .0) ⌝ }
+    ensures { λ r. ⌜ numberTold r ≡ run (four past (end .0)) (old file) (c .at .0) ⌝ }
 {
     let place = c.at;
     let at = place.0;
@@ -104,7 +105,7 @@ fn read_four(c: Cursor, file: &[u8], end: FilePlace, past: u64) -> Numbered
 
 // `XMF_` and the version: 100, 101 or 200.
 pub fn read_opening(file: &[u8]) -> Numbered
-    ensures { λ r. ⌜ numberTold r ≡ run (opening (length (now (file .entry)))) (now (file .entry)) 0 ⌝ }
+    ensures { λ r. ⌜ numberTold r ≡ run (opening (length (old file))) (old file) 0 ⌝ }
 {
     let size = file.len();
     let first = FilePlace(0);
@@ -143,7 +144,7 @@ pub fn read_opening(file: &[u8]) -> Numbered
 // The type and the revision, which 2.00 has.
 pub fn read_edition(c: Cursor, file: &[u8], version: u64) -> EditionResult
     requires { ⌜ c .at .0 ≤ length (now file) ⌝ }
-    ensures { λ r. ⌜ editionTold r ≡ run (edition (length (now (file .entry))) version) (now (file .entry)) (c .at .0) ⌝ }
+    ensures { λ r. ⌜ editionTold r ≡ run (edition (length (old file)) version) (old file) (c .at .0) ⌝ }
 {
     if version != 200 {
         let none = Edition {
@@ -167,7 +168,7 @@ pub fn read_edition(c: Cursor, file: &[u8], version: u64) -> EditionResult
 
 // FileLength, which is the number of bytes lent.
 fn read_length(c: Cursor, file: &[u8]) -> Passed
-    ensures { λ r. ⌜ passTold r ≡ run (fileLength (length (now (file .entry)))) (now (file .entry)) (c .at .0) ⌝ }
+    ensures { λ r. ⌜ passTold r ≡ run (fileLength (length (old file))) (old file) (c .at .0) ⌝ }
 {
     let place = c.at;
     let size = file.len();
@@ -185,7 +186,7 @@ fn read_length(c: Cursor, file: &[u8]) -> Passed
 // An entry of the types table, which ends at `end`, behind `count` others.
 fn read_entry(c: Cursor, file: &[u8], types: &mut [u64], count: usize, end: FilePlace) -> Passed
     requires { ⌜ Readable (end .0) (now file) × (64 ≤ length (now types)) × (count ≤ 32) ⌝ }
-    ensures { λ r. ⌜ entryTold r (typesOf (count + 1) (now (types .exit))) ≡ run (entry (end .0) (typesOf count (now (types .entry)))) (now (file .entry)) (c .at .0) ⌝ }
+    ensures { λ r. ⌜ entryTold r (typesOf (count + 1) (new types)) ≡ run (entry (end .0) (typesOf count (old types))) (old file) (c .at .0) ⌝ }
 {
     let place = c.at;
     match c.number(file, end, cursor::CUT_SHORT) {
@@ -214,7 +215,7 @@ fn read_entry(c: Cursor, file: &[u8], types: &mut [u64], count: usize, end: File
 // The entries of the types table, which ends at `end`.
 fn read_entries(c: Cursor, file: &[u8], types: &mut [u64], count: u64, end: FilePlace) -> Typed
     requires { ⌜ Readable (end .0) (now file) × (64 ≤ length (now types)) ⌝ }
-    ensures { λ r. ⌜ typesTold r (now (types .exit)) ≡ run (times count (entry (end .0)) []) (now (file .entry)) (c .at .0) ⌝ }
+    ensures { λ r. ⌜ typesTold r (new types) ≡ run (times count (entry (end .0)) []) (old file) (c .at .0) ⌝ }
     ensures { λ r. ⌜ Listed r ⌝ }
 {
     let mut next = c;
@@ -236,7 +237,7 @@ fn read_entries(c: Cursor, file: &[u8], types: &mut [u64], count: u64, end: File
 // MetaDataTypesTable.
 pub fn read_types(c: Cursor, file: &[u8], types: &mut [u64]) -> Typed
     requires { ⌜ (length (now file) < 2 ^ 28) × (64 ≤ length (now types)) ⌝ }
-    ensures { λ r. ⌜ typesTold r (now (types .exit)) ≡ run (typesTable (length (now (file .entry)))) (now (file .entry)) (c .at .0) ⌝ }
+    ensures { λ r. ⌜ typesTold r (new types) ≡ run (typesTable (length (old file))) (old file) (c .at .0) ⌝ }
     ensures { λ r. ⌜ Listed r ⌝ }
 {
     match c.block(file, FilePlace(file.len()), cursor::CUT_SHORT) {
@@ -262,7 +263,7 @@ pub fn read_types(c: Cursor, file: &[u8], types: &mut [u64]) -> Typed
 
 // TreeStart and TreeEnd, and the header's end.
 fn read_extent(c: Cursor, file: &[u8]) -> Bounded
-    ensures { λ r. ⌜ extentTold r ≡ run (extent (length (now (file .entry)))) (now (file .entry)) (c .at .0) ⌝ }
+    ensures { λ r. ⌜ extentTold r ≡ run (extent (length (old file))) (old file) (c .at .0) ⌝ }
 {
     let place = c.at;
     let size = file.len();
@@ -300,7 +301,7 @@ fn read_extent(c: Cursor, file: &[u8]) -> Bounded
 // look at it after a refusal: nothing is said of it then.
 pub fn read_header(file: &[u8], types: &mut [u64]) -> Headed
     requires { ⌜ 64 ≤ length (now types) ⌝ }
-    ensures answer { λ r. ⌜ headerTold r (now (types .exit)) ≡ run (header (length (now (file .entry)))) (now (file .entry)) 0 ⌝ }
+    ensures answer { λ r. ⌜ headerTold r (new types) ≡ run (header (length (old file))) (old file) 0 ⌝ }
     ensures listed { λ r. ⌜ Few r ⌝ }
 {
     match read_opening(file) {

@@ -8,9 +8,9 @@ use native.Mathlib.Omega.{arith}
 use lib.Dec.{ltb}
 use lib.ListN.{length, getD}
 use Rattle.machine.specs.Machine.{Out, ok, refused}
-use Rattle.cursor.specs.Refusals.{noSuchRow}
-use Rattle.room.specs.Room.{good, bad, Among}
-use Rattle.room.proofs.Listed.{allowed-front, among-if}
+use Rattle.cursor.specs.Refusals.{noSuchRow, Among}
+use Rattle.room.specs.Room.{good, bad}
+use Rattle.cursor.proofs.Listed.{allowed-front, among-if}
 use Rattle.id3.specs.declared.TagFrame.{TagFrame}
 use Rattle.id3.specs.Frames.{framesOf, noFrame, countIn, frameIn, frameCount, frameAt, countRefusals, frameRefusals}
 use Rattle.id3.proofs.Inside.{refused-tag}

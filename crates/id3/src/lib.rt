@@ -4,6 +4,7 @@ ghost use mathlib.Core.Path.{_≡_};
 ghost use Prim.Native.Nat.{_≤_, _<_, _+_};
 ghost use lib.ListN.{length, getD};
 ghost use Rattle.machine.specs.Machine.{run};
+ghost use Rattle.room.specs.Moments.{old};
 ghost use Rattle.cursor.specs.Told.{numberTold, passTold};
 ghost use Rattle.id3.specs.Tag.{size, head, extended, front, frame, frames};
 ghost use Rattle.id3.specs.Frames.{framesOf, frameCount, frameAt};
@@ -53,7 +54,7 @@ enum Walked {
 // The size here: four bytes, seven bits each.
 fn read_size(c: Cursor, tag: &[u8], end: FilePlace) -> Numbered
     requires { ⌜ (end .0 ≤ length (now tag)) × (c .at .0 ≤ end .0) ⌝ }
-    ensures { λ r. ⌜ numberTold r ≡ run (size (end .0)) (now (tag .entry)) (c .at .0) ⌝ }
+    ensures { λ r. ⌜ numberTold r ≡ run (size (end .0)) (old tag) (c .at .0) ⌝ }
 {
     let place = c.at;
     let at = place.0;
@@ -84,7 +85,7 @@ fn read_size(c: Cursor, tag: &[u8], end: FilePlace) -> Numbered
 
 // The header of the tag.
 fn read_head(tag: &[u8]) -> Headed
-    ensures { λ r. ⌜ headTold r ≡ run (head (length (now (tag .entry)))) (now (tag .entry)) 0 ⌝ }
+    ensures { λ r. ⌜ headTold r ≡ run (head (length (old tag))) (old tag) 0 ⌝ }
 {
     if tag.len() < 10 {
         return Headed::Refused(cursor::NOT_A_TAG, FilePlace(0));
@@ -121,7 +122,7 @@ fn read_head(tag: &[u8]) -> Headed
 // The extended header here.
 fn read_extended(c: Cursor, tag: &[u8], end: FilePlace) -> Passed
     requires { ⌜ (end .0 ≤ length (now tag)) × (c .at .0 ≤ end .0) ⌝ }
-    ensures { λ r. ⌜ passTold r ≡ run (extended (end .0)) (now (tag .entry)) (c .at .0) ⌝ }
+    ensures { λ r. ⌜ passTold r ≡ run (extended (end .0)) (old tag) (c .at .0) ⌝ }
 {
     let place = c.at;
     match read_size(c, tag, end) {
@@ -141,7 +142,7 @@ fn read_extended(c: Cursor, tag: &[u8], end: FilePlace) -> Passed
 // The frame here, in a tag that goes on.
 fn read_frame(c: Cursor, tag: &[u8], end: FilePlace) -> FrameRead
     requires { ⌜ (end .0 ≤ length (now tag)) × (c .at .0 < end .0) ⌝ }
-    ensures { λ r. ⌜ readTold r ≡ run (frame (end .0) (c .at .0) (getD (now (tag .entry)) (c .at .0) 0)) (now (tag .entry)) (c .at .0 + 1) ⌝ }
+    ensures { λ r. ⌜ readTold r ≡ run (frame (end .0) (c .at .0) (getD (old tag) (c .at .0) 0)) (old tag) (c .at .0 + 1) ⌝ }
 {
     let place = c.at;
     let at = place.0;
@@ -189,7 +190,7 @@ fn read_frame(c: Cursor, tag: &[u8], end: FilePlace) -> FrameRead
 // The cursor behind the header and the extended header, if there is one.
 fn read_front(c: Cursor, tag: &[u8], flags: u64, end: FilePlace) -> Passed
     requires { ⌜ (end .0 ≤ length (now tag)) × (c .at .0 ≤ end .0) ⌝ }
-    ensures { λ r. ⌜ passTold r ≡ run (front flags (end .0)) (now (tag .entry)) (c .at .0) ⌝ }
+    ensures { λ r. ⌜ passTold r ≡ run (front flags (end .0)) (old tag) (c .at .0) ⌝ }
 {
     if flags / 0x40 % 2 == 1 {
         return read_extended(c, tag, end);
@@ -200,7 +201,7 @@ fn read_front(c: Cursor, tag: &[u8], flags: u64, end: FilePlace) -> Passed
 // All frames from here on: how many there are, and the one numbered `want`.
 fn read_frames(c: Cursor, tag: &[u8], end: FilePlace, want: usize) -> Walked
     requires { ⌜ end .0 ≤ length (now tag) ⌝ }
-    ensures { λ r. ⌜ walkTold r ≡ walkOf want (run (frames (end .0)) (now (tag .entry)) (c .at .0)) ⌝ }
+    ensures { λ r. ⌜ walkTold r ≡ walkOf want (run (frames (end .0)) (old tag) (c .at .0)) ⌝ }
 {
     let mut next = c;
     let mut count = 0;
@@ -233,7 +234,7 @@ fn read_frames(c: Cursor, tag: &[u8], end: FilePlace, want: usize) -> Walked
 
 // The whole tag: how many frames it has, and the one numbered `want`.
 fn walk(tag: &[u8], want: usize) -> Walked
-    ensures { λ r. ⌜ walkTold r ≡ walkOf want (framesOf (now (tag .entry))) ⌝ }
+    ensures { λ r. ⌜ walkTold r ≡ walkOf want (framesOf (old tag)) ⌝ }
 {
     match read_head(tag) {
         Headed::Refused(n, p) => Walked::Refused(n, p),
@@ -246,7 +247,7 @@ fn walk(tag: &[u8], want: usize) -> Walked
 
 // How many frames the tag has.
 pub fn frame_count(tag: &[u8]) -> FrameCount
-    ensures { λ r. ⌜ countTold r ≡ frameCount (now (tag .entry)) ⌝ }
+    ensures { λ r. ⌜ countTold r ≡ frameCount (old tag) ⌝ }
 {
     match walk(tag, 0) {
         Walked::Refused(n, p) => FrameCount::Refused(n, p.0),
@@ -256,7 +257,7 @@ pub fn frame_count(tag: &[u8]) -> FrameCount
 
 // The tag's frame of a number, from 0 in file order.
 pub fn frame(tag: &[u8], number: usize) -> Framed
-    ensures { λ r. ⌜ frameTold r ≡ frameAt number (now (tag .entry)) ⌝ }
+    ensures { λ r. ⌜ frameTold r ≡ frameAt number (old tag) ⌝ }
 {
     match walk(tag, number) {
         Walked::Refused(n, p) => Framed::Refused(n, p.0),

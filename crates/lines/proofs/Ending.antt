@@ -57,8 +57,7 @@ module _ {o o′ w : List ℕ} {end : ℕ} (p : Counts o o′ 0 w end) (m : leng
       (record { status = status; size = end }) t (closed (length o) (answer status w))
   unfolding closed
   close-all l c =
-      let z = p .long in
-      let x = wrote-all p (omega arith) (omega arith) c in
+      let z = p .long in let x = wrote-all p (omega arith) (omega arith) c in
       rw (le-leb (length w) (length o) (room-for l)) (record { status-is = refl; size-is = x .1; text-is = x .2 })
 
   pub close-none : length o′ < end → {t : List ℕ} → t ≡ replicate (length o′) 0 → Gives (length o) (record { status = 1; size = 0 }) t (closed (length o) (answer status w))
@@ -114,8 +113,7 @@ module _ (room : ℕ) (tail : List ℕ) where
 pub answered : {room : ℕ} {r : Made} {t : List ℕ} {a : Answer} → Gives room r t a → io.Counts (r .size) t × Gives room r t a
 unfolding padded
 answered {room} {r} {t} {a} g =
-    let z = g .size-is in
-    let y = ap length (g .text-is) in
+    let z = g .size-is in let y = ap length (g .text-is) in
     let x = length-append (a .text) (replicate (room - length (a .text)) 0) in
     (counts (r .size) t (omega arith), g)
 

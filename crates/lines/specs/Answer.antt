@@ -6,8 +6,7 @@ use mathlib.Core.List.{List, [], _∷_, _++_}
 use Prim.Native.Nat.{ℕ}
 use lib.Dec.{leb}
 use lib.ListN.{length}
-use Rattle.cursor.specs.Refusals.{noRoom}
-use Rattle.room.specs.Room.{Result, good, bad, padded, counted, kept}
+use Rattle.room.specs.Room.{noRoom, Result, good, bad, padded, counted, kept}
 use Rattle.room.specs.Told.{told}
 use Rattle.room.specs.declared.Written.{Written}
 use Rattle.metadata.specs.Tables.{fullNodes, fullItems, limits}

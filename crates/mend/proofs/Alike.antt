@@ -72,10 +72,8 @@ inline-covered (passed (plain x) p n ∷ es) end size k a h = inr (inline-covere
 
 header-public : (lim : Limits) (f : List ℕ) {h : Header} {ns : List Node} {is : List Item} → readFile lim f ≡ rows h ns is → (k : ℕ) → k < h .extent .end → Private h ns is k → ⊥
 header-public lim f {h} {ns} {is} e k l =
-    let a = read-back lim f e in
-    let es = trace (header (length f)) f 0 in
-    let z = ends (header (length f)) f 0 (a .header-is) in
-    let w = header-of a in
+    let a = read-back lim f e in let es = trace (header (length f)) f 0 in
+    let z = ends (header (length f)) f 0 (a .header-is) in let w = header-of a in
     let c = between-covered es 0 k (chain (header (length f)) f 0) (omega arith) (omega arith) in
     let twice = none-twice es (a .log) k (all-sound lim f h a .apart) c in
     elim [
@@ -107,8 +105,7 @@ module _ (lim : Limits) (f g : List ℕ) {h : Header} {ns : List Node} {is : Lis
 
   header-was : h ≡ headerFor w (lastOf f w)
   header-was =
-      let l = set-length f w (length f) (lastOf f w) in
-      let r = read-back lim copy₁ e .header-is in
+      let l = set-length f w (length f) (lastOf f w) in let r = read-back lim copy₁ e .header-is in
       same-header (sym (subst (λ k. run (header k) copy₁ 0 ≡ ok h (read-back lim copy₁ e .next)) l r) ∙ parts-header (length f) copy₁
       (valued-parts (length f) f copy₁ x (set-valued (places (length f) f x) f refl (length f) (lastOf f w) hold)) judged)
 
@@ -144,9 +141,7 @@ module _ (lim : Limits) (f g : List ℕ) {h : Header} {ns : List Node} {is : Lis
   pub alike : MendedAlike lim h ns is f g
   unfolding changes linesOf
   alike =
-      let z = places (length f) f x in
-      let first = mended-set f x in
-      let long = sym (d .same-length) in
+      let z = places (length f) f x in let first = mended-set f x in let long = sym (d .same-length) in
       record {
         reads = rw second copy-reads;
         differ = rw (first, second) copies-differ;
@@ -162,8 +157,6 @@ module _ (lim : Limits) (f g : List ℕ) {h : Header} {ns : List Node} {is : Lis
 pub mended-alike : (lim : Limits) (f g : List ℕ) {h : Header} {ns : List Node} {is : List Item} → readFile lim (mended f) ≡ rows h ns is →
     DifferInPrivate h ns is f g → MendedAlike lim h ns is f g
 mended-alike lim f g e d =
-    let a = ap accepted e in
-    let m = mended-is lim f a in
-    let x = fields-parts (length f) f (m .reads) .0 in
+    let a = ap accepted e in let m = mended-is lim f a in let x = fields-parts (length f) f (m .reads) .0 in
     let s = mended-sound lim f x a in
     alike lim f g x (s .holds) (record { long = refl; after = s .after; ordered = s .ordered; inside = s .inside }) (rw (mended-set f x) at e) d

@@ -43,8 +43,7 @@ few f e = rw e at f
 pub fields-in : (f : List ℕ) {w : Fields} {q : ℕ} → run (fields (length f)) f 0 ≡ ok w q → FieldsIn w (length f)
 fields-in f e =
     let z = places (length f) f (fields-parts (length f) f e .0) in
-    let t = z .types-some in
-    let s = z .start-some in
+    let t = z .types-some in let s = z .start-some in
     record {
       length-some = z .length-some;
       length-few = z .length-few;
@@ -82,9 +81,7 @@ both false b e = absurd (false≢true e)
 pub sound-facts : (size : ℕ) (w : Fields) (b : ℕ) → soundFor size w b ≡ true → Sound size w b
 unfolding soundFor
 sound-facts size w b e =
-    let (a₁, e₁) = both _ _ e in
-    let (a₂, e₂) = both _ _ e₁ in
-    let (a₃, e₃) = both _ _ e₂ in
+    let (a₁, e₁) = both _ _ e in let (a₂, e₂) = both _ _ e₁ in let (a₃, e₃) = both _ _ e₂ in
     let (a₄, a₅) = both _ _ e₃ in
     record { holds = (ltb-true _ _ a₁, ltb-true _ _ a₂); after = leb-true _ _ a₃; ordered = leb-true _ _ a₄; inside = ltb-true _ _ a₅ }
 
@@ -155,8 +152,7 @@ module _ (f : List ℕ) (nsize isize room space : ℕ) {w : Fields} {q : ℕ} (e
       → length t ≡ nsize → length u ≡ isize → {y : Result Sizes} {t′ u′ c l : List ℕ} → Set f w b y t u room space t′ u′ c l → Ends f nsize isize room space y t′ u′ c l
   unfolding writtenNodes writtenItems fitting
   ends-set d {t} {u} x y lt lu z =
-      let lim = limits nsize isize in
-      let g = asked-is lim f e i k a d room space in
+      let lim = limits nsize isize in let g = asked-is lim f e i k a d room space in
       let same = by (leb (length (setTo f w (length f) b)) room && leb (length (bothLines (w .length) (w .last) (length f) b)) space) in
       record {
         answer = z .answer ∙ ap sizesOf (sym g);

@@ -10,11 +10,11 @@ use lib.Seq.{ext-getD}
 use Rattle.machine.specs.Machine.{ok, run}
 use Rattle.cursor.specs.Rows.{Frame}
 use Rattle.cursor.specs.Leaves.{number}
-use Rattle.cursor.specs.Vlq.{inBytes}
+use Rattle.vlq.specs.Vlq.{inBytes}
 use Rattle.cursor.proofs.Leaves.{number-inside}
 use Rattle.cursor.proofs.Digits.{Digits, final, further, digits-were, begun}
-use Rattle.cursor.proofs.Lies.{Lies, lies-head, lies-tail, lies-none, lies-cons}
-use Rattle.cursor.proofs.Least.{in-bytes-length}
+use Rattle.room.proofs.Lies.{Lies, lies-head, lies-tail, lies-none, lies-cons}
+use Rattle.vlq.proofs.Least.{in-bytes-length}
 
 -- n without its last k + 1 digits is n without k of them, without one more
 without : (n k : ℕ) → n / 128 ^ suc k ≡ n / 128 ^ k / 128
@@ -87,8 +87,7 @@ lies-itself s = record { inside = omega arith; same = λ k l. let e : 0 + k ≡ 
 pub fitted : (k n : ℕ) → 1 ≤ k → k ≤ 4 → (v : ℕ) × (v < 128 ^ k) × (inBytes k n ≡ inBytes k v)
 fitted zero n l m = absurd (omega arith)
 fitted (suc k) n l m =
-    let s = inBytes (suc k) n in
-    let a = in-bytes-length (suc k) n in
+    let s = inBytes (suc k) n in let a = in-bytes-length (suc k) n in
     let (v, d) = digits-some n k 4 0 0 (lies-itself s) (omega arith) in
     let b = in-bytes-length (suc k) v in
     let h = digits-lie (omega arith) (λ j lo hi. small-bytes (suc k) n j) d (suc k) refl in (

@@ -83,8 +83,7 @@ module _ (lim : Limits) (f : List ℕ) {w : Fields} (x : Parts (length f) f w) w
       let (size, q, number-is, fills) = subst (λ (u : Header). Root (u .extent .last + 1) g (u .extent .start)) hs
       (tree-root _ (h .extent .last + 1) g (h .extent .start) (r .tree-is)) in
       let i = number-inside nodeFrame 3 (b + 1) g (w .start) number-is in
-      let k = d .inside in
-      let o = d .after in
+      let k = d .inside in let o = d .after in
       let own : numberAt f (w .start) ≡ size = number-value f (w .start)
       (number-same f g nodeFrame 3 (length f) (w .start) (λ k lo hi. v .same k (inr (inr (omega arith)))) ∙ number-wider nodeFrame 3 3 (b + 1)
       (length f) g (w .start) number-is (omega arith)) in

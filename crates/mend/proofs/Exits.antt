@@ -12,10 +12,10 @@ use borrow.Author.Tests.{not-true, not-false, lt-leb, le-leb}
 use Rattle.machine.specs.Machine.{Out, ok, refused, run}
 use Rattle.cursor.specs.Rows.{nodeFrame}
 use Rattle.cursor.specs.Leaves.{number}
-use Rattle.cursor.specs.Vlq.{inBytes}
+use Rattle.vlq.specs.Vlq.{inBytes}
 use Rattle.cursor.specs.declared.FilePlace.{FilePlace}
 use Rattle.cursor.proofs.Leaves.{number-inside}
-use Rattle.cursor.proofs.Least.{in-bytes-length}
+use Rattle.vlq.proofs.Least.{in-bytes-length}
 use Rattle.metadata.specs.Tables.{limits}
 use Rattle.room.specs.Room.{Result, good, bad, padded, kept}
 use Rattle.room.proofs.Sets.{sets-front, padded-behind}
@@ -74,15 +74,12 @@ pub copied : (f : List ℕ) (w : Fields) (b : ℕ) (o : List ℕ) {o₁ o₂ o�
     → o₃ ≡ sets o₂ (w .last .place) (inBytes (width (w .last)) b) → o₄ ≡ take (length f) o₃ ++ replicate (length o₃ - length f) 0 → o₄ ≡ padded (length o) (setTo f w (length f) b)
 unfolding setTo withField
 copied f w b o {o₁} {o₂} {o₃} i l e₁ e₂ e₃ e₄ =
-    let s = inBytes (width (w .length)) (length f) in
-    let t = inBytes (width (w .last)) b in
+    let s = inBytes (width (w .length)) (length f) in let t = inBytes (width (w .last)) b in
     let ls = in-bytes-length (width (w .length)) (length f) in
     let lt = in-bytes-length (width (w .last)) b in
     let a₀ = i .length-some in let a₁ = i .length-few in let a₂ = i .apart in let a₃ = i .last-some in let a₄ = i .last-few in let a₅ = i .inside in
-    let f₁ = sets f (w .length .place) s in
-    let n₁ = length-sets f (w .length .place) s in
-    let n₂ = length-sets f₁ (w .last .place) t in
-    let rest = drop (length f) o in
+    let f₁ = sets f (w .length .place) s in let n₁ = length-sets f (w .length .place) s in
+    let n₂ = length-sets f₁ (w .last .place) t in let rest = drop (length f) o in
     let x₁ : o₁ ≡ f ++ rest = e₁ ∙ sets-front o f l in
     let x₂ : o₂ ≡ f₁ ++ rest = e₂ ∙ ap (λ v. sets v (w .length .place) s) x₁ ∙ sets-within s f rest (w .length .place) (omega arith) in
     let x₃ : o₃ ≡ sets f₁ (w .last .place) t ++ rest = e₃ ∙ ap (λ v. sets v (w .last .place) t) x₂ ∙ sets-within t f₁ rest (w .last .place) (omega arith) in
@@ -134,8 +131,7 @@ module _ (f : List ℕ) (nsize isize : ℕ) (no : accepted (readFile (limits nsi
           Ends f nsize isize room space (bad n (p .0)) t u c l
       by (rows h ns is) z q a b = let i : _≡_ {A = ℕ} 0 1 = cc in absurd (omega arith)
       by (refusal m j) z q a b =
-          let v : m ≡ n = cc in
-          let i : j ≡ p .0 = cc in
+          let v : m ≡ n = cc in let i : j ≡ p .0 = cc in
           let s : mend (limits nsize isize) room space f ≡ bad m j = rw (no, z) refl in
           record { answer = rw (s, v, i) refl; nodes = rw s a; items = rw s b; copy = rw s x; lines = rw s y }
 

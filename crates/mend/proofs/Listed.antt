@@ -6,10 +6,10 @@ use mathlib.Core.List.{List, _++_}
 use Prim.Native.Nat.{ℕ}
 use lib.Dec.{leb}
 use lib.ListN.{length}
-use Rattle.cursor.specs.Refusals.{ofReader}
+use Rattle.cursor.specs.Refusals.{ofReader, Among, PlacedIn}
 use Rattle.metadata.specs.declared.Limits.{Limits}
-use Rattle.room.specs.Room.{Among, PlacedIn, bad, good}
-use Rattle.room.proofs.Listed.{allowed-front}
+use Rattle.room.specs.Room.{bad, good}
+use Rattle.cursor.proofs.Listed.{allowed-front}
 use Rattle.file.specs.Reading.{Reading, rows, refusal, readFile}
 use Rattle.file.specs.Asking.{ask}
 use Rattle.file_laws.proofs.Listed.{refusal-listed}

@@ -98,8 +98,7 @@ module _ (n : ℕ) (f : List ℕ) where
       post-ran {Q = λ w q. Parts n f w × (w .last .end ≡ q)}
       (post-step nothing-quiet λ v p o. post-step nothing-quiet λ d a₀ ed. post-step nothing-quiet λ a a₁ le. post-step nothing-quiet λ ds r ty.
       post-step nothing-quiet λ s b₀ st. post-step nothing-quiet λ b b₁ la.
-      let (le′, a-at, a-end) = field-was a₀ le in
-      let (st′, s-at, s-end) = field-was r st in
+      let (le′, a-at, a-end) = field-was a₀ le in let (st′, s-at, s-end) = field-was r st in
       let (la′, b-at, b-end) = field-was b₀ la in
       post-ret (
         record {
@@ -209,9 +208,7 @@ pub record Valued (n : ℕ) (f g : List ℕ) (w : Fields) (a b : ℕ) : Type 0 w
 pub valued-parts : (n : ℕ) (f g : List ℕ) {w : Fields} {a b : ℕ} → Parts n f w → Valued n f g w a b → Parts n g (valued w a b)
 valued-parts n f g {w} x v =
     let z = places n f x in
-    let l = z .after-opening in
-    let s = z .start-some in
-    let t = z .types-some in
+    let l = z .after-opening in let s = z .start-some in let t = z .types-some in
     record {
       opened = x .opened;
       opening-is = depends (opening n) f g 0 (x .opening-is) (λ k lo hi. v .same k (inl (omega arith)));

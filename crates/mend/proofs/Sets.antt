@@ -7,7 +7,7 @@ use Prim.Native.Nat.{ℕ, zero, suc, _+_, _≤_, _<_}
 use native.Mathlib.Omega.{arith}
 use lib.ListN.{length, getD, set, length-set}
 use lib.Seq.{getD-set-same, getD-set-other, set-getD, sets, length-sets}
-use Rattle.cursor.proofs.Lies.{Lies, lies-head, lies-tail}
+use Rattle.room.proofs.Lies.{Lies, lies-head, lies-tail}
 
 -- bytes that were set: elsewhere nothing changes
 pub sets-out : (s f : List ℕ) (p k : ℕ) → (k < p) ⊎ (p + length s ≤ k) → getD (sets f p s) k 0 ≡ getD f k 0

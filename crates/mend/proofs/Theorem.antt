@@ -63,9 +63,7 @@ module _ (lim : Limits) (f : List ℕ) where
   pub mended-reads : {w : Fields} → Parts (length f) f w → Sound (length f) w (lastOf f w) → readFile lim (mended f) ≡ readTree lim f (ok (headerFor w (lastOf f w)) (w .last .end))
   unfolding readFile
   mended-reads {w} x s =
-      let b = lastOf f w in
-      let g = setTo f w (length f) b in
-      let n = set-length f w (length f) b in
+      let b = lastOf f w in let g = setTo f w (length f) b in let n = set-length f w (length f) b in
       let v = set-valued (places (length f) f x) f refl (length f) b (s .holds) in
       let j : Judged (length f) (valued w (length f) b) = record { long = refl; after = s .after; ordered = s .ordered; inside = s .inside } in
       let h : run (header (length g)) g 0 ≡ ok (headerFor w b) (w .last .end) = subst
@@ -77,10 +75,7 @@ module _ (lim : Limits) (f : List ℕ) where
   unfolding setTo withField
   mended-sound {w} x e =
       let z = places (length f) f x in
-      let l = z .length-some in
-      let m = z .length-few in
-      let o = z .last-some in
-      let p = z .last-few in
+      let l = z .length-some in let m = z .length-few in let o = z .last-some in let p = z .last-few in
       let b = lastOf f w in
       let (c, fc, ec) = fitted (width (w .length)) (length f) (omega arith) (omega arith) in
       let (d, fd, ed) = fitted (width (w .last)) b (omega arith) (omega arith) in
@@ -142,8 +137,7 @@ module _ (lim : Limits) (f : List ℕ) where
           let x = fields-parts (length f) f r .0 in
           record { w = w; next = q; reads = r; a = length f; b = lastOf f w; hold = mended-sound x e .holds; accepts = a }
       by (refused n p) r a =
-          let (h, ns, is, y) = read-rows (readFile lim f) a in
-          let (w, x, j, s, v) = accepted-right y in
+          let (h, ns, is, y) = read-rows (readFile lim f) a in let (w, x, j, s, v) = accepted-right y in
           absurd (never (sym r ∙ parts-fields (length f) f x))
 
   pub mend-good : Mendable lim f → (room space : ℕ) → mend lim room space f ≡ fitting room space (repair f)
@@ -237,9 +231,7 @@ module _ (f : List ℕ) {w : Fields} (x : Parts (length f) f w) (after : w .last
 module _ (lim : Limits) (f : List ℕ) (e : accepted (readFile lim (mended f)) ≡ true) where
   pub mended-again : (mended (mended f) ≡ mended f) × (changes (mended f) ≡ [])
   mended-again =
-      let m = mended-is lim f e in
-      let x = fields-parts (length f) f (m .reads) .0 in
-      let s = mended-sound lim f x e in
+      let m = mended-is lim f e in let x = fields-parts (length f) f (m .reads) .0 in let s = mended-sound lim f x e in
       let b = lastOf f (m .w) in
       rw (mended-set f x) (any-values f x (s .after) (length f) b (s .holds) ∙ mended-set f x, no-line f x (s .after) (length f) b (s .holds) refl refl)
 

@@ -9,10 +9,10 @@ use native.Mathlib.Decide.{decLt}
 use lib.ListN.{length, getD}
 use lib.Seq.{sets, length-sets, ext-getD}
 use Rattle.cursor.specs.Rows.{fileFrame}
-use Rattle.cursor.specs.Vlq.{inBytes}
-use Rattle.cursor.proofs.Lies.{Lies}
-use Rattle.cursor.proofs.Least.{in-bytes-length}
-use Rattle.cursor.proofs.Back.{number-in}
+use Rattle.vlq.specs.Vlq.{inBytes}
+use Rattle.room.proofs.Lies.{Lies}
+use Rattle.vlq.proofs.Least.{in-bytes-length}
+use Rattle.vlq.proofs.Back.{number-in}
 use Rattle.mend.specs.Fields.{Field, width, Fields, Hold, Elsewhere}
 use Rattle.mend.specs.Mend.{withField, setTo}
 use Rattle.mend.proofs.Sets.{sets-out, sets-lie, sets-same}
@@ -76,12 +76,8 @@ module _ {w : Fields} {n opened typed : ℕ} (z : Places n w opened typed) where
     pub set-first : Lies (setTo f w a b) (w .length .place) s
     unfolding setTo withField
     set-first =
-        let i = first-end in
-        let x = z .types-some in
-        let y = z .start-some in
-        let v = z .last-some in
-        let o = z .inside in
-        let h = sets-lie s f (w .length .place) (omega arith) in
+        let i = first-end in let x = z .types-some in let y = z .start-some in let v = z .last-some in
+        let o = z .inside in let h = sets-lie s f (w .length .place) (omega arith) in
         let m = length-sets f (w .length .place) s in
         let l = length-sets (sets f (w .length .place) s) (w .last .place) t in
         record {
@@ -96,13 +92,8 @@ module _ {w : Fields} {n opened typed : ℕ} (z : Places n w opened typed) where
     -- they are read back
     pub set-valued : Hold w a b → Valued n f (setTo f w a b) w a b
     set-valued h =
-        let l = z .length-some in
-        let m = z .length-few in
-        let o = z .last-some in
-        let p = z .last-few in
-        let i = z .inside in
-        let x = z .types-some in
-        let y = z .start-some in
+        let l = z .length-some in let m = z .length-few in let o = z .last-some in let p = z .last-few in
+        let i = z .inside in let x = z .types-some in let y = z .start-some in
         let c : w .length .place + width (w .length) ≡ w .length .end = omega arith in
         let d : w .last .place + width (w .last) ≡ w .last .end = omega arith in
         record {
@@ -129,8 +120,7 @@ module _ {w : Fields} {n opened typed : ℕ} (z : Places n w opened typed) where
   -- of two settings the last counts
   pub set-again : (f : List ℕ) → length f ≡ n → (a b c d : ℕ) → setTo (setTo f w a b) w c d ≡ setTo f w c d
   set-again f l a b c d =
-      let g = setTo f w a b in
-      let m = set-length f w a b in
+      let g = setTo f w a b in let m = set-length f w a b in
       ext-getD 0 (setTo g w c d) (setTo f w c d) (set-length g w c d ∙ m ∙ sym (set-length f w c d)) (λ k i. set-agree g f (m ∙ l) l c d k (λ e. set-out f l a b k e))
 
 -- ---- the values that are there: a file of bytes

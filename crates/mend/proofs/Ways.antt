@@ -10,10 +10,10 @@ use lib.ListN.{length}
 use lib.Seq.{sets}
 use Rattle.machine.specs.Machine.{Out, ok, refused, run}
 use Rattle.cursor.specs.Rows.{fileFrame, nodeFrame}
-use Rattle.cursor.specs.Vlq.{inBytes}
+use Rattle.vlq.specs.Vlq.{inBytes}
 use Rattle.cursor.specs.Leaves.{number}
 use Rattle.machine.proofs.Laws.{running}
-use Rattle.cursor.proofs.Least.{in-bytes-length}
+use Rattle.vlq.proofs.Least.{in-bytes-length}
 use Rattle.header.specs.Types.{Declared}
 use Rattle.header.specs.Header.{opening, Edition, edition, typesTable}
 use Rattle.room.specs.Counts.{Counts, tooMany}

@@ -9,9 +9,10 @@ use lib.ListN.{length}
 use lib.Seq.{sets}
 use Rattle.machine.specs.Machine.{Out, ok, refused, run}
 use Rattle.cursor.specs.Rows.{nodeFrame}
-use Rattle.cursor.specs.Refusals.{cutShort, noRoom}
+use Rattle.cursor.specs.Refusals.{cutShort}
+use Rattle.room.specs.Room.{noRoom}
 use Rattle.cursor.specs.Leaves.{number}
-use Rattle.cursor.specs.Vlq.{inBytes}
+use Rattle.vlq.specs.Vlq.{inBytes}
 use Rattle.room.specs.Decimal.{decimal}
 use Rattle.metadata.specs.declared.Limits.{Limits}
 use Rattle.file.specs.Reading.{Reading, rows, refusal, readFile}

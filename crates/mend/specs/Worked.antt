@@ -7,7 +7,7 @@ use Prim.Native.Nat.{ℕ}
 use lib.ListN.{length, take, replicate}
 use Rattle.machine.specs.Machine.{run, trace, rowsOf, _>>=_, _>>_, if_then_else_, place, skip, check, turns, many, times}
 use Rattle.cursor.specs.Leaves.{next, digits, number, block, manufacturer, guid}
-use Rattle.cursor.specs.Vlq as vlq
+use Rattle.vlq.specs.Vlq as vlq
 use Rattle.header.specs.Types.{formatOf}
 use Rattle.header.specs.Header.{four, opening, edition, fileLength, entry, typesTable, extent, header}
 use Rattle.metadata.specs.Tables.{limits, fullNodes, fullItems}
@@ -17,7 +17,7 @@ use Rattle.room.specs.Decimal as decimal
 use Rattle.tree.specs.Tree as tree
 use Rattle.tree.specs.Tree.{folder, node}
 use Rattle.file.specs.Reading.{logged, detachedAt, followRow, follow, reading, readTree, readFile}
-use Rattle.targets.specs.Targets.{startsAt, offsetAt, isMissing, outside, partEnd, firstTaken}
+use Rattle.targets.specs.Targets.{startsAt, offsetAt, isMissing, outside, partEnd, isTaken, firstOf, firstTaken}
 use Rattle.file.specs.Asking.{Result, good, bad, ask}
 use Rattle.mend.specs.Fields.{numberField, fields}
 use Rattle.mend.specs.Mend.{withField, setTo, numberAt, lastOf, setRight, mended, tabbed, line, bothLines, linesOf, changes, Mended, fitting, mend}
@@ -72,5 +72,5 @@ cases : (given 56 (worked (56 ∷ []) (55 ∷ [])) ≡ good (record { copy = wor
     × (given 27 (wide (0x80 ∷ 0x1B ∷ []) (0xFF ∷ 0xFF ∷ 0xFF ∷ 0xFF ∷ [])) ≡ bad 4 13)
     × (given 200 (narrow 127 22 104) ≡ good (record { copy = narrow 127 22 104; lines = [] }))
     × (given 200 (narrow 127 22 105) ≡ bad 5 8)
-unfolding run trace rowsOf _>>=_ _>>_ if_then_else_ place skip check turns many times next digits number block manufacturer guid formatOf four opening edition fileLength entry typesTable extent header field contents itemFrame universal declaredFormat version rowsFor item nextItem metaItems metadata headerLength head value identifier unpacker entries unpackers resource nodePlace uriPlace target reference rest front folder node tree.tree tree.detached startsAt offsetAt isMissing logged outside partEnd firstTaken detachedAt followRow follow reading readTree readFile ask vlq.inBytes decimal.digits decimal.decimal numberField fields withField setTo numberAt lastOf setRight mended tabbed line bothLines linesOf changes fitting mend given
+unfolding run trace rowsOf _>>=_ _>>_ if_then_else_ place skip check turns many times next digits number block manufacturer guid formatOf four opening edition fileLength entry typesTable extent header field contents itemFrame universal declaredFormat version rowsFor item nextItem metaItems metadata headerLength head value identifier unpacker entries unpackers resource nodePlace uriPlace target reference rest front folder node tree.tree tree.detached startsAt offsetAt isMissing logged outside partEnd isTaken firstOf firstTaken detachedAt followRow follow reading readTree readFile ask vlq.inBytes decimal.digits decimal.decimal numberField fields withField setTo numberAt lastOf setRight mended tabbed line bothLines linesOf changes fitting mend given
 cases = (refl, refl, refl, refl, refl, refl, refl, refl, refl, refl, refl, refl, refl, refl, refl, refl, refl, refl)

@@ -6,8 +6,9 @@ ghost use Prim.Native.Nat.{ℕ, _+_, _-_, _*_, _^_, _≤_, _<_};
 ghost use lib.Dec.{ltb};
 ghost use lib.ListN.{length, replicate};
 ghost use Rattle.machine.specs.Machine.{run};
+ghost use Rattle.room.specs.Moments.{old, new};
 ghost use lib.Seq.{sets};
-ghost use Rattle.cursor.specs.Vlq.{inBytes};
+ghost use Rattle.vlq.specs.Vlq.{inBytes};
 ghost use Rattle.room.specs.Counts.{Counts};
 ghost use Rattle.mend.specs.Fields.{numberField, fields};
 ghost use Rattle.room.specs.Room.{bad, padded};
@@ -62,7 +63,7 @@ pub enum Mending {
 
 // The number at the cursor, with its place and end.
 fn read_field(c: Cursor, file: &[u8]) -> FieldRead
-    ensures { λ r. ⌜ fieldTold r ≡ run (numberField (length (now (file .entry)))) (now (file .entry)) (c .at .0) ⌝ }
+    ensures { λ r. ⌜ fieldTold r ≡ run (numberField (length (old file))) (old file) (c .at .0) ⌝ }
 {
     let place = c.at;
     match c.number(file, FilePlace(file.len()), cursor::CUT_SHORT) {
@@ -78,7 +79,7 @@ fn read_field(c: Cursor, file: &[u8]) -> FieldRead
 // Reads the header's fields, and the declared types into the lent table; FileLength and the tree's extent are not judged.
 fn read_fields(file: &[u8], types: &mut [u64]) -> FieldsRead
     requires { ⌜ 64 ≤ length (now types) ⌝ }
-    ensures answer { λ r. ⌜ fieldsTold r (now (types .exit)) ≡ run (fields (length (now (file .entry)))) (now (file .entry)) 0 ⌝ }
+    ensures answer { λ r. ⌜ fieldsTold r (new types) ≡ run (fields (length (old file))) (old file) 0 ⌝ }
     ensures listed { λ r. ⌜ FewTypes r ⌝ }
 {
     match header::read_opening(file) {
@@ -122,7 +123,7 @@ fn read_fields(file: &[u8], types: &mut [u64]) -> FieldsRead
 
 // The number at a place of the file; 0 where there is none.
 fn number_at(file: &[u8], at: usize) -> u64
-    ensures { λ r. ⌜ r ≡ numberAt (now (file .entry)) at ⌝ }
+    ensures { λ r. ⌜ r ≡ numberAt (old file) at ⌝ }
 {
     match (Cursor { at: FilePlace(at) }).number(file, FilePlace(file.len()), cursor::CUT_SHORT) {
         Numbered::Refused(_, p) => 0,
@@ -149,7 +150,7 @@ fn fits_in(n: usize, k: usize) -> bool
 
 // Puts a tab and a decimal number.
 fn put_tabbed(lines: &mut [u8], to: usize, n: u64) -> usize
-    ensures { λ r. ⌜ Counts (now (lines .entry)) (now (lines .exit)) to (tabbed n) r ⌝ }
+    ensures { λ r. ⌜ Counts (old lines) (new lines) to (tabbed n) r ⌝ }
 {
     let a = room::put_byte(lines, to, 9);
     room::put_decimal(lines, a, n)
@@ -157,7 +158,7 @@ fn put_tabbed(lines: &mut [u8], to: usize, n: u64) -> usize
 
 // Puts the line of a field that is set to n; none where it says n already.
 fn put_line(lines: &mut [u8], to: usize, name: &[u8], x: Field, n: usize) -> usize
-    ensures { λ r. ⌜ Counts (now (lines .entry)) (now (lines .exit)) to (line (now (name .entry)) (fieldOf x) n) r ⌝ }
+    ensures { λ r. ⌜ Counts (old lines) (new lines) to (line (old name) (fieldOf x) n) r ⌝ }
 {
     if x.value == n as u64 {
         return room::put_bytes(lines, to, b"");
@@ -172,7 +173,7 @@ fn put_line(lines: &mut [u8], to: usize, name: &[u8], x: Field, n: usize) -> usi
 
 // Puts the lines of both fields, set to `size` and `last`.
 fn put_lines(lines: &mut [u8], w: Fields, size: usize, last: usize) -> usize
-    ensures { λ r. ⌜ Counts (now (lines .entry)) (now (lines .exit)) 0 (bothLines (fieldOf (w .length)) (fieldOf (w .last)) size last) r ⌝ }
+    ensures { λ r. ⌜ Counts (old lines) (new lines) 0 (bothLines (fieldOf (w .length)) (fieldOf (w .last)) size last) r ⌝ }
 {
     let a = put_line(lines, 0, b"FileLength", w.length, size);
     put_line(lines, a, b"TreeEnd", w.last, last)
@@ -181,17 +182,17 @@ fn put_lines(lines: &mut [u8], w: Fields, size: usize, last: usize) -> usize
 // Sets a field to n, in the bytes that it has.
 fn set_field(copy: &mut [u8], x: Field, n: usize)
     requires { ⌜ (x .place .0 < x .end .0) × (x .end .0 ≤ x .place .0 + 4) × (x .end .0 ≤ length (now copy)) ⌝ }
-    ensures { λ _. ⌜ now (copy .exit) ≡ sets (now (copy .entry)) (x .place .0) (inBytes (x .end .0 - x .place .0) n) ⌝ }
+    ensures { λ _. ⌜ new copy ≡ sets (old copy) (x .place .0) (inBytes (x .end .0 - x .place .0) n) ⌝ }
 {
     let place = x.place;
     let end = x.end;
-    room::put_in_bytes(copy, place.0, n as u64, end.0 - place.0);
+    vlq::put_in_bytes(copy, place.0, n as u64, end.0 - place.0);
 }
 
 // TreeEnd as it should be: the root, which begins with its length, fills the tree.
 fn last_of(file: &[u8], start: u64) -> usize
     requires { ⌜ start < 2 ^ 28 ⌝ }
-    ensures { λ r. ⌜ r ≡ start + numberAt (now (file .entry)) start - 1 ⌝ }
+    ensures { λ r. ⌜ r ≡ start + numberAt (old file) start - 1 ⌝ }
 {
     let root = number_at(file, start as usize);
     room::room_at((start + root) as usize, 1)
@@ -227,10 +228,10 @@ fn is_sound(size: usize, w: Fields, last: usize) -> bool
 // No room for the copy or the lines: both tables and both buffers are cleared.
 fn no_room(nodes: &mut [u64], items: &mut [u64], copy: &mut [u8], lines: &mut [u8]) -> Mending
     ensures answer { λ r. ⌜ told r ≡ bad 22 0 ⌝ }
-    ensures nodes { λ _. ⌜ now (nodes .exit) ≡ replicate (length (now (nodes .entry))) 0 ⌝ }
-    ensures items { λ _. ⌜ now (items .exit) ≡ replicate (length (now (items .entry))) 0 ⌝ }
-    ensures copy { λ _. ⌜ now (copy .exit) ≡ replicate (length (now (copy .entry))) 0 ⌝ }
-    ensures lines { λ _. ⌜ now (lines .exit) ≡ replicate (length (now (lines .entry))) 0 ⌝ }
+    ensures nodes { λ _. ⌜ new nodes ≡ replicate (length (old nodes)) 0 ⌝ }
+    ensures items { λ _. ⌜ new items ≡ replicate (length (old items)) 0 ⌝ }
+    ensures copy { λ _. ⌜ new copy ≡ replicate (length (old copy)) 0 ⌝ }
+    ensures lines { λ _. ⌜ new lines ≡ replicate (length (old lines)) 0 ⌝ }
 {
     rows::clear_all(nodes, items);
     room::clear_bytes(copy);
@@ -241,7 +242,7 @@ fn no_room(nodes: &mut [u64], items: &mut [u64], copy: &mut [u8], lines: &mut [u
 // Writes the file into the buffer, both fields set, and zeros behind it.
 fn put_copy(copy: &mut [u8], file: &[u8], w: Fields, last: usize)
     requires { ⌜ ((ws : List ℕ) → FieldsIn (fieldsOf w ws) (length (now file))) × (length (now file) ≤ length (now copy)) ⌝ }
-    ensures { λ _. ⌜ ((ws : List ℕ) → now (copy .exit) ≡ padded (length (now (copy .entry))) (setTo (now (file .entry)) (fieldsOf w ws) (length (now (file .entry))) last)) ⌝ }
+    ensures { λ _. ⌜ ((ws : List ℕ) → new copy ≡ padded (length (old copy)) (setTo (old file) (fieldsOf w ws) (length (old file)) last)) ⌝ }
 {
     room::store_bytes(copy, 0, file);
     set_field(copy, w.length, file.len());
@@ -260,8 +261,8 @@ fn write_mended(
     last: usize,
 ) -> Mending
     requires { ⌜ ((ws : List ℕ) → FieldsIn (fieldsOf w ws) (length (now file))) ⌝ }
-    ensures { λ r. ⌜ ((ws : List ℕ) → Set (now (file .entry)) (fieldsOf w ws) last (told r) (now (nodes .entry)) (now (items .entry)) (length (now (copy .entry))) (length (now (lines .entry)))
-        (now (nodes .exit)) (now (items .exit)) (now (copy .exit)) (now (lines .exit))) ⌝ }
+    ensures { λ r. ⌜ ((ws : List ℕ) → Set (old file) (fieldsOf w ws) last (told r) (old nodes) (old items) (length (old copy)) (length (old lines))
+        (new nodes) (new items) (new copy) (new lines)) ⌝ }
 {
     let n = put_lines(lines, w, file.len(), last);
     if copy.len() < file.len() {
@@ -284,8 +285,7 @@ fn refuse_unchanged(
     lines: &mut [u8],
 ) -> Mending
     requires { ⌜ accepted (readFile (limits (length (now nodes)) (length (now items))) (mended (now file))) ≡ false ⌝ }
-    ensures { λ r. ⌜ Ends (now (file .entry)) (length (now (nodes .entry))) (length (now (items .entry))) (length (now (copy .entry))) (length (now (lines .entry)))
-        (told r) (now (nodes .exit)) (now (items .exit)) (now (copy .exit)) (now (lines .exit)) ⌝ }
+    ensures { λ r. ⌜ Ends (old file) (length (old nodes)) (length (old items)) (length (old copy)) (length (old lines)) (told r) (new nodes) (new items) (new copy) (new lines) ⌝ }
 {
     room::clear_bytes(copy);
     room::clear_bytes(lines);
@@ -305,11 +305,11 @@ pub fn mend(
     copy: &mut [u8],
     lines: &mut [u8],
 ) -> Mending
-    ensures answer { λ r. ⌜ told r ≡ sizesOf (asked (now (nodes .entry)) (now (items .entry)) (now (copy .entry)) (now (lines .entry)) (now (file .entry))) ⌝ }
-    ensures nodes { λ _. ⌜ now (nodes .exit) ≡ nodesAfter (now (nodes .entry)) (now (items .entry)) (now (copy .entry)) (now (lines .entry)) (now (file .entry)) ⌝ }
-    ensures items { λ _. ⌜ now (items .exit) ≡ itemsAfter (now (nodes .entry)) (now (items .entry)) (now (copy .entry)) (now (lines .entry)) (now (file .entry)) ⌝ }
-    ensures copy { λ _. ⌜ now (copy .exit) ≡ copyAfter (now (nodes .entry)) (now (items .entry)) (now (copy .entry)) (now (lines .entry)) (now (file .entry)) ⌝ }
-    ensures lines { λ _. ⌜ now (lines .exit) ≡ linesAfter (now (nodes .entry)) (now (items .entry)) (now (copy .entry)) (now (lines .entry)) (now (file .entry)) ⌝ }
+    ensures answer { λ r. ⌜ told r ≡ sizesOf (asked (old nodes) (old items) (old copy) (old lines) (old file)) ⌝ }
+    ensures nodes { λ _. ⌜ new nodes ≡ nodesAfter (old nodes) (old items) (old copy) (old lines) (old file) ⌝ }
+    ensures items { λ _. ⌜ new items ≡ itemsAfter (old nodes) (old items) (old copy) (old lines) (old file) ⌝ }
+    ensures copy { λ _. ⌜ new copy ≡ copyAfter (old nodes) (old items) (old copy) (old lines) (old file) ⌝ }
+    ensures lines { λ _. ⌜ new lines ≡ linesAfter (old nodes) (old items) (old copy) (old lines) (old file) ⌝ }
 {
     let mut types = [0u64; header::MOST_TYPES * 2];
     match read_fields(file, &mut types) {

@@ -146,8 +146,7 @@ module _ (x : Context) (l : Label) (end : ℕ) (m : Made) (s : List ℕ) (at : �
             → ok (plusItem m, state (σ .nodes) u′ (plusItem (σ .made))) stop ≡ exec put (universal x l end m) s at σ
         unfolding universal
         universal-row {format} {r} e₂ w h =
-            let e₂′ = rw is at e₂ in
-            let z′ : 0 < n = omega arith in
+            let e₂′ = rw is at e₂ in let z′ : 0 < n = omega arith in
             let e₃ : r + (q + n - r) ≡ q + n = omega (arith, number-inside metaFrame 3 (q + n) s q e₂′) in
             rw (h, w, is) (simp (executing, exec-block, exec-number, lt-ltb _ _ l₁, e₁, lt-ltb _ _ z′, e₂′, e₃))
 
@@ -341,8 +340,7 @@ module _ (x : Context) (s u₀ : List ℕ) (node end at : ℕ) (made : Made) whe
 
     pub items-on : {n : Made} {c : Cursor} → r ≡ Done n c → length u′ ≡ length u → Reading u′ (c .at .0) (k + 1) n
     items-on {n} {c} h e =
-        let w = items-further h in
-        let b = fitting (d u) h in
+        let w = items-further h in let b = fitting (d u) h in
         record {
           left = g .left - 1;
           enough = let y = g .enough in omega arith;

@@ -4,6 +4,7 @@ ghost use mathlib.Core.List.{List};
 ghost use Prim.Native.Nat.{ℕ, _≤_, _<_, _+_};
 ghost use lib.ListN.{length};
 ghost use Rattle.machine.specs.Machine.{run, times};
+ghost use Rattle.room.specs.Moments.{old, new};
 ghost use Rattle.cursor.specs.Told.{Readable};
 ghost use Rattle.metadata.specs.Metadata.{field, contents, itemFrame, rowOf, universal, version, rowsFor, item, metaItems, metadata};
 ghost use Rattle.metadata.specs.Told.{ItemRoom, Room, counts, fieldTold, contentsTold, itemTold, CommonTold, Makes};
@@ -93,7 +94,7 @@ pub enum Walked {
 // The field here: 0 and a standard number, or an XString, which is a custom name.
 fn read_field(c: Cursor, file: &[u8], end: FilePlace) -> FieldResult
     requires { ⌜ Readable (end .0) (now file) ⌝ }
-    ensures { λ r. ⌜ fieldTold r ≡ run (field (end .0)) (now (file .entry)) (c .at .0) ⌝ }
+    ensures { λ r. ⌜ fieldTold r ≡ run (field (end .0)) (old file) (c .at .0) ⌝ }
 {
     match c.block(file, end, cursor::CUT_SHORT) {
         Numbered::Refused(n, p) => FieldResult::Refused(n, p),
@@ -113,7 +114,7 @@ fn read_field(c: Cursor, file: &[u8], end: FilePlace) -> FieldResult
 // The contents here: 0 for universal, or the number of versions.
 fn read_contents(c: Cursor, file: &[u8], end: FilePlace) -> Contained
     requires { ⌜ end .0 ≤ length (now file) ⌝ }
-    ensures { λ r. ⌜ contentsTold r ≡ run (contents (end .0)) (now (file .entry)) (c .at .0) ⌝ }
+    ensures { λ r. ⌜ contentsTold r ≡ run (contents (end .0)) (old file) (c .at .0) ⌝ }
 {
     match c.number(file, end, cursor::CUT_SHORT) {
         Numbered::Refused(n, p) => Contained::Refused(n, p),
@@ -129,7 +130,7 @@ fn read_contents(c: Cursor, file: &[u8], end: FilePlace) -> Contained
 // An item's field and contents.
 fn read_frame(c: Cursor, file: &[u8], end: FilePlace) -> ItemResult
     requires { ⌜ Readable (end .0) (now file) ⌝ }
-    ensures { λ r. ⌜ itemTold r ≡ run (itemFrame (end .0)) (now (file .entry)) (c .at .0) ⌝ }
+    ensures { λ r. ⌜ itemTold r ≡ run (itemFrame (end .0)) (old file) (c .at .0) ⌝ }
 {
     match read_field(c, file, end) {
         FieldResult::Refused(n, p) => ItemResult::Refused(n, p),
@@ -192,7 +193,7 @@ fn read_universal(
     rows: usize,
 ) -> RowsResult
     requires { ⌜ Readable (end .0) (now file) × ItemRoom scope (now items) (counts (l .node) rows) ⌝ }
-    ensures { λ r. ⌜ ((ws : List ℕ) → Makes scope (l .node) rows (λ x. universal x l (end .0)) (now (file .entry)) ws (now (items .entry)) (now (items .exit)) (c .at .0) r) ⌝ }
+    ensures { λ r. ⌜ ((ws : List ℕ) → Makes scope (l .node) rows (λ x. universal x l (end .0)) (old file) ws (old items) (new items) (c .at .0) r) ⌝ }
 {
     let place = c.at;
     let limits = scope.limits;
@@ -233,7 +234,7 @@ fn read_version(
     rows: usize,
 ) -> RowsResult
     requires { ⌜ Room scope (now file) (now types) (now items) (end .0) (counts (l .node) rows) × (before ≤ rows) ⌝ }
-    ensures { λ r. ⌜ Makes scope (l .node) rows (λ x. version x l (end .0) before) (now (file .entry)) (now (types .entry)) (now (items .entry)) (now (items .exit)) (c .at .0) r ⌝ }
+    ensures { λ r. ⌜ Makes scope (l .node) rows (λ x. version x l (end .0) before) (old file) (old types) (old items) (new items) (c .at .0) r ⌝ }
 {
     let place = c.at;
     let limits = scope.limits;
@@ -275,7 +276,7 @@ fn read_versions(
     rows: usize,
 ) -> RowsResult
     requires { ⌜ Room scope (now file) (now types) (now items) (end .0) (counts (l .node) rows) ⌝ }
-    ensures { λ r. ⌜ Makes scope (l .node) rows (λ x. times count (version x l (end .0) rows)) (now (file .entry)) (now (types .entry)) (now (items .entry)) (now (items .exit)) (c .at .0) r ⌝ }
+    ensures { λ r. ⌜ Makes scope (l .node) rows (λ x. times count (version x l (end .0) rows)) (old file) (old types) (old items) (new items) (c .at .0) r ⌝ }
 {
     let before = rows;
     let mut next = c;
@@ -307,7 +308,7 @@ fn read_rows(
     rows: usize,
 ) -> RowsResult
     requires { ⌜ Room scope (now file) (now types) (now items) (end .0) (counts (l .node) rows) ⌝ }
-    ensures { λ r. ⌜ Makes scope (l .node) rows (λ x. rowsFor x l (end .0) contents) (now (file .entry)) (now (types .entry)) (now (items .entry)) (now (items .exit)) (c .at .0) r ⌝ }
+    ensures { λ r. ⌜ Makes scope (l .node) rows (λ x. rowsFor x l (end .0) contents) (old file) (old types) (old items) (new items) (c .at .0) r ⌝ }
 {
     match contents {
         Contents::Universal => read_universal(c, file, items, scope, l, end, rows),
@@ -318,7 +319,7 @@ fn read_rows(
 // The item here, if it is in the common form: a standard field with a universal content, whose number, length and string format are one byte each.
 fn read_common(c: Cursor, file: &[u8], end: FilePlace) -> Common
     requires { ⌜ end .0 ≤ length (now file) ⌝ }
-    ensures { λ r. ⌜ CommonTold r (now (file .entry)) (end .0) (c .at .0) ⌝ }
+    ensures { λ r. ⌜ CommonTold r (old file) (end .0) (c .at .0) ⌝ }
 {
     let place = c.at;
     if end.0 <= place.0 {
@@ -373,7 +374,7 @@ fn read_item(
     rows: usize,
 ) -> RowsResult
     requires { ⌜ Room scope (now file) (now types) (now items) (end .0) (counts node rows) ⌝ }
-    ensures { λ r. ⌜ Makes scope node rows (λ x. item x node index (end .0)) (now (file .entry)) (now (types .entry)) (now (items .entry)) (now (items .exit)) (c .at .0) r ⌝ }
+    ensures { λ r. ⌜ Makes scope node rows (λ x. item x node index (end .0)) (old file) (old types) (old items) (new items) (c .at .0) r ⌝ }
 {
     let limits = scope.limits;
     if rows < limits.items {
@@ -422,7 +423,7 @@ fn read_items(
     rows: usize,
 ) -> RowsResult
     requires { ⌜ Room scope (now file) (now types) (now items) (end .0) (counts node rows) ⌝ }
-    ensures { λ r. ⌜ Makes scope node rows (λ x. metaItems x node (end .0)) (now (file .entry)) (now (types .entry)) (now (items .entry)) (now (items .exit)) (c .at .0) r ⌝ }
+    ensures { λ r. ⌜ Makes scope node rows (λ x. metaItems x node (end .0)) (old file) (old types) (old items) (new items) (c .at .0) r ⌝ }
 {
     let stop = end.0;
     let mut next = c;
@@ -456,7 +457,7 @@ pub fn read_metadata(
     rows: usize,
 ) -> RowsResult
     requires { ⌜ Room scope (now file) (now types) (now items) (end .0) (counts node rows) ⌝ }
-    ensures { λ r. ⌜ Makes scope node rows (λ x. metadata x node (end .0)) (now (file .entry)) (now (types .entry)) (now (items .entry)) (now (items .exit)) (c .at .0) r ⌝ }
+    ensures { λ r. ⌜ Makes scope node rows (λ x. metadata x node (end .0)) (old file) (old types) (old items) (new items) (c .at .0) r ⌝ }
 {
     match c.block(file, end, cursor::BAD_NODE) {
         Numbered::Refused(n, p) => RowsResult::Refused(n, p),

@@ -4,15 +4,14 @@ ghost use mathlib.Core.Bool.{_&&_};
 ghost use Prim.Native.Nat.{_≤_, _<_, _*_, _+_};
 ghost use lib.Dec.{eqb};
 ghost use lib.ListN.{length};
-ghost use Rattle.header.specs.Header.{Header};
+ghost use Rattle.room.specs.Moments.{old, new};
 ghost use Rattle.rows.specs.Rows.{nodeWidth, itemWidth, nodesIn, itemsIn, ItemIn, ItemRows};
-ghost use Rattle.file.specs.Reading.{summary};
 ghost use Rattle.file.specs.Asking.{answered, nodesLeft, itemsLeft};
 ghost use Rattle.file.specs.Own.{those, part, Tables};
 ghost use Rattle.description.specs.Row.{isField};
-ghost use Rattle.mobile.specs.Mobile.{all, roleOfType, roleOfRow, roleOf, filesOnly, isPlain, plainReferences, noUnpackers, isNeed, areNeeds, isShort, fieldSize, isSmall, smallFields, verdict, mobile};
+ghost use Rattle.mobile.specs.Mobile.{all, roleOfType, roleOfRow, roleOf, filesOnly, isPlain, plainReferences, noUnpackers, isNeed, areNeeds, isShort, fieldSize, isSmall, smallFields, mobile};
 ghost use Rattle.mobile.specs.Pass.{besides, child, children, oneTuneOf, tuneNeedsOf, later};
-ghost use Rattle.mobile.specs.Told.{told, NextRow};
+ghost use Rattle.mobile.specs.Told.{told, NextRow, Judges};
 use cursor::Cursor;
 use cursor::FilePlace;
 use cursor::Item;
@@ -64,7 +63,7 @@ fn right_edition(version: u64, kind: u64, revision: u64) -> bool
 // Whether the root is a folder and all others are file nodes.
 fn files_only(nodes: &[u64], many: usize) -> bool
     requires { ⌜ many * nodeWidth ≤ length (now nodes) ⌝ }
-    ensures { λ r. ⌜ r ≡ filesOnly (nodesIn many (now (nodes .entry))) ⌝ }
+    ensures { λ r. ⌜ r ≡ filesOnly (nodesIn many (old nodes)) ⌝ }
 {
     if many == 0 {
         return false;
@@ -96,7 +95,7 @@ fn is_plain(row: Node) -> bool
 // Whether every node uses reference 1 or 2.
 fn plain_references(nodes: &[u64], many: usize) -> bool
     requires { ⌜ many * nodeWidth ≤ length (now nodes) ⌝ }
-    ensures { λ r. ⌜ r ≡ plainReferences (nodesIn many (now (nodes .entry))) ⌝ }
+    ensures { λ r. ⌜ r ≡ plainReferences (nodesIn many (old nodes)) ⌝ }
 {
     let mut i = 0;
     while i < many {
@@ -112,7 +111,7 @@ fn plain_references(nodes: &[u64], many: usize) -> bool
 // Whether no node has unpackers.
 fn no_unpackers(nodes: &[u64], many: usize) -> bool
     requires { ⌜ many * nodeWidth ≤ length (now nodes) ⌝ }
-    ensures { λ r. ⌜ r ≡ noUnpackers (nodesIn many (now (nodes .entry))) ⌝ }
+    ensures { λ r. ⌜ r ≡ noUnpackers (nodesIn many (old nodes)) ⌝ }
 {
     let mut i = 0;
     while i < many {
@@ -128,7 +127,7 @@ fn no_unpackers(nodes: &[u64], many: usize) -> bool
 // The first item row of the standard field from row `from` on, or `end`.
 fn next_row(items: &[u64], many: usize, field: u64, from: usize, end: usize) -> usize
     requires { ⌜ (many * itemWidth ≤ length (now items)) × (from ≤ end) × (end ≤ many) ⌝ }
-    ensures { λ r. ⌜ NextRow field (itemsIn many (now (items .entry))) from end r ⌝ }
+    ensures { λ r. ⌜ NextRow field (itemsIn many (old items)) from end r ⌝ }
 {
     let mut i = from;
     while i < end {
@@ -159,7 +158,7 @@ fn role_of_type(v: u64) -> Role
 // What a child is whose one row of field 3 is this.
 fn role_of_row(file: &[u8], row: Item) -> Role
     requires { ⌜ ItemIn (length (now file)) row ⌝ }
-    ensures { λ r. ⌜ r ≡ roleOfRow (now (file .entry)) row ⌝ }
+    ensures { λ r. ⌜ r ≡ roleOfRow (old file) row ⌝ }
 {
     if !description::is_binary(row) {
         return Role::Other;
@@ -190,7 +189,7 @@ fn role_of_row(file: &[u8], row: Item) -> Role
 // What a child is whose own item rows begin at `at` and end at `end`.
 fn role_of(file: &[u8], items: &[u64], many: usize, at: usize, end: usize) -> Role
     requires { ⌜ ItemRows (length (now file)) many (now items) × (at ≤ end) × (end ≤ many) ⌝ }
-    ensures { λ r. ⌜ r ≡ roleOf (now (file .entry)) (part (itemsIn many (now (items .entry))) at end) ⌝ }
+    ensures { λ r. ⌜ r ≡ roleOf (old file) (part (itemsIn many (old items)) at end) ⌝ }
 {
     let first = next_row(items, many, 3, at, end);
     if end <= first {
@@ -249,7 +248,7 @@ fn child(role: Role, row: usize, c: Children) -> Children
 // What the children are, from the last to the first: each node's own item rows end where those of the next begin.
 fn children_of(file: &[u8], nodes: &[u64], items: &[u64], n: usize, m: usize) -> Children
     requires { ⌜ Tables (now file) (now nodes) (now items) n m ⌝ }
-    ensures { λ r. ⌜ r ≡ children (now (file .entry)) (nodesIn n (now (nodes .entry))) (itemsIn m (now (items .entry))) ⌝ }
+    ensures { λ r. ⌜ r ≡ children (old file) (nodesIn n (old nodes)) (itemsIn m (old items)) ⌝ }
 {
     let mut c = Children {
         typed: true,
@@ -286,7 +285,7 @@ fn one_tune(tunes: Few, instruments: Few) -> bool
 // Whether the row, of field 13, may stand where it is, and is readable.
 fn is_need(file: &[u8], row: Item, tune: usize) -> bool
     requires { ⌜ ItemIn (length (now file)) row ⌝ }
-    ensures { λ r. ⌜ r ≡ isNeed (now (file .entry)) tune row ⌝ }
+    ensures { λ r. ⌜ r ≡ isNeed (old file) tune row ⌝ }
 {
     if row.node != tune as u64 {
         return false;
@@ -300,7 +299,7 @@ fn is_need(file: &[u8], row: Item, tune: usize) -> bool
 // Whether there are rows of field 13, and all may stand where they are, and are readable.
 fn are_needs(file: &[u8], items: &[u64], many: usize, tune: usize) -> bool
     requires { ⌜ ItemRows (length (now file)) many (now items) ⌝ }
-    ensures { λ r. ⌜ r ≡ areNeeds (now (file .entry)) tune (those (isField 13) (itemsIn many (now (items .entry)))) ⌝ }
+    ensures { λ r. ⌜ r ≡ areNeeds (old file) tune (those (isField 13) (itemsIn many (old items))) ⌝ }
 {
     let mut i = next_row(items, many, 13, 0, many);
     if many <= i {
@@ -318,7 +317,7 @@ fn are_needs(file: &[u8], items: &[u64], many: usize, tune: usize) -> bool
 // Whether field 13 is on the tune, and there only, and readable.
 fn tune_needs(file: &[u8], items: &[u64], many: usize, tunes: Few) -> bool
     requires { ⌜ ItemRows (length (now file)) many (now items) ⌝ }
-    ensures { λ r. ⌜ r ≡ tuneNeedsOf (now (file .entry)) tunes (itemsIn many (now (items .entry))) ⌝ }
+    ensures { λ r. ⌜ r ≡ tuneNeedsOf (old file) tunes (itemsIn many (old items)) ⌝ }
 {
     match tunes {
         Few::One(t) => are_needs(file, items, many, t),
@@ -330,7 +329,7 @@ fn tune_needs(file: &[u8], items: &[u64], many: usize, tunes: Few) -> bool
 // Whether every header length is at most 65,535.
 fn short_headers(nodes: &[u64], many: usize) -> bool
     requires { ⌜ many * nodeWidth ≤ length (now nodes) ⌝ }
-    ensures { λ r. ⌜ r ≡ all isShort (nodesIn many (now (nodes .entry))) ⌝ }
+    ensures { λ r. ⌜ r ≡ all isShort (nodesIn many (old nodes)) ⌝ }
 {
     let mut i = 0;
     while i < many {
@@ -356,7 +355,7 @@ fn field_size(row: Item) -> u64
 // Whether every field number and name length is at most 256.
 fn small_items(items: &[u64], many: usize) -> bool
     requires { ⌜ many * itemWidth ≤ length (now items) ⌝ }
-    ensures { λ r. ⌜ r ≡ all isSmall (itemsIn many (now (items .entry))) ⌝ }
+    ensures { λ r. ⌜ r ≡ all isSmall (itemsIn many (old items)) ⌝ }
 {
     let mut i = 0;
     while i < many {
@@ -371,7 +370,7 @@ fn small_items(items: &[u64], many: usize) -> bool
 // Whether header lengths, field numbers and name lengths are small enough.
 fn small_fields(nodes: &[u64], items: &[u64], n: usize, m: usize) -> bool
     requires { ⌜ (n * nodeWidth ≤ length (now nodes)) × (m * itemWidth ≤ length (now items)) ⌝ }
-    ensures { λ r. ⌜ r ≡ smallFields (nodesIn n (now (nodes .entry))) (itemsIn m (now (items .entry))) ⌝ }
+    ensures { λ r. ⌜ r ≡ smallFields (nodesIn n (old nodes)) (itemsIn m (old items)) ⌝ }
 {
     if !short_headers(nodes, n) {
         return false;
@@ -382,7 +381,7 @@ fn small_fields(nodes: &[u64], items: &[u64], n: usize, m: usize) -> bool
 // The first of checks 5 to 8 that fails, 0 if none. The children are gone through once.
 fn later_verdict(file: &[u8], nodes: &[u64], items: &[u64], n: usize, m: usize) -> u64
     requires { ⌜ Tables (now file) (now nodes) (now items) n m ⌝ }
-    ensures { λ r. ⌜ r ≡ later (now (file .entry)) (nodesIn n (now (nodes .entry))) (itemsIn m (now (items .entry))) ⌝ }
+    ensures { λ r. ⌜ r ≡ later (old file) (nodesIn n (old nodes)) (itemsIn m (old items)) ⌝ }
 {
     let c = children_of(file, nodes, items, n, m);
     if !c.typed {
@@ -405,8 +404,7 @@ fn later_verdict(file: &[u8], nodes: &[u64], items: &[u64], n: usize, m: usize) 
 // The first check that fails, 0 if none.
 fn verdict(file: &[u8], nodes: &[u64], items: &[u64], s: Summary) -> u64
     requires { ⌜ Tables (now file) (now nodes) (now items) (s .nodes) (s .items) ⌝ }
-    ensures { λ r. ⌜ ((h : Header) → s ≡ summary h (nodesIn (s .nodes) (now (nodes .entry))) (itemsIn (s .items) (now (items .entry)))
-        → r ≡ verdict (now (file .entry)) h (nodesIn (s .nodes) (now (nodes .entry))) (itemsIn (s .items) (now (items .entry)))) ⌝ }
+    ensures { λ r. ⌜ Judges s (old file) (old nodes) (old items) r ⌝ }
 {
     let edition = s.edition;
     if !right_edition(s.version, edition.kind, edition.revision) {
@@ -427,9 +425,9 @@ fn verdict(file: &[u8], nodes: &[u64], items: &[u64], s: Summary) -> u64
 
 // Judges Mobile XMF: reads the file into the two tables and gives the verdict.
 pub fn judge(file: &[u8], nodes: &mut [u64], items: &mut [u64]) -> Judged
-    ensures answer { λ r. ⌜ told r ≡ answered (now (nodes .entry)) (now (items .entry)) (now (file .entry)) mobile ⌝ }
-    ensures nodes { λ _. ⌜ now (nodes .exit) ≡ nodesLeft (now (nodes .entry)) (now (items .entry)) (now (file .entry)) mobile ⌝ }
-    ensures items { λ _. ⌜ now (items .exit) ≡ itemsLeft (now (nodes .entry)) (now (items .entry)) (now (file .entry)) mobile ⌝ }
+    ensures answer { λ r. ⌜ told r ≡ answered (old nodes) (old items) (old file) mobile ⌝ }
+    ensures nodes { λ _. ⌜ new nodes ≡ nodesLeft (old nodes) (old items) (old file) mobile ⌝ }
+    ensures items { λ _. ⌜ new items ≡ itemsLeft (old nodes) (old items) (old file) mobile ⌝ }
 {
     match file::read_file(file, nodes, items) {
         Read::Refused(n, p) => Judged::Refused(n, p.0),

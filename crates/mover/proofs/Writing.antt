@@ -272,8 +272,7 @@ module _ (s : List ℕ) {e : Bool} {stop : ℕ} (w : Well s e stop) where
   -- the first line is longer than its word
   pub long-lead : length (word e) + 1 ≤ stop
   long-lead =
-      let l = lead-shape e f (w .leads) in
-      let a = ap length (l .whole) in
+      let l = lead-shape e f (w .leads) in let a = ap length (l .whole) in
       let b = length-append (word e) (0x09 ∷ l .tail) in
       let c = length-slice 0 stop s (let i = w .inside in omega arith) in
       omega arith

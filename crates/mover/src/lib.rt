@@ -4,6 +4,7 @@ ghost use mathlib.Core.List.{[], _∷_, _++_};
 ghost use Prim.Native.Nat.{ℕ, _≤_, _<_, _+_, _-_};
 ghost use lib.ListN.{length, drop};
 ghost use lib.Seq.{slice};
+ghost use Rattle.room.specs.Moments.{old, new};
 ghost use Rattle.room.specs.Room.{fitting, counted, kept};
 ghost use Rattle.room.specs.Counts.{Counts};
 ghost use Rattle.room.specs.Told.{told};
@@ -30,7 +31,7 @@ struct Ran {
 // Puts a line.
 fn put_line(out: &mut [u8], to: usize, sheet: &[u8], at: usize, end: usize) -> usize
     requires { ⌜ (at ≤ end) × (end ≤ length (now sheet)) ⌝ }
-    ensures { λ r. ⌜ Counts (now (out .entry)) (now (out .exit)) to (slice at end (now (sheet .entry)) ++ 0x0A ∷ []) r ⌝ }
+    ensures { λ r. ⌜ Counts (old out) (new out) to (slice at end (old sheet) ++ 0x0A ∷ []) r ⌝ }
 {
     let next = room::put_part(out, to, sheet, at, end - at);
     room::put_byte(out, next, 0x0a)
@@ -39,7 +40,7 @@ fn put_line(out: &mut [u8], to: usize, sheet: &[u8], at: usize, end: usize) -> u
 // Puts all lines of one kind from a place on: item lines or node lines.
 fn put_kind(out: &mut [u8], to: usize, sheet: &[u8], from: usize, items: bool) -> usize
     requires { ⌜ (from ≤ length (now sheet)) × AllKnown (parted 0x0A (drop from (now sheet))) ⌝ }
-    ensures { λ r. ⌜ Counts (now (out .entry)) (now (out .exit)) to (written (picked (isKind items) (parted 0x0A (drop from (now (sheet .entry)))))) r ⌝ }
+    ensures { λ r. ⌜ Counts (old out) (new out) to (written (picked (isKind items) (parted 0x0A (drop from (old sheet))))) r ⌝ }
 {
     let mut next = to;
     let mut at = from;
@@ -58,7 +59,7 @@ fn put_kind(out: &mut [u8], to: usize, sheet: &[u8], from: usize, items: bool) -
 // Whether a line of a well-formed sheet is an item's, or else a node's: its first letter says it.
 fn is_kind(line: &[u8], items: bool) -> bool
     requires { ⌜ Known (now line) ⌝ }
-    ensures { λ r. ⌜ r ≡ isKind items (kind (now (line .entry))) ⌝ }
+    ensures { λ r. ⌜ r ≡ isKind items (kind (old line)) ⌝ }
 {
     let b = editions::letter(line, 0);
     if items {
@@ -69,7 +70,7 @@ fn is_kind(line: &[u8], items: bool) -> bool
 
 // The node of an item line.
 fn node_of(line: &[u8]) -> u64
-    ensures { λ r. ⌜ ((k : ℕ) → kind (now (line .entry)) ≡ item k → r ≡ k) ⌝ }
+    ensures { λ r. ⌜ ((k : ℕ) → kind (old line) ≡ item k → r ≡ k) ⌝ }
 {
     if editions::letter(line, 0) != b'M' {
         return 0;
@@ -83,7 +84,7 @@ fn node_of(line: &[u8]) -> u64
 // The first item line from a place on.
 fn next_item(sheet: &[u8], from: usize) -> ItemAt
     requires { ⌜ AllKnown (parted 0x0A (drop from (now sheet))) ⌝ }
-    ensures { λ r. ⌜ (itemLines (now (sheet .entry)) r ≡ itemsOf (parted 0x0A (drop from (now (sheet .entry))))) × Right (now (sheet .entry)) from r ⌝ }
+    ensures { λ r. ⌜ (itemLines (old sheet) r ≡ itemsOf (parted 0x0A (drop from (old sheet)))) × Right (old sheet) from r ⌝ }
 {
     let mut at = from;
     while at < sheet.len() {
@@ -99,8 +100,8 @@ fn next_item(sheet: &[u8], from: usize) -> ItemAt
 // Puts the item lines of a row that stand next.
 fn put_run(out: &mut [u8], to: usize, sheet: &[u8], first: ItemAt, row: u64) -> Ran
     requires { ⌜ Right (now sheet) 0 first ⌝ }
-    ensures puts { λ r. ⌜ Counts (now (out .entry)) (now (out .exit)) to (written (runOf row (itemLines (now (sheet .entry)) first))) (r .to) ⌝ }
-    ensures left { λ r. ⌜ (itemLines (now (sheet .entry)) (r .item) ≡ pastRun row (itemLines (now (sheet .entry)) first)) × Right (now (sheet .entry)) 0 (r .item) ⌝ }
+    ensures puts { λ r. ⌜ Counts (old out) (new out) to (written (runOf row (itemLines (old sheet) first))) (r .to) ⌝ }
+    ensures left { λ r. ⌜ (itemLines (old sheet) (r .item) ≡ pastRun row (itemLines (old sheet) first)) × Right (old sheet) 0 (r .item) ⌝ }
 {
     let mut next = to;
     let mut item = first;
@@ -127,7 +128,7 @@ fn put_run(out: &mut [u8], to: usize, sheet: &[u8], first: ItemAt, row: u64) -> 
 // Puts each node line from a place on, and behind it the item lines of its row: one cursor goes over the node lines, one over the item lines.
 fn put_groups(out: &mut [u8], to: usize, sheet: &[u8], from: usize) -> usize
     requires { ⌜ (from ≤ length (now sheet)) × AllKnown (parted 0x0A (drop from (now sheet))) ⌝ }
-    ensures { λ r. ⌜ Counts (now (out .entry)) (now (out .exit)) to (grouped (drop from (now (sheet .entry)))) r ⌝ }
+    ensures { λ r. ⌜ Counts (old out) (new out) to (grouped (drop from (old sheet))) r ⌝ }
 {
     let mut next = to;
     let mut at = from;
@@ -152,7 +153,7 @@ fn put_groups(out: &mut [u8], to: usize, sheet: &[u8], from: usize) -> usize
 // Puts the other edition of a well-formed sheet.
 fn put_moved(out: &mut [u8], sheet: &[u8], second: bool, stop: usize) -> usize
     requires { ⌜ Well (now sheet) second stop ⌝ }
-    ensures { λ r. ⌜ Counts (now (out .entry)) (now (out .exit)) 0 (written (movedLines second (parted 0x0A (now (sheet .entry))))) r ⌝ }
+    ensures { λ r. ⌜ Counts (old out) (new out) 0 (written (movedLines second (parted 0x0A (old sheet)))) r ⌝ }
 {
     let body = stop + 1;
     if second {
@@ -168,8 +169,8 @@ fn put_moved(out: &mut [u8], sheet: &[u8], second: bool, stop: usize) -> usize
 
 // Moves a sheet to the other edition.
 pub fn move_sheet(sheet: &[u8], room: &mut [u8]) -> Written
-    ensures answer { λ r. ⌜ told r ≡ counted (fitting (length (now (room .entry))) (move (now (sheet .entry)))) ⌝ }
-    ensures room { λ _. ⌜ now (room .exit) ≡ kept (length (now (room .entry))) (fitting (length (now (room .entry))) (move (now (sheet .entry)))) ⌝ }
+    ensures answer { λ r. ⌜ told r ≡ counted (fitting (length (old room)) (move (old sheet))) ⌝ }
+    ensures room { λ _. ⌜ new room ≡ kept (length (old room)) (fitting (length (old room)) (move (old sheet))) ⌝ }
 {
     match editions::judge(sheet) {
         Judged::Bad(number) => {

@@ -116,8 +116,7 @@ module _ {f : List ℕ} {end from : ℕ} (channels resources row : ℕ) {o : Lis
           let w : run (numbers (channels * resources - i) end) f at ≡ behind (v ∷ []) (run (numbers (channels * resources - (i + 1)) end) f q) = first ∙ rw e refl in
           let x = g .many in
           let y = length-append (g .done) (v ∷ []) in
-          let z : 0 + length (g .done) ≡ i = omega arith in
-          let lm = lines-more row resources 0 (g .done) v in
+          let z : 0 + length (g .done) ≡ i = omega arith in let lm = lines-more row resources 0 (g .done) v in
           record {
             done = g .done ++ (v ∷ []);
             many = omega arith;

@@ -4,6 +4,7 @@ ghost use mathlib.Core.List.{List, []};
 ghost use Prim.Native.Nat.{ℕ, _≤_, _<_, _^_, _+_, _*_};
 ghost use lib.ListN.{length};
 ghost use Rattle.machine.specs.Machine.{run};
+ghost use Rattle.room.specs.Moments.{old, new};
 ghost use Rattle.room.specs.Counts.{Counts};
 ghost use Rattle.room.specs.Room.{Result};
 ghost use Rattle.rows.specs.Rows.{itemsIn, ItemIn, ItemRows};
@@ -37,7 +38,7 @@ fn put_count(
     resource: u64,
     count: u64,
 ) -> usize
-    ensures { λ r. ⌜ Counts (now (out .entry)) (now (out .exit)) to (countLine row channel resource count) r ⌝ }
+    ensures { λ r. ⌜ Counts (old out) (new out) to (countLine row channel resource count) r ⌝ }
 {
     let a = room::put_byte(out, to, b'C');
     let b = text::put_number(out, a, row as u64);
@@ -49,7 +50,7 @@ fn put_count(
 
 // The answer for a hidden row: no text. Nothing is asked of its data.
 pub fn hidden(text: &mut [u8]) -> Made
-    ensures { λ r. ⌜ Gives (length (now (text .entry))) r (now (text .exit)) (nothing) ⌝ }
+    ensures { λ r. ⌜ Gives (length (old text)) r (new text) (nothing) ⌝ }
 {
     room::clear_bytes(text);
     Made { status: 1, size: 0 }
@@ -65,7 +66,7 @@ fn make_row_count(
     text: &mut [u8],
 ) -> Made
     requires { ⌜ ItemIn (length (now file)) item ⌝ }
-    ensures { λ r. ⌜ Gives (length (now (text .entry))) r (now (text .exit)) (printed (length (now (text .entry))) [] (λ a. a) (shownCount (now (file .entry)) row channel resource item)) ⌝ }
+    ensures { λ r. ⌜ Gives (length (old text)) r (new text) (printed (length (old text)) [] (λ a. a) (shownCount (old file) row channel resource item)) ⌝ }
 {
     if item.format % 2 == 1 {
         return hidden(text);
@@ -80,7 +81,7 @@ fn make_row_count(
 }
 
 pub fn make_count(file: &[u8], row: usize, channel: u64, resource: u64, text: &mut [u8]) -> Made
-    ensures { λ r. ⌜ Gives (length (now (text .entry))) r (now (text .exit)) (countAnswer (length (now (text .entry))) row channel resource (now (file .entry))) ⌝ }
+    ensures { λ r. ⌜ Gives (length (old text)) r (new text) (countAnswer (length (old text)) row channel resource (old file)) ⌝ }
 {
     let mut nodes = program::node_table();
     let mut items = program::item_table();
@@ -108,7 +109,7 @@ fn put_table(
     resources: u64,
 ) -> Put
     requires { ⌜ (end .0 ≤ length (now file)) × (channels < 2 ^ 28) × (resources < 2 ^ 28) ⌝ }
-    ensures { λ r. ⌜ Puts (now (out .entry)) (now (out .exit)) to (needsIn row (run (table channels resources (end .0)) (now (file .entry)) (c .at .0))) r ⌝ }
+    ensures { λ r. ⌜ Puts (old out) (new out) to (needsIn row (run (table channels resources (end .0)) (old file) (c .at .0))) r ⌝ }
 {
     let count = channels * resources;
     let mut next = to;
@@ -134,7 +135,7 @@ fn put_table(
 // Puts the lines of a content description, which is the data of an item row.
 fn put_counts(out: &mut [u8], to: usize, file: &[u8], row: usize, place: usize, size: usize) -> Put
     requires { ⌜ place + size ≤ length (now file) ⌝ }
-    ensures { λ r. ⌜ Puts (now (out .entry)) (now (out .exit)) to (needsIn row (run (description (place + size)) (now (file .entry)) place)) r ⌝ }
+    ensures { λ r. ⌜ Puts (old out) (new out) to (needsIn row (run (description (place + size)) (old file) place)) r ⌝ }
 {
     let end = FilePlace(place + size);
     let c = Cursor {
@@ -173,7 +174,7 @@ fn is_description(row: Item) -> bool
 // Puts the lines of an item row, if it is a visible content description.
 fn put_row_needs(out: &mut [u8], to: usize, file: &[u8], row: usize, item: Item) -> Put
     requires { ⌜ ItemIn (length (now file)) item ⌝ }
-    ensures { λ r. ⌜ Puts (now (out .entry)) (now (out .exit)) to (rowNeeds (now (file .entry)) row item) r ⌝ }
+    ensures { λ r. ⌜ Puts (old out) (new out) to (rowNeeds (old file) row item) r ⌝ }
 {
     if item.format % 2 == 1 {
         return Put::To(to);
@@ -187,7 +188,7 @@ fn put_row_needs(out: &mut [u8], to: usize, file: &[u8], row: usize, item: Item)
 // Puts the lines of all item rows.
 fn put_needs(out: &mut [u8], file: &[u8], items: &[u64], count: usize) -> Put
     requires { ⌜ ItemRows (length (now file)) count (now items) ⌝ }
-    ensures { λ r. ⌜ Puts (now (out .entry)) (now (out .exit)) 0 (needsFrom (now (file .entry)) 0 (itemsIn count (now (items .entry)))) r ⌝ }
+    ensures { λ r. ⌜ Puts (old out) (new out) 0 (needsFrom (old file) 0 (itemsIn count (old items))) r ⌝ }
 {
     let mut next = 0;
     let mut i = 0;
@@ -203,7 +204,7 @@ fn put_needs(out: &mut [u8], file: &[u8], items: &[u64], count: usize) -> Put
 
 // The answer for lines that were put.
 pub fn put_answered(text: &mut [u8], put: Put) -> Made
-    ensures { λ r. ⌜ ((o : List ℕ) (x : Result (List ℕ)) → Puts o (now (text .entry)) 0 x put → Gives (length o) r (now (text .exit)) (printed (length o) [] plainly x)) ⌝ }
+    ensures { λ r. ⌜ ((o : List ℕ) (x : Result (List ℕ)) → Puts o (old text) 0 x put → Gives (length o) r (new text) (printed (length o) [] plainly x)) ⌝ }
 {
     match put {
         Put::Refused(n, p) => refuse(text, b"", n, p),
@@ -213,7 +214,7 @@ pub fn put_answered(text: &mut [u8], put: Put) -> Made
 
 // The counts of all visible content descriptions.
 pub fn make_needs(file: &[u8], text: &mut [u8]) -> Made
-    ensures { λ r. ⌜ Gives (length (now (text .entry))) r (now (text .exit)) (needsAnswer (length (now (text .entry))) (now (file .entry))) ⌝ }
+    ensures { λ r. ⌜ Gives (length (old text)) r (new text) (needsAnswer (length (old text)) (old file)) ⌝ }
 {
     let mut nodes = program::node_table();
     let mut items = program::item_table();
@@ -229,7 +230,7 @@ pub fn make_needs(file: &[u8], text: &mut [u8]) -> Made
 // The counts of an item row.
 fn make_item_needs(file: &[u8], row: usize, item: Item, text: &mut [u8]) -> Made
     requires { ⌜ ItemIn (length (now file)) item ⌝ }
-    ensures { λ r. ⌜ Gives (length (now (text .entry))) r (now (text .exit)) (printed (length (now (text .entry))) [] (λ a. a) (shownNeeds (now (file .entry)) row item)) ⌝ }
+    ensures { λ r. ⌜ Gives (length (old text)) r (new text) (printed (length (old text)) [] (λ a. a) (shownNeeds (old file) row item)) ⌝ }
 {
     if item.format % 2 == 1 {
         return hidden(text);
@@ -242,7 +243,7 @@ fn make_item_needs(file: &[u8], row: usize, item: Item, text: &mut [u8]) -> Made
 }
 
 pub fn make_row_needs(file: &[u8], row: usize, text: &mut [u8]) -> Made
-    ensures { λ r. ⌜ Gives (length (now (text .entry))) r (now (text .exit)) (rowNeedsAnswer (length (now (text .entry))) row (now (file .entry))) ⌝ }
+    ensures { λ r. ⌜ Gives (length (old text)) r (new text) (rowNeedsAnswer (length (old text)) row (old file)) ⌝ }
 {
     let mut nodes = program::node_table();
     let mut items = program::item_table();

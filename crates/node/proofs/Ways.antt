@@ -155,9 +155,7 @@ module _ (end : ℕ) (s : List ℕ) (at n : ℕ) where
 pub unpacker-common : (end : ℕ) (s : List ℕ) (at : ℕ) {kind name size : Byte} → ByteTold kind s at → ByteTold name s (kind .next .at .0) → ByteTold size s (name .next .at .0)
     → at + 3 ≤ end → true ≡ (eqb (kind .value) 0 || eqb (kind .value) 2) → name .value ≤ 127 → size .value ≤ 127 → CommonTold true s end at
 unpacker-common end s at {kind} {name} {size} b₀ b₁ b₂ l which l₁ l₂ =
-    let k = numbered (kind .value) (sym which) in
-    let q₁ = b₀ .on in
-    let q₂ = b₁ .on in
+    let k = numbered (kind .value) (sym which) in let q₁ = b₀ .on in let q₂ = b₁ .on in
     let q₃ : size .next .at .0 ≡ at + 3 = omega (arith, b₂ .on) in
     let e₀ = number-short unpackFrame 3 end s at (omega arith) (b₀ .is) (omega arith) q₁ in
     let e₁ = number-short unpackFrame 3 end s (kind .next .at .0) (omega arith) (b₁ .is) (omega arith) q₂ in
@@ -203,8 +201,7 @@ module _ {s : List ℕ} {end at i k : ℕ} (g : Going s end at i k) where
 
     pub entries-on : {c : Cursor} → r ≡ passing.To c → Going s end at (c .at .0) (k + 1)
     entries-on {c} e =
-        let x = sym (d k) ∙ ap (λ v. unpackerTold v k) e in
-        let w = entries-further e in
+        let x = sym (d k) ∙ ap (λ v. unpackerTold v k) e in let w = entries-further e in
         record { left = g .left - 1; enough = let y = g .enough in omega arith; few = let y = g .few in omega arith; same = turn l ∙ rw x refl }
 
 module _ (contained end : ℕ) (s : List ℕ) (at : ℕ) where
@@ -291,8 +288,7 @@ module _ (headerEnd size contained end : ℕ) (s : List ℕ) (at : ℕ) where
     pub reference-inline : r ≡ 1 → ok (record { kind = r; target = q; extent = end - q }) q ≡ run (reference headerEnd size contained end) s at
     unfolding reference
     reference-inline z =
-        let l₁ : 0 < r = omega arith in
-        let l₂ : r ≤ 4 = omega arith in
+        let l₁ : 0 < r = omega arith in let l₂ : r ≤ 4 = omega arith in
         target-inline headerEnd size r end s q z ∙ simp (running, e₁, lt-ltb _ _ l₁, le-leb _ _ l₂, eq-eqb _ _ z, or-true)
 
     pub reference-zero : r ≡ 0 → refused 13 at ≡ run (reference headerEnd size contained end) s at

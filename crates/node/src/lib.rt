@@ -5,6 +5,7 @@ ghost use lib.Dec.{eqb};
 ghost use Prim.Native.Nat.{ℕ, _≤_, _<_, _+_};
 ghost use lib.ListN.{length};
 ghost use Rattle.machine.specs.Machine.{run};
+ghost use Rattle.room.specs.Moments.{old, new};
 ghost use Rattle.cursor.specs.Told.{Readable, passTold};
 ghost use Rattle.metadata.specs.Told.{Room};
 ghost use Rattle.node.specs.Node.{headerLength, head, value, identifier, unpacker, entries, unpackers, resource, nodePlace, uriPlace, target, reference, rest, rowOf};
@@ -95,7 +96,7 @@ fn is_detached_folder(contained: u64, detached: u64) -> bool
 // NodeLength, NodeContainedItems and NodeHeaderLength of a node that stands so.
 fn read_head(c: Cursor, file: &[u8], s: Bounds) -> Headed
     requires { ⌜ Readable (s .end .0) (now file) ⌝ }
-    ensures { λ r. ⌜ headTold r ≡ run (head s) (now (file .entry)) (c .at .0) ⌝ }
+    ensures { λ r. ⌜ headTold r ≡ run (head s) (old file) (c .at .0) ⌝ }
 {
     let start = c.at;
     let end = s.end;
@@ -138,7 +139,7 @@ fn read_header_length(
     contained: u64,
 ) -> Headed
     requires { ⌜ Readable (start .0 + size .0) (now file) ⌝ }
-    ensures { λ r. ⌜ headTold r ≡ run (headerLength (start .0) (size .0) contained) (now (file .entry)) (c .at .0) ⌝ }
+    ensures { λ r. ⌜ headTold r ≡ run (headerLength (start .0) (size .0) contained) (old file) (c .at .0) ⌝ }
 {
     let place = c.at;
     match c.number(file, start.of(size), cursor::CUT_SHORT) {
@@ -166,7 +167,7 @@ fn read_header_length(
 // A number whose value is not kept.
 fn read_value(c: Cursor, file: &[u8], end: FilePlace) -> Passed
     requires { ⌜ end .0 ≤ length (now file) ⌝ }
-    ensures { λ r. ⌜ passTold r ≡ run (value (end .0)) (now (file .entry)) (c .at .0) ⌝ }
+    ensures { λ r. ⌜ passTold r ≡ run (value (end .0)) (old file) (c .at .0) ⌝ }
 {
     match c.number(file, end, cursor::CUT_SHORT) {
         Numbered::Refused(n, p) => Passed::Refused(n, p),
@@ -177,7 +178,7 @@ fn read_value(c: Cursor, file: &[u8], end: FilePlace) -> Passed
 // What names an unpacker of the kind.
 fn read_identifier(c: Cursor, file: &[u8], kind: u64, end: FilePlace) -> Passed
     requires { ⌜ end .0 ≤ length (now file) ⌝ }
-    ensures { λ r. ⌜ passTold r ≡ run (identifier kind (end .0)) (now (file .entry)) (c .at .0) ⌝ }
+    ensures { λ r. ⌜ passTold r ≡ run (identifier kind (end .0)) (old file) (c .at .0) ⌝ }
 {
     if kind == 3 {
         return c.guid(file, end);
@@ -204,7 +205,7 @@ fn is_numbered(kind: u64) -> bool
 // Whether the unpacker here is in the common form: a number names it, and its kind, that number and its decoded size are one byte each.
 fn is_common(c: Cursor, file: &[u8], end: FilePlace) -> bool
     requires { ⌜ (end .0 ≤ length (now file)) × (c .at .0 < end .0) ⌝ }
-    ensures { λ r. ⌜ CommonTold r (now (file .entry)) (end .0) (c .at .0) ⌝ }
+    ensures { λ r. ⌜ CommonTold r (old file) (end .0) (c .at .0) ⌝ }
 {
     let place = c.at;
     let kind = c.byte(file);
@@ -228,7 +229,7 @@ fn is_common(c: Cursor, file: &[u8], end: FilePlace) -> bool
 // An unpacker: its kind, what names it, its decoded size.
 fn read_unpacker(c: Cursor, file: &[u8], end: FilePlace) -> Passed
     requires { ⌜ Readable (end .0) (now file) × (c .at .0 < end .0) ⌝ }
-    ensures { λ r. ⌜ ((n : ℕ) → unpackerTold r n ≡ run (unpacker (end .0) n) (now (file .entry)) (c .at .0)) ⌝ }
+    ensures { λ r. ⌜ ((n : ℕ) → unpackerTold r n ≡ run (unpacker (end .0) n) (old file) (c .at .0)) ⌝ }
 {
     // To pass one in the common form at once is faster than to read its numbers. What follows is the rule for any unpacker.
     if is_common(c, file, end) {
@@ -252,7 +253,7 @@ fn read_unpacker(c: Cursor, file: &[u8], end: FilePlace) -> Passed
 // Unpackers end to end up to `end`; they begin at c.
 fn read_entries(c: Cursor, file: &[u8], end: FilePlace) -> Unpacked
     requires { ⌜ Readable (end .0) (now file) ⌝ }
-    ensures { λ r. ⌜ unpackersTold r ≡ run (entries (end .0)) (now (file .entry)) (c .at .0) ⌝ }
+    ensures { λ r. ⌜ unpackersTold r ≡ run (entries (end .0)) (old file) (c .at .0) ⌝ }
 {
     let place = c.at;
     let stop = end.0;
@@ -276,7 +277,7 @@ fn read_entries(c: Cursor, file: &[u8], end: FilePlace) -> Unpacked
 // The unpackers of a node whose header ends at `end`.
 fn read_unpackers(c: Cursor, file: &[u8], contained: u64, end: FilePlace) -> Unpacked
     requires { ⌜ Readable (end .0) (now file) ⌝ }
-    ensures { λ r. ⌜ unpackersTold r ≡ run (unpackers contained (end .0)) (now (file .entry)) (c .at .0) ⌝ }
+    ensures { λ r. ⌜ unpackersTold r ≡ run (unpackers contained (end .0)) (old file) (c .at .0) ⌝ }
 {
     let place = c.at;
     match c.block(file, end, cursor::BAD_NODE) {
@@ -304,7 +305,7 @@ fn read_unpackers(c: Cursor, file: &[u8], contained: u64, end: FilePlace) -> Unp
 // Reference 2: a place of the file at or after the header's end; its extent runs to the file's end.
 fn read_resource(c: Cursor, file: &[u8], headerEnd: FilePlace, end: FilePlace) -> ReferenceResult
     requires { ⌜ end .0 ≤ length (now file) ⌝ }
-    ensures { λ r. ⌜ referenceTold r ≡ run (resource (headerEnd .0) (length (now (file .entry))) (end .0)) (now (file .entry)) (c .at .0) ⌝ }
+    ensures { λ r. ⌜ referenceTold r ≡ run (resource (headerEnd .0) (length (old file)) (end .0)) (old file) (c .at .0) ⌝ }
 {
     let place = c.at;
     match c.number(file, end, cursor::CUT_SHORT) {
@@ -330,7 +331,7 @@ fn read_resource(c: Cursor, file: &[u8], headerEnd: FilePlace, end: FilePlace) -
 // Reference 3: the place of a node's first byte.
 fn read_node_place(c: Cursor, file: &[u8], end: FilePlace) -> ReferenceResult
     requires { ⌜ end .0 ≤ length (now file) ⌝ }
-    ensures { λ r. ⌜ referenceTold r ≡ run (nodePlace (end .0)) (now (file .entry)) (c .at .0) ⌝ }
+    ensures { λ r. ⌜ referenceTold r ≡ run (nodePlace (end .0)) (old file) (c .at .0) ⌝ }
 {
     match c.number(file, end, cursor::CUT_SHORT) {
         Numbered::Refused(n, p) => ReferenceResult::Refused(n, p),
@@ -348,7 +349,7 @@ fn read_node_place(c: Cursor, file: &[u8], end: FilePlace) -> ReferenceResult
 // Reference 4: an XString with a URI.
 fn read_uri(c: Cursor, file: &[u8], end: FilePlace) -> ReferenceResult
     requires { ⌜ Readable (end .0) (now file) ⌝ }
-    ensures { λ r. ⌜ referenceTold r ≡ run (uriPlace (end .0)) (now (file .entry)) (c .at .0) ⌝ }
+    ensures { λ r. ⌜ referenceTold r ≡ run (uriPlace (end .0)) (old file) (c .at .0) ⌝ }
 {
     match c.block(file, end, cursor::CUT_SHORT) {
         Numbered::Refused(n, p) => ReferenceResult::Refused(n, p),
@@ -373,7 +374,7 @@ fn read_target(
     end: FilePlace,
 ) -> ReferenceResult
     requires { ⌜ Readable (end .0) (now file) × (1 < kind) ⌝ }
-    ensures { λ r. ⌜ referenceTold r ≡ run (target (headerEnd .0) (length (now (file .entry))) kind (end .0)) (now (file .entry)) (c .at .0) ⌝ }
+    ensures { λ r. ⌜ referenceTold r ≡ run (target (headerEnd .0) (length (old file)) kind (end .0)) (old file) (c .at .0) ⌝ }
 {
     if kind == 2 {
         return read_resource(c, file, headerEnd, end);
@@ -393,7 +394,7 @@ fn read_reference(
     end: FilePlace,
 ) -> ReferenceResult
     requires { ⌜ Readable (end .0) (now file) ⌝ }
-    ensures { λ r. ⌜ referenceTold r ≡ run (reference (headerEnd .0) (length (now (file .entry))) contained (end .0)) (now (file .entry)) (c .at .0) ⌝ }
+    ensures { λ r. ⌜ referenceTold r ≡ run (reference (headerEnd .0) (length (old file)) contained (end .0)) (old file) (c .at .0) ⌝ }
 {
     let place = c.at;
     match c.number(file, end, cursor::CUT_SHORT) {
@@ -434,7 +435,7 @@ fn read_rest(
     stop: FilePlace,
 ) -> RestResult
     requires { ⌜ Readable (inner .0) (now file) × Readable (stop .0) (now file) ⌝ }
-    ensures { λ r. ⌜ restTold r ≡ run (rest (headerEnd .0) (length (now (file .entry))) contained (inner .0) (stop .0)) (now (file .entry)) (c .at .0) ⌝ }
+    ensures { λ r. ⌜ restTold r ≡ run (rest (headerEnd .0) (length (old file)) contained (inner .0) (stop .0)) (old file) (c .at .0) ⌝ }
 {
     match read_unpackers(c, file, contained, inner) {
         Unpacked::Refused(n, p) => RestResult::Refused(n, p),
@@ -497,7 +498,7 @@ pub fn read_front(
     made: Made,
 ) -> FrontResult
     requires { ⌜ Room scope (now file) (now types) (now items) (s .end .0) made ⌝ }
-    ensures { λ r. ⌜ FrontTold (frontRun scope (now (types .entry)) (now (file .entry)) parent depth s made (c .at .0)) made (scope .limits) r (now (items .entry)) (now (items .exit)) ⌝ }
+    ensures { λ r. ⌜ FrontTold (frontRun scope (old types) (old file) parent depth s made (c .at .0)) made (scope .limits) r (old items) (new items) ⌝ }
 {
     let start = c.at;
     match read_head(c, file, s) {

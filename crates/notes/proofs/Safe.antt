@@ -9,7 +9,7 @@ use native.Mathlib.Omega.{arith}
 use lib.ListN.{length, getD, drop, take, drop-of-length-le}
 use lib.Seq.{drop-cons, drop-drop}
 use borrow.Author.Tests.{le-leb, lt-leb}
-use Rattle.cursor.specs.Vlq.{part}
+use Rattle.room.specs.Parts.{part}
 use Rattle.unicode.specs.Unicode.{Char, char, none, first8, bytesAll}
 use Rattle.unicode.specs.Told.{charTold}
 use Rattle.unicode.specs.declared.Character.{Character}

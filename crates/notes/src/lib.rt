@@ -2,6 +2,7 @@
 ghost use mathlib.Core.Path.{_≡_};
 ghost use mathlib.Core.List.{_∷_, []};
 ghost use lib.ListN.{length, drop};
+ghost use Rattle.room.specs.Moments.{old, new};
 ghost use Rattle.room.specs.Counts.{Counts};
 ghost use Rattle.lines.specs.Answer.{reads};
 ghost use Rattle.notes.specs.Safe.{isSafe, safeSize, safeText};
@@ -39,7 +40,7 @@ fn is_safe(c: u64) -> bool
 
 // How many bytes of UTF-8 at a place are a safe character; 0 if none.
 fn safe_size(text: &[u8], at: usize) -> usize
-    ensures { λ r. ⌜ r ≡ safeSize (drop at (now (text .entry))) ⌝ }
+    ensures { λ r. ⌜ r ≡ safeSize (drop at (old text)) ⌝ }
 {
     match unicode::char8(text, at) {
         Character::Bad => 0,
@@ -54,7 +55,7 @@ fn safe_size(text: &[u8], at: usize) -> usize
 
 // Puts what says that a text goes on.
 fn put_cut(out: &mut [u8], to: usize) -> usize
-    ensures { λ r. ⌜ Counts (now (out .entry)) (now (out .exit)) to (0x2E ∷ 0x2E ∷ []) r ⌝ }
+    ensures { λ r. ⌜ Counts (old out) (new out) to (0x2E ∷ 0x2E ∷ []) r ⌝ }
 {
     room::put_bytes(out, to, b"..")
 }
@@ -62,7 +63,7 @@ fn put_cut(out: &mut [u8], to: usize) -> usize
 // Puts a text: its safe characters as they are, its other bytes as a backslash and two digits. What does not stand in its first `most` bytes is left
 // out, and `..` says so.
 pub fn put_safe(out: &mut [u8], to: usize, text: &[u8], most: usize) -> usize
-    ensures { λ r. ⌜ Counts (now (out .entry)) (now (out .exit)) to (safeText most (now (text .entry))) r ⌝ }
+    ensures { λ r. ⌜ Counts (old out) (new out) to (safeText most (old text)) r ⌝ }
 {
     let mut next = to;
     let mut at = 0;
@@ -87,7 +88,7 @@ pub fn put_safe(out: &mut [u8], to: usize, text: &[u8], most: usize) -> usize
 
 // Puts the text of an item row, if it is visible and universal, as it stands on the sheet.
 fn put_row_text(out: &mut [u8], file: &[u8], row: usize) -> usize
-    ensures { λ r. ⌜ Counts (now (out .entry)) (now (out .exit)) 0 (rowText row (now (file .entry)) (reads (now (file .entry)))) r ⌝ }
+    ensures { λ r. ⌜ Counts (old out) (new out) 0 (rowText row (old file) (reads (old file))) r ⌝ }
 {
     let mut nodes = program::node_table();
     let mut items = program::item_table();
@@ -114,7 +115,7 @@ fn title_buffer() -> [u8; 196608]
 
 // Puts a tab and the text of an item row, cut at 200 bytes.
 fn put_title(out: &mut [u8], to: usize, file: &[u8], row: usize) -> usize
-    ensures { λ r. ⌜ Counts (now (out .entry)) (now (out .exit)) to (titleField row (now (file .entry))) r ⌝ }
+    ensures { λ r. ⌜ Counts (old out) (new out) to (titleField row (old file)) r ⌝ }
 {
     let mut text = title_buffer();
     let n = put_row_text(&mut text, file, row);
@@ -126,14 +127,14 @@ fn put_title(out: &mut [u8], to: usize, file: &[u8], row: usize) -> usize
 }
 
 // Puts what a correction changed: the title and the file's length, before and after.
-pub fn put_changes(out: &mut [u8], old: &[u8], new: &[u8], row: usize) -> usize
-    ensures { λ r. ⌜ Counts (now (out .entry)) (now (out .exit)) 0 (changesText row (now (old .entry)) (now (new .entry))) r ⌝ }
+pub fn put_changes(out: &mut [u8], given: &[u8], corrected: &[u8], row: usize) -> usize
+    ensures { λ r. ⌜ Counts (old out) (new out) 0 (changesText row (old given) (old corrected)) r ⌝ }
 {
     let a = room::put_bytes(out, 0, b"title");
-    let b = put_title(out, a, old, row);
-    let c = put_title(out, b, new, row);
+    let b = put_title(out, a, given, row);
+    let c = put_title(out, b, corrected, row);
     let d = room::put_bytes(out, c, b"\nlength");
-    let e = text::put_number(out, d, old.len() as u64);
-    let f = text::put_number(out, e, new.len() as u64);
+    let e = text::put_number(out, d, given.len() as u64);
+    let f = text::put_number(out, e, corrected.len() as u64);
     room::put_byte(out, f, 0x0a)
 }

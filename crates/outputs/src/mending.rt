@@ -1,6 +1,7 @@
 // The copy of a file whose header is mended, and the lines that tell of it.
 ghost use mathlib.Core.Path.{_≡_};
 ghost use lib.ListN.{length};
+ghost use Rattle.room.specs.Moments.{old, new};
 ghost use Rattle.room.specs.Room.{Result, counted};
 ghost use Rattle.room.specs.Told as told_room;
 ghost use Rattle.mend.specs.Mend.{Mended};
@@ -42,7 +43,7 @@ fn lines_written(said: Mending) -> Written
 
 // The copy.
 pub fn make_mended(file: &[u8], text: &mut [u8]) -> Made
-    ensures { λ r. ⌜ Gives (length (now (text .entry))) r (now (text .exit)) (mendedAnswer (length (now (text .entry))) (now (file .entry))) ⌝ }
+    ensures { λ r. ⌜ Gives (length (old text)) r (new text) (mendedAnswer (length (old text)) (old file)) ⌝ }
 {
     let mut nodes = program::node_table();
     let mut items = program::item_table();
@@ -53,7 +54,7 @@ pub fn make_mended(file: &[u8], text: &mut [u8]) -> Made
 
 // The lines.
 pub fn make_mend_lines(file: &[u8], text: &mut [u8]) -> Made
-    ensures { λ r. ⌜ Gives (length (now (text .entry))) r (now (text .exit)) (mendLinesAnswer (length (now (text .entry))) (now (file .entry))) ⌝ }
+    ensures { λ r. ⌜ Gives (length (old text)) r (new text) (mendLinesAnswer (length (old text)) (old file)) ⌝ }
 {
     let mut nodes = program::node_table();
     let mut items = program::item_table();

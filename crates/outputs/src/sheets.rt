@@ -1,6 +1,7 @@
 // The support sheet in either edition, and a sheet in its other edition.
 ghost use mathlib.Core.Path.{_≡_};
 ghost use lib.ListN.{length};
+ghost use Rattle.room.specs.Moments.{old, new};
 ghost use Rattle.room.specs.Room.{counted, kept};
 ghost use Rattle.room.specs.Told.{told};
 ghost use Rattle.file.specs.Asking.{answered};
@@ -19,8 +20,8 @@ fn write_edition(
     second: bool,
     text: &mut [u8],
 ) -> Written
-    ensures answer { λ r. ⌜ told r ≡ counted (answered (now (nodes .entry)) (now (items .entry)) (now (file .entry)) (writeIn second (length (now (text .entry))))) ⌝ }
-    ensures text { λ _. ⌜ now (text .exit) ≡ kept (length (now (text .entry))) (answered (now (nodes .entry)) (now (items .entry)) (now (file .entry)) (writeIn second (length (now (text .entry))))) ⌝ }
+    ensures answer { λ r. ⌜ told r ≡ counted (answered (old nodes) (old items) (old file) (writeIn second (length (old text)))) ⌝ }
+    ensures text { λ _. ⌜ new text ≡ kept (length (old text)) (answered (old nodes) (old items) (old file) (writeIn second (length (old text)))) ⌝ }
 {
     if second {
         return sheet::write_sheet2(file, nodes, items, text);
@@ -29,7 +30,7 @@ fn write_edition(
 }
 
 pub fn make_sheet(file: &[u8], second: bool, tail: &[u8], text: &mut [u8]) -> Made
-    ensures { λ r. ⌜ Gives (length (now (text .entry))) r (now (text .exit)) (sheetAnswer (length (now (text .entry))) second (now (tail .entry)) (now (file .entry))) ⌝ }
+    ensures { λ r. ⌜ Gives (length (old text)) r (new text) (sheetAnswer (length (old text)) second (old tail) (old file)) ⌝ }
 {
     let mut nodes = program::node_table();
     let mut items = program::item_table();
@@ -38,7 +39,7 @@ pub fn make_sheet(file: &[u8], second: bool, tail: &[u8], text: &mut [u8]) -> Ma
 }
 
 pub fn make_moved(lines: &[u8], text: &mut [u8]) -> Made
-    ensures { λ r. ⌜ Gives (length (now (text .entry))) r (now (text .exit)) (movedAnswer (length (now (text .entry))) (now (lines .entry))) ⌝ }
+    ensures { λ r. ⌜ Gives (length (old text)) r (new text) (movedAnswer (length (old text)) (old lines)) ⌝ }
 {
     let written = mover::move_sheet(lines, text);
     settle(text, b"", written)

@@ -4,7 +4,7 @@ use mathlib.Core.Path.{_≡_, refl, sym, ap, _∙_}
 use mathlib.Core.List.{List, [], _∷_, _++_}
 use Prim.Native.Nat.{ℕ, _+_, _≤_}
 use lib.ListN.{length}
-use Rattle.cursor.specs.Vlq.{part}
+use Rattle.room.specs.Parts.{part}
 use Rattle.cursor.specs.declared.FilePlace.{FilePlace}
 use Rattle.metadata.specs.Tables.{fullNodes, fullItems, limits}
 use Rattle.room.specs.Room.{good, bad}

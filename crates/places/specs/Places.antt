@@ -4,7 +4,7 @@ use mathlib.Core.Bool.{cond}
 use mathlib.Core.List.{List, [], _∷_, _++_}
 use Prim.Native.Nat.{ℕ}
 use lib.Dec.{eqb}
-use Rattle.cursor.specs.Vlq.{part}
+use Rattle.room.specs.Parts.{part}
 use Rattle.cursor.specs.declared.Node.{Node}
 use Rattle.room.specs.Room.{Result, good, bad}
 use Rattle.room.specs.Decimal.{decimal}

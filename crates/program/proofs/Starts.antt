@@ -13,6 +13,5 @@ use Rattle.room.proofs.Counting.{wrote-front}
 
 pub starts : {o o′ w : List ℕ} {r : ℕ} → room.Counts o o′ 0 w r → r ≤ length o → length o < room.tooMany → (length w ≤ length o) × Counts r o′ × (take r o′ ≡ w)
 starts {o} {o′} {w} {r} p l m =
-    let z = p .long in
-    let x = wrote-front p l m in
+    let z = p .long in let x = wrote-front p l m in
     (x .1, counts r o′ (omega arith), ap (λ (v : List ℕ). take r v) (x .2) ∙ take-at w (drop (length w) o) r (sym (x .0)))

@@ -1,6 +1,7 @@
 // What the programs share: full tables, a file read by its name, and a message where that fails.
 ghost use mathlib.Core.Path.{_≡_};
 ghost use lib.ListN.{length};
+ghost use Rattle.room.specs.Moments.{new};
 ghost use Rattle.metadata.specs.Tables.{fullNodes, fullItems};
 ghost use Rattle.program.specs.Inputs.{Inside};
 use libc::STDERR_FILENO;
@@ -57,7 +58,7 @@ pub fn fail(program: &[u8], name: &[u8]) {
 
 // Reads until the buffer is full or the input ends.
 pub fn read_input(fd: i32, buf: &mut [u8]) -> Input
-    ensures { λ r. ⌜ Inside r (now (buf .exit)) ⌝ }
+    ensures { λ r. ⌜ Inside r (new buf) ⌝ }
 {
     let mut n: usize = 0;
     while n < buf.len() {

@@ -16,7 +16,7 @@ use Rattle.metadata.specs.Tables.{limits}
 use Rattle.file.specs.Reading.{Reading, rows, refusal}
 use Rattle.file.specs.Asking.{Result, good, bad, ask}
 use Rattle.room.specs.Room as room
-use Rattle.room.proofs.Listed.{fitted}
+use Rattle.cursor.proofs.Listed.{fitted}
 use Rattle.sheet.specs.Sheet.{linesIn, writeIn, refusals}
 use Rattle.sheet.proofs.Asked.{question-is}
 use Rattle.editions.specs.Sheets.{isSecond, move}

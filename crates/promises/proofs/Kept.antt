@@ -13,8 +13,8 @@ use lib.Dec.{T, eqb, ltb, leb}
 use lib.ListN.{length, getD, replicate, take, drop, length-append, length-take, length-drop}
 use lib.Seq.{getD-take, getD-drop, take-append-seam, take-append-add, drop-append-add, getD-append-add, take-at, drop-at}
 use borrow.Author.Tests.{ne-eqb, leb-false, le-leb, lt-leb}
-use Rattle.cursor.specs.Refusals.{ofReader, inFile, isAllowed}
-use Rattle.cursor.specs.Vlq.{part}
+use Rattle.cursor.specs.Refusals.{ofReader, inFile, isAllowed, Among, PlacedIn}
+use Rattle.room.specs.Parts.{part}
 use Rattle.cursor.specs.declared.Node.{Node}
 use Rattle.cursor.specs.declared.Item.{Item}
 use Rattle.machine.proofs.Agree.{Agree}
@@ -75,8 +75,7 @@ use Rattle.mend.proofs.Theorem.{read-rows, mended-length, still, mended-is, men
 use Rattle.mend.proofs.Alike.{mended-alike}
 use Rattle.mend.proofs.Listed.{mend-listed, mend-placed}
 use Rattle.room.specs.Room as room
-use Rattle.room.specs.Room.{Among, PlacedIn}
-use Rattle.room.proofs.Listed.{allowed-front, among-back, areApart, apart-placed, placed-if, fitted, fitting-among}
+use Rattle.cursor.proofs.Listed.{allowed-front, among-back, areApart, apart-placed, placed-if, fitted, fitting-among}
 use Rattle.unicode.specs.Unicode as unicode
 use Rattle.unicode.proofs.Listed.{utf8-listed, utf16-listed}
 use Rattle.unicode.proofs.Back.{placed8, placed16, there-and-back, back-and-there}
@@ -144,9 +143,7 @@ title-twins ls f g {h} {ns} {is} r d i text n =
 -- two parts of files of one length, at the same place
 parts-there : (f g : List ℕ) → length f ≡ length g → (at n : ℕ) → OnlyThere f g at (part f at n) (part g at n)
 parts-there f g e at n =
-    let a = length-take n (drop at f) in
-    let b = length-take n (drop at g) in
-    let x = length-drop at f in
+    let a = length-take n (drop at f) in let b = length-take n (drop at g) in let x = length-drop at f in
     let y = length-drop at g in
     let one : (v : List ℕ) (k : ℕ) → k < n → getD (part v at n) k 0 ≡ getD v (at + k) 0 = λ v k l. getD-take n (drop at v) k 0 l ∙ getD-drop at v k 0 in
     (omega arith, λ k l s. let b : k < n = omega arith in one f k b ∙ s ∙ sym (one g k b))
@@ -179,9 +176,7 @@ given-alike : (f g : List ℕ) → length f ≡ length g → (m at n : ℕ)
     → let x : List ℕ = room.padded m (part f at n) in let y : List ℕ = room.padded m (part g at n) in OnlyThere f g at (take n x) (take n y) × (drop n y ≡ drop n x)
 unfolding room.padded
 given-alike f g e m at n =
-    let w = parts-there f g e at n in
-    let l = length-take n (drop at f) in
-    let same = w .0 in
+    let w = parts-there f g e at n in let l = length-take n (drop at f) in let same = w .0 in
     rw (← same) (split-there f g at (part f at n) (part g at n) (replicate (m - length (part f at n)) 0) n (n - length (part f at n)) w (omega arith) (omega arith))
 
 alike-held : {A : Type 0} (ls : Sizes) (f g ws : List ℕ) → length f ≡ length g → (r : Result A) (l : Lent A) → AlikeIn ls f g ws l (holding f ws r l) (holding g ws r l)
@@ -224,10 +219,8 @@ title-leaves : (i : ℕ) (text : List ℕ) (ls : Sizes) (f g : List ℕ) {x y : 
 unfolding leaves room.padded
 title-leaves i text ls f g (refusals-same n p) = (refl, (refl, (refl, ((λ h ns is e. record { same-length = refl; elsewhere = λ k l o. refl }, refl), refl))))
 title-leaves i text ls f g (files-alike {x} {y} e r d) =
-    let n : ℕ = length x in
-    let zs : List ℕ = replicate (size ls 2 - n) 0 in
-    let a : take n (x ++ zs) ≡ x = take-at x zs n refl in
-    let b : take n (y ++ zs) ≡ y = take-at y zs n (sym e) in
+    let n : ℕ = length x in let zs : List ℕ = replicate (size ls 2 - n) 0 in
+    let a : take n (x ++ zs) ≡ x = take-at x zs n refl in let b : take n (y ++ zs) ≡ y = take-at y zs n (sym e) in
     let c : drop n (x ++ zs) ≡ zs = drop-at x zs n refl in
     let v : drop n (y ++ zs) ≡ zs = drop-at y zs n (sym e) in
     (rw e, rw (r, ← e, a, b, c, v) (refl, (refl, ((d, refl), refl))))
@@ -255,9 +248,7 @@ module _ (ls : Sizes) (f g : List ℕ) {h : Header} {ns : List Node} {is : List 
       Alike₂ (about mendHeader) ls f g x y × ExactlyThere f g (newFile (leaves (about mendHeader) ls f x)) (newFile (leaves (about mendHeader) ls g y))
   unfolding leaves reads room.padded
   copies-alike true =
-      let w = mended-alike lim f g r d in
-      let e = w .differ .same-length in
-      let n : ℕ = length (mended f) in
+      let w = mended-alike lim f g r d in let e = w .differ .same-length in let n : ℕ = length (mended f) in
       let zs : List ℕ = replicate (size ls 2 - n) 0 in
       let a : take n (mended f ++ zs) ≡ mended f = take-at (mended f) zs n refl in
       let b : take n (mended g ++ zs) ≡ mended g = take-at (mended g) zs n (sym e) in
@@ -279,9 +270,7 @@ module _ (ls : Sizes) (f g : List ℕ) {h : Header} {ns : List Node} {is : List 
       (newFile (leaves (about mendHeader) ls g (answerTo ls g (about mendHeader .asks ls))))
   unfolding reads mend.fitting
   mend-alike =
-      let w = mended-alike lim f g r d in
-      let e = w .differ .same-length in
-      let x = mends-as f r in
+      let w = mended-alike lim f g r d in let e = w .differ .same-length in let x = mends-as f r in
       let y : mend.mend lim (size ls 2) (size ls 3) g ≡ cond (leb (length (mended f)) (size ls 2) && leb (length (changes f)) (size ls 3))
       (good (repair g)) (bad 22 0) = mends-as g (w .reads) ∙ rw (← e, w .lines) refl in
       rw (x, y) (copies-alike (leb (length (mended f)) (size ls 2) && leb (length (changes f)) (size ls 3)))
@@ -690,8 +679,7 @@ title-corrects : (ls : Sizes) (f : List ℕ) (i : ℕ) (text : List ℕ) (r : Re
     → leaves (about (correctTitle i text)) ls f r .answer ≡ 0 ∷ 0 ∷ n ∷ [] → Correction i text ls f (newFile (leaves (about (correctTitle i text)) ls f r))
 unfolding outcome leaves reads
 title-corrects ls f i text (good g) e a =
-    let (h, ns, is, z, c) = title-answered ls f i text e in
-    let lim : Limits = limits (size ls 0) (size ls 1) in
+    let (h, ns, is, z, c) = title-answered ls f i text e in let lim : Limits = limits (size ls 0) (size ls 1) in
     let fits = corrected i text (size ls 2) f h ns is c .fits in
     subst (Correction i text ls f) (sym (new-is i text ls f g)) (record {
       header = h;
@@ -844,8 +832,7 @@ account-of : (ls : Sizes) (f : List ℕ) (h : Header) (ns : List Node) (is : Lis
     (kindWords (countsOf (length f) (eventsOf (limits (size ls 0) (size ls 1)) f h)))
 unfolding reads
 account-of ls f h ns is r =
-    let lim : Limits = limits (size ls 0) (size ls 1) in
-    let es = eventsOf lim f h in
+    let lim : Limits = limits (size ls 0) (size ls 1) in let es = eventsOf lim f h in
     record {
       header = h;
       nodes = ns;
@@ -888,8 +875,7 @@ written-part i text ls f g w = w .1 .1 .1 .0 .0
 pub in-turn : InTurn
 unfolding outcome
 in-turn i text q ls f g h ns is r d =
-    let o : Outcome = outcome (correctTitle i text) ls f in
-    let o′ : Outcome = outcome (correctTitle i text) ls g in
+    let o : Outcome = outcome (correctTitle i text) ls f in let o′ : Outcome = outcome (correctTitle i text) ls g in
     let w = outcome-alike ls f g h ns is r d (correctTitle i text) in
     let y : take (getD (o .answer) 2 0) (getD (o′ .holds) 2 []) ≡ newFile o′ = ap (λ (v : List ℕ). take (getD v 2 0) (getD (o′ .holds) 2 [])) (sym (w .0)) in
     elim (choice (correctTitle i text) ls f) [

@@ -66,9 +66,7 @@ wrote-again ls f e l =
 does : (ls : Sizes) (f : List ℕ) (m : mend.Mendable (lim ls) f) → Mends ls f (m .w)
 unfolding reads
 does ls f m =
-    let e = mends (lim ls) f m in
-    let x = fields-parts (length f) f (m .reads) .0 in
-    let n = mended-length f in
+    let e = mends (lim ls) f m in let x = fields-parts (length f) f (m .reads) .0 in let n = mended-length f in
     record {
       accepted = rows-of ls (mended f) e;
       right = (mended-set f x, mended-sound (lim ls) f x e .holds);
@@ -102,8 +100,7 @@ mends-exactly ls f = elim (mendable (lim ls) f) [
 pub mends-back : MendsBack
 unfolding reads
 mends-back ls g bytes (h, ns, is, e) w next r =
-    let stay = stays (lim ls) g e bytes in
-    let none = unchanged (lim ls) g e in
+    let stay = stays (lim ls) g e bytes in let none = unchanged (lim ls) g e in
     record {
       itself = λ l. wrote ls g (rw stay (ap accepted e)) (rw stay l) (rw none (omega arith)) ∙ rw (stay, none) refl;
       back = λ a b hold l m. let z = restores (lim ls) g bytes e r a b hold in wrote ls (setTo g w a b) (rw z (ap accepted e)) (rw z l) m ∙ rw z refl;

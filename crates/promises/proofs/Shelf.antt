@@ -7,8 +7,8 @@ use mathlib.Core.List.{List, [], _∷_, _++_}
 use Prim.Native.Nat.{ℕ}
 use lib.Dec.{T}
 use lib.ListN.{length, getD}
-use Rattle.cursor.specs.Refusals.{isAllowed}
-use Rattle.room.specs.Room.{Result, good, bad, Among, padded, counted, kept}
+use Rattle.cursor.specs.Refusals.{isAllowed, Among}
+use Rattle.room.specs.Room.{Result, good, bad, padded, counted, kept}
 use Rattle.shelf.specs.Shelf.{Shelf, fresh, partSize, isDamaged, mapped, putOn, dropFrom, told, putRefusals}
 use Rattle.shelf.specs.Runs.{Call, putting, getting, dropping, refusals, answer, next, afterAll}
 use Rattle.shelf.specs.Words.{cardsOf, shelfOf, wordsWith}

@@ -9,9 +9,8 @@ use native.Mathlib.Omega.{arith}
 use lib.Dec.{T, eqb, leb}
 use lib.ListN.{length, getD}
 use borrow.Author.Tests.{ne-eqb, le-leb, lt-leb}
-use Rattle.cursor.specs.Refusals.{ofReader, isAllowed}
+use Rattle.cursor.specs.Refusals.{ofReader, isAllowed, Among}
 use Rattle.metadata.specs.Tables.{limits}
-use Rattle.room.specs.Room.{Among}
 use Rattle.file.specs.Asking.{Result, good, bad, ask}
 use Rattle.file.proofs.Rows.{accepted}
 use Rattle.account.specs.Account.{kindsOf}
@@ -37,8 +36,7 @@ data Step (t t′ : Totals) (o : Outcome) : Type 0 where
 below : (t : Totals) (ls : Sizes) (f : List ℕ) (k : Kinds) → outcome (accountBytes t) ls f .answer ≡ 0 ∷ 0 ∷ kindWords k → (κ : ℕ) → getD (kindWords k) κ 0 < 2 ^ 28
 unfolding reads
 below t ls f k e κ =
-    let a = accounts t ls f (kindWords k) e in
-    let m = at-most (kindWords k) κ in
+    let a = accounts t ls f (kindWords k) e in let m = at-most (kindWords k) κ in
     let l = accepted (limits (size ls 0) (size ls 1)) f (a .accepted) .small in
     let s = a .total in
     omega arith
@@ -149,8 +147,7 @@ fits s (suc (suc κ)) = let l = s .files in let m = s .sums κ in omega arith
 pub sums : Sums
 sums os t r =
     let d = all (record { files = omega arith; refused = omega arith; sums = λ κ. omega (arith, none-yet κ) }) r in
-    let f = d .files in
-    let n = d .refused in
+    let f = d .files in let n = d .refused in
     record {
       files = omega arith;
       refused = omega arith;

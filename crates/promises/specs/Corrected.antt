@@ -6,7 +6,7 @@ use Prim.Native.Nat.{ℕ}
 use lib.ListN.{drop, replicate, take}
 use Rattle.machine.specs.Machine.{run, trace, rowsOf, _>>=_, _>>_, if_then_else_, place, skip, check, turns, many, times}
 use Rattle.cursor.specs.Leaves.{next, digits, number, block, manufacturer, guid}
-use Rattle.cursor.specs.Vlq as vlq
+use Rattle.vlq.specs.Vlq as vlq
 use Rattle.header.specs.Types.{formatOf}
 use Rattle.header.specs.Header.{four, opening, edition, fileLength, entry, typesTable, extent, header}
 use Rattle.metadata.specs.Metadata.{field, contents, itemFrame, universal, declaredFormat, version, rowsFor, item, nextItem, metaItems, metadata}
@@ -14,7 +14,7 @@ use Rattle.node.specs.Node.{headerLength, head, value, identifier, unpacker, en
 use Rattle.tree.specs.Tree as tree
 use Rattle.tree.specs.Tree.{folder, node}
 use Rattle.file.specs.Reading.{logged, detachedAt, followRow, follow, reading, readTree, readFile, nodeTable, itemTable}
-use Rattle.targets.specs.Targets.{startsAt, offsetAt, isMissing, outside, partEnd, firstTaken}
+use Rattle.targets.specs.Targets.{startsAt, offsetAt, isMissing, outside, partEnd, isTaken, firstOf, firstTaken}
 use Rattle.file.specs.Asking.{ask}
 use Rattle.file.specs.Hidden.{isHidden}
 use Rattle.title_text.specs.Description as described
@@ -45,5 +45,5 @@ cases : (outcome (correctTitle 0 hello) (27 ∷ 31 ∷ 60 ∷ []) worked
     })
     × (outcome (correctTitle 0 hello) (26 ∷ 30 ∷ 58 ∷ []) worked ≡ record { answer = 22 ∷ 0 ∷ []; holds = replicate 26 0 ∷ replicate 30 0 ∷ replicate 58 0 ∷ [] })
     × (outcome (correctTitle 1 hello) (26 ∷ 30 ∷ 60 ∷ []) worked ≡ record { answer = 37 ∷ 0 ∷ []; holds = replicate 26 0 ∷ replicate 30 0 ∷ replicate 60 0 ∷ [] })
-unfolding run trace rowsOf _>>=_ _>>_ if_then_else_ place skip check turns many times next digits number block manufacturer guid formatOf four opening edition fileLength entry typesTable extent header field contents itemFrame universal declaredFormat version rowsFor item nextItem metaItems metadata headerLength head value identifier unpacker entries unpackers resource nodePlace uriPlace target reference rest front folder node tree.tree tree.detached logged startsAt offsetAt isMissing outside partEnd firstTaken detachedAt followRow follow reading readTree readFile nodeTable itemTable ask isHidden vlq.inBytes vlq.from vlq.least vlq.vlq vlq.sized described.content described.copied described.identifierText described.unpackerText described.entryText described.tableText described.shape described.described described.titled described.titledAt described.retitled text.further text.fieldText text.itemText text.universalText text.versionText text.contentText text.itemsText text.headerBytes text.headerSize text.lengthBytes text.headerOf text.framed text.ownText text.nodeText text.wholeText text.outer text.lastBytes text.startBytes text.startAt text.fileBytes text.treeStart text.assembled text.fileOf text.fileText title.elsewhere title.isNoTitle title.titledFile title.fitting title.correctTitle room.padded room.counted room.kept reads leaves outcome
+unfolding run trace rowsOf _>>=_ _>>_ if_then_else_ place skip check turns many times next digits number block manufacturer guid formatOf four opening edition fileLength entry typesTable extent header field contents itemFrame universal declaredFormat version rowsFor item nextItem metaItems metadata headerLength head value identifier unpacker entries unpackers resource nodePlace uriPlace target reference rest front folder node tree.tree tree.detached logged startsAt offsetAt isMissing outside partEnd isTaken firstOf firstTaken detachedAt followRow follow reading readTree readFile nodeTable itemTable ask isHidden vlq.inBytes vlq.from vlq.least vlq.vlq vlq.sized described.content described.copied described.identifierText described.unpackerText described.entryText described.tableText described.shape described.described described.titled described.titledAt described.retitled text.further text.fieldText text.itemText text.universalText text.versionText text.contentText text.itemsText text.headerBytes text.headerSize text.lengthBytes text.headerOf text.framed text.ownText text.nodeText text.wholeText text.outer text.lastBytes text.startBytes text.startAt text.fileBytes text.treeStart text.assembled text.fileOf text.fileText title.elsewhere title.isNoTitle title.titledFile title.fitting title.correctTitle room.padded room.counted room.kept reads leaves outcome
 cases = (refl, refl, refl)

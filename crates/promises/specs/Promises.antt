@@ -10,8 +10,9 @@ use lib.Dec.{T}
 use lib.ListN.{length, getD, replicate, take, drop}
 use Rattle.machine.specs.Machine.{ok, run, FirstAt}
 use Rattle.cursor.specs.Rows.{Events}
-use Rattle.cursor.specs.Refusals.{noRowLeft, noSuchRow, noRoom, badText, badSheet, ofReader, inFile, isOneOf, isAllowed}
-use Rattle.cursor.specs.Vlq.{part}
+use Rattle.cursor.specs.Refusals.{noRowLeft, noSuchRow, badText, badSheet, ofReader, inFile, isOneOf, isAllowed}
+use Rattle.room.specs.Room.{noRoom}
+use Rattle.room.specs.Parts.{part}
 use Rattle.cursor.specs.declared.Node.{Node}
 use Rattle.cursor.specs.declared.Item.{Item}
 use Rattle.header.specs.Header.{Header}

@@ -14,7 +14,7 @@ use Rattle.node.specs.Node.{headerLength, head, value, identifier, unpacker, en
 use Rattle.tree.specs.Tree as tree
 use Rattle.tree.specs.Tree.{folder, node}
 use Rattle.file.specs.Reading.{rows, refusal, logged, detachedAt, followRow, follow, reading, readTree, readFile, nodeTable, itemTable}
-use Rattle.targets.specs.Targets.{startsAt, offsetAt, isMissing, outside, partEnd, firstTaken}
+use Rattle.targets.specs.Targets.{startsAt, offsetAt, isMissing, outside, partEnd, isTaken, firstOf, firstTaken}
 use Rattle.cursor.specs.declared.Node.{Node}
 use Rattle.file.specs.Asking.{Result, good, bad, ask, counts}
 use Rattle.file.specs.Hidden.{isHidden}
@@ -241,5 +241,5 @@ cases : (first (0x7F ∷ []) ≡ ok 127 1)
     × (unicode.toUtf16 (0x41 ∷ 0xC1 ∷ 0x81 ∷ []) ≡ bad 26 1)
     × (unicode.toUtf16 (0xED ∷ 0xA0 ∷ 0x80 ∷ []) ≡ bad 26 0)
     × (unicode.toUtf16 (0xF4 ∷ 0x90 ∷ 0x80 ∷ 0x80 ∷ []) ≡ bad 26 0)
-unfolding run trace rowsOf _>>=_ _>>_ if_then_else_ place skip check turns many times next digits number block manufacturer guid formatOf four opening edition fileLength entry typesTable extent header field contents itemFrame universal declaredFormat version rowsFor item nextItem metaItems metadata headerLength head value identifier unpacker entries unpackers resource nodePlace uriPlace target reference rest front folder node tree.tree startsAt offsetAt isMissing logged outside partEnd firstTaken detachedAt followRow follow tree.detached reading readTree readFile first answer reads leaves outcome counts nodeTable itemTable ask promises.resource isHidden find.sameBytes find.matches find.among own.numbered own.those own.own find.look find.rowsUp find.path find.orElse find.firstAnswer find.nearest find.find find.findOwn resolve.rowStarting resolve.resourceOf resolve.reached resolve.chain resolve.resolveRow resolve.resolve resolve.part resolve.fitting resolve.copyInto row.isField row.isBinary row.isDescription description.value description.aByte description.guid description.identifier description.resource description.numbers description.lists description.table description.description count.dataRead count.isRead count.isReadable count.countAt count.countOf count.countIn count.countRow count.countFor mobile.all mobile.isEmpty mobile.roleOfType mobile.roleOfNumber mobile.roleOfRow mobile.roleOfRows mobile.roleOf mobile.rowsFrom mobile.childrenThat mobile.eachTyped mobile.rightEdition mobile.isFile mobile.filesOnly mobile.isPlain mobile.plainReferences mobile.isUnpacked mobile.noUnpackers mobile.oneTune mobile.isNeed mobile.areNeeds mobile.tuneNeeds mobile.isShort mobile.fieldSize mobile.isSmall mobile.smallFields mobile.check mobile.verdict mobile.mobile text.hexDigit text.plain text.escaped text.escapedPart text.tabbed text.number text.versionText sheet.firstLine sheet.nodeLine sheet.label sheet.textOf sheet.itemLine sheet.visibleLine sheet.nodeLines sheet.itemLines sheet.linesOf sheet.sheetOf sheet.fitting sheet.write sheet.counted sheet.kept room.padded text.shownByte text.shown text.shownOr text.unicodeText unicode.units unicode.bytesOf unicode.utf16 unicode.bytes16 unicode.utf8 unicode.paired unicode.ofUnits unicode.first16 unicode.tails unicode.first8 unicode.before unicode.next unicode.chars unicode.bytesAll unicode.unmark unicode.written unicode.converted unicode.toUtf8 unicode.toUtf16 places nodesRead decimal.digits decimal.decimal text.hexDigits text.hexed
+unfolding run trace rowsOf _>>=_ _>>_ if_then_else_ place skip check turns many times next digits number block manufacturer guid formatOf four opening edition fileLength entry typesTable extent header field contents itemFrame universal declaredFormat version rowsFor item nextItem metaItems metadata headerLength head value identifier unpacker entries unpackers resource nodePlace uriPlace target reference rest front folder node tree.tree startsAt offsetAt isMissing logged outside partEnd isTaken firstOf firstTaken detachedAt followRow follow tree.detached reading readTree readFile first answer reads leaves outcome counts nodeTable itemTable ask promises.resource isHidden find.sameBytes find.matches find.among own.numbered own.those own.own find.look find.rowsUp find.path find.orElse find.firstAnswer find.nearest find.find find.findOwn resolve.rowStarting resolve.resourceOf resolve.reached resolve.chain resolve.resolveRow resolve.resolve resolve.part resolve.fitting resolve.copyInto row.isField row.isBinary row.isDescription description.value description.aByte description.guid description.identifier description.resource description.numbers description.lists description.table description.description count.dataRead count.isRead count.isReadable count.countAt count.countOf count.countIn count.countRow count.countFor mobile.all mobile.isEmpty mobile.roleOfType mobile.roleOfNumber mobile.roleOfRow mobile.roleOfRows mobile.roleOf mobile.rowsFrom mobile.childrenThat mobile.eachTyped mobile.rightEdition mobile.isFile mobile.filesOnly mobile.isPlain mobile.plainReferences mobile.isUnpacked mobile.noUnpackers mobile.oneTune mobile.isNeed mobile.areNeeds mobile.tuneNeeds mobile.isShort mobile.fieldSize mobile.isSmall mobile.smallFields mobile.check mobile.verdict mobile.mobile text.hexDigit text.plain text.escaped text.escapedPart text.tabbed text.number text.versionText sheet.firstLine sheet.nodeLine sheet.label sheet.textOf sheet.itemLine sheet.visibleLine sheet.nodeLines sheet.itemLines sheet.linesOf sheet.sheetOf sheet.fitting sheet.write sheet.counted sheet.kept room.padded text.shownByte text.shown text.shownOr text.unicodeText unicode.units unicode.bytesOf unicode.utf16 unicode.bytes16 unicode.utf8 unicode.paired unicode.ofUnits unicode.first16 unicode.tails unicode.first8 unicode.before unicode.next unicode.chars unicode.bytesAll unicode.unmark unicode.written unicode.converted unicode.toUtf8 unicode.toUtf16 places nodesRead decimal.digits decimal.decimal text.hexDigits text.hexed
 cases = (refl, refl, refl, refl, refl, refl, refl, refl, refl, refl, refl, refl, refl, refl, refl, refl, refl, refl, refl, refl, refl, refl, refl, refl, refl, refl, refl, refl, refl, refl, refl, refl, refl, refl, refl, refl, refl, refl, refl, refl, refl, refl, refl, refl, refl, refl, refl, refl, refl, refl, refl, refl, refl, refl, refl, refl, refl, refl, refl, refl, refl, refl, refl, refl, refl, refl, refl, refl, refl, refl, refl, refl, refl, refl)

@@ -32,8 +32,7 @@ module _ (r : Node) (k hops : ℕ) (two three : Result Resource) where
     pub reached-three : r .reference ≡ 3 → reached r k hops two three ≡ three
     unfolding reached
     reached-three e =
-        let n : r .reference ≡ 1 → ⊥ = λ z. omega arith in
-        let m : r .reference ≡ 2 → ⊥ = λ z. omega arith in
+        let n : r .reference ≡ 1 → ⊥ = λ z. omega arith in let m : r .reference ≡ 2 → ⊥ = λ z. omega arith in
         simp (eq-eqb _ _ file, ne-eqb _ _ n, ne-eqb _ _ m, eq-eqb _ _ e)
 
     pub reached-uri : (r .reference ≡ 1 → ⊥) → (r .reference ≡ 2 → ⊥) → (r .reference ≡ 3 → ⊥) → reached r k hops two three ≡ bad 20 0

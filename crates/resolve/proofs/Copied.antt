@@ -76,8 +76,7 @@ module _ (f : List ℕ) (nsize isize row : ℕ) (out : List ℕ) where
       copy-good l {v = v} a b c n d =
           let inside : place .0 + size ≤ length f = part-inside f nsize isize row x y z in
           let long : place .0 + size - place .0 ≡ size = omega arith in
-          let ws : List ℕ = take size (drop (place .0) f) in
-          let behind = length-drop (place .0) f in
+          let ws : List ℕ = take size (drop (place .0) f) in let behind = length-drop (place .0) f in
           let as-long : length ws ≡ size = length-take-le size (drop (place .0) f) (omega arith) in
           let front : v ≡ ws ++ drop (length ws) out = c ∙ ap (λ k. sets out 0 (take k (drop (place .0) f))) long ∙ sets-front out ws (omega arith) in
           copies (copy-is ∙ ap (λ r. fitting room (told r)) z ∙ simp (le-leb size room l)) (a ∙ ap (keptNodes nsize o) (sym y ∙ ap told z))

@@ -5,12 +5,12 @@ use mathlib.Core.List.{List, [], _∷_}
 use Prim.Native.Nat.{ℕ, zero, suc, _+_}
 use lib.Dec.{eqb, ltb, leb}
 use lib.ListN.{length}
-use Rattle.cursor.specs.Refusals.{noRoom}
+use Rattle.cursor.specs.Refusals.{Among}
+use Rattle.room.specs.Room.{noRoom, Result, good, bad}
 use Rattle.cursor.specs.declared.Node.{Node}
 use Rattle.cursor.specs.declared.Item.{Item}
 use Rattle.header.specs.Header.{Header}
-use Rattle.room.specs.Room.{Result, good, bad, Among}
-use Rattle.room.proofs.Listed.{allowed-front, among-if}
+use Rattle.cursor.proofs.Listed.{allowed-front, among-if}
 use Rattle.resolve.specs.Resolve.{Resource, resourceOf, reached, chain, resolveRow, resolve, fitting, copyInto, refusals, copyRefusals}
 
 reached-listed : (r : Node) (k hops : ℕ) (two three : Result Resource) → Among refusals two → Among refusals three → Among refusals (reached r k hops two three)

@@ -5,11 +5,11 @@ use mathlib.Core.List.{List, [], _∷_, _++_}
 use Prim.Native.Nat.{ℕ, zero, suc, _+_}
 use lib.Dec.{ltb, leb, eqb}
 use lib.ListN.{length, take, drop}
-use Rattle.cursor.specs.Refusals.{noSuchRow, endsAtFolder, endsAtUri, tooManyHops, noRoom}
+use Rattle.cursor.specs.Refusals.{noSuchRow, endsAtFolder, endsAtUri, tooManyHops}
+use Rattle.room.specs.Room.{noRoom, padded}
 use Rattle.cursor.specs.declared.Node.{Node}
 use Rattle.rows.specs.Rows.{nodeAt}
 unfoldable pub use Rattle.rows.specs.Rows.{rowStarting}
-use Rattle.room.specs.Room.{padded}
 use Rattle.file.specs.Asking.{Asks, Result, good, bad, answered}
 
 -- place and length of the resource, the row whose unpackers apply, the number of references followed

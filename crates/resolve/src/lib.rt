@@ -2,6 +2,7 @@
 ghost use mathlib.Core.Path.{_≡_};
 ghost use Prim.Native.Nat.{_≤_, _<_, _*_, _+_};
 ghost use lib.ListN.{length};
+ghost use Rattle.room.specs.Moments.{old, new};
 ghost use Rattle.rows.specs.Rows.{nodeWidth, nodesIn, Rising};
 ghost use Rattle.file.specs.Asking.{answered, nodesLeft, itemsLeft};
 ghost use Rattle.resolve.specs.Resolve.{chain, resolveRow, resolve, copyInto, copyLeft};
@@ -21,7 +22,7 @@ pub enum Resolved {
 // Follows references from row k on, where `hops` were followed and `left` more may be. The first `tree` of the rows are the tree's.
 fn follow(nodes: &[u64], tree: usize, count: usize, left: u64, k: usize, hops: u64) -> Resolved
     requires { ⌜ (count * nodeWidth ≤ length (now nodes)) × (k < count) × (hops + left ≤ 4) × Linked (nodesIn count (now nodes)) × (tree ≤ count) × Rising (nodesIn tree (now nodes)) ⌝ }
-    ensures { λ r. ⌜ told r ≡ chain left (nodesIn count (now (nodes .entry))) k hops ⌝ }
+    ensures { λ r. ⌜ told r ≡ chain left (nodesIn count (old nodes)) k hops ⌝ }
 {
     let row = rows::node_at(nodes, k);
     if row.contained != 0 {
@@ -50,7 +51,7 @@ fn follow(nodes: &[u64], tree: usize, count: usize, left: u64, k: usize, hops: u
 // The answer for a row of an accepted file.
 fn resolve_row(nodes: &[u64], tree: usize, count: usize, row: usize) -> Resolved
     requires { ⌜ (count * nodeWidth ≤ length (now nodes)) × Linked (nodesIn count (now nodes)) × (tree ≤ count) × Rising (nodesIn tree (now nodes)) ⌝ }
-    ensures { λ r. ⌜ told r ≡ resolveRow row (nodesIn count (now (nodes .entry))) ⌝ }
+    ensures { λ r. ⌜ told r ≡ resolveRow row (nodesIn count (old nodes)) ⌝ }
 {
     if count <= row {
         return Resolved::Refused(cursor::NO_SUCH_ROW, 0);
@@ -60,9 +61,9 @@ fn resolve_row(nodes: &[u64], tree: usize, count: usize, row: usize) -> Resolved
 
 // The third question: where the resource of a row is.
 pub fn resolve(file: &[u8], nodes: &mut [u64], items: &mut [u64], row: usize) -> Resolved
-    ensures answer { λ r. ⌜ told r ≡ answered (now (nodes .entry)) (now (items .entry)) (now (file .entry)) (resolve row) ⌝ }
-    ensures nodes { λ _. ⌜ now (nodes .exit) ≡ nodesLeft (now (nodes .entry)) (now (items .entry)) (now (file .entry)) (resolve row) ⌝ }
-    ensures items { λ _. ⌜ now (items .exit) ≡ itemsLeft (now (nodes .entry)) (now (items .entry)) (now (file .entry)) (resolve row) ⌝ }
+    ensures answer { λ r. ⌜ told r ≡ answered (old nodes) (old items) (old file) (resolve row) ⌝ }
+    ensures nodes { λ _. ⌜ new nodes ≡ nodesLeft (old nodes) (old items) (old file) (resolve row) ⌝ }
+    ensures items { λ _. ⌜ new items ≡ itemsLeft (old nodes) (old items) (old file) (resolve row) ⌝ }
 {
     match file::read_file(file, nodes, items) {
         Read::Refused(n, p) => Resolved::Refused(n, p.0),
@@ -78,7 +79,7 @@ pub fn resolve(file: &[u8], nodes: &mut [u64], items: &mut [u64], row: usize) ->
 
 // The resource of a row itself, as that part of the file; an empty part on a refusal.
 pub fn resource<'a>(file: &'a [u8], nodes: &mut [u64], items: &mut [u64], row: usize) -> &'a [u8]
-    ensures { λ r. ⌜ Given row (now (nodes .entry)) (now (items .entry)) (now (file .entry)) (now r) (now (nodes .exit)) (now (items .exit)) ⌝ }
+    ensures { λ r. ⌜ Given row (old nodes) (old items) (old file) (now r) (new nodes) (new items) ⌝ }
 {
     match resolve(file, nodes, items, row) {
         Resolved::Refused(_, _) => &file[0..0],
@@ -97,10 +98,10 @@ pub fn copy_resource(
     row: usize,
     out: &mut [u8],
 ) -> Resolved
-    ensures answer { λ r. ⌜ told r ≡ answered (now (nodes .entry)) (now (items .entry)) (now (file .entry)) (copyInto row (length (now (out .entry)))) ⌝ }
-    ensures nodes { λ _. ⌜ now (nodes .exit) ≡ nodesLeft (now (nodes .entry)) (now (items .entry)) (now (file .entry)) (copyInto row (length (now (out .entry)))) ⌝ }
-    ensures items { λ _. ⌜ now (items .exit) ≡ itemsLeft (now (nodes .entry)) (now (items .entry)) (now (file .entry)) (copyInto row (length (now (out .entry)))) ⌝ }
-    ensures out { λ _. ⌜ now (out .exit) ≡ copyLeft (now (out .entry)) (now (nodes .entry)) (now (items .entry)) (now (file .entry)) row ⌝ }
+    ensures answer { λ r. ⌜ told r ≡ answered (old nodes) (old items) (old file) (copyInto row (length (old out))) ⌝ }
+    ensures nodes { λ _. ⌜ new nodes ≡ nodesLeft (old nodes) (old items) (old file) (copyInto row (length (old out))) ⌝ }
+    ensures items { λ _. ⌜ new items ≡ itemsLeft (old nodes) (old items) (old file) (copyInto row (length (old out))) ⌝ }
+    ensures out { λ _. ⌜ new out ≡ copyLeft (old out) (old nodes) (old items) (old file) row ⌝ }
 {
     match resolve(file, nodes, items, row) {
         Resolved::Refused(n, p) => {

@@ -3,11 +3,10 @@
 use mathlib.Core.Path.{_≡_, refl, sym, ap, ap₂, _∙_}
 use mathlib.Core.List.{List, [], _∷_, _++_, append-assoc, append-nil}
 use Prim.Native.Nat.{ℕ, _+_, _-_, _≤_, _<_, min}
-use native.Mathlib.Decide.{decLt}
 use native.Mathlib.Omega.{arith}
 use lib.ListN.{length, length-append, length-take, length-drop, replicate, take, drop}
 use lib.Seq.{sets, length-sets}
-use Rattle.cursor.specs.Vlq.{part, vlq, joined, sized}
+use Rattle.room.specs.Parts.{part, joined}
 use Rattle.room.proofs.Sets.{sets-append, sets-front, padded-behind}
 use Rattle.room.specs.Room.{padded}
 use Rattle.room.specs.Counts.{Counts, tooMany}
@@ -40,9 +39,7 @@ lent-part f from size {end} e = let k : end - from ≡ size = omega arith in rw 
 pub counts-then : {o o₁ o₂ : List ℕ} {s s₁ s₂ : ℕ} {a b : List ℕ} → Counts o o₁ s a s₁ → Counts o₁ o₂ s₁ b s₂ → Counts o o₂ s (a ++ b) s₂
 counts-then {o} {o₁} {o₂} {s} {s₁} {s₂} {a} {b} p q =
     let y = length-append a b in
-    let z = p .long in
-    let w = q .after in
-    let v = p .after in
+    let z = p .long in let w = q .after in let v = p .after in
     record {
       after = omega arith;
       fits = λ l m.
@@ -57,29 +54,6 @@ counts-as e p = rw e at p
 -- two fields
 pub put-two : {o o₁ o₂ : List ℕ} {s s₁ s₂ : ℕ} (a b : List ℕ) → Counts o o₁ s a s₁ → Counts o₁ o₂ s₁ b s₂ → Counts o o₂ s (joined (a ∷ b ∷ [])) s₂
 put-two a b p q = counts-as (ap (λ v. a ++ v) (sym (append-nil b))) (counts-then p q)
-
--- a block of known length
-pub put-block : {o o₁ o₂ : List ℕ} {s s₁ s₂ : ℕ} (body : List ℕ) (n : ℕ) → length body ≡ n → Counts o o₁ s (vlq n) s₁ → Counts o₁ o₂ s₁ body s₂ → Counts o o₂ s (sized body) s₂
-unfolding sized
-put-block body n e p q = put-two (vlq (length body)) body (counts-as (ap vlq (sym e)) p) q
-
--- a block whose length was counted: a count that stopped makes the whole stop
-pub put-counted : {o o₁ o₂ : List ℕ} {n s s₁ s₂ : ℕ} (body : List ℕ) → n ≡ min (length body) tooMany → Counts o o₁ s (vlq n) s₁ → Counts o₁
-    o₂ s₁ body s₂ → Counts o o₂ s (sized body) s₂
-unfolding sized
-put-counted {n = n} body e p q = elim (decLt (length body) tooMany) [
-  | yes l ↦ put-block body n (omega arith) p q
-  | no l ↦
-      let y = length-append (vlq (length body)) (body ++ []) in
-      let z = length-append body [] in
-      let a = q .after in
-      let b = p .after in
-      record { after = omega arith; fits = λ v w. absurd (omega arith); long = q .long ∙ p .long }
-]
-
--- or measured by its own writer
-pub put-sized : {z z′ o o₁ o₂ : List ℕ} {n s s₁ s₂ : ℕ} (body : List ℕ) → Counts z z′ 0 body n → Counts o o₁ s (vlq n) s₁ → Counts o₁ o₂ s₁ body s₂ → Counts o o₂ s (sized body) s₂
-put-sized body m p q = let e = m .after in put-counted body (omega arith) p q
 
 -- ---- a loop: of the whole, `rest` is still to be put
 
@@ -109,8 +83,7 @@ going-length g = g .puts .long
 module _ {o o′ w : List ℕ} {r : ℕ} (p : Counts o o′ 0 w r) where
   pub wrote-front : r ≤ length o → length o < tooMany → (r ≡ length w) × (length w ≤ length o) × (o′ ≡ w ++ drop (length w) o)
   wrote-front l m =
-      let a = p .after in
-      let e : length w ≤ length o = omega arith in
+      let a = p .after in let e : length w ≤ length o = omega arith in
       (omega arith, e, p .fits (omega arith) l ∙ sets-front o w e)
 
   pub wrote-all : r ≤ length o → length o < tooMany → {o″ : List ℕ} → o″ ≡ take r o′ ++ replicate (length o′ - r) 0 → (length w ≤ length o) ×

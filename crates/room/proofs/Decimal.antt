@@ -45,8 +45,7 @@ at-most : (k n : ℕ) → length (digits k n) ≤ k
 unfolding digits
 at-most zero n = omega arith
 at-most (suc k) n =
-    let a = at-most k (n / 10) in
-    let b = shorter (ltb n 10) (digits k (n / 10)) in
+    let a = at-most k (n / 10) in let b = shorter (ltb n 10) (digits k (n / 10)) in
     let c = length-append (cond (ltb n 10) [] (digits k (n / 10))) ((0x30 + n % 10) ∷ []) in
     omega arith
 
@@ -70,8 +69,7 @@ tens-most (suc k) n = omega (arith, tens-most k (n / 10))
 passed : (k n : ℕ) → n < 2 ^ 64 → 0 < tens k n → length (decimal n) ≡ length (decimal (tens k n)) + k
 passed zero n h l = omega arith
 passed (suc k) n h l =
-    let a = tens-most k (n / 10) in
-    let b = passed k (n / 10) (omega arith) l in
+    let a = tens-most k (n / 10) in let b = passed k (n / 10) (omega arith) l in
     let c = ap length (decimal-more n (omega arith) h) ∙ length-append (decimal (n / 10)) _ in
     omega arith
 
@@ -86,11 +84,8 @@ counted-start n = record { small = omega arith; all = omega arith }
 module _ {n size rest : ℕ} (c : Counted n size rest) where
   pub counted-on : (k : ℕ) → n < 2 ^ 64 → 0 < tens k rest → {rest′ : ℕ} → rest′ ≡ tens k rest → Counted n (size + k) rest′
   counted-on k h l e =
-      let s = c .small in
-      let a = c .all in
-      let b = passed k rest (omega arith) l in
-      let d = ap (λ v. length (decimal v)) e in
-      let t = tens-most k rest in
+      let s = c .small in let a = c .all in let b = passed k rest (omega arith) l in
+      let d = ap (λ v. length (decimal v)) e in let t = tens-most k rest in
       record { small = omega arith; all = omega arith }
 
   pub counted-end : rest < 10 → size ≡ length (decimal n)
@@ -124,9 +119,7 @@ module _ {o : List ℕ} {from n : ℕ} where
   module _ {o′ : List ℕ} {at rest : ℕ} (s : Stored o from n o′ at rest) where
     pub stored-in : (from < at) × (at ≤ from + length (decimal n)) × (length o′ ≡ length o)
     stored-in =
-        let e = s .place in
-        let a = length-append (decimal rest) (s .after) in
-        let b = ap length (s .whole) in
+        let e = s .place in let a = length-append (decimal rest) (s .after) in let b = ap length (s .whole) in
         (let d = some-digit rest in omega arith, omega arith, ap length (s .stored) ∙ length-sets o at (s .after))
 
     pub stored-on : n < 2 ^ 64 → 10 ≤ rest → {d : ℕ} → d ≡ 0x30 + rest % 10 → Stored o from n (set o′ (at - 1) d) (at - 1) (rest / 10)
@@ -145,7 +138,5 @@ module _ {o : List ℕ} {from n : ℕ} where
 
     pub stored-end : rest < 10 → set o′ from (0x30 + rest) ≡ sets o from (decimal n)
     stored-end l =
-        let e = decimal-one rest l in
-        let a = ap length e in
-        let b = s .place in
+        let e = decimal-one rest l in let a = ap length e in let b = s .place in
         set-front o (0x30 + rest) (s .after) (omega arith) (s .stored) ∙ ap (sets o from) (ap (λ (v : List ℕ). v ++ s .after) e ∙ s .whole)

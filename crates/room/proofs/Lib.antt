@@ -1,7 +1,6 @@
 pub mod Sets
 pub mod Storing
 pub mod Zeros
+pub mod Lies
 pub mod Counting
 pub mod Decimal
-pub mod Numbers
-pub mod Listed

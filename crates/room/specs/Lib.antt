@@ -1,3 +1,5 @@
+pub mod Moments
+pub mod Parts
 pub mod Counts
 pub mod Room
 pub mod Told

@@ -2,25 +2,18 @@
 -- Assumes nothing.
 use mathlib.Core.Bool.{cond}
 use mathlib.Core.List.{List, _++_}
-use Prim.Native.Nat.{ℕ, _-_, _≤_}
-use lib.Dec.{T, leb}
+use Prim.Native.Nat.{ℕ, _-_}
+use lib.Dec.{leb}
 use lib.ListN.{length, replicate}
-use Rattle.cursor.specs.Refusals.{noRoom, inFile, isOneOf, isAllowed}
 
 -- an answer, or a refusal's number and place
 pub data Result (A : Type 0) : Type 0 where
   good : A → Result A
   bad : ℕ → ℕ → Result A
 
--- its refusal, if it is one, is among these
-abbrev pub Among : {A : Type 0} → List ℕ → Result A → Type 0
-Among ns (good a) = Unit {0}
-Among ns (bad n p) = T (isAllowed ns n p)
-
--- its refusal, if it is one that names a place of a file, names one of a file of `size` bytes
-abbrev pub PlacedIn : {A : Type 0} → (size : ℕ) → Result A → Type 0
-PlacedIn size (good a) = Unit {0}
-PlacedIn size (bad n p) = T (isOneOf n inFile) → p ≤ size
+-- the refusal of a call whose room does not suffice; all other numbers are the format's
+abbrev pub noRoom : ℕ
+noRoom = 22
 
 -- what is written, and then zeros to the room's end
 unfoldable pub padded : ℕ → List ℕ → List ℕ

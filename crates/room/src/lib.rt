@@ -1,10 +1,11 @@
 // Lent room: tables of words and buffers of bytes. Cleared, and filled with bytes put one after the other.
 ghost use mathlib.Core.Path.{_≡_};
 ghost use mathlib.Core.List.{_∷_, [], _++_};
-ghost use Prim.Native.Nat.{ℕ, _+_, _-_, _^_, _≤_, _<_, min};
+ghost use Prim.Native.Nat.{_+_, _-_, _≤_, min};
 ghost use lib.ListN.{length, replicate, take};
 ghost use lib.Seq.{sets};
-ghost use Rattle.cursor.specs.Vlq.{part, least, inBytes, vlq};
+ghost use Rattle.room.specs.Moments.{old, new};
+ghost use Rattle.room.specs.Parts.{part};
 ghost use Rattle.room.specs.Counts.{Counts, tooMany};
 ghost use Rattle.room.specs.Decimal.{decimal};
 
@@ -16,7 +17,7 @@ pub enum Written {
 
 // Sets every word of the table to 0.
 pub fn clear(table: &mut [u64])
-    ensures { λ _. ⌜ now (table .exit) ≡ replicate (length (now (table .entry))) 0 ⌝ }
+    ensures { λ _. ⌜ new table ≡ replicate (length (old table)) 0 ⌝ }
 {
     let mut i: usize = 0;
     while i < table.len() {
@@ -27,7 +28,7 @@ pub fn clear(table: &mut [u64])
 
 // Sets every word of the table from `from` on to 0.
 pub fn clear_from(table: &mut [u64], from: usize)
-    ensures { λ _. ⌜ now (table .exit) ≡ take from (now (table .entry)) ++ replicate (length (now (table .entry)) - from) 0 ⌝ }
+    ensures { λ _. ⌜ new table ≡ take from (old table) ++ replicate (length (old table) - from) 0 ⌝ }
 {
     if from < table.len() {
         clear(&mut table[from..]);
@@ -36,7 +37,7 @@ pub fn clear_from(table: &mut [u64], from: usize)
 
 // Sets every byte to 0.
 pub fn clear_bytes(bytes: &mut [u8])
-    ensures { λ _. ⌜ now (bytes .exit) ≡ replicate (length (now (bytes .entry))) 0 ⌝ }
+    ensures { λ _. ⌜ new bytes ≡ replicate (length (old bytes)) 0 ⌝ }
 {
     let mut at: usize = 0;
     while at < bytes.len() {
@@ -47,7 +48,7 @@ pub fn clear_bytes(bytes: &mut [u8])
 
 // Sets every byte from `from` on to 0.
 pub fn clear_bytes_from(bytes: &mut [u8], from: usize)
-    ensures { λ _. ⌜ now (bytes .exit) ≡ take from (now (bytes .entry)) ++ replicate (length (now (bytes .entry)) - from) 0 ⌝ }
+    ensures { λ _. ⌜ new bytes ≡ take from (old bytes) ++ replicate (length (old bytes) - from) 0 ⌝ }
 {
     if from < bytes.len() {
         clear_bytes(&mut bytes[from..]);
@@ -57,7 +58,7 @@ pub fn clear_bytes_from(bytes: &mut [u8], from: usize)
 // Stores the words from `at` on.
 pub fn store(table: &mut [u64], at: usize, words: &[u64])
     requires { ⌜ at + length (now words) ≤ length (now table) ⌝ }
-    ensures { λ _. ⌜ now (table .exit) ≡ sets (now (table .entry)) at (now (words .entry)) ⌝ }
+    ensures { λ _. ⌜ new table ≡ sets (old table) at (old words) ⌝ }
 {
     let mut i = 0;
     while i < words.len() {
@@ -69,7 +70,7 @@ pub fn store(table: &mut [u64], at: usize, words: &[u64])
 // Stores the bytes from `at` on.
 pub fn store_bytes(out: &mut [u8], at: usize, bytes: &[u8])
     requires { ⌜ length (now bytes) ≤ length (now out) - at ⌝ }
-    ensures { λ _. ⌜ now (out .exit) ≡ sets (now (out .entry)) at (now (bytes .entry)) ⌝ }
+    ensures { λ _. ⌜ new out ≡ sets (old out) at (old bytes) ⌝ }
 {
     let mut i = 0;
     while i < bytes.len() {
@@ -101,7 +102,7 @@ pub fn on(to: usize, size: usize) -> usize
 // Puts one byte. A writer is given the place of its first byte and answers the place after its last one, also where the buffer has no room for all of
 // its bytes: so the same function measures.
 pub fn put_byte(out: &mut [u8], to: usize, byte: u8) -> usize
-    ensures { λ r. ⌜ Counts (now (out .entry)) (now (out .exit)) to (byte ∷ []) r ⌝ }
+    ensures { λ r. ⌜ Counts (old out) (new out) to (byte ∷ []) r ⌝ }
 {
     if to < out.len() {
         out[to] = byte;
@@ -112,7 +113,7 @@ pub fn put_byte(out: &mut [u8], to: usize, byte: u8) -> usize
 
 // Puts bytes. They are stored only where all of them fit, so to measure them costs nothing.
 pub fn put_bytes(out: &mut [u8], to: usize, bytes: &[u8]) -> usize
-    ensures { λ r. ⌜ Counts (now (out .entry)) (now (out .exit)) to (now (bytes .entry)) r ⌝ }
+    ensures { λ r. ⌜ Counts (old out) (new out) to (old bytes) r ⌝ }
 {
     let size = bytes.len();
     if room_at(out.len(), to) < size {
@@ -122,10 +123,10 @@ pub fn put_bytes(out: &mut [u8], to: usize, bytes: &[u8]) -> usize
     to + size
 }
 
-// Puts `size` bytes of a file.
+// Puts a part of other bytes: `size` of them, from `from` on.
 pub fn put_part(out: &mut [u8], to: usize, file: &[u8], from: usize, size: usize) -> usize
     requires { ⌜ from + size ≤ length (now file) ⌝ }
-    ensures { λ r. ⌜ Counts (now (out .entry)) (now (out .exit)) to (part (now (file .entry)) from size) r ⌝ }
+    ensures { λ r. ⌜ Counts (old out) (new out) to (part (old file) from size) r ⌝ }
 {
     let end = from + size;
     put_bytes(out, to, &file[from..end])
@@ -156,7 +157,7 @@ fn digit_count(n: u64) -> usize
 // Stores the decimal digits from `from` up to `end`, the last one first.
 fn store_digits(out: &mut [u8], from: usize, end: usize, n: u64)
     requires { ⌜ (end ≡ from + length (decimal n)) × (end ≤ length (now out)) ⌝ }
-    ensures { λ _. ⌜ now (out .exit) ≡ sets (now (out .entry)) from (decimal n) ⌝ }
+    ensures { λ _. ⌜ new out ≡ sets (old out) from (decimal n) ⌝ }
 {
     let mut at = end;
     let mut rest = n;
@@ -170,7 +171,7 @@ fn store_digits(out: &mut [u8], from: usize, end: usize, n: u64)
 
 // Puts a decimal number. Most have one digit, which is put straight away.
 pub fn put_decimal(out: &mut [u8], to: usize, n: u64) -> usize
-    ensures { λ r. ⌜ Counts (now (out .entry)) (now (out .exit)) to (decimal n) r ⌝ }
+    ensures { λ r. ⌜ Counts (old out) (new out) to (decimal n) r ⌝ }
 {
     if n < 10 {
         return put_byte(out, to, 0x30 + n as u8);
@@ -182,70 +183,4 @@ pub fn put_decimal(out: &mut [u8], to: usize, n: u64) -> usize
     let end = to + size;
     store_digits(out, to, end, n);
     end
-}
-
-// 128 to the power of k.
-fn power(k: usize) -> u64
-    requires { ⌜ k < 5 ⌝ }
-    ensures { λ r. ⌜ r ≡ 128 ^ k ⌝ }
-{
-    let mut r: u64 = 1;
-    let mut i = 0;
-    while i < k {
-        r = r * 128;
-        i = i + 1;
-    }
-    r
-}
-
-// The least count of bytes that holds a number, which may depend on that count: it is `one` where it has one byte, and so on; 4 where no less will do.
-pub fn least_bytes(one: usize, two: usize, three: usize) -> usize
-    ensures { λ r. ⌜ ((n : ℕ → ℕ) → one ≡ n 1 → two ≡ n 2 → three ≡ n 3 → r ≡ least n) ⌝ }
-{
-    if one < 128 {
-        return 1;
-    }
-    if two < 16384 {
-        return 2;
-    }
-    if three < 2097152 {
-        return 3;
-    }
-    4
-}
-
-// The number of bytes of n in its shortest form; 4 where it has none.
-pub fn vlq_size(n: u64) -> usize
-    ensures { λ r. ⌜ r ≡ least (λ _. n) ⌝ }
-{
-    least_bytes(n as usize, n as usize, n as usize)
-}
-
-// Puts n in k bytes.
-pub fn put_in_bytes(out: &mut [u8], to: usize, n: u64, k: usize) -> usize
-    requires { ⌜ k ≤ 4 ⌝ }
-    ensures { λ r. ⌜ Counts (now (out .entry)) (now (out .exit)) to (inBytes k n) r ⌝ }
-{
-    let mut next = to;
-    let mut left = k;
-    while 0 < left {
-        left = left - 1;
-        let digit = (n / power(left) % 128) as u8;
-        if 0 < left {
-            next = put_byte(out, next, 128 + digit);
-        } else {
-            next = put_byte(out, next, digit);
-        }
-    }
-    next
-}
-
-// Puts n in its shortest form.
-pub fn put_number(out: &mut [u8], to: usize, n: u64) -> usize
-    ensures { λ r. ⌜ Counts (now (out .entry)) (now (out .exit)) to (vlq n) r ⌝ }
-{
-    if n < 128 {
-        return put_byte(out, to, n as u8);
-    }
-    put_in_bytes(out, to, n, vlq_size(n))
 }

@@ -40,8 +40,7 @@ module _ (ws : List ℕ) (tree count place : ℕ) (few : tree ≤ count) where
   module _ (h : Rising (nodesIn tree ws)) where
     later-start : (i j : ℕ) → i < j → j < tree → nodeFrom ws (i * nodeWidth) .start < nodeFrom ws (j * nodeWidth) .start
     later-start i j l m =
-        let c = nodes-in-length ws tree in
-        let g = h i j l (omega arith) in
+        let c = nodes-in-length ws tree in let g = h i j l (omega arith) in
         omega (arith, ap (λ (r : Node). r .start) (node-at ws tree i (omega arith)), ap (λ (r : Node). r .start) (node-at ws tree j m))
 
     module _ (k : ℕ) (l : k < tree) {r : Node} (is : r ≡ nodeFrom ws (k * nodeWidth)) where

@@ -3,6 +3,7 @@ ghost use mathlib.Core.Path.{_≡_};
 ghost use Prim.Native.Nat.{_≤_, _*_, _+_};
 ghost use lib.ListN.{length, replicate};
 ghost use lib.Seq.{sets};
+ghost use Rattle.room.specs.Moments.{old, new};
 ghost use Rattle.rows.specs.Rows.{nodeWidth, itemWidth, nodeWords, itemWords, nodeFrom, itemFrom, nodesIn, rowStarting, Rising};
 use cursor::FilePlace;
 use cursor::Item;
@@ -11,7 +12,7 @@ use cursor::Node;
 // Stores a node row behind the `made` rows that are there.
 pub fn put_node(nodes: &mut [u64], made: usize, row: Node)
     requires { ⌜ made * nodeWidth + nodeWidth ≤ length (now nodes) ⌝ }
-    ensures { λ _. ⌜ now (nodes .exit) ≡ sets (now (nodes .entry)) (made * nodeWidth) (nodeWords row) ⌝ }
+    ensures { λ _. ⌜ new nodes ≡ sets (old nodes) (made * nodeWidth) (nodeWords row) ⌝ }
 {
     let words = [
         row.start,
@@ -34,7 +35,7 @@ pub fn put_node(nodes: &mut [u64], made: usize, row: Node)
 // Stores an item row behind the `made` rows that are there.
 pub fn put_item(items: &mut [u64], made: usize, row: Item)
     requires { ⌜ made * itemWidth + itemWidth ≤ length (now items) ⌝ }
-    ensures { λ _. ⌜ now (items .exit) ≡ sets (now (items .entry)) (made * itemWidth) (itemWords row) ⌝ }
+    ensures { λ _. ⌜ new items ≡ sets (old items) (made * itemWidth) (itemWords row) ⌝ }
 {
     let words = [
         row.node,
@@ -54,7 +55,7 @@ pub fn put_item(items: &mut [u64], made: usize, row: Item)
 // Row i of the node table.
 pub fn node_at(nodes: &[u64], i: usize) -> Node
     requires { ⌜ i * nodeWidth + nodeWidth ≤ length (now nodes) ⌝ }
-    ensures { λ r. ⌜ r ≡ nodeFrom (now (nodes .entry)) (i * nodeWidth) ⌝ }
+    ensures { λ r. ⌜ r ≡ nodeFrom (old nodes) (i * nodeWidth) ⌝ }
 {
     let k = i * cursor::NODE_WIDTH;
     Node {
@@ -77,7 +78,7 @@ pub fn node_at(nodes: &[u64], i: usize) -> Node
 // Row i of the item table.
 pub fn item_at(items: &[u64], i: usize) -> Item
     requires { ⌜ i * itemWidth + itemWidth ≤ length (now items) ⌝ }
-    ensures { λ r. ⌜ r ≡ itemFrom (now (items .entry)) (i * itemWidth) ⌝ }
+    ensures { λ r. ⌜ r ≡ itemFrom (old items) (i * itemWidth) ⌝ }
 {
     let k = i * cursor::ITEM_WIDTH;
     Item {
@@ -96,8 +97,8 @@ pub fn item_at(items: &[u64], i: usize) -> Item
 
 // Sets every word of both tables to 0.
 pub fn clear_all(nodes: &mut [u64], items: &mut [u64])
-    ensures nodes { λ _. ⌜ now (nodes .exit) ≡ replicate (length (now (nodes .entry))) 0 ⌝ }
-    ensures items { λ _. ⌜ now (items .exit) ≡ replicate (length (now (items .entry))) 0 ⌝ }
+    ensures nodes { λ _. ⌜ new nodes ≡ replicate (length (old nodes)) 0 ⌝ }
+    ensures items { λ _. ⌜ new items ≡ replicate (length (old items)) 0 ⌝ }
 {
     room::clear(nodes);
     room::clear(items);
@@ -106,7 +107,7 @@ pub fn clear_all(nodes: &mut [u64], items: &mut [u64])
 // The row that starts at the place; `count` if none does. The starts of the first `tree` rows rise.
 pub fn row_starting(nodes: &[u64], tree: usize, count: usize, place: FilePlace) -> usize
     requires { ⌜ (tree ≤ count) × (count * nodeWidth ≤ length (now nodes)) × Rising (nodesIn tree (now nodes)) ⌝ }
-    ensures { λ r. ⌜ r ≡ rowStarting (nodesIn count (now (nodes .entry))) (place .0) ⌝ }
+    ensures { λ r. ⌜ r ≡ rowStarting (nodesIn count (old nodes)) (place .0) ⌝ }
 {
     let mut low: usize = 0;
     let mut high = tree;

@@ -20,20 +20,15 @@ fills-past bytes k l m = record { fits = λ n. absurd (omega arith); past = λ n
 
 pub fills-then : {o o₁ o₂ : List ℕ} {s s₁ s₂ : ℕ} {a b : List ℕ} → Fills o o₁ s a s₁ → Fills o₁ o₂ s₁ b s₂ → Fills o o₂ s (a ++ b) s₂
 fills-then {o} {o₁} {o₂} {s} {s₁} {s₂} {a} {b} p q =
-    let y = length-append a b in
-    let z = p .long in
-    let m = p .most in
+    let y = length-append a b in let z = p .long in let m = p .most in
     record {
       fits = λ l.
-          let second = q .fits (omega arith) in
-          let w = second .after in
+          let second = q .fits (omega arith) in let w = second .after in
           counts-then (p .fits (omega arith)) second;
       past = λ l. elim (decLt (length o) s₁) [
         | yes h ↦ let w = p .past h in omega arith
         | no h ↦
-            let first = p .fits (omega arith) in
-            let v = first .after in
-            let w = q .past (omega arith) in
+            let first = p .fits (omega arith) in let v = first .after in let w = q .past (omega arith) in
             omega arith
       ];
       most = q .most;
@@ -71,9 +66,7 @@ filling-end e g = fills-as (sym (append-nil (g .done)) ∙ ap (λ v. g .done ++ 
 -- it stops where it is past the room
 pub filling-past : {o o′ : List ℕ} {s r : ℕ} {whole rest : List ℕ} → Filling o o′ s r whole rest → length o < r → Fills o o′ s whole r
 filling-past {rest = rest} g l =
-    let x = g .puts .past l in
-    let y = ap length (g .left) in
-    let z = length-append (g .done) rest in
+    let x = g .puts .past l in let y = ap length (g .left) in let z = length-append (g .done) rest in
     record { fits = λ n. absurd (omega arith); past = λ n. omega arith; most = g .puts .most; long = g .puts .long }
 
 pub filling-length : {o o′ : List ℕ} {s r : ℕ} {whole rest : List ℕ} → Filling o o′ s r whole rest → length o′ ≡ length o

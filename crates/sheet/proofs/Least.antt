@@ -31,8 +31,7 @@ module _ (f : List ℕ) (h : Bytes f) (r : Item) (in-file : ItemIn (length f) r)
   unfolding tabbed
   name-least e =
       let x = escaped-least f (r .field) (r .nameLength) (name-in r in-file e) in
-      let y = ap length (label-custom f r e) in
-      let z = over in
+      let y = ap length (label-custom f r e) in let z = over in
       omega arith
 
   line-by : (p : Bool) → eqb (r .format) 2 ≡ p → cond p (r .size / 2) (r .size) ≤ length (itemLine f r)

@@ -114,15 +114,13 @@ take-rows us (suc c) i (suc n) m e =
 drop-rows : (us : List ℕ) (c i n m : ℕ) → m ≡ min c n → drop c (itemsFrom i n us) ≡ itemsFrom (i + m) (n - m) us
 unfolding rowsFrom
 drop-rows us zero i n m e =
-    let x : i ≡ i + m = omega arith in
-    let y : n ≡ n - m = omega arith in
+    let x : i ≡ i + m = omega arith in let y : n ≡ n - m = omega arith in
     ap₂ (λ j k. itemsFrom j k us) x y
 drop-rows us (suc c) i zero m e =
     let y : 0 ≡ 0 - m = omega arith in
     ap (λ k. itemsFrom (i + m) k us) y
 drop-rows us (suc c) i (suc n) m e =
-    let x : i + 1 + (m - 1) ≡ i + m = omega arith in
-    let y : n - (m - 1) ≡ suc n - m = omega arith in
+    let x : i + 1 + (m - 1) ≡ i + m = omega arith in let y : n - (m - 1) ≡ suc n - m = omega arith in
     drop-rows us c (i + 1) n (m - 1) (omega arith) ∙ ap₂ (λ j k. itemsFrom j k us) x y
 
 module _ (f ws us : List ℕ) (rows contents : ℕ) where

@@ -5,8 +5,9 @@ use Prim.Native.Nat.{ℕ}
 use Rattle.cursor.specs.declared.Node.{Node}
 use Rattle.cursor.specs.declared.Item.{Item}
 use Rattle.header.specs.Header.{Header}
-use Rattle.room.specs.Room.{good, Among}
-use Rattle.room.proofs.Listed.{fitting-among}
+use Rattle.room.specs.Room.{good}
+use Rattle.cursor.specs.Refusals.{Among}
+use Rattle.cursor.proofs.Listed.{fitting-among}
 use Rattle.sheet.specs.Sheet.{sheetOf, write, lines2Of, write2, refusals}
 
 pub sheet-listed : (room : ℕ) (f : List ℕ) (h : Header) (ns : List Node) (is : List Item) → Among refusals (write room f h ns is)

@@ -7,8 +7,7 @@ use lib.Dec.{eqb}
 use lib.ListN.{length, take, drop}
 use Rattle.cursor.specs.declared.Node.{Node}
 use Rattle.cursor.specs.declared.Item.{Item}
-use Rattle.room.specs.Room.{good}
-use Rattle.cursor.specs.Refusals.{noRoom}
+use Rattle.room.specs.Room.{good, noRoom}
 unfoldable pub use Rattle.room.specs.Room.{fitting, counted, kept}
 use Rattle.header.specs.Header.{Header}
 use Rattle.file.specs.Asking.{Asks}

@@ -3,6 +3,7 @@ ghost use mathlib.Core.Path.{_≡_};
 ghost use Prim.Native.Nat.{_≤_, _*_, _+_, _-_, min};
 ghost use lib.Dec.{leb};
 ghost use lib.ListN.{length};
+ghost use Rattle.room.specs.Moments.{old, new};
 ghost use Rattle.rows.specs.Rows.{nodeWidth, itemWidth, itemFrom, nodesIn, itemsFrom, itemsIn, ItemIn, ItemRows};
 ghost use Rattle.file.specs.Asking.{answered, nodesLeft, itemsLeft};
 ghost use Rattle.sheet.specs.Sheet.{headFields, nodeLine, label, textOf, itemLine, visibleLine, nodeLines, itemLines, groupLines, linesIn, write, write2, writeIn, counted, kept};
@@ -23,7 +24,7 @@ fn put_head_fields(
     nodes: usize,
     items: usize,
 ) -> usize
-    ensures { λ r. ⌜ Counts (now (out .entry)) (now (out .exit)) to (headFields version size nodes items) r ⌝ }
+    ensures { λ r. ⌜ Counts (old out) (new out) to (headFields version size nodes items) r ⌝ }
 {
     let a = text::put_version(out, to, version);
     let b = text::put_number(out, a, size as u64);
@@ -34,7 +35,7 @@ fn put_head_fields(
 
 // Puts the line of a node row, which is row i. Past the room's end nothing is counted.
 fn put_node_line(out: &mut [u8], to: usize, i: usize, row: Node) -> usize
-    ensures { λ r. ⌜ Fills (now (out .entry)) (now (out .exit)) to (nodeLine i row) r ⌝ }
+    ensures { λ r. ⌜ Fills (old out) (new out) to (nodeLine i row) r ⌝ }
 {
     if out.len() < to {
         return to;
@@ -52,7 +53,7 @@ fn put_node_line(out: &mut [u8], to: usize, i: usize, row: Node) -> usize
 // Puts the lines of the node rows.
 fn put_node_lines(out: &mut [u8], to: usize, nodes: &[u64], count: usize) -> usize
     requires { ⌜ count * nodeWidth ≤ length (now nodes) ⌝ }
-    ensures { λ r. ⌜ Fills (now (out .entry)) (now (out .exit)) to (nodeLines 0 (nodesIn count (now (nodes .entry)))) r ⌝ }
+    ensures { λ r. ⌜ Fills (old out) (new out) to (nodeLines 0 (nodesIn count (old nodes))) r ⌝ }
 {
     let mut next = to;
     let mut i = 0;
@@ -66,7 +67,7 @@ fn put_node_lines(out: &mut [u8], to: usize, nodes: &[u64], count: usize) -> usi
 // Puts the field of an item row: `C` and its name, or `S` and its number.
 fn put_label(out: &mut [u8], to: usize, file: &[u8], row: Item) -> usize
     requires { ⌜ ItemIn (length (now file)) row ⌝ }
-    ensures { λ r. ⌜ Counts (now (out .entry)) (now (out .exit)) to (label (now (file .entry)) row) r ⌝ }
+    ensures { λ r. ⌜ Counts (old out) (new out) to (label (old file) row) r ⌝ }
 {
     let a = room::put_byte(out, to, 0x09);
     if row.kind == 1 {
@@ -81,7 +82,7 @@ fn put_label(out: &mut [u8], to: usize, file: &[u8], row: Item) -> usize
 // Puts the text of an item row.
 pub fn put_text(out: &mut [u8], to: usize, file: &[u8], row: Item) -> usize
     requires { ⌜ ItemIn (length (now file)) row ⌝ }
-    ensures { λ r. ⌜ Counts (now (out .entry)) (now (out .exit)) to (textOf (now (file .entry)) row) r ⌝ }
+    ensures { λ r. ⌜ Counts (old out) (new out) to (textOf (old file) row) r ⌝ }
 {
     if row.format == 2 {
         return text::put_unicode(out, to, file, row.place as usize, row.size as usize);
@@ -92,7 +93,7 @@ pub fn put_text(out: &mut [u8], to: usize, file: &[u8], row: Item) -> usize
 // Puts the line of item row i. Its words are read where they are put: kept from before the line's first byte on, they would be stored and read again.
 pub fn put_item_line(out: &mut [u8], to: usize, file: &[u8], items: &[u64], i: usize) -> usize
     requires { ⌜ (i * itemWidth + itemWidth ≤ length (now items)) × ItemIn (length (now file)) (itemFrom (now items) (i * itemWidth)) ⌝ }
-    ensures { λ r. ⌜ Counts (now (out .entry)) (now (out .exit)) to (itemLine (now (file .entry)) (itemFrom (now (items .entry)) (i * itemWidth))) r ⌝ }
+    ensures { λ r. ⌜ Counts (old out) (new out) to (itemLine (old file) (itemFrom (old items) (i * itemWidth))) r ⌝ }
 {
     let a = room::put_byte(out, to, b'M');
     let b = text::put_number(out, a, rows::item_at(items, i).node);
@@ -107,7 +108,7 @@ pub fn put_item_line(out: &mut [u8], to: usize, file: &[u8], items: &[u64], i: u
 // Puts the line of item row i, if the row is visible.
 pub fn put_visible_line(out: &mut [u8], to: usize, file: &[u8], items: &[u64], i: usize) -> usize
     requires { ⌜ (i * itemWidth + itemWidth ≤ length (now items)) × ItemIn (length (now file)) (itemFrom (now items) (i * itemWidth)) ⌝ }
-    ensures { λ r. ⌜ Counts (now (out .entry)) (now (out .exit)) to (visibleLine (now (file .entry)) (itemFrom (now (items .entry)) (i * itemWidth))) r ⌝ }
+    ensures { λ r. ⌜ Counts (old out) (new out) to (visibleLine (old file) (itemFrom (old items) (i * itemWidth))) r ⌝ }
 {
     if rows::item_at(items, i).format % 2 == 1 {
         return to;
@@ -145,7 +146,7 @@ fn least_line(row: Item) -> u64
 // Whether the lines of item rows from one row up to another can fit from a place on, by what each has at least.
 fn may_fit(size: usize, to: usize, items: &[u64], from: usize, end: usize) -> bool
     requires { ⌜ (from ≤ end) × (end * itemWidth ≤ length (now items)) ⌝ }
-    ensures { λ r. ⌜ r ≡ leb (to + leastLines (itemsFrom from (end - from) (now (items .entry)))) size ⌝ }
+    ensures { λ r. ⌜ r ≡ leb (to + leastLines (itemsFrom from (end - from) (old items))) size ⌝ }
 {
     if size < to {
         return false;
@@ -174,7 +175,7 @@ fn put_item_lines(
     end: usize,
 ) -> usize
     requires { ⌜ (from ≤ end) × ItemRows (length (now file)) end (now items) ⌝ }
-    ensures { λ r. ⌜ Fills (now (out .entry)) (now (out .exit)) to (itemLines (now (file .entry)) (itemsFrom from (end - from) (now (items .entry)))) r ⌝ }
+    ensures { λ r. ⌜ Fills (old out) (new out) to (itemLines (old file) (itemsFrom from (end - from) (old items))) r ⌝ }
 {
     if out.len() < file.len() {
         if !may_fit(out.len(), to, items, from, end) {
@@ -215,7 +216,7 @@ fn put_group_lines(
     contents: usize,
 ) -> usize
     requires { ⌜ (rows * nodeWidth ≤ length (now nodes)) × ItemRows (length (now file)) contents (now items) ⌝ }
-    ensures { λ r. ⌜ Fills (now (out .entry)) (now (out .exit)) to (groupLines (now (file .entry)) 0 (nodesIn rows (now (nodes .entry))) (itemsIn contents (now (items .entry)))) r ⌝ }
+    ensures { λ r. ⌜ Fills (old out) (new out) to (groupLines (old file) 0 (nodesIn rows (old nodes)) (itemsIn contents (old items))) r ⌝ }
 {
     let mut next = to;
     let mut i = 0;
@@ -243,7 +244,7 @@ fn put_sheet(
     second: bool,
 ) -> usize
     requires { ⌜ (rows * nodeWidth ≤ length (now nodes)) × ItemRows (length (now file)) contents (now items) ⌝ }
-    ensures { λ r. ⌜ Fills (now (out .entry)) (now (out .exit)) 0 (linesIn second version (now (file .entry)) (nodesIn rows (now (nodes .entry))) (itemsIn contents (now (items .entry)))) r ⌝ }
+    ensures { λ r. ⌜ Fills (old out) (new out) 0 (linesIn second version (old file) (nodesIn rows (old nodes)) (itemsIn contents (old items))) r ⌝ }
 {
     if second {
         let word = room::put_bytes(out, 0, b"XMF2\t");
@@ -264,10 +265,10 @@ fn write_edition(
     sheet: &mut [u8],
     second: bool,
 ) -> Written
-    ensures answer { λ r. ⌜ told r ≡ counted (answered (now (nodes .entry)) (now (items .entry)) (now (file .entry)) (writeIn second (length (now (sheet .entry))))) ⌝ }
-    ensures nodes { λ _. ⌜ now (nodes .exit) ≡ nodesLeft (now (nodes .entry)) (now (items .entry)) (now (file .entry)) (writeIn second (length (now (sheet .entry)))) ⌝ }
-    ensures items { λ _. ⌜ now (items .exit) ≡ itemsLeft (now (nodes .entry)) (now (items .entry)) (now (file .entry)) (writeIn second (length (now (sheet .entry)))) ⌝ }
-    ensures sheet { λ _. ⌜ now (sheet .exit) ≡ kept (length (now (sheet .entry))) (answered (now (nodes .entry)) (now (items .entry)) (now (file .entry)) (writeIn second (length (now (sheet .entry))))) ⌝ }
+    ensures answer { λ r. ⌜ told r ≡ counted (answered (old nodes) (old items) (old file) (writeIn second (length (old sheet)))) ⌝ }
+    ensures nodes { λ _. ⌜ new nodes ≡ nodesLeft (old nodes) (old items) (old file) (writeIn second (length (old sheet))) ⌝ }
+    ensures items { λ _. ⌜ new items ≡ itemsLeft (old nodes) (old items) (old file) (writeIn second (length (old sheet))) ⌝ }
+    ensures sheet { λ _. ⌜ new sheet ≡ kept (length (old sheet)) (answered (old nodes) (old items) (old file) (writeIn second (length (old sheet)))) ⌝ }
 {
     match file::read_file(file, nodes, items) {
         Read::Refused(n, p) => {
@@ -298,20 +299,20 @@ fn write_edition(
 
 // Reads a file and writes its support sheet.
 pub fn write_sheet(file: &[u8], nodes: &mut [u64], items: &mut [u64], sheet: &mut [u8]) -> Written
-    ensures answer { λ r. ⌜ told r ≡ counted (answered (now (nodes .entry)) (now (items .entry)) (now (file .entry)) (write (length (now (sheet .entry))))) ⌝ }
-    ensures nodes { λ _. ⌜ now (nodes .exit) ≡ nodesLeft (now (nodes .entry)) (now (items .entry)) (now (file .entry)) (write (length (now (sheet .entry)))) ⌝ }
-    ensures items { λ _. ⌜ now (items .exit) ≡ itemsLeft (now (nodes .entry)) (now (items .entry)) (now (file .entry)) (write (length (now (sheet .entry)))) ⌝ }
-    ensures sheet { λ _. ⌜ now (sheet .exit) ≡ kept (length (now (sheet .entry))) (answered (now (nodes .entry)) (now (items .entry)) (now (file .entry)) (write (length (now (sheet .entry))))) ⌝ }
+    ensures answer { λ r. ⌜ told r ≡ counted (answered (old nodes) (old items) (old file) (write (length (old sheet)))) ⌝ }
+    ensures nodes { λ _. ⌜ new nodes ≡ nodesLeft (old nodes) (old items) (old file) (write (length (old sheet))) ⌝ }
+    ensures items { λ _. ⌜ new items ≡ itemsLeft (old nodes) (old items) (old file) (write (length (old sheet))) ⌝ }
+    ensures sheet { λ _. ⌜ new sheet ≡ kept (length (old sheet)) (answered (old nodes) (old items) (old file) (write (length (old sheet)))) ⌝ }
 {
     write_edition(file, nodes, items, sheet, false)
 }
 
 // Reads a file and writes its support sheet in the second edition.
 pub fn write_sheet2(file: &[u8], nodes: &mut [u64], items: &mut [u64], sheet: &mut [u8]) -> Written
-    ensures answer { λ r. ⌜ told r ≡ counted (answered (now (nodes .entry)) (now (items .entry)) (now (file .entry)) (write2 (length (now (sheet .entry))))) ⌝ }
-    ensures nodes { λ _. ⌜ now (nodes .exit) ≡ nodesLeft (now (nodes .entry)) (now (items .entry)) (now (file .entry)) (write2 (length (now (sheet .entry)))) ⌝ }
-    ensures items { λ _. ⌜ now (items .exit) ≡ itemsLeft (now (nodes .entry)) (now (items .entry)) (now (file .entry)) (write2 (length (now (sheet .entry)))) ⌝ }
-    ensures sheet { λ _. ⌜ now (sheet .exit) ≡ kept (length (now (sheet .entry))) (answered (now (nodes .entry)) (now (items .entry)) (now (file .entry)) (write2 (length (now (sheet .entry))))) ⌝ }
+    ensures answer { λ r. ⌜ told r ≡ counted (answered (old nodes) (old items) (old file) (write2 (length (old sheet)))) ⌝ }
+    ensures nodes { λ _. ⌜ new nodes ≡ nodesLeft (old nodes) (old items) (old file) (write2 (length (old sheet))) ⌝ }
+    ensures items { λ _. ⌜ new items ≡ itemsLeft (old nodes) (old items) (old file) (write2 (length (old sheet))) ⌝ }
+    ensures sheet { λ _. ⌜ new sheet ≡ kept (length (old sheet)) (answered (old nodes) (old items) (old file) (write2 (length (old sheet)))) ⌝ }
 {
     write_edition(file, nodes, items, sheet, true)
 }

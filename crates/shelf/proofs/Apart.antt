@@ -200,8 +200,7 @@ module _ (s : Shelf) (ok : Sound (partSize (s .text)) (s .cards)) where
     drop-step true c z n = drop-none (found-zero ok l (eqb-true _ _ z))
     drop-step false false z n = drop-none (found-nowhere ok l (eqb-false _ _ z) n)
     drop-step false true z n =
-        let k = there (isFor l) (s .cards) n in
-        let e = first-is (isFor l) (s .cards) k in
+        let k = there (isFor l) (s .cards) n in let e = first-is (isFor l) (s .cards) k in
         let f = found-here ok l (eqb-false _ _ z) (first (isFor l) (s .cards)) k e in
         let w = get-is l s f in
         step (good []) (simp f) (simp w) (simp (f, w) (drop-seen s ok l (eqb-false _ _ z) (first (isFor l) (s .cards)) k e))

@@ -191,6 +191,5 @@ module _ (l : Label) (part : ℕ) (cs : List Card) (i : ℕ) where
   found-short f =
       let w : first (isFor l) cs < length cs = let s = f .is in let t = f .within in omega arith in
       let b : isFor l (getD cs i freshCard) ≡ true = rw (f .is) (first-is _ cs w) in
-      let n = f .named in
-      let k = for-call-is l (getD cs i freshCard) b in
+      let n = f .named in let k = for-call-is l (getD cs i freshCard) b in
       short part cs i (faultless part cs (f .whole)) (f .within) (ne-eqb _ _ (λ (z : getD cs i freshCard .call ≡ 0). n (sym k ∙ z)))

@@ -8,7 +8,8 @@ use native.Mathlib.Omega.{arith}
 use lib.Dec.{ltb, leb, eqb}
 use lib.ListN.{length}
 use borrow.Author.Tests.{le-leb, leb-true}
-use Rattle.room.specs.Room.{Result, good, bad, Among, fitting}
+use Rattle.room.specs.Room.{Result, good, bad, fitting}
+use Rattle.cursor.specs.Refusals.{Among}
 use Rattle.shelf.specs.Shelf.{Label, Shelf, freshCard, cardFor, isFree, isFor, some, first, isDamaged, partSize, sheetOf, replaced, mapped, found, place, putOn, getFrom, dropFrom, after, told, putRefusals, getRefusals, dropRefusals}
 use Rattle.shelf.specs.Runs.{Call, putting, getting, dropping, answer, next, refusals}
 use Rattle.shelf.specs.Rows.{codeOf}

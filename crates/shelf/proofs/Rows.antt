@@ -193,8 +193,7 @@ module _ (ys : List Card) (n : ℕ) (text : List ℕ) (m : 16 < n) (size : lengt
       (laid (min n 16) a ys ≡ next c (rowOf ys text) .cards) × (text ≡ next c (rowOf ys text) .text)
   unfolding fromCode
   many-row a is =
-      let k : min n 16 ≡ 16 = omega arith in
-      let q = sym (all-left (rowOf ys text) many c) in
+      let k : min n 16 ≡ 16 = omega arith in let q = sym (all-left (rowOf ys text) many c) in
       (sym (all-refused (rowOf ys text) many c), rw (is, k) (laid-self 16 ys blank (omega arith) (omega arith)) ∙ ap (λ (s : Shelf). s .cards) q, ap (λ (s : Shelf). s .text) q)
 
   pub many-got : (room : ℕ) {out : List ℕ} → out ≡ replicate room 0 → (bad 39 0 ≡ counted (answer c (rowOf ys text))) × (out ≡ kept room (answer c (rowOf ys text)))

@@ -7,8 +7,8 @@ use Prim.Native.Nat.{ℕ, suc, _*_, _/_}
 use lib.Dec.{ltb, eqb}
 use lib.ListN.{length, getD, take, drop, set, replicate}
 use lib.Seq.{sets}
-use Rattle.cursor.specs.Refusals.{noRoom, noSuchCard, noFreeCard, alreadyThere, sheetTooLong, damagedShelf}
-use Rattle.room.specs.Room.{Result, good, bad, padded}
+use Rattle.cursor.specs.Refusals.{noSuchCard, noFreeCard, alreadyThere, sheetTooLong, damagedShelf}
+use Rattle.room.specs.Room.{noRoom, Result, good, bad, padded}
 use Rattle.shelf.specs.declared.Card.{Card}
 
 -- ---- cards
@@ -50,10 +50,14 @@ unfoldable pub first : (Card → Bool) → List Card → ℕ
 first p [] = 0
 first p (c ∷ cs) = cond (p c) 0 (suc (first p cs))
 
--- whether a taken card's sheet is longer than its part, or a later card has its desk, call and boat
+-- whether a card is taken and its sheet is longer than its part, or one of the later cards has its desk, call and boat
+abbrev pub isFaulty : (part : ℕ) → Card → (later : List Card) → Bool
+isFaulty part c later = not (isFree c) && (ltb part (c .length) || some (isFor (labelOf c)) later)
+
+-- whether some card is
 unfoldable pub faulty : (part : ℕ) → List Card → Bool
 faulty part [] = false
-faulty part (c ∷ cs) = (not (isFree c) && (ltb part (c .length) || some (isFor (labelOf c)) cs)) || faulty part cs
+faulty part (c ∷ cs) = isFaulty part c cs || faulty part cs
 
 -- the most cards that a shelf may have, and the number of parts
 abbrev pub mostCards : ℕ

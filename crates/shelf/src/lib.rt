@@ -1,18 +1,16 @@
 // A shelf: a lent row of cards, at most 16, and a lent text of 16 equal parts that holds their sheets; part and card go together by number. Two forms with the same
 // definition: the cards lent as words, four a card, and the cards lent as structs.
 ghost use mathlib.Core.Path.{_≡_};
-ghost use mathlib.Core.Bool.{not, _&&_, _||_};
-ghost use mathlib.Core.List.{List};
 ghost use Prim.Native.Nat.{_+_, _/_, _≤_, _<_, min};
-ghost use lib.Dec.{ltb};
 ghost use lib.ListN.{length, getD, take, drop, set};
+ghost use Rattle.room.specs.Moments.{old, new};
 ghost use Rattle.room.specs.Room.{good, padded, fitting, counted, kept};
-ghost use Rattle.shelf.specs.Shelf.{label, labelOf, freshCard, isFree, isFor, some, first, faulty, isDamaged, withPart, found, place};
+ghost use Rattle.shelf.specs.Shelf.{label, freshCard, isFree, isFor, first, isFaulty, faulty, isDamaged, withPart, found, place};
 ghost use Rattle.shelf.specs.Runs.{putting, getting, dropping, answer, next};
 ghost use Rattle.shelf.specs.Words.{cardsOf, wordsOf, shelfOf, wordsWith};
-ghost use Rattle.shelf.specs.Rows.{blank, laid, rowOf, codeOf, fromCode};
+ghost use Rattle.shelf.specs.Rows.{blank, laid, OfCards, rowOf, codeOf, fromCode};
 ghost use Rattle.shelf.specs.declared.Card.{Card};
-ghost use Rattle.shelf.specs.Told.{toldOutcome, toldGot, toldFound};
+ghost use Rattle.shelf.specs.Told.{toldOutcome, toldGot, toldFound, Changes, Given, Gets};
 
 // A card: the desk, call and boat of a sheet, and its length in bytes. The sheet is in the part of the same number. A card with call 0 is free.
 pub struct Card {
@@ -48,7 +46,7 @@ pub const MOST_CARDS: usize = 16;
 // Card i.
 fn card_at(words: &[u64], i: usize) -> Card
     requires { ⌜ i < length (now words) / 4 ⌝ }
-    ensures { λ r. ⌜ r ≡ getD (cardsOf (now (words .entry))) i freshCard ⌝ }
+    ensures { λ r. ⌜ r ≡ getD (cardsOf (old words)) i freshCard ⌝ }
 {
     let k = i * 4;
     let desk = words[k];
@@ -66,7 +64,7 @@ fn card_at(words: &[u64], i: usize) -> Card
 // Replaces card i.
 fn store_card(words: &mut [u64], i: usize, c: Card)
     requires { ⌜ i < length (now words) / 4 ⌝ }
-    ensures { λ _. ⌜ now (words .exit) ≡ wordsWith (now (words .entry)) (set (cardsOf (now (words .entry))) i c) ⌝ }
+    ensures { λ _. ⌜ new words ≡ wordsWith (old words) (set (cardsOf (old words)) i c) ⌝ }
 {
     let row = [c.desk, c.call, c.boat, c.length];
     room::store(words, i * 4, &row);
@@ -88,7 +86,7 @@ fn is_for(c: Card, desk: u64, call: u64, boat: u64) -> bool
 // The first card from `from` on with this desk, call and boat; the number of cards if there is none.
 fn find_from(words: &[u64], from: usize, desk: u64, call: u64, boat: u64) -> usize
     requires { ⌜ from ≤ length (now words) / 4 ⌝ }
-    ensures { λ r. ⌜ r ≡ from + first (isFor (label desk call boat)) (drop from (cardsOf (now (words .entry)))) ⌝ }
+    ensures { λ r. ⌜ r ≡ from + first (isFor (label desk call boat)) (drop from (cardsOf (old words))) ⌝ }
 {
     let n = words.len() / 4;
     let mut i = from;
@@ -103,7 +101,7 @@ fn find_from(words: &[u64], from: usize, desk: u64, call: u64, boat: u64) -> usi
 
 // The lowest free card; the number of cards if there is none.
 fn find_free(words: &[u64]) -> usize
-    ensures { λ r. ⌜ r ≡ first isFree (cardsOf (now (words .entry))) ⌝ }
+    ensures { λ r. ⌜ r ≡ first isFree (cardsOf (old words)) ⌝ }
 {
     let n = words.len() / 4;
     let mut i = 0;
@@ -120,8 +118,7 @@ fn find_free(words: &[u64]) -> usize
 // Whether card i is taken and its sheet is longer than a part, or a later card has its desk, call and boat.
 fn is_card_faulty(words: &[u64], part: usize, i: usize) -> bool
     requires { ⌜ i < length (now words) / 4 ⌝ }
-    ensures { λ r. ⌜ r ≡ (not (isFree (getD (cardsOf (now (words .entry))) i freshCard)) && (ltb part (getD (cardsOf (now (words .entry))) i freshCard .length)
-        || some (isFor (labelOf (getD (cardsOf (now (words .entry))) i freshCard))) (drop (i + 1) (cardsOf (now (words .entry)))))) ⌝ }
+    ensures { λ r. ⌜ r ≡ isFaulty part (getD (cardsOf (old words)) i freshCard) (drop (i + 1) (cardsOf (old words))) ⌝ }
 {
     let c = card_at(words, i);
     if c.call == 0 {
@@ -135,7 +132,7 @@ fn is_card_faulty(words: &[u64], part: usize, i: usize) -> bool
 
 // Whether a card is at fault.
 fn is_faulty(words: &[u64], part: usize) -> bool
-    ensures { λ r. ⌜ r ≡ faulty part (cardsOf (now (words .entry))) ⌝ }
+    ensures { λ r. ⌜ r ≡ faulty part (cardsOf (old words)) ⌝ }
 {
     let n = words.len() / 4;
     let mut i = 0;
@@ -150,7 +147,7 @@ fn is_faulty(words: &[u64], part: usize) -> bool
 
 // Whether there are more than 16 cards, or one is at fault.
 fn is_damaged(words: &[u64], part: usize) -> bool
-    ensures { λ r. ⌜ r ≡ isDamaged part (cardsOf (now (words .entry))) ⌝ }
+    ensures { λ r. ⌜ r ≡ isDamaged part (cardsOf (old words)) ⌝ }
 {
     if MOST_CARDS < words.len() / 4 {
         return true;
@@ -160,7 +157,7 @@ fn is_damaged(words: &[u64], part: usize) -> bool
 
 // The card of a sheet, where a part has `part` bytes.
 fn find_sheet(words: &[u64], part: usize, desk: u64, call: u64, boat: u64) -> Found
-    ensures { λ r. ⌜ toldFound r ≡ found (label desk call boat) part (cardsOf (now (words .entry))) ⌝ }
+    ensures { λ r. ⌜ toldFound r ≡ found (label desk call boat) part (cardsOf (old words)) ⌝ }
 {
     if is_damaged(words, part) {
         return Found::Refused(cursor::DAMAGED_SHELF);
@@ -177,7 +174,7 @@ fn find_sheet(words: &[u64], part: usize, desk: u64, call: u64, boat: u64) -> Fo
 
 // The card for a new sheet of `size` bytes.
 fn find_place(words: &[u64], part: usize, desk: u64, call: u64, boat: u64, size: usize) -> Found
-    ensures { λ r. ⌜ toldFound r ≡ place (label desk call boat) size part (cardsOf (now (words .entry))) ⌝ }
+    ensures { λ r. ⌜ toldFound r ≡ place (label desk call boat) size part (cardsOf (old words)) ⌝ }
 {
     if is_damaged(words, part) {
         return Found::Refused(cursor::DAMAGED_SHELF);
@@ -205,7 +202,7 @@ fn find_place(words: &[u64], part: usize, desk: u64, call: u64, boat: u64, size:
 // Fills lent room with a sheet and then zeros.
 fn fill(out: &mut [u8], sheet: &[u8])
     requires { ⌜ length (now sheet) ≤ length (now out) ⌝ }
-    ensures { λ _. ⌜ now (out .exit) ≡ padded (length (now (out .entry))) (now (sheet .entry)) ⌝ }
+    ensures { λ _. ⌜ new out ≡ padded (length (old out)) (old sheet) ⌝ }
 {
     room::store_bytes(out, 0, sheet);
     room::clear_bytes_from(out, sheet.len());
@@ -214,7 +211,7 @@ fn fill(out: &mut [u8], sheet: &[u8])
 // Fills part i of the text.
 fn store_part(text: &mut [u8], i: usize, sheet: &[u8])
     requires { ⌜ (i < 16) × (length (now sheet) ≤ length (now text) / 16) ⌝ }
-    ensures { λ _. ⌜ now (text .exit) ≡ withPart (now (text .entry)) i (now (sheet .entry)) ⌝ }
+    ensures { λ _. ⌜ new text ≡ withPart (old text) i (old sheet) ⌝ }
 {
     let part = text.len() / MOST_CARDS;
     let at = i * part;
@@ -225,8 +222,7 @@ fn store_part(text: &mut [u8], i: usize, sheet: &[u8])
 // Answers the sheet of `size` bytes at `at`, and fills the buffer.
 fn give(text: &[u8], at: usize, size: usize, out: &mut [u8]) -> Got
     requires { ⌜ at + size ≤ length (now text) ⌝ }
-    ensures { λ r. ⌜ (toldGot r ≡ counted (fitting (length (now (out .entry))) (good (take size (drop at (now (text .entry)))))))
-        × (now (out .exit) ≡ kept (length (now (out .entry))) (fitting (length (now (out .entry))) (good (take size (drop at (now (text .entry))))))) ⌝ }
+    ensures { λ r. ⌜ Given (fitting (length (old out)) (good (take size (drop at (old text))))) (toldGot r) (old out) (new out) ⌝ }
 {
     if out.len() < size {
         room::clear_bytes(out);
@@ -248,9 +244,9 @@ pub fn put_words(
     boat: u64,
     sheet: &[u8],
 ) -> Outcome
-    ensures { λ r. ⌜ toldOutcome r ≡ answer (putting (label desk call boat) (now (sheet .entry))) (shelfOf (now (words .entry)) (now (text .entry))) ⌝ }
-    ensures { λ _. ⌜ now (words .exit) ≡ wordsWith (now (words .entry)) (next (putting (label desk call boat) (now (sheet .entry))) (shelfOf (now (words .entry)) (now (text .entry))) .cards) ⌝ }
-    ensures { λ _. ⌜ now (text .exit) ≡ next (putting (label desk call boat) (now (sheet .entry))) (shelfOf (now (words .entry)) (now (text .entry))) .text ⌝ }
+    ensures { λ r. ⌜ toldOutcome r ≡ answer (putting (label desk call boat) (old sheet)) (shelfOf (old words) (old text)) ⌝ }
+    ensures { λ _. ⌜ new words ≡ wordsWith (old words) (next (putting (label desk call boat) (old sheet)) (shelfOf (old words) (old text)) .cards) ⌝ }
+    ensures { λ _. ⌜ new text ≡ next (putting (label desk call boat) (old sheet)) (shelfOf (old words) (old text)) .text ⌝ }
 {
     let place = find_place(
         words,
@@ -282,8 +278,8 @@ pub fn put_words(
 
 // Gets the sheet of a desk, a call and a boat into the buffer. A refusal clears the buffer.
 pub fn get_words(words: &[u64], text: &[u8], desk: u64, call: u64, boat: u64, out: &mut [u8]) -> Got
-    ensures { λ r. ⌜ toldGot r ≡ counted (answer (getting (label desk call boat) (length (now (out .entry)))) (shelfOf (now (words .entry)) (now (text .entry)))) ⌝ }
-    ensures { λ _. ⌜ now (out .exit) ≡ kept (length (now (out .entry))) (answer (getting (label desk call boat) (length (now (out .entry)))) (shelfOf (now (words .entry)) (now (text .entry)))) ⌝ }
+    ensures { λ r. ⌜ toldGot r ≡ counted (answer (getting (label desk call boat) (length (old out))) (shelfOf (old words) (old text))) ⌝ }
+    ensures { λ _. ⌜ new out ≡ kept (length (old out)) (answer (getting (label desk call boat) (length (old out))) (shelfOf (old words) (old text))) ⌝ }
 {
     let part = text.len() / MOST_CARDS;
     let place = find_sheet(words, part, desk, call, boat);
@@ -301,9 +297,9 @@ pub fn get_words(words: &[u64], text: &[u8], desk: u64, call: u64, boat: u64, ou
 
 // Drops the sheet of a desk, a call and a boat: its card and its part are cleared. A refusal leaves shelf and text as they were.
 pub fn drop_words(words: &mut [u64], text: &mut [u8], desk: u64, call: u64, boat: u64) -> Outcome
-    ensures { λ r. ⌜ toldOutcome r ≡ answer (dropping (label desk call boat)) (shelfOf (now (words .entry)) (now (text .entry))) ⌝ }
-    ensures { λ _. ⌜ now (words .exit) ≡ wordsWith (now (words .entry)) (next (dropping (label desk call boat)) (shelfOf (now (words .entry)) (now (text .entry))) .cards) ⌝ }
-    ensures { λ _. ⌜ now (text .exit) ≡ next (dropping (label desk call boat)) (shelfOf (now (words .entry)) (now (text .entry))) .text ⌝ }
+    ensures { λ r. ⌜ toldOutcome r ≡ answer (dropping (label desk call boat)) (shelfOf (old words) (old text)) ⌝ }
+    ensures { λ _. ⌜ new words ≡ wordsWith (old words) (next (dropping (label desk call boat)) (shelfOf (old words) (old text)) .cards) ⌝ }
+    ensures { λ _. ⌜ new text ≡ next (dropping (label desk call boat)) (shelfOf (old words) (old text)) .text ⌝ }
 {
     let place = find_sheet(words, text.len() / MOST_CARDS, desk, call, boat);
     match place {
@@ -396,10 +392,7 @@ fn put_in(
     boat: u64,
     sheet: &[u8],
 ) -> Left
-    ensures { λ r. ⌜ ((ys : List Card) → length ys ≡ n → a ≡ laid (min n 16) ys blank
-        → (fromCode (r .code) ≡ answer (putting (label desk call boat) (now (sheet .entry))) (rowOf ys (now (text .entry))))
-        × (laid (min n 16) (r .cards) ys ≡ next (putting (label desk call boat) (now (sheet .entry))) (rowOf ys (now (text .entry))) .cards)
-        × (now (text .exit) ≡ next (putting (label desk call boat) (now (sheet .entry))) (rowOf ys (now (text .entry))) .text)) ⌝ }
+    ensures { λ r. ⌜ OfCards n a (λ ys. Changes (putting (label desk call boat) (old sheet)) (rowOf ys (old text)) (fromCode (r .code)) (laid (min n 16) (r .cards) ys) (new text)) ⌝ }
 {
     if MOST_CARDS < n {
         return Left {
@@ -425,9 +418,7 @@ fn get_in(
     boat: u64,
     out: &mut [u8],
 ) -> Got
-    ensures { λ r. ⌜ ((ys : List Card) → length ys ≡ n → a ≡ laid (min n 16) ys blank
-        → (toldGot r ≡ counted (answer (getting (label desk call boat) (length (now (out .entry)))) (rowOf ys (now (text .entry)))))
-        × (now (out .exit) ≡ kept (length (now (out .entry))) (answer (getting (label desk call boat) (length (now (out .entry)))) (rowOf ys (now (text .entry)))))) ⌝ }
+    ensures { λ r. ⌜ OfCards n a (λ ys. Gets (label desk call boat) (rowOf ys (old text)) (toldGot r) (old out) (new out)) ⌝ }
 {
     if MOST_CARDS < n {
         room::clear_bytes(out);
@@ -440,10 +431,7 @@ fn get_in(
 
 // Drop, likewise.
 fn drop_in(a: [Card; 16], n: usize, text: &mut [u8], desk: u64, call: u64, boat: u64) -> Left
-    ensures { λ r. ⌜ ((ys : List Card) → length ys ≡ n → a ≡ laid (min n 16) ys blank
-        → (fromCode (r .code) ≡ answer (dropping (label desk call boat)) (rowOf ys (now (text .entry))))
-        × (laid (min n 16) (r .cards) ys ≡ next (dropping (label desk call boat)) (rowOf ys (now (text .entry))) .cards)
-        × (now (text .exit) ≡ next (dropping (label desk call boat)) (rowOf ys (now (text .entry))) .text)) ⌝ }
+    ensures { λ r. ⌜ OfCards n a (λ ys. Changes (dropping (label desk call boat)) (rowOf ys (old text)) (fromCode (r .code)) (laid (min n 16) (r .cards) ys) (new text)) ⌝ }
 {
     if MOST_CARDS < n {
         return Left {
@@ -469,7 +457,7 @@ fn clamp(n: usize) -> usize
 // The first n cards of a shelf, in an array whose other cards are fresh.
 fn load(cards: &[Card], n: usize) -> [Card; 16]
     requires { ⌜ (n ≤ length (now cards)) × (n ≤ 16) ⌝ }
-    ensures { λ r. ⌜ r ≡ laid n (now (cards .entry)) blank ⌝ }
+    ensures { λ r. ⌜ r ≡ laid n (old cards) blank ⌝ }
 {
     let mut a = [Card {
         desk: 0,
@@ -488,7 +476,7 @@ fn load(cards: &[Card], n: usize) -> [Card; 16]
 // Replaces the first n cards of a shelf by those of an array.
 fn store(cards: &mut [Card], n: usize, a: [Card; 16])
     requires { ⌜ (n ≤ length (now cards)) × (n ≤ 16) ⌝ }
-    ensures { λ _. ⌜ now (cards .exit) ≡ laid n a (now (cards .entry)) ⌝ }
+    ensures { λ _. ⌜ new cards ≡ laid n a (old cards) ⌝ }
 {
     let mut i = 0usize;
     while i < n {
@@ -506,9 +494,7 @@ pub fn put(
     boat: u64,
     sheet: &[u8],
 ) -> Outcome
-    ensures { λ r. ⌜ (toldOutcome r ≡ answer (putting (label desk call boat) (now (sheet .entry))) (rowOf (now (cards .entry)) (now (text .entry))))
-        × (now (cards .exit) ≡ next (putting (label desk call boat) (now (sheet .entry))) (rowOf (now (cards .entry)) (now (text .entry))) .cards)
-        × (now (text .exit) ≡ next (putting (label desk call boat) (now (sheet .entry))) (rowOf (now (cards .entry)) (now (text .entry))) .text) ⌝ }
+    ensures { λ r. ⌜ Changes (putting (label desk call boat) (old sheet)) (rowOf (old cards) (old text)) (toldOutcome r) (new cards) (new text) ⌝ }
 {
     let n = clamp(cards.len());
     let a = load(cards, n);
@@ -520,8 +506,7 @@ pub fn put(
 
 // Gets the sheet of a desk, a call and a boat into the buffer. A refusal clears the buffer.
 pub fn get(cards: &[Card], text: &[u8], desk: u64, call: u64, boat: u64, out: &mut [u8]) -> Got
-    ensures { λ r. ⌜ (toldGot r ≡ counted (answer (getting (label desk call boat) (length (now (out .entry)))) (rowOf (now (cards .entry)) (now (text .entry)))))
-        × (now (out .exit) ≡ kept (length (now (out .entry))) (answer (getting (label desk call boat) (length (now (out .entry)))) (rowOf (now (cards .entry)) (now (text .entry))))) ⌝ }
+    ensures { λ r. ⌜ Gets (label desk call boat) (rowOf (old cards) (old text)) (toldGot r) (old out) (new out) ⌝ }
 {
     let n = clamp(cards.len());
     let a = load(cards, n);
@@ -530,9 +515,7 @@ pub fn get(cards: &[Card], text: &[u8], desk: u64, call: u64, boat: u64, out: &m
 
 // Drops the sheet of a desk, a call and a boat: its card and its part are cleared. A refusal leaves shelf and text as they were.
 pub fn drop(cards: &mut [Card], text: &mut [u8], desk: u64, call: u64, boat: u64) -> Outcome
-    ensures { λ r. ⌜ (toldOutcome r ≡ answer (dropping (label desk call boat)) (rowOf (now (cards .entry)) (now (text .entry))))
-        × (now (cards .exit) ≡ next (dropping (label desk call boat)) (rowOf (now (cards .entry)) (now (text .entry))) .cards)
-        × (now (text .exit) ≡ next (dropping (label desk call boat)) (rowOf (now (cards .entry)) (now (text .entry))) .text) ⌝ }
+    ensures { λ r. ⌜ Changes (dropping (label desk call boat)) (rowOf (old cards) (old text)) (toldOutcome r) (new cards) (new text) ⌝ }
 {
     let n = clamp(cards.len());
     let a = load(cards, n);

@@ -77,14 +77,8 @@ eight-word : (a b c d e f g h : ℕ) → a < 256 → b < 256 → c < 256 → d <
     → eight (a * 0x100000000000000 + b * 0x1000000000000 + c * 0x10000000000 + d * 0x100000000 + e * 0x1000000 + f * 0x10000 + g * 0x100 + h)
     ≡ a ∷ b ∷ c ∷ d ∷ e ∷ f ∷ g ∷ h ∷ []
 eight-word a b c d e f g h p q r s t u v w =
-    let y6 = a * 256 + b in
-    let y5 = y6 * 256 + c in
-    let y4 = y5 * 256 + d in
-    let y3 = y4 * 256 + e in
-    let y2 = y3 * 256 + f in
-    let y1 = y2 * 256 + g in
-    let n = y1 * 256 + h in
-    let z1 : n / 0x100 ≡ y1 = peeled y1 h w in
+    let y6 = a * 256 + b in let y5 = y6 * 256 + c in let y4 = y5 * 256 + d in let y3 = y4 * 256 + e in
+    let y2 = y3 * 256 + f in let y1 = y2 * 256 + g in let n = y1 * 256 + h in let z1 : n / 0x100 ≡ y1 = peeled y1 h w in
     let z2 : n / 0x10000 ≡ y2 = less-1 n ∙ ap (λ (m : ℕ). m / 256) z1 ∙ peeled y2 g v in
     let z3 : n / 0x1000000 ≡ y3 = less-2 n ∙ ap (λ (m : ℕ). m / 256) z2 ∙ peeled y3 f u in
     let z4 : n / 0x100000000 ≡ y4 = less-3 n ∙ ap (λ (m : ℕ). m / 256) z3 ∙ peeled y4 e t in
@@ -168,8 +162,7 @@ there s h =
 pub back : (f : List ℕ) → Bytes f → 512 ≤ length f → fileOf (shelfIn f) ≡ f
 unfolding shelfIn fileOf shelfOf wordsWith
 back f b l =
-    let ws = wordsFrom 64 f 0 in
-    let n : length ws ≡ 64 = bytes.words-length 64 f 0 in
+    let ws = wordsFrom 64 f 0 in let n : length ws ≡ 64 = bytes.words-length 64 f 0 in
     let z : drop (length (cardsOf ws) * 4) ws ≡ [] = drop-of-length-le ws {i = length (cardsOf ws) * 4} (omega (arith, count ws)) in
     let v : wordsOf (cardsOf ws) ≡ ws = sym (append-nil (wordsOf (cardsOf ws))) ∙ ap (λ (x : List ℕ). wordsOf (cardsOf ws) ++ x) (sym z) ∙ with-same ws in
     ap (λ (x : List ℕ). eights x ++ drop 512 f) v ∙ put-read 64 f 0 b l

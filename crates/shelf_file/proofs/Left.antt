@@ -72,8 +72,7 @@ module _ (x : Call) (f : List ℕ) (e : length f ≡ 1049088) where
   put-front ws text k l p =
       let g : length (putMid 512 (length f - 512) f text) ≡ length f = same-len-mid 512 (length f - 512) f text l in
       let q : length (eights ws) ≡ 512 = eights-length ws ∙ omega arith in
-      let a = p .after in
-      let front = wrote-front p (omega arith) (omega arith) in
+      let a = p .after in let front = wrote-front p (omega arith) (omega arith) in
       let z : postOf 512 (length f - 512) f ≡ [] = post-is 512 (length f) f (omega arith) ∙ drop-of-length-le f {i = length f} (omega arith) in
       let h : drop 512 (putMid 512 (length f - 512) f text) ≡ text =
       drop-at (take 512 f) (text ++ postOf 512 (length f - 512) f) 512 (length-take-le 512 f (omega arith))
@@ -93,8 +92,7 @@ module _ (x : Call) (f : List ℕ) (e : length f ≡ 1049088) where
       → (r ≡ answerIn x f) × (f′ ≡ fileAfter x f)
   unfolding fileOf
   left {r} {ws} {ws′} {text} {f′} k w a l p =
-      let s = shelf-is w in
-      let cs : List Card = next x (shelfIn f) .cards in
+      let s = shelf-is w in let cs : List Card = next x (shelfIn f) .cards in
       let v : ws′ ≡ wordsOf cs = words-are cs w (k ∙ cards-are) (a .1 .0 ∙ ap (λ (y : Shelf). wordsWith ws (next x y .cards)) s) in
       let m : length ws′ ≡ 64 = ap length v ∙ omega (arith, words-length cs, k, cards-are) in (
         a .0 ∙ ap (answer x) s ∙ sym the-answer,

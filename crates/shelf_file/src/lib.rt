@@ -2,6 +2,7 @@
 ghost use mathlib.Core.Path.{_≡_};
 ghost use Prim.Native.Nat.{_+_, _≤_, _<_};
 ghost use lib.ListN.{length};
+ghost use Rattle.room.specs.Moments.{old, new};
 ghost use Rattle.room.specs.Counts.{Counts};
 ghost use Rattle.room.specs.Room.{counted, kept};
 ghost use Rattle.shelf.specs.Shelf.{label, fresh};
@@ -29,7 +30,7 @@ fn wide(b: u8) -> u64
 // The number that the eight bytes from a place on say.
 fn word_at(file: &[u8], at: usize) -> u64
     requires { ⌜ at + 8 ≤ length (now file) ⌝ }
-    ensures { λ r. ⌜ r ≡ wordAt (now (file .entry)) at ⌝ }
+    ensures { λ r. ⌜ r ≡ wordAt (old file) at ⌝ }
 {
     let a = wide(file[at]);
     let b = wide(file[at + 1]);
@@ -67,7 +68,7 @@ fn eight(value: u64) -> [u8; 8]
 
 // Puts a number in eight bytes.
 fn put_eight(out: &mut [u8], to: usize, value: u64) -> usize
-    ensures { λ r. ⌜ Counts (now (out .entry)) (now (out .exit)) to (eight value) r ⌝ }
+    ensures { λ r. ⌜ Counts (old out) (new out) to (eight value) r ⌝ }
 {
     let bytes = eight(value);
     room::put_bytes(out, to, &bytes)
@@ -78,7 +79,7 @@ fn put_eight(out: &mut [u8], to: usize, value: u64) -> usize
 // The words of the cards.
 fn words_in(file: &[u8]) -> [u64; 64]
     requires { ⌜ 512 ≤ length (now file) ⌝ }
-    ensures { λ r. ⌜ r ≡ wordsFrom 64 (now (file .entry)) 0 ⌝ }
+    ensures { λ r. ⌜ r ≡ wordsFrom 64 (old file) 0 ⌝ }
 {
     let mut words = [0u64; 64];
     let mut i = 0usize;
@@ -91,7 +92,7 @@ fn words_in(file: &[u8]) -> [u64; 64]
 
 // Puts words from the first byte on.
 fn put_words(out: &mut [u8], words: &[u64]) -> usize
-    ensures { λ r. ⌜ Counts (now (out .entry)) (now (out .exit)) 0 (eights (now (words .entry))) r ⌝ }
+    ensures { λ r. ⌜ Counts (old out) (new out) 0 (eights (old words)) r ⌝ }
 {
     let mut next = 0usize;
     let mut i = 0usize;
@@ -114,8 +115,8 @@ pub fn new() -> [u8; 1049088]
 
 // Puts a sheet.
 pub fn put(file: &mut [u8], desk: u64, call: u64, boat: u64, sheet: &[u8]) -> Outcome
-    ensures { λ r. ⌜ toldOutcome r ≡ answerIn (putting (label desk call boat) (now (sheet .entry))) (now (file .entry)) ⌝ }
-    ensures { λ _. ⌜ now (file .exit) ≡ fileAfter (putting (label desk call boat) (now (sheet .entry))) (now (file .entry)) ⌝ }
+    ensures { λ r. ⌜ toldOutcome r ≡ answerIn (putting (label desk call boat) (old sheet)) (old file) ⌝ }
+    ensures { λ _. ⌜ new file ≡ fileAfter (putting (label desk call boat) (old sheet)) (old file) ⌝ }
 {
     if file.len() != SIZE {
         return Outcome::Refused(cursor::DAMAGED_SHELF, 0);
@@ -128,8 +129,8 @@ pub fn put(file: &mut [u8], desk: u64, call: u64, boat: u64, sheet: &[u8]) -> Ou
 
 // Gets a sheet into the buffer. A refusal clears it.
 pub fn get(file: &[u8], desk: u64, call: u64, boat: u64, out: &mut [u8]) -> Got
-    ensures { λ r. ⌜ toldGot r ≡ counted (answerIn (getting (label desk call boat) (length (now (out .entry)))) (now (file .entry))) ⌝ }
-    ensures { λ _. ⌜ now (out .exit) ≡ kept (length (now (out .entry))) (answerIn (getting (label desk call boat) (length (now (out .entry)))) (now (file .entry))) ⌝ }
+    ensures { λ r. ⌜ toldGot r ≡ counted (answerIn (getting (label desk call boat) (length (old out))) (old file)) ⌝ }
+    ensures { λ _. ⌜ new out ≡ kept (length (old out)) (answerIn (getting (label desk call boat) (length (old out))) (old file)) ⌝ }
 {
     if file.len() != SIZE {
         room::clear_bytes(out);
@@ -141,8 +142,8 @@ pub fn get(file: &[u8], desk: u64, call: u64, boat: u64, out: &mut [u8]) -> Got
 
 // Drops a sheet.
 pub fn drop(file: &mut [u8], desk: u64, call: u64, boat: u64) -> Outcome
-    ensures { λ r. ⌜ toldOutcome r ≡ answerIn (dropping (label desk call boat)) (now (file .entry)) ⌝ }
-    ensures { λ _. ⌜ now (file .exit) ≡ fileAfter (dropping (label desk call boat)) (now (file .entry)) ⌝ }
+    ensures { λ r. ⌜ toldOutcome r ≡ answerIn (dropping (label desk call boat)) (old file) ⌝ }
+    ensures { λ _. ⌜ new file ≡ fileAfter (dropping (label desk call boat)) (old file) ⌝ }
 {
     if file.len() != SIZE {
         return Outcome::Refused(cursor::DAMAGED_SHELF, 0);
@@ -157,7 +158,7 @@ pub fn drop(file: &mut [u8], desk: u64, call: u64, boat: u64) -> Outcome
 
 // Puts the line of a refusal.
 pub fn put_refusal(out: &mut [u8], number: u64, place: usize) -> usize
-    ensures { λ r. ⌜ Counts (now (out .entry)) (now (out .exit)) 0 (refusalLine number place) r ⌝ }
+    ensures { λ r. ⌜ Counts (old out) (new out) 0 (refusalLine number place) r ⌝ }
 {
     let a = room::put_bytes(out, 0, b"R\t");
     let b = room::put_decimal(out, a, number);

@@ -136,15 +136,13 @@ module _ (κs : List ℕ) where
     pub run-on : at < length κs → getD κs at 0 ≡ getD κs place 0 → GoingOn κs place (at + 1)
     unfolding runsOn
     run-on l e =
-        let b = g .behind in
-        let s : at - place + 1 ≡ at + 1 - place = omega arith in
+        let b = g .behind in let s : at - place + 1 ≡ at + 1 - place = omega arith in
         record { behind = omega arith; within = omega arith; runs = g .runs ∙ rw (next-is at l, eq-eqb (getD κs at 0) (getD κs place 0) e, s) }
 
     pub run-stopped : at < length κs → ((getD κs at 0 ≡ getD κs place 0) → ⊥) → Ends κs place at
     unfolding runsFrom runsOn
     run-stopped l n =
-        let b = g .behind in
-        let s : place + (at - place) ≡ at = omega arith in
+        let b = g .behind in let s : place + (at - place) ≡ at = omega arith in
         record { behind = b; within = g .within; runs = g .runs ∙ rw (next-is at l, ne-eqb (getD κs at 0) (getD κs place 0) n, s) }
 
     pub run-last : length κs ≤ at → Ends κs place at
@@ -172,9 +170,7 @@ bad-is (bad c d) {a} {b} k = let x : a ≡ c = cc in let y : b ≡ d = cc in rw 
 good-is : (m : ℕ) (x : Result (List ℕ)) {a : ℕ} → good a ≡ counted x → {t : List ℕ} → t ≡ kept m x → (a ≤ length t) × (x ≡ good (take a t))
 unfolding counted kept padded
 good-is m (good s) {a} k {t} h =
-    let z : a ≡ length s = cc in
-    let y = ap length h in
-    let v = length-append s (replicate (m - length s) 0) in
+    let z : a ≡ length s = cc in let y = ap length h in let v = length-append s (replicate (m - length s) 0) in
     (omega arith, ap good (sym (rw (h, z) (take-at s (replicate (m - length s) 0) (length s) refl))))
 good-is m (bad c d) k h = let z : _≡_ {A = ℕ} 0 1 = cc in absurd (omega arith)
 

@@ -1,6 +1,7 @@
 // The runs of a file: the longest spans of places of one kind, in file order.
 ghost use Prim.Native.Nat.{_<_};
 ghost use lib.ListN.{length};
+ghost use Rattle.room.specs.Moments.{old, new};
 ghost use Rattle.room.specs.Counts.{Counts};
 ghost use Rattle.lines.specs.Answer.{Gives};
 ghost use Rattle.text.specs.Text.{tabbed};
@@ -12,7 +13,7 @@ use room::Written;
 
 // Puts the field of a kind: a tab and its name.
 fn put_name(out: &mut [u8], to: usize, kind: u8) -> usize
-    ensures { λ r. ⌜ Counts (now (out .entry)) (now (out .exit)) to (tabbed (nameOf kind)) r ⌝ }
+    ensures { λ r. ⌜ Counts (old out) (new out) to (tabbed (nameOf kind)) r ⌝ }
 {
     match kind {
         0 => room::put_bytes(out, to, b"\tfile header"),
@@ -30,7 +31,7 @@ fn put_name(out: &mut [u8], to: usize, kind: u8) -> usize
 
 // Puts the line of a run.
 fn put_run(out: &mut [u8], to: usize, place: usize, size: usize, kind: u8) -> usize
-    ensures { λ r. ⌜ Counts (now (out .entry)) (now (out .exit)) to (runLine (record { place = place; size = size; kind = kind })) r ⌝ }
+    ensures { λ r. ⌜ Counts (old out) (new out) to (runLine (record { place = place; size = size; kind = kind })) r ⌝ }
 {
     let a = room::put_byte(out, to, b'K');
     let b = text::put_number(out, a, place as u64);
@@ -42,7 +43,7 @@ fn put_run(out: &mut [u8], to: usize, place: usize, size: usize, kind: u8) -> us
 // Where the run that begins at `place` ends.
 fn run_end(kinds: &[u8], place: usize) -> usize
     requires { ⌜ place < length (now kinds) ⌝ }
-    ensures { λ r. ⌜ Ends (now (kinds .entry)) place r ⌝ }
+    ensures { λ r. ⌜ Ends (old kinds) place r ⌝ }
 {
     let mut at = place + 1;
     while at < kinds.len() {
@@ -56,7 +57,7 @@ fn run_end(kinds: &[u8], place: usize) -> usize
 
 // Puts the lines of the runs of these kinds.
 fn put_runs(out: &mut [u8], kinds: &[u8]) -> usize
-    ensures { λ r. ⌜ Counts (now (out .entry)) (now (out .exit)) 0 (runLines (runsOf (now (kinds .entry)))) r ⌝ }
+    ensures { λ r. ⌜ Counts (old out) (new out) 0 (runLines (runsOf (old kinds))) r ⌝ }
 {
     let mut next: usize = 0;
     let mut place: usize = 0;
@@ -69,7 +70,7 @@ fn put_runs(out: &mut [u8], kinds: &[u8]) -> usize
 }
 
 pub fn make_runs(file: &[u8], text: &mut [u8]) -> Made
-    ensures { λ r. ⌜ Gives (length (now (text .entry))) r (now (text .exit)) (runsAnswer (length (now (text .entry))) (now (file .entry))) ⌝ }
+    ensures { λ r. ⌜ Gives (length (old text)) r (new text) (runsAnswer (length (old text)) (old file)) ⌝ }
 {
     let mut nodes = program::node_table();
     let mut items = program::item_table();

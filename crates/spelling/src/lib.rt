@@ -2,6 +2,7 @@
 ghost use mathlib.Core.Path.{_≡_};
 ghost use Prim.Native.Nat.{ℕ, _+_, _*_, _≤_};
 ghost use lib.ListN.{length};
+ghost use Rattle.room.specs.Moments.{old, new};
 ghost use Rattle.io.specs.Counts.{Counts};
 ghost use Rattle.spelling.specs.Spelling.{held, numberOf, hexValue, Spelt, descriptorOf, Names, hasHigh, LastSlash, ifWithin};
 
@@ -25,7 +26,7 @@ fn push(value: u64, digit: u8) -> u64
 
 // The number that a word spells.
 pub fn decimal(word: &[u8]) -> Number
-    ensures { λ r. ⌜ r ≡ numberOf (now (word .entry)) ⌝ }
+    ensures { λ r. ⌜ r ≡ numberOf (old word) ⌝ }
 {
     if word.len() == 0 {
         return Number::None;
@@ -73,7 +74,7 @@ fn digit(b: u8) -> u8
 
 // Stores the bytes that hex digits spell, two digits to a byte; answers whether they spell any that have room.
 pub fn spell(digits: &[u8], bytes: &mut [u8]) -> bool
-    ensures { λ r. ⌜ Spelt (now (digits .entry)) (now (bytes .entry)) (now (bytes .exit)) r ⌝ }
+    ensures { λ r. ⌜ Spelt (old digits) (old bytes) (new bytes) r ⌝ }
 {
     if digits.len() % 2 != 0 {
         return false;
@@ -112,7 +113,7 @@ fn descriptor(digit: u8) -> i32
 
 // The descriptor for the status that a word names: `--status=` and a digit; -1 for none.
 pub fn status(word: &[u8]) -> i32
-    ensures { λ r. ⌜ Names (now (word .entry)) r ⌝ }
+    ensures { λ r. ⌜ Names (old word) r ⌝ }
 {
     if word.len() != 10 {
         return -1;
@@ -125,7 +126,7 @@ pub fn status(word: &[u8]) -> i32
 
 // Whether some byte is 80h or more.
 pub fn has_high(bytes: &[u8]) -> bool
-    ensures { λ r. ⌜ r ≡ hasHigh (now (bytes .entry)) ⌝ }
+    ensures { λ r. ⌜ r ≡ hasHigh (old bytes) ⌝ }
 {
     let mut i = 0;
     while i < bytes.len() {
@@ -139,8 +140,8 @@ pub fn has_high(bytes: &[u8]) -> bool
 
 // The number of a name's bytes up to its last slash.
 pub fn folder_size(name: &[u8]) -> usize
-    ensures { λ r. ⌜ Counts r (now (name .entry)) ⌝ }
-    ensures { λ r. ⌜ LastSlash (now (name .entry)) r ⌝ }
+    ensures { λ r. ⌜ Counts r (old name) ⌝ }
+    ensures { λ r. ⌜ LastSlash (old name) r ⌝ }
 {
     let mut n = name.len();
     while n > 0 {
@@ -154,8 +155,8 @@ pub fn folder_size(name: &[u8]) -> usize
 
 // So many bytes at the start of a buffer; none where it has not so many.
 pub fn within(n: usize, buf: &[u8]) -> usize
-    ensures { λ r. ⌜ Counts r (now (buf .entry)) ⌝ }
-    ensures { λ r. ⌜ r ≡ ifWithin n (length (now (buf .entry))) ⌝ }
+    ensures { λ r. ⌜ Counts r (old buf) ⌝ }
+    ensures { λ r. ⌜ r ≡ ifWithin n (length (old buf)) ⌝ }
 {
     if n <= buf.len() {
         return n;

@@ -3,6 +3,7 @@ mod made;
 mod placed;
 mod replaced;
 
+ghost use Rattle.room.specs.Moments.{new};
 ghost use Rattle.io.specs.Counts.{Counts};
 use libc::STDIN_FILENO;
 pub use placed::hand_out;
@@ -17,7 +18,7 @@ pub struct Got {
 
 // Reads an input.
 fn read_from(fd: i32, buf: &mut [u8]) -> Got
-    ensures { λ r. ⌜ Counts (r .size) (now (buf .exit)) ⌝ }
+    ensures { λ r. ⌜ Counts (r .size) (new buf) ⌝ }
 {
     match program::read_input(fd, buf) {
         Input::Failed => Got {
@@ -33,7 +34,7 @@ fn read_from(fd: i32, buf: &mut [u8]) -> Got
 
 // Reads the file with this name, or standard input for `-`. A file that could not be read stays open: errno says why.
 fn read_named(name: &[u8], buf: &mut [u8]) -> Got
-    ensures { λ r. ⌜ Counts (r .size) (now (buf .exit)) ⌝ }
+    ensures { λ r. ⌜ Counts (r .size) (new buf) ⌝ }
 {
     if check::same(name, b"-") {
         return read_from(STDIN_FILENO, buf);
@@ -54,7 +55,7 @@ fn read_named(name: &[u8], buf: &mut [u8]) -> Got
 
 // The same; says why it could not be read.
 pub fn read(name: &[u8], buf: &mut [u8]) -> Got
-    ensures { λ r. ⌜ Counts (r .size) (now (buf .exit)) ⌝ }
+    ensures { λ r. ⌜ Counts (r .size) (new buf) ⌝ }
 {
     let got = read_named(name, buf);
     if !got.right {
@@ -65,7 +66,7 @@ pub fn read(name: &[u8], buf: &mut [u8]) -> Got
 
 // Reads the file that argument i names; says why it could not be read. `what` the argument is stands in the message where it is missing or too long.
 pub fn read_at(i: usize, what: &[u8], buf: &mut [u8]) -> Got
-    ensures { λ r. ⌜ Counts (r .size) (now (buf .exit)) ⌝ }
+    ensures { λ r. ⌜ Counts (r .size) (new buf) ⌝ }
 {
     let mut name = io::buffer();
     let n = os::arg(i, &mut name);

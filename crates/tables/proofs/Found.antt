@@ -127,16 +127,13 @@ module _ (f : List ℕ) {n i : ℕ} (en : fullNodes ≡ n) (ei : fullItems ≡ i
     unfolding readOf
     there =
         let a = asked-rows (readFile (limits n i) f) (question climbs w row f) outcome in
-        let h = a .0 in
-        let ns = a .1 in
-        let is = a .2 in
+        let h = a .0 in let ns = a .1 in let is = a .2 in
         let z = stands climbs w row f h ns is (record { row = k; item = item }) (a .4) in
         let st = standing f (limits n i) n i {s = summary h ns is} {r = readOf (readFile (limits n i) f)} refl
         {t = nodeTable n (readFile (limits n i) f)} {u = u} refl (t ∙ kept-good i (readFile (limits n i) f) outcome) (ap readOf (a .3)) in
         let rs = item-rows st in
         let c : length is ≡ length (st .is) = sym (items-in-length u (length is)) ∙ ap length (st .items-are) in
-        let l : k < length is = z .0 in
-        let x = item-at u (length is) k l in
+        let l : k < length is = z .0 in let x = item-at u (length is) k l in
         record { inside = omega (arith, rs .0); good-row = rs .1 k l; same = sym x ∙ ap (λ v. itemAt v k) (st .items-are) ∙ rest h ns is (a .3) st ∙ z .1 }
       where
         rest : (h : Header) (ns : List Node) (is : List Item) → readFile (limits n i) f ≡ rows h ns is →

@@ -1,6 +1,7 @@
 // Every row of the two tables, hidden ones too, as its words.
 ghost use Prim.Native.Nat.{_≤_, _*_};
 ghost use lib.ListN.{length};
+ghost use Rattle.room.specs.Moments.{old, new};
 ghost use Rattle.rows.specs.Rows.{nodeWidth, itemWidth, nodesIn, itemsIn};
 ghost use Rattle.room.specs.Counts.{Counts};
 ghost use Rattle.lines.specs.Answer.{Gives};
@@ -14,7 +15,7 @@ use lines::refuse;
 
 // Puts the words of a node row.
 fn put_node_words(out: &mut [u8], to: usize, row: Node) -> usize
-    ensures { λ r. ⌜ Counts (now (out .entry)) (now (out .exit)) to (nodeNumbers row) r ⌝ }
+    ensures { λ r. ⌜ Counts (old out) (new out) to (nodeNumbers row) r ⌝ }
 {
     let a = text::put_number(out, to, row.start);
     let b = text::put_number(out, a, row.size);
@@ -33,7 +34,7 @@ fn put_node_words(out: &mut [u8], to: usize, row: Node) -> usize
 
 // Puts the words of an item row.
 fn put_item_words(out: &mut [u8], to: usize, row: Item) -> usize
-    ensures { λ r. ⌜ Counts (now (out .entry)) (now (out .exit)) to (itemNumbers row) r ⌝ }
+    ensures { λ r. ⌜ Counts (old out) (new out) to (itemNumbers row) r ⌝ }
 {
     let a = text::put_number(out, to, row.node);
     let b = text::put_number(out, a, row.item);
@@ -49,7 +50,7 @@ fn put_item_words(out: &mut [u8], to: usize, row: Item) -> usize
 
 // Puts the line of node row i.
 fn put_node_row(out: &mut [u8], to: usize, i: usize, row: Node) -> usize
-    ensures { λ r. ⌜ Counts (now (out .entry)) (now (out .exit)) to (nodeRow i row) r ⌝ }
+    ensures { λ r. ⌜ Counts (old out) (new out) to (nodeRow i row) r ⌝ }
 {
     let a = room::put_byte(out, to, b'n');
     let b = text::put_number(out, a, i as u64);
@@ -59,7 +60,7 @@ fn put_node_row(out: &mut [u8], to: usize, i: usize, row: Node) -> usize
 
 // Puts the line of item row i, under this letter.
 pub fn put_item_row(out: &mut [u8], to: usize, letter: u8, i: usize, row: Item) -> usize
-    ensures { λ r. ⌜ Counts (now (out .entry)) (now (out .exit)) to (itemRow letter i row) r ⌝ }
+    ensures { λ r. ⌜ Counts (old out) (new out) to (itemRow letter i row) r ⌝ }
 {
     let a = room::put_byte(out, to, letter);
     let b = text::put_number(out, a, i as u64);
@@ -70,7 +71,7 @@ pub fn put_item_row(out: &mut [u8], to: usize, letter: u8, i: usize, row: Item) 
 // Puts the lines of the node rows.
 fn put_node_rows(out: &mut [u8], nodes: &[u64], count: usize) -> usize
     requires { ⌜ count * nodeWidth ≤ length (now nodes) ⌝ }
-    ensures { λ r. ⌜ Counts (now (out .entry)) (now (out .exit)) 0 (nodeRows 0 (nodesIn count (now (nodes .entry)))) r ⌝ }
+    ensures { λ r. ⌜ Counts (old out) (new out) 0 (nodeRows 0 (nodesIn count (old nodes))) r ⌝ }
 {
     let mut next: usize = 0;
     let mut i = 0;
@@ -84,7 +85,7 @@ fn put_node_rows(out: &mut [u8], nodes: &[u64], count: usize) -> usize
 // Puts the lines of the item rows.
 fn put_item_rows(out: &mut [u8], to: usize, items: &[u64], count: usize) -> usize
     requires { ⌜ count * itemWidth ≤ length (now items) ⌝ }
-    ensures { λ r. ⌜ Counts (now (out .entry)) (now (out .exit)) to (itemRows 0 (itemsIn count (now (items .entry)))) r ⌝ }
+    ensures { λ r. ⌜ Counts (old out) (new out) to (itemRows 0 (itemsIn count (old items))) r ⌝ }
 {
     let mut next = to;
     let mut i = 0;
@@ -96,7 +97,7 @@ fn put_item_rows(out: &mut [u8], to: usize, items: &[u64], count: usize) -> usiz
 }
 
 pub fn make_rows(file: &[u8], text: &mut [u8]) -> Made
-    ensures { λ r. ⌜ Gives (length (now (text .entry))) r (now (text .exit)) (rowsAnswer (length (now (text .entry))) (now (file .entry))) ⌝ }
+    ensures { λ r. ⌜ Gives (length (old text)) r (new text) (rowsAnswer (length (old text)) (old file)) ⌝ }
 {
     let mut nodes = program::node_table();
     let mut items = program::item_table();

@@ -2,6 +2,7 @@
 ghost use mathlib.Core.Path.{_≡_};
 ghost use Prim.Native.Nat.{_≤_, _+_, _*_};
 ghost use lib.ListN.{length};
+ghost use Rattle.room.specs.Moments.{old, new};
 ghost use Rattle.rows.specs.Rows.{itemWidth, itemFrom, ItemIn};
 ghost use Rattle.room.specs.Counts.{Counts};
 ghost use Rattle.file.specs.Asking.{answered, itemsLeft};
@@ -24,8 +25,8 @@ fn find_number(
     row: usize,
     number: u64,
 ) -> Found
-    ensures answer { λ r. ⌜ told r ≡ answered (now (nodes .entry)) (now (items .entry)) (now (file .entry)) (question climbs (standard number) row) ⌝ }
-    ensures items { λ _. ⌜ now (items .exit) ≡ itemsLeft (now (nodes .entry)) (now (items .entry)) (now (file .entry)) (question climbs (standard number) row) ⌝ }
+    ensures answer { λ r. ⌜ told r ≡ answered (old nodes) (old items) (old file) (question climbs (standard number) row) ⌝ }
+    ensures items { λ _. ⌜ new items ≡ itemsLeft (old nodes) (old items) (old file) (question climbs (standard number) row) ⌝ }
 {
     if climbs {
         return find::find_standard(file, nodes, items, row, number);
@@ -42,8 +43,8 @@ fn find_name(
     row: usize,
     name: &[u8],
 ) -> Found
-    ensures answer { λ r. ⌜ told r ≡ answered (now (nodes .entry)) (now (items .entry)) (now (file .entry)) (question climbs (custom (now (name .entry))) row) ⌝ }
-    ensures items { λ _. ⌜ now (items .exit) ≡ itemsLeft (now (nodes .entry)) (now (items .entry)) (now (file .entry)) (question climbs (custom (now (name .entry))) row) ⌝ }
+    ensures answer { λ r. ⌜ told r ≡ answered (old nodes) (old items) (old file) (question climbs (custom (old name)) row) ⌝ }
+    ensures items { λ _. ⌜ new items ≡ itemsLeft (old nodes) (old items) (old file) (question climbs (custom (old name)) row) ⌝ }
 {
     if climbs {
         return find::find_custom(file, nodes, items, row, name);
@@ -61,8 +62,8 @@ fn find_field(
     field: Field,
     name: &[u8],
 ) -> Found
-    ensures answer { λ r. ⌜ told r ≡ answered (now (nodes .entry)) (now (items .entry)) (now (file .entry)) (question climbs (wantedOf field (now (name .entry))) row) ⌝ }
-    ensures items { λ _. ⌜ now (items .exit) ≡ itemsLeft (now (nodes .entry)) (now (items .entry)) (now (file .entry)) (question climbs (wantedOf field (now (name .entry))) row) ⌝ }
+    ensures answer { λ r. ⌜ told r ≡ answered (old nodes) (old items) (old file) (question climbs (wantedOf field (old name)) row) ⌝ }
+    ensures items { λ _. ⌜ new items ≡ itemsLeft (old nodes) (old items) (old file) (question climbs (wantedOf field (old name)) row) ⌝ }
 {
     match field {
         Field::Standard(number) => find_number(file, nodes, items, climbs, row, number),
@@ -73,7 +74,7 @@ fn find_field(
 // Puts the line of item row i, which was found, and its line on the sheet if it is visible.
 fn put_found(out: &mut [u8], file: &[u8], items: &[u64], i: usize) -> usize
     requires { ⌜ (i * itemWidth + itemWidth ≤ length (now items)) × ItemIn (length (now file)) (itemFrom (now items) (i * itemWidth)) ⌝ }
-    ensures { λ r. ⌜ Counts (now (out .entry)) (now (out .exit)) 0 (foundLines (now (file .entry)) (record { row = i; item = itemFrom (now (items .entry)) (i * itemWidth) })) r ⌝ }
+    ensures { λ r. ⌜ Counts (old out) (new out) 0 (foundLines (old file) (record { row = i; item = itemFrom (old items) (i * itemWidth) })) r ⌝ }
 {
     let next = crate::all_rows::put_item_row(out, 0, b'I', i, rows::item_at(items, i));
     sheet::put_visible_line(out, next, file, items, i)
@@ -87,7 +88,7 @@ pub fn make_found(
     name: &[u8],
     text: &mut [u8],
 ) -> Made
-    ensures { λ r. ⌜ Gives (length (now (text .entry))) r (now (text .exit)) (foundAnswer (length (now (text .entry))) climbs (wantedOf field (now (name .entry))) row (now (file .entry))) ⌝ }
+    ensures { λ r. ⌜ Gives (length (old text)) r (new text) (foundAnswer (length (old text)) climbs (wantedOf field (old name)) row (old file)) ⌝ }
 {
     let mut nodes = program::node_table();
     let mut items = program::item_table();

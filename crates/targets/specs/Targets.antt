@@ -2,7 +2,7 @@
 -- Assumes nothing.
 use mathlib.Core.List.{List, [], _∷_}
 use mathlib.Core.Bool.{Bool, false, cond, not, _&&_, _||_}
-use Prim.Native.Nat.{ℕ, _+_, min, max}
+use Prim.Native.Nat.{ℕ, zero, suc, _+_, _-_}
 use lib.Dec.{eqb, ltb, leb}
 use lib.ListN.{length}
 use Rattle.machine.specs.Machine.{Out, ok, refused, run}
@@ -36,7 +36,16 @@ outside h size p = leb (h .extent .end) p && (ltb p size && (ltb p (h .extent .s
 unfoldable pub partEnd : Header → (size p : ℕ) → ℕ
 partEnd h size p = cond (ltb p (h .extent .start)) (h .extent .start) size
 
+-- byte k is one of a detached node
+unfoldable pub isTaken : List Node → (k : ℕ) → Bool
+isTaken [] k = false
+isTaken (r ∷ rs) k = (eqb (r .detached) 1 && (leb (r .start) k && ltb k (r .start + r .size))) || isTaken rs k
+
+-- the first of n bytes from p on that a detached node has; the one behind them if none of them is
+unfoldable pub firstOf : List Node → (p n : ℕ) → ℕ
+firstOf rs p zero = p
+firstOf rs p (suc n) = cond (isTaken rs p) p (firstOf rs (suc p) n)
+
 -- the first byte from p on that a detached node has; `end` if none before that
 unfoldable pub firstTaken : List Node → (p end : ℕ) → ℕ
-firstTaken [] p end = end
-firstTaken (r ∷ rs) p end = cond (eqb (r .detached) 1 && ltb p (r .start + r .size)) (min (max p (r .start)) (firstTaken rs p end)) (firstTaken rs p end)
+firstTaken rs p end = firstOf rs p (end - p)

@@ -1,13 +1,19 @@
--- Where the detached nodes lie.
+-- Where the detached nodes lie, row by row.
 -- Assumes nothing.
 use mathlib.Core.Path.{_≡_}
-use mathlib.Core.List.{List}
+use mathlib.Core.Bool.{cond, _&&_}
+use mathlib.Core.List.{List, [], _∷_}
 use Prim.Native.Nat.{ℕ, _+_, _^_, _≤_, _<_, min, max}
+use lib.Dec.{eqb, ltb}
 use lib.ListN.{length}
 use Rattle.cursor.specs.declared.Node.{Node}
 use Rattle.rows.specs.Rows.{nodeAt, nodesIn}
-use Rattle.targets.specs.Targets.{firstTaken}
 use Rattle.targets.specs.declared.Span.{Span}
+
+-- the first byte from p on that a detached node has, row by row, as the code finds it; `end` if none before that
+unfoldable pub takenByRows : List Node → (p end : ℕ) → ℕ
+takenByRows [] p end = end
+takenByRows (r ∷ rs) p end = cond (eqb (r .detached) 1 && ltb p (r .start + r .size)) (min (max p (r .start)) (takenByRows rs p end)) (takenByRows rs p end)
 
 -- each of the first `count` rows in the words is of a node that ends below 2 ^ 28
 abbrev pub EndLow : (count : ℕ) → List ℕ → Type 0
@@ -24,7 +30,7 @@ HeaderIn size count ws i = nodeAt (nodesIn count ws) i .start + nodeAt (nodesIn 
 -- the rows behind the first `tree` are of detached nodes that lie in the span; its first byte is the first that any has, in a file of `size` bytes
 pub record Spanned (tree size : ℕ) (ns : List Node) (s : Span) : Type 0 where
   pub rows : (i : ℕ) → tree ≤ i → i < length ns → (nodeAt ns i .detached ≡ 1) × (0 < nodeAt ns i .size) × (nodeAt ns i .start + nodeAt ns i .size ≤ s .beyond .0)
-  pub first-is : s .first .0 ≡ firstTaken ns 0 size
+  pub first-is : s .first .0 ≡ takenByRows ns 0 size
 
 -- the span s and the node r lie in the span s′, which begins where the sooner of them does
 pub record Spans (r : Node) (s s′ : Span) : Type 0 where

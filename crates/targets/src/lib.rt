@@ -3,11 +3,12 @@ ghost use mathlib.Core.Path.{_≡_};
 ghost use mathlib.Core.Logic.{_⊎_};
 ghost use Prim.Native.Nat.{_≤_, _<_, _^_, _*_, _+_, min, max};
 ghost use lib.ListN.{length};
+ghost use Rattle.room.specs.Moments.{old};
 ghost use Rattle.header.specs.Told.{extentOf};
 ghost use Rattle.header.specs.Header as spec;
 ghost use Rattle.rows.specs.Rows.{nodeWidth, nodeAt, nodesIn};
-ghost use Rattle.targets.specs.Targets.{offsetAt, outside, partEnd, firstTaken};
-ghost use Rattle.targets.specs.Told.{EndLow, Attached, HeaderIn, Spans};
+ghost use Rattle.targets.specs.Targets.{offsetAt, outside, partEnd};
+ghost use Rattle.targets.specs.Told.{takenByRows, EndLow, Attached, HeaderIn, Spans};
 use cursor::Cursor;
 use cursor::FilePlace;
 use cursor::NodePlace;
@@ -32,7 +33,7 @@ fn greater(a: usize, b: usize) -> usize
     if a <= b { b } else { a }
 }
 
-// The first byte from `place` on that a detached node has; `end` if none before that. No row before row `tree` is detached.
+// The first byte from `place` on that a detached node has, by the rows; `end` if none before that. No row before row `tree` is detached.
 pub fn first_taken(
     nodes: &[u64],
     tree: usize,
@@ -41,7 +42,7 @@ pub fn first_taken(
     end: FilePlace,
 ) -> FilePlace
     requires { ⌜ (tree ≤ count) × (count * nodeWidth ≤ length (now nodes)) × EndLow count (now nodes) × Attached tree count (now nodes) ⌝ }
-    ensures { λ r. ⌜ r .0 ≡ firstTaken (nodesIn count (now (nodes .entry))) (place .0) (end .0) ⌝ }
+    ensures { λ r. ⌜ r .0 ≡ takenByRows (nodesIn count (old nodes)) (place .0) (end .0) ⌝ }
 {
     let mut i = count;
     let mut taken = end.0;
@@ -90,7 +91,7 @@ pub fn part_end(extent: Extent, size: usize, place: FilePlace) -> FilePlace
 // The place of row i's offset, found again from its header.
 pub fn offset_at(file: &[u8], nodes: &[u64], count: usize, i: usize) -> FilePlace
     requires { ⌜ (i < count) × (count * nodeWidth ≤ length (now nodes)) × HeaderIn (length (now file)) count (now nodes) i × (length (now file) < 2 ^ 28) ⌝ }
-    ensures { λ r. ⌜ r .0 ≡ offsetAt (now (file .entry)) (nodeAt (nodesIn count (now (nodes .entry))) i) ⌝ }
+    ensures { λ r. ⌜ r .0 ≡ offsetAt (old file) (nodeAt (nodesIn count (old nodes)) i) ⌝ }
 {
     let row = rows::node_at(nodes, i);
     let start = FilePlace(row.start as usize);
@@ -131,7 +132,7 @@ pub fn end_asked(place: FilePlace, end: FilePlace, span: Span) -> FilePlace
 // The span with the node of row `known`, if there are more rows than `known`.
 pub fn with_row(nodes: &[u64], known: usize, count: usize, span: Span) -> Span
     requires { ⌜ (count * nodeWidth ≤ length (now nodes)) × EndLow count (now nodes) ⌝ }
-    ensures { λ r. ⌜ (count ≤ known → r ≡ span) × (known < count → Spans (nodeAt (nodesIn count (now (nodes .entry))) known) span r) ⌝ }
+    ensures { λ r. ⌜ (count ≤ known → r ≡ span) × (known < count → Spans (nodeAt (nodesIn count (old nodes)) known) span r) ⌝ }
 {
     if count <= known {
         return span;

@@ -8,7 +8,7 @@ use native.Mathlib.Omega.{arith}
 use lib.ListN.{length, getD, drop, set}
 use lib.Seq.{sets, drop-cons, drop-drop, take-add}
 use borrow.Author.Tests.{le-leb, lt-leb, eq-eqb, ne-eqb}
-use Rattle.cursor.specs.Vlq.{part}
+use Rattle.room.specs.Parts.{part}
 use Rattle.unicode.specs.Unicode.{bytesAll}
 use Rattle.text.specs.Text.{hexDigits, hexDigit, plain, hexed, escaped, escapedPart}
 use Rattle.text.specs.Inside.{PlainUpTo}
@@ -58,8 +58,7 @@ all-append put (x ∷ a) b = ap (λ (t : List ℕ). put x ++ t) (all-append put 
 module _ (f : List ℕ) where
   part-cut : (at m end : ℕ) → at ≤ m → m ≤ end → part f at (end - at) ≡ part f at (m - at) ++ part f m (end - m)
   part-cut at m end a b =
-      let e : end - at ≡ (m - at) + (end - m) = omega arith in
-      let d : at + (m - at) ≡ m = omega arith in
+      let e : end - at ≡ (m - at) + (end - m) = omega arith in let d : at + (m - at) ≡ m = omega arith in
       rw (e, take-add (m - at) (end - m) (drop at f), drop-drop (m - at) at f, d)
 
   pub escaped-cut : (at m end : ℕ) → at ≤ m → m ≤ end → escapedPart f at (end - at) ≡ escapedPart f at (m - at) ++ escapedPart f m (end - m)
@@ -84,8 +83,7 @@ module _ (f : List ℕ) where
 
   pub plain-join : {from at to : ℕ} → PlainUpTo f from at → PlainUpTo f at to → PlainUpTo f from to
   plain-join {from} {at} {to} p q =
-      let v = p .within in
-      let w = q .within in
+      let v = p .within in let w = q .within in
       record { within = omega arith; same = escaped-cut from at to v w ∙ ap₂ (λ (a b : List ℕ). a ++ b) (p .same) (q .same) ∙ sym (part-cut from at to v w) }
 
   -- ---- bytes in hex, one more

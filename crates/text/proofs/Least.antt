@@ -10,7 +10,7 @@ use lib.Dec.{ltb, eqb}
 use lib.ListN.{length, drop, length-append, length-take, List·getD-eq-default}
 use lib.Seq.{getD-take, getD-drop}
 use borrow.Author.Tests.{eqb-true}
-use Rattle.cursor.specs.Vlq.{part}
+use Rattle.room.specs.Parts.{part}
 use Rattle.room.specs.Room.{Result, good, bad}
 use Rattle.room.proofs.Counting.{part-length}
 use Rattle.unicode.specs.Unicode.{bytesOf, bytes16, utf8, first16, chars, bytesAll, unmark, toUtf8}
@@ -26,9 +26,7 @@ all-least : (put : ℕ → List ℕ) → ((b : ℕ) → 0 < length (put b)) → 
 unfolding bytesAll
 all-least put h [] = omega arith
 all-least put h (b ∷ s) =
-    let x = h b in
-    let y = all-least put h s in
-    let z = length-append (put b) (bytesAll put s) in
+    let x = h b in let y = all-least put h s in let z = length-append (put b) (bytesAll put s) in
     omega arith
 
 escaped-by : (b : ℕ) (p : Bool) → 0 < length (cond p (b ∷ []) (hexed b))
@@ -65,8 +63,7 @@ units-bytes : (cs : List ℕ) → length (bytesAll bytes16 cs) ≤ 2 * length (b
 unfolding bytesAll
 units-bytes [] = omega arith
 units-bytes (c ∷ cs) =
-    let x = unit-bytes c in
-    let y = units-bytes cs in
+    let x = unit-bytes c in let y = units-bytes cs in
     let z = length-append (bytes16 c) (bytesAll bytes16 cs) in
     let w = length-append (utf8 c) (bytesAll utf8 cs) in
     omega arith
@@ -78,8 +75,7 @@ mark-bytes c e = rw (short16 c (omega arith))
 unmarked-by : (c : ℕ) (cs : List ℕ) (p : Bool) → eqb c 0xFEFF ≡ p → length (bytesAll bytes16 (c ∷ cs)) ≤ 2 + 2 * length (bytesAll utf8 (cond p cs (c ∷ cs)))
 unfolding bytesAll
 unmarked-by c cs true e =
-    let x = mark-bytes c (eqb-true c 0xFEFF e) in
-    let y = units-bytes cs in
+    let x = mark-bytes c (eqb-true c 0xFEFF e) in let y = units-bytes cs in
     let z = length-append (bytes16 c) (bytesAll bytes16 cs) in
     omega arith
 unmarked-by c cs false e = let x = units-bytes (c ∷ cs) in omega arith
@@ -95,8 +91,7 @@ converted-least d h e =
     let w = written-good utf8 unmark (chars first16 0 0 d) e in
     let v = write-all form16 0 0 d h (w .1) in
     let a : length d ≡ length (bytesAll bytes16 (w .0)) = ap length (v .1) in
-    let b = ap length (w .2) in
-    let m = unmarked (w .0) in
+    let b = ap length (w .2) in let m = unmarked (w .0) in
     omega arith
 
 -- ---- a part of bytes has bytes

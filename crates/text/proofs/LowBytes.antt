@@ -8,7 +8,7 @@ use native.Mathlib.Decide.{decLt}
 use native.Mathlib.Omega.{arith}
 use lib.Dec.{leb, eqb}
 use lib.ListN.{length, getD, drop}
-use Rattle.cursor.specs.Vlq.{part}
+use Rattle.room.specs.Parts.{part}
 use borrow.Author.Tests.{eq-eqb, ne-eqb, eqb-true, leb-true}
 use Rattle.room.specs.Room.{Result, good, bad}
 use Rattle.room.specs.Counts.{Counts, tooMany}
@@ -35,8 +35,7 @@ plain-most : (b : ℕ) → plain b ≡ true → b < 0x80
 unfolding plain
 plain-most b e =
     let w = both-true (leb 0x20 b && leb b 0x7E) (not (eqb b 0x5C)) e in
-    let v = both-true (leb 0x20 b) (leb b 0x7E) (w .0) in
-    let l = leb-true b 0x7E (v .1) in
+    let v = both-true (leb 0x20 b) (leb b 0x7E) (w .0) in let l = leb-true b 0x7E (v .1) in
     omega arith
 
 letter-shown : (b : ℕ) → plain b ≡ true → shown8 b ≡ b ∷ []
@@ -53,8 +52,7 @@ module _ (d : List ℕ) (at : ℕ) (h : letter d at ≡ true) where
 
   letter-first : at + 2 ≤ length d → char (getD d (at + 1) 0) 2 ≡ first16 (drop at d)
   letter-first l =
-      let e = letter-high in
-      let m = plain-most (getD d (at + 1) 0) letter-low in
+      let e = letter-high in let m = plain-most (getD d (at + 1) 0) letter-low in
       low-unit d at {left = length d - at} refl (omega arith) (omega arith) (omega arith)
 
 pub letter-none : (d : List ℕ) (at : ℕ) → (getD d at 0 ≡ 0 → ⊥) → false ≡ letter d at
@@ -92,9 +90,7 @@ letters-step : (d : List ℕ) → Bytes d → (at n : ℕ) → Letters d at n
 unfolding lows
 letters-step d h at zero w = let e : at + 2 * 0 ≡ at = omega arith in rw e (after-none _)
 letters-step d h at (suc n) w =
-    let l = w .inside in
-    let a = letters-first d at n w in
-    let b = getD d (at + 1) 0 in
+    let l = w .inside in let a = letters-first d at n w in let b = getD d (at + 1) 0 in
     let e : at + 2 + 2 * n ≡ at + 2 * suc n = omega arith in
     step shown8 form16 d h at (letter-first d at a (omega arith)) (omega arith)
     ∙ ap (λ (t : List ℕ). after t (converted first16 shown8 (at + 2) (drop (at + 2) d))) (letter-shown b (letter-low d at a))
@@ -141,8 +137,7 @@ module _ (f : List ℕ) (at n : ℕ) (l : at + n ≤ length f) {d : List ℕ} (e
   pub letters-text : Bytes f → {mark k : ℕ} → toUtf8 d ≡ converted first16 utf8 mark (drop mark d) → mark ≤ length d → Letters d mark k → mark + 2 * k ≡ n
       → {o o′ : List ℕ} {to r : ℕ} → to ≤ tooMany → Counts o o′ to (lows d mark k) r → Counts o o′ to (unicodeText f at n) r
   letters-text h {mark} {k} s m w j {o} t p =
-      let b : Bytes d = rw e (part-bytes f at n h) in
-      let z = lent-length in
+      let b : Bytes d = rw e (part-bytes f at n h) in let z = lent-length in
       let all = conv-letters d b k w (conv-start d o mark t m (shown-start d mark s)) p in
       let end : length d ≤ mark + 2 * k = omega arith in
       counts-as (unicode-good f at n e refl (all-good (toUtf8 d) end all)) (shown-end (toUtf8 d) end all)

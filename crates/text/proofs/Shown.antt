@@ -8,7 +8,7 @@ use native.Mathlib.Decide.{decLt}
 use native.Mathlib.Omega.{arith}
 use lib.ListN.{length, drop}
 use borrow.Author.Tests.{lt-ltb, le-ltb}
-use Rattle.cursor.specs.Vlq.{part}
+use Rattle.room.specs.Parts.{part}
 use Rattle.room.specs.Room.{Result, good, bad}
 use Rattle.room.specs.Counts.{Counts}
 use Rattle.room.proofs.Counting.{counts-as}

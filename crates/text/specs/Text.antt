@@ -5,7 +5,7 @@ use mathlib.Core.List.{List, [], _∷_, _++_}
 use Prim.Native.Nat.{ℕ, _/_, _%_}
 use lib.Dec.{ltb, leb, eqb}
 use lib.ListN.{getD}
-use Rattle.cursor.specs.Vlq.{part}
+use Rattle.room.specs.Parts.{part}
 use Rattle.room.specs.Room.{Result, good, bad}
 use Rattle.room.specs.Decimal.{decimal}
 use Rattle.unicode.specs.Unicode.{bytesAll, toUtf8}

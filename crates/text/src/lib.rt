@@ -4,6 +4,7 @@ ghost use mathlib.Core.Bool.{true};
 ghost use mathlib.Core.List.{[]};
 ghost use Prim.Native.Nat.{_≤_, _<_, _*_, _+_, _-_};
 ghost use lib.ListN.{length};
+ghost use Rattle.room.specs.Moments.{old, new};
 ghost use Rattle.room.specs.Counts.{Counts};
 ghost use Rattle.unicode.specs.Unicode.{utf8, toUtf8, isGood};
 ghost use Rattle.text.specs.Text.{hexDigits, plain, hexed, escaped, escapedPart, shown, shownOr, unicodeText, number, versionText};
@@ -12,7 +13,7 @@ use unicode::Character;
 
 // Puts a tab and a decimal number.
 pub fn put_number(out: &mut [u8], to: usize, n: u64) -> usize
-    ensures { λ r. ⌜ Counts (now (out .entry)) (now (out .exit)) to (number n) r ⌝ }
+    ensures { λ r. ⌜ Counts (old out) (new out) to (number n) r ⌝ }
 {
     let next = room::put_byte(out, to, 0x09);
     room::put_decimal(out, next, n)
@@ -44,7 +45,7 @@ pub fn hex_digits() -> [u8; 16]
 // Puts a byte as a backslash and two hex digits.
 fn put_hex(out: &mut [u8], to: usize, byte: u8, hex: &[u8; 16]) -> usize
     requires { ⌜ now hex ≡ hexDigits ⌝ }
-    ensures { λ r. ⌜ Counts (now (out .entry)) (now (out .exit)) to (hexed byte) r ⌝ }
+    ensures { λ r. ⌜ Counts (old out) (new out) to (hexed byte) r ⌝ }
 {
     if room::room_at(out.len(), 2) <= to {
         return room::on(to, 3);
@@ -57,7 +58,7 @@ fn put_hex(out: &mut [u8], to: usize, byte: u8, hex: &[u8; 16]) -> usize
 
 // Puts one byte as text.
 fn put_escaped_byte(out: &mut [u8], to: usize, byte: u8) -> usize
-    ensures { λ r. ⌜ Counts (now (out .entry)) (now (out .exit)) to (escaped byte) r ⌝ }
+    ensures { λ r. ⌜ Counts (old out) (new out) to (escaped byte) r ⌝ }
 {
     if is_plain(byte) {
         return room::put_byte(out, to, byte);
@@ -69,7 +70,7 @@ fn put_escaped_byte(out: &mut [u8], to: usize, byte: u8) -> usize
 // Where the bytes from `from` on that stand for themselves end.
 fn plain_end(file: &[u8], from: usize, end: usize) -> usize
     requires { ⌜ (from ≤ end) × (end ≤ length (now file)) ⌝ }
-    ensures { λ r. ⌜ PlainUpTo (now (file .entry)) from r × (r ≤ end) ⌝ }
+    ensures { λ r. ⌜ PlainUpTo (old file) from r × (r ≤ end) ⌝ }
 {
     let mut at = from;
     while at < end {
@@ -90,7 +91,7 @@ struct Run {
 // Puts the bytes from `from` on up to the first that stands for itself, in hex.
 fn put_hexes(out: &mut [u8], to: usize, file: &[u8], from: usize, end: usize, hex: &[u8; 16]) -> Run
     requires { ⌜ (now hex ≡ hexDigits) × (from ≤ end) × (end ≤ length (now file)) ⌝ }
-    ensures { λ r. ⌜ (from ≤ r .at) × (r .at ≤ end) × Counts (now (out .entry)) (now (out .exit)) to (escapedPart (now (file .entry)) from (r .at - from)) (r .next) ⌝ }
+    ensures { λ r. ⌜ (from ≤ r .at) × (r .at ≤ end) × Counts (old out) (new out) to (escapedPart (old file) from (r .at - from)) (r .next) ⌝ }
 {
     let mut next = to;
     let mut at = from;
@@ -108,7 +109,7 @@ fn put_hexes(out: &mut [u8], to: usize, file: &[u8], from: usize, end: usize, he
 // Puts `size` bytes of the file as text. Bytes that stand for themselves are put together, and so are bytes in hex.
 pub fn put_escaped(out: &mut [u8], to: usize, file: &[u8], from: usize, size: usize) -> usize
     requires { ⌜ from + size ≤ length (now file) ⌝ }
-    ensures { λ r. ⌜ Counts (now (out .entry)) (now (out .exit)) to (escapedPart (now (file .entry)) from size) r ⌝ }
+    ensures { λ r. ⌜ Counts (old out) (new out) to (escapedPart (old file) from size) r ⌝ }
 {
     let end = from + size;
     let hex = hex_digits();
@@ -132,7 +133,7 @@ pub fn put_escaped(out: &mut [u8], to: usize, file: &[u8], from: usize, size: us
 
 // Puts the version: 100 is `1.00`.
 pub fn put_version(out: &mut [u8], to: usize, version: u64) -> usize
-    ensures { λ r. ⌜ Counts (now (out .entry)) (now (out .exit)) to (versionText version) r ⌝ }
+    ensures { λ r. ⌜ Counts (old out) (new out) to (versionText version) r ⌝ }
 {
     let one = room::put_decimal(out, to, version / 100);
     let two = room::put_byte(out, one, b'.');
@@ -143,7 +144,7 @@ pub fn put_version(out: &mut [u8], to: usize, version: u64) -> usize
 // Puts a character of a converted text: a byte below 80h as text, another character as itself.
 fn put_shown_char(out: &mut [u8], to: usize, c: u64) -> usize
     requires { ⌜ c < 0x110000 ⌝ }
-    ensures { λ r. ⌜ Counts (now (out .entry)) (now (out .exit)) to (shown (utf8 c)) r ⌝ }
+    ensures { λ r. ⌜ Counts (old out) (new out) to (shown (utf8 c)) r ⌝ }
 {
     if c < 0x80 {
         return put_escaped_byte(out, to, c as u8);
@@ -154,7 +155,7 @@ fn put_shown_char(out: &mut [u8], to: usize, c: u64) -> usize
 // Whether the unit at a place is a byte that stands for itself.
 fn is_letter(units: &[u8], at: usize) -> bool
     requires { ⌜ at + 2 ≤ length (now units) ⌝ }
-    ensures { λ r. ⌜ r ≡ letter (now (units .entry)) at ⌝ }
+    ensures { λ r. ⌜ r ≡ letter (old units) at ⌝ }
 {
     if units[at] != 0 {
         return false;
@@ -165,7 +166,7 @@ fn is_letter(units: &[u8], at: usize) -> bool
 // How many such units follow each other from a place on.
 fn letters(units: &[u8], from: usize) -> usize
     requires { ⌜ from ≤ length (now units) ⌝ }
-    ensures { λ r. ⌜ Letters (now (units .entry)) from r ⌝ }
+    ensures { λ r. ⌜ Letters (old units) from r ⌝ }
 {
     let most = (units.len() - from) / 2;
     let mut n = 0;
@@ -181,7 +182,7 @@ fn letters(units: &[u8], from: usize) -> usize
 // The same where the first character is known: one from 80h up is none of them.
 fn letters_with(units: &[u8], from: usize, first: u64) -> usize
     requires { ⌜ from ≤ length (now units) ⌝ }
-    ensures { λ r. ⌜ Letters (now (units .entry)) from r ⌝ }
+    ensures { λ r. ⌜ Letters (old units) from r ⌝ }
 {
     if 0x80 <= first {
         return 0;
@@ -201,7 +202,7 @@ fn ends_in_letter(units: &[u8]) -> bool {
 // Puts the low bytes of `size` units.
 fn put_lows(out: &mut [u8], to: usize, units: &[u8], from: usize, size: usize) -> usize
     requires { ⌜ from + 2 * size ≤ length (now units) ⌝ }
-    ensures { λ r. ⌜ Counts (now (out .entry)) (now (out .exit)) to (lows (now (units .entry)) from size) r ⌝ }
+    ensures { λ r. ⌜ Counts (old out) (new out) to (lows (old units) from size) r ⌝ }
 {
     if room::room_at(out.len(), to) < size {
         return room::on(to, size);
@@ -217,7 +218,7 @@ fn put_lows(out: &mut [u8], to: usize, units: &[u8], from: usize, size: usize) -
 // Puts UTF-16 that converts, as it is shown. Letters that stand for themselves are put together.
 fn put_shown(out: &mut [u8], to: usize, units: &[u8]) -> usize
     requires { ⌜ isGood (toUtf8 (now units)) ≡ true ⌝ }
-    ensures { λ r. ⌜ Counts (now (out .entry)) (now (out .exit)) to (shownOr (toUtf8 (now (units .entry))) []) r ⌝ }
+    ensures { λ r. ⌜ Counts (old out) (new out) to (shownOr (toUtf8 (old units)) []) r ⌝ }
 {
     let mut at = unicode::after_mark(units);
     let mut next = to;
@@ -244,7 +245,7 @@ fn put_shown(out: &mut [u8], to: usize, units: &[u8]) -> usize
 // Puts `size` bytes of the file, which are UTF-16: converted, or as text where they do not convert. Where all units are letters that stand for themselves, they convert; the last one tells most texts of which that is not so.
 pub fn put_unicode(out: &mut [u8], to: usize, file: &[u8], from: usize, size: usize) -> usize
     requires { ⌜ from + size ≤ length (now file) ⌝ }
-    ensures { λ r. ⌜ Counts (now (out .entry)) (now (out .exit)) to (unicodeText (now (file .entry)) from size) r ⌝ }
+    ensures { λ r. ⌜ Counts (old out) (new out) to (unicodeText (old file) from size) r ⌝ }
 {
     let end = from + size;
     if ends_in_letter(&file[from..end]) {

@@ -173,8 +173,7 @@ module _ (f : List ℕ) (nsize isize row : ℕ) (title : List ℕ) (room : ℕ) 
             (readFile (limits (length t) (length u)) (take n out′)) → Says (written.Bytes n) t′ u′ out′
         unfolding counted writtenNodes writtenItems kept padded
         asked-good lo {out′} c lt lu a b =
-            let (g, e, size, inside, front) = wrote-was w k .is in
-            let q : result ≡ good g = result-is ∙ e in
+            let (g, e, size, inside, front) = wrote-was w k .is in let q : result ≡ good g = result-is ∙ e in
             let j : length out - n ≡ room - length g = omega arith in
             let d : out′ ≡ g ++ replicate (room - length g) 0 = c ∙ ap₂ (λ (v : List ℕ) (m : ℕ). v ++ replicate m 0) front j in
             let i : take n out′ ≡ g = ap (take n) d ∙ take-at g (replicate (room - length g) 0) n (sym size) in

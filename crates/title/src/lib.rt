@@ -2,6 +2,7 @@
 ghost use mathlib.Core.Path.{_≡_};
 ghost use Prim.Native.Nat.{_≤_, _*_, _+_};
 ghost use lib.ListN.{length};
+ghost use Rattle.room.specs.Moments.{old, new};
 ghost use Rattle.rows.specs.Rows.{nodeWidth, itemWidth, itemFrom, nodesIn, itemsIn};
 ghost use Rattle.room.specs.Room.{counted, kept};
 ghost use Rattle.room.specs.Told.{told};
@@ -16,7 +17,7 @@ use room::Written;
 // Whether some node names a place of the file.
 pub fn refers_elsewhere(nodes: &[u64], count: usize) -> bool
     requires { ⌜ count * nodeWidth ≤ length (now nodes) ⌝ }
-    ensures { λ r. ⌜ r ≡ elsewhere (nodesIn count (now (nodes .entry))) ⌝ }
+    ensures { λ r. ⌜ r ≡ elsewhere (nodesIn count (old nodes)) ⌝ }
 {
     let mut i: usize = 0;
     while i < count {
@@ -35,7 +36,7 @@ pub fn refers_elsewhere(nodes: &[u64], count: usize) -> bool
 // Whether item row `row` is hidden or a version.
 pub fn is_no_title(items: &[u64], row: usize) -> bool
     requires { ⌜ row * itemWidth + itemWidth ≤ length (now items) ⌝ }
-    ensures { λ r. ⌜ r ≡ isNoTitle (itemFrom (now (items .entry)) (row * itemWidth)) ⌝ }
+    ensures { λ r. ⌜ r ≡ isNoTitle (itemFrom (old items) (row * itemWidth)) ⌝ }
 {
     let item = rows::item_at(items, row);
     if item.format % 2 == 1 {
@@ -47,7 +48,7 @@ pub fn is_no_title(items: &[u64], row: usize) -> bool
 // The first refusal that the rows give; 0 for none.
 fn refusal_of(nodes: &[u64], items: &[u64], count: usize, total: usize, row: usize) -> u64
     requires { ⌜ (count * nodeWidth ≤ length (now nodes)) × (total * itemWidth ≤ length (now items)) ⌝ }
-    ensures { λ r. ⌜ r ≡ refusalOf row (nodesIn count (now (nodes .entry))) (itemsIn total (now (items .entry))) ⌝ }
+    ensures { λ r. ⌜ r ≡ refusalOf row (nodesIn count (old nodes)) (itemsIn total (old items)) ⌝ }
 {
     if total <= row {
         return cursor::NO_SUCH_ROW;
@@ -75,7 +76,7 @@ fn write_titled(
     title: &[u8],
 ) -> Written
     requires { ⌜ Stands (now file) (now nodes) (now items) count total ⌝ }
-    ensures { λ r. ⌜ WroteTitled (task (now (file .entry)) (now (nodes .entry)) (now (items .entry)) count total row (now (title .entry))) (now (out .entry)) (now (out .exit)) r ⌝ }
+    ensures { λ r. ⌜ WroteTitled (task (old file) (old nodes) (old items) count total row (old title)) (old out) (new out) r ⌝ }
 {
     let refusal = refusal_of(nodes, items, count, total, row);
     if refusal != 0 {
@@ -100,10 +101,10 @@ pub fn correct_title(
     title: &[u8],
     out: &mut [u8],
 ) -> Written
-    ensures answer { λ r. ⌜ told r ≡ counted (corrected (now (nodes .entry)) (now (items .entry)) (now (file .entry)) row (now (title .entry)) (now (out .entry))) ⌝ }
-    ensures nodes { λ _. ⌜ now (nodes .exit) ≡ nodesCorrected (now (nodes .entry)) (now (items .entry)) (now (file .entry)) row (now (title .entry)) (now (out .entry)) ⌝ }
-    ensures items { λ _. ⌜ now (items .exit) ≡ itemsCorrected (now (nodes .entry)) (now (items .entry)) (now (file .entry)) row (now (title .entry)) (now (out .entry)) ⌝ }
-    ensures out { λ _. ⌜ now (out .exit) ≡ kept (length (now (out .entry))) (corrected (now (nodes .entry)) (now (items .entry)) (now (file .entry)) row (now (title .entry)) (now (out .entry))) ⌝ }
+    ensures answer { λ r. ⌜ told r ≡ counted (corrected (old nodes) (old items) (old file) row (old title) (old out)) ⌝ }
+    ensures nodes { λ _. ⌜ new nodes ≡ nodesCorrected (old nodes) (old items) (old file) row (old title) (old out) ⌝ }
+    ensures items { λ _. ⌜ new items ≡ itemsCorrected (old nodes) (old items) (old file) row (old title) (old out) ⌝ }
+    ensures out { λ _. ⌜ new out ≡ kept (length (old out)) (corrected (old nodes) (old items) (old file) row (old title) (old out)) ⌝ }
 {
     match file::read_file(file, nodes, items) {
         Read::Refused(n, p) => {

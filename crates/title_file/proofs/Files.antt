@@ -7,8 +7,9 @@ use native.Mathlib.Omega.{arith}
 use native.Mathlib.Decide.{decLt}
 use lib.ListN.{length, take, drop, length-take, length-drop}
 use lib.Seq.{take-all}
-use Rattle.cursor.specs.Vlq.{part, vlq, joined}
-use Rattle.cursor.proofs.Lies.{joined-length}
+use Rattle.room.specs.Parts.{part, joined}
+use Rattle.vlq.specs.Vlq.{vlq}
+use Rattle.room.proofs.Lies.{joined-length}
 use Rattle.title_text.specs.Text.{startAt, fileBytes, treeStart, assembled, fileOf}
 use Rattle.room.specs.Counts.{Counts}
 use Rattle.room.proofs.Counting.{counts-as, counts-then, part-length}
@@ -48,8 +49,7 @@ module _ (opening types gap tree after : List ℕ) where
     exact : length types < sizeStop → Counts o o₈ 0 (fileOf opening types gap tree after) s₈
     unfolding fileOf assembled treeStart
     exact l =
-        let a : n ≡ length types = omega arith in
-        let b : first ≡ start = ef ∙ rw (a, et) refl in
+        let a : n ≡ length types = omega arith in let b : first ≡ start = ef ∙ rw (a, et) refl in
         counts-as (rw (b, et) refl) chain
 
     pub file-put : Fills o o₈ (fileOf opening types gap tree after) s₈

@@ -6,7 +6,8 @@ use Prim.Native.Nat.{ℕ, _+_, _-_, _≤_, _<_}
 use native.Mathlib.Omega.{arith}
 use lib.ListN.{length, take, drop}
 use Rattle.machine.specs.Machine.{ok, refused, run}
-use Rattle.cursor.specs.Vlq.{part, joined, sized}
+use Rattle.room.specs.Parts.{part, joined}
+use Rattle.vlq.specs.Vlq.{sized}
 use Rattle.cursor.specs.declared.FilePlace.{FilePlace}
 use Rattle.cursor.specs.declared.Node.{Node}
 use Rattle.cursor.specs.declared.Item.{Item}
@@ -43,9 +44,7 @@ module _ (lim : Limits) (f : List ℕ) {h : spec.Header} {ns : List Node} {is : 
     module _ {o : ℕ} (size : o ≡ openingSize (g .version)) where
       pub header-inside : (o ≤ length f) × (g .extent .end .0 ≤ g .extent .start .0) × (g .extent .start .0 ≤ g .extent .last .0) × (g .extent .last .0 < length f)
       header-inside =
-          let a = read-back lim f reads in
-          let b = header-of a in
-          let c = header-says f (a .header-is) .long in
+          let a = read-back lim f reads in let b = header-of a in let c = header-says f (a .header-is) .long in
           subst (λ (v : spec.Header). (openingSize (v .version) ≤ length f) → (v .extent .end ≤ v .extent .start) →
           (v .extent .start ≤ v .extent .last) → (v .extent .last < length f) → (o ≤ length f) × (g .extent .end .0 ≤ g .extent .start .0) ×
           (g .extent .start .0 ≤ g .extent .last .0) × (g .extent .last .0 < length f))

@@ -9,9 +9,9 @@ use native.Mathlib.Omega.{arith}
 use lib.ListN.{length, drop, length-append, length-map}
 use lib.Seq.{drop-at}
 use borrow.Author.Tests.{eq-eqb, ne-eqb}
-use Rattle.cursor.specs.Vlq.{part, joined}
+use Rattle.room.specs.Parts.{part, joined}
 use Rattle.cursor.specs.declared.Node.{Node}
-use Rattle.cursor.proofs.Lies.{lies-part}
+use Rattle.room.proofs.Lies.{lies-part}
 use Rattle.header.specs.Types.{Declared}
 use Rattle.metadata.specs.declared.Limits.{Limits}
 use Rattle.metadata.specs.declared.Made.{Made}
@@ -44,9 +44,7 @@ module _ {lim : Limits} {types : List Declared} where
       bs → (ss : List Shape) (ds : List Content) → Follows ss ds → Follows (rs ++ ss) (cs ++ ds)
   nodes-follow none ss ds w = w
   nodes-follow (more {r = r} {rs = rs} {ss = ts} {cs = cs} {ds = es} {es = fs} {inner = inner} {bs = bs} f ys xs) ss ds w =
-      let e = f .counted in
-      let l = nodes-length ys in
-      let i = nodes-outer ys (ts ++ ss) (fs ++ ds) in
+      let e = f .counted in let l = nodes-length ys in let i = nodes-outer ys (ts ++ ss) (fs ++ ds) in
       let k = nodes-follow ys (ts ++ ss) (fs ++ ds) (nodes-follow xs ss ds w) in
       rw (append-assoc (cs ++ es) fs ds, append-assoc cs es (fs ++ ds), append-assoc rs ts ss, drop-at cs (es ++ (fs ++ ds)) (r .rows) e)
       (omega (arith, length-append cs (es ++ (fs ++ ds))), omega (arith, ap length i, length-append inner (outer (ts ++ ss) (fs ++ ds))), k)
@@ -85,8 +83,7 @@ module _ (x : Task) where
 
     contents-on : drop (nodeOf x i .rows) (contents (firstItem (x .nodes) i)) ≡ contents (firstItem (x .nodes) (i + 1))
     contents-on =
-        let a : ℕ = firstItem (x .nodes) i in
-        let n : ℕ = nodeOf x i .rows in
+        let a : ℕ = firstItem (x .nodes) i in let n : ℕ = nodeOf x i .rows in
         let e : x .total - a - n ≡ x .total - (a + n) = omega arith in
         contents-drop (x .file) (x .row) (x .title) (x .items) a n (x .total - a) rows-within ∙ rw (first-on (x .nodes) i, e) refl
 
@@ -182,8 +179,7 @@ module _ {f t u : List ℕ} {count total : ℕ} (w : Stands f t u count total) (
 
   node-inside : (i : ℕ) → i < count → nodeOf x i .target + nodeOf x i .extent ≤ length f
   node-inside i l =
-      let e = node-at t count i l in
-      let k : i < length ns = rw rows-here l in
+      let e = node-at t count i l in let k : i < length ns = rw rows-here l in
       let a = accepted (w .limits) f (w .reads) .nodes-inside i k .2 in
       let b = stay-at f ns (all-stay f ns here) i k in
       rw e at (other a b)
@@ -201,8 +197,7 @@ module _ {f t u : List ℕ} {count total : ℕ} (w : Stands f t u count total) (
   unfolding nodesIn itemsIn
   each-begin =
       let a = rows-stand (w .limits) f (w .reads) (all-stay f ns here) in
-      let e₁ : total - 0 ≡ total = omega arith in
-      let e₂ : count - 0 ≡ count = omega arith in
+      let e₁ : total - 0 ≡ total = omega arith in let e₂ : count - 0 ≡ count = omega arith in
       rw (first-start t, e₁, e₂, plain-contents f total title u 0 total (omega arith)) a
 
   module _ (i : ℕ) (l : i < count) (e : EachFrom i) where
@@ -217,8 +212,7 @@ module _ {f t u : List ℕ} {count total : ℕ} (w : Stands f t u count total) (
 
     each-next : EachFrom (i + 1)
     each-next =
-        let a : ℕ = firstItem t i in
-        let n : ℕ = nodeOf x i .rows in
+        let a : ℕ = firstItem t i in let n : ℕ = nodeOf x i .rows in
         let k : total - a - n ≡ total - (a + n) = omega arith in
         rw (first-on t i, ← k, ← contents-drop f total title u a n (total - a) rows-left) (each-here .1)
 
@@ -239,14 +233,11 @@ module _ {f t u : List ℕ} {count total : ℕ} (w : Stands f t u count total) (
 
   leaf : (i : ℕ) → i < count → Leaf f (nodeOf x i) (contentsOf x i) (Outside row (firstItem t i) (firstItem t i + nodeOf x i .rows))
   leaf i l bytes z own e =
-      let a : ℕ = firstItem t i in
-      let n : ℕ = nodeOf x i .rows in
-      let fit = from-row x begin i (omega arith) .fits in
+      let a : ℕ = firstItem t i in let n : ℕ = nodeOf x i .rows in let fit = from-row x begin i (omega arith) .fits in
       let k = rows-within x i l (from-row x begin i (omega arith)) in
       let same : contentsOf x i ≡ plain a n = outside-contents f row title u a n own ∙ sym (plain-contents f total title u a n (omega arith)) in
       let size : length (nodeText (shapeOf x i) (plain a n) 0) ≡ nodeOf x i .size = sym (ap (λ v. length (nodeText (shapeOf x i) v 0)) same) ∙ e in
-      let h = leaf-covers i l z in
-      let inside = whole-row i l .inside in
+      let h = leaf-covers i l z in let inside = whole-row i l .inside in
       ap (λ v. nodeText (shapeOf x i) v 0) same
       ∙ sym (lies-part {g = f} {p = nodeOf x i .start} (record { inside = omega arith; same = h .tight bytes (omega arith) .byte }))
       ∙ ap (part f (nodeOf x i .start)) size

@@ -5,7 +5,8 @@ use mathlib.Core.List.{List}
 use Prim.Native.Nat.{ℕ, _+_, _-_, _≤_, _<_}
 use lib.ListN.{length, take, drop}
 use Rattle.machine.specs.Machine.{run}
-use Rattle.cursor.specs.Vlq.{part, sized}
+use Rattle.room.specs.Parts.{part}
+use Rattle.vlq.specs.Vlq.{sized}
 use Rattle.header.specs.Header.{Header}
 use Rattle.header.specs.declared.Extent.{Extent}
 use Rattle.metadata.specs.declared.Limits.{Limits}

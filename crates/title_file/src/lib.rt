@@ -3,6 +3,7 @@ ghost use mathlib.Core.Path.{_≡_};
 ghost use mathlib.Core.Bool.{false};
 ghost use Prim.Native.Nat.{_≤_, _<_, _^_};
 ghost use lib.ListN.{length};
+ghost use Rattle.room.specs.Moments.{old, new};
 ghost use Rattle.rows.specs.Rows.{nodesIn};
 ghost use Rattle.title_text.specs.Description.{openingSize};
 ghost use Rattle.title_text.specs.Text.{startWith, lastBytes, startAt, fileBytes};
@@ -38,7 +39,7 @@ fn start_at(fixed: usize, tree: usize, x: usize) -> usize
     let one = start_with(fixed, tree, x, 1);
     let two = start_with(fixed, tree, x, 2);
     let three = start_with(fixed, tree, x, 3);
-    start_with(fixed, tree, x, room::least_bytes(one, two, three))
+    start_with(fixed, tree, x, vlq::least_bytes(one, two, three))
 }
 
 // TreeStart, where `after` bytes follow the tree.
@@ -49,7 +50,7 @@ fn tree_start(fixed: usize, tree: usize, after: usize) -> usize
     let one = start_at(fixed, tree, 1) + tree + after;
     let two = start_at(fixed, tree, 2) + tree + after;
     let three = start_at(fixed, tree, 3) + tree + after;
-    start_at(fixed, tree, room::least_bytes(one, two, three))
+    start_at(fixed, tree, vlq::least_bytes(one, two, three))
 }
 
 // Puts the file, whose FileLength begins at `opening`.
@@ -67,8 +68,7 @@ fn put_file(
 ) -> usize
     requires rows { ⌜ Sound (task (now file) (now nodes) (now items) count total row (now title)) ⌝ }
     requires inside { ⌜ (opening .0 ≤ length (now file)) × (extent .end .0 ≤ extent .start .0) × (extent .start .0 ≤ extent .last .0) × (extent .last .0 < length (now file)) ⌝ }
-    ensures { λ r. ⌜ Fills (now (out .entry)) (now (out .exit))
-        (fileAnew (task (now (file .entry)) (now (nodes .entry)) (now (items .entry)) count total row (now (title .entry))) (opening .0) extent) r ⌝ }
+    ensures { λ r. ⌜ Fills (old out) (new out) (fileAnew (task (old file) (old nodes) (old items) count total row (old title)) (opening .0) extent) r ⌝ }
 {
     let mut metadata = [0usize; cursor::MOST_NODES];
     let mut packed = [0usize; cursor::MOST_NODES];
@@ -104,10 +104,10 @@ fn put_file(
     let stop = first + tree;
     let size = stop + after;
     let a = room::put_part(out, 0, file, 0, opening.0);
-    let b = room::put_number(out, a, size as u64);
+    let b = vlq::put_number(out, a, size as u64);
     let c = title_parts::put_types(out, b, file, opening);
-    let d = room::put_number(out, c, first as u64);
-    let e = room::put_number(out, d, (stop - 1) as u64);
+    let d = vlq::put_number(out, c, first as u64);
+    let e = vlq::put_number(out, d, (stop - 1) as u64);
     let f = room::put_part(out, e, file, end.0, gap);
     let g = title_nodes::put_tree(
         out,
@@ -151,7 +151,7 @@ pub fn put_titled(
     title: &[u8],
 ) -> usize
     requires { ⌜ Stands (now file) (now nodes) (now items) count total × (elsewhere (nodesIn count (now nodes)) ≡ false) ⌝ }
-    ensures { λ r. ⌜ PutTitled (task (now (file .entry)) (now (nodes .entry)) (now (items .entry)) count total row (now (title .entry))) (now (out .entry)) (now (out .exit)) r ⌝ }
+    ensures { λ r. ⌜ PutTitled (task (old file) (old nodes) (old items) count total row (old title)) (old out) (new out) r ⌝ }
 {
     let mut types = [0u64; header::MOST_TYPES * 2];
     match header::read_header(file, &mut types) {

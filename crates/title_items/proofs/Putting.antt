@@ -9,14 +9,16 @@ use native.Mathlib.Omega.{arith}
 use lib.Dec.{eqb, leb}
 use lib.ListN.{length, take, drop, length-append}
 use borrow.Author.Tests.{eq-eqb, ne-eqb, le-leb, lt-leb, lt-ltb, le-ltb}
-use Rattle.cursor.specs.Vlq.{part, from, least, vlq, joined, sized}
+use Rattle.room.specs.Parts.{part, joined}
+use Rattle.vlq.specs.Vlq.{from, least, vlq, sized}
 use Rattle.cursor.specs.declared.Item.{Item}
 use Rattle.rows.specs.Rows.{itemWidth, itemFrom, ItemIn, ItemRows}
 use Rattle.title_text.specs.Description.{Content, content, titled}
 use Rattle.title_text.specs.Text.{further, fieldText, itemText, universalText, versionText, contentText, itemsText}
-use Rattle.cursor.proofs.Least.{vlq-length}
+use Rattle.vlq.proofs.Least.{vlq-length}
 use Rattle.room.specs.Counts.{Counts, tooMany}
-use Rattle.room.proofs.Counting.{Going, going-start, going-on, going-end, counts-as, put-two, put-block, put-counted, part-length, lent-part}
+use Rattle.room.proofs.Counting.{Going, going-start, going-on, going-end, counts-as, put-two, part-length, lent-part}
+use Rattle.vlq.proofs.Sized.{put-block, put-counted}
 use Rattle.title_text.proofs.Counted.{counts-number}
 use Rattle.title_items.specs.Contents.{contentAt, contentsFrom, rowOf, rowText}
 

@@ -5,7 +5,7 @@ use mathlib.Core.List.{List, [], _∷_}
 use Prim.Native.Nat.{ℕ, zero, suc, _+_, _-_, _*_}
 use lib.Dec.{eqb, leb}
 use lib.ListN.{length}
-use Rattle.cursor.specs.Vlq.{joined}
+use Rattle.room.specs.Parts.{joined}
 use Rattle.rows.specs.Rows.{itemWidth, itemFrom, ItemIn}
 use Rattle.title_text.specs.Description.{Content, content, titled}
 use Rattle.title_text.specs.Text.{further, itemText, contentText}

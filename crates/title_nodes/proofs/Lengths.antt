@@ -3,8 +3,8 @@
 use mathlib.Core.Path.{_≡_, refl, _∙_}
 use Prim.Native.Nat.{ℕ, _+_, _-_, _≤_}
 use native.Mathlib.Omega.{arith}
-use Rattle.cursor.specs.Vlq.{from, least}
-use Rattle.cursor.proofs.Least.{least-in}
+use Rattle.vlq.specs.Vlq.{from, least}
+use Rattle.vlq.proofs.Least.{least-in}
 use Rattle.title_text.specs.Text.{headerBytes, headerSize, lengthBytes, startWith, lastBytes, startBytes, startAt, fileBytes}
 
 -- numbers that are the same at each count have the same least count

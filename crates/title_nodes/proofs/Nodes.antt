@@ -9,16 +9,18 @@ use native.Mathlib.Decide.{decLt}
 use lib.Dec.{eqb}
 use lib.ListN.{length}
 use borrow.Author.Tests.{eq-eqb, ne-eqb}
-use Rattle.cursor.specs.Vlq.{part, least, vlq, sized}
+use Rattle.room.specs.Parts.{part}
+use Rattle.vlq.specs.Vlq.{least, vlq, sized}
 use Rattle.cursor.specs.declared.Node.{Node}
-use Rattle.cursor.proofs.Least.{vlq-length}
-use Rattle.cursor.proofs.Lies.{joined-length}
+use Rattle.vlq.proofs.Least.{vlq-length}
+use Rattle.room.proofs.Lies.{joined-length}
 use Rattle.title_text.specs.Description.{Content, Shape, shape}
 use Rattle.title_text.specs.Text.{referenceText, itemsText, headerSize, lengthBytes, headerOf, framed, ownText, nodeText}
 use Rattle.title_text.proofs.Sizes.{framed-length, framed-most}
 use Rattle.title_text.proofs.Counted.{counts-number, counts-part, counts-sized}
 use Rattle.room.specs.Counts.{Counts, tooMany}
-use Rattle.room.proofs.Counting.{counts-as, counts-then, put-two, put-block, part-length}
+use Rattle.room.proofs.Counting.{counts-as, counts-then, put-two, part-length}
+use Rattle.vlq.proofs.Sized.{put-block}
 use Rattle.title_nodes.specs.Passes.{sizeStop, bodySize, restText, Framed}
 use Rattle.title_nodes.specs.declared.Frame.{Frame}
 use Rattle.title_nodes.proofs.Lengths.{few}
@@ -105,8 +107,7 @@ module _ (s : Shape) (cs : List Content) (n : ℕ) where
   node-most : length (restText s cs) + own ≤ length (nodeText s cs n)
   unfolding nodeText framed
   node-most =
-      let c : ℕ = own + n in
-      let h : ℕ = headerOf (s .contained) (restText s cs) c in
+      let c : ℕ = own + n in let h : ℕ = headerOf (s .contained) (restText s cs) c in
       omega (arith, joined-length (vlq (h + c) ∷ vlq (s .contained) ∷ vlq h ∷ restText s cs ∷ ownText s ∷ []))
 
   pub texts-within : texts ≤ length (nodeText s cs n)
@@ -145,8 +146,7 @@ module _ (s : Shape) (cs : List Content) (n : ℕ) where
 
     large : sizeStop ≤ length (restText s cs) + own → sizeStop ≤ k + w → Framed s cs n (record { header = h; size = size })
     large l i =
-        let t = node-most in
-        let j = header-least k (lengthBytes k (w + n)) in
+        let t = node-most in let j = header-least k (lengthBytes k (w + n)) in
         record { stops = omega arith; size = λ z. absurd (omega arith); header = λ z. absurd (omega arith) }
 
     pub framed-by : Framed s cs n (record { header = h; size = size })

@@ -8,7 +8,7 @@ use native.Mathlib.Decide.{decLe, decLt}
 use native.Mathlib.Omega.{arith}
 use lib.ListN.{length, getD, take, drop, set, length-append, length-drop, length-set}
 use lib.Seq.{drop-cons, drop-length, drop-drop, take-all, getD-set-same, getD-set-other}
-use Rattle.cursor.specs.Vlq.{part, joined}
+use Rattle.room.specs.Parts.{part, joined}
 use Rattle.cursor.specs.declared.Node.{Node}
 use Rattle.metadata.specs.Tables.{mostNodes}
 use Rattle.rows.specs.Rows.{ItemRows}
@@ -40,20 +40,15 @@ adding-start ws from end l = record { within = (omega arith, l); few = omega ari
 
 pub adding-on : {ws : List ℕ} {from end r k : ℕ} → Adding ws from end r k → k < end → end ≤ length ws → {q : ℕ} → q ≡ min (r + getD ws k 0) sizeStop → Adding ws from end q (k + 1)
 adding-on {ws} {from} {end} {r} {k} a l m {q} e =
-    let w = a .within in
-    let i : end - k ≡ suc (end - (k + 1)) = omega arith in
-    let j : suc k ≡ k + 1 = omega arith in
+    let w = a .within in let i : end - k ≡ suc (end - (k + 1)) = omega arith in let j : suc k ≡ k + 1 = omega arith in
     let p : part ws k (end - k) ≡ getD ws k 0 ∷ part ws (k + 1) (end - (k + 1)) = rw (i, drop-cons ws k 0 (omega arith), j) refl in
-    let t = ap sumOf p in
-    let u = a .same in
+    let t = ap sumOf p in let u = a .same in
     record { within = (omega arith, omega arith); few = omega arith; same = omega arith }
 
 pub adding-end : {ws : List ℕ} {from end r k : ℕ} → Adding ws from end r k → end ≤ k → r ≡ min (sumOf (part ws from (end - from))) sizeStop
 adding-end {ws} {from} {end} {r} {k} a l =
-    let z : end - k ≡ 0 = omega arith in
-    let t : sumOf (part ws k (end - k)) ≡ 0 = rw z refl in
-    let u = a .same in
-    let v = a .few in
+    let z : end - k ≡ 0 = omega arith in let t : sumOf (part ws k (end - k)) ≡ 0 = rw z refl in
+    let u = a .same in let v = a .few in
     omega arith
 
 -- ---- lengths that stop
@@ -140,8 +135,7 @@ module _ {x : Task} (s : Sound x) {i end top : ℕ} {sizes metadata packed : Lis
   -- the stack has the nodes that this one holds, and room for one more
   stack-has : top + contained ≤ mostNodes
   stack-has =
-      let l = w .stacked in
-      let r = w .room .0 in
+      let l = w .stacked in let r = w .room .0 in
       omega (arith, length-drop top sizes, ap length stack-is, stops-length below, s .nodes-follow j here)
 
   pub stack-room : 1 ≤ top
@@ -149,8 +143,7 @@ module _ {x : Task} (s : Sound x) {i end top : ℕ} {sizes metadata packed : Lis
 
   pub items-here : ItemRows (length (x .file)) end (x .items)
   items-here =
-      let e = rows-fit s j here in
-      let f = first-is in
+      let e = rows-fit s j here in let f = first-is in
       (omega (arith, s .items-inside .0), λ k l. s .items-inside .1 k (omega arith))
 
   -- what is known of the row
@@ -202,8 +195,7 @@ module _ {x : Task} (s : Sound x) {i end top : ℕ} {sizes metadata packed : Lis
             getD-set-other lengths j k (f .size) 0 o,
           ) (w .measured .laid k c b)
       | no c ↦
-          let z : k ≡ j = omega arith in
-          let l = w .long in
+          let z : k ≡ j = omega arith in let l = w .long in
           rw z (rw (
             getD-set-same metadata j m 0 (here-in (l .0)),
             getD-set-same packed j (p .size) 0 (here-in (l .1)),
@@ -216,11 +208,7 @@ module _ {x : Task} (s : Sound x) {i end top : ℕ} {sizes metadata packed : Lis
     measuring-on : Measuring x j (end - nodeOf x j .rows) (top + contained - 1) (set sizes (top + contained - 1) (f .size)) (set metadata j m) (set packed j (p .size))
         (set same j (p .same)) (set headers j (f .header)) (set lengths j (f .size))
     measuring-on =
-        let e = first-is in
-        let l = w .long in
-        let t = w .stacked in
-        let h = stack-has in
-        let o = stack-room in
+        let e = first-is in let l = w .long in let t = w .stacked in let h = stack-has in let o = stack-room in
         let r = w .room .1 in
         let q : top + contained - 1 + 1 ≡ top + contained = omega arith in
         record {
@@ -319,8 +307,7 @@ module _ {x : Task} (s : Sound x) {o o′ : List ℕ} {to : ℕ} {run : Run} {fi
 
   texts-here : m ≡ length (itemsText contents)
   texts-here =
-      let e = laid .texts in
-      let k = node-small in
+      let e = laid .texts in let k = node-small in
       let t = texts-within (shapeOf x i) (contentsOf x i) (innerOf x i) in
       rw contents-are (omega arith)
 
@@ -393,6 +380,5 @@ module _ {x : Task} (s : Sound x) {o o′ : List ℕ} {to : ℕ} {run : Run} {fi
 pub putting-end : {x : Task} (s : Sound x) {o o′ : List ℕ} {to : ℕ} {r : Run} {first i : ℕ} → Putting x o o′ to r first i → x .count ≤ i → {o″ : List ℕ} {n : ℕ}
     → Counts o′ o″ (r .next) (part (x .file) (r .from) (r .size)) n → Counts o o″ to (joined (outerFrom x 0)) n
 putting-end {x} s {i = i} w l p =
-    let k = w .within in
-    let e : i ≡ x .count = omega arith in
+    let k = w .within in let e : i ≡ x .count = omega arith in
     going-end (ap (λ v. joined (outerFrom x v)) e ∙ ap joined (outer-end s)) (going-on refl (w .going) p)

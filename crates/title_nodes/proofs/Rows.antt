@@ -5,7 +5,7 @@ use mathlib.Core.List.{List, [], _∷_, _++_, append-assoc}
 use Prim.Native.Nat.{ℕ, zero, suc, _+_, _-_, _*_, _≤_, _<_}
 use native.Mathlib.Omega.{arith}
 use lib.ListN.{length, take, drop, length-append, take-append-drop}
-use Rattle.cursor.specs.Vlq.{joined}
+use Rattle.room.specs.Parts.{joined}
 use Rattle.rows.specs.Rows.{nodeWidth, nodeFrom, nodesFrom, rowsFrom}
 use Rattle.title_text.specs.Description.{Content, Shape, shape}
 use Rattle.title_text.specs.Text.{nodeText, wholeText, outer}
@@ -76,9 +76,7 @@ module _ {x : Task} (s : Sound x) where
         (nodeOf x i .contained) (outerFrom x (i + 1))
     unfolding outerFrom outer shape
     outer-on =
-        let a : ℕ = firstItem (x .nodes) i in
-        let n : ℕ = nodeOf x i .rows in
-        let fit = rows-fit i l in
+        let a : ℕ = firstItem (x .nodes) i in let n : ℕ = nodeOf x i .rows in let fit = rows-fit i l in
         let e : x .total - a - n ≡ x .total - (a + n) = omega arith in
         rw (
           nodes-on (x .nodes) (x .count) i l,
@@ -95,6 +93,5 @@ module _ {x : Task} (s : Sound x) where
     -- the bytes of the nodes that a node holds are among those
     pub inner-within : innerOf x i ≤ length (joined (outerFrom x (i + 1)))
     inner-within =
-        let n : ℕ = nodeOf x i .contained in
-        let os : List (List ℕ) = outerFrom x (i + 1) in
+        let n : ℕ = nodeOf x i .contained in let os : List (List ℕ) = outerFrom x (i + 1) in
         omega (arith, length-append (joined (take n os)) (joined (drop n os)), ap length (sym (joined-append (take n os) (drop n os)) ∙ ap joined (take-append-drop n os)))

@@ -7,7 +7,8 @@ use mathlib.Core.List.{List, [], _∷_, map}
 use Prim.Native.Nat.{ℕ, zero, suc, _+_, _-_, _*_, _^_, _≤_, _<_, min}
 use lib.Dec.{eqb}
 use lib.ListN.{length, getD, take}
-use Rattle.cursor.specs.Vlq.{part, joined, sized}
+use Rattle.room.specs.Parts.{part, joined}
+use Rattle.vlq.specs.Vlq.{sized}
 use Rattle.cursor.specs.declared.Node.{Node}
 use Rattle.rows.specs.Rows.{nodeWidth, nodeFrom, nodesFrom, ItemRows}
 use Rattle.metadata.specs.Tables.{mostNodes}
@@ -116,3 +117,7 @@ pub record Laid (x : Task) (j metadata packed : ℕ) (same : Bool) (header size 
 -- it was at the rows from row i on
 pub record Measured (x : Task) (i : ℕ) (metadata packed : List ℕ) (same : List Bool) (headers lengths : List ℕ) : Type 0 where
   pub laid : (j : ℕ) → i ≤ j → j < x .count → Laid x j (getD metadata j 0) (getD packed j 0) (getD same j false) (getD headers j 0) (getD lengths j 0)
+
+-- it was at all rows
+abbrev pub Prepared : Task → (metadata packed : List ℕ) → (same : List Bool) → (headers lengths : List ℕ) → Type 0
+Prepared x metadata packed same headers lengths = Sound x × Measured x 0 metadata packed same headers lengths

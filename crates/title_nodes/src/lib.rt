@@ -5,13 +5,15 @@ ghost use mathlib.Core.Bool.{true};
 ghost use mathlib.Core.List.{List, []};
 ghost use Prim.Native.Nat.{ℕ, _≤_, _<_, _^_, _+_, _-_, min};
 ghost use lib.ListN.{length};
-ghost use Rattle.cursor.specs.Vlq.{part, least};
+ghost use Rattle.room.specs.Moments.{old, new};
+ghost use Rattle.room.specs.Parts.{part};
+ghost use Rattle.vlq.specs.Vlq.{least};
 ghost use Rattle.room.specs.Counts.{Counts};
 ghost use Rattle.rows.specs.Rows.{ItemRows};
 ghost use Rattle.title_text.specs.Text.{itemsText, referenceText, headerSize, lengthBytes};
 ghost use Rattle.title_items.specs.Contents.{contentsFrom};
 ghost use Rattle.title_parts.specs.Told.{PackedAs};
-ghost use Rattle.title_nodes.specs.Passes.{sizeStop, bodySize, sumOf, task, Outside, Leaf, Sound, Measured, treeText};
+ghost use Rattle.title_nodes.specs.Passes.{sizeStop, bodySize, sumOf, task, Outside, Leaf, Sound, Measured, Prepared, treeText};
 ghost use Rattle.title_nodes.specs.Told.{FrameTold, NodePut, Appends, NodeAppended, NodeRoom};
 use cursor::FilePlace;
 use cursor::Node;
@@ -44,7 +46,7 @@ pub fn self_bytes(m: usize) -> usize
     requires { ⌜ m ≤ 2 ^ 40 ⌝ }
     ensures { λ r. ⌜ r ≡ least (λ k. k + m) ⌝ }
 {
-    room::least_bytes(1 + m, 2 + m, 3 + m)
+    vlq::least_bytes(1 + m, 2 + m, 3 + m)
 }
 
 // NodeHeaderLength, where NodeLength has a bytes, and `fixed` bytes of the header are in neither.
@@ -63,7 +65,7 @@ fn length_bytes(fixed: usize, contents: usize) -> usize
     let one = header_size(fixed, 1) + contents;
     let two = header_size(fixed, 2) + contents;
     let three = header_size(fixed, 3) + contents;
-    room::least_bytes(one, two, three)
+    vlq::least_bytes(one, two, three)
 }
 
 // The bytes of the URI or inline data of a node row; a folder has none of its own.
@@ -83,11 +85,11 @@ fn put_reference(
     size: usize,
 ) -> usize
     requires { ⌜ place .0 + size ≤ length (now file) ⌝ }
-    ensures { λ r. ⌜ Counts (now (out .entry)) (now (out .exit)) to (referenceText reference (part (now (file .entry)) (place .0) size)) r ⌝ }
+    ensures { λ r. ⌜ Counts (old out) (new out) to (referenceText reference (part (old file) (place .0) size)) r ⌝ }
 {
-    let a = room::put_number(out, to, reference);
+    let a = vlq::put_number(out, to, reference);
     if reference == 4 {
-        let b = room::put_number(out, a, size as u64);
+        let b = vlq::put_number(out, a, size as u64);
         return room::put_part(out, b, file, place.0, size);
     }
     room::put_part(out, a, file, place.0, size)
@@ -97,9 +99,9 @@ fn put_reference(
 fn measure_reference(reference: u64, size: usize) -> usize
     ensures { λ r. ⌜ ((f : List ℕ) (place : ℕ) → place + size ≤ length f → Counts [] [] 0 (referenceText reference (part f place size)) r) ⌝ }
 {
-    let a = room::vlq_size(reference);
+    let a = vlq::vlq_size(reference);
     if reference == 4 {
-        return room::on(room::on(a, room::vlq_size(size as u64)), size);
+        return room::on(room::on(a, vlq::vlq_size(size as u64)), size);
     }
     room::on(a, size)
 }
@@ -109,11 +111,11 @@ fn frame_of(row: Node, metadata: usize, packed: usize, inner: usize) -> Frame
     requires { ⌜ (metadata ≤ sizeStop) × (inner ≤ sizeStop) ⌝ }
     ensures { λ r. ⌜ FrameTold row metadata packed inner r ⌝ }
 {
-    let unpackers = stopped(room::on(room::vlq_size(packed as u64), packed));
+    let unpackers = stopped(room::on(vlq::vlq_size(packed as u64), packed));
     let body = body_size(row) as usize;
     let own = stopped(measure_reference(row.reference, body));
-    let fixed = room::vlq_size(row.contained)
-        + room::vlq_size(metadata as u64)
+    let fixed = vlq::vlq_size(row.contained)
+        + vlq::vlq_size(metadata as u64)
         + metadata
         + unpackers;
     let contents = own + inner;
@@ -139,13 +141,12 @@ fn put_node(
 ) -> usize
     requires rows { ⌜ (node .target + node .extent ≤ length (now file)) × (length (now file) < 2 ^ 28) × (first ≤ end) × ItemRows (length (now file)) end (now items) ⌝ }
     requires sizes { ⌜ (metadata ≡ length (itemsText (contentsFrom (now file) row (now title) (now items) first (end - first)))) × PackedAs (now file) node packed ⌝ }
-    ensures { λ r. ⌜ NodePut (now (file .entry)) node (contentsFrom (now (file .entry)) row (now (title .entry)) (now (items .entry)) first (end - first))
-        frame (now (out .entry)) (now (out .exit)) to r ⌝ }
+    ensures { λ r. ⌜ NodePut (old file) node (contentsFrom (old file) row (old title) (old items) first (end - first)) frame (old out) (new out) to r ⌝ }
 {
-    let a = room::put_number(out, to, frame.size as u64);
-    let b = room::put_number(out, a, node.contained);
-    let c = room::put_number(out, b, frame.header as u64);
-    let d = room::put_number(out, c, metadata as u64);
+    let a = vlq::put_number(out, to, frame.size as u64);
+    let b = vlq::put_number(out, a, node.contained);
+    let c = vlq::put_number(out, b, frame.header as u64);
+    let d = vlq::put_number(out, c, metadata as u64);
     let e = title_items::put_items(out, d, file, items, first, end, row, title);
     let g = title_parts::put_unpackers(out, e, file, node, packed);
     let body = body_size(node) as usize;
@@ -181,7 +182,7 @@ fn stands(node: Node, first: usize, end: usize, row: usize, size: usize) -> bool
 // Appends `size` bytes of the file, from `from` on.
 fn extend(out: &mut [u8], file: &[u8], run: Run, from: usize, size: usize) -> Run
     requires { ⌜ (run .from + run .size ≤ length (now file)) × (from + size ≤ length (now file)) ⌝ }
-    ensures { λ r. ⌜ Appends (now (file .entry)) (now (out .entry)) (now (out .exit)) run (part (now (file .entry)) from size) r ⌝ }
+    ensures { λ r. ⌜ Appends (old file) (old out) (new out) run (part (old file) from size) r ⌝ }
 {
     if run.from + run.size == from {
         return Run {
@@ -213,8 +214,7 @@ fn put_row(
     requires sizes { ⌜ (metadata ≡ length (itemsText (contentsFrom (now file) row (now title) (now items) first (end - first)))) × PackedAs (now file) node packed ⌝ }
     requires inside { ⌜ (run .from + run .size ≤ length (now file)) × (node .start + node .size ≤ length (now file)) ⌝ }
     requires leaf { ⌜ Leaf (now file) node (contentsFrom (now file) row (now title) (now items) first (end - first)) (Outside row first end) ⌝ }
-    ensures { λ r. ⌜ NodeAppended (now (file .entry)) node (contentsFrom (now (file .entry)) row (now (title .entry)) (now (items .entry)) first (end - first))
-        frame (now (out .entry)) (now (out .exit)) run r ⌝ }
+    ensures { λ r. ⌜ NodeAppended (old file) node (contentsFrom (old file) row (old title) (old items) first (end - first)) frame (old out) (new out) run r ⌝ }
 {
     if stands(node, first, end, row, frame.size) {
         title_parts::know_bytes(file);
@@ -245,7 +245,7 @@ fn put_row(
 // The sum of the words from word `from` on, up to word `end`.
 fn sum(words: &[usize], from: usize, end: usize) -> usize
     requires { ⌜ (from ≤ end) × (end ≤ length (now words)) ⌝ }
-    ensures { λ r. ⌜ r ≡ min (sumOf (part (now (words .entry)) from (end - from))) sizeStop ⌝ }
+    ensures { λ r. ⌜ r ≡ min (sumOf (part (old words) from (end - from))) sizeStop ⌝ }
 {
     let mut r: usize = 0;
     let mut k = from;
@@ -274,9 +274,9 @@ pub fn measure_tree(
 ) -> usize
     requires task { ⌜ Sound (task (now file) (now nodes) (now items) count total row (now title)) ⌝ }
     requires room { ⌜ NodeRoom (now metadata) (now packed) (now same) (now headers) (now lengths) ⌝ }
-    ensures measured { λ _. ⌜ Measured (task (now (file .entry)) (now (nodes .entry)) (now (items .entry)) count total row (now (title .entry))) 0
-        (now (metadata .exit)) (now (packed .exit)) (now (same .exit)) (now (headers .exit)) (now (lengths .exit)) ⌝ }
-    ensures tree { λ r. ⌜ r ≡ min (length (treeText (task (now (file .entry)) (now (nodes .entry)) (now (items .entry)) count total row (now (title .entry))))) sizeStop ⌝ }
+    ensures measured { λ _. ⌜ Measured (task (old file) (old nodes) (old items) count total row (old title)) 0
+        (new metadata) (new packed) (new same) (new headers) (new lengths) ⌝ }
+    ensures tree { λ r. ⌜ r ≡ min (length (treeText (task (old file) (old nodes) (old items) count total row (old title)))) sizeStop ⌝ }
 {
     let mut sizes = [0usize; cursor::MOST_NODES];
     let mut top = cursor::MOST_NODES;
@@ -320,11 +320,10 @@ pub fn put_tree(
     headers: &[usize],
     lengths: &[usize],
 ) -> usize
-    requires rows { ⌜ Sound (task (now file) (now nodes) (now items) count total row (now title)) × Measured (task (now file) (now nodes) (now items) count total row (now title)) 0
-        (now metadata) (now packed) (now same) (now headers) (now lengths) ⌝ }
+    requires rows { ⌜ Prepared (task (now file) (now nodes) (now items) count total row (now title)) (now metadata) (now packed) (now same) (now headers) (now lengths) ⌝ }
     requires room { ⌜ NodeRoom (now metadata) (now packed) (now same) (now headers) (now lengths) ⌝ }
     requires small { ⌜ length (treeText (task (now file) (now nodes) (now items) count total row (now title))) < sizeStop ⌝ }
-    ensures { λ r. ⌜ Counts (now (out .entry)) (now (out .exit)) to (treeText (task (now (file .entry)) (now (nodes .entry)) (now (items .entry)) count total row (now (title .entry)))) r ⌝ }
+    ensures { λ r. ⌜ Counts (old out) (new out) to (treeText (task (old file) (old nodes) (old items) count total row (old title))) r ⌝ }
 {
     let mut run = Run {
         next: to,

@@ -9,7 +9,8 @@ use borrow.Author.Tests.{ne-eqb}
 use Rattle.machine.specs.Machine.{Out, ok, refused, run, times}
 use Rattle.cursor.specs.Rows.{Frame, P, unpackFrame, fileFrame}
 use Rattle.cursor.specs.Leaves.{number, block, manufacturer, guid}
-use Rattle.cursor.specs.Vlq.{part, vlq, joined, sized}
+use Rattle.room.specs.Parts.{part, joined}
+use Rattle.vlq.specs.Vlq.{vlq, sized}
 use Rattle.cursor.specs.declared.Cursor.{Cursor}
 use Rattle.cursor.specs.declared.FilePlace.{FilePlace}
 use Rattle.machine.proofs.Laws.{running, andThen, run-times, run-timed}
@@ -18,7 +19,8 @@ use Rattle.cursor.proofs.Leaves.{Any, any-free, guid-on, manufacturer-on}
 use Rattle.title_text.specs.Description.{answer, copied, identifierText, unpackerText, entryText, tableText}
 use Rattle.title_text.proofs.Counted.{counts-part}
 use Rattle.room.specs.Counts.{Counts, tooMany}
-use Rattle.room.proofs.Counting.{counts-none, counts-then, counts-as, put-sized}
+use Rattle.room.proofs.Counting.{counts-none, counts-then, counts-as}
+use Rattle.vlq.proofs.Sized.{put-sized}
 use Rattle.title_parts.specs.Told.{numberText, Copies}
 use Rattle.title_parts.specs.declared.Copied.{Copied}
 use Rattle.title_parts.specs.declared.Copied.the-variants as copying
@@ -223,8 +225,7 @@ module _ (f : List ℕ) (body : List ℕ → P (List ℕ)) (behind : Behind f bo
   pub times-behind : (n : ℕ) (b : List ℕ) (at : ℕ) → run (times n body b) f at ≡ before b (run (times n body []) f at)
   times-behind zero b at = run-timed f 0 at body b refl ∙ ap (λ v. ok v at) (sym (append-nil b)) ∙ ap (before b) (sym (run-timed f 0 at body [] refl))
   times-behind (suc n) b at =
-      let k : suc n - 1 ≡ n = omega arith in
-      let some : (suc n ≡ 0) → ⊥ = λ z. omega arith in
+      let k : suc n - 1 ≡ n = omega arith in let some : (suc n ≡ 0) → ⊥ = λ z. omega arith in
       let e₁ : run (times (suc n) body b) f at ≡ andThen (run (body b) f at) (λ t p. run (times n body t) f p) = rw k at (run-times f (suc n) at body b some) in
       let e₂ : run (times (suc n) body []) f at ≡ andThen (run (body []) f at) (λ t p. run (times n body t) f p) = rw k at (run-times f (suc n) at body [] some) in
       e₁ ∙ ap (λ v. andThen v (λ t p. run (times n body t) f p)) (behind b at) ∙ times-by n (times-behind n) b (run (body []) f at) ∙ ap (before b) (sym e₂)
@@ -322,9 +323,7 @@ entry-put a b c d p q x y = counts-then p (counts-then q (counts-then x (counts-
 pub block-copied : {z z′ o o₁ o₂ : List ℕ} {s s₁ n m : ℕ} {c d : Cursor} (x : Out (List ℕ)) → Copies z z′ 0 (copying.To n c) x → Counts o o₁
     s (vlq n) s₁ → Copies o₁ o₂ s₁ (copying.To m d) x → Counts o o₂ s (sized (answer x)) m
 block-copied x j v w =
-    let (a, e, p) = j .is in
-    let (b, h, q) = w .is in
-    let k : b ≡ a = ok-left (sym h ∙ e) in
+    let (a, e, p) = j .is in let (b, h, q) = w .is in let k : b ≡ a = ok-left (sym h ∙ e) in
     let l : answer x ≡ a = ap answer e in
     rw l (put-sized a p v (counts-as k q))
 

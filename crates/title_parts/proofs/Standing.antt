@@ -10,10 +10,10 @@ use lib.ListN.{length, getD}
 use Rattle.machine.specs.Machine.{Out, ok, refused, run, times}
 use Rattle.cursor.specs.Rows.{P, unpackFrame}
 use Rattle.cursor.specs.Leaves.{guid, manufacturer}
-use Rattle.cursor.specs.Vlq.{part}
+use Rattle.room.specs.Parts.{part}
 use Rattle.cursor.specs.declared.Cursor.{Cursor}
 use Rattle.cursor.specs.declared.Node.{Node}
-use Rattle.cursor.proofs.Lies.{lies-part}
+use Rattle.room.proofs.Lies.{lies-part}
 use Rattle.cursor.proofs.Post.{Post, post-after, post-step, post-place, post-if, post-ret, post-times}
 use Rattle.cursor.proofs.Runs.{nothing, nothing-quiet, Holds, post-ran}
 use Rattle.title_text.specs.Description.{answer, copied, identifierText, unpackerText, shape}
@@ -62,8 +62,7 @@ module _ {f : List ℕ} {at q : ℕ} {s : List ℕ} (h : Covers f at s q) where
 
   pub covers-same : length f < 2 ^ 28 → Bytes f → q ≤ length f → {n : ℕ} → n ≡ min (length s) tooMany → q - at ≡ n → (at + n ≤ length f) × (part f at n ≡ s)
   covers-same small bytes inside {n} e k =
-      let i = h .short in
-      let l : n ≡ length s = omega arith in
+      let i = h .short in let l : n ≡ length s = omega arith in
       (omega arith, ap (part f at) l ∙ lies-part {g = f} {p = at} (record { inside = omega arith; same = h .tight bytes (omega arith) .byte }))
 
 -- ---- what was measured

@@ -9,7 +9,8 @@ use Rattle.machine.specs.Machine.{Out, ok, refused, _>>=_, ret}
 use Rattle.cursor.specs.Rows.{Frame, P}
 use Rattle.cursor.specs.Refusals.{cutShort}
 use Rattle.cursor.specs.Leaves.{number}
-use Rattle.cursor.specs.Vlq.{part, vlq}
+use Rattle.room.specs.Parts.{part}
+use Rattle.vlq.specs.Vlq.{vlq}
 use Rattle.cursor.specs.declared.Node.{Node}
 use Rattle.title_text.specs.Description.{shape}
 use Rattle.room.specs.Counts.{Counts}

@@ -3,8 +3,9 @@ ghost use mathlib.Core.List.{[]};
 ghost use Prim.Native.Nat.{_<_, _^_};
 ghost use lib.ListN.{length};
 ghost use Rattle.machine.specs.Machine.{run, times};
+ghost use Rattle.room.specs.Moments.{old, new};
 ghost use Rattle.cursor.specs.Rows.{Frame};
-ghost use Rattle.cursor.specs.Vlq.{sized};
+ghost use Rattle.vlq.specs.Vlq.{sized};
 ghost use Rattle.title_text.specs.Description.{answer, unpackerText, identifierText, entryText, tableText, shape};
 ghost use Rattle.title_text.specs.Title.{Bytes};
 ghost use Rattle.room.specs.Counts.{Counts};
@@ -23,18 +24,18 @@ pub enum Copied {
 
 // Puts the number at c.
 fn copy_number(out: &mut [u8], to: usize, file: &[u8], c: Cursor) -> Copied
-    ensures { λ r. ⌜ ((κ : Frame) → Copies (now (out .entry)) (now (out .exit)) to r (run (numberText κ (now (file .entry))) (now (file .entry)) (c .at .0))) ⌝ }
+    ensures { λ r. ⌜ ((κ : Frame) → Copies (old out) (new out) to r (run (numberText κ (old file)) (old file) (c .at .0))) ⌝ }
 {
     match c.number(file, FilePlace(file.len()), cursor::CUT_SHORT) {
         Numbered::Refused(n, p) => Copied::Refused(n, p),
-        Numbered::Is(v, d) => Copied::To(room::put_number(out, to, v), d),
+        Numbered::Is(v, d) => Copied::To(vlq::put_number(out, to, v), d),
     }
 }
 
 // Puts what names the unpacker at c, which is of that kind.
 fn copy_identifier(out: &mut [u8], to: usize, file: &[u8], c: Cursor, kind: u64) -> Copied
     requires { ⌜ length (now file) < 2 ^ 28 ⌝ }
-    ensures { λ r. ⌜ Copies (now (out .entry)) (now (out .exit)) to r (run (identifierText (now (file .entry)) kind) (now (file .entry)) (c .at .0)) ⌝ }
+    ensures { λ r. ⌜ Copies (old out) (new out) to r (run (identifierText (old file) kind) (old file) (c .at .0)) ⌝ }
 {
     let start = c.at;
     let end = FilePlace(file.len());
@@ -63,12 +64,12 @@ fn copy_identifier(out: &mut [u8], to: usize, file: &[u8], c: Cursor, kind: u64)
 // Puts the unpacker at c.
 fn copy_unpacker(out: &mut [u8], to: usize, file: &[u8], c: Cursor) -> Copied
     requires { ⌜ length (now file) < 2 ^ 28 ⌝ }
-    ensures { λ r. ⌜ Copies (now (out .entry)) (now (out .exit)) to r (run (unpackerText (now (file .entry)) []) (now (file .entry)) (c .at .0)) ⌝ }
+    ensures { λ r. ⌜ Copies (old out) (new out) to r (run (unpackerText (old file) []) (old file) (c .at .0)) ⌝ }
 {
     match c.number(file, FilePlace(file.len()), cursor::CUT_SHORT) {
         Numbered::Refused(n, p) => Copied::Refused(n, p),
         Numbered::Is(kind, d) => {
-            let a = room::put_number(out, to, kind);
+            let a = vlq::put_number(out, to, kind);
             match copy_identifier(out, a, file, d, kind) {
                 Copied::Refused(n, p) => Copied::Refused(n, p),
                 Copied::To(b, e) => copy_number(out, b, file, e),
@@ -80,7 +81,7 @@ fn copy_unpacker(out: &mut [u8], to: usize, file: &[u8], c: Cursor) -> Copied
 // Puts the unpackers at c, of which there are so many.
 fn copy_unpackers(out: &mut [u8], to: usize, file: &[u8], c: Cursor, count: u64) -> Copied
     requires { ⌜ length (now file) < 2 ^ 28 ⌝ }
-    ensures { λ r. ⌜ Copies (now (out .entry)) (now (out .exit)) to r (run (times count (unpackerText (now (file .entry))) []) (now (file .entry)) (c .at .0)) ⌝ }
+    ensures { λ r. ⌜ Copies (old out) (new out) to r (run (times count (unpackerText (old file)) []) (old file) (c .at .0)) ⌝ }
 {
     let mut next = to;
     let mut at = c;
@@ -100,18 +101,18 @@ fn copy_unpackers(out: &mut [u8], to: usize, file: &[u8], c: Cursor, count: u64)
 
 // Counts the bytes of the number at c, from `to` on. What is counted is as what is put, with no buffer.
 fn measure_number(to: usize, file: &[u8], c: Cursor) -> Copied
-    ensures { λ r. ⌜ ((κ : Frame) → Copies [] [] to r (run (numberText κ (now (file .entry))) (now (file .entry)) (c .at .0))) ⌝ }
+    ensures { λ r. ⌜ ((κ : Frame) → Copies [] [] to r (run (numberText κ (old file)) (old file) (c .at .0))) ⌝ }
 {
     match c.number(file, FilePlace(file.len()), cursor::CUT_SHORT) {
         Numbered::Refused(n, p) => Copied::Refused(n, p),
-        Numbered::Is(v, d) => Copied::To(room::on(to, room::vlq_size(v)), d),
+        Numbered::Is(v, d) => Copied::To(room::on(to, vlq::vlq_size(v)), d),
     }
 }
 
 // Counts the bytes of what names the unpacker at c, which is of that kind.
 fn measure_identifier(to: usize, file: &[u8], c: Cursor, kind: u64) -> Copied
     requires { ⌜ length (now file) < 2 ^ 28 ⌝ }
-    ensures { λ r. ⌜ Copies [] [] to r (run (identifierText (now (file .entry)) kind) (now (file .entry)) (c .at .0)) ⌝ }
+    ensures { λ r. ⌜ Copies [] [] to r (run (identifierText (old file) kind) (old file) (c .at .0)) ⌝ }
 {
     let start = c.at;
     let end = FilePlace(file.len());
@@ -139,12 +140,12 @@ fn measure_identifier(to: usize, file: &[u8], c: Cursor, kind: u64) -> Copied
 // Counts the bytes of the unpacker at c.
 fn measure_unpacker(to: usize, file: &[u8], c: Cursor) -> Copied
     requires { ⌜ length (now file) < 2 ^ 28 ⌝ }
-    ensures { λ r. ⌜ Copies [] [] to r (run (unpackerText (now (file .entry)) []) (now (file .entry)) (c .at .0)) ⌝ }
+    ensures { λ r. ⌜ Copies [] [] to r (run (unpackerText (old file) []) (old file) (c .at .0)) ⌝ }
 {
     match c.number(file, FilePlace(file.len()), cursor::CUT_SHORT) {
         Numbered::Refused(n, p) => Copied::Refused(n, p),
         Numbered::Is(kind, d) => {
-            let a = room::on(to, room::vlq_size(kind));
+            let a = room::on(to, vlq::vlq_size(kind));
             match measure_identifier(a, file, d, kind) {
                 Copied::Refused(n, p) => Copied::Refused(n, p),
                 Copied::To(b, e) => measure_number(b, file, e),
@@ -156,7 +157,7 @@ fn measure_unpacker(to: usize, file: &[u8], c: Cursor) -> Copied
 // Counts the bytes of the unpackers at c, of which there are so many.
 fn measure_unpackers(file: &[u8], c: Cursor, count: u64) -> Copied
     requires { ⌜ length (now file) < 2 ^ 28 ⌝ }
-    ensures { λ r. ⌜ Copies [] [] 0 r (run (times count (unpackerText (now (file .entry))) []) (now (file .entry)) (c .at .0)) ⌝ }
+    ensures { λ r. ⌜ Copies [] [] 0 r (run (times count (unpackerText (old file)) []) (old file) (c .at .0)) ⌝ }
 {
     let mut size: usize = 0;
     let mut at = c;
@@ -176,7 +177,7 @@ fn measure_unpackers(file: &[u8], c: Cursor, count: u64) -> Copied
 
 // Every element of a file is below 256. The compiler leaves nothing of this loop, which is here for its contract.
 pub fn know_bytes(file: &[u8])
-    ensures { λ _. ⌜ Bytes (now (file .entry)) ⌝ }
+    ensures { λ _. ⌜ Bytes (old file) ⌝ }
 {
     let mut i: usize = 0;
     while i < file.len() {
@@ -194,7 +195,7 @@ pub struct Packed {
 // Measures the unpackers of a node row. Those of a file that was read are never refused. Where the file has no more bytes than their shortest form, it has that form.
 pub fn unpackers_of(file: &[u8], row: Node) -> Packed
     requires { ⌜ length (now file) < 2 ^ 28 ⌝ }
-    ensures { λ r. ⌜ PackedAs (now (file .entry)) row r ⌝ }
+    ensures { λ r. ⌜ PackedAs (old file) row r ⌝ }
 {
     let at = FilePlace(row.unpackers as usize);
     match measure_unpackers(file, Cursor { at }, row.unpackerCount) {
@@ -219,9 +220,9 @@ pub fn unpackers_of(file: &[u8], row: Node) -> Packed
 // Puts the unpackers of a node row, which were measured, with their length.
 pub fn put_unpackers(out: &mut [u8], to: usize, file: &[u8], row: Node, p: Packed) -> usize
     requires { ⌜ (length (now file) < 2 ^ 28) × PackedAs (now file) row p ⌝ }
-    ensures { λ r. ⌜ Counts (now (out .entry)) (now (out .exit)) to (sized (shape (now (file .entry)) row .unpackers)) r ⌝ }
+    ensures { λ r. ⌜ Counts (old out) (new out) to (sized (shape (old file) row .unpackers)) r ⌝ }
 {
-    let a = room::put_number(out, to, p.size as u64);
+    let a = vlq::put_number(out, to, p.size as u64);
     if p.size == 0 {
         return a;
     }
@@ -238,7 +239,7 @@ pub fn put_unpackers(out: &mut [u8], to: usize, file: &[u8], row: Node, p: Packe
 // Puts the entry of the types table at c.
 fn copy_entry(out: &mut [u8], to: usize, file: &[u8], c: Cursor) -> Copied
     requires { ⌜ length (now file) < 2 ^ 28 ⌝ }
-    ensures { λ r. ⌜ Copies (now (out .entry)) (now (out .exit)) to r (run (entryText (now (file .entry)) []) (now (file .entry)) (c .at .0)) ⌝ }
+    ensures { λ r. ⌜ Copies (old out) (new out) to r (run (entryText (old file) []) (old file) (c .at .0)) ⌝ }
 {
     let end = FilePlace(file.len());
     match copy_number(out, to, file, c) {
@@ -249,7 +250,7 @@ fn copy_entry(out: &mut [u8], to: usize, file: &[u8], c: Cursor) -> Copied
                 Numbered::Refused(n, p) => Copied::Refused(n, p),
                 Numbered::Is(size, name) => {
                     let first = name.at;
-                    let g = room::put_number(out, b, size);
+                    let g = vlq::put_number(out, b, size);
                     let h = room::put_part(out, g, file, first.0, size as usize);
                     Copied::To(h, name.on(size))
                 }
@@ -261,7 +262,7 @@ fn copy_entry(out: &mut [u8], to: usize, file: &[u8], c: Cursor) -> Copied
 // Puts the entries of the types table at c, of which there are so many.
 fn copy_entries(out: &mut [u8], to: usize, file: &[u8], c: Cursor, count: u64) -> Copied
     requires { ⌜ length (now file) < 2 ^ 28 ⌝ }
-    ensures { λ r. ⌜ Copies (now (out .entry)) (now (out .exit)) to r (run (times count (entryText (now (file .entry))) []) (now (file .entry)) (c .at .0)) ⌝ }
+    ensures { λ r. ⌜ Copies (old out) (new out) to r (run (times count (entryText (old file)) []) (old file) (c .at .0)) ⌝ }
 {
     let mut next = to;
     let mut at = c;
@@ -282,7 +283,7 @@ fn copy_entries(out: &mut [u8], to: usize, file: &[u8], c: Cursor, count: u64) -
 // Puts the types table's count and entries; FileLength, which stands before the table, begins at c.
 fn copy_table(out: &mut [u8], to: usize, file: &[u8], c: Cursor) -> Copied
     requires { ⌜ length (now file) < 2 ^ 28 ⌝ }
-    ensures { λ r. ⌜ Copies (now (out .entry)) (now (out .exit)) to r (run (tableText (now (file .entry))) (now (file .entry)) (c .at .0)) ⌝ }
+    ensures { λ r. ⌜ Copies (old out) (new out) to r (run (tableText (old file)) (old file) (c .at .0)) ⌝ }
 {
     let end = FilePlace(file.len());
     match c.number(file, end, cursor::CUT_SHORT) {
@@ -292,7 +293,7 @@ fn copy_table(out: &mut [u8], to: usize, file: &[u8], c: Cursor) -> Copied
             Numbered::Is(_, e) => match e.number(file, end, cursor::CUT_SHORT) {
                 Numbered::Refused(n, p) => Copied::Refused(n, p),
                 Numbered::Is(count, g) => {
-                    let a = room::put_number(out, to, count);
+                    let a = vlq::put_number(out, to, count);
                     copy_entries(out, a, file, g, count)
                 }
             },
@@ -303,14 +304,14 @@ fn copy_table(out: &mut [u8], to: usize, file: &[u8], c: Cursor) -> Copied
 // Puts the types table with its length; FileLength, which stands before it, begins at `opening`. The table of a file that was read is never refused.
 pub fn put_types(out: &mut [u8], to: usize, file: &[u8], opening: FilePlace) -> usize
     requires { ⌜ length (now file) < 2 ^ 28 ⌝ }
-    ensures { λ r. ⌜ Counts (now (out .entry)) (now (out .exit)) to (sized (answer (run (tableText (now (file .entry))) (now (file .entry)) (opening .0)))) r ⌝ }
+    ensures { λ r. ⌜ Counts (old out) (new out) to (sized (answer (run (tableText (old file)) (old file) (opening .0)))) r ⌝ }
 {
     let c = Cursor { at: opening };
     let mut scratch = [0u8; 1];
     match copy_table(&mut scratch, 0, file, c) {
-        Copied::Refused(_, _) => room::put_number(out, to, 0),
+        Copied::Refused(_, _) => vlq::put_number(out, to, 0),
         Copied::To(n, _) => {
-            let a = room::put_number(out, to, n as u64);
+            let a = vlq::put_number(out, to, n as u64);
             match copy_table(out, a, file, c) {
                 Copied::Refused(_, _) => a,
                 Copied::To(b, _) => b,

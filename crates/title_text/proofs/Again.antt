@@ -99,8 +99,7 @@ pub corrected : (i : ℕ) (text : List ℕ) (room : ℕ) (f : List ℕ) (h : Hea
     text room f h ns is ≡ good g → Corrected i text room f h ns is g
 unfolding correctTitle fitting
 corrected i text room f h ns is {g} e =
-    let (a, e₁) = unless (leb (length is) i) 18 0 e in
-    let (b, e₂) = unless (elsewhere ns) 36 0 e₁ in
+    let (a, e₁) = unless (leb (length is) i) 18 0 e in let (b, e₂) = unless (elsewhere ns) 36 0 e₁ in
     let (c, e₃) = unless (isNoTitle (itemAt is i)) 37 0 e₂ in
     let (s, e₄) = unless (leb (2 ^ 28) (length (titledFile i text f h ns is))) 38 0 e₃ in
     let (t, e₅) = unless (ltb room (length (titledFile i text f h ns is))) 22 0 e₄ in
@@ -133,24 +132,18 @@ module _ (lim : Limits) (f : List ℕ) {h : Header} {ns : List Node} {is : List 
   -- it is accepted with the same tables, and says the old description with that title
   pub correct-says : Says lim g (retitled i text (described f h ns is))
   correct-says =
-      let c = corrected i text room f h ns is e in
-      let q = c .is-file in
+      let c = corrected i text room f h ns is e in let q = c .is-file in
       subst (λ v. Says lim v (retitled i text (described f h ns is))) q (retitled-reads lim f reads (c .here) i text (subst (λ v. length v < 2 ^ 28) (sym q) (c .small)))
 
   -- the same title again gives the same file
   pub correct-again : (room′ : ℕ) → length g ≤ room′ → ask (readFile lim g) (correctTitle i text room′ g) ≡ good g
   unfolding ask
   correct-again room′ l =
-      let c = corrected i text room f h ns is e in
-      let q = c .is-file in
-      let s = correct-says in
+      let c = corrected i text room f h ns is e in let q = c .is-file in let s = correct-says in
       let w = items-of i text f g h ns is (s .header) (s .nodes) (s .items) (s .says) in
-      let n₁ = map-length (content g) (s .items) in
-      let n₂ = ap length (w .1) in
-      let n₃ = titled-length i text (map (content f) is) in
-      let n₄ = map-length (content f) is in
-      let there = c .there in
-      let in′ : i < length (s .items) = omega arith in
+      let n₁ = map-length (content g) (s .items) in let n₂ = ap length (w .1) in
+      let n₃ = titled-length i text (map (content f) is) in let n₄ = map-length (content f) is in
+      let there = c .there in let in′ : i < length (s .items) = omega arith in
       let title : isNoTitle (itemAt (s .items) i) ≡ false =
       none-at g (s .items) i in′ ∙ ap (λ v. noTitle v i) (w .1) ∙ titled-none i i text (map (content f) is) ∙ sym (none-at f is i there) ∙ c .title in
       let here : elsewhere (s .nodes) ≡ false = stay-elsewhere g (s .nodes) (subst AllStay (sym (w .0)) (all-stay f ns (c .here))) in

@@ -13,13 +13,15 @@ use borrow.Author.Tests.{lt-ltb, le-ltb, lt-leb, le-leb, eq-eqb, ne-eqb}
 use Rattle.machine.specs.Machine.{ret, here, Out, ok, refused, seen, passed, run, trace, _>>=_, _>>_, if_then_else_, place, skip, check, turns, many, times}
 use Rattle.cursor.specs.Rows.{Frame, Part, P, Events, hasInline, sizeIf, inlineSize, metaFrame, referenceFrame}
 use Rattle.cursor.specs.Leaves as leaves
-use Rattle.cursor.specs.Vlq.{vlq, joined, sized}
+use Rattle.room.specs.Parts.{joined}
+use Rattle.vlq.specs.Vlq.{vlq, sized}
 use Rattle.cursor.specs.declared.Node.{Node}
 use Rattle.cursor.specs.declared.Item.{Item}
 use Rattle.machine.proofs.Laws.{running, ran, afterwards, trace-bind}
 use Rattle.machine.proofs.Stable.{chain, ends, Held, Kept, kept}
-use Rattle.cursor.proofs.Lies.{Lies, lies-left, lies-right, lies-at, lies-as, stand, stand-sized, joined-length, sized-length}
-use Rattle.cursor.proofs.Back.{number-back, block-back}
+use Rattle.room.proofs.Lies.{Lies, lies-left, lies-right, lies-at, lies-as, stand, joined-length}
+use Rattle.vlq.proofs.Sized.{stand-sized, sized-length}
+use Rattle.vlq.proofs.Back.{number-back, block-back}
 use Rattle.machine.proofs.Agree.{Agree, AgreeUpTo, agree-on}
 use Rattle.header.specs.Types.{Declared, Known, known, unknown, formatOf}
 use Rattle.metadata.specs.Tables.{plusItem, plusNode}
@@ -168,19 +170,11 @@ module _ {g k : List ℕ} (big : length g < 2 ^ 28) where
   universal-runs x l end m p {c} {d} lab w fm h h₂ i =
       let ss : List (List ℕ) = vlq (c .format) ∷ c .bytes ∷ [] in
       let ts : List (List ℕ) = vlq (d .format) ∷ d .bytes ∷ [] in
-      let n : ℕ = length (joined ss) in
-      let q : ℕ = p + length (vlq n) in
-      let t = stand-sized (joined ss) h in
-      let t₂ = stand-sized (joined ts) h₂ in
-      let s = stand ss (t .1) in
-      let s₂ = stand ts (t₂ .1) in
-      let y = sized-length (joined ss) in
-      let z = joined-length ss in
-      let z₂ = joined-length ts in
-      let ef = ap (λ v. length (vlq v)) (w .pair .format) in
-      let eb = w .pair .bytes .long in
-      let en : length (joined ts) ≡ n = omega arith in
-      let el = ap (λ v. length (vlq v)) en in
+      let n : ℕ = length (joined ss) in let q : ℕ = p + length (vlq n) in let t = stand-sized (joined ss) h in
+      let t₂ = stand-sized (joined ts) h₂ in let s = stand ss (t .1) in let s₂ = stand ts (t₂ .1) in
+      let y = sized-length (joined ss) in let z = joined-length ss in let z₂ = joined-length ts in
+      let ef = ap (λ v. length (vlq v)) (w .pair .format) in let eb = w .pair .bytes .long in
+      let en : length (joined ts) ≡ n = omega arith in let el = ap (λ v. length (vlq v)) en in
       let a = lies-as (ap vlq en) (t₂ .0) in
       let b : Lies k q (vlq (c .format)) = lies-at (omega arith) (lies-as (ap vlq (sym (w .pair .format))) (s₂ .0)) in
       let e₁ = block-back metaFrame 3 end n (t .0) (omega (arith, h .inside)) (omega arith) in
@@ -201,14 +195,9 @@ module _ {g k : List ℕ} (big : length g < 2 ^ 28) where
       let n : ℕ = length (c .bytes) in
       let ss : List (List ℕ) = vlq (c .declared) ∷ sized (c .bytes) ∷ [] in
       let ts : List (List ℕ) = vlq (d .declared) ∷ sized (d .bytes) ∷ [] in
-      let s = stand ss h in
-      let s₂ = stand ts h₂ in
-      let t₁ = stand-sized (c .bytes) (s .1 .0) in
-      let t₂ = stand-sized (d .bytes) (s₂ .1 .0) in
-      let y = sized-length (c .bytes) in
-      let z = joined-length ss in
-      let ed = ap (λ v. length (vlq v)) (w .pair .declared) in
-      let eb = w .pair .bytes .long in
+      let s = stand ss h in let s₂ = stand ts h₂ in let t₁ = stand-sized (c .bytes) (s .1 .0) in
+      let t₂ = stand-sized (d .bytes) (s₂ .1 .0) in let y = sized-length (c .bytes) in let z = joined-length ss in
+      let ed = ap (λ v. length (vlq v)) (w .pair .declared) in let eb = w .pair .bytes .long in
       let a = lies-as (ap vlq (sym (w .pair .declared))) (s₂ .0) in
       let q : ℕ = p + length (vlq (c .declared)) in
       let b : Lies k q (vlq n) = lies-at (omega arith) (lies-as (ap vlq (sym eb)) (t₂ .0)) in
@@ -253,14 +242,11 @@ module _ {g k : List ℕ} (big : length g < 2 ^ 28) where
       let t₂ : fieldText d ≡ fieldText c = rw (kd, kd₂, w .pair .field) refl in
       runs-chunk (fb .ran) (agree p (fieldText c) h (lies-as t₂ h₂))
   field-runs end p {c} {d} w (inr (kd, nil, some)) h h₂ i =
-      let n : ℕ = length (c .name) in
-      let kd₂ : d .kind ≡ 1 = sym (w .pair .kind) ∙ kd in
+      let n : ℕ = length (c .name) in let kd₂ : d .kind ≡ 1 = sym (w .pair .kind) ∙ kd in
       let t : cond (eqb (c .kind) 1) (sized (c .name)) (joined (vlq 0 ∷ vlq (c .field) ∷ [])) ≡ sized (c .name) = rw kd refl in
       let t₂ : cond (eqb (d .kind) 1) (sized (d .name)) (joined (vlq 0 ∷ vlq (d .field) ∷ [])) ≡ sized (d .name) = rw kd₂ refl in
-      let h′ : Lies g p (sized (c .name)) = lies-as t h in
-      let s = stand-sized (c .name) h′ in
-      let s₂ = stand-sized (d .name) (lies-as t₂ h₂) in
-      let z = sized-length (c .name) in
+      let h′ : Lies g p (sized (c .name)) = lies-as t h in let s = stand-sized (c .name) h′ in
+      let s₂ = stand-sized (d .name) (lies-as t₂ h₂) in let z = sized-length (c .name) in
       let i′ : p + length (sized (c .name)) ≤ end = rw t at i in
       let a : Lies k p (vlq n) = lies-as (ap vlq (sym (w .pair .name .long))) (s₂ .0) in
       let e₁ = block-back metaFrame 3 end n (s .0) (omega (arith, h′ .inside)) (omega arith) in
@@ -283,10 +269,8 @@ module _ {g k : List ℕ} (big : length g < 2 ^ 28) where
       → p + length (fieldText c) + length (vlq n) ≤ end → Runs g k (itemFrame end) p
   unfolding itemFrame
   frame-runs end p n {c} {d} w f l a b a₂ b₂ i =
-      let fb = field-back g big end p c f a (omega arith) in
-      let e = field-pair (w .pair) .long in
-      let q : ℕ = p + length (fieldText c) in
-      let b₃ : Lies k q (vlq n) = lies-at (omega arith) b₂ in
+      let fb = field-back g big end p c f a (omega arith) in let e = field-pair (w .pair) .long in
+      let q : ℕ = p + length (fieldText c) in let b₃ : Lies k q (vlq n) = lies-at (omega arith) b₂ in
       let cr = contents-runs end q n l b b₃ i in
       runs-then _ (fb .ran) (field-runs end p w f a a₂ (omega arith)) (runs-on cr (λ a q e. runs-ret))
 
@@ -297,42 +281,34 @@ module _ {g k : List ℕ} (big : length g < 2 ^ 28) where
       → Runs g k (item x node index end m) p
   unfolding item rowsFor
   item-runs x node index end m p (more {b = d} w none) (one {c} f a b v dc fm) h h₂ i r =
-      let v′ : c .version ≡ 0 = sym v in
-      let v₂ : d .version ≡ 0 = sym (w .pair .version) ∙ v′ in
+      let v′ : c .version ≡ 0 = sym v in let v₂ : d .version ≡ 0 = sym (w .pair .version) ∙ v′ in
       let ss : List (List ℕ) = fieldText c ∷ vlq 0 ∷ universalText c ∷ [] in
       let ts : List (List ℕ) = fieldText d ∷ vlq 0 ∷ universalText d ∷ [] in
       let t : entryText (c ∷ []) ≡ joined ss = rw v′ refl in
       let t₂ : entryText (d ∷ []) ≡ joined ts = rw v₂ refl in
-      let s = stand ss (lies-as t h) in
-      let s₂ = stand ts (lies-as t₂ h₂) in
-      let z = joined-length ss in
+      let s = stand ss (lies-as t h) in let s₂ = stand ts (lies-as t₂ h₂) in let z = joined-length ss in
       let i′ : p + length (joined ss) ≤ end = rw t at i in
       let fb = field-back g big end p c f (s .0) (omega arith) in
       let e₂ = number-back metaFrame 3 end 0 (s .1 .0) (omega arith) (omega arith) in
       let e₁ = sym (frame-all end g p (fb .ran) (sym (contents-universal end g (p + length (fieldText c)) e₂ refl))) in
-      let ef = field-pair (w .pair) .long in
-      let q : ℕ = p + length (fieldText c) + length (vlq 0) in
+      let ef = field-pair (w .pair) .long in let q : ℕ = p + length (fieldText c) + length (vlq 0) in
       let u₂ : Lies k q (universalText d) = lies-at (omega arith) (s₂ .1 .1 .0) in
       runs-then _ e₁ (frame-runs end p 0 w f (omega arith) (s .0) (s .1 .0) (s₂ .0) (s₂ .1 .0) (omega arith))
       (universal-runs x _ end m q (fb .labels node index a b) w fm (s .1 .1 .0) u₂ (omega arith))
   item-runs x node index end m p (more {b = d} {t = ds} w ws) (several {c} {cs} f a b v few) h h₂ i r =
-      let n : ℕ = suc (length cs) in
-      let v′ : c .version ≡ 1 = sym (v .1) in
+      let n : ℕ = suc (length cs) in let v′ : c .version ≡ 1 = sym (v .1) in
       let v₂ : d .version ≡ 1 = sym (w .pair .version) ∙ v′ in
       let en : suc (length ds) ≡ n = ap suc (sym (each-length ws)) in
       let ss : List (List ℕ) = fieldText c ∷ vlq n ∷ joined (versionTexts (c ∷ cs)) ∷ [] in
       let ts : List (List ℕ) = fieldText d ∷ vlq n ∷ joined (versionTexts (d ∷ ds)) ∷ [] in
       let t : entryText (c ∷ cs) ≡ joined ss = rw v′ refl in
       let t₂ : entryText (d ∷ ds) ≡ joined ts = rw (v₂, en) refl in
-      let s = stand ss (lies-as t h) in
-      let s₂ = stand ts (lies-as t₂ h₂) in
-      let z = joined-length ss in
+      let s = stand ss (lies-as t h) in let s₂ = stand ts (lies-as t₂ h₂) in let z = joined-length ss in
       let i′ : p + length (joined ss) ≤ end = rw t at i in
       let fb = field-back g big end p c f (s .0) (omega arith) in
       let e₂ = number-back metaFrame 3 end n (s .1 .0) few (omega arith) in
       let e₁ = sym (frame-all end g p (fb .ran) (sym (contents-versions end g (p + length (fieldText c)) e₂ (λ z. omega arith)))) in
-      let ef = field-pair (w .pair) .long in
-      let q : ℕ = p + length (fieldText c) + length (vlq n) in
+      let ef = field-pair (w .pair) .long in let q : ℕ = p + length (fieldText c) + length (vlq n) in
       let u₂ : Lies k q (joined (versionTexts (d ∷ ds))) = lies-at (omega arith) (s₂ .1 .1 .0) in
       let j : 1 ≡ m .items + 1 - m .items = omega arith in
       runs-then _ e₁ (frame-runs end p n w f few (s .0) (s .1 .0) (s₂ .0) (s₂ .1 .0) (omega arith))
@@ -388,13 +364,9 @@ module _ (g k : List ℕ) (big : length g < 2 ^ 28) (x : Context) (node end : �
   turns-runs (more w ws) (entries.more {cs = cs} {css = css} e es) zero m p h h₂ i l r = let z = length-append (entryText cs)
       (joined (entryTexts css)) in absurd (omega (arith, entry-some e))
   turns-runs {index} (more {b = ds} {t = dss} w ws) (entries.more {cs = cs} {css = css} e es) (suc t) m p h h₂ i l r =
-      let a : List ℕ = entryText cs in
-      let b : List ℕ = entryText ds in
-      let z = length-append a (joined (entryTexts css)) in
-      let y = length-append cs (flat css) in
-      let s = entry-some e in
-      let n = entry-pair w .long in
-      let lc = lies-left a (joined (entryTexts css)) h in
+      let a : List ℕ = entryText cs in let b : List ℕ = entryText ds in
+      let z = length-append a (joined (entryTexts css)) in let y = length-append cs (flat css) in
+      let s = entry-some e in let n = entry-pair w .long in let lc = lies-left a (joined (entryTexts css)) h in
       let ld = lies-left b (joined (entryTexts dss)) h₂ in
       runs-here _ p (runs-if _ (lt-ltb p end (omega arith))
       (runs-then _ (next-run index m p e lc (omega arith) (omega arith)) (next-runs index m p w e lc ld (omega arith) (omega arith))
@@ -407,12 +379,8 @@ metadata-runs : (g k : List ℕ) → length g < 2 ^ 28 → (x : Context) (node e
     → p + length (sized (joined (entryTexts css))) ≤ end → m .items + length (flat css) ≤ x .limits .items → Runs g k (metadata x node end m) p
 unfolding metadata metaItems many
 metadata-runs g k big x node end {css} {dss} w es m p h h₂ i r =
-    let t : List ℕ = joined (entryTexts css) in
-    let n : ℕ = length t in
-    let q : ℕ = p + length (vlq n) in
-    let s = stand-sized t h in
-    let s₂ = stand-sized (joined (entryTexts dss)) h₂ in
-    let z = sized-length t in
+    let t : List ℕ = joined (entryTexts css) in let n : ℕ = length t in let q : ℕ = p + length (vlq n) in
+    let s = stand-sized t h in let s₂ = stand-sized (joined (entryTexts dss)) h₂ in let z = sized-length t in
     let en : length (joined (entryTexts dss)) ≡ n = sym (entries-pair w .long) in
     let el = ap (λ v. length (vlq v)) en in
     let a : Lies k p (vlq n) = lies-as (ap vlq en) (s₂ .0) in
@@ -440,8 +408,7 @@ numbered-text : (n : ℕ) (cs ds : List Content) → 1 < n → Numbered n cs →
 unfolding itemsText contentText
 numbered-text n [] ds l v = refl
 numbered-text n (c ∷ cs) ds l v =
-    let h : 1 < c .version = omega (arith, v .0) in
-    let z : (c .version ≡ 0) → ⊥ = λ z. omega arith in
+    let h : 1 < c .version = omega (arith, v .0) in let z : (c .version ≡ 0) → ⊥ = λ z. omega arith in
     simp (lt-leb _ _ h, ne-eqb _ _ z, numbered-text (n + 1) cs ds (omega arith) (v .1), append-nil, append-assoc)
 
 opens-pair : {types : List Declared} {node index : ℕ} {css dss : List (List Content)} → Entries types node index css → Each (Each Pair) css dss → Opens (flat dss)
@@ -454,13 +421,11 @@ items-text-pair : {types : List Declared} {node index : ℕ} {css dss : List (Li
 unfolding itemsText contentText itemText
 items-text-pair entries.none none = refl
 items-text-pair (entries.more (one {c} f a b v dc fm) es) (more (more {b = d} w none) ws) =
-    let v′ : d .version ≡ 0 = sym (v ∙ w .pair .version) in
-    let l : d .version ≤ 1 = omega arith in
+    let v′ : d .version ≡ 0 = sym (v ∙ w .pair .version) in let l : d .version ≤ 1 = omega arith in
     simp (le-leb _ _ l, eq-eqb _ _ v′, items-text-pair es ws, append-nil, append-assoc)
 items-text-pair {types} (entries.more (several {c} {cs} f a b v few) es) (more {t = dss} (more {b = d} {t = ds} w vs) ws) =
     let v′ : d .version ≡ 1 = sym (v .1 ∙ w .pair .version) in
-    let l : d .version ≤ 1 = omega arith in
-    let n : (d .version ≡ 0) → ⊥ = λ z. omega arith in
+    let l : d .version ≤ 1 = omega arith in let n : (d .version ≡ 0) → ⊥ = λ z. omega arith in
     let nb = numbered types c 2 vs (v .4) in
     simp (
       le-leb _ _ l,
@@ -507,16 +472,12 @@ module _ (g k : List ℕ) (big : length g < 2 ^ 28) where
       runs-place _ q (runs-then _ e₁ (number-runs referenceFrame 3 stop 1 (a .0) (b .0) (omega arith) (omega arith))
       (runs-check _ _ _ (runs-check _ _ _ (runs-check _ _ _ (runs-if _ refl (runs-place _ _ runs-ret))))))
   reference-runs headerEnd size contained stop q {r} {s} w (inr (e, f)) h h₂ i =
-      let n : ℕ = length (r .body) in
-      let t = own-uri r e in
+      let n : ℕ = length (r .body) in let t = own-uri r e in
       let a = stand (vlq 4 ∷ sized (r .body) ∷ []) (lies-as t h) in
       let b = stand (vlq 4 ∷ sized (s .body) ∷ []) (lies-as (own-uri s (sym (w .0 .reference) ∙ e)) h₂) in
-      let u = stand-sized (r .body) (a .1 .0) in
-      let v = stand-sized (s .body) (b .1 .0) in
+      let u = stand-sized (r .body) (a .1 .0) in let v = stand-sized (s .body) (b .1 .0) in
       let z = joined-length (vlq 4 ∷ sized (r .body) ∷ []) in
-      let y = ap length t in
-      let x = sized-length (r .body) in
-      let el = ap (λ v. length (vlq v)) (w .0 .body .long) in
+      let y = ap length t in let x = sized-length (r .body) in let el = ap (λ v. length (vlq v)) (w .0 .body .long) in
       let same : Lies k (q + length (vlq 4) + length (vlq n)) (r .body) = lies-as (sym (w .2 e)) (lies-at (omega arith) (v .1)) in
       let m : Lies k (q + length (vlq 4)) (vlq n) = lies-as (ap vlq (sym (w .0 .body .long))) (v .0) in
       let e₁ = number-back referenceFrame 3 stop 4 (a .0) (omega arith) (omega arith) in
@@ -538,23 +499,18 @@ module _ (g k : List ℕ) (big : length g < 2 ^ 28) where
   front-runs x parent depth least end m r s cs ds n p f stays w ws small h h₂ i j =
       let rest : List ℕ = joined (sized (itemsText cs) ∷ sized (r .unpackers) ∷ []) in
       let rest₂ : List ℕ = joined (sized (itemsText ds) ∷ sized (s .unpackers) ∷ []) in
-      let c : ℕ = length (ownText r) + n in
-      let H : ℕ = headerOf (r .contained) rest c in
-      let N : ℕ = H + c in
+      let c : ℕ = length (ownText r) + n in let H : ℕ = headerOf (r .contained) rest c in let N : ℕ = H + c in
       let ps : List (List ℕ) = vlq N ∷ vlq (r .contained) ∷ vlq H ∷ rest ∷ ownText r ∷ [] in
       let a = stand ps h in
       let t = stand (sized (itemsText cs) ∷ sized (r .unpackers) ∷ []) (a .1 .1 .1 .0) in
-      let own-long = own-pair (w .0) .long in
-      let ip = items-pair (pairs ws) in
+      let own-long = own-pair (w .0) .long in let ip = items-pair (pairs ws) in
       let rp : AsLong rest rest₂ = fields (more (block ip) (more (block (w .0 .unpackers)) none)) in
       let ec : c ≡ length (ownText s) + n = ap (λ v. v + n) own-long in
       let eH : H ≡ headerOf (s .contained) rest₂ (length (ownText s) + n) = header-pair (w .0 .contained) rp ec in
-      let eN = ap₂ _+_ eH ec in
-      let c₂ : ℕ = length (ownText s) + n in
+      let eN = ap₂ _+_ eH ec in let c₂ : ℕ = length (ownText s) + n in
       let a₂ = stand (vlq (headerOf (s .contained) rest₂ c₂ + c₂) ∷ vlq (s .contained) ∷ vlq (headerOf (s .contained) rest₂ c₂) ∷ rest₂ ∷ ownText s ∷ []) h₂ in
       let t₂ = stand (sized (itemsText ds) ∷ sized (s .unpackers) ∷ []) (a₂ .1 .1 .1 .0) in
-      let lN = ap (λ v. length (vlq v)) eN in
-      let lh = ap (λ v. length (vlq v)) (w .0 .contained) in
+      let lN = ap (λ v. length (vlq v)) eN in let lh = ap (λ v. length (vlq v)) (w .0 .contained) in
       let lH = ap (λ v. length (vlq v)) eH in
       let k₁ : Lies k p (vlq N) = lies-as (ap vlq (sym eN)) (a₂ .0) in
       let k₂ : Lies k (p + length (vlq N)) (vlq (r .contained)) = lies-at (omega arith) (lies-as (ap vlq (sym (w .0 .contained))) (a₂ .1 .0)) in
@@ -563,8 +519,7 @@ module _ (g k : List ℕ) (big : length g < 2 ^ 28) where
       let fl = framed-length (r .contained) rest (ownText r) n small in
       let fh = framed-header (r .contained) rest c small in
       let z = joined-length (sized (itemsText cs) ∷ sized (r .unpackers) ∷ []) in
-      let si = block ip .long in
-      let su = sized-length (r .unpackers) in
+      let si = block ip .long in let su = sized-length (r .unpackers) in
       let e₁ = head-back end least g p (r .contained) rest (ownText r) n (f .few) small h (omega arith) (omega arith) in
       let chunk : AgreeUpTo g k p q = agree-on g k
       (agree-on g k (agree p (vlq N) (a .0) k₁) (agree (p + length (vlq N)) (vlq (r .contained)) (a .1 .0) k₂))
@@ -575,9 +530,7 @@ module _ (g k : List ℕ) (big : length g < 2 ^ 28) where
       let (dss, dq, dw) = regroup (f .groups) (subst (λ v. Each Pair v ds) (sym (f .contents)) ws) in
       let it : itemsText cs ≡ joined (entryTexts (f .groups)) = ap itemsText (sym (f .contents)) ∙ items-text (f .entries) in
       let it₂ : itemsText ds ≡ joined (entryTexts dss) = ap itemsText dq ∙ items-text-pair (f .entries) dw in
-      let il = ap (λ v. length (sized v)) it in
-      let cl = ap length (f .contents) in
-      let room = f .item-room in
+      let il = ap (λ v. length (sized v)) it in let cl = ap length (f .contents) in let room = f .item-room in
       let m₂ : Lies k q (sized (itemsText ds)) = lies-at (omega arith) (t₂ .0) in
       let mr = metadata-runs g k big x (m .nodes) (p + H) dw (f .entries) m q (lies-as (ap sized it) (t .0)) (lies-as (ap sized it₂) m₂) (omega arith) (omega arith) in
       let b : ℕ = q + length (sized (itemsText cs)) in
@@ -667,12 +620,8 @@ module _ (g k : List ℕ) (big : length g < 2 ^ 28) (x : Context) where
   unfolding node folder
   node-runs d parent least end m p {r} {s} {cs} {ds} inner inner₂ f stays w ws alone long h h₂ i j c =
       let b = front-back x g big parent (16 - d) least end m r cs inner p (record { nodes = []; items = [] }) f stays alone h i j in
-      let wl = whole-length r cs inner in
-      let n : ℕ = length inner in
-      let small = most r cs n in
-      let in₁ = h .inside in
-      let ex = exact r cs n (omega arith) in
-      let l₁ = node-lies r cs inner h in
+      let wl = whole-length r cs inner in let n : ℕ = length inner in let small = most r cs n in let in₁ = h .inside in
+      let ex = exact r cs n (omega arith) in let l₁ = node-lies r cs inner h in
       let l₂ : Lies k p (nodeText s ds n) = lies-as (ap (nodeText s ds) long) (node-lies s ds inner₂ h₂) in
       let fr = front-runs g k big x parent (16 - d) least end m r s cs ds n p f stays w ws (omega arith) l₁ l₂ (omega arith) (omega arith) in
       let e = ran (collect g) _ g p (record { nodes = []; items = [] }) (b .ran) in
@@ -694,26 +643,20 @@ module _ (g k : List ℕ) (big : length g < 2 ^ 28) (x : Context) where
       let y′ : Each Pair (cs ++ (ds ++ (fs ++ es))) cs₂ = rw (append-assoc (cs ++ ds) fs es, append-assoc cs ds (fs ++ es)) at y in
       let (u, v, e, a, b) = each-split cs (ds ++ (fs ++ es)) y′ in
       let n₁ : length u ≡ s .rows = sym (each-length a) ∙ f .counted ∙ w .0 .rows in
-      let O : List (List ℕ) = outer rs₂ v in
-      let fo = first-outer s rs₂ cs₂ u v n e n₁ in
+      let O : List (List ℕ) = outer rs₂ v in let fo = first-outer s rs₂ cs₂ u v n e n₁ in
       let ws′ : Each Shapes (rs ++ (ts ++ ss)) rs₂ = rw (append-assoc rs ts ss) at ws in
       let (rs₃, cs₃, p₃, q₃, z₃) = rest-outer ys (ts ++ ss) (fs ++ es) ws′ b in
       let hl : r .contained ≡ s .contained = w .0 .contained in
-      let inner₂ : List ℕ = joined (take (r .contained) O) in
-      let il = inner-long ys (ts ++ ss) (fs ++ es) ws′ b in
-      let t : List ℕ = wholeText r cs (joined inner) in
-      let t₂ : List ℕ = wholeText s u inner₂ in
+      let inner₂ : List ℕ = joined (take (r .contained) O) in let il = inner-long ys (ts ++ ss) (fs ++ es) ws′ b in
+      let t : List ℕ = wholeText r cs (joined inner) in let t₂ : List ℕ = wholeText s u inner₂ in
       let k₁ : Lies k p (t₂ ++ joined (take n (drop (r .contained) O))) = lies-as
       (ap joined fo ∙ ap (λ j. wholeText s u (joined (take j O)) ++ joined (take n (drop j O))) (sym hl)) h₂ in
-      let lt = whole-length r cs (joined inner) in
-      let lt₂ = whole-length s u inner₂ in
-      let np = node-pair (w .0) (pairs a) (sym il) .long in
-      let z = length-append t (joined bs) in
+      let lt = whole-length r cs (joined inner) in let lt₂ = whole-length s u inner₂ in
+      let np = node-pair (w .0) (pairs a) (sym il) .long in let z = length-append t (joined bs) in
       let g₁ = lies-left t (joined bs) h in
       let k₂ = lies-left t₂ (joined (take n (drop (r .contained) O))) k₁ in
       let q : ℕ = p + length (nodeText r cs (length (joined inner))) in
-      let al = nodes.alone ys in
-      let gi = inner-lies r cs (joined inner) g₁ in
+      let al = nodes.alone ys in let gi = inner-lies r cs (joined inner) g₁ in
       let ki : Lies k q inner₂ = lies-at (omega arith) (inner-lies s u inner₂ k₂) in
       let c = nodes-runs ys (stay-left rs ts (stay .1)) (ts ++ ss) (fs ++ es) ws′ b (p + length t) q gi ki (omega arith) in
       let nr = node-runs d parent 0 end m p (joined inner) inner₂ f (stay .0) w a al il g₁ k₂ (omega arith) (omega arith) c in
@@ -740,15 +683,12 @@ module _ (g k : List ℕ) (big : length g < 2 ^ 28) (x : Context) where
       let hl : r .contained ≡ s .contained = w .0 .contained in
       let inner₂ : List ℕ = joined (take (r .contained) O) in
       let il = inner-long ys [] [] ws b in
-      let t : List ℕ = wholeText r cs (joined inner) in
-      let t₂ : List ℕ = wholeText s u inner₂ in
+      let t : List ℕ = wholeText r cs (joined inner) in let t₂ : List ℕ = wholeText s u inner₂ in
       let k₂ : Lies k p t₂ = lies-left t₂ _ (lies-as (outer-first s rs₃ cs₂ u v (r .contained) e n₁ (sym hl)) h₂) in
-      let lt = whole-length r cs (joined inner) in
-      let lt₂ = whole-length s u inner₂ in
+      let lt = whole-length r cs (joined inner) in let lt₂ = whole-length s u inner₂ in
       let np = node-pair (w .0) (pairs a) (sym il) .long in
       let q : ℕ = p + length (nodeText r cs (length (joined inner))) in
-      let al = nodes.alone ys in
-      let gi = inner-lies r cs (joined inner) h in
+      let al = nodes.alone ys in let gi = inner-lies r cs (joined inner) h in
       let ki : Lies k q inner₂ = lies-at (omega arith) (inner-lies s u inner₂ k₂) in
       let c = nodes-runs ys (stay-left rs [] (stay .1)) [] [] ws b (p + length t) q gi ki (omega arith) in
       node-runs 15 0 end end (record { nodes = 0; items = 0 }) p (joined inner) inner₂ f (stay .0) w a al il h k₂ (omega arith) (omega arith) c

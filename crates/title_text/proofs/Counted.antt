@@ -6,11 +6,12 @@ use Prim.Native.Nat.{ℕ, _+_, _≤_, min}
 use native.Mathlib.Decide.{decLt}
 use native.Mathlib.Omega.{arith}
 use lib.ListN.{length}
-use Rattle.cursor.specs.Vlq.{part, least, vlq, sized}
-use Rattle.cursor.proofs.Least.{vlq-length}
-use Rattle.cursor.proofs.Lies.{part-length, sized-length}
+use Rattle.room.specs.Parts.{part}
+use Rattle.vlq.specs.Vlq.{least, vlq, sized}
+use Rattle.vlq.proofs.Least.{vlq-length}
+use Rattle.room.proofs.Counting.{part-length, counts-stored, counts-over}
+use Rattle.vlq.proofs.Sized.{sized-length}
 use Rattle.room.specs.Counts.{Counts, tooMany}
-use Rattle.room.proofs.Counting.{counts-stored, counts-over}
 
 pub counts-empty : {to r : ℕ} (bytes : List ℕ) → r ≡ min (to + length bytes) tooMany → Counts [] [] to bytes r
 counts-empty [] e = counts-stored [] e refl

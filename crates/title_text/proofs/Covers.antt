@@ -11,11 +11,13 @@ use lib.Seq.{getD-append-add, getD-drop, getD-take, ext-getD}
 use Rattle.machine.specs.Machine.{ok, run}
 use Rattle.cursor.specs.Rows.{Frame}
 use Rattle.cursor.specs.Leaves.{number, block}
-use Rattle.cursor.specs.Vlq.{part, inBytes, least, vlq, joined, sized}
+use Rattle.room.specs.Parts.{part, joined}
+use Rattle.vlq.specs.Vlq.{inBytes, least, vlq, sized}
 use Rattle.cursor.proofs.Digits.{Digits, final, further, digits-were, begun}
 use Rattle.cursor.proofs.Leaves.{number-inside}
-use Rattle.cursor.proofs.Least.{least-up, vlq-length}
-use Rattle.cursor.proofs.Lies.{Lies, sized-length}
+use Rattle.vlq.proofs.Least.{least-up, vlq-length}
+use Rattle.room.proofs.Lies.{Lies}
+use Rattle.vlq.proofs.Sized.{sized-length}
 use Rattle.cursor.proofs.Post.{post-step, post-place, post-check, post-ret}
 use Rattle.cursor.proofs.Runs.{nothing-quiet, post-ran}
 use Rattle.title_text.specs.Title.{Bytes}
@@ -55,8 +57,7 @@ module _ {f : List ℕ} where
         byte = λ k l. elim (decLt k (length s)) [
           | yes i ↦ a .byte k i ∙ sym (List·getD-append s t 0 k i)
           | no i ↦
-              let j : ℕ = k - length s in
-              let m : k ≡ length s + j = omega arith in
+              let j : ℕ = k - length s in let m : k ≡ length s + j = omega arith in
               let n : at + k ≡ p + j = omega arith in
               rw n (b .byte j (omega arith) ∙ sym (getD-append-add s t j 0) ∙ ap (λ i. getD (s ++ t) i 0) (sym m))
         ];
@@ -67,9 +68,7 @@ module _ {f : List ℕ} where
 
   pub covers-on : {at p q : ℕ} {s t : List ℕ} → Covers f at s p → Covers f p t q → Covers f at (s ++ t) q
   covers-on {s = s} {t} a b =
-      let z = length-append s t in
-      let x = a .short in
-      let y = b .short in
+      let z = length-append s t in let x = a .short in let y = b .short in
       record { short = omega arith; tight = λ bytes l. stands-on s t (omega arith) (a .tight bytes (omega arith)) (b .tight bytes (omega arith)) }
 
   pub covers-as : {at q : ℕ} {s t : List ℕ} → s ≡ t → Covers f at s q → Covers f at t q
@@ -149,8 +148,7 @@ module _ (κ : Frame) (past end : ℕ) (f : List ℕ) (at : ℕ) {v q : ℕ} whe
   -- it fits the bytes that it has
   number-fits : run (number κ past end) f at ≡ ok v q → v < 128 ^ (q - at)
   number-fits e =
-      let i = number-inside κ past end f at e in
-      let k : ℕ = q - at in
+      let i = number-inside κ past end f at e in let k : ℕ = q - at in
       let z : v / 128 ^ k ≡ 0 = digits-top (stood e) k (omega arith) in
       let l : v < 0 * 128 ^ k + 128 ^ k = rw z at (lt-div-mul-add {a = v} (one-le-pow k 128 (omega arith))) in
       omega arith
@@ -179,10 +177,7 @@ module _ (κ : Frame) (past end : ℕ) (f : List ℕ) (at : ℕ) {n q : ℕ} whe
   pub sized-covers : {s : List ℕ} → run (block κ past end) f at ≡ ok n q → Covers f q s (q + n) → Covers f at (sized s) (q + n)
   unfolding sized
   sized-covers {s} e h =
-      let w = block-covers e in
-      let a = w .short in
-      let b = h .short in
-      let c = sized-length s in
+      let w = block-covers e in let a = w .short in let b = h .short in let c = sized-length s in
       let d = vlq-up (length s) n (omega arith) in
       record {
         short = omega arith;

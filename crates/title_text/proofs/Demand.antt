@@ -10,7 +10,8 @@ use lib.Dec.{T, eqb}
 use lib.ListN.{length, take, drop, length-take, length-drop}
 use Rattle.machine.specs.Machine.{run, trace}
 use Rattle.cursor.specs.Rows.{Events}
-use Rattle.cursor.specs.Vlq.{part, vlq, joined, sized}
+use Rattle.room.specs.Parts.{part, joined}
+use Rattle.vlq.specs.Vlq.{vlq, sized}
 use Rattle.cursor.specs.declared.Node.{Node}
 use Rattle.cursor.specs.declared.Item.{Item}
 use Rattle.cursor.proofs.Agree.{part-same}
@@ -103,8 +104,7 @@ module _ (lim : Limits) (f k : List ℕ) {h : Header} {ns : List Node} {is : Lis
     (differ : DifferInPrivate h ns is f k) (here : elsewhere ns ≡ false) (i : ℕ) (text : List ℕ) where
   all-same : Alike privateData lim f k ns is → AllSame f k (differ .same-length) ns
   all-same a =
-      let r = a .read-as in
-      let g : Header = a .header in
+      let r = a .read-as in let g : Header = a .header in
       let hd = at-end any-free f (header-on (length f)) (r .header-is) in
       let log : Events = trace (treeOf lim (length f) g) f (g .extent .start) in
       let q : r .log ≡ log = log-is-tree lim f g log (lim .nodes) (r .follows) (ap elsewhere (r .nodes-are) ∙ here) in
@@ -116,9 +116,7 @@ module _ (lim : Limits) (f k : List ℕ) {h : Header} {ns : List Node} {is : Lis
   pub titles-length : length (titledFile i text f h ns is) ≡ length (titledFile i text k h ns is)
   unfolding titledFile
   titles-length =
-      let long = differ .same-length in
-      let a = private-alike lim f k reads differ in
-      let r = read-back lim f reads in
+      let long = differ .same-length in let a = private-alike lim f k reads differ in let r = read-back lim f reads in
       let hd = at-end any-free f (header-on (length f)) (r .header-is) in
       let says = header-says f (r .header-is) in
       let agree = header-kept f k (r .header-is) (a .keeps-header) in
@@ -178,16 +176,11 @@ module _ (lim : Limits) (f k : List ℕ) {h : Header} {ns : List Node} {is : Lis
 
   titles-twins : length (titledFile i text f h ns is) < 2 ^ 28 → Twins lim (titledFile i text f h ns is) (titledFile i text k h ns is)
   titles-twins small =
-      let long = differ .same-length in
-      let a = private-alike lim f k reads differ in
-      let r = read-back lim f reads in
+      let long = differ .same-length in let a = private-alike lim f k reads differ in let r = read-back lim f reads in
       let hd = at-end any-free f (header-on (length f)) (r .header-is) in
-      let w = grammar lim f reads here i text in
-      let says = w .says in
-      let n : ℕ = openingSize (h .version) in
+      let w = grammar lim f reads here i text in let says = w .says in let n : ℕ = openingSize (h .version) in
       let agree = header-kept f k (r .header-is) (a .keeps-header) in
-      let b = says .before in
-      let on = onward (tableText f) f n (says .ran) in
+      let b = says .before in let on = onward (tableText f) f n (says .ran) in
       let table = tables-alike f k long n (says .ran) (λ j lo hi. agree j (omega arith) (omega arith)) in
       let opens : take n f ≡ take n k = part-same f k long 0 n (λ j lo hi. agree j lo (omega arith)) in
       let types : List ℕ = joined (vlq (length (says .texts)) ∷ says .texts) in
@@ -209,8 +202,7 @@ module _ (lim : Limits) (f k : List ℕ) {h : Header} {ns : List Node} {is : Lis
       (titledFile i text f h ns is) ≡ rows h′ ns′ is′
       → DifferInPrivate h′ ns′ is′ (titledFile i text f h ns is) (titledFile i text k h ns is)
   titles-differ small h′ ns′ is′ e =
-      let t = titles-twins small in
-      let (a, b, c) = rows-same (sym (t .reads) ∙ e) in
+      let t = titles-twins small in let (a, b, c) = rows-same (sym (t .reads) ∙ e) in
       rw (← a, ← b, ← c) (t .differ)
 
   -- and read the same: the tables agree

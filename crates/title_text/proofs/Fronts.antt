@@ -11,11 +11,13 @@ use lib.ListN.{length, length-append}
 use borrow.Author.Tests.{le-leb, eq-eqb, ne-eqb}
 use Rattle.machine.specs.Machine.{ok, run, exec, times}
 use Rattle.cursor.specs.Rows.{referenceFrame, sizeIf, inlineSize}
-use Rattle.cursor.specs.Vlq.{part, vlq, joined, sized}
+use Rattle.room.specs.Parts.{part, joined}
+use Rattle.vlq.specs.Vlq.{vlq, sized}
 use Rattle.machine.proofs.Laws.{running, executing}
 use Rattle.cursor.proofs.Quiet.{still}
-use Rattle.cursor.proofs.Lies.{Lies, lies-left, lies-part, lies-at, lies-as, stand, stand-sized, joined-length, sized-length}
-use Rattle.cursor.proofs.Back.{number-back, block-back}
+use Rattle.room.proofs.Lies.{Lies, lies-left, lies-part, lies-at, lies-as, stand, joined-length}
+use Rattle.vlq.proofs.Sized.{stand-sized, sized-length}
+use Rattle.vlq.proofs.Back.{number-back, block-back}
 use Rattle.header.specs.Types.{Declared}
 use Rattle.metadata.specs.Metadata.{Context, metadata}
 use Rattle.metadata.specs.declared.Limits.{Limits}
@@ -56,10 +58,7 @@ module _ (g : List ℕ) (big : length g < 2 ^ 28) (headerEnd size contained stop
   unfolding reference target
   inline-run e h i =
       let ss : List (List ℕ) = vlq 1 ∷ r .body ∷ [] in
-      let t = own-inline r e in
-      let s = stand ss (lies-as t h) in
-      let z = joined-length ss in
-      let w = ap length t in
+      let t = own-inline r e in let s = stand ss (lies-as t h) in let z = joined-length ss in let w = ap length t in
       let e₁ = number-back referenceFrame 3 stop 1 (s .0) (omega arith) (omega arith) in
       simp (running, e₁, or-true (eqb contained 0))
 
@@ -70,13 +69,8 @@ module _ (g : List ℕ) (big : length g < 2 ^ 28) (headerEnd size contained stop
   uri-run e f h i =
       let n : ℕ = length (r .body) in
       let ss : List (List ℕ) = vlq 4 ∷ sized (r .body) ∷ [] in
-      let t = own-uri r e in
-      let s = stand ss (lies-as t h) in
-      let u = stand-sized (r .body) (s .1 .0) in
-      let z = joined-length ss in
-      let y = sized-length (r .body) in
-      let x = h .inside in
-      let w = ap length t in
+      let t = own-uri r e in let s = stand ss (lies-as t h) in let u = stand-sized (r .body) (s .1 .0) in
+      let z = joined-length ss in let y = sized-length (r .body) in let x = h .inside in let w = ap length t in
       let e₁ = number-back referenceFrame 3 stop 4 (s .0) (omega arith) (omega arith) in
       let e₂ = block-back referenceFrame 3 stop n (u .0) (omega arith) (omega arith) in
       let e₃ : q + length (vlq 4) + length (vlq n) + n ≡ q + length (ownText r) = omega arith in
@@ -188,8 +182,7 @@ module _ (x : Context) (g : List ℕ) (big : length g < 2 ^ 28) (parent depth le
       let w = framed-length (r .contained) header (ownText r) n small in
       let y = framed-header (r .contained) header (length (ownText r) + n) small in
       let z = joined-length (sized (itemsText cs) ∷ sized (r .unpackers) ∷ []) in
-      let q = joined-length ss in
-      let v = sized-length (r .unpackers) in
+      let q = joined-length ss in let v = sized-length (r .unpackers) in
       (lies-at (omega arith) (u .1), lies-at (omega arith) (s .1 .1 .1 .1 .0), omega arith, omega arith)
 
 -- ---- the front of a node
@@ -244,9 +237,7 @@ module _ (x : Context) (g : List ℕ) (big : length g < 2 ^ 28) (parent depth le
   pub front-back : Stays r → ((r .contained ≡ 0) → length inner ≡ 0) → Lies g p (wholeText r cs inner) → p + length (wholeText r cs inner) ≤
       end → least ≤ p + length (wholeText r cs inner) → FrontBack x g parent depth least end m r cs inner p σ
   front-back stays alone h i j =
-      let n : ℕ = length inner in
-      let (hn, w) = lies-whole r cs inner h in
-      let own : ℕ = length (ownText r) in
+      let n : ℕ = length inner in let (hn, w) = lies-whole r cs inner h in let own : ℕ = length (ownText r) in
       let H : ℕ = headerOf (r .contained) (joined (sized (itemsText cs) ∷ sized (r .unpackers) ∷ [])) (own + n) in
       let N : ℕ = H + (own + n) in
       let small : N < 2 ^ 28 = omega (arith, most r cs n, h .inside) in
@@ -258,8 +249,7 @@ module _ (x : Context) (g : List ℕ) (big : length g < 2 ^ 28) (parent depth le
             let oe = own-inline r one in
             let s = stand (vlq 1 ∷ r .body ∷ []) (lies-as oe ol) in
             let z = joined-length (vlq 1 ∷ r .body ∷ []) in
-            let zz = ap length oe in
-            let q : ℕ = p + H + length (vlq 1) in
+            let zz = ap length oe in let q : ℕ = p + H + length (vlq 1) in
             let ref = inline-run g big (x .headerEnd) (x .size) (r .contained) (p + N) (p + H) r one ol (omega arith) in
             let pass = passed (r .contained) (p + N - q) (length (r .body)) (λ e. omega (arith, alone e)) (λ e. sym (ap length (f .empty e))) in
             record {

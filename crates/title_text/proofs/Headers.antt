@@ -12,12 +12,13 @@ use borrow.Author.Tests.{leb-true, eqb-true, eqb-false, lt-ltb, le-leb, eq-eqb, 
 use Rattle.machine.specs.Machine.{ok, run, check, _>>_}
 use Rattle.cursor.specs.Rows.{Frame, Part, fileFrame}
 use Rattle.cursor.specs.Leaves.{next, number}
-use Rattle.cursor.specs.Vlq.{vlq, joined, sized}
+use Rattle.room.specs.Parts.{joined}
+use Rattle.vlq.specs.Vlq.{vlq, sized}
 use Rattle.machine.proofs.Laws.{running}
 use Rattle.machine.proofs.Wp.{at-end}
 use Rattle.cursor.proofs.Leaves.{any-free}
-use Rattle.cursor.proofs.Lies.{Lies}
-use Rattle.cursor.proofs.Back.{number-back}
+use Rattle.room.proofs.Lies.{Lies}
+use Rattle.vlq.proofs.Back.{number-back}
 use Rattle.cursor.proofs.Post.{Post, post-after, post-run, post-step, post-ret, post-refuse, post-if, post-check, post-place}
 use Rattle.cursor.proofs.Runs.{nothing, nothing-quiet, Holds, post-ran}
 use Rattle.header.specs.Types.{Declared}
@@ -36,10 +37,8 @@ module _ (past end : ℕ) (f : List ℕ) (at : ℕ) where
   four-run : at + 4 ≤ end → run (four past end) f at ≡ ok (fourAt f at) (at + 4)
   unfolding four next
   four-run l =
-      let l₀ : at < end = omega arith in
-      let l₁ : at + 1 < end = omega arith in
-      let l₂ : at + 1 + 1 < end = omega arith in
-      let l₃ : at + 1 + 1 + 1 < end = omega arith in
+      let l₀ : at < end = omega arith in let l₁ : at + 1 < end = omega arith in
+      let l₂ : at + 1 + 1 < end = omega arith in let l₃ : at + 1 + 1 + 1 < end = omega arith in
       let e : at + 1 + 1 + 1 + 1 ≡ at + 4 = omega arith in
       simp (running, lt-ltb _ _ l₀, lt-ltb _ _ l₁, lt-ltb _ _ l₂, lt-ltb _ _ l₃, e)
 
@@ -135,8 +134,7 @@ pub header-back : (g : List ℕ) (size a b c : ℕ) {v : ℕ} {e : Edition} {ds 
     → run (header size) g 0 ≡ ok (record { version = v; edition = e; types = ds; extent = x }) c
 unfolding header
 header-back g size a b c o l s k e₃ e₄ e₅ =
-    let e₁ = opening-back g size o l s in
-    let e₂ = edition-back g size o k in
+    let e₁ = opening-back g size o l s in let e₂ = edition-back g size o k in
     simp (running, e₁, e₂, e₃, e₄, e₅)
 
 -- ---- an accepted header

@@ -11,12 +11,14 @@ use lib.ListN.{length, length-append}
 use borrow.Author.Tests.{lt-ltb, le-ltb, eq-eqb, ne-eqb, lt-leb, le-leb}
 use Rattle.machine.specs.Machine.{ok, run, exec, turns, many, times}
 use Rattle.cursor.specs.Rows.{metaFrame}
-use Rattle.cursor.specs.Vlq.{part, vlq, joined, sized}
+use Rattle.room.specs.Parts.{part, joined}
+use Rattle.vlq.specs.Vlq.{vlq, sized}
 use Rattle.machine.proofs.Laws.{running, executing, exec-turn, exec-turned, exec-many}
 use Rattle.cursor.proofs.Quiet.{still, exec-number, exec-block}
-use Rattle.cursor.proofs.Least.{vlq-some}
-use Rattle.cursor.proofs.Lies.{Lies, lies-part, lies-left, lies-right, stand, stand-sized, joined-length, sized-length}
-use Rattle.cursor.proofs.Back.{number-back, block-back}
+use Rattle.vlq.proofs.Least.{vlq-some}
+use Rattle.room.proofs.Lies.{Lies, lies-part, lies-left, lies-right, stand, joined-length}
+use Rattle.vlq.proofs.Sized.{stand-sized, sized-length}
+use Rattle.vlq.proofs.Back.{number-back, block-back}
 use Rattle.header.specs.Types.{Declared, known, formatOf}
 use Rattle.metadata.specs.Tables.{plusItem}
 use Rattle.metadata.specs.Metadata.{Context, kindOf, fieldOf, nameLengthOf, rowOf, field, itemFrame, universal, declaredFormat, version, rowsFor, item, nextItem, metaItems, metadata}
@@ -53,12 +55,8 @@ module _ (x : Context) (l : Label) (end : ℕ) (m : Made) (g : List ℕ) (p : �
   universal-back v d fm h i =
       let k : ℕ = length (vlq (c .format)) in
       let ss : List (List ℕ) = vlq (c .format) ∷ c .bytes ∷ [] in
-      let n : ℕ = length (joined ss) in
-      let q : ℕ = p + length (vlq n) in
-      let t = stand-sized (joined ss) h in
-      let s = stand ss (t .1) in
-      let y = sized-length (joined ss) in
-      let z = joined-length ss in
+      let n : ℕ = length (joined ss) in let q : ℕ = p + length (vlq n) in let t = stand-sized (joined ss) h in
+      let s = stand ss (t .1) in let y = sized-length (joined ss) in let z = joined-length ss in
       let some = vlq-some (c .format) in
       let e₁ = block-back metaFrame 3 end n (t .0) (omega (arith, h .inside)) (omega arith) in
       let e₂ = number-back metaFrame 3 (q + n) (c .format) (s .0) fm (omega arith) in
@@ -72,12 +70,9 @@ module _ (x : Context) (l : Label) (end : ℕ) (m : Made) (g : List ℕ) (p : �
       → exec (collect g) (version x l end before m) g p σ ≡ ok (plusItem m, withItems σ (c ∷ [])) (p + length (versionText c))
   unfolding version versionText declaredFormat
   version-back before v fm d h i =
-      let n : ℕ = length (c .bytes) in
-      let q : ℕ = p + length (vlq (c .declared)) in
+      let n : ℕ = length (c .bytes) in let q : ℕ = p + length (vlq (c .declared)) in
       let ss : List (List ℕ) = vlq (c .declared) ∷ sized (c .bytes) ∷ [] in
-      let s = stand ss h in
-      let t = stand-sized (c .bytes) (s .1 .0) in
-      let y = sized-length (c .bytes) in
+      let s = stand ss h in let t = stand-sized (c .bytes) (s .1 .0) in let y = sized-length (c .bytes) in
       let z = joined-length ss in
       let e₁ = number-back metaFrame 3 end (c .declared) (s .0) d (omega arith) in
       let e₂ = block-back metaFrame 3 end n (t .0) (omega (arith, h .inside)) (omega arith) in
@@ -117,8 +112,7 @@ module _ (x : Context) (l : Label) (end before : ℕ) (g : List ℕ) (big : leng
       → exec (collect g) (times (length cs) (version x l end before) m) g p σ ≡ ok (plusItems (length cs) m, withItems σ cs) (p + length (joined (versionTexts cs)))
   unfolding times
   versions-back [] m p σ v o r h i =
-      let e : m .items + 0 ≡ m .items = omega arith in
-      let k : p + 0 ≡ p = omega arith in
+      let e : m .items + 0 ≡ m .items = omega arith in let k : p + 0 ≡ p = omega arith in
       rw (e, k, append-nil (σ .items)) (simp executing)
   versions-back (c ∷ cs) m p σ v o r h i =
       let z = length-append (versionText c) (joined (versionTexts cs)) in
@@ -148,10 +142,8 @@ module _ (g : List ℕ) (big : length g < 2 ^ 28) (end p : ℕ) (c : Content) wh
   field-back (inl (k, small, none)) h i =
       let ss : List (List ℕ) = vlq 0 ∷ vlq (c .field) ∷ [] in
       let t : cond (eqb (c .kind) 1) (sized (c .name)) (joined ss) ≡ joined ss = rw k refl in
-      let h′ : Lies g p (joined ss) = rw t at h in
-      let i′ : p + length (joined ss) ≤ end = rw t at i in
-      let s = stand ss h′ in
-      let z = joined-length ss in
+      let h′ : Lies g p (joined ss) = rw t at h in let i′ : p + length (joined ss) ≤ end = rw t at i in
+      let s = stand ss h′ in let z = joined-length ss in
       let e₁ = block-back metaFrame 3 end 0 (s .0) (omega arith) (omega arith) in
       let e₂ = number-back metaFrame 3 end (c .field) (s .1 .0) small (omega arith) in
       let e₃ : p + length (joined ss) ≡ p + length (vlq 0) + length (vlq (c .field)) = omega arith in
@@ -165,8 +157,7 @@ module _ (g : List ℕ) (big : length g < 2 ^ 28) (end p : ℕ) (c : Content) wh
       let t : cond (eqb (c .kind) 1) (sized (c .name)) (joined (vlq 0 ∷ vlq (c .field) ∷ [])) ≡ sized (c .name) = rw k refl in
       let h′ : Lies g p (sized (c .name)) = rw t at h in
       let i′ : p + length (sized (c .name)) ≤ end = rw t at i in
-      let s = stand-sized (c .name) h′ in
-      let z = sized-length (c .name) in
+      let s = stand-sized (c .name) h′ in let z = sized-length (c .name) in
       let e₁ = block-back metaFrame 3 end n (s .0) (omega (arith, h′ .inside)) (omega arith) in
       let e₃ : p + length (sized (c .name)) ≡ p + length (vlq n) + n = omega arith in
       record {
@@ -198,9 +189,7 @@ module _ (x : Context) (node index end : ℕ) (m : Made) (g : List ℕ) (big : l
       let v′ : c .version ≡ 0 = sym v in
       let ss : List (List ℕ) = fieldText c ∷ vlq 0 ∷ universalText c ∷ [] in
       let t : entryText (c ∷ []) ≡ joined ss = rw v′ refl in
-      let s = stand ss (rw t at h) in
-      let z = joined-length ss in
-      let i′ : p + length (joined ss) ≤ end = rw t at i in
+      let s = stand ss (rw t at h) in let z = joined-length ss in let i′ : p + length (joined ss) ≤ end = rw t at i in
       let fb = field-back g big end p c f (s .0) (omega arith) in
       let e₂ = number-back metaFrame 3 end 0 (s .1 .0) (omega arith) (omega arith) in
       let e₃ = universal-back x (record { node = node; item = index; field = fb .is }) end m g (p + length (fieldText c) + length (vlq 0)) σ c
@@ -209,12 +198,9 @@ module _ (x : Context) (node index end : ℕ) (m : Made) (g : List ℕ) (big : l
       let e₁ = sym (frame-all end g p (fb .ran) (sym (contents-universal end g (p + length (fieldText c)) e₂ refl))) in
       rw (t, e₄) (simp (executing, exec-frame, e₁, e₃))
   item-back (several {c} {cs} f a b v few) h i r =
-      let n : ℕ = suc (length cs) in
-      let v′ : c .version ≡ 1 = sym (v .1) in
+      let n : ℕ = suc (length cs) in let v′ : c .version ≡ 1 = sym (v .1) in
       let ss : List (List ℕ) = fieldText c ∷ vlq n ∷ joined (versionTexts (c ∷ cs)) ∷ [] in
-      let t : entryText (c ∷ cs) ≡ joined ss = rw v′ refl in
-      let s = stand ss (rw t at h) in
-      let z = joined-length ss in
+      let t : entryText (c ∷ cs) ≡ joined ss = rw v′ refl in let s = stand ss (rw t at h) in let z = joined-length ss in
       let i′ : p + length (joined ss) ≤ end = rw t at i in
       let fb = field-back g big end p c f (s .0) (omega arith) in
       let e₂ = number-back metaFrame 3 end n (s .1 .0) few (omega arith) in
@@ -256,15 +242,12 @@ module _ (x : Context) (node end : ℕ) (g : List ℕ) (big : length g < 2 ^ 28)
       (record { made = plusItems (length (flat css)) m; index = index + length css }, withItems σ (flat css)) end
   unfolding nextItem
   turns-back {index} none k m p σ h i l r =
-      let a : m .items + 0 ≡ m .items = omega arith in
-      let b : p ≡ end = omega arith in
+      let a : m .items + 0 ≡ m .items = omega arith in let b : p ≡ end = omega arith in
       let c : index + 0 ≡ index = omega arith in
       exec-turned (collect g) g k end p _ _ σ (omega arith) ∙ rw (a, b, c, append-nil (σ .items)) refl
   turns-back {index} (more {cs = cs} {css = css} e es) k m p σ h i l r =
-      let t : List ℕ = entryText cs in
-      let z = length-append t (joined (entryTexts css)) in
-      let y = length-append cs (flat css) in
-      let s = entry-some e in
+      let t : List ℕ = entryText cs in let z = length-append t (joined (entryTexts css)) in
+      let y = length-append cs (flat css) in let s = entry-some e in
       let e₁ = item-back x node index end m g big p σ e (lies-left t (joined (entryTexts css)) h) (omega arith) (omega arith) in
       let e₂ = turns-back es (k - 1) (plusItems (length cs) m) (p + length t) (withItems σ cs) (lies-right t (joined (entryTexts css)) h)
       (omega arith) (omega arith) (omega arith) in
@@ -279,11 +262,8 @@ pub metadata-back : (x : Context) (node end : ℕ) (g : List ℕ) (big : length 
     → exec (collect g) (metadata x node end m) g p σ ≡ ok (plusItems (length (flat css)) m, withItems σ (flat css)) (p + length (sized (joined (entryTexts css))))
 unfolding metadata metaItems
 metadata-back x node end g big {css} es m p σ h i r =
-    let t : List ℕ = joined (entryTexts css) in
-    let n : ℕ = length t in
-    let q : ℕ = p + length (vlq n) in
-    let s = stand-sized t h in
-    let z = sized-length t in
+    let t : List ℕ = joined (entryTexts css) in let n : ℕ = length t in let q : ℕ = p + length (vlq n) in
+    let s = stand-sized t h in let z = sized-length t in
     let e₁ = block-back metaFrame 8 end n (s .0) (omega (arith, h .inside)) (omega arith) in
     let e₂ = exec-many (collect g) g (q + n) q (nextItem x node (q + n)) (record { made = m; index = 0 }) σ ∙ turns-back x node (q + n) g big es
     (q + n - q) m q σ (s .1) refl (omega arith) r in
@@ -312,8 +292,7 @@ versions-text : (types : List Declared) (b : Content) (k : ℕ) (cs ds : List Co
 unfolding itemsText contentText
 versions-text types b k [] ds l v = refl
 versions-text types b k (c ∷ cs) ds l v =
-    let h : 1 < c .version = omega (arith, v .1) in
-    let n : (c .version ≡ 0) → ⊥ = λ z. omega arith in
+    let h : 1 < c .version = omega (arith, v .1) in let n : (c .version ≡ 0) → ⊥ = λ z. omega arith in
     simp (lt-leb _ _ h, ne-eqb _ _ n, versions-text types b (k + 1) cs ds (omega arith) (v .4), append-nil, append-assoc)
 
 entries-open : {types : List Declared} {node index : ℕ} {css : List (List Content)} → Entries types node index css → Opens (flat css)
@@ -326,12 +305,10 @@ pub items-text : {types : List Declared} {node index : ℕ} {css : List (List Co
 unfolding itemsText contentText itemText
 items-text none = refl
 items-text (more {css = css} (one {c} f a b v d fm) es) =
-    let v′ : c .version ≡ 0 = sym v in
-    let l : c .version ≤ 1 = omega arith in
+    let v′ : c .version ≡ 0 = sym v in let l : c .version ≤ 1 = omega arith in
     simp (le-leb _ _ l, eq-eqb _ _ v′, items-text es, append-nil, append-assoc)
 items-text {types} (more {css = css} (several {c} {cs} f a b v few) es) =
-    let v′ : c .version ≡ 1 = sym (v .1) in
-    let l : c .version ≤ 1 = omega arith in
+    let v′ : c .version ≡ 1 = sym (v .1) in let l : c .version ≤ 1 = omega arith in
     let n : (c .version ≡ 0) → ⊥ = λ z. omega arith in
     simp (
       le-leb _ _ l,

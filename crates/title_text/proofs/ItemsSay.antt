@@ -12,13 +12,14 @@ use borrow.Author.Tests.{ltb-true, eqb-true, eqb-false}
 use Rattle.machine.specs.Machine.{ok, run, times}
 use Rattle.cursor.specs.Rows.{metaFrame}
 use Rattle.cursor.specs.Leaves.{number, block}
-use Rattle.cursor.specs.Vlq.{part, vlq, joined, sized}
+use Rattle.room.specs.Parts.{part, joined}
+use Rattle.vlq.specs.Vlq.{vlq, sized}
 use Rattle.cursor.specs.declared.FilePlace.{FilePlace}
 use Rattle.cursor.specs.declared.Item.{Item}
 use Rattle.machine.proofs.Wp.{Wp, at-end, wp-after, wp-ret, wp-if, wp-place, wp-skip}
 use Rattle.cursor.proofs.Leaves.{Any, any-free, number-on, block-on, number-inside, block-inside}
 use Rattle.cursor.proofs.Quiet.{number-quiet, block-quiet}
-use Rattle.cursor.proofs.Lies.{part-length}
+use Rattle.room.proofs.Counting.{part-length}
 use Rattle.cursor.proofs.Runs.{nothing, nothing-quiet, Holds, post-ran}
 use Rattle.cursor.proofs.Post.{Post, post-if, post-after, post-step, post-weaken, post-ret, post-refuse, post-check, post-place, post-skip, post-many}
 use Rattle.header.specs.Types.{Declared, Known, known, unknown, formatOf}
@@ -173,8 +174,7 @@ module _ (f : List ℕ) (node index end at : ℕ) where
       → Covers f at (universalText c) (r + (q + n - r))
   unfolding universalText
   universal-covers {n} {q} {format} {r} b e c i l =
-      let j = number-inside metaFrame 3 (q + n) f q e in
-      let z : r + (q + n - r) ≡ q + n = omega arith in
+      let j = number-inside metaFrame 3 (q + n) f q e in let z : r + (q + n - r) ≡ q + n = omega arith in
       covers-to (sym z) (sized-covers metaFrame 3 end f at b
       (covers-on (covers-as (ap vlq i) (number-covers metaFrame 3 (q + n) f q e))
       (covers-last (covers-to z (covers-as l (covers-part f r (q + n - r)))))))
@@ -271,8 +271,7 @@ module _ {f : List ℕ} {say : ℕ → Item → Content} (keeps : Keeps f say) (
       (post-skip _ _ (post-ret (
       let c : Content = say (length (σ .items)) (rowOf l 0 0 format r (q + n - r)) in
       let h = keeps (length (σ .items)) (rowOf l 0 0 format r (q + n - r)) in
-      let s = number-inside metaFrame 3 (q + n) f q e in
-      let i = like-format f l 0 0 format r (q + n - r) h in
+      let s = number-inside metaFrame 3 (q + n) f q e in let i = like-format f l 0 0 format r (q + n - r) h in
       record {
         contents = c ∷ [];
         are = (
@@ -311,8 +310,7 @@ module _ {f : List ℕ} {say : ℕ → Item → Content} (keeps : Keeps f say) (
       let v : ℕ = m .items + 1 - before in
       let c : Content = say (length (σ₁ .items)) (rowOf l v t format r n) in
       let h = keeps (length (σ₁ .items)) (rowOf l v t format r n) in
-      let s = number-inside metaFrame 3 end f at a in
-      let j = like-declared f l v t format r n h in
+      let s = number-inside metaFrame 3 end f at a in let j = like-declared f l v t format r n h in
       let k = like-format f l v t format r n h in
       record {
         contents = c ∷ [];
@@ -333,8 +331,7 @@ module _ {f : List ℕ} {say : ℕ → Item → Content} (keeps : Keeps f say) (
   versions-say before zero m at σ o r = post-ret (added-none (refl, tt, λ plain. covers-none at) r)
   versions-say before (suc n) m at σ o r =
       post-after (version-says before m at σ) λ m₁ q τ s.
-      let k = added-count s in
-      let i = s .are .0 in
+      let k = added-count s in let i = s .are .0 in
       post-weaken (versions-say before n m₁ q τ (omega arith) (added-room s)) λ m₂ v υ t.
       let z = length-append (s .contents) (t .contents) in
       let e : m₁ .items + 1 - before ≡ m .items + 1 - before + length (s .contents) = omega arith in
@@ -405,8 +402,7 @@ module _ {f : List ℕ} {say : ℕ → Item → Content} (keeps : Keeps f say) (
       )
   rows-say index g h (contents.Versions n) s m start p at σ r a₁ b =
       post-weaken (versions-say keeps x (record { node = node; item = index; field = g }) end (m .items) n m at σ (omega arith) r) λ m₁ q τ a.
-      let k = a .are .0 in
-      let e : m .items + 1 - m .items ≡ 1 = omega arith in
+      let k = a .are .0 in let e : m .items + 1 - m .items ≡ 1 = omega arith in
       let v = subst (λ j. Versions (x .types) (base f (record { node = node; item = index; field = g })) j (a .contents)) e (a .are .1) in
       added-by a (
         entry-several (x .types) f node index g (a .contents) h (omega arith) (omega arith) v,
@@ -461,8 +457,7 @@ module _ {f : List ℕ} {say : ℕ → Item → Content} (keeps : Keeps f say) (
       (λ k p τ s.
       post-after (item-says keeps x node end o (k .index) (k .made) p τ (added-room s)) λ m₁ q υ t.
       post-ret (
-      let (css, es, e, i, covers) = s .are in
-      let y = count-more css (t .contents) in
+      let (css, es, e, i, covers) = s .are in let y = count-more css (t .contents) in
       added-on s t (
         css ++ t .contents ∷ [],
         entries-more es (k .index) (t .contents) (omega arith) (t .are .0),

@@ -68,9 +68,7 @@ module _ (f k : List ℕ) (long : length f ≡ length k) where
   reread-same : (contained inner at : ℕ) → inner ≤ length f → {u : unpackers.Unpackers} {q : ℕ} → run (unpackers contained inner) f at ≡ ok u
       q → Held privateData B (trace (unpackers contained inner) f at) → UnpackersSame u
   reread-same contained inner at o {u} {q} e h =
-      let r = unpackers-reread f contained inner at o e in
-      let a = r .after in
-      let b = r .before in
+      let r = unpackers-reread f contained inner at o e in let a = r .after in let b = r .before in
       let g : AgreeUpTo f k (u .place .0) (r .stop) = λ j lo hi. all-bytes B (unpackers contained inner) (unpackers-use tt contained inner) f at e
       h j (omega arith) (omega arith) in
       ap answer (r .ran) ∙ sym (ap answer (unpackers-alike f k long (u .count) (u .place .0) (r .ran) g))

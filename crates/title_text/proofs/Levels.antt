@@ -9,11 +9,12 @@ use lib.Seq.{take-at, drop-at}
 use borrow.Author.Tests.{ltb-true, leb-true}
 use Rattle.machine.specs.Machine.{ret, refuse, here, byte, pass, ok, seen, passed, run, trace, exec, puts, rowsOf, _>>=_, times}
 use Rattle.cursor.specs.Rows.{Part, nodeRow, itemRow, plain, P, Events, inlineSize}
-use Rattle.cursor.specs.Vlq.{vlq, joined}
+use Rattle.room.specs.Parts.{joined}
+use Rattle.vlq.specs.Vlq.{vlq}
 use Rattle.cursor.specs.declared.Node.{Node}
 use Rattle.cursor.proofs.Uses.{passing, Only, used}
 use Rattle.cursor.proofs.Quiet.{still, exec-puts}
-use Rattle.cursor.proofs.Least.{vlq-some}
+use Rattle.vlq.proofs.Least.{vlq-some}
 use Rattle.machine.proofs.Wp.{at-end}
 use Rattle.cursor.proofs.Post.{Meets, Post, holds, post-after, post-weaken, post-ret, post-check, post-place, post-skip}
 use Rattle.header.specs.Types.{Declared}
@@ -86,15 +87,10 @@ module _ {f : List ℕ} (row : Node) (r : Shape) (cs : List Content) {at q : ℕ
     (i : q + inlineSize row + length inner ≤ at + row .size) where
   span-header : spanOf r cs inner .header ≤ row .header
   span-header =
-      let a = w .length-is .covers .short in
-      let b = w .contained-covers .short in
-      let c = w .header-is .covers .short in
-      let d = w .rest-covers .short in
-      let o = w .own-covers .short in
-      let m = w .length-is .fits in
-      let n = w .header-is .fits in
-      let s = vlq-some (row .size) in
-      let t = vlq-some (row .header) in
+      let a = w .length-is .covers .short in let b = w .contained-covers .short in
+      let c = w .header-is .covers .short in let d = w .rest-covers .short in let o = w .own-covers .short in
+      let m = w .length-is .fits in let n = w .header-is .fits in
+      let s = vlq-some (row .size) in let t = vlq-some (row .header) in
       omega (
         arith,
         header-least (r .contained) (restText r cs) (length (ownText r) + length inner) (w .a - at) (w .c - w .b) (omega arith)
@@ -121,8 +117,7 @@ module _ {f : List ℕ} (row : Node) (r : Shape) (cs : List Content) {at q : ℕ
   -- a node has no fewer bytes than its text; and where it has no more, that text
   whole-covers : at + row .size < 2 ^ 28 → Covers f (q + inlineSize row) inner (at + row .size) → Covers f at (wholeText r cs inner) (at + row .size)
   whole-covers big h =
-      let z = span-size in
-      let y = node-exact r cs inner (omega arith) in
+      let z = span-size in let y = node-exact r cs inner (omega arith) in
       record {
         short = omega arith;
         tight = λ bytes k.
@@ -240,8 +235,7 @@ bound-none f at = record { covers = covers-none at; over = none; tight = λ _. n
 bound-on : {f : List ℕ} {rs ts : List Node} {ss us : List Span} (xs ys : List (List ℕ)) {at p q : ℕ} → Bound f rs ss xs at p → Bound f ts us
     ys p q → Bound f (rs ++ ts) (ss ++ us) (xs ++ ys) at q
 bound-on xs ys x y =
-    let a = x .covers .short in
-    let b = y .covers .short in
+    let a = x .covers .short in let b = y .covers .short in
     let z = ap length (joined-append xs ys) ∙ length-append (joined xs) (joined ys) in
     record {
       covers = covers-as (sym (joined-append xs ys)) (covers-on (x .covers) (y .covers));
@@ -319,8 +313,7 @@ module _ (f : List ℕ) (x : Context) (end : ℕ) where
       → Level f x end 1 σ at m₂ (at + row .size) υ
   unfolding outer spans
   level-one big o {at} {q} {σ = σ} τ row cs fr contained start counted left₁ left₂ wide inside t =
-      let r : Shape = shape f row in
-      let e = fr .counted in
+      let r : Shape = shape f row in let e = fr .counted in
       let l : length (t .texts) ≡ r .contained = t .count ∙ sym contained in
       let inner : List ℕ = joined (t .texts) in
       record {
@@ -351,11 +344,8 @@ module _ (f : List ℕ) (x : Context) (end : ℕ) where
               take-at (t .texts) (outer ss ds) (r .contained) l,
             ) (ap (λ v. spanOf r cs inner ∷ v) (t .sizes-are ss ds));
         bound = λ a.
-            let b = t .bound (a .1) in
-            let w = wide (a .0) in
-            let i = b .covers .short in
-            let h = span-header row r cs w inner i in
-            let z = span-size row r cs w inner i in
+            let b = t .bound (a .1) in let w = wide (a .0) in let i = b .covers .short in
+            let h = span-header row r cs w inner i in let z = span-size row r cs w inner i in
             let y = node-exact r cs inner (omega arith) in
             record {
               covers = covers-last (whole-covers row r cs w inner i (omega arith) (b .covers));
@@ -367,8 +357,7 @@ module _ (f : List ℕ) (x : Context) (end : ℕ) where
                   more {r = row} (v .0) u (b .tight (v .1));
             };
         each = λ a ss ds v.
-            let b = t .bound (a .1) in
-            let w = wide (a .0) in
+            let b = t .bound (a .1) in let w = wide (a .0) in
             let c = whole-covers row r cs w inner (b .covers .short) (omega arith) (b .covers) in
             rw (append-assoc cs (t .contents) ds, take-at cs (t .contents ++ ds) (row .rows) counted, drop-at cs (t .contents ++ ds) (row .rows) counted) (
               record {
@@ -402,8 +391,7 @@ module _ (f : List ℕ) (big : length f < 2 ^ 28) (x : Context) where
   front-level parent depth least end m at σ o i room r =
       post-weaken (post-left (post-known (post-raw f (front-says (plainly-keeps f) x parent depth least end m at (said f σ) o room r)))) λ w q τ s.
       let p : P front.Front = front x parent depth (inTree least end) m in
-      let (cs, fr, made, left, inside, wide) = s .0 .0 in
-      let es : Events = trace p f at in
+      let (cs, fr, made, left, inside, wide) = s .0 .0 in let es : Events = trace p f at in
       let none-made : nodesOf es ≡ [] = no-nodes es (used f at (front-uses (λ κ. tt) (λ x. tt) (λ i. tt) x parent depth (inTree least end) m)) in
       let kept : τ .nodes ≡ σ .nodes ++ nodesOf es = ap (λ (v : Raw). v .nodes) (s .1 ∙ keeps-rows f es σ) in (
         cs,
@@ -429,8 +417,7 @@ module _ (f : List ℕ) (big : length f < 2 ^ 28) (x : Context) where
       post-after (front-level parent (16 - d) least end m at σ o i (ltb-true _ _ room) r) λ w q τ s.
       let (cs, fr, made, left₁, left₂, wide, y) = s in
       let k : w .made .items ≡ m .items + length cs = ap (λ (v : Made). v .items) made in
-      let a = y .within in
-      let c = inline-fits y in
+      let a = y .within in let c = inline-fits y in
       post-skip _ _
       (post-after (children (w .row .contained) (m .nodes) (at + w .row .size) (plusNode (w .made)) _ _ (omega arith) (omega arith) c (omega (arith, fr .item-room))) λ m₂ p υ t.
       post-place _ p

@@ -7,8 +7,8 @@ use lib.ListN.{length}
 use Rattle.cursor.specs.declared.Node.{Node}
 use Rattle.cursor.specs.declared.Item.{Item}
 use Rattle.header.specs.Header.{Header}
-use Rattle.room.specs.Room.{Among}
-use Rattle.room.proofs.Listed.{among-if}
+use Rattle.cursor.specs.Refusals.{Among}
+use Rattle.cursor.proofs.Listed.{among-if}
 use Rattle.rows.specs.Rows.{itemAt}
 use Rattle.title_text.specs.Title.{elsewhere, isNoTitle, titledFile, fitting, correctTitle, refusals}
 

@@ -9,9 +9,9 @@ use lib.Seq.{take-at, drop-at}
 use borrow.Author.Tests.{le-leb}
 use Rattle.machine.specs.Machine.{Out, ok, exec, times}
 use Rattle.cursor.specs.Rows.{nodeRow, inlineSize, P}
-use Rattle.cursor.specs.Vlq.{joined}
+use Rattle.room.specs.Parts.{joined}
 use Rattle.machine.proofs.Laws.{executing}
-use Rattle.cursor.proofs.Lies.{Lies, lies-left, lies-right}
+use Rattle.room.proofs.Lies.{Lies, lies-left, lies-right}
 use Rattle.header.specs.Types.{Declared}
 use Rattle.metadata.specs.Tables.{plusNode}
 use Rattle.metadata.specs.Metadata.{Context}
@@ -51,8 +51,7 @@ module _ {limits : Limits} {types : List Declared} where
   unfolding outer
   nodes-outer none ss ds = refl
   nodes-outer (more {r = r} {rs = rs} {ss = ts} {cs = cs} {ds = es} {es = fs} {inner = inner} {bs = bs} f ys xs) ss ds =
-      let e = f .counted in
-      let l = nodes-length ys in
+      let e = f .counted in let l = nodes-length ys in
       let i : outer ((rs ++ ts) ++ ss) (es ++ (fs ++ ds)) ≡ inner ++ (bs ++ outer ss ds) = rw append-assoc
       (nodes-outer ys (ts ++ ss) (fs ++ ds) ∙ ap (λ v. inner ++ v) (nodes-outer xs ss ds)) in
       rw (
@@ -115,9 +114,7 @@ module _ (x : Context) (g : List ℕ) (d parent least end : ℕ) (m : Made) (p :
       let u : m .nodes + 1 + length rs ≡ m .nodes + suc (length rs) = omega arith in
       let v : m .items + length cs + length ds ≡ m .items + length (cs ++ ds) = omega arith in
       let o : Out (Made × Collected) = ok (madeBy (r ∷ rs) (cs ++ ds) m, withRows σ (r ∷ rs) (cs ++ ds)) (p + length (wholeText r cs (joined inner))) in
-      let k₁ : suc d - 1 ≡ d = omega arith in
-      let k₂ : 17 - suc d ≡ 16 - d = omega arith in
-      let row = b .is .row in
+      let k₁ : suc d - 1 ≡ d = omega arith in let k₂ : 17 - suc d ≡ 16 - d = omega arith in let row = b .is .row in
       let q : ℕ = b .next + inlineSize row in
       let τ : Collected = collect g (nodeRow row) (b .next) (inlineSize row) (withItems σ cs) in
       let c₁ : exec (collect g) (times (r .contained) (node d x (m .nodes) (inTree 0 (p + length (wholeText r cs (joined inner)))))
@@ -143,16 +140,12 @@ module _ (x : Context) (g : List ℕ) (big : length g < 2 ^ 28) where
       → exec (collect g) (times n (node d x parent (inTree 0 end)) m) g p σ ≡ ok (madeBy rs cs m, withRows σ rs cs) (p + length (joined bs))
   unfolding times
   nodes-back {m = m} none stay end p σ h i =
-      let a : p + 0 ≡ p = omega arith in
-      let b : m .nodes + 0 ≡ m .nodes = omega arith in
+      let a : p + 0 ≡ p = omega arith in let b : m .nodes + 0 ≡ m .nodes = omega arith in
       let c : m .items + 0 ≡ m .items = omega arith in
       simp (executing, a, b, c, append-nil)
   nodes-back {parent = parent} {m = m} (more {d = d} {n = n} {r = r} {rs = rs} {ss = ss} {cs = cs} {ds = ds} {es = es} {inner = inner} {bs = bs} f ys xs) stay end p σ h i =
-      let t : List ℕ = wholeText r cs (joined inner) in
-      let y = length-append t (joined bs) in
-      let w = length-append (cs ++ ds) es in
-      let l = length-append rs ss in
-      let k = whole-length r cs (joined inner) in
+      let t : List ℕ = wholeText r cs (joined inner) in let y = length-append t (joined bs) in
+      let w = length-append (cs ++ ds) es in let l = length-append rs ss in let k = whole-length r cs (joined inner) in
       let b = front-back x g big parent (16 - d) 0 end m r cs (joined inner) p σ f (stay .0) (alone ys) (lies-left t (joined bs) h) (omega arith) (omega arith) in
       let c = nodes-back ys (stay-left rs ss (stay .1)) (p + length t) (p + length (nodeText r cs (length (joined inner))))
       (withRows σ (r ∷ []) cs) (inner-lies r cs (joined inner) (lies-left t (joined bs) h)) (omega arith) in
@@ -168,8 +161,7 @@ module _ (x : Context) (g : List ℕ) (big : length g < 2 ^ 28) where
       cs (b ∷ []) → AllStay rs → (end p : ℕ) (σ : Collected) → Lies g p b → p + length b ≡ end
       → exec (collect g) (node d x parent (inTree end end) m) g p σ ≡ ok (madeBy rs cs m, withRows σ rs cs) end
   root-back {parent = parent} {m = m} (more {d = d} {r = r} {rs = rs} {cs = cs} {ds = ds} {inner = inner} f ys none) stay end p σ h i =
-      let t : List ℕ = wholeText r cs (joined inner) in
-      let k = whole-length r cs (joined inner) in
+      let t : List ℕ = wholeText r cs (joined inner) in let k = whole-length r cs (joined inner) in
       let b = front-back x g big parent (16 - d) end end m r cs (joined inner) p σ f (stay .0) (alone ys) h (omega arith) (omega arith) in
       let c = nodes-back ys (stay-left rs [] (stay .1)) (p + length t) (p + length (nodeText r cs (length (joined inner))))
       (withRows σ (r ∷ []) cs) (inner-lies r cs (joined inner) h) (omega arith) in

@@ -11,7 +11,8 @@ use lib.ListN.{length, length-append}
 use borrow.Author.Tests.{ltb-true, leb-true, eqb-true, eqb-false, ne-eqb}
 use Rattle.machine.specs.Machine.{exec, times, _>>=_}
 use Rattle.cursor.specs.Rows.{nodeFrame, referenceFrame, inlineSize}
-use Rattle.cursor.specs.Vlq.{part, vlq, joined, sized}
+use Rattle.room.specs.Parts.{part, joined}
+use Rattle.vlq.specs.Vlq.{vlq, sized}
 use Rattle.cursor.specs.declared.Node.{Node}
 use Rattle.cursor.specs.declared.Item.{Item}
 use Rattle.machine.proofs.Wp.{Wp, at-end, wp-after, wp-ret, wp-if, wp-check, wp-place, wp-skip, wp-weaken}
@@ -93,10 +94,7 @@ target-in f headerEnd size r end at p h some four =
     λ t. post-if (λ u. post-place _ p (post-step nothing-quiet λ o q e. post-check _ _ λ c. post-check _ _ λ d. post-ret (λ z. absurd (omega arith), λ z. absurd (omega arith))))
     λ u. post-if (λ w. post-step nothing-quiet λ o q e. post-ret (λ z. absurd (omega arith), λ z. absurd (omega arith)))
     λ w. post-step nothing-quiet λ n q e. post-place _ q (post-skip _ _ (post-ret (
-    let a = eqb-false r 1 t in
-    let b = eqb-false r 2 u in
-    let c = eqb-false r 3 w in
-    let k : r ≡ 4 = omega arith in
+    let a = eqb-false r 1 t in let b = eqb-false r 2 u in let c = eqb-false r 3 w in let k : r ≡ 4 = omega arith in
     (λ z. absurd (omega arith), λ z. covers-on (covers-as (ap vlq k) h) (covers-last (sized-covers referenceFrame 3 end f p e (covers-part f q n)))))))
 
 reference-in : (f : List ℕ) (headerEnd size contained end at : ℕ) → Post nothing f (reference headerEnd size contained end) (Holds (RefersIn f at)) at tt
@@ -191,8 +189,7 @@ module _ (f : List ℕ) where
   unfolding shape
   own-in row at q stays refers one four = elim (refers-stay (row .contained) (row .reference) refers stays) [
     | inl e ↦
-        let r : Shape = shape f row in
-        let (h, t) = one e in
+        let r : Shape = shape f row in let (h, t) = one e in
         elim (decEqZero (row .contained)) [
           | inl z ↦
               let b : part f q (row .extent) ≡ r .body = rw (z, t) refl in
@@ -304,8 +301,7 @@ record GrownOne (x : Context) (d parent : ℕ) (m : Made) (σ : Collected) (m′
 
 grown-none : (x : Context) (d parent : ℕ) (m : Made) (q : ℕ) (σ : Collected) → m .items ≤ x .limits .items → Grown x d parent m σ 0 m q σ
 grown-none x d parent m q σ r =
-    let a : m .nodes + 0 ≡ m .nodes = omega arith in
-    let b : m .items + 0 ≡ m .items = omega arith in
+    let a : m .nodes + 0 ≡ m .nodes = omega arith in let b : m .items + 0 ≡ m .items = omega arith in
     record { shapes = []; contents = []; texts = []; are = none; made = rw (a, b) refl; left = rw (append-nil (σ .nodes), append-nil (σ .items)) refl; room = r }
 
 grown-more : (x : Context) (d parent n : ℕ) {m m₁ m₂ : Made} {p q : ℕ} {σ τ υ : Collected} → GrownOne x d parent m σ m₁ p τ → Grown x

@@ -6,7 +6,8 @@ use mathlib.Core.List.{List, [], _∷_, _++_}
 use Prim.Native.Nat.{ℕ, zero, suc, _+_, _-_}
 use lib.Dec.{eqb, leb}
 use lib.ListN.{length, take, drop, length-append}
-use Rattle.cursor.specs.Vlq.{vlq, joined, sized}
+use Rattle.room.specs.Parts.{joined}
+use Rattle.vlq.specs.Vlq.{vlq, sized}
 use Rattle.title_text.specs.Description.{Content, Shape, Description, titled, titledAt, retitled}
 use Rattle.title_text.specs.Text.{further, fieldText, itemText, universalText, versionText, contentText, itemsText, headerOf, framed, ownText, nodeText, wholeText, outer, treeStart, assembled, fileOf, fileText}
 
@@ -132,8 +133,7 @@ framed-pair : {contained contained′ n n′ : ℕ} {rest rest′ own own′ : L
     own′ → n ≡ n′ → AsLong (framed contained rest own n) (framed contained′ rest′ own′ n′)
 unfolding framed
 framed-pair h x y e =
-    let c = ap₂ _+_ (y .long) e in
-    let k = header-pair h x c in
+    let c = ap₂ _+_ (y .long) e in let k = header-pair h x c in
     fields (more (number (ap₂ _+_ k c)) (more (number h) (more (number k) (more x (more y none)))))
 
 pub own-pair : {r s : Shape} → ShapePair r s → AsLong (ownText r) (ownText s)

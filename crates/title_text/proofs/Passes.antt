@@ -4,7 +4,7 @@ use mathlib.Core.Path.{_≡_, refl, sym, ap, _∙_}
 use mathlib.Core.List.{List, [], _∷_, _++_, append-assoc, map}
 use Prim.Native.Nat.{ℕ, zero, suc, _+_}
 use lib.ListN.{length, take, drop, length-append, take-append-drop}
-use Rattle.cursor.specs.Vlq.{joined}
+use Rattle.room.specs.Parts.{joined}
 use Rattle.title_text.specs.Description.{Content, Shape}
 use Rattle.title_text.specs.Text.{nodeText, wholeText, outer}
 

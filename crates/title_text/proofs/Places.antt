@@ -5,8 +5,8 @@ use mathlib.Core.List.{List, [], _∷_}
 use Prim.Native.Nat.{ℕ, _+_, _-_, _^_, _<_}
 use native.Mathlib.Omega.{arith}
 use lib.ListN.{length}
-use Rattle.cursor.specs.Vlq.{vlq}
-use Rattle.cursor.proofs.Lies.{Lies, lies-at, lies-as, Stand, stand}
+use Rattle.vlq.specs.Vlq.{vlq}
+use Rattle.room.proofs.Lies.{Lies, lies-at, lies-as, Stand, stand}
 use Rattle.title_text.specs.Text.{assembled, fileOf}
 use Rattle.title_text.proofs.Sizes.{S, front, file-length}
 
@@ -44,9 +44,7 @@ module _ (opening types gap tree after : List ℕ) (some : 0 < length tree) (sma
   file-stands =
       let s = stand-all in
       let w = file-length opening types gap tree after small in
-      let k = w .0 in
-      let i = w .1 in
-      let j = ap (λ n. length (vlq n)) k in
+      let k = w .0 in let i = w .1 in let j = ap (λ n. length (vlq n)) k in
       record {
         opening-lies = s .0;
         length-lies = lies-as (ap vlq k) (lies-at (omega arith) (s .1 .0));

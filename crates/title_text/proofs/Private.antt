@@ -58,8 +58,7 @@ free-private (passed (nodeRow r) p n ∷ es) end size k a (inl (t, lo, hi)) =
     let w = both (eqb (r .contained) 0) (eqb (r .reference) 1) t in
     let z : r .contained ≡ 0 = eqb→eq (r .contained) 0 (w .0) in
     let o : r .reference ≡ 1 = eqb→eq (r .reference) 1 (w .1) in
-    let e = a .0 .4 t in
-    let y : n ≡ r .extent = a .0 .3 ∙ inline-is r z o in
+    let e = a .0 .4 t in let y : n ≡ r .extent = a .0 .3 ∙ inline-is r z o in
     inr (0, omega arith, z, o, omega arith, omega arith)
 free-private (passed (nodeRow r) p n ∷ es) end size k a (inr x) = elim (free-private es end size k (a .1) x) [
   | inl (i, l, t, lo, hi) ↦ inl (i, l, t, lo, hi)

@@ -9,11 +9,12 @@ use lib.ListN.{length, length-drop}
 use lib.Seq.{length-take-le}
 use Rattle.machine.specs.Machine.{trace}
 use Rattle.cursor.specs.Rows.{P, Events}
-use Rattle.cursor.specs.Vlq.{vlq, joined, sized}
+use Rattle.room.specs.Parts.{joined}
+use Rattle.vlq.specs.Vlq.{vlq, sized}
 use Rattle.cursor.specs.declared.Node.{Node}
 use Rattle.cursor.specs.declared.Item.{Item}
-use Rattle.cursor.proofs.Least.{vlq-some}
-use Rattle.cursor.proofs.Lies.{part-length}
+use Rattle.vlq.proofs.Least.{vlq-some}
+use Rattle.room.proofs.Counting.{part-length}
 use Rattle.header.specs.Header.{Header}
 use Rattle.metadata.specs.Metadata.{Context}
 use Rattle.metadata.specs.declared.Limits.{Limits}
@@ -116,14 +117,10 @@ module _ (lim : Limits) (g : List ℕ) {h : Header} {ns : List Node} {is : List 
 
   pub no-shorter : AllStay (map (shape g) ns) → NoShorter (described g h ns is) g h ns
   no-shorter stay =
-      let d : Description = described g h ns is in
-      let r = read-back lim g reads in
-      let w = header-of r in
-      let p : P Made = treeOf lim (length g) h in
-      let log : Events = trace p g (h .extent .start) in
+      let d : Description = described g h ns is in let r = read-back lim g reads in let w = header-of r in
+      let p : P Made = treeOf lim (length g) h in let log : Events = trace p g (h .extent .start) in
       let q : r .log ≡ log = log-is-tree lim g h log (lim .nodes) (r .follows) (ap elsewhere (r .nodes-are) ∙ stay-elsewhere g ns stay) in
-      let says = header-says g (r .header-is) in
-      let sp = says .spans in
+      let says = header-says g (r .header-is) in let sp = says .spans in
       let c = copied-sizes (says .long) (omega arith) (omega arith) (w .3) in
       let ty = ap (λ v. length (sized v)) (types-are says) in
       let (t, a, b) = tree-level g (w .4) (context lim h (length g)) (h .extent .last + 1) (h .extent .start) (omega arith) (omega arith) (r .tree-is) in
@@ -135,16 +132,13 @@ module _ (lim : Limits) (g : List ℕ) {h : Header} {ns : List Node} {is : List 
       let outer-is : outer (d .nodes) (d .items) ≡ t .texts = ap₂ outer shapes said ∙ all-texts t in
       let sizes-are : spans (d .nodes) (d .items) ≡ t .sizes = ap₂ spans shapes said ∙ all-sizes t in
       let tree-is : length (treeText d) ≡ length (joined (t .texts)) = ap (λ v. length (joined v)) outer-is in
-      let x : ℕ = sp .a - openingSize (h .version) in
-      let y : ℕ = sp .c - sp .b in
-      let z : ℕ = h .extent .end - sp .c in
+      let x : ℕ = sp .a - openingSize (h .version) in let y : ℕ = sp .c - sp .b in let z : ℕ = h .extent .end - sp .c in
       let hold : openingSize (h .version) + x + length (sized (d .types)) + y + z ≤ h .extent .end = omega
       (arith, sp .length-is .covers .short, sp .types-covers .short, sp .start-is .covers .short, sp .last-is .covers .short) in
       let some-x : 1 ≤ x = omega (arith, sp .length-is .covers .short, vlq-some (length g)) in
       let some-y : 1 ≤ y = omega (arith, sp .start-is .covers .short, vlq-some (h .extent .start)) in
       let some-z : 1 ≤ z = omega (arith, sp .last-is .covers .short, vlq-some (h .extent .last)) in
-      let short = bound .covers .short in
-      let inside = t .inside in
+      let short = bound .covers .short in let inside = t .inside in
       let fits : startOf d ≤ length (d .opening) + x + length (sized (d .types)) + y + z + length (d .gap) =
       start-least (d .opening) (sized (d .types)) (d .gap) (treeText d) (d .after) x y z (omega arith) (omega arith) (omega arith)
       (omega (arith, sp .start-is .fits)) (omega (arith, sp .last-is .fits)) (omega (arith, sp .length-is .fits)) in
@@ -171,9 +165,7 @@ module _ (lim : Limits) (g : List ℕ) {h : Header} {ns : List Node} {is : List 
   -- each node by itself
   pub rows-stand : AllStay (map (shape g) ns) → Each g ns (map (content g) is)
   rows-stand stay =
-      let r = read-back lim g reads in
-      let w = header-of r in
-      let p : P Made = treeOf lim (length g) h in
+      let r = read-back lim g reads in let w = header-of r in let p : P Made = treeOf lim (length g) h in
       let log : Events = trace p g (h .extent .start) in
       let q : r .log ≡ log = log-is-tree lim g h log (lim .nodes) (r .follows) (ap elsewhere (r .nodes-are) ∙ stay-elsewhere g ns stay) in
       let (t, a, b) = tree-level g (w .4) (context lim h (length g)) (h .extent .last + 1) (h .extent .start) (omega arith) (omega arith) (r .tree-is) in
@@ -207,9 +199,6 @@ row-least (more a b x) (more c d y) (suc i) l = row-least x y i (omega arith)
 pub nowhere-longer : {lim lim′ : Limits} {g g′ : List ℕ} {d : Description} (s : Says lim g d) (t : Says lim′ g′ d) → AllStay (d .nodes) →
     length g ≤ length (fileText d) → NowhereLonger s t
 nowhere-longer s t stay l =
-    let x = says-no-shorter s stay .tight l in
-    let y = says-no-shorter t stay in
-    let a = y .start in
-    let b = y .last in
-    let c = y .whole in
+    let x = says-no-shorter s stay .tight l in let y = says-no-shorter t stay in
+    let a = y .start in let b = y .last in let c = y .whole in
     record { whole = omega arith; start = omega (arith, x .0); last = omega (arith, x .1); nodes = row-least (x .2) (y .levels) }

@@ -5,9 +5,10 @@ use mathlib.Core.List.{List, [], _∷_}
 use Prim.Native.Nat.{ℕ, _+_, _-_, _^_, _≤_, _<_}
 use native.Mathlib.Omega.{arith}
 use lib.ListN.{length}
-use Rattle.cursor.specs.Vlq.{least, vlq, joined}
-use Rattle.cursor.proofs.Least.{least-le, least-up, least-short, least-within, vlq-length}
-use Rattle.cursor.proofs.Lies.{joined-length}
+use Rattle.room.specs.Parts.{joined}
+use Rattle.vlq.specs.Vlq.{least, vlq}
+use Rattle.vlq.proofs.Least.{least-le, least-up, least-short, least-within, vlq-length}
+use Rattle.room.proofs.Lies.{joined-length}
 use Rattle.title_text.specs.Text.{headerBytes, headerSize, lengthBytes, headerOf, framed, startWith, lastBytes, startBytes, startAt, fileBytes, treeStart, assembled, fileOf}
 
 -- a number in its shortest form has no more bytes than any count that holds it
@@ -60,8 +61,7 @@ module _ (contained : ℕ) (rest : List ℕ) where
       (vlq (headerOf contained rest contents)) + length rest
   unfolding headerOf
   framed-header contents h =
-      let fixed : ℕ = length (vlq contained) + length rest in
-      let a : ℕ = lengthBytes fixed contents in
+      let fixed : ℕ = length (vlq contained) + length rest in let a : ℕ = lengthBytes fixed contents in
       let i : length (vlq (headerSize fixed a + contents)) ≡ a = vlq-length (headerSize fixed a + contents) ∙ length-short fixed contents h in
       let j : length (vlq (headerSize fixed a)) ≡ headerBytes fixed a = vlq-length (headerSize fixed a) ∙ header-short fixed a (omega arith) in
       omega (arith, header-is fixed a)
@@ -79,8 +79,7 @@ module _ (contained : ℕ) (rest : List ℕ) where
       (vlq contained) + length (vlq (headerOf contained rest contents)) + length rest
   unfolding headerOf
   header-most contents =
-      let fixed : ℕ = length (vlq contained) + length rest in
-      let a : ℕ = lengthBytes fixed contents in
+      let fixed : ℕ = length (vlq contained) + length rest in let a : ℕ = lengthBytes fixed contents in
       omega (arith, header-is fixed a, length-within fixed contents, header-within fixed a, vlq-length (headerSize fixed a + contents), vlq-length (headerSize fixed a))
 
   module _ (own : List ℕ) (n : ℕ) where
@@ -89,15 +88,13 @@ module _ (contained : ℕ) (rest : List ℕ) where
         headerOf contained rest (length own + n) + (length own + n)
     unfolding framed
     framed-length h =
-        let c : ℕ = length own + n in
-        let H : ℕ = headerOf contained rest c in
+        let c : ℕ = length own + n in let H : ℕ = headerOf contained rest c in
         omega (arith, joined-length (vlq (H + c) ∷ vlq contained ∷ vlq H ∷ rest ∷ own ∷ []), framed-header c h)
 
     pub framed-most : headerOf contained rest (length own + n) + (length own + n) ≤ length (framed contained rest own n) + n
     unfolding framed
     framed-most =
-        let c : ℕ = length own + n in
-        let H : ℕ = headerOf contained rest c in
+        let c : ℕ = length own + n in let H : ℕ = headerOf contained rest c in
         omega (arith, joined-length (vlq (H + c) ∷ vlq contained ∷ vlq H ∷ rest ∷ own ∷ []), header-most c)
 
 -- ---- FileLength, TreeStart and TreeEnd
@@ -183,8 +180,7 @@ module _ (opening types gap tree after : List ℕ) where
   start-right h =
       let fixed : ℕ = length opening + length types + length gap in
       let x : ℕ = fileBytes fixed (length tree) (length after) in
-      let y : ℕ = startBytes fixed (length tree) x in
-      let s : ℕ = startAt fixed (length tree) x in
+      let y : ℕ = startBytes fixed (length tree) x in let s : ℕ = startAt fixed (length tree) x in
       let e = start-is fixed (length tree) x in
       let a = vlq-length (s + length tree + length after) ∙ file-short fixed (length tree) (length after) h in
       let b = vlq-length s ∙ start-short fixed (length tree) x (omega arith) in
@@ -208,8 +204,7 @@ module _ (opening types gap tree after : List ℕ) where
   start-most =
       let fixed : ℕ = length opening + length types + length gap in
       let x : ℕ = fileBytes fixed (length tree) (length after) in
-      let y : ℕ = startBytes fixed (length tree) x in
-      let s : ℕ = startAt fixed (length tree) x in
+      let y : ℕ = startBytes fixed (length tree) x in let s : ℕ = startAt fixed (length tree) x in
       let e = start-is fixed (length tree) x in
       let c : lastBytes fixed (length tree) x y ≤ length (vlq (s + length tree - 1)) = rw (e, vlq-length) (last-within fixed (length tree) x y) in
       omega (arith, vlq-length (s + length tree + length after), file-within fixed (length tree) (length after), vlq-length s, start-within fixed (length tree) x)

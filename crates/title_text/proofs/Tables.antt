@@ -10,10 +10,13 @@ use borrow.Author.Tests.{ltb-true, leb-true, lt-ltb, le-leb}
 use Rattle.machine.specs.Machine.{ok, run, times}
 use Rattle.cursor.specs.Rows.{fileFrame}
 use Rattle.cursor.specs.Leaves.{number, block}
-use Rattle.cursor.specs.Vlq.{part, vlq, joined, sized}
+use Rattle.room.specs.Parts.{part, joined}
+use Rattle.vlq.specs.Vlq.{vlq, sized}
 use Rattle.machine.proofs.Laws.{running}
-use Rattle.cursor.proofs.Lies.{Lies, lies-left, lies-right, lies-part, stand, stand-sized, joined-length, sized-length, part-length}
-use Rattle.cursor.proofs.Back.{number-back, block-back}
+use Rattle.room.proofs.Counting.{part-length}
+use Rattle.room.proofs.Lies.{Lies, lies-left, lies-right, lies-part, stand, joined-length}
+use Rattle.vlq.proofs.Sized.{stand-sized, sized-length}
+use Rattle.vlq.proofs.Back.{number-back, block-back}
 use Rattle.cursor.proofs.Wider.{number-wider, block-wider}
 use Rattle.cursor.proofs.Leaves.{number-inside, block-inside}
 use Rattle.cursor.proofs.Post.{Post, post-after, post-step, post-weaken, post-ret, post-check, post-place, post-skip}
@@ -39,10 +42,7 @@ module _ (g : List ℕ) (big : length g < 2 ^ 28) where
   unfolding entry
   entry-back end p ds t fm s room new l k h i =
       let ss : List (List ℕ) = vlq t ∷ vlq fm ∷ sized s ∷ [] in
-      let w = stand ss h in
-      let u = stand-sized s (w .1 .1 .0) in
-      let y = sized-length s in
-      let z = joined-length ss in
+      let w = stand ss h in let u = stand-sized s (w .1 .1 .0) in let y = sized-length s in let z = joined-length ss in
       let n : ℕ = length s in
       let e₁ = number-back fileFrame 3 end t (w .0) l (omega arith) in
       let e₂ = number-back fileFrame 3 end fm (w .1 .0) k (omega arith) in
@@ -55,12 +55,8 @@ module _ (g : List ℕ) (big : length g < 2 ^ 28) where
   unfolding entryText sized
   entry-again before p t fm s l k h =
       let ss : List (List ℕ) = vlq t ∷ vlq fm ∷ sized s ∷ [] in
-      let w = stand ss h in
-      let u = stand-sized s (w .1 .1 .0) in
-      let y = sized-length s in
-      let z = joined-length ss in
-      let i = h .inside in
-      let n : ℕ = length s in
+      let w = stand ss h in let u = stand-sized s (w .1 .1 .0) in let y = sized-length s in let z = joined-length ss in
+      let i = h .inside in let n : ℕ = length s in
       let e₁ = number-back fileFrame 3 (length g) t (w .0) l (omega arith) in
       let e₂ = number-back fileFrame 3 (length g) fm (w .1 .0) k (omega arith) in
       let e₃ = block-back fileFrame 3 (length g) n (u .0) (omega arith) (omega arith) in
@@ -97,12 +93,8 @@ module _ (g : List ℕ) (big : length g < 2 ^ 28) where
         → run (typesTable size) g p ≡ ok ds (p + length (sized (joined (vlq (length ts) ∷ ts))))
     unfolding typesTable
     table-back size p h i =
-        let c : ℕ = length ts in
-        let t : List ℕ = joined (vlq c ∷ ts) in
-        let n : ℕ = length t in
-        let u = stand-sized t h in
-        let y = sized-length t in
-        let z = length-append (vlq c) (joined ts) in
+        let c : ℕ = length ts in let t : List ℕ = joined (vlq c ∷ ts) in let n : ℕ = length t in
+        let u = stand-sized t h in let y = sized-length t in let z = length-append (vlq c) (joined ts) in
         let q : ℕ = p + length (vlq n) in
         let e₁ = block-back fileFrame 3 size n (u .0) (omega (arith, h .inside)) (omega arith) in
         let e₂ = number-back fileFrame 3 (q + n) c (lies-left (vlq c) (joined ts) (u .1)) few (omega arith) in
@@ -115,15 +107,9 @@ module _ (g : List ℕ) (big : length g < 2 ^ 28) where
         (sized (joined (vlq (length ts) ∷ ts))) → answer (run (tableText g) g p) ≡ joined (vlq (length ts) ∷ ts)
     unfolding tableText
     table-again size p l w h =
-        let c : ℕ = length ts in
-        let t : List ℕ = joined (vlq c ∷ ts) in
-        let n : ℕ = length t in
-        let u = stand-sized t h in
-        let y = sized-length t in
-        let z = length-append (vlq c) (joined ts) in
-        let i = h .inside in
-        let o : ℕ = p + length (vlq size) in
-        let q : ℕ = o + length (vlq n) in
+        let c : ℕ = length ts in let t : List ℕ = joined (vlq c ∷ ts) in let n : ℕ = length t in
+        let u = stand-sized t h in let y = sized-length t in let z = length-append (vlq c) (joined ts) in
+        let i = h .inside in let o : ℕ = p + length (vlq size) in let q : ℕ = o + length (vlq n) in
         let e₀ = number-back fileFrame 3 (length g) size w l (omega arith) in
         let e₁ = block-back fileFrame 3 (length g) n (u .0) (omega arith) (omega arith) in
         let e₂ = number-back fileFrame 3 (length g) c (lies-left (vlq c) (joined ts) (u .1)) few (omega arith) in
@@ -142,9 +128,7 @@ module _ (f : List ℕ) (end : ℕ) (o : end ≤ length f) where
       → run (entryText f before) f at ≡ ok (before ++ joined (vlq t ∷ vlq fm ∷ sized (part f u n) ∷ [])) (u + n)
   unfolding entryText sized
   entry-text before at {n = n} {q = q} {r = r} {u = u} e₁ e₂ e₃ =
-      let i = block-inside fileFrame 3 end f r e₃ in
-      let a = wide at e₁ in
-      let b = wide q e₂ in
+      let i = block-inside fileFrame 3 end f r e₃ in let a = wide at e₁ in let b = wide q e₂ in
       let c = block-wider fileFrame 3 3 end (length f) f r e₃ (omega arith) in
       let z = part-length f u n (omega arith) in
       simp (running, a, b, c, z, append-nil)
@@ -173,10 +157,8 @@ entry-says f end o ds at =
     post-step nothing-quiet λ fm r e₂.
     post-step nothing-quiet λ n u e₃.
     post-skip _ _ (post-ret (
-    let i = number-inside fileFrame 3 end f at e₁ in
-    let j = number-inside fileFrame 3 end f q e₂ in
-    let k = block-inside fileFrame 3 end f r e₃ in
-    let z = part-length f u n (omega arith) in
+    let i = number-inside fileFrame 3 end f at e₁ in let j = number-inside fileFrame 3 end f q e₂ in
+    let k = block-inside fileFrame 3 end f r e₃ in let z = part-length f u n (omega arith) in
     record {
       type = t;
       format = fm;
@@ -252,8 +234,7 @@ table-says f at =
     post-step nothing-quiet λ n q e₁.
     post-place _ q
     (post-step nothing-quiet λ count r e₂.
-    let i = block-inside fileFrame 3 (length f) f at e₁ in
-    let j = number-inside fileFrame 3 (q + n) f q e₂ in
+    let i = block-inside fileFrame 3 (length f) f at e₁ in let j = number-inside fileFrame 3 (q + n) f q e₂ in
     post-after (entries-say f (q + n) (omega arith) count [] r (j .2)) λ ds u _ w.
     post-place _ u
     (post-check _ _ λ full.

@@ -11,13 +11,14 @@ use lib.Seq.{getD-take, length-take-le}
 use borrow.Author.Tests.{eq-eqb, ne-eqb}
 use Rattle.machine.specs.Machine.{Out, ok, refused, run, trace, exec}
 use Rattle.cursor.specs.Rows.{Events, P}
-use Rattle.cursor.specs.Vlq.{part, vlq, joined, sized}
+use Rattle.room.specs.Parts.{part, joined}
+use Rattle.vlq.specs.Vlq.{vlq, sized}
 use Rattle.cursor.specs.declared.Node.{Node}
 use Rattle.cursor.specs.declared.Item.{Item}
 use Rattle.machine.proofs.Wp.{at-end}
 use Rattle.cursor.proofs.Leaves.{any-free}
-use Rattle.cursor.proofs.Least.{vlq-some}
-use Rattle.cursor.proofs.Lies.{lies-at, lies-part, lies-end, joined-length}
+use Rattle.vlq.proofs.Least.{vlq-some}
+use Rattle.room.proofs.Lies.{lies-at, lies-part, lies-end, joined-length}
 use Rattle.cursor.proofs.Post.{holds}
 use Rattle.header.specs.Types.{Declared}
 use Rattle.header.specs.Header.{Edition, Header, header}
@@ -86,8 +87,7 @@ rows-were f p at {m} {rs} {cs} {q} e = by (run p f at) (sym (collects (λ k r. c
     by : (o : Out Made) → afterRows (λ k r. content f r) f (nodesOf (trace p f at)) (itemsOf (trace p f at)) none o ≡ ok (m, record { nodes = rs; items = cs }) q
         → (o ≡ ok m q) × (map (shape f) (nodesOf (trace p f at)) ≡ rs) × (map (content f) (itemsOf (trace p f at)) ≡ cs)
     by (ok a r) x =
-        let (y, z) = ok-same x in
-        let k : a ≡ m = ap (λ (v : Made × Collected). v .0) y in
+        let (y, z) = ok-same x in let k : a ≡ m = ap (λ (v : Made × Collected). v .0) y in
         (rw (k, z) refl, ap (λ (v : Made × Collected). v .1 .nodes) y, sym (said-plain f 0 (itemsOf (trace p f at))) ∙ ap (λ (v : Made × Collected). v .1 .items) y)
     by (refused n r) x = let z : _≡_ {A = ℕ} 0 1 = cc in absurd (omega arith)
 
@@ -115,8 +115,7 @@ description-is d a b c e f g h i j = rw (a, b, c, e, f, g, h, i, j) refl
 framed-some : (contained : ℕ) (rest own : List ℕ) (n : ℕ) → 0 < length (framed contained rest own n)
 unfolding framed
 framed-some contained rest own n =
-    let c : ℕ = length own + n in
-    let H : ℕ = headerOf contained rest c in
+    let c : ℕ = length own + n in let H : ℕ = headerOf contained rest c in
     omega (arith, joined-length (vlq (H + c) ∷ vlq contained ∷ vlq H ∷ rest ∷ own ∷ []), vlq-some contained)
 
 some-text : (r : Shape) (cs : List Content) (inner : List ℕ) → 0 < length (wholeText r cs inner)
@@ -138,25 +137,18 @@ module _ {f : List ℕ} {h : Header} (says : HeaderSays f h) {gap tree after g :
   opened : Opened g (h .version) (h .edition)
   opened =
       opened-same (says .opened) λ k l.
-      let o = opening-length in
-      let e : 0 + k ≡ k = omega arith in
+      let o = opening-length in let e : 0 + k ≡ k = omega arith in
       sym (rw e at (st .opening-lies .same k (omega arith)) ∙ getD-take (openingSize (h .version)) f k 0 l)
 
   -- its header
   pub new-header : run (header (length g)) g 0 ≡ ok
       (record { version = h .version; edition = h .edition; types = h .types; extent = record { start = start; last = last; end = end } }) end
   new-header =
-      let n : ℕ = openingSize (h .version) in
-      let o = opening-length in
+      let n : ℕ = openingSize (h .version) in let o = opening-length in
       let types : List ℕ = sized (joined (vlq (length (says .texts)) ∷ says .texts)) in
-      let a : ℕ = n + length (vlq (length g)) in
-      let b : ℕ = a + length types in
-      let i = st .last-lies .inside in
+      let a : ℕ = n + length (vlq (length g)) in let b : ℕ = a + length types in let i = st .last-lies .inside in
       let least = size-least (h .version) in
-      let k = st .end-is in
-      let k₁ = st .start-is in
-      let k₂ = st .last-is in
-      let k₃ = st .size-is in
+      let k = st .end-is in let k₁ = st .start-is in let k₂ = st .last-is in let k₃ = st .size-is in
       let e₃ = length-back g (length g) n small (lies-at o (st .length-lies)) (omega arith) in
       let e₄ = table-back g small (says .table) (says .few) (length g) a (lies-at (omega arith) (st .types-lies)) (omega arith) in
       let e₅ = extent-back g (length g) b start last (omega arith) (omega arith) small (lies-at (omega arith) (st .start-lies))
@@ -180,8 +172,7 @@ module _ {f : List ℕ} {h : Header} (says : HeaderSays f h) {gap tree after g :
       }
   unfolding described
   new-says ns is a b =
-      let n : ℕ = openingSize (h .version) in
-      let o = opening-length in
+      let n : ℕ = openingSize (h .version) in let o = opening-length in
       let e₁ : take n g ≡ take n f = rw o at (lies-part (st .opening-lies)) in
       let k : start - end ≡ length gap = omega (arith, st .start-is) in
       let e₃ : part g end (start - end) ≡ gap = rw k (lies-part (st .gap-lies)) in
@@ -210,15 +201,12 @@ module _ (lim : Limits) {f : List ℕ} {h : Header} (says : HeaderSays f h) (gap
   written-reads small =
       let opening : List ℕ = take (openingSize (h .version)) f in
       let types : List ℕ = sized (joined (vlq (length (says .texts)) ∷ says .texts)) in
-      let g : List ℕ = written in
-      let some = tree-some nodes in
+      let g : List ℕ = written in let some = tree-some nodes in
       let st = file-stands opening types gap b after some small in
-      let start : ℕ = S opening types gap b after in
-      let last : ℕ = start + length b - 1 in
+      let start : ℕ = S opening types gap b after in let last : ℕ = start + length b - 1 in
       let end : ℕ = front opening types gap b after in
       let h′ : Header = record { version = h .version; edition = h .edition; types = h .types; extent = record { start = start; last = last; end = end } } in
-      let a = new-header says st some small in
-      let p : P Made = treeOf lim (length g) h′ in
+      let a = new-header says st some small in let p : P Made = treeOf lim (length g) h′ in
       let w = rows-were g p start (tree-back (context lim h′ (length g)) g small nodes stay (last + 1) start (st .tree-lies) (st .last-is)) in
       record {
         header = h′;
@@ -264,15 +252,13 @@ pub record Grammar (lim : Limits) (f : List ℕ) (h : Header) (ns : List Node) (
 pub grammar : (lim : Limits) (f : List ℕ) {h : Header} {ns : List Node} {is : List Item} → readFile lim f ≡ rows h ns is → elsewhere ns ≡
     false → (i : ℕ) (text : List ℕ) → Grammar lim f h ns is i text
 grammar lim f {h} {ns} {is} e here i text =
-    let r = read-back lim f e in
-    let p : P Made = treeOf lim (length f) h in
+    let r = read-back lim f e in let p : P Made = treeOf lim (length f) h in
     let log : Events = trace p f (h .extent .start) in
     let q : r .log ≡ log = log-is-tree lim f h log (lim .nodes) (r .follows) (ap elsewhere (r .nodes-are) ∙ here) in
     let ns-is : nodesOf log ≡ ns = sym (ap nodesOf q) ∙ r .nodes-are in
     let is-is : itemsOf log ≡ is = sym (ap itemsOf q) ∙ r .items-are in
     let hd = at-end any-free f (header-on (length f)) (r .header-is) in
-    let says = header-says f (r .header-is) in
-    let say : ℕ → Item → Content = retitling f i text in
+    let says = header-says f (r .header-is) in let say : ℕ → Item → Content = retitling f i text in
     let t = holds (tree-says (retitling-keeps f i text) (context lim h (length f)) (h .extent .last + 1) (h .extent .start) (omega arith))
     (tree-collects say f p (h .extent .start) (r .tree-is)) in
     let rs : List Shape = map (shape f) ns in
@@ -292,8 +278,7 @@ grammar lim f {h} {ns} {is} e here i text =
 pub retitled-reads : (lim : Limits) (f : List ℕ) {h : Header} {ns : List Node} {is : List Item} → readFile lim f ≡ rows h ns is → elsewhere ns ≡ false → (i : ℕ) (text : List ℕ)
     → length (titledFile i text f h ns is) < 2 ^ 28 → Says lim (titledFile i text f h ns is) (retitled i text (described f h ns is))
 retitled-reads lim f {h} {ns} {is} e here i text small =
-    let w = grammar lim f e here i text in
-    let says = w .says in
+    let w = grammar lim f e here i text in let says = w .says in
     let v = written-reads lim says (part f (h .extent .end) (h .extent .start - h .extent .end)) (drop (h .extent .last + 1) f) (w .nodes)
     (all-stay f ns here) (subst (λ v. length v < 2 ^ 28) (sym (w .file)) small) in
     subst (λ v. Says lim v (retitled i text (described f h ns is))) (w .file)

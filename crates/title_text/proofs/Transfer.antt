@@ -10,7 +10,8 @@ use lib.ListN.{length}
 use Rattle.machine.specs.Machine.{Out, ok, refused, ret, run, trace, _>>=_, _>>_, if_then_else_, place, skip, times}
 use Rattle.cursor.specs.Rows.{Frame, P, fileFrame, unpackFrame, plain, language}
 use Rattle.cursor.specs.Leaves.{number, block, manufacturer, guid}
-use Rattle.cursor.specs.Vlq.{part, vlq, joined}
+use Rattle.room.specs.Parts.{part, joined}
+use Rattle.vlq.specs.Vlq.{vlq}
 use Rattle.machine.proofs.Agree.{AgreeUpTo}
 use Rattle.cursor.proofs.Agree.{part-same}
 use Rattle.machine.proofs.Laws.{running, andThen, run-bind}
@@ -47,8 +48,7 @@ module _ {f k : List ℕ} where
       by : (c : C) (q : ℕ) (o : Out A) → run m f at ≡ o → andThen o (λ a p. run (h a) f p) ≡ ok c q → AgreeUpTo f k at q → run (m′ >>= h′) k at ≡ ok c q
       by c q (refused n p) e z g = no z
       by c q (ok a p) e z g =
-          let l = onward m f at e in
-          let r = onward (h a) f p z in
+          let l = onward m f at e in let r = onward (h a) f p z in
           let e₁ = x .alike a p e (λ j lo hi. g j lo (omega arith)) in
           let e₂ = y a p e .alike c q z (λ j lo hi. g j (omega arith) hi) in
           run-bind m′ h′ k at ∙ rw e₁ e₂
@@ -92,9 +92,7 @@ module _ (f k : List ℕ) (long : length f ≡ length k) where
   copies : {A : Type 0} {m m′ : P A} {at : ℕ} → m ≡ m′ → ((a : A) (q : ℕ) → run m f at ≡ ok a q → q ≤ length f) → Alike f k (copied f m) (copied k m′) at
   copies {m = m} {at = at} e inside = subst (λ v. Alike f k (copied f m) (copied k v) at) e (record {
     alike = λ s q x g.
-        let (a, y, z) = copied-was f m f at x in
-        let l = onward m f at y in
-        let i = inside a q y in
+        let (a, y, z) = copied-was f m f at x in let l = onward m f at y in let i = inside a q y in
         let w : at + (q - at) ≡ q = omega arith in
         copied-is k m at (depends m f k at y g) ∙ ap (λ v. ok v q) (sym (part-same f k long at (q - at) (λ j lo hi. g j lo (omega arith))) ∙ sym z);
   })

@@ -8,10 +8,11 @@ use native.Mathlib.Omega.{arith}
 use lib.ListN.{length, take}
 use Rattle.machine.specs.Machine.{trace}
 use Rattle.cursor.specs.Rows.{P}
-use Rattle.cursor.specs.Vlq.{vlq, joined, sized}
+use Rattle.room.specs.Parts.{joined}
+use Rattle.vlq.specs.Vlq.{vlq, sized}
 use Rattle.cursor.specs.declared.Node.{Node}
 use Rattle.cursor.specs.declared.Item.{Item}
-use Rattle.cursor.proofs.Lies.{Lies, lies-at, lies-as}
+use Rattle.room.proofs.Lies.{Lies, lies-at, lies-as}
 use Rattle.machine.proofs.Agree.{AgreeUpTo, agree-on}
 use Rattle.header.specs.Header.{Header, header}
 use Rattle.metadata.specs.declared.Limits.{Limits}
@@ -69,24 +70,15 @@ module _ (lim : Limits) {f : List ℕ} {h : Header} (says : HeaderSays f h) (gap
   module _ (small : length g < 2 ^ 28) (small₂ : length k < 2 ^ 28) where
     pub differ-alike : Twins lim g k
     differ-alike =
-        let some = tree-some nodes in
-        let bl = tree-long in
+        let some = tree-some nodes in let bl = tree-long in
         let st = file-stands opening types gap b after some small in
         let st₂ = file-stands opening types gap₂ (joined (outer rs₂ cs₂)) after₂ (omega arith) small₂ in
-        let start : ℕ = S opening types gap b after in
-        let last : ℕ = start + length b - 1 in
-        let end : ℕ = front opening types gap b after in
-        let eS = start-is in
+        let start : ℕ = S opening types gap b after in let last : ℕ = start + length b - 1 in
+        let end : ℕ = front opening types gap b after in let eS = start-is in
         let eL : S opening types gap₂ (joined (outer rs₂ cs₂)) after₂ + length (joined (outer rs₂ cs₂)) - 1 ≡ last = ap (λ n. n - 1) (ap₂ _+_ eS (sym bl)) in
-        let lS = ap (λ n. length (vlq n)) eS in
-        let lL = ap (λ n. length (vlq n)) eL in
-        let z₁ = st .size-is in
-        let z₂ = st₂ .size-is in
-        let y₁ = st .last-is in
-        let y₂ = st₂ .last-is in
-        let lk : length k ≡ length g = omega arith in
-        let lF = ap (λ n. length (vlq n)) lk in
-        let x₁ = st .end-is in
+        let lS = ap (λ n. length (vlq n)) eS in let lL = ap (λ n. length (vlq n)) eL in
+        let z₁ = st .size-is in let z₂ = st₂ .size-is in let y₁ = st .last-is in let y₂ = st₂ .last-is in
+        let lk : length k ≡ length g = omega arith in let lF = ap (λ n. length (vlq n)) lk in let x₁ = st .end-is in
         let n : ℕ = length opening in
         let k₁ : Lies k n (vlq (length g)) = lies-as (ap vlq lk) (st₂ .length-lies) in
         let k₂ : Lies k (n + length (vlq (length g))) types = lies-at (omega arith) (st₂ .types-lies) in

@@ -11,11 +11,13 @@ use lib.ListN.{length, length-append}
 use borrow.Author.Tests.{le-leb, ne-eqb}
 use Rattle.machine.specs.Machine.{ok, run, turns, many, times}
 use Rattle.cursor.specs.Rows.{unpackFrame}
-use Rattle.cursor.specs.Vlq.{part, vlq, joined, sized}
+use Rattle.room.specs.Parts.{part, joined}
+use Rattle.vlq.specs.Vlq.{vlq, sized}
 use Rattle.machine.proofs.Laws.{running, run-turn, run-turned, run-many}
-use Rattle.cursor.proofs.Least.{vlq-some}
-use Rattle.cursor.proofs.Lies.{Lies, lies-left, lies-right, lies-part, stand, stand-sized, joined-length, sized-length}
-use Rattle.cursor.proofs.Back.{number-back, block-back, Guid, guid-back, Maker, maker-back}
+use Rattle.vlq.proofs.Least.{vlq-some}
+use Rattle.room.proofs.Lies.{Lies, lies-left, lies-right, lies-part, stand, joined-length}
+use Rattle.vlq.proofs.Sized.{stand-sized, sized-length}
+use Rattle.vlq.proofs.Back.{number-back, block-back, Guid, guid-back, Maker, maker-back}
 use Rattle.node.specs.Node as node
 use Rattle.node.specs.Node.{value, identifier, entries, unpackers}
 use Rattle.title_text.specs.Description.{copied, identifierText, unpackerText, answer}
@@ -32,8 +34,7 @@ module _ (end : ℕ) (g : List ℕ) (p : ℕ) where
   identifier-back (guid u) h i = let e = guid-back unpackFrame end g u p h i in simp (running, e)
   identifier-back (made {s} {v} u l) h i =
       let ss : List (List ℕ) = s ∷ vlq v ∷ [] in
-      let t = stand ss h in
-      let z = joined-length ss in
+      let t = stand ss h in let z = joined-length ss in
       let e₁ = maker-back unpackFrame end g u p (t .0) (omega arith) in
       let e₂ = number-back unpackFrame 3 end v (t .1 .0) l (omega arith) in
       let e₃ : p + length (joined ss) ≡ p + length s + length (vlq v) = omega arith in
@@ -52,9 +53,7 @@ module _ (g : List ℕ) (p : ℕ) where
       simp (running, e, c)
   identifier-again (made {s} {v} u l) h =
       let ss : List (List ℕ) = s ∷ vlq v ∷ [] in
-      let t = stand ss h in
-      let i = h .inside in
-      let z = joined-length ss in
+      let t = stand ss h in let i = h .inside in let z = joined-length ss in
       let e₁ = maker-back unpackFrame (length g) g u p (t .0) (omega arith) in
       let c = copied-back (p + length s) refl (t .0) in
       let e₂ = number-back unpackFrame 3 (length g) v (t .1 .0) l (omega arith) in
@@ -74,8 +73,7 @@ module _ (end : ℕ) (g : List ℕ) (n p : ℕ) where
   unfolding node.unpacker value
   unpacker-back (unpacker {kind} {size} {s} k names l) h i =
       let ss : List (List ℕ) = vlq kind ∷ s ∷ vlq size ∷ [] in
-      let t = stand ss h in
-      let z = joined-length ss in
+      let t = stand ss h in let z = joined-length ss in
       let e₁ = number-back unpackFrame 3 end kind (t .0) (omega arith) (omega arith) in
       let e₂ = identifier-back end g (p + length (vlq kind)) names (t .1 .0) (omega arith) in
       let e₃ = number-back unpackFrame 3 end size (t .1 .1 .0) l (omega arith) in
@@ -86,9 +84,7 @@ unpacker-again : (g before : List ℕ) (p : ℕ) {t : List ℕ} → Unpacker t �
 unfolding unpackerText
 unpacker-again g before p (unpacker {kind} {size} {s} k names l) h =
     let ss : List (List ℕ) = vlq kind ∷ s ∷ vlq size ∷ [] in
-    let t = stand ss h in
-    let i = h .inside in
-    let z = joined-length ss in
+    let t = stand ss h in let i = h .inside in let z = joined-length ss in
     let e₁ = number-back unpackFrame 3 (length g) kind (t .0) (omega arith) (omega arith) in
     let e₂ = identifier-again g (p + length (vlq kind)) names (t .1 .0) in
     let e₃ = number-back unpackFrame 3 (length g) size (t .1 .1 .0) l (omega arith) in
@@ -105,12 +101,10 @@ module _ (end : ℕ) (g : List ℕ) where
   pub unpackers-back : {ss : List (List ℕ)} → Unpackers ss → (k n p : ℕ) → Lies g p (joined ss) → p + length (joined ss) ≡ end → end ≤ p + k →
       run (turns k end (node.unpacker end) n) g p ≡ ok (n + length ss) end
   unpackers-back none k n p h i l =
-      let a : n + 0 ≡ n = omega arith in
-      let b : p ≡ end = omega arith in
+      let a : n + 0 ≡ n = omega arith in let b : p ≡ end = omega arith in
       run-turned g k end p (node.unpacker end) n (omega arith) ∙ rw (a, b) refl
   unpackers-back (more {s} {ss} u us) k n p h i l =
-      let z = length-append s (joined ss) in
-      let y = unpacker-some u in
+      let z = length-append s (joined ss) in let y = unpacker-some u in
       let e₁ = unpacker-back end g n p u (lies-left s (joined ss) h) (omega arith) in
       let e₂ = unpackers-back us (k - 1) (n + 1) (p + length s) (lies-right s (joined ss) h) (omega arith) (omega arith) in
       let a : n + suc (length ss) ≡ n + 1 + length ss = omega arith in
@@ -143,15 +137,12 @@ module _ (g : List ℕ) (big : length g < 2 ^ 28) (contained inner q : ℕ) {ss 
       → run (unpackers contained inner) g q ≡ ok (record { place = record { 0 = q + length (vlq (length (joined ss))) }; count = length ss }) inner
   unfolding unpackers entries
   unpackers-run f h i =
-      let n : ℕ = length (joined ss) in
-      let s = stand-sized (joined ss) h in
-      let z = sized-length (joined ss) in
+      let n : ℕ = length (joined ss) in let s = stand-sized (joined ss) h in let z = sized-length (joined ss) in
       let r : ℕ = q + length (vlq n) in
       let e₁ = block-back unpackFrame 8 (r + n) n (s .0) (omega (arith, h .inside)) (omega arith) in
       let e₂ : run (many (r + n) (node.unpacker (r + n)) 0) g r ≡ ok (0 + length ss) (r + n) = run-many g (r + n) r (node.unpacker (r + n)) 0 ∙
       unpackers-back (r + n) g us (r + n - r) 0 r (s .1) refl (omega arith) in
-      let e₃ : r + n ≡ inner = omega arith in
-      let e₄ : 0 + length ss ≡ length ss = omega arith in
+      let e₃ : r + n ≡ inner = omega arith in let e₄ : 0 + length ss ≡ length ss = omega arith in
       rw (← e₃) (simp (running, e₁, either contained n f, e₂, e₄))
 
 -- the same of a text t of k unpackers

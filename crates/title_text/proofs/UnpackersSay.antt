@@ -12,13 +12,14 @@ use borrow.Author.Tests.{leb-true, eqb-true, eqb-false, ne-eqb}
 use Rattle.machine.specs.Machine.{ok, run, times}
 use Rattle.cursor.specs.Rows.{unpackFrame}
 use Rattle.cursor.specs.Leaves.{number}
-use Rattle.cursor.specs.Vlq.{part, vlq, joined, sized}
+use Rattle.room.specs.Parts.{part, joined}
+use Rattle.vlq.specs.Vlq.{vlq, sized}
 use Rattle.machine.proofs.Laws.{running}
 use Rattle.cursor.proofs.Quiet.{number-quiet, block-quiet, manufacturer-quiet, guid-quiet}
 use Rattle.machine.proofs.Wp.{Wp, at-end, wp-after, wp-weaken, wp-ret, wp-place, wp-many}
 use Rattle.cursor.proofs.Leaves.{Any, any-free, number-inside, block-inside, manufacturer-on, guid-on}
-use Rattle.cursor.proofs.Lies.{Lies, lies-part}
-use Rattle.cursor.proofs.Back.{Guid, Maker, guid-back, maker-back, guid-was, maker-was}
+use Rattle.room.proofs.Lies.{Lies, lies-part}
+use Rattle.vlq.proofs.Back.{Guid, Maker, guid-back, maker-back, guid-was, maker-was}
 use Rattle.cursor.proofs.Wider.{number-wider}
 use Rattle.cursor.proofs.Post.{Post, post-after, post-run, post-step, post-weaken, post-ret, post-if, post-check, post-place, post-many}
 use Rattle.metadata.proofs.Ends.{Nothing, inside-free, Inside}
@@ -54,8 +55,7 @@ module _ (f : List ℕ) (end : ℕ) (o : end ≤ length f) where
   unfolding identifierText copied
   made-text kind at {s} k g h e =
       let e₁ = maker-back unpackFrame (length f) f g at h (h .inside) in
-      let c = copied-is at s h in
-      let e₂ = wide (at + length s) e in
+      let c = copied-is at s h in let e₂ = wide (at + length s) e in
       rw k (simp (running, e₁, c, e₂))
 
   number-text : (kind at : ℕ) {v q : ℕ} → ((kind ≡ 3) → ⊥) → ((kind ≡ 1) → ⊥) → run (number unpackFrame 3 end) f at ≡ ok v q → run (identifierText f kind) f at ≡ ok (vlq v) q
@@ -83,8 +83,7 @@ module _ (f : List ℕ) (end : ℕ) (o : end ≤ length f) where
       (λ u. post-step (manufacturer-quiet unpackFrame end) λ _ q e.
       post-step (number-quiet unpackFrame 3 end) λ v r e₂.
       let i = at-end any-free f (manufacturer-on {U = Any} unpackFrame end at) e in
-      let j = number-inside unpackFrame 3 end f q e₂ in
-      let w = maker-was unpackFrame end f o at e in
+      let j = number-inside unpackFrame 3 end f q e₂ in let w = maker-was unpackFrame end f o at e in
       let k = eqb-true kind 1 u in
       post-ret (
         j .2,
@@ -128,9 +127,7 @@ module _ (f : List ℕ) (end : ℕ) (o : end ≤ length f) where
       post-check _ _ λ t.
       post-after (identifier-says kind q) λ _ r _ w.
       post-after (value-says r) λ _ u _ y.
-      let (size, e₂) = y in
-      let (a, b, s, names, text, covers) = w in
-      let i = number-inside unpackFrame 3 end f at e in
+      let (size, e₂) = y in let (a, b, s, names, text, covers) = w in let i = number-inside unpackFrame 3 end f at e in
       let j = number-inside unpackFrame 3 end f r e₂ in
       post-ret (
         refl,
@@ -170,9 +167,7 @@ one-more : (f : List ℕ) (end p k k′ q r : ℕ) {s : List ℕ} → Packs f en
     ((before : List ℕ) → run (unpackerText f before) f q ≡ ok (before ++ s) r) → Covers f q s r → Packs f end p k′ r
 one-more f end p k k′ q r {s} w e l i u t o =
     let z = length-append (w .packs) (s ∷ []) in
-    let c = w .count in
-    let b = w .far in
-    let n : k′ ≡ suc k = omega arith in
+    let c = w .count in let b = w .far in let n : k′ ≡ suc k = omega arith in
     record {
       packs = w .packs ++ s ∷ [];
       are = unpackers-more (w .are) u;
@@ -230,8 +225,7 @@ unpackers-post f contained end o at =
     (post-run nothing-quiet λ u r e₂.
     let v = post-ran (entries-say f (q + n) (omega arith) q (omega arith)) e₂ in
     let z : r ≡ q + n = at-end (inside-free (q + n) (q + n)) f (entries-end (q + n) q (omega arith)) e₂ in
-    let w = v .1 in
-    let far = w .far in
+    let w = v .1 in let far = w .far in
     record {
       packs = w .packs;
       are = w .are;

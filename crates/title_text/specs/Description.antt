@@ -11,7 +11,8 @@ use Rattle.machine.specs.Machine.{Out, ok, refused, ret, run, _>>=_, _>>_, if_t
 use Rattle.cursor.specs.Rows.{P, fileFrame, unpackFrame, plain, language}
 use Rattle.cursor.specs.Refusals.{cutShort}
 use Rattle.cursor.specs.Leaves.{number, block, manufacturer, guid}
-use Rattle.cursor.specs.Vlq.{part, vlq, joined}
+use Rattle.room.specs.Parts.{part, joined}
+use Rattle.vlq.specs.Vlq.{vlq}
 use Rattle.cursor.specs.declared.Node.{Node}
 use Rattle.cursor.specs.declared.Item.{Item}
 use Rattle.header.specs.Header.{Header, Edition}

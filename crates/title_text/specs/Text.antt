@@ -5,7 +5,8 @@ use mathlib.Core.List.{List, [], _∷_, _++_}
 use Prim.Native.Nat.{ℕ, suc, _+_, _-_}
 use lib.Dec.{ltb, leb, eqb}
 use lib.ListN.{length, take, drop}
-use Rattle.cursor.specs.Vlq.{least, vlq, joined, sized}
+use Rattle.room.specs.Parts.{joined}
+use Rattle.vlq.specs.Vlq.{least, vlq, sized}
 use Rattle.title_text.specs.Description.{Content, Shape, Description}
 
 -- ---- metadata

@@ -6,7 +6,8 @@ use mathlib.Core.Path.{_≡_}
 use Prim.Native.Nat.{ℕ, _^_, _≤_, _<_}
 use lib.Dec.{ltb, leb, eqb}
 use lib.ListN.{length, getD}
-use Rattle.cursor.specs.Refusals.{noSuchRow, refersElsewhere, notATitle, resultTooLarge, noRoom}
+use Rattle.cursor.specs.Refusals.{noSuchRow, refersElsewhere, notATitle, resultTooLarge}
+use Rattle.room.specs.Room.{noRoom}
 use Rattle.cursor.specs.declared.Node.{Node}
 use Rattle.cursor.specs.declared.Item.{Item}
 use Rattle.header.specs.Header.{Header}

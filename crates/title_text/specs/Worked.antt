@@ -6,7 +6,7 @@ use Prim.Native.Nat.{ℕ}
 use lib.ListN.{take, replicate}
 use Rattle.machine.specs.Machine.{run, trace, rowsOf, _>>=_, _>>_, if_then_else_, place, skip, check, turns, many, times}
 use Rattle.cursor.specs.Leaves.{next, digits, number, block, manufacturer, guid}
-use Rattle.cursor.specs.Vlq as vlq
+use Rattle.vlq.specs.Vlq as vlq
 use Rattle.header.specs.Types.{formatOf}
 use Rattle.header.specs.Header.{four, edition, fileLength, entry, typesTable, extent, header}
 use Rattle.header.specs.Header as head
@@ -17,7 +17,7 @@ use Rattle.node.specs.Node.{headerLength, value, identifier, unpacker, entries,
 use Rattle.tree.specs.Tree as tree
 use Rattle.tree.specs.Tree.{folder}
 use Rattle.file.specs.Reading.{logged, detachedAt, followRow, follow, reading, readTree, readFile}
-use Rattle.targets.specs.Targets.{startsAt, offsetAt, isMissing, outside, partEnd, firstTaken}
+use Rattle.targets.specs.Targets.{startsAt, offsetAt, isMissing, outside, partEnd, isTaken, firstOf, firstTaken}
 use Rattle.file.specs.Asking.{Result, good, bad, ask}
 use Rattle.file.specs.Hidden.{isHidden}
 use Rattle.title_text.specs.Description as described
@@ -107,7 +107,7 @@ cases : (corrected 59 0 hello worked ≡ good greeting)
 unfolding corrected run trace rowsOf _>>=_ _>>_ if_then_else_ place skip check turns many times next digits number block manufacturer guid formatOf
     four edition fileLength entry typesTable extent header head.opening field contents itemFrame universal declaredFormat version rowsFor item
     nextItem metaItems metadata headerLength node.head value identifier unpacker entries unpackers resource nodePlace uriPlace target reference
-    node.rest node.front folder tree.node tree.tree tree.detached logged startsAt offsetAt isMissing outside partEnd firstTaken detachedAt followRow follow
+    node.rest node.front folder tree.node tree.tree tree.detached logged startsAt offsetAt isMissing outside partEnd isTaken firstOf firstTaken detachedAt followRow follow
     reading readTree readFile ask isHidden vlq.inBytes vlq.from vlq.least vlq.vlq vlq.sized described.content described.copied
     described.identifierText described.unpackerText described.entryText described.tableText described.shape described.described described.titled
     described.titledAt described.retitled text.further text.fieldText text.itemText text.universalText text.versionText text.contentText

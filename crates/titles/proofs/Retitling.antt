@@ -104,8 +104,7 @@ module _ (f : List ℕ) {n i : ℕ} (en : fullNodes ≡ n) (ei : fullItems ≡ i
 good-is : (size m : ℕ) (buf : List ℕ) (x : Result (List ℕ)) → good m ≡ counted x → buf ≡ kept size x → Counts m buf × (x ≡ good (take m buf))
 unfolding counted kept padded
 good-is size m buf (good s) e k =
-    let z : m ≡ length s = cc in
-    let l = ap length k in
+    let z : m ≡ length s = cc in let l = ap length k in
     let q = length-append s (replicate (size - length s) 0) in
     (counts m buf (omega arith), ap good (sym (rw z (ap (take (length s)) k ∙ take-append-seam s (replicate (size - length s) 0)))))
 good-is size m buf (bad n q) e k = let z : _≡_ {A = ℕ} 0 1 = cc in absurd (omega arith)

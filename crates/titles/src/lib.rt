@@ -2,6 +2,7 @@
 ghost use mathlib.Core.Path.{_≡_};
 ghost use Prim.Native.Nat.{_≤_, _+_, _*_};
 ghost use lib.ListN.{length};
+ghost use Rattle.room.specs.Moments.{old, new};
 ghost use Rattle.rows.specs.Rows.{itemWidth, itemFrom, itemsIn, ItemIn, ItemRows};
 ghost use Rattle.room.specs.Counts.{Counts};
 ghost use Rattle.lines.specs.Answer.{reads, Gives};
@@ -16,7 +17,7 @@ use room::Written;
 // Puts the line of an item row, if it is visible and universal: its number, and its line on the sheet.
 fn put_title_line(out: &mut [u8], to: usize, file: &[u8], items: &[u64], row: usize) -> usize
     requires { ⌜ (row * itemWidth + itemWidth ≤ length (now items)) × ItemIn (length (now file)) (itemFrom (now items) (row * itemWidth)) ⌝ }
-    ensures { λ r. ⌜ Counts (now (out .entry)) (now (out .exit)) to (titleLine (now (file .entry)) row (itemFrom (now (items .entry)) (row * itemWidth))) r ⌝ }
+    ensures { λ r. ⌜ Counts (old out) (new out) to (titleLine (old file) row (itemFrom (old items) (row * itemWidth))) r ⌝ }
 {
     if title::is_no_title(items, row) {
         return to;
@@ -29,7 +30,7 @@ fn put_title_line(out: &mut [u8], to: usize, file: &[u8], items: &[u64], row: us
 // Puts the lines of all titles.
 fn put_title_lines(out: &mut [u8], file: &[u8], items: &[u64], count: usize) -> usize
     requires { ⌜ ItemRows (length (now file)) count (now items) ⌝ }
-    ensures { λ r. ⌜ Counts (now (out .entry)) (now (out .exit)) 0 (titleLines (now (file .entry)) 0 (itemsIn count (now (items .entry)))) r ⌝ }
+    ensures { λ r. ⌜ Counts (old out) (new out) 0 (titleLines (old file) 0 (itemsIn count (old items))) r ⌝ }
 {
     let mut next: usize = 0;
     let mut i = 0;
@@ -41,7 +42,7 @@ fn put_title_lines(out: &mut [u8], file: &[u8], items: &[u64], count: usize) -> 
 }
 
 pub fn make_titles(file: &[u8], text: &mut [u8]) -> Made
-    ensures { λ r. ⌜ Gives (length (now (text .entry))) r (now (text .exit)) (titlesAnswer (length (now (text .entry))) (now (file .entry))) ⌝ }
+    ensures { λ r. ⌜ Gives (length (old text)) r (new text) (titlesAnswer (length (old text)) (old file)) ⌝ }
 {
     let mut nodes = program::node_table();
     let mut items = program::item_table();
@@ -59,7 +60,7 @@ pub fn make_titles(file: &[u8], text: &mut [u8]) -> Made
 
 // The format of an item row that is visible and universal; 1 for any other.
 pub fn title_format(file: &[u8], row: usize) -> u64
-    ensures { λ r. ⌜ r ≡ titleFormat row (reads (now (file .entry))) ⌝ }
+    ensures { λ r. ⌜ r ≡ titleFormat row (reads (old file)) ⌝ }
 {
     let mut nodes = program::node_table();
     let mut items = program::item_table();
@@ -79,7 +80,7 @@ pub fn title_format(file: &[u8], row: usize) -> u64
 
 // The file with these bytes as the data of an item row.
 pub fn make_corrected(file: &[u8], row: usize, bytes: &[u8], text: &mut [u8]) -> Made
-    ensures { λ r. ⌜ Gives (length (now (text .entry))) r (now (text .exit)) (correctedAnswer (length (now (text .entry))) row (now (bytes .entry)) (now (file .entry))) ⌝ }
+    ensures { λ r. ⌜ Gives (length (old text)) r (new text) (correctedAnswer (length (old text)) row (old bytes) (old file)) ⌝ }
 {
     let mut nodes = program::node_table();
     let mut items = program::item_table();
@@ -89,7 +90,7 @@ pub fn make_corrected(file: &[u8], row: usize, bytes: &[u8], text: &mut [u8]) ->
 
 // The file with this title in an item row; the title of a row in UTF-16 is converted.
 pub fn make_retitled(file: &[u8], row: usize, title: &[u8], text: &mut [u8]) -> Made
-    ensures { λ r. ⌜ Gives (length (now (text .entry))) r (now (text .exit)) (retitledAnswer (length (now (text .entry))) row (now (title .entry)) (now (file .entry))) ⌝ }
+    ensures { λ r. ⌜ Gives (length (old text)) r (new text) (retitledAnswer (length (old text)) row (old title) (old file)) ⌝ }
 {
     if title_format(file, row) != 2 {
         return make_corrected(file, row, title, text);

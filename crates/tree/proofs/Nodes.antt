@@ -81,9 +81,7 @@ module _ (x : Context) (parent : ℕ) (z : Bounds) (m : Made) (s : List ℕ) (at
   unfolding node
   node-in put zero σ some l e = absurd (some refl)
   node-in put (suc d) σ some l e =
-      let a : suc d - 1 ≡ d = omega arith in
-      let b : 17 - suc d ≡ 16 - d = omega arith in
-      let e′ = rw b at e in
+      let a : suc d - 1 ≡ d = omega arith in let b : 17 - suc d ≡ 16 - d = omega arith in let e′ = rw b at e in
       simp (executing, lt-ltb _ _ l, e′, a)
 
   module _ (levels : ℕ) (some : (levels ≡ 0) → ⊥) (l : m .nodes < x .limits .nodes) (i : z .end .0 ≤ x .size) (t u u′ : List ℕ) {w : Front} {p : ℕ}
@@ -155,8 +153,7 @@ module _ (x : Context) (s t₀ u₀ : List ℕ) (levels parent : ℕ) (z : Bound
 
     pub children-on : z .end .0 ≤ x .size → {n : Made} {c : Cursor} → r ≡ Done n c → length t′ ≡ length t → length u′ ≡ length u → Going t′ u′ (c .at .0) (rest - 1) n
     children-on o h j k =
-        let b = fitting d h in
-        let w = children-further o h in
+        let b = fitting d h in let w = children-further o h in
         record {
           nodes-long = j ∙ g .nodes-long;
           items-long = k ∙ g .items-long;

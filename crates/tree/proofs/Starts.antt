@@ -130,10 +130,7 @@ module _ (b : ℕ) (f : List ℕ) where
     rises = λ e.
         let y = split (front x parent depth s m) (λ w. (skip (nodeRow (w .row)) (inlineSize (w .row)) >> g w)) f at e in
         let i = at-end (inside-free (s .end .0) (x .size)) f (front-on Nothing (s .end .0) x parent depth s m at (omega arith) l) (y .first) in
-        let z = i .start in
-        let n = i .moves in
-        let c : at ≤ y .a .row .start = omega arith in
-        let j = i .detached-is in
+        let z = i .start in let n = i .moves in let c : at ≤ y .a .row .start = omega arith in let j = i .detached-is in
         let k : y .a .row .detached ≤ b = omega arith in
         rw (nodes-joined y, front-none f x parent depth s m at) (more c k (rise-sooner (omega arith) (h (y .a) (y .p) i .rises (y .second))));
   }

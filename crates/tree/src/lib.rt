@@ -4,6 +4,7 @@ ghost use mathlib.Core.List.{List};
 ghost use Prim.Native.Nat.{ℕ, _≤_, _<_, _^_, _*_, _+_};
 ghost use lib.ListN.{length};
 ghost use Rattle.machine.specs.Machine.{ret, exec, times};
+ghost use Rattle.room.specs.Moments.{old, new};
 ghost use Rattle.rows.specs.Rows.{nodeWidth};
 ghost use Rattle.metadata.specs.Tables.{put, state};
 ghost use Rattle.metadata.specs.Told.{Room, Gives};
@@ -63,8 +64,7 @@ fn read_node(
     made: Made,
 ) -> Walked
     requires { ⌜ Room scope (now file) (now types) (now items) (s .end .0) made × (scope .limits .nodes * nodeWidth ≤ length (now nodes)) × (levels ≤ mostDepth + 1) ⌝ }
-    ensures { λ r. ⌜ Reads scope (λ x. node levels x parent s made) (now (file .entry)) (now (types .entry)) (c .at .0) made
-        (now (nodes .entry)) (now (items .entry)) (now (nodes .exit)) (now (items .exit)) r ⌝ }
+    ensures { λ r. ⌜ Reads scope (λ x. node levels x parent s made) (old file) (old types) (c .at .0) made (old nodes) (old items) (new nodes) (new items) r ⌝ }
 {
     let start = c.at;
     if levels == 0 {
@@ -144,8 +144,7 @@ pub fn read_children(
     made: Made,
 ) -> Walked
     requires { ⌜ Room scope (now file) (now types) (now items) (s .end .0) made × (scope .limits .nodes * nodeWidth ≤ length (now nodes)) × (levels ≤ mostDepth + 1) ⌝ }
-    ensures { λ r. ⌜ Reads scope (λ x. times left (node levels x parent s) made) (now (file .entry)) (now (types .entry)) (c .at .0) made
-        (now (nodes .entry)) (now (items .entry)) (now (nodes .exit)) (now (items .exit)) r ⌝ }
+    ensures { λ r. ⌜ Reads scope (λ x. times left (node levels x parent s) made) (old file) (old types) (c .at .0) made (old nodes) (old items) (new nodes) (new items) r ⌝ }
 {
     let mut next = c;
     let mut m = made;

@@ -126,9 +126,7 @@ pub there-and-back : (d : List ℕ) {t : List ℕ} → Bytes d → toUtf8 d ≡ 
 unfolding toUtf8
 there-and-back d {t} h e =
     let x = written-good utf8 unmark (chars first16 0 0 d) e in
-    let cs = x .0 in
-    let w = write-all form16 0 0 d h (x .1) in
-    let us : List ℕ = bytesAll utf16 cs in
+    let cs = x .0 in let w = write-all form16 0 0 d h (x .1) in let us : List ℕ = bytesAll utf16 cs in
     let whole : d ≡ bytesOf us = w .1 ∙ all-bytes cs in
     let q : bytesAll bytes16 (unmark cs) ≡ bytesOf (unmark us) = all-bytes (unmark cs) ∙ ap bytesOf (sym (same-mark cs (w .0))) in (
       bytesOf (unmark us),

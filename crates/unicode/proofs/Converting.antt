@@ -42,9 +42,7 @@ pub char-in : {Fine : List ℕ → Type 0} {first : List ℕ → Char} {own : �
     (at : ℕ) {c n : ℕ} → char c n ≡ first (drop at d) → at ≤ length d → Scalar c × (0 < n) × (at + n ≤ length d)
 char-in form d h at e l =
     let w = form .writes (drop at d) (fine-from form at d h) (sym e) in
-    let w₁ = w .1 in
-    let w₂ = w .2 in
-    let z = length-drop at d in
+    let w₁ = w .1 in let w₂ = w .2 in let z = length-drop at d in
     (w .0, w₁, omega arith)
 
 pub step : {Fine : List ℕ → Type 0} {first : List ℕ → Char} (put : ℕ → List ℕ) {own : ℕ → List ℕ} → Form Scalar Fine first own → (d : List ℕ) →
@@ -186,8 +184,7 @@ check-start d = record { within = omega arith; same = good-written utf8 unmark (
 module _ (d : List ℕ) (at : ℕ) (l : at < length d) (k : Checking d at) where
   pub check-on : Bytes d → {c n : ℕ} → char c n ≡ first16 (drop at d) → Checking d (at + n)
   check-on h {c} {n} e =
-      let w = char-in form16 d h at e (omega arith) in
-      let z = length-drop at d in
+      let w = char-in form16 d h at e (omega arith) in let z = length-drop at d in
       record {
         within = w .2;
         same = k .same ∙ ap isGood (chars-step first16 at (drop at d) (omega arith) (w .1) (sym e)) ∙ good-before c _ ∙ ap

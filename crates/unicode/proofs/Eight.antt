@@ -195,72 +195,45 @@ some8 c = elim (decLt c 0x80) [
 from-two : (a : ℕ) (s : List ℕ) {c n : ℕ} → 0xC0 ≤ a → a < 0xE0 → tails 1 (a - 0xC0) 2 0x80 s ≡ char c n → Scalar c × (0 < n) ×
     (n ≤ length (a ∷ s)) × (a ∷ s ≡ utf8 c ++ drop n (a ∷ s))
 from-two a s {c} {n} l m e =
-    let x = tails-more 2 0x80 0 (a - 0xC0) s e in
-    let b = x .0 in
-    let r = x .1 in
-    let q = x .2 in
+    let x = tails-more 2 0x80 0 (a - 0xC0) s e in let b = x .0 in let r = x .1 in let q = x .2 in
     let y = tails-end 2 0x80 ((a - 0xC0) * 64 + (b - 0x80)) r (x .5) in
-    let b₁ = x .3 in
-    let b₂ = x .4 in
-    let g = y .0 in
-    let lo = y .1 in
-    let v : c ≡ (a - 0xC0) * 64 + (b - 0x80) = y .2 in
-    let z : n ≡ 2 = y .3 in
-    let q₁ : 0xC0 + c / 64 ≡ a = omega arith in
-    let q₂ : tail c ≡ b = omega arith in
+    let b₁ = x .3 in let b₂ = x .4 in let g = y .0 in let lo = y .1 in
+    let v : c ≡ (a - 0xC0) * 64 + (b - 0x80) = y .2 in let z : n ≡ 2 = y .3 in
+    let q₁ : 0xC0 + c / 64 ≡ a = omega arith in let q₂ : tail c ≡ b = omega arith in
     rw (z, q, two8 c (omega arith) (omega arith), q₁, q₂) (rw v g, omega arith, omega arith, refl)
 
 from-three : (a : ℕ) (s : List ℕ) {c n : ℕ} → 0xE0 ≤ a → a < 0xF0 → tails 2 (a - 0xE0) 3 0x800 s ≡ char c n → Scalar c × (0 < n) ×
     (n ≤ length (a ∷ s)) × (a ∷ s ≡ utf8 c ++ drop n (a ∷ s))
 from-three a s {c} {n} l m e =
-    let x = tails-more 3 0x800 1 (a - 0xE0) s e in
-    let b = x .0 in
-    let b₁ = x .3 in
-    let b₂ = x .4 in
+    let x = tails-more 3 0x800 1 (a - 0xE0) s e in let b = x .0 in let b₁ = x .3 in let b₂ = x .4 in
     let x′ = tails-more 3 0x800 0 ((a - 0xE0) * 64 + (b - 0x80)) (x .1) (x .5) in
-    let d = x′ .0 in
-    let d₁ = x′ .3 in
-    let d₂ = x′ .4 in
+    let d = x′ .0 in let d₁ = x′ .3 in let d₂ = x′ .4 in
     let y = tails-end 3 0x800 (((a - 0xE0) * 64 + (b - 0x80)) * 64 + (d - 0x80)) (x′ .1) (x′ .5) in
-    let g = y .0 in
-    let lo = y .1 in
+    let g = y .0 in let lo = y .1 in
     let v : c ≡ ((a - 0xE0) * 64 + (b - 0x80)) * 64 + (d - 0x80) = y .2 in
-    let z : n ≡ 3 = y .3 in
-    let q₁ : 0xE0 + c / 4096 ≡ a = omega arith in
-    let q₂ : tail (c / 64) ≡ b = omega arith in
+    let z : n ≡ 3 = y .3 in let q₁ : 0xE0 + c / 4096 ≡ a = omega arith in let q₂ : tail (c / 64) ≡ b = omega arith in
     let q₃ : tail c ≡ d = omega arith in
     rw (z, x .2, x′ .2, three8 c (omega arith) (omega arith), q₁, q₂, q₃) (rw v g, omega arith, omega arith, refl)
 
 from-four : (a : ℕ) (s : List ℕ) {c n : ℕ} → 0xF0 ≤ a → a < 0xF8 → tails 3 (a - 0xF0) 4 0x10000 s ≡ char c n → Scalar c × (0 < n) ×
     (n ≤ length (a ∷ s)) × (a ∷ s ≡ utf8 c ++ drop n (a ∷ s))
 from-four a s {c} {n} l m e =
-    let x = tails-more 4 0x10000 2 (a - 0xF0) s e in
-    let b = x .0 in
-    let b₁ = x .3 in
-    let b₂ = x .4 in
+    let x = tails-more 4 0x10000 2 (a - 0xF0) s e in let b = x .0 in let b₁ = x .3 in let b₂ = x .4 in
     let x′ = tails-more 4 0x10000 1 ((a - 0xF0) * 64 + (b - 0x80)) (x .1) (x .5) in
-    let d = x′ .0 in
-    let d₁ = x′ .3 in
-    let d₂ = x′ .4 in
+    let d = x′ .0 in let d₁ = x′ .3 in let d₂ = x′ .4 in
     let x″ = tails-more 4 0x10000 0 (((a - 0xF0) * 64 + (b - 0x80)) * 64 + (d - 0x80)) (x′ .1) (x′ .5) in
-    let f = x″ .0 in
-    let f₁ = x″ .3 in
-    let f₂ = x″ .4 in
+    let f = x″ .0 in let f₁ = x″ .3 in let f₂ = x″ .4 in
     let y = tails-end 4 0x10000 ((((a - 0xF0) * 64 + (b - 0x80)) * 64 + (d - 0x80)) * 64 + (f - 0x80)) (x″ .1) (x″ .5) in
-    let g = y .0 in
-    let lo = y .1 in
+    let g = y .0 in let lo = y .1 in
     let v : c ≡ (((a - 0xF0) * 64 + (b - 0x80)) * 64 + (d - 0x80)) * 64 + (f - 0x80) = y .2 in
-    let z : n ≡ 4 = y .3 in
-    let q₁ : 0xF0 + c / 262144 ≡ a = omega arith in
-    let q₂ : tail (c / 4096) ≡ b = omega arith in
-    let q₃ : tail (c / 64) ≡ d = omega arith in
+    let z : n ≡ 4 = y .3 in let q₁ : 0xF0 + c / 262144 ≡ a = omega arith in
+    let q₂ : tail (c / 4096) ≡ b = omega arith in let q₃ : tail (c / 64) ≡ d = omega arith in
     let q₄ : tail c ≡ f = omega arith in
     rw (z, x .2, x′ .2, x″ .2, four8 c (omega arith), q₁, q₂, q₃, q₄) (rw v g, omega arith, omega arith, refl)
 
 from-one : (a : ℕ) (s : List ℕ) {c n : ℕ} → a < 0x80 → char a 1 ≡ char c n → Scalar c × (0 < n) × (n ≤ length (a ∷ s)) × (a ∷ s ≡ utf8 c ++ drop n (a ∷ s))
 from-one a s {c} {n} l e =
-    let v : c ≡ a = char-value e in
-    let z : n ≡ 1 = char-size e in
+    let v : c ≡ a = char-value e in let z : n ≡ 1 = char-size e in
     rw (v, z, one8 a l) (record { most = omega arith; apart = inl (omega arith) }, omega arith, omega arith, refl)
 
 pub writes8 : (s : List ℕ) {c n : ℕ} → first8 s ≡ char c n → Scalar c × (0 < n) × (n ≤ length (s)) × (s ≡ utf8 c ++ drop n s)

@@ -2,7 +2,8 @@
 -- Assumes nothing.
 use mathlib.Core.List.{List, [], _∷_}
 use Prim.Native.Nat.{ℕ, zero, suc, _+_}
-use Rattle.room.specs.Room.{Result, good, bad, Among}
+use Rattle.room.specs.Room.{Result, good, bad}
+use Rattle.cursor.specs.Refusals.{Among}
 use Rattle.unicode.specs.Unicode.{Char, char, none, before, next, chars, written, converted, toUtf8, toUtf16, refusals}
 
 before-listed : (c : ℕ) (r : Result (List ℕ)) → Among refusals r → Among refusals (before c r)

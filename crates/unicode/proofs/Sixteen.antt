@@ -98,9 +98,7 @@ unfolding bytesOf
 reads16 c t g = elim (decLt c 0x10000) [
   | yes l ↦ units-of c t (short16 c l) ∙ ⊎-elim (λ h. unit-low (units t) c h) (λ h. unit-high (units t) c h) (g .apart) ∙ ap (char c) (sym (sizes c 2 (short16 c l) refl))
   | no l ↦
-      let m = g .most in
-      let h = 0xD800 + (c - 0x10000) / 1024 in
-      let v = 0xDC00 + (c - 0x10000) % 1024 in
+      let m = g .most in let h = 0xD800 + (c - 0x10000) / 1024 in let v = 0xDC00 + (c - 0x10000) % 1024 in
       let e : 0x10000 + (h - 0xD800) * 1024 + (v - 0xDC00) ≡ c = omega arith in
       units-of c t (long16 c (omega arith))
       ∙ unit-pair (v ∷ units t) h (omega arith) (omega arith)
@@ -121,11 +119,8 @@ one-unit : (h l : ℕ) (s : List ℕ) → h < 256 → l < 256 → (h * 256 + l <
     char c n → Scalar c × (0 < n) × (n ≤ length (h ∷ l ∷ s)) × (h ∷ l ∷ s ≡ bytes16 c ++ drop n (h ∷ l ∷ s))
 unfolding bytes16 bytesOf
 one-unit h l s a b k {c} {n} e =
-    let u = h * 256 + l in
-    let e₁ : c ≡ u = char-value e in
-    let e₂ : n ≡ 2 = char-size e in
-    let d : u / 256 ≡ h = omega arith in
-    let m : u % 256 ≡ l = omega arith in
+    let u = h * 256 + l in let e₁ : c ≡ u = char-value e in let e₂ : n ≡ 2 = char-size e in
+    let d : u / 256 ≡ h = omega arith in let m : u % 256 ≡ l = omega arith in
     rw (e₁, e₂, short16 u (omega arith), d, m) (record { most = omega arith; apart = k }, omega arith, omega arith, refl)
 
 two-units : (h l x y : ℕ) (s : List ℕ) → h < 256 → l < 256 → x < 256 → y < 256 → 0xD800 ≤ h * 256 + l → h * 256 + l < 0xDC00 → 0xDC00 ≤ x * 256 + y → x * 256 + y < 0xE000

@@ -29,8 +29,7 @@ module _ (first : List ℕ → Char) where
   chars-step at [] l m e = absurd (omega arith)
   chars-step at (b ∷ s) {n = zero} l m e = absurd (omega arith)
   chars-step at (b ∷ s) {c = c} {n = suc n} l m e =
-      let x : suc n - 1 ≡ n = omega arith in
-      let y : at + 1 + n ≡ at + suc n = omega arith in
+      let x : suc n - 1 ≡ n = omega arith in let y : at + 1 + n ≡ at + suc n = omega arith in
       rw (e, x) (ap (before c) (skipped n (at + 1) s ∙ ap (λ (k : ℕ). chars first 0 k (drop n s)) y))
 
   pub chars-bad : (at : ℕ) (s : List ℕ) → 0 < length s → first s ≡ none → chars first 0 at s ≡ bad 26 at
@@ -54,8 +53,7 @@ module _ (first : List ℕ → Char) where
       → (x : Char) → next at x (λ n. chars first (n - 1) (at + 1) s) ≡ bad m p → (m ≡ 26) × (p < at + suc (length s))
   unfolding next
   placed-by b at s {m} {p} rest none e =
-      let x : m ≡ 26 = cc in
-      let y : p ≡ at = cc in
+      let x : m ≡ 26 = cc in let y : p ≡ at = cc in
       (x, omega arith)
   placed-by b at s rest (char c n) e = let w = rest (n - 1) (before-bad c _ e) in (w .0, omega (arith, w .1))
 
@@ -93,9 +91,7 @@ module _ {Good : ℕ → Type 0} {Fine : List ℕ → Type 0} {first : List ℕ 
   unfolding bytesAll before
   read-all at nil = chars-end first at [] refl
   read-all at (cons {c} {cs} g gs) =
-      let r = bytesAll put cs in
-      let l = length-append (put c) r in
-      let p = form .some c in
+      let r = bytesAll put cs in let l = length-append (put c) r in let p = form .some c in
       chars-step first at (put c ++ r) (omega arith) p (form .reads c r g)
       ∙ ap (before c) (ap (λ (x : List ℕ). chars first 0 (at + length (put c)) x) (drop-append-seam (put c) r) ∙ read-all (at + length (put c)) gs)
 
@@ -105,9 +101,7 @@ module _ {Good : ℕ → Type 0} {Fine : List ℕ → Type 0} {first : List ℕ 
   by-first b at s h all none x y = absurd (let z : _≡_ {A = ℕ} 0 1 = cc in omega arith)
   by-first b at s h all (char c zero) x y = let w = form .writes (b ∷ s) h x in absurd (omega (arith, w .1))
   by-first b at s h all (char c (suc n)) x y =
-      let w = form .writes (b ∷ s) h x in
-      let q = before-good c _ y in
-      let e : suc n - 1 ≡ n = omega arith in
+      let w = form .writes (b ∷ s) h x in let q = before-good c _ y in let e : suc n - 1 ≡ n = omega arith in
       let v = all n (q .0) (ap (λ (k : ℕ). chars first k (at + 1) s) (sym e) ∙ q .1) in
       rw (q .2) (cons (w .0) (v .0), w .3 ∙ ap (λ (r : List ℕ). put c ++ r) (v .1))
 

@@ -4,8 +4,8 @@ use mathlib.Core.Bool.{Bool, true, false, cond, _&&_, _||_}
 use mathlib.Core.List.{List, [], _∷_, _++_}
 use Prim.Native.Nat.{ℕ, zero, suc, _+_, _-_, _*_, _/_, _%_}
 use lib.Dec.{ltb, leb, eqb}
-use Rattle.cursor.specs.Refusals.{badText, noRoom}
-use Rattle.room.specs.Room.{Result, good, bad}
+use Rattle.cursor.specs.Refusals.{badText}
+use Rattle.room.specs.Room.{noRoom, Result, good, bad}
 
 -- ---- units and bytes
 

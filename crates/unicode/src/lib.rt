@@ -3,6 +3,7 @@ ghost use mathlib.Core.Path.{_≡_};
 ghost use mathlib.Core.List.{_∷_, []};
 ghost use Prim.Native.Nat.{_≤_, _<_, _*_, _+_, _-_, _/_, _%_};
 ghost use lib.ListN.{length, getD, drop};
+ghost use Rattle.room.specs.Moments.{old, new};
 ghost use Rattle.room.specs.Counts.{Counts};
 ghost use Rattle.room.specs.Room.{fitting, counted, kept};
 ghost use Rattle.unicode.specs.Unicode.{bytesOf, utf8, bytes16, first16, tails, first8, converted, toUtf8, toUtf16, isGood};
@@ -26,7 +27,7 @@ fn wide(b: u8) -> u64
 // The unit at a place, the high byte first.
 fn unit(units: &[u8], at: usize) -> u64
     requires { ⌜ at + 2 ≤ length (now units) ⌝ }
-    ensures { λ r. ⌜ r ≡ getD (now (units .entry)) at 0 * 256 + getD (now (units .entry)) (at + 1) 0 ⌝ }
+    ensures { λ r. ⌜ r ≡ getD (old units) at 0 * 256 + getD (old units) (at + 1) 0 ⌝ }
     ensures { λ r. ⌜ r < 65536 ⌝ }
 {
     let high = wide(units[at]);
@@ -36,7 +37,7 @@ fn unit(units: &[u8], at: usize) -> u64
 
 // The character of UTF-16 at a place.
 pub fn char16(units: &[u8], at: usize) -> Character
-    ensures { λ r. ⌜ charTold r ≡ first16 (drop at (now (units .entry))) ⌝ }
+    ensures { λ r. ⌜ charTold r ≡ first16 (drop at (old units)) ⌝ }
 {
     let left = room::room_at(units.len(), at);
     if left < 2 {
@@ -75,7 +76,7 @@ fn tail(c: u64) -> u8
 // Puts a scalar value as UTF-8.
 pub fn put8(out: &mut [u8], to: usize, c: u64) -> usize
     requires { ⌜ c < 0x110000 ⌝ }
-    ensures { λ r. ⌜ Counts (now (out .entry)) (now (out .exit)) to (utf8 c) r ⌝ }
+    ensures { λ r. ⌜ Counts (old out) (new out) to (utf8 c) r ⌝ }
 {
     if c < 0x80 {
         return room::put_byte(out, to, c as u8);
@@ -99,7 +100,7 @@ pub fn put8(out: &mut [u8], to: usize, c: u64) -> usize
 // its value is at least `low`.
 fn read_tails(text: &[u8], from: usize, count: usize, lead: u64, size: usize, low: u64) -> Character
     requires { ⌜ (count ≤ 3) × (lead < 64) × (from ≤ length (now text)) ⌝ }
-    ensures { λ r. ⌜ charTold r ≡ tails count lead size low (drop from (now (text .entry))) ⌝ }
+    ensures { λ r. ⌜ charTold r ≡ tails count lead size low (drop from (old text)) ⌝ }
 {
     let mut at = from;
     let mut left = count;
@@ -136,7 +137,7 @@ fn read_tails(text: &[u8], from: usize, count: usize, lead: u64, size: usize, lo
 
 // The character of UTF-8 at a place.
 pub fn char8(text: &[u8], at: usize) -> Character
-    ensures { λ r. ⌜ charTold r ≡ first8 (drop at (now (text .entry))) ⌝ }
+    ensures { λ r. ⌜ charTold r ≡ first8 (drop at (old text)) ⌝ }
 {
     if text.len() <= at {
         return Character::Bad;
@@ -163,7 +164,7 @@ pub fn char8(text: &[u8], at: usize) -> Character
 // Puts a unit, the high byte first.
 fn put_unit(out: &mut [u8], to: usize, u: u64) -> usize
     requires { ⌜ u < 65536 ⌝ }
-    ensures { λ r. ⌜ Counts (now (out .entry)) (now (out .exit)) to (bytesOf (u ∷ [])) r ⌝ }
+    ensures { λ r. ⌜ Counts (old out) (new out) to (bytesOf (u ∷ [])) r ⌝ }
 {
     let one = room::put_byte(out, to, (u / 256) as u8);
     room::put_byte(out, one, (u % 256) as u8)
@@ -172,7 +173,7 @@ fn put_unit(out: &mut [u8], to: usize, u: u64) -> usize
 // Puts a scalar value as UTF-16.
 pub fn put16(out: &mut [u8], to: usize, c: u64) -> usize
     requires { ⌜ c < 0x110000 ⌝ }
-    ensures { λ r. ⌜ Counts (now (out .entry)) (now (out .exit)) to (bytes16 c) r ⌝ }
+    ensures { λ r. ⌜ Counts (old out) (new out) to (bytes16 c) r ⌝ }
 {
     if c < 0x10000 {
         return put_unit(out, to, c);
@@ -183,8 +184,8 @@ pub fn put16(out: &mut [u8], to: usize, c: u64) -> usize
 
 // The place after a leading mark.
 pub fn after_mark(units: &[u8]) -> usize
-    ensures { λ r. ⌜ toUtf8 (now (units .entry)) ≡ converted first16 utf8 r (drop r (now (units .entry))) ⌝ }
-    ensures { λ r. ⌜ r ≤ length (now (units .entry)) ⌝ }
+    ensures { λ r. ⌜ toUtf8 (old units) ≡ converted first16 utf8 r (drop r (old units)) ⌝ }
+    ensures { λ r. ⌜ r ≤ length (old units) ⌝ }
 {
     match char16(units, 0) {
         Character::Bad => 0,
@@ -199,8 +200,8 @@ pub fn after_mark(units: &[u8]) -> usize
 
 // Converts UTF-16 into UTF-8.
 pub fn to_utf8(units: &[u8], text: &mut [u8]) -> Written
-    ensures answer { λ r. ⌜ told r ≡ counted (fitting (length (now (text .entry))) (toUtf8 (now (units .entry)))) ⌝ }
-    ensures text { λ _. ⌜ now (text .exit) ≡ kept (length (now (text .entry))) (fitting (length (now (text .entry))) (toUtf8 (now (units .entry)))) ⌝ }
+    ensures answer { λ r. ⌜ told r ≡ counted (fitting (length (old text)) (toUtf8 (old units))) ⌝ }
+    ensures text { λ _. ⌜ new text ≡ kept (length (old text)) (fitting (length (old text)) (toUtf8 (old units))) ⌝ }
 {
     let mut at = after_mark(units);
     let mut next = 0;
@@ -226,8 +227,8 @@ pub fn to_utf8(units: &[u8], text: &mut [u8]) -> Written
 
 // Converts UTF-8 into UTF-16.
 pub fn to_utf16(text: &[u8], units: &mut [u8]) -> Written
-    ensures answer { λ r. ⌜ told r ≡ counted (fitting (length (now (units .entry))) (toUtf16 (now (text .entry)))) ⌝ }
-    ensures units { λ _. ⌜ now (units .exit) ≡ kept (length (now (units .entry))) (fitting (length (now (units .entry))) (toUtf16 (now (text .entry)))) ⌝ }
+    ensures answer { λ r. ⌜ told r ≡ counted (fitting (length (old units)) (toUtf16 (old text))) ⌝ }
+    ensures units { λ _. ⌜ new units ≡ kept (length (old units)) (fitting (length (old units)) (toUtf16 (old text))) ⌝ }
 {
     let mut at = 0;
     let mut next = 0;
@@ -253,7 +254,7 @@ pub fn to_utf16(text: &[u8], units: &mut [u8]) -> Written
 
 // Whether UTF-16 converts.
 pub fn converts(units: &[u8]) -> bool
-    ensures { λ r. ⌜ r ≡ isGood (toUtf8 (now (units .entry))) ⌝ }
+    ensures { λ r. ⌜ r ≡ isGood (toUtf8 (old units)) ⌝ }
 {
     let mut at = 0;
     while at < units.len() {

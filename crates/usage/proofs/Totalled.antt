@@ -43,15 +43,13 @@ total-exact k l =
 
 plus-exact : (s k : Kinds) → whole s + whole k < 2 ^ 40 → whole (plusKinds s k) ≡ whole s + whole k
 plus-exact s k l =
-    let e0 = exact (s .header) (k .header) (omega arith) in
-    let e1 = exact (s .nodes) (k .nodes) (omega arith) in
+    let e0 = exact (s .header) (k .header) (omega arith) in let e1 = exact (s .nodes) (k .nodes) (omega arith) in
     let e2 = exact (s .metadata) (k .metadata) (omega arith) in
     let e3 = exact (s .visible) (k .visible) (omega arith) in
     let e4 = exact (s .hidden) (k .hidden) (omega arith) in
     let e5 = exact (s .unpackers) (k .unpackers) (omega arith) in
     let e6 = exact (s .references) (k .references) (omega arith) in
-    let e7 = exact (s .inline) (k .inline) (omega arith) in
-    let e8 = exact (s .rest) (k .rest) (omega arith) in
+    let e7 = exact (s .inline) (k .inline) (omega arith) in let e8 = exact (s .rest) (k .rest) (omega arith) in
     omega arith
 
 -- ---- of a file
@@ -84,9 +82,7 @@ module _ {t : Totals} {n b : ℕ} (s : Sound t n b) (l : n < 1000) (f : List ℕ
   counted-too : length f ≤ 65536 → {k : Kinds} → kindsIn f ≡ good k → Sound
       (record { files = plus (t .files) 1; refused = t .refused; kinds = plusKinds (t .kinds) k }) (n + 1) (b + length f)
   counted-too m {k} h =
-      let e = s .files in
-      let c = s .small in
-      let w = s .sum in
+      let e = s .files in let c = s .small in let w = s .sum in
       let z = file-whole f h in
       let x : whole (t .kinds) + whole k ≡ b + length f = omega arith in
       record { files = omega arith; few = omega arith; sum = plus-exact (t .kinds) k (omega arith) ∙ x; small = omega arith }
@@ -144,10 +140,7 @@ all (f ∷ fs) t {n} {b} s {u} e = elim (decLt (t .files) 1000) [
 pub sums-total : (fs : List (List ℕ)) {t : Totals} → withFiles (good zeros) fs ≡ good t → (t .files ≡ length fs) × (length fs ≤ 1000) × (total (t .kinds) ≡ sumOver bytesAdded fs)
 sums-total fs {t} e =
     let s = all fs zeros (record { files = refl; few = omega arith; sum = refl; small = omega arith }) e in
-    let a = s .files in
-    let b = s .few in
-    let c = s .sum in
-    let d = s .small in
+    let a = s .files in let b = s .few in let c = s .sum in let d = s .small in
     (omega arith, omega arith, total-exact (t .kinds) (omega arith) ∙ omega arith)
 
 too-many : (fs : List (List ℕ)) (t : Totals) → t .files ≤ 1000 → 1000 < t .files + length fs → withFiles (good t) fs ≡ bad 32 0

@@ -1,6 +1,7 @@
 // Where the bytes of a file go: a line a kind, or one line a file.
 ghost use mathlib.Core.Path.{_≡_};
 ghost use lib.ListN.{length};
+ghost use Rattle.room.specs.Moments.{old, new};
 ghost use Rattle.room.specs.Counts.{Counts};
 ghost use Rattle.account.specs.Totals.{zeros};
 ghost use Rattle.lines.specs.Answer.{Gives};
@@ -15,7 +16,7 @@ use lines::refuse;
 
 // Puts the line of a kind.
 pub fn put_kind(out: &mut [u8], to: usize, name: &[u8], bytes: usize) -> usize
-    ensures { λ r. ⌜ Counts (now (out .entry)) (now (out .exit)) to (kindLine (now (name .entry)) bytes) r ⌝ }
+    ensures { λ r. ⌜ Counts (old out) (new out) to (kindLine (old name) bytes) r ⌝ }
 {
     let a = room::put_bytes(out, to, name);
     let b = text::put_number(out, a, bytes as u64);
@@ -38,7 +39,7 @@ fn total(k: Kinds) -> usize
 
 // Puts the lines of the kinds, and of all bytes.
 pub fn put_kinds(out: &mut [u8], to: usize, k: Kinds) -> usize
-    ensures { λ r. ⌜ Counts (now (out .entry)) (now (out .exit)) to (kindLines k) r ⌝ }
+    ensures { λ r. ⌜ Counts (old out) (new out) to (kindLines k) r ⌝ }
 {
     let a = put_kind(out, to, b"file header", k.header);
     let b = put_kind(out, a, b"node frames", k.nodes);
@@ -54,7 +55,7 @@ pub fn put_kinds(out: &mut [u8], to: usize, k: Kinds) -> usize
 
 // Puts the kinds in one line.
 fn put_in_line(out: &mut [u8], tail: &[u8], k: Kinds) -> usize
-    ensures { λ r. ⌜ Counts (now (out .entry)) (now (out .exit)) 0 (bytesLine (now (tail .entry)) k) r ⌝ }
+    ensures { λ r. ⌜ Counts (old out) (new out) 0 (bytesLine (old tail) k) r ⌝ }
 {
     let letter = room::put_byte(out, 0, b'B');
     let a = text::put_number(out, letter, k.header as u64);
@@ -93,7 +94,7 @@ pub fn no_totals() -> Totals
 }
 
 pub fn make_bytes(file: &[u8], tail: &[u8], text: &mut [u8]) -> Made
-    ensures { λ r. ⌜ Gives (length (now (text .entry))) r (now (text .exit)) (bytesAnswer (length (now (text .entry))) (now (tail .entry)) (now (file .entry))) ⌝ }
+    ensures { λ r. ⌜ Gives (length (old text)) r (new text) (bytesAnswer (length (old text)) (old tail) (old file)) ⌝ }
 {
     let mut nodes = program::node_table();
     let mut items = program::item_table();
@@ -107,7 +108,7 @@ pub fn make_bytes(file: &[u8], tail: &[u8], text: &mut [u8]) -> Made
 }
 
 pub fn make_bytes_line(file: &[u8], tail: &[u8], text: &mut [u8]) -> Made
-    ensures { λ r. ⌜ Gives (length (now (text .entry))) r (now (text .exit)) (bytesLineAnswer (length (now (text .entry))) (now (tail .entry)) (now (file .entry))) ⌝ }
+    ensures { λ r. ⌜ Gives (length (old text)) r (new text) (bytesLineAnswer (length (old text)) (old tail) (old file)) ⌝ }
 {
     let mut nodes = program::node_table();
     let mut items = program::item_table();

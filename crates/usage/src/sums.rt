@@ -1,6 +1,7 @@
 // Sums over files.
 ghost use mathlib.Core.Path.{_≡_};
 ghost use lib.ListN.{length};
+ghost use Rattle.room.specs.Moments.{old, new};
 ghost use Rattle.io.specs.Counts as io;
 ghost use Rattle.room.specs.Counts.{Counts};
 ghost use Rattle.room.specs.Room.{good};
@@ -45,7 +46,7 @@ fn add_long(t: Totals) -> Totals
 
 // One more file.
 fn add_short(t: Totals, file: &[u8]) -> Totals
-    ensures { λ r. ⌜ r ≡ totalsLeft t (kindsIn (now (file .entry))) ⌝ }
+    ensures { λ r. ⌜ r ≡ totalsLeft t (kindsIn (old file)) ⌝ }
 {
     let mut nodes = program::node_table();
     let mut items = program::item_table();
@@ -57,7 +58,7 @@ fn add_short(t: Totals, file: &[u8]) -> Totals
 
 // The sums with one more file. A file that is refused or too long is counted, and so is that it was refused; a 1,001st ends the sums.
 pub fn add_file(sums: Sums, file: &[u8]) -> Sums
-    ensures { λ r. ⌜ sumsTold r ≡ withFile (sumsTold sums) (now (file .entry)) ⌝ }
+    ensures { λ r. ⌜ sumsTold r ≡ withFile (sumsTold sums) (old file) ⌝ }
 {
     match sums {
         Sums::Refused(n, p) => Sums::Refused(n, p),
@@ -75,7 +76,7 @@ pub fn add_file(sums: Sums, file: &[u8]) -> Sums
 
 // Puts the lines of sums.
 fn put_sums(out: &mut [u8], t: Totals) -> usize
-    ensures { λ r. ⌜ Counts (now (out .entry)) (now (out .exit)) 0 (sumLines t) r ⌝ }
+    ensures { λ r. ⌜ Counts (old out) (new out) 0 (sumLines t) r ⌝ }
 {
     let a = put_kind(out, 0, b"files", t.files);
     let b = put_kind(out, a, b"refused", t.refused);
@@ -84,8 +85,8 @@ fn put_sums(out: &mut [u8], t: Totals) -> usize
 
 // The answer of the sums.
 pub fn make_sums(sums: Sums, text: &mut [u8]) -> Made
-    ensures { λ r. ⌜ io.Counts (r .size) (now (text .exit)) ⌝ }
-    ensures { λ r. ⌜ Gives (length (now (text .entry))) r (now (text .exit)) (sumsOf (length (now (text .entry))) (sumsTold sums)) ⌝ }
+    ensures { λ r. ⌜ io.Counts (r .size) (new text) ⌝ }
+    ensures { λ r. ⌜ Gives (length (old text)) r (new text) (sumsOf (length (old text)) (sumsTold sums)) ⌝ }
 {
     match sums {
         Sums::Refused(n, p) => refuse(text, b"", n, p),

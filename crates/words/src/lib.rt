@@ -2,6 +2,7 @@
 ghost use mathlib.Core.Path.{_≡_};
 ghost use mathlib.Core.List.{_∷_, []};
 ghost use lib.ListN.{length, getD};
+ghost use Rattle.room.specs.Moments.{old, new};
 ghost use Rattle.file.specs.Told as told_tree;
 ghost use Rattle.find.specs.Told as told_find;
 ghost use Rattle.resolve.specs.Told as told_resolve;
@@ -34,7 +35,7 @@ use shelf::Outcome;
 
 // Stores the words from the buffer's first word on, as many as fit.
 fn put_front(buffer: &mut [u64], words: &[u64])
-    ensures { λ _. ⌜ now (buffer .exit) ≡ stored (now (buffer .entry)) (now (words .entry)) ⌝ }
+    ensures { λ _. ⌜ new buffer ≡ stored (old buffer) (old words) ⌝ }
 {
     let room = buffer.len();
     if words.len() <= room {
@@ -46,7 +47,7 @@ fn put_front(buffer: &mut [u64], words: &[u64])
 
 // Sets the buffer to the words, as many as fit, and zeros.
 fn put_answer(answer: &mut [u64], words: &[u64])
-    ensures { λ _. ⌜ now (answer .exit) ≡ fit (length (now (answer .entry))) (now (words .entry)) ⌝ }
+    ensures { λ _. ⌜ new answer ≡ fit (length (old answer)) (old words) ⌝ }
 {
     room::clear(answer);
     put_front(answer, words);
@@ -54,7 +55,7 @@ fn put_answer(answer: &mut [u64], words: &[u64])
 
 // A refusal's number and place.
 fn put_refusal(answer: &mut [u64], number: u64, place: usize)
-    ensures { λ _. ⌜ now (answer .exit) ≡ fit (length (now (answer .entry))) (number ∷ place ∷ []) ⌝ }
+    ensures { λ _. ⌜ new answer ≡ fit (length (old answer)) (number ∷ place ∷ []) ⌝ }
 {
     let words = [number, place as u64];
     put_answer(answer, &words);
@@ -62,7 +63,7 @@ fn put_refusal(answer: &mut [u64], number: u64, place: usize)
 
 // The tree's version, nodes and item rows.
 pub fn put_tree(answer: &mut [u64], said: Answer)
-    ensures { λ _. ⌜ now (answer .exit) ≡ fit (length (now (answer .entry))) (saying treeValues (told_tree.told said)) ⌝ }
+    ensures { λ _. ⌜ new answer ≡ fit (length (old answer)) (saying treeValues (told_tree.told said)) ⌝ }
 {
     match said {
         Answer::Refused(n, p) => put_refusal(answer, n, p),
@@ -75,7 +76,7 @@ pub fn put_tree(answer: &mut [u64], said: Answer)
 
 // The item row that was found, and its ten words.
 pub fn put_found(answer: &mut [u64], said: Found)
-    ensures { λ _. ⌜ now (answer .exit) ≡ fit (length (now (answer .entry))) (saying itemValues (told_find.told said)) ⌝ }
+    ensures { λ _. ⌜ new answer ≡ fit (length (old answer)) (saying itemValues (told_find.told said)) ⌝ }
 {
     match said {
         Found::Refused(n, p) => put_refusal(answer, n, p),
@@ -102,7 +103,7 @@ pub fn put_found(answer: &mut [u64], said: Found)
 
 // The resource's place and length, its row, the references followed.
 pub fn put_resolved(answer: &mut [u64], said: Resolved)
-    ensures { λ _. ⌜ now (answer .exit) ≡ fit (length (now (answer .entry))) (saying resourceValues (told_resolve.told said)) ⌝ }
+    ensures { λ _. ⌜ new answer ≡ fit (length (old answer)) (saying resourceValues (told_resolve.told said)) ⌝ }
 {
     match said {
         Resolved::Refused(n, p) => put_refusal(answer, n, p),
@@ -115,7 +116,7 @@ pub fn put_resolved(answer: &mut [u64], said: Resolved)
 
 // The count.
 pub fn put_counted(answer: &mut [u64], said: Counted)
-    ensures { λ _. ⌜ now (answer .exit) ≡ fit (length (now (answer .entry))) (saying oneValue (told_description.told said)) ⌝ }
+    ensures { λ _. ⌜ new answer ≡ fit (length (old answer)) (saying oneValue (told_description.told said)) ⌝ }
 {
     match said {
         Counted::Refused(n, p) => put_refusal(answer, n, p),
@@ -128,7 +129,7 @@ pub fn put_counted(answer: &mut [u64], said: Counted)
 
 // The verdict.
 pub fn put_judged(answer: &mut [u64], said: Judged)
-    ensures { λ _. ⌜ now (answer .exit) ≡ fit (length (now (answer .entry))) (saying oneValue (told_mobile.told said)) ⌝ }
+    ensures { λ _. ⌜ new answer ≡ fit (length (old answer)) (saying oneValue (told_mobile.told said)) ⌝ }
 {
     match said {
         Judged::Refused(n, p) => put_refusal(answer, n, p),
@@ -141,7 +142,7 @@ pub fn put_judged(answer: &mut [u64], said: Judged)
 
 // The nine counts.
 pub fn put_accounted(answer: &mut [u64], said: Accounted)
-    ensures { λ _. ⌜ now (answer .exit) ≡ fit (length (now (answer .entry))) (saying kindWords (told_account.told said)) ⌝ }
+    ensures { λ _. ⌜ new answer ≡ fit (length (old answer)) (saying kindWords (told_account.told said)) ⌝ }
 {
     match said {
         Accounted::Refused(n, p, _) => put_refusal(answer, n, p),
@@ -176,7 +177,7 @@ pub fn totals_in(said: Accounted) -> Totals
 
 // Stores totals in words, as many as fit.
 pub fn put_totals(buffer: &mut [u64], t: Totals)
-    ensures { λ _. ⌜ now (buffer .exit) ≡ stored (now (buffer .entry)) (totalWords t) ⌝ }
+    ensures { λ _. ⌜ new buffer ≡ stored (old buffer) (totalWords t) ⌝ }
 {
     let k = t.kinds;
     let words = [
@@ -197,7 +198,7 @@ pub fn put_totals(buffer: &mut [u64], t: Totals)
 
 // A word of a buffer, or 0 where it has none.
 fn word_at(words: &[u64], i: usize) -> usize
-    ensures { λ r. ⌜ r ≡ getD (now (words .entry)) i 0 ⌝ }
+    ensures { λ r. ⌜ r ≡ getD (old words) i 0 ⌝ }
 {
     if i < words.len() {
         return words[i] as usize;
@@ -207,7 +208,7 @@ fn word_at(words: &[u64], i: usize) -> usize
 
 // The totals that a buffer holds.
 pub fn read_totals(words: &[u64]) -> Totals
-    ensures { λ r. ⌜ r ≡ totalsOf (now (words .entry)) ⌝ }
+    ensures { λ r. ⌜ r ≡ totalsOf (old words) ⌝ }
 {
     let files = word_at(words, 0);
     let refused = word_at(words, 1);
@@ -231,7 +232,7 @@ pub fn read_totals(words: &[u64]) -> Totals
 
 // The number of bytes written.
 pub fn put_written(answer: &mut [u64], said: Written)
-    ensures { λ _. ⌜ now (answer .exit) ≡ fit (length (now (answer .entry))) (saying oneValue (told_room.told said)) ⌝ }
+    ensures { λ _. ⌜ new answer ≡ fit (length (old answer)) (saying oneValue (told_room.told said)) ⌝ }
 {
     match said {
         Written::Refused(n, p) => put_refusal(answer, n, p),
@@ -244,7 +245,7 @@ pub fn put_written(answer: &mut [u64], said: Written)
 
 // The bytes of the copy, and of the lines.
 pub fn put_mended(answer: &mut [u64], said: Mending)
-    ensures { λ _. ⌜ now (answer .exit) ≡ fit (length (now (answer .entry))) (saying sizeWords (told_mend.told said)) ⌝ }
+    ensures { λ _. ⌜ new answer ≡ fit (length (old answer)) (saying sizeWords (told_mend.told said)) ⌝ }
 {
     match said {
         Mending::Refused(n, p) => put_refusal(answer, n, p),
@@ -257,7 +258,7 @@ pub fn put_mended(answer: &mut [u64], said: Mending)
 
 // The number of a tag's frames.
 pub fn put_frame_count(answer: &mut [u64], said: FrameCount)
-    ensures { λ _. ⌜ now (answer .exit) ≡ fit (length (now (answer .entry))) (saying oneValue (told_tag.countTold said)) ⌝ }
+    ensures { λ _. ⌜ new answer ≡ fit (length (old answer)) (saying oneValue (told_tag.countTold said)) ⌝ }
 {
     match said {
         FrameCount::Refused(n, p) => put_refusal(answer, n, p),
@@ -270,7 +271,7 @@ pub fn put_frame_count(answer: &mut [u64], said: FrameCount)
 
 // A frame's name, and its contents' place and length.
 pub fn put_frame(answer: &mut [u64], said: Framed)
-    ensures { λ _. ⌜ now (answer .exit) ≡ fit (length (now (answer .entry))) (saying frameValues (told_tag.frameTold said)) ⌝ }
+    ensures { λ _. ⌜ new answer ≡ fit (length (old answer)) (saying frameValues (told_tag.frameTold said)) ⌝ }
 {
     match said {
         Framed::Refused(n, p) => put_refusal(answer, n, p),
@@ -283,7 +284,7 @@ pub fn put_frame(answer: &mut [u64], said: Framed)
 
 // No value: put and drop answer none.
 pub fn put_outcome(answer: &mut [u64], said: Outcome)
-    ensures { λ _. ⌜ now (answer .exit) ≡ fit (length (now (answer .entry))) (saying noValue (toldOutcome said)) ⌝ }
+    ensures { λ _. ⌜ new answer ≡ fit (length (old answer)) (saying noValue (toldOutcome said)) ⌝ }
 {
     match said {
         Outcome::Refused(n, p) => put_refusal(answer, n, p),
@@ -293,7 +294,7 @@ pub fn put_outcome(answer: &mut [u64], said: Outcome)
 
 // The number of bytes of a sheet.
 pub fn put_got(answer: &mut [u64], said: Got)
-    ensures { λ _. ⌜ now (answer .exit) ≡ fit (length (now (answer .entry))) (saying oneValue (toldGot said)) ⌝ }
+    ensures { λ _. ⌜ new answer ≡ fit (length (old answer)) (saying oneValue (toldGot said)) ⌝ }
 {
     match said {
         Got::Refused(n, p) => put_refusal(answer, n, p),

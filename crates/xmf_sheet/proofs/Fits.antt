@@ -44,9 +44,7 @@ refusal-is n p = refl
 pub line-short : (n p : ℕ) → length (refusalLine n p) ≤ 44
 unfolding refusalLine
 line-short n p =
-    let a = number-short n in
-    let b = number-short p in
-    let e = length-append (number n) (number p) in
+    let a = number-short n in let b = number-short p in let e = length-append (number n) (number p) in
     let f = length-append (number n ++ number p) (0x0A ∷ []) in
     omega arith
 
@@ -98,8 +96,7 @@ sheet-kept n room (bad m q) k l z e = absurd k
 pub sheet-made : (room : ℕ) (f : List ℕ) (o : Reading) {text : List ℕ} {r : Written} {n : ℕ} → told r ≡ counted (ask o (write room f)) →
     length text ≡ room → text ≡ kept room (ask o (write room f)) → r ≡ written.Bytes n → Starts n text (lines (ask o (write room f)))
 sheet-made room f o {text} {r} {n} e z w k =
-    let x : Result (List ℕ) = ask o (write room f) in
-    let h : good n ≡ counted x = sym (ap told k) ∙ e in
+    let x : Result (List ℕ) = ask o (write room f) in let h : good n ≡ counted x = sym (ap told k) ∙ e in
     sheet-kept n room x (subst (λ (v : Result ℕ). Says v x) (sym h) (says-own x)) (subst (Below room) (sym h) (below room f o)) z w
 
 refusal-kept : (n p : ℕ) (x : Result (List ℕ)) → Says (bad n p) x → refusalLine n p ≡ lines x

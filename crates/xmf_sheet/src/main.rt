@@ -3,6 +3,7 @@
 // The file is named by the first argument, or read from standard input without one.
 ghost use mathlib.Core.Path.{_≡_};
 ghost use lib.ListN.{length, take};
+ghost use Rattle.room.specs.Moments.{old, new};
 ghost use Rattle.io.specs.Counts.{Counts};
 ghost use Rattle.room.specs.Counts as room;
 ghost use Rattle.xmf_sheet.specs.Answer.{refusalLine, tooLong, answerText};
@@ -14,7 +15,7 @@ use room::Written;
 
 // Puts the line of a refusal.
 fn put_refusal(out: &mut [u8], number: u64, place: usize) -> usize
-    ensures { λ r. ⌜ room.Counts (now (out .entry)) (now (out .exit)) 0 (refusalLine number place) r ⌝ }
+    ensures { λ r. ⌜ room.Counts (old out) (new out) 0 (refusalLine number place) r ⌝ }
 {
     let a = room::put_byte(out, 0, b'R');
     let b = text::put_number(out, a, number);
@@ -24,7 +25,7 @@ fn put_refusal(out: &mut [u8], number: u64, place: usize) -> usize
 
 // Puts the line of a file that is too long.
 fn put_too_long(out: &mut [u8]) -> usize
-    ensures { λ r. ⌜ room.Counts (now (out .entry)) (now (out .exit)) 0 tooLong r ⌝ }
+    ensures { λ r. ⌜ room.Counts (old out) (new out) 0 tooLong r ⌝ }
 {
     room::put_bytes(out, 0, b"too long\n")
 }
@@ -32,8 +33,8 @@ fn put_too_long(out: &mut [u8]) -> usize
 // Makes the answer for the bytes of an input: its sheet or one line. Answers its length.
 fn make_answer(file: &[u8], text: &mut [u8]) -> usize
     requires { ⌜ 65536 ≡ length (now text) ⌝ }
-    ensures { λ r. ⌜ Counts r (now (text .exit)) ⌝ }
-    ensures { λ r. ⌜ take r (now (text .exit)) ≡ answerText (now (file .entry)) ⌝ }
+    ensures { λ r. ⌜ Counts r (new text) ⌝ }
+    ensures { λ r. ⌜ take r (new text) ≡ answerText (old file) ⌝ }
 {
     if file.len() > program::LONGEST {
         return put_too_long(text);

@@ -9,8 +9,7 @@ use Rattle.description.proofs.count_for.Tie as tie
 
 count-row-requires : tie.Need-count-row-requires
 count-row-requires c κs =
-    let at-s = c .before .before in
-    let at-read-file = at-s .before .before .before .before .before .before in
+    let at-s = c .before .before in let at-read-file = at-s .before .before .before .before .before .before in
     let entry = at-read-file .before .before .before .before .before .before in
     rows-inside (entry .args .file .now) (length (entry .args .nodes .now)) (length (entry .args .items .now)) (entry .args .item-row)
     (entry .args .channel) (entry .args .resource) (at-read-file .read-file .ensures .0) (at-read-file .read-file .ensures .1 .0)
@@ -26,8 +25,7 @@ returns c =
 
 returns-2 : tie.Need-returns-2
 returns-2 c =
-    let at-count-row = c .before .before .before in
-    let at-s = at-count-row .before .before .before in
+    let at-count-row = c .before .before .before in let at-s = at-count-row .before .before .before in
     let at-read-file = at-s .before .before .before .before .before .before in
     let entry = at-read-file .before .before .before .before .before .before in
     let w = ends-count (entry .args .file .now) (length (entry .args .nodes .now)) (length (entry .args .items .now)) (entry .args .item-row)
@@ -49,10 +47,8 @@ same-length-6 c =
 
 returns-3 : tie.Need-returns-3
 returns-3 c =
-    let at-clear-all = c .before .before .before .before in
-    let at-n3 = at-clear-all .before .before .before .before in
-    let at-count-row = at-n3 .before .before in
-    let at-s = at-count-row .before .before .before in
+    let at-clear-all = c .before .before .before .before in let at-n3 = at-clear-all .before .before .before .before in
+    let at-count-row = at-n3 .before .before in let at-s = at-count-row .before .before .before in
     let at-read-file = at-s .before .before .before .before .before .before in
     let entry = at-read-file .before .before .before .before .before .before in
     let w = ends-refused (entry .args .file .now) (length (entry .args .nodes .now)) (length (entry .args .items .now)) (entry .args .item-row)

@@ -16,9 +16,7 @@ count-of-requires c κs = c .before .before .before .before .before .pre .0
 
 returns-3 : tie.Need-returns-3
 returns-3 c =
-    let at-is-binary = c .before .before in
-    let at-if1 = at-is-binary .before in
-    let at-is-field = at-if1 .before in
+    let at-is-binary = c .before .before in let at-if1 = at-is-binary .before in let at-is-field = at-if1 .before in
     row-count _ _ _ _ (at-is-field .is-field .ensures) (at-if1 .if1 .left) (at-is-binary .is-binary .ensures) (c .before .if2 .left) (c .count-of .ensures)
 
 pub count-in-spec : {M : Type 1} → statement M

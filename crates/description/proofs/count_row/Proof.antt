@@ -16,8 +16,7 @@ count-in-requires c κs = row-in (c .before .before .before .before .args .items
 
 returns-2 : tie.Need-returns-2
 returns-2 c =
-    let at-if1 = c .before .before in
-    let entry = at-if1 .before .before .before in
+    let at-if1 = c .before .before in let entry = at-if1 .before .before .before in
     row-there (entry .args .file .now) (entry .args .items .now) (entry .args .count) (entry .args .row) (entry .args .channel)
     (entry .args .resource) (at-if1 .if1 .left) (c .before .item-at .ensures) (c .count-in .ensures)
 

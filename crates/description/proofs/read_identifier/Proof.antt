@@ -16,19 +16,14 @@ returns-2 c = identifier-five _ _ _ _ (c .before .before .if1 .left) (c .before 
 
 returns-3 : tie.Need-returns-3
 returns-3 c =
-    let at-manufacturer = c .before .before .before in
-    let at-if3 = at-manufacturer .before in
-    let at-if2 = at-if3 .before in
-    let at-if1 = at-if2 .before in
+    let at-manufacturer = c .before .before .before in let at-if3 = at-manufacturer .before in
+    let at-if2 = at-if3 .before in let at-if1 = at-if2 .before in
     identifier-cut _ _ _ _ (at-if1 .if1 .left) (at-if2 .if2 .left) (at-if3 .if3 .taken) (was passTold (at-manufacturer .manufacturer .ensures metaFrame) (c .before .n .given .1))
 
 returns-4 : tie.Need-returns-4
 returns-4 c =
-    let at-d = c .before .before in
-    let at-manufacturer = at-d .before .before in
-    let at-if3 = at-manufacturer .before in
-    let at-if2 = at-if3 .before in
-    let at-if1 = at-if2 .before in
+    let at-d = c .before .before in let at-manufacturer = at-d .before .before in
+    let at-if3 = at-manufacturer .before in let at-if2 = at-if3 .before in let at-if1 = at-if2 .before in
     identifier-two _ _ _ _ (at-if1 .if1 .left) (at-if2 .if2 .left) (at-if3 .if3 .taken)
     (was passTold (at-manufacturer .manufacturer .ensures metaFrame) (at-d .d .given .1)) (c .read-value .ensures)
 

@@ -12,16 +12,14 @@ returns c = lists-resource _ _ _ _ (was passTold (c .before .before .before .rea
 
 returns-2 : tie.Need-returns-2
 returns-2 c =
-    let at-read-numbers = c .before .before .before in
-    let at-d = at-read-numbers .before .before in
+    let at-read-numbers = c .before .before .before in let at-d = at-read-numbers .before .before in
     let at-read-resources = at-d .before .before in
     lists-group _ _ _ _ (was passTold (at-read-resources .read-resources .ensures) (at-d .d .given .1)) 0
     (was numberTold (at-read-numbers .read-numbers .ensures) (c .before .n2 .given .1))
 
 returns-3 : tie.Need-returns-3
 returns-3 c =
-    let at-read-numbers = c .before .before .before in
-    let at-d = at-read-numbers .before .before in
+    let at-read-numbers = c .before .before .before in let at-d = at-read-numbers .before .before in
     let at-read-resources = at-d .before .before in
     lists-all _ _ _ _ (was passTold (at-read-resources .read-resources .ensures) (at-d .d .given .1)) 0
     (was numberTold (at-read-numbers .read-numbers .ensures) (c .before .e .given .1))

@@ -24,8 +24,7 @@ loop-holds c = numbers-begun _ _ _ _ _
 
 returns : tie.Need-returns Inv-loop μ-loop
 returns c =
-    let at-number = c .before .before .before in
-    let at-loop-test = at-number .before in
+    let at-number = c .before .before .before in let at-loop-test = at-number .before in
     let at-loop = at-loop-test .before in
     numbers-no (at-loop .loop .inv) (at-loop-test .loop-test .taken) (was numberTold (at-number .number .ensures metaFrame) (c .before .n .given .1))
 
@@ -34,9 +33,7 @@ loop-less c = omega (arith, number-inside _ _ _ _ _ (was numberTold (c .before .
 
 loop-again : tie.Need-loop-again Inv-loop μ-loop
 loop-again c =
-    let at-v = c .before .before in
-    let at-number = at-v .before .before in
-    let at-loop-test = at-number .before in
+    let at-v = c .before .before in let at-number = at-v .before .before in let at-loop-test = at-number .before in
     let at-loop = at-loop-test .before in
     numbers-on (at-loop .loop .inv) (at-loop-test .loop-test .taken) (was numberTold (at-number .number .ensures metaFrame) (at-v .v .given .1))
     (elim (c .if1 .came) [ inl w ↦ inl (w .0 .taken, w .1) | inr w ↦ inr (w .0 .left, w .1) ])

@@ -16,8 +16,7 @@ returns-2 c = resource-cut _ _ _ (was numberTold (c .before .before .before .num
 
 returns-3 : tie.Need-returns-3
 returns-3 c =
-    let at-kind = c .before .before .before in
-    let at-number = at-kind .before .before in
+    let at-kind = c .before .before .before in let at-number = at-kind .before .before in
     resource-all _ _ _ (was numberTold (at-number .number .ensures metaFrame) (at-kind .kind .given .1)) (c .before .if1 .left) (c .read-identifier .ensures)
 
 pub read-resource-spec : {M : Type 1} → statement M

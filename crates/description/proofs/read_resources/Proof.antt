@@ -22,8 +22,7 @@ loop-holds c = record { same = refl }
 
 returns : tie.Need-returns Inv-loop μ-loop
 returns c =
-    let at-read-resource = c .before .before .before in
-    let at-loop-test = at-read-resource .before in
+    let at-read-resource = c .before .before .before in let at-loop-test = at-read-resource .before in
     let at-loop = at-loop-test .before in
     resources-no (at-loop .loop .inv) (at-loop-test .loop-test .taken) (was passTold (at-read-resource .read-resource .ensures) (c .before .n .given .1))
 
@@ -32,8 +31,7 @@ loop-less c = omega (arith, resource-further _ _ _ (was passTold (c .before .bef
 
 loop-again : tie.Need-loop-again Inv-loop μ-loop
 loop-again c =
-    let at-read-resource = c .before .before .before in
-    let at-loop-test = at-read-resource .before in
+    let at-read-resource = c .before .before .before in let at-loop-test = at-read-resource .before in
     let at-loop = at-loop-test .before in
     resources-on (at-loop .loop .inv) (at-loop-test .loop-test .taken) (was passTold (at-read-resource .read-resource .ensures) (c .before .d .given .1))
 

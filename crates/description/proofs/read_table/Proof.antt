@@ -13,8 +13,7 @@ mul-read-numbers c = omega (arith, product (c .before .before .args .channels) (
 
 returns : tie.Need-returns
 returns c =
-    let at-count = c .before .before .before .before .before in
-    let at-read-numbers = at-count .before .before in
+    let at-count = c .before .before .before .before .before in let at-read-numbers = at-count .before .before in
     table-left _ _ _ _ _ _ _ _ (was numberTold (at-read-numbers .read-numbers .ensures) (at-count .count .given .1)) (c .if1 .taken)
 
 returns-2 : tie.Need-returns-2
@@ -25,8 +24,7 @@ returns-2 c =
 
 returns-3 : tie.Need-returns-3
 returns-3 c =
-    let at-if1 = c .before .before in
-    let at-count = at-if1 .before .before .before .before .before in
+    let at-if1 = c .before .before in let at-count = at-if1 .before .before .before .before .before in
     let at-read-numbers = at-count .before .before in
     table-resource _ _ _ _ _ _ _ _ (was numberTold (at-read-numbers .read-numbers .ensures) (at-count .count .given .1)) (at-if1 .if1 .left) (c .before .if2 .left) (c .if3 .taken)
 
@@ -35,10 +33,8 @@ returns-4 c = table-cut _ _ _ _ _ _ _ _ (was numberTold (c .before .before .befo
 
 returns-5 : tie.Need-returns-5
 returns-5 c =
-    let at-if1 = c .before .before in
-    let at-count = at-if1 .before .before .before .before .before in
-    let at-read-numbers = at-count .before .before in
-    let at-index-of = at-read-numbers .before in
+    let at-if1 = c .before .before in let at-count = at-if1 .before .before .before .before .before in
+    let at-read-numbers = at-count .before .before in let at-index-of = at-read-numbers .before in
     table-count _ _ _ _ _ _ _ _ (was numberTold (at-read-numbers .read-numbers .ensures) (at-count .count .given .1)) (at-if1 .if1 .left)
     (c .before .if2 .left) (c .if3 .left) (at-index-of .index-of .ensures)
 

@@ -17,9 +17,7 @@ returns c = escape-great _ _ (c .before .before .nibble .ensures .0) (c .before 
 
 returns-2 : tie.Need-returns-2
 returns-2 c =
-    let at-if1 = c .before .before in
-    let at-nibble2 = at-if1 .before in
-    let at-nibble = at-nibble2 .before in
+    let at-if1 = c .before .before in let at-nibble2 = at-if1 .before in let at-nibble = at-nibble2 .before in
     escape-plain _ _ (at-nibble .nibble .ensures .0) (at-nibble2 .nibble2 .ensures .0) (at-if1 .if1 .left) (c .before .is-plain .ensures) (c .if2 .taken)
 
 returns-3 : tie.Need-returns-3

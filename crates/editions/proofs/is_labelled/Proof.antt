@@ -16,8 +16,7 @@ number-field-requires c κs = label-room (c .before .before .before .args .line 
 
 is-tail-requires : tie.Need-is-tail-requires
 is-tail-requires c κs =
-    let at-number-field = c .before .before .before in
-    let entry = at-number-field .before .before .before .before in
+    let at-number-field = c .before .before .before in let entry = at-number-field .before .before .before .before in
     (as-told (NumberAt (entry .args .line .now) _) (at-number-field .number-field .ensures) (c .before .next .given .1)) .field .inside
 
 returns : tie.Need-returns

@@ -60,9 +60,7 @@ loop-again c =
 
 returns-3 : tie.Need-returns-3 Inv-loop μ-loop
 returns-3 c =
-    let at-if1 = c .before .before in
-    let at-loop-test = at-if1 .before .before in
-    let at-loop = at-loop-test .before in
+    let at-if1 = c .before .before in let at-loop-test = at-if1 .before .before in let at-loop = at-loop-test .before in
     spelled-no (at-loop .loop .inv) (at-loop-test .loop-test .taken) refl (at-if1 .if1 .left) (c .before .is-itself .ensures) (not-true _ (c .if4 .taken))
 
 add-i-2 : tie.Need-add-i-2 Inv-loop μ-loop
@@ -70,9 +68,7 @@ add-i-2 c = omega (arith, c .before .before .before .before .before .loop .inv .
 
 loop-again-2 : tie.Need-loop-again-2 Inv-loop μ-loop
 loop-again-2 c =
-    let at-if1 = c .before .before in
-    let at-loop-test = at-if1 .before .before in
-    let at-loop = at-loop-test .before in
+    let at-if1 = c .before .before in let at-loop-test = at-if1 .before .before in let at-loop = at-loop-test .before in
     spelled-one (at-loop .loop .inv) (at-loop-test .loop-test .taken) refl (at-if1 .if1 .left) (c .before .is-itself .ensures) (not-false _ (c .if4 .left))
 
 returns-4 : tie.Need-returns-4 Inv-loop μ-loop

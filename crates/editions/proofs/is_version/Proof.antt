@@ -10,8 +10,7 @@ returns c = version-long (c .before .args .line .now) (c .before .args .from) (c
 
 returns-2 : tie.Need-returns-2
 returns-2 c =
-    let at-if1 = c .before .before in
-    let entry = at-if1 .before in
+    let at-if1 = c .before .before in let entry = at-if1 .before in
     version-dot (entry .args .line .now) (entry .args .from) (entry .args .end) (entry .pre .1) (at-if1 .if1 .left) (c .if2 .taken)
 
 returns-3 : tie.Need-returns-3

@@ -14,8 +14,7 @@ returns-2 c = letter-apart (c .before .before .before .args .line .now) _ (c .be
 
 returns-3 : tie.Need-returns-3
 returns-3 c =
-    let at-if1 = c .before .before .before in
-    let entry = at-if1 .before in
+    let at-if1 = c .before .before .before in let entry = at-if1 .before in
     letter-is (entry .args .line .now) _ (entry .pre) (at-if1 .if1 .left) (c .before .if2 .left) refl
 
 pub letter-spec : {M : Type 1} → statement M

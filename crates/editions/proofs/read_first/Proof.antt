@@ -15,8 +15,7 @@ read-counts-requires-2 c κs = as-told (WordAt (c .before .before .before .befor
 
 returns : tie.Need-returns
 returns c =
-    let at-read-word = c .before .before in
-    let entry = at-read-word .before .before in
+    let at-read-word = c .before .before in let entry = at-read-word .before .before in
     λ e. lead-none (entry .args .line .now) (as-told (WordAt (entry .args .line .now)) (at-read-word .read-word .ensures) (c .enum-told .given .1)) e
 
 returns-2 : tie.Need-returns-2

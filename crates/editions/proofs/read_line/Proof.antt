@@ -13,8 +13,7 @@ number-field-requires c κs = label-room (c .before .before .before .args .line 
 
 are-numbers-requires : tie.Need-are-numbers-requires
 are-numbers-requires c κs =
-    let at-number-field = c .before .before .before in
-    let entry = at-number-field .before .before .before .before in
+    let at-number-field = c .before .before .before in let entry = at-number-field .before .before .before .before in
     ((as-told (NumberAt (entry .args .line .now) 2) (at-number-field .number-field .ensures) (c .before .row .given .1)) .field .inside, omega arith)
 
 returns : tie.Need-returns

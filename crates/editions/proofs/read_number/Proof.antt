@@ -30,8 +30,7 @@ returns-4 c = digit-low (c .before .before .before .before .loop .inv) (c .befor
 
 returns-5 : tie.Need-returns-5 Inv-loop μ-loop
 returns-5 c =
-    let at-wide = c .before .before in
-    let at-loop-test = at-wide .before .before in
+    let at-wide = c .before .before in let at-loop-test = at-wide .before .before in
     let at-loop = at-loop-test .before in
     digit-high (at-loop .loop .inv) (at-loop-test .loop-test .taken) (at-wide .wide .ensures .0) (c .if5 .taken)
 
@@ -43,16 +42,13 @@ add-v c = omega (arith, digit-small (c .before .before .before .before .before .
 
 returns-6 : tie.Need-returns-6 Inv-loop μ-loop
 returns-6 c =
-    let at-wide = c .before .before .before in
-    let at-loop-test = at-wide .before .before in
+    let at-wide = c .before .before .before in let at-loop-test = at-wide .before .before in
     let at-loop = at-loop-test .before in
     digit-over (at-loop .loop .inv) (at-loop-test .loop-test .taken) (at-wide .wide .ensures .0) (c .if6 .taken)
 
 loop-again : tie.Need-loop-again Inv-loop μ-loop
 loop-again c =
-    let at-if4 = c .before .before in
-    let at-wide = at-if4 .before in
-    let at-loop-test = at-wide .before .before in
+    let at-if4 = c .before .before in let at-wide = at-if4 .before in let at-loop-test = at-wide .before .before in
     let at-loop = at-loop-test .before in
     digit-on (at-loop .loop .inv) (at-loop-test .loop-test .taken) (at-wide .wide .ensures .0) (at-if4 .if4 .left) (c .before .if5 .left) (c .if6 .left)
 

@@ -9,14 +9,12 @@ use Rattle.editions.proofs.step.Tie as tie
 
 returns : tie.Need-returns
 returns c =
-    let at-line = c .before .before .before in
-    let entry = at-line .before .before in
+    let at-line = c .before .before .before in let entry = at-line .before .before in
     node-apart (entry .args .second) (entry .args .t) (ap lineTold (at-line .line .given .1)) (c .if1 .taken)
 
 returns-2 : tie.Need-returns-2
 returns-2 c =
-    let at-if1 = c .before .before in
-    let at-line = at-if1 .before .before .before in
+    let at-if1 = c .before .before in let at-line = at-if1 .before .before .before in
     let entry = at-line .before .before in
     node-second (entry .args .second) (entry .args .t) (ap lineTold (at-line .line .given .1)) (at-if1 .if1 .left) (c .before .if2 .taken)
 
@@ -28,14 +26,12 @@ returns-3 c =
 
 returns-4 : tie.Need-returns-4
 returns-4 c =
-    let at-line2 = c .before .before .before in
-    let entry = at-line2 .before .before in
+    let at-line2 = c .before .before .before in let entry = at-line2 .before .before in
     item-back (entry .args .second) (entry .args .t) (ap lineTold (at-line2 .line2 .given .1)) (c .if4 .taken)
 
 returns-5 : tie.Need-returns-5
 returns-5 c =
-    let at-if4 = c .before .before in
-    let at-line2 = at-if4 .before .before .before in
+    let at-if4 = c .before .before in let at-line2 = at-if4 .before .before .before in
     let entry = at-line2 .before .before in
     item-absent (entry .args .second) (entry .args .t) (ap lineTold (at-line2 .line2 .given .1)) (at-if4 .if4 .left) (c .if5 .taken)
 

@@ -23,14 +23,10 @@ loop-holds c = (follows-begun _ _ _ _ _ _ _ (omega arith) refl, refl, refl)
 
 follow-row-requires : tie.Need-follow-row-requires Inv-loop μ-loop
 follow-row-requires c κs =
-    let at-if1 = c .before .before in
-    let at-loop = at-if1 .before .before in
-    let entry = at-loop .before .before .before .before .before in
-    let w = entry .pre .1 in
+    let at-if1 = c .before .before in let at-loop = at-if1 .before .before in
+    let entry = at-loop .before .before .before .before .before in let w = entry .pre .1 in
     let x = at-loop .loop .inv .0 (w .0) (w .1) (w .2) in
-    let p = entry .pre .0 in
-    let a = at-loop .loop .inv .1 in
-    let b = at-loop .loop .inv .2 in
+    let p = entry .pre .0 in let a = at-loop .loop .inv .1 in let b = at-loop .loop .inv .2 in
     (omega (arith, p), at-if1 .if1 .taken, (w .0, x .log, x .stands), follows-spanned _ _ _ _ _ _ _ (at-loop .loop .inv .0) (omega (arith, p .nodes-in, a)) (w .0) (w .1) (w .2))
 
 same-length : tie.Need-same-length Inv-loop μ-loop
@@ -48,18 +44,14 @@ same-length-2 c =
 returns : tie.Need-returns Inv-loop μ-loop
 returns c =
     let at-follow-row = c .before .before .before .before .before .before .before in
-    let at-if1 = at-follow-row .before .before .before in
-    let at-loop = at-if1 .before .before in
+    let at-if1 = at-follow-row .before .before .before in let at-loop = at-if1 .before .before in
     follows-no _ _ _ _ _ _ _ (at-loop .loop .inv .0) (at-if1 .if1 .taken) (at-follow-row .follow-row .ensures) (c .before .n .given .1)
 
 with-row-requires : tie.Need-with-row-requires Inv-loop μ-loop
 with-row-requires c κs =
-    let at-n2 = c .before .before in
-    let at-follow-row = at-n2 .before .before .before .before .before .before in
-    let at-if1 = at-follow-row .before .before .before in
-    let at-loop = at-if1 .before .before in
-    let entry = at-loop .before .before .before .before .before in
-    let w = entry .pre .1 in
+    let at-n2 = c .before .before in let at-follow-row = at-n2 .before .before .before .before .before .before in
+    let at-if1 = at-follow-row .before .before .before in let at-loop = at-if1 .before .before in
+    let entry = at-loop .before .before .before .before .before in let w = entry .pre .1 in
     let kept = at-follow-row .follow-row .kept .1 .1 in
     let y = follows-next _ _ _ _ _ _ _ (at-loop .loop .inv .0) (at-if1 .if1 .taken) (at-follow-row .follow-row .ensures) (entry .pre .0 .start-in)
     (at-n2 .n2 .given .1) (kept .0) (kept .1 .0) (w .0) (w .1) (w .2) in
@@ -71,18 +63,15 @@ with-row-requires c κs =
 loop-less : tie.Need-loop-less Inv-loop μ-loop
 loop-less c =
     let at-if1 = c .before .before .before .before .before .before .before .before .before .before .before .before in
-    let at-loop = at-if1 .before .before in
-    let entry = at-loop .before .before .before .before .before in
+    let at-loop = at-if1 .before .before in let entry = at-loop .before .before .before .before .before in
     let w = entry .pre .1 in let x = at-loop .loop .inv .0 (w .0) (w .1) (w .2) in omega (arith, at-if1 .if1 .taken, x .stands .fits)
 
 loop-again : tie.Need-loop-again Inv-loop μ-loop
 loop-again c =
     let at-n2 = c .before .before .before in
     let at-follow-row = at-n2 .before .before .before .before .before .before in
-    let at-if1 = at-follow-row .before .before .before in
-    let at-loop = at-if1 .before .before in
-    let entry = at-loop .before .before .before .before .before in
-    let kept = at-follow-row .follow-row .kept .1 .1 in
+    let at-if1 = at-follow-row .before .before .before in let at-loop = at-if1 .before .before in
+    let entry = at-loop .before .before .before .before .before in let kept = at-follow-row .follow-row .kept .1 .1 in
     let long = kept .0 ∙ at-loop .loop .inv .1 in (
       follows-on _ _ _ _ _ _ _ (at-loop .loop .inv .0) (at-if1 .if1 .taken) (at-follow-row .follow-row .ensures) (entry .pre .0 .start-in)
           (at-n2 .n2 .given .1) (kept .0) (kept .1 .0) (omega (arith, entry .pre .0 .nodes-in, long)) (c .with-row .ensures .0) (c .with-row .ensures .1),

@@ -14,31 +14,23 @@ read-root-requires c κs = omega (arith, c .before .before .before .before .befo
 follow-all-requires : tie.Need-follow-all-requires
 follow-all-requires c κs =
     let rooted-as = c .before .before .before in
-    let rooted = rooted-as .before .before .before .before .before .before in
-    let root = rooted .read-root in
-    let bounded = rooted .before .before .before in
-    let entry = bounded .before .before .before .before .before in
-    let lent = entry .args in
-    let asked = entry .pre in
+    let rooted = rooted-as .before .before .before .before .before .before in let root = rooted .read-root in
+    let bounded = rooted .before .before .before in let entry = bounded .before .before .before .before .before in
+    let lent = entry .args in let asked = entry .pre in
     let w = whole-stands (lent .file .now) (lent .nodes .now) (lent .items .now) (headerOf (lent .h) (lent .types .now))
     (lent .h .extent .end .0) (asked .0, asked .1, asked .2) (bounded .room-of .ensures) (root .ensures) (root .kept .1 .1 .0)
     (root .kept .1 .1 .1 .0) (rooted-as .tree .given .1) in
-    let z = whole-room (bounded .room-of .ensures) in
-    let a = root .kept .1 .1 .0 in
+    let z = whole-room (bounded .room-of .ensures) in let a = root .kept .1 .1 .0 in
     let b = root .kept .1 .1 .1 .0 in (omega arith, w)
 
 mul-clear-from : tie.Need-mul-clear-from
 mul-clear-from c =
     let followed-as = c .before .before .before in
-    let followed = followed-as .before .before .before .before .before .before in
-    let rest = followed .follow-all in
+    let followed = followed-as .before .before .before .before .before .before in let rest = followed .follow-all in
     let rooted-as = followed .before .before .before .before in
-    let rooted = rooted-as .before .before .before .before .before .before in
-    let root = rooted .read-root in
-    let bounded = rooted .before .before .before in
-    let entry = bounded .before .before .before .before .before in
-    let lent = entry .args in
-    let asked = entry .pre in
+    let rooted = rooted-as .before .before .before .before .before .before in let root = rooted .read-root in
+    let bounded = rooted .before .before .before in let entry = bounded .before .before .before .before .before in
+    let lent = entry .args in let asked = entry .pre in
     let f = whole-fits (lent .file .now) (lent .nodes .now) (lent .items .now) (headerOf (lent .h) (lent .types .now)) (lent .h .extent .end .0)
     (asked .0, asked .1, asked .2) (bounded .room-of .ensures)
     (root .ensures) (root .kept .1 .1 .0) (root .kept .1 .1 .1 .0) (rooted-as .tree .given .1) (rest .ensures) (rest .kept .1 .1 .0)
@@ -47,15 +39,11 @@ mul-clear-from c =
 mul-clear-from-2 : tie.Need-mul-clear-from-2
 mul-clear-from-2 c =
     let followed-as = c .before .before .before .before .before .before .before .before in
-    let followed = followed-as .before .before .before .before .before .before in
-    let rest = followed .follow-all in
+    let followed = followed-as .before .before .before .before .before .before in let rest = followed .follow-all in
     let rooted-as = followed .before .before .before .before in
-    let rooted = rooted-as .before .before .before .before .before .before in
-    let root = rooted .read-root in
-    let bounded = rooted .before .before .before in
-    let entry = bounded .before .before .before .before .before in
-    let lent = entry .args in
-    let asked = entry .pre in
+    let rooted = rooted-as .before .before .before .before .before .before in let root = rooted .read-root in
+    let bounded = rooted .before .before .before in let entry = bounded .before .before .before .before .before in
+    let lent = entry .args in let asked = entry .pre in
     let f = whole-fits (lent .file .now) (lent .nodes .now) (lent .items .now) (headerOf (lent .h) (lent .types .now)) (lent .h .extent .end .0)
     (asked .0, asked .1, asked .2) (bounded .room-of .ensures)
     (root .ensures) (root .kept .1 .1 .0) (root .kept .1 .1 .1 .0) (rooted-as .tree .given .1) (rest .ensures) (rest .kept .1 .1 .0)
@@ -75,14 +63,10 @@ same-length-2 c =
 
 returns : tie.Need-returns
 returns c =
-    let cleared = c .before .before .before .before in
-    let refused-as = cleared .before .before .before .before in
-    let rooted = refused-as .before .before .before .before .before .before in
-    let root = rooted .read-root in
-    let bounded = rooted .before .before .before in
-    let entry = bounded .before .before .before .before .before in
-    let lent = entry .args in
-    let asked = entry .pre in
+    let cleared = c .before .before .before .before in let refused-as = cleared .before .before .before .before in
+    let rooted = refused-as .before .before .before .before .before .before in let root = rooted .read-root in
+    let bounded = rooted .before .before .before in let entry = bounded .before .before .before .before .before in
+    let lent = entry .args in let asked = entry .pre in
     let w = whole-refused (lent .file .now) (lent .nodes .now) (lent .items .now) (headerOf (lent .h) (lent .types .now))
     (lent .h .extent .end .0) (asked .0, asked .1, asked .2) (bounded .room-of .ensures) (root .ensures) (root .kept .1 .1 .0)
     (root .kept .1 .1 .1 .0) (refused-as .n .given .1) (cleared .clear-all .ensures .0) (cleared .clear-all .ensures .1) in (w .0, (w .1, w .2))
@@ -103,17 +87,12 @@ same-length-4 c =
 
 returns-2 : tie.Need-returns-2
 returns-2 c =
-    let cleared = c .before .before .before .before in
-    let past = cleared .before .before .before .before in
-    let followed = past .before .before .before .before .before .before in
-    let rest = followed .follow-all in
+    let cleared = c .before .before .before .before in let past = cleared .before .before .before .before in
+    let followed = past .before .before .before .before .before .before in let rest = followed .follow-all in
     let rooted-as = followed .before .before .before .before in
-    let rooted = rooted-as .before .before .before .before .before .before in
-    let root = rooted .read-root in
-    let bounded = rooted .before .before .before in
-    let entry = bounded .before .before .before .before .before in
-    let lent = entry .args in
-    let asked = entry .pre in
+    let rooted = rooted-as .before .before .before .before .before .before in let root = rooted .read-root in
+    let bounded = rooted .before .before .before in let entry = bounded .before .before .before .before .before in
+    let lent = entry .args in let asked = entry .pre in
     let w = whole-lost (lent .file .now) (lent .nodes .now) (lent .items .now) (headerOf (lent .h) (lent .types .now)) (lent .h .extent .end .0)
     (asked .0, asked .1, asked .2) (bounded .room-of .ensures)
     (root .ensures) (root .kept .1 .1 .0) (root .kept .1 .1 .1 .0) (rooted-as .tree .given .1) (rest .ensures) (rest .kept .1 .1 .0)
@@ -138,15 +117,11 @@ returns-3 c =
     let second-cleared = c .before .before .before .before .before in
     let first-cleared = second-cleared .before .before .before .before .before in
     let followed-as = first-cleared .before .before .before .before in
-    let followed = followed-as .before .before .before .before .before .before in
-    let rest = followed .follow-all in
+    let followed = followed-as .before .before .before .before .before .before in let rest = followed .follow-all in
     let rooted-as = followed .before .before .before .before in
-    let rooted = rooted-as .before .before .before .before .before .before in
-    let root = rooted .read-root in
-    let bounded = rooted .before .before .before in
-    let entry = bounded .before .before .before .before .before in
-    let lent = entry .args in
-    let asked = entry .pre in
+    let rooted = rooted-as .before .before .before .before .before .before in let root = rooted .read-root in
+    let bounded = rooted .before .before .before in let entry = bounded .before .before .before .before .before in
+    let lent = entry .args in let asked = entry .pre in
     let w = whole-good (lent .file .now) (lent .nodes .now) (lent .items .now) (headerOf (lent .h) (lent .types .now)) (lent .h .extent .end .0)
     (asked .0, asked .1, asked .2) (bounded .room-of .ensures)
     (root .ensures) (root .kept .1 .1 .0) (root .kept .1 .1 .1 .0) (rooted-as .tree .given .1) (rest .ensures) (rest .kept .1 .1 .0)

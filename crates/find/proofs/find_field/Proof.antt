@@ -15,8 +15,7 @@ use Rattle.find.proofs.find_field.Tie as tie
 
 returns : tie.Need-returns
 returns c =
-    let at-clear-all = c .before .before .before .before in
-    let at-if1 = at-clear-all .before .before .before in
+    let at-clear-all = c .before .before .before .before in let at-if1 = at-clear-all .before .before .before in
     let at-s = at-if1 .before .before .before in
     let at-read-file = at-s .before .before .before .before .before .before in
     let entry = at-read-file .before .before .before .before .before .before .before in
@@ -30,8 +29,7 @@ returns c =
 
 found-by-requires : tie.Need-found-by-requires
 found-by-requires c κs =
-    let at-if1 = c .before .before in
-    let at-s = at-if1 .before .before .before in
+    let at-if1 = c .before .before in let at-s = at-if1 .before .before .before in
     let at-read-file = at-s .before .before .before .before .before .before in
     let entry = at-read-file .before .before .before .before .before .before .before in
     let d = (standing (entry .args .file .now) (limits (length (entry .args .nodes .now)) (length (entry .args .items .now)))
@@ -50,8 +48,7 @@ returns-2 c =
 
 returns-3 : tie.Need-returns-3
 returns-3 c =
-    let at-found-by = c .before .before .before in
-    let at-if1 = at-found-by .before .before .before in
+    let at-found-by = c .before .before .before in let at-if1 = at-found-by .before .before .before in
     let at-s = at-if1 .before .before .before in
     let at-read-file = at-s .before .before .before .before .before .before in
     let entry = at-read-file .before .before .before .before .before .before .before in
@@ -66,10 +63,8 @@ returns-3 c =
 returns-4 : tie.Need-returns-4
 returns-4 c =
     let at-clear-all2 = c .before .before .before .before in
-    let at-n2 = at-clear-all2 .before .before .before .before in
-    let at-found-by = at-n2 .before .before in
-    let at-if1 = at-found-by .before .before .before in
-    let at-s = at-if1 .before .before .before in
+    let at-n2 = at-clear-all2 .before .before .before .before in let at-found-by = at-n2 .before .before in
+    let at-if1 = at-found-by .before .before .before in let at-s = at-if1 .before .before .before in
     let at-read-file = at-s .before .before .before .before .before .before in
     let entry = at-read-file .before .before .before .before .before .before .before in
     let w = says-no-item (entry .args .climbs) (entry .args .file .now) (wantedOf (entry .args .field) (entry .args .name .now))

@@ -24,20 +24,17 @@ node-at-requires c κs = omega (arith, c .before .before .before .before .before
 
 sub-look : tie.Need-sub-look
 sub-look c =
-    let at-rows-end = c .before .before in
-    let entry = at-rows-end .before .before .before .before .before in
+    let at-rows-end = c .before .before in let entry = at-rows-end .before .before .before .before .before in
     own-rows (entry .pre .0) (entry .pre .1) (at-rows-end .rows-end .ensures) (c .node-at .ensures)
 
 look-requires : tie.Need-look-requires
 look-requires c κs =
-    let at-rows-end = c .before .before in
-    let entry = at-rows-end .before .before .before .before .before in
+    let at-rows-end = c .before .before in let entry = at-rows-end .before .before .before .before .before in
     (entry .pre .0 .item-rows, own-end (entry .pre .0) (entry .pre .1) (at-rows-end .rows-end .ensures) (c .node-at .ensures))
 
 returns-2 : tie.Need-returns-2
 returns-2 c =
-    let at-if1 = c .before .before in
-    let at-rows-end = at-if1 .before in
+    let at-if1 = c .before .before in let at-rows-end = at-if1 .before in
     let entry = at-rows-end .before .before .before .before .before in
     by-look (entry .args .file .now) (wantedOf (entry .args .field) (entry .args .name .now))
     (nodesIn (entry .args .n) (entry .args .nodes .now)) (itemsIn (entry .args .m) (entry .args .items .now)) (entry .args .k)

@@ -17,8 +17,7 @@ returns-3 c = named-size _ _ _ (c .if3 .taken) (c .before .before .if2 .left) (c
 
 same-bytes-requires : tie.Need-same-bytes-requires
 same-bytes-requires c κs =
-    let at-if2 = c .before .before in
-    let entry = at-if2 .before .before .before .before .before in
+    let at-if2 = c .before .before in let entry = at-if2 .before .before .before .before .before in
     omega (arith, name-in (entry .args .row) (entry .pre) (at-if2 .if2 .left), c .if3 .left)
 
 returns-4 : tie.Need-returns-4

@@ -26,16 +26,12 @@ is-wanted-requires c κs =
 
 returns : tie.Need-returns Inv-loop μ-loop
 returns c =
-    let at-item-at = c .before .before in
-    let at-loop-test = at-item-at .before in
-    let at-loop = at-loop-test .before in
+    let at-item-at = c .before .before in let at-loop-test = at-item-at .before in let at-loop = at-loop-test .before in
     row-found _ _ _ _ _ _ _ (at-loop .loop .inv) (at-loop-test .loop-test .taken) (omega arith) (at-item-at .item-at .ensures) (c .before .is-wanted .ensures) (c .if1 .taken)
 
 loop-again : tie.Need-loop-again Inv-loop μ-loop
 loop-again c =
-    let at-item-at = c .before .before in
-    let at-loop-test = at-item-at .before in
-    let at-loop = at-loop-test .before in
+    let at-item-at = c .before .before in let at-loop-test = at-item-at .before in let at-loop = at-loop-test .before in
     row-other _ _ _ _ _ _ _ (at-loop .loop .inv) (at-loop-test .loop-test .taken) (omega arith) (at-item-at .item-at .ensures) (c .before .is-wanted .ensures) (c .if1 .left)
 
 returns-2 : tie.Need-returns-2 Inv-loop μ-loop

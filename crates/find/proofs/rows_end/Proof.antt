@@ -26,8 +26,7 @@ node-at-requires c κs = omega (arith, c .before .before .before .pre .0, c .bef
 
 sub-end : tie.Need-sub-end Inv-loop μ-loop
 sub-end c =
-    let at-loop = c .before .before in
-    let entry = at-loop .before .before in
+    let at-loop = c .before .before in let entry = at-loop .before .before in
     back-rows (entry .args .nodes .now) (entry .args .n) (at-loop .loop .i) (omega arith) (at-loop .loop .inv .1) (c .node-at .ensures) (at-loop .loop .inv .2)
 
 loop-again : tie.Need-loop-again Inv-loop μ-loop
@@ -42,8 +41,7 @@ loop-again c =
 
 returns : tie.Need-returns Inv-loop μ-loop
 returns c =
-    let at-loop = c .before in
-    let entry = at-loop .before .before in
+    let at-loop = c .before in let entry = at-loop .before .before in
     at-loop .loop .inv .2 ∙ ap (firstRow (nodesIn (entry .args .n) (entry .args .nodes .now))) (omega (arith, at-loop .loop .inv))
 
 pub rows-end-spec : {M : Type 1} → statement M

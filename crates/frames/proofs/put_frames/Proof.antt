@@ -18,8 +18,7 @@ abbrev μ-loop : tie.MeasureT-loop
 
 loop-holds : tie.Need-loop-holds Inv-loop μ-loop
 loop-holds c =
-    let frame-count = c .before .before .before .frame-count in
-    let count = c .before .count in
+    let frame-count = c .before .before .before .frame-count in let count = c .before .count in
     (omega arith, framing-start _ (frame-count .ensures) (count .given .1) _)
 
 same-length : tie.Need-same-length Inv-loop μ-loop
@@ -30,8 +29,7 @@ same-length c =
 returns : tie.Need-returns Inv-loop μ-loop
 returns c =
     let loop = c .before .before .before .before .before .loop in
-    let loop-test = c .before .before .before .before .loop-test in
-    let frame = c .before .before .before .frame in
+    let loop-test = c .before .before .before .before .loop-test in let frame = c .before .before .before .frame in
     let n2 = c .before .n2 in
     absurd (framing-no _ (loop .inv .1) (loop-test .taken) _ (frame .ensures) (n2 .given .1))
 
@@ -40,14 +38,12 @@ loop-again c =
     let loop = c .before .before .before .before .before .before .before .before .before .loop in
     let loop-test = c .before .before .before .before .before .before .before .before .loop-test in
     let frame = c .before .before .before .before .before .before .before .frame in
-    let x = c .before .before .before .before .before .x in
-    let put-frame = c .before .before .put-frame in
+    let x = c .before .before .before .before .before .x in let put-frame = c .before .before .put-frame in
     (omega arith, framing-on _ (loop .inv .1) (loop-test .taken) _ (frame .ensures) (x .given .1) (put-frame .ensures))
 
 returns-2 : tie.Need-returns-2 Inv-loop μ-loop
 returns-2 c =
-    let frame-count = c .before .before .before .frame-count in
-    let n = c .before .n in
+    let frame-count = c .before .before .before .frame-count in let n = c .before .n in
     (framing-refused _ (frame-count .ensures) (n .given .1), refl)
 
 same-length-2 : tie.Need-same-length-2 Inv-loop μ-loop
@@ -57,8 +53,7 @@ same-length-2 c =
 
 returns-3 : tie.Need-returns-3 Inv-loop μ-loop
 returns-3 c =
-    let loop = c .before .loop in
-    let loop-test = c .loop-test in
+    let loop = c .before .loop in let loop-test = c .loop-test in
     framing-end _ (loop .inv .1) (loop-test .left) (loop .inv .0)
 
 pub put-frames-spec : {M : Type 1} → statement M

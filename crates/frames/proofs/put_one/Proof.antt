@@ -8,15 +8,13 @@ use Rattle.frames.proofs.put_one.Tie as tie
 
 returns : tie.Need-returns
 returns c =
-    let frame = c .before .before .before .frame in
-    let n = c .before .n in
+    let frame = c .before .before .before .frame in let n = c .before .n in
     (one-bad _ _ (frame .ensures) (n .given .1), refl)
 
 returns-2 : tie.Need-returns-2
 returns-2 c =
     let frame = c .before .before .before .before .before .before .before .frame in
-    let x = c .before .before .before .before .before .x in
-    let put-frame = c .before .before .put-frame in
+    let x = c .before .before .before .before .before .x in let put-frame = c .before .before .put-frame in
     (_, one-good _ _ (frame .ensures) (x .given .1), put-frame .ensures)
 
 pub put-one-spec : {M : Type 1} → statement M

@@ -12,15 +12,13 @@ enum-told c = search needs
 returns : tie.Need-returns
 returns c =
     let args-c = c .before .before .before .before .before .before .before .before .args in
-    let enum-told = c .before .before .before .before .enum-told in
-    let put-frames = c .before .before .put-frames in
+    let enum-told = c .before .before .before .before .enum-told in let put-frames = c .before .before .put-frames in
     puts-as (args-c .out .now) (put-frames .last .0) 0 (put-frames .result) (tag-all (args-c .tag .now) (enum-told .given .1)) (put-frames .ensures)
 
 returns-2 : tie.Need-returns-2
 returns-2 c =
     let args-c = c .before .before .before .before .before .before .before .before .before .args in
-    let which = c .before .before .before .before .before .which in
-    let put-one = c .before .before .put-one in
+    let which = c .before .before .before .before .before .which in let put-one = c .before .before .put-one in
     puts-as (args-c .out .now) (put-one .last .0) 0 (put-one .result) (tag-one (args-c .tag .now) (which .given .1)) (put-one .ensures)
 
 pub put-tag-spec : {M : Type 1} → statement M

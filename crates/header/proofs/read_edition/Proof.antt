@@ -17,8 +17,7 @@ returns c = edition-none _ _ _ _ (c .if1 .taken)
 
 read-four-requires-2 : tie.Need-read-four-requires-2
 read-four-requires-2 c κs =
-    let at-read-four = c .before .before .before in
-    let entry = at-read-four .before .before .before in
+    let at-read-four = c .before .before .before in let entry = at-read-four .before .before .before in
     omega (
       arith,
       at-end any-free (entry .args .file .now) (four-on 3 (length (entry .args .file .now)) (entry .args .c .at .0))
@@ -30,19 +29,15 @@ returns-2 c = edition-type _ _ _ _ (c .before .before .before .before .if1 .left
 
 returns-3 : tie.Need-returns-3
 returns-3 c =
-    let at-read-four2 = c .before .before .before in
-    let at-kind = at-read-four2 .before .before in
-    let at-read-four = at-kind .before .before in
-    let at-if1 = at-read-four .before in
+    let at-read-four2 = c .before .before .before in let at-kind = at-read-four2 .before .before in
+    let at-read-four = at-kind .before .before in let at-if1 = at-read-four .before in
     edition-revision _ _ _ _ (at-if1 .if1 .left) (was numberTold (at-read-four .read-four .ensures) (at-kind .kind .given .1))
     (was numberTold (at-read-four2 .read-four2 .ensures) (c .before .n2 .given .1))
 
 returns-4 : tie.Need-returns-4
 returns-4 c =
-    let at-read-four2 = c .before .before .before in
-    let at-kind = at-read-four2 .before .before in
-    let at-read-four = at-kind .before .before in
-    let at-if1 = at-read-four .before in
+    let at-read-four2 = c .before .before .before in let at-kind = at-read-four2 .before .before in
+    let at-read-four = at-kind .before .before in let at-if1 = at-read-four .before in
     edition-all _ _ _ _ (at-if1 .if1 .left) (was numberTold (at-read-four .read-four .ensures) (at-kind .kind .given .1))
     (was numberTold (at-read-four2 .read-four2 .ensures) (c .before .revision .given .1))
 

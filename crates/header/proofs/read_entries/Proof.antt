@@ -25,8 +25,7 @@ same-length c = c .before .before .before .before .before .read-entry .kept .1 .
 
 returns : tie.Need-returns Inv-loop μ-loop
 returns c =
-    let at-read-entry = c .before .before .before .before .before in
-    let at-loop-test = at-read-entry .before .before in
+    let at-read-entry = c .before .before .before .before .before in let at-loop-test = at-read-entry .before .before in
     let at-loop = at-loop-test .before in
     (entries-no (at-loop .loop .inv .1) (at-loop-test .loop-test .taken) _ _ (at-read-entry .read-entry .ensures) (c .before .n .given .1), tt)
 
@@ -35,8 +34,7 @@ add-made c = omega (arith, c .before .before .before .before .before .before .be
 
 loop-again : tie.Need-loop-again Inv-loop μ-loop
 loop-again c =
-    let at-read-entry = c .before .before .before .before .before in
-    let at-loop-test = at-read-entry .before .before in
+    let at-read-entry = c .before .before .before .before .before in let at-loop-test = at-read-entry .before .before in
     let at-loop = at-loop-test .before in (
       at-read-entry .read-entry .kept .1 .1 .0 ∙ at-loop .loop .inv .0,
       entries-on (at-loop .loop .inv .1) (at-loop-test .loop-test .taken) _ _

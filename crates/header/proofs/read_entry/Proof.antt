@@ -14,18 +14,15 @@ use Rattle.header.proofs.read_entry.Tie as tie
 
 returns : tie.Need-returns
 returns c =
-    let at-of = c .before .before in
-    let at-number = at-of .before .before in
+    let at-of = c .before .before in let at-number = at-of .before .before in
     let entry = at-number .before .before .before .before in
     entry-full _ _ _ _ (was numberTold (at-number .number .ensures fileFrame) (at-of .of .given .1))
     (omega (arith, types-length (entry .args .count) (entry .args .types .now), c .if1 .taken))
 
 returns-2 : tie.Need-returns-2
 returns-2 c =
-    let at-format-of = c .before .before in
-    let at-if1 = at-format-of .before .before in
-    let at-of = at-if1 .before .before in
-    let at-number = at-of .before .before in
+    let at-format-of = c .before .before in let at-if1 = at-format-of .before .before in
+    let at-of = at-if1 .before .before in let at-number = at-of .before .before in
     let entry = at-number .before .before .before .before in
     entry-twice _ _ _ _ (was numberTold (at-number .number .ensures fileFrame) (at-of .of .given .1))
     (omega (arith, types-length (entry .args .count) (entry .args .types .now), at-if1 .if1 .left))
@@ -39,8 +36,7 @@ declare-requires c κs =
 
 on-requires : tie.Need-on-requires
 on-requires c κs =
-    let at-size = c .before .before .before .before .before in
-    let at-block = at-size .before .before in
+    let at-size = c .before .before .before .before .before in let at-block = at-size .before .before in
     let entry = at-block .before .before .before .before .before .before .before .before .before .before .before .before .before .before .before .before .before in
     omega (arith, entry .pre, block-inside fileFrame _ _ _ _ (was numberTold (at-block .block .ensures fileFrame) (at-size .size .given .1)))
 
@@ -49,12 +45,9 @@ returns-3 c = entry-type _ _ _ _ (was numberTold (c .before .before .before .num
 
 returns-4 : tie.Need-returns-4
 returns-4 c =
-    let at-number2 = c .before .before .before in
-    let at-enum-told2 = at-number2 .before in
-    let at-format-of = at-enum-told2 .before .before in
-    let at-if1 = at-format-of .before .before in
-    let at-of = at-if1 .before .before in
-    let at-number = at-of .before .before in
+    let at-number2 = c .before .before .before in let at-enum-told2 = at-number2 .before in
+    let at-format-of = at-enum-told2 .before .before in let at-if1 = at-format-of .before .before in
+    let at-of = at-if1 .before .before in let at-number = at-of .before .before in
     let entry = at-number .before .before .before .before in
     entry-format _ _ _ _ (was numberTold (at-number .number .ensures fileFrame) (at-of .of .given .1))
     (omega (arith, types-length (entry .args .count) (entry .args .types .now), at-if1 .if1 .left))
@@ -63,14 +56,10 @@ returns-4 c =
 
 returns-5 : tie.Need-returns-5
 returns-5 c =
-    let at-block = c .before .before .before in
-    let at-format = at-block .before .before in
-    let at-number2 = at-format .before .before in
-    let at-enum-told2 = at-number2 .before in
-    let at-format-of = at-enum-told2 .before .before in
-    let at-if1 = at-format-of .before .before in
-    let at-of = at-if1 .before .before in
-    let at-number = at-of .before .before in
+    let at-block = c .before .before .before in let at-format = at-block .before .before in
+    let at-number2 = at-format .before .before in let at-enum-told2 = at-number2 .before in
+    let at-format-of = at-enum-told2 .before .before in let at-if1 = at-format-of .before .before in
+    let at-of = at-if1 .before .before in let at-number = at-of .before .before in
     let entry = at-number .before .before .before .before in
     entry-language _ _ _ _ (was numberTold (at-number .number .ensures fileFrame) (at-of .of .given .1))
     (omega (arith, types-length (entry .args .count) (entry .args .types .now), at-if1 .if1 .left))
@@ -80,16 +69,11 @@ returns-5 c =
 
 returns-6 : tie.Need-returns-6
 returns-6 c =
-    let at-declare = c .before .before .before in
-    let at-size = at-declare .before .before .before in
-    let at-block = at-size .before .before in
-    let at-format = at-block .before .before in
-    let at-number2 = at-format .before .before in
-    let at-enum-told2 = at-number2 .before in
-    let at-format-of = at-enum-told2 .before .before in
-    let at-if1 = at-format-of .before .before in
-    let at-of = at-if1 .before .before in
-    let at-number = at-of .before .before in
+    let at-declare = c .before .before .before in let at-size = at-declare .before .before .before in
+    let at-block = at-size .before .before in let at-format = at-block .before .before in
+    let at-number2 = at-format .before .before in let at-enum-told2 = at-number2 .before in
+    let at-format-of = at-enum-told2 .before .before in let at-if1 = at-format-of .before .before in
+    let at-of = at-if1 .before .before in let at-number = at-of .before .before in
     let entry = at-number .before .before .before .before in
     entry-all _ _ _ _ (was numberTold (at-number .number .ensures fileFrame) (at-of .of .given .1))
     (omega (arith, types-length (entry .args .count) (entry .args .types .now), at-if1 .if1 .left))

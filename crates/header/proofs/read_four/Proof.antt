@@ -11,8 +11,7 @@ returns c = four-cut _ _ _ _ (omega arith)
 
 returns-2 : tie.Need-returns-2
 returns-2 c =
-    let at-wide3 = c .before .before .before in
-    let at-wide2 = at-wide3 .before .before in
+    let at-wide3 = c .before .before .before in let at-wide2 = at-wide3 .before .before in
     let at-wide = at-wide2 .before .before in
     four-all _ _ _ _ (omega arith) (at-wide .wide .ensures .0) (at-wide2 .wide2 .ensures .0) (at-wide3 .wide3 .ensures .0) (c .before .wide4 .ensures .0) (c .on .ensures)
 

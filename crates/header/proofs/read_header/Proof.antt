@@ -15,8 +15,7 @@ use Rattle.header.proofs.read_header.Tie as tie
 
 read-edition-requires : tie.Need-read-edition-requires
 read-edition-requires c κs =
-    let at-read-opening = c .before .before .before in
-    let entry = at-read-opening .before .before .before in
+    let at-read-opening = c .before .before .before in let entry = at-read-opening .before .before .before in
     omega (
       arith,
       at-end any-free (entry .args .file .now) (opening-on (length (entry .args .file .now)))
@@ -26,8 +25,7 @@ read-edition-requires c κs =
 read-types-requires : tie.Need-read-types-requires
 read-types-requires c κs =
     let at-version = c .before .before .before .before .before .before .before .before .before .before in
-    let at-read-opening = at-version .before .before in
-    let entry = at-read-opening .before .before .before in
+    let at-read-opening = at-version .before .before in let entry = at-read-opening .before .before .before in
     omega (
       arith,
       entry .pre,
@@ -40,8 +38,7 @@ returns c = (header-opening _ _ (was numberTold (c .before .before .before .read
 
 returns-2 : tie.Need-returns-2
 returns-2 c =
-    let at-read-edition = c .before .before .before in
-    let at-version = at-read-edition .before .before in
+    let at-read-edition = c .before .before .before in let at-version = at-read-edition .before .before in
     let at-read-opening = at-version .before .before in (
       header-edition _ _ (was numberTold (at-read-opening .read-opening .ensures) (at-version .version .given .1))
           (was editionTold (at-read-edition .read-edition .ensures) (c .before .n2 .given .1)),
@@ -50,10 +47,8 @@ returns-2 c =
 
 returns-3 : tie.Need-returns-3
 returns-3 c =
-    let at-read-length = c .before .before .before in
-    let at-edition = at-read-length .before .before in
-    let at-read-edition = at-edition .before .before in
-    let at-version = at-read-edition .before .before in
+    let at-read-length = c .before .before .before in let at-edition = at-read-length .before .before in
+    let at-read-edition = at-edition .before .before in let at-version = at-read-edition .before .before in
     let at-read-opening = at-version .before .before in (
       header-length _ _ (was numberTold (at-read-opening .read-opening .ensures) (at-version .version .given .1))
           (was editionTold (at-read-edition .read-edition .ensures) (at-edition .edition .given .1))
@@ -63,12 +58,9 @@ returns-3 c =
 
 returns-4 : tie.Need-returns-4
 returns-4 c =
-    let at-read-types = c .before .before .before .before .before in
-    let at-e = at-read-types .before .before .before in
-    let at-read-length = at-e .before .before in
-    let at-edition = at-read-length .before .before in
-    let at-read-edition = at-edition .before .before in
-    let at-version = at-read-edition .before .before in
+    let at-read-types = c .before .before .before .before .before in let at-e = at-read-types .before .before .before in
+    let at-read-length = at-e .before .before in let at-edition = at-read-length .before .before in
+    let at-read-edition = at-edition .before .before in let at-version = at-read-edition .before .before in
     let at-read-opening = at-version .before .before in (
       header-types _ _ (was numberTold (at-read-opening .read-opening .ensures) (at-version .version .given .1))
           (was editionTold (at-read-edition .read-edition .ensures) (at-edition .edition .given .1))
@@ -79,14 +71,10 @@ returns-4 c =
 
 returns-5 : tie.Need-returns-5
 returns-5 c =
-    let at-read-extent = c .before .before .before in
-    let at-count = at-read-extent .before .before in
-    let at-read-types = at-count .before .before .before .before in
-    let at-e = at-read-types .before .before .before in
-    let at-read-length = at-e .before .before in
-    let at-edition = at-read-length .before .before in
-    let at-read-edition = at-edition .before .before in
-    let at-version = at-read-edition .before .before in
+    let at-read-extent = c .before .before .before in let at-count = at-read-extent .before .before in
+    let at-read-types = at-count .before .before .before .before in let at-e = at-read-types .before .before .before in
+    let at-read-length = at-e .before .before in let at-edition = at-read-length .before .before in
+    let at-read-edition = at-edition .before .before in let at-version = at-read-edition .before .before in
     let at-read-opening = at-version .before .before in (
       header-extent _ _ (was numberTold (at-read-opening .read-opening .ensures) (at-version .version .given .1))
           (was editionTold (at-read-edition .read-edition .ensures) (at-edition .edition .given .1))
@@ -98,14 +86,10 @@ returns-5 c =
 
 returns-6 : tie.Need-returns-6
 returns-6 c =
-    let at-read-extent = c .before .before .before in
-    let at-count = at-read-extent .before .before in
-    let at-read-types = at-count .before .before .before .before in
-    let at-e = at-read-types .before .before .before in
-    let at-read-length = at-e .before .before in
-    let at-edition = at-read-length .before .before in
-    let at-read-edition = at-edition .before .before in
-    let at-version = at-read-edition .before .before in
+    let at-read-extent = c .before .before .before in let at-count = at-read-extent .before .before in
+    let at-read-types = at-count .before .before .before .before in let at-e = at-read-types .before .before .before in
+    let at-read-length = at-e .before .before in let at-edition = at-read-length .before .before in
+    let at-read-edition = at-edition .before .before in let at-version = at-read-edition .before .before in
     let at-read-opening = at-version .before .before in (
       header-all _ _ (was numberTold (at-read-opening .read-opening .ensures) (at-version .version .given .1))
           (was editionTold (at-read-edition .read-edition .ensures) (at-edition .edition .given .1))

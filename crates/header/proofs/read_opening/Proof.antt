@@ -20,15 +20,13 @@ returns-2 c = opening-short _ _ (omega arith) (c .if2 .taken)
 
 returns-3 : tie.Need-returns-3
 returns-3 c =
-    let at-magic = c .before .before in
-    let at-read-four = at-magic .before .before in
+    let at-magic = c .before .before in let at-read-four = at-magic .before .before in
     let at-if2 = at-read-four .before in
     opening-other _ _ (omega arith) (at-if2 .if2 .left) (was numberTold (at-read-four .read-four .ensures) (at-magic .magic .given .1)) (c .if3 .taken)
 
 read-four-requires-2 : tie.Need-read-four-requires-2
 read-four-requires-2 c κs =
-    let at-magic = c .before .before in
-    let at-read-four = at-magic .before .before in
+    let at-magic = c .before .before in let at-read-four = at-magic .before .before in
     let entry = at-read-four .before .before .before .before in
     omega (
       arith,
@@ -38,35 +36,26 @@ read-four-requires-2 c κs =
 
 returns-4 : tie.Need-returns-4
 returns-4 c =
-    let at-version = c .before .before in
-    let at-read-four2 = at-version .before .before in
-    let at-if3 = at-read-four2 .before in
-    let at-magic = at-if3 .before .before in
-    let at-read-four = at-magic .before .before in
-    let at-if2 = at-read-four .before in
+    let at-version = c .before .before in let at-read-four2 = at-version .before .before in
+    let at-if3 = at-read-four2 .before in let at-magic = at-if3 .before .before in
+    let at-read-four = at-magic .before .before in let at-if2 = at-read-four .before in
     opening-100 _ _ (omega arith) (at-if2 .if2 .left) (was numberTold (at-read-four .read-four .ensures) (at-magic .magic .given .1))
     (at-if3 .if3 .left) (was numberTold (at-read-four2 .read-four2 .ensures) (at-version .version .given .1)) (c .if4 .taken)
 
 returns-5 : tie.Need-returns-5
 returns-5 c =
-    let at-version = c .before .before .before in
-    let at-read-four2 = at-version .before .before in
-    let at-if3 = at-read-four2 .before in
-    let at-magic = at-if3 .before .before in
-    let at-read-four = at-magic .before .before in
-    let at-if2 = at-read-four .before in
+    let at-version = c .before .before .before in let at-read-four2 = at-version .before .before in
+    let at-if3 = at-read-four2 .before in let at-magic = at-if3 .before .before in
+    let at-read-four = at-magic .before .before in let at-if2 = at-read-four .before in
     opening-101 _ _ (omega arith) (at-if2 .if2 .left) (was numberTold (at-read-four .read-four .ensures) (at-magic .magic .given .1))
     (at-if3 .if3 .left) (was numberTold (at-read-four2 .read-four2 .ensures) (at-version .version .given .1)) (c .before .if4 .left)
     (c .if5 .taken)
 
 returns-6 : tie.Need-returns-6
 returns-6 c =
-    let at-if4 = c .before .before in
-    let at-version = at-if4 .before .before in
-    let at-read-four2 = at-version .before .before in
-    let at-if3 = at-read-four2 .before in
-    let at-magic = at-if3 .before .before in
-    let at-read-four = at-magic .before .before in
+    let at-if4 = c .before .before in let at-version = at-if4 .before .before in
+    let at-read-four2 = at-version .before .before in let at-if3 = at-read-four2 .before in
+    let at-magic = at-if3 .before .before in let at-read-four = at-magic .before .before in
     let at-if2 = at-read-four .before in
     opening-200 _ _ (omega arith) (at-if2 .if2 .left) (was numberTold (at-read-four .read-four .ensures) (at-magic .magic .given .1))
     (at-if3 .if3 .left) (was numberTold (at-read-four2 .read-four2 .ensures) (at-version .version .given .1)) (at-if4 .if4 .left)
@@ -77,22 +66,17 @@ returns-7 c = opening-cut _ _ (omega arith) (c .before .before .before .before .
 
 returns-8 : tie.Need-returns-8
 returns-8 c =
-    let at-read-four2 = c .before .before .before in
-    let at-if3 = at-read-four2 .before in
-    let at-magic = at-if3 .before .before in
-    let at-read-four = at-magic .before .before in
+    let at-read-four2 = c .before .before .before in let at-if3 = at-read-four2 .before in
+    let at-magic = at-if3 .before .before in let at-read-four = at-magic .before .before in
     let at-if2 = at-read-four .before in
     opening-version _ _ (omega arith) (at-if2 .if2 .left) (was numberTold (at-read-four .read-four .ensures) (at-magic .magic .given .1))
     (at-if3 .if3 .left) (was numberTold (at-read-four2 .read-four2 .ensures) (c .before .n2 .given .1))
 
 returns-9 : tie.Need-returns-9
 returns-9 c =
-    let at-if4 = c .before .before in
-    let at-version = at-if4 .before .before in
-    let at-read-four2 = at-version .before .before in
-    let at-if3 = at-read-four2 .before in
-    let at-magic = at-if3 .before .before in
-    let at-read-four = at-magic .before .before in
+    let at-if4 = c .before .before in let at-version = at-if4 .before .before in
+    let at-read-four2 = at-version .before .before in let at-if3 = at-read-four2 .before in
+    let at-magic = at-if3 .before .before in let at-read-four = at-magic .before .before in
     let at-if2 = at-read-four .before in
     opening-none _ _ (omega arith) (at-if2 .if2 .left) (was numberTold (at-read-four .read-four .ensures) (at-magic .magic .given .1))
     (at-if3 .if3 .left) (was numberTold (at-read-four2 .read-four2 .ensures) (at-version .version .given .1)) (at-if4 .if4 .left)

@@ -15,14 +15,12 @@ on-requires c κs = omega (arith, block-inside fileFrame _ _ _ _ (was numberTold
 
 number-requires : tie.Need-number-requires
 number-requires c κs =
-    let at-size = c .before .before .before in
-    let at-block = at-size .before .before in
+    let at-size = c .before .before .before in let at-block = at-size .before .before in
     omega (arith, c .before .on .ensures, block-inside fileFrame _ _ _ _ (was numberTold (at-block .block .ensures fileFrame) (at-size .size .given .1)))
 
 read-entries-requires : tie.Need-read-entries-requires
 read-entries-requires c κs =
-    let at-on = c .before .before .before .before .before .before in
-    let at-size = at-on .before .before in
+    let at-on = c .before .before .before .before .before .before in let at-size = at-on .before .before in
     let at-block = at-size .before .before in
     omega (arith, at-on .on .ensures, block-inside fileFrame _ _ _ _ (was numberTold (at-block .block .ensures fileFrame) (at-size .size .given .1)))
 
@@ -30,10 +28,8 @@ returns : tie.Need-returns
 returns c =
     let at-made = c .before .before .before .before .before in
     let at-read-entries = at-made .before .before .before .before in
-    let at-count = at-read-entries .before .before .before in
-    let at-number = at-count .before .before in
-    let at-on = at-number .before .before in
-    let at-size = at-on .before .before in
+    let at-count = at-read-entries .before .before .before in let at-number = at-count .before .before in
+    let at-on = at-number .before .before in let at-size = at-on .before .before in
     let at-block = at-size .before .before in (
       types-left _ _ _ (was numberTold (at-block .block .ensures fileFrame) (at-size .size .given .1)) (at-on .on .ensures)
           (was numberTold (at-number .number .ensures fileFrame) (at-count .count .given .1))
@@ -46,8 +42,7 @@ returns-2 c = (types-block _ _ _ (was numberTold (c .before .before .before .blo
 
 returns-3 : tie.Need-returns-3
 returns-3 c =
-    let at-number = c .before .before .before in
-    let at-on = at-number .before .before in
+    let at-number = c .before .before .before in let at-on = at-number .before .before in
     let at-size = at-on .before .before in
     let at-block = at-size .before .before in (
       types-count _ _ _ (was numberTold (at-block .block .ensures fileFrame) (at-size .size .given .1)) (at-on .on .ensures)
@@ -58,10 +53,8 @@ returns-3 c =
 returns-4 : tie.Need-returns-4
 returns-4 c =
     let at-read-entries = c .before .before .before .before .before in
-    let at-count = at-read-entries .before .before .before in
-    let at-number = at-count .before .before in
-    let at-on = at-number .before .before in
-    let at-size = at-on .before .before in
+    let at-count = at-read-entries .before .before .before in let at-number = at-count .before .before in
+    let at-on = at-number .before .before in let at-size = at-on .before .before in
     let at-block = at-size .before .before in (
       types-entries _ _ _ (was numberTold (at-block .block .ensures fileFrame) (at-size .size .given .1)) (at-on .on .ensures)
           (was numberTold (at-number .number .ensures fileFrame) (at-count .count .given .1))
@@ -73,10 +66,8 @@ returns-5 : tie.Need-returns-5
 returns-5 c =
     let at-made = c .before .before .before .before .before in
     let at-read-entries = at-made .before .before .before .before in
-    let at-count = at-read-entries .before .before .before in
-    let at-number = at-count .before .before in
-    let at-on = at-number .before .before in
-    let at-size = at-on .before .before in
+    let at-count = at-read-entries .before .before .before in let at-number = at-count .before .before in
+    let at-on = at-number .before .before in let at-size = at-on .before .before in
     let at-block = at-size .before .before in (
       types-all _ _ _ (was numberTold (at-block .block .ensures fileFrame) (at-size .size .given .1)) (at-on .on .ensures)
           (was numberTold (at-number .number .ensures fileFrame) (at-count .count .given .1))

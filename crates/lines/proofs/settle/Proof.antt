@@ -7,8 +7,7 @@ use Rattle.lines.proofs.settle.Tie as tie
 
 returns : tie.Need-returns
 returns c =
-    let written = c .before .before .before .before .before .written in
-    let refuse = c .before .before .refuse in
+    let written = c .before .before .before .before .before .written in let refuse = c .before .before .refuse in
     λ room x z e t. gives-as (settle-bad room _ x e (written .given .1)) (refuse-room _ _ _ z (refuse .ensures))
 
 returns-2 : tie.Need-returns-2

@@ -21,8 +21,7 @@ refuse-unchanged-requires c κs =
 last-of-requires : tie.Need-last-of-requires
 last-of-requires c κs =
     let lent = c .before .before .before .before .before .before .before .before .before .before .before .args in
-    let readFields = c .before .before .before .before .read-fields .ensures in
-    let isW = c .before .w .given .1 in
+    let readFields = c .before .before .before .before .read-fields .ensures in let isW = c .before .w .given .1 in
     fields-in (lent .file .now) (fields-are _ _ (readFields .0) isW) .start-small
 
 is-sound-requires : tie.Need-is-sound-requires
@@ -47,16 +46,11 @@ returns c = let e = c .before .before .before .before .before .before .before .b
 
 read-behind-requires : tie.Need-read-behind-requires
 read-behind-requires c κs =
-    let at-if1 = c .before .before .before .before .before .before in
-    let at-is-sound = at-if1 .before in
-    let at-w = at-is-sound .before .before .before in
-    let at-read-fields = at-w .before .before .before in
+    let at-if1 = c .before .before .before .before .before .before in let at-is-sound = at-if1 .before in
+    let at-w = at-is-sound .before .before .before in let at-read-fields = at-w .before .before .before in
     let entry = at-read-fields .before .before .before .before .before .before .before in
-    let isSound = at-is-sound .is-sound .ensures in
-    let if1Left = at-if1 .if1 .left in
-    let readFields = at-read-fields .read-fields .ensures in
-    let isW = at-w .w .given .1 in
-    let lent = entry .args in
+    let isSound = at-is-sound .is-sound .ensures in let if1Left = at-if1 .if1 .left in
+    let readFields = at-read-fields .read-fields .ensures in let isW = at-w .w .given .1 in let lent = entry .args in
     let x = sound-facts _ _ _ (sym (isSound []) ∙ not-false _ if1Left) in
     let y = few (readFields .1) isW in
     (x .ordered, x .inside, fields-in (lent .file .now) (fields-are _ _ (readFields .0) isW) .small, omega arith)
@@ -66,20 +60,13 @@ refuse-unchanged-requires-3 c κs =
     let at-m = c .before .before .before .before .before in
     let at-read-behind = at-m .before .before .before .before .before .before in
     let at-if1 = at-read-behind .before .before .before .before .before .before .before in
-    let at-is-sound = at-if1 .before in
-    let at-last-of = at-is-sound .before in
-    let at-w = at-last-of .before .before in
+    let at-is-sound = at-if1 .before in let at-last-of = at-is-sound .before in let at-w = at-last-of .before .before in
     let at-read-fields = at-w .before .before .before in
-    let entry = at-read-fields .before .before .before .before .before .before .before in
-    let lent = entry .args in
-    let readBehindKept = at-read-behind .read-behind .kept in
-    let readFields = at-read-fields .read-fields .ensures in
-    let isW = at-w .w .given .1 in
-    let lastOf = at-last-of .last-of .ensures in
-    let isSound = at-is-sound .is-sound .ensures in
-    let if1Left = at-if1 .if1 .left in
-    let readBehind = at-read-behind .read-behind .ensures in
-    let isM = at-m .m .given .1 in
+    let entry = at-read-fields .before .before .before .before .before .before .before in let lent = entry .args in
+    let readBehindKept = at-read-behind .read-behind .kept in let readFields = at-read-fields .read-fields .ensures in
+    let isW = at-w .w .given .1 in let lastOf = at-last-of .last-of .ensures in
+    let isSound = at-is-sound .is-sound .ensures in let if1Left = at-if1 .if1 .left in
+    let readBehind = at-read-behind .read-behind .ensures in let isM = at-m .m .given .1 in
     lens (lent .file .now) (readBehindKept .1 .1 .0) (readBehindKept .1 .1 .1 .0)
     (lost-behind (limits (length (lent .nodes .now)) (length (lent .items .now))) (lent .file .now) (fields-are _ _ (readFields .0) isW)
     (last-is (lent .file .now) _ lastOf) (sym (isSound _) ∙ not-false _ if1Left) (readBehind .0) isM)
@@ -89,10 +76,8 @@ write-mended-requires c κs =
     let at-w = c .before .before .before .before .before .before .before .before .before .before .before .before .before .before
     .before .before .before .before .before .before .before .before in
     let at-read-fields = at-w .before .before .before in
-    let entry = at-read-fields .before .before .before .before .before .before .before in
-    let lent = entry .args in
-    let readFields = at-read-fields .read-fields .ensures in
-    let isW = at-w .w .given .1 in
+    let entry = at-read-fields .before .before .before .before .before .before .before in let lent = entry .args in
+    let readFields = at-read-fields .read-fields .ensures in let isW = at-w .w .given .1 in
     λ ws. any-types _ _ ws (fields-in (lent .file .now) (fields-are _ _ (readFields .0) isW))
 
 returns-2 : tie.Need-returns-2
@@ -104,8 +89,7 @@ returns-3 c =
     let at-read-behind = at-refuse-unchanged3 .before .before .before .before .before .before .before .before .before .before .before .before in
     let entry = at-read-behind .before .before .before .before .before .before .before .before .before .before .before .before .before .before
     .before .before .before .before .before .before .before in
-    let lent = entry .args in
-    let readBehindKept = at-read-behind .read-behind .kept in
+    let lent = entry .args in let readBehindKept = at-read-behind .read-behind .kept in
     let refuseUnchanged3 = at-refuse-unchanged3 .refuse-unchanged3 .ensures in
     let e = ends-lens (lent .file .now) (readBehindKept .1 .1 .0) (readBehindKept .1 .1 .1 .0) refuseUnchanged3 in
     (e .answer, (e .nodes, (e .items, (e .copy, e .lines))))
@@ -116,20 +100,13 @@ returns-4 c =
     let at-s = at-write-mended .before .before .before .before .before .before in
     let at-read-behind = at-s .before .before .before .before .before .before in
     let at-if1 = at-read-behind .before .before .before .before .before .before .before in
-    let at-is-sound = at-if1 .before in
-    let at-last-of = at-is-sound .before in
-    let at-w = at-last-of .before .before in
+    let at-is-sound = at-if1 .before in let at-last-of = at-is-sound .before in let at-w = at-last-of .before .before in
     let at-read-fields = at-w .before .before .before in
-    let entry = at-read-fields .before .before .before .before .before .before .before in
-    let lent = entry .args in
-    let readFields = at-read-fields .read-fields .ensures in
-    let isW = at-w .w .given .1 in
-    let lastOf = at-last-of .last-of .ensures in
-    let isSound = at-is-sound .is-sound .ensures in
-    let if1Left = at-if1 .if1 .left in
-    let readBehind = at-read-behind .read-behind .ensures in
-    let isS = at-s .s .given .1 in
-    let readBehindKept = at-read-behind .read-behind .kept in
+    let entry = at-read-fields .before .before .before .before .before .before .before in let lent = entry .args in
+    let readFields = at-read-fields .read-fields .ensures in let isW = at-w .w .given .1 in
+    let lastOf = at-last-of .last-of .ensures in let isSound = at-is-sound .is-sound .ensures in
+    let if1Left = at-if1 .if1 .left in let readBehind = at-read-behind .read-behind .ensures in
+    let isS = at-s .s .given .1 in let readBehindKept = at-read-behind .read-behind .kept in
     let writeMended = at-write-mended .write-mended .ensures in
     let e = ends-set (lent .file .now) (length (lent .nodes .now)) (length (lent .items .now)) (length (lent .copy .now))
     (length (lent .lines .now)) (fields-are _ _ (readFields .0) isW) (last-is (lent .file .now) _ lastOf)

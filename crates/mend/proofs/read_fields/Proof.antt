@@ -37,8 +37,7 @@ returns-2 : tie.Need-returns-2
 returns-2 c =
     let readOpening = c .before .before .before .before .before .before .before .read-opening .ensures in
     let isVersion = c .before .before .before .before .before .version .given .1 in
-    let readEdition = c .before .before .before .read-edition .ensures in
-    let isN2 = c .before .n2 .given .1 in
+    let readEdition = c .before .before .before .read-edition .ensures in let isN2 = c .before .n2 .given .1 in
     (fields-edition _ _ (was numberTold readOpening isVersion) (was editionTold readEdition isN2), tt)
 
 returns-3 : tie.Need-returns-3
@@ -47,8 +46,7 @@ returns-3 c =
     let isVersion = c .before .before .before .before .before .before .before .before .before .version .given .1 in
     let readEdition = c .before .before .before .before .before .before .before .read-edition .ensures in
     let isEdition = c .before .before .before .before .before .edition .given .1 in
-    let readField = c .before .before .before .read-field .ensures in
-    let isN3 = c .before .n3 .given .1 in
+    let readField = c .before .before .before .read-field .ensures in let isN3 = c .before .n3 .given .1 in
     (fields-length _ _ (was numberTold readOpening isVersion) (was editionTold readEdition isEdition) (was fieldTold readField isN3), tt)
 
 returns-4 : tie.Need-returns-4

@@ -13,15 +13,12 @@ use Rattle.metadata.proofs.read_field.Tie as tie
 
 on-requires : tie.Need-on-requires
 on-requires c κs =
-    let at-size = c .before .before .before in
-    let at-block = at-size .before .before in
+    let at-size = c .before .before .before in let at-block = at-size .before .before in
     omega (arith, block-inside metaFrame _ _ _ _ (was numberTold (at-block .block .ensures metaFrame) (at-size .size .given .1)))
 
 returns : tie.Need-returns
 returns c =
-    let at-if1 = c .before .before in
-    let at-size = at-if1 .before .before in
-    let at-block = at-size .before .before in
+    let at-if1 = c .before .before in let at-size = at-if1 .before .before in let at-block = at-size .before .before in
     field-name _ _ _ (was numberTold (at-block .block .ensures metaFrame) (at-size .size .given .1)) (at-if1 .if1 .taken) refl (c .on .ensures)
 
 returns-2 : tie.Need-returns-2
@@ -29,19 +26,15 @@ returns-2 c = field-cut _ _ _ (was numberTold (c .before .before .before .block 
 
 returns-3 : tie.Need-returns-3
 returns-3 c =
-    let at-number = c .before .before .before in
-    let at-if1 = at-number .before in
-    let at-size = at-if1 .before .before in
-    let at-block = at-size .before .before in
+    let at-number = c .before .before .before in let at-if1 = at-number .before in
+    let at-size = at-if1 .before .before in let at-block = at-size .before .before in
     field-number _ _ _ (was numberTold (at-block .block .ensures metaFrame) (at-size .size .given .1)) (at-if1 .if1 .left)
     (was numberTold (at-number .number .ensures metaFrame) (c .before .n2 .given .1))
 
 returns-4 : tie.Need-returns-4
 returns-4 c =
-    let at-number = c .before .before .before in
-    let at-if1 = at-number .before in
-    let at-size = at-if1 .before .before in
-    let at-block = at-size .before .before in
+    let at-number = c .before .before .before in let at-if1 = at-number .before in
+    let at-size = at-if1 .before .before in let at-block = at-size .before .before in
     field-standard _ _ _ (was numberTold (at-block .block .ensures metaFrame) (at-size .size .given .1)) (at-if1 .if1 .left)
     (was numberTold (at-number .number .ensures metaFrame) (c .before .k .given .1))
 

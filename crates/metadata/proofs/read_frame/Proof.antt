@@ -12,16 +12,14 @@ returns c = frame-field _ _ _ (was fieldTold (c .before .before .before .read-fi
 
 returns-2 : tie.Need-returns-2
 returns-2 c =
-    let at-read-contents = c .before .before .before in
-    let at-field = at-read-contents .before .before in
+    let at-read-contents = c .before .before .before in let at-field = at-read-contents .before .before in
     let at-read-field = at-field .before .before in
     frame-contents _ _ _ (was fieldTold (at-read-field .read-field .ensures) (at-field .field .given .1))
     (was contentsTold (at-read-contents .read-contents .ensures) (c .before .n2 .given .1))
 
 returns-3 : tie.Need-returns-3
 returns-3 c =
-    let at-read-contents = c .before .before .before in
-    let at-field = at-read-contents .before .before in
+    let at-read-contents = c .before .before .before in let at-field = at-read-contents .before .before in
     let at-read-field = at-field .before .before in
     frame-all _ _ _ (was fieldTold (at-read-field .read-field .ensures) (at-field .field .given .1))
     (was contentsTold (at-read-contents .read-contents .ensures) (c .before .contents .given .1))

@@ -37,12 +37,9 @@ on-requires-2 c κs =
 
 returns : tie.Need-returns
 returns c =
-    let at-put-item = c .before .before .before in
-    let at-row-of = at-put-item .before in
-    let at-on = at-row-of .before .before in
-    let at-is = at-on .before .before in
-    let at-read-common = at-is .before .before in
-    let at-if1 = at-read-common .before in
+    let at-put-item = c .before .before .before in let at-row-of = at-put-item .before in
+    let at-on = at-row-of .before .before in let at-is = at-on .before .before in
+    let at-read-common = at-is .before .before in let at-if1 = at-read-common .before in
     let entry = at-if1 .before .before .before .before .before .before in
     λ t. yes (common-row _ _ _ _ _ _ _ _ (common-was _ _ _ (at-read-common .read-common .ensures) (at-is .is .given .1)) (at-if1 .if1 .taken)
     (at-on .on .ensures) (at-row-of .row-of .ensures) (at-put-item .put-item .ensures) (c .on2 .ensures))
@@ -53,8 +50,7 @@ returns-2 c = λ t. no (item-frame _ _ _ _ _ _ _ _ (was itemTold (c .before .bef
 
 returns-3 : tie.Need-returns-3
 returns-3 c =
-    let at-read-rows = c .before .before in
-    let at-is2 = at-read-rows .before .before .before in
+    let at-read-rows = c .before .before in let at-is2 = at-read-rows .before .before .before in
     let at-read-frame = at-is2 .before .before in
     λ t. along (item-rows _ _ _ _ _ _ _ _ (was itemTold (at-read-frame .read-frame .ensures) (at-is2 .is2 .given .1))) (at-read-rows .read-rows .ensures t)
 

@@ -23,8 +23,7 @@ loop-holds c = (refl, items-begun _ _ _ _ _ _ _ (omega arith) (omega arith))
 
 read-item-requires : tie.Need-read-item-requires Inv-loop μ-loop
 read-item-requires c κs =
-    let at-loop = c .before .before in
-    let entry = at-loop .before .before .before .before in
+    let at-loop = c .before .before in let entry = at-loop .before .before .before .before in
     omega (arith, entry .pre, at-loop .loop .inv .1 .long, at-loop .loop .inv .1 .nodes-fit, at-loop .loop .inv .1 .items-fit)
 
 same-length : tie.Need-same-length Inv-loop μ-loop
@@ -32,8 +31,7 @@ same-length c = c .before .before .before .before .before .read-item .kept .1 .1
 
 returns : tie.Need-returns Inv-loop μ-loop
 returns c =
-    let at-read-item = c .before .before .before .before .before in
-    let at-loop-test = at-read-item .before .before in
+    let at-read-item = c .before .before .before .before .before in let at-loop-test = at-read-item .before .before in
     let at-loop = at-loop-test .before in
     items-no _ _ _ _ _ _ _ (at-loop .loop .inv .1) (at-loop-test .loop-test .taken)
     (λ t. rw (at-loop .loop .inv .0) at (at-read-item .read-item .ensures t)) (ap (walked _) (c .before .n .given .1))
@@ -48,8 +46,7 @@ add-index c =
 
 loop-less : tie.Need-loop-less Inv-loop μ-loop
 loop-less c =
-    let at-read-item = c .before .before .before .before .before in
-    let at-loop-test = at-read-item .before .before in
+    let at-read-item = c .before .before .before .before .before in let at-loop-test = at-read-item .before .before in
     let at-loop = at-loop-test .before in
     omega (
       arith,
@@ -59,8 +56,7 @@ loop-less c =
 
 loop-again : tie.Need-loop-again Inv-loop μ-loop
 loop-again c =
-    let at-read-item = c .before .before .before .before .before in
-    let at-loop-test = at-read-item .before .before in
+    let at-read-item = c .before .before .before .before .before in let at-loop-test = at-read-item .before .before in
     let at-loop = at-loop-test .before in (
       refl,
       items-on _ _ _ _ _ _ _ (at-loop .loop .inv .1) (at-loop-test .loop-test .taken)

@@ -16,9 +16,7 @@ on-requires c κs = omega (arith, block-inside metaFrame _ _ _ _ (was numberTold
 
 read-items-requires : tie.Need-read-items-requires
 read-items-requires c κs =
-    let at-on = c .before .before in
-    let at-size = at-on .before .before in
-    let at-block = at-size .before .before in
+    let at-on = c .before .before in let at-size = at-on .before .before in let at-block = at-size .before .before in
     let entry = at-block .before .before .before .before in
     omega (arith, entry .pre, at-on .on .ensures, block-inside metaFrame _ _ _ _ (was numberTold (at-block .block .ensures metaFrame) (at-size .size .given .1)))
 
@@ -27,10 +25,8 @@ returns c = λ t. no (metadata-length _ _ _ _ _ _ _ (was numberTold (c .before .
 
 returns-2 : tie.Need-returns-2
 returns-2 c =
-    let at-read-items = c .before .before in
-    let at-on = at-read-items .before .before .before in
-    let at-size = at-on .before .before in
-    let at-block = at-size .before .before in
+    let at-read-items = c .before .before in let at-on = at-read-items .before .before .before in
+    let at-size = at-on .before .before in let at-block = at-size .before .before in
     λ t. along (metadata-items _ _ _ _ _ _ _ (was numberTold (at-block .block .ensures metaFrame) (at-size .size .given .1))
     (at-on .on .ensures)) (at-read-items .read-items .ensures t)
 

@@ -30,50 +30,38 @@ put-item-requires c κs =
 
 on-requires : tie.Need-on-requires
 on-requires c κs =
-    let at-size = c .before .before .before .before .before .before .before in
-    let at-block = at-size .before .before in
+    let at-size = c .before .before .before .before .before .before .before in let at-block = at-size .before .before in
     let entry = at-block .before .before .before .before .before .before .before .before .before .before .before .before .before .before .before .before in
     omega (arith, entry .pre, block-inside metaFrame _ _ _ _ (was numberTold (at-block .block .ensures metaFrame) (at-size .size .given .1)))
 
 returns-2 : tie.Need-returns-2
 returns-2 c =
-    let at-number = c .before .before .before in
-    let at-if1 = at-number .before in
+    let at-number = c .before .before .before in let at-if1 = at-number .before in
     λ t. no (version-type _ _ _ _ _ _ _ _ (at-if1 .if1 .left) (was numberTold (at-number .number .ensures metaFrame) (c .before .n .given .1)))
 
 returns-3 : tie.Need-returns-3
 returns-3 c =
-    let at-format-of = c .before .before in
-    let at-of = at-format-of .before .before in
-    let at-number = at-of .before .before in
-    let at-if1 = at-number .before in
+    let at-format-of = c .before .before in let at-of = at-format-of .before .before in
+    let at-number = at-of .before .before in let at-if1 = at-number .before in
     λ t. no (version-unknown _ _ _ _ _ _ _ _ (at-if1 .if1 .left) (was numberTold (at-number .number .ensures metaFrame) (at-of .of .given .1))
     (was foundTold (at-format-of .format-of .ensures) (c .enum-told .given .1)))
 
 returns-4 : tie.Need-returns-4
 returns-4 c =
-    let at-block = c .before .before .before in
-    let at-format = at-block .before .before in
-    let at-format-of = at-format .before .before in
-    let at-of = at-format-of .before .before in
-    let at-number = at-of .before .before in
-    let at-if1 = at-number .before in
+    let at-block = c .before .before .before in let at-format = at-block .before .before in
+    let at-format-of = at-format .before .before in let at-of = at-format-of .before .before in
+    let at-number = at-of .before .before in let at-if1 = at-number .before in
     λ t. no (version-length _ _ _ _ _ _ _ _ (at-if1 .if1 .left) (was numberTold (at-number .number .ensures metaFrame) (at-of .of .given .1))
     (was foundTold (at-format-of .format-of .ensures) (at-format .format .given .1))
     (was numberTold (at-block .block .ensures metaFrame) (c .before .n2 .given .1)))
 
 returns-5 : tie.Need-returns-5
 returns-5 c =
-    let at-put-item = c .before .before .before in
-    let at-row-of = at-put-item .before in
-    let at-size = at-row-of .before .before .before .before in
-    let at-block = at-size .before .before in
-    let at-format = at-block .before .before in
-    let at-format-of = at-format .before .before in
-    let at-of = at-format-of .before .before in
-    let at-number = at-of .before .before in
-    let at-if1 = at-number .before in
-    let entry = at-if1 .before .before .before .before .before .before .before in
+    let at-put-item = c .before .before .before in let at-row-of = at-put-item .before in
+    let at-size = at-row-of .before .before .before .before in let at-block = at-size .before .before in
+    let at-format = at-block .before .before in let at-format-of = at-format .before .before in
+    let at-of = at-format-of .before .before in let at-number = at-of .before .before in
+    let at-if1 = at-number .before in let entry = at-if1 .before .before .before .before .before .before .before in
     λ t. yes (version-row _ _ _ _ _ _ _ (state t _ _) (at-if1 .if1 .left)
     (was numberTold (at-number .number .ensures metaFrame) (at-of .of .given .1))
     (was foundTold (at-format-of .format-of .ensures) (at-format .format .given .1))

@@ -22,8 +22,7 @@ loop-holds c = versions-begun _ _ _ _ _ _ _ _ (omega arith) (omega arith)
 
 read-version-requires : tie.Need-read-version-requires Inv-loop μ-loop
 read-version-requires c κs =
-    let at-loop = c .before .before in
-    let entry = at-loop .before .before .before .before in
+    let at-loop = c .before .before in let entry = at-loop .before .before .before .before in
     omega (arith, entry .pre, at-loop .loop .inv .long, at-loop .loop .inv .nodes-fit, at-loop .loop .inv .items-fit, at-loop .loop .inv .since)
 
 same-length : tie.Need-same-length Inv-loop μ-loop
@@ -32,15 +31,13 @@ same-length c = c .before .before .before .before .before .read-version .kept .1
 returns : tie.Need-returns Inv-loop μ-loop
 returns c =
     let at-read-version = c .before .before .before .before .before in
-    let at-loop-test = at-read-version .before .before in
-    let at-loop = at-loop-test .before in
+    let at-loop-test = at-read-version .before .before in let at-loop = at-loop-test .before in
     versions-no _ _ _ _ _ _ _ _ (at-loop .loop .inv) (at-loop-test .loop-test .taken) (at-read-version .read-version .ensures) (ap (walked _) (c .before .n .given .1))
 
 loop-again : tie.Need-loop-again Inv-loop μ-loop
 loop-again c =
     let at-read-version = c .before .before .before .before .before in
-    let at-loop-test = at-read-version .before .before in
-    let at-loop = at-loop-test .before in
+    let at-loop-test = at-read-version .before .before in let at-loop = at-loop-test .before in
     versions-on _ _ _ _ _ _ _ _ (at-loop .loop .inv) (at-loop-test .loop-test .taken) (at-read-version .read-version .ensures)
     (ap (walked _) (c .before .n2 .given .1)) (at-read-version .read-version .kept .1 .1 .1 .0)
 

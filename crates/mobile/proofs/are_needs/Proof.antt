@@ -36,11 +36,8 @@ is-need-requires c κs =
 
 returns-2 : tie.Need-returns-2 Inv-loop μ-loop
 returns-2 c =
-    let at-is-need = c .before in
-    let at-item-at = at-is-need .before in
-    let at-loop-test = at-item-at .before in
-    let at-loop = at-loop-test .before in
-    let entry = at-loop .before .before .before .before .before in
+    let at-is-need = c .before in let at-item-at = at-is-need .before in let at-loop-test = at-item-at .before in
+    let at-loop = at-loop-test .before in let entry = at-loop .before .before .before .before .before in
     needs-no (entry .args .file .now) (entry .args .tune) (entry .args .items .now) (entry .args .many) (at-loop .loop .inv .1)
     (at-loop-test .loop-test .taken) (at-item-at .item-at .ensures) (at-is-need .is-need .ensures)
     (not-true (at-is-need .is-need .result) (c .if2 .taken))
@@ -50,10 +47,8 @@ loop-less c = omega (arith, c .next-row2 .ensures .low)
 
 loop-again : tie.Need-loop-again Inv-loop μ-loop
 loop-again c =
-    let at-is-need = c .before .before in
-    let at-item-at = at-is-need .before in
-    let at-loop-test = at-item-at .before in
-    let at-loop = at-loop-test .before in
+    let at-is-need = c .before .before in let at-item-at = at-is-need .before in
+    let at-loop-test = at-item-at .before in let at-loop = at-loop-test .before in
     let entry = at-loop .before .before .before .before .before in (
       c .next-row2 .ensures .high,
       needs-on (entry .args .file .now) (entry .args .tune) (entry .args .items .now) (entry .args .many)

@@ -28,20 +28,17 @@ node-at-requires c κs = omega (arith, c .before .before .before .before .before
 
 sub-at : tie.Need-sub-at Inv-loop μ-loop
 sub-at c =
-    let at-loop = c .before .before in
-    let entry = at-loop .before .before .before .before in
+    let at-loop = c .before .before in let entry = at-loop .before .before .before .before in
     rows-in (entry .pre) (at-loop .loop .i) (at-loop .loop .i - 1) (omega arith) (omega arith) (c .node-at .ensures) (at-loop .loop .inv .2)
 
 role-of-requires : tie.Need-role-of-requires Inv-loop μ-loop
 role-of-requires c κs =
-    let at-loop = c .before .before in
-    let entry = at-loop .before .before .before .before in
+    let at-loop = c .before .before in let entry = at-loop .before .before .before .before in
     (entry .pre .item-rows, omega arith, end-in (entry .pre) (at-loop .loop .i) (at-loop .loop .i - 1) (omega arith) (omega arith) (c .node-at .ensures) (at-loop .loop .inv .2))
 
 loop-again : tie.Need-loop-again Inv-loop μ-loop
 loop-again c =
-    let at-node-at = c .before .before in
-    let at-loop = at-node-at .before .before in
+    let at-node-at = c .before .before in let at-loop = at-node-at .before .before in
     let entry = at-loop .before .before .before .before in (
       omega arith,
       λ z. omega arith,

@@ -28,15 +28,13 @@ loop-holds c = (omega arith, root-folder _ _ (omega arith) (c .before .before .n
 
 returns-3 : tie.Need-returns-3 Inv-loop μ-loop
 returns-3 c =
-    let at-node-at2 = c .before .before in
-    let at-loop-test = at-node-at2 .before in
+    let at-node-at2 = c .before .before in let at-loop-test = at-node-at2 .before in
     let at-loop = at-loop-test .before in
     nodes-no _ _ _ _ (at-loop .loop .inv .1) (at-loop-test .loop-test .taken) (at-node-at2 .node-at2 .ensures) (file-no _ (c .if3 .taken))
 
 loop-again : tie.Need-loop-again Inv-loop μ-loop
 loop-again c =
-    let at-node-at2 = c .before .before in
-    let at-loop-test = at-node-at2 .before in
+    let at-node-at2 = c .before .before in let at-loop-test = at-node-at2 .before in
     let at-loop = at-loop-test .before in
     (omega arith, nodes-on _ _ _ _ (at-loop .loop .inv .1) (at-loop-test .loop-test .taken) (at-node-at2 .node-at2 .ensures) (file-yes _ (c .if3 .left)))
 

@@ -11,8 +11,7 @@ use Rattle.mobile.proofs.judge.Tie as tie
 
 verdict-requires : tie.Need-verdict-requires
 verdict-requires c κs =
-    let at-s = c .before .before .before in
-    let at-read-file = at-s .before .before .before .before .before .before in
+    let at-s = c .before .before .before in let at-read-file = at-s .before .before .before .before .before .before in
     let st = standing _ _ _ _ (at-read-file .read-file .ensures .0) (at-read-file .read-file .ensures .1 .0)
     (at-read-file .read-file .ensures .1 .1) (at-s .s .given .1) in tables _ _ st
 

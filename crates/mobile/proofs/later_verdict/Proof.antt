@@ -9,15 +9,13 @@ use Rattle.mobile.proofs.later_verdict.Tie as tie
 
 returns : tie.Need-returns
 returns c =
-    let at-children-of = c .before .before in
-    let entry = at-children-of .before .before .before .before in
+    let at-children-of = c .before .before in let entry = at-children-of .before .before .before .before in
     later-by (entry .args .file .now) (nodesIn (entry .args .n) (entry .args .nodes .now)) (itemsIn (entry .args .m) (entry .args .items .now)) (at-children-of .children-of .ensures)
     (stop 5 _ refl (c .if1 .taken))
 
 returns-2 : tie.Need-returns-2
 returns-2 c =
-    let at-if1 = c .before .before in
-    let at-children-of = at-if1 .before .before in
+    let at-if1 = c .before .before in let at-children-of = at-if1 .before .before in
     let entry = at-children-of .before .before .before .before in
     later-by (entry .args .file .now) (nodesIn (entry .args .n) (entry .args .nodes .now)) (itemsIn (entry .args .m) (entry .args .items .now)) (at-children-of .children-of .ensures)
     (skip 5 refl (at-if1 .if1 .left) (stop 6 _ (c .before .one-tune .ensures) (c .if2 .taken)))
@@ -27,11 +25,8 @@ tune-needs-requires c κs = c .before .before .before .before .before .before .b
 
 returns-3 : tie.Need-returns-3
 returns-3 c =
-    let at-if2 = c .before .before in
-    let at-one-tune = at-if2 .before in
-    let at-if1 = at-one-tune .before in
-    let at-children-of = at-if1 .before .before in
-    let entry = at-children-of .before .before .before .before in
+    let at-if2 = c .before .before in let at-one-tune = at-if2 .before in let at-if1 = at-one-tune .before in
+    let at-children-of = at-if1 .before .before in let entry = at-children-of .before .before .before .before in
     later-by (entry .args .file .now) (nodesIn (entry .args .n) (entry .args .nodes .now)) (itemsIn (entry .args .m) (entry .args .items .now)) (at-children-of .children-of .ensures)
     (skip 5 refl (at-if1 .if1 .left) (skip 6 (at-one-tune .one-tune .ensures) (at-if2 .if2 .left) (stop 7 _ (c .before .tune-needs .ensures) (c .if3 .taken))))
 
@@ -42,13 +37,9 @@ small-fields-requires c κs =
 
 returns-4 : tie.Need-returns-4
 returns-4 c =
-    let at-if3 = c .before .before in
-    let at-tune-needs = at-if3 .before in
-    let at-if2 = at-tune-needs .before in
-    let at-one-tune = at-if2 .before in
-    let at-if1 = at-one-tune .before in
-    let at-children-of = at-if1 .before .before in
-    let entry = at-children-of .before .before .before .before in
+    let at-if3 = c .before .before in let at-tune-needs = at-if3 .before in let at-if2 = at-tune-needs .before in
+    let at-one-tune = at-if2 .before in let at-if1 = at-one-tune .before in
+    let at-children-of = at-if1 .before .before in let entry = at-children-of .before .before .before .before in
     later-by (entry .args .file .now) (nodesIn (entry .args .n) (entry .args .nodes .now)) (itemsIn (entry .args .m) (entry .args .items .now)) (at-children-of .children-of .ensures)
     (skip 5 refl (at-if1 .if1 .left)
     (skip 6 (at-one-tune .one-tune .ensures) (at-if2 .if2 .left)
@@ -56,13 +47,9 @@ returns-4 c =
 
 returns-5 : tie.Need-returns-5
 returns-5 c =
-    let at-if3 = c .before .before in
-    let at-tune-needs = at-if3 .before in
-    let at-if2 = at-tune-needs .before in
-    let at-one-tune = at-if2 .before in
-    let at-if1 = at-one-tune .before in
-    let at-children-of = at-if1 .before .before in
-    let entry = at-children-of .before .before .before .before in
+    let at-if3 = c .before .before in let at-tune-needs = at-if3 .before in let at-if2 = at-tune-needs .before in
+    let at-one-tune = at-if2 .before in let at-if1 = at-one-tune .before in
+    let at-children-of = at-if1 .before .before in let entry = at-children-of .before .before .before .before in
     later-by (entry .args .file .now) (nodesIn (entry .args .n) (entry .args .nodes .now)) (itemsIn (entry .args .m) (entry .args .items .now)) (at-children-of .children-of .ensures)
     (skip 5 refl (at-if1 .if1 .left)
     (skip 6 (at-one-tune .one-tune .ensures) (at-if2 .if2 .left)

@@ -23,9 +23,7 @@ loop-holds c = (omega arith, omega arith, refl)
 
 returns : tie.Need-returns Inv-loop μ-loop
 returns c =
-    let at-item-at = c .before .before in
-    let at-loop-test = at-item-at .before in
-    let at-loop = at-loop-test .before in
+    let at-item-at = c .before .before in let at-loop-test = at-item-at .before in let at-loop = at-loop-test .before in
     let entry = at-loop .before .before in
     next-here (entry .args .items .now) (entry .args .many) (entry .args .field) (entry .args .from) (entry .args .end) (at-loop .loop .i)
     (at-loop .loop .inv .2) (omega arith) (omega arith) (at-loop-test .loop-test .taken) (at-item-at .item-at .ensures)
@@ -33,9 +31,7 @@ returns c =
 
 loop-again : tie.Need-loop-again Inv-loop μ-loop
 loop-again c =
-    let at-item-at = c .before .before in
-    let at-loop-test = at-item-at .before in
-    let at-loop = at-loop-test .before in
+    let at-item-at = c .before .before in let at-loop-test = at-item-at .before in let at-loop = at-loop-test .before in
     let entry = at-loop .before .before in (
       omega arith,
       omega arith,
@@ -46,8 +42,7 @@ loop-again c =
 
 returns-2 : tie.Need-returns-2 Inv-loop μ-loop
 returns-2 c =
-    let at-loop = c .before in
-    let entry = at-loop .before .before in
+    let at-loop = c .before in let entry = at-loop .before .before in
     next-none (entry .args .items .now) (entry .args .many) (entry .args .field) (entry .args .from) (entry .args .end) (at-loop .loop .i)
     (at-loop .loop .inv .2) (omega arith) (omega arith) (omega arith) (c .loop-test .left)
 

@@ -24,18 +24,14 @@ loop-holds c = (omega arith, plain-are _)
 
 returns : tie.Need-returns Inv-loop μ-loop
 returns c =
-    let at-is-plain = c .before in
-    let at-node-at = at-is-plain .before in
-    let at-loop-test = at-node-at .before in
+    let at-is-plain = c .before in let at-node-at = at-is-plain .before in let at-loop-test = at-node-at .before in
     let at-loop = at-loop-test .before in
     nodes-no _ _ _ _ (at-loop .loop .inv .1) (at-loop-test .loop-test .taken) (at-node-at .node-at .ensures)
     (sym (at-is-plain .is-plain .ensures) ∙ not-true (at-is-plain .is-plain .result) (c .if1 .taken))
 
 loop-again : tie.Need-loop-again Inv-loop μ-loop
 loop-again c =
-    let at-is-plain = c .before in
-    let at-node-at = at-is-plain .before in
-    let at-loop-test = at-node-at .before in
+    let at-is-plain = c .before in let at-node-at = at-is-plain .before in let at-loop-test = at-node-at .before in
     let at-loop = at-loop-test .before in (
       omega arith,
       nodes-on _ _ _ _ (at-loop .loop .inv .1) (at-loop-test .loop-test .taken) (at-node-at .node-at .ensures)

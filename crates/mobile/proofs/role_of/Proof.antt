@@ -14,8 +14,7 @@ returns c =
 
 returns-2 : tie.Need-returns-2
 returns-2 c =
-    let at-if1 = c .before .before in
-    let at-next-row = at-if1 .before in
+    let at-if1 = c .before .before in let at-next-row = at-if1 .before in
     let entry = at-next-row .before .before .before in
     role-two (entry .args .file .now) (entry .args .items .now) (entry .args .many) (at-next-row .next-row .ensures) (at-if1 .if1 .left)
     (c .before .next-row2 .ensures) (c .if2 .taken)
@@ -27,11 +26,8 @@ role-of-row-requires c κs =
 
 returns-3 : tie.Need-returns-3
 returns-3 c =
-    let at-if2 = c .before .before in
-    let at-next-row2 = at-if2 .before in
-    let at-if1 = at-next-row2 .before in
-    let at-next-row = at-if1 .before in
-    let entry = at-next-row .before .before .before in
+    let at-if2 = c .before .before in let at-next-row2 = at-if2 .before in let at-if1 = at-next-row2 .before in
+    let at-next-row = at-if1 .before in let entry = at-next-row .before .before .before in
     role-one (entry .args .file .now) (entry .args .items .now) (entry .args .many) (at-next-row .next-row .ensures) (at-if1 .if1 .left)
     (at-next-row2 .next-row2 .ensures) (at-if2 .if2 .left) (omega arith) (c .before .item-at .ensures) (c .role-of-row .ensures)
 

@@ -12,8 +12,7 @@ use Rattle.mobile.proofs.role_of_row.Tie as tie
 
 returns : tie.Need-returns
 returns c =
-    let at-is-binary = c .before in
-    let entry = at-is-binary .before .before in
+    let at-is-binary = c .before in let entry = at-is-binary .before .before in
     row-other (entry .args .file .now) (entry .args .row) (at-is-binary .is-binary .ensures) (not-true (at-is-binary .is-binary .result) (c .if1 .taken))
 
 returns-2 : tie.Need-returns-2
@@ -24,8 +23,7 @@ returns-3 c = row-first (c .before .before .before .before .before .before .args
 
 returns-4 : tie.Need-returns-4
 returns-4 c =
-    let at-v = c .before .before .before .before in
-    let at-number = at-v .before .before in
+    let at-v = c .before .before .before .before in let at-number = at-v .before .before in
     let entry = at-number .before .before .before .before .before .before .before in
     row-left (entry .args .file .now) (entry .args .row) (was numberTold (at-number .number .ensures metaFrame) (at-v .v .given .1)) (c .if4 .taken)
 
@@ -37,13 +35,9 @@ returns-5 c =
 
 returns-6 : tie.Need-returns-6
 returns-6 c =
-    let at-v = c .before .before .before .before .before in
-    let at-number = at-v .before .before in
-    let at-if3 = at-number .before in
-    let at-if2 = at-if3 .before .before in
-    let at-if1 = at-if2 .before in
-    let at-is-binary = at-if1 .before in
-    let entry = at-is-binary .before .before in
+    let at-v = c .before .before .before .before .before in let at-number = at-v .before .before in
+    let at-if3 = at-number .before in let at-if2 = at-if3 .before .before in let at-if1 = at-if2 .before in
+    let at-is-binary = at-if1 .before in let entry = at-is-binary .before .before in
     row-type (entry .args .file .now) (entry .args .row) (was numberTold (at-number .number .ensures metaFrame) (at-v .v .given .1))
     (at-is-binary .is-binary .ensures) (not-false (at-is-binary .is-binary .result) (at-if1 .if1 .left)) (at-if2 .if2 .left)
     (at-if3 .if3 .left) (c .before .if4 .left) (c .role-of-type .ensures)

@@ -23,15 +23,12 @@ loop-holds c = (omega arith, refl)
 
 returns : tie.Need-returns Inv-loop μ-loop
 returns c =
-    let at-item-at = c .before .before in
-    let at-loop-test = at-item-at .before in
-    let at-loop = at-loop-test .before in
+    let at-item-at = c .before .before in let at-loop-test = at-item-at .before in let at-loop = at-loop-test .before in
     items-no _ _ _ _ (at-loop .loop .inv .1) (at-loop-test .loop-test .taken) (at-item-at .item-at .ensures) (small-no _ (c .before .field-size .ensures) (c .if1 .taken))
 
 loop-again : tie.Need-loop-again Inv-loop μ-loop
 loop-again c =
-    let at-item-at = c .before .before in
-    let at-loop-test = at-item-at .before in
+    let at-item-at = c .before .before in let at-loop-test = at-item-at .before in
     let at-loop = at-loop-test .before in (
       omega arith,
       items-on _ _ _ _ (at-loop .loop .inv .1) (at-loop-test .loop-test .taken) (at-item-at .item-at .ensures)

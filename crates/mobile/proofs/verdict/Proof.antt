@@ -18,8 +18,7 @@ files-only-requires c κs = c .before .before .before .before .before .before .p
 
 returns-2 : tie.Need-returns-2
 returns-2 c =
-    let at-if1 = c .before .before in
-    let at-right-edition = at-if1 .before in
+    let at-if1 = c .before .before in let at-right-edition = at-if1 .before in
     let entry = at-right-edition .before .before .before .before .before in
     λ h e. verdict-by (entry .args .file .now) h (nodesIn (entry .args .s .nodes) (entry .args .nodes .now))
     (itemsIn (entry .args .s .items) (entry .args .items .now)) e (at-right-edition .right-edition .ensures)
@@ -30,11 +29,8 @@ plain-references-requires c κs = c .before .before .before .before .before .bef
 
 returns-3 : tie.Need-returns-3
 returns-3 c =
-    let at-if2 = c .before .before in
-    let at-files-only = at-if2 .before in
-    let at-if1 = at-files-only .before in
-    let at-right-edition = at-if1 .before in
-    let entry = at-right-edition .before .before .before .before .before in
+    let at-if2 = c .before .before in let at-files-only = at-if2 .before in let at-if1 = at-files-only .before in
+    let at-right-edition = at-if1 .before in let entry = at-right-edition .before .before .before .before .before in
     λ h e. verdict-by (entry .args .file .now) h (nodesIn (entry .args .s .nodes) (entry .args .nodes .now))
     (itemsIn (entry .args .s .items) (entry .args .items .now)) e (at-right-edition .right-edition .ensures)
     (skip 1 (refl) (at-if1 .if1 .left)
@@ -45,12 +41,9 @@ no-unpackers-requires c κs = c .before .before .before .before .before .before 
 
 returns-4 : tie.Need-returns-4
 returns-4 c =
-    let at-if3 = c .before .before in
-    let at-plain-references = at-if3 .before in
-    let at-if2 = at-plain-references .before in
-    let at-files-only = at-if2 .before in
-    let at-if1 = at-files-only .before in
-    let at-right-edition = at-if1 .before in
+    let at-if3 = c .before .before in let at-plain-references = at-if3 .before in
+    let at-if2 = at-plain-references .before in let at-files-only = at-if2 .before in
+    let at-if1 = at-files-only .before in let at-right-edition = at-if1 .before in
     let entry = at-right-edition .before .before .before .before .before in
     λ h e. verdict-by (entry .args .file .now) h (nodesIn (entry .args .s .nodes) (entry .args .nodes .now))
     (itemsIn (entry .args .s .items) (entry .args .items .now)) e (at-right-edition .right-edition .ensures)
@@ -64,14 +57,9 @@ later-verdict-requires c κs = c .before .before .before .before .before .before
 
 returns-5 : tie.Need-returns-5
 returns-5 c =
-    let at-if4 = c .before in
-    let at-no-unpackers = at-if4 .before in
-    let at-if3 = at-no-unpackers .before in
-    let at-plain-references = at-if3 .before in
-    let at-if2 = at-plain-references .before in
-    let at-files-only = at-if2 .before in
-    let at-if1 = at-files-only .before in
-    let at-right-edition = at-if1 .before in
+    let at-if4 = c .before in let at-no-unpackers = at-if4 .before in let at-if3 = at-no-unpackers .before in
+    let at-plain-references = at-if3 .before in let at-if2 = at-plain-references .before in
+    let at-files-only = at-if2 .before in let at-if1 = at-files-only .before in let at-right-edition = at-if1 .before in
     let entry = at-right-edition .before .before .before .before .before in
     λ h e. verdict-by (entry .args .file .now) h (nodesIn (entry .args .s .nodes) (entry .args .nodes .now))
     (itemsIn (entry .args .s .items) (entry .args .items .now)) e (at-right-edition .right-edition .ensures)

@@ -36,8 +36,7 @@ part-is-kind-end c = c .piece-end .ensures .0
 is-kind-requires : tie.Need-is-kind-requires Inv-loop μ-loop
 is-kind-requires c κs =
     let s = c .before .before .before .before .before .before .args .sheet .now in
-    let at = c .before .before .before .loop .at in
-    let e = c .before .piece-end in
+    let at = c .before .before .before .loop .at in let e = c .before .piece-end in
     known-line s at (next-piece 0x0A s at (omega arith) (e .ensures .1)) (omega (arith, e .ensures .1)) (e .ensures .0) (c .before .before .before .loop .inv .1)
 
 put-line-requires : tie.Need-put-line-requires Inv-loop μ-loop
@@ -52,8 +51,7 @@ loop-less c = omega (arith, c .before .before .before .before .before .before .b
 loop-again : tie.Need-loop-again Inv-loop μ-loop
 loop-again c =
     let a = c .before .before .before .before .before .before .before .before .before .before .before .before .args in
-    let loop = c .before .before .before .before .before .before .before .before .before .loop in
-    let at = loop .at in
+    let loop = c .before .before .before .before .before .before .before .before .before .loop in let at = loop .at in
     let e = c .before .before .before .before .before .before .before .piece-end in
     let line = lent (a .sheet .now) at (e .result) (omega (arith, e .ensures .1)) (e .ensures .0) in
     let piece = next-piece 0x0A (a .sheet .now) at (omega arith) (e .ensures .1) in
@@ -73,8 +71,7 @@ loop-less-2 c = omega (arith, c .before .before .before .piece-end .ensures .1)
 loop-again-2 : tie.Need-loop-again-2 Inv-loop μ-loop
 loop-again-2 c =
     let a = c .before .before .before .before .before .before .before .before .args in
-    let loop = c .before .before .before .before .before .loop in
-    let at = loop .at in
+    let loop = c .before .before .before .before .before .loop in let at = loop .at in
     let e = c .before .before .before .piece-end in
     let line = lent (a .sheet .now) at (e .result) (omega (arith, e .ensures .1)) (e .ensures .0) in
     let piece = next-piece 0x0A (a .sheet .now) at (omega arith) (e .ensures .1) in
@@ -86,8 +83,7 @@ same-length c = going-length (c .before .loop .inv .0)
 
 returns : tie.Need-returns Inv-loop μ-loop
 returns c =
-    let at-loop = c .before in
-    let entry = at-loop .before .before .before in
+    let at-loop = c .before in let entry = at-loop .before .before .before in
     going-end (put-kind-end (entry .args .sheet .now) (entry .args .items) (at-loop .loop .at) (c .loop-test .left)) (at-loop .loop .inv .0)
 
 pub put-kind-spec : {M : Type 1} → statement M

@@ -24,8 +24,7 @@ same-length c = going-length (c .before .before .loop .inv .puts)
 
 returns : tie.Need-returns Inv-loop μ-loop
 returns c =
-    let at-loop = c .before .before in
-    let entry = at-loop .before .before .before in
+    let at-loop = c .before .before in let entry = at-loop .before .before .before in
     run-none (entry .args .sheet .now) (entry .args .row) (at-loop .loop .inv) (c .enum-told .given .1)
 
 same-length-2 : tie.Need-same-length-2 Inv-loop μ-loop
@@ -33,8 +32,7 @@ same-length-2 c = going-length (c .before .before .before .before .loop .inv .pu
 
 returns-2 : tie.Need-returns-2 Inv-loop μ-loop
 returns-2 c =
-    let at-item = c .before .before in
-    let at-loop = at-item .before .before in
+    let at-item = c .before .before in let at-loop = at-item .before .before in
     let entry = at-loop .before .before .before in
     run-over (entry .args .sheet .now) (entry .args .row) (at-loop .loop .inv) (at-item .item .given .1) (c .if1 .taken)
 
@@ -55,8 +53,7 @@ add-next-item c =
 
 next-item-requires : tie.Need-next-item-requires Inv-loop μ-loop
 next-item-requires c κs =
-    let at-item = c .before .before .before .before .before .before in
-    let at-loop = at-item .before .before in
+    let at-item = c .before .before .before .before .before .before in let at-loop = at-item .before .before in
     let entry = at-loop .before .before .before in
     as-told (Right (entry .args .sheet .now) 0) (at-loop .loop .inv .right) (at-item .item .given .1) .5
 

@@ -9,16 +9,14 @@ use Rattle.needs.proofs.make_item_needs.Tie as tie
 
 returns : tie.Need-returns
 returns c =
-    let if1 = c .before .before .before .before .if1 in
-    let hidden = c .before .before .hidden in
+    let if1 = c .before .before .before .before .if1 in let hidden = c .before .before .hidden in
     gives-as (nothing-printed _ (needs-hidden _ _ _ (if1 .taken))) (hidden .ensures)
 
 returns-2 : tie.Need-returns-2
 returns-2 c =
     let if1 = c .before .before .before .before .before .before .before .if1 in
     let is-description = c .before .before .before .before .before .before .is-description in
-    let if2 = c .before .before .before .before .before .if2 in
-    let refuse = c .before .before .refuse in
+    let if2 = c .before .before .before .before .before .if2 in let refuse = c .before .before .refuse in
     gives-as (printed-bad (λ a. a) _ _ (needs-other _ _ _ (if1 .left) (is-description .ensures) (not-true _ (if2 .taken)))) (refuse .ensures)
 
 put-counts-requires : tie.Need-put-counts-requires

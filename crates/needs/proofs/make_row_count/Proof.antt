@@ -10,16 +10,14 @@ use Rattle.needs.proofs.make_row_count.Tie as tie
 
 returns : tie.Need-returns
 returns c =
-    let if1 = c .before .before .before .before .if1 in
-    let hidden = c .before .before .hidden in
+    let if1 = c .before .before .before .before .if1 in let hidden = c .before .before .hidden in
     gives-as (nothing-printed _ (count-hidden _ _ _ _ _ (if1 .taken))) (hidden .ensures)
 
 returns-2 : tie.Need-returns-2
 returns-2 c =
     let if1 = c .before .before .before .before .before .before .before .before .before .if1 in
     let count-in = c .before .before .before .before .before .before .before .before .count-in in
-    let n = c .before .before .before .before .before .before .n in
-    let refuse = c .before .before .refuse in
+    let n = c .before .before .before .before .before .before .n in let refuse = c .before .before .refuse in
     gives-as (printed-bad (λ a. a) _ _ (count-bad _ _ _ _ _ (if1 .left) (sym (count-in .ensures) ∙ ap told (n .given .1)))) (refuse .ensures)
 
 returns-3 : tie.Need-returns-3

@@ -9,14 +9,12 @@ use Rattle.needs.proofs.put_answered.Tie as tie
 
 returns : tie.Need-returns
 returns c =
-    let put = c .before .before .before .before .before .before .put in
-    let refuse = c .before .before .refuse in
+    let put = c .before .before .before .before .before .before .put in let refuse = c .before .before .refuse in
     λ o x h. let z = puts-bad _ _ _ _ _ h (put .given .1) in gives-as (printed-bad plainly _ _ (z .0)) (refuse-room _ _ _ (z .1) (refuse .ensures))
 
 returns-2 : tie.Need-returns-2
 returns-2 c =
-    let put2 = c .before .before .before .before .before .before .put2 in
-    let conclude = c .before .before .conclude in
+    let put2 = c .before .before .before .before .before .before .put2 in let conclude = c .before .before .conclude in
     λ o x h. let z = puts-good _ _ _ _ _ h (put2 .given .1) in gives-as (printed-good plainly _ _ (z .1)) (conclude .ensures _ _ (z .2))
 
 pub put-answered-spec : {M : Type 1} → statement M

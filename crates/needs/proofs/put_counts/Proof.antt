@@ -26,15 +26,13 @@ put-table-requires c κs =
 
 returns : tie.Need-returns
 returns c =
-    let number = c .before .before .before .number in
-    let p = c .before .p in
+    let number = c .before .before .before .number in let p = c .before .p in
     (whole-message _ _ _ _ (was numberTold (number .ensures metaFrame) (p .given .1)), refl)
 
 returns-2 : tie.Need-returns-2
 returns-2 c =
     let number = c .before .before .before .before .before .before .before .number in
-    let d = c .before .before .before .before .before .d in
-    let number2 = c .before .before .before .number2 in
+    let d = c .before .before .before .before .before .d in let number2 = c .before .before .before .number2 in
     let p2 = c .before .p2 in
     (whole-channels _ _ _ _ (was numberTold (number .ensures metaFrame) (d .given .1)) (was numberTold (number2 .ensures metaFrame) (p2 .given .1)), refl)
 
@@ -69,26 +67,15 @@ returns-4 c =
 
 returns-5 : tie.Need-returns-5
 returns-5 c =
-    let at-put-table = c .before .before in
-    let put-table = at-put-table .put-table in
-    let at-h = at-put-table .before .before .before in
-    let h = at-h .h in
-    let at-read-lists = at-h .before .before in
-    let read-lists = at-read-lists .read-lists in
-    let at-resources = at-read-lists .before .before in
-    let resources = at-resources .resources in
-    let at-number3 = at-resources .before .before in
-    let number3 = at-number3 .number3 in
-    let at-channels = at-number3 .before .before in
-    let channels = at-channels .channels in
-    let at-number2 = at-channels .before .before in
-    let number2 = at-number2 .number2 in
-    let at-d = at-number2 .before .before in
-    let d = at-d .d in
-    let at-number = at-d .before .before in
-    let number = at-number .number in
-    let at-args = at-number .before .before .before in
-    let args-c = at-args .args in
+    let at-put-table = c .before .before in let put-table = at-put-table .put-table in
+    let at-h = at-put-table .before .before .before in let h = at-h .h in let at-read-lists = at-h .before .before in
+    let read-lists = at-read-lists .read-lists in let at-resources = at-read-lists .before .before in
+    let resources = at-resources .resources in let at-number3 = at-resources .before .before in
+    let number3 = at-number3 .number3 in let at-channels = at-number3 .before .before in
+    let channels = at-channels .channels in let at-number2 = at-channels .before .before in
+    let number2 = at-number2 .number2 in let at-d = at-number2 .before .before in let d = at-d .d in
+    let at-number = at-d .before .before in let number = at-number .number in
+    let at-args = at-number .before .before .before in let args-c = at-args .args in
     puts-as (args-c .out .now) (put-table .last .0) (args-c .to) (put-table .result)
     (sym (whole-table _ _ _ (args-c .row) (was numberTold (number .ensures metaFrame) (d .given .1))
     (was numberTold (number2 .ensures metaFrame) (channels .given .1)) (was numberTold (number3 .ensures metaFrame) (resources .given .1))

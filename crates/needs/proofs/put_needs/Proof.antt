@@ -27,22 +27,19 @@ item-at-requires c κs =
 
 put-row-needs-requires : tie.Need-put-row-needs-requires Inv-loop μ-loop
 put-row-needs-requires c κs =
-    let item-at = c .item-at in
-    let pre-c = c .before .before .before .before .before .before .before .pre in
+    let item-at = c .item-at in let pre-c = c .before .before .before .before .before .before .before .pre in
     let loop-test = c .before .before .loop-test in
     rw (item-at .ensures) (pre-c .1 _ (loop-test .taken))
 
 same-length : tie.Need-same-length Inv-loop μ-loop
 same-length c =
-    let put-row-needs = c .before .before .before .before .before .put-row-needs in
-    let n = c .before .n in
+    let put-row-needs = c .before .before .before .before .before .put-row-needs in let n = c .before .n in
     let loop = c .before .before .before .before .before .before .before .before .before .loop in
     puts-bad _ _ _ _ _ (put-row-needs .ensures) (n .given .1) .1 ∙ loop .inv .1 .puts .long
 
 returns : tie.Need-returns Inv-loop μ-loop
 returns c =
-    let put-row-needs = c .before .before .before .before .before .put-row-needs in
-    let n = c .before .n in
+    let put-row-needs = c .before .before .before .before .before .put-row-needs in let n = c .before .n in
     let loop = c .before .before .before .before .before .before .before .before .before .loop in
     let loop-test = c .before .before .before .before .before .before .before .before .loop-test in
     let item-at = c .before .before .before .before .before .before .item-at in
@@ -51,8 +48,7 @@ returns c =
 
 loop-again : tie.Need-loop-again Inv-loop μ-loop
 loop-again c =
-    let put-row-needs = c .before .before .before .before .before .put-row-needs in
-    let to = c .before .to in
+    let put-row-needs = c .before .before .before .before .before .put-row-needs in let to = c .before .to in
     let loop = c .before .before .before .before .before .before .before .before .before .loop in
     let loop-test = c .before .before .before .before .before .before .before .before .loop-test in
     let item-at = c .before .before .before .before .before .before .item-at in
@@ -65,8 +61,7 @@ same-length-2 c =
 
 returns-2 : tie.Need-returns-2 Inv-loop μ-loop
 returns-2 c =
-    let loop = c .before .loop in
-    let loop-test = c .loop-test in
+    let loop = c .before .loop in let loop-test = c .loop-test in
     (loop .inv .1 .done, needing-end _ _ _ (loop .inv .1) (loop-test .left), loop .inv .1 .puts)
 
 pub put-needs-spec : {M : Type 1} → statement M

@@ -16,9 +16,7 @@ returns c =
 
 returns-2 : tie.Need-returns-2
 returns-2 c =
-    let if1 = c .before .before .if1 in
-    let is-description = c .before .is-description in
-    let if2 = c .if2 in
+    let if1 = c .before .before .if1 in let is-description = c .before .is-description in let if2 = c .if2 in
     ([], row-other _ _ _ (if1 .left) (is-description .ensures) (not-true _ (if2 .taken)), counts-none _ (omega arith))
 
 put-counts-requires : tie.Need-put-counts-requires

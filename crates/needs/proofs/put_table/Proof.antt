@@ -22,8 +22,7 @@ abbrev μ-loop : tie.MeasureT-loop
 
 mul-count : tie.Need-mul-count Inv-loop μ-loop
 mul-count c =
-    let args-c = c .before .before .args in
-    let pre-c = c .before .before .pre in
+    let args-c = c .before .before .args in let pre-c = c .before .before .pre in
     omega (arith, product (args-c .channels) (args-c .resources) (omega (arith, pre-c)) (omega (arith, pre-c)))
 
 loop-holds : tie.Need-loop-holds Inv-loop μ-loop
@@ -37,8 +36,7 @@ same-length c =
 returns : tie.Need-returns Inv-loop μ-loop
 returns c =
     let loop = c .before .before .before .before .before .loop in
-    let loop-test = c .before .before .before .before .loop-test in
-    let number = c .before .before .before .number in
+    let loop-test = c .before .before .before .before .loop-test in let number = c .before .before .before .number in
     let p = c .before .p in
     (listing-cut _ _ _ (loop .inv) (loop-test .taken) (was numberTold (number .ensures metaFrame) (p .given .1)), loop .inv .puts .long)
 
@@ -70,8 +68,7 @@ loop-again c =
     let loop = c .before .before .before .before .before .before .before .before .before .loop in
     let loop-test = c .before .before .before .before .before .before .before .before .loop-test in
     let number = c .before .before .before .before .before .before .before .number in
-    let needed = c .before .before .before .before .before .needed in
-    let put-count = c .before .before .put-count in
+    let needed = c .before .before .before .before .before .needed in let put-count = c .before .before .put-count in
     listing-on _ _ _ (loop .inv) (loop-test .taken) (was numberTold (number .ensures metaFrame) (needed .given .1)) (put-count .ensures)
 
 same-length-2 : tie.Need-same-length-2 Inv-loop μ-loop
@@ -82,8 +79,7 @@ same-length-2 c =
 returns-2 : tie.Need-returns-2 Inv-loop μ-loop
 returns-2 c =
     let loop = c .before .before .before .before .before .loop in
-    let loop-test = c .before .before .before .before .loop-test in
-    let if1 = c .if1 in
+    let loop-test = c .before .before .before .before .loop-test in let if1 = c .if1 in
     (listing-left _ _ _ (loop .inv) (loop-test .left) (if1 .taken), loop .inv .puts .long)
 
 same-length-3 : tie.Need-same-length-3 Inv-loop μ-loop
@@ -94,8 +90,7 @@ same-length-3 c =
 returns-3 : tie.Need-returns-3 Inv-loop μ-loop
 returns-3 c =
     let loop = c .before .before .before .before .before .loop in
-    let loop-test = c .before .before .before .before .loop-test in
-    let if1 = c .if1 in
+    let loop-test = c .before .before .before .before .loop-test in let if1 = c .if1 in
     (countLines _ _ 0 (loop .inv .done), listing-done _ _ _ (loop .inv) (loop-test .left) (if1 .left), loop .inv .puts)
 
 pub put-table-spec : {M : Type 1} → statement M

@@ -22,13 +22,9 @@ returns-4 c = tt
 
 returns-5 : tie.Need-returns-5
 returns-5 c =
-    let at-byte3 = c .before .before in
-    let at-if3 = at-byte3 .before in
-    let at-byte2 = at-if3 .before .before in
-    let at-if2 = at-byte2 .before in
-    let at-if1 = at-if2 .before .before .before in
-    let at-is-numbered = at-if1 .before in
-    let at-byte = at-is-numbered .before in
+    let at-byte3 = c .before .before in let at-if3 = at-byte3 .before in let at-byte2 = at-if3 .before .before in
+    let at-if2 = at-byte2 .before in let at-if1 = at-if2 .before .before .before in
+    let at-is-numbered = at-if1 .before in let at-byte = at-is-numbered .before in
     unpacker-common _ _ _ (at-byte .byte .ensures) (at-byte2 .byte2 .ensures) (at-byte3 .byte3 .ensures) (omega (arith, at-if2 .if2 .left))
     (sym (not-false _ (at-if1 .if1 .left)) ∙ at-is-numbered .is-numbered .ensures) (at-if3 .if3 .left) (c .if4 .left)
 

@@ -20,8 +20,7 @@ loop-holds c = (refl, entries-begun _ _ _)
 
 returns : tie.Need-returns Inv-loop μ-loop
 returns c =
-    let at-read-unpacker = c .before .before .before in
-    let at-loop-test = at-read-unpacker .before in
+    let at-read-unpacker = c .before .before .before in let at-loop-test = at-read-unpacker .before in
     let at-loop = at-loop-test .before in
     entries-no (at-loop .loop .inv .1) (at-loop-test .loop-test .taken) _ (λ n. rw (at-loop .loop .inv .0) at (at-read-unpacker .read-unpacker .ensures n)) (c .before .n .given .1)
 
@@ -30,8 +29,7 @@ add-count c = omega (arith, c .before .before .before .before .before .loop .inv
 
 loop-less : tie.Need-loop-less Inv-loop μ-loop
 loop-less c =
-    let at-read-unpacker = c .before .before .before in
-    let at-loop-test = at-read-unpacker .before in
+    let at-read-unpacker = c .before .before .before in let at-loop-test = at-read-unpacker .before in
     let at-loop = at-loop-test .before in
     omega (
       arith,
@@ -41,8 +39,7 @@ loop-less c =
 
 loop-again : tie.Need-loop-again Inv-loop μ-loop
 loop-again c =
-    let at-read-unpacker = c .before .before .before in
-    let at-loop-test = at-read-unpacker .before in
+    let at-read-unpacker = c .before .before .before in let at-loop-test = at-read-unpacker .before in
     let at-loop = at-loop-test .before in (
       refl,
       entries-on (at-loop .loop .inv .1) (at-loop-test .loop-test .taken) _

@@ -16,29 +16,25 @@ use Rattle.node.proofs.read_front.Tie as tie
 
 of-requires : tie.Need-of-requires
 of-requires c κs =
-    let at-read-head = c .before .before .before in
-    let entry = at-read-head .before .before .before .before .before in
+    let at-read-head = c .before .before .before in let entry = at-read-head .before .before .before .before .before in
     omega (arith, entry .pre, head-inside _ _ _ (was headTold (at-read-head .read-head .ensures) (c .before .h .given .1)))
 
 read-metadata-requires : tie.Need-read-metadata-requires
 read-metadata-requires c κs =
-    let at-h = c .before .before .before in
-    let at-read-head = at-h .before .before in
+    let at-h = c .before .before .before in let at-read-head = at-h .before .before in
     let entry = at-read-head .before .before .before .before .before in
     omega (arith, entry .pre, head-inside _ _ _ (was headTold (at-read-head .read-head .ensures) (at-h .h .given .1)), c .before .of .ensures)
 
 of-requires-2 : tie.Need-of-requires-2
 of-requires-2 c κs =
     let at-h = c .before .before .before .before .before .before .before .before .before in
-    let at-read-head = at-h .before .before in
-    let entry = at-read-head .before .before .before .before .before in
+    let at-read-head = at-h .before .before in let entry = at-read-head .before .before .before .before .before in
     omega (arith, entry .pre, head-inside _ _ _ (was headTold (at-read-head .read-head .ensures) (at-h .h .given .1)))
 
 read-rest-requires : tie.Need-read-rest-requires
 read-rest-requires c κs =
     let at-of = c .before .before .before .before .before .before .before .before .before in
-    let at-h = at-of .before .before in
-    let at-read-head = at-h .before .before in
+    let at-h = at-of .before .before in let at-read-head = at-h .before .before in
     let entry = at-read-head .before .before .before .before .before in
     omega (arith, entry .pre, head-inside _ _ _ (was headTold (at-read-head .read-head .ensures) (at-h .h .given .1)), at-of .of .ensures, c .before .of2 .ensures)
 
@@ -53,21 +49,16 @@ returns c = λ t. front-no (front-head _ _ _ _ _ _ _ _ (was headTold (c .before 
 
 returns-2 : tie.Need-returns-2
 returns-2 c =
-    let at-read-metadata = c .before .before .before .before .before in
-    let at-of = at-read-metadata .before .before in
-    let at-h = at-of .before .before in
-    let at-read-head = at-h .before .before in
+    let at-read-metadata = c .before .before .before .before .before in let at-of = at-read-metadata .before .before in
+    let at-h = at-of .before .before in let at-read-head = at-h .before .before in
     λ t. front-no (front-metadata _ _ _ _ _ _ _ _ (was headTold (at-read-head .read-head .ensures) (at-h .h .given .1)) (at-of .of .ensures)
     (stopped (at-read-metadata .read-metadata .ensures t) (ap (walked _) (c .before .n2 .given .1))))
 
 returns-3 : tie.Need-returns-3
 returns-3 c =
-    let at-read-rest = c .before .before .before in
-    let at-of2 = at-read-rest .before .before in
-    let at-rows = at-of2 .before .before in
-    let at-read-metadata = at-rows .before .before .before .before in
-    let at-of = at-read-metadata .before .before in
-    let at-h = at-of .before .before in
+    let at-read-rest = c .before .before .before in let at-of2 = at-read-rest .before .before in
+    let at-rows = at-of2 .before .before in let at-read-metadata = at-rows .before .before .before .before in
+    let at-of = at-read-metadata .before .before in let at-h = at-of .before .before in
     let at-read-head = at-h .before .before in
     λ t. front-no (front-rest _ _ _ _ _ _ _ _ (was headTold (at-read-head .read-head .ensures) (at-h .h .given .1)) (at-of .of .ensures)
     (done (at-read-metadata .read-metadata .ensures t) (ap (walked _) (at-rows .rows .given .1))) (at-of2 .of2 .ensures)
@@ -78,14 +69,10 @@ same-length-3 c = c .before .before .before .before .before .before .before .bef
 
 returns-4 : tie.Need-returns-4
 returns-4 c =
-    let at-u = c .before .before .before in
-    let at-read-rest = at-u .before .before in
-    let at-of2 = at-read-rest .before .before in
-    let at-rows = at-of2 .before .before in
-    let at-read-metadata = at-rows .before .before .before .before in
-    let at-of = at-read-metadata .before .before in
-    let at-h = at-of .before .before in
-    let at-read-head = at-h .before .before in
+    let at-u = c .before .before .before in let at-read-rest = at-u .before .before in
+    let at-of2 = at-read-rest .before .before in let at-rows = at-of2 .before .before in
+    let at-read-metadata = at-rows .before .before .before .before in let at-of = at-read-metadata .before .before in
+    let at-h = at-of .before .before in let at-read-head = at-h .before .before in
     λ t. front-yes (front-all _ _ _ _ _ _ _ _ (was headTold (at-read-head .read-head .ensures) (at-h .h .given .1)) (at-of .of .ensures)
     (done (at-read-metadata .read-metadata .ensures t) (ap (walked _) (at-rows .rows .given .1))) (at-of2 .of2 .ensures)
     (was restTold (at-read-rest .read-rest .ensures) (at-u .u .given .1)) (c .row-of .ensures))

@@ -19,25 +19,20 @@ of-requires c κs =
 
 returns : tie.Need-returns
 returns c =
-    let at-of = c .before .before .before in
-    let at-length = at-of .before .before in
+    let at-of = c .before .before .before in let at-length = at-of .before .before in
     let at-number = at-length .before .before in
     head-past _ _ _ (was numberTold (at-number .number .ensures nodeFrame) (at-length .length .given .1)) (at-of .of .ensures) (c .if1 .taken)
 
 returns-2 : tie.Need-returns-2
 returns-2 c =
-    let at-if1 = c .before .before .before in
-    let at-of = at-if1 .before .before .before in
-    let at-length = at-of .before .before in
-    let at-number = at-length .before .before in
+    let at-if1 = c .before .before .before in let at-of = at-if1 .before .before .before in
+    let at-length = at-of .before .before in let at-number = at-length .before .before in
     head-short _ _ _ (was numberTold (at-number .number .ensures nodeFrame) (at-length .length .given .1)) (at-of .of .ensures) (at-if1 .if1 .left) (c .if2 .taken)
 
 returns-3 : tie.Need-returns-3
 returns-3 c =
-    let at-if2 = c .before .before .before in
-    let at-if1 = at-if2 .before .before .before in
-    let at-of = at-if1 .before .before .before in
-    let at-length = at-of .before .before in
+    let at-if2 = c .before .before .before in let at-if1 = at-if2 .before .before .before in
+    let at-of = at-if1 .before .before .before in let at-length = at-of .before .before in
     let at-number = at-length .before .before in
     head-meets _ _ _ (was numberTold (at-number .number .ensures nodeFrame) (at-length .length .given .1)) (at-of .of .ensures)
     (at-if1 .if1 .left) (at-if2 .if2 .left) (c .if3 .taken)
@@ -50,14 +45,10 @@ number-requires-2 c κs =
 
 returns-4 : tie.Need-returns-4
 returns-4 c =
-    let at-contained = c .before .before .before in
-    let at-number2 = at-contained .before .before in
-    let at-if3 = at-number2 .before in
-    let at-if2 = at-if3 .before .before .before in
-    let at-if1 = at-if2 .before .before .before in
-    let at-of = at-if1 .before .before .before in
-    let at-length = at-of .before .before in
-    let at-number = at-length .before .before in
+    let at-contained = c .before .before .before in let at-number2 = at-contained .before .before in
+    let at-if3 = at-number2 .before in let at-if2 = at-if3 .before .before .before in
+    let at-if1 = at-if2 .before .before .before in let at-of = at-if1 .before .before .before in
+    let at-length = at-of .before .before in let at-number = at-length .before .before in
     head-folder _ _ _ (was numberTold (at-number .number .ensures nodeFrame) (at-length .length .given .1)) (at-of .of .ensures)
     (at-if1 .if1 .left) (at-if2 .if2 .left) (at-if3 .if3 .left)
     (was numberTold (at-number2 .number2 .ensures nodeFrame) (at-contained .contained .given .1))
@@ -75,12 +66,9 @@ returns-5 c = head-size _ _ _ (was numberTold (c .before .before .before .number
 
 returns-6 : tie.Need-returns-6
 returns-6 c =
-    let at-number2 = c .before .before .before in
-    let at-if3 = at-number2 .before in
-    let at-if2 = at-if3 .before .before .before in
-    let at-if1 = at-if2 .before .before .before in
-    let at-of = at-if1 .before .before .before in
-    let at-length = at-of .before .before in
+    let at-number2 = c .before .before .before in let at-if3 = at-number2 .before in
+    let at-if2 = at-if3 .before .before .before in let at-if1 = at-if2 .before .before .before in
+    let at-of = at-if1 .before .before .before in let at-length = at-of .before .before in
     let at-number = at-length .before .before in
     head-contained _ _ _ (was numberTold (at-number .number .ensures nodeFrame) (at-length .length .given .1)) (at-of .of .ensures)
     (at-if1 .if1 .left) (at-if2 .if2 .left) (at-if3 .if3 .left)
@@ -88,14 +76,10 @@ returns-6 c =
 
 returns-7 : tie.Need-returns-7
 returns-7 c =
-    let at-is-detached-folder = c .before .before in
-    let at-contained = at-is-detached-folder .before .before in
-    let at-number2 = at-contained .before .before in
-    let at-if3 = at-number2 .before in
-    let at-if2 = at-if3 .before .before .before in
-    let at-if1 = at-if2 .before .before .before in
-    let at-of = at-if1 .before .before .before in
-    let at-length = at-of .before .before in
+    let at-is-detached-folder = c .before .before in let at-contained = at-is-detached-folder .before .before in
+    let at-number2 = at-contained .before .before in let at-if3 = at-number2 .before in
+    let at-if2 = at-if3 .before .before .before in let at-if1 = at-if2 .before .before .before in
+    let at-of = at-if1 .before .before .before in let at-length = at-of .before .before in
     let at-number = at-length .before .before in
     head-header _ _ _ (was numberTold (at-number .number .ensures nodeFrame) (at-length .length .given .1)) (at-of .of .ensures)
     (at-if1 .if1 .left) (at-if2 .if2 .left) (at-if3 .if3 .left)

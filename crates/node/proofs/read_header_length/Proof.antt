@@ -14,17 +14,14 @@ number-requires c κs = omega (arith, c .of .ensures, c .before .before .before 
 
 returns : tie.Need-returns
 returns c =
-    let at-length = c .before .before .before .before in
-    let at-number = at-length .before .before in
+    let at-length = c .before .before .before .before in let at-number = at-length .before .before in
     let at-of = at-number .before in
     header-past _ _ _ _ _ (at-of .of .ensures) (was numberTold (at-number .number .ensures nodeFrame) (at-length .length .given .1)) (c .if1 .taken)
 
 returns-2 : tie.Need-returns-2
 returns-2 c =
-    let at-of2 = c .before .before .before .before in
-    let at-if1 = at-of2 .before in
-    let at-length = at-if1 .before .before .before .before in
-    let at-number = at-length .before .before in
+    let at-of2 = c .before .before .before .before in let at-if1 = at-of2 .before in
+    let at-length = at-if1 .before .before .before .before in let at-number = at-length .before .before in
     let at-of = at-number .before in
     header-short _ _ _ _ _ (at-of .of .ensures) (was numberTold (at-number .number .ensures nodeFrame) (at-length .length .given .1))
     (at-if1 .if1 .left) (omega (arith, at-of2 .of2 .ensures, c .if2 .taken))
@@ -34,10 +31,8 @@ returns-3 c = header-cut _ _ _ _ _ (c .before .before .before .before .of .ensur
 
 returns-4 : tie.Need-returns-4
 returns-4 c =
-    let at-of2 = c .before .before .before .before in
-    let at-if1 = at-of2 .before in
-    let at-length = at-if1 .before .before .before .before in
-    let at-number = at-length .before .before in
+    let at-of2 = c .before .before .before .before in let at-if1 = at-of2 .before in
+    let at-length = at-if1 .before .before .before .before in let at-number = at-length .before .before in
     let at-of = at-number .before in
     header-all _ _ _ _ _ (at-of .of .ensures) (was numberTold (at-number .number .ensures nodeFrame) (at-length .length .given .1))
     (at-if1 .if1 .left) (omega (arith, at-of2 .of2 .ensures, c .if2 .left))

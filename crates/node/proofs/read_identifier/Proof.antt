@@ -13,17 +13,14 @@ returns c = identifier-guid _ _ _ _ (c .before .if1 .taken) (c .guid .ensures un
 
 returns-2 : tie.Need-returns-2
 returns-2 c =
-    let at-manufacturer = c .before .before .before in
-    let at-if2 = at-manufacturer .before in
+    let at-manufacturer = c .before .before .before in let at-if2 = at-manufacturer .before in
     let at-if1 = at-if2 .before in
     identifier-cut _ _ _ _ (at-if1 .if1 .left) (at-if2 .if2 .taken) (was passTold (at-manufacturer .manufacturer .ensures unpackFrame) (c .before .n .given .1))
 
 returns-3 : tie.Need-returns-3
 returns-3 c =
-    let at-d = c .before .before in
-    let at-manufacturer = at-d .before .before in
-    let at-if2 = at-manufacturer .before in
-    let at-if1 = at-if2 .before in
+    let at-d = c .before .before in let at-manufacturer = at-d .before .before in
+    let at-if2 = at-manufacturer .before in let at-if1 = at-if2 .before in
     identifier-two _ _ _ _ (at-if1 .if1 .left) (at-if2 .if2 .taken) (was passTold (at-manufacturer .manufacturer .ensures unpackFrame) (at-d .d .given .1)) (c .read-value .ensures)
 
 returns-4 : tie.Need-returns-4

@@ -31,19 +31,15 @@ returns-3 c = λ n. unpacker-cut _ _ _ n (was numberTold (c .before .before .bef
 
 returns-4 : tie.Need-returns-4
 returns-4 c =
-    let at-read-identifier = c .before .before .before in
-    let at-if2 = at-read-identifier .before in
-    let at-kind = at-if2 .before .before in
-    let at-number = at-kind .before .before in
+    let at-read-identifier = c .before .before .before in let at-if2 = at-read-identifier .before in
+    let at-kind = at-if2 .before .before in let at-number = at-kind .before .before in
     λ n. unpacker-identifier _ _ _ n (was numberTold (at-number .number .ensures unpackFrame) (at-kind .kind .given .1)) (at-if2 .if2 .left)
     (was passTold (at-read-identifier .read-identifier .ensures) (c .before .n2 .given .1))
 
 returns-5 : tie.Need-returns-5
 returns-5 c =
-    let at-e = c .before .before in
-    let at-read-identifier = at-e .before .before in
-    let at-if2 = at-read-identifier .before in
-    let at-kind = at-if2 .before .before in
+    let at-e = c .before .before in let at-read-identifier = at-e .before .before in
+    let at-if2 = at-read-identifier .before in let at-kind = at-if2 .before .before in
     let at-number = at-kind .before .before in
     λ n. unpacker-size _ _ _ n (was numberTold (at-number .number .ensures unpackFrame) (at-kind .kind .given .1)) (at-if2 .if2 .left)
     (was passTold (at-read-identifier .read-identifier .ensures) (at-e .e .given .1)) (c .read-value .result) (c .read-value .ensures)

@@ -12,9 +12,7 @@ use Rattle.node.proofs.read_uri.Tie as tie
 
 on-requires : tie.Need-on-requires
 on-requires c κs =
-    let at-size = c .before .before in
-    let at-block = at-size .before .before in
-    let entry = at-block .before .before in
+    let at-size = c .before .before in let at-block = at-size .before .before in let entry = at-block .before .before in
     omega (arith, entry .pre, block-inside referenceFrame _ _ _ _ (was numberTold (at-block .block .ensures referenceFrame) (at-size .size .given .1)))
 
 returns : tie.Need-returns

@@ -22,8 +22,7 @@ loop-holds c = (omega arith, omega arith, going-start _ (omega arith) (left-star
 
 add-if1 : tie.Need-add-if1 Inv-loop μ-loop
 add-if1 c =
-    let safe-size = c .safe-size in
-    let loop = c .before .before .loop in
+    let safe-size = c .safe-size in let loop = c .before .before .loop in
     let w = size-in _ _ (safe-size .ensures) (loop .inv .0) in omega arith
 
 same-length : tie.Need-same-length Inv-loop μ-loop
@@ -53,8 +52,7 @@ returns-2 c =
     let loop = c .before .before .before .before .before .before .before .before .before .loop in
     let loop-test = c .before .before .before .before .before .before .before .before .loop-test in
     let safe-size = c .before .before .before .before .before .before .before .safe-size in
-    let if2 = c .before .before .before .before .before .if2 in
-    let if3 = c .before .before .before .before .if3 in
+    let if2 = c .before .before .before .before .before .if2 in let if3 = c .before .before .before .before .if3 in
     going-end refl (going-on (byte-cut _ _ _ (loop-test .taken) (safe-size .ensures) (if2 .taken) (if3 .taken)) (loop .inv .2) (put-cut2 .ensures))
 
 loop-again : tie.Need-loop-again Inv-loop μ-loop
@@ -63,8 +61,7 @@ loop-again c =
     let loop = c .before .before .before .before .before .before .before .before .before .loop in
     let loop-test = c .before .before .before .before .before .before .before .before .loop-test in
     let safe-size = c .before .before .before .before .before .before .before .safe-size in
-    let if2 = c .before .before .before .before .before .if2 in
-    let if3 = c .before .before .before .before .if3 in
+    let if2 = c .before .before .before .before .before .if2 in let if3 = c .before .before .before .before .if3 in
     (omega arith, omega arith, going-on (byte-put _ _ _ (loop-test .taken) (safe-size .ensures) (if2 .taken) (if3 .left)) (loop .inv .2) (put-escaped .ensures))
 
 put-part-requires : tie.Need-put-part-requires Inv-loop μ-loop
@@ -106,8 +103,7 @@ same-length-3 c =
 
 returns-3 : tie.Need-returns-3 Inv-loop μ-loop
 returns-3 c =
-    let loop-test = c .loop-test in
-    let loop = c .before .loop in
+    let loop-test = c .loop-test in let loop = c .before .loop in
     going-end (left-end _ _ _ (loop-test .left)) (loop .inv .2)
 
 pub put-safe-spec : {M : Type 1} → statement M

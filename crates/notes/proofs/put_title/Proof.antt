@@ -12,8 +12,7 @@ returns : tie.Need-returns
 returns c =
     let title-buffer = c .before .before .before .before .before .before .before .before .title-buffer in
     let put-row-text = c .before .before .before .before .before .before .put-row-text in
-    let put-byte = c .before .before .before .put-byte in
-    let if1 = c .if1 in
+    let put-byte = c .before .before .before .put-byte in let if1 = c .if1 in
     counts-as (field-none _ _ (put-row-text .ensures) (title-buffer .ensures) (if1 .taken)) (put-byte .ensures)
 
 slice-aggregate-put-safe : tie.Need-slice-aggregate-put-safe
@@ -28,8 +27,7 @@ returns-2 c =
     let title-buffer = c .before .before .before .before .before .before .before .before .before .before .before .before .before .title-buffer in
     let put-row-text = c .before .before .before .before .before .before .before .before .before .before .before .put-row-text in
     let put-byte = c .before .before .before .before .before .before .before .before .put-byte in
-    let if1 = c .before .before .before .before .before .if1 in
-    let put-safe = c .before .before .put-safe in
+    let if1 = c .before .before .before .before .before .if1 in let put-safe = c .before .before .put-safe in
     counts-as (field-is _ _ (put-row-text .ensures) (title-buffer .ensures) (if1 .left)) (counts-then (put-byte .ensures) (put-safe .ensures))
 
 pub put-title-spec : {M : Type 1} → statement M

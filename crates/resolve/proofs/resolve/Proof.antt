@@ -9,8 +9,7 @@ use Rattle.resolve.proofs.resolve.Tie as tie
 
 resolve-row-requires : tie.Need-resolve-row-requires
 resolve-row-requires c κs =
-    let at-s = c .before .before in
-    let at-read-file = at-s .before .before .before .before .before .before in
+    let at-s = c .before .before in let at-read-file = at-s .before .before .before .before .before .before in
     let entry = at-read-file .before .before .before .before .before .before in (
       rows-room (entry .args .file .now) (length (entry .args .nodes .now)) (length (entry .args .items .now)) (entry .args .row)
           (at-read-file .read-file .ensures .0) (at-read-file .read-file .ensures .1 .0) (at-read-file .read-file .ensures .1 .1)
@@ -48,10 +47,8 @@ same-length-4 c =
 
 returns-2 : tie.Need-returns-2
 returns-2 c =
-    let at-clear-all = c .before .before .before .before in
-    let at-n2 = at-clear-all .before .before .before .before in
-    let at-resolve-row = at-n2 .before .before in
-    let at-s = at-resolve-row .before .before .before in
+    let at-clear-all = c .before .before .before .before in let at-n2 = at-clear-all .before .before .before .before in
+    let at-resolve-row = at-n2 .before .before in let at-s = at-resolve-row .before .before .before in
     let at-read-file = at-s .before .before .before .before .before .before in
     let entry = at-read-file .before .before .before .before .before .before in
     let w = ends-refused (entry .args .file .now) (length (entry .args .nodes .now)) (length (entry .args .items .now)) (entry .args .row)
@@ -62,8 +59,7 @@ returns-2 c =
 
 returns-3 : tie.Need-returns-3
 returns-3 c =
-    let at-resolve-row = c .before .before .before in
-    let at-s = at-resolve-row .before .before .before in
+    let at-resolve-row = c .before .before .before in let at-s = at-resolve-row .before .before .before in
     let at-read-file = at-s .before .before .before .before .before .before in
     let entry = at-read-file .before .before .before .before .before .before in
     let w = ends-at (entry .args .file .now) (length (entry .args .nodes .now)) (length (entry .args .items .now)) (entry .args .row)

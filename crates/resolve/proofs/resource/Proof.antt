@@ -40,8 +40,7 @@ returns c =
 
 returns-2 : tie.Need-returns-2
 returns-2 c =
-    let at-place = c .before .before in
-    let at-resolve = at-place .before .before .before .before .before .before in
+    let at-place = c .before .before in let at-resolve = at-place .before .before .before .before .before .before in
     let entry = at-resolve .before .before .before .before .before .before in
     record {
       gives = part-at (entry .args .file .now) (at-resolve .resolve .result) (at-resolve .resolve .ensures .0)

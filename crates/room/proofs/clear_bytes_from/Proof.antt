@@ -8,8 +8,7 @@ use Rattle.room.proofs.clear_bytes_from.Tie as tie
 
 returns : tie.Need-returns
 returns c =
-    let at-clear-bytes = c .before .before in
-    let at-if1 = at-clear-bytes .before .before in
+    let at-clear-bytes = c .before .before in let at-if1 = at-clear-bytes .before .before in
     let entry = at-if1 .before .before in
     tail-cleared (entry .args .bytes .now) (entry .args .from) (omega (arith, at-if1 .if1 .taken)) (at-clear-bytes .clear-bytes .ensures)
 

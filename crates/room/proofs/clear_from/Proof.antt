@@ -8,9 +8,7 @@ use Rattle.room.proofs.clear_from.Tie as tie
 
 returns : tie.Need-returns
 returns c =
-    let at-clear = c .before .before in
-    let at-if1 = at-clear .before .before in
-    let entry = at-if1 .before .before in
+    let at-clear = c .before .before in let at-if1 = at-clear .before .before in let entry = at-if1 .before .before in
     tail-cleared (entry .args .table .now) (entry .args .from) (omega (arith, at-if1 .if1 .taken)) (at-clear .clear .ensures)
 
 returns-2 : tie.Need-returns-2

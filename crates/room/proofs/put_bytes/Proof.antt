@@ -14,8 +14,7 @@ store-bytes-requires c κs = omega (arith, c .before .before .room-at .ensures, 
 
 returns-2 : tie.Need-returns-2
 returns-2 c =
-    let at-store-bytes = c .before .before in
-    let at-if1 = at-store-bytes .before .before in
+    let at-store-bytes = c .before .before in let at-if1 = at-store-bytes .before .before in
     let at-room-at = at-if1 .before in
     counts-stored _ (omega (arith, at-room-at .room-at .ensures, at-if1 .if1 .left)) (at-store-bytes .store-bytes .ensures)
 

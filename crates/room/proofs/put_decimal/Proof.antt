@@ -12,24 +12,20 @@ returns c = counts-as (decimal-one _ (c .before .before .before .before .if1 .ta
 
 returns-2 : tie.Need-returns-2
 returns-2 c =
-    let at-room-at = c .before .before in
-    let at-digit-count = at-room-at .before in
+    let at-room-at = c .before .before in let at-digit-count = at-room-at .before in
     counts-over _ (omega (arith, c .on .ensures, at-digit-count .digit-count .ensures))
     (omega (arith, at-room-at .room-at .ensures, c .before .if2 .taken, at-digit-count .digit-count .ensures))
 
 store-digits-requires : tie.Need-store-digits-requires
 store-digits-requires c κs =
-    let at-room-at = c .before .before in
-    let at-digit-count = at-room-at .before in
+    let at-room-at = c .before .before in let at-digit-count = at-room-at .before in
     let entry = at-digit-count .before .before .before in
     omega (arith, at-room-at .room-at .ensures, c .before .if2 .left, at-digit-count .digit-count .ensures, some-digit (entry .args .n))
 
 returns-3 : tie.Need-returns-3
 returns-3 c =
-    let at-store-digits = c .before .before in
-    let at-if2 = at-store-digits .before .before in
-    let at-room-at = at-if2 .before in
-    let at-digit-count = at-room-at .before in
+    let at-store-digits = c .before .before in let at-if2 = at-store-digits .before .before in
+    let at-room-at = at-if2 .before in let at-digit-count = at-room-at .before in
     counts-stored _ (omega (arith, at-room-at .room-at .ensures, at-if2 .if2 .left, at-digit-count .digit-count .ensures)) (at-store-digits .store-digits .ensures)
 
 pub put-decimal-spec : {M : Type 1} → statement M

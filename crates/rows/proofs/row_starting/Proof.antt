@@ -26,21 +26,18 @@ node-at-requires c κs = omega (arith, c .before .before .before .pre)
 
 returns : tie.Need-returns Inv-loop μ-loop Inv-loop2 μ-loop2
 returns c =
-    let at-node-at = c .before .before in
-    let entry = at-node-at .before .before .before .before in
+    let at-node-at = c .before .before in let entry = at-node-at .before .before .before .before in
     search-found _ _ _ _ (entry .pre .0) (entry .pre .2) _ (omega arith) (at-node-at .node-at .ensures) (c .if1 .taken)
 
 loop-again : tie.Need-loop-again Inv-loop μ-loop Inv-loop2 μ-loop2
 loop-again c =
-    let at-node-at = c .before .before .before .before in
-    let at-loop = at-node-at .before .before in
+    let at-node-at = c .before .before .before .before in let at-loop = at-node-at .before .before in
     let entry = at-loop .before .before in
     (omega arith, search-later _ _ _ _ (entry .pre .0) (entry .pre .2) _ (omega arith) (at-node-at .node-at .ensures) (at-loop .loop .inv .1) (c .if2 .taken))
 
 loop-again-2 : tie.Need-loop-again-2 Inv-loop μ-loop Inv-loop2 μ-loop2
 loop-again-2 c =
-    let at-node-at = c .before .before .before .before in
-    let at-loop = at-node-at .before .before in
+    let at-node-at = c .before .before .before .before in let at-loop = at-node-at .before .before in
     let entry = at-loop .before .before in
     (omega arith, search-sooner _ _ _ _ (entry .pre .0) (entry .pre .2) _ (omega arith) (at-node-at .node-at .ensures) (at-loop .loop .inv .1) (omega arith))
 
@@ -52,16 +49,13 @@ node-at-requires-2 c κs = omega (arith, c .before .before .before .before .befo
 
 returns-2 : tie.Need-returns-2 Inv-loop μ-loop Inv-loop2 μ-loop2
 returns-2 c =
-    let at-node-at2 = c .before .before in
-    let at-loop2-test = at-node-at2 .before in
-    let at-loop2 = at-loop2-test .before in
-    let entry = at-loop2 .before .before .before .before in
+    let at-node-at2 = c .before .before in let at-loop2-test = at-node-at2 .before in
+    let at-loop2 = at-loop2-test .before in let entry = at-loop2 .before .before .before .before in
     linear-found _ _ _ _ (entry .pre .0) (at-loop2 .loop2 .inv .2) (at-node-at2 .node-at2 .ensures) (at-loop2-test .loop2-test .taken) (c .if3 .taken)
 
 loop2-again : tie.Need-loop2-again Inv-loop μ-loop Inv-loop2 μ-loop2
 loop2-again c =
-    let at-node-at2 = c .before .before in
-    let at-loop2 = at-node-at2 .before .before in
+    let at-node-at2 = c .before .before in let at-loop2 = at-node-at2 .before .before in
     let entry = at-loop2 .before .before .before .before in (
       omega arith,
       omega arith,

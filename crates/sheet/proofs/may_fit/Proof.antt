@@ -34,30 +34,23 @@ item-at-requires c κs = let entry = c .before .before .before .before in omega 
 
 returns-2 : tie.Need-returns-2 Inv-loop μ-loop
 returns-2 c =
-    let at-least-line = c .before in
-    let at-item-at = at-least-line .before in
-    let at-loop-test = at-item-at .before in
-    let at-loop = at-loop-test .before in
-    let a = at-loop .before .before .before .args in
+    let at-least-line = c .before in let at-item-at = at-least-line .before in let at-loop-test = at-item-at .before in
+    let at-loop = at-loop-test .before in let a = at-loop .before .before .before .args in
     let one = least-on (a .items .now) (at-loop .loop .i) (a .end) (at-loop-test .loop-test .taken) in
     let count = at-least-line .least-line .ensures ∙ ap leastLine (at-item-at .item-at .ensures) in
     over-room (a .to + least (a .items .now) (a .from) (a .end)) (a .size) (omega (arith, at-loop .loop .inv .1, one, count, c .if2 .taken))
 
 loop-again : tie.Need-loop-again Inv-loop μ-loop
 loop-again c =
-    let at-least-line = c .before in
-    let at-item-at = at-least-line .before in
-    let at-loop-test = at-item-at .before in
-    let at-loop = at-loop-test .before in
-    let a = at-loop .before .before .before .args in
+    let at-least-line = c .before in let at-item-at = at-least-line .before in let at-loop-test = at-item-at .before in
+    let at-loop = at-loop-test .before in let a = at-loop .before .before .before .args in
     let one = least-on (a .items .now) (at-loop .loop .i) (a .end) (at-loop-test .loop-test .taken) in
     let count = at-least-line .least-line .ensures ∙ ap leastLine (at-item-at .item-at .ensures) in
     (omega arith, omega (arith, at-loop .loop .inv .1, one, count, c .if2 .left))
 
 returns-3 : tie.Need-returns-3 Inv-loop μ-loop
 returns-3 c =
-    let at-loop = c .before in
-    let a = at-loop .before .before .before .args in
+    let at-loop = c .before in let a = at-loop .before .before .before .args in
     let none = least-end (a .items .now) (at-loop .loop .i) (a .end) (c .loop-test .left) in
     in-room (a .to + least (a .items .now) (a .from) (a .end)) (a .size) (omega (arith, at-loop .loop .inv .1, none))
 

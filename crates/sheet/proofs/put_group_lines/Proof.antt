@@ -53,8 +53,7 @@ same-length c = filling-length (c .before .loop .inv .1)
 
 returns : tie.Need-returns Inv-loop μ-loop
 returns c =
-    let a = c .before .before .before .before .before .before .args in
-    let s = c .before .loop in
+    let a = c .before .before .before .before .before .before .args in let s = c .before .loop in
     filling-end (groups-end (a .file .now) (a .nodes .now) (a .items .now) (a .rows) (a .contents) (s .i) (s .first) (c .loop-test .left)) (s .inv .1)
 
 pub put-group-lines-spec : {M : Type 1} → statement M

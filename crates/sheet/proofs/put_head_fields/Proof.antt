@@ -7,8 +7,7 @@ use Rattle.sheet.proofs.put_head_fields.Tie as tie
 
 returns : tie.Need-returns
 returns c =
-    let at-put-byte = c .before .before in
-    let at-put-number3 = at-put-byte .before .before .before .before in
+    let at-put-byte = c .before .before in let at-put-number3 = at-put-byte .before .before .before .before in
     let at-put-number2 = at-put-number3 .before .before .before .before in
     let at-put-number = at-put-number2 .before .before .before .before in
     let at-put-version = at-put-number .before .before .before .before in

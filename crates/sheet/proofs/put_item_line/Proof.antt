@@ -35,18 +35,12 @@ put-text-requires c κs =
 
 returns : tie.Need-returns
 returns c =
-    let at-put-byte3 = c .before .before in
-    let at-put-text = at-put-byte3 .before .before .before .before in
-    let at-item-at5 = at-put-text .before in
-    let at-put-byte2 = at-item-at5 .before .before .before .before in
-    let at-put-number3 = at-put-byte2 .before .before .before .before in
-    let at-item-at4 = at-put-number3 .before in
-    let at-put-number2 = at-item-at4 .before .before .before .before in
-    let at-item-at3 = at-put-number2 .before in
-    let at-put-label = at-item-at3 .before .before .before .before in
-    let at-item-at2 = at-put-label .before in
-    let at-put-number = at-item-at2 .before .before .before .before in
-    let at-item-at = at-put-number .before in
+    let at-put-byte3 = c .before .before in let at-put-text = at-put-byte3 .before .before .before .before in
+    let at-item-at5 = at-put-text .before in let at-put-byte2 = at-item-at5 .before .before .before .before in
+    let at-put-number3 = at-put-byte2 .before .before .before .before in let at-item-at4 = at-put-number3 .before in
+    let at-put-number2 = at-item-at4 .before .before .before .before in let at-item-at3 = at-put-number2 .before in
+    let at-put-label = at-item-at3 .before .before .before .before in let at-item-at2 = at-put-label .before in
+    let at-put-number = at-item-at2 .before .before .before .before in let at-item-at = at-put-number .before in
     let at-put-byte = at-item-at .before .before .before .before in
     counts-as (item-is _ _ (at-item-at .item-at .ensures) (at-item-at2 .item-at2 .ensures) (at-item-at3 .item-at3 .ensures)
     (at-item-at4 .item-at4 .ensures) (at-item-at5 .item-at5 .ensures))

@@ -25,10 +25,8 @@ may-fit-requires c κs = let entry = c .before .before .before .before in (entry
 
 returns : tie.Need-returns Inv-loop μ-loop
 returns c =
-    let at-may-fit = c .before in
-    let at-shared-slice-known = at-may-fit .before .before .before in
-    let entry = at-shared-slice-known .before .before in
-    let a = entry .args in
+    let at-may-fit = c .before in let at-shared-slice-known = at-may-fit .before .before .before in
+    let entry = at-shared-slice-known .before .before in let a = entry .args in
     let lines = itemsFrom (a .from) (a .end - a .from) (a .items .now) in
     let least = lines-least (a .items .now) (a .file .now) (λ i. omega (arith, at-shared-slice-known .shared-slice-known .given i)) (a .from) (a .end - a .from)
     (λ j l. entry .pre .1 .1 j (omega (arith, entry .pre .0))) in
@@ -45,8 +43,7 @@ put-visible-line-requires c κs =
 
 returns-2 : tie.Need-returns-2 Inv-loop μ-loop
 returns-2 c =
-    let at-put-visible-line = c .before .before .before in
-    let at-loop-test = at-put-visible-line .before .before in
+    let at-put-visible-line = c .before .before .before in let at-loop-test = at-put-visible-line .before .before in
     let at-loop = at-loop-test .before in
     let one = filling-on (items-on _ _ _ _ (at-loop-test .loop-test .taken)) (at-loop .loop .inv .1) (fills-counts (at-put-visible-line .put-visible-line .ensures)) in
     filling-past one (omega (arith, c .if3 .taken, filling-length one))
@@ -56,8 +53,7 @@ same-length c = returns-2 c .long
 
 loop-again : tie.Need-loop-again Inv-loop μ-loop
 loop-again c =
-    let at-put-visible-line = c .before .before .before in
-    let at-loop-test = at-put-visible-line .before .before in
+    let at-put-visible-line = c .before .before .before in let at-loop-test = at-put-visible-line .before .before in
     let at-loop = at-loop-test .before in
     (omega arith, filling-on (items-on _ _ _ _ (at-loop-test .loop-test .taken)) (at-loop .loop .inv .1) (fills-counts (at-put-visible-line .put-visible-line .ensures)))
 

@@ -15,10 +15,8 @@ put-escaped-requires c κs =
 
 returns : tie.Need-returns
 returns c =
-    let at-put-escaped = c .before .before in
-    let at-put-byte3 = at-put-escaped .before .before .before .before in
-    let at-put-byte2 = at-put-byte3 .before .before .before .before in
-    let at-if1 = at-put-byte2 .before .before in
+    let at-put-escaped = c .before .before in let at-put-byte3 = at-put-escaped .before .before .before .before in
+    let at-put-byte2 = at-put-byte3 .before .before .before .before in let at-if1 = at-put-byte2 .before .before in
     let at-put-byte = at-if1 .before .before .before .before in
     counts-as (label-custom _ _ (at-if1 .if1 .taken))
     (counts-then (counts-then (counts-then (at-put-byte .put-byte .ensures) (at-put-byte2 .put-byte2 .ensures))
@@ -26,10 +24,8 @@ returns c =
 
 returns-2 : tie.Need-returns-2
 returns-2 c =
-    let at-put-number = c .before .before in
-    let at-put-byte4 = at-put-number .before .before .before .before in
-    let at-if1 = at-put-byte4 .before .before in
-    let at-put-byte = at-if1 .before .before .before .before in
+    let at-put-number = c .before .before in let at-put-byte4 = at-put-number .before .before .before .before in
+    let at-if1 = at-put-byte4 .before .before in let at-put-byte = at-if1 .before .before .before .before in
     counts-as (label-standard _ _ (at-if1 .if1 .left))
     (counts-then (counts-then (at-put-byte .put-byte .ensures) (at-put-byte4 .put-byte4 .ensures)) (at-put-number .put-number .ensures))
 

@@ -13,8 +13,7 @@ returns c = fills-past _ (omega arith) (c .if1 .taken) (omega (arith, c .if1 .ta
 
 returns-2 : tie.Need-returns-2
 returns-2 c =
-    let at-put-byte2 = c .before .before in
-    let at-put-number6 = at-put-byte2 .before .before .before .before in
+    let at-put-byte2 = c .before .before in let at-put-number6 = at-put-byte2 .before .before .before .before in
     let at-put-number5 = at-put-number6 .before .before .before .before in
     let at-put-number4 = at-put-number5 .before .before .before .before in
     let at-put-number3 = at-put-number4 .before .before .before .before in

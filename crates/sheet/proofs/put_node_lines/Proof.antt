@@ -25,10 +25,8 @@ node-at-requires c κs = omega (arith, c .before .before .before .before .before
 
 loop-again : tie.Need-loop-again Inv-loop μ-loop
 loop-again c =
-    let at-put-node-line = c .before .before in
-    let at-node-at = at-put-node-line .before in
-    let at-loop-test = at-node-at .before .before in
-    let at-loop = at-loop-test .before in
+    let at-put-node-line = c .before .before in let at-node-at = at-put-node-line .before in
+    let at-loop-test = at-node-at .before .before in let at-loop = at-loop-test .before in
     (omega arith, filling-on (nodes-on _ _ _ (at-loop-test .loop-test .taken) (at-node-at .node-at .ensures)) (at-loop .loop .inv .1) (at-put-node-line .put-node-line .ensures))
 
 same-length : tie.Need-same-length Inv-loop μ-loop

@@ -12,8 +12,7 @@ returns c = counts-as (line-hidden _ _ (c .before .before .item-at .ensures) (c 
 
 returns-2 : tie.Need-returns-2
 returns-2 c =
-    let at-put-item-line = c .before .before in
-    let at-if1 = at-put-item-line .before .before in
+    let at-put-item-line = c .before .before in let at-if1 = at-put-item-line .before .before in
     let at-item-at = at-if1 .before .before in
     counts-as (line-shown _ _ (at-item-at .item-at .ensures) (at-if1 .if1 .left)) (at-put-item-line .put-item-line .ensures)
 

@@ -22,8 +22,7 @@ slice-aggregate-get-words c =
 
 returns-2 : tie.Need-returns-2
 returns-2 c =
-    let d = c .before .before .before .before .before in
-    let a = d .before .before .before .before .args in
+    let d = c .before .before .before .before .before in let a = d .before .before .before .before .args in
     λ ys k e. got-row (a .a) ys (a .n) (d .words-of .result) (a .text .now) (d .before .if1 .left) k e (d .words-of .ensures)
     (getting (label (a .desk) (a .call) (a .boat)) (length (a .out .now))) (length (a .out .now)) (c .before .before .get-words .ensures)
 

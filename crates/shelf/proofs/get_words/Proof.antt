@@ -17,15 +17,13 @@ card-at-requires c κs =
 
 mul-give : tie.Need-mul-give
 mul-give c =
-    let d = c .before .before in
-    let a = d .before .before .before .before .before .before .args in
+    let d = c .before .before in let a = d .before .before .before .before .before .before .args in
     let i = sheet-part (a .words .now) (a .text .now) (label (a .desk) (a .call) (a .boat)) (d .before .before .find-sheet .ensures) (d .place2 .given .1) in
     record { fits = omega (arith, part-in (length (a .text .now)) (d .place2 .given .0 .0) i) }
 
 give-requires : tie.Need-give-requires
 give-requires c κs =
-    let d = c .before .before .before in
-    let a = d .before .before .before .before .before .before .args in
+    let d = c .before .before .before in let a = d .before .before .before .before .before .before .args in
     sheet-in (a .words .now) (a .text .now) (label (a .desk) (a .call) (a .boat)) (d .before .before .find-sheet .ensures) (d .place2 .given .1) (c .before .card-at .ensures)
 
 returns : tie.Need-returns

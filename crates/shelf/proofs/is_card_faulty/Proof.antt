@@ -21,8 +21,7 @@ returns-2 c = faulty-long _ (c .before .before .before .before .card-at .ensures
 
 returns-3 : tie.Need-returns-3
 returns-3 c =
-    let d = c .before .before .before .before .before in
-    let s = d .before .before .args in
+    let d = c .before .before .before .before .before in let s = d .before .before .args in
     let k : length (cardsOf (s .words .now)) ≡ length (s .words .now) / 4 = count (s .words .now) in
     ap (ltb (c .find-from .result)) (sym k)
     ∙ some-from (isFor (labelOf (d .card-at .result))) (cardsOf (s .words .now)) (s .i + 1) (c .find-from .result) (omega arith) (c .find-from .ensures)

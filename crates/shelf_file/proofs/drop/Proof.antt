@@ -19,8 +19,7 @@ returns-2 : tie.Need-returns-2
 returns-2 c =
     let at-put-words = c .before .before in
     let at-drop-words = at-put-words .before .before .before .before .before .before in
-    let at-words-in = at-drop-words .before .before .before in
-    let at-if1 = at-words-in .before .before in
+    let at-words-in = at-drop-words .before .before .before in let at-if1 = at-words-in .before .before in
     let a = at-if1 .before .before .args in
     left (dropping (label (a .desk) (a .call) (a .boat))) (a .file .now) (at-if1 .if1 .left)
     (drop-keeps (label (a .desk) (a .call) (a .boat)) (shelfIn (a .file .now))) (at-words-in .words-in .ensures) (at-drop-words .drop-words .ensures)

@@ -19,8 +19,7 @@ returns-2 : tie.Need-returns-2
 returns-2 c =
     let at-put-words2 = c .before .before in
     let at-put-words = at-put-words2 .before .before .before .before .before .before in
-    let at-words-in = at-put-words .before .before .before in
-    let at-if1 = at-words-in .before .before in
+    let at-words-in = at-put-words .before .before .before in let at-if1 = at-words-in .before .before in
     let a = at-if1 .before .before .before .args in
     left (putting (label (a .desk) (a .call) (a .boat)) (a .sheet .now)) (a .file .now) (at-if1 .if1 .left)
     (put-keeps (label (a .desk) (a .call) (a .boat)) (a .sheet .now) (shelfIn (a .file .now))) (at-words-in .words-in .ensures) (at-put-words .put-words .ensures)

@@ -8,10 +8,8 @@ use Rattle.shelf_file.proofs.put_refusal.Tie as tie
 
 returns : tie.Need-returns
 returns c =
-    let at-end = c .before .before in
-    let at-place = at-end .before .before .before .before in
-    let at-tab = at-place .before .before .before .before in
-    let at-number = at-tab .before .before .before .before in
+    let at-end = c .before .before in let at-place = at-end .before .before .before .before in
+    let at-tab = at-place .before .before .before .before in let at-number = at-tab .before .before .before .before in
     let at-letter = at-number .before .before .before .before in
     counts-as (refusal-is _ _)
     (counts-then (counts-then (counts-then (counts-then (at-letter .put-bytes .ensures) (at-number .put-decimal .ensures)) (at-tab .put-byte .ensures))

@@ -22,8 +22,7 @@ loop-holds c = going-start _ (omega arith) refl
 
 loop-again : tie.Need-loop-again Inv-loop μ-loop
 loop-again c =
-    let at-put-eight = c .before .before in
-    let at-test = at-put-eight .before .before .before in
+    let at-put-eight = c .before .before in let at-test = at-put-eight .before .before .before in
     going-on (eights-next _ _ (at-test .loop-test .taken)) (at-test .before .loop .inv) (at-put-eight .put-eight .ensures)
 
 same-length : tie.Need-same-length Inv-loop μ-loop

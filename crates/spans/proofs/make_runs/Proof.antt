@@ -8,34 +8,28 @@ use Rattle.spans.proofs.make_runs.Tie as tie
 
 array-share-prefix-kinds : tie.Need-array-share-prefix-kinds
 array-share-prefix-kinds c =
-    let after-n2 = c .before .before in
-    let after-mark = after-n2 .before .before .before .before .before in
+    let after-n2 = c .before .before in let after-mark = after-n2 .before .before .before .before .before in
     let after-file-buffer = after-mark .before .before .before .before in
-    let after-item-table = after-file-buffer .before in
-    let after-node-table = after-item-table .before in
+    let after-item-table = after-file-buffer .before in let after-node-table = after-item-table .before in
     stored _ (after-node-table .node-table .ensures) (after-item-table .item-table .ensures) (after-file-buffer .file-buffer .ensures)
     (after-mark .mark .ensures .0) (after-n2 .n2 .given .1)
     (after-mark .mark .ensures .1 .1 .1) .0
 
 slice-aggregate-put-runs : tie.Need-slice-aggregate-put-runs
 slice-aggregate-put-runs c =
-    let after-n2 = c .before .before .before in
-    let after-mark = after-n2 .before .before .before .before .before in
+    let after-n2 = c .before .before .before in let after-mark = after-n2 .before .before .before .before .before in
     let after-file-buffer = after-mark .before .before .before .before in
-    let after-item-table = after-file-buffer .before in
-    let after-node-table = after-item-table .before in
+    let after-item-table = after-file-buffer .before in let after-node-table = after-item-table .before in
     stored _ (after-node-table .node-table .ensures) (after-item-table .item-table .ensures) (after-file-buffer .file-buffer .ensures)
     (after-mark .mark .ensures .0) (after-n2 .n2 .given .1)
     (after-mark .mark .ensures .1 .1 .1) .1
 
 returns : tie.Need-returns
 returns c =
-    let after-refuse = c .before .before in
-    let after-n = after-refuse .before .before .before .before in
+    let after-refuse = c .before .before in let after-n = after-refuse .before .before .before .before in
     let after-mark = after-n .before .before .before .before .before in
     let after-file-buffer = after-mark .before .before .before .before in
-    let after-item-table = after-file-buffer .before in
-    let after-node-table = after-item-table .before in
+    let after-item-table = after-file-buffer .before in let after-node-table = after-item-table .before in
     gives-as
     (runs-bad _ (after-node-table .node-table .ensures) (after-item-table .item-table .ensures) (after-file-buffer .file-buffer .ensures)
     (after-mark .mark .ensures .0) (after-n .n .given .1) _)
@@ -48,8 +42,7 @@ returns-2 c =
     let after-n2 = after-put-runs .before .before .before .before in
     let after-mark = after-n2 .before .before .before .before .before in
     let after-file-buffer = after-mark .before .before .before .before in
-    let after-item-table = after-file-buffer .before in
-    let after-node-table = after-item-table .before in
+    let after-item-table = after-file-buffer .before in let after-node-table = after-item-table .before in
     gives-as
     (runs-good _ (after-node-table .node-table .ensures) (after-item-table .item-table .ensures) (after-file-buffer .file-buffer .ensures)
     (after-mark .mark .ensures .0) (after-n2 .n2 .given .1) (after-mark .mark .ensures .1 .1 .1) _)

@@ -8,8 +8,7 @@ use Rattle.spans.proofs.put_run.Tie as tie
 
 returns : tie.Need-returns
 returns c =
-    let after-put-byte2 = c .before .before in
-    let after-put-name = after-put-byte2 .before .before .before .before in
+    let after-put-byte2 = c .before .before in let after-put-name = after-put-byte2 .before .before .before .before in
     let after-put-number2 = after-put-name .before .before .before .before in
     let after-put-number = after-put-number2 .before .before .before .before in
     let after-put-byte = after-put-number .before .before .before .before in

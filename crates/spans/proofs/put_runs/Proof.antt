@@ -34,8 +34,7 @@ loop-less c = omega (arith, c .before .before .before .before .before .run-end .
 
 loop-again : tie.Need-loop-again Inv-loop μ-loop
 loop-again c =
-    let at-put-run = c .before .before in
-    let at-run-end = at-put-run .before .before .before in
+    let at-put-run = c .before .before in let at-run-end = at-put-run .before .before .before in
     let at-loop = at-run-end .before .before in
     (at-run-end .run-end .ensures .within, going-on (lines-next _ (at-run-end .run-end .ensures)) (at-loop .loop .inv .1) (at-put-run .put-run .ensures))
 

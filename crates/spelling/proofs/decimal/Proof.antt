@@ -32,9 +32,7 @@ returns-3 c =
 
 loop-again : tie.Need-loop-again Inv-loop μ-loop
 loop-again c =
-    let at-if3 = c .before in
-    let at-if2 = at-if3 .before in
-    let test = at-if2 .before .before in
+    let at-if3 = c .before in let at-if2 = at-if3 .before in let test = at-if2 .before .before in
     let inv = test .before .loop .inv in
     (omega arith, inv .1, read-more _ _ _ (inv .2) (c .push .result) (test .loop-test .taken) (at-if2 .if2 .left) (at-if3 .if3 .left) (c .push .ensures))
 

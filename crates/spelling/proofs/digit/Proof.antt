@@ -23,16 +23,13 @@ returns-3 c =
 returns-4 : tie.Need-returns-4
 unfolding hexValue
 returns-4 c =
-    let at-if3 = c .before in
-    let at-if2 = at-if3 .before in
+    let at-if3 = c .before in let at-if2 = at-if3 .before in
     simp (le-ltb _ 0x30 (at-if2 .before .if1 .left), lt-leb _ 0x39 (at-if2 .if2 .left), le-ltb _ 0x41 (at-if3 .if3 .left), le-leb _ 0x46 (c .if4 .taken))
 
 returns-5 : tie.Need-returns-5
 unfolding hexValue
 returns-5 c =
-    let at-if4 = c .before in
-    let at-if3 = at-if4 .before in
-    let at-if2 = at-if3 .before in
+    let at-if4 = c .before in let at-if3 = at-if4 .before in let at-if2 = at-if3 .before in
     simp (
       le-ltb _ 0x30 (at-if2 .before .if1 .left),
       lt-leb _ 0x39 (at-if2 .if2 .left),
@@ -45,9 +42,7 @@ returns-5 c =
 returns-6 : tie.Need-returns-6
 unfolding hexValue
 returns-6 c =
-    let at-if5 = c .before in
-    let at-if4 = at-if5 .before in
-    let at-if3 = at-if4 .before in
+    let at-if5 = c .before in let at-if4 = at-if5 .before in let at-if3 = at-if4 .before in
     let at-if2 = at-if3 .before in
     simp (
       le-ltb _ 0x30 (at-if2 .before .if1 .left),
@@ -62,9 +57,7 @@ returns-6 c =
 returns-7 : tie.Need-returns-7
 unfolding hexValue
 returns-7 c =
-    let at-if5 = c .before in
-    let at-if4 = at-if5 .before in
-    let at-if3 = at-if4 .before in
+    let at-if5 = c .before in let at-if4 = at-if5 .before in let at-if3 = at-if4 .before in
     let at-if2 = at-if3 .before in
     simp (
       le-ltb _ 0x30 (at-if2 .before .if1 .left),

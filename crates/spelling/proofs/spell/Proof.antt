@@ -54,8 +54,7 @@ mul-bytes c =
 
 add-bytes : tie.Need-add-bytes Inv-loop μ-loop
 add-bytes c =
-    let if3 = c .before .if3 in
-    let if4 = c .if4 in
+    let if3 = c .before .if3 in let if4 = c .if4 in
     omega (arith, if3 .left, if4 .left)
 
 slice-write-bytes : tie.Need-slice-write-bytes Inv-loop μ-loop
@@ -67,10 +66,8 @@ slice-write-bytes c =
 
 loop-again : tie.Need-loop-again Inv-loop μ-loop
 loop-again c =
-    let at-digit2 = c .before .before in
-    let at-digit = at-digit2 .before .before in
-    let at-test = at-digit .before .before in
-    let at-loop = at-test .before in
+    let at-digit2 = c .before .before in let at-digit = at-digit2 .before .before in
+    let at-test = at-digit .before .before in let at-loop = at-test .before in
     let room : at-loop .loop .i < length (at-loop .loop .bytes) = omega (arith, at-loop .loop .inv .1 .long, at-loop .before .if2 .left, at-test .loop-test .taken) in
     (omega arith, store-more _ _ _ _ (at-loop .loop .inv .1) _ _ room (at-digit .digit .ensures) (at-digit2 .digit2 .ensures) (c .before .if3 .left) (c .if4 .left))
 
@@ -87,5 +84,4 @@ returns-5 c =
 pub spell-spec : {M : Type 1} → statement M
 spell-spec = tie.close (tie.spec Inv-loop μ-loop returns returns-2 loop-holds (λ c. omega arith) (λ c. omega arith) (λ c κs. search needs)
     (λ c. omega arith) (λ c. omega arith) (λ c. omega arith) (λ c κs. search needs) same-length returns-3 same-length-2
-    returns-4 mul-bytes add-bytes slice-write-bytes (λ c. search needs) (λ c. search needs) loop-again same-length-3
-    returns-5)
+    returns-4 mul-bytes add-bytes slice-write-bytes (λ c. search needs) (λ c. search needs) loop-again same-length-3 returns-5)

@@ -33,10 +33,8 @@ returns-2 c =
 
 returns-3 : tie.Need-returns-3
 returns-3 c =
-    let at-if2 = c .before .before in
-    let same = at-if2 .before .same in
-    let at-if1 = at-if2 .before .before .before .before in
-    let word = at-if1 .before .before .args .word .now in
+    let at-if2 = c .before .before in let same = at-if2 .before .same in
+    let at-if1 = at-if2 .before .before .before .before in let word = at-if1 .before .before .args .word .now in
     let descriptor = c .descriptor in
     let fits : SFits w32 (descriptor .result) = search needs in
     rw (toZ-ofZ w32 (descriptor .result) fits) (record {

@@ -7,8 +7,7 @@ use Rattle.storage.proofs.read_from.Tie as tie
 
 returns-2 : tie.Need-returns-2
 returns-2 c =
-    let read-input = c .before .before .before .before .before .read-input in
-    let n = c .before .n in
+    let read-input = c .before .before .before .before .before .read-input in let n = c .before .n in
     input-counted (read-input .last .1 .0) (read-input .ensures) (n .given .1)
 
 pub read-from-spec : {M : Type 1} → statement M

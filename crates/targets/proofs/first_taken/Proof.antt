@@ -1,4 +1,4 @@
--- `first_taken` gives what `firstTaken` gives. The invariant: the rows from row i on take so much.
+-- `first_taken` goes over the rows from the last on. The invariant: what the rows from row i on take.
 -- Assumes nothing.
 use mathlib.Core.Path.{ap, _∙_}
 use Prim.Native.Nat.{_-_, _+_, _≤_, min}
@@ -24,8 +24,7 @@ node-at-requires c κs = omega (arith, c .before .before .before .pre)
 
 add-if2 : tie.Need-add-if2 Inv-loop μ-loop
 add-if2 c =
-    let at-node-at = c .before .before .before in
-    let at-loop = at-node-at .before .before in
+    let at-node-at = c .before .before .before in let at-loop = at-node-at .before .before in
     let entry = at-loop .before .before in
     let w = entry .pre .2 (at-loop .loop .i - 1) (omega arith) in omega (
       arith,
@@ -35,10 +34,8 @@ add-if2 c =
 
 loop-again : tie.Need-loop-again Inv-loop μ-loop
 loop-again c =
-    let at-if2 = c .before .before in
-    let at-if1 = at-if2 .before .before .before in
-    let at-node-at = at-if1 .before .before in
-    let at-loop = at-node-at .before .before in
+    let at-if2 = c .before .before in let at-if1 = at-if2 .before .before .before in
+    let at-node-at = at-if1 .before .before in let at-loop = at-node-at .before .before in
     let entry = at-loop .before .before in (
       omega arith,
       omega arith,
@@ -49,8 +46,7 @@ loop-again c =
 
 loop-again-2 : tie.Need-loop-again-2 Inv-loop μ-loop
 loop-again-2 c =
-    let at-node-at = c .before .before .before .before .before in
-    let at-loop = at-node-at .before .before in
+    let at-node-at = c .before .before .before .before .before in let at-loop = at-node-at .before .before in
     let entry = at-loop .before .before in (
       omega arith,
       omega arith,
@@ -61,8 +57,7 @@ loop-again-2 c =
 
 loop-again-3 : tie.Need-loop-again-3 Inv-loop μ-loop
 loop-again-3 c =
-    let at-node-at = c .before .before in
-    let at-loop = at-node-at .before .before in
+    let at-node-at = c .before .before in let at-loop = at-node-at .before .before in
     let entry = at-loop .before .before in (
       omega arith,
       omega arith,
@@ -73,8 +68,7 @@ loop-again-3 c =
 
 returns : tie.Need-returns Inv-loop μ-loop
 returns c =
-    let at-loop = c .before in
-    let entry = at-loop .before .before in
+    let at-loop = c .before in let entry = at-loop .before .before in
     let e = at-loop .loop .inv .2 in e ∙ taken-done (entry .args .nodes .now) (entry .args .count) (entry .args .tree) (entry .args .place .0)
     (entry .args .end .0) (at-loop .loop .i) (omega arith) (entry .pre .0) (entry .pre .3)
 

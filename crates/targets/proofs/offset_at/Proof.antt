@@ -28,20 +28,15 @@ of-requires c κs =
 
 returns : tie.Need-returns
 returns c =
-    let at-number = c .before .before .before in
-    let at-of = at-number .before in
-    let at-node-at = at-of .before in
+    let at-number = c .before .before .before in let at-of = at-number .before in let at-node-at = at-of .before in
     let entry = at-node-at .before .before .before in
     offset-is _ _ _ (entry .pre .0) (at-node-at .node-at .ensures) _ _ (at-of .of .ensures)
     (sym (was numberTold (at-number .number .ensures referenceFrame) (c .before .place .given .1)))
 
 returns-2 : tie.Need-returns-2
 returns-2 c =
-    let at-next = c .before .before in
-    let at-number = at-next .before .before in
-    let at-of = at-number .before in
-    let at-node-at = at-of .before in
-    let entry = at-node-at .before .before .before in
+    let at-next = c .before .before in let at-number = at-next .before .before in let at-of = at-number .before in
+    let at-node-at = at-of .before in let entry = at-node-at .before .before .before in
     offset-is _ _ _ (entry .pre .0) (at-node-at .node-at .ensures) _ _ (at-of .of .ensures)
     (sym (was numberTold (at-number .number .ensures referenceFrame) (at-next .next .given .1)))
 

@@ -17,8 +17,7 @@ node-at-requires c κs = omega (arith, c .before .before .pre .0, c .if1 .left)
 
 add-greater : tie.Need-add-greater
 add-greater c =
-    let at-node-at = c .before .before .before .before in
-    let at-if1 = at-node-at .before in
+    let at-node-at = c .before .before .before .before in let at-if1 = at-node-at .before in
     let entry = at-if1 .before .before in
     let w = entry .pre .1 (entry .args .known) (omega (arith, at-if1 .if1 .left)) in
     omega (
@@ -29,10 +28,8 @@ add-greater c =
 
 returns-2 : tie.Need-returns-2
 returns-2 c =
-    let at-lesser = c .before .before in
-    let at-node-at = at-lesser .before .before .before in
-    let at-if1 = at-node-at .before in
-    let entry = at-if1 .before .before in
+    let at-lesser = c .before .before in let at-node-at = at-lesser .before .before .before in
+    let at-if1 = at-node-at .before in let entry = at-if1 .before .before in
     let e = sym (row-is (entry .args .nodes .now) (entry .args .count) (entry .args .known) (omega (arith, at-if1 .if1 .left)) (at-node-at .node-at .ensures)) in (
       λ l. absurd (omega (arith, at-if1 .if1 .left)),
       λ l. record {

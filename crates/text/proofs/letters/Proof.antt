@@ -24,8 +24,7 @@ returns c = c .before .before .before .loop .inv .1
 
 loop-again : tie.Need-loop-again Inv-loop μ-loop
 loop-again c =
-    let at-is-letter = c .before in
-    let at-loop-test = at-is-letter .before in
+    let at-is-letter = c .before in let at-loop-test = at-is-letter .before in
     let at-loop = at-loop-test .before in (
       at-loop .loop .inv .0,
       letters-more _ _ _ (at-loop .loop .inv .1) (omega arith) (sym (at-is-letter .is-letter .ensures) ∙ not-false _ (c .if1 .left)),

@@ -32,10 +32,8 @@ loop-less c = omega (arith, c .before .before .before .before .plain-end .ensure
 
 loop-again : tie.Need-loop-again Inv-loop μ-loop
 loop-again c =
-    let at-put-part = c .before .before in
-    let at-plain-end = at-put-part .before .before in
-    let at-if1 = at-plain-end .before in
-    let at-is-plain = at-if1 .before in
+    let at-put-part = c .before .before in let at-plain-end = at-put-part .before .before in
+    let at-if1 = at-plain-end .before in let at-is-plain = at-if1 .before in
     let at-loop = at-is-plain .before .before .before in (
       at-plain-end .plain-end .ensures .1,
       omega arith,
@@ -56,12 +54,9 @@ loop-less-2 c = omega (arith, c .before .before .put-hexes .ensures .0, c .befor
 
 loop-again-2 : tie.Need-loop-again-2 Inv-loop μ-loop
 loop-again-2 c =
-    let at-put-hexes = c .before .before in
-    let at-put-hex = at-put-hexes .before .before .before .before .before in
-    let at-if1 = at-put-hex .before .before .before in
-    let at-is-plain = at-if1 .before in
-    let at-loop-test = at-is-plain .before .before in
-    let at-loop = at-loop-test .before in
+    let at-put-hexes = c .before .before in let at-put-hex = at-put-hexes .before .before .before .before .before in
+    let at-if1 = at-put-hex .before .before .before in let at-is-plain = at-if1 .before in
+    let at-loop-test = at-is-plain .before .before in let at-loop = at-loop-test .before in
     let hexes = at-put-hexes .put-hexes .ensures in
     let one = going-on
     (put-hexed _ _ _ (at-loop-test .loop-test .taken) (omega arith) (sym (at-is-plain .is-plain .ensures) ∙ at-if1 .if1 .left))

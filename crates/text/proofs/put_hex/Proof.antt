@@ -11,8 +11,7 @@ use Rattle.text.proofs.put_hex.Tie as tie
 
 returns : tie.Need-returns
 returns c =
-    let at-room-at = c .before .before in
-    let entry = at-room-at .before .before in
+    let at-room-at = c .before .before in let entry = at-room-at .before .before in
     counts-as (hexed-is (entry .args .byte) (entry .pre)) (counts-over _ (c .on .ensures) (omega (arith, at-room-at .room-at .ensures, c .before .if1 .taken)))
 
 slice-write-out-2 : tie.Need-slice-write-out-2
@@ -23,9 +22,7 @@ slice-write-out-3 c = simp length-set (omega (arith, c .before .before .before .
 
 returns-2 : tie.Need-returns-2
 returns-2 c =
-    let at-if1 = c .before .before in
-    let at-room-at = at-if1 .before in
-    let entry = at-room-at .before .before in
+    let at-if1 = c .before .before in let at-room-at = at-if1 .before in let entry = at-room-at .before .before in
     counts-as (hexed-is (entry .args .byte) (entry .pre))
     (counts-stored _ (omega (arith, at-room-at .room-at .ensures, at-if1 .if1 .left))
     (stored-three (entry .args .out .now) (entry .args .to) 0x5C (getD (entry .args .hex .now) (entry .args .byte / 16) 0)

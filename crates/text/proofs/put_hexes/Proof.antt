@@ -31,9 +31,7 @@ put-hex-requires c κs = c .before .before .before .before .before .before .befo
 
 loop-again : tie.Need-loop-again Inv-loop μ-loop
 loop-again c =
-    let at-put-hex = c .before .before in
-    let at-if1 = at-put-hex .before .before in
-    let at-is-plain = at-if1 .before in
+    let at-put-hex = c .before .before in let at-if1 = at-put-hex .before .before in let at-is-plain = at-if1 .before in
     let at-loop = at-is-plain .before .before .before in (
       omega arith,
       omega arith,

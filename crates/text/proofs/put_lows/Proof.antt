@@ -18,8 +18,7 @@ abbrev μ-loop : tie.MeasureT-loop
 
 returns : tie.Need-returns Inv-loop μ-loop
 returns c =
-    let at-room-at = c .before .before in
-    let a = at-room-at .before .before .before .args in
+    let at-room-at = c .before .before in let a = at-room-at .before .before .before .args in
     let long = lows-length (a .units .now) (a .from) (a .size) in
     counts-over _ (omega (arith, long, c .on .ensures)) (omega (arith, long, at-room-at .room-at .ensures, c .before .if1 .taken))
 
@@ -28,8 +27,7 @@ loop-holds c = none _ _ _
 
 loop-again : tie.Need-loop-again Inv-loop μ-loop
 loop-again c =
-    let s = c .before .before .loop in
-    let a = c .before .before .before .before .before .before .before .args in
+    let s = c .before .before .loop in let a = c .before .before .before .before .before .before .before .args in
     let long = lows-length (a .units .now) (a .from) (a .size) in
     rw (lows-at (a .units .now) (a .from) (a .size) (s .i) (c .before .loop-test .taken)) at
     (more (a .out .now) (a .to) (lows (a .units .now) (a .from) (a .size)) (s .i) (s .out) (omega (arith, long, c .before .loop-test .taken)) (s .inv))
@@ -39,8 +37,7 @@ same-length c = c .before .loop .inv .same
 
 returns-2 : tie.Need-returns-2 Inv-loop μ-loop
 returns-2 c =
-    let at-if1 = c .before .before in
-    let at-room-at = at-if1 .before in
+    let at-if1 = c .before .before in let at-room-at = at-if1 .before in
     let a = at-room-at .before .before .before .args in
     let long = lows-length (a .units .now) (a .from) (a .size) in
     counts-stored _ (omega (arith, long, at-room-at .room-at .ensures, at-if1 .if1 .left))

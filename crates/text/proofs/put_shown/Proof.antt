@@ -30,9 +30,7 @@ same-length c = conv-length (c .before .before .before .before .loop .inv)
 
 returns : tie.Need-returns Inv-loop μ-loop
 returns c =
-    let at-char16 = c .before .before in
-    let at-loop-test = at-char16 .before in
-    let at-loop = at-loop-test .before in
+    let at-char16 = c .before .before in let at-loop-test = at-char16 .before in let at-loop = at-loop-test .before in
     let entry = at-loop .before .before .before .before in
     shown-never (toUtf8 (entry .args .units .now)) (entry .pre)
     (conv-bad (at-loop .loop .inv) (at-loop-test .loop-test .taken) (sym (ap charTold (c .enum-told .given .1)) ∙ at-char16 .char16 .ensures))
@@ -53,22 +51,17 @@ loop-less c =
 
 loop-again : tie.Need-loop-again Inv-loop μ-loop
 loop-again c =
-    let at-put-lows = c .before .before in
-    let at-letters-with = at-put-lows .before .before .before in
-    let at-value = at-letters-with .before .before in
-    let at-char16 = at-value .before .before in
-    let at-loop = at-char16 .before .before in
-    let at-shared-slice-known = at-loop .before .before in
+    let at-put-lows = c .before .before in let at-letters-with = at-put-lows .before .before .before in
+    let at-value = at-letters-with .before .before in let at-char16 = at-value .before .before in
+    let at-loop = at-char16 .before .before in let at-shared-slice-known = at-loop .before .before in
     let entry = at-shared-slice-known .before .before in
     conv-letters (entry .args .units .now) (λ i. omega (arith, at-shared-slice-known .shared-slice-known .given i)) _
     (at-letters-with .letters-with .ensures) (at-loop .loop .inv) (at-put-lows .put-lows .ensures)
 
 put-shown-char-requires : tie.Need-put-shown-char-requires Inv-loop μ-loop
 put-shown-char-requires c κs =
-    let at-value = c .before .before .before .before in
-    let at-char16 = at-value .before .before in
-    let at-loop = at-char16 .before .before in
-    let at-shared-slice-known = at-loop .before .before in
+    let at-value = c .before .before .before .before in let at-char16 = at-value .before .before in
+    let at-loop = at-char16 .before .before in let at-shared-slice-known = at-loop .before .before in
     let entry = at-shared-slice-known .before .before in
     (let w = char-in form16 (entry .args .units .now) (λ i. omega (arith, at-shared-slice-known .shared-slice-known .given i)) _
     (sym (ap charTold (at-value .value .given .1)) ∙ at-char16 .char16 .ensures) (at-loop .loop .inv .within) in w .0 .most)
@@ -76,20 +69,16 @@ put-shown-char-requires c κs =
 add-at-2 : tie.Need-add-at-2 Inv-loop μ-loop
 add-at-2 c =
     let at-value = c .before .before .before .before .before .before .before in
-    let at-char16 = at-value .before .before in
-    let at-loop = at-char16 .before .before in
-    let at-shared-slice-known = at-loop .before .before in
-    let entry = at-shared-slice-known .before .before in
+    let at-char16 = at-value .before .before in let at-loop = at-char16 .before .before in
+    let at-shared-slice-known = at-loop .before .before in let entry = at-shared-slice-known .before .before in
     (let w = char-in form16 (entry .args .units .now) (λ i. omega (arith, at-shared-slice-known .shared-slice-known .given i)) _
     (sym (ap charTold (at-value .value .given .1)) ∙ at-char16 .char16 .ensures) (at-loop .loop .inv .within) in omega (arith, w .2))
 
 loop-less-2 : tie.Need-loop-less-2 Inv-loop μ-loop
 loop-less-2 c =
     let at-value = c .before .before .before .before .before .before .before in
-    let at-char16 = at-value .before .before in
-    let at-loop = at-char16 .before .before in
-    let at-shared-slice-known = at-loop .before .before in
-    let entry = at-shared-slice-known .before .before in
+    let at-char16 = at-value .before .before in let at-loop = at-char16 .before .before in
+    let at-shared-slice-known = at-loop .before .before in let entry = at-shared-slice-known .before .before in
     (let w = char-in form16 (entry .args .units .now) (λ i. omega (arith, at-shared-slice-known .shared-slice-known .given i)) _
     (sym (ap charTold (at-value .value .given .1)) ∙ at-char16 .char16 .ensures) (at-loop .loop .inv .within) in omega (arith, w .1, w .2))
 
@@ -97,10 +86,8 @@ loop-again-2 : tie.Need-loop-again-2 Inv-loop μ-loop
 loop-again-2 c =
     let at-put-shown-char = c .before .before in
     let at-value = at-put-shown-char .before .before .before .before .before in
-    let at-char16 = at-value .before .before in
-    let at-loop-test = at-char16 .before in
-    let at-loop = at-loop-test .before in
-    let at-shared-slice-known = at-loop .before .before in
+    let at-char16 = at-value .before .before in let at-loop-test = at-char16 .before in
+    let at-loop = at-loop-test .before in let at-shared-slice-known = at-loop .before .before in
     let entry = at-shared-slice-known .before .before in
     conv-on form16 (entry .args .units .now) (λ i. omega (arith, at-shared-slice-known .shared-slice-known .given i)) _
     (sym (ap charTold (at-value .value .given .1)) ∙ at-char16 .char16 .ensures) (at-loop-test .loop-test .taken) (at-loop .loop .inv)

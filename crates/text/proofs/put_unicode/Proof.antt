@@ -14,15 +14,13 @@ letters-requires c κs = c .before .after-mark .ensures .1
 
 mul-if2 : tie.Need-mul-if2
 mul-if2 c =
-    let entry = c .before .before .before .before .before .before .before .before .before in
-    let a = entry .args in
+    let entry = c .before .before .before .before .before .before .before .before .before in let a = entry .args in
     let long = lent-length (a .file .now) (a .from) (a .size) (entry .pre) (lent-part (a .file .now) (a .from) (a .size) refl) in
     omega (arith, long, c .letters .ensures .inside)
 
 add-if2 : tie.Need-add-if2
 add-if2 c =
-    let entry = c .before .before .before .before .before .before .before .before .before in
-    let a = entry .args in
+    let entry = c .before .before .before .before .before .before .before .before .before in let a = entry .args in
     let long = lent-length (a .file .now) (a .from) (a .size) (entry .pre) (lent-part (a .file .now) (a .from) (a .size) refl) in
     omega (arith, long, c .letters .ensures .inside)
 
@@ -31,13 +29,10 @@ put-lows-requires c κs = c .before .before .before .letters .ensures .inside
 
 returns : tie.Need-returns
 returns c =
-    let at-put-lows = c .before .before in
-    let at-if2 = at-put-lows .before .before .before in
-    let at-letters = at-if2 .before in
-    let at-after-mark = at-letters .before .before in
+    let at-put-lows = c .before .before in let at-if2 = at-put-lows .before .before .before in
+    let at-letters = at-if2 .before in let at-after-mark = at-letters .before .before in
     let at-shared-slice-known = at-after-mark .before .before .before .before .before in
-    let entry = at-shared-slice-known .before .before in
-    let a = entry .args in
+    let entry = at-shared-slice-known .before .before in let a = entry .args in
     letters-text (a .file .now) (a .from) (a .size) (entry .pre) (lent-part (a .file .now) (a .from) (a .size) refl)
     (λ i. omega (arith, at-shared-slice-known .shared-slice-known .given i)) (at-after-mark .after-mark .ensures .0) (at-after-mark .after-mark .ensures .1)
     (at-letters .letters .ensures) (at-if2 .if2 .taken) (omega arith) (at-put-lows .put-lows .ensures)
@@ -47,8 +42,7 @@ put-shown-requires c κs = sym (c .before .before .before .converts .ensures) �
 
 returns-2 : tie.Need-returns-2
 returns-2 c =
-    let at-put-shown = c .before .before in
-    let at-if3 = at-put-shown .before .before .before in
+    let at-put-shown = c .before .before in let at-if3 = at-put-shown .before .before .before in
     let at-converts = at-if3 .before in
     let entry = at-converts .before .before .before .before .before .before .before in
     counts-as (unicode-good (entry .args .file .now) (entry .args .from) (entry .args .size)
@@ -57,8 +51,7 @@ returns-2 c =
 
 returns-3 : tie.Need-returns-3
 returns-3 c =
-    let at-put-escaped = c .before .before in
-    let at-if3 = at-put-escaped .before .before in
+    let at-put-escaped = c .before .before in let at-if3 = at-put-escaped .before .before in
     let at-converts = at-if3 .before in
     let entry = at-converts .before .before .before .before .before .before .before in
     counts-as (unicode-bad (entry .args .file .now) (entry .args .from) (entry .args .size)

@@ -8,8 +8,7 @@ use Rattle.text.proofs.put_version.Tie as tie
 
 returns : tie.Need-returns
 returns c =
-    let at-put-decimal3 = c .before .before in
-    let at-put-decimal2 = at-put-decimal3 .before .before .before .before in
+    let at-put-decimal3 = c .before .before in let at-put-decimal2 = at-put-decimal3 .before .before .before .before in
     let at-put-byte = at-put-decimal2 .before .before .before .before in
     let at-put-decimal = at-put-byte .before .before .before .before in
     counts-as (version-is _) (counts-then

@@ -21,8 +21,7 @@ write-titled-requires c κs =
 
 slice-reshare-prefix-written : tie.Need-slice-reshare-prefix-written
 slice-reshare-prefix-written c =
-    let at-clear-bytes-from = c .before .before in
-    let at-size = at-clear-bytes-from .before .before .before in
+    let at-clear-bytes-from = c .before .before in let at-size = at-clear-bytes-from .before .before .before in
     let at-write-titled = at-size .before .before .before .before in
     let at-s = at-write-titled .before .before .before .before .before in
     let at-read-file = at-s .before .before .before .before .before .before in
@@ -39,8 +38,7 @@ slice-reshare-prefix-written c =
 
 slice-aggregate-written : tie.Need-slice-aggregate-written
 slice-aggregate-written c =
-    let at-clear-bytes-from = c .before .before .before in
-    let at-size = at-clear-bytes-from .before .before .before in
+    let at-clear-bytes-from = c .before .before .before in let at-size = at-clear-bytes-from .before .before .before in
     let at-write-titled = at-size .before .before .before .before in
     let at-s = at-write-titled .before .before .before .before .before in
     let at-read-file = at-s .before .before .before .before .before .before in
@@ -58,8 +56,7 @@ slice-aggregate-written c =
 
 returns : tie.Need-returns
 returns c =
-    let at-clear-bytes = c .before .before in
-    let at-n = at-clear-bytes .before .before .before in
+    let at-clear-bytes = c .before .before in let at-n = at-clear-bytes .before .before .before in
     let at-read-file = at-n .before .before .before .before .before .before in
     let entry = at-read-file .before .before .before .before .before .before .before .before in
     asked-refused (entry .args .file .now) (length (entry .args .nodes .now)) (length (entry .args .items .now)) (entry .args .row)

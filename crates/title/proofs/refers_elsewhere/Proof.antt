@@ -20,18 +20,14 @@ returns c = looking-two (c .before .before .before .before .loop .inv) (c .befor
 
 returns-2 : tie.Need-returns-2 Inv-loop μ-loop
 returns-2 c =
-    let at-if1 = c .before .before in
-    let at-node-at = at-if1 .before .before in
-    let at-loop-test = at-node-at .before in
-    let at-loop = at-loop-test .before in
+    let at-if1 = c .before .before in let at-node-at = at-if1 .before .before in
+    let at-loop-test = at-node-at .before in let at-loop = at-loop-test .before in
     looking-three (at-loop .loop .inv) (at-loop-test .loop-test .taken) (at-node-at .node-at .ensures) (at-if1 .if1 .left) (c .if2 .taken)
 
 loop-again : tie.Need-loop-again Inv-loop μ-loop
 loop-again c =
-    let at-if1 = c .before .before in
-    let at-node-at = at-if1 .before .before in
-    let at-loop-test = at-node-at .before in
-    let at-loop = at-loop-test .before in
+    let at-if1 = c .before .before in let at-node-at = at-if1 .before .before in
+    let at-loop-test = at-node-at .before in let at-loop = at-loop-test .before in
     looking-on (at-loop .loop .inv) (at-loop-test .loop-test .taken) (at-node-at .node-at .ensures) (at-if1 .if1 .left) (c .if2 .left)
 
 returns-3 : tie.Need-returns-3 Inv-loop μ-loop

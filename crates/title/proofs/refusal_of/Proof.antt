@@ -13,15 +13,13 @@ returns-2 c = refuses-reference _ _ _ _ _ (c .before .before .before .if1 .left)
 
 returns-3 : tie.Need-returns-3
 returns-3 c =
-    let at-is-no-title = c .before .before in
-    let at-refers-elsewhere = at-is-no-title .before in
+    let at-is-no-title = c .before .before in let at-refers-elsewhere = at-is-no-title .before in
     let at-if1 = at-refers-elsewhere .before in
     refuses-content _ _ _ _ _ (at-if1 .if1 .left) (at-refers-elsewhere .refers-elsewhere .ensures) (at-is-no-title .is-no-title .ensures) (c .before .if2 .left) (c .if3 .taken)
 
 returns-4 : tie.Need-returns-4
 returns-4 c =
-    let at-is-no-title = c .before .before in
-    let at-refers-elsewhere = at-is-no-title .before in
+    let at-is-no-title = c .before .before in let at-refers-elsewhere = at-is-no-title .before in
     let at-if1 = at-refers-elsewhere .before in
     refuses-none _ _ _ _ _ (at-if1 .if1 .left) (at-refers-elsewhere .refers-elsewhere .ensures) (at-is-no-title .is-no-title .ensures) (c .before .if2 .left) (c .if3 .left)
 

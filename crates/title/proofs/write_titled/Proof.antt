@@ -17,8 +17,7 @@ put-titled-requires c κs = (c .before .before .before .before .before .before .
 
 returns-2 : tie.Need-returns-2
 returns-2 c =
-    let at-put-titled = c .before .before .before in
-    let at-if1 = at-put-titled .before .before in
+    let at-put-titled = c .before .before .before in let at-if1 = at-put-titled .before .before in
     let at-refusal-of = at-if1 .before in
     λ (lim : Limits) (h : Header) reads. record {
       is = too-large _ _ _ _ _ _ _ (at-refusal-of .refusal-of .ensures) (at-if1 .if1 .left) refl
@@ -27,8 +26,7 @@ returns-2 c =
 
 returns-3 : tie.Need-returns-3
 returns-3 c =
-    let at-put-titled = c .before .before .before .before in
-    let at-if1 = at-put-titled .before .before in
+    let at-put-titled = c .before .before .before .before in let at-if1 = at-put-titled .before .before in
     let at-refusal-of = at-if1 .before in
     λ (lim : Limits) (h : Header) reads. record {
       is = no-room _ _ _ _ _ _ _ (at-refusal-of .refusal-of .ensures) (at-if1 .if1 .left) refl
@@ -38,8 +36,7 @@ returns-3 c =
 
 returns-4 : tie.Need-returns-4
 returns-4 c =
-    let at-put-titled = c .before .before .before .before in
-    let at-if1 = at-put-titled .before .before in
+    let at-put-titled = c .before .before .before .before in let at-if1 = at-put-titled .before .before in
     let at-refusal-of = at-if1 .before in
     λ (lim : Limits) (h : Header) reads. wrote _ _ _ _ _ _ _ (at-refusal-of .refusal-of .ensures) (at-if1 .if1 .left) refl
     (at-put-titled .put-titled .ensures lim h reads) (omega (arith, c .before .if2 .left))

@@ -175,8 +175,7 @@ put-part-requires-3 c κs =
 
 same-length : tie.Need-same-length
 same-length c =
-    let at-put-part3 = c .before .before in
-    let at-put-tree = at-put-part3 .before .before .before .before in
+    let at-put-part3 = c .before .before in let at-put-tree = at-put-part3 .before .before .before .before in
     let at-put-part2 = at-put-tree .before .before .before .before .before .before .before .before .before in
     let at-put-number3 = at-put-part2 .before .before .before .before in
     let at-put-number2 = at-put-number3 .before .before .before .before in
@@ -197,8 +196,7 @@ same-length c =
 
 returns-2 : tie.Need-returns-2
 returns-2 c =
-    let at-put-part3 = c .before .before in
-    let at-put-tree = at-put-part3 .before .before .before .before in
+    let at-put-part3 = c .before .before in let at-put-tree = at-put-part3 .before .before .before .before in
     let at-put-part2 = at-put-tree .before .before .before .before .before .before .before .before .before in
     let at-put-number3 = at-put-part2 .before .before .before .before in
     let at-put-number2 = at-put-number3 .before .before .before .before in
@@ -207,8 +205,7 @@ returns-2 c =
     let at-put-part = at-put-number .before .before .before .before in
     let at-tree-start = at-put-part .before .before in
     let at-stopped = at-tree-start .before .before .before .before .before .before .before .before .before in
-    let at-put-types = at-stopped .before .before in
-    let at-if1 = at-put-types .before .before in
+    let at-put-types = at-stopped .before .before in let at-if1 = at-put-types .before .before in
     let at-measure-tree = at-if1 .before .before .before .before .before .before in
     let entry = at-measure-tree .before .before .before .before .before .before .before .before .before .before .before in
     copied-put _ _ _ _ _ _ _ (entry .pre .1) (stopped-length (at-put-types .put-types .ensures) (at-stopped .stopped .ensures))

@@ -11,8 +11,7 @@ use Rattle.title_file.proofs.put_titled.Tie as tie
 
 put-file-requires : tie.Need-put-file-requires
 put-file-requires c κs =
-    let at-opening-of = c .before .before in
-    let at-h = at-opening-of .before .before in
+    let at-opening-of = c .before .before in let at-h = at-opening-of .before .before in
     let at-read-header = at-h .before .before .before in
     let entry = at-read-header .before .before .before .before .before .before .before in (
       ready (entry .pre .0) (entry .pre .1) _ _,
@@ -29,10 +28,8 @@ returns c =
 
 returns-2 : tie.Need-returns-2
 returns-2 c =
-    let at-put-file = c .before .before in
-    let at-opening-of = at-put-file .before .before .before in
-    let at-h = at-opening-of .before .before in
-    let at-read-header = at-h .before .before .before in
+    let at-put-file = c .before .before in let at-opening-of = at-put-file .before .before .before in
+    let at-h = at-opening-of .before .before in let at-read-header = at-h .before .before .before in
     let entry = at-read-header .before .before .before .before .before .before .before in
     λ (lim : Limits) (h : Header) reads. fills-as
     (file-same lim _ reads (at-read-header .read-header .result) (at-read-header .read-header .last .1 .0)

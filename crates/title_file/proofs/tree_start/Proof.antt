@@ -3,7 +3,7 @@
 use native.Mathlib.Omega.{arith}
 use mathlib.Core.Path.{ap, _∙_}
 use Prim.Native.Nat.{ℕ, _+_}
-use Rattle.cursor.proofs.Least.{least-in}
+use Rattle.vlq.proofs.Least.{least-in}
 use Rattle.title_text.specs.Text.{startAt, fileBytes}
 use Rattle.title_nodes.proofs.Lengths.{start-few}
 use borrow.Author.Needs.{needs}
@@ -30,9 +30,7 @@ add-three-2 c = omega (arith, start-few _ _ _ (c .start-at3 .ensures))
 
 start-at-requires-4 : tie.Need-start-at-requires-4
 start-at-requires-4 c κs =
-    let at-start-at2 = c .before .before in
-    let at-start-at = at-start-at2 .before in
-    let entry = at-start-at .before in
+    let at-start-at2 = c .before .before in let at-start-at = at-start-at2 .before in let entry = at-start-at .before in
     let n : ℕ → ℕ = λ x. startAt (entry .args .fixed) (entry .args .tree) x + entry .args .tree + entry .args .after in let e =
     c .least-bytes .ensures n (ap (λ s. s + entry .args .tree + entry .args .after) (at-start-at .start-at .ensures))
     (ap (λ s. s + entry .args .tree + entry .args .after) (at-start-at2 .start-at2 .ensures))
@@ -41,10 +39,8 @@ start-at-requires-4 c κs =
 returns : tie.Need-returns
 unfolding fileBytes
 returns c =
-    let at-start-at3 = c .before .before in
-    let at-start-at2 = at-start-at3 .before in
-    let at-start-at = at-start-at2 .before in
-    let entry = at-start-at .before in
+    let at-start-at3 = c .before .before in let at-start-at2 = at-start-at3 .before in
+    let at-start-at = at-start-at2 .before in let entry = at-start-at .before in
     c .start-at4 .ensures ∙ ap (startAt (entry .args .fixed) (entry .args .tree))
     (c .before .least-bytes .ensures (λ x. startAt (entry .args .fixed) (entry .args .tree) x + entry .args .tree + entry .args .after)
     (ap (λ s. s + entry .args .tree + entry .args .after) (at-start-at .start-at .ensures))

@@ -18,9 +18,7 @@ loop-holds c = counting-start _ _ _ (c .before .pre .0)
 
 returns : tie.Need-returns Inv-loop μ-loop
 returns c =
-    let at-item-at = c .before .before in
-    let at-loop-test = at-item-at .before in
-    let at-loop = at-loop-test .before in
+    let at-item-at = c .before .before in let at-loop-test = at-item-at .before in let at-loop = at-loop-test .before in
     (counting-stop (at-loop-test .loop-test .taken) (at-item-at .item-at .ensures) (c .if1 .taken) (at-loop .loop .inv), omega arith)
 
 loop-again : tie.Need-loop-again Inv-loop μ-loop

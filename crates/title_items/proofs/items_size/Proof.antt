@@ -34,11 +34,4 @@ pub items-size-spec : {M : Type 1} → statement M
 items-size-spec =
     tie.close
     (tie.spec
-    Inv-loop
-    μ-loop
-    loop-holds
-    measure-item-requires
-    add-k
-    loop-less
-    loop-again
-    returns)
+    Inv-loop μ-loop loop-holds measure-item-requires add-k loop-less loop-again returns)

@@ -9,8 +9,7 @@ use Rattle.title_items.proofs.measure_block.Tie as tie
 
 returns : tie.Need-returns
 returns c =
-    let at-on = c .before in
-    let at-vlq-size = at-on .before in
+    let at-on = c .before in let at-vlq-size = at-on .before in
     λ (s : List ℕ) e. counts-sized s e (at-vlq-size .vlq-size .ensures) (at-on .on .ensures) (c .on2 .ensures)
 
 pub measure-block-spec : {M : Type 1} → statement M

@@ -13,8 +13,7 @@ returns c = λ (f : List ℕ) inside. custom-counted f _ inside (omega arith) (c
 
 returns-2 : tie.Need-returns-2
 returns-2 c =
-    let at-vlq-size = c .before in
-    let at-on = at-vlq-size .before in
+    let at-vlq-size = c .before in let at-on = at-vlq-size .before in
     λ (f : List ℕ) inside. standard-counted f _ (at-on .before .if1 .left) (at-on .on .ensures) (at-vlq-size .vlq-size .ensures) (c .on2 .ensures)
 
 pub measure-field-spec : {M : Type 1} → statement M

@@ -10,19 +10,15 @@ use Rattle.title_items.proofs.measure_start.Tie as tie
 
 returns : tie.Need-returns
 returns c =
-    let at-if1 = c .before in
-    let at-measure-field = at-if1 .before .before in
+    let at-if1 = c .before in let at-measure-field = at-if1 .before .before in
     let at-item-at = at-measure-field .before in
     λ (f : List ℕ) (row : ℕ) (title : List ℕ) inside. start-universal f row title _ _ (at-item-at .item-at .ensures) _
     (at-measure-field .measure-field .ensures f (row-inside (at-item-at .item-at .ensures) inside)) (at-if1 .if1 .taken) (zero-counted (c .on .ensures))
 
 returns-2 : tie.Need-returns-2
 returns-2 c =
-    let at-vlq-size = c .before in
-    let at-further = at-vlq-size .before in
-    let at-if1 = at-further .before in
-    let at-measure-field = at-if1 .before .before in
-    let at-item-at = at-measure-field .before in
+    let at-vlq-size = c .before in let at-further = at-vlq-size .before in let at-if1 = at-further .before in
+    let at-measure-field = at-if1 .before .before in let at-item-at = at-measure-field .before in
     λ (f : List ℕ) (row : ℕ) (title : List ℕ) inside. start-versions f row title _ _ (at-item-at .item-at .ensures) _
     (at-measure-field .measure-field .ensures f (row-inside (at-item-at .item-at .ensures) inside)) (at-if1 .if1 .left) (at-further .further .ensures .0 f row title)
     (counts-number _ (at-vlq-size .vlq-size .ensures) (c .on2 .ensures))

@@ -9,15 +9,13 @@ use Rattle.title_items.proofs.put_content.Tie as tie
 
 returns : tie.Need-returns
 returns c =
-    let at-put-universal = c .before .before in
-    let at-if1 = at-put-universal .before .before in
+    let at-put-universal = c .before .before in let at-if1 = at-put-universal .before .before in
     let at-item-at = at-if1 .before .before in
     λ (f : List ℕ). content-universal f (at-item-at .item-at .ensures) _ (at-if1 .if1 .taken) (at-put-universal .put-universal .ensures)
 
 returns-2 : tie.Need-returns-2
 returns-2 c =
-    let at-put-version = c .before .before in
-    let at-if1 = at-put-version .before .before in
+    let at-put-version = c .before .before in let at-if1 = at-put-version .before .before in
     let at-item-at = at-if1 .before .before in
     λ (f : List ℕ). content-version f (at-item-at .item-at .ensures) _ (at-if1 .if1 .left) (at-put-version .put-version .ensures)
 

@@ -9,8 +9,7 @@ use Rattle.title_items.proofs.put_content_at.Tie as tie
 
 returns : tie.Need-returns
 returns c =
-    let at-put-content = c .before .before in
-    let at-if1 = at-put-content .before .before in
+    let at-put-content = c .before .before in let at-if1 = at-put-content .before .before in
     let at-item-at = at-if1 .before in
     content-title _ _ _ _ _ (at-item-at .item-at .ensures) (at-if1 .if1 .taken) (at-put-content .put-content .ensures _)
 
@@ -22,8 +21,7 @@ part-put-content-end c = omega (arith, row-inside (c .before .before .item-at .e
 
 returns-2 : tie.Need-returns-2
 returns-2 c =
-    let at-put-content2 = c .before .before in
-    let at-if1 = at-put-content2 .before .before .before in
+    let at-put-content2 = c .before .before in let at-if1 = at-put-content2 .before .before .before in
     let at-item-at = at-if1 .before in
     content-file _ _ _ _ _ (at-item-at .item-at .ensures) (at-if1 .if1 .left) refl (at-put-content2 .put-content2 .ensures _)
 

@@ -28,8 +28,7 @@ put-item-requires c κs =
 
 loop-again : tie.Need-loop-again Inv-loop μ-loop
 loop-again c =
-    let at-put-item = c .before .before in
-    let at-loop-test = at-put-item .before .before in
+    let at-put-item = c .before .before in let at-loop-test = at-put-item .before .before in
     let at-loop = at-loop-test .before in
     (omega arith, omega arith, going-on (rows-on _ _ _ _ _ _ (at-loop-test .loop-test .taken)) (at-loop .loop .inv .2) (at-put-item .put-item .ensures))
 

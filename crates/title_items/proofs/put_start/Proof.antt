@@ -11,10 +11,8 @@ put-field-requires c κs = row-inside (c .before .item-at .ensures) (c .before .
 
 returns : tie.Need-returns
 returns c =
-    let at-put-number = c .before .before in
-    let at-if1 = at-put-number .before .before in
-    let at-put-field = at-if1 .before .before .before .before in
-    let at-item-at = at-put-field .before .before in
+    let at-put-number = c .before .before in let at-if1 = at-put-number .before .before in
+    let at-put-field = at-if1 .before .before .before .before in let at-item-at = at-put-field .before .before in
     λ row title. start-universal _ row title _ _ (at-item-at .item-at .ensures) _ (at-put-field .put-field .ensures) (at-if1 .if1 .taken) (at-put-number .put-number .ensures)
 
 add-put-number : tie.Need-add-put-number
@@ -22,10 +20,8 @@ add-put-number c = omega (arith, c .further .ensures .1)
 
 returns-2 : tie.Need-returns-2
 returns-2 c =
-    let at-put-number2 = c .before .before in
-    let at-further = at-put-number2 .before in
-    let at-if1 = at-further .before .before in
-    let at-put-field = at-if1 .before .before .before .before in
+    let at-put-number2 = c .before .before in let at-further = at-put-number2 .before in
+    let at-if1 = at-further .before .before in let at-put-field = at-if1 .before .before .before .before in
     let at-item-at = at-put-field .before .before in
     λ row title. start-versions _ row title _ _ (at-item-at .item-at .ensures) _ (at-put-field .put-field .ensures) (at-if1 .if1 .left)
     (at-further .further .ensures .0 _ _ _) (at-put-number2 .put-number2 .ensures)

@@ -15,5 +15,4 @@ pub body-size-spec : {M : Type 1} → statement M
 body-size-spec =
     tie.close
     (tie.spec
-    returns
-    returns-2)
+    returns returns-2)

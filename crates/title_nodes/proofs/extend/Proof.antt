@@ -18,8 +18,7 @@ add-t9 c =
 
 returns : tie.Need-returns
 returns c =
-    let at-if1 = c .before in
-    let entry = at-if1 .before .before .before .before in
+    let at-if1 = c .before in let entry = at-if1 .before .before .before .before in
     append-on (entry .args .file .now) _ (entry .args .run) _ _ (at-if1 .if1 .taken) (entry .pre .1) (omega arith)
 
 put-part-requires : tie.Need-put-part-requires
@@ -29,8 +28,7 @@ put-part-requires c κs =
 
 returns-2 : tie.Need-returns-2
 returns-2 c =
-    let at-put-part = c .before .before in
-    let entry = at-put-part .before .before .before .before .before .before in
+    let at-put-part = c .before .before in let entry = at-put-part .before .before .before .before .before .before in
     append-new (entry .args .file .now) _ (entry .args .run) _ _ (entry .pre .1) (at-put-part .put-part .ensures)
 
 pub extend-spec : {M : Type 1} → statement M

@@ -24,8 +24,7 @@ add-fixed-2 c =
 
 add-fixed-3 : tie.Need-add-fixed-3
 add-fixed-3 c =
-    let at-vlq-size2 = c .before in
-    let at-stopped = at-vlq-size2 .before .before .before .before in
+    let at-vlq-size2 = c .before in let at-stopped = at-vlq-size2 .before .before .before .before in
     omega (arith, few _ (at-vlq-size2 .vlq-size2 .ensures), few _ (c .vlq-size3 .ensures), at-stopped .stopped .ensures)
 
 add-contents : tie.Need-add-contents
@@ -35,24 +34,20 @@ add-contents c =
 
 length-bytes-requires : tie.Need-length-bytes-requires
 length-bytes-requires c κs =
-    let at-vlq-size2 = c .before in
-    let at-stopped2 = at-vlq-size2 .before in
+    let at-vlq-size2 = c .before in let at-stopped2 = at-vlq-size2 .before in
     let at-stopped = at-stopped2 .before .before .before in
     (omega (arith, few _ (at-vlq-size2 .vlq-size2 .ensures), few _ (c .vlq-size3 .ensures), at-stopped .stopped .ensures), omega (arith, at-stopped2 .stopped2 .ensures))
 
 header-size-requires : tie.Need-header-size-requires
 header-size-requires c κs =
-    let at-vlq-size3 = c .before in
-    let at-vlq-size2 = at-vlq-size3 .before in
+    let at-vlq-size3 = c .before in let at-vlq-size2 = at-vlq-size3 .before in
     let at-stopped = at-vlq-size2 .before .before .before .before in
     (omega (arith, few _ (at-vlq-size2 .vlq-size2 .ensures), few _ (at-vlq-size3 .vlq-size3 .ensures), at-stopped .stopped .ensures), length-few _ _ (c .length-bytes .ensures))
 
 add-stopped : tie.Need-add-stopped
 add-stopped c =
-    let at-length-bytes = c .before in
-    let at-vlq-size3 = at-length-bytes .before in
-    let at-vlq-size2 = at-vlq-size3 .before in
-    let at-stopped2 = at-vlq-size2 .before in
+    let at-length-bytes = c .before in let at-vlq-size3 = at-length-bytes .before in
+    let at-vlq-size2 = at-vlq-size3 .before in let at-stopped2 = at-vlq-size2 .before in
     let at-stopped = at-stopped2 .before .before .before in
     omega (
       arith,
@@ -68,17 +63,11 @@ add-stopped c =
 returns : tie.Need-returns
 unfolding shape
 returns c =
-    let at-header-size = c .before in
-    let at-length-bytes = at-header-size .before in
-    let at-vlq-size3 = at-length-bytes .before in
-    let at-vlq-size2 = at-vlq-size3 .before in
-    let at-stopped2 = at-vlq-size2 .before in
-    let at-measure-reference = at-stopped2 .before in
-    let at-body-size = at-measure-reference .before in
-    let at-stopped = at-body-size .before in
-    let at-on = at-stopped .before in
-    let at-vlq-size = at-on .before in
-    let entry = at-vlq-size .before in
+    let at-header-size = c .before in let at-length-bytes = at-header-size .before in
+    let at-vlq-size3 = at-length-bytes .before in let at-vlq-size2 = at-vlq-size3 .before in
+    let at-stopped2 = at-vlq-size2 .before in let at-measure-reference = at-stopped2 .before in
+    let at-body-size = at-measure-reference .before in let at-stopped = at-body-size .before in
+    let at-on = at-stopped .before in let at-vlq-size = at-on .before in let entry = at-vlq-size .before in
     λ (f : List ℕ) (cs : List Content) inside packed e. framed-by _ cs _ e
     (stopped-length (unpackers-counted _ packed (at-vlq-size .vlq-size .ensures) (at-on .on .ensures)) (at-stopped .stopped .ensures))
     (stopped-length (own-put f (entry .args .row) (at-body-size .body-size .ensures)

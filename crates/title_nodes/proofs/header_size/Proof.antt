@@ -2,7 +2,7 @@
 -- Assumes nothing.
 use native.Mathlib.Omega.{arith}
 use Prim.Native.Nat.{_+_}
-use Rattle.cursor.proofs.Least.{least-in}
+use Rattle.vlq.proofs.Least.{least-in}
 use Rattle.title_nodes.proofs.Lengths.{header-found}
 use borrow.Author.Needs.{needs}
 use Rattle.title_nodes.proofs.header_size.Statement.{statement}

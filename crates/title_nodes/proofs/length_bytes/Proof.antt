@@ -21,8 +21,7 @@ add-three c = omega (arith, header-few _ _ (c .header-size3 .ensures))
 returns : tie.Need-returns
 unfolding lengthBytes
 returns c =
-    let at-header-size2 = c .before .before in
-    let at-header-size = at-header-size2 .before in
+    let at-header-size2 = c .before .before in let at-header-size = at-header-size2 .before in
     let entry = at-header-size .before in
     c .least-bytes .ensures (λ k. headerSize (entry .args .fixed) k + entry .args .contents)
     (ap (λ n. n + entry .args .contents) (at-header-size .header-size .ensures))

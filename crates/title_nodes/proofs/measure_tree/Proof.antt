@@ -29,22 +29,19 @@ node-at-requires c κs =
 
 sub-first : tie.Need-sub-first Inv-loop μ-loop
 sub-first c =
-    let at-loop-test = c .before in
-    let at-loop = at-loop-test .before in
+    let at-loop-test = c .before in let at-loop = at-loop-test .before in
     let entry = at-loop .before .before .before .before .before .before .before .before .before .before in
     omega (arith, first-row (entry .pre .0) (at-loop .loop .inv) (at-loop-test .loop-test .taken) (c .node-at .ensures))
 
 add-below : tie.Need-add-below Inv-loop μ-loop
 add-below c =
-    let at-loop-test = c .before in
-    let at-loop = at-loop-test .before in
+    let at-loop-test = c .before in let at-loop = at-loop-test .before in
     let entry = at-loop .before .before .before .before .before .before .before .before .before .before in
     omega (arith, stack-row (entry .pre .0) (at-loop .loop .inv) (at-loop-test .loop-test .taken) (c .node-at .ensures))
 
 items-size-requires : tie.Need-items-size-requires Inv-loop μ-loop
 items-size-requires c κs =
-    let at-loop-test = c .before in
-    let at-loop = at-loop-test .before in
+    let at-loop-test = c .before in let at-loop = at-loop-test .before in
     let entry = at-loop .before .before .before .before .before .before .before .before .before .before in (
       omega (arith, first-row (entry .pre .0) (at-loop .loop .inv) (at-loop-test .loop-test .taken) (c .node-at .ensures)),
       items-here
@@ -58,8 +55,7 @@ unpackers-of-requires c κs =
 
 sum-requires : tie.Need-sum-requires Inv-loop μ-loop
 sum-requires c κs =
-    let at-node-at = c .before .before .before .before in
-    let at-loop-test = at-node-at .before in
+    let at-node-at = c .before .before .before .before in let at-loop-test = at-node-at .before in
     let at-loop = at-loop-test .before in
     let entry = at-loop .before .before .before .before .before .before .before .before .before .before in
     (omega arith, omega (arith, stack-row (entry .pre .0) (at-loop .loop .inv) (at-loop-test .loop-test .taken) (at-node-at .node-at .ensures), at-loop .loop .inv .stacked))
@@ -141,16 +137,14 @@ sub-top c =
 
 mul-sizes : tie.Need-mul-sizes Inv-loop μ-loop
 mul-sizes c =
-    let at-node-at = c .before .before .before .before .before .before in
-    let at-loop-test = at-node-at .before in
+    let at-node-at = c .before .before .before .before .before .before in let at-loop-test = at-node-at .before in
     let at-loop = at-loop-test .before in
     let entry = at-loop .before .before .before .before .before .before .before .before .before .before in
     omega (arith, stack-row (entry .pre .0) (at-loop .loop .inv) (at-loop-test .loop-test .taken) (at-node-at .node-at .ensures))
 
 array-write-sizes : tie.Need-array-write-sizes Inv-loop μ-loop
 array-write-sizes c =
-    let at-node-at = c .before .before .before .before .before .before in
-    let at-loop-test = at-node-at .before in
+    let at-node-at = c .before .before .before .before .before .before in let at-loop-test = at-node-at .before in
     let at-loop = at-loop-test .before in
     let entry = at-loop .before .before .before .before .before .before .before .before .before .before in
     omega (
@@ -163,12 +157,9 @@ array-write-sizes c =
 
 loop-again : tie.Need-loop-again Inv-loop μ-loop
 loop-again c =
-    let at-sum = c .before in
-    let at-unpackers-of = at-sum .before .before in
-    let at-stopped = at-unpackers-of .before in
-    let at-items-size = at-stopped .before in
-    let at-node-at = at-items-size .before in
-    let at-loop-test = at-node-at .before in
+    let at-sum = c .before in let at-unpackers-of = at-sum .before .before in
+    let at-stopped = at-unpackers-of .before in let at-items-size = at-stopped .before in
+    let at-node-at = at-items-size .before in let at-loop-test = at-node-at .before in
     let at-loop = at-loop-test .before in
     let entry = at-loop .before .before .before .before .before .before .before .before .before .before in
     measuring-row (entry .pre .0) (at-loop .loop .inv) (at-loop-test .loop-test .taken) (at-node-at .node-at .ensures)
@@ -215,8 +206,7 @@ same-length-5 c =
 
 returns : tie.Need-returns Inv-loop μ-loop
 returns c =
-    let at-loop-test = c .before .before in
-    let at-loop = at-loop-test .before in
+    let at-loop-test = c .before .before in let at-loop = at-loop-test .before in
     (measured-all (at-loop .loop .inv) (at-loop-test .loop-test .left), tree-size (at-loop .loop .inv) (at-loop-test .loop-test .left) (c .sum2 .ensures))
 
 pub measure-tree-spec : {M : Type 1} → statement M

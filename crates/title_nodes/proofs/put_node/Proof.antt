@@ -24,8 +24,7 @@ put-reference-requires c κs =
 returns : tie.Need-returns
 unfolding shape
 returns c =
-    let at-put-reference = c .before .before in
-    let at-body-size = at-put-reference .before .before in
+    let at-put-reference = c .before .before in let at-body-size = at-put-reference .before .before in
     let at-put-unpackers = at-body-size .before .before .before in
     let at-put-items = at-put-unpackers .before .before .before .before in
     let at-put-number4 = at-put-items .before .before .before .before in

@@ -7,10 +7,8 @@ use Rattle.title_nodes.proofs.put_reference.Tie as tie
 
 returns : tie.Need-returns
 returns c =
-    let at-put-part = c .before .before in
-    let at-put-number2 = at-put-part .before .before .before .before in
-    let at-if1 = at-put-number2 .before .before in
-    let at-put-number = at-if1 .before .before .before in
+    let at-put-part = c .before .before in let at-put-number2 = at-put-part .before .before .before .before in
+    let at-if1 = at-put-number2 .before .before in let at-put-number = at-if1 .before .before .before in
     let entry = at-put-number .before .before .before .before in
     reference-uri (entry .args .file .now) (entry .args .reference) (entry .args .place .0) (entry .args .size)
     (at-put-number .put-number .ensures) (entry .pre) (at-if1 .if1 .taken) (at-put-number2 .put-number2 .ensures)
@@ -18,10 +16,8 @@ returns c =
 
 returns-2 : tie.Need-returns-2
 returns-2 c =
-    let at-put-part2 = c .before .before in
-    let at-if1 = at-put-part2 .before .before in
-    let at-put-number = at-if1 .before .before .before in
-    let entry = at-put-number .before .before .before .before in
+    let at-put-part2 = c .before .before in let at-if1 = at-put-part2 .before .before in
+    let at-put-number = at-if1 .before .before .before in let entry = at-put-number .before .before .before .before in
     reference-inline (entry .args .file .now) (entry .args .reference) (entry .args .place .0) (entry .args .size)
     (at-put-number .put-number .ensures) (at-if1 .if1 .left) (at-put-part2 .put-part2 .ensures)
 

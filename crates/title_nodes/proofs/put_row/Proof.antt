@@ -9,17 +9,14 @@ use Rattle.title_nodes.proofs.put_row.Tie as tie
 
 extend-requires : tie.Need-extend-requires
 extend-requires c κs =
-    let at-if1 = c .before .before in
-    let at-stands = at-if1 .before in
+    let at-if1 = c .before .before in let at-stands = at-if1 .before in
     let entry = at-stands .before .before .before .before .before in
     (entry .pre .1 .1 .0 .0, omega (arith, entry .pre .1 .1 .0 .1, at-stands .stands .ensures (at-if1 .if1 .taken) .1))
 
 returns : tie.Need-returns
 returns c =
-    let at-extend = c .before .before in
-    let at-know-bytes = at-extend .before .before in
-    let at-if1 = at-know-bytes .before in
-    let at-stands = at-if1 .before in
+    let at-extend = c .before .before in let at-know-bytes = at-extend .before .before in
+    let at-if1 = at-know-bytes .before in let at-stands = at-if1 .before in
     let entry = at-stands .before .before .before .before .before in
     λ (inner : ℕ) none framed small. append-as
     (leaf-is (entry .args .file .now) (entry .args .node) _ (entry .pre .1 .1 .1) (at-know-bytes .know-bytes .ensures) none
@@ -38,8 +35,7 @@ put-node-requires c κs =
 
 returns-2 : tie.Need-returns-2
 returns-2 c =
-    let at-put-node = c .before .before in
-    let at-put-part = at-put-node .before .before .before .before in
+    let at-put-node = c .before .before in let at-put-part = at-put-node .before .before .before .before in
     let entry = at-put-part .before .before .before .before .before .before .before .before in
     λ (inner : ℕ) none framed small. append-anew (entry .args .file .now) _ (entry .args .run) (at-put-part .put-part .ensures) (at-put-node .put-node .ensures inner framed small)
 

@@ -26,8 +26,7 @@ node-at-requires c κs =
 
 add-end : tie.Need-add-end Inv-loop μ-loop
 add-end c =
-    let at-loop-test = c .before in
-    let at-loop = at-loop-test .before in
+    let at-loop-test = c .before in let at-loop = at-loop-test .before in
     let entry = at-loop .before .before .before .before .before .before .before .before .before .before .before in
     omega (arith, rows-room (entry .pre .0 .0) (at-loop .loop .inv) (at-loop-test .loop-test .taken) (c .node-at .ensures), entry .pre .0 .0 .items-inside .0)
 
@@ -87,13 +86,10 @@ shared-slice-read-put-row c =
 
 put-row-requires : tie.Need-put-row-requires Inv-loop μ-loop
 put-row-requires c κs =
-    let at-node-at = c .before .before .before .before .before .before in
-    let at-loop-test = at-node-at .before in
+    let at-node-at = c .before .before .before .before .before .before in let at-loop-test = at-node-at .before in
     let at-loop = at-loop-test .before in
     let entry = at-loop .before .before .before .before .before .before .before .before .before .before .before in
-    let sound = entry .pre .0 .0 in
-    let inv = at-loop .loop .inv in
-    let within = at-loop-test .loop-test .taken in
+    let sound = entry .pre .0 .0 in let inv = at-loop .loop .inv in let within = at-loop-test .loop-test .taken in
     let row = at-node-at .node-at .ensures in
     let laid = entry .pre .0 .1 .laid _ (omega arith) within in
     let small = entry .pre .1 .1 in (
@@ -118,8 +114,7 @@ loop-again : tie.Need-loop-again Inv-loop μ-loop
 loop-again c =
     let at-put-row = c .before .before in
     let at-node-at = at-put-row .before .before .before .before .before .before .before in
-    let at-loop-test = at-node-at .before in
-    let at-loop = at-loop-test .before in
+    let at-loop-test = at-node-at .before in let at-loop = at-loop-test .before in
     let entry = at-loop .before .before .before .before .before .before .before .before .before .before .before in
     putting-row (entry .pre .0 .0) (at-loop .loop .inv) (at-loop-test .loop-test .taken) (at-node-at .node-at .ensures)
     (entry .pre .0 .1 .laid _ (omega arith) (at-loop-test .loop-test .taken)) (entry .pre .1 .1)
@@ -132,14 +127,12 @@ put-part-requires c κs =
 
 same-length : tie.Need-same-length Inv-loop μ-loop
 same-length c =
-    let at-put-part = c .before .before in
-    let at-loop = at-put-part .before .before .before in
+    let at-put-part = c .before .before in let at-loop = at-put-part .before .before .before in
     at-put-part .put-part .ensures .long ∙ going-length (at-loop .loop .inv .going)
 
 returns : tie.Need-returns Inv-loop μ-loop
 returns c =
-    let at-put-part = c .before .before in
-    let at-loop-test = at-put-part .before .before in
+    let at-put-part = c .before .before in let at-loop-test = at-put-part .before .before in
     let at-loop = at-loop-test .before in
     let entry = at-loop .before .before .before .before .before .before .before .before .before .before .before in
     putting-end (entry .pre .0 .0) (at-loop .loop .inv) (at-loop-test .loop-test .left) (at-put-part .put-part .ensures)
@@ -148,24 +141,6 @@ pub put-tree-spec : {M : Type 1} → statement M
 put-tree-spec =
     tie.close
     (tie.spec
-    Inv-loop
-    μ-loop
-    loop-holds
-    node-at-requires
-    add-end
-    mul-size
-    shared-slice-read-size
-    shared-slice-read-kept
-    mul-header
-    shared-slice-read-header
-    mul-whole
-    shared-slice-read-whole
-    mul-put-row
-    shared-slice-read-put-row
-    put-row-requires
-    add-i
-    loop-less
-    loop-again
-    put-part-requires
-    same-length
-    returns)
+    Inv-loop μ-loop loop-holds node-at-requires add-end mul-size shared-slice-read-size shared-slice-read-kept mul-header
+    shared-slice-read-header mul-whole shared-slice-read-whole mul-put-row shared-slice-read-put-row put-row-requires add-i loop-less
+    loop-again put-part-requires same-length returns)

@@ -18,8 +18,7 @@ loop-holds c = adding-start _ _ _ (c .before .pre .0)
 
 loop-again : tie.Need-loop-again Inv-loop μ-loop
 loop-again c =
-    let at-loop-test = c .before .before .before in
-    let at-loop = at-loop-test .before in
+    let at-loop-test = c .before .before .before in let at-loop = at-loop-test .before in
     let entry = at-loop .before .before in
     adding-on (at-loop .loop .inv) (at-loop-test .loop-test .taken) (entry .pre .1) (omega (arith, c .before .on .ensures, c .stopped .ensures))
 

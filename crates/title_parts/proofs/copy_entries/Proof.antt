@@ -18,8 +18,7 @@ loop-holds c = copying-start _ _ _ _ _ _ (omega arith)
 
 returns : tie.Need-returns Inv-loop μ-loop
 returns c =
-    let at-copy-entry = c .before .before .before .before .before in
-    let at-loop-test = at-copy-entry .before .before in
+    let at-copy-entry = c .before .before .before .before .before in let at-loop-test = at-copy-entry .before .before in
     let at-loop = at-loop-test .before in
     record {
       is = copying-no (entry-behind _) (at-loop .loop .inv) (at-loop-test .loop-test .taken)
@@ -28,8 +27,7 @@ returns c =
 
 loop-again : tie.Need-loop-again Inv-loop μ-loop
 loop-again c =
-    let at-copy-entry = c .before .before .before .before .before in
-    let at-loop-test = at-copy-entry .before .before in
+    let at-copy-entry = c .before .before .before .before .before in let at-loop-test = at-copy-entry .before .before in
     let at-loop = at-loop-test .before in
     copying-on (entry-behind _) (at-loop .loop .inv) (at-loop-test .loop-test .taken) (copied-was (at-copy-entry .copy-entry .ensures) (c .before .a .given .1))
 

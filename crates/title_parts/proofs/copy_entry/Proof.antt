@@ -14,8 +14,7 @@ use Rattle.title_parts.proofs.copy_entry.Tie as tie
 
 put-part-requires : tie.Need-put-part-requires
 put-part-requires c κs =
-    let at-size = c .before .before .before .before .before .before .before in
-    let at-block = at-size .before .before in
+    let at-size = c .before .before .before .before .before .before .before in let at-block = at-size .before .before in
     omega (arith, block-inside fileFrame 3 _ _ _ (was numberTold (at-block .block .ensures fileFrame) (at-size .size .given .1)))
 
 on-requires : tie.Need-on-requires
@@ -31,17 +30,14 @@ returns c = record { is = type-no _ _ (copied-no (copied-was (c .before .before 
 returns-2 : tie.Need-returns-2
 returns-2 c =
     let at-copy-number2 = c .before .before .before .before .before in
-    let at-a = at-copy-number2 .before .before .before in
-    let at-copy-number = at-a .before .before .before .before in
+    let at-a = at-copy-number2 .before .before .before in let at-copy-number = at-a .before .before .before .before in
     let k = number-was fileFrame _ _ (copied-answer (copied-was (at-copy-number .copy-number .ensures fileFrame) (at-a .a .given .1))) in
     record { is = format-no _ _ (k .read) (copied-no (copied-was (at-copy-number2 .copy-number2 .ensures fileFrame) (c .before .n2 .given .1))) }
 
 returns-3 : tie.Need-returns-3
 returns-3 c =
-    let at-block = c .before .before .before in
-    let at-b = at-block .before .before in
-    let at-copy-number2 = at-b .before .before .before .before in
-    let at-a = at-copy-number2 .before .before .before in
+    let at-block = c .before .before .before in let at-b = at-block .before .before in
+    let at-copy-number2 = at-b .before .before .before .before in let at-a = at-copy-number2 .before .before .before in
     let at-copy-number = at-a .before .before .before .before in
     let k = number-was fileFrame _ _ (copied-answer (copied-was (at-copy-number .copy-number .ensures fileFrame) (at-a .a .given .1))) in
     let l = number-was fileFrame _ _ (copied-answer (copied-was (at-copy-number2 .copy-number2 .ensures fileFrame) (at-b .b .given .1))) in
@@ -49,11 +45,9 @@ returns-3 c =
 
 same-length-4 : tie.Need-same-length-4
 same-length-4 c =
-    let at-put-part = c .before .before .before in
-    let at-put-number = at-put-part .before .before .before .before in
+    let at-put-part = c .before .before .before in let at-put-number = at-put-part .before .before .before .before in
     let at-b = at-put-number .before .before .before .before .before .before .before .before in
-    let at-copy-number2 = at-b .before .before .before .before in
-    let at-a = at-copy-number2 .before .before .before in
+    let at-copy-number2 = at-b .before .before .before .before in let at-a = at-copy-number2 .before .before .before in
     let at-copy-number = at-a .before .before .before .before in
     at-put-part .put-part .ensures .long ∙ at-put-number .put-number .ensures .long ∙ copied-puts
     (copied-was (at-copy-number2 .copy-number2 .ensures fileFrame) (at-b .b .given .1)) .long ∙ copied-puts
@@ -61,18 +55,13 @@ same-length-4 c =
 
 returns-4 : tie.Need-returns-4
 returns-4 c =
-    let at-put-part = c .before .before .before in
-    let at-put-number = at-put-part .before .before .before .before in
-    let at-size = at-put-number .before .before .before .before in
-    let at-block = at-size .before .before in
-    let at-b = at-block .before .before in
-    let at-copy-number2 = at-b .before .before .before .before in
-    let at-a = at-copy-number2 .before .before .before in
-    let at-copy-number = at-a .before .before .before .before in
+    let at-put-part = c .before .before .before in let at-put-number = at-put-part .before .before .before .before in
+    let at-size = at-put-number .before .before .before .before in let at-block = at-size .before .before in
+    let at-b = at-block .before .before in let at-copy-number2 = at-b .before .before .before .before in
+    let at-a = at-copy-number2 .before .before .before in let at-copy-number = at-a .before .before .before .before in
     let p = copied-was (at-copy-number .copy-number .ensures fileFrame) (at-a .a .given .1) in
     let q = copied-was (at-copy-number2 .copy-number2 .ensures fileFrame) (at-b .b .given .1) in
-    let k = number-was fileFrame _ _ (copied-answer p) in
-    let l = number-was fileFrame _ _ (copied-answer q) in
+    let k = number-was fileFrame _ _ (copied-answer p) in let l = number-was fileFrame _ _ (copied-answer q) in
     record {
       is = (
         _,

@@ -12,8 +12,7 @@ returns c = λ κ. record { is = number-no κ _ _ (was numberTold (c .before .be
 
 returns-2 : tie.Need-returns-2
 returns-2 c =
-    let at-put-number = c .before .before in
-    let at-v = at-put-number .before .before .before in
+    let at-put-number = c .before .before in let at-v = at-put-number .before .before .before in
     let at-number = at-v .before .before in
     λ κ. record { is = (_, number-is κ _ _ (was numberTold (at-number .number .ensures κ) (at-v .v .given .1)), at-put-number .put-number .ensures) }
 

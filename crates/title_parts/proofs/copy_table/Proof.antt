@@ -14,8 +14,7 @@ returns c = record { is = size-no _ _ (was numberTold (c .before .before .before
 
 returns-2 : tie.Need-returns-2
 returns-2 c =
-    let at-block = c .before .before .before in
-    let at-d = at-block .before .before in
+    let at-block = c .before .before .before in let at-d = at-block .before .before in
     let at-number = at-d .before .before in
     record {
       is = block-no _ _ (was numberTold (at-number .number .ensures fileFrame) (at-d .d .given .1))
@@ -24,10 +23,8 @@ returns-2 c =
 
 returns-3 : tie.Need-returns-3
 returns-3 c =
-    let at-number2 = c .before .before .before in
-    let at-e = at-number2 .before .before in
-    let at-block = at-e .before .before in
-    let at-d = at-block .before .before in
+    let at-number2 = c .before .before .before in let at-e = at-number2 .before .before in
+    let at-block = at-e .before .before in let at-d = at-block .before .before in
     let at-number = at-d .before .before in
     record {
       is = count-no _ _ (was numberTold (at-number .number .ensures fileFrame) (at-d .d .given .1))
@@ -37,14 +34,10 @@ returns-3 c =
 
 returns-4 : tie.Need-returns-4
 returns-4 c =
-    let at-copy-entries = c .before .before in
-    let at-put-number = at-copy-entries .before .before .before .before in
-    let at-count = at-put-number .before .before .before in
-    let at-number2 = at-count .before .before in
-    let at-e = at-number2 .before .before in
-    let at-block = at-e .before .before in
-    let at-d = at-block .before .before in
-    let at-number = at-d .before .before in
+    let at-copy-entries = c .before .before in let at-put-number = at-copy-entries .before .before .before .before in
+    let at-count = at-put-number .before .before .before in let at-number2 = at-count .before .before in
+    let at-e = at-number2 .before .before in let at-block = at-e .before .before in
+    let at-d = at-block .before .before in let at-number = at-d .before .before in
     copies-as (sym (table-is _ _ (was numberTold (at-number .number .ensures fileFrame) (at-d .d .given .1))
     (was numberTold (at-block .block .ensures fileFrame) (at-e .e .given .1))
     (was numberTold (at-number2 .number2 .ensures fileFrame) (at-count .count .given .1))))

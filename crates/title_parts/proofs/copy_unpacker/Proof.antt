@@ -24,12 +24,10 @@ returns-2 c =
 
 returns-3 : tie.Need-returns-3
 returns-3 c =
-    let at-copy-number = c .before .before in
-    let at-b = at-copy-number .before .before .before in
+    let at-copy-number = c .before .before in let at-b = at-copy-number .before .before .before in
     let at-copy-identifier = at-b .before .before .before .before in
     let at-put-number = at-copy-identifier .before .before .before .before in
-    let at-kind = at-put-number .before .before .before in
-    let at-number = at-kind .before .before in
+    let at-kind = at-put-number .before .before .before in let at-number = at-kind .before .before in
     let k = copied-was (at-copy-identifier .copy-identifier .ensures) (at-b .b .given .1) in
     copies-as (sym (unpacker-is _ _ (was numberTold (at-number .number .ensures unpackFrame) (at-kind .kind .given .1)) (copied-answer k)))
     (copies-after _ _ (at-put-number .put-number .ensures)

@@ -19,8 +19,7 @@ loop-holds c = copying-start _ _ _ _ _ _ (omega arith)
 returns : tie.Need-returns Inv-loop μ-loop
 returns c =
     let at-copy-unpacker = c .before .before .before .before .before in
-    let at-loop-test = at-copy-unpacker .before .before in
-    let at-loop = at-loop-test .before in
+    let at-loop-test = at-copy-unpacker .before .before in let at-loop = at-loop-test .before in
     record {
       is = copying-no (unpacker-behind _) (at-loop .loop .inv) (at-loop-test .loop-test .taken)
           (copied-no (copied-was (at-copy-unpacker .copy-unpacker .ensures) (c .before .n .given .1)));
@@ -29,8 +28,7 @@ returns c =
 loop-again : tie.Need-loop-again Inv-loop μ-loop
 loop-again c =
     let at-copy-unpacker = c .before .before .before .before .before in
-    let at-loop-test = at-copy-unpacker .before .before in
-    let at-loop = at-loop-test .before in
+    let at-loop-test = at-copy-unpacker .before .before in let at-loop = at-loop-test .before in
     copying-on (unpacker-behind _) (at-loop .loop .inv) (at-loop-test .loop-test .taken) (copied-was (at-copy-unpacker .copy-unpacker .ensures) (c .before .a .given .1))
 
 same-length-2 : tie.Need-same-length-2 Inv-loop μ-loop

@@ -13,9 +13,7 @@ returns c = λ κ. record { is = number-no κ _ _ (was numberTold (c .before .be
 
 returns-2 : tie.Need-returns-2
 returns-2 c =
-    let at-vlq-size = c .before in
-    let at-v = at-vlq-size .before .before in
-    let at-number = at-v .before .before in
+    let at-vlq-size = c .before in let at-v = at-vlq-size .before .before in let at-number = at-v .before .before in
     λ κ. record {
       is = (
         _,

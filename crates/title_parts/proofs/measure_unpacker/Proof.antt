@@ -16,8 +16,7 @@ returns c = record { is = kind-no _ _ (was numberTold (c .before .before .before
 returns-2 : tie.Need-returns-2
 returns-2 c =
     let at-measure-identifier = c .before .before .before in
-    let at-kind = at-measure-identifier .before .before .before .before in
-    let at-number = at-kind .before .before in
+    let at-kind = at-measure-identifier .before .before .before .before in let at-number = at-kind .before .before in
     record {
       is = name-no _ _ (was numberTold (at-number .number .ensures unpackFrame) (at-kind .kind .given .1))
           (copied-no (copied-was (at-measure-identifier .measure-identifier .ensures) (c .before .n2 .given .1)));
@@ -25,12 +24,9 @@ returns-2 c =
 
 returns-3 : tie.Need-returns-3
 returns-3 c =
-    let at-b = c .before .before in
-    let at-measure-identifier = at-b .before .before in
-    let at-on = at-measure-identifier .before in
-    let at-vlq-size = at-on .before in
-    let at-kind = at-vlq-size .before .before in
-    let at-number = at-kind .before .before in
+    let at-b = c .before .before in let at-measure-identifier = at-b .before .before in
+    let at-on = at-measure-identifier .before in let at-vlq-size = at-on .before in
+    let at-kind = at-vlq-size .before .before in let at-number = at-kind .before .before in
     let k = copied-was (at-measure-identifier .measure-identifier .ensures) (at-b .b .given .1) in
     copies-as (sym (unpacker-is _ _ (was numberTold (at-number .number .ensures unpackFrame) (at-kind .kind .given .1)) (copied-answer k)))
     (copies-after _ _ (counts-number _ (at-vlq-size .vlq-size .ensures) (at-on .on .ensures))

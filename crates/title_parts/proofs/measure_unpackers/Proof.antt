@@ -19,8 +19,7 @@ loop-holds c = copying-start _ _ _ _ _ _ (omega arith)
 
 returns : tie.Need-returns Inv-loop μ-loop
 returns c =
-    let at-measure-unpacker = c .before .before .before in
-    let at-loop-test = at-measure-unpacker .before in
+    let at-measure-unpacker = c .before .before .before in let at-loop-test = at-measure-unpacker .before in
     let at-loop = at-loop-test .before in
     record {
       is = copying-no (unpacker-behind _) (at-loop .loop .inv) (at-loop-test .loop-test .taken)
@@ -29,8 +28,7 @@ returns c =
 
 loop-again : tie.Need-loop-again Inv-loop μ-loop
 loop-again c =
-    let at-measure-unpacker = c .before .before .before in
-    let at-loop-test = at-measure-unpacker .before in
+    let at-measure-unpacker = c .before .before .before in let at-loop-test = at-measure-unpacker .before in
     let at-loop = at-loop-test .before in
     copying-on (unpacker-behind _) (at-loop .loop .inv) (at-loop-test .loop-test .taken)
     (copied-was (at-measure-unpacker .measure-unpacker .ensures) (c .before .a .given .1))

@@ -7,8 +7,7 @@ use Rattle.title_parts.proofs.put_types.Tie as tie
 
 returns : tie.Need-returns
 returns c =
-    let at-put-number = c .before .before in
-    let at-enum-told = at-put-number .before .before in
+    let at-put-number = c .before .before in let at-enum-told = at-put-number .before .before in
     let at-copy-table = at-enum-told .before .before .before in
     block-none _ (copied-no (copied-was (at-copy-table .copy-table .ensures) (at-enum-told .enum-told .given .1))) (at-put-number .put-number .ensures)
 
@@ -23,8 +22,7 @@ returns-3 : tie.Need-returns-3
 returns-3 c =
     let at-copy-table2 = c .before .before .before .before .before in
     let at-put-number2 = at-copy-table2 .before .before .before .before in
-    let at-n = at-put-number2 .before .before .before in
-    let at-copy-table = at-n .before .before .before in
+    let at-n = at-put-number2 .before .before .before in let at-copy-table = at-n .before .before .before in
     block-copied _ (copied-was (at-copy-table .copy-table .ensures) (at-n .n .given .1)) (at-put-number2 .put-number2 .ensures)
     (copied-was (at-copy-table2 .copy-table2 .ensures) (c .before .b .given .1))
 

@@ -20,8 +20,7 @@ put-part-requires c κs =
 
 returns-2 : tie.Need-returns-2
 returns-2 c =
-    let at-put-part = c .before .before in
-    let at-if2 = at-put-part .before .before in
+    let at-put-part = c .before .before in let at-if2 = at-put-part .before .before in
     let at-put-number = at-if2 .before .before .before .before .before in
     let entry = at-put-number .before .before .before .before in
     block-same (entry .pre .1 .size) (entry .pre .1 .same (at-if2 .if2 .taken) .1) (at-put-number .put-number .ensures) (at-put-part .put-part .ensures)
@@ -37,8 +36,7 @@ returns-3 c =
 returns-4 : tie.Need-returns-4
 unfolding shape
 returns-4 c =
-    let at-b = c .before in
-    let at-copy-unpackers = at-b .before .before .before .before in
+    let at-b = c .before in let at-copy-unpackers = at-b .before .before .before .before in
     let at-put-number = at-copy-unpackers .before .before .before .before .before .before .before in
     let entry = at-put-number .before .before .before .before in
     block-measured _ (entry .pre .1 .size) (at-put-number .put-number .ensures) (copied-was (at-copy-unpackers .copy-unpackers .ensures) (at-b .b .given .1))

@@ -9,14 +9,12 @@ use Rattle.title_parts.proofs.unpackers_of.Tie as tie
 
 sub-if1 : tie.Need-sub-if1
 sub-if1 c =
-    let at-size = c .before .before .before .before in
-    let at-measure-unpackers = at-size .before .before in
+    let at-size = c .before .before .before .before in let at-measure-unpackers = at-size .before .before in
     omega (arith, covers-rise (unpackers-cover _ _ _ (copied-answer (copied-was (at-measure-unpackers .measure-unpackers .ensures) (at-size .size .given .1)))))
 
 returns : tie.Need-returns
 returns c =
-    let at-size = c .before .before .before .before .before in
-    let at-measure-unpackers = at-size .before .before in
+    let at-size = c .before .before .before .before .before in let at-measure-unpackers = at-size .before .before in
     packed-other _ _ (copied-was (at-measure-unpackers .measure-unpackers .ensures) (at-size .size .given .1))
 
 returns-2 : tie.Need-returns-2
@@ -32,11 +30,9 @@ returns-3 c =
 
 returns-4 : tie.Need-returns-4
 returns-4 c =
-    let at-if2 = c .before in
-    let at-if1 = at-if2 .before .before in
+    let at-if2 = c .before in let at-if1 = at-if2 .before .before in
     let at-size = at-if1 .before .before .before .before .before in
-    let at-measure-unpackers = at-size .before .before in
-    let entry = at-measure-unpackers .before .before in
+    let at-measure-unpackers = at-size .before .before in let entry = at-measure-unpackers .before .before in
     packed-same _ _ (copied-was (at-measure-unpackers .measure-unpackers .ensures) (at-size .size .given .1)) (entry .pre)
     (c .know-bytes .ensures) (at-if1 .if1 .left) (at-if2 .if2 .left)
 

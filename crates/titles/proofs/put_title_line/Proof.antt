@@ -9,8 +9,7 @@ use Rattle.titles.proofs.put_title_line.Tie as tie
 
 returns : tie.Need-returns
 returns c =
-    let is-no-title = c .before .is-no-title in
-    let if1 = c .if1 in
+    let is-no-title = c .before .is-no-title in let if1 = c .if1 in
     counts-as (line-none _ _ _ (is-no-title .ensures) (if1 .taken)) (counts-none _ (omega arith))
 
 returns-2 : tie.Need-returns-2

@@ -23,8 +23,7 @@ loop-holds c = (omega arith, going-start _ (omega arith) (sym (titles-start _ _ 
 
 put-title-line-requires : tie.Need-put-title-line-requires Inv-loop μ-loop
 put-title-line-requires c κs =
-    let pre-c = c .before .before .before .before .before .before .pre in
-    let loop-test = c .before .loop-test in
+    let pre-c = c .before .before .before .before .before .before .pre in let loop-test = c .before .loop-test in
     (omega (arith, pre-c .0), pre-c .1 _ (loop-test .taken))
 
 loop-again : tie.Need-loop-again Inv-loop μ-loop
@@ -41,8 +40,7 @@ same-length c =
 
 returns : tie.Need-returns Inv-loop μ-loop
 returns c =
-    let loop-test = c .loop-test in
-    let loop = c .before .loop in
+    let loop-test = c .loop-test in let loop = c .before .loop in
     going-end (lines-end (titles-lined _) _ _ _ _ _ (loop-test .left)) (loop .inv .1)
 
 pub put-title-lines-spec : {M : Type 1} → statement M

@@ -13,8 +13,7 @@ returns c =
     let item-table = c .before .before .before .before .before .before .before .before .before .before .item-table in
     let args-c = c .before .before .before .before .before .before .before .before .before .before .before .before .before .args in
     let read-file = c .before .before .before .before .before .before .before .read-file in
-    let s = c .before .before .before .s in
-    let if1 = c .if1 in
+    let s = c .before .before .before .s in let if1 = c .if1 in
     format-past _ (node-table .ensures) (item-table .ensures) _
     (standing (args-c .file .now) _ _ _ (read-file .ensures .0) (read-file .ensures .1 .0) (read-file .ensures .1 .1) (s .given .1))
     (if1 .taken)
@@ -23,8 +22,7 @@ is-no-title-requires : tie.Need-is-no-title-requires
 is-no-title-requires c κs =
     let args-c = c .before .before .before .before .before .before .before .before .before .before .before .before .before .before .args in
     let read-file = c .before .before .before .before .before .before .before .before .read-file in
-    let s = c .before .before .before .before .s in
-    let if1 = c .before .if1 in
+    let s = c .before .before .before .before .s in let if1 = c .before .if1 in
     let w = (standing (args-c .file .now) _ _ _ (read-file .ensures .0) (read-file .ensures .1 .0) (read-file .ensures .1 .1) (s .given .1))
     in omega (arith, w .item-room, if1 .left)
 
@@ -34,10 +32,8 @@ returns-2 c =
     let item-table = c .before .before .before .before .before .before .before .before .before .before .before .before .before .item-table in
     let args-c = c .before .before .before .before .before .before .before .before .before .before .before .before .before .before .before .before .args in
     let read-file = c .before .before .before .before .before .before .before .before .before .before .read-file in
-    let s = c .before .before .before .before .before .before .s in
-    let if1 = c .before .before .before .if1 in
-    let is-no-title = c .before .is-no-title in
-    let if2 = c .if2 in
+    let s = c .before .before .before .before .before .before .s in let if1 = c .before .before .before .if1 in
+    let is-no-title = c .before .is-no-title in let if2 = c .if2 in
     format-none _ (node-table .ensures) (item-table .ensures) _
     (standing (args-c .file .now) _ _ _ (read-file .ensures .0) (read-file .ensures .1 .0) (read-file .ensures .1 .1) (s .given .1))
     (omega (arith, if1 .left)) (is-no-title .ensures) (if2 .taken)
@@ -55,8 +51,7 @@ returns-3 : tie.Need-returns-3
 returns-3 c =
     let node-table = c .before .before .before .before .before .before .before .before .before .node-table in
     let item-table = c .before .before .before .before .before .before .before .before .item-table in
-    let read-file = c .before .before .before .before .before .read-file in
-    let n = c .before .n in
+    let read-file = c .before .before .before .before .before .read-file in let n = c .before .n in
     format-refused _ (node-table .ensures) (item-table .ensures) _ (read-file .ensures .0) (n .given .1)
 
 returns-4 : tie.Need-returns-4
@@ -67,8 +62,7 @@ returns-4 c =
     let read-file = c .before .before .before .before .before .before .before .before .before .before .before .before .read-file in
     let s = c .before .before .before .before .before .before .before .before .s in
     let if1 = c .before .before .before .before .before .if1 in
-    let is-no-title = c .before .before .before .is-no-title in
-    let if2 = c .before .before .if2 in
+    let is-no-title = c .before .before .before .is-no-title in let if2 = c .before .before .if2 in
     let item-at = c .item-at in
     format-is _ (node-table .ensures) (item-table .ensures) _
     (standing (args-c .file .now) _ _ _ (read-file .ensures .0) (read-file .ensures .1 .0) (read-file .ensures .1 .1) (s .given .1))

@@ -127,8 +127,7 @@ read-children-sub-rest t c = omega arith
 read-children-loop-less : (t : ℕ) → read-children-lts.Need-loop-less (children-calls t) (read-children-at t) read-children.Post Inv-loop μ-loop
 read-children-loop-less t c =
     let at-read-node = c .before .before .before .before .before .before .before in
-    let at-loop-test = at-read-node .before .before .before in
-    let at-loop = at-loop-test .before in
+    let at-loop-test = at-read-node .before .before .before in let at-loop = at-loop-test .before in
     let entry = at-loop .before .before .before .before .before in
     omega (
       arith,
@@ -139,8 +138,7 @@ read-children-loop-less t c =
 read-children-loop-again : (t : ℕ) → read-children-lts.Need-loop-again (children-calls t) (read-children-at t) read-children.Post Inv-loop μ-loop
 read-children-loop-again t c =
     let at-read-node = c .before .before .before .before .before .before .before in
-    let at-loop-test = at-read-node .before .before .before in
-    let at-loop = at-loop-test .before in
+    let at-loop-test = at-read-node .before .before .before in let at-loop = at-loop-test .before in
     let entry = at-loop .before .before .before .before .before in
     children-on _ _ _ _ _ _ _ _ _ _ (at-loop .loop .inv) (at-loop-test .loop-test .taken) (at-read-node .read-node .ensures)
     (omega (arith, entry .pre)) (c .before .n2 .given .1) (at-read-node .read-node .kept .1 .1 .1 .0)
@@ -178,8 +176,7 @@ read-node-enum-known-w t c = search needs
 
 read-node-add-read-children : (t : ℕ) → read-node-lts.Need-add-read-children (node-calls t) (read-node-at t) read-node.Post
 read-node-add-read-children t c =
-    let at-w = c .before .before .before .before in
-    let at-read-front = at-w .before .before .before .before in
+    let at-w = c .before .before .before .before in let at-read-front = at-w .before .before .before .before in
     let at-if2 = at-read-front .before .before in
     let entry = at-if2 .before .before .before .before .before .before .before .before .before in
     omega (arith, entry .pre, entry .good .1 .1 .1 .0 .0, at-if2 .if2 .left, front-fitting (at-read-front .read-front .ensures []) (at-w .w .given .1))
@@ -213,8 +210,7 @@ read-node-past-inline-requires t c κs =
 read-node-end-node-requires : (t : ℕ) → read-node-lts.Need-end-node-requires (node-calls t) (read-node-at t) read-node.Post
 read-node-end-node-requires t c κs =
     let at-w = c .before .before .before .before .before .before .before .before .before .before .before .before in
-    let at-read-front = at-w .before .before .before .before in
-    let at-if2 = at-read-front .before .before in
+    let at-read-front = at-w .before .before .before .before in let at-if2 = at-read-front .before .before in
     let entry = at-if2 .before .before .before .before .before .before .before .before .before in
     omega (
       arith,
@@ -235,14 +231,11 @@ read-node-same-length-2 t c =
 
 read-node-returns-3 : (t : ℕ) → read-node-lts.Need-returns-3 (node-calls t) (read-node-at t) read-node.Post
 read-node-returns-3 t c =
-    let at-past-inline = c .before .before .before in
-    let at-of = at-past-inline .before in
+    let at-past-inline = c .before .before .before in let at-of = at-past-inline .before in
     let at-put-node = at-of .before .before .before in
     let at-w = at-put-node .before .before .before .before .before .before in
-    let at-read-front = at-w .before .before .before .before in
-    let at-if2 = at-read-front .before .before in
-    let at-if1 = at-if2 .before .before .before in
-    let entry = at-if1 .before .before .before .before .before .before in
+    let at-read-front = at-w .before .before .before .before in let at-if2 = at-read-front .before .before in
+    let at-if1 = at-if2 .before .before .before in let entry = at-if1 .before .before .before .before .before .before in
     node-file _ _ _ _ _ _ _ (at-if1 .if1 .left) (at-if2 .if2 .left) (omega (arith, entry .pre)) _ _ _
     (front-done (at-read-front .read-front .ensures _) (at-w .w .given .1)) _ (at-put-node .put-node .ensures) (at-of .of .ensures)
     (at-past-inline .past-inline .ensures) (c .before .if3 .taken) (c .end-node .ensures _ _ _)
@@ -315,13 +308,10 @@ read-node-returns-5 : (t : ℕ) → read-node-lts.Need-returns-5 (node-calls t) 
 read-node-returns-5 t c =
     let at-read-children = c .before .before .before .before .before .before .before in
     let at-past-inline = at-read-children .before .before .before .before .before in
-    let at-of = at-past-inline .before in
-    let at-put-node = at-of .before .before .before in
+    let at-of = at-past-inline .before in let at-put-node = at-of .before .before .before in
     let at-w = at-put-node .before .before .before .before .before .before in
-    let at-read-front = at-w .before .before .before .before in
-    let at-if2 = at-read-front .before .before in
-    let at-if1 = at-if2 .before .before .before in
-    let entry = at-if1 .before .before .before .before .before .before in
+    let at-read-front = at-w .before .before .before .before in let at-if2 = at-read-front .before .before in
+    let at-if1 = at-if2 .before .before .before in let entry = at-if1 .before .before .before .before .before .before in
     no (node-children _ _ _ _ _ _ _ (at-if1 .if1 .left) (at-if2 .if2 .left) (omega (arith, entry .pre)) _ _ _
     (front-done (at-read-front .read-front .ensures _) (at-w .w .given .1)) _ (at-put-node .put-node .ensures) (at-of .of .ensures)
     (at-past-inline .past-inline .ensures) (stopped (at-read-children .read-children .ensures) (c .before .n2 .given .1)))
@@ -339,16 +329,12 @@ read-node-same-length-7 t c =
 
 read-node-returns-6 : (t : ℕ) → read-node-lts.Need-returns-6 (node-calls t) (read-node-at t) read-node.Post
 read-node-returns-6 t c =
-    let at-m2 = c .before .before in
-    let at-read-children = at-m2 .before .before .before .before .before .before in
+    let at-m2 = c .before .before in let at-read-children = at-m2 .before .before .before .before .before .before in
     let at-past-inline = at-read-children .before .before .before .before .before in
-    let at-of = at-past-inline .before in
-    let at-put-node = at-of .before .before .before in
+    let at-of = at-past-inline .before in let at-put-node = at-of .before .before .before in
     let at-w = at-put-node .before .before .before .before .before .before in
-    let at-read-front = at-w .before .before .before .before in
-    let at-if2 = at-read-front .before .before in
-    let at-if1 = at-if2 .before .before .before in
-    let entry = at-if1 .before .before .before .before .before .before in
+    let at-read-front = at-w .before .before .before .before in let at-if2 = at-read-front .before .before in
+    let at-if1 = at-if2 .before .before .before in let entry = at-if1 .before .before .before .before .before .before in
     node-contained _ _ _ _ _ _ _ (at-if1 .if1 .left) (at-if2 .if2 .left) (omega (arith, entry .pre)) _ _ _
     (front-done (at-read-front .read-front .ensures _) (at-w .w .given .1)) _ (at-put-node .put-node .ensures) (at-of .of .ensures)
     (at-past-inline .past-inline .ensures) (done (at-read-children .read-children .ensures) (at-m2 .m2 .given .1)) (c .end-node2 .ensures _ _ _)

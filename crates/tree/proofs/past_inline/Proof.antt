@@ -7,9 +7,7 @@ use Rattle.tree.proofs.past_inline.Tie as tie
 
 add-t7 : tie.Need-add-t7
 add-t7 c =
-    let at-if2 = c .before .before in
-    let at-if1 = at-if2 .before .before in
-    let entry = at-if1 .before .before in
+    let at-if2 = c .before .before in let at-if1 = at-if2 .before .before in let entry = at-if1 .before .before in
     omega (arith, entry .pre, inline-is (entry .args .row) (at-if1 .if1 .taken) (at-if2 .if2 .taken))
 
 returns : tie.Need-returns

@@ -10,8 +10,7 @@ use Rattle.unicode.proofs.after_mark.Tie as tie
 
 returns : tie.Need-returns
 returns c =
-    let at-value = c .before .before in
-    let at-char16 = at-value .before .before in
+    let at-value = c .before .before in let at-char16 = at-value .before .before in
     let at-shared-slice-known = at-char16 .before in
     let entry = at-shared-slice-known .before in (
       mark-dropped (entry .args .units .now) (sym (ap charTold (at-value .value .given .1)) ∙ at-char16 .char16 .ensures)
@@ -26,8 +25,7 @@ returns-2 c = (mark-bad (c .before .before .before .before .args .units .now) (s
 
 returns-3 : tie.Need-returns-3
 returns-3 c =
-    let at-value = c .before .before in
-    let at-char16 = at-value .before .before in
+    let at-value = c .before .before in let at-char16 = at-value .before .before in
     let at-shared-slice-known = at-char16 .before in
     let entry = at-shared-slice-known .before in (
       mark-kept (entry .args .units .now) (sym (ap charTold (at-value .value .given .1)) ∙ at-char16 .char16 .ensures)

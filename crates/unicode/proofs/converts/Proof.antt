@@ -22,18 +22,14 @@ loop-holds c = check-start (c .before .args .units .now)
 
 returns : tie.Need-returns Inv-loop μ-loop
 returns c =
-    let at-char16 = c .before .before in
-    let at-loop-test = at-char16 .before in
-    let at-loop = at-loop-test .before in
+    let at-char16 = c .before .before in let at-loop-test = at-char16 .before in let at-loop = at-loop-test .before in
     let entry = at-loop .before .before in
     check-bad (entry .args .units .now) _ (at-loop-test .loop-test .taken) (at-loop .loop .inv) (sym (ap charTold (c .enum-told .given .1)) ∙ at-char16 .char16 .ensures)
 
 add-at : tie.Need-add-at Inv-loop μ-loop
 add-at c =
-    let at-char16 = c .before .before .before in
-    let at-loop-test = at-char16 .before in
-    let at-loop = at-loop-test .before in
-    let at-shared-slice-known = at-loop .before in
+    let at-char16 = c .before .before .before in let at-loop-test = at-char16 .before in
+    let at-loop = at-loop-test .before in let at-shared-slice-known = at-loop .before in
     let entry = at-shared-slice-known .before in
     (let w = check-on (entry .args .units .now) _ (at-loop-test .loop-test .taken) (at-loop .loop .inv)
     (λ i. omega (arith, at-shared-slice-known .shared-slice-known .given i))
@@ -41,19 +37,15 @@ add-at c =
 
 loop-less : tie.Need-loop-less Inv-loop μ-loop
 loop-less c =
-    let at-char16 = c .before .before .before in
-    let at-loop = at-char16 .before .before in
-    let at-shared-slice-known = at-loop .before in
-    let entry = at-shared-slice-known .before in
+    let at-char16 = c .before .before .before in let at-loop = at-char16 .before .before in
+    let at-shared-slice-known = at-loop .before in let entry = at-shared-slice-known .before in
     (let w = char-in form16 (entry .args .units .now) (λ i. omega (arith, at-shared-slice-known .shared-slice-known .given i)) _
     (sym (ap charTold (c .before .size .given .1)) ∙ at-char16 .char16 .ensures) (at-loop .loop .inv .within) in omega (arith, w .1, w .2))
 
 loop-again : tie.Need-loop-again Inv-loop μ-loop
 loop-again c =
-    let at-char16 = c .before .before .before in
-    let at-loop-test = at-char16 .before in
-    let at-loop = at-loop-test .before in
-    let at-shared-slice-known = at-loop .before in
+    let at-char16 = c .before .before .before in let at-loop-test = at-char16 .before in
+    let at-loop = at-loop-test .before in let at-shared-slice-known = at-loop .before in
     let entry = at-shared-slice-known .before in
     check-on (entry .args .units .now) _ (at-loop-test .loop-test .taken) (at-loop .loop .inv)
     (λ i. omega (arith, at-shared-slice-known .shared-slice-known .given i))

@@ -11,8 +11,7 @@ returns c = counts-as (short-bytes _ (c .before .before .before .before .if1 .ta
 
 returns-2 : tie.Need-returns-2
 returns-2 c =
-    let at-put-unit3 = c .before .before in
-    let at-put-unit2 = at-put-unit3 .before .before .before .before in
+    let at-put-unit3 = c .before .before in let at-put-unit2 = at-put-unit3 .before .before .before .before in
     let at-if1 = at-put-unit2 .before .before in
     counts-as (long-bytes _ (at-if1 .if1 .left)) (counts-then (at-put-unit2 .put-unit2 .ensures) (at-put-unit3 .put-unit3 .ensures))
 

@@ -21,16 +21,12 @@ returns c = tails-none (c .before .before .loop .inv) (c .before .loop-test .tak
 
 returns-2 : tie.Need-returns-2 Inv-loop μ-loop
 returns-2 c =
-    let at-if1 = c .before .before .before in
-    let at-loop-test = at-if1 .before in
-    let at-loop = at-loop-test .before in
+    let at-if1 = c .before .before .before in let at-loop-test = at-if1 .before in let at-loop = at-loop-test .before in
     tails-low (at-loop .loop .inv) (at-loop-test .loop-test .taken) (at-if1 .if1 .left) (c .before .wide .ensures .0) (c .if2 .taken)
 
 returns-3 : tie.Need-returns-3 Inv-loop μ-loop
 returns-3 c =
-    let at-wide = c .before .before in
-    let at-if1 = at-wide .before .before in
-    let at-loop-test = at-if1 .before in
+    let at-wide = c .before .before in let at-if1 = at-wide .before .before in let at-loop-test = at-if1 .before in
     let at-loop = at-loop-test .before in
     tails-high (at-loop .loop .inv) (at-loop-test .loop-test .taken) (at-if1 .if1 .left) (at-wide .wide .ensures .0) (c .if3 .taken)
 
@@ -42,9 +38,7 @@ add-v c = omega (arith, c .before .before .before .before .before .before .loop 
 
 loop-again : tie.Need-loop-again Inv-loop μ-loop
 loop-again c =
-    let at-wide = c .before .before in
-    let at-if1 = at-wide .before .before in
-    let at-loop-test = at-if1 .before in
+    let at-wide = c .before .before in let at-if1 = at-wide .before .before in let at-loop-test = at-if1 .before in
     let at-loop = at-loop-test .before in
     tails-next (at-loop .loop .inv) (at-loop-test .loop-test .taken) (at-if1 .if1 .left) (at-wide .wide .ensures .0) (c .before .if2 .left) (c .if3 .left)
 
@@ -53,29 +47,22 @@ returns-4 c = tails-under (c .before .before .loop .inv) (c .before .loop-test .
 
 returns-5 : tie.Need-returns-5 Inv-loop μ-loop
 returns-5 c =
-    let at-loop-test = c .before .before in
-    let at-loop = at-loop-test .before in
+    let at-loop-test = c .before .before in let at-loop = at-loop-test .before in
     tails-one (at-loop .loop .inv) (at-loop-test .loop-test .left) (c .before .if4 .left) (record { most = omega arith; apart = inl (c .if5 .taken) })
 
 returns-6 : tie.Need-returns-6 Inv-loop μ-loop
 returns-6 c =
-    let at-if4 = c .before .before in
-    let at-loop-test = at-if4 .before in
-    let at-loop = at-loop-test .before in
+    let at-if4 = c .before .before in let at-loop-test = at-if4 .before in let at-loop = at-loop-test .before in
     tails-lone (at-loop .loop .inv) (at-loop-test .loop-test .left) (at-if4 .if4 .left) (c .before .if5 .left) (c .if6 .taken)
 
 returns-7 : tie.Need-returns-7 Inv-loop μ-loop
 returns-7 c =
-    let at-if4 = c .before .before .before in
-    let at-loop-test = at-if4 .before in
-    let at-loop = at-loop-test .before in
+    let at-if4 = c .before .before .before in let at-loop-test = at-if4 .before in let at-loop = at-loop-test .before in
     tails-one (at-loop .loop .inv) (at-loop-test .loop-test .left) (at-if4 .if4 .left) (record { most = c .if7 .taken; apart = inr (c .before .if6 .left) })
 
 returns-8 : tie.Need-returns-8 Inv-loop μ-loop
 returns-8 c =
-    let at-if4 = c .before .before .before in
-    let at-loop-test = at-if4 .before in
-    let at-loop = at-loop-test .before in
+    let at-if4 = c .before .before .before in let at-loop-test = at-if4 .before in let at-loop = at-loop-test .before in
     tails-over (at-loop .loop .inv) (at-loop-test .loop-test .left) (at-if4 .if4 .left) (c .if7 .left)
 
 pub read-tails-spec : {M : Type 1} → statement M

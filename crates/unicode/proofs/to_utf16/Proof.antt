@@ -23,10 +23,8 @@ loop-holds c = conv-start (c .before .before .args .text .now) _ _ (omega arith)
 
 returns : tie.Need-returns Inv-loop μ-loop
 returns c =
-    let at-clear-bytes = c .before .before in
-    let at-enum-told = at-clear-bytes .before .before in
-    let at-char8 = at-enum-told .before .before in
-    let at-loop-test = at-char8 .before in
+    let at-clear-bytes = c .before .before in let at-enum-told = at-clear-bytes .before .before in
+    let at-char8 = at-enum-told .before .before in let at-loop-test = at-char8 .before in
     let at-loop = at-loop-test .before in
     refused (fit-bad _ (conv-bad (at-loop .loop .inv) (at-loop-test .loop-test .taken)
     (sym (ap charTold (at-enum-told .enum-told .given .1)) ∙ at-char8 .char8 .ensures))) (conv-length (at-loop .loop .inv))
@@ -34,55 +32,42 @@ returns c =
 
 put16-requires : tie.Need-put16-requires Inv-loop μ-loop
 put16-requires c κs =
-    let at-value = c .before .before in
-    let at-char8 = at-value .before .before in
-    let at-loop = at-char8 .before .before in
-    let entry = at-loop .before .before .before in
+    let at-value = c .before .before in let at-char8 = at-value .before .before in
+    let at-loop = at-char8 .before .before in let entry = at-loop .before .before .before in
     (let w = char-in form8 (entry .args .text .now) tt _ (sym (ap charTold (at-value .value .given .1)) ∙ at-char8 .char8 .ensures) (at-loop .loop .inv .within) in w .0 .most)
 
 add-at : tie.Need-add-at Inv-loop μ-loop
 add-at c =
-    let at-value = c .before .before .before .before .before in
-    let at-char8 = at-value .before .before in
-    let at-loop = at-char8 .before .before in
-    let entry = at-loop .before .before .before in
+    let at-value = c .before .before .before .before .before in let at-char8 = at-value .before .before in
+    let at-loop = at-char8 .before .before in let entry = at-loop .before .before .before in
     (let w = char-in form8 (entry .args .text .now) tt _ (sym (ap charTold (at-value .value .given .1)) ∙ at-char8 .char8 .ensures)
     (at-loop .loop .inv .within) in omega (arith, w .2))
 
 loop-less : tie.Need-loop-less Inv-loop μ-loop
 loop-less c =
-    let at-value = c .before .before .before .before .before in
-    let at-char8 = at-value .before .before in
-    let at-loop = at-char8 .before .before in
-    let entry = at-loop .before .before .before in
+    let at-value = c .before .before .before .before .before in let at-char8 = at-value .before .before in
+    let at-loop = at-char8 .before .before in let entry = at-loop .before .before .before in
     (let w = char-in form8 (entry .args .text .now) tt _ (sym (ap charTold (at-value .value .given .1)) ∙ at-char8 .char8 .ensures)
     (at-loop .loop .inv .within) in omega (arith, w .1, w .2))
 
 loop-again : tie.Need-loop-again Inv-loop μ-loop
 loop-again c =
-    let at-put16 = c .before .before in
-    let at-value = at-put16 .before .before .before in
-    let at-char8 = at-value .before .before in
-    let at-loop-test = at-char8 .before in
-    let at-loop = at-loop-test .before in
-    let entry = at-loop .before .before .before in
+    let at-put16 = c .before .before in let at-value = at-put16 .before .before .before in
+    let at-char8 = at-value .before .before in let at-loop-test = at-char8 .before in
+    let at-loop = at-loop-test .before in let entry = at-loop .before .before .before in
     conv-on form8 (entry .args .text .now) tt _ (sym (ap charTold (at-value .value .given .1)) ∙ at-char8 .char8 .ensures)
     (at-loop-test .loop-test .taken) (at-loop .loop .inv) (at-put16 .put16 .ensures)
 
 returns-2 : tie.Need-returns-2 Inv-loop μ-loop
 returns-2 c =
-    let at-clear-bytes2 = c .before .before in
-    let at-if1 = at-clear-bytes2 .before .before in
-    let at-loop-test = at-if1 .before in
-    let at-loop = at-loop-test .before in
+    let at-clear-bytes2 = c .before .before in let at-if1 = at-clear-bytes2 .before .before in
+    let at-loop-test = at-if1 .before in let at-loop = at-loop-test .before in
     refused (conv-full (at-loop .loop .inv) (at-loop-test .loop-test .left) (at-if1 .if1 .taken)) (conv-length (at-loop .loop .inv)) (at-clear-bytes2 .clear-bytes2 .ensures)
 
 returns-3 : tie.Need-returns-3 Inv-loop μ-loop
 returns-3 c =
-    let at-clear-bytes-from = c .before .before in
-    let at-if1 = at-clear-bytes-from .before .before in
-    let at-loop-test = at-if1 .before in
-    let at-loop = at-loop-test .before in
+    let at-clear-bytes-from = c .before .before in let at-if1 = at-clear-bytes-from .before .before in
+    let at-loop-test = at-if1 .before in let at-loop = at-loop-test .before in
     conv-good (at-loop .loop .inv) (at-loop-test .loop-test .left) (at-if1 .if1 .left) (omega arith) (at-clear-bytes-from .clear-bytes-from .ensures)
 
 pub to-utf16-spec : {M : Type 1} → statement M

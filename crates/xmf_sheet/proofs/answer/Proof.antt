@@ -12,8 +12,7 @@ array-share-prefix-file c =
 
 slice-aggregate-write-answer : tie.Need-slice-aggregate-write-answer
 slice-aggregate-write-answer c =
-    let at-n = c .before .before in
-    let at-read-input = at-n .before .before .before in
+    let at-n = c .before .before in let at-read-input = at-n .before .before .before in
     input-counted (at-read-input .read-input .last .1 .0) (at-read-input .read-input .ensures) (at-n .n .given .1) .1
 
 pub answer-spec : {M : Type 1} → statement M

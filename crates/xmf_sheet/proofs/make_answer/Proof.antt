@@ -9,8 +9,7 @@ use Rattle.xmf_sheet.proofs.make_answer.Tie as tie
 
 returns : tie.Need-returns
 returns c =
-    let at-put-too-long = c .before .before in
-    let at-if1 = at-put-too-long .before .before in
+    let at-put-too-long = c .before .before in let at-if1 = at-put-too-long .before .before in
     let entry = at-if1 .before .before .before in
     let s = put-first (at-put-too-long .put-too-long .ensures) (omega (arith, long-short, entry .pre)) (omega (arith, entry .pre))
     in (s .0, s .1 ∙ answer-long _ (at-if1 .if1 .taken))
@@ -18,23 +17,18 @@ returns c =
 returns-2 : tie.Need-returns-2
 returns-2 c =
     let at-write-sheet = c .before .before .before .before .before .before .before in
-    let at-item-table = at-write-sheet .before .before .before .before in
-    let at-node-table = at-item-table .before in
-    let at-if1 = at-node-table .before in
-    let entry = at-if1 .before .before .before in
+    let at-item-table = at-write-sheet .before .before .before .before in let at-node-table = at-item-table .before in
+    let at-if1 = at-node-table .before in let entry = at-if1 .before .before .before in
     let s = sheet-made _ _ _ (at-write-sheet .write-sheet .ensures .0) (at-write-sheet .write-sheet .kept .1 .1 .1 .0)
     (at-write-sheet .write-sheet .ensures .1 .1 .1) (c .before .n .given .1)
     in (s .0, s .1 ∙ answer-short _ (at-node-table .node-table .ensures) (at-item-table .item-table .ensures) (entry .pre) (at-if1 .if1 .left))
 
 returns-3 : tie.Need-returns-3
 returns-3 c =
-    let at-put-refusal = c .before .before in
-    let at-number = at-put-refusal .before .before .before in
+    let at-put-refusal = c .before .before in let at-number = at-put-refusal .before .before .before in
     let at-write-sheet = at-number .before .before .before .before .before .before in
-    let at-item-table = at-write-sheet .before .before .before .before in
-    let at-node-table = at-item-table .before in
-    let at-if1 = at-node-table .before in
-    let entry = at-if1 .before .before .before in
+    let at-item-table = at-write-sheet .before .before .before .before in let at-node-table = at-item-table .before in
+    let at-if1 = at-node-table .before in let entry = at-if1 .before .before .before in
     let s = put-first (at-put-refusal .put-refusal .ensures)
     (omega (
       arith,

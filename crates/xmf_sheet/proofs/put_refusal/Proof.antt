@@ -8,8 +8,7 @@ use Rattle.xmf_sheet.proofs.put_refusal.Tie as tie
 
 returns : tie.Need-returns
 returns c =
-    let at-put-byte2 = c .before .before in
-    let at-put-number2 = at-put-byte2 .before .before .before .before in
+    let at-put-byte2 = c .before .before in let at-put-number2 = at-put-byte2 .before .before .before .before in
     let at-put-number = at-put-number2 .before .before .before .before in
     let at-put-byte = at-put-number .before .before .before .before in
     counts-as (refusal-is _ _) (counts-then

@@ -28,8 +28,7 @@ same-length c = c .before .loop .inv .1 .same
 
 returns : tie.Need-returns Inv-loop μ-loop
 returns c =
-    let at-loop = c .before in
-    let at-lesser = at-loop .before in
+    let at-loop = c .before in let at-lesser = at-loop .before in
     filling-all _ _ _ _ _ _ (omega (arith, at-loop .loop .inv .0, at-lesser .lesser .ensures))
     (omega (arith, c .loop-test .left, at-lesser .lesser .ensures)) (at-loop .loop .inv .1)
 

@@ -8,17 +8,13 @@ use Rattle.account.proofs.marks.mark_item.Tie as tie
 
 returns : tie.Need-returns
 returns c =
-    let at-fill = c .before .before in
-    let at-if1 = at-fill .before .before in
-    let at-on = at-if1 .before .before in
+    let at-fill = c .before .before in let at-if1 = at-fill .before .before in let at-on = at-if1 .before .before in
     let at-good = at-on .before .before in
     hidden-span _ (at-if1 .if1 .taken) (past _ _ _ (omega (arith, at-good .good)) (rw (at-on .on .ensures) at (at-fill .fill .ensures)))
 
 returns-2 : tie.Need-returns-2
 returns-2 c =
-    let at-fill2 = c .before .before in
-    let at-if1 = at-fill2 .before .before in
-    let at-on = at-if1 .before .before in
+    let at-fill2 = c .before .before in let at-if1 = at-fill2 .before .before in let at-on = at-if1 .before .before in
     let at-good = at-on .before .before in
     visible-span _ (at-if1 .if1 .left) (past _ _ _ (omega (arith, at-good .good)) (rw (at-on .on .ensures) at (at-fill2 .fill2 .ensures)))
 

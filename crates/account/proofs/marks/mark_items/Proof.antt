@@ -23,8 +23,7 @@ item-at-requires c κs = omega (arith, c .before .before .before .before .before
 
 loop-again : tie.Need-loop-again Inv-loop μ-loop
 loop-again c =
-    let at-mark-item = c .before .before in
-    let at-item-at = at-mark-item .before in
+    let at-mark-item = c .before .before in let at-item-at = at-mark-item .before in
     let at-loop = at-item-at .before .before .before in
     (omega arith, painting-on _ _ _ _ _ _ (omega arith) (at-loop .loop .inv .1) (at-item-at .item-at .ensures) (at-mark-item .mark-item .ensures))
 

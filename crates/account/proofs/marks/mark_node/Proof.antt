@@ -14,18 +14,13 @@ add-unpackers c =
 
 returns : tie.Need-returns
 returns c =
-    let after-fill5 = c .before .before in
-    let after-fill4 = after-fill5 .before .before .before .before in
+    let after-fill5 = c .before .before in let after-fill4 = after-fill5 .before .before .before .before in
     let after-fill3 = after-fill4 .before .before .before .before in
     let after-fill2 = after-fill3 .before .before .before .before in
-    let after-fill = after-fill2 .before .before .before .before in
-    let after-on = after-fill .before .before in
-    let after-inline-size = after-on .before in
-    let after-contents-at = after-inline-size .before in
-    let after-block-size = after-contents-at .before in
-    let after-meta-at = after-block-size .before in
-    let entry = after-meta-at .before .before .before in
-    let meta = after-meta-at .meta-at .ensures in
+    let after-fill = after-fill2 .before .before .before .before in let after-on = after-fill .before .before in
+    let after-inline-size = after-on .before in let after-contents-at = after-inline-size .before in
+    let after-block-size = after-contents-at .before in let after-meta-at = after-block-size .before in
+    let entry = after-meta-at .before .before .before in let meta = after-meta-at .meta-at .ensures in
     let unpackers = spans _ _ meta (after-block-size .block-size .ensures) in
     let inline = past _ _ _ (omega (
       arith,

@@ -29,8 +29,7 @@ mark-node-requires c κs =
 
 loop-again : tie.Need-loop-again Inv-loop μ-loop
 loop-again c =
-    let at-mark-node = c .before .before in
-    let at-node-at = at-mark-node .before in
+    let at-mark-node = c .before .before in let at-node-at = at-mark-node .before in
     let at-loop = at-node-at .before .before .before in
     (omega arith, painting-on _ _ _ _ _ _ (omega arith) (at-loop .loop .inv .1) (at-node-at .node-at .ensures) (at-mark-node .mark-node .ensures))
 

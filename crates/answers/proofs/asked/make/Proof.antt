@@ -9,8 +9,7 @@ use Rattle.answers.proofs.asked.make.Tie as tie
 
 returns : tie.Need-returns
 returns c =
-    let if1 = c .before .before .before .before .if1 in
-    let refuse-long = c .before .before .refuse-long in
+    let if1 = c .before .before .before .before .if1 in let refuse-long = c .before .before .refuse-long in
     answered (gives-as (long-is _ _ _ _ _ (if1 .taken)) (refuse-long .ensures))
 
 enum-told : tie.Need-enum-told
@@ -20,8 +19,7 @@ returns-2 : tie.Need-returns-2
 unfolding answerTo
 returns-2 c =
     let if1 = c .before .before .before .before .before .before .if1 in
-    let enum-told = c .before .before .before .before .enum-told in
-    let make-sheet = c .before .before .make-sheet in
+    let enum-told = c .before .before .before .before .enum-told in let make-sheet = c .before .before .make-sheet in
     answered (gives-as (short-is _ _ _ _ (if1 .left) (enum-told .given .1)) (make-sheet .ensures))
 
 returns-3 : tie.Need-returns-3
@@ -36,24 +34,21 @@ returns-4 : tie.Need-returns-4
 unfolding answerTo
 returns-4 c =
     let if1 = c .before .before .before .before .before .before .if1 in
-    let enum-told3 = c .before .before .before .before .enum-told3 in
-    let make-moved = c .before .before .make-moved in
+    let enum-told3 = c .before .before .before .before .enum-told3 in let make-moved = c .before .before .make-moved in
     answered (gives-as (short-is _ _ _ _ (if1 .left) (enum-told3 .given .1)) (make-moved .ensures))
 
 returns-5 : tie.Need-returns-5
 unfolding answerTo
 returns-5 c =
     let if1 = c .before .before .before .before .before .before .if1 in
-    let enum-told4 = c .before .before .before .before .enum-told4 in
-    let make-check = c .before .before .make-check in
+    let enum-told4 = c .before .before .before .before .enum-told4 in let make-check = c .before .before .make-check in
     answered (gives-as (short-is _ _ _ _ (if1 .left) (enum-told4 .given .1)) (make-check .ensures))
 
 returns-6 : tie.Need-returns-6
 unfolding answerTo
 returns-6 c =
     let if1 = c .before .before .before .before .before .before .if1 in
-    let enum-told5 = c .before .before .before .before .enum-told5 in
-    let make-rows = c .before .before .make-rows in
+    let enum-told5 = c .before .before .before .before .enum-told5 in let make-rows = c .before .before .make-rows in
     answered (gives-as (short-is _ _ _ _ (if1 .left) (enum-told5 .given .1)) (make-rows .ensures))
 
 returns-7 : tie.Need-returns-7
@@ -68,8 +63,7 @@ returns-8 : tie.Need-returns-8
 unfolding answerTo
 returns-8 c =
     let if1 = c .before .before .before .before .before .before .before .if1 in
-    let asked = c .before .before .before .before .before .asked in
-    let make-found = c .before .before .make-found in
+    let asked = c .before .before .before .before .before .asked in let make-found = c .before .before .make-found in
     answered (gives-as (short-is _ _ _ _ (if1 .left) (asked .given .1)) (make-found .ensures))
 
 returns-9 : tie.Need-returns-9
@@ -84,8 +78,7 @@ returns-10 : tie.Need-returns-10
 unfolding answerTo
 returns-10 c =
     let if1 = c .before .before .before .before .before .before .before .if1 in
-    let asked3 = c .before .before .before .before .before .asked3 in
-    let make-place = c .before .before .make-place in
+    let asked3 = c .before .before .before .before .before .asked3 in let make-place = c .before .before .make-place in
     answered (gives-as (short-is _ _ _ _ (if1 .left) (asked3 .given .1)) (make-place .ensures))
 
 returns-11 : tie.Need-returns-11
@@ -108,8 +101,7 @@ returns-13 : tie.Need-returns-13
 unfolding answerTo
 returns-13 c =
     let if1 = c .before .before .before .before .before .before .if1 in
-    let enum-told7 = c .before .before .before .before .enum-told7 in
-    let make-needs = c .before .before .make-needs in
+    let enum-told7 = c .before .before .before .before .enum-told7 in let make-needs = c .before .before .make-needs in
     answered (gives-as (short-is _ _ _ _ (if1 .left) (enum-told7 .given .1)) (make-needs .ensures))
 
 returns-14 : tie.Need-returns-14
@@ -124,16 +116,14 @@ returns-15 : tie.Need-returns-15
 unfolding answerTo
 returns-15 c =
     let if1 = c .before .before .before .before .before .before .before .if1 in
-    let asked7 = c .before .before .before .before .before .asked7 in
-    let make-count = c .before .before .make-count in
+    let asked7 = c .before .before .before .before .before .asked7 in let make-count = c .before .before .make-count in
     answered (gives-as (short-is _ _ _ _ (if1 .left) (asked7 .given .1)) (make-count .ensures))
 
 returns-16 : tie.Need-returns-16
 unfolding answerTo
 returns-16 c =
     let if1 = c .before .before .before .before .before .before .if1 in
-    let enum-told8 = c .before .before .before .before .enum-told8 in
-    let make-bytes = c .before .before .make-bytes in
+    let enum-told8 = c .before .before .before .before .enum-told8 in let make-bytes = c .before .before .make-bytes in
     answered (gives-as (short-is _ _ _ _ (if1 .left) (enum-told8 .given .1)) (make-bytes .ensures))
 
 returns-17 : tie.Need-returns-17
@@ -156,8 +146,7 @@ returns-19 : tie.Need-returns-19
 unfolding answerTo
 returns-19 c =
     let if1 = c .before .before .before .before .before .before .before .if1 in
-    let asked9 = c .before .before .before .before .before .asked9 in
-    let make-tag = c .before .before .make-tag in
+    let asked9 = c .before .before .before .before .before .asked9 in let make-tag = c .before .before .make-tag in
     answered (gives-as (short-is _ _ _ _ (if1 .left) (asked9 .given .1)) (make-tag .ensures))
 
 returns-20 : tie.Need-returns-20
@@ -188,8 +177,7 @@ returns-23 : tie.Need-returns-23
 unfolding answerTo
 returns-23 c =
     let if1 = c .before .before .before .before .before .before .if1 in
-    let enum-told11 = c .before .before .before .before .enum-told11 in
-    let make-utf8 = c .before .before .make-utf8 in
+    let enum-told11 = c .before .before .before .before .enum-told11 in let make-utf8 = c .before .before .make-utf8 in
     answered (gives-as (short-is _ _ _ _ (if1 .left) (enum-told11 .given .1)) (make-utf8 .ensures))
 
 returns-24 : tie.Need-returns-24
@@ -204,8 +192,7 @@ returns-25 : tie.Need-returns-25
 unfolding answerTo
 returns-25 c =
     let if1 = c .before .before .before .before .before .before .if1 in
-    let enum-told13 = c .before .before .before .before .enum-told13 in
-    let make-runs = c .before .before .make-runs in
+    let enum-told13 = c .before .before .before .before .enum-told13 in let make-runs = c .before .before .make-runs in
     answered (gives-as (short-is _ _ _ _ (if1 .left) (enum-told13 .given .1)) (make-runs .ensures))
 
 returns-26 : tie.Need-returns-26

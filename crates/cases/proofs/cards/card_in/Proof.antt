@@ -10,8 +10,7 @@ use Rattle.cases.proofs.cards.card_in.Tie as tie
 
 returns : tie.Need-returns
 returns c =
-    let taken = c .before .before .before .before in
-    let a = taken .before .args in
+    let taken = c .before .before .before .before in let a = taken .before .args in
     card-at (a .words .now) (a .i) (omega (arith, count (a .words .now), taken .if1 .taken))
 
 returns-2 : tie.Need-returns-2

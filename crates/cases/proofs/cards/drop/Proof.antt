@@ -7,10 +7,8 @@ use Rattle.cases.proofs.cards.drop.Tie as tie
 
 returns : tie.Need-returns
 returns c =
-    let at-drop-row = c .before .before .before .before in
-    let at-load-row = at-drop-row .before .before .before in
-    let at-count = at-load-row .before .before in
-    let words = at-count .before .before .before .args .words .now in
+    let at-drop-row = c .before .before .before .before in let at-load-row = at-drop-row .before .before .before in
+    let at-count = at-load-row .before .before in let words = at-count .before .before .before .args .words .now in
     let loaded = at-load-row .load-row .ensures in
     changed _ _ (front words (at-load-row .load-row .result) (at-count .count .result) (loaded .0) (at-count .count .ensures) (loaded .1)) _ _ _ _ (at-drop-row .drop-row .ensures)
 

@@ -7,10 +7,8 @@ use Rattle.cases.proofs.cards.get.Tie as tie
 
 returns : tie.Need-returns
 returns c =
-    let at-get-row = c .before .before in
-    let at-load-row = at-get-row .before .before in
-    let at-count = at-load-row .before in
-    let words = at-count .before .before .before .before .args .words .now in
+    let at-get-row = c .before .before in let at-load-row = at-get-row .before .before in
+    let at-count = at-load-row .before in let words = at-count .before .before .before .before .args .words .now in
     let loaded = at-load-row .load-row .ensures in
     given _ _ (front words (at-load-row .load-row .result) (at-count .count .result) (loaded .0) (at-count .count .ensures) (loaded .1)) _ _ _ (at-get-row .get-row .ensures)
 

@@ -33,12 +33,8 @@ loop-less c = omega (arith, c .before .loop-test .taken)
 
 loop-again : tie.Need-loop-again Inv-loop μ-loop
 loop-again c =
-    let test = c .before .loop-test .taken in
-    let at-loop = c .before .before in
-    let inv = at-loop .loop .inv in
-    let words = at-loop .before .before .args .words .now in
-    let row = at-loop .loop .row in
-    let i = at-loop .loop .i in
+    let test = c .before .loop-test .taken in let at-loop = c .before .before in let inv = at-loop .loop .inv in
+    let words = at-loop .before .before .args .words .now in let row = at-loop .loop .row in let i = at-loop .loop .i in
     (omega (arith, test), length-set {A = Card} row i (c .card-in .result) ∙ inv .1, loaded-more words row i (inv .1) test (c .card-in .ensures) (inv .2))
 
 returns : tie.Need-returns Inv-loop μ-loop

@@ -7,8 +7,7 @@ use Rattle.cases.proofs.cards.put.Tie as tie
 
 returns : tie.Need-returns
 returns c =
-    let at-put-row = c .before .before .before .before in
-    let at-load-row = at-put-row .before .before .before in
+    let at-put-row = c .before .before .before .before in let at-load-row = at-put-row .before .before .before in
     let at-count = at-load-row .before .before in
     let words = at-count .before .before .before .before .args .words .now in
     let loaded = at-load-row .load-row .ensures in

@@ -24,20 +24,14 @@ loop-holds c = (omega arith, c .count .ensures, refl, with-none _)
 
 store-requires : tie.Need-store-requires Inv-loop μ-loop
 store-requires c κs =
-    let at-loop-test = c .before .before .before in
-    let inv = at-loop-test .before .loop .inv in
+    let at-loop-test = c .before .before .before in let inv = at-loop-test .before .loop .inv in
     omega (arith, at-loop-test .loop-test .taken, inv .1, inv .2)
 
 loop-again : tie.Need-loop-again Inv-loop μ-loop
 loop-again c =
-    let at-store = c .before .before in
-    let at-loop-test = at-store .before .before .before .before in
-    let at-loop = at-loop-test .before in
-    let inv = at-loop .loop .inv in
-    let test = at-loop-test .loop-test .taken in
-    let entry = at-loop .before .before .before in
-    let row = entry .args .t2 in
-    let i = at-loop .loop .i in
+    let at-store = c .before .before in let at-loop-test = at-store .before .before .before .before in
+    let at-loop = at-loop-test .before in let inv = at-loop .loop .inv in let test = at-loop-test .loop-test .taken in
+    let entry = at-loop .before .before .before in let row = entry .args .t2 in let i = at-loop .loop .i in
     let four = fourOf (getD row i freshCard) in (
       omega (arith, test),
       inv .1,
@@ -48,9 +42,7 @@ loop-again c =
 
 returns : tie.Need-returns Inv-loop μ-loop
 returns c =
-    let at-loop = c .before in
-    let inv = at-loop .loop .inv in
-    let entry = at-loop .before .before .before in
+    let at-loop = c .before in let inv = at-loop .loop .inv in let entry = at-loop .before .before .before in
     let all : at-loop .loop .i ≡ min (length (entry .args .words .now) / 4) 20 = omega (arith, c .loop-test .left, inv .0, inv .1) in
     inv .3 ∙ ap (λ (k : ℕ). wordsWith (entry .args .words .now) (take k (entry .args .t2))) all
 

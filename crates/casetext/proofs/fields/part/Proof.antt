@@ -6,8 +6,7 @@ use Rattle.casetext.proofs.fields.part.Tie as tie
 
 returns : tie.Need-returns
 returns c =
-    let at-find-mark = c .before in
-    let start = at-find-mark .before .part-start .ensures in
+    let at-find-mark = c .before in let start = at-find-mark .before .part-start .ensures in
     let end = at-find-mark .find-mark .ensures in
     (part-within _ _ _ _ start end, part-unmarked _ _ _ _ start end)
 

@@ -22,8 +22,7 @@ loop-holds c = (refl, omega arith)
 
 returns : tie.Need-returns Inv-loop μ-loop
 returns c =
-    let at-loop-test = c .before .before .before in
-    let at-loop = at-loop-test .before in
+    let at-loop-test = c .before .before .before in let at-loop = at-loop-test .before in
     record { meant = λ e. absurd (false≢true e); taken = λ a h l. absurd (omega (arith, h (at-loop .loop .i) (at-loop-test .loop-test .taken), c .before .digit .ensures .0)) }
 
 sub-if2 : tie.Need-sub-if2 Inv-loop μ-loop
@@ -31,8 +30,7 @@ sub-if2 c = omega (arith, c .wide .ensures)
 
 returns-2 : tie.Need-returns-2 Inv-loop μ-loop
 returns-2 c =
-    let at-digit = c .before .before .before in
-    let at-loop-test = at-digit .before .before in
+    let at-digit = c .before .before .before in let at-loop-test = at-digit .before .before in
     let at-loop = at-loop-test .before in
     record {
       meant = λ e. absurd (false≢true e);
@@ -54,8 +52,7 @@ add-value c = omega (arith, c .before .wide .ensures)
 
 loop-again : tie.Need-loop-again Inv-loop μ-loop
 loop-again c =
-    let at-digit = c .before .before .before in
-    let at-loop-test = at-digit .before .before in
+    let at-digit = c .before .before .before in let at-loop-test = at-digit .before .before in
     let at-loop = at-loop-test .before in
     (value-more _ _ _ _ _ (at-loop-test .loop-test .taken) (at-loop .loop .inv .0) (at-digit .digit .ensures .0) (c .before .wide .ensures), omega arith)
 

@@ -38,22 +38,19 @@ loop-holds c = (refl, λ k l. omega arith, omega arith, omega arith, omega arith
 
 returns-3 : tie.Need-returns-3 Inv-loop μ-loop
 returns-3 c =
-    let at-digit = c .before .before .before in
-    let at-loop = at-digit .before .before .before in
+    let at-digit = c .before .before .before in let at-loop = at-digit .before .before .before in
     let at-if1 = at-loop .before .before in
     no-bytes _ _ (λ n e l h. absurd (omega (arith, h (2 * at-loop .loop .n) (omega arith), at-digit .digit .ensures .0))) (at-if1 .if1 .left)
 
 returns-4 : tie.Need-returns-4 Inv-loop μ-loop
 returns-4 c =
-    let at-digit2 = c .before .before in
-    let at-loop = at-digit2 .before .before .before .before .before in
+    let at-digit2 = c .before .before in let at-loop = at-digit2 .before .before .before .before .before in
     let at-if1 = at-loop .before .before in
     no-bytes _ _ (λ n e l h. absurd (omega (arith, h (2 * at-loop .loop .n + 1) (omega arith), at-digit2 .digit2 .ensures .0))) (at-if1 .if1 .left)
 
 loop-again : tie.Need-loop-again Inv-loop μ-loop
 loop-again c =
-    let at-digit2 = c .before .before in
-    let at-digit = at-digit2 .before .before in
+    let at-digit2 = c .before .before in let at-digit = at-digit2 .before .before in
     let at-loop = at-digit .before .before .before in
     let entry = at-loop .before .before .before .before .before in (
       simp length-set (omega arith),
@@ -67,8 +64,7 @@ loop-again c =
 
 returns-5 : tie.Need-returns-5 Inv-loop μ-loop
 returns-5 c =
-    let at-if1 = c .before .before .before in
-    let entry = at-if1 .before .before .before in
+    let at-if1 = c .before .before .before in let entry = at-if1 .before .before .before in
     record {
       within = omega arith;
       counted = sym (length-take-le _ _ (omega arith));

@@ -24,8 +24,7 @@ loop-holds c =
 
 loop-again : tie.Need-loop-again Inv-loop μ-loop
 loop-again c =
-    let at-put-byte = c .before .before in
-    let at-loop = at-put-byte .before .before .before .before in
+    let at-put-byte = c .before .before in let at-loop = at-put-byte .before .before .before .before in
     let entry = at-loop .before .before .before .before .before in (
       omega arith,
       omega arith,

@@ -9,14 +9,12 @@ use Rattle.cursor.proofs.Cursor.block.Tie as tie
 
 sub-if1 : tie.Need-sub-if1
 sub-if1 c =
-    let at-size = c .before .before .before .before in
-    let at-number = at-size .before .before in
+    let at-size = c .before .before .before .before in let at-number = at-size .before .before in
     omega (arith, number-inside fileFrame _ _ _ _ (was numberTold (at-number .number .ensures fileFrame) (at-size .size .given .1)))
 
 returns : tie.Need-returns
 returns c =
-    let at-size = c .before .before .before .before .before in
-    let at-number = at-size .before .before in
+    let at-size = c .before .before .before .before .before in let at-number = at-size .before .before in
     λ κ. block-past κ _ _ _ _ (was numberTold (at-number .number .ensures κ) (at-size .size .given .1))
     (omega (arith, number-inside κ _ _ _ _ (was numberTold (at-number .number .ensures κ) (at-size .size .given .1)), c .if1 .taken))
 
@@ -25,8 +23,7 @@ returns-2 c = λ κ. block-size κ _ _ _ _ (was numberTold (c .before .before .b
 
 returns-3 : tie.Need-returns-3
 returns-3 c =
-    let at-size = c .before .before .before .before .before in
-    let at-number = at-size .before .before in
+    let at-size = c .before .before .before .before .before in let at-number = at-size .before .before in
     λ κ. block-all κ _ _ _ _ (was numberTold (at-number .number .ensures κ) (at-size .size .given .1))
     (omega (arith, number-inside κ _ _ _ _ (was numberTold (at-number .number .ensures κ) (at-size .size .given .1)), c .if1 .left))
 

@@ -16,9 +16,7 @@ loop-holds c = (guid-begun _ _ _, omega arith)
 
 loop-again : tie.Need-loop-again Inv-loop μ-loop
 loop-again c =
-    let at-if2 = c .before .before .before in
-    let at-if1 = at-if2 .before in
-    let at-loop = at-if1 .before in
+    let at-if2 = c .before .before .before in let at-if1 = at-if2 .before in let at-loop = at-if1 .before in
     ((_, more (at-loop .loop .inv .0 .1) (at-if1 .if1 .left) (at-if2 .if2 .left) (c .before .wide .ensures .0) (c .if3 .left)), omega arith)
 
 returns : tie.Need-returns Inv-loop μ-loop
@@ -29,9 +27,7 @@ returns-2 c = missing (c .before .before .loop .inv .0 .1) (c .before .if1 .left
 
 returns-3 : tie.Need-returns-3 Inv-loop μ-loop
 returns-3 c =
-    let at-if2 = c .before .before .before in
-    let at-if1 = at-if2 .before in
-    let at-loop = at-if1 .before in
+    let at-if2 = c .before .before .before in let at-if1 = at-if2 .before in let at-loop = at-if1 .before in
     last (at-loop .loop .inv .0 .1) (at-if1 .if1 .left) (at-if2 .if2 .left) (c .before .wide .ensures .0) (c .if3 .taken)
 
 pub guid-spec : {M : Type 1} → statement M

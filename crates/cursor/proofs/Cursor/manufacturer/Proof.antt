@@ -12,16 +12,12 @@ returns-2 c = λ κ. manufacturer-one κ _ _ _ (c .before .before .before .if1 .
 
 returns-3 : tie.Need-returns-3
 returns-3 c =
-    let at-if2 = c .before .before in
-    let at-wide = at-if2 .before in
-    let at-if1 = at-wide .before .before in
+    let at-if2 = c .before .before in let at-wide = at-if2 .before in let at-if1 = at-wide .before .before in
     λ κ. manufacturer-cut κ _ _ _ (at-if1 .if1 .left) (at-wide .wide .ensures .0) (at-if2 .if2 .left) (omega arith)
 
 returns-4 : tie.Need-returns-4
 returns-4 c =
-    let at-if2 = c .before .before in
-    let at-wide = at-if2 .before in
-    let at-if1 = at-wide .before .before in
+    let at-if2 = c .before .before in let at-wide = at-if2 .before in let at-if1 = at-wide .before .before in
     λ κ. manufacturer-three κ _ _ _ (at-if1 .if1 .left) (at-wide .wide .ensures .0) (at-if2 .if2 .left) (omega arith)
 
 pub manufacturer-spec : {M : Type 1} → statement M

@@ -30,8 +30,7 @@ add-value c = omega (arith, below _ _ (c .before .before .before .before .loop .
 
 loop-again : tie.Need-loop-again Inv-loop μ-loop
 loop-again c =
-    let at-if4 = c .before .before .before in
-    let at-if3 = at-if4 .before in
+    let at-if4 = c .before .before .before in let at-if3 = at-if4 .before in
     let at-loop = at-if3 .before in (
       more (at-loop .loop .inv .0) (at-if3 .if3 .left) (at-if4 .if4 .left) (c .before .wide .ensures .0) (c .if5 .left),
       omega arith,
@@ -47,9 +46,7 @@ returns-3 c = missing (c .before .before .loop .inv .0) (c .before .if3 .left) (
 
 returns-4 : tie.Need-returns-4 Inv-loop μ-loop
 returns-4 c =
-    let at-if4 = c .before .before .before in
-    let at-if3 = at-if4 .before in
-    let at-loop = at-if3 .before in
+    let at-if4 = c .before .before .before in let at-if3 = at-if4 .before in let at-loop = at-if3 .before in
     last (at-loop .loop .inv .0) (at-if3 .if3 .left) (at-if4 .if4 .left) (c .before .wide .ensures .0) (c .if5 .taken)
 
 pub number-spec : {M : Type 1} → statement M

@@ -8,8 +8,7 @@ use Rattle.tables.proofs.all_rows.put_node_words.Tie as tie
 
 returns : tie.Need-returns
 returns c =
-    let at-put-number13 = c .before .before in
-    let at-put-number12 = at-put-number13 .before .before .before .before in
+    let at-put-number13 = c .before .before in let at-put-number12 = at-put-number13 .before .before .before .before in
     let at-put-number11 = at-put-number12 .before .before .before .before in
     let at-put-number10 = at-put-number11 .before .before .before .before in
     let at-put-number9 = at-put-number10 .before .before .before .before in
@@ -20,20 +19,13 @@ returns c =
     let at-put-number4 = at-put-number5 .before .before .before .before in
     let at-put-number3 = at-put-number4 .before .before .before .before in
     let at-put-number2 = at-put-number3 .before .before .before .before in
-    let at-put-number = at-put-number2 .before .before .before .before in
-    let put-number = at-put-number .put-number in
-    let put-number2 = at-put-number2 .put-number2 in
-    let put-number3 = at-put-number3 .put-number3 in
-    let put-number4 = at-put-number4 .put-number4 in
-    let put-number5 = at-put-number5 .put-number5 in
-    let put-number6 = at-put-number6 .put-number6 in
-    let put-number7 = at-put-number7 .put-number7 in
-    let put-number8 = at-put-number8 .put-number8 in
-    let put-number9 = at-put-number9 .put-number9 in
-    let put-number10 = at-put-number10 .put-number10 in
-    let put-number11 = at-put-number11 .put-number11 in
-    let put-number12 = at-put-number12 .put-number12 in
-    let put-number13 = at-put-number13 .put-number13 in
+    let at-put-number = at-put-number2 .before .before .before .before in let put-number = at-put-number .put-number in
+    let put-number2 = at-put-number2 .put-number2 in let put-number3 = at-put-number3 .put-number3 in
+    let put-number4 = at-put-number4 .put-number4 in let put-number5 = at-put-number5 .put-number5 in
+    let put-number6 = at-put-number6 .put-number6 in let put-number7 = at-put-number7 .put-number7 in
+    let put-number8 = at-put-number8 .put-number8 in let put-number9 = at-put-number9 .put-number9 in
+    let put-number10 = at-put-number10 .put-number10 in let put-number11 = at-put-number11 .put-number11 in
+    let put-number12 = at-put-number12 .put-number12 in let put-number13 = at-put-number13 .put-number13 in
     counts-as (node-numbers-are _) (counts-then
     (counts-then (counts-then (counts-then
     (counts-then (counts-then (counts-then

@@ -8,10 +8,8 @@ use Rattle.usage.proofs.kinds.put_in_line.Tie as tie
 
 returns : tie.Need-returns
 returns c =
-    let at-put-end = c .before .before in
-    let at-put-number10 = at-put-end .before .before .before .before in
-    let at-total = at-put-number10 .before in
-    let at-put-number9 = at-total .before .before .before .before in
+    let at-put-end = c .before .before in let at-put-number10 = at-put-end .before .before .before .before in
+    let at-total = at-put-number10 .before in let at-put-number9 = at-total .before .before .before .before in
     let at-put-number8 = at-put-number9 .before .before .before .before in
     let at-put-number7 = at-put-number8 .before .before .before .before in
     let at-put-number6 = at-put-number7 .before .before .before .before in
@@ -20,20 +18,13 @@ returns c =
     let at-put-number3 = at-put-number4 .before .before .before .before in
     let at-put-number2 = at-put-number3 .before .before .before .before in
     let at-put-number = at-put-number2 .before .before .before .before in
-    let at-put-byte = at-put-number .before .before .before .before in
-    let put-byte = at-put-byte .put-byte in
-    let put-number = at-put-number .put-number in
-    let put-number2 = at-put-number2 .put-number2 in
-    let put-number3 = at-put-number3 .put-number3 in
-    let put-number4 = at-put-number4 .put-number4 in
-    let put-number5 = at-put-number5 .put-number5 in
-    let put-number6 = at-put-number6 .put-number6 in
-    let put-number7 = at-put-number7 .put-number7 in
-    let put-number8 = at-put-number8 .put-number8 in
-    let put-number9 = at-put-number9 .put-number9 in
-    let put-number10 = at-put-number10 .put-number10 in
-    let total = at-total .total in
-    let put-end = at-put-end .put-end in
+    let at-put-byte = at-put-number .before .before .before .before in let put-byte = at-put-byte .put-byte in
+    let put-number = at-put-number .put-number in let put-number2 = at-put-number2 .put-number2 in
+    let put-number3 = at-put-number3 .put-number3 in let put-number4 = at-put-number4 .put-number4 in
+    let put-number5 = at-put-number5 .put-number5 in let put-number6 = at-put-number6 .put-number6 in
+    let put-number7 = at-put-number7 .put-number7 in let put-number8 = at-put-number8 .put-number8 in
+    let put-number9 = at-put-number9 .put-number9 in let put-number10 = at-put-number10 .put-number10 in
+    let total = at-total .total in let put-end = at-put-end .put-end in
     counts-as (in-line-is _ _ (total .ensures))
     (counts-then (counts-then (counts-then
     (counts-then (counts-then (counts-then

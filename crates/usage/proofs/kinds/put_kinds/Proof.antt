@@ -8,8 +8,7 @@ use Rattle.usage.proofs.kinds.put_kinds.Tie as tie
 
 returns : tie.Need-returns
 returns c =
-    let at-put-kind10 = c .before .before in
-    let at-total = at-put-kind10 .before in
+    let at-put-kind10 = c .before .before in let at-total = at-put-kind10 .before in
     let at-put-kind9 = at-total .before .before .before .before .before in
     let at-put-kind8 = at-put-kind9 .before .before .before .before .before in
     let at-put-kind7 = at-put-kind8 .before .before .before .before .before in
@@ -18,18 +17,12 @@ returns c =
     let at-put-kind4 = at-put-kind5 .before .before .before .before .before in
     let at-put-kind3 = at-put-kind4 .before .before .before .before .before in
     let at-put-kind2 = at-put-kind3 .before .before .before .before .before in
-    let at-put-kind = at-put-kind2 .before .before .before .before .before in
-    let put-kind = at-put-kind .put-kind in
-    let put-kind2 = at-put-kind2 .put-kind2 in
-    let put-kind3 = at-put-kind3 .put-kind3 in
-    let put-kind4 = at-put-kind4 .put-kind4 in
-    let put-kind5 = at-put-kind5 .put-kind5 in
-    let put-kind6 = at-put-kind6 .put-kind6 in
-    let put-kind7 = at-put-kind7 .put-kind7 in
-    let put-kind8 = at-put-kind8 .put-kind8 in
-    let put-kind9 = at-put-kind9 .put-kind9 in
-    let put-kind10 = at-put-kind10 .put-kind10 in
-    let total = at-total .total in
+    let at-put-kind = at-put-kind2 .before .before .before .before .before in let put-kind = at-put-kind .put-kind in
+    let put-kind2 = at-put-kind2 .put-kind2 in let put-kind3 = at-put-kind3 .put-kind3 in
+    let put-kind4 = at-put-kind4 .put-kind4 in let put-kind5 = at-put-kind5 .put-kind5 in
+    let put-kind6 = at-put-kind6 .put-kind6 in let put-kind7 = at-put-kind7 .put-kind7 in
+    let put-kind8 = at-put-kind8 .put-kind8 in let put-kind9 = at-put-kind9 .put-kind9 in
+    let put-kind10 = at-put-kind10 .put-kind10 in let total = at-total .total in
     counts-as (kinds-are _ (total .ensures))
     (counts-then (counts-then (counts-then
     (counts-then (counts-then (counts-then

@@ -8,16 +8,13 @@ use Rattle.usage.proofs.sums.add_file.Tie as tie
 
 returns : tie.Need-returns
 returns c =
-    let sums2 = c .before .before .before .sums2 in
-    let if1 = c .if1 in
+    let sums2 = c .before .before .before .sums2 in let if1 = c .if1 in
     with-over _ (sums2 .given .1) (if1 .taken)
 
 returns-2 : tie.Need-returns-2
 returns-2 c =
-    let sums2 = c .before .before .before .before .before .sums2 in
-    let if1 = c .before .before .if1 in
-    let if2 = c .before .if2 in
-    let add-long = c .add-long in
+    let sums2 = c .before .before .before .before .before .sums2 in let if1 = c .before .before .if1 in
+    let if2 = c .before .if2 in let add-long = c .add-long in
     with-long _ (sums2 .given .1) (omega (arith, if1 .left)) (if2 .taken) (add-long .ensures)
 
 returns-3 : tie.Need-returns-3
@@ -27,10 +24,8 @@ returns-3 c =
 
 returns-4 : tie.Need-returns-4
 returns-4 c =
-    let sums2 = c .before .before .before .before .before .sums2 in
-    let if1 = c .before .before .if1 in
-    let if2 = c .before .if2 in
-    let add-short = c .add-short in
+    let sums2 = c .before .before .before .before .before .sums2 in let if1 = c .before .before .if1 in
+    let if2 = c .before .if2 in let add-short = c .add-short in
     with-short _ (sums2 .given .1) (omega (arith, if1 .left)) (omega (arith, if2 .left)) (add-short .ensures)
 
 pub add-file-spec : {M : Type 1} → statement M

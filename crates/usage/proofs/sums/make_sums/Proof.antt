@@ -10,8 +10,7 @@ use Rattle.usage.proofs.sums.make_sums.Tie as tie
 returns : tie.Need-returns
 unfolding sumsOf
 returns c =
-    let sums = c .before .before .before .before .before .before .sums in
-    let refuse = c .before .before .refuse in
+    let sums = c .before .before .before .before .before .before .sums in let refuse = c .before .before .refuse in
     answered (gives-as (printed-bad summed _ _ (ap sumsTold (sums .given .1))) (refuse .ensures))
 
 returns-2 : tie.Need-returns-2

@@ -8,14 +8,14 @@ use native.Mathlib.Nat.{pow-succ', div-div-eq-div-mul, div-eq-of-lt, mul-comm}
 use native.Mathlib.Decide.{decLe, decLt}
 use lib.ListN.{length, getD}
 use Rattle.machine.specs.Machine.{Out, ok, refused, run}
 use Rattle.cursor.specs.Rows.{Frame}
 use Rattle.cursor.specs.Leaves.{digits, number, block, manufacturer, guid}
-use Rattle.cursor.specs.Vlq.{inBytes, least, vlq}
+use Rattle.vlq.specs.Vlq.{inBytes, least, vlq}
 use Rattle.cursor.proofs.Digits.{Digits, final, further, digits-read, digits-were, begun, dropped, guid-is}
 use Rattle.machine.proofs.Laws.{never}
 use Rattle.cursor.proofs.Leaves.{block-all, manufacturer-none, manufacturer-one, manufacturer-cut, manufacturer-three}
-use Rattle.cursor.proofs.Least.{least-in, least-fits, in-bytes-length}
-use Rattle.cursor.proofs.Lies.{Lies, lies-none, lies-cons, lies-head, lies-tail}
+use Rattle.vlq.proofs.Least.{least-in, least-fits, in-bytes-length}
+use Rattle.room.proofs.Lies.{Lies, lies-none, lies-cons, lies-head, lies-tail}
 
 -- one byte further
 one-on : (n k : ℕ) → n / 128 ^ suc k * 128 + n / 128 ^ k % 128 ≡ n / 128 ^ k
@@ -50,8 +50,7 @@ pub number-back : (κ : Frame) (past end : ℕ) {g : List ℕ} {at : ℕ} (n : �
     run (number κ past end) g at ≡ ok n (at + length (vlq n))
 unfolding vlq
 number-back κ past end {g} {at} n h l i =
-    let k : ℕ = least (λ _. n) in
-    let r = least-in (λ _. n) in
+    let k : ℕ = least (λ _. n) in let r = least-in (λ _. n) in
     let e : length (inBytes k n) ≡ k = in-bytes-length k n in
     rw e (number-in κ past end n k h (r .0) (r .1) (least-fits (λ _. n) l) (omega arith))
 
@@ -105,8 +104,7 @@ lies-one f at l = lies-cons refl l (lies-none (omega arith))
 guid-stood : {f : List ℕ} {left v at w q : ℕ} → Digits f left v at w q → q ≤ length f → Stood (Guid left) f at q
 guid-stood {f} (final {at = at} s) l = record { bytes = getD f at 0 ∷ []; is = last s; lies = lies-one f at (omega arith); ends = refl }
 guid-stood {f} (further {at = at} s d) l =
-    let r = guid-stood d l in
-    let i = r .ends in
+    let r = guid-stood d l in let i = r .ends in
     record { bytes = getD f at 0 ∷ r .bytes; is = more s (r .is); lies = lies-cons refl (omega arith) (r .lies); ends = omega arith }
 
 module _ (κ : Frame) (end : ℕ) (f : List ℕ) (all : end ≤ length f) where

@@ -1,14 +1,11 @@
--- Numbers as they are written: in so many bytes, and in the least that hold them, also where a length counts its own bytes.
+-- Numbers as they are written: in a given count of bytes, and in the least that holds them, also where a length counts its own bytes.
 -- Assumes nothing.
 use mathlib.Core.Bool.{cond}
-use mathlib.Core.List.{List, [], _∷_, _++_}
+use mathlib.Core.List.{List, [], _∷_}
 use Prim.Native.Nat.{ℕ, zero, suc, _+_, _/_, _%_, _^_}
 use lib.Dec.{ltb}
-use lib.ListN.{length, take, drop}
-
--- n bytes of a file, from `at` on
-abbrev pub part : List ℕ → (at n : ℕ) → List ℕ
-part f at n = take n (drop at f)
+use lib.ListN.{length}
+use Rattle.room.specs.Parts.{joined}
 
 -- what a byte with k bytes after it has added: 80h, and the last nothing
 abbrev pub mark : ℕ → ℕ
@@ -20,8 +17,8 @@ unfoldable pub inBytes : ℕ → ℕ → List ℕ
 inBytes zero n = []
 inBytes (suc k) n = (mark k + n / 128 ^ k % 128) ∷ inBytes k n
 
--- the first count from k on, among so many and one, that holds the number n, which may depend on the count; the last of them if none does
-unfoldable pub from : ℕ → ℕ → (ℕ → ℕ) → ℕ
+-- the first of the counts k to k + more that holds the number n, which may depend on the count; the last of them if none does
+unfoldable pub from : (more k : ℕ) → (ℕ → ℕ) → ℕ
 from zero k n = k
 from (suc more) k n = cond (ltb (n k) (128 ^ k)) k (from more (suc k) n)
 
@@ -32,11 +29,6 @@ least n = from 3 1 n
 -- a number in its shortest form
 unfoldable pub vlq : ℕ → List ℕ
 vlq n = inBytes (least (λ _. n)) n
-
--- fields one after the other
-abbrev pub joined : List (List ℕ) → List ℕ
-joined [] = []
-joined (s ∷ ss) = s ++ joined ss
 
 -- a block and its length
 unfoldable pub sized : List ℕ → List ℕ

@@ -8,7 +8,7 @@ use native.Mathlib.Decide.{decLe, decLt}
 use lib.Dec.{ltb}
 use lib.ListN.{length}
 use borrow.Author.Tests.{ltb-true, ltb-false, le-ltb}
-use Rattle.cursor.specs.Vlq.{inBytes, from, least, vlq}
+use Rattle.vlq.specs.Vlq.{inBytes, from, least, vlq}
 
 chosen : {A : Type 0} (Q : A → Type 0) (b : Bool) {x y : A} → (b ≡ true → Q x) → (b ≡ false → Q y) → Q (cond b x y)
 chosen Q true h k = h refl
@@ -68,8 +68,7 @@ least-top n h = from-top 3 1 n h
 -- a lesser number has no greater count
 pub least-up : (m n : ℕ → ℕ) → m (least n) ≤ n (least n) → least m ≤ least n
 least-up m n u =
-    let i = least-in n in
-    let j = least-in m in
+    let i = least-in n in let j = least-in m in
     elim (decLt (n (least n)) (128 ^ least n)) [
       | yes f ↦ least-le m (least n) (i .0) (omega arith)
       | no f ↦ omega (arith, least-top n (omega arith))
@@ -78,13 +77,9 @@ least-up m n u =
 -- the number that counts its own bytes has so many in its shortest form
 pub least-short : (n : ℕ → ℕ) → ((j : ℕ) → j ≤ least n → n j ≤ n (least n)) → n (least n) < 2 ^ 28 → least (λ _. n (least n)) ≡ least n
 least-short n up h =
-    let N : ℕ = n (least n) in
-    let i = least-in n in
-    let f = least-fits n h in
-    let m : ℕ = least (λ _. N) in
+    let N : ℕ = n (least n) in let i = least-in n in let f = least-fits n h in let m : ℕ = least (λ _. N) in
     let a : m ≤ least n = least-le (λ _. N) (least n) (i .0) f in
-    let j = least-in (λ _. N) in
-    let g : N < 128 ^ m = least-fits (λ _. N) h in
+    let j = least-in (λ _. N) in let g : N < 128 ^ m = least-fits (λ _. N) h in
     let b : least n ≤ m = least-le n m (j .0) (omega (arith, up m a)) in
     omega arith
 
@@ -92,9 +87,7 @@ least-short n up h =
 pub least-most : (n : ℕ) → 2 ^ 28 ≤ n → least (λ _. n) ≡ 4
 unfolding least from
 least-most n h =
-    let a : 128 ^ 1 ≤ n = omega arith in
-    let b : 128 ^ 2 ≤ n = omega arith in
-    let c : 128 ^ 3 ≤ n = omega arith in
+    let a : 128 ^ 1 ≤ n = omega arith in let b : 128 ^ 2 ≤ n = omega arith in let c : 128 ^ 3 ≤ n = omega arith in
     simp (le-ltb _ _ a, le-ltb _ _ b, le-ltb _ _ c)
 
 -- a number that counts its own bytes has at least so many in its shortest form

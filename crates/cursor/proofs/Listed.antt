@@ -9,8 +9,8 @@ use native.Mathlib.Omega.{arith}
 use lib.Dec.{T, eqb, leb}
 use lib.ListN.{length}
 use borrow.Author.Tests.{le-leb, lt-leb, eqb-true}
-use Rattle.cursor.specs.Refusals.{inFile, isOneOf, isAllowed}
-use Rattle.room.specs.Room.{Result, good, bad, Among, PlacedIn, fitting}
+use Rattle.cursor.specs.Refusals.{inFile, isOneOf, isAllowed, Among, PlacedIn}
+use Rattle.room.specs.Room.{Result, good, bad, fitting}
 
 pub among-if : (ns : List ℕ) {A : Type 0} (b : Bool) (x y : Result A) → Among ns x → Among ns y → Among ns (cond b x y)
 among-if ns true x y a c = a

@@ -1,4 +1,4 @@
--- Bytes that stand in a file from a place on.
+-- Bytes that stand in others from a place on.
 -- Assumes nothing.
 use mathlib.Core.Path.{_≡_, refl, sym, ap, _∙_}
 use mathlib.Core.List.{List, [], _∷_, _++_}
@@ -6,7 +6,7 @@ use Prim.Native.Nat.{ℕ, zero, suc, _+_, _≤_, _<_}
 use native.Mathlib.Omega.{arith}
 use lib.ListN.{length, getD, take, drop, length-append, length-drop, List·getD-append}
 use lib.Seq.{getD-append-add, getD-drop, getD-take, ext-getD, length-take-le}
-use Rattle.cursor.specs.Vlq.{part, vlq, joined, sized}
+use Rattle.room.specs.Parts.{part, joined}
 
 -- s stands in g from p on
 pub record Lies (g : List ℕ) (p : ℕ) (s : List ℕ) : Type 0 where
@@ -48,8 +48,7 @@ module _ {g : List ℕ} {p : ℕ} where
   -- what stands there is that part of the file
   pub lies-part : {s : List ℕ} → Lies g p s → part g p (length s) ≡ s
   lies-part {s} h =
-      let i = h .inside in
-      let d = length-drop p g in
+      let i = h .inside in let d = length-drop p g in
       let n : length (take (length s) (drop p g)) ≡ length s = length-take-le (length s) (drop p g) (omega arith) in
       ext-getD 0 (take (length s) (drop p g)) s n (λ k l. rw (getD-take (length s) (drop p g) k 0 (omega arith), getD-drop p g k 0) (h .same k (omega arith)))
 
@@ -66,14 +65,10 @@ part-lies g p n l =
       same = λ k m. sym (getD-take n (drop p g) k 0 (omega arith) ∙ getD-drop p g k 0);
     }
 
-pub part-length : (g : List ℕ) (p n : ℕ) → p + n ≤ length g → length (part g p n) ≡ n
-part-length g p n l = let d = length-drop p g in length-take-le n (drop p g) (omega arith)
-
 -- bytes between others
 pub lies-between : (a s b : List ℕ) → Lies (a ++ s ++ b) (length a) s
 lies-between a s b =
-    let e = length-append (a ++ s) b in
-    let d = length-append a s in
+    let e = length-append (a ++ s) b in let d = length-append a s in
     record {
       inside = omega arith;
       same = λ k l. List·getD-append (a ++ s) b 0 (length a + k) (omega arith) ∙ getD-append-add a s k 0;
@@ -82,8 +77,7 @@ lies-between a s b =
 -- what stands there up to the file's end
 pub lies-end : {g : List ℕ} {p : ℕ} {s : List ℕ} → Lies g p s → p + length s ≡ length g → drop p g ≡ s
 lies-end {g} {p} {s} h e =
-    let d = length-drop p g in
-    let n : length (drop p g) ≡ length s = omega arith in
+    let d = length-drop p g in let n : length (drop p g) ≡ length s = omega arith in
     ext-getD 0 (drop p g) s n (λ k l. getD-drop p g k 0 ∙ h .same k (omega arith))
 
 -- fields one after the other, each where the one before it ends
@@ -95,7 +89,7 @@ pub stand : {g : List ℕ} {p : ℕ} (ss : List (List ℕ)) → Lies g p (joined
 stand [] h = tt
 stand (s ∷ ss) h = (lies-left s (joined ss) h, stand ss (lies-right s (joined ss) h))
 
--- so many bytes
+-- their lengths together
 abbrev pub sum : List (List ℕ) → ℕ
 sum [] = 0
 sum (s ∷ ss) = length s + sum ss
@@ -103,15 +97,6 @@ sum (s ∷ ss) = length s + sum ss
 pub joined-length : (ss : List (List ℕ)) → length (joined ss) ≡ sum ss
 joined-length [] = refl
 joined-length (s ∷ ss) = length-append s (joined ss) ∙ ap (λ n. length s + n) (joined-length ss)
-
-pub sized-length : (t : List ℕ) → length (sized t) ≡ length (vlq (length t)) + length t
-unfolding sized
-sized-length t = let z = joined-length (vlq (length t) ∷ t ∷ []) in omega arith
-
--- a block stands behind its length
-pub stand-sized : {g : List ℕ} {p : ℕ} (s : List ℕ) → Lies g p (sized s) → Lies g p (vlq (length s)) × Lies g (p + length (vlq (length s))) s
-unfolding sized
-stand-sized s h = let w = stand (vlq (length s) ∷ s ∷ []) h in (w .0, w .1 .0)
 
 pub lies-as : {g : List ℕ} {p : ℕ} {a b : List ℕ} → a ≡ b → Lies g p a → Lies g p b
 lies-as e h = rw e at h

@@ -4,11 +4,11 @@ use mathlib.Core.Path.{refl, ap}
 use Prim.Native.Nat.{ℕ, _-_, _≤_, _/_, _%_, _+_}
 use native.Mathlib.Omega.{arith}
 use borrow.Author.Needs.{needs}
-use Rattle.cursor.specs.Vlq.{inBytes}
+use Rattle.vlq.specs.Vlq.{inBytes}
 use Rattle.room.proofs.Counting.{Going, going-start, going-on, going-end, going-length}
-use Rattle.room.proofs.Numbers.{digit-more, digit-last, power-some, none-left}
-use Rattle.room.proofs.put_in_bytes.Statement.{statement}
-use Rattle.room.proofs.put_in_bytes.Tie as tie
+use Rattle.vlq.proofs.Numbers.{digit-more, digit-last, power-some, none-left}
+use Rattle.vlq.proofs.put_in_bytes.Statement.{statement}
+use Rattle.vlq.proofs.put_in_bytes.Tie as tie
 
 abbrev Inv-loop : tie.InvT-loop
 Inv-loop out₀ to n k next₀ left₀ out next left = (left ≤ 4) × Going out₀ out to next (inBytes k n) (inBytes left n)

@@ -6,8 +6,8 @@ use Prim.Native.Nat.{ℕ, zero, suc, _+_, _-_, _*_, _/_, _%_, _^_, _≤_, _<_}
 use native.Mathlib.Nat.{pow-succ', pow-le-pow-right}
 use native.Mathlib.Omega.{arith}
 use borrow.Author.Tests.{lt-ltb, le-ltb}
-use Rattle.cursor.specs.Vlq.{inBytes, from, least, vlq}
+use Rattle.vlq.specs.Vlq.{inBytes, from, least, vlq}
 use Rattle.room.specs.Counts.{Counts}
 
 -- ---- the bytes of a number
 

@@ -2,8 +2,8 @@
 -- Assumes nothing.
 use mathlib.Core.Path.{refl}
 use borrow.Author.Needs.{needs}
-use Rattle.room.proofs.vlq_size.Statement.{statement}
-use Rattle.room.proofs.vlq_size.Tie as tie
+use Rattle.vlq.proofs.vlq_size.Statement.{statement}
+use Rattle.vlq.proofs.vlq_size.Tie as tie
 
 returns : tie.Need-returns
 returns c = c .least-bytes .ensures (λ _. c .before .args .n) refl refl refl

@@ -2,9 +2,9 @@
 -- Assumes nothing.
 use native.Mathlib.Omega.{arith}
 use Prim.Native.Nat.{ℕ}
-use Rattle.room.proofs.Numbers.{one-byte, two-bytes, three-bytes, four-bytes}
-use Rattle.room.proofs.least_bytes.Statement.{statement}
-use Rattle.room.proofs.least_bytes.Tie as tie
+use Rattle.vlq.proofs.Numbers.{one-byte, two-bytes, three-bytes, four-bytes}
+use Rattle.vlq.proofs.least_bytes.Statement.{statement}
+use Rattle.vlq.proofs.least_bytes.Tie as tie
 
 returns : tie.Need-returns
 returns c = λ (n : ℕ → ℕ) a b d. one-byte n (omega (arith, a, c .if1 .taken))

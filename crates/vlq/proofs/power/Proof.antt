@@ -3,9 +3,9 @@
 use mathlib.Core.Path.{_≡_, refl}
 use Prim.Native.Nat.{_^_, _≤_, _+_, _-_}
 use native.Mathlib.Omega.{arith}
-use Rattle.room.proofs.Numbers.{power-on, power-most}
-use Rattle.room.proofs.power.Statement.{statement}
-use Rattle.room.proofs.power.Tie as tie
+use Rattle.vlq.proofs.Numbers.{power-on, power-most}
+use Rattle.vlq.proofs.power.Statement.{statement}
+use Rattle.vlq.proofs.power.Tie as tie
 
 abbrev Inv-loop : tie.InvT-loop
 Inv-loop k r₀ i₀ r i = (r ≡ 128 ^ i) × (i ≤ k) × (r ≤ 128 ^ 4)

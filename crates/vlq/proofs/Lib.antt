@@ -1,0 +1,4 @@
+pub mod Numbers
+pub mod Least
+pub mod Sized
+pub mod Back
