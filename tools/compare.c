@@ -1,6 +1,6 @@
 // Two builds of the proved reader, for tools/compare.sh, which renames the functions of the first to before_*.
 //   compare QUESTION FILE                  both take turns: the median time of a call, in nanoseconds, and the ratio after to before
-//   compare BUILD QUESTION FILE CALLS      so many calls of one build, before or after, whose instructions are counted
+//   compare BUILD QUESTION FILE CALLS      CALLS calls of one build, before or after, whose instructions are counted
 // QUESTION is tree, sheet, verdict, account (with totals that are all zero), find (a field that is on no node, from the last row on, so that all of its path is looked at)
 // or correct (the title of the first item row that takes another). Tables and buffer are full. Both builds must leave the same.
 #include <stdint.h>

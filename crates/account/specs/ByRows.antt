@@ -24,7 +24,7 @@ plus a b = min (a + b) tooMany
 
 -- ---- where the parts of a node begin
 
--- the first byte below 80h, from p on, where so many may come after that at p
+-- the first byte below 80h, from p on, of at most `more` bytes behind that at p
 unfoldable pub lastFrom : List ℕ → (more p : ℕ) → ℕ
 lastFrom f zero p = p
 lastFrom f (suc more) p = cond (ltb (getD f p 0) 0x80) p (lastFrom f more (p + 1))
@@ -36,7 +36,7 @@ lastByte f p = lastFrom f 3 p
 abbrev pub behind : List ℕ → ℕ → ℕ
 behind f p = lastByte f p + 1
 
--- the bytes of the number at p, and so many as it says
+-- the bytes of the number at p, and of the block that it counts
 abbrev pub counted : ℕ → Out ℕ → ℕ
 counted p (ok n q) = q + n - p
 counted p (refused n q) = 0

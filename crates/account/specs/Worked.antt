@@ -30,14 +30,14 @@ use Rattle.account.specs.declared.Totals.{Totals}
 unfoldable pub given : List ℕ → Result Kinds
 given f = ask (readFile (limits fullNodes fullItems) f) (kindsOf (limits fullNodes fullItems) f)
 
--- the kinds of its places, and what a buffer of so many bytes holds after the call
+-- the kinds of its places, and what a buffer of `room` bytes holds after the call
 unfoldable pub kindsIn : (room : ℕ) → List ℕ → Result (List ℕ)
 kindsIn room f = ask (readFile (limits fullNodes fullItems) f) (marksOf (limits fullNodes fullItems) room f)
 
 unfoldable pub marksIn : (room : ℕ) → List ℕ → List ℕ
 marksIn room f = kept room (kindsIn room f)
 
--- totals of so many files, with no byte
+-- totals of n files, with no byte
 abbrev pub after : ℕ → Totals
 after n = record { files = n; refused = n; kinds = record { header = 0; nodes = 0; metadata = 0; visible = 0; hidden = 0; unpackers = 0; references = 0; inline = 0; rest = 0 } }
 

@@ -84,7 +84,7 @@ fn last_byte(file: &[u8], at: usize) -> usize
     at + 3
 }
 
-// The bytes of the number at `at`, in a part that ends at `end`, and so many as it says. Almost every such number is one byte.
+// The bytes of the number at `at`, in a part that ends at `end`, and of the block that it counts. Almost every such number is one byte.
 fn block_size(file: &[u8], end: usize, at: usize) -> usize
     requires { ⌜ (at < end) × Readable end (now file) ⌝ }
     ensures { λ r. ⌜ r ≡ counted at (run (number metaFrame cutShort end) (old file) at) ⌝ }

@@ -12,7 +12,7 @@ use Rattle.promises.specs.Promises.{Question, accountBytes, outcome}
 use Rattle.promises.specs.Shelf.{leaves}
 use Rattle.words.specs.Fit.{fit, stored, totalsOf}
 
--- a call with such a file, such tables and buffers lent and such a buffer for the answer: what is left in them is as the question's outcome says
+-- a call with this file, these tables and buffers lent and this buffer for the answer: what is left in them is as the question's outcome says
 pub record Leaves (q : Question) (file : List ℕ) (lent left : List (List ℕ)) (answer answer′ : List ℕ) : Type 0 where
   pub answers : answer′ ≡ fit (length answer) (outcome q (map length lent) file .answer)
   pub holding : left ≡ outcome q (map length lent) file .holds

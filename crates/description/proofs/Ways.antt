@@ -34,7 +34,7 @@ module _ (end : ℕ) (f : List ℕ) (at : ℕ) where
   unfolding value
   value-all e = simp (running, e)
 
--- so many bytes of a field that began at p
+-- n bytes of a field that began at p
 module _ (end p : ℕ) (f : List ℕ) where
   bytes-all : (n at : ℕ) → at + n ≤ end → ok tt (at + n) ≡ run (times n (λ _. aByte end p) tt) f at
   unfolding times aByte next
@@ -126,7 +126,7 @@ resource-on end at =
     (wp-after (number-on _ _ end at) λ kind q x. wp-check _ _ λ t.
     wp-weaken (identifier-on kind end q (omega arith)) (λ _ r y. omega arith))
 
--- ---- so many resources: what is left of them is the whole
+-- ---- resources one after the other: what is left of them is the whole
 
 pub record Going (f : List ℕ) (end count from left at : ℕ) : Type 0 where
   pub same : run (times count (λ _. resource end) tt) f from ≡ run (times left (λ _. resource end) tt) f at
@@ -148,7 +148,7 @@ module _ {f : List ℕ} {end count from left at : ℕ} (g : Going f end count fr
 pub resource-further : (f : List ℕ) (end at : ℕ) {q : ℕ} → run (resource end) f at ≡ ok tt q → (at < q) × (q ≤ end)
 resource-further f end at e = at-end any-free f (resource-on end at) e
 
--- ---- so many numbers, of which one is kept
+-- ---- numbers one after the other, of which one is kept
 
 -- i of them came already, and of these, if it was there, the one at `index` was kept
 abbrev pub pickedFrom : (i kept index : ℕ) → Out (List ℕ) → Out ℕ

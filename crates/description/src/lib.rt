@@ -90,7 +90,7 @@ fn read_resource(c: Cursor, file: &[u8], end: FilePlace) -> Passed
     }
 }
 
-// So many resources.
+// `count` resources.
 fn read_resources(c: Cursor, file: &[u8], end: FilePlace, count: u64) -> Passed
     requires { ⌜ end .0 ≤ length (now file) ⌝ }
     ensures { λ r. ⌜ passTold r ≡ run (times count (λ _. resource (end .0)) tt) (old file) (c .at .0) ⌝ }
@@ -107,7 +107,7 @@ fn read_resources(c: Cursor, file: &[u8], end: FilePlace, count: u64) -> Passed
     Passed::To(next)
 }
 
-// So many numbers, of which the one at `index` is kept.
+// `count` numbers, of which the one at `index` is kept.
 fn read_numbers(c: Cursor, file: &[u8], end: FilePlace, count: u64, index: u64) -> Numbered
     requires { ⌜ end .0 ≤ length (now file) ⌝ }
     ensures { λ r. ⌜ numberTold r ≡ picked index (run (numbers count (end .0)) (old file) (c .at .0)) ⌝ }

@@ -125,7 +125,7 @@ module _ (l : List ℕ) (at : ℕ) {r : ℕ} (k : Next 0x09 l at r) {v : ℕ} (e
   pub number-is : r < length l → (v ≡ 0x10000000 → ⊥) → NumberIs l at v (r + 1)
   number-is h n = let w = number-some (slice at r l) e n in record { text = slice at r l; field = field-is l at k h; spelled = w .0; says = w .1 }
 
--- so many of them, and nothing more
+-- `left` numbers, and nothing more
 module _ (l : List ℕ) (from left : ℕ) where
   abbrev Are : Bool
   Are = fits (replicate left isNumber) (fieldsAt l from)

@@ -51,7 +51,7 @@ module _ {N I : Type 0} (rows : N → ℕ) (owner : I → ℕ) (nodeLine : ℕ �
       again : (j : ℕ) → Items j (k + 1) a → k ≤ j → Items k (k + 1) a
       again j m l = items-lower j k (k + 1) a l m
 
-  -- so many items of one node
+  -- c items of one node
   taken : (c k : ℕ) (is : List I) (rest : List ℕ) → ItemsAre is → map owner is ≡ replicate c k ++ rest → Items k (k + 1)
       (itemLines (take c is)) × (map owner (drop c is) ≡ rest) × ItemsAre (drop c is)
   taken zero k is rest a e = (tt, e, a)

@@ -83,7 +83,7 @@ isVersion t = same t (versionText 100) || same t (versionText 101) || same t (ve
 
 -- ---- what a line may be; of two editions the second is `true`
 
--- so many fields, each of which passes its test
+-- as many fields as tests, and each passes its own
 unfoldable pub fits : List (List ℕ → Bool) → Lines → Bool
 fits [] [] = true
 fits [] (t ∷ ts) = false

@@ -137,7 +137,7 @@ pub fn number_field(line: &[u8], at: usize) -> Found
     Found::Is(v, end + 1)
 }
 
-// Whether so many numbers, and nothing more, stand from a place on.
+// Whether `count` numbers, and nothing more, stand from a place on.
 fn are_numbers(line: &[u8], at: usize, count: usize) -> bool
     requires { ⌜ (at ≤ length (now line)) × (0 < count) ⌝ }
     ensures { λ r. ⌜ r ≡ fits (replicate count isNumber) (fieldsAt (old line) at) ⌝ }

@@ -43,7 +43,7 @@ pub enum Answer {
     Refused(u64, usize),
 }
 
-// The rows that tables of so many words hold.
+// How many rows tables of `nodes` and `items` words hold.
 fn room_of(nodes: usize, items: usize) -> Limits
     ensures { λ r. ⌜ r ≡ limits nodes items ⌝ }
 {
@@ -52,7 +52,7 @@ fn room_of(nodes: usize, items: usize) -> Limits
     Limits { nodes: n, items: i }
 }
 
-// The tree of a file whose header is h, into tables with room for so many rows.
+// The tree of a file whose header is h, into tables with room for the rows of `lim`.
 fn read_root(
     file: &[u8],
     types: &[u64],

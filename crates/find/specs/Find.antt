@@ -41,7 +41,7 @@ look f w is k = among f w (own is k)
 
 -- ---- the path to the root
 
--- Node k, then its parent, and so on to the root, whose parent is itself; at most so many rows. A detached node's parent is itself too: its path is itself alone.
+-- Node k, then its parent, and so on to the root, whose parent is itself; at most `most` rows. A detached node's parent is itself too: its path is itself alone.
 unfoldable pub rowsUp : List Node → (most k : ℕ) → List ℕ
 rowsUp ns zero k = []
 rowsUp ns (suc most) k = k ∷ cond (ltb (nodeAt ns k .parent) k) (rowsUp ns most (nodeAt ns k .parent)) []

@@ -8,7 +8,7 @@ use lib.ListN.{getD}
 use Rattle.header.specs.declared.Found.{Found}
 use Rattle.header.specs.declared.Found.the-variants.{Format, Nothing}
 
--- at most so many
+-- the most types
 abbrev pub mostTypes : ℕ
 mostTypes = 32
 

@@ -14,7 +14,7 @@ use cursor::FilePlace;
 use cursor::Numbered;
 use cursor::Passed;
 
-// At most so many types are declared; a table of types has two words for each: the type and its string format.
+// The most types that are declared; a table of types has two words for each: the type and its string format.
 pub const MOST_TYPES: usize = 32;
 
 pub enum Found {

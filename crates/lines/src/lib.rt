@@ -83,7 +83,7 @@ pub fn refuse_long(text: &mut [u8], tail: &[u8]) -> Made
     close(text, end, 2)
 }
 
-// The answer whose text was put up to `end`: refused for want of room where that is past the buffer.
+// The answer whose text was put up to `end`: refused for lack of room where that is past the buffer.
 pub fn conclude(text: &mut [u8], tail: &[u8], end: usize, status: u64) -> Made
     ensures { λ r. ⌜ ((o w : List ℕ) → Counts o (old text) 0 w end → Gives (length o) r (new text) (fitted (length o) (old tail) (answer status w))) ⌝ }
 {

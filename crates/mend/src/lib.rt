@@ -296,7 +296,7 @@ fn refuse_unchanged(
 }
 
 // A copy of the file with FileLength and TreeEnd set right, in the bytes that they have, and a line for each that changed; the tables hold the rows of the mended file.
-// Where no values of the two mend it: its own refusal. The lent file is read, under the header set right, and never the copy: so a want of room is told after the file's
+// Where no values of the two mend it: its own refusal. The lent file is read, under the header set right, and never the copy: so a lack of room is reported after the file's
 // own refusals.
 pub fn mend(
     file: &[u8],

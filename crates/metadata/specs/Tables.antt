@@ -23,7 +23,7 @@ fullNodes = mostNodes * nodeWidth
 abbrev pub fullItems : ℕ
 fullItems = mostItems * itemWidth
 
--- the rows that tables of so many words hold
+-- how many rows tables of `nodes` and `items` words hold
 abbrev pub limits : ℕ → ℕ → Limits
 limits nodes items = record { nodes = min mostNodes (nodes / nodeWidth); items = min mostItems (items / itemWidth) }
 

@@ -91,7 +91,7 @@ pub record Gives (lim : Limits) (r : Walked) (t u : List ℕ) (o : Out (Made × 
 
 -- ---- metadata makes item rows alone
 
--- the rows made while the metadata of node row `node` is read: the node rows before it, and so many item rows
+-- the rows made while the metadata of node row `node` is read: the node rows before it, and n item rows
 abbrev pub counts : ℕ → ℕ → Made
 counts node n = record { nodes = node; items = n }
 

@@ -39,7 +39,7 @@ pub enum Field {
     Name(FilePlace, u64),
 }
 
-// An item's contents: universal, or so many versions.
+// An item's contents: universal, or a number of versions.
 pub enum Contents {
     Universal,
     Versions(u64),
@@ -263,7 +263,7 @@ fn read_version(
     }
 }
 
-// So many versions.
+// `count` versions, one after the other.
 fn read_versions(
     c: Cursor,
     file: &[u8],

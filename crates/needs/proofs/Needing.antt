@@ -80,7 +80,7 @@ lines-more row resources j (x ∷ xs) v =
     (append-assoc (countLine row (j / resources) (j % resources) x) (countLines row resources (j + 1) xs)
     (countLine row ((j + suc (length xs)) / resources) ((j + suc (length xs)) % resources) v))
 
--- of so many numbers from `from` on, i were read, up to `at`, and their lines were put
+-- of `count` numbers from `from` on, i were read, up to `at`, and their lines were put
 pub record Listing (f : List ℕ) (end count from row resources : ℕ) (o o′ : List ℕ) (to next i at : ℕ) : Type 0 where
   pub done : List ℕ
   pub many : length done ≡ i

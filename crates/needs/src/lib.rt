@@ -1,4 +1,4 @@
-// What a tune needs: the counts of content descriptions. Those of a hidden row are not told.
+// What a tune needs: the counts of content descriptions. Those of a hidden row are not shown.
 ghost use mathlib.Core.Path.{_≡_};
 ghost use mathlib.Core.List.{List, []};
 ghost use Prim.Native.Nat.{ℕ, _≤_, _<_, _^_, _+_, _*_};

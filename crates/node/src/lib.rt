@@ -20,7 +20,7 @@ use metadata::Made;
 use metadata::RowsResult;
 use metadata::Scope;
 
-// How a node stands: it ends at or before `end` and not before `least`. A detached one ends at or before `taken`, where another
+// The bounds of a node: it ends at or before `end` and not before `least`. A detached one ends at or before `taken`, where another
 // begins, and `offset` is the place of the number that leads to it.
 pub struct Bounds {
     pub least: FilePlace,
@@ -83,7 +83,7 @@ pub enum FrontResult {
     Refused(u64, FilePlace),
 }
 
-// Whether a node that holds so many is a folder and detached.
+// Whether a node with this number of contained items is a folder, and detached.
 fn is_detached_folder(contained: u64, detached: u64) -> bool
     ensures { λ r. ⌜ r ≡ not (eqb contained 0 || eqb detached 0) ⌝ }
 {
@@ -93,7 +93,7 @@ fn is_detached_folder(contained: u64, detached: u64) -> bool
     detached != 0
 }
 
-// NodeLength, NodeContainedItems and NodeHeaderLength of a node that stands so.
+// NodeLength, NodeContainedItems and NodeHeaderLength of a node with these bounds.
 fn read_head(c: Cursor, file: &[u8], s: Bounds) -> Headed
     requires { ⌜ Readable (s .end .0) (now file) ⌝ }
     ensures { λ r. ⌜ headTold r ≡ run (head s) (old file) (c .at .0) ⌝ }

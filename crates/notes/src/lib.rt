@@ -1,4 +1,4 @@
-// Texts for people, on a terminal: no control character, and no mark that parts or turns a line.
+// Texts for people, on a terminal: no control character, and no mark that breaks a line or turns its direction.
 ghost use mathlib.Core.Path.{_≡_};
 ghost use mathlib.Core.List.{_∷_, []};
 ghost use lib.ListN.{length, drop};

@@ -146,7 +146,7 @@ frameValues x = x .name ∷ x .place ∷ x .size ∷ []
 abbrev pub bytes : ℕ → Lent (List ℕ)
 bytes n = filled n (room.padded n)
 
--- a question of a file's rows that writes bytes into a buffer behind the tables: what it asks, with so much room, and the refusals of its own
+-- a question of a file's rows that writes bytes into a buffer behind the tables: what it asks, by the bytes of room, and the refusals of its own
 abbrev pub rowsIntoRoom : ((room : ℕ) → Asks (List ℕ)) → List ℕ → About
 rowsIntoRoom question own = record {
   Answer = List ℕ;
@@ -541,7 +541,7 @@ Accounts = (t : Totals) (ls : Sizes) (f counts : List ℕ) → outcome (accountB
 -- same node lines and the same item lines, each in their order. Moving the one leaves the other, and moving that leaves the same bytes again. No other sheet is moved, and where
 -- one is not well formed, the refusal is placed at one of its lines, numbered from 1.
 
--- what is left in room of so many bytes by a call that wrote these
+-- what is left in n bytes of room by a call that wrote these
 abbrev pub wrote : (room : ℕ) → List ℕ → Outcome
 wrote n t = record { answer = 0 ∷ 0 ∷ length t ∷ []; holds = room.padded n t ∷ [] }
 

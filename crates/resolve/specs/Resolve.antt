@@ -19,15 +19,15 @@ pub record Resource : Type 0 where
   pub row : ℕ
   pub hops : ℕ
 
--- so many references are followed at most
+-- the most references that are followed
 abbrev pub mostHops : ℕ
 mostHops = 4
 
--- the resource that node r of row k names, after so many references
+-- the resource that node r of row k names, after `hops` references
 unfoldable pub resourceOf : Node → (k hops : ℕ) → Result Resource
 resourceOf r k hops = good (record { place = r .target; size = r .extent; row = k; hops = hops })
 
--- The answer at node r of row k, after so many references: `two` is the answer if its reference 2 is followed, `three` if its reference 3 is.
+-- The answer at node r of row k, after `hops` references: `two` is the answer if its reference 2 is followed, `three` if its reference 3 is.
 unfoldable pub reached : Node → (k hops : ℕ) → (two three : Result Resource) → Result Resource
 reached r k hops two three =
     cond (not (eqb (r .contained) 0)) (bad endsAtFolder 0)
@@ -36,7 +36,7 @@ reached r k hops two three =
     (cond (eqb (r .reference) 3) three
     (bad endsAtUri 0))))
 
--- the answer from row k on, after so many references, where `left` more may be followed
+-- the answer from row k on, after `hops` references, where `left` more may be followed
 unfoldable pub chain : (left : ℕ) → List Node → (k hops : ℕ) → Result Resource
 chain zero ns k hops = reached (nodeAt ns k) k hops (bad tooManyHops 0) (bad tooManyHops 0)
 chain (suc left) ns k hops =
@@ -55,7 +55,7 @@ unfoldable pub part : List ℕ → Result Resource → List ℕ
 part f (good r) = take (r .size) (drop (r .place) f)
 part f (bad n p) = []
 
--- the question whose answer is copied into a buffer: resolve, and then whether so much room holds the resource
+-- the question whose answer is copied into a buffer: resolve, and then whether `room` bytes hold the resource
 unfoldable pub fitting : (room : ℕ) → Result Resource → Result Resource
 fitting room (good r) = cond (leb (r .size) room) (good r) (bad noRoom 0)
 fitting room (bad n p) = bad n p

@@ -6,7 +6,7 @@ use Prim.Native.Nat.{ℕ, _+_, _-_, _≤_, _<_, _^_, min}
 use lib.ListN.{length}
 use lib.Seq.{sets}
 
--- no buffer has so many bytes: a place that is counted stops there
+-- a place that is counted stops there: every buffer is shorter
 abbrev pub tooMany : ℕ
 tooMany = 2 ^ 64 - 1
 

@@ -86,10 +86,10 @@ pub fn room_at(size: usize, place: usize) -> usize
     if place < size { size - place } else { 0 }
 }
 
-// A place that is counted stops here: no buffer has so many bytes.
+// A place that is counted stops here: every buffer is shorter.
 pub const TOO_MANY: usize = 18446744073709551615;
 
-// The place after so many bytes.
+// The place `size` bytes after `to`.
 pub fn on(to: usize, size: usize) -> usize
     ensures { λ r. ⌜ r ≡ min (to + size) tooMany ⌝ }
 {

@@ -102,7 +102,7 @@ module _ (f : List ℕ) (r : Item) where
 
 -- ---- the second edition
 
--- of rows from i on, the first so many, and those behind them
+-- of rows from i on, the first c, and those behind them
 take-rows : (us : List ℕ) (c i n m : ℕ) → m ≡ min c n → take c (itemsFrom i n us) ≡ itemsFrom i m us
 unfolding rowsFrom
 take-rows us zero i n m e = let z : 0 ≡ m = omega arith in ap (λ k. itemsFrom i k us) z

@@ -194,7 +194,7 @@ fn put_item_lines(
     next
 }
 
-// The end of so many rows from one row on, of which there are `count`.
+// The end of `rows` rows from row `from` on, where there are `count` in all.
 fn rows_end(from: usize, rows: u64, count: usize) -> usize
     requires { ⌜ from ≤ count ⌝ }
     ensures { λ r. ⌜ r ≡ from + min rows (count - from) ⌝ }

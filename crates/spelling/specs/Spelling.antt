@@ -77,6 +77,6 @@ pub record LastSlash (name : List ℕ) (r : ℕ) : Type 0 where
   pub found : 0 < r → getD name (r - 1) 0 ≡ 0x2F
   pub after : (k : ℕ) → r ≤ k → k < length name → getD name k 0 ≡ 0x2F → ⊥
 
--- n where there are so many, and else 0
+-- n where there is room for them, and else 0
 abbrev pub ifWithin : ℕ → ℕ → ℕ
 ifWithin n room = cond (leb n room) n 0

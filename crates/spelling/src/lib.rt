@@ -153,7 +153,7 @@ pub fn folder_size(name: &[u8]) -> usize
     0
 }
 
-// So many bytes at the start of a buffer; none where it has not so many.
+// n bytes at the start of a buffer; none where it has fewer.
 pub fn within(n: usize, buf: &[u8]) -> usize
     ensures { λ r. ⌜ Counts r (old buf) ⌝ }
     ensures { λ r. ⌜ r ≡ ifWithin n (length (old buf)) ⌝ }

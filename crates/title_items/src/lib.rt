@@ -160,7 +160,7 @@ pub fn put_items(
     next
 }
 
-// Counts the bytes of a block of so many bytes with its length, from `to` on. What is counted is as what is put, with no buffer.
+// Counts the bytes of a block of `size` bytes with its length, from `to` on. What is counted is as what is put, with no buffer.
 fn measure_block(to: usize, size: usize) -> usize
     ensures { λ r. ⌜ ((s : List ℕ) → size ≡ min (length s) tooMany → Counts [] [] to (sized s) r) ⌝ }
 {
@@ -177,7 +177,7 @@ fn measure_field(to: usize, item: Item) -> usize
     room::on(room::on(to, 1), vlq::vlq_size(item.field))
 }
 
-// Counts the bytes of the content of an item row with data of so many bytes.
+// Counts the bytes of the content of an item row with data of `size` bytes.
 fn measure_content(to: usize, item: Item, size: usize) -> usize
     ensures { λ r. ⌜ ((f bytes : List ℕ) → size ≡ length bytes → Counts [] [] to (contentText (titled bytes (content f item))) r) ⌝ }
 {
@@ -187,7 +187,7 @@ fn measure_content(to: usize, item: Item, size: usize) -> usize
     measure_block(room::on(to, vlq::vlq_size(item.declared)), size)
 }
 
-// Counts the bytes of the content of item row k: row `row` with a title of so many bytes, and another with the file's data.
+// Counts the bytes of the content of item row k: row `row` with a title of `size` bytes, and another with the file's data.
 fn measure_content_at(to: usize, items: &[u64], k: usize, row: usize, size: usize) -> usize
     requires { ⌜ k * itemWidth + itemWidth ≤ length (now items) ⌝ }
     ensures { λ r. ⌜ ((f title : List ℕ) → RowIn f (old items) k → size ≡ length title → Counts [] [] to (contentText (contentAt f row title (old items) k)) r) ⌝ }
@@ -224,7 +224,7 @@ fn measure_item(to: usize, items: &[u64], k: usize, end: usize, row: usize, size
     measure_content_at(to, items, k, row, size)
 }
 
-// The bytes of the item rows from row `first` on, up to row `end`, where row `row` has a title of so many bytes.
+// The bytes of the item rows from row `first` on, up to row `end`, where row `row` has a title of `size` bytes.
 pub fn items_size(items: &[u64], first: usize, end: usize, row: usize, size: usize) -> usize
     requires { ⌜ (first ≤ end) × (end * itemWidth ≤ length (now items)) ⌝ }
     ensures { λ r. ⌜ ((f title : List ℕ) → ItemRows (length f) end (old items) → size ≡ length title → Counts [] [] 0 (itemsText (contentsFrom f row title (old items) first (end - first))) r) ⌝ }

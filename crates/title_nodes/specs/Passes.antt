@@ -19,7 +19,7 @@ use Rattle.title_items.specs.Contents.{contentsFrom}
 use Rattle.title_parts.specs.Told.{PackedAs}
 use Rattle.title_nodes.specs.declared.Frame.{Frame}
 
--- no file has so many bytes: a size that is measured stops there
+-- a size that is measured stops there: every file is shorter
 abbrev pub sizeStop : ℕ
 sizeStop = 2 ^ 28
 

@@ -15,7 +15,7 @@ use Rattle.title_nodes.specs.Passes.{sizeStop, Framed}
 use Rattle.title_nodes.specs.declared.Frame.{Frame}
 use Rattle.title_nodes.specs.declared.Run.{Run}
 
--- the lengths are those of the row's node in any file that holds it, with contents and unpackers of so many bytes
+-- the lengths are those of the row's node in any file that holds it, with contents and unpackers of these sizes
 abbrev pub FrameTold : Node → (metadata packed inner : ℕ) → Frame → Type 0
 FrameTold row metadata packed inner r =
     (f : List ℕ) (cs : List Content) → row .target + row .extent ≤ length f → Counts [] [] 0 (shape f row .unpackers) packed

@@ -31,7 +31,7 @@ struct Run {
     size: usize,
 }
 
-// No file has so many bytes: a size that is measured stops here.
+// A size that is measured stops here: every file is shorter.
 pub const SIZE_STOP: usize = 268435456;
 
 // A size, stopped.
@@ -95,7 +95,7 @@ fn put_reference(
     room::put_part(out, a, file, place.0, size)
 }
 
-// Counts the bytes of ReferenceTypeID, and of a URI or inline data of so many bytes.
+// Counts the bytes of ReferenceTypeID, and of a URI or inline data of `size` bytes.
 fn measure_reference(reference: u64, size: usize) -> usize
     ensures { λ r. ⌜ ((f : List ℕ) (place : ℕ) → place + size ≤ length f → Counts [] [] 0 (referenceText reference (part f place size)) r) ⌝ }
 {

@@ -230,7 +230,7 @@ module _ (f : List ℕ) (body : List ℕ → P (List ℕ)) (behind : Behind f bo
       let e₂ : run (times (suc n) body []) f at ≡ andThen (run (body []) f at) (λ t p. run (times n body t) f p) = rw k at (run-times f (suc n) at body [] some) in
       e₁ ∙ ap (λ v. andThen v (λ t p. run (times n body t) f p)) (behind b at) ∙ times-by n (times-behind n) b (run (body []) f at) ∙ ap (before b) (sym e₂)
 
--- ---- a loop: `done` is put, and so many are left
+-- ---- a loop: `done` is put, and `left` are left
 
 pub record Copying (f : List ℕ) (body : List ℕ → P (List ℕ)) (o o′ : List ℕ) (to count from next at left : ℕ) : Type 0 where
   pub done : List ℕ

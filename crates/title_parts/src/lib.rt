@@ -78,7 +78,7 @@ fn copy_unpacker(out: &mut [u8], to: usize, file: &[u8], c: Cursor) -> Copied
     }
 }
 
-// Puts the unpackers at c, of which there are so many.
+// Puts the `count` unpackers at c.
 fn copy_unpackers(out: &mut [u8], to: usize, file: &[u8], c: Cursor, count: u64) -> Copied
     requires { ⌜ length (now file) < 2 ^ 28 ⌝ }
     ensures { λ r. ⌜ Copies (old out) (new out) to r (run (times count (unpackerText (old file)) []) (old file) (c .at .0)) ⌝ }
@@ -154,7 +154,7 @@ fn measure_unpacker(to: usize, file: &[u8], c: Cursor) -> Copied
     }
 }
 
-// Counts the bytes of the unpackers at c, of which there are so many.
+// Counts the bytes of the `count` unpackers at c.
 fn measure_unpackers(file: &[u8], c: Cursor, count: u64) -> Copied
     requires { ⌜ length (now file) < 2 ^ 28 ⌝ }
     ensures { λ r. ⌜ Copies [] [] 0 r (run (times count (unpackerText (old file)) []) (old file) (c .at .0)) ⌝ }
@@ -186,7 +186,7 @@ pub fn know_bytes(file: &[u8])
     }
 }
 
-// Unpackers as they are written: how many bytes they have, and whether the file has them just so.
+// Unpackers as they are written: how many bytes they have, and whether the file has these very bytes.
 pub struct Packed {
     pub size: usize,
     pub same: bool,
@@ -259,7 +259,7 @@ fn copy_entry(out: &mut [u8], to: usize, file: &[u8], c: Cursor) -> Copied
     }
 }
 
-// Puts the entries of the types table at c, of which there are so many.
+// Puts the `count` entries of the types table at c.
 fn copy_entries(out: &mut [u8], to: usize, file: &[u8], c: Cursor, count: u64) -> Copied
     requires { ⌜ length (now file) < 2 ^ 28 ⌝ }
     ensures { λ r. ⌜ Copies (old out) (new out) to r (run (times count (entryText (old file)) []) (old file) (c .at .0)) ⌝ }

@@ -26,7 +26,7 @@ use Rattle.title_text.proofs.Collecting.{Collected, collect, withItems,
 use Rattle.title_text.proofs.Items.{plusItems}
 use Rattle.title_text.proofs.Fronts.{Stays, Front, FrontBack, front-back}
 
--- so many node rows and item rows more
+-- a node row more for each shape, and an item row for each content
 abbrev pub madeBy : List Shape → List Content → Made → Made
 madeBy rs cs m = record { nodes = m .nodes + length rs; items = m .items + length cs }
 

@@ -54,7 +54,7 @@ headerSize fixed a = a + headerBytes fixed a + fixed
 unfoldable pub lengthBytes : (fixed contents : ℕ) → ℕ
 lengthBytes fixed contents = least (λ a. headerSize fixed a + contents)
 
--- NodeHeaderLength of a node that holds so many nodes, and whose header has `rest` behind its three numbers
+-- NodeHeaderLength of a node that holds `contained` nodes, and whose header has `rest` behind its three numbers
 unfoldable pub headerOf : (contained : ℕ) → (rest : List ℕ) → (contents : ℕ) → ℕ
 headerOf contained rest contents = headerSize (length (vlq contained) + length rest) (lengthBytes (length (vlq contained) + length rest) contents)
 

@@ -23,7 +23,7 @@ folder end children = do
   check (leb end q) bytesLeft q
   ret m
 
--- A node that stands so, with d levels left. A file node is a folder without children: after its inline data, or after references 2, 3 and 4, nothing remains.
+-- A node with these bounds, and d levels left. A file node is a folder without children: after its inline data, or after references 2, 3 and 4, nothing remains.
 unfoldable pub node : ℕ → Context → (parent : ℕ) → Bounds → Made → P Made
 node zero x parent s m = here λ p. refuse tooDeep p
 node (suc d) x parent s m = do

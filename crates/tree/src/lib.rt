@@ -50,7 +50,7 @@ fn end_node(c: Cursor, end: FilePlace, lim: Limits, made: Made) -> Walked
     Walked::Done(made, c)
 }
 
-// The node at c, which stands so, and all that it holds.
+// The node at c, with the bounds s, and all that it holds.
 fn read_node(
     c: Cursor,
     file: &[u8],
@@ -128,7 +128,7 @@ fn read_node(
     }
 }
 
-// `left` nodes, one after the other, each of which stands so: the children of a folder. The root and a detached node are read here too, each as one node: so
+// `left` nodes, one after the other, each with the bounds s: the children of a folder. The root and a detached node are read here too, each as one node: so
 // `read_node` is called at one place, the compiler puts it into this loop, and a file node costs no call.
 pub fn read_children(
     c: Cursor,

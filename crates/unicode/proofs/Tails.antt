@@ -10,7 +10,7 @@ use Rattle.unicode.proofs.Sixteen.{Scalar}
 use Rattle.unicode.proofs.Eight.{lead-one, lead-tail, lead-two, lead-three, lead-four, lead-none, tails-on, tails-early, tails-late, tails-cut, tails-is, tails-short, tails-surrogate, tails-above}
 use Rattle.unicode.proofs.Ways.{byte-at}
 
--- what so many bytes can give
+-- what the bytes that are left can give
 pub record Small (left v : ℕ) : Type 0 where
   pub few : left ≤ 3
   pub three : 3 ≤ left → v < 64

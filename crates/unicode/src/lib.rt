@@ -96,7 +96,7 @@ pub fn put8(out: &mut [u8], to: usize, c: u64) -> usize
     room::put_byte(out, three, tail(c))
 }
 
-// The character whose first byte gave `lead`: so many bytes of six bits follow from `from` on; it has `size` bytes in all, and no shorter form where
+// The character whose first byte gave `lead`: `count` bytes of six bits follow from `from` on; it has `size` bytes in all, and no shorter form where
 // its value is at least `low`.
 fn read_tails(text: &[u8], from: usize, count: usize, lead: u64, size: usize, low: u64) -> Character
     requires { ⌜ (count ≤ 3) × (lead < 64) × (from ≤ length (now text)) ⌝ }

@@ -68,7 +68,7 @@ file-total f {k} l e = let w = file-whole f e in total-exact k (omega arith) ∙
 
 -- ---- of a run over files
 
--- the totals of n files, of which the accepted ones have so many bytes
+-- the totals of n files, of which the accepted ones have `bytes` bytes
 record Sound (t : Totals) (n bytes : ℕ) : Type 0 where
   files : t .files ≡ n
   few : n ≤ 1000

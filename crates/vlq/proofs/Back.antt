@@ -61,7 +61,7 @@ block-back κ past end {g} {at} n h l i = sym (block-all κ past end g at (numbe
 
 -- ---- manufacturers and GUIDs: which bytes they are, and that these are read back
 
--- the bytes of a GUID of at most so many
+-- the bytes of a GUID that has at most this number of them
 pub data Guid : ℕ → List ℕ → Type 0 where
   last : {left b : ℕ} → b < 128 → Guid (suc left) (b ∷ [])
   more : {left b : ℕ} {s : List ℕ} → 128 ≤ b → Guid left s → Guid (suc left) (b ∷ s)

@@ -74,7 +74,7 @@ least-up m n u =
       | no f ↦ omega (arith, least-top n (omega arith))
     ]
 
--- the number that counts its own bytes has so many in its shortest form
+-- the number that counts its own bytes has this count of them in its shortest form
 pub least-short : (n : ℕ → ℕ) → ((j : ℕ) → j ≤ least n → n j ≤ n (least n)) → n (least n) < 2 ^ 28 → least (λ _. n (least n)) ≡ least n
 least-short n up h =
     let N : ℕ = n (least n) in let i = least-in n in let f = least-fits n h in let m : ℕ = least (λ _. N) in
@@ -90,7 +90,7 @@ least-most n h =
     let a : 128 ^ 1 ≤ n = omega arith in let b : 128 ^ 2 ≤ n = omega arith in let c : 128 ^ 3 ≤ n = omega arith in
     simp (le-ltb _ _ a, le-ltb _ _ b, le-ltb _ _ c)
 
--- a number that counts its own bytes has at least so many in its shortest form
+-- a number that counts its own bytes has at least this count of them in its shortest form
 pub least-within : (n : ℕ → ℕ) → ((j : ℕ) → j ≤ least n → n j ≤ n (least n)) → least n ≤ least (λ _. n (least n))
 least-within n up = elim (decLt (n (least n)) (2 ^ 28)) [
   | yes h ↦ omega (arith, least-short n up h)

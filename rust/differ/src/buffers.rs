@@ -31,7 +31,7 @@ impl Noise {
         }
     }
 
-    /// So many bytes that are fixed by a number.
+    /// `count` bytes that are fixed by a number.
     pub fn bytes(&self, number: u64, count: usize) -> &[u8] {
         let start = Random::new(number).below(STARTS);
         &self.bytes[start..][..count]

@@ -281,7 +281,7 @@ impl Comparer {
         self.second.fill_tables(&self.noise, second);
     }
 
-    /// Asks the proved reader again, with a buffer of so many words for the answer.
+    /// Asks the proved reader again, with a buffer of `room` words for the answer.
     fn words(
         &mut self,
         question: Question,
@@ -619,7 +619,7 @@ impl Comparer {
         }
     }
 
-    /// Looks at a file of so many bytes that was written.
+    /// Looks at the file of `length` bytes that was written.
     fn corrected(&mut self, title: &Title, desk: &Desk, length: usize) -> Result<(), Difference> {
         let new = desk.file(length);
         let [mut old_rows, mut new_rows] = [Desk::new(&title.lent), Desk::new(&title.lent)];
@@ -879,7 +879,7 @@ fn mend_difference(what: String) -> Difference {
     }
 }
 
-/// The words of an answer as a buffer of so many words gets them, with the words after it.
+/// The words of an answer as a buffer of `room` words gets them, with the words after it.
 fn fitted(answer: &Answer, room: usize) -> [u64; MOST_ANSWER_WORDS as usize + ANSWER_GUARD] {
     let mut wanted = [MARK; MOST_ANSWER_WORDS as usize + ANSWER_GUARD];
     wanted[..room].fill(0);

@@ -82,9 +82,9 @@ use std::process::ExitCode;
 use std::time::Instant;
 use std::{env, fmt::Write};
 
-/// One pair for so many cases, when nothing is said.
+/// The number of cases for each pair, when nothing is said.
 const CASES_FOR_A_PAIR: u64 = 10;
-/// So many content descriptions are changed at every byte.
+/// The number of content descriptions that are changed at every byte.
 const CHANGED_DESCRIPTIONS: u64 = 24;
 /// The cases, when nothing is said; and those of a quick run, with the changed descriptions and the changed
 /// samples, of which it takes one in this many.

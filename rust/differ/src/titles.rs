@@ -54,7 +54,7 @@ impl Desk {
         xmf::read_tree(file, nodes, items).ok()
     }
 
-    /// The file that was written, of so many bytes.
+    /// The file of `length` bytes that was written.
     pub fn file(&self, length: usize) -> &[u8] {
         &self.room[..length]
     }

@@ -261,7 +261,7 @@ pub fn large_file(seed: u64) -> Vec<u8> {
     folders_file(seed, 15)
 }
 
-/// A file whose root holds so many folders of 16 nodes each; four item rows for each node.
+/// A file whose root holds `folders` folders of 16 nodes each; four item rows for each node.
 pub fn folders_file(seed: u64, folders: usize) -> Vec<u8> {
     encode(&shapes::large(&mut Random::new(seed), folders)).bytes
 }
@@ -304,7 +304,7 @@ fn at_limit(random: &mut Random, turn: usize) -> (File, Option<u64>) {
     }
 }
 
-/// A file with a GUID of so many bytes.
+/// A file with a GUID of `size` bytes.
 fn with_guid(random: &mut Random, size: usize) -> File {
     let mut file = shapes::single_node(random);
     file.root.unpackers = vec![Unpacker {
@@ -314,7 +314,7 @@ fn with_guid(random: &mut Random, size: usize) -> File {
     file
 }
 
-/// Tables that hold at least so many rows: exactly these, a few words more, or all that may be.
+/// Tables that hold at least these numbers of rows: exactly these, a few words more, or all that may be.
 pub(crate) fn any_lent(random: &mut Random, nodes: usize, items: usize) -> Lent {
     let mut lent = Lent::full();
     match random.below(4) {
@@ -336,7 +336,7 @@ pub(crate) fn any_lent(random: &mut Random, nodes: usize, items: usize) -> Lent 
     lent
 }
 
-/// Tables of which at least one is about as large as so many rows, or smaller.
+/// Tables of which at least one is about as large as its number of rows, or smaller.
 pub(crate) fn short_tables(random: &mut Random, nodes: usize, items: usize) -> Lent {
     let mut lent = Lent::full();
     let which = random.below(3);
@@ -371,7 +371,7 @@ fn any_room(random: &mut Random, lent: &mut Lent) {
     }
 }
 
-/// A row of a file with so many nodes, at times one that isn't there.
+/// A row of a file with `nodes` nodes, at times one that isn't there.
 fn any_row(random: &mut Random, nodes: usize) -> u64 {
     match random.below(12) {
         0 => nodes as u64,

@@ -504,7 +504,7 @@ fn first_mark(encoded: &Encoded, kind: MarkKind, place: usize) -> Mark {
         .expect("each file has such a number")
 }
 
-/// The start and the end of a part with at least one byte and at most so many.
+/// The start and the end of a part with at least one byte and at most `most`.
 fn any_range(random: &mut Random, length: usize, most: usize) -> (usize, usize) {
     let start = random.below(length);
     let size = random.between(1, most.min(length - start));

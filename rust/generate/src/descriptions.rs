@@ -61,7 +61,7 @@ pub enum Counted {
     Count(u64),
     /// A refusal that names no field.
     Refused(u64),
-    /// Refusal 25, so many bytes after the first one of the data.
+    /// Refusal 25, this number of bytes after the first one of the data.
     Faulty(usize),
 }
 

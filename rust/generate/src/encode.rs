@@ -181,7 +181,7 @@ pub fn number_bytes(value: usize) -> Vec<u8> {
     padded_bytes(value, 1)
 }
 
-/// The bytes of a VLQ, padded to so many bytes where it has fewer.
+/// The bytes of a VLQ, padded to `width` bytes where it has fewer.
 pub fn padded_bytes(value: usize, width: usize) -> Vec<u8> {
     assert!(value <= LARGEST_NUMBER, "no VLQ for {value}");
     let mut bytes = vec![(value & 0x7F) as u8];

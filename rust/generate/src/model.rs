@@ -104,11 +104,11 @@ pub enum Place {
     InNode(usize),
     /// The first byte of a detached node, by its number among them in file order.
     Detached(usize),
-    /// So many bytes after the header's end.
+    /// A number of bytes after the header's end.
     AfterHeader(usize),
-    /// So many bytes after the tree's end.
+    /// A number of bytes after the tree's end.
     AfterTree(usize),
-    /// So many bytes before the file's end.
+    /// A number of bytes before the file's end.
     BeforeEnd(usize),
     /// A fixed place.
     Fixed(usize),

@@ -144,14 +144,14 @@ pub fn detached(random: &mut Random) -> File {
     file
 }
 
-/// A file with so many children in the root.
+/// A file with `nodes` nodes, all but the root its children.
 pub fn with_nodes(random: &mut Random, nodes: usize) -> File {
     let mut file = start(random);
     file.root = Node::folder((1..nodes).map(|_| Node::inline(b"x")).collect());
     file
 }
 
-/// A file with so many node rows, of which some are of detached nodes.
+/// A file with `rows` node rows, of which some are of detached nodes.
 pub fn with_detached_nodes(random: &mut Random, rows: usize) -> File {
     let mut file = start(random);
     let detached = random.between(1, 100);
@@ -164,7 +164,7 @@ pub fn with_detached_nodes(random: &mut Random, rows: usize) -> File {
     file
 }
 
-/// A file with so many item rows on a single node, as universal contents or as versions.
+/// A file with `rows` item rows on a single node, as universal contents or as versions.
 pub fn with_item_rows(random: &mut Random, rows: usize) -> File {
     let mut file = start(random);
     file.types = vec![type_entry(1, 0, b"en")];
@@ -191,7 +191,7 @@ pub fn with_depth(random: &mut Random, depth: usize) -> File {
     file
 }
 
-/// A file with so many declared types.
+/// A file with `count` declared types.
 pub fn with_types(random: &mut Random, count: usize) -> File {
     let mut file = start(random);
     file.types = (0..count)
@@ -201,7 +201,7 @@ pub fn with_types(random: &mut Random, count: usize) -> File {
     file
 }
 
-/// A file with a chain of so many references 3 that ends at bytes in a node.
+/// A file with a chain of `links` references 3 that ends at bytes in a node.
 pub fn with_chain(random: &mut Random, links: usize) -> File {
     let mut file = start(random);
     let mut children: Vec<Node> = (0..links)
@@ -212,7 +212,7 @@ pub fn with_chain(random: &mut Random, links: usize) -> File {
     file
 }
 
-/// A file with a chain of so many references 3, all but the first in detached nodes, that ends at
+/// A file with a chain of `links` references 3, all but the first in detached nodes, that ends at
 /// bytes in one.
 pub fn with_detached_chain(random: &mut Random, links: usize) -> File {
     let mut file = start(random);
@@ -247,7 +247,7 @@ pub fn with_edge_lengths(random: &mut Random) -> File {
     file
 }
 
-/// A file whose root holds so many folders of 16 nodes each, with four item rows for each node, of
+/// A file whose root holds `folders` folders of 16 nodes each, with four item rows for each node, of
 /// which most are visible.
 ///
 /// It has versions, hidden contents, unpackers and references 1 to 4.
@@ -525,7 +525,7 @@ fn manufacturer(random: &mut Random) -> Vec<u8> {
     }
 }
 
-/// A GUID of so many bytes, of which only the last is below 80h.
+/// A GUID of `size` bytes, of which only the last is below 80h.
 pub(crate) fn guid(random: &mut Random, size: usize) -> Vec<u8> {
     let mut guid: Vec<u8> = (1..size)
         .map(|_| match random.below(3) {
@@ -537,7 +537,7 @@ pub(crate) fn guid(random: &mut Random, size: usize) -> Vec<u8> {
     guid
 }
 
-/// Contents of a file node in a file with so many nodes in the tree and so many detached ones.
+/// Contents of a file node in a file with `nodes` nodes in the tree and `detached` detached ones.
 fn contents(random: &mut Random, nodes: usize, detached: usize) -> Contents {
     match random.below(10) {
         0 | 1 => Contents::InFile(any_place(random, nodes)),

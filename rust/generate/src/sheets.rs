@@ -52,7 +52,7 @@ pub fn sheet(seed: u64, number: u64) -> Sheet {
     }
 }
 
-/// Both editions of a sheet with so many nodes, and four items on each.
+/// Both editions of a sheet with `nodes` nodes, and four items on each.
 pub fn growing(seed: u64, nodes: usize) -> [Vec<u8>; 2] {
     let random = &mut Random::for_case(seed, nodes as u64);
     let items = (0..nodes).map(|row| (0..4).map(|_| item(random, row)).collect());
@@ -75,7 +75,7 @@ fn editions(random: &mut Random, is_second: bool) -> [Vec<Vec<u8>>; 2] {
     both
 }
 
-/// The lines of both editions, with the item lines of each node and so many hidden rows.
+/// The lines of both editions, with the item lines of each node and a number of hidden rows.
 fn both(
     random: &mut Random,
     nodes: usize,

@@ -138,7 +138,7 @@ pub fn title(seed: u64, number: u64) -> Title {
     }
 }
 
-/// A file whose root holds so many folders of 16 nodes each, four item rows for each node, and no
+/// A file whose root holds `folders` folders of 16 nodes each, four item rows for each node, and no
 /// reference 2 or 3; and its first item row whose title can be corrected.
 pub fn folders_title(seed: u64, folders: usize) -> (Vec<u8>, u64) {
     let random = &mut Random::new(seed);
@@ -384,7 +384,7 @@ impl Small {
     }
 }
 
-/// Unpackers of so many bytes, at least 3, in their shortest form: one with a GUID of 1 to 3 bytes, the
+/// Unpackers of `size` bytes, at least 3, in their shortest form: one with a GUID of 1 to 3 bytes, the
 /// others of 3 bytes each.
 fn unpackers_of(size: usize) -> Vec<Unpacker> {
     let size = size.max(3);

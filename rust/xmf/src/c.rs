@@ -1,8 +1,8 @@
 //! The C interface, as `include/xmf.h` declares it.
 //!
 //! A slice passes as a pointer and a number of elements. No function has a precondition on values.
-//! The caller sees to the pointers: none is null, each is aligned, so many elements can be read
-//! there, and written where the pointer is `*mut`. What is written overlaps nothing else that is
+//! The caller sees to the pointers: none is null, each is aligned, the elements of its length can be
+//! read there, and written where the pointer is `*mut`. What is written overlaps nothing else that is
 //! lent, and no other thread uses it during the call.
 
 extern "C" {

@@ -1,4 +1,4 @@
--- `main` reads and runs so many times, and ends.
+-- `main` reads and runs a bounded number of times, and ends.
 -- Assumes nothing.
 use mathlib.Core.Path.{_≡_}
 use Prim.Native.Nat.{_≤_}

@@ -1,4 +1,4 @@
--- `read_numbers` reads so many numbers and keeps one. The invariant: what is picked of all of them is picked of those that are left, or was kept. The measure is what is
+-- `read_numbers` reads the numbers one by one and keeps one of them. The invariant: what is picked of all of them is picked of those that are left, or was kept. The measure is what is
 -- left of the item: there are no more turns than it has bytes, whatever the count.
 -- Assumes nothing.
 use mathlib.Core.Logic.{inl, inr}

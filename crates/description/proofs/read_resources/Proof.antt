@@ -1,4 +1,4 @@
--- `read_resources` reads so many resources. The invariant: what is left of them is the whole. Each turn reads a byte of the item or more, so the measure is what is left
+-- `read_resources` reads the resources one by one. The invariant: what is left of them is the whole. Each turn reads a byte of the item or more, so the measure is what is left
 -- of the item: there are no more turns than it has bytes, whatever the count.
 -- Assumes nothing.
 use mathlib.Core.Path.{refl}

@@ -1,4 +1,4 @@
--- `are_numbers` judges so many numbers. The invariant: what is left of them is the whole.
+-- `are_numbers` judges the numbers one by one. The invariant: what is left of them is the whole.
 -- Assumes nothing.
 use mathlib.Core.Path.{_≡_, refl, sym, _∙_}
 use Prim.Native.Nat.{_≤_, _<_}

@@ -1,4 +1,4 @@
--- `put_table` puts the lines of a count table. The invariant: so many counts were read, and their lines were put. The measure is what is left of the item.
+-- `put_table` puts the lines of a count table. The invariant: the counts up to this one were read, and their lines were put. The measure is what is left of the item.
 -- Assumes nothing.
 use Prim.Native.Nat.{_-_, _*_}
 use native.Mathlib.Omega.{arith}
