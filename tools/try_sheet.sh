@@ -433,10 +433,11 @@ run_copy
 judge 'a changed source with an old time' "$(building_program "crates/tree/src/lib.rt $newer" "$above_tree")" 0
 : >"$copy/crates/machine/specs/New.antt"
 run_copy
-judge 'a new definition' "$(building_program "crates/machine/specs $newer")" 0
+above_machine=$(crates_of xmf_sheet machine)
+judge 'a new definition' "$(building_program "crates/machine/specs $newer" "$above_machine")" 0
 rm "$copy/crates/machine/specs/New.antt"
 run_copy
-judge 'a file that is gone' "$(building_program "crates/machine/specs $newer")" 0
+judge 'a file that is gone' "$(building_program "crates/machine/specs $newer" "$above_machine")" 0
 echo '-- changed' >>"$copy/crates/machine/proofs/Lib.antt"
 run_copy
 judge 'the text of a proof' '' 0
