@@ -1,7 +1,8 @@
 // Where the bytes of a file go, and sums over files.
+#![tactic(auto)]
+
 ghost use Rattle.std.specs.Prelude.{◌≡◌, ◌+◌, ◌*◌, ◌^◌, ◌≤◌, ◌<◌, length};
 ghost use Rattle.machine.specs.Machine.{run};
-ghost use Rattle.room.specs.Moments.{old, new};
 ghost use Rattle.cursor.specs.Rows.{metaFrame, inline_size};
 ghost use Rattle.cursor.specs.Refusals.{cut_short};
 ghost use Rattle.cursor.specs.Leaves.{number};
@@ -19,7 +20,7 @@ mod marks;
 pub use marks::mark;
 
 // The bytes of a file by kind; `rest` is all else.
-#[derive(Drop)]
+#[derive(Clone, Copy)]
 pub struct Kinds {
     pub header: usize,
     pub nodes: usize,
@@ -33,7 +34,7 @@ pub struct Kinds {
 }
 
 // The own bytes of nodes: their three numbers, the metadata with its data, all before the reference, all before the contents, and inline data.
-#[derive(Drop)]
+#[derive(Clone, Copy)]
 struct Frames {
     nodes: usize,
     metadata: usize,
@@ -43,14 +44,14 @@ struct Frames {
 }
 
 // The data of item rows: all, and the hidden.
-#[derive(Drop)]
+#[derive(Clone, Copy)]
 struct Data {
     all: usize,
     hidden: usize,
 }
 
 // Over all files so far: how many were asked about, how many of these were refused, and the sums.
-#[derive(Drop)]
+#[derive(Clone, Copy)]
 pub struct Totals {
     pub files: usize,
     pub refused: usize,
@@ -58,7 +59,7 @@ pub struct Totals {
 }
 
 // The bytes of the file by kind, or the refusal's number and place; and the totals.
-#[derive(Drop)]
+#[derive(Clone, Copy)]
 pub enum Accounted {
     Is(Kinds, Totals),
     Refused(u64, usize, Totals),
@@ -70,7 +71,7 @@ pub const MOST_FILES: usize = 1000;
 // The last byte of the number at `at`: its first below 80h, of at most four.
 fn last_byte(file: &[u8], at: usize) -> usize
     requires { (at + 4 ≤ length file.now) × (length file.now < 2 ^ 28) }
-    ensures { (result ≡ last_byte (old file) at) × (result < at + 4) }
+    ensures { (result ≡ last_byte file.now at) × (result < at + 4) }
 {
     if file[at] < 128 {
         return at;
@@ -87,7 +88,7 @@ fn last_byte(file: &[u8], at: usize) -> usize
 // The bytes of the number at `at`, in a part that ends at `end`, and of the block that it counts. Almost every such number is one byte.
 fn block_size(file: &[u8], end: usize, at: usize) -> usize
     requires { (at < end) × Readable end file.now }
-    ensures { result ≡ counted at (run (number metaFrame cut_short end) (old file) at) }
+    ensures { result ≡ counted at (run (number metaFrame cut_short end) file.now at) }
 {
     let first = cursor::wide(file[at]);
     if first < 128 {
@@ -102,7 +103,7 @@ fn block_size(file: &[u8], end: usize, at: usize) -> usize
 // Where a node's metadata begins: behind its three numbers.
 fn meta_at(file: &[u8], row: Node) -> usize
     requires { Inside file.now row }
-    ensures { result ≡ meta_at (old file) row }
+    ensures { result ≡ meta_at file.now row }
 {
     let contained = last_byte(file, row.start as usize) + 1;
     let header = last_byte(file, contained) + 1;
@@ -134,7 +135,7 @@ fn inline_size(row: Node) -> usize
 // A node's own bytes, added to these.
 fn with_node(k: Frames, file: &[u8], row: Node) -> Frames
     requires { Inside file.now row × SmallFrames (with_node file.now k row) }
-    ensures { result ≡ with_node (old file) k row }
+    ensures { result ≡ with_node file.now k row }
 {
     let headers = k.headers + row.header as usize;
     let fronts = k.fronts + (row.size as usize - follow_size(row));
@@ -154,7 +155,7 @@ fn with_node(k: Frames, file: &[u8], row: Node) -> Frames
 // The own bytes of all nodes.
 fn in_nodes(file: &[u8], nodes: &[u64], count: usize) -> Frames
     requires { NodesInside file.now count nodes.now × SmallFrames (in_nodes file.now (nodes_in count nodes.now)) }
-    ensures { result ≡ in_nodes (old file) (nodes_in count (old nodes)) }
+    ensures { result ≡ in_nodes file.now (nodes_in count nodes.now) }
 {
     let mut sum = Frames {
         nodes: 0,
@@ -185,7 +186,7 @@ fn with_item(d: Data, row: Item) -> Data
 // The data of all item rows.
 fn in_items(items: &[u64], count: usize) -> Data
     requires { (count * item_width ≤ length items.now) × SmallData (in_items (items_in count items.now)) }
-    ensures { result ≡ in_items (items_in count (old items)) }
+    ensures { result ≡ in_items (items_in count items.now) }
 {
     let mut sum = Data { all: 0, hidden: 0 };
     let mut i = 0;
@@ -224,7 +225,7 @@ fn kinds_of(
     rows: usize,
 ) -> Kinds
     requires { RowsFit file.now end.0 count nodes.now rows items.now }
-    ensures { result ≡ kinds_by (old file) end.0 (nodes_in count (old nodes)) (items_in rows (old items)) }
+    ensures { result ≡ kinds_by file.now end.0 (nodes_in count nodes.now) (items_in rows items.now) }
 {
     let own = in_nodes(file, nodes, count);
     let data = in_items(items, rows);
@@ -286,10 +287,10 @@ fn add_refused(t: Totals) -> Totals
 
 // Reads the file and counts its bytes by kind; the totals with them added. A refused file is one more file and one more refused; a 1,001st is neither.
 pub fn account(file: &[u8], nodes: &mut [u64], items: &mut [u64], totals: Totals) -> Accounted
-    ensures answer { told result ≡ answer totals (old nodes) (old items) (old file) }
-    ensures totals { totals_in result ≡ totals_after totals (old nodes) (old items) (old file) }
-    ensures nodes { new nodes ≡ nodes_after totals (old nodes) (old items) (old file) }
-    ensures items { new items ≡ items_after totals (old nodes) (old items) (old file) }
+    ensures answer { told result ≡ answer totals nodes.old items.old file.now }
+    ensures totals { totals_in result ≡ totals_after totals nodes.old items.old file.now }
+    ensures nodes { nodes.new ≡ nodes_after totals nodes.old items.old file.now }
+    ensures items { items.new ≡ items_after totals nodes.old items.old file.now }
 {
     if MOST_FILES <= totals.files {
         rows::clear_all(nodes, items);

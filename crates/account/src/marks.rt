@@ -1,6 +1,5 @@
 // The kind of each place of a file, as a mark in a lent buffer.
 ghost use Rattle.std.specs.Prelude.{◌≡◌, ◌+◌, ◌*◌, ◌^◌, ◌≤◌, ◌<◌, min, length};
-ghost use Rattle.room.specs.Moments.{old, new};
 ghost use Rattle.rows.specs.Rows.{item_width, nodes_in, items_in};
 ghost use Rattle.room.specs.Room.{counted, kept};
 ghost use Rattle.room.specs.Told.{told};
@@ -44,7 +43,7 @@ fn lesser(a: usize, b: usize) -> usize
 
 // Marks the places from one up to another, as far as there are marks.
 fn fill(marks: &mut [u8], from: usize, to: usize, kind: u8)
-    ensures { Becomes (old marks) (new marks) (spanned from to kind) }
+    ensures { Becomes marks.old marks.new (spanned from to kind) }
 {
     let end = lesser(to, marks.len());
     let mut at = from;
@@ -68,7 +67,7 @@ fn contents_at(row: Node) -> usize
 // Marks the parts of a node.
 fn mark_node(marks: &mut [u8], file: &[u8], row: Node)
     requires { Inside file.now row }
-    ensures { Becomes (old marks) (new marks) (λ m. over_node (old file) m row) }
+    ensures { Becomes marks.old marks.new (λ m. over_node file.now m row) }
 {
     let start = row.start as usize;
     let end = start + row.size as usize;
@@ -86,7 +85,7 @@ fn mark_node(marks: &mut [u8], file: &[u8], row: Node)
 
 // Marks the data of an item row.
 fn mark_item(marks: &mut [u8], row: Item)
-    ensures { Becomes (old marks) (new marks) (λ m. over_item m row) }
+    ensures { Becomes marks.old marks.new (λ m. over_item m row) }
 {
     let place = row.place as usize;
     let end = room::on(place, row.size as usize);
@@ -100,7 +99,7 @@ fn mark_item(marks: &mut [u8], row: Item)
 // Marks the parts of all nodes.
 fn mark_nodes(marks: &mut [u8], file: &[u8], nodes: &[u64], count: usize)
     requires { NodesInside file.now count nodes.now }
-    ensures { Becomes (old marks) (new marks) (λ m. folded (over_node (old file)) m (nodes_in count (old nodes))) }
+    ensures { Becomes marks.old marks.new (λ m. folded (over_node file.now) m (nodes_in count nodes.now)) }
 {
     let mut i = 0;
     while i < count {
@@ -112,7 +111,7 @@ fn mark_nodes(marks: &mut [u8], file: &[u8], nodes: &[u64], count: usize)
 // Marks the data of all item rows.
 fn mark_items(marks: &mut [u8], items: &[u64], count: usize)
     requires { count * item_width ≤ length items.now }
-    ensures { Becomes (old marks) (new marks) (λ m. folded over_item m (items_in count (old items))) }
+    ensures { Becomes marks.old marks.new (λ m. folded over_item m (items_in count items.now)) }
 {
     let mut i = 0;
     while i < count {
@@ -132,7 +131,7 @@ fn mark_rows(
     rows: usize,
 )
     requires { NodesInside file.now count nodes.now × (rows * item_width ≤ length items.now) }
-    ensures { Shows (new marks) (kind_by_rows (old file) end.0 (nodes_in count (old nodes)) (items_in rows (old items))) }
+    ensures { Shows marks.new (kind_by_rows file.now end.0 (nodes_in count nodes.now) (items_in rows items.now)) }
 {
     fill(marks, 0, marks.len(), ALL_ELSE);
     fill(marks, 0, end.0, OF_HEADER);
@@ -142,10 +141,10 @@ fn mark_rows(
 
 // Reads the file and stores the kind of each of its places; 0 behind them. The answer is the number of places.
 pub fn mark(file: &[u8], nodes: &mut [u64], items: &mut [u64], marks: &mut [u8]) -> Written
-    ensures answer { told result ≡ counted (marked (old nodes) (old items) (old file) (length (old marks))) }
-    ensures nodes { new nodes ≡ nodes_marked (old nodes) (old items) (old file) (length (old marks)) }
-    ensures items { new items ≡ items_marked (old nodes) (old items) (old file) (length (old marks)) }
-    ensures marks { new marks ≡ kept (length (old marks)) (marked (old nodes) (old items) (old file) (length (old marks))) }
+    ensures answer { told result ≡ counted (marked nodes.old items.old file.now (length marks.old)) }
+    ensures nodes { nodes.new ≡ nodes_marked nodes.old items.old file.now (length marks.old) }
+    ensures items { items.new ≡ items_marked nodes.old items.old file.now (length marks.old) }
+    ensures marks { marks.new ≡ kept (length marks.old) (marked nodes.old items.old file.now (length marks.old)) }
 {
     match file::read_file(file, nodes, items) {
         Read::Refused(n, p) => {

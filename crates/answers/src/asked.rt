@@ -1,6 +1,5 @@
 // Every question that the command asks of a file, and the answer.
 ghost use Rattle.std.specs.Prelude.{length};
-ghost use Rattle.room.specs.Moments.{old, new};
 ghost use Rattle.io.specs.Counts.{IsPrefixLen};
 ghost use Rattle.lines.specs.Answer.{Gives};
 ghost use Rattle.answers.specs.Questions.{answer_of};
@@ -11,7 +10,7 @@ use lines::Made;
 
 // A question. Its numbers are rows, but for the channel and the resource of `Count`. The name or the title that a question has is lent beside it. What is asked
 // of a sheet (`Moved`), of a tag (`Tag`) or of a text (the conversions) is lent as the file.
-#[derive(Drop)]
+#[derive(Clone, Copy)]
 pub enum Asked {
     Sheet,
     Sheet2,
@@ -43,8 +42,8 @@ pub enum Asked {
 
 // Makes the answer for a file, whose line ends in the field that is lent.
 pub fn make(asked: Asked, word: &[u8], file: &[u8], tail: &[u8], text: &mut [u8]) -> Made
-    ensures prefix_len { IsPrefixLen result.size (new text) }
-    ensures gives { Gives (length (old text)) result (new text) (answer_of (old word) (old tail) (length (old text)) (old file) asked) }
+    ensures prefix_len { IsPrefixLen result.size text.new }
+    ensures gives { Gives (length text.old) result text.new (answer_of word.now tail.now (length text.old) file.now asked) }
 {
     if file.len() > program::LONGEST {
         return lines::refuse_long(text, tail);

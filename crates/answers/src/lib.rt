@@ -1,4 +1,6 @@
 // What the command prints: one function for all questions, which makes the answer's text in a lent buffer.
+#![tactic(auto)]
+
 mod asked;
 
 pub use asked::{Asked, make};

@@ -1,4 +1,6 @@
 // The answers for the files that arguments name: what is written beside each, and the status of all.
+#![tactic(auto)]
+
 mod shows;
 
 ghost use Rattle.std.specs.Prelude.{◌≡◌};
@@ -8,7 +10,7 @@ use answers::Asked;
 
 // Where a file's name stands: nowhere, at the end of the line, before an answer that is no refusal and on standard error, or on a line of its own. `Shown` is for the view
 // of `show`.
-#[derive(Drop)]
+#[derive(Clone, Copy)]
 pub enum Mode {
     Plain,
     Field,
@@ -19,7 +21,7 @@ pub enum Mode {
 }
 
 // What became of one file: its status; or standard output failed.
-#[derive(Drop)]
+#[derive(Clone, Copy)]
 pub enum Ended {
     Status(u64),
     Stopped,

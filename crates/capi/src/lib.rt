@@ -1,7 +1,8 @@
 // The questions, the conversions of text and the shelf for C and Rust. Each slice passes as a pointer and a length. The last one is a lent buffer of words for the answer: refusal
 // number (0: none), place, then the answer's values, and zeros; a short buffer gets what fits.
+#![tactic(auto)]
+
 ghost use Rattle.std.specs.Prelude.{◌∷◌, []};
-ghost use Rattle.room.specs.Moments.{old, new};
 ghost use Rattle.shelf.specs.Shelf.{label};
 ghost use Rattle.shelf.specs.Runs.{putting, dropping};
 ghost use Rattle.promises.specs.Promises.{read_tree, find_item, find_own, resolve_row, copy_resource, count_for, judge_mobile, write_sheet, write_sheet2, correct_title, mend_header, to_utf8, to_utf16, move_sheet, count_frames, tag_frame};
@@ -15,7 +16,7 @@ pub extern "C" fn xmf_read_tree(
     items: &mut [u64],
     answer: &mut [u64],
 )
-    ensures { Leaves read_tree (old file) (old nodes ∷ old items ∷ []) (new nodes ∷ new items ∷ []) (old answer) (new answer) }
+    ensures { Leaves read_tree file.now (nodes.old ∷ items.old ∷ []) (nodes.new ∷ items.new ∷ []) answer.old answer.new }
 {
     words::put_tree(answer, file::read_tree(file, nodes, items));
 }
@@ -32,7 +33,7 @@ pub extern "C" fn xmf_find(
     name: &[u8],
     answer: &mut [u64],
 )
-    ensures { Leaves (find_item (asked kind number (old name)) row) (old file) (old nodes ∷ old items ∷ []) (new nodes ∷ new items ∷ []) (old answer) (new answer) }
+    ensures { Leaves (find_item (asked kind number name.now) row) file.now (nodes.old ∷ items.old ∷ []) (nodes.new ∷ items.new ∷ []) answer.old answer.new }
 {
     if kind == 0 {
         words::put_found(answer, find::find_standard(file, nodes, items, row, number));
@@ -53,7 +54,7 @@ pub extern "C" fn xmf_find_own(
     name: &[u8],
     answer: &mut [u64],
 )
-    ensures { Leaves (find_own (asked kind number (old name)) row) (old file) (old nodes ∷ old items ∷ []) (new nodes ∷ new items ∷ []) (old answer) (new answer) }
+    ensures { Leaves (find_own (asked kind number name.now) row) file.now (nodes.old ∷ items.old ∷ []) (nodes.new ∷ items.new ∷ []) answer.old answer.new }
 {
     if kind == 0 {
         words::put_found(
@@ -74,7 +75,7 @@ pub extern "C" fn xmf_resolve(
     row: usize,
     answer: &mut [u64],
 )
-    ensures { Leaves (resolve_row row) (old file) (old nodes ∷ old items ∷ []) (new nodes ∷ new items ∷ []) (old answer) (new answer) }
+    ensures { Leaves (resolve_row row) file.now (nodes.old ∷ items.old ∷ []) (nodes.new ∷ items.new ∷ []) answer.old answer.new }
 {
     words::put_resolved(answer, resolve::resolve(file, nodes, items, row));
 }
@@ -89,7 +90,7 @@ pub extern "C" fn xmf_resource(
     out: &mut [u8],
     answer: &mut [u64],
 )
-    ensures { Leaves (copy_resource row) (old file) (old nodes ∷ old items ∷ old out ∷ []) (new nodes ∷ new items ∷ new out ∷ []) (old answer) (new answer) }
+    ensures { Leaves (copy_resource row) file.now (nodes.old ∷ items.old ∷ out.old ∷ []) (nodes.new ∷ items.new ∷ out.new ∷ []) answer.old answer.new }
 {
     words::put_resolved(answer, resolve::copy_resource(file, nodes, items, row, out));
 }
@@ -105,7 +106,7 @@ pub extern "C" fn xmf_voice_count(
     resource: u64,
     answer: &mut [u64],
 )
-    ensures { Leaves (count_for item_row channel resource) (old file) (old nodes ∷ old items ∷ []) (new nodes ∷ new items ∷ []) (old answer) (new answer) }
+    ensures { Leaves (count_for item_row channel resource) file.now (nodes.old ∷ items.old ∷ []) (nodes.new ∷ items.new ∷ []) answer.old answer.new }
 {
     words::put_counted(
         answer,
@@ -116,7 +117,7 @@ pub extern "C" fn xmf_voice_count(
 // Judges Mobile XMF. Answer: the verdict.
 #[unsafe(no_mangle)]
 pub extern "C" fn xmf_judge(file: &[u8], nodes: &mut [u64], items: &mut [u64], answer: &mut [u64])
-    ensures { Leaves judge_mobile (old file) (old nodes ∷ old items ∷ []) (new nodes ∷ new items ∷ []) (old answer) (new answer) }
+    ensures { Leaves judge_mobile file.now (nodes.old ∷ items.old ∷ []) (nodes.new ∷ items.new ∷ []) answer.old answer.new }
 {
     words::put_judged(answer, mobile::judge(file, nodes, items));
 }
@@ -130,7 +131,7 @@ pub extern "C" fn xmf_account(
     totals: &mut [u64],
     answer: &mut [u64],
 )
-    ensures { LeavesTotals (old file) (old nodes) (old items) (new nodes) (new items) (old totals) (new totals) (old answer) (new answer) }
+    ensures { LeavesTotals file.now nodes.old items.old nodes.new items.new totals.old totals.new answer.old answer.new }
 {
     let before = words::read_totals(totals);
     let said = account::account(file, nodes, items, before);
@@ -147,7 +148,7 @@ pub extern "C" fn xmf_write_sheet(
     sheet: &mut [u8],
     answer: &mut [u64],
 )
-    ensures { Leaves write_sheet (old file) (old nodes ∷ old items ∷ old sheet ∷ []) (new nodes ∷ new items ∷ new sheet ∷ []) (old answer) (new answer) }
+    ensures { Leaves write_sheet file.now (nodes.old ∷ items.old ∷ sheet.old ∷ []) (nodes.new ∷ items.new ∷ sheet.new ∷ []) answer.old answer.new }
 {
     words::put_written(answer, sheet::write_sheet(file, nodes, items, sheet));
 }
@@ -161,7 +162,7 @@ pub extern "C" fn xmf_write_sheet2(
     sheet: &mut [u8],
     answer: &mut [u64],
 )
-    ensures { Leaves write_sheet2 (old file) (old nodes ∷ old items ∷ old sheet ∷ []) (new nodes ∷ new items ∷ new sheet ∷ []) (old answer) (new answer) }
+    ensures { Leaves write_sheet2 file.now (nodes.old ∷ items.old ∷ sheet.old ∷ []) (nodes.new ∷ items.new ∷ sheet.new ∷ []) answer.old answer.new }
 {
     words::put_written(answer, sheet::write_sheet2(file, nodes, items, sheet));
 }
@@ -177,7 +178,7 @@ pub extern "C" fn xmf_correct_title(
     out: &mut [u8],
     answer: &mut [u64],
 )
-    ensures { Leaves (correct_title row (old title)) (old file) (old nodes ∷ old items ∷ old out ∷ []) (new nodes ∷ new items ∷ new out ∷ []) (old answer) (new answer) }
+    ensures { Leaves (correct_title row title.now) file.now (nodes.old ∷ items.old ∷ out.old ∷ []) (nodes.new ∷ items.new ∷ out.new ∷ []) answer.old answer.new }
 {
     words::put_written(
         answer,
@@ -196,8 +197,8 @@ pub extern "C" fn xmf_mend(
     lines: &mut [u8],
     answer: &mut [u64],
 )
-    ensures { Leaves mend_header (old file) (old nodes ∷ old items ∷ old copy ∷ old lines ∷ [])
-        (new nodes ∷ new items ∷ new copy ∷ new lines ∷ []) (old answer) (new answer) }
+    ensures { Leaves mend_header file.now (nodes.old ∷ items.old ∷ copy.old ∷ lines.old ∷ [])
+        (nodes.new ∷ items.new ∷ copy.new ∷ lines.new ∷ []) answer.old answer.new }
 {
     words::put_mended(answer, mend::mend(file, nodes, items, copy, lines));
 }
@@ -206,7 +207,7 @@ pub extern "C" fn xmf_mend(
 // stands outside demand 3.
 #[unsafe(no_mangle)]
 pub extern "C" fn xmf_utf16_to_utf8(units: &[u8], text: &mut [u8], answer: &mut [u64])
-    ensures { Leaves (to_utf8 (old units)) [] (old text ∷ []) (new text ∷ []) (old answer) (new answer) }
+    ensures { Leaves (to_utf8 units.now) [] (text.old ∷ []) (text.new ∷ []) answer.old answer.new }
 {
     words::put_written(answer, utf16::to_utf8(units, text));
 }
@@ -214,7 +215,7 @@ pub extern "C" fn xmf_utf16_to_utf8(units: &[u8], text: &mut [u8], answer: &mut 
 // Converts UTF-8 into UTF-16, high byte first. Answer: bytes written.
 #[unsafe(no_mangle)]
 pub extern "C" fn xmf_utf8_to_utf16(text: &[u8], units: &mut [u8], answer: &mut [u64])
-    ensures { Leaves (to_utf16 (old text)) [] (old units ∷ []) (new units ∷ []) (old answer) (new answer) }
+    ensures { Leaves (to_utf16 text.now) [] (units.old ∷ []) (units.new ∷ []) answer.old answer.new }
 {
     words::put_written(answer, utf16::to_utf16(text, units));
 }
@@ -222,7 +223,7 @@ pub extern "C" fn xmf_utf8_to_utf16(text: &[u8], units: &mut [u8], answer: &mut 
 // Moves a sheet to the other edition. Answer: bytes written.
 #[unsafe(no_mangle)]
 pub extern "C" fn xmf_move_sheet(sheet: &[u8], out: &mut [u8], answer: &mut [u64])
-    ensures { Leaves (move_sheet (old sheet)) [] (old out ∷ []) (new out ∷ []) (old answer) (new answer) }
+    ensures { Leaves (move_sheet sheet.now) [] (out.old ∷ []) (out.new ∷ []) answer.old answer.new }
 {
     words::put_written(answer, mover::move_sheet(sheet, out));
 }
@@ -230,7 +231,7 @@ pub extern "C" fn xmf_move_sheet(sheet: &[u8], out: &mut [u8], answer: &mut [u64
 // Counts the frames of an ID3v2.4 tag. Answer: how many there are. It walks what it is given, hidden contents too, and stands outside demand 3.
 #[unsafe(no_mangle)]
 pub extern "C" fn xmf_id3_count(tag: &[u8], answer: &mut [u64])
-    ensures { Leaves (count_frames (old tag)) [] [] [] (old answer) (new answer) }
+    ensures { Leaves (count_frames tag.now) [] [] [] answer.old answer.new }
 {
     words::put_frame_count(answer, id3::frame_count(tag));
 }
@@ -238,7 +239,7 @@ pub extern "C" fn xmf_id3_count(tag: &[u8], answer: &mut [u64])
 // Gives the tag's frame of a number, from 0 in file order. Answer: the name's four bytes as one number, the first one highest; its contents' place in the tag, and length.
 #[unsafe(no_mangle)]
 pub extern "C" fn xmf_id3_frame(tag: &[u8], number: usize, answer: &mut [u64])
-    ensures { Leaves (tag_frame (old tag) number) [] [] [] (old answer) (new answer) }
+    ensures { Leaves (tag_frame tag.now number) [] [] [] answer.old answer.new }
 {
     words::put_frame(answer, id3::frame(tag, number));
 }
@@ -254,7 +255,7 @@ pub extern "C" fn xmf_shelf_put(
     sheet: &[u8],
     answer: &mut [u64],
 )
-    ensures { LeavesShelf (putting (label desk call boat) (old sheet)) (old cards) (new cards) (old text) (new text) (old answer) (new answer) }
+    ensures { LeavesShelf (putting (label desk call boat) sheet.now) cards.old cards.new text.old text.new answer.old answer.new }
 {
     words::put_outcome(
         answer,
@@ -273,7 +274,7 @@ pub extern "C" fn xmf_shelf_get(
     out: &mut [u8],
     answer: &mut [u64],
 )
-    ensures { LeavesSheet (label desk call boat) (old cards) (old text) (old out) (new out) (old answer) (new answer) }
+    ensures { LeavesSheet (label desk call boat) cards.now text.now out.old out.new answer.old answer.new }
 {
     words::put_got(answer, shelf::get_words(cards, text, desk, call, boat, out));
 }
@@ -288,7 +289,7 @@ pub extern "C" fn xmf_shelf_drop(
     boat: u64,
     answer: &mut [u64],
 )
-    ensures { LeavesShelf (dropping (label desk call boat)) (old cards) (new cards) (old text) (new text) (old answer) (new answer) }
+    ensures { LeavesShelf (dropping (label desk call boat)) cards.old cards.new text.old text.new answer.old answer.new }
 {
     words::put_outcome(answer, shelf::drop_words(cards, text, desk, call, boat));
 }

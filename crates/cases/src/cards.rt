@@ -1,6 +1,5 @@
 // The calls on cards lent as structs, for cards that are words here: they are put into an array, which is lent, and stored back.
 ghost use Rattle.std.specs.Prelude.{◌≡◌, ℕ, ◌/◌, ◌≤◌, ◌<◌, min, length, get_or, take};
-ghost use Rattle.room.specs.Moments.{old, new};
 ghost use Rattle.shelf.specs.Shelf.{label, fresh_card};
 ghost use Rattle.shelf.specs.Runs.{putting, dropping};
 ghost use Rattle.shelf.specs.Rows.{row_of};
@@ -22,7 +21,7 @@ fn count(words: usize) -> usize
 
 // Card i of those that are in words, or a fresh one.
 fn card_in(words: &[u64], i: usize) -> Card
-    ensures { result ≡ get_or (cards_of (old words)) i fresh_card }
+    ensures { result ≡ get_or (cards_of words.now) i fresh_card }
 {
     if i < words.len() / 4 {
         let k = i * 4;
@@ -43,7 +42,7 @@ fn card_in(words: &[u64], i: usize) -> Card
 
 // The cards that are in words, and fresh ones.
 fn load_row(words: &[u64]) -> [Card; 20]
-    ensures { (length result ≡ 20) × ((k : ℕ) → k < 20 → get_or result k fresh_card ≡ get_or (cards_of (old words)) k fresh_card) }
+    ensures { (length result ≡ 20) × ((k : ℕ) → k < 20 → get_or result k fresh_card ≡ get_or (cards_of words.now) k fresh_card) }
 {
     let mut row = [Card {
         desk: 0,
@@ -62,7 +61,7 @@ fn load_row(words: &[u64]) -> [Card; 20]
 
 // Stores the cards in their words, as many as there are words for.
 fn store_row(words: &mut [u64], row: [Card; 20])
-    ensures { new words ≡ words_with (old words) (take (min (length (old words) / 4) 20) row) }
+    ensures { words.new ≡ words_with words.old (take (min (length words.old / 4) 20) row) }
 {
     let n = count(words.len());
     let mut i = 0usize;
@@ -86,7 +85,7 @@ fn put_row(
     sheet: &[u8],
 ) -> Outcome
     requires { n ≡ min (length words.old / 4) 20 }
-    ensures { ChangesIn (old words) (putting (label desk call boat) (old sheet)) (row_of (take n row) (old text)) (told_outcome result) (new words) (new text) }
+    ensures { ChangesIn words.old (putting (label desk call boat) sheet.now) (row_of (take n row) text.old) (told_outcome result) words.new text.new }
 {
     let mut cards = row;
     let answer = shelf::put(&mut cards[..n], text, desk, call, boat, sheet);
@@ -105,7 +104,7 @@ fn get_row(
     out: &mut [u8],
 ) -> Got
     requires { n ≤ 20 }
-    ensures { Gets (label desk call boat) (row_of (take n row) (old text)) (told_got result) (old out) (new out) }
+    ensures { Gets (label desk call boat) (row_of (take n row) text.now) (told_got result) out.old out.new }
 {
     let cards = row;
     shelf::get(&cards[..n], text, desk, call, boat, out)
@@ -122,7 +121,7 @@ fn drop_row(
     boat: u64,
 ) -> Outcome
     requires { n ≡ min (length words.old / 4) 20 }
-    ensures { ChangesIn (old words) (dropping (label desk call boat)) (row_of (take n row) (old text)) (told_outcome result) (new words) (new text) }
+    ensures { ChangesIn words.old (dropping (label desk call boat)) (row_of (take n row) text.old) (told_outcome result) words.new text.new }
 {
     let mut cards = row;
     let answer = shelf::drop(&mut cards[..n], text, desk, call, boat);
@@ -139,7 +138,7 @@ pub fn put(
     boat: u64,
     sheet: &[u8],
 ) -> Outcome
-    ensures { ChangesIn (old words) (putting (label desk call boat) (old sheet)) (row_of (take 20 (cards_of (old words))) (old text)) (told_outcome result) (new words) (new text) }
+    ensures { ChangesIn words.old (putting (label desk call boat) sheet.now) (row_of (take 20 (cards_of words.old)) text.old) (told_outcome result) words.new text.new }
 {
     let n = count(words.len());
     let row = load_row(words);
@@ -147,7 +146,7 @@ pub fn put(
 }
 
 pub fn get(words: &[u64], text: &[u8], desk: u64, call: u64, boat: u64, out: &mut [u8]) -> Got
-    ensures { Gets (label desk call boat) (row_of (take 20 (cards_of (old words))) (old text)) (told_got result) (old out) (new out) }
+    ensures { Gets (label desk call boat) (row_of (take 20 (cards_of words.now)) text.now) (told_got result) out.old out.new }
 {
     let n = count(words.len());
     let row = load_row(words);
@@ -155,7 +154,7 @@ pub fn get(words: &[u64], text: &[u8], desk: u64, call: u64, boat: u64, out: &mu
 }
 
 pub fn drop(words: &mut [u64], text: &mut [u8], desk: u64, call: u64, boat: u64) -> Outcome
-    ensures { ChangesIn (old words) (dropping (label desk call boat)) (row_of (take 20 (cards_of (old words))) (old text)) (told_outcome result) (new words) (new text) }
+    ensures { ChangesIn words.old (dropping (label desk call boat)) (row_of (take 20 (cards_of words.old)) text.old) (told_outcome result) words.new text.new }
 {
     let n = count(words.len());
     let row = load_row(words);

@@ -2,6 +2,8 @@
 //
 // The first word of a line is the question, and a single letter one of the command's. Most questions go on with the file's bytes in hex, the node words and the
 // item words to lend. The lent words are the first of tables that hold 7 in every word; the answer ends with ` stale` where a word that was not lent is no longer 7.
+#![tactic(auto)]
+
 mod cards;
 mod numbers;
 mod printed;
@@ -13,7 +15,6 @@ mod texts;
 mod written;
 
 ghost use Rattle.std.specs.Prelude.{◌≤◌, length};
-ghost use Rattle.room.specs.Moments.{old, new};
 
 use casetext::STALE;
 use libc::STDIN_FILENO;
@@ -97,7 +98,7 @@ fn run(line: &[u8]) {
 
 // Runs the cases of a text, and answers where the first line starts that has no end.
 fn run_lines(text: &[u8]) -> usize
-    ensures { result ≤ length (old text) }
+    ensures { result ≤ length text.now }
 {
     let mut at = 0;
     let mut end = casetext::find_mark(text, 0, b'\n');
@@ -112,7 +113,7 @@ fn run_lines(text: &[u8]) -> usize
 // Moves the bytes from `from` to `end` to the front, and answers how many they are.
 fn to_front(text: &mut [u8], from: usize, end: usize) -> usize
     requires { (from ≤ end) × (end ≤ length text.old) }
-    ensures { result ≤ length (new text) }
+    ensures { result ≤ length text.new }
 {
     let mut i = 0;
     while i < end - from {
@@ -125,7 +126,7 @@ fn to_front(text: &mut [u8], from: usize, end: usize) -> usize
 // Reads more behind the first bytes, runs what lines there are, and keeps the rest; answers how many bytes that is.
 fn run_more(text: &mut [u8], kept: usize) -> usize
     requires { kept ≤ length text.old }
-    ensures { result ≤ length (new text) }
+    ensures { result ≤ length text.new }
 {
     let end = kept + io::read_full(STDIN_FILENO, &mut text[kept..]);
     let at = run_lines(&text[0..end]);

@@ -1,10 +1,9 @@
 // Answers as text. An answer is words: refusal number (0: none), place, values.
 ghost use Rattle.std.specs.Prelude.{◌≡◌, not, eqb, get_or};
-ghost use Rattle.room.specs.Moments.{old};
 
 // A word of an answer, or 0 where it has none.
 pub fn word(said: &[u64], i: usize) -> u64
-    ensures { result ≡ get_or (old said) i 0 }
+    ensures { result ≡ get_or said.now i 0 }
 {
     if i < said.len() {
         return said[i];
@@ -14,7 +13,7 @@ pub fn word(said: &[u64], i: usize) -> u64
 
 // Whether it is a refusal.
 pub fn is_refusal(said: &[u64]) -> bool
-    ensures { result ≡ not (eqb (get_or (old said) 0 0) 0) }
+    ensures { result ≡ not (eqb (get_or said.now 0 0) 0) }
 {
     word(said, 0) != 0
 }

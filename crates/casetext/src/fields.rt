@@ -1,11 +1,10 @@
 // Lines of a text and fields of a line.
 ghost use Rattle.std.specs.Prelude.{◌≡◌, true, ℕ, ◌+◌, ◌≤◌, ◌<◌, length, get_or};
-ghost use Rattle.room.specs.Moments.{old};
 ghost use Rattle.casetext.specs.Text.{FirstMark};
 
 // The place of the first `mark` of `text` from `from` on, or the text's length where there is none.
 pub fn find_mark(text: &[u8], from: usize, mark: u8) -> usize
-    ensures { FirstMark (old text) from mark result }
+    ensures { FirstMark text.now from mark result }
 {
     let mut i = from;
     while i < text.len() {
@@ -19,8 +18,8 @@ pub fn find_mark(text: &[u8], from: usize, mark: u8) -> usize
 
 // The place after a mark at `end`, or the text's length where `end` is not before it.
 fn after(text: &[u8], end: usize) -> usize
-    ensures within { result ≤ length (old text) }
-    ensures next { end < length (old text) → result ≡ end + 1 }
+    ensures within { result ≤ length text.now }
+    ensures next { end < length text.now → result ≡ end + 1 }
 {
     if end < text.len() {
         return end + 1;
@@ -30,7 +29,7 @@ fn after(text: &[u8], end: usize) -> usize
 
 // Where the part with this index, from 0, of a text starts, or the text's length where there are fewer parts; single marks separate the parts.
 pub fn part_start(text: &[u8], mark: u8, index: usize) -> usize
-    ensures { result ≤ length (old text) }
+    ensures { result ≤ length text.now }
 {
     let mut at = 0;
     let mut left = index;
@@ -43,7 +42,7 @@ pub fn part_start(text: &[u8], mark: u8, index: usize) -> usize
 
 // That part; no bytes where there are fewer parts.
 pub fn part(text: &[u8], mark: u8, index: usize) -> &[u8]
-    ensures within { length result.now ≤ length (old text) }
+    ensures within { length result.now ≤ length text.now }
     ensures unmarked { (k : ℕ) → k < length result.now → get_or result.now k 0 ≡ mark → ⊥ }
 {
     let start = part_start(text, mark, index);
@@ -53,7 +52,7 @@ pub fn part(text: &[u8], mark: u8, index: usize) -> &[u8]
 
 // The field with this index, from 0, of fields that single spaces separate; no bytes where there are fewer fields.
 pub fn field(line: &[u8], index: usize) -> &[u8]
-    ensures within { length result.now ≤ length (old line) }
+    ensures within { length result.now ≤ length line.now }
     ensures unmarked { (k : ℕ) → k < length result.now → get_or result.now k 0 ≡ 32 → ⊥ }
 {
     part(line, b' ', index)
@@ -61,8 +60,8 @@ pub fn field(line: &[u8], index: usize) -> &[u8]
 
 // Whether two texts are the same.
 pub fn is_same(one: &[u8], two: &[u8]) -> bool
-    ensures same { result ≡ true → old one ≡ old two }
-    ensures only { old one ≡ old two → result ≡ true }
+    ensures same { result ≡ true → one.now ≡ two.now }
+    ensures only { one.now ≡ two.now → result ≡ true }
 {
     if one.len() != two.len() {
         return false;

@@ -1,20 +1,19 @@
 // Numbers and bytes read from a field.
 ghost use Rattle.std.specs.Prelude.{◌≡◌, ◌≤◌};
-ghost use Rattle.room.specs.Moments.{old, new};
 ghost use Rattle.casetext.specs.Text.{digit_of, Spells, SpellsBytes};
 ghost use Rattle.io.specs.Counts.{IsPrefixLen};
 
 use crate::fields::field;
 
 // A number, and whether the field spells it; 0 where it spells none.
-#[derive(Drop)]
+#[derive(Clone, Copy)]
 pub struct Number {
     pub value: usize,
     pub right: bool,
 }
 
 // How many bytes were decoded, and whether they are all that the field spells.
-#[derive(Drop)]
+#[derive(Clone, Copy)]
 pub struct Decoded {
     pub count: usize,
     pub right: bool,
@@ -22,7 +21,7 @@ pub struct Decoded {
 
 // Reads a decimal number that a word holds.
 pub fn read_decimal(digits: &[u8]) -> Number
-    ensures { Spells (old digits) result.value result.right }
+    ensures { Spells digits.now result.value result.right }
 {
     let mut value: usize = 0;
     let mut i = 0;
@@ -76,7 +75,7 @@ fn digit(b: u8) -> u8
 
 // Decodes lower-case hex, two digits to a byte, into the start of `bytes`; a single `-` stands for no bytes.
 pub fn read_hex(digits: &[u8], bytes: &mut [u8]) -> Decoded
-    ensures { SpellsBytes (old digits) (new bytes) result.count result.right }
+    ensures { SpellsBytes digits.now bytes.new result.count result.right }
 {
     if digits.len() == 1 {
         return Decoded {
@@ -129,7 +128,7 @@ pub fn read_number(line: &[u8], index: usize, most: usize) -> usize
 
 // Decodes the field with this index into the start of `bytes`, and answers how many there are; 0 where it spells none, or more than have room.
 pub fn read_bytes(line: &[u8], index: usize, bytes: &mut [u8]) -> usize
-    ensures { IsPrefixLen result (new bytes) }
+    ensures { IsPrefixLen result bytes.new }
 {
     let decoded = read_hex(field(line, index), bytes);
     if decoded.right {

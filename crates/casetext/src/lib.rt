@@ -1,6 +1,8 @@
 // The text of test cases: fields of a line, numbers and bytes read from a field, words and texts compared, answers put into a buffer.
 //
 // A case is a line: a word for the question, and fields with single spaces between them. No function here has a `requires`.
+#![tactic(auto)]
+
 mod buffers;
 mod fields;
 mod input;

@@ -1,21 +1,20 @@
 // Answers put into a buffer: each function puts its text from `at` on and answers the place after it; what does not fit is left out.
 ghost use Rattle.std.specs.Prelude.{◌≡◌, ◌+◌, ◌≤◌, ◌<◌, min, ◌∷◌, [], length, set};
-ghost use Rattle.room.specs.Moments.{old, new};
 ghost use Rattle.casetext.specs.Text.{Ends, Puts, digit_of};
 
 use libc::STDOUT_FILENO;
 
 // Where text can be put: `at`, or the buffer's length where `at` is past it.
 fn start(out: &[u8], at: usize) -> usize
-    ensures { result ≡ min at (length (old out)) }
+    ensures { result ≡ min at (length out.now) }
 {
     if at < out.len() { at } else { out.len() }
 }
 
 // Puts one byte.
 pub fn put_byte(out: &mut [u8], at: usize, byte: u8) -> usize
-    ensures ends { Ends (new out) at result }
-    ensures wrote { Puts (old out) (new out) at (byte ∷ []) result }
+    ensures ends { Ends out.new at result }
+    ensures wrote { Puts out.old out.new at (byte ∷ []) result }
 {
     if at < out.len() {
         out[at] = byte;
@@ -26,8 +25,8 @@ pub fn put_byte(out: &mut [u8], at: usize, byte: u8) -> usize
 
 // Puts some bytes.
 pub fn put(out: &mut [u8], at: usize, bytes: &[u8]) -> usize
-    ensures ends { Ends (new out) at result }
-    ensures wrote { Puts (old out) (new out) at (old bytes) result }
+    ensures ends { Ends out.new at result }
+    ensures wrote { Puts out.old out.new at bytes.now result }
 {
     let mut end = start(out, at);
     let mut i = 0;
@@ -40,7 +39,7 @@ pub fn put(out: &mut [u8], at: usize, bytes: &[u8]) -> usize
 
 // Puts a number in decimal.
 pub fn put_decimal(out: &mut [u8], at: usize, n: u64) -> usize
-    ensures { Ends (new out) at result }
+    ensures { Ends out.new at result }
 {
     let mut digits = [0u8; 20];
     let k = io::decimal(n, &mut digits);
@@ -49,7 +48,7 @@ pub fn put_decimal(out: &mut [u8], at: usize, n: u64) -> usize
 
 // Puts a space and a number in decimal.
 pub fn put_spaced(out: &mut [u8], at: usize, n: u64) -> usize
-    ensures { Ends (new out) at result }
+    ensures { Ends out.new at result }
 {
     let end = put_byte(out, at, b' ');
     put_decimal(out, end, n)
@@ -57,7 +56,7 @@ pub fn put_spaced(out: &mut [u8], at: usize, n: u64) -> usize
 
 // Puts `mark` before each part but the first, which has index 0.
 fn put_mark(out: &mut [u8], at: usize, mark: u8, index: usize) -> usize
-    ensures { Ends (new out) at result }
+    ensures { Ends out.new at result }
 {
     if index == 0 {
         return put(out, at, &[]);
@@ -67,7 +66,7 @@ fn put_mark(out: &mut [u8], at: usize, mark: u8, index: usize) -> usize
 
 // Puts words in decimal, with `mark` between them.
 pub fn put_words(out: &mut [u8], at: usize, words: &[u64], mark: u8) -> usize
-    ensures { Ends (new out) at result }
+    ensures { Ends out.new at result }
 {
     let mut end = start(out, at);
     let mut i = 0;
@@ -104,7 +103,7 @@ pub fn put_rows(
     mark: u8,
     comma: u8,
 ) -> usize
-    ensures { Ends (new out) at result }
+    ensures { Ends out.new at result }
 {
     let mut end = start(out, at);
     let mut i = 0;
@@ -132,7 +131,7 @@ fn glyph(d: u8) -> u8
 
 // Puts bytes in lower-case hex, or `-` where there are none.
 pub fn put_hex(out: &mut [u8], at: usize, bytes: &[u8]) -> usize
-    ensures { Ends (new out) at result }
+    ensures { Ends out.new at result }
 {
     if bytes.len() == 0 {
         return put_byte(out, at, b'-');
@@ -150,7 +149,7 @@ pub fn put_hex(out: &mut [u8], at: usize, bytes: &[u8]) -> usize
 
 // Puts a refusal, as `R NUMBER PLACE`.
 pub fn put_refusal(out: &mut [u8], at: usize, number: u64, place: usize) -> usize
-    ensures { Ends (new out) at result }
+    ensures { Ends out.new at result }
 {
     let mut end = put_byte(out, at, b'R');
     end = put_spaced(out, end, number);
@@ -159,7 +158,7 @@ pub fn put_refusal(out: &mut [u8], at: usize, number: u64, place: usize) -> usiz
 
 // Puts a line end, if there is room for it, and writes the line to standard output; answers whether all of it was written.
 pub fn write_line(out: &mut [u8], at: usize) -> bool
-    ensures { new out ≡ set (old out) at 0x0a }
+    ensures { out.new ≡ set out.old at 0x0a }
 {
     if at < out.len() {
         out[at] = b'\n';

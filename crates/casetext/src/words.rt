@@ -1,11 +1,10 @@
 // Words of lent tables, looked at after a call.
 ghost use Rattle.std.specs.Prelude.{◌≡◌, true, ℕ, ◌*◌, ◌≤◌, ◌<◌, length, get_or};
-ghost use Rattle.room.specs.Moments.{old};
 
 // Whether every word is `value`.
 pub fn is_all(words: &[u64], value: u64) -> bool
-    ensures all { result ≡ true → (k : ℕ) → k < length (old words) → get_or (old words) k 0 ≡ value }
-    ensures only { ((k : ℕ) → k < length (old words) → get_or (old words) k 0 ≡ value) → result ≡ true }
+    ensures all { result ≡ true → (k : ℕ) → k < length words.now → get_or words.now k 0 ≡ value }
+    ensures only { ((k : ℕ) → k < length words.now → get_or words.now k 0 ≡ value) → result ≡ true }
 {
     let mut i = 0;
     while i < words.len() {

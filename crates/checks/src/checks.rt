@@ -1,6 +1,5 @@
 // Whether a file is accepted.
 ghost use Rattle.std.specs.Prelude.{length};
-ghost use Rattle.room.specs.Moments.{old, new};
 ghost use Rattle.room.specs.Counts.{Counts};
 ghost use Rattle.lines.specs.Answer.{Gives};
 ghost use Rattle.checks.specs.Checked.{ok_line, check_answer};
@@ -10,7 +9,7 @@ use lines::{Made, conclude, put_end, refuse};
 
 // Puts the line of an accepted file: its version and its length.
 fn put_ok(out: &mut [u8], tail: &[u8], version: u64, size: usize) -> usize
-    ensures { Counts (old out) (new out) 0 (ok_line (old tail) version size) result }
+    ensures { Counts out.old out.new 0 (ok_line tail.now version size) result }
 {
     let a = room::put_bytes(out, 0, b"ok\t");
     let b = text::put_version(out, a, version);
@@ -19,7 +18,7 @@ fn put_ok(out: &mut [u8], tail: &[u8], version: u64, size: usize) -> usize
 }
 
 pub fn make_check(file: &[u8], tail: &[u8], text: &mut [u8]) -> Made
-    ensures { Gives (length (old text)) result (new text) (check_answer (length (old text)) (old tail) (old file)) }
+    ensures { Gives (length text.old) result text.new (check_answer (length text.old) tail.now file.now) }
 {
     let mut nodes = program::node_table();
     let mut items = program::item_table();

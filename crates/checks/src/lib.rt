@@ -1,4 +1,6 @@
 // Whether a file is accepted, and whether it is Mobile XMF.
+#![tactic(auto)]
+
 mod checks;
 mod verdicts;
 

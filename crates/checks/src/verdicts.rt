@@ -1,6 +1,5 @@
 // Whether a file is Mobile XMF.
 ghost use Rattle.std.specs.Prelude.{◌≡◌, length};
-ghost use Rattle.room.specs.Moments.{old, new};
 ghost use Rattle.room.specs.Counts.{Counts};
 ghost use Rattle.lines.specs.Answer.{Gives};
 ghost use Rattle.checks.specs.Checked.{verdict_line, verdict_status, verdict_answer};
@@ -10,7 +9,7 @@ use mobile::Judged;
 
 // Puts the line of a verdict.
 fn put_verdict(out: &mut [u8], tail: &[u8], verdict: u64) -> usize
-    ensures { Counts (old out) (new out) 0 (verdict_line (old tail) verdict) result }
+    ensures { Counts out.old out.new 0 (verdict_line tail.now verdict) result }
 {
     let a = room::put_byte(out, 0, b'V');
     let b = text::put_number(out, a, verdict);
@@ -28,7 +27,7 @@ fn verdict_status(verdict: u64) -> u64
 }
 
 pub fn make_verdict(file: &[u8], tail: &[u8], text: &mut [u8]) -> Made
-    ensures { Gives (length (old text)) result (new text) (verdict_answer (length (old text)) (old tail) (old file)) }
+    ensures { Gives (length text.old) result text.new (verdict_answer (length text.old) tail.now file.now) }
 {
     let mut nodes = program::node_table();
     let mut items = program::item_table();

@@ -1,4 +1,6 @@
 // The words that the program was started with, and what it says: answers on standard output, messages on standard error.
+#![tactic(auto)]
+
 mod arguments;
 mod messages;
 

@@ -1,4 +1,6 @@
 // A file with another title, or with other data in an item row.
+#![tactic(auto)]
+
 ghost use Rattle.std.specs.Prelude.{◌≡◌, length};
 
 use answers::Asked;

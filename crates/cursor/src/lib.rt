@@ -1,7 +1,8 @@
 // Places, the cursor, and the fields that everything is made of: numbers, a length with its block, manufacturers, GUIDs.
+#![tactic(auto)]
+
 ghost use Rattle.std.specs.Prelude.{◌≡◌, ◌≤◌, ◌<◌, ◌^◌, ◌+◌, length};
 ghost use Rattle.machine.specs.Machine.{run};
-ghost use Rattle.room.specs.Moments.{old};
 ghost use Rattle.cursor.specs.Rows.{Frame};
 ghost use Rattle.cursor.specs.Leaves.{number, block, manufacturer, guid};
 ghost use Rattle.cursor.specs.Told.{ByteTold, number_told, pass_told};
@@ -97,35 +98,35 @@ pub const MOST_ITEMS: usize = 1024;
 pub const MOST_DEPTH: usize = 16;
 
 // A place counted from the file's first byte.
-#[derive(Drop)]
+#[derive(Clone, Copy)]
 pub struct FilePlace(pub usize);
 
 // A place counted from a node's first byte.
-#[derive(Drop)]
+#[derive(Clone, Copy)]
 pub struct NodePlace(pub usize);
 
 // Where reading goes on.
-#[derive(Drop)]
+#[derive(Clone, Copy)]
 pub struct Cursor {
     pub at: FilePlace,
 }
 
 // A number and the cursor after it, or a refusal with its place.
-#[derive(Drop)]
+#[derive(Clone, Copy)]
 pub enum Numbered {
     Is(u64, Cursor),
     Refused(u64, FilePlace),
 }
 
 // A byte and the cursor after it.
-#[derive(Drop)]
+#[derive(Clone, Copy)]
 pub struct Byte {
     pub value: u64,
     pub next: Cursor,
 }
 
 // The cursor after a field whose value is not kept, or a refusal with its place.
-#[derive(Drop)]
+#[derive(Clone, Copy)]
 pub enum Passed {
     To(Cursor),
     Refused(u64, FilePlace),
@@ -133,7 +134,7 @@ pub enum Passed {
 
 // A row of the node table (01, Rows; 02, E3), in the order of its words. `contained` is the number of contained items, `unpackers` the unpackers' place,
 // `rows` the item row count.
-#[derive(Drop)]
+#[derive(Clone, Copy)]
 pub struct Node {
     pub start: u64,
     pub size: u64,
@@ -152,7 +153,7 @@ pub struct Node {
 
 // A row of the item table (01, Rows), in the order of its ten words: one for each universal content or version. `declared` is
 // 01's type, `nameLength` the name's length.
-#[derive(Drop)]
+#[derive(Clone, Copy)]
 pub struct Item {
     pub node: u64,
     pub item: u64,
@@ -187,7 +188,7 @@ impl Cursor {
     // The byte here. One below 80h is the whole number.
     pub fn byte(self, file: &[u8]) -> Byte
         requires { self.at.0 < length file.now }
-        ensures { ByteTold result (old file) self.at.0 }
+        ensures { ByteTold result file.now self.at.0 }
     {
         let at = self.at.0;
         let value = wide(file[at]);
@@ -198,7 +199,7 @@ impl Cursor {
     // The number here, in a part that ends at `end`; `past` is the refusal of one that runs past it.
     pub fn number(self, file: &[u8], end: FilePlace, past: u64) -> Numbered
         requires { end.0 ≤ length file.now }
-        ensures { (κ : Frame) → number_told result ≡ run (number κ past end.0) (old file) self.at.0 }
+        ensures { (κ : Frame) → number_told result ≡ run (number κ past end.0) file.now self.at.0 }
     {
         let start = self.at;
         let stop = end.0;
@@ -245,7 +246,7 @@ impl Cursor {
     // The length here, with the block that it counts; the cursor is then at the block.
     pub fn block(self, file: &[u8], end: FilePlace, past: u64) -> Numbered
         requires { end.0 ≤ length file.now }
-        ensures { (κ : Frame) → number_told result ≡ run (block κ past end.0) (old file) self.at.0 }
+        ensures { (κ : Frame) → number_told result ≡ run (block κ past end.0) file.now self.at.0 }
     {
         let place = self.at;
         match self.number(file, end, past) {
@@ -263,7 +264,7 @@ impl Cursor {
     // The manufacturer here: one byte, or three when the first is 0.
     pub fn manufacturer(self, file: &[u8], end: FilePlace) -> Passed
         requires { end.0 ≤ length file.now }
-        ensures { (κ : Frame) → pass_told result ≡ run (manufacturer κ end.0) (old file) self.at.0 }
+        ensures { (κ : Frame) → pass_told result ≡ run (manufacturer κ end.0) file.now self.at.0 }
     {
         let place = self.at;
         let at = place.0;
@@ -287,7 +288,7 @@ impl Cursor {
     // The GUID here: 1 to 19 bytes, ended by the first below 80h.
     pub fn guid(self, file: &[u8], end: FilePlace) -> Passed
         requires { end.0 ≤ length file.now }
-        ensures { (κ : Frame) → pass_told result ≡ run (guid κ end.0) (old file) self.at.0 }
+        ensures { (κ : Frame) → pass_told result ≡ run (guid κ end.0) file.now self.at.0 }
     {
         let start = self.at;
         let stop = end.0;

@@ -1,7 +1,8 @@
 // What the tune needs: reads a content description, which is the data of field 13, whole, and gives its count for a channel and a resource.
+#![tactic(auto)]
+
 ghost use Rattle.std.specs.Prelude.{◌≡◌, ◌≤◌, ◌<◌, ◌^◌, ◌*◌, ◌+◌, length};
 ghost use Rattle.machine.specs.Machine.{run, times};
-ghost use Rattle.room.specs.Moments.{old, new};
 ghost use Rattle.cursor.specs.Told.{number_told, pass_told};
 ghost use Rattle.rows.specs.Rows.{items_in, ItemIn, ItemRows};
 ghost use Rattle.file.specs.Asking.{answered, nodes_left, items_left};
@@ -14,7 +15,7 @@ use cursor::{Cursor, FilePlace, Item, Numbered, Passed};
 use file::Read;
 
 // The count; or a refusal, as number and place.
-#[derive(Drop)]
+#[derive(Clone, Copy)]
 pub enum Counted {
     Count(u64),
     Refused(u64, usize),
@@ -23,7 +24,7 @@ pub enum Counted {
 // A number whose value is not kept.
 fn read_value(c: Cursor, file: &[u8], end: FilePlace) -> Passed
     requires { end.0 ≤ length file.now }
-    ensures { pass_told result ≡ run (value end.0) (old file) c.at.0 }
+    ensures { pass_told result ≡ run (value end.0) file.now c.at.0 }
 {
     match c.number(file, end, cursor::CUT_SHORT) {
         Numbered::Refused(n, p) => Passed::Refused(n, p),
@@ -34,7 +35,7 @@ fn read_value(c: Cursor, file: &[u8], end: FilePlace) -> Passed
 // A GUID: sixteen plain bytes.
 fn read_guid(c: Cursor, file: &[u8], end: FilePlace) -> Passed
     requires { end.0 ≤ length file.now }
-    ensures { pass_told result ≡ run (guid end.0) (old file) c.at.0 }
+    ensures { pass_told result ≡ run (guid end.0) file.now c.at.0 }
 {
     let place = c.at;
     let at = place.0;
@@ -52,7 +53,7 @@ fn read_guid(c: Cursor, file: &[u8], end: FilePlace) -> Passed
 // What names a resource of the kind.
 fn read_identifier(c: Cursor, file: &[u8], kind: u64, end: FilePlace) -> Passed
     requires { end.0 ≤ length file.now }
-    ensures { pass_told result ≡ run (identifier kind end.0) (old file) c.at.0 }
+    ensures { pass_told result ≡ run (identifier kind end.0) file.now c.at.0 }
 {
     if kind == 3 {
         return read_guid(c, file, end);
@@ -72,7 +73,7 @@ fn read_identifier(c: Cursor, file: &[u8], kind: u64, end: FilePlace) -> Passed
 // A resource: its kind, and what names it.
 fn read_resource(c: Cursor, file: &[u8], end: FilePlace) -> Passed
     requires { end.0 ≤ length file.now }
-    ensures { pass_told result ≡ run (resource end.0) (old file) c.at.0 }
+    ensures { pass_told result ≡ run (resource end.0) file.now c.at.0 }
 {
     let place = c.at;
     match c.number(file, end, cursor::CUT_SHORT) {
@@ -89,7 +90,7 @@ fn read_resource(c: Cursor, file: &[u8], end: FilePlace) -> Passed
 // `count` resources.
 fn read_resources(c: Cursor, file: &[u8], end: FilePlace, count: u64) -> Passed
     requires { end.0 ≤ length file.now }
-    ensures { pass_told result ≡ run (times count (λ _. resource end.0) tt) (old file) c.at.0 }
+    ensures { pass_told result ≡ run (times count (λ _. resource end.0) tt) file.now c.at.0 }
 {
     let mut next = c;
     let mut left = count;
@@ -106,7 +107,7 @@ fn read_resources(c: Cursor, file: &[u8], end: FilePlace, count: u64) -> Passed
 // `count` numbers, of which the one at `index` is kept.
 fn read_numbers(c: Cursor, file: &[u8], end: FilePlace, count: u64, index: u64) -> Numbered
     requires { end.0 ≤ length file.now }
-    ensures { number_told result ≡ picked index (run (numbers count end.0) (old file) c.at.0) }
+    ensures { number_told result ≡ picked index (run (numbers count end.0) file.now c.at.0) }
 {
     let mut next = c;
     let mut i = 0;
@@ -129,7 +130,7 @@ fn read_numbers(c: Cursor, file: &[u8], end: FilePlace, count: u64, index: u64) 
 // The resource list and the group list.
 pub fn read_lists(c: Cursor, file: &[u8], end: FilePlace, resources: u64) -> Passed
     requires { end.0 ≤ length file.now }
-    ensures { pass_told result ≡ run (lists resources end.0) (old file) c.at.0 }
+    ensures { pass_told result ≡ run (lists resources end.0) file.now c.at.0 }
 {
     match read_resources(c, file, end, resources) {
         Passed::Refused(n, p) => Passed::Refused(n, p),
@@ -165,7 +166,7 @@ fn read_table(
     resource: u64,
 ) -> Counted
     requires { (end.0 ≤ length file.now) × (channels < 2 ^ 28) × (resources < 2 ^ 28) }
-    ensures { told result ≡ count_of channel resource (run (table channels resources end.0) (old file) c.at.0) }
+    ensures { told result ≡ count_of channel resource (run (table channels resources end.0) file.now c.at.0) }
 {
     let index = index_of(channels, resources, channel, resource);
     match read_numbers(c, file, end, channels * resources, index) {
@@ -189,7 +190,7 @@ fn read_table(
 // The whole item, which is `size` bytes from `place` on: the count of a channel and a resource.
 fn count_of(file: &[u8], place: usize, size: usize, channel: u64, resource: u64) -> Counted
     requires { place + size ≤ length file.now }
-    ensures { told result ≡ count_of channel resource (run (description (place + size)) (old file) place) }
+    ensures { told result ≡ count_of channel resource (run (description (place + size)) file.now place) }
 {
     let end = FilePlace(place + size);
     let c = Cursor {
@@ -215,7 +216,7 @@ fn count_of(file: &[u8], place: usize, size: usize, channel: u64, resource: u64)
 // Whether the row's data, which lies in the file, is readable.
 pub fn is_readable(file: &[u8], row: Item) -> bool
     requires { ItemIn (length file.now) row }
-    ensures { result ≡ is_readable (old file) row }
+    ensures { result ≡ is_readable file.now row }
 {
     match count_of(file, row.place as usize, row.size as usize, 0, 0) {
         Counted::Count(_) => true,
@@ -249,7 +250,7 @@ pub fn is_binary(row: Item) -> bool
 // The answer for a row whose data lies in the file.
 pub fn count_in(file: &[u8], row: Item, channel: u64, resource: u64) -> Counted
     requires { ItemIn (length file.now) row }
-    ensures { told result ≡ count_in (old file) channel resource row }
+    ensures { told result ≡ count_in file.now channel resource row }
 {
     if !is_field(row, 13) {
         return Counted::Refused(cursor::NO_SUCH_ITEM, 0);
@@ -276,7 +277,7 @@ fn count_row(
     resource: u64,
 ) -> Counted
     requires { ItemRows (length file.now) count items.now }
-    ensures { told result ≡ count_row (old file) row channel resource (items_in count (old items)) }
+    ensures { told result ≡ count_row file.now row channel resource (items_in count items.now) }
 {
     if count <= row {
         return Counted::Refused(cursor::NO_SUCH_ROW, 0);
@@ -293,9 +294,9 @@ pub fn count_for(
     channel: u64,
     resource: u64,
 ) -> Counted
-    ensures answer { told result ≡ answered (old nodes) (old items) (old file) (count_for item_row channel resource) }
-    ensures nodes { new nodes ≡ nodes_left (old nodes) (old items) (old file) (count_for item_row channel resource) }
-    ensures items { new items ≡ items_left (old nodes) (old items) (old file) (count_for item_row channel resource) }
+    ensures answer { told result ≡ answered nodes.old items.old file.now (count_for item_row channel resource) }
+    ensures nodes { nodes.new ≡ nodes_left nodes.old items.old file.now (count_for item_row channel resource) }
+    ensures items { items.new ≡ items_left nodes.old items.old file.now (count_for item_row channel resource) }
 {
     match file::read_file(file, nodes, items) {
         Read::Refused(n, p) => Counted::Refused(n, p.0),

@@ -1,7 +1,8 @@
 // The two editions of a sheet: judges whether a sheet is well formed, line by line.
+#![tactic(auto)]
+
 ghost use Rattle.std.specs.Prelude.{◌≡◌, cond, ◌≤◌, ◌<◌, ◌+◌, ◌-◌, ◌^◌, length, drop, replicate};
 ghost use Rattle.std.proofs.Math.Seq.{slice};
-ghost use Rattle.room.specs.Moments.{old};
 ghost use Rattle.room.specs.Room.{good, bad};
 ghost use Rattle.text.specs.Text.{hex_digits};
 ghost use Rattle.editions.specs.Sheets.{parted, lead, is_number, nibble, is_escape, itself, is_text, is_version, fits, word, kind, stands, after, start, judge};
@@ -12,7 +13,7 @@ ghost use Rattle.editions.specs.Told.{NumberAt, NameAt, line_told, WordAt, LeadA
 const NONE: u64 = 0x10000000;
 
 // Nodes and items so far; no item may be of an earlier node than the least.
-#[derive(Drop)]
+#[derive(Clone, Copy)]
 pub struct State {
     pub nodes: u64,
     pub items: u64,
@@ -20,21 +21,21 @@ pub struct State {
 }
 
 // A number and where the next field begins.
-#[derive(Drop)]
+#[derive(Clone, Copy)]
 pub enum Found {
     Is(u64, usize),
     No,
 }
 
 // Where the next field begins.
-#[derive(Drop)]
+#[derive(Clone, Copy)]
 enum Passed {
     To(usize),
     No,
 }
 
 // A node's line with its row, an item's line with its node.
-#[derive(Drop)]
+#[derive(Clone, Copy)]
 enum Line {
     Node(u64),
     Item(u64),
@@ -42,7 +43,7 @@ enum Line {
 }
 
 // The first word of a sheet: which edition it is of.
-#[derive(Drop)]
+#[derive(Clone, Copy)]
 enum Word {
     First,
     Second,
@@ -50,28 +51,28 @@ enum Word {
 }
 
 // The first line: whether it is of the second edition, its counts of nodes and items.
-#[derive(Drop)]
+#[derive(Clone, Copy)]
 enum Lead {
     Is(bool, u64, u64),
     No,
 }
 
 // The state after a line.
-#[derive(Drop)]
+#[derive(Clone, Copy)]
 enum Stepped {
     To(State),
     No,
 }
 
 // The state after all lines; or the number of the line that cannot stand.
-#[derive(Drop)]
+#[derive(Clone, Copy)]
 enum Body {
     Is(State),
     Bad(usize),
 }
 
 // Whether a well-formed sheet is of the second edition, and where its first line ends; or the number of the line that cannot stand.
-#[derive(Drop)]
+#[derive(Clone, Copy)]
 pub enum Judged {
     Is(bool, usize),
     Bad(usize),
@@ -82,7 +83,7 @@ pub enum Judged {
 // The end of the piece that begins at `at`: the place of the next byte c, or the end.
 pub fn piece_end(text: &[u8], at: usize, c: u8) -> usize
     requires { at ≤ length text.now }
-    ensures { (result ≤ length (old text)) × (result ≡ at + length (lead (parted c (drop at (old text))))) }
+    ensures { (result ≤ length text.now) × (result ≡ at + length (lead (parted c (drop at text.now)))) }
 {
     let mut i = at;
     while i < text.len() {
@@ -97,7 +98,7 @@ pub fn piece_end(text: &[u8], at: usize, c: u8) -> usize
 // The number of a field in 01's spelling, or NONE.
 fn read_number(line: &[u8], from: usize, end: usize) -> u64
     requires { (from ≤ end) × (end ≤ length line.now) }
-    ensures { result ≡ number_of (slice from end (old line)) }
+    ensures { result ≡ number_of (slice from end line.now) }
 {
     if end <= from {
         return NONE;
@@ -130,7 +131,7 @@ fn read_number(line: &[u8], from: usize, end: usize) -> u64
 // The number at a place, with another field behind it.
 pub fn number_field(line: &[u8], at: usize) -> Found
     requires { at ≤ length line.now }
-    ensures { NumberAt (old line) at result }
+    ensures { NumberAt line.now at result }
 {
     let end = piece_end(line, at, 0x09);
     if line.len() <= end {
@@ -146,7 +147,7 @@ pub fn number_field(line: &[u8], at: usize) -> Found
 // Whether `count` numbers, and nothing more, stand from a place on.
 fn are_numbers(line: &[u8], at: usize, count: usize) -> bool
     requires { (at ≤ length line.now) × (0 < count) }
-    ensures { result ≡ fits (replicate count is_number) (fields_at (old line) at) }
+    ensures { result ≡ fits (replicate count is_number) (fields_at line.now at) }
 {
     let mut from = at;
     let mut left = count;
@@ -167,7 +168,7 @@ fn are_numbers(line: &[u8], at: usize, count: usize) -> bool
 // The letter at a place, with a tab behind it; 0 where there is none.
 pub fn letter(line: &[u8], at: usize) -> u8
     requires { at ≤ length line.now }
-    ensures { LetterIs (old line) at result }
+    ensures { LetterIs line.now at result }
 {
     if line.len() - at < 2 {
         return 0;
@@ -228,7 +229,7 @@ fn is_itself(b: u8, two: bool) -> bool
 // Whether a field is a text in 01's spelling; `two`: of format 2.
 fn is_text(line: &[u8], from: usize, end: usize, two: bool) -> bool
     requires { (from ≤ end) × (end ≤ length line.now) }
-    ensures { result ≡ is_text two (slice from end (old line)) }
+    ensures { result ≡ is_text two (slice from end line.now) }
 {
     let hex = text::hex_digits();
     let mut i = from;
@@ -255,7 +256,7 @@ fn is_text(line: &[u8], from: usize, end: usize, two: bool) -> bool
 // The name at a place, with another field behind it.
 fn name_field(line: &[u8], at: usize) -> Passed
     requires { at ≤ length line.now }
-    ensures { NameAt (old line) at result }
+    ensures { NameAt line.now at result }
 {
     let end = piece_end(line, at, 0x09);
     if line.len() <= end {
@@ -275,7 +276,7 @@ fn name_field(line: &[u8], at: usize) -> Passed
 // Whether version, format and text, and nothing more, stand from a place on.
 fn is_tail(line: &[u8], at: usize) -> bool
     requires { at ≤ length line.now }
-    ensures { result ≡ is_tail (fields_at (old line) at) }
+    ensures { result ≡ is_tail (fields_at line.now at) }
 {
     match number_field(line, at) {
         Found::No => false,
@@ -298,7 +299,7 @@ fn is_tail(line: &[u8], at: usize) -> bool
 // The same, with the label before them: `S` and a number, or `C` and a name.
 fn is_labelled(line: &[u8], at: usize) -> bool
     requires { at ≤ length line.now }
-    ensures { result ≡ is_labelled (fields_at (old line) at) }
+    ensures { result ≡ is_labelled (fields_at line.now at) }
 {
     let b = letter(line, at);
     if b == b'S' {
@@ -318,7 +319,7 @@ fn is_labelled(line: &[u8], at: usize) -> bool
 
 // What a line is.
 fn read_line(line: &[u8]) -> Line
-    ensures { line_told result ≡ kind (old line) }
+    ensures { line_told result ≡ kind line.now }
 {
     let b = letter(line, 0);
     if b == b'N' {
@@ -351,7 +352,7 @@ fn read_line(line: &[u8]) -> Line
 // Whether a field is one of the three versions.
 fn is_version(line: &[u8], from: usize, end: usize) -> bool
     requires { (from ≤ end) × (end ≤ length line.now) }
-    ensures { result ≡ is_version (slice from end (old line)) }
+    ensures { result ≡ is_version (slice from end line.now) }
 {
     if end - from != 4 {
         return false;
@@ -376,7 +377,7 @@ fn is_version(line: &[u8], from: usize, end: usize) -> bool
 
 // The first word, with a field behind it.
 fn read_word(line: &[u8]) -> Word
-    ensures { WordAt (old line) result }
+    ensures { WordAt line.now result }
 {
     if line.len() < 4 {
         return Word::No;
@@ -408,7 +409,7 @@ fn read_word(line: &[u8]) -> Word
 // The rest of the first line, behind the edition's word: version, length, and the counts of nodes and items.
 fn read_counts(line: &[u8], at: usize, second: bool) -> Lead
     requires { FieldIs line.now 0 (word second) at }
-    ensures { LeadAt (old line) result }
+    ensures { LeadAt line.now result }
 {
     let end = piece_end(line, at, 0x09);
     if line.len() <= end {
@@ -438,7 +439,7 @@ fn read_counts(line: &[u8], at: usize, second: bool) -> Lead
 
 // The first line.
 fn read_first(line: &[u8]) -> Lead
-    ensures { LeadAt (old line) result }
+    ensures { LeadAt line.now result }
 {
     match read_word(line) {
         Word::No => Lead::No,
@@ -495,7 +496,7 @@ fn step(second: bool, t: State, line: Line) -> Stepped
 // Judges the lines from a place on, the second one first.
 fn judge_body(sheet: &[u8], from: usize, second: bool) -> Body
     requires { from ≤ length sheet.now }
-    ensures { body_told result ≡ judge second start 2 (parted 0x0A (drop from (old sheet))) }
+    ensures { body_told result ≡ judge second start 2 (parted 0x0A (drop from sheet.now)) }
 {
     let mut t = State {
         nodes: 0,
@@ -522,7 +523,7 @@ fn judge_body(sheet: &[u8], from: usize, second: bool) -> Body
 
 // Judges a sheet.
 pub fn judge(sheet: &[u8]) -> Judged
-    ensures { JudgedAs (old sheet) result }
+    ensures { JudgedAs sheet.now result }
 {
     let stop = piece_end(sheet, 0, 0x0a);
     if sheet.len() <= stop {

@@ -1,6 +1,7 @@
 // Reads a file into two lent tables, one of node rows and one of item rows: its tree, and the nodes that references 3 lead to.
+#![tactic(auto)]
+
 ghost use Rattle.std.specs.Prelude.{◌≡◌, ◌≤◌, ◌<◌, ◌^◌, ◌*◌, ◌+◌, length};
-ghost use Rattle.room.specs.Moments.{old, new};
 ghost use Rattle.header.specs.Told.{header_of};
 ghost use Rattle.rows.specs.Rows.{nodes_of, node_at};
 ghost use Rattle.metadata.specs.Tables.{limits};
@@ -16,7 +17,7 @@ use node::Bounds;
 use targets::Span;
 
 // What is kept of an accepted file besides its rows: where its header ends, how many rows there are, and how many of the node rows are the tree's.
-#[derive(Drop)]
+#[derive(Clone, Copy)]
 pub struct Summary {
     pub version: u64,
     pub edition: Edition,
@@ -26,14 +27,14 @@ pub struct Summary {
     pub items: usize,
 }
 
-#[derive(Drop)]
+#[derive(Clone, Copy)]
 pub enum Read {
     Is(Summary),
     Refused(u64, FilePlace),
 }
 
 // The first question's answer: version (100, 101, 200), number of node rows, number of item rows; or the refusal's number and place.
-#[derive(Drop)]
+#[derive(Clone, Copy)]
 pub enum Answer {
     Tree(u64, usize, usize),
     Refused(u64, usize),
@@ -58,7 +59,7 @@ fn read_root(
     lim: Limits,
 ) -> Walked
     requires { Lent h lim file.now types.now nodes.old items.old }
-    ensures { Gives lim result (new nodes) (new items) (tree_run h lim (old types) (old file) (old nodes) (old items)) }
+    ensures { Gives lim result nodes.new items.new (tree_run h lim types.now file.now nodes.old items.old) }
 {
     let extent = h.extent;
     let start = extent.start;
@@ -107,8 +108,8 @@ fn follow_row(
     span: Span,
 ) -> Walked
     requires { CanFollow h lim file.now types.now nodes.old items.old tree i made span }
-    ensures { Follows lim (old file) tree made (old nodes) (old items) (new nodes) (new items) result
-        (λ log. follow_row lim (old file) (header_of h (old types)) log (node_at (nodes_of log) i)) }
+    ensures { Follows lim file.now tree made nodes.old items.old nodes.new items.new result
+        (λ log. follow_row lim file.now (header_of h types.now) log (node_at (nodes_of log) i)) }
 {
     let here = Cursor { at: FilePlace(0) };
     let row = rows::node_at(nodes, i);
@@ -167,8 +168,8 @@ fn follow_all(
     made: Made,
 ) -> Walked
     requires { Lent h lim file.now types.now nodes.old items.old × Stand lim (length file.now) made.nodes nodes.old items.old made }
-    ensures { Follows lim (old file) made.nodes made (old nodes) (old items) (new nodes) (new items) result
-        (λ log. follow lim.nodes lim (old file) (header_of h (old types)) 0 (good log)) }
+    ensures { Follows lim file.now made.nodes made nodes.old items.old nodes.new items.new result
+        (λ log. follow lim.nodes lim file.now (header_of h types.now) 0 (good log)) }
 {
     let mut m = made;
     let mut i = 0;
@@ -199,9 +200,9 @@ pub fn read_behind(
     h: Header,
 ) -> Read
     requires { (h.extent.start.0 ≤ h.extent.last.0) × (h.extent.last.0 < length file.now) × (length file.now < 2 ^ 28) × (h.types * 2 ≤ length types.now) }
-    ensures answer { result ≡ read_of (reads_behind (old nodes) (old items) (old file) (header_of h (old types))) }
-    ensures nodes { new nodes ≡ nodes_behind (old nodes) (old items) (old file) (header_of h (old types)) }
-    ensures items { new items ≡ items_behind (old nodes) (old items) (old file) (header_of h (old types)) }
+    ensures answer { result ≡ read_of (reads_behind nodes.old items.old file.now (header_of h types.now)) }
+    ensures nodes { nodes.new ≡ nodes_behind nodes.old items.old file.now (header_of h types.now) }
+    ensures items { items.new ≡ items_behind nodes.old items.old file.now (header_of h types.now) }
 {
     let lim = room_of(nodes.len(), items.len());
     match read_root(file, types, nodes, items, h, lim) {
@@ -236,9 +237,9 @@ pub fn read_behind(
 
 // Reads a file into the two tables: the start of every question.
 pub fn read_file(file: &[u8], nodes: &mut [u64], items: &mut [u64]) -> Read
-    ensures answer { result ≡ read_of (reads (old nodes) (old items) (old file)) }
-    ensures nodes { new nodes ≡ nodes_read (old nodes) (old items) (old file) }
-    ensures items { new items ≡ items_read (old nodes) (old items) (old file) }
+    ensures answer { result ≡ read_of (reads nodes.old items.old file.now) }
+    ensures nodes { nodes.new ≡ nodes_read nodes.old items.old file.now }
+    ensures items { items.new ≡ items_read nodes.old items.old file.now }
 {
     let mut types = [0u64; header::MOST_TYPES * 2];
     match header::read_header(file, &mut types) {
@@ -252,9 +253,9 @@ pub fn read_file(file: &[u8], nodes: &mut [u64], items: &mut [u64]) -> Read
 
 // The first question: reads the tree into the two tables.
 pub fn read_tree(file: &[u8], nodes: &mut [u64], items: &mut [u64]) -> Answer
-    ensures answer { result ≡ answer_of (reads (old nodes) (old items) (old file)) }
-    ensures nodes { new nodes ≡ nodes_read (old nodes) (old items) (old file) }
-    ensures items { new items ≡ items_read (old nodes) (old items) (old file) }
+    ensures answer { result ≡ answer_of (reads nodes.old items.old file.now) }
+    ensures nodes { nodes.new ≡ nodes_read nodes.old items.old file.now }
+    ensures items { items.new ≡ items_read nodes.old items.old file.now }
 {
     match read_file(file, nodes, items) {
         Read::Refused(n, p) => Answer::Refused(n, p.0),

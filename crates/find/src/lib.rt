@@ -1,6 +1,7 @@
 // The two kinds of find: an item row of a field on a node itself, or the nearest one, climbing from the node to the root.
+#![tactic(auto)]
+
 ghost use Rattle.std.specs.Prelude.{◌≡◌, ◌≤◌, ◌<◌, ◌*◌, ◌+◌, length};
-ghost use Rattle.room.specs.Moments.{old, new};
 ghost use Rattle.rows.specs.Rows.{node_width, nodes_in, items_in, ItemIn, ItemRows};
 ghost use Rattle.file.specs.Asking.{answered, nodes_left, items_left};
 ghost use Rattle.file.specs.Own.{numbered, part, first_row, Tables};
@@ -11,14 +12,14 @@ use cursor::Item;
 use file::Read;
 
 // The field that is looked for: a standard number, or the custom name that is lent beside it.
-#[derive(Drop)]
+#[derive(Clone, Copy)]
 pub enum Field {
     Standard(u64),
     Custom,
 }
 
 // The item row that was found, as its number in the item table and its ten words; or a refusal, as number and place.
-#[derive(Drop)]
+#[derive(Clone, Copy)]
 pub enum Found {
     Item(usize, Item),
     Refused(u64, usize),
@@ -27,7 +28,7 @@ pub enum Found {
 // Whether the file's bytes from `at` on are those of the name.
 fn same_bytes(file: &[u8], at: usize, name: &[u8]) -> bool
     requires { at + length name.now ≤ length file.now }
-    ensures { result ≡ same_bytes (old file) at (old name) }
+    ensures { result ≡ same_bytes file.now at name.now }
 {
     let mut i = 0;
     while i < name.len() {
@@ -42,7 +43,7 @@ fn same_bytes(file: &[u8], at: usize, name: &[u8]) -> bool
 // Whether the row is of that custom name.
 fn is_named(file: &[u8], row: Item, name: &[u8]) -> bool
     requires { ItemIn (length file.now) row }
-    ensures { result ≡ matches (old file) (custom (old name)) row }
+    ensures { result ≡ matches file.now (custom name.now) row }
 {
     if name.len() == 0 {
         return false;
@@ -59,7 +60,7 @@ fn is_named(file: &[u8], row: Item, name: &[u8]) -> bool
 // Whether the row is of that field.
 fn is_wanted(file: &[u8], row: Item, field: Field, name: &[u8]) -> bool
     requires { ItemIn (length file.now) row }
-    ensures { result ≡ matches (old file) (wanted_of field (old name)) row }
+    ensures { result ≡ matches file.now (wanted_of field name.now) row }
 {
     match field {
         Field::Custom => is_named(file, row, name),
@@ -83,7 +84,7 @@ fn look(
     name: &[u8],
 ) -> Found
     requires { ItemRows (length file.now) m items.now × (end ≤ m) }
-    ensures { told result ≡ among (old file) (wanted_of field (old name)) (numbered first (part (items_in m (old items)) first end)) }
+    ensures { told result ≡ among file.now (wanted_of field name.now) (numbered first (part (items_in m items.now) first end)) }
 {
     let mut i = first;
     while i < end {
@@ -99,7 +100,7 @@ fn look(
 // The item row behind node k's own rows, where those of node `from`, which is later, begin at `first`. Goes back over the node rows between the two.
 fn rows_end(nodes: &[u64], n: usize, from: usize, first: usize, k: usize) -> usize
     requires { (n * node_width ≤ length nodes.now) × (k < from) × (from ≤ n) × (first ≡ first_row (nodes_in n nodes.now) from) }
-    ensures { result ≡ first_row (nodes_in n (old nodes)) (k + 1) }
+    ensures { result ≡ first_row (nodes_in n nodes.now) (k + 1) }
 {
     let mut i = from;
     let mut end = first;
@@ -125,7 +126,7 @@ fn climb(
     name: &[u8],
 ) -> Found
     requires { Tables file.now nodes.now items.now n m × (k < n) × (end ≡ first_row (nodes_in n nodes.now) (k + 1)) }
-    ensures { told result ≡ nearest (old file) (wanted_of field (old name)) (nodes_in n (old nodes)) (items_in m (old items)) k }
+    ensures { told result ≡ nearest file.now (wanted_of field name.now) (nodes_in n nodes.now) (items_in m items.now) k }
 {
     let row = rows::node_at(nodes, k);
     let first = end - row.rows as usize;
@@ -155,7 +156,7 @@ fn found_by(
     climbs: bool,
 ) -> Found
     requires { Tables file.now nodes.now items.now n m × (k < n) }
-    ensures { told result ≡ found_by climbs (old file) (wanted_of field (old name)) (nodes_in n (old nodes)) (items_in m (old items)) k }
+    ensures { told result ≡ found_by climbs file.now (wanted_of field name.now) (nodes_in n nodes.now) (items_in m items.now) k }
 {
     let end = rows_end(nodes, n, n, m, k);
     if climbs {
@@ -175,9 +176,9 @@ fn find_field(
     name: &[u8],
     climbs: bool,
 ) -> Found
-    ensures answer { told result ≡ answered (old nodes) (old items) (old file) (question climbs (wanted_of field (old name)) row) }
-    ensures nodes { new nodes ≡ nodes_left (old nodes) (old items) (old file) (question climbs (wanted_of field (old name)) row) }
-    ensures items { new items ≡ items_left (old nodes) (old items) (old file) (question climbs (wanted_of field (old name)) row) }
+    ensures answer { told result ≡ answered nodes.old items.old file.now (question climbs (wanted_of field name.now) row) }
+    ensures nodes { nodes.new ≡ nodes_left nodes.old items.old file.now (question climbs (wanted_of field name.now) row) }
+    ensures items { items.new ≡ items_left nodes.old items.old file.now (question climbs (wanted_of field name.now) row) }
 {
     match file::read_file(file, nodes, items) {
         Read::Refused(n, p) => Found::Refused(n, p.0),
@@ -207,9 +208,9 @@ pub fn find_standard(
     row: usize,
     number: u64,
 ) -> Found
-    ensures answer { told result ≡ answered (old nodes) (old items) (old file) (find (standard number) row) }
-    ensures nodes { new nodes ≡ nodes_left (old nodes) (old items) (old file) (find (standard number) row) }
-    ensures items { new items ≡ items_left (old nodes) (old items) (old file) (find (standard number) row) }
+    ensures answer { told result ≡ answered nodes.old items.old file.now (find (standard number) row) }
+    ensures nodes { nodes.new ≡ nodes_left nodes.old items.old file.now (find (standard number) row) }
+    ensures items { items.new ≡ items_left nodes.old items.old file.now (find (standard number) row) }
 {
     find_field(file, nodes, items, row, Field::Standard(number), b"", true)
 }
@@ -222,9 +223,9 @@ pub fn find_custom(
     row: usize,
     name: &[u8],
 ) -> Found
-    ensures answer { told result ≡ answered (old nodes) (old items) (old file) (find (custom (old name)) row) }
-    ensures nodes { new nodes ≡ nodes_left (old nodes) (old items) (old file) (find (custom (old name)) row) }
-    ensures items { new items ≡ items_left (old nodes) (old items) (old file) (find (custom (old name)) row) }
+    ensures answer { told result ≡ answered nodes.old items.old file.now (find (custom name.now) row) }
+    ensures nodes { nodes.new ≡ nodes_left nodes.old items.old file.now (find (custom name.now) row) }
+    ensures items { items.new ≡ items_left nodes.old items.old file.now (find (custom name.now) row) }
 {
     find_field(file, nodes, items, row, Field::Custom, name, true)
 }
@@ -237,9 +238,9 @@ pub fn find_own_standard(
     row: usize,
     number: u64,
 ) -> Found
-    ensures answer { told result ≡ answered (old nodes) (old items) (old file) (find_own (standard number) row) }
-    ensures nodes { new nodes ≡ nodes_left (old nodes) (old items) (old file) (find_own (standard number) row) }
-    ensures items { new items ≡ items_left (old nodes) (old items) (old file) (find_own (standard number) row) }
+    ensures answer { told result ≡ answered nodes.old items.old file.now (find_own (standard number) row) }
+    ensures nodes { nodes.new ≡ nodes_left nodes.old items.old file.now (find_own (standard number) row) }
+    ensures items { items.new ≡ items_left nodes.old items.old file.now (find_own (standard number) row) }
 {
     find_field(file, nodes, items, row, Field::Standard(number), b"", false)
 }
@@ -252,9 +253,9 @@ pub fn find_own_custom(
     row: usize,
     name: &[u8],
 ) -> Found
-    ensures answer { told result ≡ answered (old nodes) (old items) (old file) (find_own (custom (old name)) row) }
-    ensures nodes { new nodes ≡ nodes_left (old nodes) (old items) (old file) (find_own (custom (old name)) row) }
-    ensures items { new items ≡ items_left (old nodes) (old items) (old file) (find_own (custom (old name)) row) }
+    ensures answer { told result ≡ answered nodes.old items.old file.now (find_own (custom name.now) row) }
+    ensures nodes { nodes.new ≡ nodes_left nodes.old items.old file.now (find_own (custom name.now) row) }
+    ensures items { items.new ≡ items_left nodes.old items.old file.now (find_own (custom name.now) row) }
 {
     find_field(file, nodes, items, row, Field::Custom, name, false)
 }

@@ -1,6 +1,7 @@
 // The frames of an ID3 tag, which is lent by itself or is the data of an item row.
+#![tactic(auto)]
+
 ghost use Rattle.std.specs.Prelude.{◌≡◌, [], length};
-ghost use Rattle.room.specs.Moments.{old, new};
 ghost use Rattle.room.specs.Counts.{Counts};
 ghost use Rattle.rows.specs.Rows.{ItemIn};
 ghost use Rattle.lines.specs.Answer.{printed, Gives};
@@ -15,7 +16,7 @@ use lines::{Made, refuse};
 use needs::{Put, hidden, put_answered};
 
 // All frames, or the frame of a number.
-#[derive(Drop)]
+#[derive(Clone, Copy)]
 pub enum Frames {
     All,
     One(usize),
@@ -35,7 +36,7 @@ fn name_bytes(name: u64) -> [u8; 4]
 
 // Puts the line of a frame.
 fn put_frame(out: &mut [u8], to: usize, i: usize, x: TagFrame) -> usize
-    ensures { Counts (old out) (new out) to (frame_line i x) result }
+    ensures { Counts out.old out.new to (frame_line i x) result }
 {
     let name = name_bytes(x.name);
     let a = room::put_byte(out, to, b'F');
@@ -49,7 +50,7 @@ fn put_frame(out: &mut [u8], to: usize, i: usize, x: TagFrame) -> usize
 
 // Puts the lines of all frames. The tag is walked once for each.
 fn put_frames(out: &mut [u8], tag: &[u8]) -> Put
-    ensures { Puts (old out) (new out) 0 (all_lines (frames_of (old tag))) result }
+    ensures { Puts out.old out.new 0 (all_lines (frames_of tag.now)) result }
 {
     match id3::frame_count(tag) {
         FrameCount::Refused(n, p) => Put::Refused(n, p),
@@ -70,7 +71,7 @@ fn put_frames(out: &mut [u8], tag: &[u8]) -> Put
 
 // Puts the line of one frame.
 fn put_one(out: &mut [u8], tag: &[u8], i: usize) -> Put
-    ensures { Puts (old out) (new out) 0 (one_line i (frame_at i (old tag))) result }
+    ensures { Puts out.old out.new 0 (one_line i (frame_at i tag.now)) result }
 {
     match id3::frame(tag, i) {
         Framed::Refused(n, p) => Put::Refused(n, p),
@@ -80,7 +81,7 @@ fn put_one(out: &mut [u8], tag: &[u8], i: usize) -> Put
 
 // Puts the lines that are asked for.
 fn put_tag(out: &mut [u8], tag: &[u8], which: Frames) -> Put
-    ensures { Puts (old out) (new out) 0 (tag_lines which (old tag)) result }
+    ensures { Puts out.old out.new 0 (tag_lines which tag.now) result }
 {
     match which {
         Frames::All => put_frames(out, tag),
@@ -89,7 +90,7 @@ fn put_tag(out: &mut [u8], tag: &[u8], which: Frames) -> Put
 }
 
 pub fn make_tag(tag: &[u8], which: Frames, text: &mut [u8]) -> Made
-    ensures { Gives (length (old text)) result (new text) (tag_answer (length (old text)) which (old tag)) }
+    ensures { Gives (length text.old) result text.new (tag_answer (length text.old) which tag.now) }
 {
     let put = put_tag(text, tag, which);
     put_answered(text, put)
@@ -118,7 +119,7 @@ fn make_item_tag(
     text: &mut [u8],
 ) -> Made
     requires { ItemIn (length file.now) item }
-    ensures { Gives (length (old text)) result (new text) (printed (length (old text)) [] (λ a. a) (shown_tag meant which (old file) row item)) }
+    ensures { Gives (length text.old) result text.new (printed (length text.old) [] (λ a. a) (shown_tag meant which file.now row item)) }
 {
     if is_withheld(item, meant) {
         return hidden(text);
@@ -129,7 +130,7 @@ fn make_item_tag(
 }
 
 pub fn make_row_tag(file: &[u8], row: usize, meant: bool, which: Frames, text: &mut [u8]) -> Made
-    ensures { Gives (length (old text)) result (new text) (row_tag_answer (length (old text)) row meant which (old file)) }
+    ensures { Gives (length text.old) result text.new (row_tag_answer (length text.old) row meant which file.now) }
 {
     let mut nodes = program::node_table();
     let mut items = program::item_table();

@@ -1,4 +1,6 @@
 // What hands out bytes: a resource of a file, a file whose header is mended, a converted text.
+#![tactic(auto)]
+
 use answers::Asked;
 use libc::STDERR_FILENO;
 use spelling::Number;

@@ -1,7 +1,8 @@
 // The file header: version, type and revision, the declared types, and where the tree lies.
+#![tactic(auto)]
+
 ghost use Rattle.std.specs.Prelude.{◌≡◌, ◌∷◌, [], ◌++◌, ◌≤◌, ◌<◌, ◌+◌, ◌*◌, ◌^◌, length};
 ghost use Rattle.machine.specs.Machine.{run, times};
-ghost use Rattle.room.specs.Moments.{old, new};
 ghost use Rattle.cursor.specs.Told.{Readable, number_told, pass_told};
 ghost use Rattle.header.specs.Types.{types_of, format_of, found_told};
 ghost use Rattle.header.specs.Header.{four, opening, edition, file_length, entry, types_table, extent, header};
@@ -12,48 +13,48 @@ use cursor::{Cursor, FilePlace, Numbered, Passed};
 // The most types that are declared; a table of types has two words for each: the type and its string format.
 pub const MOST_TYPES: usize = 32;
 
-#[derive(Drop)]
+#[derive(Clone, Copy)]
 pub enum Found {
     Format(u64),
     Nothing,
 }
 
 // The file's type and its revision; both 0 before version 2.00.
-#[derive(Drop)]
+#[derive(Clone, Copy)]
 pub struct Edition {
     pub kind: u64,
     pub revision: u64,
 }
 
-#[derive(Drop)]
+#[derive(Clone, Copy)]
 pub enum EditionResult {
     Is(Edition, Cursor),
     Refused(u64, FilePlace),
 }
 
 // The number of declared types, and the cursor after their table.
-#[derive(Drop)]
+#[derive(Clone, Copy)]
 pub enum Typed {
     Count(usize, Cursor),
     Refused(u64, FilePlace),
 }
 
 // The tree's first and last byte, and the header's end.
-#[derive(Drop)]
+#[derive(Clone, Copy)]
 pub struct Extent {
     pub start: FilePlace,
     pub last: FilePlace,
     pub end: FilePlace,
 }
 
-#[derive(Drop)]
+#[derive(Clone, Copy)]
 pub enum Bounded {
     Is(Extent),
     Refused(u64, FilePlace),
 }
 
 // What the header says. The types stand in the lent table; `types` is their number. The version is 100, 101 or 200.
-#[derive(Drop)]
+#[derive(Clone, Copy)]
 pub struct Header {
     pub version: u64,
     pub edition: Edition,
@@ -61,7 +62,7 @@ pub struct Header {
     pub extent: Extent,
 }
 
-#[derive(Drop)]
+#[derive(Clone, Copy)]
 pub enum Headed {
     Is(Header),
     Refused(u64, FilePlace),
@@ -70,7 +71,7 @@ pub enum Headed {
 // The format of a type, if it is declared.
 pub fn format_of(types: &[u64], count: usize, of: u64) -> Found
     requires { count * 2 ≤ length types.now }
-    ensures { found_told result ≡ format_of (types_of count (old types)) of }
+    ensures { found_told result ≡ format_of (types_of count types.now) of }
 {
     let mut i = 0;
     while i < count {
@@ -85,7 +86,7 @@ pub fn format_of(types: &[u64], count: usize, of: u64) -> Found
 // Declares one more type.
 fn declare(types: &mut [u64], count: usize, of: u64, format: u64)
     requires { count * 2 + 2 ≤ length types.old }
-    ensures { types_of (count + 1) (new types) ≡ types_of count (old types) ++ (record { type = of; format = format } ∷ []) }
+    ensures { types_of (count + 1) types.new ≡ types_of count types.old ++ (record { type = of; format = format } ∷ []) }
 {
     types[count * 2] = of;
     types[count * 2 + 1] = format;
@@ -94,7 +95,7 @@ fn declare(types: &mut [u64], count: usize, of: u64, format: u64)
 // Four bytes as one number, high byte first.
 fn read_four(c: Cursor, file: &[u8], end: FilePlace, past: u64) -> Numbered
     requires { (end.0 ≤ length file.now) × (c.at.0 ≤ end.0) }
-    ensures { number_told result ≡ run (four past end.0) (old file) c.at.0 }
+    ensures { number_told result ≡ run (four past end.0) file.now c.at.0 }
 {
     let place = c.at;
     let at = place.0;
@@ -108,7 +109,7 @@ fn read_four(c: Cursor, file: &[u8], end: FilePlace, past: u64) -> Numbered
 
 // `XMF_` and the version: 100, 101 or 200.
 pub fn read_opening(file: &[u8]) -> Numbered
-    ensures { number_told result ≡ run (opening (length (old file))) (old file) 0 }
+    ensures { number_told result ≡ run (opening (length file.now)) file.now 0 }
 {
     let size = file.len();
     let first = FilePlace(0);
@@ -147,7 +148,7 @@ pub fn read_opening(file: &[u8]) -> Numbered
 // The type and the revision, which 2.00 has.
 pub fn read_edition(c: Cursor, file: &[u8], version: u64) -> EditionResult
     requires { c.at.0 ≤ length file.now }
-    ensures { edition_told result ≡ run (edition (length (old file)) version) (old file) c.at.0 }
+    ensures { edition_told result ≡ run (edition (length file.now) version) file.now c.at.0 }
 {
     if version != 200 {
         let none = Edition {
@@ -171,7 +172,7 @@ pub fn read_edition(c: Cursor, file: &[u8], version: u64) -> EditionResult
 
 // FileLength, which is the number of bytes lent.
 fn read_length(c: Cursor, file: &[u8]) -> Passed
-    ensures { pass_told result ≡ run (file_length (length (old file))) (old file) c.at.0 }
+    ensures { pass_told result ≡ run (file_length (length file.now)) file.now c.at.0 }
 {
     let place = c.at;
     let size = file.len();
@@ -189,7 +190,7 @@ fn read_length(c: Cursor, file: &[u8]) -> Passed
 // An entry of the types table, which ends at `end`, behind `count` others.
 fn read_entry(c: Cursor, file: &[u8], types: &mut [u64], count: usize, end: FilePlace) -> Passed
     requires { Readable end.0 file.now × (64 ≤ length types.old) × (count ≤ 32) }
-    ensures { entry_told result (types_of (count + 1) (new types)) ≡ run (entry end.0 (types_of count (old types))) (old file) c.at.0 }
+    ensures { entry_told result (types_of (count + 1) types.new) ≡ run (entry end.0 (types_of count types.old)) file.now c.at.0 }
 {
     let place = c.at;
     match c.number(file, end, cursor::CUT_SHORT) {
@@ -218,7 +219,7 @@ fn read_entry(c: Cursor, file: &[u8], types: &mut [u64], count: usize, end: File
 // The entries of the types table, which ends at `end`.
 fn read_entries(c: Cursor, file: &[u8], types: &mut [u64], count: u64, end: FilePlace) -> Typed
     requires { Readable end.0 file.now × (64 ≤ length types.old) }
-    ensures types_value { types_told result (new types) ≡ run (times count (entry end.0) []) (old file) c.at.0 }
+    ensures types_value { types_told result types.new ≡ run (times count (entry end.0) []) file.now c.at.0 }
     ensures listed { Listed result }
 {
     let mut next = c;
@@ -240,7 +241,7 @@ fn read_entries(c: Cursor, file: &[u8], types: &mut [u64], count: u64, end: File
 // MetaDataTypesTable.
 pub fn read_types(c: Cursor, file: &[u8], types: &mut [u64]) -> Typed
     requires { (length file.now < 2 ^ 28) × (64 ≤ length types.old) }
-    ensures types_value { types_told result (new types) ≡ run (types_table (length (old file))) (old file) c.at.0 }
+    ensures types_value { types_told result types.new ≡ run (types_table (length file.now)) file.now c.at.0 }
     ensures listed { Listed result }
 {
     match c.block(file, FilePlace(file.len()), cursor::CUT_SHORT) {
@@ -266,7 +267,7 @@ pub fn read_types(c: Cursor, file: &[u8], types: &mut [u64]) -> Typed
 
 // TreeStart and TreeEnd, and the header's end.
 fn read_extent(c: Cursor, file: &[u8]) -> Bounded
-    ensures { extent_told result ≡ run (extent (length (old file))) (old file) c.at.0 }
+    ensures { extent_told result ≡ run (extent (length file.now)) file.now c.at.0 }
 {
     let place = c.at;
     let size = file.len();
@@ -304,7 +305,7 @@ fn read_extent(c: Cursor, file: &[u8]) -> Bounded
 // look at it after a refusal: nothing is said of it then.
 pub fn read_header(file: &[u8], types: &mut [u64]) -> Headed
     requires { 64 ≤ length types.old }
-    ensures answer { header_told result (new types) ≡ run (header (length (old file))) (old file) 0 }
+    ensures answer { header_told result types.new ≡ run (header (length file.now)) file.now 0 }
     ensures listed { Few result }
 {
     match read_opening(file) {

@@ -1,8 +1,9 @@
 // Walks an ID3v2.4 tag: counts its frames, and gives the name and the contents' place and length of one of them. It reads whatever it is lent, hidden contents
 // included, so its answers are no part of a sheet.
+#![tactic(auto)]
+
 ghost use Rattle.std.specs.Prelude.{◌≡◌, ◌≤◌, ◌<◌, ◌+◌, length, get_or};
 ghost use Rattle.machine.specs.Machine.{run};
-ghost use Rattle.room.specs.Moments.{old};
 ghost use Rattle.cursor.specs.Told.{number_told, pass_told};
 ghost use Rattle.id3.specs.Tag.{size, head, extended, front, frame, frames};
 ghost use Rattle.id3.specs.Frames.{frames_of, frame_count, frame_at};
@@ -11,7 +12,7 @@ ghost use Rattle.id3.specs.Told.{count_told, frame_told, head_told, read_told, w
 use cursor::{Cursor, FilePlace, Numbered, Passed};
 
 // A frame: its name as a number, the first byte highest; where its contents begin, and how many bytes they have.
-#[derive(Drop)]
+#[derive(Clone, Copy)]
 pub struct TagFrame {
     pub name: u64,
     pub place: usize,
@@ -19,35 +20,35 @@ pub struct TagFrame {
 }
 
 // How many frames; or a refusal, as number and place.
-#[derive(Drop)]
+#[derive(Clone, Copy)]
 pub enum FrameCount {
     Is(usize),
     Refused(u64, usize),
 }
 
 // A frame; or a refusal, as number and place.
-#[derive(Drop)]
+#[derive(Clone, Copy)]
 pub enum Framed {
     Is(TagFrame),
     Refused(u64, usize),
 }
 
 // The header's flags, where the tag ends, and the cursor behind the header; or a refusal with its place.
-#[derive(Drop)]
+#[derive(Clone, Copy)]
 enum Headed {
     Is(u64, FilePlace, Cursor),
     Refused(u64, FilePlace),
 }
 
 // A frame and the cursor behind it, or a refusal with its place.
-#[derive(Drop)]
+#[derive(Clone, Copy)]
 enum FrameRead {
     Is(TagFrame, Cursor),
     Refused(u64, FilePlace),
 }
 
 // How many frames, and the one that was asked for, if there is one; or a refusal with its place.
-#[derive(Drop)]
+#[derive(Clone, Copy)]
 enum Walked {
     Is(usize, TagFrame),
     Refused(u64, FilePlace),
@@ -56,7 +57,7 @@ enum Walked {
 // The size here: four bytes, seven bits each.
 fn read_size(c: Cursor, tag: &[u8], end: FilePlace) -> Numbered
     requires { (end.0 ≤ length tag.now) × (c.at.0 ≤ end.0) }
-    ensures { number_told result ≡ run (size end.0) (old tag) c.at.0 }
+    ensures { number_told result ≡ run (size end.0) tag.now c.at.0 }
 {
     let place = c.at;
     let at = place.0;
@@ -87,7 +88,7 @@ fn read_size(c: Cursor, tag: &[u8], end: FilePlace) -> Numbered
 
 // The header of the tag.
 fn read_head(tag: &[u8]) -> Headed
-    ensures { head_told result ≡ run (head (length (old tag))) (old tag) 0 }
+    ensures { head_told result ≡ run (head (length tag.now)) tag.now 0 }
 {
     if tag.len() < 10 {
         return Headed::Refused(cursor::NOT_A_TAG, FilePlace(0));
@@ -124,7 +125,7 @@ fn read_head(tag: &[u8]) -> Headed
 // The extended header here.
 fn read_extended(c: Cursor, tag: &[u8], end: FilePlace) -> Passed
     requires { (end.0 ≤ length tag.now) × (c.at.0 ≤ end.0) }
-    ensures { pass_told result ≡ run (extended end.0) (old tag) c.at.0 }
+    ensures { pass_told result ≡ run (extended end.0) tag.now c.at.0 }
 {
     let place = c.at;
     match read_size(c, tag, end) {
@@ -144,7 +145,7 @@ fn read_extended(c: Cursor, tag: &[u8], end: FilePlace) -> Passed
 // The frame here, in a tag that goes on.
 fn read_frame(c: Cursor, tag: &[u8], end: FilePlace) -> FrameRead
     requires { (end.0 ≤ length tag.now) × (c.at.0 < end.0) }
-    ensures { read_told result ≡ run (frame end.0 c.at.0 (get_or (old tag) c.at.0 0)) (old tag) (c.at.0 + 1) }
+    ensures { read_told result ≡ run (frame end.0 c.at.0 (get_or tag.now c.at.0 0)) tag.now (c.at.0 + 1) }
 {
     let place = c.at;
     let at = place.0;
@@ -192,7 +193,7 @@ fn read_frame(c: Cursor, tag: &[u8], end: FilePlace) -> FrameRead
 // The cursor behind the header and the extended header, if there is one.
 fn read_front(c: Cursor, tag: &[u8], flags: u64, end: FilePlace) -> Passed
     requires { (end.0 ≤ length tag.now) × (c.at.0 ≤ end.0) }
-    ensures { pass_told result ≡ run (front flags end.0) (old tag) c.at.0 }
+    ensures { pass_told result ≡ run (front flags end.0) tag.now c.at.0 }
 {
     if flags / 0x40 % 2 == 1 {
         return read_extended(c, tag, end);
@@ -203,7 +204,7 @@ fn read_front(c: Cursor, tag: &[u8], flags: u64, end: FilePlace) -> Passed
 // All frames from here on: how many there are, and the one numbered `want`.
 fn read_frames(c: Cursor, tag: &[u8], end: FilePlace, want: usize) -> Walked
     requires { end.0 ≤ length tag.now }
-    ensures { walk_told result ≡ walk_of want (run (frames end.0) (old tag) c.at.0) }
+    ensures { walk_told result ≡ walk_of want (run (frames end.0) tag.now c.at.0) }
 {
     let mut next = c;
     let mut count = 0;
@@ -236,7 +237,7 @@ fn read_frames(c: Cursor, tag: &[u8], end: FilePlace, want: usize) -> Walked
 
 // The whole tag: how many frames it has, and the one numbered `want`.
 fn walk(tag: &[u8], want: usize) -> Walked
-    ensures { walk_told result ≡ walk_of want (frames_of (old tag)) }
+    ensures { walk_told result ≡ walk_of want (frames_of tag.now) }
 {
     match read_head(tag) {
         Headed::Refused(n, p) => Walked::Refused(n, p),
@@ -249,7 +250,7 @@ fn walk(tag: &[u8], want: usize) -> Walked
 
 // How many frames the tag has.
 pub fn frame_count(tag: &[u8]) -> FrameCount
-    ensures { count_told result ≡ frame_count (old tag) }
+    ensures { count_told result ≡ frame_count tag.now }
 {
     match walk(tag, 0) {
         Walked::Refused(n, p) => FrameCount::Refused(n, p.0),
@@ -259,7 +260,7 @@ pub fn frame_count(tag: &[u8]) -> FrameCount
 
 // The tag's frame of a number, from 0 in file order.
 pub fn frame(tag: &[u8], number: usize) -> Framed
-    ensures { frame_told result ≡ frame_at number (old tag) }
+    ensures { frame_told result ≡ frame_at number tag.now }
 {
     match walk(tag, number) {
         Walked::Refused(n, p) => Framed::Refused(n, p.0),

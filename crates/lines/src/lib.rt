@@ -1,13 +1,14 @@
 // An answer: its status and its text. What every answer's text shares: how a line ends, and what becomes of a refusal and of a text that has no room.
+#![tactic(auto)]
+
 ghost use Rattle.std.specs.Prelude.{List, ℕ, length};
-ghost use Rattle.room.specs.Moments.{old, new};
 ghost use Rattle.room.specs.Counts.{Counts};
 ghost use Rattle.lines.specs.Answer.{answer, name_field, ended, head_line, refusal_line, too_long_line, closed, refused_by, fitted, Gives, Settles};
 
 use room::Written;
 
 // The status, and how many bytes at the start of the buffer are the text.
-#[derive(Drop)]
+#[derive(Clone, Copy)]
 pub struct Made {
     pub status: u64,
     pub size: usize,
@@ -15,7 +16,7 @@ pub struct Made {
 
 // Puts the field that ends a line with a name: a tab, and the name as names are on a sheet.
 pub fn put_field(out: &mut [u8], name: &[u8]) -> usize
-    ensures { Counts (old out) (new out) 0 (name_field (old name)) result }
+    ensures { Counts out.old out.new 0 (name_field name.now) result }
 {
     let next = room::put_byte(out, 0, 0x09);
     text::put_escaped(out, next, name, 0, name.len())
@@ -23,7 +24,7 @@ pub fn put_field(out: &mut [u8], name: &[u8]) -> usize
 
 // Puts the end of a line: the field that ends it, if there is one, and the line's end.
 pub fn put_end(out: &mut [u8], to: usize, tail: &[u8]) -> usize
-    ensures { Counts (old out) (new out) to (ended (old tail)) result }
+    ensures { Counts out.old out.new to (ended tail.now) result }
 {
     let next = room::put_bytes(out, to, tail);
     room::put_byte(out, next, 0x0a)
@@ -31,7 +32,7 @@ pub fn put_end(out: &mut [u8], to: usize, tail: &[u8]) -> usize
 
 // Puts the line that names a file.
 pub fn put_head(out: &mut [u8], tail: &[u8]) -> usize
-    ensures { Counts (old out) (new out) 0 (head_line (old tail)) result }
+    ensures { Counts out.old out.new 0 (head_line tail.now) result }
 {
     let next = room::put_byte(out, 0, b'F');
     put_end(out, next, tail)
@@ -39,7 +40,7 @@ pub fn put_head(out: &mut [u8], tail: &[u8]) -> usize
 
 // Puts the line of a refusal.
 fn put_refusal(out: &mut [u8], tail: &[u8], number: u64, place: usize) -> usize
-    ensures { Counts (old out) (new out) 0 (refusal_line (old tail) number place) result }
+    ensures { Counts out.old out.new 0 (refusal_line tail.now number place) result }
 {
     let a = room::put_byte(out, 0, b'R');
     let b = text::put_number(out, a, number);
@@ -49,7 +50,7 @@ fn put_refusal(out: &mut [u8], tail: &[u8], number: u64, place: usize) -> usize
 
 // Puts the line of a file that is too long.
 fn put_too_long(out: &mut [u8], tail: &[u8]) -> usize
-    ensures { Counts (old out) (new out) 0 (too_long_line (old tail)) result }
+    ensures { Counts out.old out.new 0 (too_long_line tail.now) result }
 {
     let next = room::put_bytes(out, 0, b"too long");
     put_end(out, next, tail)
@@ -57,7 +58,7 @@ fn put_too_long(out: &mut [u8], tail: &[u8]) -> usize
 
 // Ends a text that was put up to `end`: the rest of the buffer is 0. No answer where it has no room.
 fn close(text: &mut [u8], end: usize, status: u64) -> Made
-    ensures { (o w : List ℕ) → Counts o (old text) 0 w end → Gives (length o) result (new text) (closed (length o) (answer status w)) }
+    ensures { (o w : List ℕ) → Counts o text.old 0 w end → Gives (length o) result text.new (closed (length o) (answer status w)) }
 {
     if text.len() < end {
         room::clear_bytes(text);
@@ -69,7 +70,7 @@ fn close(text: &mut [u8], end: usize, status: u64) -> Made
 
 // The answer that is a refusal.
 pub fn refuse(text: &mut [u8], tail: &[u8], number: u64, place: usize) -> Made
-    ensures { Gives (length (old text)) result (new text) (refused_by (length (old text)) (old tail) number place) }
+    ensures { Gives (length text.old) result text.new (refused_by (length text.old) tail.now number place) }
 {
     let end = put_refusal(text, tail, number, place);
     close(text, end, 2)
@@ -77,7 +78,7 @@ pub fn refuse(text: &mut [u8], tail: &[u8], number: u64, place: usize) -> Made
 
 // The answer for a file that is too long.
 pub fn refuse_long(text: &mut [u8], tail: &[u8]) -> Made
-    ensures { Gives (length (old text)) result (new text) (closed (length (old text)) (answer 2 (too_long_line (old tail)))) }
+    ensures { Gives (length text.old) result text.new (closed (length text.old) (answer 2 (too_long_line tail.now))) }
 {
     let end = put_too_long(text, tail);
     close(text, end, 2)
@@ -85,7 +86,7 @@ pub fn refuse_long(text: &mut [u8], tail: &[u8]) -> Made
 
 // The answer whose text was put up to `end`: refused for lack of room where that is past the buffer.
 pub fn conclude(text: &mut [u8], tail: &[u8], end: usize, status: u64) -> Made
-    ensures { (o w : List ℕ) → Counts o (old text) 0 w end → Gives (length o) result (new text) (fitted (length o) (old tail) (answer status w)) }
+    ensures { (o w : List ℕ) → Counts o text.old 0 w end → Gives (length o) result text.new (fitted (length o) tail.now (answer status w)) }
 {
     if text.len() < end {
         return refuse(text, tail, cursor::NO_ROOM, 0);
@@ -95,7 +96,7 @@ pub fn conclude(text: &mut [u8], tail: &[u8], end: usize, status: u64) -> Made
 
 // The answer whose text a call wrote into the buffer, or refused.
 pub fn settle(text: &mut [u8], tail: &[u8], written: Written) -> Made
-    ensures { Settles written (old tail) (old text) (new text) result }
+    ensures { Settles written tail.now text.old text.new result }
 {
     match written {
         Written::Refused(n, p) => refuse(text, tail, n, p),

@@ -67,6 +67,7 @@ module _ {K W : Type 0} where
   Separate (e ∷ es) = ((k : ℕ) → Has e k → Covers es k → ⊥) × Separate es
 
   pub covered : (es : List (Event K W)) (at k : ℕ) → Chain at es → Covers es k → (at ≤ k) × (k < end_of at es)
+  covered [] at k c y = elim y [ ]
   covered (e ∷ es) at k c (inl x) = omega (arith, at_least es (at + size_of e))
   covered (e ∷ es) at k c (inr y) = let (l, h) = covered es (at + size_of e) k c.1 y in (omega arith, h)
 
@@ -94,6 +95,7 @@ module _ {K W : Type 0} (free : W → Bool) where
   Kept f g es = Held (λ k. get_or f k 0 ≡ get_or g k 0) es
 
   free_covers : (es : List (Event K W)) (k : ℕ) → Free es k → Covers es k
+  free_covers [] k y = elim y [ ]
   free_covers (seen κ p ∷ es) k y = inr (free_covers es k y)
   free_covers (passed w p n ∷ es) k (inl x) = inl (x.1, x.2)
   free_covers (passed w p n ∷ es) k (inr y) = inr (free_covers es k y)

@@ -1,7 +1,8 @@
 // A file whose FileLength or TreeEnd is wrong: a copy with the two set right, in the bytes that they have.
+#![tactic(auto)]
+
 ghost use Rattle.std.specs.Prelude.{◌≡◌, false, List, ℕ, ◌+◌, ◌-◌, ◌*◌, ◌^◌, ◌≤◌, ◌<◌, ltb, length, replicate};
 ghost use Rattle.machine.specs.Machine.{run};
-ghost use Rattle.room.specs.Moments.{old, new};
 ghost use Rattle.std.proofs.lemmas.List.Edits.{sets};
 ghost use Rattle.vlq.specs.Vlq.{in_bytes};
 ghost use Rattle.room.specs.Counts.{Counts};
@@ -17,7 +18,7 @@ use file::Read;
 use header::{Edition, EditionResult, Extent, Header, Typed};
 
 // A number of the header, with its place and the place after it.
-#[derive(Drop)]
+#[derive(Clone, Copy)]
 pub struct Field {
     pub place: FilePlace,
     pub value: u64,
@@ -25,14 +26,14 @@ pub struct Field {
 }
 
 // A field; or the refusal of its number.
-#[derive(Drop)]
+#[derive(Clone, Copy)]
 pub enum FieldRead {
     Is(Field),
     Refused(u64, FilePlace),
 }
 
 // What the header's fields say: `length` is FileLength, `start` TreeStart, `last` TreeEnd. None of them is judged.
-#[derive(Drop)]
+#[derive(Clone, Copy)]
 pub struct Fields {
     pub version: u64,
     pub edition: Edition,
@@ -43,14 +44,14 @@ pub struct Fields {
 }
 
 // All of them; or the first refusal on the way.
-#[derive(Drop)]
+#[derive(Clone, Copy)]
 pub enum FieldsRead {
     Is(Fields),
     Refused(u64, FilePlace),
 }
 
 // The number of bytes of the copy, and of the lines; or the refusal's number and place.
-#[derive(Drop)]
+#[derive(Clone, Copy)]
 pub enum Mending {
     Is(usize, usize),
     Refused(u64, usize),
@@ -58,7 +59,7 @@ pub enum Mending {
 
 // The number at the cursor, with its place and end.
 fn read_field(c: Cursor, file: &[u8]) -> FieldRead
-    ensures { field_told result ≡ run (number_field (length (old file))) (old file) c.at.0 }
+    ensures { field_told result ≡ run (number_field (length file.now)) file.now c.at.0 }
 {
     let place = c.at;
     match c.number(file, FilePlace(file.len()), cursor::CUT_SHORT) {
@@ -74,7 +75,7 @@ fn read_field(c: Cursor, file: &[u8]) -> FieldRead
 // Reads the header's fields, and the declared types into the lent table; FileLength and the tree's extent are not judged.
 fn read_fields(file: &[u8], types: &mut [u64]) -> FieldsRead
     requires { 64 ≤ length types.old }
-    ensures answer { fields_told result (new types) ≡ run (fields (length (old file))) (old file) 0 }
+    ensures answer { fields_told result types.new ≡ run (fields (length file.now)) file.now 0 }
     ensures listed { FewTypes result }
 {
     match header::read_opening(file) {
@@ -118,7 +119,7 @@ fn read_fields(file: &[u8], types: &mut [u64]) -> FieldsRead
 
 // The number at a place of the file; 0 where there is none.
 fn number_at(file: &[u8], at: usize) -> u64
-    ensures { result ≡ number_at (old file) at }
+    ensures { result ≡ number_at file.now at }
 {
     match (Cursor { at: FilePlace(at) }).number(file, FilePlace(file.len()), cursor::CUT_SHORT) {
         Numbered::Refused(_, p) => 0,
@@ -145,7 +146,7 @@ fn fits_in(n: usize, k: usize) -> bool
 
 // Puts a tab and a decimal number.
 fn put_tabbed(lines: &mut [u8], to: usize, n: u64) -> usize
-    ensures { Counts (old lines) (new lines) to (tabbed n) result }
+    ensures { Counts lines.old lines.new to (tabbed n) result }
 {
     let a = room::put_byte(lines, to, 9);
     room::put_decimal(lines, a, n)
@@ -153,7 +154,7 @@ fn put_tabbed(lines: &mut [u8], to: usize, n: u64) -> usize
 
 // Puts the line of a field that is set to n; none where it says n already.
 fn put_line(lines: &mut [u8], to: usize, name: &[u8], x: Field, n: usize) -> usize
-    ensures { Counts (old lines) (new lines) to (line (old name) (field_of x) n) result }
+    ensures { Counts lines.old lines.new to (line name.now (field_of x) n) result }
 {
     if x.value == n as u64 {
         return room::put_bytes(lines, to, b"");
@@ -168,7 +169,7 @@ fn put_line(lines: &mut [u8], to: usize, name: &[u8], x: Field, n: usize) -> usi
 
 // Puts the lines of both fields, set to `size` and `last`.
 fn put_lines(lines: &mut [u8], w: Fields, size: usize, last: usize) -> usize
-    ensures { Counts (old lines) (new lines) 0 (both_lines (field_of w.length) (field_of w.last) size last) result }
+    ensures { Counts lines.old lines.new 0 (both_lines (field_of w.length) (field_of w.last) size last) result }
 {
     let a = put_line(lines, 0, b"FileLength", w.length, size);
     put_line(lines, a, b"TreeEnd", w.last, last)
@@ -177,7 +178,7 @@ fn put_lines(lines: &mut [u8], w: Fields, size: usize, last: usize) -> usize
 // Sets a field to n, in the bytes that it has.
 fn set_field(copy: &mut [u8], x: Field, n: usize)
     requires { (x.place.0 < x.end.0) × (x.end.0 ≤ x.place.0 + 4) × (x.end.0 ≤ length copy.old) }
-    ensures { new copy ≡ sets (old copy) x.place.0 (in_bytes (x.end.0 - x.place.0) n) }
+    ensures { copy.new ≡ sets copy.old x.place.0 (in_bytes (x.end.0 - x.place.0) n) }
 {
     let place = x.place;
     let end = x.end;
@@ -187,7 +188,7 @@ fn set_field(copy: &mut [u8], x: Field, n: usize)
 // TreeEnd as it should be: the root, which begins with its length, fills the tree.
 fn last_of(file: &[u8], start: u64) -> usize
     requires { start < 2 ^ 28 }
-    ensures { result ≡ start + number_at (old file) start - 1 }
+    ensures { result ≡ start + number_at file.now start - 1 }
 {
     let root = number_at(file, start as usize);
     room::room_at((start + root) as usize, 1)
@@ -223,10 +224,10 @@ fn is_sound(size: usize, w: Fields, last: usize) -> bool
 // No room for the copy or the lines: both tables and both buffers are cleared.
 fn no_room(nodes: &mut [u64], items: &mut [u64], copy: &mut [u8], lines: &mut [u8]) -> Mending
     ensures answer { told result ≡ bad 22 0 }
-    ensures nodes { new nodes ≡ replicate (length (old nodes)) 0 }
-    ensures items { new items ≡ replicate (length (old items)) 0 }
-    ensures copy { new copy ≡ replicate (length (old copy)) 0 }
-    ensures lines { new lines ≡ replicate (length (old lines)) 0 }
+    ensures nodes { nodes.new ≡ replicate (length nodes.old) 0 }
+    ensures items { items.new ≡ replicate (length items.old) 0 }
+    ensures copy { copy.new ≡ replicate (length copy.old) 0 }
+    ensures lines { lines.new ≡ replicate (length lines.old) 0 }
 {
     rows::clear_all(nodes, items);
     room::clear_bytes(copy);
@@ -237,7 +238,7 @@ fn no_room(nodes: &mut [u64], items: &mut [u64], copy: &mut [u8], lines: &mut [u
 // Writes the file into the buffer, both fields set, and zeros behind it.
 fn put_copy(copy: &mut [u8], file: &[u8], w: Fields, last: usize)
     requires { ((ws : List ℕ) → FieldsIn (fields_of w ws) (length file.now)) × (length file.now ≤ length copy.old) }
-    ensures { (ws : List ℕ) → new copy ≡ padded (length (old copy)) (set_to (old file) (fields_of w ws) (length (old file)) last) }
+    ensures { (ws : List ℕ) → copy.new ≡ padded (length copy.old) (set_to file.now (fields_of w ws) (length file.now) last) }
 {
     room::store_bytes(copy, 0, file);
     set_field(copy, w.length, file.len());
@@ -256,8 +257,8 @@ fn write_mended(
     last: usize,
 ) -> Mending
     requires { (ws : List ℕ) → FieldsIn (fields_of w ws) (length file.now) }
-    ensures { (ws : List ℕ) → Set (old file) (fields_of w ws) last (told result) (old nodes) (old items) (length (old copy)) (length (old lines))
-        (new nodes) (new items) (new copy) (new lines) }
+    ensures { (ws : List ℕ) → Set file.now (fields_of w ws) last (told result) nodes.old items.old (length copy.old) (length lines.old)
+        nodes.new items.new copy.new lines.new }
 {
     let n = put_lines(lines, w, file.len(), last);
     if copy.len() < file.len() {
@@ -280,7 +281,7 @@ fn refuse_unchanged(
     lines: &mut [u8],
 ) -> Mending
     requires { accepted (read_file (limits (length nodes.old) (length items.old)) (mended file.now)) ≡ false }
-    ensures { Ends (old file) (length (old nodes)) (length (old items)) (length (old copy)) (length (old lines)) (told result) (new nodes) (new items) (new copy) (new lines) }
+    ensures { Ends file.now (length nodes.old) (length items.old) (length copy.old) (length lines.old) (told result) nodes.new items.new copy.new lines.new }
 {
     room::clear_bytes(copy);
     room::clear_bytes(lines);
@@ -300,11 +301,11 @@ pub fn mend(
     copy: &mut [u8],
     lines: &mut [u8],
 ) -> Mending
-    ensures answer { told result ≡ sizes_of (asked (old nodes) (old items) (old copy) (old lines) (old file)) }
-    ensures nodes { new nodes ≡ nodes_after (old nodes) (old items) (old copy) (old lines) (old file) }
-    ensures items { new items ≡ items_after (old nodes) (old items) (old copy) (old lines) (old file) }
-    ensures copy { new copy ≡ copy_after (old nodes) (old items) (old copy) (old lines) (old file) }
-    ensures lines { new lines ≡ lines_after (old nodes) (old items) (old copy) (old lines) (old file) }
+    ensures answer { told result ≡ sizes_of (asked nodes.old items.old copy.old lines.old file.now) }
+    ensures nodes { nodes.new ≡ nodes_after nodes.old items.old copy.old lines.old file.now }
+    ensures items { items.new ≡ items_after nodes.old items.old copy.old lines.old file.now }
+    ensures copy { copy.new ≡ copy_after nodes.old items.old copy.old lines.old file.now }
+    ensures lines { lines.new ≡ lines_after nodes.old items.old copy.old lines.old file.now }
 {
     let mut types = [0u64; header::MOST_TYPES * 2];
     match read_fields(file, &mut types) {

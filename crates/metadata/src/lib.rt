@@ -1,7 +1,8 @@
 // Metadata: the items of a node, and their rows in the item table.
+#![tactic(auto)]
+
 ghost use Rattle.std.specs.Prelude.{◌≡◌, List, ℕ, ◌≤◌, ◌<◌, ◌+◌, length};
 ghost use Rattle.machine.specs.Machine.{run, times};
-ghost use Rattle.room.specs.Moments.{old, new};
 ghost use Rattle.cursor.specs.Told.{Readable};
 ghost use Rattle.metadata.specs.Metadata.{field, contents, item_frame, row_of, universal, version, rows_for, item, meta_items, metadata};
 ghost use Rattle.metadata.specs.Told.{ItemRoom, Room, counts, field_told, contents_told, item_told, CommonTold, Makes};
@@ -10,21 +11,21 @@ use cursor::{Cursor, FilePlace, Item, Numbered};
 use header::Found;
 
 // The rows that there is room for.
-#[derive(Drop)]
+#[derive(Clone, Copy)]
 pub struct Limits {
     pub nodes: usize,
     pub items: usize,
 }
 
 // The rows made so far.
-#[derive(Drop)]
+#[derive(Clone, Copy)]
 pub struct Made {
     pub nodes: usize,
     pub items: usize,
 }
 
 // What a node is read with: the limits, the number of declared types, the file header's end.
-#[derive(Drop)]
+#[derive(Clone, Copy)]
 pub struct Scope {
     pub limits: Limits,
     pub types: usize,
@@ -32,53 +33,53 @@ pub struct Scope {
 }
 
 // An item's field: a standard number, or where its custom name stands and how long that is.
-#[derive(Drop)]
+#[derive(Clone, Copy)]
 pub enum Field {
     Standard(u64),
     Name(FilePlace, u64),
 }
 
 // An item's contents: universal, or a number of versions.
-#[derive(Drop)]
+#[derive(Clone, Copy)]
 pub enum Contents {
     Universal,
     Versions(u64),
 }
 
-#[derive(Drop)]
+#[derive(Clone, Copy)]
 pub struct MetaItem {
     pub field: Field,
     pub contents: Contents,
 }
 
 // Whose row it is: the node's row, the item's number in the node, and its field.
-#[derive(Drop)]
+#[derive(Clone, Copy)]
 pub struct Label {
     pub node: usize,
     pub item: usize,
     pub field: Field,
 }
 
-#[derive(Drop)]
+#[derive(Clone, Copy)]
 pub enum FieldResult {
     Is(Field, Cursor),
     Refused(u64, FilePlace),
 }
 
-#[derive(Drop)]
+#[derive(Clone, Copy)]
 pub enum Contained {
     Is(Contents, Cursor),
     Refused(u64, FilePlace),
 }
 
-#[derive(Drop)]
+#[derive(Clone, Copy)]
 pub enum ItemResult {
     Is(MetaItem, Cursor),
     Refused(u64, FilePlace),
 }
 
 // An item in the common form, the length of its content, and its string format. Any other item is `Other`.
-#[derive(Drop)]
+#[derive(Clone, Copy)]
 pub enum Common {
     Is(MetaItem, u64, u64),
     Other,
@@ -86,14 +87,14 @@ pub enum Common {
 
 // The item rows made by now, and the cursor after what was read: metadata makes no other rows. A function that answers this takes, as `rows`, the
 // number of item rows that are there.
-#[derive(Drop)]
+#[derive(Clone, Copy)]
 pub enum RowsResult {
     Done(usize, Cursor),
     Refused(u64, FilePlace),
 }
 
 // The rows made by now, and the cursor after what was read.
-#[derive(Drop)]
+#[derive(Clone, Copy)]
 pub enum Walked {
     Done(Made, Cursor),
     Refused(u64, FilePlace),
@@ -102,7 +103,7 @@ pub enum Walked {
 // The field here: 0 and a standard number, or an XString, which is a custom name.
 fn read_field(c: Cursor, file: &[u8], end: FilePlace) -> FieldResult
     requires { Readable end.0 file.now }
-    ensures { field_told result ≡ run (field end.0) (old file) c.at.0 }
+    ensures { field_told result ≡ run (field end.0) file.now c.at.0 }
 {
     match c.block(file, end, cursor::CUT_SHORT) {
         Numbered::Refused(n, p) => FieldResult::Refused(n, p),
@@ -122,7 +123,7 @@ fn read_field(c: Cursor, file: &[u8], end: FilePlace) -> FieldResult
 // The contents here: 0 for universal, or the number of versions.
 fn read_contents(c: Cursor, file: &[u8], end: FilePlace) -> Contained
     requires { end.0 ≤ length file.now }
-    ensures { contents_told result ≡ run (contents end.0) (old file) c.at.0 }
+    ensures { contents_told result ≡ run (contents end.0) file.now c.at.0 }
 {
     match c.number(file, end, cursor::CUT_SHORT) {
         Numbered::Refused(n, p) => Contained::Refused(n, p),
@@ -138,7 +139,7 @@ fn read_contents(c: Cursor, file: &[u8], end: FilePlace) -> Contained
 // An item's field and contents.
 fn read_frame(c: Cursor, file: &[u8], end: FilePlace) -> ItemResult
     requires { Readable end.0 file.now }
-    ensures { item_told result ≡ run (item_frame end.0) (old file) c.at.0 }
+    ensures { item_told result ≡ run (item_frame end.0) file.now c.at.0 }
 {
     match read_field(c, file, end) {
         FieldResult::Refused(n, p) => ItemResult::Refused(n, p),
@@ -201,7 +202,7 @@ fn read_universal(
     rows: usize,
 ) -> RowsResult
     requires { Readable end.0 file.now × ItemRoom scope items.old (counts l.node rows) }
-    ensures { (ws : List ℕ) → Makes scope l.node rows (λ x. universal x l end.0) (old file) ws (old items) (new items) c.at.0 result }
+    ensures { (ws : List ℕ) → Makes scope l.node rows (λ x. universal x l end.0) file.now ws items.old items.new c.at.0 result }
 {
     let place = c.at;
     let limits = scope.limits;
@@ -242,7 +243,7 @@ fn read_version(
     rows: usize,
 ) -> RowsResult
     requires { Room scope file.now types.now items.old end.0 (counts l.node rows) × (before ≤ rows) }
-    ensures { Makes scope l.node rows (λ x. version x l end.0 before) (old file) (old types) (old items) (new items) c.at.0 result }
+    ensures { Makes scope l.node rows (λ x. version x l end.0 before) file.now types.now items.old items.new c.at.0 result }
 {
     let place = c.at;
     let limits = scope.limits;
@@ -284,7 +285,7 @@ fn read_versions(
     rows: usize,
 ) -> RowsResult
     requires { Room scope file.now types.now items.old end.0 (counts l.node rows) }
-    ensures { Makes scope l.node rows (λ x. times count (version x l end.0 rows)) (old file) (old types) (old items) (new items) c.at.0 result }
+    ensures { Makes scope l.node rows (λ x. times count (version x l end.0 rows)) file.now types.now items.old items.new c.at.0 result }
 {
     let before = rows;
     let mut next = c;
@@ -316,7 +317,7 @@ fn read_rows(
     rows: usize,
 ) -> RowsResult
     requires { Room scope file.now types.now items.old end.0 (counts l.node rows) }
-    ensures { Makes scope l.node rows (λ x. rows_for x l end.0 contents) (old file) (old types) (old items) (new items) c.at.0 result }
+    ensures { Makes scope l.node rows (λ x. rows_for x l end.0 contents) file.now types.now items.old items.new c.at.0 result }
 {
     match contents {
         Contents::Universal => read_universal(c, file, items, scope, l, end, rows),
@@ -327,7 +328,7 @@ fn read_rows(
 // The item here, if it is in the common form: a standard field with a universal content, whose number, length and string format are one byte each.
 fn read_common(c: Cursor, file: &[u8], end: FilePlace) -> Common
     requires { end.0 ≤ length file.now }
-    ensures { CommonTold result (old file) end.0 c.at.0 }
+    ensures { CommonTold result file.now end.0 c.at.0 }
 {
     let place = c.at;
     if end.0 <= place.0 {
@@ -382,7 +383,7 @@ fn read_item(
     rows: usize,
 ) -> RowsResult
     requires { Room scope file.now types.now items.old end.0 (counts node rows) }
-    ensures { Makes scope node rows (λ x. item x node index end.0) (old file) (old types) (old items) (new items) c.at.0 result }
+    ensures { Makes scope node rows (λ x. item x node index end.0) file.now types.now items.old items.new c.at.0 result }
 {
     let limits = scope.limits;
     if rows < limits.items {
@@ -431,7 +432,7 @@ fn read_items(
     rows: usize,
 ) -> RowsResult
     requires { Room scope file.now types.now items.old end.0 (counts node rows) }
-    ensures { Makes scope node rows (λ x. meta_items x node end.0) (old file) (old types) (old items) (new items) c.at.0 result }
+    ensures { Makes scope node rows (λ x. meta_items x node end.0) file.now types.now items.old items.new c.at.0 result }
 {
     let stop = end.0;
     let mut next = c;
@@ -465,7 +466,7 @@ pub fn read_metadata(
     rows: usize,
 ) -> RowsResult
     requires { Room scope file.now types.now items.old end.0 (counts node rows) }
-    ensures { Makes scope node rows (λ x. metadata x node end.0) (old file) (old types) (old items) (new items) c.at.0 result }
+    ensures { Makes scope node rows (λ x. metadata x node end.0) file.now types.now items.old items.new c.at.0 result }
 {
     match c.block(file, end, cursor::BAD_NODE) {
         Numbered::Refused(n, p) => RowsResult::Refused(n, p),

@@ -1,6 +1,7 @@
 // Judges Mobile XMF: eight checks in order over a file's rows.
+#![tactic(auto)]
+
 ghost use Rattle.std.specs.Prelude.{◌≡◌, ◌&&◌, ◌≤◌, ◌<◌, ◌*◌, ◌+◌, eqb, length};
-ghost use Rattle.room.specs.Moments.{old, new};
 ghost use Rattle.rows.specs.Rows.{node_width, item_width, nodes_in, items_in, ItemIn, ItemRows};
 ghost use Rattle.file.specs.Asking.{answered, nodes_left, items_left};
 ghost use Rattle.file.specs.Own.{those, part, Tables};
@@ -13,7 +14,7 @@ use cursor::{Cursor, FilePlace, Item, Node, Numbered};
 use file::{Read, Summary};
 
 // What a child is, by its type: a tune (0 or 1), instruments (5), or something else, which may not stand here.
-#[derive(Drop)]
+#[derive(Clone, Copy)]
 enum Role {
     Tune,
     Instruments,
@@ -21,7 +22,7 @@ enum Role {
 }
 
 // Children of one kind: none, one, in that row, or more.
-#[derive(Drop)]
+#[derive(Clone, Copy)]
 enum Few {
     None,
     One(usize),
@@ -29,7 +30,7 @@ enum Few {
 }
 
 // What the children are: whether each may stand here, the tunes and the instruments.
-#[derive(Drop)]
+#[derive(Clone, Copy)]
 struct Children {
     typed: bool,
     tunes: Few,
@@ -37,7 +38,7 @@ struct Children {
 }
 
 // The number of the first check that fails, 0 if none; or the refusal's number and place.
-#[derive(Drop)]
+#[derive(Clone, Copy)]
 pub enum Judged {
     Verdict(u64),
     Refused(u64, usize),
@@ -59,7 +60,7 @@ fn right_edition(version: u64, kind: u64, revision: u64) -> bool
 // Whether the root is a folder and all others are file nodes.
 fn files_only(nodes: &[u64], many: usize) -> bool
     requires { many * node_width ≤ length nodes.now }
-    ensures { result ≡ files_only (nodes_in many (old nodes)) }
+    ensures { result ≡ files_only (nodes_in many nodes.now) }
 {
     if many == 0 {
         return false;
@@ -91,7 +92,7 @@ fn is_plain(row: Node) -> bool
 // Whether every node uses reference 1 or 2.
 fn plain_references(nodes: &[u64], many: usize) -> bool
     requires { many * node_width ≤ length nodes.now }
-    ensures { result ≡ plain_references (nodes_in many (old nodes)) }
+    ensures { result ≡ plain_references (nodes_in many nodes.now) }
 {
     let mut i = 0;
     while i < many {
@@ -107,7 +108,7 @@ fn plain_references(nodes: &[u64], many: usize) -> bool
 // Whether no node has unpackers.
 fn no_unpackers(nodes: &[u64], many: usize) -> bool
     requires { many * node_width ≤ length nodes.now }
-    ensures { result ≡ no_unpackers (nodes_in many (old nodes)) }
+    ensures { result ≡ no_unpackers (nodes_in many nodes.now) }
 {
     let mut i = 0;
     while i < many {
@@ -123,7 +124,7 @@ fn no_unpackers(nodes: &[u64], many: usize) -> bool
 // The first item row of the standard field from row `from` on, or `end`.
 fn next_row(items: &[u64], many: usize, field: u64, from: usize, end: usize) -> usize
     requires { (many * item_width ≤ length items.now) × (from ≤ end) × (end ≤ many) }
-    ensures { NextRow field (items_in many (old items)) from end result }
+    ensures { NextRow field (items_in many items.now) from end result }
 {
     let mut i = from;
     while i < end {
@@ -154,7 +155,7 @@ fn role_of_type(v: u64) -> Role
 // What a child is whose one row of field 3 is this.
 fn role_of_row(file: &[u8], row: Item) -> Role
     requires { ItemIn (length file.now) row }
-    ensures { result ≡ role_of_row (old file) row }
+    ensures { result ≡ role_of_row file.now row }
 {
     if !description::is_binary(row) {
         return Role::Other;
@@ -187,7 +188,7 @@ fn role_of_row(file: &[u8], row: Item) -> Role
 // What a child is whose own item rows begin at `at` and end at `end`.
 fn role_of(file: &[u8], items: &[u64], many: usize, at: usize, end: usize) -> Role
     requires { ItemRows (length file.now) many items.now × (at ≤ end) × (end ≤ many) }
-    ensures { result ≡ role_of (old file) (part (items_in many (old items)) at end) }
+    ensures { result ≡ role_of file.now (part (items_in many items.now) at end) }
 {
     let first = next_row(items, many, 3, at, end);
     if end <= first {
@@ -246,7 +247,7 @@ fn child(role: Role, row: usize, c: Children) -> Children
 // What the children are, from the last to the first: each node's own item rows end where those of the next begin.
 fn children_of(file: &[u8], nodes: &[u64], items: &[u64], n: usize, m: usize) -> Children
     requires { Tables file.now nodes.now items.now n m }
-    ensures { result ≡ children (old file) (nodes_in n (old nodes)) (items_in m (old items)) }
+    ensures { result ≡ children file.now (nodes_in n nodes.now) (items_in m items.now) }
 {
     let mut c = Children {
         typed: true,
@@ -283,7 +284,7 @@ fn one_tune(tunes: Few, instruments: Few) -> bool
 // Whether the row, of field 13, may stand where it is, and is readable.
 fn is_need(file: &[u8], row: Item, tune: usize) -> bool
     requires { ItemIn (length file.now) row }
-    ensures { result ≡ is_need (old file) tune row }
+    ensures { result ≡ is_need file.now tune row }
 {
     if row.node != tune as u64 {
         return false;
@@ -297,7 +298,7 @@ fn is_need(file: &[u8], row: Item, tune: usize) -> bool
 // Whether there are rows of field 13, and all may stand where they are, and are readable.
 fn are_needs(file: &[u8], items: &[u64], many: usize, tune: usize) -> bool
     requires { ItemRows (length file.now) many items.now }
-    ensures { result ≡ are_needs (old file) tune (those (is_field 13) (items_in many (old items))) }
+    ensures { result ≡ are_needs file.now tune (those (is_field 13) (items_in many items.now)) }
 {
     let mut i = next_row(items, many, 13, 0, many);
     if many <= i {
@@ -315,7 +316,7 @@ fn are_needs(file: &[u8], items: &[u64], many: usize, tune: usize) -> bool
 // Whether field 13 is on the tune, and there only, and readable.
 fn tune_needs(file: &[u8], items: &[u64], many: usize, tunes: Few) -> bool
     requires { ItemRows (length file.now) many items.now }
-    ensures { result ≡ tune_needs_of (old file) tunes (items_in many (old items)) }
+    ensures { result ≡ tune_needs_of file.now tunes (items_in many items.now) }
 {
     match tunes {
         Few::One(t) => are_needs(file, items, many, t),
@@ -327,7 +328,7 @@ fn tune_needs(file: &[u8], items: &[u64], many: usize, tunes: Few) -> bool
 // Whether every header length is at most 65,535.
 fn short_headers(nodes: &[u64], many: usize) -> bool
     requires { many * node_width ≤ length nodes.now }
-    ensures { result ≡ all is_short (nodes_in many (old nodes)) }
+    ensures { result ≡ all is_short (nodes_in many nodes.now) }
 {
     let mut i = 0;
     while i < many {
@@ -353,7 +354,7 @@ fn field_size(row: Item) -> u64
 // Whether every field number and name length is at most 256.
 fn small_items(items: &[u64], many: usize) -> bool
     requires { many * item_width ≤ length items.now }
-    ensures { result ≡ all is_small (items_in many (old items)) }
+    ensures { result ≡ all is_small (items_in many items.now) }
 {
     let mut i = 0;
     while i < many {
@@ -368,7 +369,7 @@ fn small_items(items: &[u64], many: usize) -> bool
 // Whether header lengths, field numbers and name lengths are small enough.
 fn small_fields(nodes: &[u64], items: &[u64], n: usize, m: usize) -> bool
     requires { (n * node_width ≤ length nodes.now) × (m * item_width ≤ length items.now) }
-    ensures { result ≡ small_fields (nodes_in n (old nodes)) (items_in m (old items)) }
+    ensures { result ≡ small_fields (nodes_in n nodes.now) (items_in m items.now) }
 {
     if !short_headers(nodes, n) {
         return false;
@@ -379,7 +380,7 @@ fn small_fields(nodes: &[u64], items: &[u64], n: usize, m: usize) -> bool
 // The first of checks 5 to 8 that fails, 0 if none. The children are gone through once.
 fn later_verdict(file: &[u8], nodes: &[u64], items: &[u64], n: usize, m: usize) -> u64
     requires { Tables file.now nodes.now items.now n m }
-    ensures { result ≡ later (old file) (nodes_in n (old nodes)) (items_in m (old items)) }
+    ensures { result ≡ later file.now (nodes_in n nodes.now) (items_in m items.now) }
 {
     let c = children_of(file, nodes, items, n, m);
     if !c.typed {
@@ -402,7 +403,7 @@ fn later_verdict(file: &[u8], nodes: &[u64], items: &[u64], n: usize, m: usize) 
 // The first check that fails, 0 if none.
 fn verdict(file: &[u8], nodes: &[u64], items: &[u64], s: Summary) -> u64
     requires { Tables file.now nodes.now items.now s.nodes s.items }
-    ensures { Judges s (old file) (old nodes) (old items) result }
+    ensures { Judges s file.now nodes.now items.now result }
 {
     let edition = s.edition;
     if !right_edition(s.version, edition.kind, edition.revision) {
@@ -423,9 +424,9 @@ fn verdict(file: &[u8], nodes: &[u64], items: &[u64], s: Summary) -> u64
 
 // Judges Mobile XMF: reads the file into the two tables and gives the verdict.
 pub fn judge(file: &[u8], nodes: &mut [u64], items: &mut [u64]) -> Judged
-    ensures answer { told result ≡ answered (old nodes) (old items) (old file) mobile }
-    ensures nodes { new nodes ≡ nodes_left (old nodes) (old items) (old file) mobile }
-    ensures items { new items ≡ items_left (old nodes) (old items) (old file) mobile }
+    ensures answer { told result ≡ answered nodes.old items.old file.now mobile }
+    ensures nodes { nodes.new ≡ nodes_left nodes.old items.old file.now mobile }
+    ensures items { items.new ≡ items_left nodes.old items.old file.now mobile }
 {
     match file::read_file(file, nodes, items) {
         Read::Refused(n, p) => Judged::Refused(n, p.0),

@@ -1,7 +1,8 @@
 // The mover: puts the lines of a well-formed sheet in the other edition's order.
+#![tactic(auto)]
+
 ghost use Rattle.std.specs.Prelude.{◌≡◌, [], ◌∷◌, ◌++◌, ℕ, ◌≤◌, ◌<◌, ◌+◌, ◌-◌, length, drop};
 ghost use Rattle.std.proofs.Math.Seq.{slice};
-ghost use Rattle.room.specs.Moments.{old, new};
 ghost use Rattle.room.specs.Room.{fitting, counted, kept};
 ghost use Rattle.room.specs.Counts.{Counts};
 ghost use Rattle.room.specs.Told.{told};
@@ -14,14 +15,14 @@ use editions::{Found, Judged};
 use room::Written;
 
 // The next item line: where it begins and ends, and its node.
-#[derive(Drop)]
+#[derive(Clone, Copy)]
 enum ItemAt {
     Is(usize, usize, u64),
     Nothing,
 }
 
 // The place after what was put, and the item line that is next.
-#[derive(Drop)]
+#[derive(Clone, Copy)]
 struct Ran {
     to: usize,
     item: ItemAt,
@@ -30,7 +31,7 @@ struct Ran {
 // Puts a line.
 fn put_line(out: &mut [u8], to: usize, sheet: &[u8], at: usize, end: usize) -> usize
     requires { (at ≤ end) × (end ≤ length sheet.now) }
-    ensures { Counts (old out) (new out) to (slice at end (old sheet) ++ 0x0A ∷ []) result }
+    ensures { Counts out.old out.new to (slice at end sheet.now ++ 0x0A ∷ []) result }
 {
     let next = room::put_part(out, to, sheet, at, end - at);
     room::put_byte(out, next, 0x0a)
@@ -39,7 +40,7 @@ fn put_line(out: &mut [u8], to: usize, sheet: &[u8], at: usize, end: usize) -> u
 // Puts all lines of one kind from a place on: item lines or node lines.
 fn put_kind(out: &mut [u8], to: usize, sheet: &[u8], from: usize, items: bool) -> usize
     requires { (from ≤ length sheet.now) × AllKnown (parted 0x0A (drop from sheet.now)) }
-    ensures { Counts (old out) (new out) to (written (picked (is_kind items) (parted 0x0A (drop from (old sheet))))) result }
+    ensures { Counts out.old out.new to (written (picked (is_kind items) (parted 0x0A (drop from sheet.now)))) result }
 {
     let mut next = to;
     let mut at = from;
@@ -58,7 +59,7 @@ fn put_kind(out: &mut [u8], to: usize, sheet: &[u8], from: usize, items: bool) -
 // Whether a line of a well-formed sheet is an item's, or else a node's: its first letter says it.
 fn is_kind(line: &[u8], items: bool) -> bool
     requires { Known line.now }
-    ensures { result ≡ is_kind items (kind (old line)) }
+    ensures { result ≡ is_kind items (kind line.now) }
 {
     let b = editions::letter(line, 0);
     if items {
@@ -69,7 +70,7 @@ fn is_kind(line: &[u8], items: bool) -> bool
 
 // The node of an item line.
 fn node_of(line: &[u8]) -> u64
-    ensures { (k : ℕ) → kind (old line) ≡ item k → result ≡ k }
+    ensures { (k : ℕ) → kind line.now ≡ item k → result ≡ k }
 {
     if editions::letter(line, 0) != b'M' {
         return 0;
@@ -83,7 +84,7 @@ fn node_of(line: &[u8]) -> u64
 // The first item line from a place on.
 fn next_item(sheet: &[u8], from: usize) -> ItemAt
     requires { AllKnown (parted 0x0A (drop from sheet.now)) }
-    ensures { (item_lines (old sheet) result ≡ items_of (parted 0x0A (drop from (old sheet)))) × Right (old sheet) from result }
+    ensures { (item_lines sheet.now result ≡ items_of (parted 0x0A (drop from sheet.now))) × Right sheet.now from result }
 {
     let mut at = from;
     while at < sheet.len() {
@@ -99,8 +100,8 @@ fn next_item(sheet: &[u8], from: usize) -> ItemAt
 // Puts the item lines of a row that stand next.
 fn put_run(out: &mut [u8], to: usize, sheet: &[u8], first: ItemAt, row: u64) -> Ran
     requires { Right sheet.now 0 first }
-    ensures puts { Counts (old out) (new out) to (written (run_of row (item_lines (old sheet) first))) result.to }
-    ensures left { (item_lines (old sheet) result.item ≡ past_run row (item_lines (old sheet) first)) × Right (old sheet) 0 result.item }
+    ensures puts { Counts out.old out.new to (written (run_of row (item_lines sheet.now first))) result.to }
+    ensures left { (item_lines sheet.now result.item ≡ past_run row (item_lines sheet.now first)) × Right sheet.now 0 result.item }
 {
     let mut next = to;
     let mut item = first;
@@ -127,7 +128,7 @@ fn put_run(out: &mut [u8], to: usize, sheet: &[u8], first: ItemAt, row: u64) -> 
 // Puts each node line from a place on, and behind it the item lines of its row: one cursor goes over the node lines, one over the item lines.
 fn put_groups(out: &mut [u8], to: usize, sheet: &[u8], from: usize) -> usize
     requires { (from ≤ length sheet.now) × AllKnown (parted 0x0A (drop from sheet.now)) }
-    ensures { Counts (old out) (new out) to (grouped (drop from (old sheet))) result }
+    ensures { Counts out.old out.new to (grouped (drop from sheet.now)) result }
 {
     let mut next = to;
     let mut at = from;
@@ -152,7 +153,7 @@ fn put_groups(out: &mut [u8], to: usize, sheet: &[u8], from: usize) -> usize
 // Puts the other edition of a well-formed sheet.
 fn put_moved(out: &mut [u8], sheet: &[u8], second: bool, stop: usize) -> usize
     requires { Well sheet.now second stop }
-    ensures { Counts (old out) (new out) 0 (written (moved_lines second (parted 0x0A (old sheet)))) result }
+    ensures { Counts out.old out.new 0 (written (moved_lines second (parted 0x0A sheet.now))) result }
 {
     let body = stop + 1;
     if second {
@@ -168,8 +169,8 @@ fn put_moved(out: &mut [u8], sheet: &[u8], second: bool, stop: usize) -> usize
 
 // Moves a sheet to the other edition.
 pub fn move_sheet(sheet: &[u8], room: &mut [u8]) -> Written
-    ensures answer { told result ≡ counted (fitting (length (old room)) (move (old sheet))) }
-    ensures room { new room ≡ kept (length (old room)) (fitting (length (old room)) (move (old sheet))) }
+    ensures answer { told result ≡ counted (fitting (length room.old) (move sheet.now)) }
+    ensures room { room.new ≡ kept (length room.old) (fitting (length room.old) (move sheet.now)) }
 {
     match editions::judge(sheet) {
         Judged::Bad(number) => {

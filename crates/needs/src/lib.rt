@@ -1,7 +1,8 @@
 // What a tune needs: the counts of content descriptions. Those of a hidden row are not shown.
+#![tactic(auto)]
+
 ghost use Rattle.std.specs.Prelude.{◌≡◌, List, [], ℕ, ◌≤◌, ◌<◌, ◌^◌, ◌+◌, ◌*◌, length};
 ghost use Rattle.machine.specs.Machine.{run};
-ghost use Rattle.room.specs.Moments.{old, new};
 ghost use Rattle.room.specs.Counts.{Counts};
 ghost use Rattle.room.specs.Room.{Result};
 ghost use Rattle.rows.specs.Rows.{items_in, ItemIn, ItemRows};
@@ -16,7 +17,7 @@ use file::Read;
 use lines::{Made, conclude, refuse};
 
 // The place after what was put; or a refusal's number and place.
-#[derive(Drop)]
+#[derive(Clone, Copy)]
 pub enum Put {
     To(usize),
     Refused(u64, usize),
@@ -31,7 +32,7 @@ fn put_count(
     resource: u64,
     count: u64,
 ) -> usize
-    ensures { Counts (old out) (new out) to (count_line row channel resource count) result }
+    ensures { Counts out.old out.new to (count_line row channel resource count) result }
 {
     let a = room::put_byte(out, to, b'C');
     let b = text::put_number(out, a, row as u64);
@@ -43,7 +44,7 @@ fn put_count(
 
 // The answer for a hidden row: no text. Nothing is asked of its data.
 pub fn hidden(text: &mut [u8]) -> Made
-    ensures { Gives (length (old text)) result (new text) (nothing) }
+    ensures { Gives (length text.old) result text.new (nothing) }
 {
     room::clear_bytes(text);
     Made { status: 1, size: 0 }
@@ -59,7 +60,7 @@ fn make_row_count(
     text: &mut [u8],
 ) -> Made
     requires { ItemIn (length file.now) item }
-    ensures { Gives (length (old text)) result (new text) (printed (length (old text)) [] (λ a. a) (shown_count (old file) row channel resource item)) }
+    ensures { Gives (length text.old) result text.new (printed (length text.old) [] (λ a. a) (shown_count file.now row channel resource item)) }
 {
     if item.format % 2 == 1 {
         return hidden(text);
@@ -74,7 +75,7 @@ fn make_row_count(
 }
 
 pub fn make_count(file: &[u8], row: usize, channel: u64, resource: u64, text: &mut [u8]) -> Made
-    ensures { Gives (length (old text)) result (new text) (count_answer (length (old text)) row channel resource (old file)) }
+    ensures { Gives (length text.old) result text.new (count_answer (length text.old) row channel resource file.now) }
 {
     let mut nodes = program::node_table();
     let mut items = program::item_table();
@@ -102,7 +103,7 @@ fn put_table(
     resources: u64,
 ) -> Put
     requires { (end.0 ≤ length file.now) × (channels < 2 ^ 28) × (resources < 2 ^ 28) }
-    ensures { Puts (old out) (new out) to (needs_in row (run (table channels resources end.0) (old file) c.at.0)) result }
+    ensures { Puts out.old out.new to (needs_in row (run (table channels resources end.0) file.now c.at.0)) result }
 {
     let count = channels * resources;
     let mut next = to;
@@ -128,7 +129,7 @@ fn put_table(
 // Puts the lines of a content description, which is the data of an item row.
 fn put_counts(out: &mut [u8], to: usize, file: &[u8], row: usize, place: usize, size: usize) -> Put
     requires { place + size ≤ length file.now }
-    ensures { Puts (old out) (new out) to (needs_in row (run (description (place + size)) (old file) place)) result }
+    ensures { Puts out.old out.new to (needs_in row (run (description (place + size)) file.now place)) result }
 {
     let end = FilePlace(place + size);
     let c = Cursor {
@@ -164,7 +165,7 @@ fn is_description(row: Item) -> bool
 // Puts the lines of an item row, if it is a visible content description.
 fn put_row_needs(out: &mut [u8], to: usize, file: &[u8], row: usize, item: Item) -> Put
     requires { ItemIn (length file.now) item }
-    ensures { Puts (old out) (new out) to (row_needs (old file) row item) result }
+    ensures { Puts out.old out.new to (row_needs file.now row item) result }
 {
     if item.format % 2 == 1 {
         return Put::To(to);
@@ -178,7 +179,7 @@ fn put_row_needs(out: &mut [u8], to: usize, file: &[u8], row: usize, item: Item)
 // Puts the lines of all item rows.
 fn put_needs(out: &mut [u8], file: &[u8], items: &[u64], count: usize) -> Put
     requires { ItemRows (length file.now) count items.now }
-    ensures { Puts (old out) (new out) 0 (needs_from (old file) 0 (items_in count (old items))) result }
+    ensures { Puts out.old out.new 0 (needs_from file.now 0 (items_in count items.now)) result }
 {
     let mut next = 0;
     let mut i = 0;
@@ -194,7 +195,7 @@ fn put_needs(out: &mut [u8], file: &[u8], items: &[u64], count: usize) -> Put
 
 // The answer for lines that were put.
 pub fn put_answered(text: &mut [u8], put: Put) -> Made
-    ensures { (o : List ℕ) (x : Result (List ℕ)) → Puts o (old text) 0 x put → Gives (length o) result (new text) (printed (length o) [] plainly x) }
+    ensures { (o : List ℕ) (x : Result (List ℕ)) → Puts o text.old 0 x put → Gives (length o) result text.new (printed (length o) [] plainly x) }
 {
     match put {
         Put::Refused(n, p) => refuse(text, b"", n, p),
@@ -204,7 +205,7 @@ pub fn put_answered(text: &mut [u8], put: Put) -> Made
 
 // The counts of all visible content descriptions.
 pub fn make_needs(file: &[u8], text: &mut [u8]) -> Made
-    ensures { Gives (length (old text)) result (new text) (needs_answer (length (old text)) (old file)) }
+    ensures { Gives (length text.old) result text.new (needs_answer (length text.old) file.now) }
 {
     let mut nodes = program::node_table();
     let mut items = program::item_table();
@@ -220,7 +221,7 @@ pub fn make_needs(file: &[u8], text: &mut [u8]) -> Made
 // The counts of an item row.
 fn make_item_needs(file: &[u8], row: usize, item: Item, text: &mut [u8]) -> Made
     requires { ItemIn (length file.now) item }
-    ensures { Gives (length (old text)) result (new text) (printed (length (old text)) [] (λ a. a) (shown_needs (old file) row item)) }
+    ensures { Gives (length text.old) result text.new (printed (length text.old) [] (λ a. a) (shown_needs file.now row item)) }
 {
     if item.format % 2 == 1 {
         return hidden(text);
@@ -233,7 +234,7 @@ fn make_item_needs(file: &[u8], row: usize, item: Item, text: &mut [u8]) -> Made
 }
 
 pub fn make_row_needs(file: &[u8], row: usize, text: &mut [u8]) -> Made
-    ensures { Gives (length (old text)) result (new text) (row_needs_answer (length (old text)) row (old file)) }
+    ensures { Gives (length text.old) result text.new (row_needs_answer (length text.old) row file.now) }
 {
     let mut nodes = program::node_table();
     let mut items = program::item_table();

@@ -1,7 +1,8 @@
 // A node up to its contents: its three numbers, metadata, unpackers, reference.
+#![tactic(auto)]
+
 ghost use Rattle.std.specs.Prelude.{◌≡◌, not, ◌||◌, eqb, ℕ, ◌≤◌, ◌<◌, ◌+◌, length};
 ghost use Rattle.machine.specs.Machine.{run};
-ghost use Rattle.room.specs.Moments.{old, new};
 ghost use Rattle.cursor.specs.Told.{Readable, pass_told};
 ghost use Rattle.metadata.specs.Told.{Room};
 ghost use Rattle.node.specs.Node.{header_length, head, value, identifier, unpacker, entries, unpackers, resource, node_place, uri_place, target, reference, rest, row_of};
@@ -12,7 +13,7 @@ use metadata::{Made, RowsResult, Scope};
 
 // The bounds of a node: it ends at or before `end` and not before `least`. A detached one ends at or before `taken`, where another
 // begins, and `offset` is the place of the number that leads to it.
-#[derive(Drop)]
+#[derive(Clone, Copy)]
 pub struct Bounds {
     pub least: FilePlace,
     pub end: FilePlace,
@@ -23,61 +24,61 @@ pub struct Bounds {
 
 // What a node starts with: its length, the number of contained items, its header's length. The two lengths are places counted from the node's first byte:
 // its end, and its header's.
-#[derive(Drop)]
+#[derive(Clone, Copy)]
 pub struct Head {
     pub size: NodePlace,
     pub contained: u64,
     pub header: NodePlace,
 }
 
-#[derive(Drop)]
+#[derive(Clone, Copy)]
 pub enum Headed {
     Is(Head, Cursor),
     Refused(u64, FilePlace),
 }
 
 // Where the unpackers stand, and how many there are.
-#[derive(Drop)]
+#[derive(Clone, Copy)]
 pub struct Unpackers {
     pub place: FilePlace,
     pub count: usize,
 }
 
-#[derive(Drop)]
+#[derive(Clone, Copy)]
 pub enum Unpacked {
     Is(Unpackers, Cursor),
     Refused(u64, FilePlace),
 }
 
 // A reference, and what it leads to.
-#[derive(Drop)]
+#[derive(Clone, Copy)]
 pub struct Reference {
     pub kind: u64,
     pub target: u64,
     pub extent: u64,
 }
 
-#[derive(Drop)]
+#[derive(Clone, Copy)]
 pub enum ReferenceResult {
     Is(Reference, Cursor),
     Refused(u64, FilePlace),
 }
 
 // The unpackers and the reference, and the cursor after them.
-#[derive(Drop)]
+#[derive(Clone, Copy)]
 pub enum RestResult {
     Is(Unpackers, Reference, Cursor),
     Refused(u64, FilePlace),
 }
 
 // A node's row, and the rows made by then, its own not among them.
-#[derive(Drop)]
+#[derive(Clone, Copy)]
 pub struct Front {
     pub row: Node,
     pub made: Made,
 }
 
-#[derive(Drop)]
+#[derive(Clone, Copy)]
 pub enum FrontResult {
     Is(Front, Cursor),
     Refused(u64, FilePlace),
@@ -96,7 +97,7 @@ fn is_detached_folder(contained: u64, detached: u64) -> bool
 // NodeLength, NodeContainedItems and NodeHeaderLength of a node with these bounds.
 fn read_head(c: Cursor, file: &[u8], s: Bounds) -> Headed
     requires { Readable s.end.0 file.now }
-    ensures { head_told result ≡ run (head s) (old file) c.at.0 }
+    ensures { head_told result ≡ run (head s) file.now c.at.0 }
 {
     let start = c.at;
     let end = s.end;
@@ -139,7 +140,7 @@ fn read_header_length(
     contained: u64,
 ) -> Headed
     requires { Readable (start.0 + size.0) file.now }
-    ensures { head_told result ≡ run (header_length start.0 size.0 contained) (old file) c.at.0 }
+    ensures { head_told result ≡ run (header_length start.0 size.0 contained) file.now c.at.0 }
 {
     let place = c.at;
     match c.number(file, start.of(size), cursor::CUT_SHORT) {
@@ -167,7 +168,7 @@ fn read_header_length(
 // A number whose value is not kept.
 fn read_value(c: Cursor, file: &[u8], end: FilePlace) -> Passed
     requires { end.0 ≤ length file.now }
-    ensures { pass_told result ≡ run (value end.0) (old file) c.at.0 }
+    ensures { pass_told result ≡ run (value end.0) file.now c.at.0 }
 {
     match c.number(file, end, cursor::CUT_SHORT) {
         Numbered::Refused(n, p) => Passed::Refused(n, p),
@@ -178,7 +179,7 @@ fn read_value(c: Cursor, file: &[u8], end: FilePlace) -> Passed
 // What names an unpacker of the kind.
 fn read_identifier(c: Cursor, file: &[u8], kind: u64, end: FilePlace) -> Passed
     requires { end.0 ≤ length file.now }
-    ensures { pass_told result ≡ run (identifier kind end.0) (old file) c.at.0 }
+    ensures { pass_told result ≡ run (identifier kind end.0) file.now c.at.0 }
 {
     if kind == 3 {
         return c.guid(file, end);
@@ -205,7 +206,7 @@ fn is_numbered(kind: u64) -> bool
 // Whether the unpacker here is in the common form: a number names it, and its kind, that number and its decoded size are one byte each.
 fn is_common(c: Cursor, file: &[u8], end: FilePlace) -> bool
     requires { (end.0 ≤ length file.now) × (c.at.0 < end.0) }
-    ensures { CommonTold result (old file) end.0 c.at.0 }
+    ensures { CommonTold result file.now end.0 c.at.0 }
 {
     let place = c.at;
     let kind = c.byte(file);
@@ -229,7 +230,7 @@ fn is_common(c: Cursor, file: &[u8], end: FilePlace) -> bool
 // An unpacker: its kind, what names it, its decoded size.
 fn read_unpacker(c: Cursor, file: &[u8], end: FilePlace) -> Passed
     requires { Readable end.0 file.now × (c.at.0 < end.0) }
-    ensures { (n : ℕ) → unpacker_told result n ≡ run (unpacker end.0 n) (old file) c.at.0 }
+    ensures { (n : ℕ) → unpacker_told result n ≡ run (unpacker end.0 n) file.now c.at.0 }
 {
     // To pass one in the common form at once is faster than to read its numbers. What follows is the rule for any unpacker.
     if is_common(c, file, end) {
@@ -253,7 +254,7 @@ fn read_unpacker(c: Cursor, file: &[u8], end: FilePlace) -> Passed
 // Unpackers end to end up to `end`; they begin at c.
 fn read_entries(c: Cursor, file: &[u8], end: FilePlace) -> Unpacked
     requires { Readable end.0 file.now }
-    ensures { unpackers_told result ≡ run (entries end.0) (old file) c.at.0 }
+    ensures { unpackers_told result ≡ run (entries end.0) file.now c.at.0 }
 {
     let place = c.at;
     let stop = end.0;
@@ -277,7 +278,7 @@ fn read_entries(c: Cursor, file: &[u8], end: FilePlace) -> Unpacked
 // The unpackers of a node whose header ends at `end`.
 fn read_unpackers(c: Cursor, file: &[u8], contained: u64, end: FilePlace) -> Unpacked
     requires { Readable end.0 file.now }
-    ensures { unpackers_told result ≡ run (unpackers contained end.0) (old file) c.at.0 }
+    ensures { unpackers_told result ≡ run (unpackers contained end.0) file.now c.at.0 }
 {
     let place = c.at;
     match c.block(file, end, cursor::BAD_NODE) {
@@ -305,7 +306,7 @@ fn read_unpackers(c: Cursor, file: &[u8], contained: u64, end: FilePlace) -> Unp
 // Reference 2: a place of the file at or after the header's end; its extent runs to the file's end.
 fn read_resource(c: Cursor, file: &[u8], headerEnd: FilePlace, end: FilePlace) -> ReferenceResult
     requires { end.0 ≤ length file.now }
-    ensures { reference_told result ≡ run (resource header_end.0 (length (old file)) end.0) (old file) c.at.0 }
+    ensures { reference_told result ≡ run (resource header_end.0 (length file.now) end.0) file.now c.at.0 }
 {
     let place = c.at;
     match c.number(file, end, cursor::CUT_SHORT) {
@@ -331,7 +332,7 @@ fn read_resource(c: Cursor, file: &[u8], headerEnd: FilePlace, end: FilePlace) -
 // Reference 3: the place of a node's first byte.
 fn read_node_place(c: Cursor, file: &[u8], end: FilePlace) -> ReferenceResult
     requires { end.0 ≤ length file.now }
-    ensures { reference_told result ≡ run (node_place end.0) (old file) c.at.0 }
+    ensures { reference_told result ≡ run (node_place end.0) file.now c.at.0 }
 {
     match c.number(file, end, cursor::CUT_SHORT) {
         Numbered::Refused(n, p) => ReferenceResult::Refused(n, p),
@@ -349,7 +350,7 @@ fn read_node_place(c: Cursor, file: &[u8], end: FilePlace) -> ReferenceResult
 // Reference 4: an XString with a URI.
 fn read_uri(c: Cursor, file: &[u8], end: FilePlace) -> ReferenceResult
     requires { Readable end.0 file.now }
-    ensures { reference_told result ≡ run (uri_place end.0) (old file) c.at.0 }
+    ensures { reference_told result ≡ run (uri_place end.0) file.now c.at.0 }
 {
     match c.block(file, end, cursor::CUT_SHORT) {
         Numbered::Refused(n, p) => ReferenceResult::Refused(n, p),
@@ -374,7 +375,7 @@ fn read_target(
     end: FilePlace,
 ) -> ReferenceResult
     requires { Readable end.0 file.now × (1 < kind) }
-    ensures { reference_told result ≡ run (target header_end.0 (length (old file)) kind end.0) (old file) c.at.0 }
+    ensures { reference_told result ≡ run (target header_end.0 (length file.now) kind end.0) file.now c.at.0 }
 {
     if kind == 2 {
         return read_resource(c, file, headerEnd, end);
@@ -394,7 +395,7 @@ fn read_reference(
     end: FilePlace,
 ) -> ReferenceResult
     requires { Readable end.0 file.now }
-    ensures { reference_told result ≡ run (reference header_end.0 (length (old file)) contained end.0) (old file) c.at.0 }
+    ensures { reference_told result ≡ run (reference header_end.0 (length file.now) contained end.0) file.now c.at.0 }
 {
     let place = c.at;
     match c.number(file, end, cursor::CUT_SHORT) {
@@ -435,7 +436,7 @@ fn read_rest(
     stop: FilePlace,
 ) -> RestResult
     requires { Readable inner.0 file.now × Readable stop.0 file.now }
-    ensures { rest_told result ≡ run (rest header_end.0 (length (old file)) contained inner.0 stop.0) (old file) c.at.0 }
+    ensures { rest_told result ≡ run (rest header_end.0 (length file.now) contained inner.0 stop.0) file.now c.at.0 }
 {
     match read_unpackers(c, file, contained, inner) {
         Unpacked::Refused(n, p) => RestResult::Refused(n, p),
@@ -498,7 +499,7 @@ pub fn read_front(
     made: Made,
 ) -> FrontResult
     requires { Room scope file.now types.now items.old s.end.0 made }
-    ensures { FrontTold (front_run scope (old types) (old file) parent depth s made c.at.0) made scope.limits result (old items) (new items) }
+    ensures { FrontTold (front_run scope types.now file.now parent depth s made c.at.0) made scope.limits result items.old items.new }
 {
     let start = c.at;
     match read_head(c, file, s) {

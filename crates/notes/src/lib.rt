@@ -1,6 +1,7 @@
 // Texts for people, on a terminal: no control character, and no mark that breaks a line or turns its direction.
+#![tactic(auto)]
+
 ghost use Rattle.std.specs.Prelude.{◌≡◌, ◌∷◌, [], length, drop};
-ghost use Rattle.room.specs.Moments.{old, new};
 ghost use Rattle.room.specs.Counts.{Counts};
 ghost use Rattle.lines.specs.Answer.{reads};
 ghost use Rattle.notes.specs.Safe.{is_safe, safe_size, safe_text};
@@ -39,7 +40,7 @@ fn is_safe(c: u64) -> bool
 
 // How many bytes of UTF-8 at a place are a safe character; 0 if none.
 fn safe_size(text: &[u8], at: usize) -> usize
-    ensures { result ≡ safe_size (drop at (old text)) }
+    ensures { result ≡ safe_size (drop at text.now) }
 {
     match utf16::char8(text, at) {
         Character::Bad => 0,
@@ -54,7 +55,7 @@ fn safe_size(text: &[u8], at: usize) -> usize
 
 // Puts what says that a text goes on.
 fn put_cut(out: &mut [u8], to: usize) -> usize
-    ensures { Counts (old out) (new out) to (0x2E ∷ 0x2E ∷ []) result }
+    ensures { Counts out.old out.new to (0x2E ∷ 0x2E ∷ []) result }
 {
     room::put_bytes(out, to, b"..")
 }
@@ -62,7 +63,7 @@ fn put_cut(out: &mut [u8], to: usize) -> usize
 // Puts a text: its safe characters as they are, its other bytes as a backslash and two digits. What does not stand in its first `most` bytes is left
 // out, and `..` says so.
 pub fn put_safe(out: &mut [u8], to: usize, text: &[u8], most: usize) -> usize
-    ensures { Counts (old out) (new out) to (safe_text most (old text)) result }
+    ensures { Counts out.old out.new to (safe_text most text.now) result }
 {
     let mut next = to;
     let mut at = 0;
@@ -87,7 +88,7 @@ pub fn put_safe(out: &mut [u8], to: usize, text: &[u8], most: usize) -> usize
 
 // Puts the text of an item row, if it is visible and universal, as it stands on the sheet.
 fn put_row_text(out: &mut [u8], file: &[u8], row: usize) -> usize
-    ensures { Counts (old out) (new out) 0 (row_text row (old file) (reads (old file))) result }
+    ensures { Counts out.old out.new 0 (row_text row file.now (reads file.now)) result }
 {
     let mut nodes = program::node_table();
     let mut items = program::item_table();
@@ -114,7 +115,7 @@ fn title_buffer() -> [u8; 196608]
 
 // Puts a tab and the text of an item row, cut at 200 bytes.
 fn put_title(out: &mut [u8], to: usize, file: &[u8], row: usize) -> usize
-    ensures { Counts (old out) (new out) to (title_field row (old file)) result }
+    ensures { Counts out.old out.new to (title_field row file.now) result }
 {
     let mut text = title_buffer();
     let n = put_row_text(&mut text, file, row);
@@ -127,7 +128,7 @@ fn put_title(out: &mut [u8], to: usize, file: &[u8], row: usize) -> usize
 
 // Puts what a correction changed: the title and the file's length, before and after.
 pub fn put_changes(out: &mut [u8], given: &[u8], corrected: &[u8], row: usize) -> usize
-    ensures { Counts (old out) (new out) 0 (changes_text row (old given) (old corrected)) result }
+    ensures { Counts out.old out.new 0 (changes_text row given.now corrected.now) result }
 {
     let a = room::put_bytes(out, 0, b"title");
     let b = put_title(out, a, given, row);

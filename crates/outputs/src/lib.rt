@@ -1,4 +1,6 @@
 // The texts that a call writes: sheets, conversions, and a file whose header is mended.
+#![tactic(auto)]
+
 mod mending;
 mod sheets;
 mod texts;

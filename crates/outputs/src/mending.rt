@@ -1,6 +1,5 @@
 // The copy of a file whose header is mended, and the lines that tell of it.
 ghost use Rattle.std.specs.Prelude.{◌≡◌, length};
-ghost use Rattle.room.specs.Moments.{old, new};
 ghost use Rattle.room.specs.Room.{Result, counted};
 ghost use Rattle.room.specs.Told as told_room;
 ghost use Rattle.mend.specs.Mend.{Mended};
@@ -42,7 +41,7 @@ fn lines_written(said: Mending) -> Written
 
 // The copy.
 pub fn make_mended(file: &[u8], text: &mut [u8]) -> Made
-    ensures { Gives (length (old text)) result (new text) (mended_answer (length (old text)) (old file)) }
+    ensures { Gives (length text.old) result text.new (mended_answer (length text.old) file.now) }
 {
     let mut nodes = program::node_table();
     let mut items = program::item_table();
@@ -53,7 +52,7 @@ pub fn make_mended(file: &[u8], text: &mut [u8]) -> Made
 
 // The lines.
 pub fn make_mend_lines(file: &[u8], text: &mut [u8]) -> Made
-    ensures { Gives (length (old text)) result (new text) (mend_lines_answer (length (old text)) (old file)) }
+    ensures { Gives (length text.old) result text.new (mend_lines_answer (length text.old) file.now) }
 {
     let mut nodes = program::node_table();
     let mut items = program::item_table();

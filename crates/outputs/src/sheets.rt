@@ -1,6 +1,5 @@
 // The support sheet in either edition, and a sheet in its other edition.
 ghost use Rattle.std.specs.Prelude.{◌≡◌, length};
-ghost use Rattle.room.specs.Moments.{old, new};
 ghost use Rattle.room.specs.Room.{counted, kept};
 ghost use Rattle.room.specs.Told.{told};
 ghost use Rattle.file.specs.Asking.{answered};
@@ -19,8 +18,8 @@ fn write_edition(
     second: bool,
     text: &mut [u8],
 ) -> Written
-    ensures answer { told result ≡ counted (answered (old nodes) (old items) (old file) (write_in second (length (old text)))) }
-    ensures text { new text ≡ kept (length (old text)) (answered (old nodes) (old items) (old file) (write_in second (length (old text)))) }
+    ensures answer { told result ≡ counted (answered nodes.old items.old file.now (write_in second (length text.old))) }
+    ensures text { text.new ≡ kept (length text.old) (answered nodes.old items.old file.now (write_in second (length text.old))) }
 {
     if second {
         return sheet::write_sheet2(file, nodes, items, text);
@@ -29,7 +28,7 @@ fn write_edition(
 }
 
 pub fn make_sheet(file: &[u8], second: bool, tail: &[u8], text: &mut [u8]) -> Made
-    ensures { Gives (length (old text)) result (new text) (sheet_answer (length (old text)) second (old tail) (old file)) }
+    ensures { Gives (length text.old) result text.new (sheet_answer (length text.old) second tail.now file.now) }
 {
     let mut nodes = program::node_table();
     let mut items = program::item_table();
@@ -38,7 +37,7 @@ pub fn make_sheet(file: &[u8], second: bool, tail: &[u8], text: &mut [u8]) -> Ma
 }
 
 pub fn make_moved(lines: &[u8], text: &mut [u8]) -> Made
-    ensures { Gives (length (old text)) result (new text) (moved_answer (length (old text)) (old lines)) }
+    ensures { Gives (length text.old) result text.new (moved_answer (length text.old) lines.now) }
 {
     let written = mover::move_sheet(lines, text);
     settle(text, b"", written)

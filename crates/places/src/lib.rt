@@ -1,6 +1,7 @@
 // Where the resource of a row is, and the resource itself.
+#![tactic(auto)]
+
 ghost use Rattle.std.specs.Prelude.{length};
-ghost use Rattle.room.specs.Moments.{old, new};
 ghost use Rattle.room.specs.Counts.{Counts};
 ghost use Rattle.lines.specs.Answer.{Gives};
 ghost use Rattle.places.specs.Places.{place_line, place_answer, resource_answer, origin_line, origin_answer};
@@ -10,7 +11,7 @@ use resolve::Resolved;
 
 // Puts the line of a resource: place, length, the row whose unpackers apply, the number of references followed.
 fn put_place(out: &mut [u8], place: usize, size: usize, row: usize, hops: u64) -> usize
-    ensures { Counts (old out) (new out) 0 (place_line (record { place = place; size = size; row = row; hops = hops })) result }
+    ensures { Counts out.old out.new 0 (place_line (record { place = place; size = size; row = row; hops = hops })) result }
 {
     let a = room::put_byte(out, 0, b'P');
     let b = text::put_number(out, a, place as u64);
@@ -21,7 +22,7 @@ fn put_place(out: &mut [u8], place: usize, size: usize, row: usize, hops: u64) -
 }
 
 pub fn make_place(file: &[u8], row: usize, text: &mut [u8]) -> Made
-    ensures { Gives (length (old text)) result (new text) (place_answer (length (old text)) row (old file)) }
+    ensures { Gives (length text.old) result text.new (place_answer (length text.old) row file.now) }
 {
     let mut nodes = program::node_table();
     let mut items = program::item_table();
@@ -36,7 +37,7 @@ pub fn make_place(file: &[u8], row: usize, text: &mut [u8]) -> Made
 
 // The bytes of the resource.
 pub fn make_resource(file: &[u8], row: usize, text: &mut [u8]) -> Made
-    ensures { Gives (length (old text)) result (new text) (resource_answer (length (old text)) row (old file)) }
+    ensures { Gives (length text.old) result text.new (resource_answer (length text.old) row file.now) }
 {
     let mut nodes = program::node_table();
     let mut items = program::item_table();
@@ -58,7 +59,7 @@ fn put_origin(
     hops: u64,
     reference: u64,
 ) -> usize
-    ensures { Counts (old out) (new out) 0 (origin_line reference (record { place = place; size = size; row = row; hops = hops })) result }
+    ensures { Counts out.old out.new 0 (origin_line reference (record { place = place; size = size; row = row; hops = hops })) result }
 {
     let a = room::put_decimal(out, 0, size as u64);
     let b = room::put_bytes(out, a, b" bytes from byte ");
@@ -70,7 +71,7 @@ fn put_origin(
 }
 
 pub fn make_origin(file: &[u8], row: usize, text: &mut [u8]) -> Made
-    ensures { Gives (length (old text)) result (new text) (origin_answer (length (old text)) row (old file)) }
+    ensures { Gives (length text.old) result text.new (origin_answer (length text.old) row file.now) }
 {
     let mut nodes = program::node_table();
     let mut items = program::item_table();

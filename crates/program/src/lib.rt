@@ -1,6 +1,7 @@
 // What the programs share: full tables, a file read by its name, and a message where that fails.
+#![tactic(auto)]
+
 ghost use Rattle.std.specs.Prelude.{◌≡◌, length};
-ghost use Rattle.room.specs.Moments.{new};
 ghost use Rattle.metadata.specs.Tables.{full_nodes, full_items};
 ghost use Rattle.program.specs.Inputs.{Inside};
 
@@ -10,7 +11,7 @@ use libc::STDERR_FILENO;
 pub const LONGEST: usize = 65536;
 
 // What an input gave: the number of its bytes that were read; or a read failed.
-#[derive(Drop)]
+#[derive(Clone, Copy)]
 pub enum Input {
     Bytes(usize),
     Failed,
@@ -59,7 +60,7 @@ pub fn fail(program: &[u8], name: &[u8]) {
 
 // Reads until the buffer is full or the input ends.
 pub fn read_input(fd: i32, buf: &mut [u8]) -> Input
-    ensures { Inside result (new buf) }
+    ensures { Inside result buf.new }
 {
     let mut n: usize = 0;
     while n < buf.len() {

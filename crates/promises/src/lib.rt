@@ -1,1 +1,2 @@
 // What is promised of the public calls: see specs/Promises.antt and proofs/Kept.antt. Nothing runs here.
+#![tactic(auto)]

@@ -1,6 +1,7 @@
 // Resolves the resource of a node: follows references and gives its place, or the resource itself, as a part of the file or copied into a buffer.
+#![tactic(auto)]
+
 ghost use Rattle.std.specs.Prelude.{◌≡◌, ◌≤◌, ◌<◌, ◌*◌, ◌+◌, length};
-ghost use Rattle.room.specs.Moments.{old, new};
 ghost use Rattle.rows.specs.Rows.{node_width, nodes_in, Rising};
 ghost use Rattle.file.specs.Asking.{answered, nodes_left, items_left};
 ghost use Rattle.resolve.specs.Resolve.{chain, resolve_row, resolve, copy_into, copy_left};
@@ -13,7 +14,7 @@ use file::Read;
 pub const MOST_HOPS: u64 = 4;
 
 // Place, length, the row whose unpackers apply, the number of references followed; or a refusal's number and place.
-#[derive(Drop)]
+#[derive(Clone, Copy)]
 pub enum Resolved {
     At(FilePlace, usize, usize, u64),
     Refused(u64, usize),
@@ -22,7 +23,7 @@ pub enum Resolved {
 // Follows references from row k on, where `hops` were followed and `left` more may be. The first `tree` of the rows are the tree's.
 fn follow(nodes: &[u64], tree: usize, count: usize, left: u64, k: usize, hops: u64) -> Resolved
     requires { (count * node_width ≤ length nodes.now) × (k < count) × (hops + left ≤ 4) × Linked (nodes_in count nodes.now) × (tree ≤ count) × Rising (nodes_in tree nodes.now) }
-    ensures { told result ≡ chain left (nodes_in count (old nodes)) k hops }
+    ensures { told result ≡ chain left (nodes_in count nodes.now) k hops }
 {
     let row = rows::node_at(nodes, k);
     if row.contained != 0 {
@@ -51,7 +52,7 @@ fn follow(nodes: &[u64], tree: usize, count: usize, left: u64, k: usize, hops: u
 // The answer for a row of an accepted file.
 fn resolve_row(nodes: &[u64], tree: usize, count: usize, row: usize) -> Resolved
     requires { (count * node_width ≤ length nodes.now) × Linked (nodes_in count nodes.now) × (tree ≤ count) × Rising (nodes_in tree nodes.now) }
-    ensures { told result ≡ resolve_row row (nodes_in count (old nodes)) }
+    ensures { told result ≡ resolve_row row (nodes_in count nodes.now) }
 {
     if count <= row {
         return Resolved::Refused(cursor::NO_SUCH_ROW, 0);
@@ -61,9 +62,9 @@ fn resolve_row(nodes: &[u64], tree: usize, count: usize, row: usize) -> Resolved
 
 // The third question: where the resource of a row is.
 pub fn resolve(file: &[u8], nodes: &mut [u64], items: &mut [u64], row: usize) -> Resolved
-    ensures answer { told result ≡ answered (old nodes) (old items) (old file) (resolve row) }
-    ensures nodes { new nodes ≡ nodes_left (old nodes) (old items) (old file) (resolve row) }
-    ensures items { new items ≡ items_left (old nodes) (old items) (old file) (resolve row) }
+    ensures answer { told result ≡ answered nodes.old items.old file.now (resolve row) }
+    ensures nodes { nodes.new ≡ nodes_left nodes.old items.old file.now (resolve row) }
+    ensures items { items.new ≡ items_left nodes.old items.old file.now (resolve row) }
 {
     match file::read_file(file, nodes, items) {
         Read::Refused(n, p) => Resolved::Refused(n, p.0),
@@ -79,7 +80,7 @@ pub fn resolve(file: &[u8], nodes: &mut [u64], items: &mut [u64], row: usize) ->
 
 // The resource of a row itself, as that part of the file; an empty part on a refusal.
 pub fn resource<'a>(file: &'a [u8], nodes: &mut [u64], items: &mut [u64], row: usize) -> &'a [u8]
-    ensures { Given row (old nodes) (old items) (old file) result.now (new nodes) (new items) }
+    ensures { Given row nodes.old items.old file.now result.now nodes.new items.new }
 {
     match resolve(file, nodes, items, row) {
         Resolved::Refused(_, _) => &file[0..0],
@@ -98,10 +99,10 @@ pub fn copy_resource(
     row: usize,
     out: &mut [u8],
 ) -> Resolved
-    ensures answer { told result ≡ answered (old nodes) (old items) (old file) (copy_into row (length (old out))) }
-    ensures nodes { new nodes ≡ nodes_left (old nodes) (old items) (old file) (copy_into row (length (old out))) }
-    ensures items { new items ≡ items_left (old nodes) (old items) (old file) (copy_into row (length (old out))) }
-    ensures out { new out ≡ copy_left (old out) (old nodes) (old items) (old file) row }
+    ensures answer { told result ≡ answered nodes.old items.old file.now (copy_into row (length out.old)) }
+    ensures nodes { nodes.new ≡ nodes_left nodes.old items.old file.now (copy_into row (length out.old)) }
+    ensures items { items.new ≡ items_left nodes.old items.old file.now (copy_into row (length out.old)) }
+    ensures out { out.new ≡ copy_left out.old nodes.old items.old file.now row }
 {
     match resolve(file, nodes, items, row) {
         Resolved::Refused(n, p) => {

@@ -87,7 +87,7 @@ Stand g p (s ∷ ss) = Lies g p s × Stand g (p + length s) ss
 
 pub stand : {g : List ℕ} {p : ℕ} (ss : List (List ℕ)) → Lies g p (joined ss) → Stand g p ss
 stand [] h = tt
-stand (s ∷ ss) h = (lies_left s (joined ss) h, stand ss (lies_right s (joined ss) h))
+stand {p = p} (s ∷ ss) h = (lies_left s (joined ss) h, stand {p = p + length s} ss (lies_right s (joined ss) h))
 
 -- their lengths together
 abbrev pub sum : List (List ℕ) → ℕ

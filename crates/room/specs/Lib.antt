@@ -1,4 +1,3 @@
-pub mod Moments
 pub mod Parts
 pub mod Counts
 pub mod Room

@@ -1,13 +1,14 @@
 // Lent room: tables of words and buffers of bytes. Cleared, and filled with bytes put one after the other.
+#![tactic(auto)]
+
 ghost use Rattle.std.specs.Prelude.{◌≡◌, ◌∷◌, [], ◌++◌, ◌+◌, ◌-◌, ◌≤◌, min, length, replicate, take};
 ghost use Rattle.std.proofs.lemmas.List.Edits.{sets};
-ghost use Rattle.room.specs.Moments.{old, new};
 ghost use Rattle.room.specs.Parts.{part};
 ghost use Rattle.room.specs.Counts.{Counts, too_many};
 ghost use Rattle.room.specs.Decimal.{decimal};
 
 // The answer of every call that fills room: the number of bytes written; or the refusal's number and place.
-#[derive(Drop)]
+#[derive(Clone, Copy)]
 pub enum Written {
     Bytes(usize),
     Refused(u64, usize),
@@ -15,7 +16,7 @@ pub enum Written {
 
 // Sets every word of the table to 0.
 pub fn clear(table: &mut [u64])
-    ensures { new table ≡ replicate (length (old table)) 0 }
+    ensures { table.new ≡ replicate (length table.old) 0 }
 {
     let mut i: usize = 0;
     while i < table.len() {
@@ -26,7 +27,7 @@ pub fn clear(table: &mut [u64])
 
 // Sets every word of the table from `from` on to 0.
 pub fn clear_from(table: &mut [u64], from: usize)
-    ensures { new table ≡ take from (old table) ++ replicate (length (old table) - from) 0 }
+    ensures { table.new ≡ take from table.old ++ replicate (length table.old - from) 0 }
 {
     if from < table.len() {
         clear(&mut table[from..]);
@@ -35,7 +36,7 @@ pub fn clear_from(table: &mut [u64], from: usize)
 
 // Sets every byte to 0.
 pub fn clear_bytes(bytes: &mut [u8])
-    ensures { new bytes ≡ replicate (length (old bytes)) 0 }
+    ensures { bytes.new ≡ replicate (length bytes.old) 0 }
 {
     let mut at: usize = 0;
     while at < bytes.len() {
@@ -46,7 +47,7 @@ pub fn clear_bytes(bytes: &mut [u8])
 
 // Sets every byte from `from` on to 0.
 pub fn clear_bytes_from(bytes: &mut [u8], from: usize)
-    ensures { new bytes ≡ take from (old bytes) ++ replicate (length (old bytes) - from) 0 }
+    ensures { bytes.new ≡ take from bytes.old ++ replicate (length bytes.old - from) 0 }
 {
     if from < bytes.len() {
         clear_bytes(&mut bytes[from..]);
@@ -56,7 +57,7 @@ pub fn clear_bytes_from(bytes: &mut [u8], from: usize)
 // Stores the words from `at` on.
 pub fn store(table: &mut [u64], at: usize, words: &[u64])
     requires { at + length words.now ≤ length table.old }
-    ensures { new table ≡ sets (old table) at (old words) }
+    ensures { table.new ≡ sets table.old at words.now }
 {
     let mut i = 0;
     while i < words.len() {
@@ -68,7 +69,7 @@ pub fn store(table: &mut [u64], at: usize, words: &[u64])
 // Stores the bytes from `at` on.
 pub fn store_bytes(out: &mut [u8], at: usize, bytes: &[u8])
     requires { length bytes.now ≤ length out.old - at }
-    ensures { new out ≡ sets (old out) at (old bytes) }
+    ensures { out.new ≡ sets out.old at bytes.now }
 {
     let mut i = 0;
     while i < bytes.len() {
@@ -100,7 +101,7 @@ pub fn on(to: usize, size: usize) -> usize
 // Puts one byte. A writer is given the place of its first byte and answers the place after its last one, also where the buffer has no room for all of
 // its bytes: so the same function measures.
 pub fn put_byte(out: &mut [u8], to: usize, byte: u8) -> usize
-    ensures { Counts (old out) (new out) to (byte ∷ []) result }
+    ensures { Counts out.old out.new to (byte ∷ []) result }
 {
     if to < out.len() {
         out[to] = byte;
@@ -111,7 +112,7 @@ pub fn put_byte(out: &mut [u8], to: usize, byte: u8) -> usize
 
 // Puts bytes. They are stored only where all of them fit, so to measure them costs nothing.
 pub fn put_bytes(out: &mut [u8], to: usize, bytes: &[u8]) -> usize
-    ensures { Counts (old out) (new out) to (old bytes) result }
+    ensures { Counts out.old out.new to bytes.now result }
 {
     let size = bytes.len();
     if room_at(out.len(), to) < size {
@@ -124,7 +125,7 @@ pub fn put_bytes(out: &mut [u8], to: usize, bytes: &[u8]) -> usize
 // Puts a part of other bytes: `size` of them, from `from` on.
 pub fn put_part(out: &mut [u8], to: usize, file: &[u8], from: usize, size: usize) -> usize
     requires { from + size ≤ length file.now }
-    ensures { Counts (old out) (new out) to (part (old file) from size) result }
+    ensures { Counts out.old out.new to (part file.now from size) result }
 {
     let end = from + size;
     put_bytes(out, to, &file[from..end])
@@ -155,7 +156,7 @@ fn digit_count(n: u64) -> usize
 // Stores the decimal digits from `from` up to `end`, the last one first.
 fn store_digits(out: &mut [u8], from: usize, end: usize, n: u64)
     requires { (end ≡ from + length (decimal n)) × (end ≤ length out.old) }
-    ensures { new out ≡ sets (old out) from (decimal n) }
+    ensures { out.new ≡ sets out.old from (decimal n) }
 {
     let mut at = end;
     let mut rest = n;
@@ -169,7 +170,7 @@ fn store_digits(out: &mut [u8], from: usize, end: usize, n: u64)
 
 // Puts a decimal number. Most have one digit, which is put straight away.
 pub fn put_decimal(out: &mut [u8], to: usize, n: u64) -> usize
-    ensures { Counts (old out) (new out) to (decimal n) result }
+    ensures { Counts out.old out.new to (decimal n) result }
 {
     if n < 10 {
         return put_byte(out, to, 0x30 + n as u8);

@@ -1,7 +1,8 @@
 // Node and item rows as words of a table: stored, read back, and found by where they start.
+#![tactic(auto)]
+
 ghost use Rattle.std.specs.Prelude.{◌≡◌, ◌≤◌, ◌*◌, ◌+◌, length, replicate};
 ghost use Rattle.std.proofs.lemmas.List.Edits.{sets};
-ghost use Rattle.room.specs.Moments.{old, new};
 ghost use Rattle.rows.specs.Rows.{node_width, item_width, node_words, item_words, node_from, item_from, nodes_in, row_starting, Rising};
 
 use cursor::{FilePlace, Item, Node};
@@ -9,7 +10,7 @@ use cursor::{FilePlace, Item, Node};
 // Stores a node row behind the `made` rows that are there.
 pub fn put_node(nodes: &mut [u64], made: usize, row: Node)
     requires { made * node_width + node_width ≤ length nodes.old }
-    ensures { new nodes ≡ sets (old nodes) (made * node_width) (node_words row) }
+    ensures { nodes.new ≡ sets nodes.old (made * node_width) (node_words row) }
 {
     let words = [
         row.start,
@@ -32,7 +33,7 @@ pub fn put_node(nodes: &mut [u64], made: usize, row: Node)
 // Stores an item row behind the `made` rows that are there.
 pub fn put_item(items: &mut [u64], made: usize, row: Item)
     requires { made * item_width + item_width ≤ length items.old }
-    ensures { new items ≡ sets (old items) (made * item_width) (item_words row) }
+    ensures { items.new ≡ sets items.old (made * item_width) (item_words row) }
 {
     let words = [
         row.node,
@@ -52,7 +53,7 @@ pub fn put_item(items: &mut [u64], made: usize, row: Item)
 // Row i of the node table.
 pub fn node_at(nodes: &[u64], i: usize) -> Node
     requires { i * node_width + node_width ≤ length nodes.now }
-    ensures { result ≡ node_from (old nodes) (i * node_width) }
+    ensures { result ≡ node_from nodes.now (i * node_width) }
 {
     let k = i * cursor::NODE_WIDTH;
     Node {
@@ -75,7 +76,7 @@ pub fn node_at(nodes: &[u64], i: usize) -> Node
 // Row i of the item table.
 pub fn item_at(items: &[u64], i: usize) -> Item
     requires { i * item_width + item_width ≤ length items.now }
-    ensures { result ≡ item_from (old items) (i * item_width) }
+    ensures { result ≡ item_from items.now (i * item_width) }
 {
     let k = i * cursor::ITEM_WIDTH;
     Item {
@@ -94,8 +95,8 @@ pub fn item_at(items: &[u64], i: usize) -> Item
 
 // Sets every word of both tables to 0.
 pub fn clear_all(nodes: &mut [u64], items: &mut [u64])
-    ensures nodes { new nodes ≡ replicate (length (old nodes)) 0 }
-    ensures items { new items ≡ replicate (length (old items)) 0 }
+    ensures nodes { nodes.new ≡ replicate (length nodes.old) 0 }
+    ensures items { items.new ≡ replicate (length items.old) 0 }
 {
     room::clear(nodes);
     room::clear(items);
@@ -104,7 +105,7 @@ pub fn clear_all(nodes: &mut [u64], items: &mut [u64])
 // The row that starts at the place; `count` if none does. The starts of the first `tree` rows rise.
 pub fn row_starting(nodes: &[u64], tree: usize, count: usize, place: FilePlace) -> usize
     requires { (tree ≤ count) × (count * node_width ≤ length nodes.now) × Rising (nodes_in tree nodes.now) }
-    ensures { result ≡ row_starting (nodes_in count (old nodes)) place.0 }
+    ensures { result ≡ row_starting (nodes_in count nodes.now) place.0 }
 {
     let mut low: usize = 0;
     let mut high = tree;

@@ -1,6 +1,7 @@
 // Writes the support sheet of a file: its nodes and its visible metadata, as lines of text, in two editions.
+#![tactic(auto)]
+
 ghost use Rattle.std.specs.Prelude.{◌≡◌, ◌≤◌, ◌*◌, ◌+◌, ◌-◌, min, leb, length};
-ghost use Rattle.room.specs.Moments.{old, new};
 ghost use Rattle.rows.specs.Rows.{node_width, item_width, item_from, nodes_in, items_from, items_in, ItemIn, ItemRows};
 ghost use Rattle.file.specs.Asking.{answered, nodes_left, items_left};
 ghost use Rattle.sheet.specs.Sheet.{head_fields, node_line, label, text_of, item_line, visible_line, node_lines, item_lines, group_lines, lines_in, write, write2, write_in, counted, kept};
@@ -21,7 +22,7 @@ fn put_head_fields(
     nodes: usize,
     items: usize,
 ) -> usize
-    ensures { Counts (old out) (new out) to (head_fields version size nodes items) result }
+    ensures { Counts out.old out.new to (head_fields version size nodes items) result }
 {
     let a = text::put_version(out, to, version);
     let b = text::put_number(out, a, size as u64);
@@ -32,7 +33,7 @@ fn put_head_fields(
 
 // Puts the line of a node row, which is row i. Past the room's end nothing is counted.
 fn put_node_line(out: &mut [u8], to: usize, i: usize, row: Node) -> usize
-    ensures { Fills (old out) (new out) to (node_line i row) result }
+    ensures { Fills out.old out.new to (node_line i row) result }
 {
     if out.len() < to {
         return to;
@@ -50,7 +51,7 @@ fn put_node_line(out: &mut [u8], to: usize, i: usize, row: Node) -> usize
 // Puts the lines of the node rows.
 fn put_node_lines(out: &mut [u8], to: usize, nodes: &[u64], count: usize) -> usize
     requires { count * node_width ≤ length nodes.now }
-    ensures { Fills (old out) (new out) to (node_lines 0 (nodes_in count (old nodes))) result }
+    ensures { Fills out.old out.new to (node_lines 0 (nodes_in count nodes.now)) result }
 {
     let mut next = to;
     let mut i = 0;
@@ -64,7 +65,7 @@ fn put_node_lines(out: &mut [u8], to: usize, nodes: &[u64], count: usize) -> usi
 // Puts the field of an item row: `C` and its name, or `S` and its number.
 fn put_label(out: &mut [u8], to: usize, file: &[u8], row: Item) -> usize
     requires { ItemIn (length file.now) row }
-    ensures { Counts (old out) (new out) to (label (old file) row) result }
+    ensures { Counts out.old out.new to (label file.now row) result }
 {
     let a = room::put_byte(out, to, 0x09);
     if row.kind == 1 {
@@ -79,7 +80,7 @@ fn put_label(out: &mut [u8], to: usize, file: &[u8], row: Item) -> usize
 // Puts the text of an item row.
 pub fn put_text(out: &mut [u8], to: usize, file: &[u8], row: Item) -> usize
     requires { ItemIn (length file.now) row }
-    ensures { Counts (old out) (new out) to (text_of (old file) row) result }
+    ensures { Counts out.old out.new to (text_of file.now row) result }
 {
     if row.format == 2 {
         return text::put_unicode(out, to, file, row.place as usize, row.size as usize);
@@ -90,7 +91,7 @@ pub fn put_text(out: &mut [u8], to: usize, file: &[u8], row: Item) -> usize
 // Puts the line of item row i. Its words are read where they are put: kept from before the line's first byte on, they would be stored and read again.
 pub fn put_item_line(out: &mut [u8], to: usize, file: &[u8], items: &[u64], i: usize) -> usize
     requires { (i * item_width + item_width ≤ length items.now) × ItemIn (length file.now) (item_from items.now (i * item_width)) }
-    ensures { Counts (old out) (new out) to (item_line (old file) (item_from (old items) (i * item_width))) result }
+    ensures { Counts out.old out.new to (item_line file.now (item_from items.now (i * item_width))) result }
 {
     let a = room::put_byte(out, to, b'M');
     let b = text::put_number(out, a, rows::item_at(items, i).node);
@@ -105,7 +106,7 @@ pub fn put_item_line(out: &mut [u8], to: usize, file: &[u8], items: &[u64], i: u
 // Puts the line of item row i, if the row is visible.
 pub fn put_visible_line(out: &mut [u8], to: usize, file: &[u8], items: &[u64], i: usize) -> usize
     requires { (i * item_width + item_width ≤ length items.now) × ItemIn (length file.now) (item_from items.now (i * item_width)) }
-    ensures { Counts (old out) (new out) to (visible_line (old file) (item_from (old items) (i * item_width))) result }
+    ensures { Counts out.old out.new to (visible_line file.now (item_from items.now (i * item_width))) result }
 {
     if rows::item_at(items, i).format % 2 == 1 {
         return to;
@@ -143,7 +144,7 @@ fn least_line(row: Item) -> u64
 // Whether the lines of item rows from one row up to another can fit from a place on, by what each has at least.
 fn may_fit(size: usize, to: usize, items: &[u64], from: usize, end: usize) -> bool
     requires { (from ≤ end) × (end * item_width ≤ length items.now) }
-    ensures { result ≡ leb (to + least_lines (items_from from (end - from) (old items))) size }
+    ensures { result ≡ leb (to + least_lines (items_from from (end - from) items.now)) size }
 {
     if size < to {
         return false;
@@ -172,7 +173,7 @@ fn put_item_lines(
     end: usize,
 ) -> usize
     requires { (from ≤ end) × ItemRows (length file.now) end items.now }
-    ensures { Fills (old out) (new out) to (item_lines (old file) (items_from from (end - from) (old items))) result }
+    ensures { Fills out.old out.new to (item_lines file.now (items_from from (end - from) items.now)) result }
 {
     if out.len() < file.len() {
         if !may_fit(out.len(), to, items, from, end) {
@@ -213,7 +214,7 @@ fn put_group_lines(
     contents: usize,
 ) -> usize
     requires { (rows * node_width ≤ length nodes.now) × ItemRows (length file.now) contents items.now }
-    ensures { Fills (old out) (new out) to (group_lines (old file) 0 (nodes_in rows (old nodes)) (items_in contents (old items))) result }
+    ensures { Fills out.old out.new to (group_lines file.now 0 (nodes_in rows nodes.now) (items_in contents items.now)) result }
 {
     let mut next = to;
     let mut i = 0;
@@ -241,7 +242,7 @@ fn put_sheet(
     second: bool,
 ) -> usize
     requires { (rows * node_width ≤ length nodes.now) × ItemRows (length file.now) contents items.now }
-    ensures { Fills (old out) (new out) 0 (lines_in second version (old file) (nodes_in rows (old nodes)) (items_in contents (old items))) result }
+    ensures { Fills out.old out.new 0 (lines_in second version file.now (nodes_in rows nodes.now) (items_in contents items.now)) result }
 {
     if second {
         let word = room::put_bytes(out, 0, b"XMF2\t");
@@ -262,10 +263,10 @@ fn write_edition(
     sheet: &mut [u8],
     second: bool,
 ) -> Written
-    ensures answer { told result ≡ counted (answered (old nodes) (old items) (old file) (write_in second (length (old sheet)))) }
-    ensures nodes { new nodes ≡ nodes_left (old nodes) (old items) (old file) (write_in second (length (old sheet))) }
-    ensures items { new items ≡ items_left (old nodes) (old items) (old file) (write_in second (length (old sheet))) }
-    ensures sheet { new sheet ≡ kept (length (old sheet)) (answered (old nodes) (old items) (old file) (write_in second (length (old sheet)))) }
+    ensures answer { told result ≡ counted (answered nodes.old items.old file.now (write_in second (length sheet.old))) }
+    ensures nodes { nodes.new ≡ nodes_left nodes.old items.old file.now (write_in second (length sheet.old)) }
+    ensures items { items.new ≡ items_left nodes.old items.old file.now (write_in second (length sheet.old)) }
+    ensures sheet { sheet.new ≡ kept (length sheet.old) (answered nodes.old items.old file.now (write_in second (length sheet.old))) }
 {
     match file::read_file(file, nodes, items) {
         Read::Refused(n, p) => {
@@ -289,20 +290,20 @@ fn write_edition(
 
 // Reads a file and writes its support sheet.
 pub fn write_sheet(file: &[u8], nodes: &mut [u64], items: &mut [u64], sheet: &mut [u8]) -> Written
-    ensures answer { told result ≡ counted (answered (old nodes) (old items) (old file) (write (length (old sheet)))) }
-    ensures nodes { new nodes ≡ nodes_left (old nodes) (old items) (old file) (write (length (old sheet))) }
-    ensures items { new items ≡ items_left (old nodes) (old items) (old file) (write (length (old sheet))) }
-    ensures sheet { new sheet ≡ kept (length (old sheet)) (answered (old nodes) (old items) (old file) (write (length (old sheet)))) }
+    ensures answer { told result ≡ counted (answered nodes.old items.old file.now (write (length sheet.old))) }
+    ensures nodes { nodes.new ≡ nodes_left nodes.old items.old file.now (write (length sheet.old)) }
+    ensures items { items.new ≡ items_left nodes.old items.old file.now (write (length sheet.old)) }
+    ensures sheet { sheet.new ≡ kept (length sheet.old) (answered nodes.old items.old file.now (write (length sheet.old))) }
 {
     write_edition(file, nodes, items, sheet, false)
 }
 
 // Reads a file and writes its support sheet in the second edition.
 pub fn write_sheet2(file: &[u8], nodes: &mut [u64], items: &mut [u64], sheet: &mut [u8]) -> Written
-    ensures answer { told result ≡ counted (answered (old nodes) (old items) (old file) (write2 (length (old sheet)))) }
-    ensures nodes { new nodes ≡ nodes_left (old nodes) (old items) (old file) (write2 (length (old sheet))) }
-    ensures items { new items ≡ items_left (old nodes) (old items) (old file) (write2 (length (old sheet))) }
-    ensures sheet { new sheet ≡ kept (length (old sheet)) (answered (old nodes) (old items) (old file) (write2 (length (old sheet)))) }
+    ensures answer { told result ≡ counted (answered nodes.old items.old file.now (write2 (length sheet.old))) }
+    ensures nodes { nodes.new ≡ nodes_left nodes.old items.old file.now (write2 (length sheet.old)) }
+    ensures items { items.new ≡ items_left nodes.old items.old file.now (write2 (length sheet.old)) }
+    ensures sheet { sheet.new ≡ kept (length sheet.old) (answered nodes.old items.old file.now (write2 (length sheet.old))) }
 {
     write_edition(file, nodes, items, sheet, true)
 }

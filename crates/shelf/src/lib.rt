@@ -1,7 +1,8 @@
 // A shelf: a lent row of cards, at most 16, and a lent text of 16 equal parts that holds their sheets; part and card go together by number. Two forms with the same
 // definition: the cards lent as words, four a card, and the cards lent as structs.
+#![tactic(auto)]
+
 ghost use Rattle.std.specs.Prelude.{◌≡◌, ◌+◌, ◌/◌, ◌≤◌, ◌<◌, min, length, get_or, take, drop, set};
-ghost use Rattle.room.specs.Moments.{old, new};
 ghost use Rattle.room.specs.Room.{good, padded, fitting, counted, kept};
 ghost use Rattle.shelf.specs.Shelf.{label, fresh_card, is_free, is_for, first, is_faulty, faulty, is_damaged, with_part, found, place};
 ghost use Rattle.shelf.specs.Runs.{putting, getting, dropping, answer, next};
@@ -11,7 +12,7 @@ ghost use Rattle.shelf.specs.declared.Card.{Card};
 ghost use Rattle.shelf.specs.Told.{told_outcome, told_got, told_found, Changes, Given, Gets};
 
 // A card: the desk, call and boat of a sheet, and its length in bytes. The sheet is in the part of the same number. A card with call 0 is free.
-#[derive(Drop)]
+#[derive(Clone, Copy)]
 pub struct Card {
     pub desk: u64,
     pub call: u64,
@@ -20,21 +21,21 @@ pub struct Card {
 }
 
 // The answer to put and drop.
-#[derive(Drop)]
+#[derive(Clone, Copy)]
 pub enum Outcome {
     Done,
     Refused(u64, usize),
 }
 
 // The answer to get: the number of bytes of the sheet; or the refusal's number and place.
-#[derive(Drop)]
+#[derive(Clone, Copy)]
 pub enum Got {
     Sheet(usize),
     Refused(u64, usize),
 }
 
 // The number of a card; or the refusal's number, whose place is 0.
-#[derive(Drop)]
+#[derive(Clone, Copy)]
 pub enum Found {
     At(usize),
     Refused(u64),
@@ -48,7 +49,7 @@ pub const MOST_CARDS: usize = 16;
 // Card i.
 fn card_at(words: &[u64], i: usize) -> Card
     requires { i < length words.now / 4 }
-    ensures { result ≡ get_or (cards_of (old words)) i fresh_card }
+    ensures { result ≡ get_or (cards_of words.now) i fresh_card }
 {
     let k = i * 4;
     let desk = words[k];
@@ -66,7 +67,7 @@ fn card_at(words: &[u64], i: usize) -> Card
 // Replaces card i.
 fn store_card(words: &mut [u64], i: usize, c: Card)
     requires { i < length words.old / 4 }
-    ensures { new words ≡ words_with (old words) (set (cards_of (old words)) i c) }
+    ensures { words.new ≡ words_with words.old (set (cards_of words.old) i c) }
 {
     let row = [c.desk, c.call, c.boat, c.length];
     room::store(words, i * 4, &row);
@@ -88,7 +89,7 @@ fn is_for(c: Card, desk: u64, call: u64, boat: u64) -> bool
 // The first card from `from` on with this desk, call and boat; the number of cards if there is none.
 fn find_from(words: &[u64], from: usize, desk: u64, call: u64, boat: u64) -> usize
     requires { from ≤ length words.now / 4 }
-    ensures { result ≡ from + first (is_for (label desk call boat)) (drop from (cards_of (old words))) }
+    ensures { result ≡ from + first (is_for (label desk call boat)) (drop from (cards_of words.now)) }
 {
     let n = words.len() / 4;
     let mut i = from;
@@ -103,7 +104,7 @@ fn find_from(words: &[u64], from: usize, desk: u64, call: u64, boat: u64) -> usi
 
 // The lowest free card; the number of cards if there is none.
 fn find_free(words: &[u64]) -> usize
-    ensures { result ≡ first is_free (cards_of (old words)) }
+    ensures { result ≡ first is_free (cards_of words.now) }
 {
     let n = words.len() / 4;
     let mut i = 0;
@@ -120,7 +121,7 @@ fn find_free(words: &[u64]) -> usize
 // Whether card i is taken and its sheet is longer than a part, or a later card has its desk, call and boat.
 fn is_card_faulty(words: &[u64], part: usize, i: usize) -> bool
     requires { i < length words.now / 4 }
-    ensures { result ≡ is_faulty part (get_or (cards_of (old words)) i fresh_card) (drop (i + 1) (cards_of (old words))) }
+    ensures { result ≡ is_faulty part (get_or (cards_of words.now) i fresh_card) (drop (i + 1) (cards_of words.now)) }
 {
     let c = card_at(words, i);
     if c.call == 0 {
@@ -134,7 +135,7 @@ fn is_card_faulty(words: &[u64], part: usize, i: usize) -> bool
 
 // Whether a card is at fault.
 fn is_faulty(words: &[u64], part: usize) -> bool
-    ensures { result ≡ faulty part (cards_of (old words)) }
+    ensures { result ≡ faulty part (cards_of words.now) }
 {
     let n = words.len() / 4;
     let mut i = 0;
@@ -149,7 +150,7 @@ fn is_faulty(words: &[u64], part: usize) -> bool
 
 // Whether there are more than 16 cards, or one is at fault.
 fn is_damaged(words: &[u64], part: usize) -> bool
-    ensures { result ≡ is_damaged part (cards_of (old words)) }
+    ensures { result ≡ is_damaged part (cards_of words.now) }
 {
     if MOST_CARDS < words.len() / 4 {
         return true;
@@ -159,7 +160,7 @@ fn is_damaged(words: &[u64], part: usize) -> bool
 
 // The card of a sheet, where a part has `part` bytes.
 fn find_sheet(words: &[u64], part: usize, desk: u64, call: u64, boat: u64) -> Found
-    ensures { told_found result ≡ found (label desk call boat) part (cards_of (old words)) }
+    ensures { told_found result ≡ found (label desk call boat) part (cards_of words.now) }
 {
     if is_damaged(words, part) {
         return Found::Refused(cursor::DAMAGED_SHELF);
@@ -176,7 +177,7 @@ fn find_sheet(words: &[u64], part: usize, desk: u64, call: u64, boat: u64) -> Fo
 
 // The card for a new sheet of `size` bytes.
 fn find_place(words: &[u64], part: usize, desk: u64, call: u64, boat: u64, size: usize) -> Found
-    ensures { told_found result ≡ place (label desk call boat) size part (cards_of (old words)) }
+    ensures { told_found result ≡ place (label desk call boat) size part (cards_of words.now) }
 {
     if is_damaged(words, part) {
         return Found::Refused(cursor::DAMAGED_SHELF);
@@ -204,7 +205,7 @@ fn find_place(words: &[u64], part: usize, desk: u64, call: u64, boat: u64, size:
 // Fills lent room with a sheet and then zeros.
 fn fill(out: &mut [u8], sheet: &[u8])
     requires { length sheet.now ≤ length out.old }
-    ensures { new out ≡ padded (length (old out)) (old sheet) }
+    ensures { out.new ≡ padded (length out.old) sheet.now }
 {
     room::store_bytes(out, 0, sheet);
     room::clear_bytes_from(out, sheet.len());
@@ -213,7 +214,7 @@ fn fill(out: &mut [u8], sheet: &[u8])
 // Fills part i of the text.
 fn store_part(text: &mut [u8], i: usize, sheet: &[u8])
     requires { (i < 16) × (length sheet.now ≤ length text.old / 16) }
-    ensures { new text ≡ with_part (old text) i (old sheet) }
+    ensures { text.new ≡ with_part text.old i sheet.now }
 {
     let part = text.len() / MOST_CARDS;
     let at = i * part;
@@ -224,7 +225,7 @@ fn store_part(text: &mut [u8], i: usize, sheet: &[u8])
 // Answers the sheet of `size` bytes at `at`, and fills the buffer.
 fn give(text: &[u8], at: usize, size: usize, out: &mut [u8]) -> Got
     requires { at + size ≤ length text.now }
-    ensures { Given (fitting (length (old out)) (good (take size (drop at (old text))))) (told_got result) (old out) (new out) }
+    ensures { Given (fitting (length out.old) (good (take size (drop at text.now)))) (told_got result) out.old out.new }
 {
     if out.len() < size {
         room::clear_bytes(out);
@@ -246,9 +247,9 @@ pub fn put_words(
     boat: u64,
     sheet: &[u8],
 ) -> Outcome
-    ensures result_value { told_outcome result ≡ answer (putting (label desk call boat) (old sheet)) (shelf_of (old words) (old text)) }
-    ensures words_value { new words ≡ words_with (old words) (next (putting (label desk call boat) (old sheet)) (shelf_of (old words) (old text))).cards }
-    ensures text_value { new text ≡ (next (putting (label desk call boat) (old sheet)) (shelf_of (old words) (old text))).text }
+    ensures result_value { told_outcome result ≡ answer (putting (label desk call boat) sheet.now) (shelf_of words.old text.old) }
+    ensures words_value { words.new ≡ words_with words.old (next (putting (label desk call boat) sheet.now) (shelf_of words.old text.old)).cards }
+    ensures text_value { text.new ≡ (next (putting (label desk call boat) sheet.now) (shelf_of words.old text.old)).text }
 {
     let place = find_place(
         words,
@@ -280,8 +281,8 @@ pub fn put_words(
 
 // Gets the sheet of a desk, a call and a boat into the buffer. A refusal clears the buffer.
 pub fn get_words(words: &[u64], text: &[u8], desk: u64, call: u64, boat: u64, out: &mut [u8]) -> Got
-    ensures result_value { told_got result ≡ counted (answer (getting (label desk call boat) (length (old out))) (shelf_of (old words) (old text))) }
-    ensures out_value { new out ≡ kept (length (old out)) (answer (getting (label desk call boat) (length (old out))) (shelf_of (old words) (old text))) }
+    ensures result_value { told_got result ≡ counted (answer (getting (label desk call boat) (length out.old)) (shelf_of words.now text.now)) }
+    ensures out_value { out.new ≡ kept (length out.old) (answer (getting (label desk call boat) (length out.old)) (shelf_of words.now text.now)) }
 {
     let part = text.len() / MOST_CARDS;
     let place = find_sheet(words, part, desk, call, boat);
@@ -299,9 +300,9 @@ pub fn get_words(words: &[u64], text: &[u8], desk: u64, call: u64, boat: u64, ou
 
 // Drops the sheet of a desk, a call and a boat: its card and its part are cleared. A refusal leaves shelf and text as they were.
 pub fn drop_words(words: &mut [u64], text: &mut [u8], desk: u64, call: u64, boat: u64) -> Outcome
-    ensures result_value { told_outcome result ≡ answer (dropping (label desk call boat)) (shelf_of (old words) (old text)) }
-    ensures words_value { new words ≡ words_with (old words) (next (dropping (label desk call boat)) (shelf_of (old words) (old text))).cards }
-    ensures text_value { new text ≡ (next (dropping (label desk call boat)) (shelf_of (old words) (old text))).text }
+    ensures result_value { told_outcome result ≡ answer (dropping (label desk call boat)) (shelf_of words.old text.old) }
+    ensures words_value { words.new ≡ words_with words.old (next (dropping (label desk call boat)) (shelf_of words.old text.old)).cards }
+    ensures text_value { text.new ≡ (next (dropping (label desk call boat)) (shelf_of words.old text.old)).text }
 {
     let place = find_sheet(words, text.len() / MOST_CARDS, desk, call, boat);
     match place {
@@ -359,7 +360,7 @@ fn cards_of(w: [u64; 64]) -> [Card; 16]
 }
 
 // What a call on an array leaves: its cards, and the refusal's number, 0 if there is none.
-#[derive(Drop)]
+#[derive(Clone, Copy)]
 pub struct Left {
     pub cards: [Card; 16],
     pub code: u64,
@@ -395,7 +396,7 @@ fn put_in(
     boat: u64,
     sheet: &[u8],
 ) -> Left
-    ensures { OfCards n a (λ ys. Changes (putting (label desk call boat) (old sheet)) (row_of ys (old text)) (from_code result.code) (laid (min n 16) result.cards ys) (new text)) }
+    ensures { OfCards n a (λ ys. Changes (putting (label desk call boat) sheet.now) (row_of ys text.old) (from_code result.code) (laid (min n 16) result.cards ys) text.new) }
 {
     if MOST_CARDS < n {
         return Left {
@@ -421,7 +422,7 @@ fn get_in(
     boat: u64,
     out: &mut [u8],
 ) -> Got
-    ensures { OfCards n a (λ ys. Gets (label desk call boat) (row_of ys (old text)) (told_got result) (old out) (new out)) }
+    ensures { OfCards n a (λ ys. Gets (label desk call boat) (row_of ys text.now) (told_got result) out.old out.new) }
 {
     if MOST_CARDS < n {
         room::clear_bytes(out);
@@ -434,7 +435,7 @@ fn get_in(
 
 // Drop, likewise.
 fn drop_in(a: [Card; 16], n: usize, text: &mut [u8], desk: u64, call: u64, boat: u64) -> Left
-    ensures { OfCards n a (λ ys. Changes (dropping (label desk call boat)) (row_of ys (old text)) (from_code result.code) (laid (min n 16) result.cards ys) (new text)) }
+    ensures { OfCards n a (λ ys. Changes (dropping (label desk call boat)) (row_of ys text.old) (from_code result.code) (laid (min n 16) result.cards ys) text.new) }
 {
     if MOST_CARDS < n {
         return Left {
@@ -460,7 +461,7 @@ fn clamp(n: usize) -> usize
 // The first n cards of a shelf, in an array whose other cards are fresh.
 fn load(cards: &[Card], n: usize) -> [Card; 16]
     requires { (n ≤ length cards.now) × (n ≤ 16) }
-    ensures { result ≡ laid n (old cards) blank }
+    ensures { result ≡ laid n cards.now blank }
 {
     let mut a = [Card {
         desk: 0,
@@ -479,7 +480,7 @@ fn load(cards: &[Card], n: usize) -> [Card; 16]
 // Replaces the first n cards of a shelf by those of an array.
 fn store(cards: &mut [Card], n: usize, a: [Card; 16])
     requires { (n ≤ length cards.old) × (n ≤ 16) }
-    ensures { new cards ≡ laid n a (old cards) }
+    ensures { cards.new ≡ laid n a cards.old }
 {
     let mut i = 0usize;
     while i < n {
@@ -497,7 +498,7 @@ pub fn put(
     boat: u64,
     sheet: &[u8],
 ) -> Outcome
-    ensures { Changes (putting (label desk call boat) (old sheet)) (row_of (old cards) (old text)) (told_outcome result) (new cards) (new text) }
+    ensures { Changes (putting (label desk call boat) sheet.now) (row_of cards.old text.old) (told_outcome result) cards.new text.new }
 {
     let n = clamp(cards.len());
     let a = load(cards, n);
@@ -509,7 +510,7 @@ pub fn put(
 
 // Gets the sheet of a desk, a call and a boat into the buffer. A refusal clears the buffer.
 pub fn get(cards: &[Card], text: &[u8], desk: u64, call: u64, boat: u64, out: &mut [u8]) -> Got
-    ensures { Gets (label desk call boat) (row_of (old cards) (old text)) (told_got result) (old out) (new out) }
+    ensures { Gets (label desk call boat) (row_of cards.now text.now) (told_got result) out.old out.new }
 {
     let n = clamp(cards.len());
     let a = load(cards, n);
@@ -518,7 +519,7 @@ pub fn get(cards: &[Card], text: &[u8], desk: u64, call: u64, boat: u64, out: &m
 
 // Drops the sheet of a desk, a call and a boat: its card and its part are cleared. A refusal leaves shelf and text as they were.
 pub fn drop(cards: &mut [Card], text: &mut [u8], desk: u64, call: u64, boat: u64) -> Outcome
-    ensures { Changes (dropping (label desk call boat)) (row_of (old cards) (old text)) (told_outcome result) (new cards) (new text) }
+    ensures { Changes (dropping (label desk call boat)) (row_of cards.old text.old) (told_outcome result) cards.new text.new }
 {
     let n = clamp(cards.len());
     let a = load(cards, n);

@@ -1,6 +1,7 @@
 // The file of a shelf: 16 cards of four 8-byte numbers, high byte first, then the text, 16 parts of 65,536 bytes. The calls on a shelf, of the file's bytes.
+#![tactic(auto)]
+
 ghost use Rattle.std.specs.Prelude.{◌≡◌, ◌+◌, ◌≤◌, ◌<◌, length};
-ghost use Rattle.room.specs.Moments.{old, new};
 ghost use Rattle.room.specs.Counts.{Counts};
 ghost use Rattle.room.specs.Room.{counted, kept};
 ghost use Rattle.shelf.specs.Shelf.{label, fresh};
@@ -28,7 +29,7 @@ fn wide(b: u8) -> u64
 // The number that the eight bytes from a place on say.
 fn word_at(file: &[u8], at: usize) -> u64
     requires { at + 8 ≤ length file.now }
-    ensures { result ≡ word_at (old file) at }
+    ensures { result ≡ word_at file.now at }
 {
     let a = wide(file[at]);
     let b = wide(file[at + 1]);
@@ -66,7 +67,7 @@ fn eight(value: u64) -> [u8; 8]
 
 // Puts a number in eight bytes.
 fn put_eight(out: &mut [u8], to: usize, value: u64) -> usize
-    ensures { Counts (old out) (new out) to (eight value) result }
+    ensures { Counts out.old out.new to (eight value) result }
 {
     let bytes = eight(value);
     room::put_bytes(out, to, &bytes)
@@ -77,7 +78,7 @@ fn put_eight(out: &mut [u8], to: usize, value: u64) -> usize
 // The words of the cards.
 fn words_in(file: &[u8]) -> [u64; 64]
     requires { 512 ≤ length file.now }
-    ensures { result ≡ words_from 64 (old file) 0 }
+    ensures { result ≡ words_from 64 file.now 0 }
 {
     let mut words = [0u64; 64];
     let mut i = 0usize;
@@ -90,7 +91,7 @@ fn words_in(file: &[u8]) -> [u64; 64]
 
 // Puts words from the first byte on.
 fn put_words(out: &mut [u8], words: &[u64]) -> usize
-    ensures { Counts (old out) (new out) 0 (eights (old words)) result }
+    ensures { Counts out.old out.new 0 (eights words.now) result }
 {
     let mut next = 0usize;
     let mut i = 0usize;
@@ -113,8 +114,8 @@ pub fn new() -> [u8; 1049088]
 
 // Puts a sheet.
 pub fn put(file: &mut [u8], desk: u64, call: u64, boat: u64, sheet: &[u8]) -> Outcome
-    ensures result_value { told_outcome result ≡ answer_in (putting (label desk call boat) (old sheet)) (old file) }
-    ensures file_value { new file ≡ file_after (putting (label desk call boat) (old sheet)) (old file) }
+    ensures result_value { told_outcome result ≡ answer_in (putting (label desk call boat) sheet.now) file.old }
+    ensures file_value { file.new ≡ file_after (putting (label desk call boat) sheet.now) file.old }
 {
     if file.len() != SIZE {
         return Outcome::Refused(cursor::DAMAGED_SHELF, 0);
@@ -127,8 +128,8 @@ pub fn put(file: &mut [u8], desk: u64, call: u64, boat: u64, sheet: &[u8]) -> Ou
 
 // Gets a sheet into the buffer. A refusal clears it.
 pub fn get(file: &[u8], desk: u64, call: u64, boat: u64, out: &mut [u8]) -> Got
-    ensures result_value { told_got result ≡ counted (answer_in (getting (label desk call boat) (length (old out))) (old file)) }
-    ensures out_value { new out ≡ kept (length (old out)) (answer_in (getting (label desk call boat) (length (old out))) (old file)) }
+    ensures result_value { told_got result ≡ counted (answer_in (getting (label desk call boat) (length out.old)) file.now) }
+    ensures out_value { out.new ≡ kept (length out.old) (answer_in (getting (label desk call boat) (length out.old)) file.now) }
 {
     if file.len() != SIZE {
         room::clear_bytes(out);
@@ -140,8 +141,8 @@ pub fn get(file: &[u8], desk: u64, call: u64, boat: u64, out: &mut [u8]) -> Got
 
 // Drops a sheet.
 pub fn drop(file: &mut [u8], desk: u64, call: u64, boat: u64) -> Outcome
-    ensures result_value { told_outcome result ≡ answer_in (dropping (label desk call boat)) (old file) }
-    ensures file_value { new file ≡ file_after (dropping (label desk call boat)) (old file) }
+    ensures result_value { told_outcome result ≡ answer_in (dropping (label desk call boat)) file.old }
+    ensures file_value { file.new ≡ file_after (dropping (label desk call boat)) file.old }
 {
     if file.len() != SIZE {
         return Outcome::Refused(cursor::DAMAGED_SHELF, 0);
@@ -156,7 +157,7 @@ pub fn drop(file: &mut [u8], desk: u64, call: u64, boat: u64) -> Outcome
 
 // Puts the line of a refusal.
 pub fn put_refusal(out: &mut [u8], number: u64, place: usize) -> usize
-    ensures { Counts (old out) (new out) 0 (refusal_line number place) result }
+    ensures { Counts out.old out.new 0 (refusal_line number place) result }
 {
     let a = room::put_bytes(out, 0, b"R\t");
     let b = room::put_decimal(out, a, number);

@@ -1,5 +1,7 @@
 // The calls on the file of a shelf, whose bytes are `shelf_file`'s. A call reads the file whole and, where it changes the shelf, puts a new file in its place; the script
 // holds a lock meanwhile.
+#![tactic(auto)]
+
 ghost use Rattle.std.specs.Prelude.{◌≡◌, length};
 
 use shelf::{Got, Outcome};

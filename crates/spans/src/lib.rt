@@ -1,6 +1,7 @@
 // The runs of a file: the longest spans of places of one kind, in file order.
+#![tactic(auto)]
+
 ghost use Rattle.std.specs.Prelude.{◌<◌, length};
-ghost use Rattle.room.specs.Moments.{old, new};
 ghost use Rattle.room.specs.Counts.{Counts};
 ghost use Rattle.lines.specs.Answer.{Gives};
 ghost use Rattle.text.specs.Text.{tabbed};
@@ -11,7 +12,7 @@ use room::Written;
 
 // Puts the field of a kind: a tab and its name.
 fn put_name(out: &mut [u8], to: usize, kind: u8) -> usize
-    ensures { Counts (old out) (new out) to (tabbed (name_of kind)) result }
+    ensures { Counts out.old out.new to (tabbed (name_of kind)) result }
 {
     match kind {
         0 => room::put_bytes(out, to, b"\tfile header"),
@@ -29,7 +30,7 @@ fn put_name(out: &mut [u8], to: usize, kind: u8) -> usize
 
 // Puts the line of a run.
 fn put_run(out: &mut [u8], to: usize, place: usize, size: usize, kind: u8) -> usize
-    ensures { Counts (old out) (new out) to (run_line (record { place = place; size = size; kind = kind })) result }
+    ensures { Counts out.old out.new to (run_line (record { place = place; size = size; kind = kind })) result }
 {
     let a = room::put_byte(out, to, b'K');
     let b = text::put_number(out, a, place as u64);
@@ -41,7 +42,7 @@ fn put_run(out: &mut [u8], to: usize, place: usize, size: usize, kind: u8) -> us
 // Where the run that begins at `place` ends.
 fn run_end(kinds: &[u8], place: usize) -> usize
     requires { place < length kinds.now }
-    ensures { Ends (old kinds) place result }
+    ensures { Ends kinds.now place result }
 {
     let mut at = place + 1;
     while at < kinds.len() {
@@ -55,7 +56,7 @@ fn run_end(kinds: &[u8], place: usize) -> usize
 
 // Puts the lines of the runs of these kinds.
 fn put_runs(out: &mut [u8], kinds: &[u8]) -> usize
-    ensures { Counts (old out) (new out) 0 (run_lines (runs_of (old kinds))) result }
+    ensures { Counts out.old out.new 0 (run_lines (runs_of kinds.now)) result }
 {
     let mut next: usize = 0;
     let mut place: usize = 0;
@@ -68,7 +69,7 @@ fn put_runs(out: &mut [u8], kinds: &[u8]) -> usize
 }
 
 pub fn make_runs(file: &[u8], text: &mut [u8]) -> Made
-    ensures { Gives (length (old text)) result (new text) (runs_answer (length (old text)) (old file)) }
+    ensures { Gives (length text.old) result text.new (runs_answer (length text.old) file.now) }
 {
     let mut nodes = program::node_table();
     let mut items = program::item_table();

@@ -1,11 +1,12 @@
 // What the words of a command line spell: a number, bytes in hex, the descriptor for the status; and what is asked of a title's bytes and of a file's name.
+#![tactic(auto)]
+
 ghost use Rattle.std.specs.Prelude.{◌≡◌, ℕ, ◌+◌, ◌*◌, ◌≤◌, length};
-ghost use Rattle.room.specs.Moments.{old, new};
 ghost use Rattle.io.specs.Counts.{IsPrefixLen};
 ghost use Rattle.spelling.specs.Spelling.{held, number_of, hex_value, Spelt, descriptor_of, Names, has_high, LastSlash, if_within};
 
 // A decimal number, where one that is too large stands for the largest that a word holds; or no number.
-#[derive(Drop)]
+#[derive(Clone, Copy)]
 pub enum Number {
     Is(u64),
     None,
@@ -25,7 +26,7 @@ fn push(value: u64, digit: u8) -> u64
 
 // The number that a word spells.
 pub fn decimal(word: &[u8]) -> Number
-    ensures { result ≡ number_of (old word) }
+    ensures { result ≡ number_of word.now }
 {
     if word.len() == 0 {
         return Number::None;
@@ -73,7 +74,7 @@ fn digit(b: u8) -> u8
 
 // Stores the bytes that hex digits spell, two digits to a byte; answers whether they spell any that have room.
 pub fn spell(digits: &[u8], bytes: &mut [u8]) -> bool
-    ensures { Spelt (old digits) (old bytes) (new bytes) result }
+    ensures { Spelt digits.now bytes.old bytes.new result }
 {
     if digits.len() % 2 != 0 {
         return false;
@@ -112,7 +113,7 @@ fn descriptor(digit: u8) -> i32
 
 // The descriptor for the status that a word names: `--status=` and a digit; -1 for none.
 pub fn status(word: &[u8]) -> i32
-    ensures { Names (old word) result }
+    ensures { Names word.now result }
 {
     if word.len() != 10 {
         return -1;
@@ -125,7 +126,7 @@ pub fn status(word: &[u8]) -> i32
 
 // Whether some byte is 80h or more.
 pub fn has_high(bytes: &[u8]) -> bool
-    ensures { result ≡ has_high (old bytes) }
+    ensures { result ≡ has_high bytes.now }
 {
     let mut i = 0;
     while i < bytes.len() {
@@ -139,8 +140,8 @@ pub fn has_high(bytes: &[u8]) -> bool
 
 // The number of a name's bytes up to its last slash.
 pub fn folder_size(name: &[u8]) -> usize
-    ensures prefix_len { IsPrefixLen result (old name) }
-    ensures last_slash { LastSlash (old name) result }
+    ensures prefix_len { IsPrefixLen result name.now }
+    ensures last_slash { LastSlash name.now result }
 {
     let mut n = name.len();
     while n > 0 {
@@ -154,8 +155,8 @@ pub fn folder_size(name: &[u8]) -> usize
 
 // n bytes at the start of a buffer; none where it has fewer.
 pub fn within(n: usize, buf: &[u8]) -> usize
-    ensures prefix_len { IsPrefixLen result (old buf) }
-    ensures value { result ≡ if_within n (length (old buf)) }
+    ensures prefix_len { IsPrefixLen result buf.now }
+    ensures value { result ≡ if_within n (length buf.now) }
 {
     if n <= buf.len() {
         return n;

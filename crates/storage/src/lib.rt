@@ -1,9 +1,10 @@
 // Files that are read, and files that are made.
+#![tactic(auto)]
+
 mod made;
 mod placed;
 mod replaced;
 
-ghost use Rattle.room.specs.Moments.{new};
 ghost use Rattle.io.specs.Counts.{IsPrefixLen};
 
 use libc::STDIN_FILENO;
@@ -12,7 +13,7 @@ use program::Input;
 pub use replaced::replace;
 
 // How many bytes of an input stand at the start of the buffer, and whether it could be read.
-#[derive(Drop)]
+#[derive(Clone, Copy)]
 pub struct Got {
     pub size: usize,
     pub right: bool,
@@ -20,7 +21,7 @@ pub struct Got {
 
 // Reads an input.
 fn read_from(fd: i32, buf: &mut [u8]) -> Got
-    ensures { IsPrefixLen result.size (new buf) }
+    ensures { IsPrefixLen result.size buf.new }
 {
     match program::read_input(fd, buf) {
         Input::Failed => Got {
@@ -36,7 +37,7 @@ fn read_from(fd: i32, buf: &mut [u8]) -> Got
 
 // Reads the file with this name, or standard input for `-`. A file that could not be read stays open: errno says why.
 fn read_named(name: &[u8], buf: &mut [u8]) -> Got
-    ensures { IsPrefixLen result.size (new buf) }
+    ensures { IsPrefixLen result.size buf.new }
 {
     if check::same(name, b"-") {
         return read_from(STDIN_FILENO, buf);
@@ -57,7 +58,7 @@ fn read_named(name: &[u8], buf: &mut [u8]) -> Got
 
 // The same; says why it could not be read.
 pub fn read(name: &[u8], buf: &mut [u8]) -> Got
-    ensures { IsPrefixLen result.size (new buf) }
+    ensures { IsPrefixLen result.size buf.new }
 {
     let got = read_named(name, buf);
     if !got.right {
@@ -68,7 +69,7 @@ pub fn read(name: &[u8], buf: &mut [u8]) -> Got
 
 // Reads the file that argument i names; says why it could not be read. `what` the argument is stands in the message where it is missing or too long.
 pub fn read_at(i: usize, what: &[u8], buf: &mut [u8]) -> Got
-    ensures { IsPrefixLen result.size (new buf) }
+    ensures { IsPrefixLen result.size buf.new }
 {
     let mut name = io::buffer();
     let n = os::arg(i, &mut name);

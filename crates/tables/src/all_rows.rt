@@ -1,6 +1,5 @@
 // Every row of the two tables, hidden ones too, as its words.
 ghost use Rattle.std.specs.Prelude.{◌≤◌, ◌*◌, length};
-ghost use Rattle.room.specs.Moments.{old, new};
 ghost use Rattle.rows.specs.Rows.{node_width, item_width, nodes_in, items_in};
 ghost use Rattle.room.specs.Counts.{Counts};
 ghost use Rattle.lines.specs.Answer.{Gives};
@@ -12,7 +11,7 @@ use lines::{Made, conclude, refuse};
 
 // Puts the words of a node row.
 fn put_node_words(out: &mut [u8], to: usize, row: Node) -> usize
-    ensures { Counts (old out) (new out) to (node_numbers row) result }
+    ensures { Counts out.old out.new to (node_numbers row) result }
 {
     let a = text::put_number(out, to, row.start);
     let b = text::put_number(out, a, row.size);
@@ -31,7 +30,7 @@ fn put_node_words(out: &mut [u8], to: usize, row: Node) -> usize
 
 // Puts the words of an item row.
 fn put_item_words(out: &mut [u8], to: usize, row: Item) -> usize
-    ensures { Counts (old out) (new out) to (item_numbers row) result }
+    ensures { Counts out.old out.new to (item_numbers row) result }
 {
     let a = text::put_number(out, to, row.node);
     let b = text::put_number(out, a, row.item);
@@ -47,7 +46,7 @@ fn put_item_words(out: &mut [u8], to: usize, row: Item) -> usize
 
 // Puts the line of node row i.
 fn put_node_row(out: &mut [u8], to: usize, i: usize, row: Node) -> usize
-    ensures { Counts (old out) (new out) to (node_row i row) result }
+    ensures { Counts out.old out.new to (node_row i row) result }
 {
     let a = room::put_byte(out, to, b'n');
     let b = text::put_number(out, a, i as u64);
@@ -57,7 +56,7 @@ fn put_node_row(out: &mut [u8], to: usize, i: usize, row: Node) -> usize
 
 // Puts the line of item row i, under this letter.
 pub fn put_item_row(out: &mut [u8], to: usize, letter: u8, i: usize, row: Item) -> usize
-    ensures { Counts (old out) (new out) to (item_row letter i row) result }
+    ensures { Counts out.old out.new to (item_row letter i row) result }
 {
     let a = room::put_byte(out, to, letter);
     let b = text::put_number(out, a, i as u64);
@@ -68,7 +67,7 @@ pub fn put_item_row(out: &mut [u8], to: usize, letter: u8, i: usize, row: Item) 
 // Puts the lines of the node rows.
 fn put_node_rows(out: &mut [u8], nodes: &[u64], count: usize) -> usize
     requires { count * node_width ≤ length nodes.now }
-    ensures { Counts (old out) (new out) 0 (node_rows 0 (nodes_in count (old nodes))) result }
+    ensures { Counts out.old out.new 0 (node_rows 0 (nodes_in count nodes.now)) result }
 {
     let mut next: usize = 0;
     let mut i = 0;
@@ -82,7 +81,7 @@ fn put_node_rows(out: &mut [u8], nodes: &[u64], count: usize) -> usize
 // Puts the lines of the item rows.
 fn put_item_rows(out: &mut [u8], to: usize, items: &[u64], count: usize) -> usize
     requires { count * item_width ≤ length items.now }
-    ensures { Counts (old out) (new out) to (item_rows 0 (items_in count (old items))) result }
+    ensures { Counts out.old out.new to (item_rows 0 (items_in count items.now)) result }
 {
     let mut next = to;
     let mut i = 0;
@@ -94,7 +93,7 @@ fn put_item_rows(out: &mut [u8], to: usize, items: &[u64], count: usize) -> usiz
 }
 
 pub fn make_rows(file: &[u8], text: &mut [u8]) -> Made
-    ensures { Gives (length (old text)) result (new text) (rows_answer (length (old text)) (old file)) }
+    ensures { Gives (length text.old) result text.new (rows_answer (length text.old) file.now) }
 {
     let mut nodes = program::node_table();
     let mut items = program::item_table();

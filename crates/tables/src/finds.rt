@@ -1,6 +1,5 @@
 // The item row of a field, nearest to a node or its own.
 ghost use Rattle.std.specs.Prelude.{◌≡◌, ◌≤◌, ◌+◌, ◌*◌, length};
-ghost use Rattle.room.specs.Moments.{old, new};
 ghost use Rattle.rows.specs.Rows.{item_width, item_from, ItemIn};
 ghost use Rattle.room.specs.Counts.{Counts};
 ghost use Rattle.file.specs.Asking.{answered, items_left};
@@ -21,8 +20,8 @@ fn find_number(
     row: usize,
     number: u64,
 ) -> Found
-    ensures answer { told result ≡ answered (old nodes) (old items) (old file) (question climbs (standard number) row) }
-    ensures items { new items ≡ items_left (old nodes) (old items) (old file) (question climbs (standard number) row) }
+    ensures answer { told result ≡ answered nodes.old items.old file.now (question climbs (standard number) row) }
+    ensures items { items.new ≡ items_left nodes.old items.old file.now (question climbs (standard number) row) }
 {
     if climbs {
         return find::find_standard(file, nodes, items, row, number);
@@ -39,8 +38,8 @@ fn find_name(
     row: usize,
     name: &[u8],
 ) -> Found
-    ensures answer { told result ≡ answered (old nodes) (old items) (old file) (question climbs (custom (old name)) row) }
-    ensures items { new items ≡ items_left (old nodes) (old items) (old file) (question climbs (custom (old name)) row) }
+    ensures answer { told result ≡ answered nodes.old items.old file.now (question climbs (custom name.now) row) }
+    ensures items { items.new ≡ items_left nodes.old items.old file.now (question climbs (custom name.now) row) }
 {
     if climbs {
         return find::find_custom(file, nodes, items, row, name);
@@ -58,8 +57,8 @@ fn find_field(
     field: Field,
     name: &[u8],
 ) -> Found
-    ensures answer { told result ≡ answered (old nodes) (old items) (old file) (question climbs (wanted_of field (old name)) row) }
-    ensures items { new items ≡ items_left (old nodes) (old items) (old file) (question climbs (wanted_of field (old name)) row) }
+    ensures answer { told result ≡ answered nodes.old items.old file.now (question climbs (wanted_of field name.now) row) }
+    ensures items { items.new ≡ items_left nodes.old items.old file.now (question climbs (wanted_of field name.now) row) }
 {
     match field {
         Field::Standard(number) => find_number(file, nodes, items, climbs, row, number),
@@ -70,7 +69,7 @@ fn find_field(
 // Puts the line of item row i, which was found, and its line on the sheet if it is visible.
 fn put_found(out: &mut [u8], file: &[u8], items: &[u64], i: usize) -> usize
     requires { (i * item_width + item_width ≤ length items.now) × ItemIn (length file.now) (item_from items.now (i * item_width)) }
-    ensures { Counts (old out) (new out) 0 (found_lines (old file) (record { row = i; item = item_from (old items) (i * item_width) })) result }
+    ensures { Counts out.old out.new 0 (found_lines file.now (record { row = i; item = item_from items.now (i * item_width) })) result }
 {
     let next = crate::all_rows::put_item_row(out, 0, b'I', i, rows::item_at(items, i));
     sheet::put_visible_line(out, next, file, items, i)
@@ -84,7 +83,7 @@ pub fn make_found(
     name: &[u8],
     text: &mut [u8],
 ) -> Made
-    ensures { Gives (length (old text)) result (new text) (found_answer (length (old text)) climbs (wanted_of field (old name)) row (old file)) }
+    ensures { Gives (length text.old) result text.new (found_answer (length text.old) climbs (wanted_of field name.now) row file.now) }
 {
     let mut nodes = program::node_table();
     let mut items = program::item_table();

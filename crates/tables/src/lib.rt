@@ -1,4 +1,6 @@
 // Every row of the two tables, and the item row of a field.
+#![tactic(auto)]
+
 mod all_rows;
 mod finds;
 

@@ -1,6 +1,7 @@
 // Where a reference 3 leads: what lies outside header and tree, and what the detached nodes take that were read.
+#![tactic(auto)]
+
 ghost use Rattle.std.specs.Prelude.{◌≡◌, ◌⊎◌, ◌≤◌, ◌<◌, ◌^◌, ◌*◌, ◌+◌, min, max, length};
-ghost use Rattle.room.specs.Moments.{old};
 ghost use Rattle.header.specs.Told.{extent_of};
 ghost use Rattle.header.specs.Header as spec;
 ghost use Rattle.rows.specs.Rows.{node_width, node_at, nodes_in};
@@ -11,7 +12,7 @@ use cursor::{Cursor, FilePlace, NodePlace, Numbered};
 use header::Extent;
 
 // Where the detached nodes lie that were read: `first` is the first byte that one of them has, or the file's end, and all end at or before `beyond`.
-#[derive(Drop)]
+#[derive(Clone, Copy)]
 pub struct Span {
     pub first: FilePlace,
     pub beyond: FilePlace,
@@ -38,7 +39,7 @@ pub fn first_taken(
     end: FilePlace,
 ) -> FilePlace
     requires { (tree ≤ count) × (count * node_width ≤ length nodes.now) × EndLow count nodes.now × Attached tree count nodes.now }
-    ensures { result.0 ≡ taken_by_rows (nodes_in count (old nodes)) place.0 end.0 }
+    ensures { result.0 ≡ taken_by_rows (nodes_in count nodes.now) place.0 end.0 }
 {
     let mut i = count;
     let mut taken = end.0;
@@ -87,7 +88,7 @@ pub fn part_end(extent: Extent, size: usize, place: FilePlace) -> FilePlace
 // The place of row i's offset, found again from its header.
 pub fn offset_at(file: &[u8], nodes: &[u64], count: usize, i: usize) -> FilePlace
     requires { (i < count) × (count * node_width ≤ length nodes.now) × HeaderIn (length file.now) count nodes.now i × (length file.now < 2 ^ 28) }
-    ensures { result.0 ≡ offset_at (old file) (node_at (nodes_in count (old nodes)) i) }
+    ensures { result.0 ≡ offset_at file.now (node_at (nodes_in count nodes.now) i) }
 {
     let row = rows::node_at(nodes, i);
     let start = FilePlace(row.start as usize);
@@ -128,7 +129,7 @@ pub fn end_asked(place: FilePlace, end: FilePlace, span: Span) -> FilePlace
 // The span with the node of row `known`, if there are more rows than `known`.
 pub fn with_row(nodes: &[u64], known: usize, count: usize, span: Span) -> Span
     requires { (count * node_width ≤ length nodes.now) × EndLow count nodes.now }
-    ensures { (count ≤ known → result ≡ span) × (known < count → Spans (node_at (nodes_in count (old nodes)) known) span result) }
+    ensures { (count ≤ known → result ≡ span) × (known < count → Spans (node_at (nodes_in count nodes.now) known) span result) }
 {
     if count <= known {
         return span;

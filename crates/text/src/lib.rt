@@ -1,6 +1,7 @@
 // Bytes as text: a tab and a decimal number, bytes that stand for themselves, bytes in hex, UTF-16 as it is shown, and a version.
+#![tactic(auto)]
+
 ghost use Rattle.std.specs.Prelude.{◌≡◌, true, [], ◌≤◌, ◌<◌, ◌*◌, ◌+◌, ◌-◌, length};
-ghost use Rattle.room.specs.Moments.{old, new};
 ghost use Rattle.room.specs.Counts.{Counts};
 ghost use Rattle.utf16.specs.Unicode.{utf8, to_utf8, is_good};
 ghost use Rattle.text.specs.Text.{hex_digits, plain, hexed, escaped, escaped_part, shown, shown_or, unicode_text, number, version_text};
@@ -10,7 +11,7 @@ use utf16::Character;
 
 // Puts a tab and a decimal number.
 pub fn put_number(out: &mut [u8], to: usize, n: u64) -> usize
-    ensures { Counts (old out) (new out) to (number n) result }
+    ensures { Counts out.old out.new to (number n) result }
 {
     let next = room::put_byte(out, to, 0x09);
     room::put_decimal(out, next, n)
@@ -42,7 +43,7 @@ pub fn hex_digits() -> [u8; 16]
 // Puts a byte as a backslash and two hex digits.
 fn put_hex(out: &mut [u8], to: usize, byte: u8, hex: &[u8; 16]) -> usize
     requires { hex.now ≡ hex_digits }
-    ensures { Counts (old out) (new out) to (hexed byte) result }
+    ensures { Counts out.old out.new to (hexed byte) result }
 {
     if room::room_at(out.len(), 2) <= to {
         return room::on(to, 3);
@@ -55,7 +56,7 @@ fn put_hex(out: &mut [u8], to: usize, byte: u8, hex: &[u8; 16]) -> usize
 
 // Puts one byte as text.
 fn put_escaped_byte(out: &mut [u8], to: usize, byte: u8) -> usize
-    ensures { Counts (old out) (new out) to (escaped byte) result }
+    ensures { Counts out.old out.new to (escaped byte) result }
 {
     if is_plain(byte) {
         return room::put_byte(out, to, byte);
@@ -67,7 +68,7 @@ fn put_escaped_byte(out: &mut [u8], to: usize, byte: u8) -> usize
 // Where the bytes from `from` on that stand for themselves end.
 fn plain_end(file: &[u8], from: usize, end: usize) -> usize
     requires { (from ≤ end) × (end ≤ length file.now) }
-    ensures { PlainUpTo (old file) from result × (result ≤ end) }
+    ensures { PlainUpTo file.now from result × (result ≤ end) }
 {
     let mut at = from;
     while at < end {
@@ -80,7 +81,7 @@ fn plain_end(file: &[u8], from: usize, end: usize) -> usize
 }
 
 // Where bytes that were put end: in the room and in the file.
-#[derive(Drop)]
+#[derive(Clone, Copy)]
 struct Run {
     next: usize,
     at: usize,
@@ -89,7 +90,7 @@ struct Run {
 // Puts the bytes from `from` on up to the first that stands for itself, in hex.
 fn put_hexes(out: &mut [u8], to: usize, file: &[u8], from: usize, end: usize, hex: &[u8; 16]) -> Run
     requires { (hex.now ≡ hex_digits) × (from ≤ end) × (end ≤ length file.now) }
-    ensures { (from ≤ result.at) × (result.at ≤ end) × Counts (old out) (new out) to (escaped_part (old file) from (result.at - from)) result.next }
+    ensures { (from ≤ result.at) × (result.at ≤ end) × Counts out.old out.new to (escaped_part file.now from (result.at - from)) result.next }
 {
     let mut next = to;
     let mut at = from;
@@ -107,7 +108,7 @@ fn put_hexes(out: &mut [u8], to: usize, file: &[u8], from: usize, end: usize, he
 // Puts `size` bytes of the file as text. Bytes that stand for themselves are put together, and so are bytes in hex.
 pub fn put_escaped(out: &mut [u8], to: usize, file: &[u8], from: usize, size: usize) -> usize
     requires { from + size ≤ length file.now }
-    ensures { Counts (old out) (new out) to (escaped_part (old file) from size) result }
+    ensures { Counts out.old out.new to (escaped_part file.now from size) result }
 {
     let end = from + size;
     let hex = hex_digits();
@@ -131,7 +132,7 @@ pub fn put_escaped(out: &mut [u8], to: usize, file: &[u8], from: usize, size: us
 
 // Puts the version: 100 is `1.00`.
 pub fn put_version(out: &mut [u8], to: usize, version: u64) -> usize
-    ensures { Counts (old out) (new out) to (version_text version) result }
+    ensures { Counts out.old out.new to (version_text version) result }
 {
     let one = room::put_decimal(out, to, version / 100);
     let two = room::put_byte(out, one, b'.');
@@ -142,7 +143,7 @@ pub fn put_version(out: &mut [u8], to: usize, version: u64) -> usize
 // Puts a character of a converted text: a byte below 80h as text, another character as itself.
 fn put_shown_char(out: &mut [u8], to: usize, c: u64) -> usize
     requires { c < 0x110000 }
-    ensures { Counts (old out) (new out) to (shown (utf8 c)) result }
+    ensures { Counts out.old out.new to (shown (utf8 c)) result }
 {
     if c < 0x80 {
         return put_escaped_byte(out, to, c as u8);
@@ -153,7 +154,7 @@ fn put_shown_char(out: &mut [u8], to: usize, c: u64) -> usize
 // Whether the unit at a place is a byte that stands for itself.
 fn is_letter(units: &[u8], at: usize) -> bool
     requires { at + 2 ≤ length units.now }
-    ensures { result ≡ letter (old units) at }
+    ensures { result ≡ letter units.now at }
 {
     if units[at] != 0 {
         return false;
@@ -164,7 +165,7 @@ fn is_letter(units: &[u8], at: usize) -> bool
 // How many such units follow each other from a place on.
 fn letters(units: &[u8], from: usize) -> usize
     requires { from ≤ length units.now }
-    ensures { Letters (old units) from result }
+    ensures { Letters units.now from result }
 {
     let most = (units.len() - from) / 2;
     let mut n = 0;
@@ -180,7 +181,7 @@ fn letters(units: &[u8], from: usize) -> usize
 // The same where the first character is known: one from 80h up is none of them.
 fn letters_with(units: &[u8], from: usize, first: u64) -> usize
     requires { from ≤ length units.now }
-    ensures { Letters (old units) from result }
+    ensures { Letters units.now from result }
 {
     if 0x80 <= first {
         return 0;
@@ -200,7 +201,7 @@ fn ends_in_letter(units: &[u8]) -> bool {
 // Puts the low bytes of `size` units.
 fn put_lows(out: &mut [u8], to: usize, units: &[u8], from: usize, size: usize) -> usize
     requires { from + 2 * size ≤ length units.now }
-    ensures { Counts (old out) (new out) to (lows (old units) from size) result }
+    ensures { Counts out.old out.new to (lows units.now from size) result }
 {
     if room::room_at(out.len(), to) < size {
         return room::on(to, size);
@@ -216,7 +217,7 @@ fn put_lows(out: &mut [u8], to: usize, units: &[u8], from: usize, size: usize) -
 // Puts UTF-16 that converts, as it is shown. Letters that stand for themselves are put together.
 fn put_shown(out: &mut [u8], to: usize, units: &[u8]) -> usize
     requires { is_good (to_utf8 units.now) ≡ true }
-    ensures { Counts (old out) (new out) to (shown_or (to_utf8 (old units)) []) result }
+    ensures { Counts out.old out.new to (shown_or (to_utf8 units.now) []) result }
 {
     let mut at = utf16::after_mark(units);
     let mut next = to;
@@ -243,7 +244,7 @@ fn put_shown(out: &mut [u8], to: usize, units: &[u8]) -> usize
 // Puts `size` bytes of the file, which are UTF-16: converted, or as text where they do not convert. Where all units are letters that stand for themselves, they convert; the last one tells most texts of which that is not so.
 pub fn put_unicode(out: &mut [u8], to: usize, file: &[u8], from: usize, size: usize) -> usize
     requires { from + size ≤ length file.now }
-    ensures { Counts (old out) (new out) to (unicode_text (old file) from size) result }
+    ensures { Counts out.old out.new to (unicode_text file.now from size) result }
 {
     let end = from + size;
     if ends_in_letter(&file[from..end]) {

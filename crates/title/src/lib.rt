@@ -1,6 +1,7 @@
 // Correct a title: writes a file anew with the data of one content replaced, and refuses where that cannot be.
+#![tactic(auto)]
+
 ghost use Rattle.std.specs.Prelude.{◌≡◌, ◌≤◌, ◌*◌, ◌+◌, length};
-ghost use Rattle.room.specs.Moments.{old, new};
 ghost use Rattle.rows.specs.Rows.{node_width, item_width, item_from, nodes_in, items_in};
 ghost use Rattle.room.specs.Room.{counted, kept};
 ghost use Rattle.room.specs.Told.{told};
@@ -16,7 +17,7 @@ use room::Written;
 // Whether some node names a place of the file.
 pub fn refers_elsewhere(nodes: &[u64], count: usize) -> bool
     requires { count * node_width ≤ length nodes.now }
-    ensures { result ≡ elsewhere (nodes_in count (old nodes)) }
+    ensures { result ≡ elsewhere (nodes_in count nodes.now) }
 {
     let mut i: usize = 0;
     while i < count {
@@ -35,7 +36,7 @@ pub fn refers_elsewhere(nodes: &[u64], count: usize) -> bool
 // Whether item row `row` is hidden or a version.
 pub fn is_no_title(items: &[u64], row: usize) -> bool
     requires { row * item_width + item_width ≤ length items.now }
-    ensures { result ≡ is_no_title (item_from (old items) (row * item_width)) }
+    ensures { result ≡ is_no_title (item_from items.now (row * item_width)) }
 {
     let item = rows::item_at(items, row);
     if item.format % 2 == 1 {
@@ -47,7 +48,7 @@ pub fn is_no_title(items: &[u64], row: usize) -> bool
 // The first refusal that the rows give; 0 for none.
 fn refusal_of(nodes: &[u64], items: &[u64], count: usize, total: usize, row: usize) -> u64
     requires { (count * node_width ≤ length nodes.now) × (total * item_width ≤ length items.now) }
-    ensures { result ≡ refusal_of row (nodes_in count (old nodes)) (items_in total (old items)) }
+    ensures { result ≡ refusal_of row (nodes_in count nodes.now) (items_in total items.now) }
 {
     if total <= row {
         return cursor::NO_SUCH_ROW;
@@ -75,7 +76,7 @@ fn write_titled(
     title: &[u8],
 ) -> Written
     requires { Stands file.now nodes.now items.now count total }
-    ensures { WroteTitled (task (old file) (old nodes) (old items) count total row (old title)) (old out) (new out) result }
+    ensures { WroteTitled (task file.now nodes.now items.now count total row title.now) out.old out.new result }
 {
     let refusal = refusal_of(nodes, items, count, total, row);
     if refusal != 0 {
@@ -100,10 +101,10 @@ pub fn correct_title(
     title: &[u8],
     out: &mut [u8],
 ) -> Written
-    ensures answer { told result ≡ counted (corrected (old nodes) (old items) (old file) row (old title) (old out)) }
-    ensures nodes { new nodes ≡ nodes_corrected (old nodes) (old items) (old file) row (old title) (old out) }
-    ensures items { new items ≡ items_corrected (old nodes) (old items) (old file) row (old title) (old out) }
-    ensures out { new out ≡ kept (length (old out)) (corrected (old nodes) (old items) (old file) row (old title) (old out)) }
+    ensures answer { told result ≡ counted (corrected nodes.old items.old file.now row title.now out.old) }
+    ensures nodes { nodes.new ≡ nodes_corrected nodes.old items.old file.now row title.now out.old }
+    ensures items { items.new ≡ items_corrected nodes.old items.old file.now row title.now out.old }
+    ensures out { out.new ≡ kept (length out.old) (corrected nodes.old items.old file.now row title.now out.old) }
 {
     match file::read_file(file, nodes, items) {
         Read::Refused(n, p) => {

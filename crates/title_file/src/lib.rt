@@ -1,6 +1,7 @@
 // Puts a file anew with the data of one content replaced: the header with the numbers that count the tree, and the tree.
+#![tactic(auto)]
+
 ghost use Rattle.std.specs.Prelude.{◌≡◌, false, ◌≤◌, ◌<◌, ◌^◌, length};
-ghost use Rattle.room.specs.Moments.{old, new};
 ghost use Rattle.rows.specs.Rows.{nodes_in};
 ghost use Rattle.title_text.specs.Description.{opening_size};
 ghost use Rattle.title_text.specs.Text.{start_with, last_bytes, start_at, file_bytes};
@@ -65,7 +66,7 @@ fn put_file(
 ) -> usize
     requires rows { Sound (task file.now nodes.now items.now count total row title.now) }
     requires inside { (opening.0 ≤ length file.now) × (extent.end.0 ≤ extent.start.0) × (extent.start.0 ≤ extent.last.0) × (extent.last.0 < length file.now) }
-    ensures { Fills (old out) (new out) (file_anew (task (old file) (old nodes) (old items) count total row (old title)) opening.0 extent) result }
+    ensures { Fills out.old out.new (file_anew (task file.now nodes.now items.now count total row title.now) opening.0 extent) result }
 {
     let mut metadata = [0usize; cursor::MOST_NODES];
     let mut packed = [0usize; cursor::MOST_NODES];
@@ -136,7 +137,7 @@ pub fn put_titled(
     title: &[u8],
 ) -> usize
     requires { Stands file.now nodes.now items.now count total × (elsewhere (nodes_in count nodes.now) ≡ false) }
-    ensures { PutTitled (task (old file) (old nodes) (old items) count total row (old title)) (old out) (new out) result }
+    ensures { PutTitled (task file.now nodes.now items.now count total row title.now) out.old out.new result }
 {
     let mut types = [0u64; header::MOST_TYPES * 2];
     match header::read_header(file, &mut types) {

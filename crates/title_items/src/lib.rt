@@ -1,6 +1,7 @@
 // Writes item rows anew: each content in its shortest form, and one of them with another title.
+#![tactic(auto)]
+
 ghost use Rattle.std.specs.Prelude.{◌≡◌, List, ◌∷◌, [], ℕ, ◌≤◌, ◌<◌, ◌*◌, ◌+◌, ◌-◌, min, length};
-ghost use Rattle.room.specs.Moments.{old, new};
 ghost use Rattle.room.specs.Parts.{joined};
 ghost use Rattle.vlq.specs.Vlq.{vlq, sized};
 ghost use Rattle.rows.specs.Rows.{item_width, item_from, ItemIn, ItemRows};
@@ -14,7 +15,7 @@ use cursor::Item;
 
 // Puts string format and data.
 fn put_text(out: &mut [u8], to: usize, format: u64, bytes: &[u8]) -> usize
-    ensures { Counts (old out) (new out) to (joined (vlq format ∷ old bytes ∷ [])) result }
+    ensures { Counts out.old out.new to (joined (vlq format ∷ bytes.now ∷ [])) result }
 {
     let a = vlq::put_number(out, to, format);
     room::put_bytes(out, a, bytes)
@@ -22,7 +23,7 @@ fn put_text(out: &mut [u8], to: usize, format: u64, bytes: &[u8]) -> usize
 
 // Puts a universal content: a length, string format and data.
 fn put_universal(out: &mut [u8], to: usize, format: u64, bytes: &[u8]) -> usize
-    ensures { Counts (old out) (new out) to (sized (joined (vlq format ∷ old bytes ∷ []))) result }
+    ensures { Counts out.old out.new to (sized (joined (vlq format ∷ bytes.now ∷ []))) result }
 {
     let n = room::on(vlq::vlq_size(format), bytes.len());
     let a = vlq::put_number(out, to, n as u64);
@@ -31,7 +32,7 @@ fn put_universal(out: &mut [u8], to: usize, format: u64, bytes: &[u8]) -> usize
 
 // Puts a version: a declared type, a length and data.
 fn put_version(out: &mut [u8], to: usize, declared: u64, bytes: &[u8]) -> usize
-    ensures { Counts (old out) (new out) to (joined (vlq declared ∷ sized (old bytes) ∷ [])) result }
+    ensures { Counts out.old out.new to (joined (vlq declared ∷ sized bytes.now ∷ [])) result }
 {
     let a = vlq::put_number(out, to, declared);
     let b = vlq::put_number(out, a, bytes.len() as u64);
@@ -41,7 +42,7 @@ fn put_version(out: &mut [u8], to: usize, declared: u64, bytes: &[u8]) -> usize
 // Puts the content of item row k with that data.
 fn put_content(out: &mut [u8], to: usize, items: &[u64], k: usize, bytes: &[u8]) -> usize
     requires { k * item_width + item_width ≤ length items.now }
-    ensures { (f : List ℕ) → Counts (old out) (new out) to (content_text (titled (old bytes) (content f (item_from (old items) (k * item_width))))) result }
+    ensures { (f : List ℕ) → Counts out.old out.new to (content_text (titled bytes.now (content f (item_from items.now (k * item_width))))) result }
 {
     let item = rows::item_at(items, k);
     if item.version == 0 {
@@ -61,7 +62,7 @@ fn put_content_at(
     title: &[u8],
 ) -> usize
     requires { (k * item_width + item_width ≤ length items.now) × ItemIn (length file.now) (item_from items.now (k * item_width)) }
-    ensures { Counts (old out) (new out) to (content_text (content_at (old file) row (old title) (old items) k)) result }
+    ensures { Counts out.old out.new to (content_text (content_at file.now row title.now items.now k)) result }
 {
     let item = rows::item_at(items, k);
     if k == row {
@@ -75,7 +76,7 @@ fn put_content_at(
 // Puts the field of an item row: a custom name with its length, or 0 and a standard number.
 fn put_field(out: &mut [u8], to: usize, file: &[u8], item: Item) -> usize
     requires { ItemIn (length file.now) item }
-    ensures { Counts (old out) (new out) to (field_text (content (old file) item)) result }
+    ensures { Counts out.old out.new to (field_text (content file.now item)) result }
 {
     if item.kind == 1 {
         let a = vlq::put_number(out, to, item.nameLength);
@@ -88,7 +89,7 @@ fn put_field(out: &mut [u8], to: usize, file: &[u8], item: Item) -> usize
 // How many item rows from row `first` on, and before row `end`, are further versions of the item before them.
 fn further(items: &[u64], first: usize, end: usize) -> u64
     requires { (first ≤ end) × (end * item_width ≤ length items.now) }
-    ensures count { (f : List ℕ) (row : ℕ) (title : List ℕ) → result ≡ text.further (contents_from f row title (old items) first (end - first)) }
+    ensures count { (f : List ℕ) (row : ℕ) (title : List ℕ) → result ≡ text.further (contents_from f row title items.now first (end - first)) }
     ensures few { result ≤ end - first }
 {
     let mut k = first;
@@ -104,7 +105,7 @@ fn further(items: &[u64], first: usize, end: usize) -> u64
 // Puts what the item of row k has before its contents, the rows before row `end`: its field and the number of versions.
 fn put_start(out: &mut [u8], to: usize, file: &[u8], items: &[u64], k: usize, end: usize) -> usize
     requires { (k < end) × (end * item_width ≤ length items.now) × ItemIn (length file.now) (item_from items.now (k * item_width)) }
-    ensures { (row : ℕ) (title : List ℕ) → Counts (old out) (new out) to (front_text (old file) row title (old items) k end) result }
+    ensures { (row : ℕ) (title : List ℕ) → Counts out.old out.new to (front_text file.now row title items.now k end) result }
 {
     let item = rows::item_at(items, k);
     let a = put_field(out, to, file, item);
@@ -126,7 +127,7 @@ fn put_item(
     title: &[u8],
 ) -> usize
     requires { (k < end) × (end * item_width ≤ length items.now) × ItemIn (length file.now) (item_from items.now (k * item_width)) }
-    ensures { Counts (old out) (new out) to (row_text (old file) row (old title) (old items) k end) result }
+    ensures { Counts out.old out.new to (row_text file.now row title.now items.now k end) result }
 {
     if rows::item_at(items, k).version <= 1 {
         let a = put_start(out, to, file, items, k, end);
@@ -147,7 +148,7 @@ pub fn put_items(
     title: &[u8],
 ) -> usize
     requires { (first ≤ end) × ItemRows (length file.now) end items.now }
-    ensures { Counts (old out) (new out) to (items_text (contents_from (old file) row (old title) (old items) first (end - first))) result }
+    ensures { Counts out.old out.new to (items_text (contents_from file.now row title.now items.now first (end - first))) result }
 {
     let mut next = to;
     let mut k = first;
@@ -188,7 +189,7 @@ fn measure_content(to: usize, item: Item, size: usize) -> usize
 // Counts the bytes of the content of item row k: row `row` with a title of `size` bytes, and another with the file's data.
 fn measure_content_at(to: usize, items: &[u64], k: usize, row: usize, size: usize) -> usize
     requires { k * item_width + item_width ≤ length items.now }
-    ensures { (f title : List ℕ) → RowIn f (old items) k → size ≡ length title → Counts [] [] to (content_text (content_at f row title (old items) k)) result }
+    ensures { (f title : List ℕ) → RowIn f items.now k → size ≡ length title → Counts [] [] to (content_text (content_at f row title items.now k)) result }
 {
     let item = rows::item_at(items, k);
     if row == k {
@@ -200,7 +201,7 @@ fn measure_content_at(to: usize, items: &[u64], k: usize, row: usize, size: usiz
 // Counts the bytes of what the item of row k has before its contents, the rows before row `end`.
 fn measure_start(to: usize, items: &[u64], k: usize, end: usize) -> usize
     requires { (k < end) × (end * item_width ≤ length items.now) }
-    ensures { (f : List ℕ) (row : ℕ) (title : List ℕ) → RowIn f (old items) k → Counts [] [] to (front_text f row title (old items) k end) result }
+    ensures { (f : List ℕ) (row : ℕ) (title : List ℕ) → RowIn f items.now k → Counts [] [] to (front_text f row title items.now k end) result }
 {
     let item = rows::item_at(items, k);
     let a = measure_field(to, item);
@@ -213,7 +214,7 @@ fn measure_start(to: usize, items: &[u64], k: usize, end: usize) -> usize
 // Counts the bytes of item row k, with what its item has before it where it is the first of the item.
 fn measure_item(to: usize, items: &[u64], k: usize, end: usize, row: usize, size: usize) -> usize
     requires { (k < end) × (end * item_width ≤ length items.now) }
-    ensures { (f title : List ℕ) → RowIn f (old items) k → size ≡ length title → Counts [] [] to (row_text f row title (old items) k end) result }
+    ensures { (f title : List ℕ) → RowIn f items.now k → size ≡ length title → Counts [] [] to (row_text f row title items.now k end) result }
 {
     if rows::item_at(items, k).version <= 1 {
         let a = measure_start(to, items, k, end);
@@ -225,7 +226,7 @@ fn measure_item(to: usize, items: &[u64], k: usize, end: usize, row: usize, size
 // The bytes of the item rows from row `first` on, up to row `end`, where row `row` has a title of `size` bytes.
 pub fn items_size(items: &[u64], first: usize, end: usize, row: usize, size: usize) -> usize
     requires { (first ≤ end) × (end * item_width ≤ length items.now) }
-    ensures { (f title : List ℕ) → ItemRows (length f) end (old items) → size ≡ length title → Counts [] [] 0 (items_text (contents_from f row title (old items) first (end - first))) result }
+    ensures { (f title : List ℕ) → ItemRows (length f) end items.now → size ≡ length title → Counts [] [] 0 (items_text (contents_from f row title items.now first (end - first))) result }
 {
     let mut next: usize = 0;
     let mut k = first;

@@ -1,7 +1,8 @@
 // Writes the nodes of a file anew, with the data of one content replaced. Two passes over the rows: sizes from the last row to the first, and bytes from the
 // first row to the last.
+#![tactic(auto)]
+
 ghost use Rattle.std.specs.Prelude.{◌≡◌, true, List, [], ℕ, ◌≤◌, ◌<◌, ◌^◌, ◌+◌, ◌-◌, min, length};
-ghost use Rattle.room.specs.Moments.{old, new};
 ghost use Rattle.room.specs.Parts.{part};
 ghost use Rattle.vlq.specs.Vlq.{least};
 ghost use Rattle.room.specs.Counts.{Counts};
@@ -15,14 +16,14 @@ ghost use Rattle.title_nodes.specs.Told.{FrameTold, NodePut, Appends, NodeAppend
 use cursor::{FilePlace, Node};
 use title_parts::Packed;
 // NodeHeaderLength and NodeLength.
-#[derive(Drop)]
+#[derive(Clone, Copy)]
 struct Frame {
     header: usize,
     size: usize,
 }
 
 // Bytes are put up to `next`; `size` bytes of the file, from `from` on, are to be put behind them.
-#[derive(Drop)]
+#[derive(Clone, Copy)]
 struct Run {
     next: usize,
     from: usize,
@@ -83,7 +84,7 @@ fn put_reference(
     size: usize,
 ) -> usize
     requires { place.0 + size ≤ length file.now }
-    ensures { Counts (old out) (new out) to (reference_text reference (part (old file) place.0 size)) result }
+    ensures { Counts out.old out.new to (reference_text reference (part file.now place.0 size)) result }
 {
     let a = vlq::put_number(out, to, reference);
     if reference == 4 {
@@ -139,7 +140,7 @@ fn put_node(
 ) -> usize
     requires rows { (node.target + node.extent ≤ length file.now) × (length file.now < 2 ^ 28) × (first ≤ end) × ItemRows (length file.now) end items.now }
     requires sizes { (metadata ≡ length (items_text (contents_from file.now row title.now items.now first (end - first)))) × PackedAs file.now node packed }
-    ensures { NodePut (old file) node (contents_from (old file) row (old title) (old items) first (end - first)) frame (old out) (new out) to result }
+    ensures { NodePut file.now node (contents_from file.now row title.now items.now first (end - first)) frame out.old out.new to result }
 {
     let a = vlq::put_number(out, to, frame.size as u64);
     let b = vlq::put_number(out, a, node.contained);
@@ -180,7 +181,7 @@ fn stands(node: Node, first: usize, end: usize, row: usize, size: usize) -> bool
 // Appends `size` bytes of the file, from `from` on.
 fn extend(out: &mut [u8], file: &[u8], run: Run, from: usize, size: usize) -> Run
     requires { (run.from + run.size ≤ length file.now) × (from + size ≤ length file.now) }
-    ensures { Appends (old file) (old out) (new out) run (part (old file) from size) result }
+    ensures { Appends file.now out.old out.new run (part file.now from size) result }
 {
     if run.from + run.size == from {
         return Run {
@@ -212,7 +213,7 @@ fn put_row(
     requires sizes { (metadata ≡ length (items_text (contents_from file.now row title.now items.now first (end - first)))) × PackedAs file.now node packed }
     requires inside { (run.from + run.size ≤ length file.now) × (node.start + node.size ≤ length file.now) }
     requires leaf { Leaf file.now node (contents_from file.now row title.now items.now first (end - first)) (Outside row first end) }
-    ensures { NodeAppended (old file) node (contents_from (old file) row (old title) (old items) first (end - first)) frame (old out) (new out) run result }
+    ensures { NodeAppended file.now node (contents_from file.now row title.now items.now first (end - first)) frame out.old out.new run result }
 {
     if stands(node, first, end, row, frame.size) {
         title_parts::know_bytes(file);
@@ -232,7 +233,7 @@ fn put_row(
 // The sum of the words from word `from` on, up to word `end`.
 fn sum(words: &[usize], from: usize, end: usize) -> usize
     requires { (from ≤ end) × (end ≤ length words.now) }
-    ensures { result ≡ min (sum_of (part (old words) from (end - from))) size_stop }
+    ensures { result ≡ min (sum_of (part words.now from (end - from))) size_stop }
 {
     let mut r: usize = 0;
     let mut k = from;
@@ -261,9 +262,9 @@ pub fn measure_tree(
 ) -> usize
     requires task { Sound (task file.now nodes.now items.now count total row title.now) }
     requires room { NodeRoom metadata.old packed.old same.old headers.old lengths.old }
-    ensures measured { Measured (task (old file) (old nodes) (old items) count total row (old title)) 0
-        (new metadata) (new packed) (new same) (new headers) (new lengths) }
-    ensures tree { result ≡ min (length (tree_text (task (old file) (old nodes) (old items) count total row (old title)))) size_stop }
+    ensures measured { Measured (task file.now nodes.now items.now count total row title.now) 0
+        metadata.new packed.new same.new headers.new lengths.new }
+    ensures tree { result ≡ min (length (tree_text (task file.now nodes.now items.now count total row title.now))) size_stop }
 {
     let mut sizes = [0usize; cursor::MOST_NODES];
     let mut top = cursor::MOST_NODES;
@@ -310,7 +311,7 @@ pub fn put_tree(
     requires rows { Prepared (task file.now nodes.now items.now count total row title.now) metadata.now packed.now same.now headers.now lengths.now }
     requires room { NodeRoom metadata.now packed.now same.now headers.now lengths.now }
     requires small { length (tree_text (task file.now nodes.now items.now count total row title.now)) < size_stop }
-    ensures { Counts (old out) (new out) to (tree_text (task (old file) (old nodes) (old items) count total row (old title))) result }
+    ensures { Counts out.old out.new to (tree_text (task file.now nodes.now items.now count total row title.now)) result }
 {
     let mut run = Run {
         next: to,

@@ -1,7 +1,8 @@
 // Writes anew what is read again for it, unpackers and the types table: every number in its shortest form, and all else as it is.
+#![tactic(auto)]
+
 ghost use Rattle.std.specs.Prelude.{[], ◌<◌, ◌^◌, length};
 ghost use Rattle.machine.specs.Machine.{run, times};
-ghost use Rattle.room.specs.Moments.{old, new};
 ghost use Rattle.cursor.specs.Rows.{Frame};
 ghost use Rattle.vlq.specs.Vlq.{sized};
 ghost use Rattle.title_text.specs.Description.{answer, unpacker_text, identifier_text, entry_text, table_text, shape};
@@ -12,7 +13,7 @@ ghost use Rattle.title_parts.specs.Told.{number_text, Copies, PackedAs};
 use cursor::{Cursor, FilePlace, Node, Numbered, Passed};
 
 // The place after what was put, and the cursor after what was read for it; or the refusal's number and place.
-#[derive(Drop)]
+#[derive(Clone, Copy)]
 pub enum Copied {
     To(usize, Cursor),
     Refused(u64, FilePlace),
@@ -20,7 +21,7 @@ pub enum Copied {
 
 // Puts the number at c.
 fn copy_number(out: &mut [u8], to: usize, file: &[u8], c: Cursor) -> Copied
-    ensures { (κ : Frame) → Copies (old out) (new out) to result (run (number_text κ (old file)) (old file) c.at.0) }
+    ensures { (κ : Frame) → Copies out.old out.new to result (run (number_text κ file.now) file.now c.at.0) }
 {
     match c.number(file, FilePlace(file.len()), cursor::CUT_SHORT) {
         Numbered::Refused(n, p) => Copied::Refused(n, p),
@@ -31,7 +32,7 @@ fn copy_number(out: &mut [u8], to: usize, file: &[u8], c: Cursor) -> Copied
 // Puts what names the unpacker at c, which is of that kind.
 fn copy_identifier(out: &mut [u8], to: usize, file: &[u8], c: Cursor, kind: u64) -> Copied
     requires { length file.now < 2 ^ 28 }
-    ensures { Copies (old out) (new out) to result (run (identifier_text (old file) kind) (old file) c.at.0) }
+    ensures { Copies out.old out.new to result (run (identifier_text file.now kind) file.now c.at.0) }
 {
     let start = c.at;
     let end = FilePlace(file.len());
@@ -60,7 +61,7 @@ fn copy_identifier(out: &mut [u8], to: usize, file: &[u8], c: Cursor, kind: u64)
 // Puts the unpacker at c.
 fn copy_unpacker(out: &mut [u8], to: usize, file: &[u8], c: Cursor) -> Copied
     requires { length file.now < 2 ^ 28 }
-    ensures { Copies (old out) (new out) to result (run (unpacker_text (old file) []) (old file) c.at.0) }
+    ensures { Copies out.old out.new to result (run (unpacker_text file.now []) file.now c.at.0) }
 {
     match c.number(file, FilePlace(file.len()), cursor::CUT_SHORT) {
         Numbered::Refused(n, p) => Copied::Refused(n, p),
@@ -77,7 +78,7 @@ fn copy_unpacker(out: &mut [u8], to: usize, file: &[u8], c: Cursor) -> Copied
 // Puts the `count` unpackers at c.
 fn copy_unpackers(out: &mut [u8], to: usize, file: &[u8], c: Cursor, count: u64) -> Copied
     requires { length file.now < 2 ^ 28 }
-    ensures { Copies (old out) (new out) to result (run (times count (unpacker_text (old file)) []) (old file) c.at.0) }
+    ensures { Copies out.old out.new to result (run (times count (unpacker_text file.now) []) file.now c.at.0) }
 {
     let mut next = to;
     let mut at = c;
@@ -97,7 +98,7 @@ fn copy_unpackers(out: &mut [u8], to: usize, file: &[u8], c: Cursor, count: u64)
 
 // Counts the bytes of the number at c, from `to` on. What is counted is as what is put, with no buffer.
 fn measure_number(to: usize, file: &[u8], c: Cursor) -> Copied
-    ensures { (κ : Frame) → Copies [] [] to result (run (number_text κ (old file)) (old file) c.at.0) }
+    ensures { (κ : Frame) → Copies [] [] to result (run (number_text κ file.now) file.now c.at.0) }
 {
     match c.number(file, FilePlace(file.len()), cursor::CUT_SHORT) {
         Numbered::Refused(n, p) => Copied::Refused(n, p),
@@ -108,7 +109,7 @@ fn measure_number(to: usize, file: &[u8], c: Cursor) -> Copied
 // Counts the bytes of what names the unpacker at c, which is of that kind.
 fn measure_identifier(to: usize, file: &[u8], c: Cursor, kind: u64) -> Copied
     requires { length file.now < 2 ^ 28 }
-    ensures { Copies [] [] to result (run (identifier_text (old file) kind) (old file) c.at.0) }
+    ensures { Copies [] [] to result (run (identifier_text file.now kind) file.now c.at.0) }
 {
     let start = c.at;
     let end = FilePlace(file.len());
@@ -136,7 +137,7 @@ fn measure_identifier(to: usize, file: &[u8], c: Cursor, kind: u64) -> Copied
 // Counts the bytes of the unpacker at c.
 fn measure_unpacker(to: usize, file: &[u8], c: Cursor) -> Copied
     requires { length file.now < 2 ^ 28 }
-    ensures { Copies [] [] to result (run (unpacker_text (old file) []) (old file) c.at.0) }
+    ensures { Copies [] [] to result (run (unpacker_text file.now []) file.now c.at.0) }
 {
     match c.number(file, FilePlace(file.len()), cursor::CUT_SHORT) {
         Numbered::Refused(n, p) => Copied::Refused(n, p),
@@ -153,7 +154,7 @@ fn measure_unpacker(to: usize, file: &[u8], c: Cursor) -> Copied
 // Counts the bytes of the `count` unpackers at c.
 fn measure_unpackers(file: &[u8], c: Cursor, count: u64) -> Copied
     requires { length file.now < 2 ^ 28 }
-    ensures { Copies [] [] 0 result (run (times count (unpacker_text (old file)) []) (old file) c.at.0) }
+    ensures { Copies [] [] 0 result (run (times count (unpacker_text file.now) []) file.now c.at.0) }
 {
     let mut size: usize = 0;
     let mut at = c;
@@ -173,7 +174,7 @@ fn measure_unpackers(file: &[u8], c: Cursor, count: u64) -> Copied
 
 // Every element of a file is below 256. The compiler leaves nothing of this loop, which is here for its contract.
 pub fn know_bytes(file: &[u8])
-    ensures { Bytes (old file) }
+    ensures { Bytes file.now }
 {
     let mut i: usize = 0;
     while i < file.len() {
@@ -183,7 +184,7 @@ pub fn know_bytes(file: &[u8])
 }
 
 // Unpackers as they are written: how many bytes they have, and whether the file has these very bytes.
-#[derive(Drop)]
+#[derive(Clone, Copy)]
 pub struct Packed {
     pub size: usize,
     pub same: bool,
@@ -192,7 +193,7 @@ pub struct Packed {
 // Measures the unpackers of a node row. Those of a file that was read are never refused. Where the file has no more bytes than their shortest form, it has that form.
 pub fn unpackers_of(file: &[u8], row: Node) -> Packed
     requires { length file.now < 2 ^ 28 }
-    ensures { PackedAs (old file) row result }
+    ensures { PackedAs file.now row result }
 {
     let at = FilePlace(row.unpackers as usize);
     match measure_unpackers(file, Cursor { at }, row.unpackerCount) {
@@ -217,7 +218,7 @@ pub fn unpackers_of(file: &[u8], row: Node) -> Packed
 // Puts the unpackers of a node row, which were measured, with their length.
 pub fn put_unpackers(out: &mut [u8], to: usize, file: &[u8], row: Node, p: Packed) -> usize
     requires { (length file.now < 2 ^ 28) × PackedAs file.now row p }
-    ensures { Counts (old out) (new out) to (sized (shape (old file) row).unpackers) result }
+    ensures { Counts out.old out.new to (sized (shape file.now row).unpackers) result }
 {
     let a = vlq::put_number(out, to, p.size as u64);
     if p.size == 0 {
@@ -236,7 +237,7 @@ pub fn put_unpackers(out: &mut [u8], to: usize, file: &[u8], row: Node, p: Packe
 // Puts the entry of the types table at c.
 fn copy_entry(out: &mut [u8], to: usize, file: &[u8], c: Cursor) -> Copied
     requires { length file.now < 2 ^ 28 }
-    ensures { Copies (old out) (new out) to result (run (entry_text (old file) []) (old file) c.at.0) }
+    ensures { Copies out.old out.new to result (run (entry_text file.now []) file.now c.at.0) }
 {
     let end = FilePlace(file.len());
     match copy_number(out, to, file, c) {
@@ -259,7 +260,7 @@ fn copy_entry(out: &mut [u8], to: usize, file: &[u8], c: Cursor) -> Copied
 // Puts the `count` entries of the types table at c.
 fn copy_entries(out: &mut [u8], to: usize, file: &[u8], c: Cursor, count: u64) -> Copied
     requires { length file.now < 2 ^ 28 }
-    ensures { Copies (old out) (new out) to result (run (times count (entry_text (old file)) []) (old file) c.at.0) }
+    ensures { Copies out.old out.new to result (run (times count (entry_text file.now) []) file.now c.at.0) }
 {
     let mut next = to;
     let mut at = c;
@@ -280,7 +281,7 @@ fn copy_entries(out: &mut [u8], to: usize, file: &[u8], c: Cursor, count: u64) -
 // Puts the types table's count and entries; FileLength, which stands before the table, begins at c.
 fn copy_table(out: &mut [u8], to: usize, file: &[u8], c: Cursor) -> Copied
     requires { length file.now < 2 ^ 28 }
-    ensures { Copies (old out) (new out) to result (run (table_text (old file)) (old file) c.at.0) }
+    ensures { Copies out.old out.new to result (run (table_text file.now) file.now c.at.0) }
 {
     let end = FilePlace(file.len());
     match c.number(file, end, cursor::CUT_SHORT) {
@@ -301,7 +302,7 @@ fn copy_table(out: &mut [u8], to: usize, file: &[u8], c: Cursor) -> Copied
 // Puts the types table with its length; FileLength, which stands before it, begins at `opening`. The table of a file that was read is never refused.
 pub fn put_types(out: &mut [u8], to: usize, file: &[u8], opening: FilePlace) -> usize
     requires { length file.now < 2 ^ 28 }
-    ensures { Counts (old out) (new out) to (sized (answer (run (table_text (old file)) (old file) opening.0))) result }
+    ensures { Counts out.old out.new to (sized (answer (run (table_text file.now) file.now opening.0))) result }
 {
     let c = Cursor { at: opening };
     let mut scratch = [0u8; 1];

@@ -1,6 +1,7 @@
 // The contents that can be corrected, and the file with another one.
+#![tactic(auto)]
+
 ghost use Rattle.std.specs.Prelude.{◌≡◌, ◌≤◌, ◌+◌, ◌*◌, length};
-ghost use Rattle.room.specs.Moments.{old, new};
 ghost use Rattle.rows.specs.Rows.{item_width, item_from, items_in, ItemIn, ItemRows};
 ghost use Rattle.room.specs.Counts.{Counts};
 ghost use Rattle.lines.specs.Answer.{reads, Gives};
@@ -13,7 +14,7 @@ use room::Written;
 // Puts the line of an item row, if it is visible and universal: its number, and its line on the sheet.
 fn put_title_line(out: &mut [u8], to: usize, file: &[u8], items: &[u64], row: usize) -> usize
     requires { (row * item_width + item_width ≤ length items.now) × ItemIn (length file.now) (item_from items.now (row * item_width)) }
-    ensures { Counts (old out) (new out) to (title_line (old file) row (item_from (old items) (row * item_width))) result }
+    ensures { Counts out.old out.new to (title_line file.now row (item_from items.now (row * item_width))) result }
 {
     if title::is_no_title(items, row) {
         return to;
@@ -26,7 +27,7 @@ fn put_title_line(out: &mut [u8], to: usize, file: &[u8], items: &[u64], row: us
 // Puts the lines of all titles.
 fn put_title_lines(out: &mut [u8], file: &[u8], items: &[u64], count: usize) -> usize
     requires { ItemRows (length file.now) count items.now }
-    ensures { Counts (old out) (new out) 0 (title_lines (old file) 0 (items_in count (old items))) result }
+    ensures { Counts out.old out.new 0 (title_lines file.now 0 (items_in count items.now)) result }
 {
     let mut next: usize = 0;
     let mut i = 0;
@@ -38,7 +39,7 @@ fn put_title_lines(out: &mut [u8], file: &[u8], items: &[u64], count: usize) -> 
 }
 
 pub fn make_titles(file: &[u8], text: &mut [u8]) -> Made
-    ensures { Gives (length (old text)) result (new text) (titles_answer (length (old text)) (old file)) }
+    ensures { Gives (length text.old) result text.new (titles_answer (length text.old) file.now) }
 {
     let mut nodes = program::node_table();
     let mut items = program::item_table();
@@ -56,7 +57,7 @@ pub fn make_titles(file: &[u8], text: &mut [u8]) -> Made
 
 // The format of an item row that is visible and universal; 1 for any other.
 pub fn title_format(file: &[u8], row: usize) -> u64
-    ensures { result ≡ title_format row (reads (old file)) }
+    ensures { result ≡ title_format row (reads file.now) }
 {
     let mut nodes = program::node_table();
     let mut items = program::item_table();
@@ -76,7 +77,7 @@ pub fn title_format(file: &[u8], row: usize) -> u64
 
 // The file with these bytes as the data of an item row.
 pub fn make_corrected(file: &[u8], row: usize, bytes: &[u8], text: &mut [u8]) -> Made
-    ensures { Gives (length (old text)) result (new text) (corrected_answer (length (old text)) row (old bytes) (old file)) }
+    ensures { Gives (length text.old) result text.new (corrected_answer (length text.old) row bytes.now file.now) }
 {
     let mut nodes = program::node_table();
     let mut items = program::item_table();
@@ -86,7 +87,7 @@ pub fn make_corrected(file: &[u8], row: usize, bytes: &[u8], text: &mut [u8]) ->
 
 // The file with this title in an item row; the title of a row in UTF-16 is converted.
 pub fn make_retitled(file: &[u8], row: usize, title: &[u8], text: &mut [u8]) -> Made
-    ensures { Gives (length (old text)) result (new text) (retitled_answer (length (old text)) row (old title) (old file)) }
+    ensures { Gives (length text.old) result text.new (retitled_answer (length text.old) row title.now file.now) }
 {
     if title_format(file, row) != 2 {
         return make_corrected(file, row, title, text);

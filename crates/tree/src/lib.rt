@@ -1,7 +1,8 @@
 // Reads a node and all that it holds into two lent tables, one of node rows and one of item rows.
+#![tactic(auto)]
+
 ghost use Rattle.std.specs.Prelude.{◌≡◌, List, ℕ, ◌≤◌, ◌<◌, ◌^◌, ◌*◌, ◌+◌, length};
 ghost use Rattle.machine.specs.Machine.{ret, exec, times};
-ghost use Rattle.room.specs.Moments.{old, new};
 ghost use Rattle.rows.specs.Rows.{node_width};
 ghost use Rattle.metadata.specs.Tables.{put, state};
 ghost use Rattle.metadata.specs.Told.{Room, Gives};
@@ -56,7 +57,7 @@ fn read_node(
     made: Made,
 ) -> Walked
     requires { Room scope file.now types.now items.old s.end.0 made × (scope.limits.nodes * node_width ≤ length nodes.old) × (levels ≤ most_depth + 1) }
-    ensures { Reads scope (λ x. node levels x parent s made) (old file) (old types) c.at.0 made (old nodes) (old items) (new nodes) (new items) result }
+    ensures { Reads scope (λ x. node levels x parent s made) file.now types.now c.at.0 made nodes.old items.old nodes.new items.new result }
 {
     let start = c.at;
     if levels == 0 {
@@ -137,7 +138,7 @@ pub fn read_children(
     made: Made,
 ) -> Walked
     requires { Room scope file.now types.now items.old s.end.0 made × (scope.limits.nodes * node_width ≤ length nodes.old) × (levels ≤ most_depth + 1) }
-    ensures { Reads scope (λ x. times left (node levels x parent s) made) (old file) (old types) c.at.0 made (old nodes) (old items) (new nodes) (new items) result }
+    ensures { Reads scope (λ x. times left (node levels x parent s) made) file.now types.now c.at.0 made nodes.old items.old nodes.new items.new result }
 {
     let mut next = c;
     let mut m = made;

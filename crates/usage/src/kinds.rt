@@ -1,6 +1,5 @@
 // Where the bytes of a file go: a line a kind, or one line a file.
 ghost use Rattle.std.specs.Prelude.{◌≡◌, length};
-ghost use Rattle.room.specs.Moments.{old, new};
 ghost use Rattle.room.specs.Counts.{Counts};
 ghost use Rattle.account.specs.Totals.{zeros};
 ghost use Rattle.lines.specs.Answer.{Gives};
@@ -11,7 +10,7 @@ use lines::{Made, conclude, put_end, refuse};
 
 // Puts the line of a kind.
 pub fn put_kind(out: &mut [u8], to: usize, name: &[u8], bytes: usize) -> usize
-    ensures { Counts (old out) (new out) to (kind_line (old name) bytes) result }
+    ensures { Counts out.old out.new to (kind_line name.now bytes) result }
 {
     let a = room::put_bytes(out, to, name);
     let b = text::put_number(out, a, bytes as u64);
@@ -34,7 +33,7 @@ fn total(k: Kinds) -> usize
 
 // Puts the lines of the kinds, and of all bytes.
 pub fn put_kinds(out: &mut [u8], to: usize, k: Kinds) -> usize
-    ensures { Counts (old out) (new out) to (kind_lines k) result }
+    ensures { Counts out.old out.new to (kind_lines k) result }
 {
     let a = put_kind(out, to, b"file header", k.header);
     let b = put_kind(out, a, b"node frames", k.nodes);
@@ -50,7 +49,7 @@ pub fn put_kinds(out: &mut [u8], to: usize, k: Kinds) -> usize
 
 // Puts the kinds in one line.
 fn put_in_line(out: &mut [u8], tail: &[u8], k: Kinds) -> usize
-    ensures { Counts (old out) (new out) 0 (bytes_line (old tail) k) result }
+    ensures { Counts out.old out.new 0 (bytes_line tail.now k) result }
 {
     let letter = room::put_byte(out, 0, b'B');
     let a = text::put_number(out, letter, k.header as u64);
@@ -89,7 +88,7 @@ pub fn no_totals() -> Totals
 }
 
 pub fn make_bytes(file: &[u8], tail: &[u8], text: &mut [u8]) -> Made
-    ensures { Gives (length (old text)) result (new text) (bytes_answer (length (old text)) (old tail) (old file)) }
+    ensures { Gives (length text.old) result text.new (bytes_answer (length text.old) tail.now file.now) }
 {
     let mut nodes = program::node_table();
     let mut items = program::item_table();
@@ -103,7 +102,7 @@ pub fn make_bytes(file: &[u8], tail: &[u8], text: &mut [u8]) -> Made
 }
 
 pub fn make_bytes_line(file: &[u8], tail: &[u8], text: &mut [u8]) -> Made
-    ensures { Gives (length (old text)) result (new text) (bytes_line_answer (length (old text)) (old tail) (old file)) }
+    ensures { Gives (length text.old) result text.new (bytes_line_answer (length text.old) tail.now file.now) }
 {
     let mut nodes = program::node_table();
     let mut items = program::item_table();

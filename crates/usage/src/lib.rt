@@ -1,4 +1,6 @@
 // Where the bytes of a file go, and sums over files.
+#![tactic(auto)]
+
 mod kinds;
 mod sums;
 

@@ -1,6 +1,5 @@
 // Sums over files.
 ghost use Rattle.std.specs.Prelude.{◌≡◌, length};
-ghost use Rattle.room.specs.Moments.{old, new};
 ghost use Rattle.io.specs.Counts as io;
 ghost use Rattle.room.specs.Counts.{Counts};
 ghost use Rattle.room.specs.Room.{good};
@@ -13,7 +12,7 @@ use account::{Accounted, Totals};
 use lines::{Made, conclude, refuse};
 
 // The totals of the files so far; or a refusal, as number and place.
-#[derive(Drop)]
+#[derive(Clone, Copy)]
 pub enum Sums {
     Of(Totals),
     Refused(u64, usize),
@@ -42,7 +41,7 @@ fn add_long(t: Totals) -> Totals
 
 // One more file.
 fn add_short(t: Totals, file: &[u8]) -> Totals
-    ensures { result ≡ totals_left t (kinds_in (old file)) }
+    ensures { result ≡ totals_left t (kinds_in file.now) }
 {
     let mut nodes = program::node_table();
     let mut items = program::item_table();
@@ -54,7 +53,7 @@ fn add_short(t: Totals, file: &[u8]) -> Totals
 
 // The sums with one more file. A file that is refused or too long is counted, and so is that it was refused; a 1,001st ends the sums.
 pub fn add_file(sums: Sums, file: &[u8]) -> Sums
-    ensures { sums_told result ≡ with_file (sums_told sums) (old file) }
+    ensures { sums_told result ≡ with_file (sums_told sums) file.now }
 {
     match sums {
         Sums::Refused(n, p) => Sums::Refused(n, p),
@@ -72,7 +71,7 @@ pub fn add_file(sums: Sums, file: &[u8]) -> Sums
 
 // Puts the lines of sums.
 fn put_sums(out: &mut [u8], t: Totals) -> usize
-    ensures { Counts (old out) (new out) 0 (sum_lines t) result }
+    ensures { Counts out.old out.new 0 (sum_lines t) result }
 {
     let a = put_kind(out, 0, b"files", t.files);
     let b = put_kind(out, a, b"refused", t.refused);
@@ -81,8 +80,8 @@ fn put_sums(out: &mut [u8], t: Totals) -> usize
 
 // The answer of the sums.
 pub fn make_sums(sums: Sums, text: &mut [u8]) -> Made
-    ensures prefix_len { io.IsPrefixLen result.size (new text) }
-    ensures gives { Gives (length (old text)) result (new text) (sums_of (length (old text)) (sums_told sums)) }
+    ensures prefix_len { io.IsPrefixLen result.size text.new }
+    ensures gives { Gives (length text.old) result text.new (sums_of (length text.old) (sums_told sums)) }
 {
     match sums {
         Sums::Refused(n, p) => refuse(text, b"", n, p),

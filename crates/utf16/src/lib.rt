@@ -1,6 +1,7 @@
 // UTF-16, high byte first, into UTF-8 and back.
+#![tactic(auto)]
+
 ghost use Rattle.std.specs.Prelude.{◌≡◌, ◌∷◌, [], ◌≤◌, ◌<◌, ◌*◌, ◌+◌, ◌-◌, ◌/◌, ◌%◌, length, get_or, drop};
-ghost use Rattle.room.specs.Moments.{old, new};
 ghost use Rattle.room.specs.Counts.{Counts};
 ghost use Rattle.room.specs.Room.{fitting, counted, kept};
 ghost use Rattle.utf16.specs.Unicode.{bytes_of, utf8, bytes16, first16, tails, first8, converted, to_utf8, to_utf16, is_good};
@@ -10,7 +11,7 @@ ghost use Rattle.room.specs.Told.{told};
 use room::Written;
 
 // The character at a place: its scalar value and how many bytes it takes.
-#[derive(Drop)]
+#[derive(Clone, Copy)]
 pub enum Character {
     Is(u64, usize),
     Bad,
@@ -26,7 +27,7 @@ fn wide(b: u8) -> u64
 // The unit at a place, the high byte first.
 fn unit(units: &[u8], at: usize) -> u64
     requires { at + 2 ≤ length units.now }
-    ensures value { result ≡ get_or (old units) at 0 * 256 + get_or (old units) (at + 1) 0 }
+    ensures value { result ≡ get_or units.now at 0 * 256 + get_or units.now (at + 1) 0 }
     ensures upper_bound { result < 65536 }
 {
     let high = wide(units[at]);
@@ -36,7 +37,7 @@ fn unit(units: &[u8], at: usize) -> u64
 
 // The character of UTF-16 at a place.
 pub fn char16(units: &[u8], at: usize) -> Character
-    ensures { char_told result ≡ first16 (drop at (old units)) }
+    ensures { char_told result ≡ first16 (drop at units.now) }
 {
     let left = room::room_at(units.len(), at);
     if left < 2 {
@@ -75,7 +76,7 @@ fn tail(c: u64) -> u8
 // Puts a scalar value as UTF-8.
 pub fn put8(out: &mut [u8], to: usize, c: u64) -> usize
     requires { c < 0x110000 }
-    ensures { Counts (old out) (new out) to (utf8 c) result }
+    ensures { Counts out.old out.new to (utf8 c) result }
 {
     if c < 0x80 {
         return room::put_byte(out, to, c as u8);
@@ -99,7 +100,7 @@ pub fn put8(out: &mut [u8], to: usize, c: u64) -> usize
 // its value is at least `low`.
 fn read_tails(text: &[u8], from: usize, count: usize, lead: u64, size: usize, low: u64) -> Character
     requires { (count ≤ 3) × (lead < 64) × (from ≤ length text.now) }
-    ensures { char_told result ≡ tails count lead size low (drop from (old text)) }
+    ensures { char_told result ≡ tails count lead size low (drop from text.now) }
 {
     let mut at = from;
     let mut left = count;
@@ -136,7 +137,7 @@ fn read_tails(text: &[u8], from: usize, count: usize, lead: u64, size: usize, lo
 
 // The character of UTF-8 at a place.
 pub fn char8(text: &[u8], at: usize) -> Character
-    ensures { char_told result ≡ first8 (drop at (old text)) }
+    ensures { char_told result ≡ first8 (drop at text.now) }
 {
     if text.len() <= at {
         return Character::Bad;
@@ -163,7 +164,7 @@ pub fn char8(text: &[u8], at: usize) -> Character
 // Puts a unit, the high byte first.
 fn put_unit(out: &mut [u8], to: usize, u: u64) -> usize
     requires { u < 65536 }
-    ensures { Counts (old out) (new out) to (bytes_of (u ∷ [])) result }
+    ensures { Counts out.old out.new to (bytes_of (u ∷ [])) result }
 {
     let one = room::put_byte(out, to, (u / 256) as u8);
     room::put_byte(out, one, (u % 256) as u8)
@@ -172,7 +173,7 @@ fn put_unit(out: &mut [u8], to: usize, u: u64) -> usize
 // Puts a scalar value as UTF-16.
 pub fn put16(out: &mut [u8], to: usize, c: u64) -> usize
     requires { c < 0x110000 }
-    ensures { Counts (old out) (new out) to (bytes16 c) result }
+    ensures { Counts out.old out.new to (bytes16 c) result }
 {
     if c < 0x10000 {
         return put_unit(out, to, c);
@@ -183,8 +184,8 @@ pub fn put16(out: &mut [u8], to: usize, c: u64) -> usize
 
 // The place after a leading mark.
 pub fn after_mark(units: &[u8]) -> usize
-    ensures units_value { to_utf8 (old units) ≡ converted first16 utf8 result (drop result (old units)) }
-    ensures upper_bound { result ≤ length (old units) }
+    ensures units_value { to_utf8 units.now ≡ converted first16 utf8 result (drop result units.now) }
+    ensures upper_bound { result ≤ length units.now }
 {
     match char16(units, 0) {
         Character::Bad => 0,
@@ -199,8 +200,8 @@ pub fn after_mark(units: &[u8]) -> usize
 
 // Converts UTF-16 into UTF-8.
 pub fn to_utf8(units: &[u8], text: &mut [u8]) -> Written
-    ensures answer { told result ≡ counted (fitting (length (old text)) (to_utf8 (old units))) }
-    ensures text { new text ≡ kept (length (old text)) (fitting (length (old text)) (to_utf8 (old units))) }
+    ensures answer { told result ≡ counted (fitting (length text.old) (to_utf8 units.now)) }
+    ensures text { text.new ≡ kept (length text.old) (fitting (length text.old) (to_utf8 units.now)) }
 {
     let mut at = after_mark(units);
     let mut next = 0;
@@ -226,8 +227,8 @@ pub fn to_utf8(units: &[u8], text: &mut [u8]) -> Written
 
 // Converts UTF-8 into UTF-16.
 pub fn to_utf16(text: &[u8], units: &mut [u8]) -> Written
-    ensures answer { told result ≡ counted (fitting (length (old units)) (to_utf16 (old text))) }
-    ensures units { new units ≡ kept (length (old units)) (fitting (length (old units)) (to_utf16 (old text))) }
+    ensures answer { told result ≡ counted (fitting (length units.old) (to_utf16 text.now)) }
+    ensures units { units.new ≡ kept (length units.old) (fitting (length units.old) (to_utf16 text.now)) }
 {
     let mut at = 0;
     let mut next = 0;
@@ -253,7 +254,7 @@ pub fn to_utf16(text: &[u8], units: &mut [u8]) -> Written
 
 // Whether UTF-16 converts.
 pub fn converts(units: &[u8]) -> bool
-    ensures { result ≡ is_good (to_utf8 (old units)) }
+    ensures { result ≡ is_good (to_utf8 units.now) }
 {
     let mut at = 0;
     while at < units.len() {

@@ -1,6 +1,7 @@
 // Numbers of seven bits a byte (VLQ), written: in a given count of bytes, and in the fewest.
+#![tactic(auto)]
+
 ghost use Rattle.std.specs.Prelude.{◌≡◌, ℕ, ◌^◌, ◌≤◌, ◌<◌};
-ghost use Rattle.room.specs.Moments.{old, new};
 ghost use Rattle.room.specs.Counts.{Counts};
 ghost use Rattle.vlq.specs.Vlq.{least, in_bytes, vlq};
 
@@ -44,7 +45,7 @@ pub fn vlq_size(n: u64) -> usize
 // Puts n in k bytes.
 pub fn put_in_bytes(out: &mut [u8], to: usize, n: u64, k: usize) -> usize
     requires { k ≤ 4 }
-    ensures { Counts (old out) (new out) to (in_bytes k n) result }
+    ensures { Counts out.old out.new to (in_bytes k n) result }
 {
     let mut next = to;
     let mut left = k;
@@ -62,7 +63,7 @@ pub fn put_in_bytes(out: &mut [u8], to: usize, n: u64, k: usize) -> usize
 
 // Puts n in its shortest form.
 pub fn put_number(out: &mut [u8], to: usize, n: u64) -> usize
-    ensures { Counts (old out) (new out) to (vlq n) result }
+    ensures { Counts out.old out.new to (vlq n) result }
 {
     if n < 128 {
         return room::put_byte(out, to, n as u8);

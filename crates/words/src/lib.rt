@@ -1,6 +1,7 @@
 // Answers as words in a lent buffer, for C and Rust: refusal number (0: none), place, then the answer's values, and zeros; a short buffer gets what fits.
+#![tactic(auto)]
+
 ghost use Rattle.std.specs.Prelude.{◌≡◌, ◌∷◌, [], length, get_or};
-ghost use Rattle.room.specs.Moments.{old, new};
 ghost use Rattle.file.specs.Told as told_tree;
 ghost use Rattle.find.specs.Told as told_find;
 ghost use Rattle.resolve.specs.Told as told_resolve;
@@ -30,7 +31,7 @@ use shelf::{Got, Outcome};
 
 // Stores the words from the buffer's first word on, as many as fit.
 fn put_front(buffer: &mut [u64], words: &[u64])
-    ensures { new buffer ≡ stored (old buffer) (old words) }
+    ensures { buffer.new ≡ stored buffer.old words.now }
 {
     let room = buffer.len();
     if words.len() <= room {
@@ -42,7 +43,7 @@ fn put_front(buffer: &mut [u64], words: &[u64])
 
 // Sets the buffer to the words, as many as fit, and zeros.
 fn put_answer(answer: &mut [u64], words: &[u64])
-    ensures { new answer ≡ fit (length (old answer)) (old words) }
+    ensures { answer.new ≡ fit (length answer.old) words.now }
 {
     room::clear(answer);
     put_front(answer, words);
@@ -50,7 +51,7 @@ fn put_answer(answer: &mut [u64], words: &[u64])
 
 // A refusal's number and place.
 fn put_refusal(answer: &mut [u64], number: u64, place: usize)
-    ensures { new answer ≡ fit (length (old answer)) (number ∷ place ∷ []) }
+    ensures { answer.new ≡ fit (length answer.old) (number ∷ place ∷ []) }
 {
     let words = [number, place as u64];
     put_answer(answer, &words);
@@ -58,7 +59,7 @@ fn put_refusal(answer: &mut [u64], number: u64, place: usize)
 
 // The tree's version, nodes and item rows.
 pub fn put_tree(answer: &mut [u64], said: Answer)
-    ensures { new answer ≡ fit (length (old answer)) (saying tree_values (told_tree.told said)) }
+    ensures { answer.new ≡ fit (length answer.old) (saying tree_values (told_tree.told said)) }
 {
     match said {
         Answer::Refused(n, p) => put_refusal(answer, n, p),
@@ -71,7 +72,7 @@ pub fn put_tree(answer: &mut [u64], said: Answer)
 
 // The item row that was found, and its ten words.
 pub fn put_found(answer: &mut [u64], said: Found)
-    ensures { new answer ≡ fit (length (old answer)) (saying item_values (told_find.told said)) }
+    ensures { answer.new ≡ fit (length answer.old) (saying item_values (told_find.told said)) }
 {
     match said {
         Found::Refused(n, p) => put_refusal(answer, n, p),
@@ -98,7 +99,7 @@ pub fn put_found(answer: &mut [u64], said: Found)
 
 // The resource's place and length, its row, the references followed.
 pub fn put_resolved(answer: &mut [u64], said: Resolved)
-    ensures { new answer ≡ fit (length (old answer)) (saying resource_values (told_resolve.told said)) }
+    ensures { answer.new ≡ fit (length answer.old) (saying resource_values (told_resolve.told said)) }
 {
     match said {
         Resolved::Refused(n, p) => put_refusal(answer, n, p),
@@ -111,7 +112,7 @@ pub fn put_resolved(answer: &mut [u64], said: Resolved)
 
 // The count.
 pub fn put_counted(answer: &mut [u64], said: Counted)
-    ensures { new answer ≡ fit (length (old answer)) (saying one_value (told_description.told said)) }
+    ensures { answer.new ≡ fit (length answer.old) (saying one_value (told_description.told said)) }
 {
     match said {
         Counted::Refused(n, p) => put_refusal(answer, n, p),
@@ -124,7 +125,7 @@ pub fn put_counted(answer: &mut [u64], said: Counted)
 
 // The verdict.
 pub fn put_judged(answer: &mut [u64], said: Judged)
-    ensures { new answer ≡ fit (length (old answer)) (saying one_value (told_mobile.told said)) }
+    ensures { answer.new ≡ fit (length answer.old) (saying one_value (told_mobile.told said)) }
 {
     match said {
         Judged::Refused(n, p) => put_refusal(answer, n, p),
@@ -137,7 +138,7 @@ pub fn put_judged(answer: &mut [u64], said: Judged)
 
 // The nine counts.
 pub fn put_accounted(answer: &mut [u64], said: Accounted)
-    ensures { new answer ≡ fit (length (old answer)) (saying kind_words (told_account.told said)) }
+    ensures { answer.new ≡ fit (length answer.old) (saying kind_words (told_account.told said)) }
 {
     match said {
         Accounted::Refused(n, p, _) => put_refusal(answer, n, p),
@@ -172,7 +173,7 @@ pub fn totals_in(said: Accounted) -> Totals
 
 // Stores totals in words, as many as fit.
 pub fn put_totals(buffer: &mut [u64], t: Totals)
-    ensures { new buffer ≡ stored (old buffer) (total_words t) }
+    ensures { buffer.new ≡ stored buffer.old (total_words t) }
 {
     let k = t.kinds;
     let words = [
@@ -193,7 +194,7 @@ pub fn put_totals(buffer: &mut [u64], t: Totals)
 
 // A word of a buffer, or 0 where it has none.
 fn word_at(words: &[u64], i: usize) -> usize
-    ensures { result ≡ get_or (old words) i 0 }
+    ensures { result ≡ get_or words.now i 0 }
 {
     if i < words.len() {
         return words[i] as usize;
@@ -203,7 +204,7 @@ fn word_at(words: &[u64], i: usize) -> usize
 
 // The totals that a buffer holds.
 pub fn read_totals(words: &[u64]) -> Totals
-    ensures { result ≡ totals_of (old words) }
+    ensures { result ≡ totals_of words.now }
 {
     let files = word_at(words, 0);
     let refused = word_at(words, 1);
@@ -227,7 +228,7 @@ pub fn read_totals(words: &[u64]) -> Totals
 
 // The number of bytes written.
 pub fn put_written(answer: &mut [u64], said: Written)
-    ensures { new answer ≡ fit (length (old answer)) (saying one_value (told_room.told said)) }
+    ensures { answer.new ≡ fit (length answer.old) (saying one_value (told_room.told said)) }
 {
     match said {
         Written::Refused(n, p) => put_refusal(answer, n, p),
@@ -240,7 +241,7 @@ pub fn put_written(answer: &mut [u64], said: Written)
 
 // The bytes of the copy, and of the lines.
 pub fn put_mended(answer: &mut [u64], said: Mending)
-    ensures { new answer ≡ fit (length (old answer)) (saying size_words (told_mend.told said)) }
+    ensures { answer.new ≡ fit (length answer.old) (saying size_words (told_mend.told said)) }
 {
     match said {
         Mending::Refused(n, p) => put_refusal(answer, n, p),
@@ -253,7 +254,7 @@ pub fn put_mended(answer: &mut [u64], said: Mending)
 
 // The number of a tag's frames.
 pub fn put_frame_count(answer: &mut [u64], said: FrameCount)
-    ensures { new answer ≡ fit (length (old answer)) (saying one_value (told_tag.count_told said)) }
+    ensures { answer.new ≡ fit (length answer.old) (saying one_value (told_tag.count_told said)) }
 {
     match said {
         FrameCount::Refused(n, p) => put_refusal(answer, n, p),
@@ -266,7 +267,7 @@ pub fn put_frame_count(answer: &mut [u64], said: FrameCount)
 
 // A frame's name, and its contents' place and length.
 pub fn put_frame(answer: &mut [u64], said: Framed)
-    ensures { new answer ≡ fit (length (old answer)) (saying frame_values (told_tag.frame_told said)) }
+    ensures { answer.new ≡ fit (length answer.old) (saying frame_values (told_tag.frame_told said)) }
 {
     match said {
         Framed::Refused(n, p) => put_refusal(answer, n, p),
@@ -279,7 +280,7 @@ pub fn put_frame(answer: &mut [u64], said: Framed)
 
 // No value: put and drop answer none.
 pub fn put_outcome(answer: &mut [u64], said: Outcome)
-    ensures { new answer ≡ fit (length (old answer)) (saying no_value (told_outcome said)) }
+    ensures { answer.new ≡ fit (length answer.old) (saying no_value (told_outcome said)) }
 {
     match said {
         Outcome::Refused(n, p) => put_refusal(answer, n, p),
@@ -289,7 +290,7 @@ pub fn put_outcome(answer: &mut [u64], said: Outcome)
 
 // The number of bytes of a sheet.
 pub fn put_got(answer: &mut [u64], said: Got)
-    ensures { new answer ≡ fit (length (old answer)) (saying one_value (told_got said)) }
+    ensures { answer.new ≡ fit (length answer.old) (saying one_value (told_got said)) }
 {
     match said {
         Got::Refused(n, p) => put_refusal(answer, n, p),

@@ -2,6 +2,7 @@
 //
 // The answer goes to standard output, messages to standard error, and the status, one digit, to the descriptor that the first word names: 0 answered,
 // 1 trouble, 2 refused, 3 answered and not Mobile XMF.
+#![tactic(auto)]
 
 mod runs;
 mod sums;

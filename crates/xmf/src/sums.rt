@@ -2,7 +2,7 @@
 use answers::Sums;
 
 // The sums so far, and the worst status of the files.
-#[derive(Drop)]
+#[derive(Clone, Copy)]
 struct Summing {
     sums: Sums,
     status: u64,

@@ -1,8 +1,9 @@
 // Writes the support sheet of one file, or one refusal line.
 //
 // The file is named by the first argument, or read from standard input without one.
+#![tactic(auto)]
+
 ghost use Rattle.std.specs.Prelude.{◌≡◌, length, take};
-ghost use Rattle.room.specs.Moments.{old, new};
 ghost use Rattle.io.specs.Counts.{IsPrefixLen};
 ghost use Rattle.room.specs.Counts as room;
 ghost use Rattle.xmf_sheet.specs.Answer.{refusal_line, too_long, answer_text};
@@ -13,7 +14,7 @@ use room::Written;
 
 // Puts the line of a refusal.
 fn put_refusal(out: &mut [u8], number: u64, place: usize) -> usize
-    ensures { room.Counts (old out) (new out) 0 (refusal_line number place) result }
+    ensures { room.Counts out.old out.new 0 (refusal_line number place) result }
 {
     let a = room::put_byte(out, 0, b'R');
     let b = text::put_number(out, a, number);
@@ -23,7 +24,7 @@ fn put_refusal(out: &mut [u8], number: u64, place: usize) -> usize
 
 // Puts the line of a file that is too long.
 fn put_too_long(out: &mut [u8]) -> usize
-    ensures { room.Counts (old out) (new out) 0 too_long result }
+    ensures { room.Counts out.old out.new 0 too_long result }
 {
     room::put_bytes(out, 0, b"too long\n")
 }
@@ -31,8 +32,8 @@ fn put_too_long(out: &mut [u8]) -> usize
 // Makes the answer for the bytes of an input: its sheet or one line. Answers its length.
 fn make_answer(file: &[u8], text: &mut [u8]) -> usize
     requires { 65536 ≡ length text.old }
-    ensures prefix_len { IsPrefixLen result (new text) }
-    ensures text_value { take result (new text) ≡ answer_text (old file) }
+    ensures prefix_len { IsPrefixLen result text.new }
+    ensures text_value { take result text.new ≡ answer_text file.now }
 {
     if file.len() > program::LONGEST {
         return put_too_long(text);
