@@ -1,0 +1,28 @@
+-- `block_size` gives the bytes of a number and what it counts.
+-- Assumes nothing.
+use mathlib.Core.Path.{refl, sym, ap}
+use Rattle.cursor.specs.Rows.{metaFrame}
+use Rattle.cursor.specs.Told.{number_told}
+use Rattle.machine.proofs.Laws.{was}
+use native.Mathlib.Omega.{arith}
+use Rattle.cursor.proofs.Leaves.{number_short, number-inside}
+use Rattle.account.specs.ByRows.{counted}
+use borrow.Author.Rules.{rules}
+use Rattle.account.proofs.block_size.Goals as goal
+
+pub returns-then-first-lt128 : goal.returns-then-first-lt128
+returns-then-first-lt128 c = let lent = c.args in
+    let read = number_short metaFrame 3 lent.end lent.file.now lent.at (omega arith) c.wide-first.ensures.0 c.if-first-lt128.true refl in
+    omega (arith, ap (counted lent.at) read)
+
+pub overflow_add-result-in-Is : goal.overflow_add-result-in-Is
+overflow_add-result-in-Is c = omega (arith, number-inside metaFrame 3 _ _ _ (was number_told (c.number.ensures metaFrame) c.in-Is.is))
+
+pub overflow_sub-result : goal.overflow_sub-result
+overflow_sub-result c = omega (arith, number-inside metaFrame 3 _ _ _ (was number_told (c.number.ensures metaFrame) c.in-Is.is))
+
+pub returns-in-Refused : goal.returns-in-Refused
+returns-in-Refused c = ap (counted _) (sym (was number_told (c.number.ensures metaFrame) c.in-Refused.is))
+
+pub returns-in-Is : goal.returns-in-Is
+returns-in-Is c = ap (counted _) (sym (was number_told (c.number.ensures metaFrame) c.in-Is.is))

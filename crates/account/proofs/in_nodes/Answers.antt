@@ -1,0 +1,23 @@
+-- `in_nodes` adds row after row. The invariant: what is left to do is what the rows from row i on give.
+-- Assumes nothing.
+use Prim.Native.Nat.{◌-◌, ◌≤◌}
+use native.Mathlib.Omega.{arith}
+use Rattle.rows.specs.Rows.{node_width, node_from}
+use Rattle.account.specs.ByRows.{with_node}
+use Rattle.account.proofs.Folding.{Folding, folding_begun, folding_on, nodes-done, nodes-small}
+use Rattle.account.proofs.in_nodes.Goals as goal
+
+pub loop-i-init : goal.loop-i-init
+loop-i-init c = (omega arith, folding_begun _ _ _ _ _ _)
+
+pub node_at-requires : goal.node_at-requires
+node_at-requires c = omega (arith, c.requires)
+
+pub with_node-sum-requires : goal.with_node-sum-requires
+with_node-sum-requires c = rw c.node_at.ensures (c.requires.0.1 _ (omega arith), nodes-small _ _ _ (omega arith) c.loop-i.invariant.1 c.requires.1)
+
+pub loop-i-preserved : goal.loop-i-preserved
+loop-i-preserved c = (omega arith, folding_on _ _ _ _ _ _ (omega arith) c.loop-i.invariant.1 c.node_at.ensures c.with_node-sum.ensures)
+
+pub returns : goal.returns
+returns c = nodes-done _ _ _ (omega arith) c.loop-i.invariant.1

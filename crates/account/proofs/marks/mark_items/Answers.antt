@@ -1,0 +1,21 @@
+-- `mark_items` marks row after row. The invariant: what is left to do is what the rows from row i on give.
+-- Assumes nothing.
+use Prim.Native.Nat.{◌-◌, ◌≤◌}
+use native.Mathlib.Omega.{arith}
+use Rattle.rows.specs.Rows.{item_width, item_from}
+use Rattle.account.specs.ByPlace.{over_item}
+use Rattle.account.proofs.Marking.{Painting, painting_begun, painting_on, items-painted}
+use borrow.Author.Rules.{rules}
+use Rattle.account.proofs.marks.mark_items.Goals as goal
+
+pub loop-i-init : goal.loop-i-init
+loop-i-init c = (omega arith, painting_begun _ _ _ _ _ _)
+
+pub item_at-requires : goal.item_at-requires
+item_at-requires c = omega (arith, c.requires)
+
+pub loop-i-preserved : goal.loop-i-preserved
+loop-i-preserved c = (omega arith, painting_on _ _ _ _ _ _ (omega arith) c.loop-i.invariant.1 c.item_at.ensures c.mark_item.ensures)
+
+pub returns : goal.returns
+returns c = items-painted _ _ (omega arith) c.loop-i.invariant.1

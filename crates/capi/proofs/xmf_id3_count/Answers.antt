@@ -1,0 +1,11 @@
+-- `xmf_id3_count` leaves the outcome of the count of frames.
+-- Assumes nothing.
+use mathlib.Core.List.{[]}
+use Rattle.promises.specs.Calls as calls
+use Rattle.capi.proofs.Calls.{leaves}
+use borrow.Author.Rules.{rules}
+use Rattle.capi.proofs.xmf_id3_count.Goals as goal
+
+pub returns : goal.returns
+returns c = let r = c.frame_count in
+    leaves _ (calls.count-frames {f = []} _ r.result r.ensures) c.put_frame_count.ensures

@@ -1,0 +1,11 @@
+-- `xmf_id3_frame` leaves the outcome of a frame.
+-- Assumes nothing.
+use mathlib.Core.List.{[]}
+use Rattle.promises.specs.Calls as calls
+use Rattle.capi.proofs.Calls.{leaves}
+use borrow.Author.Rules.{rules}
+use Rattle.capi.proofs.xmf_id3_frame.Goals as goal
+
+pub returns : goal.returns
+returns c = let r = c.frame in
+    leaves _ (calls.tag-frame {f = []} _ _ r.result r.ensures) c.put_frame.ensures

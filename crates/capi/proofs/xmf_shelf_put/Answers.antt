@@ -1,0 +1,12 @@
+-- `xmf_shelf_put` leaves what `put` leaves.
+-- Assumes nothing.
+use mathlib.Core.Path.{refl}
+use Rattle.shelf.specs.Shelf.{label}
+use Rattle.shelf.specs.Runs.{putting}
+use Rattle.capi.proofs.Calls.{shelf-leaves}
+use borrow.Author.Rules.{rules}
+use Rattle.capi.proofs.xmf_shelf_put.Goals as goal
+
+pub returns : goal.returns
+returns c = let a = c.args in
+    shelf-leaves (putting (label a.desk a.call a.boat) a.sheet.now) refl _ c.put_words.result c.put_words.ensures c.put_outcome.ensures

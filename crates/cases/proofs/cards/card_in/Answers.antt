@@ -1,0 +1,16 @@
+-- `card_in` meets its contract.
+-- Assumes nothing.
+use native.Mathlib.Omega.{arith}
+use borrow.Author.Rules.{rules}
+use Rattle.shelf.specs.Words.{cards_of}
+use Rattle.shelf.proofs.Words.{count, card_at}
+use Rattle.cases.proofs.Row.{past}
+use Rattle.cases.proofs.cards.card_in.Goals as goal
+
+pub returns-then-i-words : goal.returns-then-i-words
+returns-then-i-words c = let a = c.args in
+    card_at a.words.now a.i (omega (arith, count a.words.now, c.if-i-words.true))
+
+pub returns : goal.returns
+returns c = let a = c.args in
+    past (cards_of a.words.now) a.i (omega (arith, count a.words.now, c.if-i-words.false))

@@ -1,0 +1,10 @@
+-- `get` meets its contract: the cards that are lent are those of the words.
+-- Assumes nothing.
+use borrow.Author.Rules.{rules}
+use Rattle.cases.proofs.Row.{front, given}
+use Rattle.cases.proofs.cards.get.Goals as goal
+
+pub returns : goal.returns
+returns c = let words = c.args.words.now in
+    let loaded = c.load_row-row.ensures in
+    given _ _ (front words c.load_row-row.result c.count-n.result loaded.0 c.count-n.ensures loaded.1) _ _ _ c.get_row.ensures

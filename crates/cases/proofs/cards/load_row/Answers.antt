@@ -1,0 +1,34 @@
+-- `load_row` reads the cards one by one.
+-- Assumes nothing.
+use mathlib.Core.Path.{◌≡◌, refl, ◌∙◌}
+use Prim.Native.Nat.{◌-◌, ◌≤◌}
+use native.Mathlib.Omega.{arith}
+use lib.ListN.{length, length-set}
+use borrow.Author.Rules.{rules}
+use Rattle.shelf.specs.declared.Card.{Card}
+use Rattle.cases.proofs.Row.{Loaded, loaded_more}
+use Rattle.cases.proofs.cards.load_row.Goals as goal
+
+pub loop-i-init : goal.loop-i-init
+loop-i-init c = (omega arith, refl, λ k l. absurd (omega (arith, l)))
+
+pub offset_bounds-row-i : goal.offset_bounds-row-i
+offset_bounds-row-i c = record { fits = omega (arith, c.loop-i-test.true) }
+
+pub bounds-row-i : goal.bounds-row-i
+bounds-row-i c = c.loop-i-test.true
+
+pub overflow_add-i : goal.overflow_add-i
+overflow_add-i c = record { fits = omega (arith, c.loop-i-test.true) }
+
+pub loop-i-smaller : goal.loop-i-smaller
+loop-i-smaller c = omega (arith, c.loop-i-test.true)
+
+pub loop-i-preserved : goal.loop-i-preserved
+loop-i-preserved c = let test = c.loop-i-test.true in let inv = c.loop-i.invariant in
+    let words = c.args.words.now in let row = c.loop-i.row in let i = c.loop-i.i in
+    (omega (arith, test), length-set {A = Card} row i c.card_in-c.result ∙ inv.1, loaded_more words row i inv.1 test c.card_in-c.ensures inv.2)
+
+pub returns : goal.returns
+returns c = let inv = c.loop-i.invariant in
+    (inv.1, λ k l. inv.2 k (omega (arith, l, c.loop-i-test.false)))

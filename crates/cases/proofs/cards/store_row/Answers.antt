@@ -1,0 +1,35 @@
+-- `store_row` stores the cards one by one.
+-- Assumes nothing.
+use mathlib.Core.Path.{◌≡◌, refl, ◌∙◌, ap}
+use Prim.Native.Nat.{ℕ, ◌-◌, ◌*◌, ◌/◌, ◌≤◌, min}
+use native.Mathlib.Omega.{arith}
+use lib.ListN.{length, get_or, take}
+use lib.Seq.{length-sets}
+use borrow.Author.Rules.{rules}
+use Rattle.shelf.specs.Shelf.{fresh_card}
+use Rattle.shelf.specs.Words.{words_with}
+use Rattle.shelf.proofs.Words.{four_of}
+use Rattle.cases.proofs.Row.{with_none, stored_more}
+use Rattle.cases.proofs.cards.store_row.Goals as goal
+
+pub loop-i-init : goal.loop-i-init
+loop-i-init c = (omega arith, c.count-n.ensures, refl, with_none _)
+
+pub store-requires : goal.store-requires
+store-requires c = let inv = c.loop-i.invariant in
+    omega (arith, c.loop-i-test.true, inv.1, inv.2)
+
+pub loop-i-preserved : goal.loop-i-preserved
+loop-i-preserved c = let inv = c.loop-i.invariant in let test = c.loop-i-test.true in
+    let row = c.args.t2 in let i = c.loop-i.i in
+    let four = four_of (get_or row i fresh_card) in (
+      omega (arith, test),
+      inv.1,
+      ap length c.store.ensures ∙ length-sets {A = ℕ} c.loop-i.words (i * 4) four ∙ inv.2,
+      c.store.ensures
+          ∙ stored_more c.args.words.now row i c.well_formed.1.0.1.0.1 (omega (arith, test, inv.1)) inv.3,
+    )
+
+pub returns : goal.returns
+returns c = let inv = c.loop-i.invariant in let all : c.loop-i.i ≡ min (length c.args.words.now / 4) 20 = omega (arith, c.loop-i-test.false, inv.0, inv.1) in
+    inv.3 ∙ ap (λ (k : ℕ). words_with c.args.words.now (take k c.args.t2)) all

@@ -1,0 +1,9 @@
+-- `casetext::buffers::text_buffer` meets its contract. The level and the type are written out: without them the two lengths are computed, one element at a time.
+-- Assumes nothing.
+use mathlib.Core.Path.{sym}
+use Prim.Native.Nat.{ℕ}
+use lib.ListN.{length-replicate}
+use Rattle.casetext.proofs.buffers.text_buffer.Goals as goal
+
+pub returns : goal.returns
+returns c = sym (length-replicate {0} {A = ℕ} 262144 0)

@@ -1,0 +1,19 @@
+-- `casetext::input::read_hex` meets its contract. Assumes nothing.
+use mathlib.Core.Logic.{inl, inr}
+use mathlib.Core.Path.{refl, sym, ◌≡◌}
+use Prim.Native.Nat.{ℕ, ◌+◌, ◌*◌, ◌/◌, ◌≤◌, ◌<◌, ◌-◌}
+use native.Mathlib.Omega.{arith}
+use lib.ListN.{length-set, length, get_or}
+use lib.Seq.{length-take-le}
+use borrow.Author.Rules.{rules}
+use borrow.Author.Tests.{eqb-true, eq-eqb}
+use Rattle.casetext.proofs.Laws.{no_bytes, byte_more}
+use Rattle.casetext.specs.Text.{byte_at}
+use Rattle.casetext.proofs.input.read_hex.Given as goal
+
+abbrev pub invariant-loop-n : goal.invariant-loop-n
+invariant-loop-n l = (length l.bytes ≡ length l.initial.bytes) × ((k : ℕ) → k < l.n → get_or l.bytes k 0 ≡ byte_at l.digits k) ×
+    (l.n ≤ l.count) × (l.count ≤ length l.bytes) × (l.count * 2 ≤ length l.digits)
+
+abbrev pub decreases-loop-n : goal.decreases-loop-n
+decreases-loop-n l = l.count - l.n

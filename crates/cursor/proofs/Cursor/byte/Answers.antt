@@ -1,0 +1,8 @@
+-- `Cursor::byte` gives the byte, and the cursor after it.
+-- Assumes nothing.
+use native.Mathlib.Omega.{arith}
+use borrow.Author.Rules.{rules}
+use Rattle.cursor.proofs.Cursor.byte.Goals as goal
+
+pub returns : goal.returns
+returns c = record { is = c.wide-value.ensures.0; on = c.on-next.ensures }

@@ -1,0 +1,11 @@
+use Rattle.cursor.proofs.Digits.{GuidReading, guid-begun, out, missing, last, more}
+use borrow.Author.Rules.{rules}
+use Prim.Native.Nat.{◌≤◌}
+use native.Mathlib.Omega.{arith}
+use Rattle.cursor.proofs.Cursor.guid.Given as goal
+
+abbrev pub invariant-loop-left : goal.invariant-loop-left
+invariant-loop-left l = GuidReading l.file l.stop l.start.0 l.left l.at × (l.left ≤ 19)
+
+abbrev pub decreases-loop-left : goal.decreases-loop-left
+decreases-loop-left l = l.left

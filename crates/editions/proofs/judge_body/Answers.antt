@@ -1,0 +1,58 @@
+-- `judge_body` judges the lines behind the first. The invariant: what is left of them is the whole; there are no more nodes, items and lines than bytes.
+-- Assumes nothing.
+use mathlib.Core.Path.{refl, sym}
+use Prim.Native.Nat.{◌-◌}
+use lib.ListN.{length}
+use native.Mathlib.Omega.{arith}
+use Rattle.machine.proofs.Laws.{was}
+use Rattle.editions.specs.Told.{step_told}
+use Rattle.editions.proofs.Places.{next-piece}
+use Rattle.editions.proofs.Judging.{Judging, lent, judged-all, judged-unended, judged-no, judged-on}
+use borrow.Author.Rules.{rules}
+use Rattle.editions.proofs.judge_body.Goals as goal
+
+pub loop-at-init : goal.loop-at-init
+loop-at-init c = record { same = refl; nodes-few = omega arith; items-few = omega arith; few = omega arith; inside = omega arith }
+
+pub returns-then-sheet-end : goal.returns-then-sheet-end
+returns-then-sheet-end c = let a = c.args in
+    let piece = next-piece 0x0A a.sheet.now c.loop-at.at (omega arith) c.piece_end-end.ensures.1 in
+    judged-unended c.loop-at.invariant c.loop-at-test.true piece c.piece_end-end.ensures.0 c.if-sheet-end.true
+
+pub slice_bounds-read_line-start : goal.slice_bounds-read_line-start
+slice_bounds-read_line-start c = omega (arith, c.piece_end-end.ensures.1)
+
+pub step-requires : goal.step-requires
+step-requires c = (omega (arith, c.loop-at.invariant.nodes-few), omega (arith, c.loop-at.invariant.items-few))
+
+pub returns-in-No : goal.returns-in-No
+returns-in-No c = let a = c.args in
+    let loop = c.loop-at in
+    let loop-test = c.loop-at-test in
+    let piece-end = c.piece_end-end in
+    let test = c.if-sheet-end in
+    let line = lent a.sheet.now loop.at piece-end.result (omega (arith, piece-end.ensures.1)) piece-end.ensures.0 in
+    let piece = next-piece 0x0A a.sheet.now loop.at (omega arith) piece-end.ensures.1 in
+    judged-no loop.invariant loop-test.true piece test.false (omega (arith, piece-end.ensures.1)) line
+    c.read_line-line.ensures (sym (was step_told c.step.ensures c.in-No.is))
+
+pub overflow_add-number : goal.overflow_add-number
+overflow_add-number c = omega (arith, c.loop-at.invariant.few)
+
+pub loop-at-smaller : goal.loop-at-smaller
+loop-at-smaller c = omega (arith, c.piece_end-end.ensures.1)
+
+pub loop-at-preserved : goal.loop-at-preserved
+loop-at-preserved c = let a = c.args in
+    let loop = c.loop-at in
+    let loop-test = c.loop-at-test in
+    let piece-end = c.piece_end-end in
+    let test = c.if-sheet-end in
+    let read-line = c.read_line-line in
+    let line = lent a.sheet.now loop.at piece-end.result (omega (arith, piece-end.ensures.1)) piece-end.ensures.0 in
+    let piece = next-piece 0x0A a.sheet.now loop.at (omega arith) piece-end.ensures.1 in
+    judged-on loop.invariant loop-test.true piece test.false (omega (arith, piece-end.ensures.1)) line read-line.ensures
+    (sym (was step_told c.step.ensures c.in-To.is))
+
+pub returns : goal.returns
+returns c = judged-all c.loop-at.invariant c.loop-at-test.false

@@ -1,0 +1,13 @@
+-- `piece_end` finds the end of a piece. The invariant: what is left of the piece begins at i.
+-- Assumes nothing.
+use Prim.Native.Nat.{◌-◌}
+use lib.ListN.{length}
+use native.Mathlib.Omega.{arith}
+use Rattle.editions.proofs.Numbers.{Seeking, sought_here, sought_on, sought_end}
+use Rattle.editions.proofs.piece_end.Given as goal
+
+abbrev pub invariant-loop-i : goal.invariant-loop-i
+invariant-loop-i l = Seeking l.text l.at l.c l.i
+
+abbrev pub decreases-loop-i : goal.decreases-loop-i
+decreases-loop-i l = length l.text - l.i

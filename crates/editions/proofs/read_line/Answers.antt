@@ -1,0 +1,71 @@
+-- `read_line` gives what a line is.
+-- Assumes nothing.
+use native.Mathlib.Omega.{arith}
+use Rattle.editions.specs.Told.{NumberAt}
+use Rattle.editions.proofs.Places.{as_told}
+use Rattle.editions.proofs.Fields.{label-room, line-none, node-no, node-bad, node-is, item-no, item-bad, item-is}
+use borrow.Author.Rules.{rules}
+use Rattle.editions.proofs.read_line.Goals as goal
+
+pub number_field-requires : goal.number_field-requires
+number_field-requires c = label-room c.args.line.now 0 c.letter-b.ensures c.if-b-eq78.true (omega arith) (omega arith)
+
+pub are_numbers-requires : goal.are_numbers-requires
+are_numbers-requires c = ((as_told (NumberAt c.args.line.now 2) c.number_field.ensures c.in-Is.is).field.inside, omega arith)
+
+pub returns-then-are_numbers : goal.returns-then-are_numbers
+returns-then-are_numbers c = let a = c.args in
+    let letter = c.letter-b in
+    let number-field = c.number_field in
+    let test = c.if-b-eq78 in
+    node-is a.line.now letter.ensures test.true
+    (as_told (NumberAt a.line.now 2) number-field.ensures c.in-Is.is)
+    c.are_numbers.ensures c.if-are_numbers.true
+
+pub returns-in-No : goal.returns-in-No
+returns-in-No c = let a = c.args in
+    let letter = c.letter-b in
+    node-no a.line.now letter.ensures c.if-b-eq78.true
+    (as_told (NumberAt a.line.now 2) c.number_field.ensures c.in-No.is)
+
+pub returns-else-are_numbers : goal.returns-else-are_numbers
+returns-else-are_numbers c = let a = c.args in
+    let letter = c.letter-b in
+    let number-field = c.number_field in
+    let test = c.if-b-eq78 in
+    node-bad a.line.now letter.ensures test.true
+    (as_told (NumberAt a.line.now 2) number-field.ensures c.in-Is.is)
+    c.are_numbers.ensures c.if-are_numbers.false
+
+pub number_field-requires-then-b-eq77 : goal.number_field-requires-then-b-eq77
+number_field-requires-then-b-eq77 c = label-room c.args.line.now 0 c.letter-b.ensures c.if-b-eq77.true (omega arith) (omega arith)
+
+pub is_labelled-requires : goal.is_labelled-requires
+is_labelled-requires c = (as_told (NumberAt c.args.line.now 2) c.number_field-then-b-eq77.ensures c.in-Is-number_field.is).field.inside
+
+pub returns-then-is_labelled : goal.returns-then-is_labelled
+returns-then-is_labelled c = let a = c.args in
+    let letter = c.letter-b in
+    let number-field = c.number_field-then-b-eq77 in
+    let test = c.if-b-eq77 in
+    item-is a.line.now letter.ensures test.true
+    (as_told (NumberAt a.line.now 2) number-field.ensures c.in-Is-number_field.is)
+    c.is_labelled.ensures c.if-is_labelled.true
+
+pub returns-in-No-number_field : goal.returns-in-No-number_field
+returns-in-No-number_field c = let a = c.args in
+    let letter = c.letter-b in
+    item-no a.line.now letter.ensures c.if-b-eq77.true
+    (as_told (NumberAt a.line.now 2) c.number_field-then-b-eq77.ensures c.in-No-number_field.is)
+
+pub returns-else-is_labelled : goal.returns-else-is_labelled
+returns-else-is_labelled c = let a = c.args in
+    let letter = c.letter-b in
+    let number-field = c.number_field-then-b-eq77 in
+    let test = c.if-b-eq77 in
+    item-bad a.line.now letter.ensures test.true
+    (as_told (NumberAt a.line.now 2) number-field.ensures c.in-Is-number_field.is)
+    c.is_labelled.ensures c.if-is_labelled.false
+
+pub returns : goal.returns
+returns c = line-none c.args.line.now c.letter-b.ensures c.if-b-eq78.false c.if-b-eq77.false

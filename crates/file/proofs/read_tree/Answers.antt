@@ -1,0 +1,11 @@
+-- `read_tree` gives what `answer_of` gives of the file's reading.
+-- Assumes nothing.
+use Rattle.file.proofs.Whole.{tree_is, tree-no}
+use borrow.Author.Rules.{rules}
+use Rattle.file.proofs.read_tree.Goals as goal
+
+pub returns-in-Refused : goal.returns-in-Refused
+returns-in-Refused c = let all = ((tree-no _ c.read_file.ensures.answer c.in-Refused.is, c.read_file.ensures.nodes)) in record { answer = all.0; nodes = all.1; items = all.2 }
+
+pub returns-in-Is : goal.returns-in-Is
+returns-in-Is c = let all = ((tree_is _ c.read_file.ensures.answer c.in-Is.is, c.read_file.ensures.nodes)) in record { answer = all.0; nodes = all.1; items = all.2 }

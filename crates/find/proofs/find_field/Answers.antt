@@ -1,0 +1,53 @@
+-- `find_field` answers and leaves both tables as `ask` says of the question: the reader's refusal, then 18, then what is found from the row.
+-- Assumes nothing.
+use lib.ListN.{length, replicate}
+use mathlib.Core.Path.{◌∙◌, ap}
+use Prim.Native.Nat.{ℕ}
+use Rattle.metadata.specs.Tables.{limits}
+use Rattle.file.specs.Reading.{read_file}
+use Rattle.file.proofs.Rows.{standing}
+use Rattle.file.proofs.Own.{tables}
+use Rattle.find.specs.Told.{wanted_of}
+use Rattle.find.proofs.Climbing.{says-refused, says-no_row, says-no_item, says-item}
+use borrow.Author.Rules.{rules}
+use Rattle.find.proofs.find_field.Goals as goal
+
+pub returns-then-s-row : goal.returns-then-s-row
+returns-then-s-row c = let all = (let w = says-no_row c.args.climbs c.args.file.now (wanted_of c.args.field c.args.name.now)
+    c.args.row (length c.args.nodes.now) (length c.args.items.now)
+    (standing c.args.file.now (limits (length c.args.nodes.now) (length c.args.items.now))
+    (length c.args.nodes.now) (length c.args.items.now) c.read_file.ensures.answer
+    c.read_file.ensures.nodes.0 c.read_file.ensures.nodes.1 c.in-Is.is) c.if-s-row.true
+    (c.clear_all.ensures.nodes ∙ ap (λ (k : ℕ). replicate k 0) c.read_file.auto.1.0)
+    (c.clear_all.ensures.items ∙ ap (λ (k : ℕ). replicate k 0) c.read_file.auto.1.1.0) in (w.0, (w.1, w.2))) in record { answer = all.0; nodes = all.1; items = all.2 }
+
+pub found_by-requires : goal.found_by-requires
+found_by-requires c = let d = (standing c.args.file.now (limits (length c.args.nodes.now) (length c.args.items.now))
+    (length c.args.nodes.now) (length c.args.items.now) c.read_file.ensures.answer
+    c.read_file.ensures.nodes.0 c.read_file.ensures.nodes.1 c.in-Is.is) in (tables _ _ d, c.if-s-row.false)
+
+pub returns-in-Refused : goal.returns-in-Refused
+returns-in-Refused c = let all = (let w = says-refused c.args.climbs c.args.file.now (wanted_of c.args.field c.args.name.now)
+    c.args.row (length c.args.nodes.now) (length c.args.items.now)
+    (read_file (limits (length c.args.nodes.now) (length c.args.items.now)) c.args.file.now)
+    c.read_file.ensures.answer c.in-Refused.is c.read_file.ensures.nodes.0
+    c.read_file.ensures.nodes.1 in (w.0, (w.1, w.2))) in record { answer = all.0; nodes = all.1; items = all.2 }
+
+pub returns-in-Item : goal.returns-in-Item
+returns-in-Item c = let all = (let w = says-item c.args.climbs c.args.file.now (wanted_of c.args.field c.args.name.now) c.args.row
+    (length c.args.nodes.now) (length c.args.items.now)
+    (standing c.args.file.now (limits (length c.args.nodes.now) (length c.args.items.now))
+    (length c.args.nodes.now) (length c.args.items.now) c.read_file.ensures.answer
+    c.read_file.ensures.nodes.0 c.read_file.ensures.nodes.1 c.in-Is.is) c.if-s-row.false _
+    c.found_by.ensures c.in-Item.is c.read_file.ensures.nodes.0
+    c.read_file.ensures.nodes.1 in (w.0, (w.1, w.2))) in record { answer = all.0; nodes = all.1; items = all.2 }
+
+pub returns-in-Refused-found_by : goal.returns-in-Refused-found_by
+returns-in-Refused-found_by c = let all = (let w = says-no_item c.args.climbs c.args.file.now (wanted_of c.args.field c.args.name.now)
+    c.args.row (length c.args.nodes.now) (length c.args.items.now)
+    (standing c.args.file.now (limits (length c.args.nodes.now) (length c.args.items.now))
+    (length c.args.nodes.now) (length c.args.items.now) c.read_file.ensures.answer
+    c.read_file.ensures.nodes.0 c.read_file.ensures.nodes.1 c.in-Is.is) c.if-s-row.false _
+    c.found_by.ensures c.in-Refused-found_by.is
+    (c.clear_all-in-Refused-found_by.ensures.nodes ∙ ap (λ (k : ℕ). replicate k 0) c.read_file.auto.1.0)
+    (c.clear_all-in-Refused-found_by.ensures.items ∙ ap (λ (k : ℕ). replicate k 0) c.read_file.auto.1.1.0) in (w.0, (w.1, w.2))) in record { answer = all.0; nodes = all.1; items = all.2 }

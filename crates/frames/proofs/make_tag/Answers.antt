@@ -1,0 +1,11 @@
+-- `make_tag` answers the frames of a tag, or the refusal.
+-- Assumes nothing.
+use Rattle.frames.specs.Tags.{tag_answer}
+use borrow.Author.Rules.{rules}
+use Rattle.frames.proofs.make_tag.Goals as goal
+
+pub returns : goal.returns
+unfolding tag_answer
+returns c = let put-tag = c.put_tag-put in
+    let put-answered = c.put_answered in
+    put-answered.ensures _ _ put-tag.ensures

@@ -1,0 +1,11 @@
+-- `put_end` puts the end of a line.
+-- Assumes nothing.
+use Rattle.room.proofs.Counting.{counts-then, counts-as}
+use Rattle.lines.proofs.Ending.{end_is}
+use borrow.Author.Rules.{rules}
+use Rattle.lines.proofs.put_end.Goals as goal
+
+pub returns : goal.returns
+returns c = let put-bytes = c.put_bytes-next in
+    let put_byte = c.put_byte in
+    counts-as (end_is _) (counts-then put-bytes.ensures put_byte.ensures)

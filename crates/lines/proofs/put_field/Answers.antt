@@ -1,0 +1,11 @@
+-- `put_field` puts the field of a name.
+-- Assumes nothing.
+use Rattle.room.proofs.Counting.{counts-then, counts-as}
+use Rattle.lines.proofs.Ending.{field_is}
+use borrow.Author.Rules.{rules}
+use Rattle.lines.proofs.put_field.Goals as goal
+
+pub returns : goal.returns
+returns c = let put_byte = c.put_byte-next in
+    let put-escaped = c.put_escaped in
+    counts-as (field_is _) (counts-then put_byte.ensures put-escaped.ensures)

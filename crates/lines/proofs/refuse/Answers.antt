@@ -1,0 +1,11 @@
+-- `refuse` answers the line of a refusal.
+-- Assumes nothing.
+use Rattle.lines.specs.Answer.{refused_by}
+use borrow.Author.Rules.{rules}
+use Rattle.lines.proofs.refuse.Goals as goal
+
+pub returns : goal.returns
+unfolding refused_by
+returns c = let close = c.close in
+    let put-refusal = c.put_refusal-end in
+    close.ensures _ _ put-refusal.ensures

@@ -1,0 +1,17 @@
+-- `read_versions` reads the versions one after the other. The invariant: what is left of them comes to what the whole comes to.
+-- Assumes nothing.
+use mathlib.Core.Path.{ap, ◌∙◌}
+use lib.ListN.{length}
+use Rattle.metadata.specs.Told.{context_of, counts, walked}
+use Rattle.metadata.proofs.Ways.{Going, versions_begun, versions_done, versions_no, versions_on}
+use native.Mathlib.Omega.{arith}
+use borrow.Author.Rules.{rules}
+use borrow.Author.Rules.{rules}
+use Rattle.metadata.proofs.read_versions.Given as goal
+
+abbrev pub invariant-loop-left : goal.invariant-loop-left
+invariant-loop-left l = Going (context_of l.scope l.types (length l.file)) l.l
+    l.file l.initial.items l.end.0 l.initial.next.at.0 l.count (counts l.l.node l.initial.m) l.items l.next.at.0 l.left (counts l.l.node l.m)
+
+abbrev pub decreases-loop-left : goal.decreases-loop-left
+decreases-loop-left l = l.left

@@ -1,0 +1,12 @@
+-- `small_fields` says what `small_fields` says.
+-- Assumes nothing.
+use borrow.Author.Tests.{not-true, not-false}
+use Rattle.mobile.proofs.Checks.{small-long, small_by}
+use borrow.Author.Rules.{rules}
+use Rattle.mobile.proofs.small_fields.Goals as goal
+
+pub returns-then-not-short_headers : goal.returns-then-not-short_headers
+returns-then-not-short_headers c = small-long _ _ c.short_headers.ensures (not-true c.short_headers.result c.if-not-short_headers.true)
+
+pub returns : goal.returns
+returns c = small_by _ _ c.short_headers.ensures (not-false c.short_headers.result c.if-not-short_headers.false) c.small_items.ensures

@@ -1,0 +1,73 @@
+-- `next_item` finds the next item line. The invariant: the item lines from here on are all of them, and the lines are known.
+-- Assumes nothing.
+use mathlib.Core.Path.{◌≡◌, refl}
+use Prim.{tt}
+use Prim.Native.Nat.{◌-◌, ◌≤◌}
+use lib.ListN.{length, drop}
+use native.Mathlib.Omega.{arith}
+use Rattle.editions.specs.Sheets.{parted, items_of}
+use Rattle.editions.specs.Reads.{AllKnown}
+use Rattle.editions.proofs.Places.{next-piece}
+use Rattle.editions.proofs.Judging.{lent}
+use Rattle.mover.proofs.Writing.{known_on, known-line, item-none, item-past, item-here}
+use borrow.Author.Rules.{rules}
+use Rattle.mover.proofs.next_item.Goals as goal
+
+pub loop-at-init : goal.loop-at-init
+loop-at-init c = (refl, omega arith, c.requires)
+
+pub slice_bounds-is_kind-count : goal.slice_bounds-is_kind-count
+slice_bounds-is_kind-count c = omega (arith, c.piece_end-end.ensures.1)
+
+pub slice_bounds-is_kind-start : goal.slice_bounds-is_kind-start
+slice_bounds-is_kind-start c = omega (arith, c.piece_end-end.ensures.1)
+
+pub slice_bounds-is_kind-end : goal.slice_bounds-is_kind-end
+slice_bounds-is_kind-end c = c.piece_end-end.ensures.0
+
+pub is_kind-requires : goal.is_kind-requires
+is_kind-requires c = let s = c.args.sheet.now in
+    let at = c.loop-at.at in let e = c.piece_end-end in
+    known-line s at (next-piece 0x0A s at (omega arith) e.ensures.1) (omega (arith, e.ensures.1)) e.ensures.0 c.loop-at.invariant.2
+
+pub slice_bounds-node_of-count : goal.slice_bounds-node_of-count
+slice_bounds-node_of-count c = omega (arith, c.piece_end-end.ensures.1)
+
+pub slice_bounds-node_of-start : goal.slice_bounds-node_of-start
+slice_bounds-node_of-start c = omega (arith, c.piece_end-end.ensures.1)
+
+pub slice_bounds-node_of-end : goal.slice_bounds-node_of-end
+slice_bounds-node_of-end c = c.piece_end-end.ensures.0
+
+pub returns-then-is_kind : goal.returns-then-is_kind
+returns-then-is_kind c = let s = c.args.sheet.now in
+    let loop = c.loop-at in let at = loop.at in
+    let e = c.piece_end-end in
+    let line = lent s at e.result (omega (arith, e.ensures.1)) e.ensures.0 in
+    let piece = next-piece 0x0A s at (omega arith) e.ensures.1 in
+    let behind = (known_on s at piece e.ensures.0 loop.invariant.2).1 in
+    item-here s c.args.from at loop.invariant.0 piece e.ensures.0
+    line c.is_kind.ensures c.if-is_kind.true loop.invariant.1
+    c.loop-at-test.true (omega (arith, e.ensures.1)) c.node_of.ensures behind
+
+pub overflow_add-at : goal.overflow_add-at
+overflow_add-at c = omega (arith, c.piece_end-end.ensures.0)
+
+pub loop-at-smaller : goal.loop-at-smaller
+loop-at-smaller c = omega (arith, c.piece_end-end.ensures.1)
+
+pub loop-at-preserved : goal.loop-at-preserved
+loop-at-preserved c = let s = c.args.sheet.now in
+    let loop = c.loop-at in let at = loop.at in
+    let e = c.piece_end-end in
+    let line = lent s at e.result (omega (arith, e.ensures.1)) e.ensures.0 in
+    let piece = next-piece 0x0A s at (omega arith) e.ensures.1 in
+    let behind = (known_on s at piece e.ensures.0 loop.invariant.2).1 in (
+      item-past s c.args.from at loop.invariant.0 piece e.ensures.0 line
+          c.is_kind.ensures c.if-is_kind.false,
+      omega (arith, e.ensures.1),
+      behind,
+    )
+
+pub returns : goal.returns
+returns c = (item-none c.args.sheet.now c.args.from c.loop-at.at c.loop-at.invariant.0 c.loop-at-test.false, tt)

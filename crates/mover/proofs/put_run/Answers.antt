@@ -1,0 +1,48 @@
+-- `put_run` puts the item lines of a row. The invariant: of those lines, the ones from the next item line on are still to be put; what stands behind them is the same.
+-- Assumes nothing.
+use mathlib.Core.Path.{refl}
+use native.Mathlib.Omega.{arith}
+use Rattle.room.proofs.Counting.{going_start, going_length}
+use Rattle.mover.specs.Told.{Right, left_of}
+use Rattle.editions.proofs.Places.{as_told}
+use Rattle.mover.proofs.Writing.{Running, run_none, run-over, run-less, run-turn}
+use borrow.Author.Rules.{rules}
+use Rattle.mover.proofs.put_run.Goals as goal
+
+pub loop-item-init : goal.loop-item-init
+loop-item-init c = record { puts = going_start _ (omega arith) refl; past = refl; right = c.requires }
+
+pub returns-in-Nothing : goal.returns-in-Nothing
+returns-in-Nothing c = let all = (run_none c.args.sheet.now c.args.row c.loop-item.invariant c.in-Nothing.is) in record { puts = all.0; left = all.1 }
+
+pub returns-then-k-row : goal.returns-then-k-row
+returns-then-k-row c = let all = (run-over c.args.sheet.now c.args.row c.loop-item.invariant c.in-Is.is c.if-k-row.true) in record { puts = all.0; left = all.1 }
+
+pub put_line-next-requires : goal.put_line-next-requires
+put_line-next-requires c = let a = c.args in
+    let loop = c.loop-item in (
+      (as_told (Right a.sheet.now 0) loop.invariant.right c.in-Is.is).2,
+      (as_told (Right a.sheet.now 0) loop.invariant.right c.in-Is.is).3,
+    )
+
+pub overflow_add-end : goal.overflow_add-end
+overflow_add-end c = let a = c.args in
+    let loop = c.loop-item in
+    let item = c.item-1 in
+    omega (arith, (as_told (Right a.sheet.now 0) loop.invariant.right item.given.1).3)
+
+pub next_item-item-requires : goal.next_item-item-requires
+next_item-item-requires c = (as_told (Right c.args.sheet.now 0) c.loop-item.invariant.right c.in-Is.is).5
+
+pub loop-item-smaller : goal.loop-item-smaller
+loop-item-smaller c = let a = c.args in
+    let loop = c.loop-item in
+    let item = c.item-1 in
+    run-less a.sheet.now a.row loop.invariant item.given.1 c.next_item-item.result c.next_item-item.ensures
+
+pub loop-item-preserved : goal.loop-item-preserved
+loop-item-preserved c = let a = c.args in
+    let loop = c.loop-item in
+    let item = c.item-1 in
+    let test = c.if-k-row in
+    run-turn a.sheet.now a.row loop.invariant item.given.1 test.false c.put_line-next.ensures c.next_item-item.result c.next_item-item.ensures

@@ -1,0 +1,35 @@
+-- `read_entries` counts unpackers end to end. The invariant: what is left of them is the whole.
+-- Assumes nothing.
+use mathlib.Core.Path.{refl}
+use mathlib.Core.Path.{◌≡◌}
+use Prim.Native.Nat.{◌-◌}
+use Rattle.node.proofs.Ways.{Going, entries-begun, entries-done, entries-no, entries-further, entries-on}
+use native.Mathlib.Omega.{arith}
+use borrow.Author.Rules.{rules}
+use Rattle.node.proofs.read_entries.Goals as goal
+
+pub loop-at-init : goal.loop-at-init
+loop-at-init c = (refl, entries-begun _ _ _)
+
+pub returns-in-Refused : goal.returns-in-Refused
+returns-in-Refused c = entries-no c.loop-at.invariant.1 c.loop-at-test.true _ (λ n. rw c.loop-at.invariant.0 at (c.read_unpacker.ensures n)) c.in-Refused.is
+
+pub overflow_add-count : goal.overflow_add-count
+overflow_add-count c = omega (arith, c.loop-at.invariant.1.few, c.requires)
+
+pub loop-at-smaller : goal.loop-at-smaller
+loop-at-smaller c = omega (
+  arith,
+  entries-further c.loop-at.invariant.1 c.loop-at-test.true _
+      (λ n. rw c.loop-at.invariant.0 at (c.read_unpacker.ensures n)) c.in-To.is,
+)
+
+pub loop-at-preserved : goal.loop-at-preserved
+loop-at-preserved c = (
+  refl,
+  entries-on c.loop-at.invariant.1 c.loop-at-test.true _
+      (λ n. rw c.loop-at.invariant.0 at (c.read_unpacker.ensures n)) c.in-To.is,
+)
+
+pub returns : goal.returns
+returns c = rw c.loop-at.invariant.0 (entries-done c.loop-at.invariant.1 c.loop-at-test.false)

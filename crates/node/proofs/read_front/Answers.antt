@@ -1,0 +1,47 @@
+-- `read_front` gives what `front` gives, and leaves the rows of the items in the table.
+-- Assumes nothing.
+use mathlib.Core.Path.{ap}
+use Rattle.machine.proofs.Laws.{was}
+use mathlib.Core.List.{[]}
+use Rattle.metadata.specs.Told.{walked}
+use Rattle.metadata.proofs.Gives.{done, stopped, fitting}
+use Rattle.node.specs.Told.{head_told, rest_told}
+use Rattle.node.proofs.Ends.{head-inside, metadata-since}
+use Rattle.node.proofs.Ways.{front-no, front-yes, front-head, front-metadata, front_rest, front-all}
+use native.Mathlib.Omega.{arith}
+use borrow.Author.Rules.{rules}
+use borrow.Author.Rules.{rules}
+use Rattle.node.proofs.read_front.Goals as goal
+
+pub of-inner-requires : goal.of-inner-requires
+of-inner-requires c = omega (arith, c.requires, head-inside _ _ _ (was head_told c.read_head.ensures c.in-Is.is))
+
+pub read_metadata-requires : goal.read_metadata-requires
+read_metadata-requires c = omega (arith, c.requires, head-inside _ _ _ (was head_told c.read_head.ensures c.in-Is.is), c.of-inner.ensures)
+
+pub of-stop-requires : goal.of-stop-requires
+of-stop-requires c = omega (arith, c.requires, head-inside _ _ _ (was head_told c.read_head.ensures c.in-Is.is))
+
+pub read_rest-requires : goal.read_rest-requires
+read_rest-requires c = omega (arith, c.requires, head-inside _ _ _ (was head_told c.read_head.ensures c.in-Is.is), c.of-inner.ensures, c.of-stop.ensures)
+
+pub overflow_sub-rows : goal.overflow_sub-rows
+overflow_sub-rows c = omega (arith, metadata-since _ _ _ _ _ _ _ (done (c.read_metadata.ensures []) (ap (walked _) c.in-Done.is)))
+
+pub returns-in-Refused : goal.returns-in-Refused
+returns-in-Refused c = λ t. front-no (front-head _ _ _ _ _ _ _ _ (was head_told c.read_head.ensures c.in-Refused.is))
+
+pub returns-in-Refused-read_metadata : goal.returns-in-Refused-read_metadata
+returns-in-Refused-read_metadata c = λ t. front-no (front-metadata _ _ _ _ _ _ _ _ (was head_told c.read_head.ensures c.in-Is.is) c.of-inner.ensures
+    (stopped (c.read_metadata.ensures t) (ap (walked _) c.in-Refused-read_metadata.is)))
+
+pub returns-in-Refused-read_rest : goal.returns-in-Refused-read_rest
+returns-in-Refused-read_rest c = λ t. front-no (front_rest _ _ _ _ _ _ _ _ (was head_told c.read_head.ensures c.in-Is.is) c.of-inner.ensures
+    (done (c.read_metadata.ensures t) (ap (walked _) c.in-Done.is)) c.of-stop.ensures
+    (was rest_told c.read_rest.ensures c.in-Refused-read_rest.is))
+
+pub returns-in-Is-read_rest : goal.returns-in-Is-read_rest
+returns-in-Is-read_rest c = λ t. front-yes (front-all _ _ _ _ _ _ _ _ (was head_told c.read_head.ensures c.in-Is.is) c.of-inner.ensures
+    (done (c.read_metadata.ensures t) (ap (walked _) c.in-Done.is)) c.of-stop.ensures
+    (was rest_told c.read_rest.ensures c.in-Is-read_rest.is) c.row_of-row.ensures)
+    (fitting (c.read_metadata.ensures t) (ap (walked _) c.in-Done.is))

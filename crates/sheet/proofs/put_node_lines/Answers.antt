@@ -1,0 +1,23 @@
+-- `put_node_lines` puts the lines of the node rows. The invariant: of the whole, the lines from row i on are still to be put.
+-- Assumes nothing.
+use Prim.Native.Nat.{◌-◌, ◌≤◌}
+use mathlib.Core.Path.{sym}
+use Rattle.rows.specs.Rows.{nodes_from, nodes_in}
+use Rattle.sheet.specs.Sheet.{node_lines}
+use Rattle.sheet.proofs.Filling.{Filling, filling_start, filling_on, filling_end, filling_length}
+use Rattle.sheet.proofs.Lines.{nodes-on, nodes-end, nodes-start}
+use native.Mathlib.Omega.{arith}
+use borrow.Author.Rules.{rules}
+use Rattle.sheet.proofs.put_node_lines.Goals as goal
+
+pub loop-i-init : goal.loop-i-init
+loop-i-init c = (omega arith, filling_start _ (omega arith) (sym (nodes-start _ _)))
+
+pub node_at-requires : goal.node_at-requires
+node_at-requires c = omega (arith, c.requires)
+
+pub loop-i-preserved : goal.loop-i-preserved
+loop-i-preserved c = (omega arith, filling_on (nodes-on _ _ _ c.loop-i-test.true c.node_at.ensures) c.loop-i.invariant.1 c.put_node_line-next.ensures)
+
+pub returns : goal.returns
+returns c = filling_end (nodes-end _ _ _ c.loop-i-test.false) c.loop-i.invariant.1

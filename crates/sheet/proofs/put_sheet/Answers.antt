@@ -1,0 +1,31 @@
+-- `put_sheet` puts all lines of an edition.
+-- Assumes nothing.
+use native.Mathlib.Omega.{arith}
+use Rattle.room.proofs.Counting.{counts-then}
+use Rattle.sheet.proofs.Filling.{fills-counts, fills-then, fills-as}
+use Rattle.sheet.proofs.Lines.{put_second, put_first}
+use borrow.Author.Rules.{rules}
+use Rattle.sheet.proofs.put_sheet.Goals as goal
+
+pub put_group_lines-requires : goal.put_group_lines-requires
+put_group_lines-requires c = c.requires
+
+pub returns-then-second : goal.returns-then-second
+returns-then-second c = let a = c.args in
+    let head = fills-counts (counts-then c.put_bytes-word.ensures
+    c.put_head_fields-head.ensures) in
+    fills-as (put_second a.version a.rows a.contents a.file.now a.nodes.now a.items.now
+    c.if-second.true)
+    (fills-then head c.put_group_lines.ensures)
+
+pub put_node_lines-lines-requires : goal.put_node_lines-lines-requires
+put_node_lines-lines-requires c = c.requires.0
+
+pub put_item_lines-requires : goal.put_item_lines-requires
+put_item_lines-requires c = (omega arith, c.requires.1)
+
+pub returns : goal.returns
+returns c = let a = c.args in
+    let head = fills-counts (counts-then c.put_bytes-word-2.ensures c.put_head_fields-head-2.ensures) in
+    fills-as (put_first a.version a.rows a.contents a.file.now a.nodes.now a.items.now c.if-second.false)
+    (fills-then (fills-then head c.put_node_lines-lines.ensures) c.put_item_lines.ensures)

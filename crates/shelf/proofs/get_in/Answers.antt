@@ -1,0 +1,22 @@
+-- `get_in` lends the words of the array to `get_words`.
+-- Assumes nothing.
+use native.Mathlib.Omega.{arith}
+use lib.ListN.{length}
+use Rattle.shelf.specs.Shelf.{label}
+use Rattle.shelf.specs.Runs.{getting}
+use Rattle.shelf.proofs.Rows.{taken-length, got_row, many-got}
+use borrow.Author.Rules.{rules}
+use Rattle.shelf.proofs.get_in.Goals as goal
+
+pub returns-then-n-gt-MOST_CARDS : goal.returns-then-n-gt-MOST_CARDS
+returns-then-n-gt-MOST_CARDS c = let a = c.args in
+    λ ys k e. many-got ys a.n a.text.now (omega arith) k (getting (label a.desk a.call a.boat) (length a.out.now))
+    (length a.out.now) c.clear_bytes.ensures
+
+pub slice_bounds-get_words-end : goal.slice_bounds-get_words-end
+slice_bounds-get_words-end c = taken-length _ c.args.a c.args.n c.words_of-w.ensures c.well_formed.0.1.0.1 c.if-n-gt-MOST_CARDS.false
+
+pub returns : goal.returns
+returns c = let a = c.args in
+    λ ys k e. got_row a.a ys a.n c.words_of-w.result a.text.now c.if-n-gt-MOST_CARDS.false k e c.words_of-w.ensures
+    (getting (label a.desk a.call a.boat) (length a.out.now)) (length a.out.now) c.get_words.ensures

@@ -1,0 +1,13 @@
+-- `give` lends that part of the text to `fill`.
+-- Assumes nothing.
+use native.Mathlib.Omega.{arith}
+use lib.ListN.{length}
+use Rattle.shelf.proofs.Ways.{given-none, given-all}
+use borrow.Author.Rules.{rules}
+use Rattle.shelf.proofs.give.Goals as goal
+
+pub returns-then-out-size : goal.returns-then-out-size
+returns-then-out-size c = let a = c.args in given-none a.text.now a.at a.size (length a.out.now) c.requires (omega arith) c.clear_bytes.ensures
+
+pub returns : goal.returns
+returns c = let a = c.args in given-all a.text.now a.at a.size (length a.out.now) c.requires (omega arith) c.fill.ensures

@@ -1,0 +1,16 @@
+-- `is_faulty` looks at the cards one by one.
+-- Assumes nothing.
+use mathlib.Core.Path.{sym, ◌∙◌}
+use Prim.Native.Nat.{◌-◌}
+use native.Mathlib.Omega.{arith}
+use borrow.Author.Rules.{rules}
+use Rattle.shelf.specs.Words.{cards_of}
+use Rattle.shelf.proofs.Words.{count}
+use Rattle.shelf.proofs.Search.{Sifting, sifting_begins, sifting_here, sifting_on, sifting_ends}
+use Rattle.shelf.proofs.is_faulty.Given as goal
+
+abbrev pub invariant-loop-i : goal.invariant-loop-i
+invariant-loop-i l = Sifting l.part (cards_of l.words) l.i
+
+abbrev pub decreases-loop-i : goal.decreases-loop-i
+decreases-loop-i l = l.n - l.i

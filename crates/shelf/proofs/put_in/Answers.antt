@@ -1,0 +1,23 @@
+-- `put_in` lends the words of the array to `put_words`.
+-- Assumes nothing.
+use Rattle.shelf.specs.Shelf.{label}
+use Rattle.shelf.specs.Runs.{putting}
+use Rattle.shelf.specs.Rows.{row_of}
+use Rattle.shelf.proofs.Rows.{taken-length, in_row, put_keeps, put-answer, many-row}
+use borrow.Author.Rules.{rules}
+use Rattle.shelf.proofs.put_in.Goals as goal
+
+pub returns-then-n-gt-MOST_CARDS : goal.returns-then-n-gt-MOST_CARDS
+returns-then-n-gt-MOST_CARDS c = let a = c.args in
+    λ ys k e. many-row ys a.n a.text.now c.if-n-gt-MOST_CARDS.true k (putting (label a.desk a.call a.boat) a.sheet.now) a.a e
+
+pub slice_bounds-put_words-end : goal.slice_bounds-put_words-end
+slice_bounds-put_words-end c = taken-length _ c.args.a c.args.n c.words_of-w.ensures c.well_formed.0.1.0.1 c.if-n-gt-MOST_CARDS.false
+
+pub returns : goal.returns
+returns c = let a = c.args in
+    λ ys k e. in_row a.a ys a.n c.words_of-w.result a.text.now c.if-n-gt-MOST_CARDS.false k e c.words_of-w.ensures
+    (putting (label a.desk a.call a.boat) a.sheet.now)
+    (put_keeps (label a.desk a.call a.boat) a.sheet.now (row_of ys a.text.now))
+    (put-answer (label a.desk a.call a.boat) (row_of ys a.text.now) a.sheet.now)
+    c.put_words-answer.ensures c.cards_of-cards.ensures c.code_of-code.ensures

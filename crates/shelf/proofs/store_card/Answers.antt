@@ -1,0 +1,10 @@
+-- `store_card` stores the four words of a card.
+-- Assumes nothing.
+use mathlib.Core.Path.{◌∙◌}
+use native.Mathlib.Omega.{arith}
+use Rattle.shelf.proofs.Words.{count, stored}
+use borrow.Author.Rules.{rules}
+use Rattle.shelf.proofs.store_card.Goals as goal
+
+pub returns : goal.returns
+returns c = let a = c.args in c.store.ensures ∙ stored a.words.now a.i a.c (omega (arith, count a.words.now))

@@ -1,0 +1,18 @@
+-- `get` lends the text to the call on a shelf.
+-- Assumes nothing.
+use lib.ListN.{length}
+use Rattle.shelf.specs.Shelf.{label}
+use Rattle.shelf.specs.Runs.{getting}
+use Rattle.shelf_file.proofs.Left.{other-got, got}
+use borrow.Author.Rules.{rules}
+use Rattle.shelf_file.proofs.get.Goals as goal
+
+pub returns-then-file-ne-SIZE : goal.returns-then-file-ne-SIZE
+returns-then-file-ne-SIZE c = let all = (let a = c.args in
+    other-got (getting (label a.desk a.call a.boat) (length a.out.now)) a.file.now c.if-file-ne-SIZE.true (length a.out.now)
+    c.clear_bytes.ensures) in record { result_value = all.0; out_value = all.1 }
+
+pub returns : goal.returns
+returns c = let all = (let a = c.args in
+    got (getting (label a.desk a.call a.boat) (length a.out.now)) a.file.now c.if-file-ne-SIZE.false (length a.out.now)
+    c.words_in-words.ensures c.get_words.ensures) in record { result_value = all.0; out_value = all.1 }

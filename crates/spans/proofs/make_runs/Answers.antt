@@ -1,0 +1,28 @@
+-- `make_runs` answers the runs, or the refusal.
+-- Assumes nothing.
+use Rattle.lines.proofs.Ending.{gives_as}
+use Rattle.spans.proofs.Running.{runs-bad, stored, runs-good}
+use borrow.Author.Rules.{rules}
+use Rattle.spans.proofs.make_runs.Goals as goal
+
+pub slice_bounds-kinds-end : goal.slice_bounds-kinds-end
+slice_bounds-kinds-end c = (stored _ c.node_table-nodes.ensures c.item_table-items.ensures c.file_buffer-kinds.ensures
+    c.mark.ensures.answer c.in-Bytes.is
+    c.mark.ensures.nodes.1.1).0
+
+pub slice_bounds-put_runs-end : goal.slice_bounds-put_runs-end
+slice_bounds-put_runs-end c = (stored _ c.node_table-nodes.ensures c.item_table-items.ensures c.file_buffer-kinds.ensures
+    c.mark.ensures.answer c.in-Bytes.is
+    c.mark.ensures.nodes.1.1).1
+
+pub returns-in-Refused : goal.returns-in-Refused
+returns-in-Refused c = gives_as
+    (runs-bad _ c.node_table-nodes.ensures c.item_table-items.ensures c.file_buffer-kinds.ensures
+    c.mark.ensures.answer c.in-Refused.is _)
+    c.refuse.ensures
+
+pub returns-in-Bytes : goal.returns-in-Bytes
+returns-in-Bytes c = gives_as
+    (runs-good _ c.node_table-nodes.ensures c.item_table-items.ensures c.file_buffer-kinds.ensures
+    c.mark.ensures.answer c.in-Bytes.is c.mark.ensures.nodes.1.1 _)
+    (c.conclude.ensures _ _ c.put_runs-end.ensures)

@@ -1,0 +1,13 @@
+-- `run_end` finds the end of a run. The invariant: the run goes on up to `at`.
+-- Assumes nothing.
+use Prim.Native.Nat.{◌-◌}
+use lib.ListN.{length}
+use native.Mathlib.Omega.{arith}
+use Rattle.spans.proofs.Running.{GoingOn, run-begun, run_on, run-stopped, run-last}
+use Rattle.spans.proofs.run_end.Given as goal
+
+abbrev pub invariant-loop-at : goal.invariant-loop-at
+invariant-loop-at l = GoingOn l.kinds l.place l.at
+
+abbrev pub decreases-loop-at : goal.decreases-loop-at
+decreases-loop-at l = length l.kinds - l.at

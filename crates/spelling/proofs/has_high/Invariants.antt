@@ -1,0 +1,16 @@
+-- `has_high` looks at byte after byte. The invariant: what is left decides.
+-- Assumes nothing.
+use mathlib.Core.Path.{◌≡◌, refl}
+use Prim.Native.Nat.{◌-◌, ◌≤◌}
+use lib.ListN.{length, drop}
+use native.Mathlib.Omega.{arith}
+use borrow.Author.Rules.{rules}
+use Rattle.spelling.specs.Spelling.{has_high}
+use Rattle.spelling.proofs.Laws.{high-here, high-on, high-none}
+use Rattle.spelling.proofs.has_high.Given as goal
+
+abbrev pub invariant-loop-i : goal.invariant-loop-i
+invariant-loop-i l = (l.i ≤ length l.bytes) × (has_high l.bytes ≡ has_high (drop l.i l.bytes))
+
+abbrev pub decreases-loop-i : goal.decreases-loop-i
+decreases-loop-i l = length l.bytes - l.i

@@ -1,0 +1,18 @@
+-- `put_node_rows` puts the lines of the node rows. The invariant: of the whole, the lines from row i on are still to be put.
+-- Assumes nothing.
+use Prim.Native.Nat.{◌-◌, ◌≤◌}
+use mathlib.Core.Path.{sym, ap}
+use native.Mathlib.Omega.{arith}
+use Rattle.room.proofs.Counting.{Going, going_start, going_on, going_end, going_length, counts-as}
+use Rattle.rows.specs.Rows.{nodes_from, nodes_in}
+use Rattle.tables.specs.Rows.{node_row, node_rows}
+use Rattle.lines.proofs.Reading.{lines-on, lines_end}
+use Rattle.tables.proofs.Listed.{nodes-lined, nodes-start}
+use borrow.Author.Rules.{rules}
+use Rattle.tables.proofs.all_rows.put_node_rows.Given as goal
+
+abbrev pub invariant-loop-i : goal.invariant-loop-i
+invariant-loop-i l = (l.i ≤ l.count) × Going l.initial.out l.out l.initial.next l.next (node_rows 0 (nodes_in l.count l.nodes)) (node_rows l.i (nodes_from l.i (l.count - l.i) l.nodes))
+
+abbrev pub decreases-loop-i : goal.decreases-loop-i
+decreases-loop-i l = l.count - l.i

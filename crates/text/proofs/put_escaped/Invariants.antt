@@ -1,0 +1,18 @@
+-- `put_escaped` puts the escaped bytes of a part. The invariant: of the whole, the bytes from `at` on are still to be put.
+-- Assumes nothing.
+use mathlib.Core.Path.{refl, sym, ◌∙◌}
+use Prim.Native.Nat.{◌-◌, ◌≤◌}
+use lib.ListN.{length}
+use Rattle.text.specs.Text.{escaped_part}
+use Rattle.room.proofs.Counting.{Going, going_start, going_on, going_end, going_length}
+use Rattle.text.proofs.Escapes.{plain-one, plain-join, put-plain, put-hexed, put-none, put-start, escaped-cut}
+use borrow.Author.Rules.{rules}
+use native.Mathlib.Omega.{arith}
+use Rattle.text.proofs.put_escaped.Given as goal
+
+abbrev pub invariant-loop-at : goal.invariant-loop-at
+invariant-loop-at l = (l.at ≤ l.end) × (l.end ≤ length l.file) × Going l.initial.out l.out l.to l.next
+    (escaped_part l.file l.from l.size) (escaped_part l.file l.at (l.end - l.at))
+
+abbrev pub decreases-loop-at : goal.decreases-loop-at
+decreases-loop-at l = l.end - l.at

@@ -1,0 +1,31 @@
+-- `put_hexes` puts bytes that do not stand for themselves. The invariant: those up to `at` are put.
+-- Assumes nothing.
+use mathlib.Core.Path.{sym, ◌∙◌}
+use Prim.Native.Nat.{◌-◌, ◌≤◌}
+use Rattle.text.specs.Text.{escaped_part}
+use Rattle.room.specs.Counts.{Counts}
+use Rattle.room.proofs.Counting.{counts-none, counts-then, counts-as}
+use Rattle.text.proofs.Escapes.{escaped-none, hexed-more}
+use borrow.Author.Rules.{rules}
+use native.Mathlib.Omega.{arith}
+use Rattle.text.proofs.put_hexes.Goals as goal
+
+pub loop-at-init : goal.loop-at-init
+loop-at-init c = (omega arith, omega arith, counts-as (sym (escaped-none _ _)) (counts-none _ (omega arith)))
+
+pub returns-then-is_plain : goal.returns-then-is_plain
+returns-then-is_plain c = c.loop-at.invariant
+
+pub put_hex-next-requires : goal.put_hex-next-requires
+put_hex-next-requires c = c.requires.0
+
+pub loop-at-preserved : goal.loop-at-preserved
+loop-at-preserved c = (
+  omega arith,
+  omega arith,
+  counts-as (hexed-more _ _ _ c.loop-at.invariant.0 (omega arith) (sym c.is_plain.ensures ∙ c.if-is_plain.false))
+      (counts-then c.loop-at.invariant.2 c.put_hex-next.ensures),
+)
+
+pub returns : goal.returns
+returns c = c.loop-at.invariant

@@ -1,0 +1,62 @@
+-- `correct_title` answers, and leaves tables and buffer, as `correct_title` says of what the file reads as; what is written is read again.
+-- Assumes nothing.
+use native.Mathlib.Omega.{arith}
+use mathlib.Core.Path.{sym}
+use lib.ListN.{length}
+use lib.Seq.{length-take-le}
+use Rattle.file.proofs.Rows.{standing}
+use Rattle.title.proofs.Asked.{asked-refused, reads_as, stands, asked-bad, file-inside, asked-good, zeros}
+use borrow.Author.Rules.{rules}
+use Rattle.title.proofs.correct_title.Goals as goal
+
+pub write_titled-requires : goal.write_titled-requires
+write_titled-requires c = stands c.args.file.now (length c.args.nodes.now) (length c.args.items.now)
+    (standing c.args.file.now _ _ _ c.read_file.ensures.answer c.read_file.ensures.nodes.0
+    c.read_file.ensures.nodes.1 c.in-Is.is)
+
+pub slice_bounds-written-end : goal.slice_bounds-written-end
+slice_bounds-written-end c = let st = (standing c.args.file.now _ _ _ c.read_file.ensures.answer c.read_file.ensures.nodes.0
+    c.read_file.ensures.nodes.1 c.in-Is.is) in omega (
+      arith,
+      file-inside c.args.file.now (length c.args.nodes.now) (length c.args.items.now) c.args.row
+          c.args.title.now (length c.args.out.now) st
+          (c.write_titled.ensures _ _
+          (reads_as c.args.file.now (length c.args.nodes.now) (length c.args.items.now) st)) c.in-Bytes.is,
+      c.clear_bytes_from.auto,
+    )
+
+pub slice_bounds-written-end-in-Bytes : goal.slice_bounds-written-end-in-Bytes
+slice_bounds-written-end-in-Bytes c = let st = (standing c.args.file.now _ _ _ c.read_file.ensures.answer c.read_file.ensures.nodes.0
+    c.read_file.ensures.nodes.1 c.in-Is.is) in sym
+    (length-take-le _ _ (omega (
+      arith,
+      file-inside c.args.file.now (length c.args.nodes.now)
+          (length c.args.items.now) c.args.row c.args.title.now (length c.args.out.now) st
+          (c.write_titled.ensures _ _
+          (reads_as c.args.file.now (length c.args.nodes.now) (length c.args.items.now) st)) c.in-Bytes.is,
+      c.clear_bytes_from.auto,
+    )))
+
+pub returns-in-Refused : goal.returns-in-Refused
+returns-in-Refused c = let all = (asked-refused c.args.file.now (length c.args.nodes.now) (length c.args.items.now) c.args.row
+    c.args.title.now (length c.args.out.now) c.read_file.ensures.answer c.in-Refused.is
+    c.read_file.ensures.nodes.0 c.read_file.ensures.nodes.1 c.clear_bytes.ensures) in record { answer = all.0; nodes = all.1; items = all.2; out = all.3 }
+
+pub returns-in-Refused-write_titled : goal.returns-in-Refused-write_titled
+returns-in-Refused-write_titled c = let all = (let st = (standing c.args.file.now _ _ _ c.read_file.ensures.answer c.read_file.ensures.nodes.0
+    c.read_file.ensures.nodes.1 c.in-Is.is) in asked-bad c.args.file.now (length c.args.nodes.now)
+    (length c.args.items.now) c.args.row c.args.title.now (length c.args.out.now) st
+    (c.write_titled.ensures _ _
+    (reads_as c.args.file.now (length c.args.nodes.now) (length c.args.items.now) st)) c.in-Refused-write_titled.is
+    (zeros c.clear_all.ensures.nodes c.read_file.auto.1.0)
+    (zeros c.clear_all.ensures.items c.read_file.auto.1.1.0)
+    (zeros c.clear_bytes-in-Refused-write_titled.ensures c.write_titled.auto.0)) in record { answer = all.0; nodes = all.1; items = all.2; out = all.3 }
+
+pub returns-in-Bytes : goal.returns-in-Bytes
+returns-in-Bytes c = let all = (let st = (standing c.args.file.now _ _ _ c.read_file.ensures.answer c.read_file.ensures.nodes.0
+    c.read_file.ensures.nodes.1 c.in-Is.is) in asked-good c.args.file.now (length c.args.nodes.now)
+    (length c.args.items.now) c.args.row c.args.title.now (length c.args.out.now) st
+    (c.write_titled.ensures _ _
+    (reads_as c.args.file.now (length c.args.nodes.now) (length c.args.items.now) st)) c.in-Bytes.is
+    c.write_titled.auto.0 c.clear_bytes_from.ensures c.read_file.auto.1.0
+    c.read_file.auto.1.1.0 c.read_file-in-Bytes.ensures.nodes.0 c.read_file-in-Bytes.ensures.nodes.1) in record { answer = all.0; nodes = all.1; items = all.2; out = all.3 }

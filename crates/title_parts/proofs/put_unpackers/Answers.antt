@@ -1,0 +1,23 @@
+-- `put_unpackers` puts the length, and the unpackers as they stand in the file, or one by one.
+-- Assumes nothing.
+use Rattle.title_parts.proofs.Copying.{block_same, block-measured, block-empty, block-some, copied-was, copied-no}
+use Rattle.title_text.specs.Description.{shape}
+use borrow.Author.Rules.{rules}
+use Rattle.title_parts.proofs.put_unpackers.Goals as goal
+
+pub returns-then-p-eq0 : goal.returns-then-p-eq0
+returns-then-p-eq0 c = block-empty _ c.requires.1.size c.if-p-eq0.true c.put_number-a.ensures
+
+pub put_part-requires : goal.put_part-requires
+put_part-requires c = (c.requires.1.same c.if-p.true).0
+
+pub returns-then-p : goal.returns-then-p
+returns-then-p c = block_same c.requires.1.size (c.requires.1.same c.if-p.true).1 c.put_number-a.ensures c.put_part.ensures
+
+pub returns-in-Refused : goal.returns-in-Refused
+unfolding shape
+returns-in-Refused c = block-some _ (copied-no (copied-was c.copy_unpackers.ensures c.in-Refused.is)) c.requires.1.size c.if-p-eq0.false
+
+pub returns-in-To : goal.returns-in-To
+unfolding shape
+returns-in-To c = block-measured _ c.requires.1.size c.put_number-a.ensures (copied-was c.copy_unpackers.ensures c.in-To.is)

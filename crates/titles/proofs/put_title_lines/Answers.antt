@@ -1,0 +1,28 @@
+-- `put_title_lines` puts the lines of all contents that can be corrected. The invariant: of the whole, the lines from row i on are still to be put.
+-- Assumes nothing.
+use Prim.Native.Nat.{◌-◌, ◌≤◌}
+use mathlib.Core.Path.{sym}
+use native.Mathlib.Omega.{arith}
+use Rattle.room.proofs.Counting.{Going, going_start, going_on, going_end, going_length}
+use Rattle.rows.specs.Rows.{items_from, items_in}
+use Rattle.titles.specs.Titles.{title_lines}
+use Rattle.lines.proofs.Reading.{lines-on, lines_end}
+use Rattle.titles.proofs.Retitling.{titles-lined, titles-start}
+use Rattle.titles.proofs.put_title_lines.Goals as goal
+
+pub loop-i-init : goal.loop-i-init
+loop-i-init c = (omega arith, going_start _ (omega arith) (sym (titles-start _ _ _)))
+
+pub put_title_line-next-requires : goal.put_title_line-next-requires
+put_title_line-next-requires c = let pre-c = c.requires in let loop-test = c.loop-i-test in
+    (omega (arith, pre-c.0), pre-c.1 _ loop-test.true)
+
+pub loop-i-preserved : goal.loop-i-preserved
+loop-i-preserved c = let loop-test = c.loop-i-test in
+    let loop = c.loop-i in
+    let put-title-line = c.put_title_line-next in
+    (omega arith, going_on (lines-on (titles-lined _) _ _ _ _ _ loop-test.true) loop.invariant.1 put-title-line.ensures)
+
+pub returns : goal.returns
+returns c = let loop-test = c.loop-i-test in let loop = c.loop-i in
+    going_end (lines_end (titles-lined _) _ _ _ _ _ loop-test.false) loop.invariant.1

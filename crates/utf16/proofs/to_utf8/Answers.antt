@@ -1,0 +1,43 @@
+-- `to_utf8` answers and leaves in its buffer what `to_utf8` says.
+-- Assumes nothing.
+use mathlib.Core.Path.{sym, ap, ◌∙◌}
+use Rattle.utf16.specs.Told.{char_told}
+use Prim.Native.Nat.{◌-◌}
+use lib.ListN.{length}
+use Rattle.utf16.specs.Unicode.{utf8, first16, to_utf8}
+use Rattle.utf16.proofs.Sixteen.{form16}
+use Rattle.utf16.proofs.Converting.{Converting, conv_start, conv_on, conv_bad, conv_full, conv_good, conv_length, char-in, refused, fit-bad}
+use native.Mathlib.Omega.{arith}
+use borrow.Author.Rules.{rules}
+use Rattle.utf16.proofs.to_utf8.Goals as goal
+
+pub loop-at-init : goal.loop-at-init
+loop-at-init c = conv_start c.args.units.now _ _ (omega arith) c.after_mark-at.ensures.upper_bound c.after_mark-at.ensures.units_value
+
+pub returns-in-Bad : goal.returns-in-Bad
+returns-in-Bad c = let all = (refused (fit-bad _ (conv_bad c.loop-at.invariant c.loop-at-test.true
+    (sym (ap char_told c.in-Bad.is) ∙ c.char16.ensures))) (conv_length c.loop-at.invariant)
+    c.clear_bytes.ensures) in record { answer = all.0; text = all.1 }
+
+pub put8-next-requires : goal.put8-next-requires
+put8-next-requires c = (let w = char-in form16 c.args.units.now (λ i. omega (arith, c.shared_slice_known-1.given i)) _
+    (sym (ap char_told c.in-Is.is) ∙ c.char16.ensures) c.loop-at.invariant.within in w.0.most)
+
+pub overflow_add-at : goal.overflow_add-at
+overflow_add-at c = (let w = char-in form16 c.args.units.now (λ i. omega (arith, c.shared_slice_known-1.given i)) _
+    (sym (ap char_told c.in-Is.is) ∙ c.char16.ensures) c.loop-at.invariant.within in omega (arith, w.2))
+
+pub loop-at-smaller : goal.loop-at-smaller
+loop-at-smaller c = (let w = char-in form16 c.args.units.now (λ i. omega (arith, c.shared_slice_known-1.given i)) _
+    (sym (ap char_told c.in-Is.is) ∙ c.char16.ensures) c.loop-at.invariant.within in omega (arith, w.1, w.2))
+
+pub loop-at-preserved : goal.loop-at-preserved
+loop-at-preserved c = conv_on form16 c.args.units.now (λ i. omega (arith, c.shared_slice_known-1.given i)) _
+    (sym (ap char_told c.in-Is.is) ∙ c.char16.ensures) c.loop-at-test.true c.loop-at.invariant
+    c.put8-next.ensures
+
+pub returns-then-text-next : goal.returns-then-text-next
+returns-then-text-next c = let all = (refused (conv_full c.loop-at.invariant c.loop-at-test.false c.if-text-next.true) (conv_length c.loop-at.invariant) c.clear_bytes-then-text-next.ensures) in record { answer = all.0; text = all.1 }
+
+pub returns : goal.returns
+returns c = let all = (conv_good c.loop-at.invariant c.loop-at-test.false c.if-text-next.false (omega arith) c.clear_bytes_from.ensures) in record { answer = all.0; text = all.1 }
