@@ -18,6 +18,8 @@ LIBRARY = re.compile(r"use (?:Rattle\.std|mathlib|Prim|native|lib|borrow|denote)
 CRATES = {"unicode": "utf16"}
 # new names that have a plainer form than the rule's
 PLAIN = {"decEqZero": "dec_eq_zero"}
+# constructors that stand several on a line, and fields of structs of src/
+MORE = ["metaFrame", "unpackFrame", "nodeFrame", "referenceFrame", "headerEnd", "nameLength", "unpackerCount"]
 
 
 def files(*endings):
@@ -133,6 +135,7 @@ def main():
         for old in sorted(found & table.keys()):
             if table[old] in found and table[old] not in table:
                 print(f"together: {path}: {old} and {table[old]}")
+    table.update({name: snake(name) for name in MORE})
     turn(table, fields)
     turn_crates()
 

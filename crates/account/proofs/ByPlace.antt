@@ -11,7 +11,7 @@ use borrow.Author.Tests.{eqb-true, leb-true, ltb-true, leb-false, ltb-false, le-
 use lib.Dec.{T, eqb, leb, ltb}
 use lib.ListN.{length}
 use Rattle.machine.specs.Machine.{ok, seen, passed, run, trace, rows_of}
-use Rattle.cursor.specs.Rows.{Frame, file_frame, nodeFrame, metaFrame, unpackFrame, referenceFrame, Plain, language, name, uri, node_row, item_row, plain, inline_size, P, Events}
+use Rattle.cursor.specs.Rows.{Frame, file_frame, node_frame, meta_frame, unpack_frame, reference_frame, Plain, language, name, uri, node_row, item_row, plain, inline_size, P, Events}
 use Rattle.cursor.specs.declared.Node.{Node}
 use Rattle.cursor.specs.declared.Item.{Item}
 use Rattle.machine.proofs.Laws.{rows_on}
@@ -283,10 +283,10 @@ data_had (passed (plain x) p n ∷ es) top a k κ o = inr (data_had es top a.1 k
 
 frame-no_data : (x : Frame) (κ : ℕ) → 3 ≤ κ → κ ≤ 4 → kind_of_frame x ≡ κ → ⊥
 frame-no_data file_frame κ l h e = omega arith
-frame-no_data nodeFrame κ l h e = omega arith
-frame-no_data metaFrame κ l h e = omega arith
-frame-no_data unpackFrame κ l h e = omega arith
-frame-no_data referenceFrame κ l h e = omega arith
+frame-no_data node_frame κ l h e = omega arith
+frame-no_data meta_frame κ l h e = omega arith
+frame-no_data unpack_frame κ l h e = omega arith
+frame-no_data reference_frame κ l h e = omega arith
 
 plain-no_data : (x : Plain) (κ : ℕ) → 3 ≤ κ → κ ≤ 4 → kind_of_plain x ≡ κ → ⊥
 plain-no_data language κ l h e = omega arith

@@ -9,7 +9,7 @@ use native.Mathlib.Omega.{arith}
 use borrow.Author.Tests.{leb-true}
 use lib.Dec.{T, eqb, leb}
 use Rattle.machine.specs.Machine.{ok, run, trace, ret, ◌>>=◌, place, check}
-use Rattle.cursor.specs.Rows.{nodeFrame, metaFrame, item_row, P, Events}
+use Rattle.cursor.specs.Rows.{node_frame, meta_frame, item_row, P, Events}
 use Rattle.cursor.specs.Leaves.{number, block}
 use Rattle.cursor.specs.declared.Node.{Node}
 use Rattle.cursor.specs.declared.Item.{Item}
@@ -40,28 +40,28 @@ use Rattle.cursor.proofs.Apart.{at_place, at_check, at_ret, block-number}
 record Numbers (f : List ℕ) (end at : ℕ) (h : Head) (q : ℕ) : Type 0 where
   p₁ : ℕ
   p₂ : ℕ
-  first : run (number nodeFrame 3 end) f at ≡ ok h.size.0 p₁
-  second : run (number nodeFrame 3 end) f p₁ ≡ ok h.contained p₂
-  third : run (number nodeFrame 3 end) f p₂ ≡ ok h.header.0 q
+  first : run (number node_frame 3 end) f at ≡ ok h.size.0 p₁
+  second : run (number node_frame 3 end) f p₁ ≡ ok h.contained p₂
+  third : run (number node_frame 3 end) f p₂ ≡ ok h.header.0 q
 
 head-numbers : (s : Bounds) (f : List ℕ) (at : ℕ) {h : Head} {q : ℕ} → run (head s) f at ≡ ok h q → Numbers f (at + h.size.0) at h q
 unfolding head header_length
 head-numbers s f at {h} {q} e =
-    let x = split (number nodeFrame 3 s.end.0) _ f at (at_place f at _ e).0 in
+    let x = split (number node_frame 3 s.end.0) _ f at (at_place f at _ e).0 in
     let c₁ = at_check f x.p _ _ _ _ x.second in let c₂ = at_check f x.p _ _ _ _ c₁.1 in
     let c₃ = at_check f x.p _ _ _ _ c₂.1 in
-    let y = split (number nodeFrame 3 (at + x.a)) _ f x.p c₃.1 in
+    let y = split (number node_frame 3 (at + x.a)) _ f x.p c₃.1 in
     let c₄ = at_check f y.p _ _ _ _ y.second in
-    let z = split (number nodeFrame 3 (at + x.a)) _ f y.p (at_place f y.p _ c₄.1).0 in
+    let z = split (number node_frame 3 (at + x.a)) _ f y.p (at_place f y.p _ c₄.1).0 in
     let c₅ = at_check f z.p _ _ _ _ (at_place f z.p _ z.second).0 in
     let c₆ = at_check f z.p _ _ _ _ c₅.1 in let r = at_ret f z.p _ c₆.1 in
-    let i = number-inside nodeFrame 3 (at + x.a) f x.p y.first in
+    let i = number-inside node_frame 3 (at + x.a) f x.p y.first in
     subst (λ v. Numbers f (at + v.size.0) at v q) r.0 (record {
       p₁ = x.p;
       p₂ = y.p;
-      first = number-wider nodeFrame 3 3 s.end.0 (at + x.a) f at x.first (omega arith);
+      first = number-wider node_frame 3 3 s.end.0 (at + x.a) f at x.first (omega arith);
       second = y.first;
-      third = subst (λ v. run (number nodeFrame 3 (at + x.a)) f y.p ≡ ok z.a v) r.1 z.first;
+      third = subst (λ v. run (number node_frame 3 (at + x.a)) f y.p ≡ ok z.a v) r.1 z.first;
     })
 
 -- ---- the metadata's length, read again
@@ -70,16 +70,16 @@ record Meta (f : List ℕ) (at q : ℕ) : Type 0 where
   n : ℕ
   pub p : ℕ
   end : ℕ
-  length-is : run (number metaFrame 8 end) f at ≡ ok n p
+  length-is : run (number meta_frame 8 end) f at ≡ ok n p
   ends_at : q ≡ p + n
 
 meta_ends : (x : Context) (node end : ℕ) (m : Made) (f : List ℕ) (at : ℕ) {m' : Made} {q : ℕ} → run (metadata x node end m) f at ≡ ok m' q → Meta f at q
 unfolding metadata
 meta_ends x node end m f at e =
-    let y = split (block metaFrame 8 end) _ f at e in
+    let y = split (block meta_frame 8 end) _ f at e in
     let w = at_end (inside-free (y.p + y.a) 0) f (items-on Nothing (y.p + y.a) 0 x node (y.p + y.a) (omega arith) m y.p (omega arith))
     (at_place f y.p _ y.second).0 in
-    record { n = y.a; p = y.p; end = end; length-is = block-number f metaFrame 8 end at y.first; ends_at = w.1 }
+    record { n = y.a; p = y.p; end = end; length-is = block-number f meta_frame 8 end at y.first; ends_at = w.1 }
 
 -- ---- the whole
 
@@ -192,12 +192,12 @@ front_ordered x parent depth s m f at {w} {q} e =
     let l = y.left in let i = head-inside s f at y.headed in
     let u = at_end (inside-free 0 0) f (unpackers-on Nothing 0 0 h.contained inner y.p') l.unpacked in
     let v = l.reached in let k = t.ends_at in
-    let b = number-inside metaFrame 8 t.end f y.p t.length-is in
-    let again = number-wider metaFrame 8 3 t.end stop f y.p t.length-is (omega arith) in
+    let b = number-inside meta_frame 8 t.end f y.p t.length-is in
+    let again = number-wider meta_frame 8 3 t.end stop f y.p t.length-is (omega arith) in
     let row = row_of at h parent depth s.detached y.o.reference y.o.unpackers (y.m'.items - m.items) in
-    let e₁ = number-ended f nodeFrame 3 stop at n.first in
-    let e₂ = number-ended f nodeFrame 3 stop n.p₁ n.second in
-    let e₃ = number-ended f nodeFrame 3 stop n.p₂ n.third in
+    let e₁ = number-ended f node_frame 3 stop at n.first in
+    let e₂ = number-ended f node_frame 3 stop n.p₁ n.second in
+    let e₃ = number-ended f node_frame 3 stop n.p₂ n.third in
     let r₁ : meta_at f row ≡ y.p = rw (e₁, e₂, e₃) refl in
     let r₂ : meta_end f row ≡ y.p' = rw (e₁, e₂, e₃, again) (omega arith) in
     record {

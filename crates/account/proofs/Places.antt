@@ -11,7 +11,7 @@ use native.Mathlib.Omega.{arith}
 use borrow.Author.Tests.{ne_eqb, ltb-true, leb-true, le-leb, lt-leb, lt-ltb, le-ltb}
 use lib.Dec.{T, eqb, ltb, leb}
 use Rattle.machine.specs.Machine.{Event, seen, passed}
-use Rattle.cursor.specs.Rows.{Frame, file_frame, nodeFrame, metaFrame, unpackFrame, referenceFrame, language, name, uri, Part, node_row, item_row, plain, Events}
+use Rattle.cursor.specs.Rows.{Frame, file_frame, node_frame, meta_frame, unpack_frame, reference_frame, language, name, uri, Part, node_row, item_row, plain, Events}
 use Rattle.file.specs.Hidden.{is_hidden}
 use Rattle.account.specs.Account.{kind, first, size, has_byte, kind_at, Had, IsOf, places, places_of}
 use Rattle.machine.proofs.Stable.{Has, Covers, Separate}
@@ -122,10 +122,10 @@ counted t z n (e ∷ es) s l =
 eight : (e : Event Frame Part) (s : ℕ) → (cond (eqb 0 (kind e)) s 0) + (cond (eqb 1 (kind e)) s 0) + (cond (eqb 2 (kind e)) s 0) + (cond (eqb 3 (kind e)) s 0)
     + (cond (eqb 4 (kind e)) s 0) + (cond (eqb 5 (kind e)) s 0) + (cond (eqb 6 (kind e)) s 0) + (cond (eqb 7 (kind e)) s 0) ≡ s
 eight (seen file_frame p) s = omega arith
-eight (seen nodeFrame p) s = omega arith
-eight (seen metaFrame p) s = omega arith
-eight (seen unpackFrame p) s = omega arith
-eight (seen referenceFrame p) s = omega arith
+eight (seen node_frame p) s = omega arith
+eight (seen meta_frame p) s = omega arith
+eight (seen unpack_frame p) s = omega arith
+eight (seen reference_frame p) s = omega arith
 eight (passed (node_row r) p n) s = omega arith
 eight (passed (item_row r) p n) s = by (is_hidden r)
   where
@@ -156,10 +156,10 @@ places-not p (suc n) = let h = places-not p n in by (p n) h
 
 some-kind : (e : Event Frame Part) (s : ℕ) → (cond (not (eqb 8 (kind e))) s 0) ≡ s
 some-kind (seen file_frame p) s = refl
-some-kind (seen nodeFrame p) s = refl
-some-kind (seen metaFrame p) s = refl
-some-kind (seen unpackFrame p) s = refl
-some-kind (seen referenceFrame p) s = refl
+some-kind (seen node_frame p) s = refl
+some-kind (seen meta_frame p) s = refl
+some-kind (seen unpack_frame p) s = refl
+some-kind (seen reference_frame p) s = refl
 some-kind (passed (node_row r) p n) s = refl
 some-kind (passed (item_row r) p n) s = by (is_hidden r)
   where
@@ -221,10 +221,10 @@ kind-only (e ∷ es) s k κ w = by (has_byte e k) refl (kind-only es s.1 k κ) w
 
 kind-below : (e : Event Frame Part) → kind e < 9
 kind-below (seen file_frame p) = omega arith
-kind-below (seen nodeFrame p) = omega arith
-kind-below (seen metaFrame p) = omega arith
-kind-below (seen unpackFrame p) = omega arith
-kind-below (seen referenceFrame p) = omega arith
+kind-below (seen node_frame p) = omega arith
+kind-below (seen meta_frame p) = omega arith
+kind-below (seen unpack_frame p) = omega arith
+kind-below (seen reference_frame p) = omega arith
 kind-below (passed (node_row r) p n) = omega arith
 kind-below (passed (item_row r) p n) = by (is_hidden r)
   where

@@ -7,7 +7,7 @@ use native.Mathlib.Omega.{arith}
 use lib.ListN.{length}
 use borrow.Author.Tests.{eq-eqb, ne_eqb}
 use Rattle.machine.specs.Machine.{run}
-use Rattle.cursor.specs.Rows.{metaFrame}
+use Rattle.cursor.specs.Rows.{meta_frame}
 use Rattle.cursor.specs.Refusals.{cut_short}
 use Rattle.cursor.specs.Leaves.{number}
 use Rattle.cursor.specs.declared.Node.{Node}
@@ -40,7 +40,7 @@ module _ (f : List ℕ) (r : Node) where
   thrice x y z = rw (z, y, x) refl
 
   -- the fourth, and what it counts
-  pub spans : {a b : ℕ} → a ≡ meta_at f r → b ≡ counted a (run (number metaFrame cut_short (r.start + r.size)) f a) → a + b ≡ meta_end f r
+  pub spans : {a b : ℕ} → a ≡ meta_at f r → b ≡ counted a (run (number meta_frame cut_short (r.start + r.size)) f a) → a + b ≡ meta_end f r
   unfolding meta_end
   spans x y = rw (y, x) refl
 

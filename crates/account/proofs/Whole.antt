@@ -9,7 +9,7 @@ use borrow.Author.Tests.{eqb-true, eqb-false}
 use lib.Dec.{T, eqb}
 use lib.ListN.{length}
 use Rattle.machine.specs.Machine.{Event, seen, passed, trace, rows_of}
-use Rattle.cursor.specs.Rows.{Frame, file_frame, nodeFrame, metaFrame, unpackFrame, referenceFrame, language, name, uri, Part, node_row, item_row, plain, inline_size, Events}
+use Rattle.cursor.specs.Rows.{Frame, file_frame, node_frame, meta_frame, unpack_frame, reference_frame, language, name, uri, Part, node_row, item_row, plain, inline_size, Events}
 use Rattle.cursor.specs.declared.Node.{Node}
 use Rattle.cursor.specs.declared.Item.{Item}
 use Rattle.machine.proofs.Wp.{All}
@@ -44,10 +44,10 @@ data_sums : (es : Events) (top : ℕ) → All (Inside Nothing top top).asks es
 unfolding count rows_of data_of
 data_sums [] top a = (refl, refl)
 data_sums (seen file_frame p ∷ es) top a = let (x, y) = data_sums es top a in (omega arith, omega arith)
-data_sums (seen nodeFrame p ∷ es) top a = let (x, y) = data_sums es top a in (omega arith, omega arith)
-data_sums (seen metaFrame p ∷ es) top a = let (x, y) = data_sums es top a in (omega arith, omega arith)
-data_sums (seen unpackFrame p ∷ es) top a = let (x, y) = data_sums es top a in (omega arith, omega arith)
-data_sums (seen referenceFrame p ∷ es) top a = let (x, y) = data_sums es top a in (omega arith, omega arith)
+data_sums (seen node_frame p ∷ es) top a = let (x, y) = data_sums es top a in (omega arith, omega arith)
+data_sums (seen meta_frame p ∷ es) top a = let (x, y) = data_sums es top a in (omega arith, omega arith)
+data_sums (seen unpack_frame p ∷ es) top a = let (x, y) = data_sums es top a in (omega arith, omega arith)
+data_sums (seen reference_frame p ∷ es) top a = let (x, y) = data_sums es top a in (omega arith, omega arith)
 data_sums (passed (node_row r) p n ∷ es) top a = let (x, y) = data_sums es top a.1 in (omega arith, omega arith)
 data_sums (passed (item_row r) p n ∷ es) top a = let (x, y) = data_sums es top a.1 in by (is_hidden r) a.0.1 x y
   where
@@ -86,10 +86,10 @@ hidden_data_lem (r ∷ is) = ap₂ ◌+◌ (odd_data r) (hidden_data_lem is)
 -- the metadata's three kinds
 three : (e : Event Frame Part) (s : ℕ) → (cond (eqb 2 (kind e)) s 0) + (cond (eqb 3 (kind e)) s 0) + (cond (eqb 4 (kind e)) s 0) ≡ (cond (of_meta (kind e)) s 0)
 three (seen file_frame p) s = omega arith
-three (seen nodeFrame p) s = omega arith
-three (seen metaFrame p) s = omega arith
-three (seen unpackFrame p) s = omega arith
-three (seen referenceFrame p) s = omega arith
+three (seen node_frame p) s = omega arith
+three (seen meta_frame p) s = omega arith
+three (seen unpack_frame p) s = omega arith
+three (seen reference_frame p) s = omega arith
 three (passed (node_row r) p n) s = omega arith
 three (passed (item_row r) p n) s = by (is_hidden r)
   where

@@ -2,7 +2,7 @@
 -- Assumes nothing.
 use Rattle.std.specs.Prelude.{◌≡◌, Bool, cond, ◌&&◌, ◌⊎◌, List, [], ◌∷◌, ◌++◌, ℕ, zero, suc, ◌+◌, T, eqb, ltb, leb, length}
 use Rattle.machine.specs.Machine.{Event, seen, passed, trace}
-use Rattle.cursor.specs.Rows.{Frame, file_frame, nodeFrame, metaFrame, unpackFrame, referenceFrame, Plain, language, name, uri, Part, node_row, item_row, plain, Events}
+use Rattle.cursor.specs.Rows.{Frame, file_frame, node_frame, meta_frame, unpack_frame, reference_frame, Plain, language, name, uri, Part, node_row, item_row, plain, Events}
 use Rattle.header.specs.Header.{Header, header}
 use Rattle.metadata.specs.declared.Limits.{Limits}
 use Rattle.file.specs.Hidden.{is_hidden}
@@ -43,10 +43,10 @@ all_else = 8
 
 abbrev pub kind_of_frame : Frame → ℕ
 kind_of_frame file_frame = of_header
-kind_of_frame nodeFrame = of_nodes
-kind_of_frame metaFrame = of_metadata
-kind_of_frame unpackFrame = of_unpackers
-kind_of_frame referenceFrame = of_references
+kind_of_frame node_frame = of_nodes
+kind_of_frame meta_frame = of_metadata
+kind_of_frame unpack_frame = of_unpackers
+kind_of_frame reference_frame = of_references
 
 abbrev pub kind_of_plain : Plain → ℕ
 kind_of_plain language = of_header

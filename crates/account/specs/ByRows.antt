@@ -3,7 +3,7 @@
 use Rattle.std.specs.Prelude.{cond, List, [], ◌∷◌, ℕ, zero, suc, ◌+◌, ◌*◌, ◌-◌, ◌%◌, ◌^◌, ◌≤◌, ◌<◌, min, eqb, ltb, length, get_or}
 use Rattle.room.specs.Counts.{too_many}
 use Rattle.machine.specs.Machine.{Out, ok, refused, run}
-use Rattle.cursor.specs.Rows.{metaFrame, inline_size}
+use Rattle.cursor.specs.Rows.{meta_frame, inline_size}
 use Rattle.cursor.specs.Refusals.{cut_short}
 use Rattle.cursor.specs.Leaves.{number}
 use Rattle.cursor.specs.declared.Node.{Node}
@@ -43,7 +43,7 @@ meta_at f r = behind f (behind f (behind f r.start))
 
 -- its unpackers: behind the metadata's length and what it counts
 unfoldable pub meta_end : List ℕ → Node → ℕ
-meta_end f r = meta_at f r + counted (meta_at f r) (run (number metaFrame cut_short (r.start + r.size)) f (meta_at f r))
+meta_end f r = meta_at f r + counted (meta_at f r) (run (number meta_frame cut_short (r.start + r.size)) f (meta_at f r))
 
 -- its contents: where a reference 1 leads, and else the node's end
 unfoldable pub contents_at : Node → ℕ

@@ -3,7 +3,7 @@
 
 ghost use Rattle.std.specs.Prelude.{◌≡◌, ◌+◌, ◌*◌, ◌^◌, ◌≤◌, ◌<◌, length};
 ghost use Rattle.machine.specs.Machine.{run};
-ghost use Rattle.cursor.specs.Rows.{metaFrame, inline_size};
+ghost use Rattle.cursor.specs.Rows.{meta_frame, inline_size};
 ghost use Rattle.cursor.specs.Refusals.{cut_short};
 ghost use Rattle.cursor.specs.Leaves.{number};
 ghost use Rattle.cursor.specs.Told.{Readable};
@@ -88,7 +88,7 @@ fn last_byte(file: &[u8], at: usize) -> usize
 // The bytes of the number at `at`, in a part that ends at `end`, and of the block that it counts. Almost every such number is one byte.
 fn block_size(file: &[u8], end: usize, at: usize) -> usize
     requires { (at < end) × Readable end file.now }
-    ensures { result ≡ counted at (run (number metaFrame cut_short end) file.now at) }
+    ensures { result ≡ counted at (run (number meta_frame cut_short end) file.now at) }
 {
     let first = cursor::wide(file[at]);
     if first < 128 {
@@ -302,7 +302,7 @@ pub fn account(file: &[u8], nodes: &mut [u64], items: &mut [u64], totals: Totals
             Accounted::Refused(n, p.0, left)
         }
         Read::Is(s) => {
-            let kinds = kinds_of(file, nodes, items, s.headerEnd, s.nodes, s.items);
+            let kinds = kinds_of(file, nodes, items, s.header_end, s.nodes, s.items);
             let left = add(totals, kinds);
             Accounted::Is(kinds, left)
         }

@@ -158,7 +158,7 @@ pub fn mark(file: &[u8], nodes: &mut [u64], items: &mut [u64], marks: &mut [u8])
                 room::clear_bytes(marks);
                 return Written::Refused(cursor::NO_ROOM, 0);
             }
-            mark_rows(marks, file, nodes, items, s.headerEnd, s.nodes, s.items);
+            mark_rows(marks, file, nodes, items, s.header_end, s.nodes, s.items);
             room::clear_bytes_from(marks, size);
             Written::Bytes(size)
         }

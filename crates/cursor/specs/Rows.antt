@@ -7,7 +7,7 @@ use Rattle.cursor.specs.declared.Item.{Item}
 
 -- what a byte that is read belongs to
 pub data Frame : Type 0 where
-  file_frame nodeFrame metaFrame unpackFrame referenceFrame : Frame
+  file_frame node_frame meta_frame unpack_frame reference_frame : Frame
 
 -- bytes that are passed over and make no row: a language's name, a custom field's name, a URI
 pub data Plain : Type 0 where

@@ -146,20 +146,20 @@ pub struct Node {
     pub target: u64,
     pub extent: u64,
     pub unpackers: u64,
-    pub unpackerCount: u64,
+    pub unpacker_count: u64,
     pub rows: u64,
     pub detached: u64,
 }
 
 // A row of the item table (01, Rows), in the order of its ten words: one for each universal content or version. `declared` is
-// 01's type, `nameLength` the name's length.
+// 01's type, `name_length` the name's length.
 #[derive(Clone, Copy)]
 pub struct Item {
     pub node: u64,
     pub item: u64,
     pub kind: u64,
     pub field: u64,
-    pub nameLength: u64,
+    pub name_length: u64,
     pub version: u64,
     pub declared: u64,
     pub format: u64,

@@ -12,7 +12,7 @@ use lib.Dec.{ltb, eqb}
 use lib.ListN.{get_or}
 use borrow.Author.Tests.{lt-ltb, le-ltb, le-leb, lt-leb, eq-eqb, ne_eqb}
 use Rattle.machine.specs.Machine.{Out, ok, refused, run, times}
-use Rattle.cursor.specs.Rows.{P, metaFrame}
+use Rattle.cursor.specs.Rows.{P, meta_frame}
 use Rattle.cursor.specs.Leaves.{next, number, manufacturer}
 use Rattle.cursor.specs.declared.Item.{Item}
 use Rattle.machine.proofs.Laws.{running, and_then, run-times, run-timed}
@@ -26,11 +26,11 @@ use Rattle.description.specs.Told.{picked}
 -- ---- a resource
 
 module _ (end : ℕ) (f : List ℕ) (at : ℕ) where
-  pub value-cut : {n p : ℕ} → run (number metaFrame 3 end) f at ≡ refused n p → refused n p ≡ run (value end) f at
+  pub value-cut : {n p : ℕ} → run (number meta_frame 3 end) f at ≡ refused n p → refused n p ≡ run (value end) f at
   unfolding value
   value-cut e = simp (running, e)
 
-  pub value-all : {v q : ℕ} → run (number metaFrame 3 end) f at ≡ ok v q → ok tt q ≡ run (value end) f at
+  pub value-all : {v q : ℕ} → run (number meta_frame 3 end) f at ≡ ok v q → ok tt q ≡ run (value end) f at
   unfolding value
   value-all e = simp (running, e)
 
@@ -71,11 +71,11 @@ module _ (kind end : ℕ) (f : List ℕ) (at : ℕ) where
     identifier-five k h = h ∙ simp (ne_eqb _ _ n₃, eq-eqb _ _ k)
 
     module _ (n₅ : (kind ≡ 5) → ⊥) where
-      pub identifier-cut : kind ≡ 1 → {n p : ℕ} → run (manufacturer metaFrame end) f at ≡ refused n p → refused n p ≡ run (identifier kind end) f at
+      pub identifier-cut : kind ≡ 1 → {n p : ℕ} → run (manufacturer meta_frame end) f at ≡ refused n p → refused n p ≡ run (identifier kind end) f at
       unfolding identifier
       identifier-cut k e = simp (running, ne_eqb _ _ n₃, ne_eqb _ _ n₅, eq-eqb _ _ k, e)
 
-      pub identifier-two : kind ≡ 1 → {q : ℕ} → run (manufacturer metaFrame end) f at ≡ ok tt q → {o : Out (Unit {0})} → o ≡ run (value end) f q →
+      pub identifier-two : kind ≡ 1 → {q : ℕ} → run (manufacturer meta_frame end) f at ≡ ok tt q → {o : Out (Unit {0})} → o ≡ run (value end) f q →
           o ≡ run (identifier kind end) f at
       unfolding identifier
       identifier-two k e h = h ∙ simp (running, ne_eqb _ _ n₃, ne_eqb _ _ n₅, eq-eqb _ _ k, e)
@@ -85,11 +85,11 @@ module _ (kind end : ℕ) (f : List ℕ) (at : ℕ) where
       identifier-one n₁ h = h ∙ simp (ne_eqb _ _ n₃, ne_eqb _ _ n₅, ne_eqb _ _ n₁)
 
 module _ (end : ℕ) (f : List ℕ) (at : ℕ) where
-  pub resource-cut : {n p : ℕ} → run (number metaFrame 3 end) f at ≡ refused n p → refused n p ≡ run (resource end) f at
+  pub resource-cut : {n p : ℕ} → run (number meta_frame 3 end) f at ≡ refused n p → refused n p ≡ run (resource end) f at
   unfolding resource
   resource-cut e = simp (running, e)
 
-  module _ {kind q : ℕ} (e₁ : run (number metaFrame 3 end) f at ≡ ok kind q) where
+  module _ {kind q : ℕ} (e₁ : run (number meta_frame 3 end) f at ≡ ok kind q) where
     pub resource-bad : 5 < kind → refused 25 at ≡ run (resource end) f at
     unfolding resource
     resource-bad l = simp (running, e₁, lt-leb _ _ l)
@@ -170,9 +170,9 @@ abbrev before : ℕ → Out (List ℕ) → Out (List ℕ)
 before v (ok vs q) = ok (v ∷ vs) q
 before v (refused n p) = refused n p
 
-run-numbers : (f : List ℕ) (end n at : ℕ) → run (numbers (suc n) end) f at ≡ and_then (run (number metaFrame 3 end) f at) (λ v q. before v (run (numbers n end) f q))
+run-numbers : (f : List ℕ) (end n at : ℕ) → run (numbers (suc n) end) f at ≡ and_then (run (number meta_frame 3 end) f at) (λ v q. before v (run (numbers n end) f q))
 unfolding numbers
-run-numbers f end n at = simp running (by (run (number metaFrame 3 end) f at))
+run-numbers f end n at = simp running (by (run (number meta_frame 3 end) f at))
   where
     rest : (v : ℕ) (o : Out (List ℕ)) → and_then o (λ vs p. ok (v ∷ vs) p) ≡ before v o
     rest v (ok vs q) = refl
@@ -221,13 +221,13 @@ module _ {f : List ℕ} {end count index from i kept at : ℕ} (g : Picking f en
       either false = refl
 
   module _ (l : i < count) where
-    first : run (numbers (count - i) end) f at ≡ and_then (run (number metaFrame 3 end) f at) (λ v q. before v (run (numbers (count - (i + 1)) end) f q))
+    first : run (numbers (count - i) end) f at ≡ and_then (run (number meta_frame 3 end) f at) (λ v q. before v (run (numbers (count - (i + 1)) end) f q))
     first = let e : count - i ≡ suc (count - (i + 1)) = omega arith in rw e (run-numbers f end (count - (i + 1)) at)
 
-    pub numbers-no : {n p : ℕ} → run (number metaFrame 3 end) f at ≡ refused n p → refused n p ≡ picked index (run (numbers count end) f from)
+    pub numbers-no : {n p : ℕ} → run (number meta_frame 3 end) f at ≡ refused n p → refused n p ≡ picked index (run (numbers count end) f from)
     numbers-no {n} {p} e = let w : run (numbers (count - i) end) f at ≡ refused n p = first ∙ rw e refl in sym (g.same ∙ rw w refl)
 
-    pub numbers_on : {v q kept' : ℕ} → run (number metaFrame 3 end) f at ≡ ok v q → ((i ≡ index) × (kept' ≡ v)) ⊎ (((i ≡ index) → ⊥) × (kept' ≡ kept))
+    pub numbers_on : {v q kept' : ℕ} → run (number meta_frame 3 end) f at ≡ ok v q → ((i ≡ index) × (kept' ≡ v)) ⊎ (((i ≡ index) → ⊥) × (kept' ≡ kept))
         → Picking f end count index from (i + 1) kept' q
     numbers_on {v} {q} e x =
         let w : run (numbers (count - i) end) f at ≡ before v (run (numbers (count - (i + 1)) end) f q) = first ∙ rw e refl in
@@ -303,21 +303,21 @@ module _ (end : ℕ) (f : List ℕ) (at channel resource : ℕ) where
   abbrev Whole : Result ℕ → Type 0
   Whole a = a ≡ count_of channel resource (run (description end) f at)
 
-  pub whole-message : {n p : ℕ} → run (number metaFrame 3 end) f at ≡ refused n p → Whole (bad 25 p)
+  pub whole-message : {n p : ℕ} → run (number meta_frame 3 end) f at ≡ refused n p → Whole (bad 25 p)
   unfolding description count_of
   whole-message e = simp (running, e)
 
-  module _ {message q : ℕ} (e₁ : run (number metaFrame 3 end) f at ≡ ok message q) where
-    pub whole-channels : {n p : ℕ} → run (number metaFrame 3 end) f q ≡ refused n p → Whole (bad 25 p)
+  module _ {message q : ℕ} (e₁ : run (number meta_frame 3 end) f at ≡ ok message q) where
+    pub whole-channels : {n p : ℕ} → run (number meta_frame 3 end) f q ≡ refused n p → Whole (bad 25 p)
     unfolding description count_of
     whole-channels e = simp (running, e₁, e)
 
-    module _ {channels r : ℕ} (e₂ : run (number metaFrame 3 end) f q ≡ ok channels r) where
-      pub whole-resources : {n p : ℕ} → run (number metaFrame 3 end) f r ≡ refused n p → Whole (bad 25 p)
+    module _ {channels r : ℕ} (e₂ : run (number meta_frame 3 end) f q ≡ ok channels r) where
+      pub whole-resources : {n p : ℕ} → run (number meta_frame 3 end) f r ≡ refused n p → Whole (bad 25 p)
       unfolding description count_of
       whole-resources e = simp (running, e₁, e₂, e)
 
-      module _ {resources s : ℕ} (e₃ : run (number metaFrame 3 end) f r ≡ ok resources s) where
+      module _ {resources s : ℕ} (e₃ : run (number meta_frame 3 end) f r ≡ ok resources s) where
         pub whole-lists : {n p : ℕ} → run (lists resources end) f s ≡ refused n p → Whole (bad 25 p)
         unfolding description count_of
         whole-lists e = simp (running, e₁, e₂, e₃, e)

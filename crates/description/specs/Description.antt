@@ -2,7 +2,7 @@
 -- Assumes nothing.
 use Rattle.std.specs.Prelude.{cond, ◌||◌, List, [], ◌∷◌, ℕ, zero, suc, ◌*◌, leb, eqb}
 use Rattle.machine.specs.Machine.{ret, ◌>>=◌, ◌>>◌, place, check, times}
-use Rattle.cursor.specs.Rows.{P, metaFrame}
+use Rattle.cursor.specs.Rows.{P, meta_frame}
 use Rattle.cursor.specs.Refusals.{cut_short, bad_description}
 use Rattle.cursor.specs.Leaves.{next, number, manufacturer}
 
@@ -11,13 +11,13 @@ use Rattle.cursor.specs.Leaves.{next, number, manufacturer}
 -- a VLQ whose value is not kept
 unfoldable pub value : ℕ → P (Unit {0})
 value end = do
-  v ← number metaFrame cut_short end
+  v ← number meta_frame cut_short end
   ret tt
 
 -- a byte of a GUID that began at p
 unfoldable pub a_byte : (end p : ℕ) → P (Unit {0})
 a_byte end p = do
-  b ← next metaFrame cut_short end p
+  b ← next meta_frame cut_short end p
   ret tt
 
 -- sixteen plain bytes
@@ -32,7 +32,7 @@ identifier kind end =
     cond (eqb kind 3 || eqb kind 5) (guid end)
     (cond (eqb kind 1)
     (do
-      m ← manufacturer metaFrame end
+      m ← manufacturer meta_frame end
       value end)
     (value end))
 
@@ -40,7 +40,7 @@ identifier kind end =
 unfoldable pub resource : ℕ → P (Unit {0})
 resource end = do
   p ← place
-  kind ← number metaFrame cut_short end
+  kind ← number meta_frame cut_short end
   check (leb kind 5) bad_description p
   identifier kind end
 
@@ -50,7 +50,7 @@ resource end = do
 unfoldable pub numbers : (n end : ℕ) → P (List ℕ)
 numbers zero end = ret []
 numbers (suc n) end = do
-  v ← number metaFrame cut_short end
+  v ← number meta_frame cut_short end
   vs ← numbers n end
   ret (v ∷ vs)
 
@@ -78,8 +78,8 @@ table channels resources end = do
 -- the item
 unfoldable pub description : ℕ → P Description
 description end = do
-  message ← number metaFrame cut_short end
-  channels ← number metaFrame cut_short end
-  resources ← number metaFrame cut_short end
+  message ← number meta_frame cut_short end
+  channels ← number meta_frame cut_short end
+  resources ← number meta_frame cut_short end
   l ← lists resources end
   table channels resources end

@@ -101,7 +101,7 @@ node-line k r = simp append_assoc
 
 -- an item's line, of a custom field or of a standard one
 abbrev item_text_by : Bool → List ℕ → Item → List ℕ
-item_text_by true f r = item-text r.node 0x43 (escaped_part f r.field r.nameLength) r.version r.format (text_of f r)
+item_text_by true f r = item-text r.node 0x43 (escaped_part f r.field r.name_length) r.version r.format (text_of f r)
 item_text_by false f r = item-text r.node 0x53 (decimal r.field) r.version r.format (text_of f r)
 
 abbrev item_text : List ℕ → Item → List ℕ
@@ -112,7 +112,7 @@ unfolding item_line label number tabbed
 item-line f r = by (eqb r.kind 1)
   where
     by : (b : Bool)
-        → 0x4D ∷ (0x09 ∷ decimal r.node) ++ cond b (0x09 ∷ 0x43 ∷ 0x09 ∷ escaped_part f r.field r.nameLength)
+        → 0x4D ∷ (0x09 ∷ decimal r.node) ++ cond b (0x09 ∷ 0x43 ∷ 0x09 ∷ escaped_part f r.field r.name_length)
         (0x09 ∷ 0x53 ∷ 0x09 ∷ decimal r.field) ++ (0x09 ∷ decimal r.version) ++ (0x09 ∷ decimal r.format) ++ (0x09 ∷ text_of f r) ++
         0x0A ∷ []
         ≡ item_text_by b f r ++ 0x0A ∷ []
@@ -161,8 +161,8 @@ module _ (f : List ℕ) where
               r.version r.format n v m (even r e) (text_of f r) (text-is f bytes r) r.field l,
         )
     item-is r ((n, (_, (_, (_, (_, (v, (_, (m, _)))))))), inr (k, l, i)) e =
-        let t = escaped-is f bytes false r.field r.nameLength in
-        let s = some-name f r.field r.nameLength l i in
+        let t = escaped-is f bytes false r.field r.name_length in
+        let s = some-name f r.field r.name_length l i in
         rw (eq-eqb r.kind 1 k) (
           custom-kind r.node r.version r.format n v m (even r e) (text_of f r) (text-is f bytes r) _ t s,
           custom-ended r.node r.version

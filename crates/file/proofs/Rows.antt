@@ -47,7 +47,7 @@ item_in [] end size l a i h = absurd (omega arith)
 item_in (seen κ p ∷ es) end size l a i h = item_in es end size l a i h
 item_in (passed (node_row r) p n ∷ es) end size l a i h = item_in es end size l a.1 i h
 item_in (passed (item_row r) p n ∷ es) end size l a zero h = let b = a.0.0 in let c = a.0.1 in let d = a.0.2
-    in (omega arith, named r.field r.nameLength end size l a.0.3)
+    in (omega arith, named r.field r.name_length end size l a.0.3)
 item_in (passed (item_row r) p n ∷ es) end size l a (suc i) h = item_in es end size l a.1 i (omega arith)
 item_in (passed (plain x) p n ∷ es) end size l a i h = item_in es end size l a.1 i h
 

@@ -21,7 +21,7 @@ use targets::Span;
 pub struct Summary {
     pub version: u64,
     pub edition: Edition,
-    pub headerEnd: FilePlace,
+    pub header_end: FilePlace,
     pub tree: usize,
     pub nodes: usize,
     pub items: usize,
@@ -64,11 +64,11 @@ fn read_root(
     let extent = h.extent;
     let start = extent.start;
     let last = extent.last;
-    let headerEnd = extent.end;
+    let header_end = extent.end;
     let scope = Scope {
         limits: lim,
         types: h.types,
-        headerEnd,
+        header_end,
     };
     let none = Made { nodes: 0, items: 0 };
     let end = FilePlace(last.0 + 1);
@@ -126,11 +126,11 @@ fn follow_row(
     if targets::is_outside(extent, file.len(), to) {
         let end = targets::part_end(extent, file.len(), to);
         let taken = targets::first_taken(nodes, tree, asked, to, targets::end_asked(to, end, span));
-        let headerEnd = extent.end;
+        let header_end = extent.end;
         let scope = Scope {
             limits: lim,
             types: h.types,
-            headerEnd,
+            header_end,
         };
         let s = Bounds {
             least: FilePlace(0),
@@ -220,11 +220,11 @@ pub fn read_behind(
                 room::clear_from(items, m.items * cursor::ITEM_WIDTH);
                 let edition = h.edition;
                 let extent = h.extent;
-                let headerEnd = extent.end;
+                let header_end = extent.end;
                 let is = Summary {
                     version: h.version,
                     edition,
-                    headerEnd,
+                    header_end,
                     tree: tree.nodes,
                     nodes: m.nodes,
                     items: m.items,

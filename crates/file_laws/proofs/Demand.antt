@@ -154,7 +154,7 @@ module _ (free : Part → Bool) (f g : List ℕ) where
 
   -- what is alike of a row
   abbrev pub RowAlike : Item → Type 0
-  RowAlike r = ((r.kind ≡ 0) ⊎ Agree f g r.field r.nameLength) × (T (not (free (item_row r))) → Agree f g r.place r.size)
+  RowAlike r = ((r.kind ≡ 0) ⊎ Agree f g r.field r.name_length) × (T (not (free (item_row r))) → Agree f g r.place r.size)
 
   named-alike : {A B C : Type 0} → A ⊎ (B × C) → A ⊎ C
   named-alike (inl x) = inl x

@@ -66,7 +66,7 @@ SmallNode r = (r.contained < 2 ^ 28) × (r.depth ≤ 16) × (r.reference ≤ 4) 
     × (r.unpackers + r.unpacker_count ≤ r.start + r.size) × (r.detached ≤ 1)
 
 abbrev pub SmallLabel : Item → Type 0
-SmallLabel r = ((r.kind ≡ 0) × (r.field < 2 ^ 28) × (r.nameLength ≡ 0)) ⊎ ((r.kind ≡ 1) × (0 < r.nameLength))
+SmallLabel r = ((r.kind ≡ 0) × (r.field < 2 ^ 28) × (r.name_length ≡ 0)) ⊎ ((r.kind ≡ 1) × (0 < r.name_length))
 
 -- of tables that hold `most` item rows; an item has a byte before the next
 abbrev pub SmallItem : (most : ℕ) → Item → Type 0

@@ -9,7 +9,7 @@ use lib.Dec.{ltb}
 use lib.ListN.{length}
 use borrow.Author.Tests.{ltb-true}
 use Rattle.machine.specs.Machine.{Out, ok, refused, run, trace}
-use Rattle.cursor.specs.Rows.{P, Events, referenceFrame}
+use Rattle.cursor.specs.Rows.{P, Events, reference_frame}
 use Rattle.cursor.specs.Refusals.{cut_short}
 use Rattle.cursor.specs.Leaves.{number}
 use Rattle.cursor.specs.declared.Node.{Node}
@@ -73,7 +73,7 @@ module _ (f : List ℕ) where
 
   offset_inside : (r : Node) → r.start + r.header ≤ length f → offset_at f r ≤ length f
   unfolding offset_at
-  offset_inside r l = by (run (number referenceFrame cut_short (length f)) f (r.start + r.header)) ((number-stays _ _ (length f) (omega arith)).from _ l).inside
+  offset_inside r l = by (run (number reference_frame cut_short (length f)) f (r.start + r.header)) ((number-stays _ _ (length f) (omega arith)).from _ l).inside
     where
       by : (o : Out ℕ) → stays.Inside (length f) o → place_of o ≤ length f
       by (ok v q) w = w

@@ -147,7 +147,7 @@ Below ws = Each (λ w. w < 2 ^ 28) ws
 
 -- a custom name is not empty, and lies in the file
 abbrev pub Named : (size : ℕ) → Item → Type 0
-Named size r = (r.kind ≡ 0) ⊎ ((r.kind ≡ 1) × (0 < r.nameLength) × (r.field + r.nameLength ≤ size))
+Named size r = (r.kind ≡ 0) ⊎ ((r.kind ≡ 1) × (0 < r.name_length) × (r.field + r.name_length ≤ size))
 
 pub record SmallRows (f : List ℕ) (h : Header) (ns : List Node) (is : List Item) : Type 0 where
   pub version : IsVersion h.version

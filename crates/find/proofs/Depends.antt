@@ -20,7 +20,7 @@ use Rattle.find.specs.Find.{Wanted, standard, custom, same_bytes, matches, among
 module _ (f g : List ℕ) where
   -- the two files agree at the name of a row
   abbrev pub SameName : Item → Type 0
-  SameName r = r.kind ≡ 1 → Agree f g r.field r.nameLength
+  SameName r = r.kind ≡ 1 → Agree f g r.field r.name_length
 
   -- they agree at the names of all rows
   abbrev pub SameNames : List Item → Type 0
@@ -42,9 +42,9 @@ module _ (f g : List ℕ) where
   unfolding matches
   matches-same (standard n) r a = refl
   matches-same (custom name) r a =
-      ap (λ (x : Bool). ltb 0 (length name) && x) (guarded (eqb r.kind 1) (eqb r.nameLength (length name)) (λ p q.
+      ap (λ (x : Bool). ltb 0 (length name) && x) (guarded (eqb r.kind 1) (eqb r.name_length (length name)) (λ p q.
       let k : r.kind ≡ 1 = eqb-true r.kind 1 p in
-      let n : r.nameLength ≡ length name = eqb-true r.nameLength (length name) q in
+      let n : r.name_length ≡ length name = eqb-true r.name_length (length name) q in
       bytes_same r.field name (λ i l m. a k i l (omega arith))))
 
   module _ (w : Wanted) where

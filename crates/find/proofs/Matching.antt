@@ -48,11 +48,11 @@ module _ (f name : List ℕ) (r : Item) where
   unfolding matches
   named-kind n z = let l : 0 < length name = omega arith in simp (lt-ltb _ _ l, ne_eqb _ _ n)
 
-  pub named-size : ((r.nameLength ≡ length name) → ⊥) → r.kind ≡ 1 → (length name ≡ 0 → ⊥) → false ≡ matches f (custom name) r
+  pub named-size : ((r.name_length ≡ length name) → ⊥) → r.kind ≡ 1 → (length name ≡ 0 → ⊥) → false ≡ matches f (custom name) r
   unfolding matches
   named-size n k z = let l : 0 < length name = omega arith in simp (lt-ltb _ _ l, eq-eqb _ _ k, ne_eqb _ _ n)
 
-  pub named-bytes : {b : Bool} → b ≡ same_bytes f r.field name → r.nameLength ≡ length name → r.kind ≡ 1 → (length name ≡ 0 → ⊥) → b ≡ matches f (custom name) r
+  pub named-bytes : {b : Bool} → b ≡ same_bytes f r.field name → r.name_length ≡ length name → r.kind ≡ 1 → (length name ≡ 0 → ⊥) → b ≡ matches f (custom name) r
   unfolding matches
   named-bytes e n k z = let l : 0 < length name = omega arith in e ∙ simp (lt-ltb _ _ l, eq-eqb _ _ k, eq-eqb _ _ n)
 

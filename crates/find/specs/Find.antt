@@ -23,7 +23,7 @@ same_bytes f at (b ∷ bs) = eqb (get_or f at 0) b && same_bytes f (at + 1) bs
 -- names are equal byte for byte; an empty name is never found
 unfoldable pub matches : List ℕ → Wanted → Item → Bool
 matches f (standard n) r = eqb r.kind 0 && eqb r.field n
-matches f (custom name) r = ltb 0 (length name) && (eqb r.kind 1 && (eqb r.nameLength (length name) && same_bytes f r.field name))
+matches f (custom name) r = ltb 0 (length name) && (eqb r.kind 1 && (eqb r.name_length (length name) && same_bytes f r.field name))
 
 -- the first of these rows, in file order, of that field
 unfoldable pub among : List ℕ → Wanted → List Numbered → Result Numbered

@@ -51,7 +51,7 @@ fn is_named(file: &[u8], row: Item, name: &[u8]) -> bool
     if row.kind != 1 {
         return false;
     }
-    if row.nameLength != name.len() as u64 {
+    if row.name_length != name.len() as u64 {
         return false;
     }
     same_bytes(file, row.field as usize, name)

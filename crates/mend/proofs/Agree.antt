@@ -9,7 +9,7 @@ use lib.Dec.{ltb}
 use lib.ListN.{length, get_or}
 use borrow.Author.Tests.{ltb-true}
 use Rattle.machine.specs.Machine.{Prog, ret, refuse, here, byte, pass, Out, ok, refused, seen, passed, run, trace}
-use Rattle.cursor.specs.Rows.{P, Events, referenceFrame}
+use Rattle.cursor.specs.Rows.{P, Events, reference_frame}
 use Rattle.cursor.specs.Leaves.{number}
 use Rattle.cursor.specs.declared.Node.{Node}
 use Rattle.machine.proofs.Laws.{rows_on}
@@ -53,7 +53,7 @@ module _ (lim : Limits) (f g : List ℕ) (long : length f ≡ length g) (h : Hea
     (same : (k : ℕ) → h.extent.end ≤ k → get_or f k 0 ≡ get_or g k 0) where
   offset_same : (r : Node) → h.extent.end ≤ r.start → offset_at f r ≡ offset_at g r
   unfolding offset_at
-  offset_same r l = rw (← long) (ap place_of (forward (number referenceFrame 3 (length f)) f g (r.start + r.header) (λ k o. same k (omega arith))).0)
+  offset_same r l = rw (← long) (ap place_of (forward (number reference_frame 3 (length f)) f g (r.start + r.header) (λ k o. same k (omega arith))).0)
 
   reach_same : (log : Events) (r : Node) → h.extent.end ≤ r.start → follow_row lim f h log r ≡ follow_row lim g h log r
   unfolding follow_row

@@ -8,7 +8,7 @@ use native.Mathlib.Omega.{arith}
 use lib.ListN.{length, get_or}
 use borrow.Author.Tests.{leb-true}
 use Rattle.machine.specs.Machine.{ok, run}
-use Rattle.cursor.specs.Rows.{nodeFrame}
+use Rattle.cursor.specs.Rows.{node_frame}
 use Rattle.cursor.specs.Leaves.{number}
 use Rattle.cursor.specs.declared.Node.{Node}
 use Rattle.cursor.specs.declared.Item.{Item}
@@ -32,7 +32,7 @@ use Rattle.mend.proofs.Values.{set-length, set-valued}
 -- ---- the root, which begins with its length, fills the tree
 
 abbrev Root : (end : ℕ) → List ℕ → (at : ℕ) → Type 0
-Root end f at = (size : ℕ) × (q : ℕ) × (run (number nodeFrame 3 end) f at ≡ ok size q) × (at + size ≡ end)
+Root end f at = (size : ℕ) × (q : ℕ) × (run (number node_frame 3 end) f at ≡ ok size q) × (at + size ≡ end)
 
 tree-root : (x : Context) (end : ℕ) (f : List ℕ) (at : ℕ) {m : Made} {r : ℕ} → run (tree x end) f at ≡ ok m r → Root end f at
 unfolding tree node front head
@@ -47,14 +47,14 @@ tree-root x end f at e =
 
 -- ---- the number at a place
 
-number-value : (f : List ℕ) (p : ℕ) {n q : ℕ} → run (number nodeFrame 3 (length f)) f p ≡ ok n q → number_at f p ≡ n
+number-value : (f : List ℕ) (p : ℕ) {n q : ℕ} → run (number node_frame 3 (length f)) f p ≡ ok n q → number_at f p ≡ n
 unfolding number_at
 number-value f p e = ap value_of e
 
 -- is the same in two files that agree from there on
 pub numbers-same : (f g : List ℕ) (p : ℕ) → length f ≡ length g → ((k : ℕ) → p ≤ k → get_or f k 0 ≡ get_or g k 0) → number_at f p ≡ number_at g p
 unfolding number_at
-numbers-same f g p l h = rw l (ap value_of (number_same f g nodeFrame 3 (length g) p (λ k lo hi. h k lo)))
+numbers-same f g p l h = rw l (ap value_of (number_same f g node_frame 3 (length g) p (λ k lo hi. h k lo)))
 
 -- ---- the values
 
@@ -82,10 +82,10 @@ module _ (lim : Limits) (f : List ℕ) {w : Fields} (x : Parts (length f) f w) w
       let hs : h ≡ header_for w b = says ∙ ap (λ u. header_for u u.last.value) s in
       let (size, q, number_is, fills) = subst (λ (u : Header). Root (u.extent.last + 1) g u.extent.start) hs
       (tree-root _ (h.extent.last + 1) g h.extent.start r.tree_is) in
-      let i = number-inside nodeFrame 3 (b + 1) g w.start number_is in
+      let i = number-inside node_frame 3 (b + 1) g w.start number_is in
       let k = d.inside in let o = d.after in
       let own : number_at f w.start ≡ size = number-value f w.start
-      (number_same f g nodeFrame 3 (length f) w.start (λ k lo hi. v.same k (inr (inr (omega arith)))) ∙ number-wider nodeFrame 3 3 (b + 1)
+      (number_same f g node_frame 3 (length f) w.start (λ k lo hi. v.same k (inr (inr (omega arith)))) ∙ number-wider node_frame 3 3 (b + 1)
       (length f) g w.start number_is (omega arith)) in
       record { long = d.long; last = omega arith; after = o; ordered = d.ordered; inside = k }
 

@@ -10,7 +10,7 @@ use lib.ListN.{length, take, drop, replicate, set, length-set}
 use lib.Seq.{sets, length-sets, set-append_left}
 use borrow.Author.Tests.{not-true, not-false, lt-leb, le-leb}
 use Rattle.machine.specs.Machine.{Out, ok, refused, run}
-use Rattle.cursor.specs.Rows.{nodeFrame}
+use Rattle.cursor.specs.Rows.{node_frame}
 use Rattle.cursor.specs.Leaves.{number}
 use Rattle.vlq.specs.Vlq.{in_bytes}
 use Rattle.cursor.specs.declared.FilePlace.{FilePlace}
@@ -34,10 +34,10 @@ use Rattle.mend.proofs.Theorem.{still}
 
 pub number_bound : (f : List ℕ) (p : ℕ) → number_at f p < 2 ^ 28
 unfolding number_at
-number_bound f p = by (run (number nodeFrame 3 (length f)) f p) refl
+number_bound f p = by (run (number node_frame 3 (length f)) f p) refl
   where
-    by : (o : Out ℕ) → run (number nodeFrame 3 (length f)) f p ≡ o → value_of o < 2 ^ 28
-    by (ok n q) e = (number-inside nodeFrame 3 (length f) f p e).3
+    by : (o : Out ℕ) → run (number node_frame 3 (length f)) f p ≡ o → value_of o < 2 ^ 28
+    by (ok n q) e = (number-inside node_frame 3 (length f) f p e).3
     by (refused n q) e = omega arith
 
 module _ (size : ℕ) (w : Fields) (b : ℕ) {r : Bool} (e : r ≡ ltb size (128 ^ (width w.length))) where

@@ -9,7 +9,7 @@ use borrow.Author.Tests.{eq-eqb, ne_eqb}
 use lib.ListN.{length}
 use lib.Seq.{sets}
 use Rattle.machine.specs.Machine.{Out, ok, refused, run}
-use Rattle.cursor.specs.Rows.{file_frame, nodeFrame}
+use Rattle.cursor.specs.Rows.{file_frame, node_frame}
 use Rattle.vlq.specs.Vlq.{in_bytes}
 use Rattle.cursor.specs.Leaves.{number}
 use Rattle.machine.proofs.Laws.{running}
@@ -70,7 +70,7 @@ module _ (size : ℕ) (f : List ℕ) where
 
 -- ---- a number; whether it fits
 
-pub value-was : (f : List ℕ) (p : ℕ) {o : Out ℕ} → run (number nodeFrame 3 (length f)) f p ≡ o → value_of o ≡ number_at f p
+pub value-was : (f : List ℕ) (p : ℕ) {o : Out ℕ} → run (number node_frame 3 (length f)) f p ≡ o → value_of o ≡ number_at f p
 unfolding number_at
 value-was f p e = sym (ap value_of e)
 

@@ -3,7 +3,7 @@
 use Rattle.std.specs.Prelude.{◌≡◌, Bool, true, false, cond, ◌&&◌, List, [], ◌∷◌, ◌++◌, ℕ, ◌+◌, ◌-◌, leb, eqb, length}
 use Rattle.std.proofs.lemmas.List.Edits.{sets}
 use Rattle.machine.specs.Machine.{Out, ok, refused, run}
-use Rattle.cursor.specs.Rows.{nodeFrame}
+use Rattle.cursor.specs.Rows.{node_frame}
 use Rattle.cursor.specs.Refusals.{cut_short}
 use Rattle.room.specs.Room.{no_room}
 use Rattle.cursor.specs.Leaves.{number}
@@ -30,7 +30,7 @@ value_of (ok n p) = n
 value_of (refused n p) = 0
 
 unfoldable pub number_at : List ℕ → ℕ → ℕ
-number_at f p = value_of (run (number nodeFrame cut_short (length f)) f p)
+number_at f p = value_of (run (number node_frame cut_short (length f)) f p)
 
 -- TreeEnd as it should be: the root, which begins with its length, fills the tree
 unfoldable pub last_of : List ℕ → Fields → ℕ

@@ -27,7 +27,7 @@ OfNames = ℕ → ℕ → Type 0
 abbrev Shown : OfNames → (top size : ℕ) → Part → ℕ → ℕ → Type 0
 Shown N top size (node_row r) p n = (r.header ≤ r.size) × (r.start + r.size ≤ top) ×
     ((r.reference ≡ 3) ⊎ (r.target + r.extent ≤ size)) × (n ≡ inline_size r) × (T (has_inline r) → r.target ≡ p)
-Shown N top size (item_row r) p n = (r.place ≡ p) × (r.size ≡ n) × (p + n ≤ top) × ((r.kind ≡ 0) ⊎ ((r.field + r.nameLength ≤ top) × N r.field r.nameLength))
+Shown N top size (item_row r) p n = (r.place ≡ p) × (r.size ≡ n) × (p + n ≤ top) × ((r.kind ≡ 0) ⊎ ((r.field + r.name_length ≤ top) × N r.field r.name_length))
 Shown N top size (plain x) p n = p + n ≤ top
 
 abbrev OfPlain : OfNames → Plain → ℕ → ℕ → Type 0

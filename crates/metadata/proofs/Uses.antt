@@ -1,7 +1,7 @@
 -- What a node's metadata is made of: bytes of its frame; custom names and item rows, which are passed over.
 -- Assumes nothing.
 use Prim.Native.Nat.{ℕ, ◌+◌}
-use Rattle.cursor.specs.Rows.{metaFrame, item_row, plain, name}
+use Rattle.cursor.specs.Rows.{meta_frame, item_row, plain, name}
 use Rattle.cursor.specs.Refusals.{bad_node}
 use Rattle.cursor.specs.declared.Item.{Item}
 use Rattle.cursor.proofs.Uses.{Allowed, Uses, after, ends, stops, either, checks, places, passes, repeats, counts, number-uses, block-uses, block_with}
@@ -17,7 +17,7 @@ unfolding declared_format
 format-uses p (known k) = ends
 format-uses p unknown = stops tt
 
-module _ {S : Allowed} (r : S.frame metaFrame) (w : S.part (plain name)) where
+module _ {S : Allowed} (r : S.frame meta_frame) (w : S.part (plain name)) where
   pub frame-uses : (end : ℕ) → Uses S (item_frame end)
   unfolding item_frame field contents
   frame-uses end =

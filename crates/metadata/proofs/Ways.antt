@@ -8,7 +8,7 @@ use lib.ListN.{length}
 use lib.Seq.{sets}
 use borrow.Author.Tests.{lt-ltb, le-ltb, eq-eqb, ne_eqb}
 use Rattle.machine.specs.Machine.{ok, refused, run, exec, turns, many, times}
-use Rattle.cursor.specs.Rows.{metaFrame}
+use Rattle.cursor.specs.Rows.{meta_frame}
 use Rattle.cursor.specs.Leaves.{number, block}
 use Rattle.cursor.specs.Told.{ByteTold}
 use Rattle.cursor.specs.declared.Byte.{Byte}
@@ -42,29 +42,29 @@ use Rattle.metadata.proofs.Gives.{done, stopped, fitting, no, yes}
 -- ---- field and contents
 
 module _ (end : ℕ) (f : List ℕ) (at : ℕ) where
-  pub field_cut : {n p : ℕ} → run (block metaFrame 3 end) f at ≡ refused n p → refused n p ≡ run (field end) f at
+  pub field_cut : {n p : ℕ} → run (block meta_frame 3 end) f at ≡ refused n p → refused n p ≡ run (field end) f at
   unfolding field
   field_cut e = simp (running, e)
 
-  module _ {n q : ℕ} (e₁ : run (block metaFrame 3 end) f at ≡ ok n q) where
+  module _ {n q : ℕ} (e₁ : run (block meta_frame 3 end) f at ≡ ok n q) where
     pub field-name : ((n ≡ 0) → ⊥) → {p : FilePlace} {r : ℕ} → p.0 ≡ q → r ≡ q + n → ok (Name p n) r ≡ run (field end) f at
     unfolding field
     field-name some {p} h k = rw (k, ← h) (let e₁' = rw (← h) at e₁ in simp (running, e₁', ne_eqb _ _ some))
 
     module _ (z : n ≡ 0) where
-      pub field-number : {k p : ℕ} → run (number metaFrame 3 end) f q ≡ refused k p → refused k p ≡ run (field end) f at
+      pub field-number : {k p : ℕ} → run (number meta_frame 3 end) f q ≡ refused k p → refused k p ≡ run (field end) f at
       unfolding field
       field-number e = simp (running, e₁, eq-eqb _ _ z, e)
 
-      pub field-standard : {k r : ℕ} → run (number metaFrame 3 end) f q ≡ ok k r → ok (Standard k) r ≡ run (field end) f at
+      pub field-standard : {k r : ℕ} → run (number meta_frame 3 end) f q ≡ ok k r → ok (Standard k) r ≡ run (field end) f at
       unfolding field
       field-standard e = simp (running, e₁, eq-eqb _ _ z, e)
 
-  pub contents-cut : {n p : ℕ} → run (number metaFrame 3 end) f at ≡ refused n p → refused n p ≡ run (contents end) f at
+  pub contents-cut : {n p : ℕ} → run (number meta_frame 3 end) f at ≡ refused n p → refused n p ≡ run (contents end) f at
   unfolding contents
   contents-cut e = simp (running, e)
 
-  module _ {n q : ℕ} (e₁ : run (number metaFrame 3 end) f at ≡ ok n q) where
+  module _ {n q : ℕ} (e₁ : run (number meta_frame 3 end) f at ≡ ok n q) where
     pub contents-universal : n ≡ 0 → ok Universal q ≡ run (contents end) f at
     unfolding contents
     contents-universal z = simp (running, e₁, eq-eqb _ _ z)
@@ -95,7 +95,7 @@ module _ (l : Label) (version declared format place size : ℕ) where
         item = l.item;
         kind = 0;
         field = k;
-        nameLength = 0;
+        name_length = 0;
         version = version;
         declared = declared;
         format = format;
@@ -110,7 +110,7 @@ module _ (l : Label) (version declared format place size : ℕ) where
         item = l.item;
         kind = 1;
         field = p.0;
-        nameLength = n;
+        name_length = n;
         version = version;
         declared = declared;
         format = format;
@@ -127,27 +127,27 @@ module _ (x : Context) (l : Label) (end : ℕ) (m : Made) (s : List ℕ) (at : �
   universal-limit h = simp (executing, le-ltb _ _ h)
 
   module _ (l₁ : m.items < x.limits.items) where
-    pub universal-length : {n p : ℕ} → run (block metaFrame 3 end) s at ≡ refused n p → refused n p ≡ exec put (universal x l end m) s at σ
+    pub universal-length : {n p : ℕ} → run (block meta_frame 3 end) s at ≡ refused n p → refused n p ≡ exec put (universal x l end m) s at σ
     unfolding universal
     universal-length e = simp (executing, exec-block, lt-ltb _ _ l₁, e)
 
-    module _ {n q : ℕ} (e₁ : run (block metaFrame 3 end) s at ≡ ok n q) where
+    module _ {n q : ℕ} (e₁ : run (block meta_frame 3 end) s at ≡ ok n q) where
       pub universal-zero : n ≡ 0 → refused 11 at ≡ exec put (universal x l end m) s at σ
       unfolding universal
       universal-zero z = let z' : n ≤ 0 = omega arith in simp (executing, exec-block, lt-ltb _ _ l₁, e₁, le-ltb _ _ z')
 
       module _ (some : (n ≡ 0) → ⊥) {stop : ℕ} (is : stop ≡ q + n) where
-        pub universal-format : {k p : ℕ} → run (number metaFrame 3 stop) s q ≡ refused k p → refused k p ≡ exec put (universal x l end m) s at σ
+        pub universal-format : {k p : ℕ} → run (number meta_frame 3 stop) s q ≡ refused k p → refused k p ≡ exec put (universal x l end m) s at σ
         unfolding universal
         universal-format e = let e' = rw is at e in let z' : 0 < n = omega arith in simp (executing, exec-block, exec-number, lt-ltb _ _ l₁, e₁, lt-ltb _ _ z', e')
 
-        pub universal-row : {format r : ℕ} → run (number metaFrame 3 stop) s q ≡ ok format r → {row : Item} → row ≡ row_of l 0 0 format r (stop - r) → {u' : List ℕ}
+        pub universal-row : {format r : ℕ} → run (number meta_frame 3 stop) s q ≡ ok format r → {row : Item} → row ≡ row_of l 0 0 format r (stop - r) → {u' : List ℕ}
             → u' ≡ sets σ.items (σ.made.items * item_width) (item_words row)
             → ok (plus_item m, state σ.nodes u' (plus_item σ.made)) stop ≡ exec put (universal x l end m) s at σ
         unfolding universal
         universal-row {format} {r} e₂ w h =
             let e₂' = rw is at e₂ in let z' : 0 < n = omega arith in
-            let e₃ : r + (q + n - r) ≡ q + n = omega (arith, number-inside metaFrame 3 (q + n) s q e₂') in
+            let e₃ : r + (q + n - r) ≡ q + n = omega (arith, number-inside meta_frame 3 (q + n) s q e₂') in
             rw (h, w, is) (simp (executing, exec-block, exec-number, lt-ltb _ _ l₁, e₁, lt-ltb _ _ z', e₂', e₃))
 
 -- ---- a version
@@ -158,21 +158,21 @@ module _ (x : Context) (l : Label) (end before : ℕ) (m : Made) (s : List ℕ) 
   version-limit h = simp (executing, le-ltb _ _ h)
 
   module _ (l₁ : m.items < x.limits.items) where
-    pub version-type : {n p : ℕ} → run (number metaFrame 3 end) s at ≡ refused n p → refused n p ≡ exec put (version x l end before m) s at σ
+    pub version-type : {n p : ℕ} → run (number meta_frame 3 end) s at ≡ refused n p → refused n p ≡ exec put (version x l end before m) s at σ
     unfolding version
     version-type e = simp (executing, exec-number, lt-ltb _ _ l₁, e)
 
-    module _ {t q : ℕ} (e₁ : run (number metaFrame 3 end) s at ≡ ok t q) where
+    module _ {t q : ℕ} (e₁ : run (number meta_frame 3 end) s at ≡ ok t q) where
       pub version-unknown : format_of x.types t ≡ unknown → refused 11 at ≡ exec put (version x l end before m) s at σ
       unfolding version declared_format
       version-unknown e = simp (executing, exec-number, lt-ltb _ _ l₁, e₁, e)
 
       module _ {format : ℕ} (e₂ : format_of x.types t ≡ known format) where
-        pub version-length : {n p : ℕ} → run (block metaFrame 3 end) s q ≡ refused n p → refused n p ≡ exec put (version x l end before m) s at σ
+        pub version-length : {n p : ℕ} → run (block meta_frame 3 end) s q ≡ refused n p → refused n p ≡ exec put (version x l end before m) s at σ
         unfolding version declared_format
         version-length e = simp (executing, exec-number, exec-block, lt-ltb _ _ l₁, e₁, e₂, e)
 
-        pub version-row : {n r : ℕ} → run (block metaFrame 3 end) s q ≡ ok n r → {row : Item} → row ≡ row_of l (m.items + 1 - before) t format r n → {u' : List ℕ}
+        pub version-row : {n r : ℕ} → run (block meta_frame 3 end) s q ≡ ok n r → {row : Item} → row ≡ row_of l (m.items + 1 - before) t format r n → {u' : List ℕ}
             → u' ≡ sets σ.items (σ.made.items * item_width) (item_words row) → {p : ℕ} → p ≡ r + n
             → ok (plus_item m, state σ.nodes u' (plus_item σ.made)) p ≡ exec put (version x l end before m) s at σ
         unfolding version declared_format
@@ -252,11 +252,11 @@ common_read end f at {name} {k} {versions} {size} {format} b₀ b₁ b₂ b₃ b
     let q₃ : after versions ≡ at + 3 = omega (arith, b₀.on, b₁.on, b₂.on) in
     let q₄ : after size ≡ at + 4 = omega (arith, b₃.on) in
     let q₅ : after format ≡ at + 5 = omega (arith, b₄.on) in
-    let e₀ = sym (block-all metaFrame 3 end f at (number_short metaFrame 3 end f at (omega arith) b₀.is (omega arith) b₀.on) (omega (arith, b₀.on))) in
-    let e₁ = number_short metaFrame 3 end f (after name) (omega (arith, b₀.on)) b₁.is (omega arith) b₁.on in
-    let e₂ = number_short metaFrame 3 end f (after k) (omega (arith, b₀.on, b₁.on)) b₂.is (omega arith) b₂.on in
-    let e₃ = sym (block-all metaFrame 3 end f (after versions) (number_short metaFrame 3 end f (after versions) (omega arith) b₃.is (omega arith) b₃.on) (omega arith)) in
-    let e₄ = number_short metaFrame 3 (after size + size.value) f (after size) (omega arith) b₄.is (omega arith) b₄.on in
+    let e₀ = sym (block-all meta_frame 3 end f at (number_short meta_frame 3 end f at (omega arith) b₀.is (omega arith) b₀.on) (omega (arith, b₀.on))) in
+    let e₁ = number_short meta_frame 3 end f (after name) (omega (arith, b₀.on)) b₁.is (omega arith) b₁.on in
+    let e₂ = number_short meta_frame 3 end f (after k) (omega (arith, b₀.on, b₁.on)) b₂.is (omega arith) b₂.on in
+    let e₃ = sym (block-all meta_frame 3 end f (after versions) (number_short meta_frame 3 end f (after versions) (omega arith) b₃.is (omega arith) b₃.on) (omega arith)) in
+    let e₄ = number_short meta_frame 3 (after size + size.value) f (after size) (omega arith) b₄.is (omega arith) b₄.on in
     record {
       frame = rw (← q₃) (sym (frame-all end f at (sym (field-standard end f at e₀ none e₁)) (sym (contents-universal end f (after k) e₂ universally))));
       universal = refl;
@@ -269,7 +269,7 @@ pub common_was : (end : ℕ) (f : List ℕ) (at : ℕ) {r : Common} → CommonTo
 common_was end f at told e = subst (λ r. CommonTold r f end at) e told
 
 pub common_inside : (end : ℕ) (f : List ℕ) (at : ℕ) {is : MetaItem} {size format : ℕ} → Reads f end at is size format → (0 < size) × (at + 4 + size ≤ end)
-common_inside end f at r = (omega (arith, r.some), omega (arith, block_inside metaFrame 3 end f (at + 3) r.covers))
+common_inside end f at r = (omega (arith, r.some), omega (arith, block_inside meta_frame 3 end f (at + 3) r.covers))
 
 -- the row that is made of it at once is the one that `item` makes
 pub common_row : (x : Context) (node index end : ℕ) (m : Made) (s : List ℕ) (at : ℕ) (σ : State) {is : MetaItem} {size format : ℕ} → Reads s
@@ -354,11 +354,11 @@ module _ (x : Context) (s u₀ : List ℕ) (node end at : ℕ) (made : Made) whe
 -- ---- metadata
 
 module _ (x : Context) (node end : ℕ) (m : Made) (s : List ℕ) (at : ℕ) (σ : State) where
-  pub metadata-length : {n p : ℕ} → run (block metaFrame 8 end) s at ≡ refused n p → refused n p ≡ exec put (metadata x node end m) s at σ
+  pub metadata-length : {n p : ℕ} → run (block meta_frame 8 end) s at ≡ refused n p → refused n p ≡ exec put (metadata x node end m) s at σ
   unfolding metadata
   metadata-length e = simp (executing, exec-block, e)
 
-  pub metadata-items : {n q : ℕ} → run (block metaFrame 8 end) s at ≡ ok n q → {stop : ℕ} → stop ≡ q + n → exec put (metadata x node end m) s
+  pub metadata-items : {n q : ℕ} → run (block meta_frame 8 end) s at ≡ ok n q → {stop : ℕ} → stop ≡ q + n → exec put (metadata x node end m) s
       at σ ≡ exec put (meta_items x node stop m) s q σ
   unfolding metadata
   metadata-items e is = rw is (simp (executing, exec-block, e))

@@ -2,7 +2,7 @@
 -- Assumes nothing.
 use Rattle.std.specs.Prelude.{List, ℕ, ◌+◌, ◌-◌, ltb, eqb}
 use Rattle.machine.specs.Machine.{ret, refuse, ◌>>=◌, ◌>>◌, if◌then◌else◌, place, skip, check, many, times}
-use Rattle.cursor.specs.Rows.{P, metaFrame, item_row, plain, name}
+use Rattle.cursor.specs.Rows.{P, meta_frame, item_row, plain, name}
 use Rattle.cursor.specs.Refusals.{cut_short, bad_node, no_row_left, bad_contents}
 use Rattle.cursor.specs.Leaves.{number, block}
 use Rattle.cursor.specs.declared.Item.{Item}
@@ -29,10 +29,10 @@ pub record Context : Type 0 where
 -- 0 and a standard number, or an XString, which is a custom name
 unfoldable pub field : ℕ → P Field
 field end = do
-  n ← block metaFrame cut_short end
+  n ← block meta_frame cut_short end
   if eqb n 0
       then (do
-        k ← number metaFrame cut_short end
+        k ← number meta_frame cut_short end
         ret (Standard k))
       else (do
         p ← place
@@ -42,7 +42,7 @@ field end = do
 -- 0 for universal, or the number of versions
 unfoldable pub contents : ℕ → P Contents
 contents end = do
-  n ← number metaFrame cut_short end
+  n ← number meta_frame cut_short end
   if eqb n 0 then ret Universal else ret (Versions n)
 
 unfoldable pub item_frame : ℕ → P MetaItem
@@ -72,7 +72,7 @@ row_of l version declared format place size = record {
   item = l.item;
   kind = kind_of l.field;
   field = field_of l.field;
-  nameLength = name_length_of l.field;
+  name_length = name_length_of l.field;
   version = version;
   declared = declared;
   format = format;
@@ -91,10 +91,10 @@ module _ (x : Context) (l : Label) (end : ℕ) where
   universal m = do
     p ← place
     check (ltb m.items x.limits.items) no_row_left p
-    n ← block metaFrame cut_short end
+    n ← block meta_frame cut_short end
     check (ltb 0 n) bad_contents p
     q ← place
-    format ← number metaFrame cut_short (q + n)
+    format ← number meta_frame cut_short (q + n)
     r ← place
     skip (item_row (row_of l 0 0 format r (q + n - r))) (q + n - r)
     ret (plus_item m)
@@ -104,9 +104,9 @@ module _ (x : Context) (l : Label) (end : ℕ) where
   version before m = do
     p ← place
     check (ltb m.items x.limits.items) no_row_left p
-    t ← number metaFrame cut_short end
+    t ← number meta_frame cut_short end
     format ← declared_format p (format_of x.types t)
-    n ← block metaFrame cut_short end
+    n ← block meta_frame cut_short end
     q ← place
     skip (item_row (row_of l (m.items + 1 - before) t format q n)) n
     ret (plus_item m)
@@ -141,6 +141,6 @@ meta_items x node end m = do
 -- the length is a field of the node's header, which ends at `end`
 unfoldable pub metadata : Context → (node end : ℕ) → Made → P Made
 metadata x node end m = do
-  n ← block metaFrame bad_node end
+  n ← block meta_frame bad_node end
   q ← place
   meta_items x node (q + n) m

@@ -2,7 +2,7 @@
 -- Assumes nothing.
 use Rattle.std.specs.Prelude.{◌≡◌, List, ℕ, ◌+◌, ◌*◌, ◌≤◌, length}
 use Rattle.machine.specs.Machine.{Out, ok, refused, run, exec}
-use Rattle.cursor.specs.Rows.{P, metaFrame}
+use Rattle.cursor.specs.Rows.{P, meta_frame}
 use Rattle.cursor.specs.Refusals.{cut_short}
 use Rattle.cursor.specs.Leaves.{block}
 use Rattle.cursor.specs.Leaves as leaves
@@ -64,8 +64,8 @@ pub record Reads (f : List ℕ) (end at : ℕ) (is : MetaItem) (size format : �
   pub frame : run (item_frame end) f at ≡ ok is (at + 3)
   pub universal : is.contents ≡ Universal
   pub some : (size ≡ 0) → ⊥
-  pub covers : run (block metaFrame cut_short end) f (at + 3) ≡ ok size (at + 4)
-  pub coded : run (leaves.number metaFrame cut_short (at + 4 + size)) f (at + 4) ≡ ok format (at + 5)
+  pub covers : run (block meta_frame cut_short end) f (at + 3) ≡ ok size (at + 4)
+  pub coded : run (leaves.number meta_frame cut_short (at + 4 + size)) f (at + 4) ≡ ok format (at + 5)
 
 abbrev pub CommonTold : Common → List ℕ → (end at : ℕ) → Type 0
 CommonTold (common.Is is size format) f end at = Reads f end at is size format

@@ -29,7 +29,7 @@ pub struct Made {
 pub struct Scope {
     pub limits: Limits,
     pub types: usize,
-    pub headerEnd: FilePlace,
+    pub header_end: FilePlace,
 }
 
 // An item's field: a standard number, or where its custom name stands and how long that is.
@@ -170,7 +170,7 @@ fn row_of(
         item: l.item as u64,
         kind: 0,
         field: 0,
-        nameLength: 0,
+        name_length: 0,
         version: version as u64,
         declared,
         format,
@@ -185,7 +185,7 @@ fn row_of(
         Field::Name(at, n) => {
             row.kind = 1;
             row.field = at.0 as u64;
-            row.nameLength = n;
+            row.name_length = n;
             row
         }
     }

@@ -10,7 +10,7 @@ use lib.Dec.{ltb, eqb}
 use lib.ListN.{length, get_or, drop}
 use borrow.Author.Tests.{le-ltb}
 use Rattle.machine.specs.Machine.{Out}
-use Rattle.cursor.specs.Rows.{metaFrame}
+use Rattle.cursor.specs.Rows.{meta_frame}
 use Rattle.cursor.specs.declared.Node.{Node}
 use Rattle.cursor.specs.declared.Item.{Item}
 use Rattle.cursor.proofs.Leaves.{number_same}
@@ -75,11 +75,11 @@ module _ (f g : List ℕ) where
     | yes l ↦ (
         ap₂ (λ (x : ℕ) (o : Out ℕ). cond (is_binary r && (ltb 0 r.size && eqb x 0)) (role_of_number (r.place + r.size) o) role.Other)
         (h r.place (omega arith) (omega arith))
-        (number_same f g metaFrame 3 (r.place + r.size) (r.place + 1) (λ k lo hi. h k (omega arith) hi))
+        (number_same f g meta_frame 3 (r.place + r.size) (r.place + 1) (λ k lo hi. h k (omega arith) hi))
         )
     | no n ↦ simp (le-ltb 0 r.size (omega arith))
         (ap (λ (o : Out ℕ). cond (is_binary r && false) (role_of_number (r.place + r.size) o) role.Other)
-        (number_same f g metaFrame 3 (r.place + r.size) (r.place + 1) (λ k lo hi. absurd (omega arith))))
+        (number_same f g meta_frame 3 (r.place + r.size) (r.place + 1) (λ k lo hi. absurd (omega arith))))
   ]
 
   rows_same : (rs : List Item) → Each Same rs → role_of_rows f rs ≡ role_of_rows g rs

@@ -10,7 +10,7 @@ use lib.Dec.{ltb}
 use lib.ListN.{length, get_or, drop, drop_of_length-le}
 use borrow.Author.Tests.{eq-eqb, ne_eqb, lt-ltb, le-ltb}
 use Rattle.machine.specs.Machine.{ok, refused, run}
-use Rattle.cursor.specs.Rows.{metaFrame}
+use Rattle.cursor.specs.Rows.{meta_frame}
 use Rattle.cursor.specs.Leaves.{number}
 use Rattle.cursor.specs.declared.Node.{Node}
 use Rattle.cursor.specs.declared.Item.{Item}
@@ -49,11 +49,11 @@ module _ (f : List ℕ) (r : Item) where
   unfolding role_of_row
   row_first e = simp (ne_eqb _ _ e, and_no)
 
-  pub row_cut : {k p : ℕ} → run (number metaFrame 3 (r.place + r.size)) f (r.place + 1) ≡ refused k p → role.Other ≡ role_of_row f r
+  pub row_cut : {k p : ℕ} → run (number meta_frame 3 (r.place + r.size)) f (r.place + 1) ≡ refused k p → role.Other ≡ role_of_row f r
   unfolding role_of_row role_of_number
   row_cut e = simp (e, either_other)
 
-  module _ {v q : ℕ} (e : run (number metaFrame 3 (r.place + r.size)) f (r.place + 1) ≡ ok v q) where
+  module _ {v q : ℕ} (e : run (number meta_frame 3 (r.place + r.size)) f (r.place + 1) ≡ ok v q) where
     pub row-left : ((q ≡ r.place + r.size) → ⊥) → role.Other ≡ role_of_row f r
     unfolding role_of_row role_of_number
     row-left k = simp (e, ne_eqb _ _ k, either_other)

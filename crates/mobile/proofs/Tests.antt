@@ -98,7 +98,7 @@ module _ (r : Item) where
   unfolding field_size
   size-standard e = simp (eq-eqb _ _ e)
 
-  pub size-custom : ((r.kind ≡ 0) → ⊥) → r.nameLength ≡ field_size r
+  pub size-custom : ((r.kind ≡ 0) → ⊥) → r.name_length ≡ field_size r
   unfolding field_size
   size-custom e = simp (ne_eqb _ _ e)
 

@@ -2,7 +2,7 @@
 -- A node's own item rows are those of file/specs/Own.antt, a readable field 13 is that of description/specs/Count.antt. Assumes nothing.
 use Rattle.std.specs.Prelude.{Bool, true, false, cond, not, ◌&&◌, ◌||◌, List, [], ◌∷◌, ℕ, ◌+◌, ltb, leb, eqb, length, get_or, drop}
 use Rattle.machine.specs.Machine.{Out, ok, refused, run}
-use Rattle.cursor.specs.Rows.{metaFrame}
+use Rattle.cursor.specs.Rows.{meta_frame}
 use Rattle.cursor.specs.Refusals.{cut_short}
 use Rattle.cursor.specs.Leaves.{number}
 use Rattle.cursor.specs.declared.Node.{Node}
@@ -39,7 +39,7 @@ role_of_number end (refused n p) = role.Other
 -- by a row of field 3: universal, format 6 or 7, data 00 and then one number that fills the rest
 unfoldable pub role_of_row : List ℕ → Item → Role
 role_of_row f r =
-    cond (is_binary r && (ltb 0 r.size && eqb (get_or f r.place 0) 0)) (role_of_number (r.place + r.size) (run (number metaFrame cut_short (r.place + r.size)) f (r.place + 1))) role.Other
+    cond (is_binary r && (ltb 0 r.size && eqb (get_or f r.place 0) 0)) (role_of_number (r.place + r.size) (run (number meta_frame cut_short (r.place + r.size)) f (r.place + 1))) role.Other
 
 -- by the rows of field 3: there has to be one
 unfoldable pub role_of_rows : List ℕ → List Item → Role
@@ -126,7 +126,7 @@ unfoldable pub is_short : Node → Bool
 is_short r = leb r.header 65535
 
 unfoldable pub field_size : Item → ℕ
-field_size r = cond (eqb r.kind 0) r.field r.nameLength
+field_size r = cond (eqb r.kind 0) r.field r.name_length
 
 unfoldable pub is_small : Item → Bool
 is_small r = leb (field_size r) 256

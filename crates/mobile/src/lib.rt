@@ -113,7 +113,7 @@ fn no_unpackers(nodes: &[u64], many: usize) -> bool
     let mut i = 0;
     while i < many {
         let row = rows::node_at(nodes, i);
-        if row.unpackerCount != 0 {
+        if row.unpacker_count != 0 {
             return false;
         }
         i = i + 1;
@@ -348,7 +348,7 @@ fn field_size(row: Item) -> u64
     if row.kind == 0 {
         return row.field;
     }
-    row.nameLength
+    row.name_length
 }
 
 // Whether every field number and name length is at most 256.

@@ -8,7 +8,7 @@ use native.Mathlib.Omega.{arith}
 use lib.ListN.{length, length-append, replicate}
 use borrow.Author.Tests.{le-leb, lt-leb, eq-eqb, ne_eqb}
 use Rattle.machine.specs.Machine.{Out, ok, refused, run}
-use Rattle.cursor.specs.Rows.{metaFrame}
+use Rattle.cursor.specs.Rows.{meta_frame}
 use Rattle.cursor.specs.Leaves.{number}
 use Rattle.machine.proofs.Laws.{running, and_then}
 use Rattle.cursor.specs.declared.FilePlace.{FilePlace}
@@ -53,9 +53,9 @@ none-behind : (o : Out (List ℕ)) → behind [] o ≡ o
 none-behind (ok vs q) = refl
 none-behind (refused n p) = refl
 
-run-numbers : (f : List ℕ) (end n at : ℕ) → run (numbers (suc n) end) f at ≡ and_then (run (number metaFrame 3 end) f at) (λ v q. behind (v ∷ []) (run (numbers n end) f q))
+run-numbers : (f : List ℕ) (end n at : ℕ) → run (numbers (suc n) end) f at ≡ and_then (run (number meta_frame 3 end) f at) (λ v q. behind (v ∷ []) (run (numbers n end) f q))
 unfolding numbers
-run-numbers f end n at = simp running (by (run (number metaFrame 3 end) f at))
+run-numbers f end n at = simp running (by (run (number meta_frame 3 end) f at))
   where
     rest : (v : ℕ) (o : Out (List ℕ)) → and_then o (λ vs p. ok (v ∷ vs) p) ≡ behind (v ∷ []) o
     rest v (ok vs q) = refl
@@ -99,18 +99,18 @@ listing_begun f end count from row resources o to l = let e : count - 0 ≡ coun
 module _ {f : List ℕ} {end from : ℕ} (channels resources row : ℕ) {o : List ℕ} {to : ℕ} where
   module _ {o' : List ℕ} {next i at : ℕ} (g : Listing f end (channels * resources) from row resources o o' to next i at) where
     module _ (l : i < channels * resources) where
-      first : run (numbers (channels * resources - i) end) f at ≡ and_then (run (number metaFrame 3 end) f at)
+      first : run (numbers (channels * resources - i) end) f at ≡ and_then (run (number meta_frame 3 end) f at)
           (λ v q. behind (v ∷ []) (run (numbers (channels * resources - (i + 1)) end) f q))
       first = let e : channels * resources - i ≡ suc (channels * resources - (i + 1)) = omega arith in rw e (run-numbers f end (channels * resources - (i + 1)) at)
 
-      pub listing_cut : {n p : ℕ} → run (number metaFrame 3 end) f at ≡ refused n p → needs_in row (run (table channels resources end) f from) ≡ bad 25 p
+      pub listing_cut : {n p : ℕ} → run (number meta_frame 3 end) f at ≡ refused n p → needs_in row (run (table channels resources end) f from) ≡ bad 25 p
       unfolding table needs_in
       listing_cut {n} {p} e =
           let w : run (numbers (channels * resources - i) end) f at ≡ refused n p = first ∙ rw e refl in
           let x : run (numbers (channels * resources) end) f from ≡ refused n p = g.same ∙ rw w refl in
           simp (running, x)
 
-      pub listing_on : {v q : ℕ} → run (number metaFrame 3 end) f at ≡ ok v q → {o'' : List ℕ} {r : ℕ} → Counts o' o'' next (count_line row (i / resources) (i % resources) v) r
+      pub listing_on : {v q : ℕ} → run (number meta_frame 3 end) f at ≡ ok v q → {o'' : List ℕ} {r : ℕ} → Counts o' o'' next (count_line row (i / resources) (i % resources) v) r
           → Listing f end (channels * resources) from row resources o o'' to r (i + 1) q
       listing_on {v} {q} e p =
           let w : run (numbers (channels * resources - i) end) f at ≡ behind (v ∷ []) (run (numbers (channels * resources - (i + 1)) end) f q) = first ∙ rw e refl in
@@ -146,21 +146,21 @@ module _ (end : ℕ) (f : List ℕ) (at row : ℕ) where
   abbrev Whole : Result (List ℕ) → Type 0
   Whole a = needs_in row (run (description end) f at) ≡ a
 
-  pub whole-message : {n p : ℕ} → run (number metaFrame 3 end) f at ≡ refused n p → Whole (bad 25 p)
+  pub whole-message : {n p : ℕ} → run (number meta_frame 3 end) f at ≡ refused n p → Whole (bad 25 p)
   unfolding description needs_in
   whole-message e = simp (running, e)
 
-  module _ {message q : ℕ} (e₁ : run (number metaFrame 3 end) f at ≡ ok message q) where
-    pub whole-channels : {n p : ℕ} → run (number metaFrame 3 end) f q ≡ refused n p → Whole (bad 25 p)
+  module _ {message q : ℕ} (e₁ : run (number meta_frame 3 end) f at ≡ ok message q) where
+    pub whole-channels : {n p : ℕ} → run (number meta_frame 3 end) f q ≡ refused n p → Whole (bad 25 p)
     unfolding description needs_in
     whole-channels e = simp (running, e₁, e)
 
-    module _ {channels r : ℕ} (e₂ : run (number metaFrame 3 end) f q ≡ ok channels r) where
-      pub whole-resources : {n p : ℕ} → run (number metaFrame 3 end) f r ≡ refused n p → Whole (bad 25 p)
+    module _ {channels r : ℕ} (e₂ : run (number meta_frame 3 end) f q ≡ ok channels r) where
+      pub whole-resources : {n p : ℕ} → run (number meta_frame 3 end) f r ≡ refused n p → Whole (bad 25 p)
       unfolding description needs_in
       whole-resources e = simp (running, e₁, e₂, e)
 
-      module _ {resources s : ℕ} (e₃ : run (number metaFrame 3 end) f r ≡ ok resources s) where
+      module _ {resources s : ℕ} (e₃ : run (number meta_frame 3 end) f r ≡ ok resources s) where
         pub whole-lists : {n p : ℕ} → run (lists resources end) f s ≡ refused n p → Whole (bad 25 p)
         unfolding description needs_in
         whole-lists e = simp (running, e₁, e₂, e₃, e)

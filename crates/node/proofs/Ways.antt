@@ -1,7 +1,7 @@
 -- The ways through a node up to its contents: what each exit of the code comes to.
 -- Assumes nothing.
 use mathlib.Core.Path.{◌≡◌, refl, sym, ap, ◌∙◌, subst}
-use mathlib.Core.Bool.{Bool, true, false, not, ◌||◌, or_true}
+use mathlib.Core.Bool.{Bool, true, false, not, ◌||◌, or-true}
 use lib.Dec.{eqb}
 use mathlib.Core.List.{List}
 use Prim.Native.Nat.{ℕ, zero, ◌+◌, ◌-◌, ◌≤◌, ◌<◌}
@@ -9,7 +9,7 @@ use native.Mathlib.Omega.{arith}
 use native.Mathlib.Decide.{ℕ_discrete}
 use borrow.Author.Tests.{lt-ltb, le-ltb, le-leb, lt-leb, eq-eqb, ne_eqb, eqb-true, not-false, not-true}
 use Rattle.machine.specs.Machine.{Out, ok, refused, run, exec, turns, many}
-use Rattle.cursor.specs.Rows.{nodeFrame, unpackFrame, referenceFrame}
+use Rattle.cursor.specs.Rows.{node_frame, unpack_frame, reference_frame}
 use Rattle.cursor.specs.Leaves.{number, block, manufacturer, guid}
 use Rattle.cursor.specs.Told.{ByteTold, pass_told}
 use Rattle.cursor.specs.declared.Byte.{Byte}
@@ -41,11 +41,11 @@ use Rattle.node.proofs.Ends.{unpacker-on}
 -- ---- the three numbers
 
 module _ (p size contained : ℕ) (s : List ℕ) (at : ℕ) {stop : ℕ} (is : stop ≡ p + size) where
-  pub header-cut : {n r : ℕ} → run (number nodeFrame 3 stop) s at ≡ refused n r → refused n r ≡ run (header_length p size contained) s at
+  pub header-cut : {n r : ℕ} → run (number node_frame 3 stop) s at ≡ refused n r → refused n r ≡ run (header_length p size contained) s at
   unfolding header_length
   header-cut e = let e' = rw is at e in simp (running, e')
 
-  module _ {header q : ℕ} (e₁ : run (number nodeFrame 3 stop) s at ≡ ok header q) where
+  module _ {header q : ℕ} (e₁ : run (number node_frame 3 stop) s at ≡ ok header q) where
     pub header-past : size < header → refused 8 at ≡ run (header_length p size contained) s at
     unfolding header_length
     header-past l = let e₁' = rw is at e₁ in simp (running, e₁', lt-leb _ _ l)
@@ -61,11 +61,11 @@ module _ (p size contained : ℕ) (s : List ℕ) (at : ℕ) {stop : ℕ} (is : s
       header-all l = let e₁' = rw is at e₁ in simp (running, e₁', le-leb _ _ l₁, le-leb _ _ l)
 
 module _ (z : Bounds) (s : List ℕ) (at : ℕ) where
-  pub head-size : {n p : ℕ} → run (number nodeFrame 3 z.end.0) s at ≡ refused n p → refused n p ≡ run (head z) s at
+  pub head-size : {n p : ℕ} → run (number node_frame 3 z.end.0) s at ≡ refused n p → refused n p ≡ run (head z) s at
   unfolding head
   head-size e = simp (running, e)
 
-  module _ {size p : ℕ} (e₁ : run (number nodeFrame 3 z.end.0) s at ≡ ok size p) {stop : ℕ} (is : stop ≡ at + size) where
+  module _ {size p : ℕ} (e₁ : run (number node_frame 3 z.end.0) s at ≡ ok size p) {stop : ℕ} (is : stop ≡ at + size) where
     pub head-past : z.end.0 < stop → refused 8 at ≡ run (head z) s at
     unfolding head
     head-past l = let l' = rw is at l in simp (running, e₁, lt-leb _ _ l')
@@ -81,12 +81,12 @@ module _ (z : Bounds) (s : List ℕ) (at : ℕ) where
         head_meets l = let l₁' = rw is at l₁ in let l₂' = rw is at l₂ in let l' = rw is at l in simp (running, e₁, le-leb _ _ l₁', le-leb _ _ l₂', lt-leb _ _ l')
 
         module _ (l₃ : stop ≤ z.taken.0) where
-          pub head-contained : {n q : ℕ} → run (number nodeFrame 3 stop) s p ≡ refused n q → refused n q ≡ run (head z) s at
+          pub head-contained : {n q : ℕ} → run (number node_frame 3 stop) s p ≡ refused n q → refused n q ≡ run (head z) s at
           unfolding head
           head-contained e = let l₁' = rw is at l₁ in let l₂' = rw is at l₂ in let l₃' = rw is at l₃ in let e' = rw is at e in simp
               (running, e₁, le-leb _ _ l₁', le-leb _ _ l₂', le-leb _ _ l₃', e')
 
-          module _ {contained q : ℕ} (e₂ : run (number nodeFrame 3 stop) s p ≡ ok contained q) where
+          module _ {contained q : ℕ} (e₂ : run (number node_frame 3 stop) s p ≡ ok contained q) where
             pub head-folder : true ≡ not (eqb contained 0 || eqb z.detached 0) → refused 24 z.offset.0 ≡ run (head z) s at
             unfolding head
             head-folder b =
@@ -104,25 +104,25 @@ module _ (z : Bounds) (s : List ℕ) (at : ℕ) where
 -- ---- unpackers
 
 module _ (end : ℕ) (s : List ℕ) (at : ℕ) where
-  pub value-cut : {n p : ℕ} → run (number unpackFrame 3 end) s at ≡ refused n p → refused n p ≡ run (value end) s at
+  pub value-cut : {n p : ℕ} → run (number unpack_frame 3 end) s at ≡ refused n p → refused n p ≡ run (value end) s at
   unfolding value
   value-cut e = simp (running, e)
 
-  pub value-all : {v q : ℕ} → run (number unpackFrame 3 end) s at ≡ ok v q → ok tt q ≡ run (value end) s at
+  pub value-all : {v q : ℕ} → run (number unpack_frame 3 end) s at ≡ ok v q → ok tt q ≡ run (value end) s at
   unfolding value
   value-all e = simp (running, e)
 
 module _ (kind end : ℕ) (s : List ℕ) (at : ℕ) where
-  pub identifier-guid : kind ≡ 3 → {o : Out (Unit {0})} → o ≡ run (guid unpackFrame end) s at → o ≡ run (identifier kind end) s at
+  pub identifier-guid : kind ≡ 3 → {o : Out (Unit {0})} → o ≡ run (guid unpack_frame end) s at → o ≡ run (identifier kind end) s at
   unfolding identifier
   identifier-guid k h = h ∙ simp (running, eq-eqb _ _ k)
 
   module _ (n₁ : (kind ≡ 3) → ⊥) where
-    pub identifier-cut : kind ≡ 1 → {n p : ℕ} → run (manufacturer unpackFrame end) s at ≡ refused n p → refused n p ≡ run (identifier kind end) s at
+    pub identifier-cut : kind ≡ 1 → {n p : ℕ} → run (manufacturer unpack_frame end) s at ≡ refused n p → refused n p ≡ run (identifier kind end) s at
     unfolding identifier
     identifier-cut k e = simp (running, ne_eqb _ _ n₁, eq-eqb _ _ k, e)
 
-    pub identifier-two : kind ≡ 1 → {q : ℕ} → run (manufacturer unpackFrame end) s at ≡ ok tt q → {o : Out (Unit {0})} → o ≡ run (value end) s
+    pub identifier-two : kind ≡ 1 → {q : ℕ} → run (manufacturer unpack_frame end) s at ≡ ok tt q → {o : Out (Unit {0})} → o ≡ run (value end) s
         q → o ≡ run (identifier kind end) s at
     unfolding identifier
     identifier-two k e h = h ∙ simp (running, ne_eqb _ _ n₁, eq-eqb _ _ k, e)
@@ -132,11 +132,11 @@ module _ (kind end : ℕ) (s : List ℕ) (at : ℕ) where
     identifier-one n₂ h = h ∙ simp (running, ne_eqb _ _ n₁, ne_eqb _ _ n₂)
 
 module _ (end : ℕ) (s : List ℕ) (at n : ℕ) where
-  pub unpacker-cut : {k p : ℕ} → run (number unpackFrame 3 end) s at ≡ refused k p → refused k p ≡ run (unpacker end n) s at
+  pub unpacker-cut : {k p : ℕ} → run (number unpack_frame 3 end) s at ≡ refused k p → refused k p ≡ run (unpacker end n) s at
   unfolding unpacker
   unpacker-cut e = simp (running, e)
 
-  module _ {kind q : ℕ} (e₁ : run (number unpackFrame 3 end) s at ≡ ok kind q) where
+  module _ {kind q : ℕ} (e₁ : run (number unpack_frame 3 end) s at ≡ ok kind q) where
     pub unpacker-bad : 3 < kind → refused 12 at ≡ run (unpacker end n) s at
     unfolding unpacker
     unpacker-bad l = simp (running, e₁, lt-leb _ _ l)
@@ -157,9 +157,9 @@ pub unpacker-common : (end : ℕ) (s : List ℕ) (at : ℕ) {kind name size : By
 unpacker-common end s at {kind} {name} {size} b₀ b₁ b₂ l which l₁ l₂ =
     let k = numbered kind.value (sym which) in let q₁ = b₀.on in let q₂ = b₁.on in
     let q₃ : size.next.at.0 ≡ at + 3 = omega (arith, b₂.on) in
-    let e₀ = number_short unpackFrame 3 end s at (omega arith) b₀.is (omega arith) q₁ in
-    let e₁ = number_short unpackFrame 3 end s kind.next.at.0 (omega arith) b₁.is (omega arith) q₂ in
-    let e₂ = number_short unpackFrame 3 end s name.next.at.0 (omega arith) b₂.is (omega arith) b₂.on in
+    let e₀ = number_short unpack_frame 3 end s at (omega arith) b₀.is (omega arith) q₁ in
+    let e₁ = number_short unpack_frame 3 end s kind.next.at.0 (omega arith) b₁.is (omega arith) q₂ in
+    let e₂ = number_short unpack_frame 3 end s name.next.at.0 (omega arith) b₂.is (omega arith) b₂.on in
     let named = sym (identifier-one kind.value end s kind.next.at.0 (λ z. omega arith) k.1 (value-all end s kind.next.at.0 e₁)) in
     (l, λ n. sym (unpacker-size end s at n e₀ (omega arith) named (passing.To size.next) (value-all end s name.next.at.0 e₂)) ∙ ap (ok (n + 1)) q₃)
   where
@@ -205,11 +205,11 @@ module _ {s : List ℕ} {end at i k : ℕ} (g : Going s end at i k) where
         record { left = g.left - 1; enough = let y = g.enough in omega arith; few = let y = g.few in omega arith; same = turn l ∙ rw x refl }
 
 module _ (contained end : ℕ) (s : List ℕ) (at : ℕ) where
-  pub unpackers-cut : {n p : ℕ} → run (block unpackFrame 8 end) s at ≡ refused n p → refused n p ≡ run (unpackers contained end) s at
+  pub unpackers-cut : {n p : ℕ} → run (block unpack_frame 8 end) s at ≡ refused n p → refused n p ≡ run (unpackers contained end) s at
   unfolding unpackers
   unpackers-cut e = simp (running, e)
 
-  module _ {n q : ℕ} (e₁ : run (block unpackFrame 8 end) s at ≡ ok n q) where
+  module _ {n q : ℕ} (e₁ : run (block unpack_frame 8 end) s at ≡ ok n q) where
     pub unpackers-folder : ((contained ≡ 0) → ⊥) → ((n ≡ 0) → ⊥) → refused 14 at ≡ run (unpackers contained end) s at
     unfolding unpackers
     unpackers-folder h k = simp (running, e₁, ne_eqb _ _ h, ne_eqb _ _ k)
@@ -220,16 +220,16 @@ module _ (contained end : ℕ) (s : List ℕ) (at : ℕ) where
 
     pub unpackers-none : n ≡ 0 → ok (record { place = record { 0 = q }; count = 0 }) q ≡ run (unpackers contained end) s at
     unfolding unpackers
-    unpackers-none z = entries-done (entries-begun s (q + n) q) (omega arith) ∙ simp (running, e₁, eq-eqb _ _ z, or_true)
+    unpackers-none z = entries-done (entries-begun s (q + n) q) (omega arith) ∙ simp (running, e₁, eq-eqb _ _ z, or-true)
 
 -- ---- references
 
 module _ (header_end size end : ℕ) (s : List ℕ) (at : ℕ) where
-  pub resource-cut : {n p : ℕ} → run (number referenceFrame 3 end) s at ≡ refused n p → refused n p ≡ run (resource header_end size end) s at
+  pub resource-cut : {n p : ℕ} → run (number reference_frame 3 end) s at ≡ refused n p → refused n p ≡ run (resource header_end size end) s at
   unfolding resource
   resource-cut e = simp (running, e)
 
-  module _ {o q : ℕ} (e₁ : run (number referenceFrame 3 end) s at ≡ ok o q) where
+  module _ {o q : ℕ} (e₁ : run (number reference_frame 3 end) s at ≡ ok o q) where
     pub resource-before : o < header_end → refused 16 at ≡ run (resource header_end size end) s at
     unfolding resource
     resource-before l = simp (running, e₁, lt-leb _ _ l)
@@ -244,19 +244,19 @@ module _ (header_end size end : ℕ) (s : List ℕ) (at : ℕ) where
       resource-all l = simp (running, e₁, le-leb _ _ l₁, le-leb _ _ l)
 
 module _ (end : ℕ) (s : List ℕ) (at : ℕ) where
-  pub place-cut : {n p : ℕ} → run (number referenceFrame 3 end) s at ≡ refused n p → refused n p ≡ run (node_place end) s at
+  pub place-cut : {n p : ℕ} → run (number reference_frame 3 end) s at ≡ refused n p → refused n p ≡ run (node_place end) s at
   unfolding node_place
   place-cut e = simp (running, e)
 
-  pub place-all : {o q : ℕ} → run (number referenceFrame 3 end) s at ≡ ok o q → ok (record { kind = 3; target = o; extent = 0 }) q ≡ run (node_place end) s at
+  pub place-all : {o q : ℕ} → run (number reference_frame 3 end) s at ≡ ok o q → ok (record { kind = 3; target = o; extent = 0 }) q ≡ run (node_place end) s at
   unfolding node_place
   place-all e = simp (running, e)
 
-  pub uri_cut : {n p : ℕ} → run (block referenceFrame 3 end) s at ≡ refused n p → refused n p ≡ run (uri_place end) s at
+  pub uri_cut : {n p : ℕ} → run (block reference_frame 3 end) s at ≡ refused n p → refused n p ≡ run (uri_place end) s at
   unfolding uri_place
   uri_cut e = simp (running, e)
 
-  pub uri_all : {n q : ℕ} → run (block referenceFrame 3 end) s at ≡ ok n q → {r : ℕ} → r ≡ q + n → ok (record { kind = 4; target = q; extent = n }) r ≡ run (uri_place end) s at
+  pub uri_all : {n q : ℕ} → run (block reference_frame 3 end) s at ≡ ok n q → {r : ℕ} → r ≡ q + n → ok (record { kind = 4; target = q; extent = n }) r ≡ run (uri_place end) s at
   unfolding uri_place
   uri_all e h = rw h (simp (running, e))
 
@@ -280,16 +280,16 @@ module _ (header_end size r end : ℕ) (s : List ℕ) (at : ℕ) where
       target-uri n₃ h = h ∙ simp (running, ne_eqb _ _ n₁, ne_eqb _ _ n₂, ne_eqb _ _ n₃)
 
 module _ (header_end size contained end : ℕ) (s : List ℕ) (at : ℕ) where
-  pub reference-cut : {n p : ℕ} → run (number referenceFrame 3 end) s at ≡ refused n p → refused n p ≡ run (reference header_end size contained end) s at
+  pub reference-cut : {n p : ℕ} → run (number reference_frame 3 end) s at ≡ refused n p → refused n p ≡ run (reference header_end size contained end) s at
   unfolding reference
   reference-cut e = simp (running, e)
 
-  module _ {r q : ℕ} (e₁ : run (number referenceFrame 3 end) s at ≡ ok r q) where
+  module _ {r q : ℕ} (e₁ : run (number reference_frame 3 end) s at ≡ ok r q) where
     pub reference-inline : r ≡ 1 → ok (record { kind = r; target = q; extent = end - q }) q ≡ run (reference header_end size contained end) s at
     unfolding reference
     reference-inline z =
         let l₁ : 0 < r = omega arith in let l₂ : r ≤ 4 = omega arith in
-        target-inline header_end size r end s q z ∙ simp (running, e₁, lt-ltb _ _ l₁, le-leb _ _ l₂, eq-eqb _ _ z, or_true)
+        target-inline header_end size r end s q z ∙ simp (running, e₁, lt-ltb _ _ l₁, le-leb _ _ l₂, eq-eqb _ _ z, or-true)
 
     pub reference-zero : r ≡ 0 → refused 13 at ≡ run (reference header_end size contained end) s at
     unfolding reference

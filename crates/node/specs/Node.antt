@@ -2,7 +2,7 @@
 -- Assumes nothing.
 use Rattle.std.specs.Prelude.{◌||◌, ℕ, ◌+◌, ◌-◌, ltb, leb, eqb}
 use Rattle.machine.specs.Machine.{ret, ◌>>=◌, ◌>>◌, if◌then◌else◌, place, skip, check, many}
-use Rattle.cursor.specs.Rows.{P, nodeFrame, unpackFrame, referenceFrame, plain, uri}
+use Rattle.cursor.specs.Rows.{P, node_frame, unpack_frame, reference_frame, plain, uri}
 use Rattle.cursor.specs.Refusals.{cut_short, bad_node, bad_unpacker, bad_reference, bad_folder, bytes_left, bad_target, bad_detached}
 use Rattle.cursor.specs.Leaves.{number, block, manufacturer, guid}
 use Rattle.cursor.specs.declared.Node.{Node}
@@ -20,7 +20,7 @@ use Rattle.node.specs.declared.Front.{Front}
 unfoldable pub header_length : (p size contained : ℕ) → P Head
 header_length p size contained = do
   h ← place
-  header ← number nodeFrame cut_short (p + size)
+  header ← number node_frame cut_short (p + size)
   q ← place
   check (leb header size) bad_node h
   check (leb q (p + header)) bad_node h
@@ -31,11 +31,11 @@ header_length p size contained = do
 unfoldable pub head : Bounds → P Head
 head s = do
   p ← place
-  size ← number nodeFrame cut_short s.end.0
+  size ← number node_frame cut_short s.end.0
   check (leb (p + size) s.end.0) bad_node p
   check (leb s.least.0 (p + size)) bad_node p
   check (leb (p + size) s.taken.0) bad_detached s.offset.0
-  contained ← number nodeFrame cut_short (p + size)
+  contained ← number node_frame cut_short (p + size)
   check (eqb contained 0 || eqb s.detached 0) bad_detached s.offset.0
   header_length p size contained
 
@@ -51,16 +51,16 @@ outside_tree end taken offset = record { least = record { 0 = 0 }; end = record 
 -- a VLQ whose value is not kept
 unfoldable pub value : ℕ → P (Unit {0})
 value end = do
-  v ← number unpackFrame cut_short end
+  v ← number unpack_frame cut_short end
   ret tt
 
 -- what names an unpacker, by its kind: 0 and 2 a VLQ, 1 a manufacturer and a VLQ, 3 a GUID
 unfoldable pub identifier : (kind end : ℕ) → P (Unit {0})
 identifier kind end =
-    if eqb kind 3 then guid unpackFrame end
+    if eqb kind 3 then guid unpack_frame end
     else if eqb kind 1
     then (do
-      m ← manufacturer unpackFrame end
+      m ← manufacturer unpack_frame end
       value end)
     else value end
 
@@ -68,7 +68,7 @@ identifier kind end =
 unfoldable pub unpacker : (end n : ℕ) → P ℕ
 unpacker end n = do
   p ← place
-  kind ← number unpackFrame cut_short end
+  kind ← number unpack_frame cut_short end
   check (leb kind 3) bad_unpacker p
   i ← identifier kind end
   size ← value end
@@ -85,7 +85,7 @@ entries end = do
 unfoldable pub unpackers : (contained end : ℕ) → P Unpackers
 unpackers contained end = do
   p ← place
-  n ← block unpackFrame bad_node end
+  n ← block unpack_frame bad_node end
   check (eqb contained 0 || eqb n 0) bad_folder p
   q ← place
   entries (q + n)
@@ -96,7 +96,7 @@ unpackers contained end = do
 unfoldable pub resource : (header_end size end : ℕ) → P Reference
 resource header_end size end = do
   q ← place
-  o ← number referenceFrame cut_short end
+  o ← number reference_frame cut_short end
   check (leb header_end o) bad_target q
   check (leb o size) bad_target q
   ret (record { kind = 2; target = o; extent = size - o })
@@ -104,13 +104,13 @@ resource header_end size end = do
 -- 3: the place of a node's first byte
 unfoldable pub node_place : ℕ → P Reference
 node_place end = do
-  o ← number referenceFrame cut_short end
+  o ← number reference_frame cut_short end
   ret (record { kind = 3; target = o; extent = 0 })
 
 -- 4: an XString with a URI
 unfoldable pub uri_place : ℕ → P Reference
 uri_place end = do
-  n ← block referenceFrame cut_short end
+  n ← block reference_frame cut_short end
   q ← place
   skip (plain uri) n
   ret (record { kind = 4; target = q; extent = n })
@@ -128,7 +128,7 @@ target header_end size r end =
 unfoldable pub reference : (header_end size contained end : ℕ) → P Reference
 reference header_end size contained end = do
   p ← place
-  r ← number referenceFrame cut_short end
+  r ← number reference_frame cut_short end
   check (ltb 0 r) bad_reference p
   check (leb r 4) bad_reference p
   check (eqb contained 0 || eqb r 1) bad_folder p

@@ -304,7 +304,7 @@ fn read_unpackers(c: Cursor, file: &[u8], contained: u64, end: FilePlace) -> Unp
 }
 
 // Reference 2: a place of the file at or after the header's end; its extent runs to the file's end.
-fn read_resource(c: Cursor, file: &[u8], headerEnd: FilePlace, end: FilePlace) -> ReferenceResult
+fn read_resource(c: Cursor, file: &[u8], header_end: FilePlace, end: FilePlace) -> ReferenceResult
     requires { end.0 ≤ length file.now }
     ensures { reference_told result ≡ run (resource header_end.0 (length file.now) end.0) file.now c.at.0 }
 {
@@ -313,7 +313,7 @@ fn read_resource(c: Cursor, file: &[u8], headerEnd: FilePlace, end: FilePlace) -
         Numbered::Refused(n, p) => ReferenceResult::Refused(n, p),
         Numbered::Is(offset, d) => {
             let size = file.len();
-            if (offset as usize) < headerEnd.0 {
+            if (offset as usize) < header_end.0 {
                 return ReferenceResult::Refused(cursor::BAD_TARGET, place);
             }
             if size < offset as usize {
@@ -370,7 +370,7 @@ fn read_uri(c: Cursor, file: &[u8], end: FilePlace) -> ReferenceResult
 fn read_target(
     c: Cursor,
     file: &[u8],
-    headerEnd: FilePlace,
+    header_end: FilePlace,
     kind: u64,
     end: FilePlace,
 ) -> ReferenceResult
@@ -378,7 +378,7 @@ fn read_target(
     ensures { reference_told result ≡ run (target header_end.0 (length file.now) kind end.0) file.now c.at.0 }
 {
     if kind == 2 {
-        return read_resource(c, file, headerEnd, end);
+        return read_resource(c, file, header_end, end);
     }
     if kind == 3 {
         return read_node_place(c, file, end);
@@ -390,7 +390,7 @@ fn read_target(
 fn read_reference(
     c: Cursor,
     file: &[u8],
-    headerEnd: FilePlace,
+    header_end: FilePlace,
     contained: u64,
     end: FilePlace,
 ) -> ReferenceResult
@@ -421,7 +421,7 @@ fn read_reference(
             if contained != 0 {
                 return ReferenceResult::Refused(cursor::BAD_FOLDER, place);
             }
-            read_target(d, file, headerEnd, kind, end)
+            read_target(d, file, header_end, kind, end)
         }
     }
 }
@@ -430,7 +430,7 @@ fn read_reference(
 fn read_rest(
     c: Cursor,
     file: &[u8],
-    headerEnd: FilePlace,
+    header_end: FilePlace,
     contained: u64,
     inner: FilePlace,
     stop: FilePlace,
@@ -445,7 +445,7 @@ fn read_rest(
             if place.0 < inner.0 {
                 return RestResult::Refused(cursor::BYTES_LEFT, place);
             }
-            match read_reference(d, file, headerEnd, contained, stop) {
+            match read_reference(d, file, header_end, contained, stop) {
                 ReferenceResult::Refused(n, p) => RestResult::Refused(n, p),
                 ReferenceResult::Is(r, e) => RestResult::Is(u, r, e),
             }
@@ -480,7 +480,7 @@ fn row_of(
         target: r.target,
         extent: r.extent,
         unpackers: place.0 as u64,
-        unpackerCount: u.count as u64,
+        unpacker_count: u.count as u64,
         rows: rows as u64,
         detached,
     }
@@ -512,8 +512,8 @@ pub fn read_front(
                 RowsResult::Refused(n, p) => FrontResult::Refused(n, p),
                 RowsResult::Done(rows, e) => {
                     let stop = start.of(h.size);
-                    let headerEnd = scope.headerEnd;
-                    match read_rest(e, file, headerEnd, h.contained, inner, stop) {
+                    let header_end = scope.header_end;
+                    match read_rest(e, file, header_end, h.contained, inner, stop) {
                         RestResult::Refused(n, p) => FrontResult::Refused(n, p),
                         RestResult::Is(u, r, g) => {
                             let row = row_of(

@@ -290,7 +290,7 @@ module _ (ls : Sizes) (f g : List ℕ) (h : Header) (ns : List Node) (is : List 
   reads_same = alike.same-reading
 
   -- the files agree on custom names, and on data that may not differ
-  name-alike : (i : ℕ) → i < length is → (item_at is i).kind ≡ 1 → Agree f g (item_at is i).field (item_at is i).nameLength
+  name-alike : (i : ℕ) → i < length is → (item_at is i).kind ≡ 1 → Agree f g (item_at is i).field (item_at is i).name_length
   name-alike i m e = named (item_at is i) (row i m).0 e
 
   data_alike : (i : ℕ) → i < length is → T (not (may_differ (item_at is i))) → Agree f g (item_at is i).place (item_at is i).size

@@ -167,9 +167,9 @@ cases : (first (0x7F ∷ []) ≡ ok 127 1)
     (record { version = 200; edition = record { type = 2; revision = 1 }; types = []; extent = record { start = 21; last = 55; end = 21 } })
     (record { start = 21; size = 35; header = 5; contained = 1; parent = 0; depth = 1; reference = 1; target = 27; extent = 29; unpackers = 26; unpacker_count = 0; rows = 0; detached = 0 }
     ∷ record { start = 27; size = 29; header = 26; contained = 0; parent = 0; depth = 2; reference = 1; target = 54; extent = 2; unpackers = 53; unpacker_count = 0; rows = 3; detached = 0 } ∷ [])
-    (record { node = 1; item = 0; kind = 1; field = 32; nameLength = 1; version = 0; declared = 0; format = 0; place = 36; size = 2 }
-    ∷ record { node = 1; item = 1; kind = 1; field = 39; nameLength = 1; version = 0; declared = 0; format = 7; place = 43; size = 2 }
-    ∷ record { node = 1; item = 2; kind = 0; field = 3; nameLength = 0; version = 0; declared = 0; format = 6; place = 50; size = 2 } ∷ []))
+    (record { node = 1; item = 0; kind = 1; field = 32; name_length = 1; version = 0; declared = 0; format = 0; place = 36; size = 2 }
+    ∷ record { node = 1; item = 1; kind = 1; field = 39; name_length = 1; version = 0; declared = 0; format = 7; place = 43; size = 2 }
+    ∷ record { node = 1; item = 2; kind = 0; field = 3; name_length = 0; version = 0; declared = 0; format = 6; place = 50; size = 2 } ∷ []))
     × (outcome promises.read_tree (28 ∷ 33 ∷ []) worked
     ≡ record {
       answer = 0 ∷ 0 ∷ 200 ∷ 2 ∷ 3 ∷ [];

@@ -133,6 +133,6 @@ items-length = words-length item_width item_words (λ r. refl)
 -- ---- rows that lie in a file
 
 -- a custom name lies in the file
-pub name_in : {size : ℕ} (r : Item) → ItemIn size r → r.kind ≡ 1 → r.field + r.nameLength ≤ size
+pub name_in : {size : ℕ} (r : Item) → ItemIn size r → r.kind ≡ 1 → r.field + r.name_length ≤ size
 name_in r (a, inl e) k = absurd (omega arith)
 name_in r (a, inr l) k = l

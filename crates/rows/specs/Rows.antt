@@ -19,7 +19,7 @@ node_words r =
     r.start ∷ r.size ∷ r.header ∷ r.contained ∷ r.parent ∷ r.depth ∷ r.reference ∷ r.target ∷ r.extent ∷ r.unpackers ∷ r.unpacker_count ∷ r.rows ∷ r.detached ∷ []
 
 abbrev pub item_words : Item → List ℕ
-item_words r = r.node ∷ r.item ∷ r.kind ∷ r.field ∷ r.nameLength ∷ r.version ∷ r.declared ∷ r.format ∷ r.place ∷ r.size ∷ []
+item_words r = r.node ∷ r.item ∷ r.kind ∷ r.field ∷ r.name_length ∷ r.version ∷ r.declared ∷ r.format ∷ r.place ∷ r.size ∷ []
 
 -- all rows as words
 abbrev pub all_rows : {A : Type 0} → (A → List ℕ) → List A → List ℕ
@@ -59,7 +59,7 @@ item_from ws k = record {
   item = get_or ws (k + 1) 0;
   kind = get_or ws (k + 2) 0;
   field = get_or ws (k + 3) 0;
-  nameLength = get_or ws (k + 4) 0;
+  name_length = get_or ws (k + 4) 0;
   version = get_or ws (k + 5) 0;
   declared = get_or ws (k + 6) 0;
   format = get_or ws (k + 7) 0;
@@ -141,7 +141,7 @@ NodeIn size r = (r.header ≤ r.size) × (r.start + r.size ≤ size) × ((r.refe
 
 -- an item's data and custom name
 abbrev pub ItemIn : ℕ → Item → Type 0
-ItemIn size r = (r.place + r.size ≤ size) × ((r.kind ≡ 0) ⊎ (r.field + r.nameLength ≤ size))
+ItemIn size r = (r.place + r.size ≤ size) × ((r.kind ≡ 0) ⊎ (r.field + r.name_length ≤ size))
 
 -- those of all items
 abbrev pub ItemsIn : ℕ → List Item → Type 0

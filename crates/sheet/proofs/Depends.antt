@@ -21,14 +21,14 @@ use Rattle.sheet.specs.Sheet.{label, text_of, item_line, visible_line, item_line
 
 -- the files agree on a row's data where its format is even, and on its custom name
 abbrev pub Shown : List ℕ → List ℕ → Item → Type 0
-Shown f g r = (r.format % 2 ≡ 0 → Agree f g r.place r.size) × (r.kind ≡ 1 → Agree f g r.field r.nameLength)
+Shown f g r = (r.format % 2 ≡ 0 → Agree f g r.place r.size) × (r.kind ≡ 1 → Agree f g r.field r.name_length)
 
 module _ (f g : List ℕ) (same : length f ≡ length g) (r : Item) (h : Shown f g r) where
   label-by : (b : Bool) → eqb r.kind 1 ≡ b
-      → cond b (tabbed (0x43 ∷ tabbed (escaped_part f r.field r.nameLength))) (tabbed (0x53 ∷ number r.field)) ≡ cond b
-      (tabbed (0x43 ∷ tabbed (escaped_part g r.field r.nameLength))) (tabbed (0x53 ∷ number r.field))
+      → cond b (tabbed (0x43 ∷ tabbed (escaped_part f r.field r.name_length))) (tabbed (0x53 ∷ number r.field)) ≡ cond b
+      (tabbed (0x43 ∷ tabbed (escaped_part g r.field r.name_length))) (tabbed (0x53 ∷ number r.field))
   unfolding escaped_part
-  label-by true e = ap (λ (t : List ℕ). tabbed (0x43 ∷ tabbed t)) (ap (bytes_all escaped) (part_same f g same r.field r.nameLength (h.1 (eqb-true r.kind 1 e))))
+  label-by true e = ap (λ (t : List ℕ). tabbed (0x43 ∷ tabbed t)) (ap (bytes_all escaped) (part_same f g same r.field r.name_length (h.1 (eqb-true r.kind 1 e))))
   label-by false e = refl
 
   label_same : label f r ≡ label g r

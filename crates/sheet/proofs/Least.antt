@@ -27,10 +27,10 @@ module _ (f : List ℕ) (h : Bytes f) (r : Item) (in_file_lem : ItemIn (length f
   unfolding item_line tabbed
   over = simp length-append (omega arith)
 
-  name-least : r.kind ≡ 1 → r.nameLength ≤ length (item_line f r)
+  name-least : r.kind ≡ 1 → r.name_length ≤ length (item_line f r)
   unfolding tabbed
   name-least e =
-      let x = escaped-least f r.field r.nameLength (name_in r in_file_lem e) in
+      let x = escaped-least f r.field r.name_length (name_in r in_file_lem e) in
       let y = ap length (label-custom f r e) in let z = over in
       omega arith
 
@@ -50,15 +50,15 @@ module _ (f : List ℕ) (h : Bytes f) (r : Item) (in_file_lem : ItemIn (length f
   unfolding least_text
   text-least = line-by (eqb r.format 2) refl
 
-  named_by : (p q : Bool) → eqb r.kind 1 ≡ p → cond (p && q) r.nameLength (least_text r) ≤ length (item_line f r)
+  named_by : (p q : Bool) → eqb r.kind 1 ≡ p → cond (p && q) r.name_length (least_text r) ≤ length (item_line f r)
   named_by true true e = name-least (eqb-true r.kind 1 e)
   named_by true false e = text-least
   named_by false q e = text-least
 
   visible-by : (p : Bool)
-      → cond p 0 (cond (eqb r.kind 1 && ltb r.size r.nameLength) r.nameLength (least_text r)) ≤ length (cond p [] (item_line f r))
+      → cond p 0 (cond (eqb r.kind 1 && ltb r.size r.name_length) r.name_length (least_text r)) ≤ length (cond p [] (item_line f r))
   visible-by true = omega arith
-  visible-by false = named_by (eqb r.kind 1) (ltb r.size r.nameLength) refl
+  visible-by false = named_by (eqb r.kind 1) (ltb r.size r.name_length) refl
 
   pub line-least : least_line r ≤ length (visible_line f r)
   unfolding least_line visible_line
@@ -98,18 +98,18 @@ pub least-hidden : (r : Item) → r.format % 2 ≡ 1 → 0 ≡ least_line r
 unfolding least_line is_hidden
 least-hidden r e = simp (eq-eqb (r.format % 2) 1 e)
 
-pub least-name : (r : Item) → (r.format % 2 ≡ 1 → ⊥) → r.kind ≡ 1 → r.size < r.nameLength → r.nameLength ≡ least_line r
+pub least-name : (r : Item) → (r.format % 2 ≡ 1 → ⊥) → r.kind ≡ 1 → r.size < r.name_length → r.name_length ≡ least_line r
 unfolding least_line is_hidden
-least-name r n e l = simp (ne_eqb (r.format % 2) 1 n, eq-eqb r.kind 1 e, lt-ltb r.size r.nameLength l)
+least-name r n e l = simp (ne_eqb (r.format % 2) 1 n, eq-eqb r.kind 1 e, lt-ltb r.size r.name_length l)
 
 module _ (r : Item) (n : r.format % 2 ≡ 1 → ⊥) where
   pub least-standard : (r.kind ≡ 1 → ⊥) → least_text r ≡ least_line r
   unfolding least_line is_hidden
   least-standard m = simp (ne_eqb (r.format % 2) 1 n, ne_eqb r.kind 1 m)
 
-  pub least-custom : r.kind ≡ 1 → r.nameLength ≤ r.size → least_text r ≡ least_line r
+  pub least-custom : r.kind ≡ 1 → r.name_length ≤ r.size → least_text r ≡ least_line r
   unfolding least_line is_hidden
-  least-custom e l = simp (ne_eqb (r.format % 2) 1 n, eq-eqb r.kind 1 e, le-ltb r.size r.nameLength l)
+  least-custom e l = simp (ne_eqb (r.format % 2) 1 n, eq-eqb r.kind 1 e, le-ltb r.size r.name_length l)
 
 pub least-unicode : (r : Item) → r.format ≡ 2 → r.size / 2 ≡ least_text r
 unfolding least_text

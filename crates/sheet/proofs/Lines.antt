@@ -84,7 +84,7 @@ module _ (ws : List ℕ) (count : ℕ) where
     items-end i l = let e : count - i ≡ 0 = omega arith in rw e
 
 module _ (f : List ℕ) (r : Item) where
-  pub label-custom : r.kind ≡ 1 → (0x09 ∷ []) ++ (0x43 ∷ []) ++ (0x09 ∷ []) ++ escaped_part f r.field r.nameLength ≡ label f r
+  pub label-custom : r.kind ≡ 1 → (0x09 ∷ []) ++ (0x43 ∷ []) ++ (0x09 ∷ []) ++ escaped_part f r.field r.name_length ≡ label f r
   unfolding label tabbed
   label-custom e = simp (eq-eqb r.kind 1 e)
 

@@ -18,7 +18,7 @@ least_text r = cond (eqb r.format 2) (r.size / 2) r.size
 
 -- no line of the row is shorter, whatever its name and data are
 unfoldable pub least_line : Item → ℕ
-least_line r = cond (is_hidden r) 0 (cond (eqb r.kind 1 && ltb r.size r.nameLength) r.nameLength (least_text r))
+least_line r = cond (is_hidden r) 0 (cond (eqb r.kind 1 && ltb r.size r.name_length) r.name_length (least_text r))
 
 -- nor are the lines of rows
 unfoldable pub least_lines : List Item → ℕ

@@ -26,7 +26,7 @@ node_line k r = 0x4E ∷ number k ++ number r.parent ++ number r.depth ++ number
 
 -- `C` and the name of a custom field, or `S` and the number of a standard one
 unfoldable pub label : List ℕ → Item → List ℕ
-label f r = cond (eqb r.kind 1) (tabbed (0x43 ∷ tabbed (escaped_part f r.field r.nameLength))) (tabbed (0x53 ∷ number r.field))
+label f r = cond (eqb r.kind 1) (tabbed (0x43 ∷ tabbed (escaped_part f r.field r.name_length))) (tabbed (0x53 ∷ number r.field))
 
 -- the row's data: format 2 is UTF-16, every other format stands as its bytes
 unfoldable pub text_of : List ℕ → Item → List ℕ

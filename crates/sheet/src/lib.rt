@@ -71,7 +71,7 @@ fn put_label(out: &mut [u8], to: usize, file: &[u8], row: Item) -> usize
     if row.kind == 1 {
         let b = room::put_byte(out, a, b'C');
         let c = room::put_byte(out, b, 0x09);
-        return text::put_escaped(out, c, file, row.field as usize, row.nameLength as usize);
+        return text::put_escaped(out, c, file, row.field as usize, row.name_length as usize);
     }
     let d = room::put_byte(out, a, b'S');
     text::put_number(out, d, row.field)
@@ -135,8 +135,8 @@ fn least_line(row: Item) -> u64
     if row.kind != 1 {
         return least_text(row);
     }
-    if row.size < row.nameLength {
-        return row.nameLength;
+    if row.size < row.name_length {
+        return row.name_length;
     }
     least_text(row)
 }

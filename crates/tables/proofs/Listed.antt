@@ -29,7 +29,7 @@ pub node-numbers_are : (r : Node) → number r.start ++ number r.size ++ number 
 unfolding node_numbers
 node-numbers_are r = refl
 
-pub item-numbers_are : (r : Item) → number r.node ++ number r.item ++ number r.kind ++ number r.field ++ number r.nameLength
+pub item-numbers_are : (r : Item) → number r.node ++ number r.item ++ number r.kind ++ number r.field ++ number r.name_length
     ++ number r.version ++ number r.declared
     ++ number r.format ++ number r.place ++ number r.size ≡ item_numbers r
 unfolding item_numbers

@@ -22,7 +22,7 @@ node_numbers r =
 
 unfoldable pub item_numbers : Item → List ℕ
 item_numbers r =
-    number r.node ++ number r.item ++ number r.kind ++ number r.field ++ number r.nameLength ++ number r.version ++ number r.declared
+    number r.node ++ number r.item ++ number r.kind ++ number r.field ++ number r.name_length ++ number r.version ++ number r.declared
     ++ number r.format ++ number r.place ++ number r.size
 
 -- `n`

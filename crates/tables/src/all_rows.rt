@@ -23,7 +23,7 @@ fn put_node_words(out: &mut [u8], to: usize, row: Node) -> usize
     let h = text::put_number(out, g, row.target);
     let i = text::put_number(out, h, row.extent);
     let j = text::put_number(out, i, row.unpackers);
-    let k = text::put_number(out, j, row.unpackerCount);
+    let k = text::put_number(out, j, row.unpacker_count);
     let l = text::put_number(out, k, row.rows);
     text::put_number(out, l, row.detached)
 }
@@ -36,7 +36,7 @@ fn put_item_words(out: &mut [u8], to: usize, row: Item) -> usize
     let b = text::put_number(out, a, row.item);
     let c = text::put_number(out, b, row.kind);
     let d = text::put_number(out, c, row.field);
-    let e = text::put_number(out, d, row.nameLength);
+    let e = text::put_number(out, d, row.name_length);
     let f = text::put_number(out, e, row.version);
     let g = text::put_number(out, f, row.declared);
     let h = text::put_number(out, g, row.format);

@@ -11,7 +11,7 @@ use lib.Dec.{T, eqb, ltb, leb}
 use lib.ListN.{length, take, drop, drop_of_length-le}
 use borrow.Author.Tests.{eq-eqb, ne_eqb, eqb-true, lt-ltb, le-ltb, ltb-true, ltb-false, le-leb, lt-leb}
 use Rattle.machine.specs.Machine.{Out, run}
-use Rattle.cursor.specs.Rows.{referenceFrame}
+use Rattle.cursor.specs.Rows.{reference_frame}
 use Rattle.cursor.specs.Leaves.{number}
 use Rattle.cursor.specs.declared.Node.{Node}
 use Rattle.header.specs.Header.{Header}
@@ -65,10 +65,10 @@ part-past h size p o = by (leb h.extent.end p) (ltb p size) refl (ltb p h.extent
 -- ---- the place of a row's offset
 
 module _ (ws : List ℕ) (count i : ℕ) (l : i < count) {r : Node} (is : r ≡ node_from ws (i * node_width)) where
-  pub offset_is : (f : List ℕ) (o : Out ℕ) {at : ℕ} → at ≡ r.start + r.header → o ≡ run (number referenceFrame 3 (length f)) f at → place_of
+  pub offset_is : (f : List ℕ) (o : Out ℕ) {at : ℕ} → at ≡ r.start + r.header → o ≡ run (number reference_frame 3 (length f)) f at → place_of
       o ≡ offset_at f (node_at (nodes_in count ws) i)
   unfolding offset_at
-  offset_is f o h g = ap place_of (g ∙ ap (run (number referenceFrame 3 (length f)) f) (h ∙ sym (ap (λ (r : Node). r.start + r.header) (row_is ws count i l is))))
+  offset_is f o h g = ap place_of (g ∙ ap (run (number reference_frame 3 (length f)) f) (h ∙ sym (ap (λ (r : Node). r.start + r.header) (row_is ws count i l is))))
 
 -- ---- what is taken
 

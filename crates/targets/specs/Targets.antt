@@ -2,7 +2,7 @@
 -- Assumes nothing.
 use Rattle.std.specs.Prelude.{List, [], ◌∷◌, Bool, false, cond, not, ◌&&◌, ◌||◌, ℕ, zero, suc, ◌+◌, ◌-◌, eqb, ltb, leb, length}
 use Rattle.machine.specs.Machine.{Out, ok, refused, run}
-use Rattle.cursor.specs.Rows.{referenceFrame}
+use Rattle.cursor.specs.Rows.{reference_frame}
 use Rattle.cursor.specs.Refusals.{cut_short}
 use Rattle.cursor.specs.Leaves.{number}
 use Rattle.cursor.specs.declared.Node.{Node}
@@ -18,7 +18,7 @@ place_of (refused n p) = p
 
 -- the place of a row's offset: after its reference, which stands after its header
 unfoldable pub offset_at : List ℕ → Node → ℕ
-offset_at f r = place_of (run (number referenceFrame cut_short (length f)) f (r.start + r.header))
+offset_at f r = place_of (run (number reference_frame cut_short (length f)) f (r.start + r.header))
 
 -- a row that refers to no node so far
 unfoldable pub is_missing : List Node → Node → Bool

@@ -88,11 +88,11 @@ module _ (f : List ℕ) (row : ℕ) (title us : List ℕ) (k : ℕ) {r : Item} (
 -- ---- the field
 
 module _ (f : List ℕ) (r : Item) {o o₁ o₂ : List ℕ} {s s₁ s₂ : ℕ} where
-  pub field-custom : ItemIn (length f) r → r.kind ≡ 1 → Counts o o₁ s (vlq r.nameLength) s₁ → Counts o₁ o₂ s₁
-      (part f r.field r.nameLength) s₂ → Counts o o₂ s (field_text (content f r)) s₂
+  pub field-custom : ItemIn (length f) r → r.kind ≡ 1 → Counts o o₁ s (vlq r.name_length) s₁ → Counts o₁ o₂ s₁
+      (part f r.field r.name_length) s₂ → Counts o o₂ s (field_text (content f r)) s₂
   unfolding field_text content
   field-custom (a, inl z) e p q = absurd (omega arith)
-  field-custom (a, inr l) e p q = rw (eq-eqb r.kind 1 e) (put-block (part f r.field r.nameLength) r.nameLength (part_length f r.field r.nameLength l) p q)
+  field-custom (a, inr l) e p q = rw (eq-eqb r.kind 1 e) (put-block (part f r.field r.name_length) r.name_length (part_length f r.field r.name_length l) p q)
 
   pub field-standard : (r.kind ≡ 1 → ⊥) → Counts o o₁ s (vlq 0) s₁ → Counts o₁ o₂ s₁ (vlq r.field) s₂ → Counts o o₂ s (field_text (content f r)) s₂
   unfolding field_text content
@@ -216,11 +216,11 @@ unfolding least from
 zero-counted e = counts-number 0 {n = 1} refl e
 
 module _ (f : List ℕ) (r : Item) {to q : ℕ} where
-  pub custom-counted : ItemIn (length f) r → r.nameLength ≤ too_many → r.kind ≡ 1 →
-      ((s : List ℕ) → r.nameLength ≡ min (length s) too_many → Counts [] [] to (sized s) q) → Counts [] [] to (field_text (content f r)) q
+  pub custom-counted : ItemIn (length f) r → r.name_length ≤ too_many → r.kind ≡ 1 →
+      ((s : List ℕ) → r.name_length ≡ min (length s) too_many → Counts [] [] to (sized s) q) → Counts [] [] to (field_text (content f r)) q
   unfolding field_text content
   custom-counted (a, inl z) few e p = absurd (omega arith)
-  custom-counted (a, inr l) few e p = rw (eq-eqb r.kind 1 e) (p (part f r.field r.nameLength) (omega (arith, part_length f r.field r.nameLength l)))
+  custom-counted (a, inr l) few e p = rw (eq-eqb r.kind 1 e) (p (part f r.field r.name_length) (omega (arith, part_length f r.field r.name_length l)))
 
   pub standard-counted : (r.kind ≡ 1 → ⊥) → {n k : ℕ} → n ≡ min (to + 1) too_many → k ≡ least (λ _. r.field) → q ≡ min (n + k) too_many →
       Counts [] [] to (field_text (content f r)) q

@@ -79,8 +79,8 @@ fn put_field(out: &mut [u8], to: usize, file: &[u8], item: Item) -> usize
     ensures { Counts out.old out.new to (field_text (content file.now item)) result }
 {
     if item.kind == 1 {
-        let a = vlq::put_number(out, to, item.nameLength);
-        return room::put_part(out, a, file, item.field as usize, item.nameLength as usize);
+        let a = vlq::put_number(out, to, item.name_length);
+        return room::put_part(out, a, file, item.field as usize, item.name_length as usize);
     }
     let a = vlq::put_number(out, to, 0);
     vlq::put_number(out, a, item.field)
@@ -171,7 +171,7 @@ fn measure_field(to: usize, item: Item) -> usize
     ensures { (f : List ℕ) → ItemIn (length f) item → Counts [] [] to (field_text (content f item)) result }
 {
     if item.kind == 1 {
-        return measure_block(to, item.nameLength as usize);
+        return measure_block(to, item.name_length as usize);
     }
     room::on(room::on(to, 1), vlq::vlq_size(item.field))
 }

@@ -7,7 +7,7 @@ use native.Mathlib.Omega.{arith}
 use lib.ListN.{length}
 use borrow.Author.Tests.{ne_eqb}
 use Rattle.machine.specs.Machine.{Out, ok, refused, run, times}
-use Rattle.cursor.specs.Rows.{Frame, P, unpackFrame, file_frame}
+use Rattle.cursor.specs.Rows.{Frame, P, unpack_frame, file_frame}
 use Rattle.cursor.specs.Leaves.{number, block, manufacturer, guid}
 use Rattle.room.specs.Parts.{part, joined}
 use Rattle.vlq.specs.Vlq.{vlq, sized}
@@ -103,68 +103,68 @@ module _ (κ : Frame) (f : List ℕ) (at : ℕ) {s : List ℕ} {q : ℕ} (e : ru
 
 -- ---- what names an unpacker
 
-pub guid-inside : (f : List ℕ) (at : ℕ) {q : ℕ} → run (guid unpackFrame (length f)) f at ≡ ok tt q → (at < q) × (q ≤ at + 19) × (q ≤ length f)
-guid-inside f at e = at_end any_free f (guid-on {U = Any} unpackFrame (length f) at) e
+pub guid-inside : (f : List ℕ) (at : ℕ) {q : ℕ} → run (guid unpack_frame (length f)) f at ≡ ok tt q → (at < q) × (q ≤ at + 19) × (q ≤ length f)
+guid-inside f at e = at_end any_free f (guid-on {U = Any} unpack_frame (length f) at) e
 
-pub maker_inside : (f : List ℕ) (at : ℕ) {q : ℕ} → run (manufacturer unpackFrame (length f)) f at ≡ ok tt q → (at < q) × (q ≤ at + 3) × (q ≤ length f)
-maker_inside f at e = at_end any_free f (manufacturer-on {U = Any} unpackFrame (length f) at) e
+pub maker_inside : (f : List ℕ) (at : ℕ) {q : ℕ} → run (manufacturer unpack_frame (length f)) f at ≡ ok tt q → (at < q) × (q ≤ at + 3) × (q ≤ length f)
+maker_inside f at e = at_end any_free f (manufacturer-on {U = Any} unpack_frame (length f) at) e
 
 -- counted as they are
-pub guid-counted : (f : List ℕ) (at : ℕ) {q : ℕ} → run (guid unpackFrame (length f)) f at ≡ ok tt q → {to r : ℕ} → r ≡ min (to + (q - at))
+pub guid-counted : (f : List ℕ) (at : ℕ) {q : ℕ} → run (guid unpack_frame (length f)) f at ≡ ok tt q → {to r : ℕ} → r ≡ min (to + (q - at))
     too_many → Counts [] [] to (part f at (q - at)) r
 guid-counted f at {q} read e = counts-part f at (q - at) (omega (arith, guid-inside f at read)) e
 
-pub maker_counted : (f : List ℕ) (at : ℕ) {q : ℕ} → run (manufacturer unpackFrame (length f)) f at ≡ ok tt q → {to r : ℕ} → r ≡ min
+pub maker_counted : (f : List ℕ) (at : ℕ) {q : ℕ} → run (manufacturer unpack_frame (length f)) f at ≡ ok tt q → {to r : ℕ} → r ≡ min
     (to + (q - at)) too_many → Counts [] [] to (part f at (q - at)) r
 maker_counted f at {q} read e = counts-part f at (q - at) (omega (arith, maker_inside f at read)) e
 
 module _ (f : List ℕ) (kind at : ℕ) where
-  pub guid-no : kind ≡ 3 → {n p : ℕ} → run (guid unpackFrame (length f)) f at ≡ refused n p → run (identifier_text f kind) f at ≡ refused n p
+  pub guid-no : kind ≡ 3 → {n p : ℕ} → run (guid unpack_frame (length f)) f at ≡ refused n p → run (identifier_text f kind) f at ≡ refused n p
   unfolding identifier_text copied
   guid-no k e = rw k (simp (running, e))
 
-  pub guid-is : kind ≡ 3 → {q : ℕ} → run (guid unpackFrame (length f)) f at ≡ ok tt q → run (identifier_text f kind) f at ≡ ok (part f at (q - at)) q
+  pub guid-is : kind ≡ 3 → {q : ℕ} → run (guid unpack_frame (length f)) f at ≡ ok tt q → run (identifier_text f kind) f at ≡ ok (part f at (q - at)) q
   unfolding identifier_text copied
   guid-is k e = rw k (simp (running, e))
 
-  pub maker_no : kind ≡ 1 → {n p : ℕ} → run (manufacturer unpackFrame (length f)) f at ≡ refused n p → run (identifier_text f kind) f at ≡ refused n p
+  pub maker_no : kind ≡ 1 → {n p : ℕ} → run (manufacturer unpack_frame (length f)) f at ≡ refused n p → run (identifier_text f kind) f at ≡ refused n p
   unfolding identifier_text copied
   maker_no k e = rw k (simp (running, e))
 
-  maker_by : kind ≡ 1 → {q : ℕ} → run (manufacturer unpackFrame (length f)) f at ≡ ok tt q → (x : Out ℕ) → run (number unpackFrame 3 (length f)) f q ≡ x
-      → run (identifier_text f kind) f at ≡ before (part f at (q - at)) (run (number_text unpackFrame f) f q)
+  maker_by : kind ≡ 1 → {q : ℕ} → run (manufacturer unpack_frame (length f)) f at ≡ ok tt q → (x : Out ℕ) → run (number unpack_frame 3 (length f)) f q ≡ x
+      → run (identifier_text f kind) f at ≡ before (part f at (q - at)) (run (number_text unpack_frame f) f q)
   unfolding identifier_text copied number_text
   maker_by k e (ok v p) h = rw k (simp (running, e, h, append-nil))
   maker_by k e (refused n p) h = rw k (simp (running, e, h))
 
-  pub maker_is : kind ≡ 1 → {q : ℕ} → run (manufacturer unpackFrame (length f)) f at ≡ ok tt q
-      → run (identifier_text f kind) f at ≡ before (part f at (q - at)) (run (number_text unpackFrame f) f q)
-  maker_is k {q} e = maker_by k e (run (number unpackFrame 3 (length f)) f q) refl
+  pub maker_is : kind ≡ 1 → {q : ℕ} → run (manufacturer unpack_frame (length f)) f at ≡ ok tt q
+      → run (identifier_text f kind) f at ≡ before (part f at (q - at)) (run (number_text unpack_frame f) f q)
+  maker_is k {q} e = maker_by k e (run (number unpack_frame 3 (length f)) f q) refl
 
-  pub other-is : ((kind ≡ 3) → ⊥) → ((kind ≡ 1) → ⊥) → run (identifier_text f kind) f at ≡ run (number_text unpackFrame f) f at
+  pub other-is : ((kind ≡ 3) → ⊥) → ((kind ≡ 1) → ⊥) → run (identifier_text f kind) f at ≡ run (number_text unpack_frame f) f at
   unfolding identifier_text number_text
   other-is a b = simp (running, ne_eqb _ _ a, ne_eqb _ _ b)
 
 -- ---- an unpacker
 
 module _ (f : List ℕ) (at : ℕ) where
-  pub kind-no : {n p : ℕ} → run (number unpackFrame 3 (length f)) f at ≡ refused n p → run (unpacker_text f []) f at ≡ refused n p
+  pub kind-no : {n p : ℕ} → run (number unpack_frame 3 (length f)) f at ≡ refused n p → run (unpacker_text f []) f at ≡ refused n p
   unfolding unpacker_text
   kind-no e = simp (running, e)
 
-  module _ {kind p : ℕ} (e₁ : run (number unpackFrame 3 (length f)) f at ≡ ok kind p) where
+  module _ {kind p : ℕ} (e₁ : run (number unpack_frame 3 (length f)) f at ≡ ok kind p) where
     pub name-no : {n q : ℕ} → run (identifier_text f kind) f p ≡ refused n q → run (unpacker_text f []) f at ≡ refused n q
     unfolding unpacker_text
     name-no e = simp (running, e₁, e)
 
     module _ {i : List ℕ} {q : ℕ} (e₂ : run (identifier_text f kind) f p ≡ ok i q) where
-      unpacker-by : (x : Out ℕ) → run (number unpackFrame 3 (length f)) f q ≡ x → run (unpacker_text f []) f at ≡ before (vlq kind) (before i (run (number_text unpackFrame f) f q))
+      unpacker-by : (x : Out ℕ) → run (number unpack_frame 3 (length f)) f q ≡ x → run (unpacker_text f []) f at ≡ before (vlq kind) (before i (run (number_text unpack_frame f) f q))
       unfolding unpacker_text number_text
       unpacker-by (ok v r) h = simp (running, e₁, e₂, h, append-nil)
       unpacker-by (refused n r) h = simp (running, e₁, e₂, h)
 
-      pub unpacker-is : run (unpacker_text f []) f at ≡ before (vlq kind) (before i (run (number_text unpackFrame f) f q))
-      unpacker-is = unpacker-by (run (number unpackFrame 3 (length f)) f q) refl
+      pub unpacker-is : run (unpacker_text f []) f at ≡ before (vlq kind) (before i (run (number_text unpack_frame f) f q))
+      unpacker-is = unpacker-by (run (number unpack_frame 3 (length f)) f q) refl
 
 -- ---- one behind others
 
@@ -173,26 +173,26 @@ abbrev pub Behind : List ℕ → (List ℕ → P (List ℕ)) → Type 0
 Behind f body = (b : List ℕ) (at : ℕ) → run (body b) f at ≡ before b (run (body []) f at)
 
 module _ (f : List ℕ) (b : List ℕ) (at : ℕ) where
-  behind-size : {kind p q : ℕ} {i : List ℕ} → run (number unpackFrame 3 (length f)) f at ≡ ok kind p → run (identifier_text f kind) f p ≡ ok i
-      q → (x : Out ℕ) → run (number unpackFrame 3 (length f)) f q ≡ x
+  behind-size : {kind p q : ℕ} {i : List ℕ} → run (number unpack_frame 3 (length f)) f at ≡ ok kind p → run (identifier_text f kind) f p ≡ ok i
+      q → (x : Out ℕ) → run (number unpack_frame 3 (length f)) f q ≡ x
       → run (unpacker_text f b) f at ≡ before b (run (unpacker_text f []) f at)
   unfolding unpacker_text
   behind-size e₁ e₂ (ok v r) e₃ = simp (running, e₁, e₂, e₃)
   behind-size e₁ e₂ (refused n r) e₃ = simp (running, e₁, e₂, e₃)
 
-  behind-name : {kind p : ℕ} → run (number unpackFrame 3 (length f)) f at ≡ ok kind p → (x : Out (List ℕ)) → run (identifier_text f kind) f p ≡
+  behind-name : {kind p : ℕ} → run (number unpack_frame 3 (length f)) f at ≡ ok kind p → (x : Out (List ℕ)) → run (identifier_text f kind) f p ≡
       x → run (unpacker_text f b) f at ≡ before b (run (unpacker_text f []) f at)
   unfolding unpacker_text
-  behind-name e₁ (ok i q) e₂ = behind-size e₁ e₂ (run (number unpackFrame 3 (length f)) f q) refl
+  behind-name e₁ (ok i q) e₂ = behind-size e₁ e₂ (run (number unpack_frame 3 (length f)) f q) refl
   behind-name e₁ (refused n q) e₂ = simp (running, e₁, e₂)
 
-  behind-kind : (x : Out ℕ) → run (number unpackFrame 3 (length f)) f at ≡ x → run (unpacker_text f b) f at ≡ before b (run (unpacker_text f []) f at)
+  behind-kind : (x : Out ℕ) → run (number unpack_frame 3 (length f)) f at ≡ x → run (unpacker_text f b) f at ≡ before b (run (unpacker_text f []) f at)
   unfolding unpacker_text
   behind-kind (ok kind p) e₁ = behind-name e₁ (run (identifier_text f kind) f p) refl
   behind-kind (refused n p) e₁ = simp (running, e₁)
 
 pub unpacker-behind : (f : List ℕ) → Behind f (unpacker_text f)
-unpacker-behind f b at = behind-kind f b at (run (number unpackFrame 3 (length f)) f at) refl
+unpacker-behind f b at = behind-kind f b at (run (number unpack_frame 3 (length f)) f at) refl
 
 module _ (f : List ℕ) (b : List ℕ) (at : ℕ) where
   behind-language : {t format p q : ℕ} → run (number file_frame 3 (length f)) f at ≡ ok t p → run (number file_frame 3 (length f)) f p ≡ ok

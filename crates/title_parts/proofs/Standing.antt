@@ -8,7 +8,7 @@ use native.Mathlib.Decide.{dec_lt}
 use native.Mathlib.Omega.{arith}
 use lib.ListN.{length, get_or}
 use Rattle.machine.specs.Machine.{Out, ok, refused, run, times}
-use Rattle.cursor.specs.Rows.{P, unpackFrame}
+use Rattle.cursor.specs.Rows.{P, unpack_frame}
 use Rattle.cursor.specs.Leaves.{guid, manufacturer}
 use Rattle.room.specs.Parts.{part}
 use Rattle.cursor.specs.declared.Cursor.{Cursor}
@@ -36,11 +36,11 @@ module _ (f : List ℕ) where
   identifier-covers : (kind at : ℕ) → Post nothing f (identifier_text f kind) (Holds (λ s q. Covers f at s q)) at tt
   unfolding identifier_text
   identifier-covers kind at =
-      post_if (λ t. copied-covers (guid unpackFrame (length f)) at (λ a q e. omega (arith, guid-inside f at e)))
+      post_if (λ t. copied-covers (guid unpack_frame (length f)) at (λ a q e. omega (arith, guid-inside f at e)))
       λ t. post_if
-      (λ u. post_after (copied-covers (manufacturer unpackFrame (length f)) at (λ a q e. omega (arith, maker_inside f at e))) λ s q _ h.
-      post_step nothing-quiet λ v r e. post_ret (covers-on h (covers-last (number-covers unpackFrame 3 (length f) f q e))))
-      λ u. post_step nothing-quiet λ v q e. post_ret (number-covers unpackFrame 3 (length f) f at e)
+      (λ u. post_after (copied-covers (manufacturer unpack_frame (length f)) at (λ a q e. omega (arith, maker_inside f at e))) λ s q _ h.
+      post_step nothing-quiet λ v r e. post_ret (covers-on h (covers-last (number-covers unpack_frame 3 (length f) f q e))))
+      λ u. post_step nothing-quiet λ v q e. post_ret (number-covers unpack_frame 3 (length f) f at e)
 
   unpacker-covers : (from : ℕ) (done : List ℕ) (at : ℕ) → Covers f from done at → Post nothing f (unpacker_text f done) (Holds (λ s q. Covers f from s q)) at tt
   unfolding unpacker_text
@@ -48,7 +48,7 @@ module _ (f : List ℕ) where
       post_step nothing-quiet λ kind p e₁.
       post_after (identifier-covers kind p) λ i q _ h.
       post_step nothing-quiet λ size r e₂.
-      post_ret (covers-on before (covers-on (number-covers unpackFrame 3 (length f) f at e₁) (covers-on h (covers-last (number-covers unpackFrame 3 (length f) f q e₂)))))
+      post_ret (covers-on before (covers-on (number-covers unpack_frame 3 (length f) f at e₁) (covers-on h (covers-last (number-covers unpack_frame 3 (length f) f q e₂)))))
 
   pub unpackers-cover : (count from : ℕ) {s : List ℕ} {q : ℕ} → run (times count (unpacker_text f) []) f from ≡ ok s q → Covers f from s q
   unpackers-cover count from e =

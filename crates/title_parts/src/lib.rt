@@ -196,7 +196,7 @@ pub fn unpackers_of(file: &[u8], row: Node) -> Packed
     ensures { PackedAs file.now row result }
 {
     let at = FilePlace(row.unpackers as usize);
-    match measure_unpackers(file, Cursor { at }, row.unpackerCount) {
+    match measure_unpackers(file, Cursor { at }, row.unpacker_count) {
         Copied::Refused(_, _) => Packed {
             size: 0,
             same: false,
@@ -228,7 +228,7 @@ pub fn put_unpackers(out: &mut [u8], to: usize, file: &[u8], row: Node, p: Packe
     if p.same {
         return room::put_part(out, a, file, at.0, p.size);
     }
-    match copy_unpackers(out, a, file, Cursor { at }, row.unpackerCount) {
+    match copy_unpackers(out, a, file, Cursor { at }, row.unpacker_count) {
         Copied::Refused(_, _) => a,
         Copied::To(b, _) => b,
     }

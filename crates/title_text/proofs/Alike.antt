@@ -11,7 +11,7 @@ use lib.ListN.{length, take, drop, length-append}
 use lib.Seq.{take_at, drop_at}
 use borrow.Author.Tests.{lt-ltb, le-ltb, lt-leb, le-leb, eq-eqb, ne_eqb}
 use Rattle.machine.specs.Machine.{ret, here, Out, ok, refused, seen, passed, run, trace, ◌>>=◌, ◌>>◌, if◌then◌else◌, place, skip, check, turns, many, times}
-use Rattle.cursor.specs.Rows.{Frame, Part, P, Events, has_inline, size_if, inline_size, metaFrame, referenceFrame}
+use Rattle.cursor.specs.Rows.{Frame, Part, P, Events, has_inline, size_if, inline_size, meta_frame, reference_frame}
 use Rattle.cursor.specs.Leaves as leaves
 use Rattle.room.specs.Parts.{joined}
 use Rattle.vlq.specs.Vlq.{vlq, sized}
@@ -177,14 +177,14 @@ module _ {g k : List ℕ} (big : length g < 2 ^ 28) where
       let en : length (joined ts) ≡ n = omega arith in let el = ap (λ v. length (vlq v)) en in
       let a = lies_as (ap vlq en) t₂.0 in
       let b : Lies k q (vlq c.format) = lies_at (omega arith) (lies_as (ap vlq (sym w.pair.format)) s₂.0) in
-      let e₁ = block_back metaFrame 3 end n t.0 (omega (arith, h.inside)) (omega arith) in
-      let e₂ = number-back metaFrame 3 (q + n) c.format s.0 fm (omega arith) in
+      let e₁ = block_back meta_frame 3 end n t.0 (omega (arith, h.inside)) (omega arith) in
+      let e₂ = number-back meta_frame 3 (q + n) c.format s.0 fm (omega arith) in
       let r : ℕ = q + length (vlq c.format) in
       let shows : T (not (may_differ (row_of l 0 0 c.format r (q + n - r)))) → Agree g k r (q + n - r) = λ t.
       let y₂ : Lies k r c.bytes = lies_as (sym (w.shown (sym (label-private lab 0 0 r (q + n - r)) ∙ is_false _ t))) (lies_at (omega arith) s₂.1.0) in
       λ j lo hi. agree r c.bytes s.1.0 y₂ j lo (omega arith) in
-      runs-place _ p (runs-check _ _ _ (runs_then _ e₁ (block_runs metaFrame 3 end n t.0 a (omega (arith, h.inside)) (omega arith))
-      (runs-check _ _ _ (runs-place _ q (runs_then _ e₂ (number-runs metaFrame 3 (q + n) c.format s.0 b fm (omega arith)) (runs-place _ _ (runs_skip _ _ shows runs_ret)))))))
+      runs-place _ p (runs-check _ _ _ (runs_then _ e₁ (block_runs meta_frame 3 end n t.0 a (omega (arith, h.inside)) (omega arith))
+      (runs-check _ _ _ (runs-place _ q (runs_then _ e₂ (number-runs meta_frame 3 (q + n) c.format s.0 b fm (omega arith)) (runs-place _ _ (runs_skip _ _ shows runs_ret)))))))
 
   version-runs : (x : Context) (l : Label) (end before : ℕ) (m : Made) (p : ℕ) {c d : Content} → Labels g l c → Pair c d → format_of x.types
       c.declared ≡ known c.format → c.declared < 2 ^ 28 → Lies g p (version_text c) → Lies k p (version_text d) → p + length
@@ -201,15 +201,15 @@ module _ {g k : List ℕ} (big : length g < 2 ^ 28) where
       let a = lies_as (ap vlq (sym w.pair.declared)) s₂.0 in
       let q : ℕ = p + length (vlq c.declared) in
       let b : Lies k q (vlq n) = lies_at (omega arith) (lies_as (ap vlq (sym eb)) t₂.0) in
-      let e₁ = number-back metaFrame 3 end c.declared s.0 dl (omega arith) in
-      let e₂ = block_back metaFrame 3 end n t₁.0 (omega (arith, h.inside)) (omega arith) in
+      let e₁ = number-back meta_frame 3 end c.declared s.0 dl (omega arith) in
+      let e₂ = block_back meta_frame 3 end n t₁.0 (omega (arith, h.inside)) (omega arith) in
       let r : ℕ = q + length (vlq n) in
       let shows : T (not (may_differ (row_of l (m.items + 1 - before) c.declared c.format r n))) → Agree g k r n = λ t.
       let el = ap (λ v. length (vlq v)) eb in
       agree r c.bytes t₁.1 (lies_as (sym (w.shown (sym (label-private lab (m.items + 1 - before) c.declared r n) ∙ is_false _ t))) (lies_at (omega arith) t₂.1)) in
-      runs-place _ p (runs-check _ _ _ (runs_then _ e₁ (number-runs metaFrame 3 end c.declared s.0 a dl (omega arith))
+      runs-place _ p (runs-check _ _ _ (runs_then _ e₁ (number-runs meta_frame 3 end c.declared s.0 a dl (omega arith))
       (runs_then _ (format-is g p _ fm q) (format-runs g k p _ q)
-      (runs_then _ e₂ (block_runs metaFrame 3 end n t₁.0 b (omega (arith, h.inside)) (omega arith))
+      (runs_then _ e₂ (block_runs meta_frame 3 end n t₁.0 b (omega (arith, h.inside)) (omega arith))
       (runs-place _ _ (runs_skip _ _ shows runs_ret))))))
 
   versions_runs : (x : Context) (l : Label) (end before : ℕ) (b : Content) → Labels g l b → (cs ds : List Content) (m : Made) (p : ℕ) → Each
@@ -249,16 +249,16 @@ module _ {g k : List ℕ} (big : length g < 2 ^ 28) where
       let s₂ = stand_sized d.name (lies_as t₂ h₂) in let z = sized-length c.name in
       let i' : p + length (sized c.name) ≤ end = rw t at i in
       let a : Lies k p (vlq n) = lies_as (ap vlq (sym w.pair.name.long)) s₂.0 in
-      let e₁ = block_back metaFrame 3 end n s.0 (omega (arith, h'.inside)) (omega arith) in
+      let e₁ = block_back meta_frame 3 end n s.0 (omega (arith, h'.inside)) (omega arith) in
       let el = ap (λ v. length (vlq v)) w.pair.name.long in
       let same : Lies k (p + length (vlq n)) c.name = lies_as (sym (w.named kd)) (lies_at (omega arith) s₂.1) in
-      runs_then _ e₁ (block_runs metaFrame 3 end n s.0 a (omega (arith, h'.inside)) (omega arith))
+      runs_then _ e₁ (block_runs meta_frame 3 end n s.0 a (omega (arith, h'.inside)) (omega arith))
       (runs-else _ (ne_eqb n 0 (λ (z : n ≡ 0). omega arith))
       (runs-place _ _ (runs_skip _ _ (λ _. agree (p + length (vlq n)) c.name s.1 same) runs_ret)))
 
   contents-runs : (end p n : ℕ) → n < 2 ^ 28 → Lies g p (vlq n) → Lies k p (vlq n) → p + length (vlq n) ≤ end → Runs g k (contents end) p
   unfolding contents if◌then◌else◌
-  contents-runs end p n l x y i = runs_then _ (number-back metaFrame 3 end n x l i) (number-runs metaFrame 3 end n x y l i) (by (eqb n 0))
+  contents-runs end p n l x y i = runs_then _ (number-back meta_frame 3 end n x l i) (number-runs meta_frame 3 end n x y l i) (by (eqb n 0))
     where
       by : (b : Bool) {at : ℕ} → Runs g k (if b then ret contents.Universal else ret (contents.Versions n)) at
       by true = runs_ret
@@ -289,7 +289,7 @@ module _ {g k : List ℕ} (big : length g < 2 ^ 28) where
       let s = stand ss (lies_as t h) in let s₂ = stand ts (lies_as t₂ h₂) in let z = joined_length ss in
       let i' : p + length (joined ss) ≤ end = rw t at i in
       let fb = field_back g big end p c f s.0 (omega arith) in
-      let e₂ = number-back metaFrame 3 end 0 s.1.0 (omega arith) (omega arith) in
+      let e₂ = number-back meta_frame 3 end 0 s.1.0 (omega arith) (omega arith) in
       let e₁ = sym (frame-all end g p fb.ran (sym (contents-universal end g (p + length (field_text c)) e₂ refl))) in
       let ef = (field-pair w.pair).long in let q : ℕ = p + length (field_text c) + length (vlq 0) in
       let u₂ : Lies k q (universal_text d) = lies_at (omega arith) s₂.1.1.0 in
@@ -306,7 +306,7 @@ module _ {g k : List ℕ} (big : length g < 2 ^ 28) where
       let s = stand ss (lies_as t h) in let s₂ = stand ts (lies_as t₂ h₂) in let z = joined_length ss in
       let i' : p + length (joined ss) ≤ end = rw t at i in
       let fb = field_back g big end p c f s.0 (omega arith) in
-      let e₂ = number-back metaFrame 3 end n s.1.0 few (omega arith) in
+      let e₂ = number-back meta_frame 3 end n s.1.0 few (omega arith) in
       let e₁ = sym (frame-all end g p fb.ran (sym (contents-versions end g (p + length (field_text c)) e₂ (λ z. omega arith)))) in
       let ef = (field-pair w.pair).long in let q : ℕ = p + length (field_text c) + length (vlq n) in
       let u₂ : Lies k q (joined (version_texts (d ∷ ds))) = lies_at (omega arith) s₂.1.1.0 in
@@ -385,8 +385,8 @@ metadata-runs g k big x node end {css} {dss} w es m p h h₂ i r =
     let el = ap (λ v. length (vlq v)) en in
     let a : Lies k p (vlq n) = lies_as (ap vlq en) s₂.0 in
     let b : Lies k q (joined (entry_texts dss)) = lies_at (omega arith) s₂.1 in
-    let e₁ = block_back metaFrame 8 end n s.0 (omega (arith, h.inside)) (omega arith) in
-    runs_then _ e₁ (block_runs metaFrame 8 end n s.0 a (omega (arith, h.inside)) (omega arith))
+    let e₁ = block_back meta_frame 8 end n s.0 (omega (arith, h.inside)) (omega arith) in
+    runs_then _ e₁ (block_runs meta_frame 8 end n s.0 a (omega (arith, h.inside)) (omega arith))
     (runs-place _ q (runs_on_lem (runs_here _ q (turns-runs g k big x node (q + n) w es (q + n - q) m q s.1 b refl (omega arith) r)) (λ a q e. runs_ret)))
 
 -- ---- the other side's items, grouped alike
@@ -468,8 +468,8 @@ module _ (g k : List ℕ) (big : length g < 2 ^ 28) where
       let b = stand (vlq 1 ∷ s.body ∷ []) (lies_as (own-inline s (sym w.0.reference ∙ e)) h₂) in
       let z = joined_length (vlq 1 ∷ r.body ∷ []) in
       let y = ap length t in
-      let e₁ = number-back referenceFrame 3 stop 1 a.0 (omega arith) (omega arith) in
-      runs-place _ q (runs_then _ e₁ (number-runs referenceFrame 3 stop 1 a.0 b.0 (omega arith) (omega arith))
+      let e₁ = number-back reference_frame 3 stop 1 a.0 (omega arith) (omega arith) in
+      runs-place _ q (runs_then _ e₁ (number-runs reference_frame 3 stop 1 a.0 b.0 (omega arith) (omega arith))
       (runs-check _ _ _ (runs-check _ _ _ (runs-check _ _ _ (runs-if _ refl (runs-place _ _ runs_ret))))))
   reference-runs header_end size contained stop q {r} {s} w (inr (e, f)) h h₂ i =
       let n : ℕ = length r.body in let t = own-uri r e in
@@ -480,11 +480,11 @@ module _ (g k : List ℕ) (big : length g < 2 ^ 28) where
       let y = ap length t in let x = sized-length r.body in let el = ap (λ v. length (vlq v)) w.0.body.long in
       let same : Lies k (q + length (vlq 4) + length (vlq n)) r.body = lies_as (sym (w.2 e)) (lies_at (omega arith) v.1) in
       let m : Lies k (q + length (vlq 4)) (vlq n) = lies_as (ap vlq (sym w.0.body.long)) v.0 in
-      let e₁ = number-back referenceFrame 3 stop 4 a.0 (omega arith) (omega arith) in
-      let e₂ = block_back referenceFrame 3 stop n u.0 (omega (arith, h.inside)) (omega arith) in
-      runs-place _ q (runs_then _ e₁ (number-runs referenceFrame 3 stop 4 a.0 b.0 (omega arith) (omega arith))
+      let e₁ = number-back reference_frame 3 stop 4 a.0 (omega arith) (omega arith) in
+      let e₂ = block_back reference_frame 3 stop n u.0 (omega (arith, h.inside)) (omega arith) in
+      runs-place _ q (runs_then _ e₁ (number-runs reference_frame 3 stop 4 a.0 b.0 (omega arith) (omega arith))
       (runs-check _ _ _ (runs-check _ _ _ (runs-check _ _ _ (runs-else _ refl (runs-else _ refl (runs-else _ refl
-      (runs_then _ e₂ (block_runs referenceFrame 3 stop n u.0 m (omega (arith, h.inside)) (omega arith))
+      (runs_then _ e₂ (block_runs reference_frame 3 stop n u.0 m (omega (arith, h.inside)) (omega arith))
       (runs-place _ _ (runs_skip _ _ (λ _. agree (q + length (vlq 4) + length (vlq n)) r.body u.1 same) runs_ret))))))))))
 
   front-runs : (x : Context) (parent depth least end : ℕ) (m : Made) (r s : Shape) (cs ds : List Content) (n p : ℕ) → Front x.limits

@@ -52,7 +52,7 @@ module _ (f k : List ℕ) (long : length f ≡ length k) where
     item = refl;
     kind = refl;
     field = refl;
-    name = parts r.field r.nameLength;
+    name = parts r.field r.name_length;
     version = refl;
     declared = refl;
     format = refl;
@@ -134,7 +134,7 @@ module _ (lim : Limits) (f k : List ℕ) {h : Header} {ns : List Node} {is : Lis
       let long = differ.same_length in
       record {
         pair = content-pair f k long r;
-        named = λ z. elim x.0 [ inl y ↦ absurd (omega arith) | inr y ↦ part_same f k long r.field r.nameLength y ];
+        named = λ z. elim x.0 [ inl y ↦ absurd (omega arith) | inr y ↦ part_same f k long r.field r.name_length y ];
         shown = λ z. part_same f k long r.place r.size (x.1 (no_difference (may_differ r) (row-private f r ∙ z)));
       }
 

@@ -10,7 +10,7 @@ use lib.Dec.{eqb}
 use lib.ListN.{length, length-append}
 use borrow.Author.Tests.{le-leb, eq-eqb, ne_eqb}
 use Rattle.machine.specs.Machine.{ok, run, exec, times}
-use Rattle.cursor.specs.Rows.{referenceFrame, size_if, inline_size}
+use Rattle.cursor.specs.Rows.{reference_frame, size_if, inline_size}
 use Rattle.room.specs.Parts.{part, joined}
 use Rattle.vlq.specs.Vlq.{vlq, sized}
 use Rattle.machine.proofs.Laws.{running, executing}
@@ -59,7 +59,7 @@ module _ (g : List ℕ) (big : length g < 2 ^ 28) (header_end size contained sto
   inline_run e h i =
       let ss : List (List ℕ) = vlq 1 ∷ r.body ∷ [] in
       let t = own-inline r e in let s = stand ss (lies_as t h) in let z = joined_length ss in let w = ap length t in
-      let e₁ = number-back referenceFrame 3 stop 1 s.0 (omega arith) (omega arith) in
+      let e₁ = number-back reference_frame 3 stop 1 s.0 (omega arith) (omega arith) in
       simp (running, e₁, or_true (eqb contained 0))
 
   uri_run : r.reference ≡ 4 → contained ≡ 0 → Lies g q (own_text r) → q + length (own_text r) ≤ stop
@@ -71,8 +71,8 @@ module _ (g : List ℕ) (big : length g < 2 ^ 28) (header_end size contained sto
       let ss : List (List ℕ) = vlq 4 ∷ sized r.body ∷ [] in
       let t = own-uri r e in let s = stand ss (lies_as t h) in let u = stand_sized r.body s.1.0 in
       let z = joined_length ss in let y = sized-length r.body in let x = h.inside in let w = ap length t in
-      let e₁ = number-back referenceFrame 3 stop 4 s.0 (omega arith) (omega arith) in
-      let e₂ = block_back referenceFrame 3 stop n u.0 (omega arith) (omega arith) in
+      let e₁ = number-back reference_frame 3 stop 4 s.0 (omega arith) (omega arith) in
+      let e₂ = block_back reference_frame 3 stop n u.0 (omega arith) (omega arith) in
       let e₃ : q + length (vlq 4) + length (vlq n) + n ≡ q + length (own_text r) = omega arith in
       rw (← e₃) (simp (running, e₁, eq-eqb _ _ f, e₂))
 

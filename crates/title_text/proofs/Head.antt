@@ -8,7 +8,7 @@ use native.Mathlib.Omega.{arith}
 use lib.ListN.{length}
 use borrow.Author.Tests.{le-leb}
 use Rattle.machine.specs.Machine.{ok, run}
-use Rattle.cursor.specs.Rows.{nodeFrame}
+use Rattle.cursor.specs.Rows.{node_frame}
 use Rattle.machine.proofs.Laws.{running}
 use Rattle.node.specs.Node.{header_length, head, in_tree}
 use Rattle.room.specs.Parts.{joined}
@@ -39,9 +39,9 @@ module _ (end least : ℕ) (g : List ℕ) (p contained : ℕ) (rest own : List �
       let ss : List (List ℕ) = vlq N ∷ vlq contained ∷ vlq H ∷ rest ∷ own ∷ [] in
       let s = stand ss h in let z = joined_length ss in let w = framed-length contained rest own n small in
       let y = framed-header contained rest c small in
-      let e₁ = number-back nodeFrame 3 end N s.0 small (omega arith) in
-      let e₂ = number-back nodeFrame 3 (p + N) contained s.1.0 few (omega arith) in
-      let e₃ = number-back nodeFrame 3 (p + N) H s.1.1.0 (omega arith) (omega arith) in
+      let e₁ = number-back node_frame 3 end N s.0 small (omega arith) in
+      let e₂ = number-back node_frame 3 (p + N) contained s.1.0 few (omega arith) in
+      let e₃ = number-back node_frame 3 (p + N) H s.1.1.0 (omega arith) (omega arith) in
       let k₁ : p + N ≤ end = omega arith in let k₂ : least ≤ p + N = omega arith in let k₃ : H ≤ N = omega arith in
       let k₄ : p + length (vlq N) + length (vlq contained) + length (vlq H) ≤ p + H = omega arith in
       simp (running, e₁, le-leb _ _ k₁, le-leb _ _ k₂, e₂, or_true, e₃, le-leb _ _ k₃, le-leb _ _ k₄)

@@ -10,7 +10,7 @@ use lib.Dec.{eqb}
 use lib.ListN.{length, length-append}
 use borrow.Author.Tests.{lt-ltb, le-ltb, eq-eqb, ne_eqb, lt-leb, le-leb}
 use Rattle.machine.specs.Machine.{ok, run, exec, turns, many, times}
-use Rattle.cursor.specs.Rows.{metaFrame}
+use Rattle.cursor.specs.Rows.{meta_frame}
 use Rattle.room.specs.Parts.{part, joined}
 use Rattle.vlq.specs.Vlq.{vlq, sized}
 use Rattle.machine.proofs.Laws.{running, executing, exec-turn, exec-turned, exec-many}
@@ -58,8 +58,8 @@ module _ (x : Context) (l : Label) (end : ℕ) (m : Made) (g : List ℕ) (p : �
       let n : ℕ = length (joined ss) in let q : ℕ = p + length (vlq n) in let t = stand_sized (joined ss) h in
       let s = stand ss t.1 in let y = sized-length (joined ss) in let z = joined_length ss in
       let some = vlq-some c.format in
-      let e₁ = block_back metaFrame 3 end n t.0 (omega (arith, h.inside)) (omega arith) in
-      let e₂ = number-back metaFrame 3 (q + n) c.format s.0 fm (omega arith) in
+      let e₁ = block_back meta_frame 3 end n t.0 (omega (arith, h.inside)) (omega arith) in
+      let e₂ = number-back meta_frame 3 (q + n) c.format s.0 fm (omega arith) in
       let e₃ : q + n - (q + k) ≡ length c.bytes = omega arith in
       let e₄ = row-says g l c 0 0 c.format (q + k) (length c.bytes) lab v d refl (lies_part s.1.0) in
       let e₅ : q + k + length c.bytes ≡ p + length (sized (joined ss)) = omega arith in
@@ -74,8 +74,8 @@ module _ (x : Context) (l : Label) (end : ℕ) (m : Made) (g : List ℕ) (p : �
       let ss : List (List ℕ) = vlq c.declared ∷ sized c.bytes ∷ [] in
       let s = stand ss h in let t = stand_sized c.bytes s.1.0 in let y = sized-length c.bytes in
       let z = joined_length ss in
-      let e₁ = number-back metaFrame 3 end c.declared s.0 d (omega arith) in
-      let e₂ = block_back metaFrame 3 end n t.0 (omega (arith, h.inside)) (omega arith) in
+      let e₁ = number-back meta_frame 3 end c.declared s.0 d (omega arith) in
+      let e₂ = block_back meta_frame 3 end n t.0 (omega (arith, h.inside)) (omega arith) in
       let e₄ = row-says g l c (m.items + 1 - before) c.declared c.format (q + length (vlq n)) n lab v refl refl (lies_part t.1) in
       let e₅ : q + length (vlq n) + n ≡ p + length (joined ss) = omega arith in
       rw (← e₅) (simp (executing, exec-block, exec-number, lt-ltb _ _ room, e₁, fm, e₂, e₄))
@@ -144,8 +144,8 @@ module _ (g : List ℕ) (big : length g < 2 ^ 28) (end p : ℕ) (c : Content) wh
       let t : cond (eqb c.kind 1) (sized c.name) (joined ss) ≡ joined ss = rw k refl in
       let h' : Lies g p (joined ss) = rw t at h in let i' : p + length (joined ss) ≤ end = rw t at i in
       let s = stand ss h' in let z = joined_length ss in
-      let e₁ = block_back metaFrame 3 end 0 s.0 (omega arith) (omega arith) in
-      let e₂ = number-back metaFrame 3 end c.field s.1.0 small (omega arith) in
+      let e₁ = block_back meta_frame 3 end 0 s.0 (omega arith) (omega arith) in
+      let e₂ = number-back meta_frame 3 end c.field s.1.0 small (omega arith) in
       let e₃ : p + length (joined ss) ≡ p + length (vlq 0) + length (vlq c.field) = omega arith in
       record {
         is = Standard c.field;
@@ -158,7 +158,7 @@ module _ (g : List ℕ) (big : length g < 2 ^ 28) (end p : ℕ) (c : Content) wh
       let h' : Lies g p (sized c.name) = rw t at h in
       let i' : p + length (sized c.name) ≤ end = rw t at i in
       let s = stand_sized c.name h' in let z = sized-length c.name in
-      let e₁ = block_back metaFrame 3 end n s.0 (omega (arith, h'.inside)) (omega arith) in
+      let e₁ = block_back meta_frame 3 end n s.0 (omega (arith, h'.inside)) (omega arith) in
       let e₃ : p + length (sized c.name) ≡ p + length (vlq n) + n = omega arith in
       record {
         is = Name (record { 0 = p + length (vlq n) }) n;
@@ -191,7 +191,7 @@ module _ (x : Context) (node index end : ℕ) (m : Made) (g : List ℕ) (big : l
       let t : entry_text (c ∷ []) ≡ joined ss = rw v' refl in
       let s = stand ss (rw t at h) in let z = joined_length ss in let i' : p + length (joined ss) ≤ end = rw t at i in
       let fb = field_back g big end p c f s.0 (omega arith) in
-      let e₂ = number-back metaFrame 3 end 0 s.1.0 (omega arith) (omega arith) in
+      let e₂ = number-back meta_frame 3 end 0 s.1.0 (omega arith) (omega arith) in
       let e₃ = universal-back x (record { node = node; item = index; field = fb.is }) end m g (p + length (field_text c) + length (vlq 0)) σ c
       (fb.labels node index a b) (omega arith) big v d fm s.1.1.0 (omega arith) in
       let e₄ : p + length (joined ss) ≡ p + length (field_text c) + length (vlq 0) + length (universal_text c) = omega arith in
@@ -203,7 +203,7 @@ module _ (x : Context) (node index end : ℕ) (m : Made) (g : List ℕ) (big : l
       let t : entry_text (c ∷ cs) ≡ joined ss = rw v' refl in let s = stand ss (rw t at h) in let z = joined_length ss in
       let i' : p + length (joined ss) ≤ end = rw t at i in
       let fb = field_back g big end p c f s.0 (omega arith) in
-      let e₂ = number-back metaFrame 3 end n s.1.0 few (omega arith) in
+      let e₂ = number-back meta_frame 3 end n s.1.0 few (omega arith) in
       let k : 1 ≡ m.items + 1 - m.items = omega arith in
       let e₃ = versions_back x (record { node = node; item = index; field = fb.is }) end m.items g big c (fb.labels node index a b) (c ∷ cs)
       m (p + length (field_text c) + length (vlq n)) σ (subst (λ j. Versions x.types c j (c ∷ cs)) k v) (omega arith) r s.1.1.0
@@ -264,7 +264,7 @@ unfolding metadata meta_items
 metadata-back x node end g big {css} es m p σ h i r =
     let t : List ℕ = joined (entry_texts css) in let n : ℕ = length t in let q : ℕ = p + length (vlq n) in
     let s = stand_sized t h in let z = sized-length t in
-    let e₁ = block_back metaFrame 8 end n s.0 (omega (arith, h.inside)) (omega arith) in
+    let e₁ = block_back meta_frame 8 end n s.0 (omega (arith, h.inside)) (omega arith) in
     let e₂ = exec-many (collect g) g (q + n) q (next_item x node (q + n)) (record { made = m; index = 0 }) σ ∙ turns-back x node (q + n) g big es
     (q + n - q) m q σ s.1 refl (omega arith) r in
     let e₃ : p + length (sized t) ≡ q + n = omega arith in

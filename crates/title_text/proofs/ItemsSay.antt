@@ -10,7 +10,7 @@ use lib.Dec.{eqb}
 use lib.ListN.{length, length-append}
 use borrow.Author.Tests.{ltb-true, eqb-true, eqb-false}
 use Rattle.machine.specs.Machine.{ok, run, times}
-use Rattle.cursor.specs.Rows.{metaFrame}
+use Rattle.cursor.specs.Rows.{meta_frame}
 use Rattle.cursor.specs.Leaves.{number, block}
 use Rattle.room.specs.Parts.{part, joined}
 use Rattle.vlq.specs.Vlq.{vlq, sized}
@@ -155,35 +155,35 @@ module _ (f : List ℕ) (node index end at : ℕ) where
       post_if
       (λ t. post_step nothing-quiet λ k r e. post_ret
       (covers-as (sym (standard-said k))
-      (covers-on (covers-as (ap vlq (eqb-true n 0 t)) (block-covers metaFrame 3 end f at b))
-      (covers-last (number-covers metaFrame 3 end f q e)))))
-      (λ t. post_place _ q (post_skip _ _ (post_ret (covers-as (sym (name-said (record { 0 = q }) n)) (sized-covers metaFrame 3 end f at b (covers-part f q n))))))
+      (covers-on (covers-as (ap vlq (eqb-true n 0 t)) (block-covers meta_frame 3 end f at b))
+      (covers-last (number-covers meta_frame 3 end f q e)))))
+      (λ t. post_place _ q (post_skip _ _ (post_ret (covers-as (sym (name-said (record { 0 = q }) n)) (sized-covers meta_frame 3 end f at b (covers-part f q n))))))
 
   contents-covers : (p : ℕ) → Post nothing f (contents end) (Holds (λ c q. Covers f p (vlq (count_of c)) q)) p tt
   unfolding contents
   contents-covers p =
       post_step nothing-quiet λ n q e.
-      post_if (λ t. post_ret (covers-as (ap vlq (eqb-true n 0 t)) (number-covers metaFrame 3 end f p e))) (λ t. post_ret (number-covers metaFrame 3 end f p e))
+      post_if (λ t. post_ret (covers-as (ap vlq (eqb-true n 0 t)) (number-covers meta_frame 3 end f p e))) (λ t. post_ret (number-covers meta_frame 3 end f p e))
 
   frame-covers : Post nothing f (item_frame end) (Holds (λ i q. (p : ℕ) × Covers f at (field_said i.field) p × Covers f p (vlq (count_of i.contents)) q)) at tt
   unfolding item_frame
   frame-covers = post_after field-covers λ g q _ a. post_after (contents-covers q) λ c r _ b. post_ret (q, a, b)
 
-  universal-covers : {n q format r : ℕ} → run (block metaFrame 3 end) f at ≡ ok n q → run (number metaFrame 3 (q + n)) f q ≡ ok format r →
+  universal-covers : {n q format r : ℕ} → run (block meta_frame 3 end) f at ≡ ok n q → run (number meta_frame 3 (q + n)) f q ≡ ok format r →
       (c : Content) → format ≡ c.format → part f r (q + n - r) ≡ c.bytes
       → Covers f at (universal_text c) (r + (q + n - r))
   unfolding universal_text
   universal-covers {n} {q} {format} {r} b e c i l =
-      let j = number-inside metaFrame 3 (q + n) f q e in let z : r + (q + n - r) ≡ q + n = omega arith in
-      covers-to (sym z) (sized-covers metaFrame 3 end f at b
-      (covers-on (covers-as (ap vlq i) (number-covers metaFrame 3 (q + n) f q e))
+      let j = number-inside meta_frame 3 (q + n) f q e in let z : r + (q + n - r) ≡ q + n = omega arith in
+      covers-to (sym z) (sized-covers meta_frame 3 end f at b
+      (covers-on (covers-as (ap vlq i) (number-covers meta_frame 3 (q + n) f q e))
       (covers-last (covers-to z (covers-as l (covers-part f r (q + n - r)))))))
 
-  version-covers : {t q n r : ℕ} → run (number metaFrame 3 end) f at ≡ ok t q → run (block metaFrame 3 end) f q ≡ ok n r → (c : Content) → t ≡
+  version-covers : {t q n r : ℕ} → run (number meta_frame 3 end) f at ≡ ok t q → run (block meta_frame 3 end) f q ≡ ok n r → (c : Content) → t ≡
       c.declared → part f r n ≡ c.bytes → Covers f at (version_text c) (r + n)
   unfolding version_text
-  version-covers {n = n} {r} e b c i l = covers-on (covers-as (ap vlq i) (number-covers metaFrame 3 end f at e))
-      (covers-last (sized-covers metaFrame 3 end f _ b (covers-as l (covers-part f r n))))
+  version-covers {n = n} {r} e b c i l = covers-on (covers-as (ap vlq i) (number-covers meta_frame 3 end f at e))
+      (covers-last (sized-covers meta_frame 3 end f _ b (covers-as l (covers-part f r n))))
 
 versions_joined : (cs ds : List Content) → joined (version_texts (cs ++ ds)) ≡ joined (version_texts cs) ++ joined (version_texts ds)
 versions_joined [] ds = refl
@@ -263,15 +263,15 @@ module _ {f : List ℕ} {say : ℕ → Item → Content} (keeps : Keeps f say) (
   universal-says m at σ =
       post_place _ at
       (post_check _ _ λ room.
-      post_step (block-quiet metaFrame 3 end) λ n q b.
+      post_step (block-quiet meta_frame 3 end) λ n q b.
       post_check _ _ λ some.
       post_place _ q
-      (post_step (number-quiet metaFrame 3 (q + n)) λ format r e.
+      (post_step (number-quiet meta_frame 3 (q + n)) λ format r e.
       post_place _ r
       (post_skip _ _ (post_ret (
       let c : Content = say (length σ.items) (row_of l 0 0 format r (q + n - r)) in
       let h = keeps (length σ.items) (row_of l 0 0 format r (q + n - r)) in
-      let s = number-inside metaFrame 3 (q + n) f q e in let i = like_format f l 0 0 format r (q + n - r) h in
+      let s = number-inside meta_frame 3 (q + n) f q e in let i = like_format f l 0 0 format r (q + n - r) h in
       record {
         contents = c ∷ [];
         are = (
@@ -301,23 +301,23 @@ module _ {f : List ℕ} {say : ℕ → Item → Content} (keeps : Keeps f say) (
   version-says before m at σ =
       post_place _ at
       (post_check _ _ λ room.
-      post_step (number-quiet metaFrame 3 end) λ t q a.
+      post_step (number-quiet meta_frame 3 end) λ t q a.
       post_after (format-says at (format_of x.types t) q σ) λ format q₁ σ₁ b.
       let b₂ = b.2 in
-      post_step (block-quiet metaFrame 3 end) λ n r e.
+      post_step (block-quiet meta_frame 3 end) λ n r e.
       post_place _ r
       (post_skip _ _ (post_ret (
       let v : ℕ = m.items + 1 - before in
       let c : Content = say (length σ₁.items) (row_of l v t format r n) in
       let h = keeps (length σ₁.items) (row_of l v t format r n) in
-      let s = number-inside metaFrame 3 end f at a in let j = like_declared f l v t format r n h in
+      let s = number-inside meta_frame 3 end f at a in let j = like_declared f l v t format r n h in
       let k = like_format f l v t format r n h in
       record {
         contents = c ∷ [];
         are = (
           refl,
           (like_same f l v t format r n h, like_version f l v t format r n h, rw (← j, ← k) b.0, omega arith, tt),
-          λ plain. covers-last (version-covers f l.node l.item end at a (subst (λ p. run (block metaFrame 3 end) f p ≡ ok n r) (sym b₂) e) c j
+          λ plain. covers-last (version-covers f l.node l.item end at a (subst (λ p. run (block meta_frame 3 end) f p ≡ ok n r) (sym b₂) e) c j
               (plain (length σ₁.items) (row_of l v t format r n))),
         );
         room = omega (arith, ltb-true m.items x.limits.items room);
@@ -474,8 +474,8 @@ module _ {f : List ℕ} {say : ℕ → Item → Content} (keeps : Keeps f say) (
       f (metadata x node end m) (Added x m σ (AreMetadata f say x.types node at)) at σ
   unfolding metadata
   metadata-says end o m at σ r =
-      post_step (block-quiet metaFrame 8 end) λ n q b.
-      let i = block_inside metaFrame 8 end f at b in
+      post_step (block-quiet meta_frame 8 end) λ n q b.
+      let i = block_inside meta_frame 8 end f at b in
       post_place _ q (post_weaken (post_known (items-say (q + n) (omega arith) m q σ r)) λ m' p τ s.
       let e = (at_end (inside-free (q + n) (q + n)) f (items-on Nothing (q + n) (q + n) x node (q + n) (omega arith) m q (omega arith)) s.1).1 in
-      added-by s.0 (s.0.are.0, λ plain. covers-to (sym e) (sized-covers metaFrame 8 end f at b (covers-to e (s.0.are.1 plain)))))
+      added-by s.0 (s.0.are.0, λ plain. covers-to (sym e) (sized-covers meta_frame 8 end f at b (covers-to e (s.0.are.1 plain)))))

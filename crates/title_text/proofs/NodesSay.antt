@@ -10,7 +10,7 @@ use lib.Dec.{eqb, ltb, leb}
 use lib.ListN.{length, length-append}
 use borrow.Author.Tests.{ltb-true, leb-true, eqb-true, eqb-false, ne_eqb}
 use Rattle.machine.specs.Machine.{exec, times, ◌>>=◌}
-use Rattle.cursor.specs.Rows.{nodeFrame, referenceFrame, inline_size}
+use Rattle.cursor.specs.Rows.{node_frame, reference_frame, inline_size}
 use Rattle.room.specs.Parts.{part, joined}
 use Rattle.vlq.specs.Vlq.{vlq, sized}
 use Rattle.cursor.specs.declared.Node.{Node}
@@ -95,14 +95,14 @@ target-in f header_end size r end at p h some four =
     λ u. post_if (λ w. post_step nothing-quiet λ o q e. post_ret (λ z. absurd (omega arith), λ z. absurd (omega arith)))
     λ w. post_step nothing-quiet λ n q e. post_place _ q (post_skip _ _ (post_ret (
     let a = eqb-false r 1 t in let b = eqb-false r 2 u in let c = eqb-false r 3 w in let k : r ≡ 4 = omega arith in
-    (λ z. absurd (omega arith), λ z. covers-on (covers-as (ap vlq k) h) (covers-last (sized-covers referenceFrame 3 end f p e (covers-part f q n)))))))
+    (λ z. absurd (omega arith), λ z. covers-on (covers-as (ap vlq k) h) (covers-last (sized-covers reference_frame 3 end f p e (covers-part f q n)))))))
 
 reference-in : (f : List ℕ) (header_end size contained end at : ℕ) → Post nothing f (reference header_end size contained end) (Holds (RefersIn f at)) at tt
 unfolding reference
 reference-in f header_end size contained end at =
     post_place _ at
     (post_step nothing-quiet λ r q e. post_check _ _ λ t. post_check _ _ λ u. post_check _ _ λ v. target-in f header_end size r end at q
-    (number-covers referenceFrame 3 end f at e) (ltb-true 0 r t) (leb-true r 4 u))
+    (number-covers reference_frame 3 end f at e) (ltb-true 0 r t) (leb-true r 4 u))
 
 -- unpackers up to where the header ends, and the reference
 abbrev RestSays : (f : List ℕ) (contained inner at : ℕ) → Rest → ℕ → Type 0
@@ -148,9 +148,9 @@ head_in f s at =
     post_place _ q (post_step nothing-quiet λ header r e₃. post_place _ r (post_check _ _ λ c. post_check _ _ λ d. post_ret (
       p,
       q,
-      number_is nodeFrame 3 s.end.0 f at e₁,
-      number-covers nodeFrame 3 (at + n) f p e₂,
-      number_is nodeFrame 3 (at + n) f q e₃,
+      number_is node_frame 3 s.end.0 f at e₁,
+      number-covers node_frame 3 (at + n) f p e₂,
+      number_is node_frame 3 (at + n) f q e₃,
     ))))
 
 -- ---- the front of a node

@@ -8,7 +8,7 @@ use native.Mathlib.Omega.{arith}
 use lib.Dec.{eqb}
 use lib.ListN.{length}
 use Rattle.machine.specs.Machine.{Out, ok, refused, ret, run, trace, ◌>>=◌, ◌>>◌, if◌then◌else◌, place, skip, times}
-use Rattle.cursor.specs.Rows.{Frame, P, file_frame, unpackFrame, plain, language}
+use Rattle.cursor.specs.Rows.{Frame, P, file_frame, unpack_frame, plain, language}
 use Rattle.cursor.specs.Leaves.{number, block, manufacturer, guid}
 use Rattle.room.specs.Parts.{part, joined}
 use Rattle.vlq.specs.Vlq.{vlq}
@@ -100,16 +100,16 @@ module _ (f k : List ℕ) (long : length f ≡ length k) where
   identifier-alike : (kind at : ℕ) → Alike f k (identifier_text f kind) (identifier_text k kind) at
   unfolding identifier_text
   identifier-alike kind at =
-      alike_if (eqb kind 3) (copies (ap (guid unpackFrame) long) (λ a q e. (at_end any_free f (guid-on {U = Any} unpackFrame (length f) at) e).2))
+      alike_if (eqb kind 3) (copies (ap (guid unpack_frame) long) (λ a q e. (at_end any_free f (guid-on {U = Any} unpack_frame (length f) at) e).2))
       (alike_if (eqb kind 1)
-      (alike_bind (copies (ap (manufacturer unpackFrame) long)
-      (λ a q e. (at_end any_free f (manufacturer-on {U = Any} unpackFrame (length f) at) e).2)) λ m p e. alike_bind (numbers unpackFrame)
+      (alike_bind (copies (ap (manufacturer unpack_frame) long)
+      (λ a q e. (at_end any_free f (manufacturer-on {U = Any} unpack_frame (length f) at) e).2)) λ m p e. alike_bind (numbers unpack_frame)
       λ v q e. alike_same)
-      (alike_bind (numbers unpackFrame) λ v q e. alike_same))
+      (alike_bind (numbers unpack_frame) λ v q e. alike_same))
 
   unpacker-alike : (before : List ℕ) (at : ℕ) → Alike f k (unpacker_text f before) (unpacker_text k before) at
   unfolding unpacker_text
-  unpacker-alike before at = alike_bind (numbers unpackFrame) λ kind p e. alike_bind (identifier-alike kind p) λ i q e. alike_bind (numbers unpackFrame) λ size r e. alike_same
+  unpacker-alike before at = alike_bind (numbers unpack_frame) λ kind p e. alike_bind (identifier-alike kind p) λ i q e. alike_bind (numbers unpack_frame) λ size r e. alike_same
 
   -- the language's name, which is copied
   language-alike : (n at : ℕ) (h : List ℕ → List ℕ) → at + n ≤ length f → Alike f k (skip (plain language) n >> ret (h (part f at n)))

@@ -10,7 +10,7 @@ use lib.Dec.{eqb}
 use lib.ListN.{length, length-append}
 use borrow.Author.Tests.{le-leb, ne_eqb}
 use Rattle.machine.specs.Machine.{ok, run, turns, many, times}
-use Rattle.cursor.specs.Rows.{unpackFrame}
+use Rattle.cursor.specs.Rows.{unpack_frame}
 use Rattle.room.specs.Parts.{part, joined}
 use Rattle.vlq.specs.Vlq.{vlq, sized}
 use Rattle.machine.proofs.Laws.{running, run-turn, run-turned, run-many}
@@ -31,15 +31,15 @@ pub data Names : ℕ → List ℕ → Type 0 where
 module _ (end : ℕ) (g : List ℕ) (p : ℕ) where
   identifier-back : {kind : ℕ} {s : List ℕ} → Names kind s → Lies g p s → p + length s ≤ end → run (identifier kind end) g p ≡ ok tt (p + length s)
   unfolding identifier value
-  identifier-back (guid u) h i = let e = guid-back unpackFrame end g u p h i in simp (running, e)
+  identifier-back (guid u) h i = let e = guid-back unpack_frame end g u p h i in simp (running, e)
   identifier-back (made {s} {v} u l) h i =
       let ss : List (List ℕ) = s ∷ vlq v ∷ [] in
       let t = stand ss h in let z = joined_length ss in
-      let e₁ = maker_back unpackFrame end g u p t.0 (omega arith) in
-      let e₂ = number-back unpackFrame 3 end v t.1.0 l (omega arith) in
+      let e₁ = maker_back unpack_frame end g u p t.0 (omega arith) in
+      let e₂ = number-back unpack_frame 3 end v t.1.0 l (omega arith) in
       let e₃ : p + length (joined ss) ≡ p + length s + length (vlq v) = omega arith in
       rw e₃ (simp (running, e₁, e₂))
-  identifier-back (number {kind} {v} a b l) h i = let e = number-back unpackFrame 3 end v h l i in simp (running, ne_eqb _ _ a, ne_eqb _ _ b, e)
+  identifier-back (number {kind} {v} a b l) h i = let e = number-back unpack_frame 3 end v h l i in simp (running, ne_eqb _ _ a, ne_eqb _ _ b, e)
 
 copied-back : {g : List ℕ} {p : ℕ} {s : List ℕ} (q : ℕ) → q ≡ p + length s → Lies g p s → part g p (q - p) ≡ s
 copied-back {g} {p} {s} q e h = let k : q - p ≡ length s = omega arith in rw k (lies_part h)
@@ -48,18 +48,18 @@ module _ (g : List ℕ) (p : ℕ) where
   identifier-again : {kind : ℕ} {s : List ℕ} → Names kind s → Lies g p s → run (identifier_text g kind) g p ≡ ok s (p + length s)
   unfolding identifier_text copied
   identifier-again (guid {s} u) h =
-      let e = guid-back unpackFrame (length g) g u p h h.inside in
+      let e = guid-back unpack_frame (length g) g u p h h.inside in
       let c = copied-back (p + length s) refl h in
       simp (running, e, c)
   identifier-again (made {s} {v} u l) h =
       let ss : List (List ℕ) = s ∷ vlq v ∷ [] in
       let t = stand ss h in let i = h.inside in let z = joined_length ss in
-      let e₁ = maker_back unpackFrame (length g) g u p t.0 (omega arith) in
+      let e₁ = maker_back unpack_frame (length g) g u p t.0 (omega arith) in
       let c = copied-back (p + length s) refl t.0 in
-      let e₂ = number-back unpackFrame 3 (length g) v t.1.0 l (omega arith) in
+      let e₂ = number-back unpack_frame 3 (length g) v t.1.0 l (omega arith) in
       let e₃ : p + length (joined ss) ≡ p + length s + length (vlq v) = omega arith in
       rw e₃ (simp (running, e₁, c, e₂))
-  identifier-again (number {kind} {v} a b l) h = let e = number-back unpackFrame 3 (length g) v h l h.inside in simp (running, ne_eqb _ _ a, ne_eqb _ _ b, e)
+  identifier-again (number {kind} {v} a b l) h = let e = number-back unpack_frame 3 (length g) v h l h.inside in simp (running, ne_eqb _ _ a, ne_eqb _ _ b, e)
 
 -- the shortest form of an unpacker
 pub data Unpacker : List ℕ → Type 0 where
@@ -74,9 +74,9 @@ module _ (end : ℕ) (g : List ℕ) (n p : ℕ) where
   unpacker-back (unpacker {kind} {size} {s} k names l) h i =
       let ss : List (List ℕ) = vlq kind ∷ s ∷ vlq size ∷ [] in
       let t = stand ss h in let z = joined_length ss in
-      let e₁ = number-back unpackFrame 3 end kind t.0 (omega arith) (omega arith) in
+      let e₁ = number-back unpack_frame 3 end kind t.0 (omega arith) (omega arith) in
       let e₂ = identifier-back end g (p + length (vlq kind)) names t.1.0 (omega arith) in
-      let e₃ = number-back unpackFrame 3 end size t.1.1.0 l (omega arith) in
+      let e₃ = number-back unpack_frame 3 end size t.1.1.0 l (omega arith) in
       let e₄ : p + length (joined ss) ≡ p + length (vlq kind) + length s + length (vlq size) = omega arith in
       rw e₄ (simp (running, e₁, le-leb _ _ k, e₂, e₃))
 
@@ -85,9 +85,9 @@ unfolding unpacker_text
 unpacker-again g before p (unpacker {kind} {size} {s} k names l) h =
     let ss : List (List ℕ) = vlq kind ∷ s ∷ vlq size ∷ [] in
     let t = stand ss h in let i = h.inside in let z = joined_length ss in
-    let e₁ = number-back unpackFrame 3 (length g) kind t.0 (omega arith) (omega arith) in
+    let e₁ = number-back unpack_frame 3 (length g) kind t.0 (omega arith) (omega arith) in
     let e₂ = identifier-again g (p + length (vlq kind)) names t.1.0 in
-    let e₃ = number-back unpackFrame 3 (length g) size t.1.1.0 l (omega arith) in
+    let e₃ = number-back unpack_frame 3 (length g) size t.1.1.0 l (omega arith) in
     let e₄ : p + length (joined ss) ≡ p + length (vlq kind) + length s + length (vlq size) = omega arith in
     rw e₄ (simp (running, e₁, e₂, e₃))
 
@@ -139,7 +139,7 @@ module _ (g : List ℕ) (big : length g < 2 ^ 28) (contained inner q : ℕ) {ss 
   unpackers-run f h i =
       let n : ℕ = length (joined ss) in let s = stand_sized (joined ss) h in let z = sized-length (joined ss) in
       let r : ℕ = q + length (vlq n) in
-      let e₁ = block_back unpackFrame 8 (r + n) n s.0 (omega (arith, h.inside)) (omega arith) in
+      let e₁ = block_back unpack_frame 8 (r + n) n s.0 (omega (arith, h.inside)) (omega arith) in
       let e₂ : run (many (r + n) (node.unpacker (r + n)) 0) g r ≡ ok (0 + length ss) (r + n) = run-many g (r + n) r (node.unpacker (r + n)) 0 ∙
       unpackers-back (r + n) g us (r + n - r) 0 r s.1 refl (omega arith) in
       let e₃ : r + n ≡ inner = omega arith in let e₄ : 0 + length ss ≡ length ss = omega arith in

@@ -10,7 +10,7 @@ use lib.Dec.{eqb}
 use lib.ListN.{length, length-append}
 use borrow.Author.Tests.{leb-true, eqb-true, eqb-false, ne_eqb}
 use Rattle.machine.specs.Machine.{ok, run, times}
-use Rattle.cursor.specs.Rows.{unpackFrame}
+use Rattle.cursor.specs.Rows.{unpack_frame}
 use Rattle.cursor.specs.Leaves.{number}
 use Rattle.room.specs.Parts.{part, joined}
 use Rattle.vlq.specs.Vlq.{vlq, sized}
@@ -35,8 +35,8 @@ use Rattle.title_text.proofs.Unpackers.{Names, guid, made, Unpacker, unpacker, U
 
 module _ (f : List ℕ) (end : ℕ) (o : end ≤ length f) where
   -- a number is read in the whole file as in its part
-  wide : (at : ℕ) {v q : ℕ} → run (number unpackFrame 3 end) f at ≡ ok v q → run (number unpackFrame 3 (length f)) f at ≡ ok v q
-  wide at e = let i = number-inside unpackFrame 3 end f at e in number-wider unpackFrame 3 3 end (length f) f at e (omega arith)
+  wide : (at : ℕ) {v q : ℕ} → run (number unpack_frame 3 end) f at ≡ ok v q → run (number unpack_frame 3 (length f)) f at ≡ ok v q
+  wide at e = let i = number-inside unpack_frame 3 end f at e in number-wider unpack_frame 3 3 end (length f) f at e (omega arith)
 
   copied_is : (at : ℕ) (s : List ℕ) → Lies f at s → part f at (at + length s - at) ≡ s
   copied_is at s h = let k : at + length s - at ≡ length s = omega arith in rw k (lies_part h)
@@ -46,19 +46,19 @@ module _ (f : List ℕ) (end : ℕ) (o : end ≤ length f) where
   guid-text : (kind at : ℕ) {s : List ℕ} → kind ≡ 3 → Guid 19 s → Lies f at s → run (identifier_text f kind) f at ≡ ok s (at + length s)
   unfolding identifier_text copied
   guid-text kind at {s} k g h =
-      let e = guid-back unpackFrame (length f) f g at h h.inside in
+      let e = guid-back unpack_frame (length f) f g at h h.inside in
       let c = copied_is at s h in
       rw k (simp (running, e, c))
 
-  made-text : (kind at : ℕ) {s : List ℕ} {v q : ℕ} → kind ≡ 1 → Maker s → Lies f at s → run (number unpackFrame 3 end) f (at + length s) ≡ ok
+  made-text : (kind at : ℕ) {s : List ℕ} {v q : ℕ} → kind ≡ 1 → Maker s → Lies f at s → run (number unpack_frame 3 end) f (at + length s) ≡ ok
       v q → run (identifier_text f kind) f at ≡ ok (joined (s ∷ vlq v ∷ [])) q
   unfolding identifier_text copied
   made-text kind at {s} k g h e =
-      let e₁ = maker_back unpackFrame (length f) f g at h h.inside in
+      let e₁ = maker_back unpack_frame (length f) f g at h h.inside in
       let c = copied_is at s h in let e₂ = wide (at + length s) e in
       rw k (simp (running, e₁, c, e₂))
 
-  number-text : (kind at : ℕ) {v q : ℕ} → ((kind ≡ 3) → ⊥) → ((kind ≡ 1) → ⊥) → run (number unpackFrame 3 end) f at ≡ ok v q → run (identifier_text f kind) f at ≡ ok (vlq v) q
+  number-text : (kind at : ℕ) {v q : ℕ} → ((kind ≡ 3) → ⊥) → ((kind ≡ 1) → ⊥) → run (number unpack_frame 3 end) f at ≡ ok v q → run (identifier_text f kind) f at ≡ ok (vlq v) q
   unfolding identifier_text
   number-text kind at a b e = let e₁ = wide at e in simp (running, ne_eqb _ _ a, ne_eqb _ _ b, e₁)
 
@@ -67,9 +67,9 @@ module _ (f : List ℕ) (end : ℕ) (o : end ≤ length f) where
   unfolding identifier value
   identifier-says kind at =
       post_if
-      (λ t. post_run (guid-quiet unpackFrame end) λ _ q e.
-      let i = at_end any_free f (guid-on {U = Any} unpackFrame end at) e in
-      let w = guid-was unpackFrame end f o at e in
+      (λ t. post_run (guid-quiet unpack_frame end) λ _ q e.
+      let i = at_end any_free f (guid-on {U = Any} unpack_frame end at) e in
+      let w = guid-was unpack_frame end f o at e in
       let k = eqb-true kind 3 t in (
         i.2,
         i.0,
@@ -80,21 +80,21 @@ module _ (f : List ℕ) (end : ℕ) (o : end ≤ length f) where
         covers-to (sym w.ends) (covers-lies w.lies),
       ))
       (λ t. post_if
-      (λ u. post_step (manufacturer-quiet unpackFrame end) λ _ q e.
-      post_step (number-quiet unpackFrame 3 end) λ v r e₂.
-      let i = at_end any_free f (manufacturer-on {U = Any} unpackFrame end at) e in
-      let j = number-inside unpackFrame 3 end f q e₂ in let w = maker_was unpackFrame end f o at e in
+      (λ u. post_step (manufacturer-quiet unpack_frame end) λ _ q e.
+      post_step (number-quiet unpack_frame 3 end) λ v r e₂.
+      let i = at_end any_free f (manufacturer-on {U = Any} unpack_frame end at) e in
+      let j = number-inside unpack_frame 3 end f q e₂ in let w = maker_was unpack_frame end f o at e in
       let k = eqb-true kind 1 u in
       post_ret (
         j.2,
         omega arith,
         joined (w.bytes ∷ vlq v ∷ []),
         subst (λ n. Names n (joined (w.bytes ∷ vlq v ∷ []))) (sym k) (made w.is j.3),
-        made-text kind at k w.is w.lies (subst (λ n. run (number unpackFrame 3 end) f n ≡ ok v r) w.ends e₂),
-        covers-on (covers-to (sym w.ends) (covers-lies w.lies)) (covers-last (number-covers unpackFrame 3 end f q e₂)),
+        made-text kind at k w.is w.lies (subst (λ n. run (number unpack_frame 3 end) f n ≡ ok v r) w.ends e₂),
+        covers-on (covers-to (sym w.ends) (covers-lies w.lies)) (covers-last (number-covers unpack_frame 3 end f q e₂)),
       ))
-      (λ u. post_step (number-quiet unpackFrame 3 end) λ v q e.
-      let i = number-inside unpackFrame 3 end f at e in
+      (λ u. post_step (number-quiet unpack_frame 3 end) λ v q e.
+      let i = number-inside unpack_frame 3 end f at e in
       post_ret (
         i.2,
         i.0,
@@ -102,20 +102,20 @@ module _ (f : List ℕ) (end : ℕ) (o : end ≤ length f) where
         grammar.number (eqb-false kind 3 t) (eqb-false kind 1 u) i.3,
         number-text kind at (eqb-false kind 3 t)
             (eqb-false kind 1 u) e,
-        number-covers unpackFrame 3 end f at e,
+        number-covers unpack_frame 3 end f at e,
       )))
 
   -- ---- an unpacker
 
-  unpacker-text : (before : List ℕ) (at : ℕ) {kind size q r t : ℕ} {s : List ℕ} → run (number unpackFrame 3 end) f at ≡ ok kind q → run
-      (identifier_text f kind) f q ≡ ok s r → run (number unpackFrame 3 end) f r ≡ ok size t
+  unpacker-text : (before : List ℕ) (at : ℕ) {kind size q r t : ℕ} {s : List ℕ} → run (number unpack_frame 3 end) f at ≡ ok kind q → run
+      (identifier_text f kind) f q ≡ ok s r → run (number unpack_frame 3 end) f r ≡ ok size t
       → run (unpacker_text f before) f at ≡ ok (before ++ joined (vlq kind ∷ s ∷ vlq size ∷ [])) t
   unfolding unpacker_text
   unpacker-text before at {r = r} e₁ e₂ e₃ = let a = wide at e₁ in let b = wide r e₃ in simp (running, a, e₂, b)
 
-  value-says : (at : ℕ) → Post nothing f (value end) (Holds (λ _ q. (v : ℕ) × (run (number unpackFrame 3 end) f at ≡ ok v q))) at tt
+  value-says : (at : ℕ) → Post nothing f (value end) (Holds (λ _ q. (v : ℕ) × (run (number unpack_frame 3 end) f at ≡ ok v q))) at tt
   unfolding value
-  value-says at = post_step (number-quiet unpackFrame 3 end) λ v q e. post_ret (v, e)
+  value-says at = post_step (number-quiet unpack_frame 3 end) λ v q e. post_ret (v, e)
 
   unpacker-says : (n at : ℕ) → Post nothing f (node.unpacker end n)
       (Holds (λ k q. (k ≡ n + 1) × (at < q) × (q ≤ end) × (s : List ℕ) × Unpacker s ×
@@ -123,12 +123,12 @@ module _ (f : List ℕ) (end : ℕ) (o : end ≤ length f) where
   unfolding node.unpacker
   unpacker-says n at =
       post_place _ at
-      (post_step (number-quiet unpackFrame 3 end) λ kind q e.
+      (post_step (number-quiet unpack_frame 3 end) λ kind q e.
       post_check _ _ λ t.
       post_after (identifier-says kind q) λ _ r _ w.
       post_after (value-says r) λ _ u _ y.
-      let (size, e₂) = y in let (a, b, s, names, text, covers) = w in let i = number-inside unpackFrame 3 end f at e in
-      let j = number-inside unpackFrame 3 end f r e₂ in
+      let (size, e₂) = y in let (a, b, s, names, text, covers) = w in let i = number-inside unpack_frame 3 end f at e in
+      let j = number-inside unpack_frame 3 end f r e₂ in
       post_ret (
         refl,
         omega arith,
@@ -136,7 +136,7 @@ module _ (f : List ℕ) (end : ℕ) (o : end ≤ length f) where
         joined (vlq kind ∷ s ∷ vlq size ∷ []),
         unpacker (leb-true kind 3 t) names j.3,
         λ before. unpacker-text before at e text e₂,
-        covers-on (number-covers unpackFrame 3 end f at e) (covers-on covers (covers-last (number-covers unpackFrame 3 end f r e₂))),
+        covers-on (number-covers unpack_frame 3 end f at e) (covers-on covers (covers-last (number-covers unpack_frame 3 end f r e₂))),
       ))
 
 -- ---- end to end
@@ -218,9 +218,9 @@ unpackers-post : (f : List ℕ) (contained end : ℕ) → end ≤ length f → (
 unfolding unpackers
 unpackers-post f contained end o at =
     post_place _ at
-    (post_step (block-quiet unpackFrame 8 end) λ n q e.
+    (post_step (block-quiet unpack_frame 8 end) λ n q e.
     post_check _ _ λ t.
-    let i = block_inside unpackFrame 8 end f at e in
+    let i = block_inside unpack_frame 8 end f at e in
     post_place _ q
     (post_run nothing-quiet λ u r e₂.
     let v = post_ran (entries-say f (q + n) (omega arith) q (omega arith)) e₂ in
@@ -232,7 +232,7 @@ unpackers-post f contained end o at =
       count = sym w.count;
       text = ap answer (sym w.text) ∙ ap (λ p. answer (run (times u.count (unpacker_text f) []) f p)) (sym v.0);
       unpacked = elim (either contained n t) [ inl z ↦ inl z | inr z ↦ inr (empty-packs w.packs (omega arith)) ];
-      covers = covers-to (sym z) (sized-covers unpackFrame 8 end f at e (covers-to z w.covers));
+      covers = covers-to (sym z) (sized-covers unpack_frame 8 end f at e (covers-to z w.covers));
       within = omega arith;
     }))
 
@@ -252,9 +252,9 @@ reread_post : (f : List ℕ) (contained end : ℕ) → end ≤ length f → (at 
 unfolding unpackers
 reread_post f contained end o at =
     post_place _ at
-    (post_step (block-quiet unpackFrame 8 end) λ n q e.
+    (post_step (block-quiet unpack_frame 8 end) λ n q e.
     post_check _ _ λ t.
-    let i = block_inside unpackFrame 8 end f at e in
+    let i = block_inside unpack_frame 8 end f at e in
     post_place _ q
     (post_weaken (entries-say f (q + n) (omega arith) q (omega arith)) λ u r _ v.
     record { text = joined v.1.packs; stop = r; ran = rw v.0 v.1.text; after = omega (arith, v.0); before = omega arith }))

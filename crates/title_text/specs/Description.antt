@@ -4,7 +4,7 @@
 -- Assumes nothing.
 use Rattle.std.specs.Prelude.{cond, List, [], ◌∷◌, map, ℕ, zero, suc, ◌+◌, ◌-◌, eqb, length, take, drop}
 use Rattle.machine.specs.Machine.{Out, ok, refused, ret, run, ◌>>=◌, ◌>>◌, if◌then◌else◌, place, skip, times}
-use Rattle.cursor.specs.Rows.{P, file_frame, unpackFrame, plain, language}
+use Rattle.cursor.specs.Rows.{P, file_frame, unpack_frame, plain, language}
 use Rattle.cursor.specs.Refusals.{cut_short}
 use Rattle.cursor.specs.Leaves.{number, block, manufacturer, guid}
 use Rattle.room.specs.Parts.{part, joined}
@@ -34,7 +34,7 @@ content f r = record {
   item = r.item;
   kind = r.kind;
   field = cond (eqb r.kind 1) 0 r.field;
-  name = part f r.field r.nameLength;
+  name = part f r.field r.name_length;
   version = r.version;
   declared = r.declared;
   format = r.format;
@@ -54,22 +54,22 @@ copied f m = do
 -- what names an unpacker: a GUID; a manufacturer and a VLQ; a VLQ
 unfoldable pub identifier_text : List ℕ → ℕ → P (List ℕ)
 identifier_text f kind =
-    if eqb kind 3 then copied f (guid unpackFrame (length f))
+    if eqb kind 3 then copied f (guid unpack_frame (length f))
     else if eqb kind 1
     then (do
-      m ← copied f (manufacturer unpackFrame (length f))
-      v ← number unpackFrame cut_short (length f)
+      m ← copied f (manufacturer unpack_frame (length f))
+      v ← number unpack_frame cut_short (length f)
       ret (joined (m ∷ vlq v ∷ [])))
     else (do
-      v ← number unpackFrame cut_short (length f)
+      v ← number unpack_frame cut_short (length f)
       ret (vlq v))
 
 -- an unpacker, behind others: its kind, what names it, its decoded size
 unfoldable pub unpacker_text : List ℕ → List ℕ → P (List ℕ)
 unpacker_text f before = do
-  kind ← number unpackFrame cut_short (length f)
+  kind ← number unpack_frame cut_short (length f)
   i ← identifier_text f kind
-  size ← number unpackFrame cut_short (length f)
+  size ← number unpack_frame cut_short (length f)
   ret (joined (before ∷ vlq kind ∷ i ∷ vlq size ∷ []))
 
 -- an entry of the types table, behind others: a type, its string format, the language's name with its length

@@ -85,7 +85,7 @@ pub fn put_found(answer: &mut [u64], said: Found)
                 r.item,
                 r.kind,
                 r.field,
-                r.nameLength,
+                r.name_length,
                 r.version,
                 r.declared,
                 r.format,

@@ -1,7 +1,7 @@
 -- `block_size` gives the bytes of a number and what it counts.
 -- Assumes nothing.
 use mathlib.Core.Path.{refl, sym, ap}
-use Rattle.cursor.specs.Rows.{metaFrame}
+use Rattle.cursor.specs.Rows.{meta_frame}
 use Rattle.cursor.specs.Told.{number_told}
 use Rattle.machine.proofs.Laws.{was}
 use native.Mathlib.Omega.{arith}
@@ -11,18 +11,17 @@ use borrow.Author.Rules.{rules}
 use Rattle.account.proofs.block_size.Goals as goal
 
 pub returns-then-first-lt128 : goal.returns-then-first-lt128
-returns-then-first-lt128 c = let lent = c.args in
-    let read = number_short metaFrame 3 lent.end lent.file.now lent.at (omega arith) c.wide-first.ensures.0 c.if-first-lt128.true refl in
-    omega (arith, ap (counted lent.at) read)
+returns-then-first-lt128 c = let read = number_short meta_frame 3 c.args.end c.args.file.now c.args.at (omega arith) c.wide-first.ensures.0 c.if-first-lt128.true refl in
+    omega (arith, ap (counted c.args.at) read)
 
 pub overflow_add-result-in-Is : goal.overflow_add-result-in-Is
-overflow_add-result-in-Is c = omega (arith, number-inside metaFrame 3 _ _ _ (was number_told (c.number.ensures metaFrame) c.in-Is.is))
+overflow_add-result-in-Is c = omega (arith, number-inside meta_frame 3 _ _ _ (was number_told (c.number.ensures meta_frame) c.in-Is.is))
 
 pub overflow_sub-result : goal.overflow_sub-result
-overflow_sub-result c = omega (arith, number-inside metaFrame 3 _ _ _ (was number_told (c.number.ensures metaFrame) c.in-Is.is))
+overflow_sub-result c = omega (arith, number-inside meta_frame 3 _ _ _ (was number_told (c.number.ensures meta_frame) c.in-Is.is))
 
 pub returns-in-Refused : goal.returns-in-Refused
-returns-in-Refused c = ap (counted _) (sym (was number_told (c.number.ensures metaFrame) c.in-Refused.is))
+returns-in-Refused c = ap (counted _) (sym (was number_told (c.number.ensures meta_frame) c.in-Refused.is))
 
 pub returns-in-Is : goal.returns-in-Is
-returns-in-Is c = ap (counted _) (sym (was number_told (c.number.ensures metaFrame) c.in-Is.is))
+returns-in-Is c = ap (counted _) (sym (was number_told (c.number.ensures meta_frame) c.in-Is.is))

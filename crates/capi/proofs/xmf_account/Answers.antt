@@ -5,6 +5,5 @@ use borrow.Author.Rules.{rules}
 use Rattle.capi.proofs.xmf_account.Goals as goal
 
 pub returns : goal.returns
-returns c = let r = c.account-said in
-    account-leaves _ _ r.result c.read_totals-before.ensures r.ensures c.totals_in.ensures
+returns c = account-leaves _ _ c.account-said.result c.read_totals-before.ensures (c.account-said.ensures.answer, (c.account-said.ensures.totals, (c.account-said.ensures.nodes, c.account-said.ensures.items))) c.totals_in.ensures
     c.put_totals.ensures c.put_accounted.ensures

@@ -6,6 +6,5 @@ use borrow.Author.Rules.{rules}
 use Rattle.capi.proofs.xmf_correct_title.Goals as goal
 
 pub returns : goal.returns
-returns c = let r = c.correct_title in
-    leaves _ (correct_title_lem _ _ r.result (record { answers = r.ensures.0; in_buffer = r.ensures.1.1.1 }) r.ensures.1.0
-    r.ensures.1.1.0) c.put_written.ensures
+returns c = leaves _ (correct_title_lem _ _ c.correct_title.result (record { answers = c.correct_title.ensures.answer; in_buffer = c.correct_title.ensures.out }) c.correct_title.ensures.nodes
+    c.correct_title.ensures.items) c.put_written.ensures

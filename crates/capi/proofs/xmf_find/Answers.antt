@@ -7,13 +7,11 @@ use borrow.Author.Rules.{rules}
 use Rattle.capi.proofs.xmf_find.Goals as goal
 
 pub returns-then-kind-eq0 : goal.returns-then-kind-eq0
-returns-then-kind-eq0 c = let r = c.find_standard in
-    asks-standard find_item _ _ _ _ c.if-kind-eq0.true
-    (leaves _ (find-item _ _ r.result (record { answers = r.ensures.0; in_nodes_lem = r.ensures.1.0; in_items_lem = r.ensures.1.1 }))
+returns-then-kind-eq0 c = asks-standard find_item _ _ _ _ c.if-kind-eq0.true
+    (leaves _ (find-item _ _ c.find_standard.result (record { answers = c.find_standard.ensures.answer; in_nodes_lem = c.find_standard.ensures.nodes; in_items_lem = c.find_standard.ensures.items }))
     c.put_found.ensures)
 
 pub returns-else-kind-eq0 : goal.returns-else-kind-eq0
-returns-else-kind-eq0 c = let r = c.find_custom in
-    asks-custom find_item _ _ _ _ c.if-kind-eq0.false
-    (leaves _ (find-item _ _ r.result (record { answers = r.ensures.0; in_nodes_lem = r.ensures.1.0; in_items_lem = r.ensures.1.1 }))
+returns-else-kind-eq0 c = asks-custom find_item _ _ _ _ c.if-kind-eq0.false
+    (leaves _ (find-item _ _ c.find_custom.result (record { answers = c.find_custom.ensures.answer; in_nodes_lem = c.find_custom.ensures.nodes; in_items_lem = c.find_custom.ensures.items }))
     c.put_found-else-kind-eq0.ensures)

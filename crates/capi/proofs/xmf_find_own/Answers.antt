@@ -7,13 +7,11 @@ use borrow.Author.Rules.{rules}
 use Rattle.capi.proofs.xmf_find_own.Goals as goal
 
 pub returns-then-kind-eq0 : goal.returns-then-kind-eq0
-returns-then-kind-eq0 c = let r = c.find_own_standard in
-    asks-standard find_own _ _ _ _ c.if-kind-eq0.true
-    (leaves _ (find-own _ _ r.result (record { answers = r.ensures.0; in_nodes_lem = r.ensures.1.0; in_items_lem = r.ensures.1.1 }))
+returns-then-kind-eq0 c = asks-standard find_own _ _ _ _ c.if-kind-eq0.true
+    (leaves _ (find-own _ _ c.find_own_standard.result (record { answers = c.find_own_standard.ensures.answer; in_nodes_lem = c.find_own_standard.ensures.nodes; in_items_lem = c.find_own_standard.ensures.items }))
     c.put_found.ensures)
 
 pub returns-else-kind-eq0 : goal.returns-else-kind-eq0
-returns-else-kind-eq0 c = let r = c.find_own_custom in
-    asks-custom find_own _ _ _ _ c.if-kind-eq0.false
-    (leaves _ (find-own _ _ r.result (record { answers = r.ensures.0; in_nodes_lem = r.ensures.1.0; in_items_lem = r.ensures.1.1 }))
+returns-else-kind-eq0 c = asks-custom find_own _ _ _ _ c.if-kind-eq0.false
+    (leaves _ (find-own _ _ c.find_own_custom.result (record { answers = c.find_own_custom.ensures.answer; in_nodes_lem = c.find_own_custom.ensures.nodes; in_items_lem = c.find_own_custom.ensures.items }))
     c.put_found-else-kind-eq0.ensures)

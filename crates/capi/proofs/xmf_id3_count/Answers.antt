@@ -7,5 +7,4 @@ use borrow.Author.Rules.{rules}
 use Rattle.capi.proofs.xmf_id3_count.Goals as goal
 
 pub returns : goal.returns
-returns c = let r = c.frame_count in
-    leaves _ (calls.count-frames {f = []} _ r.result r.ensures) c.put_frame_count.ensures
+returns c = leaves _ (calls.count-frames {f = []} _ c.frame_count.result c.frame_count.ensures) c.put_frame_count.ensures

@@ -7,5 +7,4 @@ use borrow.Author.Rules.{rules}
 use Rattle.capi.proofs.xmf_id3_frame.Goals as goal
 
 pub returns : goal.returns
-returns c = let r = c.frame in
-    leaves _ (calls.tag-frame {f = []} _ _ r.result r.ensures) c.put_frame.ensures
+returns c = leaves _ (calls.tag-frame {f = []} _ _ c.frame.result c.frame.ensures) c.put_frame.ensures

@@ -6,5 +6,4 @@ use borrow.Author.Rules.{rules}
 use Rattle.capi.proofs.xmf_judge.Goals as goal
 
 pub returns : goal.returns
-returns c = let r = c.judge in
-    leaves _ (judge r.result (record { answers = r.ensures.0; in_nodes_lem = r.ensures.1.0; in_items_lem = r.ensures.1.1 })) c.put_judged.ensures
+returns c = leaves _ (judge c.judge.result (record { answers = c.judge.ensures.answer; in_nodes_lem = c.judge.ensures.nodes; in_items_lem = c.judge.ensures.items })) c.put_judged.ensures

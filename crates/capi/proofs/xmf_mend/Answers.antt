@@ -6,6 +6,4 @@ use borrow.Author.Rules.{rules}
 use Rattle.capi.proofs.xmf_mend.Goals as goal
 
 pub returns : goal.returns
-returns c = let r = c.mend in
-    let e = r.ensures in
-    leaves _ (mend-header r.result e.0 e.1.0 e.1.1.0 e.1.1.1.0 e.1.1.1.1) c.put_mended.ensures
+returns c = leaves _ (mend-header c.mend.result c.mend.ensures.answer c.mend.ensures.nodes c.mend.ensures.items c.mend.ensures.copy c.mend.ensures.lines) c.put_mended.ensures

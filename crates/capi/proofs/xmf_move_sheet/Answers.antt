@@ -7,5 +7,4 @@ use borrow.Author.Rules.{rules}
 use Rattle.capi.proofs.xmf_move_sheet.Goals as goal
 
 pub returns : goal.returns
-returns c = let r = c.move_sheet in
-    leaves _ (move-sheet {f = []} r.result (record { answers = r.ensures.0; in_buffer = r.ensures.1 })) c.put_written.ensures
+returns c = leaves _ (move-sheet {f = []} c.move_sheet.result (record { answers = c.move_sheet.ensures.answer; in_buffer = c.move_sheet.ensures.room })) c.put_written.ensures

@@ -6,5 +6,4 @@ use borrow.Author.Rules.{rules}
 use Rattle.capi.proofs.xmf_read_tree.Goals as goal
 
 pub returns : goal.returns
-returns c = let r = c.read_tree in
-    leaves _ (read-tree r.result r.ensures.0 r.ensures.1.0 r.ensures.1.1) c.put_tree.ensures
+returns c = leaves _ (read-tree c.read_tree.result c.read_tree.ensures.answer c.read_tree.ensures.nodes c.read_tree.ensures.items) c.put_tree.ensures

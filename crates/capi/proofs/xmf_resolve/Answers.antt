@@ -6,5 +6,4 @@ use borrow.Author.Rules.{rules}
 use Rattle.capi.proofs.xmf_resolve.Goals as goal
 
 pub returns : goal.returns
-returns c = let r = c.resolve in
-    leaves _ (resolve-row _ r.result (record { answers = r.ensures.0; in_nodes_lem = r.ensures.1.0; in_items_lem = r.ensures.1.1 })) c.put_resolved.ensures
+returns c = leaves _ (resolve-row _ c.resolve.result (record { answers = c.resolve.ensures.answer; in_nodes_lem = c.resolve.ensures.nodes; in_items_lem = c.resolve.ensures.items })) c.put_resolved.ensures

@@ -6,6 +6,5 @@ use borrow.Author.Rules.{rules}
 use Rattle.capi.proofs.xmf_resource.Goals as goal
 
 pub returns : goal.returns
-returns c = let r = c.copy_resource in
-    leaves _ (copy-resource _ r.result (record { answers = r.ensures.0; in_nodes_lem = r.ensures.1.0; in_items_lem = r.ensures.1.1.0 })
-    r.ensures.1.1.1) c.put_resolved.ensures
+returns c = leaves _ (copy-resource _ c.copy_resource.result (record { answers = c.copy_resource.ensures.answer; in_nodes_lem = c.copy_resource.ensures.nodes; in_items_lem = c.copy_resource.ensures.items })
+    c.copy_resource.ensures.out) c.put_resolved.ensures

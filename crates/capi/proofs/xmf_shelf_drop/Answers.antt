@@ -8,5 +8,4 @@ use borrow.Author.Rules.{rules}
 use Rattle.capi.proofs.xmf_shelf_drop.Goals as goal
 
 pub returns : goal.returns
-returns c = let a = c.args in
-    shelf-leaves (dropping (label a.desk a.call a.boat)) refl _ c.drop_words.result c.drop_words.ensures c.put_outcome.ensures
+returns c = shelf-leaves (dropping (label c.args.desk c.args.call c.args.boat)) refl _ c.drop_words.result (c.drop_words.ensures.result_value, (c.drop_words.ensures.words_value, c.drop_words.ensures.text_value)) c.put_outcome.ensures

@@ -5,5 +5,4 @@ use borrow.Author.Rules.{rules}
 use Rattle.capi.proofs.xmf_shelf_get.Goals as goal
 
 pub returns : goal.returns
-returns c = let r = c.get_words in
-    sheet_leaves _ _ _ r.result r.ensures c.put_got.ensures
+returns c = sheet_leaves _ _ _ c.get_words.result (c.get_words.ensures.result_value, c.get_words.ensures.out_value) c.put_got.ensures

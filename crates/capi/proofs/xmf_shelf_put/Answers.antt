@@ -8,5 +8,4 @@ use borrow.Author.Rules.{rules}
 use Rattle.capi.proofs.xmf_shelf_put.Goals as goal
 
 pub returns : goal.returns
-returns c = let a = c.args in
-    shelf-leaves (putting (label a.desk a.call a.boat) a.sheet.now) refl _ c.put_words.result c.put_words.ensures c.put_outcome.ensures
+returns c = shelf-leaves (putting (label c.args.desk c.args.call c.args.boat) c.args.sheet.now) refl _ c.put_words.result (c.put_words.ensures.result_value, (c.put_words.ensures.words_value, c.put_words.ensures.text_value)) c.put_outcome.ensures

@@ -7,5 +7,4 @@ use borrow.Author.Rules.{rules}
 use Rattle.capi.proofs.xmf_utf16_to_utf8.Goals as goal
 
 pub returns : goal.returns
-returns c = let r = c.to_utf8 in
-    leaves _ (to-utf8 {f = []} r.result (record { answers = r.ensures.0; in_buffer = r.ensures.1 })) c.put_written.ensures
+returns c = leaves _ (to-utf8 {f = []} c.to_utf8.result (record { answers = c.to_utf8.ensures.answer; in_buffer = c.to_utf8.ensures.text })) c.put_written.ensures

@@ -7,5 +7,4 @@ use borrow.Author.Rules.{rules}
 use Rattle.capi.proofs.xmf_utf8_to_utf16.Goals as goal
 
 pub returns : goal.returns
-returns c = let r = c.to_utf16 in
-    leaves _ (to-utf16 {f = []} r.result (record { answers = r.ensures.0; in_buffer = r.ensures.1 })) c.put_written.ensures
+returns c = leaves _ (to-utf16 {f = []} c.to_utf16.result (record { answers = c.to_utf16.ensures.answer; in_buffer = c.to_utf16.ensures.units })) c.put_written.ensures

@@ -6,5 +6,4 @@ use borrow.Author.Rules.{rules}
 use Rattle.capi.proofs.xmf_voice_count.Goals as goal
 
 pub returns : goal.returns
-returns c = let r = c.count_for in
-    leaves _ (count-for _ _ _ r.result (record { answers = r.ensures.0; in_nodes_lem = r.ensures.1.0; in_items_lem = r.ensures.1.1 })) c.put_counted.ensures
+returns c = leaves _ (count-for _ _ _ c.count_for.result (record { answers = c.count_for.ensures.answer; in_nodes_lem = c.count_for.ensures.nodes; in_items_lem = c.count_for.ensures.items })) c.put_counted.ensures

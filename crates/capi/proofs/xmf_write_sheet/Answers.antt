@@ -6,6 +6,5 @@ use borrow.Author.Rules.{rules}
 use Rattle.capi.proofs.xmf_write_sheet.Goals as goal
 
 pub returns : goal.returns
-returns c = let r = c.write_sheet in
-    leaves _ (write-sheet r.result (record { answers = r.ensures.0; in_buffer = r.ensures.1.1.1 }) r.ensures.1.0
-    r.ensures.1.1.0) c.put_written.ensures
+returns c = leaves _ (write-sheet c.write_sheet.result (record { answers = c.write_sheet.ensures.answer; in_buffer = c.write_sheet.ensures.sheet }) c.write_sheet.ensures.nodes
+    c.write_sheet.ensures.items) c.put_written.ensures

@@ -6,6 +6,5 @@ use borrow.Author.Rules.{rules}
 use Rattle.capi.proofs.xmf_write_sheet2.Goals as goal
 
 pub returns : goal.returns
-returns c = let r = c.write_sheet2 in
-    leaves _ (write-sheet2 r.result (record { answers = r.ensures.0; in_buffer = r.ensures.1.1.1 }) r.ensures.1.0
-    r.ensures.1.1.0) c.put_written.ensures
+returns c = leaves _ (write-sheet2 c.write_sheet2.result (record { answers = c.write_sheet2.ensures.answer; in_buffer = c.write_sheet2.ensures.sheet }) c.write_sheet2.ensures.nodes
+    c.write_sheet2.ensures.items) c.put_written.ensures

@@ -8,23 +8,35 @@ use Rattle.description.proofs.count_for.Goals as goal
 
 pub count_row-requires : goal.count_row-requires
 count_row-requires c = rows_inside c.args.file.now (length c.args.nodes.now) (length c.args.items.now) c.args.item-row
-    c.args.channel c.args.resource c.read_file.ensures.answer c.read_file.ensures.nodes.0
-    c.read_file.ensures.nodes.1 c.in-Is.is
+    c.args.channel c.args.resource c.read_file.ensures.answer c.read_file.ensures.nodes
+    c.read_file.ensures.items c.in-Is.is
 
 pub returns-in-Refused : goal.returns-in-Refused
-returns-in-Refused c = let all = (let w = ends_unread c.args.file.now (length c.args.nodes.now) (length c.args.items.now) c.args.item-row
-    c.args.channel c.args.resource c.read_file.ensures.answer c.read_file.ensures.nodes.0
-    c.read_file.ensures.nodes.1 c.in-Refused.is in (w.0, (w.1, w.2))) in record { answer = all.0; nodes = all.1; items = all.2 }
+returns-in-Refused c = let w = ends_unread c.args.file.now (length c.args.nodes.now) (length c.args.items.now) c.args.item-row
+    c.args.channel c.args.resource c.read_file.ensures.answer c.read_file.ensures.nodes
+    c.read_file.ensures.items c.in-Refused.is in record {
+      answer = w.0;
+      nodes = w.1;
+      items = w.2;
+    }
 
 pub returns-in-Count : goal.returns-in-Count
-returns-in-Count c = let all = (let w = ends_count c.args.file.now (length c.args.nodes.now) (length c.args.items.now) c.args.item-row
-    c.args.channel c.args.resource c.read_file.ensures.answer c.read_file.ensures.nodes.0
-    c.read_file.ensures.nodes.1 c.in-Is.is _ c.count_row.ensures c.in-Count.is
-    in (w.0, (w.1, w.2))) in record { answer = all.0; nodes = all.1; items = all.2 }
+returns-in-Count c = let w = ends_count c.args.file.now (length c.args.nodes.now) (length c.args.items.now) c.args.item-row
+    c.args.channel c.args.resource c.read_file.ensures.answer c.read_file.ensures.nodes
+    c.read_file.ensures.items c.in-Is.is _ c.count_row.ensures c.in-Count.is
+    in record {
+      answer = w.0;
+      nodes = w.1;
+      items = w.2;
+    }
 
 pub returns-in-Refused-count_row : goal.returns-in-Refused-count_row
-returns-in-Refused-count_row c = let all = (let w = ends_refused c.args.file.now (length c.args.nodes.now) (length c.args.items.now) c.args.item-row
-    c.args.channel c.args.resource c.read_file.ensures.answer c.read_file.ensures.nodes.0
-    c.read_file.ensures.nodes.1 c.in-Is.is _ c.count_row.ensures c.in-Refused-count_row.is
-    (c.clear_all.ensures.nodes ∙ ap (λ k. replicate k 0) c.read_file.auto.1.0)
-    (c.clear_all.ensures.items ∙ ap (λ k. replicate k 0) c.read_file.auto.1.1.0) in (w.0, (w.1, w.2))) in record { answer = all.0; nodes = all.1; items = all.2 }
+returns-in-Refused-count_row c = let w = ends_refused c.args.file.now (length c.args.nodes.now) (length c.args.items.now) c.args.item-row
+    c.args.channel c.args.resource c.read_file.ensures.answer c.read_file.ensures.nodes
+    c.read_file.ensures.items c.in-Is.is _ c.count_row.ensures c.in-Refused-count_row.is
+    (c.clear_all.ensures.nodes ∙ ap (λ k. replicate k 0) c.read_file.auto.nodes)
+    (c.clear_all.ensures.items ∙ ap (λ k. replicate k 0) c.read_file.auto.items) in record {
+      answer = w.0;
+      nodes = w.1;
+      items = w.2;
+    }

@@ -4,7 +4,7 @@
 use mathlib.Core.Logic.{inl, inr}
 use Prim.Native.Nat.{◌-◌}
 use native.Mathlib.Omega.{arith}
-use Rattle.cursor.specs.Rows.{metaFrame}
+use Rattle.cursor.specs.Rows.{meta_frame}
 use Rattle.cursor.specs.Told.{number_told}
 use Rattle.machine.proofs.Laws.{was}
 use Rattle.cursor.proofs.Leaves.{number-inside}
@@ -16,13 +16,13 @@ pub loop-i-init : goal.loop-i-init
 loop-i-init c = numbers-begun _ _ _ _ _
 
 pub returns-in-Refused : goal.returns-in-Refused
-returns-in-Refused c = numbers-no c.loop-i.invariant c.loop-i-test.true (was number_told (c.number.ensures metaFrame) c.in-Refused.is)
+returns-in-Refused c = numbers-no c.loop-i.invariant c.loop-i-test.true (was number_told (c.number.ensures meta_frame) c.in-Refused.is)
 
 pub loop-i-smaller : goal.loop-i-smaller
-loop-i-smaller c = omega (arith, number-inside _ _ _ _ _ (was number_told (c.number.ensures metaFrame) c.in-Is.is))
+loop-i-smaller c = omega (arith, number-inside _ _ _ _ _ (was number_told (c.number.ensures meta_frame) c.in-Is.is))
 
 pub loop-i-preserved : goal.loop-i-preserved
-loop-i-preserved c = numbers_on c.loop-i.invariant c.loop-i-test.true (was number_told (c.number.ensures metaFrame) c.in-Is.is)
+loop-i-preserved c = numbers_on c.loop-i.invariant c.loop-i-test.true (was number_told (c.number.ensures meta_frame) c.in-Is.is)
     (elim c.if-i-index.branch [ inl w ↦ inl (w.0.taken, w.1) | inr w ↦ inr (w.0.left, w.1) ])
 
 pub returns : goal.returns

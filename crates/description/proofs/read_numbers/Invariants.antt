@@ -4,7 +4,7 @@
 use mathlib.Core.Logic.{inl, inr}
 use Prim.Native.Nat.{◌-◌}
 use native.Mathlib.Omega.{arith}
-use Rattle.cursor.specs.Rows.{metaFrame}
+use Rattle.cursor.specs.Rows.{meta_frame}
 use Rattle.cursor.specs.Told.{number_told}
 use Rattle.machine.proofs.Laws.{was}
 use Rattle.cursor.proofs.Leaves.{number-inside}

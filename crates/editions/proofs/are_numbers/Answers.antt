@@ -16,33 +16,27 @@ pub loop-left-init : goal.loop-left-init
 loop-left-init c = (refl, omega arith, omega arith)
 
 pub returns-in-No : goal.returns-in-No
-returns-in-No c = let a = c.args in
-    let told = as_told (NumberAt a.line.now c.loop-left.from) c.number_field.ensures c.in-No.is in
-    sym (c.loop-left.invariant.0 ∙ numbers-no a.line.now c.loop-left.from
+returns-in-No c = let told = as_told (NumberAt c.args.line.now c.loop-left.from) c.number_field.ensures c.in-No.is in
+    sym (c.loop-left.invariant.0 ∙ numbers-no c.args.line.now c.loop-left.from
     c.loop-left.left c.loop-left-test.true told)
 
 pub loop-left-preserved : goal.loop-left-preserved
-loop-left-preserved c = let a = c.args in
-    let loop = c.loop-left in
-    let loop-test = c.loop-left-test in
-    let told = as_told (NumberAt a.line.now loop.from) c.number_field.ensures c.in-Is.is in (
-      loop.invariant.0 ∙ numbers_on a.line.now loop.from loop.left loop-test.true told,
-      omega (
-        arith,
-        (as_told (NumberAt a.line.now loop.from) c.number_field.ensures
-            c.in-Is.is).field.inside,
-      ),
-      omega arith,
-    )
+loop-left-preserved c = let told = as_told (NumberAt c.args.line.now c.loop-left.from) c.number_field.ensures c.in-Is.is in (
+  c.loop-left.invariant.0 ∙ numbers_on c.args.line.now c.loop-left.from c.loop-left.left c.loop-left-test.true told,
+  omega (
+    arith,
+    (as_told (NumberAt c.args.line.now c.loop-left.from) c.number_field.ensures
+        c.in-Is.is).field.inside,
+  ),
+  omega arith,
+)
 
 pub returns-then-end-line : goal.returns-then-end-line
-returns-then-end-line c = let a = c.args in
-    let piece = next-piece 0x09 a.line.now c.loop-left.from (omega arith) c.piece_end-end.ensures.1 in
-    sym (c.loop-left.invariant.0 ∙ numbers_more a.line.now c.loop-left.from
+returns-then-end-line c = let piece = next-piece 0x09 c.args.line.now c.loop-left.from (omega arith) c.piece_end-end.ensures.1 in
+    sym (c.loop-left.invariant.0 ∙ numbers_more c.args.line.now c.loop-left.from
     c.loop-left.left (omega arith) piece c.if-end-line.true)
 
 pub returns : goal.returns
-returns c = let a = c.args in
-    let piece = next-piece 0x09 a.line.now c.loop-left.from (omega arith) c.piece_end-end.ensures.1 in
-    numbers-last a.line.now c.loop-left.from c.loop-left.left (omega arith)
+returns c = let piece = next-piece 0x09 c.args.line.now c.loop-left.from (omega arith) c.piece_end-end.ensures.1 in
+    numbers-last c.args.line.now c.loop-left.from c.loop-left.left (omega arith)
     piece c.if-end-line.false c.read_number.ensures ∙ sym c.loop-left.invariant.0

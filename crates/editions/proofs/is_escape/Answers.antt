@@ -18,16 +18,8 @@ pub returns-then-is_plain : goal.returns-then-is_plain
 returns-then-is_plain c = escape_plain _ _ c.nibble.ensures.0 c.nibble-2.ensures.0 c.if-v-ge256.false c.is_plain.ensures c.if-is_plain.true
 
 pub returns-then-x-hex : goal.returns-then-x-hex
-returns-then-x-hex c = let pre = c.requires in
-    let nibble = c.nibble in
-    let nibble' = c.nibble-2 in
-    escape_high _ _ nibble.ensures.0 nibble'.ensures.0 c.if-v-ge256.false
-    c.is_plain.ensures c.if-is_plain.false pre c.if-x-hex.true
+returns-then-x-hex c = escape_high _ _ c.nibble.ensures.0 c.nibble-2.ensures.0 c.if-v-ge256.false
+    c.is_plain.ensures c.if-is_plain.false c.requires c.if-x-hex.true
 
 pub returns : goal.returns
-returns c = let pre = c.requires in
-    let nibble = c.nibble in
-    let nibble' = c.nibble-2 in
-    let test = c.if-v-ge256 in
-    let is_plain = c.is_plain in
-    escape_low _ _ nibble.ensures.0 nibble'.ensures.0 test.false is_plain.ensures c.if-is_plain.false pre c.if-x-hex.false
+returns c = escape_low _ _ c.nibble.ensures.0 c.nibble-2.ensures.0 c.if-v-ge256.false c.is_plain.ensures c.if-is_plain.false c.requires c.if-x-hex.false

@@ -12,27 +12,18 @@ number_field-requires-in-Is c = (as_told (NumberAt c.args.line.now c.args.at)
     c.number_field.ensures c.in-Is.is).field.inside
 
 pub returns-then-format-ne0 : goal.returns-then-format-ne0
-returns-then-format-ne0 c = let a = c.args in
-    let number-field = c.number_field in
-    let second = c.second-1 in
-    let number-field' = c.number_field-in-Is in
-    tail-odd a.line.now _ (as_told (NumberAt a.line.now a.at) number-field.ensures second.given.1)
-    (as_told (NumberAt a.line.now _) number-field'.ensures c.in-Is-number_field.is) c.if-format-ne0.true
+returns-then-format-ne0 c = tail-odd c.args.line.now _ (as_told (NumberAt c.args.line.now c.args.at) c.number_field.ensures c.in-Is.is)
+    (as_told (NumberAt c.args.line.now _) c.number_field-in-Is.ensures c.in-Is-number_field.is) c.if-format-ne0.true
 
 pub piece_end-end-requires : goal.piece_end-end-requires
 piece_end-end-requires c = (as_told (NumberAt c.args.line.now _)
     c.number_field-in-Is.ensures c.in-Is-number_field.is).field.inside
 
 pub returns-then-end-line : goal.returns-then-end-line
-returns-then-end-line c = let a = c.args in
-    let number-field = c.number_field in
-    let second = c.second-1 in
-    let number-field' = c.number_field-in-Is in
-    let format = c.format-1 in
-    let told = as_told (NumberAt a.line.now _) number-field'.ensures format.given.1 in
-    let told' = as_told (NumberAt a.line.now a.at) number-field.ensures second.given.1 in
-    let piece = next-piece 0x09 a.line.now _ (omega (arith, told.field.inside)) c.piece_end-end.ensures.1 in
-    tail_more a.line.now _ told' told c.if-format-ne0.false piece c.if-end-line.true
+returns-then-end-line c = let told = as_told (NumberAt c.args.line.now _) c.number_field-in-Is.ensures c.in-Is-number_field.is in
+    let told' = as_told (NumberAt c.args.line.now c.args.at) c.number_field.ensures c.in-Is.is in
+    let piece = next-piece 0x09 c.args.line.now _ (omega (arith, told.field.inside)) c.piece_end-end.ensures.1 in
+    tail_more c.args.line.now _ told' told c.if-format-ne0.false piece c.if-end-line.true
 
 pub is_text-requires : goal.is_text-requires
 is_text-requires c = (omega (arith, c.piece_end-end.ensures.1), omega (arith, c.piece_end-end.ensures.0))
@@ -43,19 +34,11 @@ returns-in-No c = let told = as_told (NumberAt c.args.line.now c.args.at)
     tail-first c.args.line.now c.args.at told
 
 pub returns-in-No-number_field : goal.returns-in-No-number_field
-returns-in-No-number_field c = let a = c.args in
-    let number-field = c.number_field in
-    let second = c.second-1 in
-    tail-second a.line.now _ (as_told (NumberAt a.line.now a.at) number-field.ensures second.given.1)
-    (as_told (NumberAt a.line.now _) c.number_field-in-Is.ensures c.in-No-number_field.is)
+returns-in-No-number_field c = tail-second c.args.line.now _ (as_told (NumberAt c.args.line.now c.args.at) c.number_field.ensures c.in-Is.is)
+    (as_told (NumberAt c.args.line.now _) c.number_field-in-Is.ensures c.in-No-number_field.is)
 
 pub returns-else-end-line : goal.returns-else-end-line
-returns-else-end-line c = let a = c.args in
-    let number-field = c.number_field in
-    let second = c.second-1 in
-    let number-field' = c.number_field-in-Is in
-    let format = c.format-1 in
-    let told = as_told (NumberAt a.line.now _) number-field'.ensures format.given.1 in
-    let told' = as_told (NumberAt a.line.now a.at) number-field.ensures second.given.1 in
-    let piece = next-piece 0x09 a.line.now _ (omega (arith, told.field.inside)) c.piece_end-end.ensures.1 in
-    tail-last a.line.now _ told' told c.if-format-ne0.false piece c.if-end-line.false c.is_text.ensures
+returns-else-end-line c = let told = as_told (NumberAt c.args.line.now _) c.number_field-in-Is.ensures c.in-Is-number_field.is in
+    let told' = as_told (NumberAt c.args.line.now c.args.at) c.number_field.ensures c.in-Is.is in
+    let piece = next-piece 0x09 c.args.line.now _ (omega (arith, told.field.inside)) c.piece_end-end.ensures.1 in
+    tail-last c.args.line.now _ told' told c.if-format-ne0.false piece c.if-end-line.false c.is_text.ensures

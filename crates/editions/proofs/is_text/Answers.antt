@@ -33,30 +33,22 @@ pub is_escape-requires : goal.is_escape-requires
 is_escape-requires c = c.hex_digits-hex.ensures
 
 pub returns-then-not-is_escape : goal.returns-then-not-is_escape
-returns-then-not-is_escape c = let loop = c.loop-i in
-    let loop-test = c.loop-i-test in
-    let test = c.if-b-eq92 in
-    let test' = c.if-end-i-lt3 in
-    spelled-bad loop.invariant loop-test.true refl test.true test'.false refl refl c.is_escape.ensures (not-true _ c.if-not-is_escape.true)
+returns-then-not-is_escape c = spelled-bad c.loop-i.invariant c.loop-i-test.true refl c.if-b-eq92.true c.if-end-i-lt3.false refl refl c.is_escape.ensures c.if-not-is_escape.true
 
 pub overflow_add-i-then-b-eq92-2 : goal.overflow_add-i-then-b-eq92-2
 overflow_add-i-then-b-eq92-2 c = omega (arith, c.loop-i.invariant.inside)
 
 pub loop-i-preserved-then-b-eq92 : goal.loop-i-preserved-then-b-eq92
-loop-i-preserved-then-b-eq92 c = let loop = c.loop-i in
-    let loop-test = c.loop-i-test in
-    let test = c.if-b-eq92 in
-    let test' = c.if-end-i-lt3 in
-    spelled-three loop.invariant loop-test.true refl test.true test'.false refl refl c.is_escape.ensures (not-false _ c.if-not-is_escape.false)
+loop-i-preserved-then-b-eq92 c = spelled-three c.loop-i.invariant c.loop-i-test.true refl c.if-b-eq92.true c.if-end-i-lt3.false refl refl c.is_escape.ensures c.if-not-is_escape.false
 
 pub returns-then-not-is_itself : goal.returns-then-not-is_itself
-returns-then-not-is_itself c = spelled-no c.loop-i.invariant c.loop-i-test.true refl c.if-b-eq92.false c.is_itself.ensures (not-true _ c.if-not-is_itself.true)
+returns-then-not-is_itself c = spelled-no c.loop-i.invariant c.loop-i-test.true refl c.if-b-eq92.false c.is_itself.ensures c.if-not-is_itself.true
 
 pub overflow_add-i-else-b-eq92 : goal.overflow_add-i-else-b-eq92
 overflow_add-i-else-b-eq92 c = omega (arith, c.loop-i.invariant.inside)
 
 pub loop-i-preserved : goal.loop-i-preserved
-loop-i-preserved c = spelled-one c.loop-i.invariant c.loop-i-test.true refl c.if-b-eq92.false c.is_itself.ensures (not-false _ c.if-not-is_itself.false)
+loop-i-preserved c = spelled-one c.loop-i.invariant c.loop-i-test.true refl c.if-b-eq92.false c.is_itself.ensures c.if-not-is_itself.false
 
 pub returns : goal.returns
 returns c = spelled-all c.loop-i.invariant c.loop-i-test.false

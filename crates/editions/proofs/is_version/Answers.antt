@@ -11,39 +11,18 @@ pub returns-then-line-from-ne46 : goal.returns-then-line-from-ne46
 returns-then-line-from-ne46 c = version-dot c.args.line.now c.args.from c.args.end c.requires.1 c.if-end-from-ne4.false c.if-line-from-ne46.true
 
 pub returns-then-line-from-ne48 : goal.returns-then-line-from-ne48
-returns-then-line-from-ne48 c = let a = c.args in
-    let pre = c.requires in
-    version-zero a.line.now a.from a.end pre.1 c.if-end-from-ne4.false c.if-line-from-ne46.false c.if-line-from-ne48.true
+returns-then-line-from-ne48 c = version-zero c.args.line.now c.args.from c.args.end c.requires.1 c.if-end-from-ne4.false c.if-line-from-ne46.false c.if-line-from-ne48.true
 
 pub returns-then-line-from-eq50 : goal.returns-then-line-from-eq50
-returns-then-line-from-eq50 c = let a = c.args in
-    let pre = c.requires in
-    let test = c.if-end-from-ne4 in
-    let test' = c.if-line-from-ne46 in
-    version-two a.line.now a.from a.end pre.1 test.false test'.false c.if-line-from-ne48.false c.if-line-from-eq50.true
+returns-then-line-from-eq50 c = version-two c.args.line.now c.args.from c.args.end c.requires.1 c.if-end-from-ne4.false c.if-line-from-ne46.false c.if-line-from-ne48.false c.if-line-from-eq50.true
 
 pub returns-then-line-from-ne49 : goal.returns-then-line-from-ne49
-returns-then-line-from-ne49 c = let a = c.args in
-    let pre = c.requires in
-    let test = c.if-end-from-ne4 in
-    let test' = c.if-line-from-ne46 in
-    version-none a.line.now a.from a.end pre.1 test.false test'.false c.if-line-from-ne48.false c.if-line-from-eq50.false c.if-line-from-ne49.true
+returns-then-line-from-ne49 c = version-none c.args.line.now c.args.from c.args.end c.requires.1 c.if-end-from-ne4.false c.if-line-from-ne46.false c.if-line-from-ne48.false c.if-line-from-eq50.false c.if-line-from-ne49.true
 
 pub returns-then-line-from-eq48 : goal.returns-then-line-from-eq48
-returns-then-line-from-eq48 c = let a = c.args in
-    let pre = c.requires in
-    let test = c.if-end-from-ne4 in
-    let test' = c.if-line-from-ne46 in
-    let test'' = c.if-line-from-ne48 in
-    version-first a.line.now a.from a.end pre.1 test.false test'.false test''.false
+returns-then-line-from-eq48 c = version-first c.args.line.now c.args.from c.args.end c.requires.1 c.if-end-from-ne4.false c.if-line-from-ne46.false c.if-line-from-ne48.false
     c.if-line-from-eq50.false c.if-line-from-ne49.false c.if-line-from-eq48.true
 
 pub returns : goal.returns
-returns c = let a = c.args in
-    let pre = c.requires in
-    let test = c.if-end-from-ne4 in
-    let test' = c.if-line-from-ne46 in
-    let test'' = c.if-line-from-ne48 in
-    let test''' = c.if-line-from-eq50 in
-    version-second a.line.now a.from a.end pre.1 test.false test'.false test''.false test'''.false
+returns c = version-second c.args.line.now c.args.from c.args.end c.requires.1 c.if-end-from-ne4.false c.if-line-from-ne46.false c.if-line-from-ne48.false c.if-line-from-eq50.false
     c.if-line-from-ne49.false c.if-line-from-eq48.false

@@ -15,8 +15,7 @@ pub loop-at-init : goal.loop-at-init
 loop-at-init c = record { same = refl; nodes-few = omega arith; items-few = omega arith; few = omega arith; inside = omega arith }
 
 pub returns-then-sheet-end : goal.returns-then-sheet-end
-returns-then-sheet-end c = let a = c.args in
-    let piece = next-piece 0x0A a.sheet.now c.loop-at.at (omega arith) c.piece_end-end.ensures.1 in
+returns-then-sheet-end c = let piece = next-piece 0x0A c.args.sheet.now c.loop-at.at (omega arith) c.piece_end-end.ensures.1 in
     judged-unended c.loop-at.invariant c.loop-at-test.true piece c.piece_end-end.ensures.0 c.if-sheet-end.true
 
 pub slice_bounds-read_line-start : goal.slice_bounds-read_line-start
@@ -26,14 +25,9 @@ pub step-requires : goal.step-requires
 step-requires c = (omega (arith, c.loop-at.invariant.nodes-few), omega (arith, c.loop-at.invariant.items-few))
 
 pub returns-in-No : goal.returns-in-No
-returns-in-No c = let a = c.args in
-    let loop = c.loop-at in
-    let loop-test = c.loop-at-test in
-    let piece-end = c.piece_end-end in
-    let test = c.if-sheet-end in
-    let line = lent a.sheet.now loop.at piece-end.result (omega (arith, piece-end.ensures.1)) piece-end.ensures.0 in
-    let piece = next-piece 0x0A a.sheet.now loop.at (omega arith) piece-end.ensures.1 in
-    judged-no loop.invariant loop-test.true piece test.false (omega (arith, piece-end.ensures.1)) line
+returns-in-No c = let line = lent c.args.sheet.now c.loop-at.at c.piece_end-end.result (omega (arith, c.piece_end-end.ensures.1)) c.piece_end-end.ensures.0 in
+    let piece = next-piece 0x0A c.args.sheet.now c.loop-at.at (omega arith) c.piece_end-end.ensures.1 in
+    judged-no c.loop-at.invariant c.loop-at-test.true piece c.if-sheet-end.false (omega (arith, c.piece_end-end.ensures.1)) line
     c.read_line-line.ensures (sym (was step_told c.step.ensures c.in-No.is))
 
 pub overflow_add-number : goal.overflow_add-number
@@ -43,15 +37,9 @@ pub loop-at-smaller : goal.loop-at-smaller
 loop-at-smaller c = omega (arith, c.piece_end-end.ensures.1)
 
 pub loop-at-preserved : goal.loop-at-preserved
-loop-at-preserved c = let a = c.args in
-    let loop = c.loop-at in
-    let loop-test = c.loop-at-test in
-    let piece-end = c.piece_end-end in
-    let test = c.if-sheet-end in
-    let read-line = c.read_line-line in
-    let line = lent a.sheet.now loop.at piece-end.result (omega (arith, piece-end.ensures.1)) piece-end.ensures.0 in
-    let piece = next-piece 0x0A a.sheet.now loop.at (omega arith) piece-end.ensures.1 in
-    judged-on loop.invariant loop-test.true piece test.false (omega (arith, piece-end.ensures.1)) line read-line.ensures
+loop-at-preserved c = let line = lent c.args.sheet.now c.loop-at.at c.piece_end-end.result (omega (arith, c.piece_end-end.ensures.1)) c.piece_end-end.ensures.0 in
+    let piece = next-piece 0x0A c.args.sheet.now c.loop-at.at (omega arith) c.piece_end-end.ensures.1 in
+    judged-on c.loop-at.invariant c.loop-at-test.true piece c.if-sheet-end.false (omega (arith, c.piece_end-end.ensures.1)) line c.read_line-line.ensures
     (sym (was step_told c.step.ensures c.in-To.is))
 
 pub returns : goal.returns

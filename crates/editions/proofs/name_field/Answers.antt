@@ -17,13 +17,9 @@ returns-then-end-at c = let piece = next-piece 0x09 c.args.line.now c.args.at (o
     name-none c.args.line.now _ piece c.if-line-end.false (omega (arith, c.piece_end-end.ensures.1))
 
 pub returns-then-not-is_text : goal.returns-then-not-is_text
-returns-then-not-is_text c = let a = c.args in
-    let piece-end = c.piece_end-end in
-    name-bad a.line.now _ (next-piece 0x09 a.line.now a.at (omega arith) piece-end.ensures.1)
-    c.if-line-end.false c.if-end-at.false c.is_text.ensures (not-true _ c.if-not-is_text.true)
+returns-then-not-is_text c = name-bad c.args.line.now _ (next-piece 0x09 c.args.line.now c.args.at (omega arith) c.piece_end-end.ensures.1)
+    c.if-line-end.false c.if-end-at.false c.is_text.ensures c.if-not-is_text.true
 
 pub returns : goal.returns
-returns c = let a = c.args in
-    let piece-end = c.piece_end-end in
-    name-is a.line.now _ (next-piece 0x09 a.line.now a.at (omega arith) piece-end.ensures.1)
-    c.if-line-end.false c.if-end-at.false c.is_text.ensures (not-false _ c.if-not-is_text.false)
+returns c = name-is c.args.line.now _ (next-piece 0x09 c.args.line.now c.args.at (omega arith) c.piece_end-end.ensures.1)
+    c.if-line-end.false c.if-end-at.false c.is_text.ensures c.if-not-is_text.false

@@ -11,11 +11,9 @@ pub returns-then-line-end : goal.returns-then-line-end
 returns-then-line-end c = no_other c.args.line.now _ (next-piece 0x09 c.args.line.now c.args.at (omega arith) c.piece_end-end.ensures.1) is_number c.if-line-end.true
 
 pub returns-then-v-eq-NONE : goal.returns-then-v-eq-NONE
-returns-then-v-eq-NONE c = let a = c.args in
-    number-no a.line.now _ (next-piece 0x09 a.line.now a.at (omega arith) c.piece_end-end.ensures.1)
+returns-then-v-eq-NONE c = number-no c.args.line.now _ (next-piece 0x09 c.args.line.now c.args.at (omega arith) c.piece_end-end.ensures.1)
     c.read_number-v.ensures c.if-line-end.false c.if-v-eq-NONE.true
 
 pub returns : goal.returns
-returns c = let a = c.args in
-    number_is a.line.now _ (next-piece 0x09 a.line.now a.at (omega arith) c.piece_end-end.ensures.1)
+returns c = number_is c.args.line.now _ (next-piece 0x09 c.args.line.now c.args.at (omega arith) c.piece_end-end.ensures.1)
     c.read_number-v.ensures c.if-line-end.false c.if-v-eq-NONE.false

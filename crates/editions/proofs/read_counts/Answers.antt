@@ -21,11 +21,9 @@ pub is_version-requires : goal.is_version-requires
 is_version-requires c = (omega (arith, c.piece_end-end.ensures.1), c.piece_end-end.ensures.0)
 
 pub returns-then-not-is_version : goal.returns-then-not-is_version
-returns-then-not-is_version c = let a = c.args in
-    let pre = c.requires in
-    lead-version a.line.now a.second a.at pre
-    (next-piece 0x09 a.line.now a.at pre.inside c.piece_end-end.ensures.1) c.if-line-end.false
-    c.is_version.ensures (not-true _ c.if-not-is_version.true)
+returns-then-not-is_version c = lead-version c.args.line.now c.args.second c.args.at c.requires
+    (next-piece 0x09 c.args.line.now c.args.at c.requires.inside c.piece_end-end.ensures.1) c.if-line-end.false
+    c.is_version.ensures c.if-not-is_version.true
 
 pub number_field-requires-in-Is : goal.number_field-requires-in-Is
 number_field-requires-in-Is c = (as_told (NumberAt c.args.line.now _) c.number_field.ensures c.in-Is.is).field.inside
@@ -34,80 +32,38 @@ pub piece_end-last-requires : goal.piece_end-last-requires
 piece_end-last-requires c = (as_told (NumberAt c.args.line.now _) c.number_field-in-Is.ensures c.in-Is-number_field.is).field.inside
 
 pub returns-then-last-line : goal.returns-then-last-line
-returns-then-last-line c = let a = c.args in
-    let pre = c.requires in
-    let piece-end = c.piece_end-end in
-    let test = c.if-line-end in
-    let is-version = c.is_version in
-    let number-field = c.number_field in
-    let test' = c.if-not-is_version in
-    let third = c.third-1 in
-    let number-field' = c.number_field-in-Is in
-    let told = as_told (NumberAt a.line.now _) number-field'.ensures c.in-Is-number_field.is in
-    let told' = as_told (NumberAt a.line.now _) number-field.ensures third.given.1 in
-    let piece = next-piece 0x09 a.line.now _ told.field.inside c.piece_end-last.ensures.1 in
-    let piece' = next-piece 0x09 a.line.now a.at pre.inside piece-end.ensures.1 in
-    lead-more a.line.now a.second a.at pre piece' test.false is-version.ensures (not-false _ test'.false) told' told piece c.if-last-line.true
+returns-then-last-line c = let told = as_told (NumberAt c.args.line.now _) c.number_field-in-Is.ensures c.in-Is-number_field.is in
+    let told' = as_told (NumberAt c.args.line.now _) c.number_field.ensures c.in-Is.is in
+    let piece = next-piece 0x09 c.args.line.now _ told.field.inside c.piece_end-last.ensures.1 in
+    let piece' = next-piece 0x09 c.args.line.now c.args.at c.requires.inside c.piece_end-end.ensures.1 in
+    lead-more c.args.line.now c.args.second c.args.at c.requires piece' c.if-line-end.false c.is_version.ensures c.if-not-is_version.false told' told piece c.if-last-line.true
 
 pub read_number-items-requires : goal.read_number-items-requires
 read_number-items-requires c = (omega (arith, c.piece_end-last.ensures.1), c.piece_end-last.ensures.0)
 
 pub returns-then-items-eq-NONE : goal.returns-then-items-eq-NONE
-returns-then-items-eq-NONE c = let a = c.args in
-    let pre = c.requires in
-    let piece-end = c.piece_end-end in
-    let test = c.if-line-end in
-    let is-version = c.is_version in
-    let number-field = c.number_field in
-    let test' = c.if-not-is_version in
-    let third = c.third-1 in
-    let number-field' = c.number_field-in-Is in
-    let nodes = c.nodes-1 in
-    let told = as_told (NumberAt a.line.now _) number-field'.ensures nodes.given.1 in
-    let told' = as_told (NumberAt a.line.now _) number-field.ensures third.given.1 in
-    let piece = next-piece 0x09 a.line.now _ told.field.inside c.piece_end-last.ensures.1 in
-    let piece' = next-piece 0x09 a.line.now a.at pre.inside piece-end.ensures.1 in
-    lead-items a.line.now a.second a.at pre piece' test.false is-version.ensures (not-false _ test'.false) told' told piece
+returns-then-items-eq-NONE c = let told = as_told (NumberAt c.args.line.now _) c.number_field-in-Is.ensures c.in-Is-number_field.is in
+    let told' = as_told (NumberAt c.args.line.now _) c.number_field.ensures c.in-Is.is in
+    let piece = next-piece 0x09 c.args.line.now _ told.field.inside c.piece_end-last.ensures.1 in
+    let piece' = next-piece 0x09 c.args.line.now c.args.at c.requires.inside c.piece_end-end.ensures.1 in
+    lead-items c.args.line.now c.args.second c.args.at c.requires piece' c.if-line-end.false c.is_version.ensures c.if-not-is_version.false told' told piece
     c.if-last-line.false c.read_number-items.ensures c.if-items-eq-NONE.true
 
 pub returns-in-No : goal.returns-in-No
-returns-in-No c = let a = c.args in
-    let pre = c.requires in
-    let piece-end = c.piece_end-end in
-    let test = c.if-line-end in
-    let is-version = c.is_version in
-    let told = as_told (NumberAt a.line.now _) c.number_field.ensures c.in-No.is in
-    let piece = next-piece 0x09 a.line.now a.at pre.inside piece-end.ensures.1 in
-    lead-length a.line.now a.second a.at pre piece test.false is-version.ensures (not-false _ c.if-not-is_version.false) told
+returns-in-No c = let told = as_told (NumberAt c.args.line.now _) c.number_field.ensures c.in-No.is in
+    let piece = next-piece 0x09 c.args.line.now c.args.at c.requires.inside c.piece_end-end.ensures.1 in
+    lead-length c.args.line.now c.args.second c.args.at c.requires piece c.if-line-end.false c.is_version.ensures c.if-not-is_version.false told
 
 pub returns-in-No-number_field : goal.returns-in-No-number_field
-returns-in-No-number_field c = let a = c.args in
-    let pre = c.requires in
-    let piece-end = c.piece_end-end in
-    let test = c.if-line-end in
-    let is-version = c.is_version in
-    let number-field = c.number_field in
-    let test' = c.if-not-is_version in
-    let third = c.third-1 in
-    let told = as_told (NumberAt a.line.now _) c.number_field-in-Is.ensures c.in-No-number_field.is in
-    let told' = as_told (NumberAt a.line.now _) number-field.ensures third.given.1 in
-    let piece = next-piece 0x09 a.line.now a.at pre.inside piece-end.ensures.1 in
-    lead-nodes a.line.now a.second a.at pre piece test.false is-version.ensures (not-false _ test'.false) told' told
+returns-in-No-number_field c = let told = as_told (NumberAt c.args.line.now _) c.number_field-in-Is.ensures c.in-No-number_field.is in
+    let told' = as_told (NumberAt c.args.line.now _) c.number_field.ensures c.in-Is.is in
+    let piece = next-piece 0x09 c.args.line.now c.args.at c.requires.inside c.piece_end-end.ensures.1 in
+    lead-nodes c.args.line.now c.args.second c.args.at c.requires piece c.if-line-end.false c.is_version.ensures c.if-not-is_version.false told' told
 
 pub returns-else-items-eq-NONE : goal.returns-else-items-eq-NONE
-returns-else-items-eq-NONE c = let a = c.args in
-    let pre = c.requires in
-    let piece-end = c.piece_end-end in
-    let test = c.if-line-end in
-    let is-version = c.is_version in
-    let number-field = c.number_field in
-    let test' = c.if-not-is_version in
-    let third = c.third-1 in
-    let number-field' = c.number_field-in-Is in
-    let nodes = c.nodes-1 in
-    let told = as_told (NumberAt a.line.now _) number-field'.ensures nodes.given.1 in
-    let told' = as_told (NumberAt a.line.now _) number-field.ensures third.given.1 in
-    let piece = next-piece 0x09 a.line.now _ told.field.inside c.piece_end-last.ensures.1 in
-    let piece' = next-piece 0x09 a.line.now a.at pre.inside piece-end.ensures.1 in
-    lead_is a.line.now a.second a.at pre piece' test.false is-version.ensures (not-false _ test'.false) told' told piece
+returns-else-items-eq-NONE c = let told = as_told (NumberAt c.args.line.now _) c.number_field-in-Is.ensures c.in-Is-number_field.is in
+    let told' = as_told (NumberAt c.args.line.now _) c.number_field.ensures c.in-Is.is in
+    let piece = next-piece 0x09 c.args.line.now _ told.field.inside c.piece_end-last.ensures.1 in
+    let piece' = next-piece 0x09 c.args.line.now c.args.at c.requires.inside c.piece_end-end.ensures.1 in
+    lead_is c.args.line.now c.args.second c.args.at c.requires piece' c.if-line-end.false c.is_version.ensures c.if-not-is_version.false told' told piece
     c.if-last-line.false c.read_number-items.ensures c.if-items-eq-NONE.false

@@ -17,10 +17,7 @@ pub returns-then-line-ne70 : goal.returns-then-line-ne70
 returns-then-line-ne70 c = word-f c.args.line.now c.if-line-ne70.true
 
 pub returns-then-line-eq9 : goal.returns-then-line-eq9
-returns-then-line-eq9 c = let a = c.args in
-    let test = c.if-line-lt4 in
-    let test' = c.if-line-ne88 in
-    word_first a.line.now test'.false c.if-line-ne77.false c.if-line-ne70.false test.false c.if-line-eq9.true
+returns-then-line-eq9 c = word_first c.args.line.now c.if-line-ne88.false c.if-line-ne77.false c.if-line-ne70.false c.if-line-lt4.false c.if-line-eq9.true
 
 pub returns-then-line-ne50 : goal.returns-then-line-ne50
 returns-then-line-ne50 c = word-fourth c.args.line.now c.if-line-eq9.false c.if-line-ne50.true
@@ -32,8 +29,4 @@ pub returns-then-line-ne9 : goal.returns-then-line-ne9
 returns-then-line-ne9 c = word-fifth c.args.line.now c.if-line-ne50.false c.if-line-ne9.true
 
 pub returns : goal.returns
-returns c = let a = c.args in
-    let test = c.if-line-ne88 in
-    let test' = c.if-line-ne77 in
-    let test'' = c.if-line-ne70 in
-    word-second a.line.now test.false test'.false test''.false c.if-line-lt5.false c.if-line-ne50.false c.if-line-ne9.false
+returns c = word-second c.args.line.now c.if-line-ne88.false c.if-line-ne77.false c.if-line-ne70.false c.if-line-lt5.false c.if-line-ne50.false c.if-line-ne9.false

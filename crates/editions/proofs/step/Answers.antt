@@ -13,9 +13,7 @@ pub returns-then-second : goal.returns-then-second
 returns-then-second c = node-second c.args.second c.args.t (ap line_told c.in-Node.is) c.if-k-t.false c.if-second.true
 
 pub returns-then-t-ne0 : goal.returns-then-t-ne0
-returns-then-t-ne0 c = let a = c.args in
-    let line = c.line-1 in
-    node-late a.second a.t (ap line_told line.given.1) c.if-k-t.false c.if-second.false c.if-t-ne0.true
+returns-then-t-ne0 c = node-late c.args.second c.args.t (ap line_told c.in-Node.is) c.if-k-t.false c.if-second.false c.if-t-ne0.true
 
 pub returns-then-k-t-2 : goal.returns-then-k-t-2
 returns-then-k-t-2 c = item_back c.args.second c.args.t (ap line_told c.in-Item.is) c.if-k-t-2.true
@@ -27,11 +25,7 @@ pub returns-in-Other : goal.returns-in-Other
 returns-in-Other c = no_line c.args.second c.args.t (ap line_told c.in-Other.is)
 
 pub returns-else-t-ne0 : goal.returns-else-t-ne0
-returns-else-t-ne0 c = let a = c.args in
-    let line = c.line-1 in
-    node-first a.second a.t (ap line_told line.given.1) c.if-k-t.false c.if-second.false c.if-t-ne0.false
+returns-else-t-ne0 c = node-first c.args.second c.args.t (ap line_told c.in-Node.is) c.if-k-t.false c.if-second.false c.if-t-ne0.false
 
 pub returns-else-t-k : goal.returns-else-t-k
-returns-else-t-k c = let a = c.args in
-    let line = c.line-in-Item-1 in
-    item_on a.second a.t (ap line_told line.given.1) c.if-k-t-2.false c.if-t-k.false
+returns-else-t-k c = item_on c.args.second c.args.t (ap line_told c.in-Item.is) c.if-k-t-2.false c.if-t-k.false

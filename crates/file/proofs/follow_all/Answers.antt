@@ -14,35 +14,30 @@ pub loop-i-init : goal.loop-i-init
 loop-i-init c = (follows_begun _ _ _ _ _ _ _ (omega arith) refl, refl, refl)
 
 pub follow_row-requires : goal.follow_row-requires
-follow_row-requires c = let w = c.requires.1 in
-    let x = c.loop-i.invariant.0 w.0 w.1 w.2 in
-    let p = c.requires.0 in let a = c.loop-i.invariant.1 in let b = c.loop-i.invariant.2 in
-    (omega (arith, p), c.loop-i-test.true, (w.0, x.log, x.stands), follows_spanned _ _ _ _ _ _ _ c.loop-i.invariant.0 (omega (arith, p.nodes-in, a)) w.0 w.1 w.2)
+follow_row-requires c = let x = c.loop-i.invariant.0 c.requires.1.0 c.requires.1.1 c.requires.1.2 in
+    (omega (arith, c.requires.0), c.loop-i-test.true, (c.requires.1.0, x.log, x.stands), follows_spanned _ _ _ _ _ _ _ c.loop-i.invariant.0 (omega (arith, c.requires.0.nodes-in, c.loop-i.invariant.1)) c.requires.1.0 c.requires.1.1 c.requires.1.2)
 
 pub returns-in-Refused : goal.returns-in-Refused
 returns-in-Refused c = follows_no _ _ _ _ _ _ _ c.loop-i.invariant.0 c.loop-i-test.true c.follow_row.ensures c.in-Refused.is
 
 pub with_row-span-requires : goal.with_row-span-requires
-with_row-span-requires c = let w = c.requires.1 in
-    let kept = c.follow_row.auto.1.1 in
-    let y = follows_next _ _ _ _ _ _ _ c.loop-i.invariant.0 c.loop-i-test.true c.follow_row.ensures c.requires.0.start-in
-    c.in-Done.is kept.0 kept.1.0 w.0 w.1 w.2 in
-    let long = kept.0 ∙ c.loop-i.invariant.1 in (
+with_row-span-requires c = let y = follows_next _ _ _ _ _ _ _ c.loop-i.invariant.0 c.loop-i-test.true c.follow_row.ensures c.requires.0.start-in
+    c.in-Done.is c.follow_row.auto.nodes c.follow_row.auto.items c.requires.1.0 c.requires.1.1 c.requires.1.2 in
+    let long = c.follow_row.auto.nodes ∙ c.loop-i.invariant.1 in (
       (stand_few y.stands (omega (arith, c.requires.0.nodes-in, long))).1,
       λ i l. let q = stand_inside y.stands (omega (arith, c.requires.0.nodes-in, long)) i l in omega (arith, c.requires.0.short),
     )
 
 pub loop-i-smaller : goal.loop-i-smaller
-loop-i-smaller c = let w = c.requires.1 in let x = c.loop-i.invariant.0 w.0 w.1 w.2 in omega (arith, c.loop-i-test.true, x.stands.fits)
+loop-i-smaller c = let x = c.loop-i.invariant.0 c.requires.1.0 c.requires.1.1 c.requires.1.2 in omega (arith, c.loop-i-test.true, x.stands.fits)
 
 pub loop-i-preserved : goal.loop-i-preserved
-loop-i-preserved c = let kept = c.follow_row.auto.1.1 in
-    let long = kept.0 ∙ c.loop-i.invariant.1 in (
-      follows_on _ _ _ _ _ _ _ c.loop-i.invariant.0 c.loop-i-test.true c.follow_row.ensures c.requires.0.start-in
-          c.in-Done.is kept.0 kept.1.0 (omega (arith, c.requires.0.nodes-in, long)) c.with_row-span.ensures.0 c.with_row-span.ensures.1,
-      long,
-      kept.1.0 ∙ c.loop-i.invariant.2,
-    )
+loop-i-preserved c = let long = c.follow_row.auto.nodes ∙ c.loop-i.invariant.1 in (
+  follows_on _ _ _ _ _ _ _ c.loop-i.invariant.0 c.loop-i-test.true c.follow_row.ensures c.requires.0.start-in
+      c.in-Done.is c.follow_row.auto.nodes c.follow_row.auto.items (omega (arith, c.requires.0.nodes-in, long)) c.with_row-span.ensures.0 c.with_row-span.ensures.1,
+  long,
+  c.follow_row.auto.items ∙ c.loop-i.invariant.2,
+)
 
 pub returns : goal.returns
 returns c = follows_done _ _ _ _ _ _ _ c.loop-i.invariant.0 c.loop-i-test.false _

@@ -11,54 +11,49 @@ pub read_root-requires : goal.read_root-requires
 read_root-requires c = omega (arith, c.requires, whole_room c.room_of-lim.ensures)
 
 pub follow_all-requires : goal.follow_all-requires
-follow_all-requires c = let root = c.read_root in
-    let lent = c.args in let asked = c.requires in
-    let w = whole-stands lent.file.now lent.nodes.now lent.items.now (header_of lent.h lent.types.now)
-    lent.h.extent.end.0 (asked.0, asked.1, asked.2) c.room_of-lim.ensures root.ensures root.auto.1.1.0
-    root.auto.1.1.1.0 c.in-Done.is in
-    let z = whole_room c.room_of-lim.ensures in let a = root.auto.1.1.0 in
-    let b = root.auto.1.1.1.0 in (omega arith, w)
+follow_all-requires c = let w = whole-stands c.args.file.now c.args.nodes.now c.args.items.now (header_of c.args.h c.args.types.now)
+    c.args.h.extent.end.0 (c.requires.0, c.requires.1, c.requires.2) c.room_of-lim.ensures c.read_root.ensures c.read_root.auto.nodes
+    c.read_root.auto.items c.in-Done.is in
+    let z = whole_room c.room_of-lim.ensures in (omega arith, w)
 
 pub overflow_mul-m : goal.overflow_mul-m
-overflow_mul-m c = let rest = c.follow_all in
-    let root = c.read_root in
-    let lent = c.args in let asked = c.requires in
-    let f = whole-fits lent.file.now lent.nodes.now lent.items.now (header_of lent.h lent.types.now) lent.h.extent.end.0
-    (asked.0, asked.1, asked.2) c.room_of-lim.ensures
-    root.ensures root.auto.1.1.0 root.auto.1.1.1.0 c.in-Done.is rest.ensures rest.auto.1.1.0
-    rest.auto.1.1.1.0 c.in-Done-follow_all.is in omega (arith, f, whole_room c.room_of-lim.ensures)
+overflow_mul-m c = let f = whole-fits c.args.file.now c.args.nodes.now c.args.items.now (header_of c.args.h c.args.types.now) c.args.h.extent.end.0
+    (c.requires.0, c.requires.1, c.requires.2) c.room_of-lim.ensures
+    c.read_root.ensures c.read_root.auto.nodes c.read_root.auto.items c.in-Done.is c.follow_all.ensures c.follow_all.auto.nodes
+    c.follow_all.auto.items c.in-Done-follow_all.is in omega (arith, f, whole_room c.room_of-lim.ensures)
 
 pub overflow_mul-m-in-Done-follow_all : goal.overflow_mul-m-in-Done-follow_all
-overflow_mul-m-in-Done-follow_all c = let rest = c.follow_all in
-    let root = c.read_root in
-    let lent = c.args in let asked = c.requires in
-    let f = whole-fits lent.file.now lent.nodes.now lent.items.now (header_of lent.h lent.types.now) lent.h.extent.end.0
-    (asked.0, asked.1, asked.2) c.room_of-lim.ensures
-    root.ensures root.auto.1.1.0 root.auto.1.1.1.0 c.in-Done.is rest.ensures rest.auto.1.1.0
-    rest.auto.1.1.1.0 c.in-Done-follow_all.is in omega (arith, f, whole_room c.room_of-lim.ensures)
+overflow_mul-m-in-Done-follow_all c = let f = whole-fits c.args.file.now c.args.nodes.now c.args.items.now (header_of c.args.h c.args.types.now) c.args.h.extent.end.0
+    (c.requires.0, c.requires.1, c.requires.2) c.room_of-lim.ensures
+    c.read_root.ensures c.read_root.auto.nodes c.read_root.auto.items c.in-Done.is c.follow_all.ensures c.follow_all.auto.nodes
+    c.follow_all.auto.items c.in-Done-follow_all.is in omega (arith, f, whole_room c.room_of-lim.ensures)
 
 pub returns-in-Refused : goal.returns-in-Refused
-returns-in-Refused c = let all = (let root = c.read_root in
-    let lent = c.args in let asked = c.requires in
-    let w = whole-refused lent.file.now lent.nodes.now lent.items.now (header_of lent.h lent.types.now)
-    lent.h.extent.end.0 (asked.0, asked.1, asked.2) c.room_of-lim.ensures root.ensures root.auto.1.1.0
-    root.auto.1.1.1.0 c.in-Refused.is c.clear_all.ensures.nodes c.clear_all.ensures.items in (w.0, (w.1, w.2))) in record { answer = all.0; nodes = all.1; items = all.2 }
+returns-in-Refused c = let w = whole-refused c.args.file.now c.args.nodes.now c.args.items.now (header_of c.args.h c.args.types.now)
+    c.args.h.extent.end.0 (c.requires.0, c.requires.1, c.requires.2) c.room_of-lim.ensures c.read_root.ensures c.read_root.auto.nodes
+    c.read_root.auto.items c.in-Refused.is c.clear_all.ensures.nodes c.clear_all.ensures.items in record {
+      answer = w.0;
+      nodes = w.1;
+      items = w.2;
+    }
 
 pub returns-in-Refused-follow_all : goal.returns-in-Refused-follow_all
-returns-in-Refused-follow_all c = let all = (let rest = c.follow_all in
-    let root = c.read_root in
-    let lent = c.args in let asked = c.requires in
-    let w = whole-lost lent.file.now lent.nodes.now lent.items.now (header_of lent.h lent.types.now) lent.h.extent.end.0
-    (asked.0, asked.1, asked.2) c.room_of-lim.ensures
-    root.ensures root.auto.1.1.0 root.auto.1.1.1.0 c.in-Done.is rest.ensures rest.auto.1.1.0
-    rest.auto.1.1.1.0 c.in-Refused-follow_all.is c.clear_all-in-Refused-follow_all.ensures.nodes c.clear_all-in-Refused-follow_all.ensures.items in (w.0, (w.1, w.2))) in record { answer = all.0; nodes = all.1; items = all.2 }
+returns-in-Refused-follow_all c = let w = whole-lost c.args.file.now c.args.nodes.now c.args.items.now (header_of c.args.h c.args.types.now) c.args.h.extent.end.0
+    (c.requires.0, c.requires.1, c.requires.2) c.room_of-lim.ensures
+    c.read_root.ensures c.read_root.auto.nodes c.read_root.auto.items c.in-Done.is c.follow_all.ensures c.follow_all.auto.nodes
+    c.follow_all.auto.items c.in-Refused-follow_all.is c.clear_all-in-Refused-follow_all.ensures.nodes c.clear_all-in-Refused-follow_all.ensures.items in record {
+      answer = w.0;
+      nodes = w.1;
+      items = w.2;
+    }
 
 pub returns-in-Done-follow_all : goal.returns-in-Done-follow_all
-returns-in-Done-follow_all c = let all = (let rest = c.follow_all in
-    let root = c.read_root in
-    let lent = c.args in let asked = c.requires in
-    let w = whole-good lent.file.now lent.nodes.now lent.items.now (header_of lent.h lent.types.now) lent.h.extent.end.0
-    (asked.0, asked.1, asked.2) c.room_of-lim.ensures
-    root.ensures root.auto.1.1.0 root.auto.1.1.1.0 c.in-Done.is rest.ensures rest.auto.1.1.0
-    rest.auto.1.1.1.0 c.in-Done-follow_all.is c.clear_from.ensures c.clear_from-in-Done-follow_all.ensures
-    in (w.0, (w.1, w.2))) in record { answer = all.0; nodes = all.1; items = all.2 }
+returns-in-Done-follow_all c = let w = whole-good c.args.file.now c.args.nodes.now c.args.items.now (header_of c.args.h c.args.types.now) c.args.h.extent.end.0
+    (c.requires.0, c.requires.1, c.requires.2) c.room_of-lim.ensures
+    c.read_root.ensures c.read_root.auto.nodes c.read_root.auto.items c.in-Done.is c.follow_all.ensures c.follow_all.auto.nodes
+    c.follow_all.auto.items c.in-Done-follow_all.is c.clear_from.ensures c.clear_from-in-Done-follow_all.ensures
+    in record {
+      answer = w.0;
+      nodes = w.1;
+      items = w.2;
+    }

@@ -10,10 +10,18 @@ read_behind-requires c = let w = whole-within c.args.file.now (header_is _ _ c.r
     let y = few c.read_header.ensures.listed c.in-Is.is in (w.0, w.1, w.2, omega arith)
 
 pub returns-in-Refused : goal.returns-in-Refused
-returns-in-Refused c = let all = (let w = whole-header c.args.file.now c.args.nodes.now c.args.items.now c.clear_all.ensures.nodes
-    c.clear_all.ensures.items (header-no _ _ c.read_header.ensures.answer c.in-Refused.is) in (w.0, (w.1, w.2))) in record { answer = all.0; nodes = all.1; items = all.2 }
+returns-in-Refused c = let w = whole-header c.args.file.now c.args.nodes.now c.args.items.now c.clear_all.ensures.nodes
+    c.clear_all.ensures.items (header-no _ _ c.read_header.ensures.answer c.in-Refused.is) in record {
+      answer = w.0;
+      nodes = w.1;
+      items = w.2;
+    }
 
 pub returns-in-Is : goal.returns-in-Is
-returns-in-Is c = let all = (let w = whole-behind c.args.file.now c.args.nodes.now c.args.items.now
+returns-in-Is c = let w = whole-behind c.args.file.now c.args.nodes.now c.args.items.now
     (header_is _ _ c.read_header.ensures.answer c.in-Is.is)
-    (c.read_behind.ensures.answer, c.read_behind.ensures.nodes.0, c.read_behind.ensures.nodes.1) in (w.0, (w.1, w.2))) in record { answer = all.0; nodes = all.1; items = all.2 }
+    (c.read_behind.ensures.answer, c.read_behind.ensures.nodes, c.read_behind.ensures.items) in record {
+      answer = w.0;
+      nodes = w.1;
+      items = w.2;
+    }

@@ -5,7 +5,15 @@ use borrow.Author.Rules.{rules}
 use Rattle.file.proofs.read_tree.Goals as goal
 
 pub returns-in-Refused : goal.returns-in-Refused
-returns-in-Refused c = let all = ((tree-no _ c.read_file.ensures.answer c.in-Refused.is, c.read_file.ensures.nodes)) in record { answer = all.0; nodes = all.1; items = all.2 }
+returns-in-Refused c = record {
+  answer = tree-no _ c.read_file.ensures.answer c.in-Refused.is;
+  nodes = c.read_file.ensures.nodes;
+  items = c.read_file.ensures.items;
+}
 
 pub returns-in-Is : goal.returns-in-Is
-returns-in-Is c = let all = ((tree_is _ c.read_file.ensures.answer c.in-Is.is, c.read_file.ensures.nodes)) in record { answer = all.0; nodes = all.1; items = all.2 }
+returns-in-Is c = record {
+  answer = tree_is _ c.read_file.ensures.answer c.in-Is.is;
+  nodes = c.read_file.ensures.nodes;
+  items = c.read_file.ensures.items;
+}

@@ -13,41 +13,57 @@ use borrow.Author.Rules.{rules}
 use Rattle.find.proofs.find_field.Goals as goal
 
 pub returns-then-s-row : goal.returns-then-s-row
-returns-then-s-row c = let all = (let w = says-no_row c.args.climbs c.args.file.now (wanted_of c.args.field c.args.name.now)
+returns-then-s-row c = let w = says-no_row c.args.climbs c.args.file.now (wanted_of c.args.field c.args.name.now)
     c.args.row (length c.args.nodes.now) (length c.args.items.now)
     (standing c.args.file.now (limits (length c.args.nodes.now) (length c.args.items.now))
     (length c.args.nodes.now) (length c.args.items.now) c.read_file.ensures.answer
-    c.read_file.ensures.nodes.0 c.read_file.ensures.nodes.1 c.in-Is.is) c.if-s-row.true
-    (c.clear_all.ensures.nodes ∙ ap (λ (k : ℕ). replicate k 0) c.read_file.auto.1.0)
-    (c.clear_all.ensures.items ∙ ap (λ (k : ℕ). replicate k 0) c.read_file.auto.1.1.0) in (w.0, (w.1, w.2))) in record { answer = all.0; nodes = all.1; items = all.2 }
+    c.read_file.ensures.nodes c.read_file.ensures.items c.in-Is.is) c.if-s-row.true
+    (c.clear_all.ensures.nodes ∙ ap (λ (k : ℕ). replicate k 0) c.read_file.auto.nodes)
+    (c.clear_all.ensures.items ∙ ap (λ (k : ℕ). replicate k 0) c.read_file.auto.items) in record {
+      answer = w.0;
+      nodes = w.1;
+      items = w.2;
+    }
 
 pub found_by-requires : goal.found_by-requires
 found_by-requires c = let d = (standing c.args.file.now (limits (length c.args.nodes.now) (length c.args.items.now))
     (length c.args.nodes.now) (length c.args.items.now) c.read_file.ensures.answer
-    c.read_file.ensures.nodes.0 c.read_file.ensures.nodes.1 c.in-Is.is) in (tables _ _ d, c.if-s-row.false)
+    c.read_file.ensures.nodes c.read_file.ensures.items c.in-Is.is) in (tables _ _ d, c.if-s-row.false)
 
 pub returns-in-Refused : goal.returns-in-Refused
-returns-in-Refused c = let all = (let w = says-refused c.args.climbs c.args.file.now (wanted_of c.args.field c.args.name.now)
+returns-in-Refused c = let w = says-refused c.args.climbs c.args.file.now (wanted_of c.args.field c.args.name.now)
     c.args.row (length c.args.nodes.now) (length c.args.items.now)
     (read_file (limits (length c.args.nodes.now) (length c.args.items.now)) c.args.file.now)
-    c.read_file.ensures.answer c.in-Refused.is c.read_file.ensures.nodes.0
-    c.read_file.ensures.nodes.1 in (w.0, (w.1, w.2))) in record { answer = all.0; nodes = all.1; items = all.2 }
+    c.read_file.ensures.answer c.in-Refused.is c.read_file.ensures.nodes
+    c.read_file.ensures.items in record {
+      answer = w.0;
+      nodes = w.1;
+      items = w.2;
+    }
 
 pub returns-in-Item : goal.returns-in-Item
-returns-in-Item c = let all = (let w = says-item c.args.climbs c.args.file.now (wanted_of c.args.field c.args.name.now) c.args.row
+returns-in-Item c = let w = says-item c.args.climbs c.args.file.now (wanted_of c.args.field c.args.name.now) c.args.row
     (length c.args.nodes.now) (length c.args.items.now)
     (standing c.args.file.now (limits (length c.args.nodes.now) (length c.args.items.now))
     (length c.args.nodes.now) (length c.args.items.now) c.read_file.ensures.answer
-    c.read_file.ensures.nodes.0 c.read_file.ensures.nodes.1 c.in-Is.is) c.if-s-row.false _
-    c.found_by.ensures c.in-Item.is c.read_file.ensures.nodes.0
-    c.read_file.ensures.nodes.1 in (w.0, (w.1, w.2))) in record { answer = all.0; nodes = all.1; items = all.2 }
+    c.read_file.ensures.nodes c.read_file.ensures.items c.in-Is.is) c.if-s-row.false _
+    c.found_by.ensures c.in-Item.is c.read_file.ensures.nodes
+    c.read_file.ensures.items in record {
+      answer = w.0;
+      nodes = w.1;
+      items = w.2;
+    }
 
 pub returns-in-Refused-found_by : goal.returns-in-Refused-found_by
-returns-in-Refused-found_by c = let all = (let w = says-no_item c.args.climbs c.args.file.now (wanted_of c.args.field c.args.name.now)
+returns-in-Refused-found_by c = let w = says-no_item c.args.climbs c.args.file.now (wanted_of c.args.field c.args.name.now)
     c.args.row (length c.args.nodes.now) (length c.args.items.now)
     (standing c.args.file.now (limits (length c.args.nodes.now) (length c.args.items.now))
     (length c.args.nodes.now) (length c.args.items.now) c.read_file.ensures.answer
-    c.read_file.ensures.nodes.0 c.read_file.ensures.nodes.1 c.in-Is.is) c.if-s-row.false _
+    c.read_file.ensures.nodes c.read_file.ensures.items c.in-Is.is) c.if-s-row.false _
     c.found_by.ensures c.in-Refused-found_by.is
-    (c.clear_all-in-Refused-found_by.ensures.nodes ∙ ap (λ (k : ℕ). replicate k 0) c.read_file.auto.1.0)
-    (c.clear_all-in-Refused-found_by.ensures.items ∙ ap (λ (k : ℕ). replicate k 0) c.read_file.auto.1.1.0) in (w.0, (w.1, w.2))) in record { answer = all.0; nodes = all.1; items = all.2 }
+    (c.clear_all-in-Refused-found_by.ensures.nodes ∙ ap (λ (k : ℕ). replicate k 0) c.read_file.auto.nodes)
+    (c.clear_all-in-Refused-found_by.ensures.items ∙ ap (λ (k : ℕ). replicate k 0) c.read_file.auto.items) in record {
+      answer = w.0;
+      nodes = w.1;
+      items = w.2;
+    }

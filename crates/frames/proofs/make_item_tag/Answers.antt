@@ -8,11 +8,7 @@ use borrow.Author.Rules.{rules}
 use Rattle.frames.proofs.make_item_tag.Goals as goal
 
 pub returns-then-is_withheld : goal.returns-then-is_withheld
-returns-then-is_withheld c = let is-withheld = c.is_withheld in
-    let if1 = c.if-is_withheld in let hidden = c.hidden in
-    gives_as (nothing-printed _ (tag-kept _ _ _ _ _ is-withheld.ensures if1.true)) hidden.ensures
+returns-then-is_withheld c = gives_as (nothing-printed _ (tag-kept _ _ _ _ _ c.is_withheld.ensures c.if-is_withheld.true)) c.hidden.ensures
 
 pub returns : goal.returns
-returns c = let is-withheld = c.is_withheld in
-    let if1 = c.if-is_withheld in let make-tag = c.make_tag in
-    gives_as (tag-lent _ _ _ _ _ is-withheld.ensures if1.false _ refl) make-tag.ensures
+returns c = gives_as (tag-lent _ _ _ _ _ c.is_withheld.ensures c.if-is_withheld.false _ refl) c.make_tag.ensures

@@ -6,6 +6,4 @@ use Rattle.frames.proofs.make_tag.Goals as goal
 
 pub returns : goal.returns
 unfolding tag_answer
-returns c = let put-tag = c.put_tag-put in
-    let put-answered = c.put_answered in
-    put-answered.ensures _ _ put-tag.ensures
+returns c = c.put_answered.ensures _ _ c.put_tag-put.ensures

@@ -6,12 +6,7 @@ use borrow.Author.Rules.{rules}
 use Rattle.frames.proofs.put_frame.Goals as goal
 
 pub returns : goal.returns
-returns c = let put-byte3 = c.put_byte in
-    let put-number3 = c.put_number-f in
-    let put-number2 = c.put_number-e in
-    let put-escaped = c.put_escaped-d in
-    let put-byte2 = c.put_byte-c in let put-number = c.put_number-b in let put_byte = c.put_byte-a in let name-bytes = c.name_bytes-name in
-    counts-as (frame_is _ _ name-bytes.ensures)
+returns c = counts-as (frame_is _ _ c.name_bytes-name.ensures)
     (counts-then (counts-then (counts-then
-    (counts-then (counts-then (counts-then put_byte.ensures put-number.ensures) put-byte2.ensures) put-escaped.ensures)
-    put-number2.ensures) put-number3.ensures) put-byte3.ensures)
+    (counts-then (counts-then (counts-then c.put_byte-a.ensures c.put_number-b.ensures) c.put_byte-c.ensures) c.put_escaped-d.ensures)
+    c.put_number-e.ensures) c.put_number-f.ensures) c.put_byte.ensures)

@@ -6,11 +6,7 @@ use borrow.Author.Rules.{rules}
 use Rattle.frames.proofs.put_tag.Goals as goal
 
 pub returns-in-All : goal.returns-in-All
-returns-in-All c = let args-c = c.args in
-    let enum_told-1 = c.enum_told-1 in let put-frames = c.put_frames in
-    puts-as args-c.out.now put-frames.new.0 0 put-frames.result (tag-all args-c.tag.now enum_told-1.given.1) put-frames.ensures
+returns-in-All c = puts-as c.args.out.now c.put_frames.new.0 0 c.put_frames.result (tag-all c.args.tag.now c.in-All.is) c.put_frames.ensures
 
 pub returns-in-One : goal.returns-in-One
-returns-in-One c = let args-c = c.args in
-    let which = c.which-1 in let put_one = c.put_one in
-    puts-as args-c.out.now put_one.new.0 0 put_one.result (tag_one args-c.tag.now which.given.1) put_one.ensures
+returns-in-One c = puts-as c.args.out.now c.put_one.new.0 0 c.put_one.result (tag_one c.args.tag.now c.in-One.is) c.put_one.ensures

@@ -6,6 +6,4 @@ use borrow.Author.Rules.{rules}
 use Rattle.lines.proofs.put_end.Goals as goal
 
 pub returns : goal.returns
-returns c = let put-bytes = c.put_bytes-next in
-    let put_byte = c.put_byte in
-    counts-as (end_is _) (counts-then put-bytes.ensures put_byte.ensures)
+returns c = counts-as (end_is _) (counts-then c.put_bytes-next.ensures c.put_byte.ensures)

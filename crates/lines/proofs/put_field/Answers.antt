@@ -6,6 +6,4 @@ use borrow.Author.Rules.{rules}
 use Rattle.lines.proofs.put_field.Goals as goal
 
 pub returns : goal.returns
-returns c = let put_byte = c.put_byte-next in
-    let put-escaped = c.put_escaped in
-    counts-as (field_is _) (counts-then put_byte.ensures put-escaped.ensures)
+returns c = counts-as (field_is _) (counts-then c.put_byte-next.ensures c.put_escaped.ensures)

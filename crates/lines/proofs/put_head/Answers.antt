@@ -6,6 +6,4 @@ use borrow.Author.Rules.{rules}
 use Rattle.lines.proofs.put_head.Goals as goal
 
 pub returns : goal.returns
-returns c = let put_byte = c.put_byte-next in
-    let put-end = c.put_end in
-    counts-as (head-is _) (counts-then put_byte.ensures put-end.ensures)
+returns c = counts-as (head-is _) (counts-then c.put_byte-next.ensures c.put_end.ensures)

@@ -6,6 +6,4 @@ use borrow.Author.Rules.{rules}
 use Rattle.lines.proofs.put_too_long.Goals as goal
 
 pub returns : goal.returns
-returns c = let put-bytes = c.put_bytes-next in
-    let put-end = c.put_end in
-    counts-as (long-is _) (counts-then put-bytes.ensures put-end.ensures)
+returns c = counts-as (long-is _) (counts-then c.put_bytes-next.ensures c.put_end.ensures)

@@ -6,6 +6,4 @@ use Rattle.lines.proofs.refuse.Goals as goal
 
 pub returns : goal.returns
 unfolding refused_by
-returns c = let close = c.close in
-    let put-refusal = c.put_refusal-end in
-    close.ensures _ _ put-refusal.ensures
+returns c = c.close.ensures _ _ c.put_refusal-end.ensures

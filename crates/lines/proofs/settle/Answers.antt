@@ -5,9 +5,7 @@ use borrow.Author.Rules.{rules}
 use Rattle.lines.proofs.settle.Goals as goal
 
 pub returns-in-Refused : goal.returns-in-Refused
-returns-in-Refused c = let written = c.written-1 in let refuse = c.refuse in
-    λ room x z e t. gives_as (settle_bad room _ x e written.given.1) (refuse-room _ _ _ z refuse.ensures)
+returns-in-Refused c = λ room x z e t. gives_as (settle_bad room _ x e c.in-Refused.is) (refuse-room _ _ _ z c.refuse.ensures)
 
 pub returns-in-Bytes : goal.returns-in-Bytes
-returns-in-Bytes c = let written2 = c.written-in-Bytes-1 in
-    λ room x z e t. settle_good room _ x _ z e written2.given.1 t
+returns-in-Bytes c = λ room x z e t. settle_good room _ x _ z e c.in-Bytes.is t

@@ -14,5 +14,4 @@ pub returns-then-k-eq3 : goal.returns-then-k-eq3
 returns-then-k-eq3 c = fits-at _ _ 3 c.if-k-eq3.true
 
 pub returns : goal.returns
-returns c = let a = c.args in
-    fits-at a.n a.k 4 (omega (arith, c.requires, c.if-k-eq1.false, c.if-k-eq2.false, c.if-k-eq3.false))
+returns c = fits-at c.args.n c.args.k 4 (omega (arith, c.requires, c.if-k-eq1.false, c.if-k-eq2.false, c.if-k-eq3.false))

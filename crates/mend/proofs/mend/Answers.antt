@@ -11,74 +11,67 @@ use borrow.Author.Rules.{rules}
 use Rattle.mend.proofs.mend.Goals as goal
 
 pub refuse_unchanged-requires : goal.refuse_unchanged-requires
-refuse_unchanged-requires c = let lent = c.args in
-    let readFields = c.read_fields.ensures in
-    let isN = c.in-Refused.is in
-    refused-fields _ lent.file.now (fields-no _ _ readFields.0 isN)
+refuse_unchanged-requires c = refused-fields _ c.args.file.now (fields-no _ _ c.read_fields.ensures.answer c.in-Refused.is)
 
 pub last_of-last-requires : goal.last_of-last-requires
-last_of-last-requires c = let lent = c.args in
-    let readFields = c.read_fields.ensures in let isW = c.in-Is.is in
-    (fields_in lent.file.now (fields-are _ _ readFields.0 isW)).start_small
+last_of-last-requires c = (fields_in c.args.file.now (fields-are _ _ c.read_fields.ensures.answer c.in-Is.is)).start_small
 
 pub is_sound-requires : goal.is_sound-requires
-is_sound-requires c = let lent = c.args in
-    let readFields = c.read_fields.ensures in
-    let isW = c.in-Is.is in
-    λ ws. any_types _ _ ws (fields_in lent.file.now (fields-are _ _ readFields.0 isW))
+is_sound-requires c = λ ws. any_types _ _ ws (fields_in c.args.file.now (fields-are _ _ c.read_fields.ensures.answer c.in-Is.is))
 
 pub refuse_unchanged-requires-then-not-is_sound : goal.refuse_unchanged-requires-then-not-is_sound
-refuse_unchanged-requires-then-not-is_sound c = let lent = c.args in
-    let readFields = c.read_fields.ensures in
-    let isW = c.in-Is.is in
-    let lastOf = c.last_of-last.ensures in
-    let isSound = c.is_sound.ensures in
-    let if1Taken = c.if-not-is_sound.true in
-    unsound _ lent.file.now (fields-are _ _ readFields.0 isW) (last-is lent.file.now _ lastOf) (sym (isSound _) ∙ not-true _ if1Taken)
+refuse_unchanged-requires-then-not-is_sound c = unsound _ c.args.file.now (fields-are _ _ c.read_fields.ensures.answer c.in-Is.is) (last-is c.args.file.now _ c.last_of-last.ensures) (sym (c.is_sound.ensures _) ∙ c.if-not-is_sound.true)
 
 pub returns-then-not-is_sound : goal.returns-then-not-is_sound
-returns-then-not-is_sound c = let all = (let e = c.refuse_unchanged-then-not-is_sound.ensures in (e.answer, (e.nodes, (e.items, (e.copy, e.lines))))) in record { answer = all.0; nodes = all.1; items = all.2; copy = all.3; lines = all.4 }
+returns-then-not-is_sound c = record {
+  answer = c.refuse_unchanged-then-not-is_sound.ensures.answer;
+  nodes = c.refuse_unchanged-then-not-is_sound.ensures.nodes;
+  items = c.refuse_unchanged-then-not-is_sound.ensures.items;
+  copy = c.refuse_unchanged-then-not-is_sound.ensures.copy;
+  lines = c.refuse_unchanged-then-not-is_sound.ensures.lines;
+}
 
 pub read_behind-requires : goal.read_behind-requires
-read_behind-requires c = let isSound = c.is_sound.ensures in let if1Left = c.if-not-is_sound.false in
-    let readFields = c.read_fields.ensures in let isW = c.in-Is.is in let lent = c.args in
-    let x = sound_facts _ _ _ (sym (isSound []) ∙ not-false _ if1Left) in
-    let y = few readFields.1 isW in
-    (x.ordered, x.inside, (fields_in lent.file.now (fields-are _ _ readFields.0 isW)).small, omega arith)
+read_behind-requires c = let x = sound_facts _ _ _ (sym (c.is_sound.ensures []) ∙ c.if-not-is_sound.false) in
+    let y = few c.read_fields.ensures.listed c.in-Is.is in
+    (x.ordered, x.inside, (fields_in c.args.file.now (fields-are _ _ c.read_fields.ensures.answer c.in-Is.is)).small, omega arith)
 
 pub refuse_unchanged-requires-in-Refused-read_behind : goal.refuse_unchanged-requires-in-Refused-read_behind
-refuse_unchanged-requires-in-Refused-read_behind c = let lent = c.args in
-    let readBehindKept = c.read_behind.auto in let readFields = c.read_fields.ensures in
-    let isW = c.in-Is.is in let lastOf = c.last_of-last.ensures in
-    let isSound = c.is_sound.ensures in let if1Left = c.if-not-is_sound.false in
-    let readBehind = c.read_behind.ensures in let isM = c.in-Refused-read_behind.is in
-    lens lent.file.now readBehindKept.1.1.0 readBehindKept.1.1.1.0
-    (lost_behind (limits (length lent.nodes.now) (length lent.items.now)) lent.file.now (fields-are _ _ readFields.0 isW)
-    (last-is lent.file.now _ lastOf) (sym (isSound _) ∙ not-false _ if1Left) readBehind.0 isM)
+refuse_unchanged-requires-in-Refused-read_behind c = lens c.args.file.now c.read_behind.auto.nodes c.read_behind.auto.items
+    (lost_behind (limits (length c.args.nodes.now) (length c.args.items.now)) c.args.file.now (fields-are _ _ c.read_fields.ensures.answer c.in-Is.is)
+    (last-is c.args.file.now _ c.last_of-last.ensures) (sym (c.is_sound.ensures _) ∙ c.if-not-is_sound.false) c.read_behind.ensures.answer c.in-Refused-read_behind.is)
 
 pub write_mended-requires : goal.write_mended-requires
-write_mended-requires c = let lent = c.args in
-    let readFields = c.read_fields.ensures in let isW = c.in-Is.is in
-    λ ws. any_types _ _ ws (fields_in lent.file.now (fields-are _ _ readFields.0 isW))
+write_mended-requires c = λ ws. any_types _ _ ws (fields_in c.args.file.now (fields-are _ _ c.read_fields.ensures.answer c.in-Is.is))
 
 pub returns-in-Refused : goal.returns-in-Refused
-returns-in-Refused c = let all = (let e = c.refuse_unchanged.ensures in (e.answer, (e.nodes, (e.items, (e.copy, e.lines))))) in record { answer = all.0; nodes = all.1; items = all.2; copy = all.3; lines = all.4 }
+returns-in-Refused c = record {
+  answer = c.refuse_unchanged.ensures.answer;
+  nodes = c.refuse_unchanged.ensures.nodes;
+  items = c.refuse_unchanged.ensures.items;
+  copy = c.refuse_unchanged.ensures.copy;
+  lines = c.refuse_unchanged.ensures.lines;
+}
 
 pub returns-in-Refused-read_behind : goal.returns-in-Refused-read_behind
-returns-in-Refused-read_behind c = let all = (let lent = c.args in let readBehindKept = c.read_behind.auto in
-    let refuseUnchanged3 = c.refuse_unchanged-in-Refused-read_behind.ensures in
-    let e = ends_lens lent.file.now readBehindKept.1.1.0 readBehindKept.1.1.1.0 refuseUnchanged3 in
-    (e.answer, (e.nodes, (e.items, (e.copy, e.lines))))) in record { answer = all.0; nodes = all.1; items = all.2; copy = all.3; lines = all.4 }
+returns-in-Refused-read_behind c = let e = ends_lens c.args.file.now c.read_behind.auto.nodes c.read_behind.auto.items c.refuse_unchanged-in-Refused-read_behind.ensures in
+    record {
+      answer = e.answer;
+      nodes = e.nodes;
+      items = e.items;
+      copy = e.copy;
+      lines = e.lines;
+    }
 
 pub returns-in-Is-read_behind : goal.returns-in-Is-read_behind
-returns-in-Is-read_behind c = let all = (let lent = c.args in
-    let readFields = c.read_fields.ensures in let isW = c.in-Is.is in
-    let lastOf = c.last_of-last.ensures in let isSound = c.is_sound.ensures in
-    let if1Left = c.if-not-is_sound.false in let readBehind = c.read_behind.ensures in
-    let isS = c.in-Is-read_behind.is in let readBehindKept = c.read_behind.auto in
-    let writeMended = c.write_mended.ensures in
-    let e = ends_set lent.file.now (length lent.nodes.now) (length lent.items.now) (length lent.copy.now)
-    (length lent.lines.now) (fields-are _ _ readFields.0 isW) (last-is lent.file.now _ lastOf)
-    (sym (isSound _) ∙ not-false _ if1Left) readBehind.0 isS readBehind.1.0 readBehind.1.1 readBehindKept.1.1.0
-    readBehindKept.1.1.1.0 (writeMended _) in
-    (e.answer, (e.nodes, (e.items, (e.copy, e.lines))))) in record { answer = all.0; nodes = all.1; items = all.2; copy = all.3; lines = all.4 }
+returns-in-Is-read_behind c = let e = ends_set c.args.file.now (length c.args.nodes.now) (length c.args.items.now) (length c.args.copy.now)
+    (length c.args.lines.now) (fields-are _ _ c.read_fields.ensures.answer c.in-Is.is) (last-is c.args.file.now _ c.last_of-last.ensures)
+    (sym (c.is_sound.ensures _) ∙ c.if-not-is_sound.false) c.read_behind.ensures.answer c.in-Is-read_behind.is c.read_behind.ensures.nodes c.read_behind.ensures.items c.read_behind.auto.nodes
+    c.read_behind.auto.items (c.write_mended.ensures _) in
+    record {
+      answer = e.answer;
+      nodes = e.nodes;
+      items = e.items;
+      copy = e.copy;
+      lines = e.lines;
+    }

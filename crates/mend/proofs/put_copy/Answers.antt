@@ -8,21 +8,10 @@ use borrow.Author.Rules.{rules}
 use Rattle.mend.proofs.put_copy.Goals as goal
 
 pub set_field-requires : goal.set_field-requires
-set_field-requires c = let pre = c.requires in
-    let storeBytesKept = c.store_bytes.auto in
-    omega (arith, pre.0 [], pre.1, storeBytesKept.0)
+set_field-requires c = omega (arith, c.requires.0 [], c.requires.1, c.store_bytes.auto.out)
 
 pub set_field-requires-2 : goal.set_field-requires-2
-set_field-requires-2 c = let pre = c.requires in
-    let storeBytesKept = c.store_bytes.auto in
-    let setFieldKept = c.set_field.auto in
-    omega (arith, pre.0 [], pre.1, storeBytesKept.0, setFieldKept.0)
+set_field-requires-2 c = omega (arith, c.requires.0 [], c.requires.1, c.store_bytes.auto.out, c.set_field.auto.copy)
 
 pub returns : goal.returns
-returns c = let lent = c.args in
-    let pre = c.requires in
-    let storeBytes = c.store_bytes.ensures in
-    let setField = c.set_field.ensures in
-    let setField2 = c.set_field-2.ensures in
-    let clearBytesFrom = c.clear_bytes_from.ensures in
-    λ ws. copied lent.file.now (fields_of lent.w ws) lent.last lent.copy.now (pre.0 ws) pre.1 storeBytes setField setField2 clearBytesFrom
+returns c = λ ws. copied c.args.file.now (fields_of c.args.w ws) c.args.last c.args.copy.now (c.requires.0 ws) c.requires.1 c.store_bytes.ensures c.set_field.ensures c.set_field-2.ensures c.clear_bytes_from.ensures

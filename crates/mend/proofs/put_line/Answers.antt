@@ -6,17 +6,7 @@ use borrow.Author.Rules.{rules}
 use Rattle.mend.proofs.put_line.Goals as goal
 
 pub returns-then-x-n : goal.returns-then-x-n
-returns-then-x-n c = let lent = c.args in
-    let if1Taken = c.if-x-n.true in
-    let putBytes = c.put_bytes.ensures in
-    line_same lent.name.now (field_of lent.x) _ if1Taken putBytes
+returns-then-x-n c = line_same c.args.name.now (field_of c.args.x) _ c.if-x-n.true c.put_bytes.ensures
 
 pub returns : goal.returns
-returns c = let lent = c.args in
-    let if1Left = c.if-x-n.false in
-    let putBytes2 = c.put_bytes-a.ensures in
-    let putTabbed = c.put_tabbed-b.ensures in
-    let putTabbed2 = c.put_tabbed-c.ensures in
-    let putTabbed3 = c.put_tabbed-d.ensures in
-    let putByte = c.put_byte.ensures in
-    line-is lent.name.now (field_of lent.x) _ if1Left putBytes2 putTabbed putTabbed2 putTabbed3 putByte
+returns c = line-is c.args.name.now (field_of c.args.x) _ c.if-x-n.false c.put_bytes-a.ensures c.put_tabbed-b.ensures c.put_tabbed-c.ensures c.put_tabbed-d.ensures c.put_byte.ensures

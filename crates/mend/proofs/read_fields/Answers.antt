@@ -15,17 +15,10 @@ use borrow.Author.Rules.{rules}
 use Rattle.mend.proofs.read_fields.Goals as goal
 
 pub read_edition-requires : goal.read_edition-requires
-read_edition-requires c = let lent = c.args in
-    let readOpening = c.read_opening.ensures in
-    let is_version = c.in-Is.is in
-    omega (arith, at_end any_free lent.file.now (opening_on (length lent.file.now)) (was number_told readOpening is_version))
+read_edition-requires c = omega (arith, at_end any_free c.args.file.now (opening_on (length c.args.file.now)) (was number_told c.read_opening.ensures c.in-Is.is))
 
 pub read_types-requires : goal.read_types-requires
-read_types-requires c = let pre = c.requires in
-    let lent = c.args in
-    let readOpening = c.read_opening.ensures in
-    let is_version = c.in-Is.is in
-    omega (arith, pre, at_end any_free lent.file.now (opening_on (length lent.file.now)) (was number_told readOpening is_version))
+read_types-requires c = omega (arith, c.requires, at_end any_free c.args.file.now (opening_on (length c.args.file.now)) (was number_told c.read_opening.ensures c.in-Is.is))
 
 pub returns-in-Refused : goal.returns-in-Refused
 returns-in-Refused c = record {
@@ -34,88 +27,41 @@ returns-in-Refused c = record {
 }
 
 pub returns-in-Refused-read_edition : goal.returns-in-Refused-read_edition
-returns-in-Refused-read_edition c = let readOpening = c.read_opening.ensures in
-    let is_version = c.in-Is.is in
-    let readEdition = c.read_edition.ensures in let isN2 = c.in-Refused-read_edition.is in
-    record {
-      answer = fields-edition _ _ (was number_told readOpening is_version) (was edition_told readEdition isN2);
-      listed = tt;
-    }
+returns-in-Refused-read_edition c = record {
+  answer = fields-edition _ _ (was number_told c.read_opening.ensures c.in-Is.is) (was edition_told c.read_edition.ensures c.in-Refused-read_edition.is);
+  listed = tt;
+}
 
 pub returns-in-Refused-read_field : goal.returns-in-Refused-read_field
-returns-in-Refused-read_field c = let readOpening = c.read_opening.ensures in
-    let is_version = c.in-Is.is in
-    let readEdition = c.read_edition.ensures in
-    let isEdition = c.in-Is-read_edition.is in
-    let readField = c.read_field.ensures in let isN3 = c.in-Refused-read_field.is in
-    record {
-      answer = fields-length _ _ (was number_told readOpening is_version) (was edition_told readEdition isEdition) (was field_told readField isN3);
-      listed = tt;
-    }
+returns-in-Refused-read_field c = record {
+  answer = fields-length _ _ (was number_told c.read_opening.ensures c.in-Is.is) (was edition_told c.read_edition.ensures c.in-Is-read_edition.is) (was field_told c.read_field.ensures c.in-Refused-read_field.is);
+  listed = tt;
+}
 
 pub returns-in-Refused-read_types : goal.returns-in-Refused-read_types
-returns-in-Refused-read_types c = let readOpening = c.read_opening.ensures in
-    let is_version = c.in-Is.is in
-    let readEdition = c.read_edition.ensures in
-    let isEdition = c.in-Is-read_edition.is in
-    let readField = c.read_field.ensures in
-    let isLength = c.in-Is-read_field.is in
-    let readTypes = c.read_types.ensures in
-    let isN4 = c.in-Refused-read_types.is in
-    record {
-      answer = fields-types _ _ (was number_told readOpening is_version) (was edition_told readEdition isEdition) (was field_told readField isLength) (types-refused _ _ readTypes.0 isN4);
-      listed = tt;
-    }
+returns-in-Refused-read_types c = record {
+  answer = fields-types _ _ (was number_told c.read_opening.ensures c.in-Is.is) (was edition_told c.read_edition.ensures c.in-Is-read_edition.is) (was field_told c.read_field.ensures c.in-Is-read_field.is) (types-refused _ _ c.read_types.ensures.types_value c.in-Refused-read_types.is);
+  listed = tt;
+}
 
 pub returns-in-Refused-read_field-2 : goal.returns-in-Refused-read_field-2
-returns-in-Refused-read_field-2 c = let readOpening = c.read_opening.ensures in
-    let is_version = c.in-Is.is in
-    let readEdition = c.read_edition.ensures in
-    let isEdition = c.in-Is-read_edition.is in
-    let readField = c.read_field.ensures in
-    let isLength = c.in-Is-read_field.is in
-    let readTypes = c.read_types.ensures in
-    let isCount = c.in-Count.is in
-    let readField2 = c.read_field-in-Count.ensures in
-    let isN5 = c.in-Refused-read_field-2.is in record {
-      answer = fields-start _ _ (was number_told readOpening is_version) (was edition_told readEdition isEdition) (was field_told readField isLength)
-          (types-counted _ _ readTypes.0 isCount) (was field_told readField2 isN5);
-      listed = tt;
-    }
+returns-in-Refused-read_field-2 c = record {
+  answer = fields-start _ _ (was number_told c.read_opening.ensures c.in-Is.is) (was edition_told c.read_edition.ensures c.in-Is-read_edition.is) (was field_told c.read_field.ensures c.in-Is-read_field.is)
+      (types-counted _ _ c.read_types.ensures.types_value c.in-Count.is) (was field_told c.read_field-in-Count.ensures c.in-Refused-read_field-2.is);
+  listed = tt;
+}
 
 pub returns-in-Refused-read_field-3 : goal.returns-in-Refused-read_field-3
-returns-in-Refused-read_field-3 c = let readOpening = c.read_opening.ensures in
-    let is_version = c.in-Is.is in
-    let readEdition = c.read_edition.ensures in
-    let isEdition = c.in-Is-read_edition.is in
-    let readField = c.read_field.ensures in
-    let isLength = c.in-Is-read_field.is in
-    let readTypes = c.read_types.ensures in
-    let isCount = c.in-Count.is in
-    let readField2 = c.read_field-in-Count.ensures in
-    let isStart = c.in-Is-read_field-2.is in
-    let readField3 = c.read_field-in-Is-read_field-2.ensures in
-    let isN6 = c.in-Refused-read_field-3.is in record {
-      answer = fields-last _ _ (was number_told readOpening is_version) (was edition_told readEdition isEdition) (was field_told readField isLength)
-          (types-counted _ _ readTypes.0 isCount) (was field_told readField2 isStart) (was field_told readField3 isN6);
-      listed = tt;
-    }
+returns-in-Refused-read_field-3 c = record {
+  answer = fields-last _ _ (was number_told c.read_opening.ensures c.in-Is.is) (was edition_told c.read_edition.ensures c.in-Is-read_edition.is) (was field_told c.read_field.ensures c.in-Is-read_field.is)
+      (types-counted _ _ c.read_types.ensures.types_value c.in-Count.is) (was field_told c.read_field-in-Count.ensures c.in-Is-read_field-2.is) (was field_told c.read_field-in-Is-read_field-2.ensures c.in-Refused-read_field-3.is);
+  listed = tt;
+}
 
 pub returns-in-Is-read_field-3 : goal.returns-in-Is-read_field-3
-returns-in-Is-read_field-3 c = let readOpening = c.read_opening.ensures in
-    let is_version = c.in-Is.is in
-    let readEdition = c.read_edition.ensures in
-    let isEdition = c.in-Is-read_edition.is in
-    let readField = c.read_field.ensures in
-    let isLength = c.in-Is-read_field.is in
-    let readTypes = c.read_types.ensures in
-    let isCount = c.in-Count.is in
-    let readField2 = c.read_field-in-Count.ensures in
-    let isStart = c.in-Is-read_field-2.is in
-    let readField3 = c.read_field-in-Is-read_field-2.ensures in
-    let is_last = c.in-Is-read_field-3.is in record {
-      answer = fields-all _ _ (was number_told readOpening is_version) (was edition_told readEdition isEdition) (was field_told readField isLength)
-          (types-counted _ _ readTypes.0 isCount) (was field_told readField2 isStart) (was field_told readField3 is_last);
-      listed = listed readTypes.1
-          isCount;
-    }
+returns-in-Is-read_field-3 c = record {
+  answer = fields-all _ _ (was number_told c.read_opening.ensures c.in-Is.is) (was edition_told c.read_edition.ensures c.in-Is-read_edition.is) (was field_told c.read_field.ensures c.in-Is-read_field.is)
+      (types-counted _ _ c.read_types.ensures.types_value c.in-Count.is) (was field_told c.read_field-in-Count.ensures c.in-Is-read_field-2.is) (was field_told c.read_field-in-Is-read_field-2.ensures c.in-Is-read_field-3.is);
+  listed = listed c.read_types.ensures.listed
+      c.in-Count.is;
+}

@@ -6,7 +6,4 @@ use borrow.Author.Rules.{rules}
 use Rattle.mend.proofs.set_field.Goals as goal
 
 pub returns : goal.returns
-returns c = let putInBytes = c.put_in_bytes.ensures in
-    let pre = c.requires in
-    let good = c.well_formed in
-    set_is _ _ putInBytes (omega (arith, pre)) (omega (arith, good))
+returns c = set_is _ _ c.put_in_bytes.ensures (omega (arith, c.requires)) (omega (arith, c.well_formed))

@@ -8,34 +8,16 @@ use borrow.Author.Rules.{rules}
 use Rattle.mend.proofs.write_mended.Goals as goal
 
 pub returns-then-copy-file : goal.returns-then-copy-file
-returns-then-copy-file c = let lent = c.args in
-    let if1Taken = c.if-copy-file.true in
-    let no_room = c.no_room.ensures in
-    let putLinesKept = c.put_lines-n.auto in
-    λ ws. set-short lent.file.now (fields_of lent.w ws) lent.last if1Taken no_room.0 no_room.1.0 no_room.1.1.0
-    no_room.1.1.1.0 (zeros no_room.1.1.1.1 putLinesKept.0)
+returns-then-copy-file c = λ ws. set-short c.args.file.now (fields_of c.args.w ws) c.args.last c.if-copy-file.true c.no_room.ensures.answer c.no_room.ensures.nodes c.no_room.ensures.items
+    c.no_room.ensures.copy (zeros c.no_room.ensures.lines c.put_lines-n.auto.lines)
 
 pub returns-then-lines-n : goal.returns-then-lines-n
-returns-then-lines-n c = let lent = c.args in
-    let if1Left = c.if-copy-file.false in
-    let if2Taken = c.if-lines-n.true in
-    let putLinesKept = c.put_lines-n.auto in
-    let putLines = c.put_lines-n.ensures in
-    let noRoom2 = c.no_room-then-lines-n.ensures in
-    λ ws. set-narrow lent.file.now (fields_of lent.w ws) lent.last if1Left (omega (arith, if2Taken, putLinesKept.0, putLines.after))
-    noRoom2.0 noRoom2.1.0 noRoom2.1.1.0 noRoom2.1.1.1.0 (zeros noRoom2.1.1.1.1 putLinesKept.0)
+returns-then-lines-n c = λ ws. set-narrow c.args.file.now (fields_of c.args.w ws) c.args.last c.if-copy-file.false (omega (arith, c.if-lines-n.true, c.put_lines-n.auto.lines, c.put_lines-n.ensures.after))
+    c.no_room-then-lines-n.ensures.answer c.no_room-then-lines-n.ensures.nodes c.no_room-then-lines-n.ensures.items c.no_room-then-lines-n.ensures.copy (zeros c.no_room-then-lines-n.ensures.lines c.put_lines-n.auto.lines)
 
 pub put_copy-requires : goal.put_copy-requires
 put_copy-requires c = (c.requires, c.if-copy-file.false)
 
 pub returns : goal.returns
-returns c = let putLines = c.put_lines-n.ensures in
-    let if2Left = c.if-lines-n.false in
-    let putLinesKept = c.put_lines-n.auto in
-    let good = c.well_formed in
-    let clearBytesFrom = c.clear_bytes_from.ensures in
-    let lent = c.args in
-    let if1Left = c.if-copy-file.false in
-    let putCopy = c.put_copy.ensures in
-    λ ws. let v = wrote-all putLines (omega (arith, if2Left, putLinesKept.0)) (omega (arith, good)) clearBytesFrom in set-good
-    lent.file.now (fields_of lent.w ws) lent.last if1Left v.1 (omega (arith, if2Left, putLinesKept.0)) (putCopy ws) v.2
+returns c = λ ws. let v = wrote-all c.put_lines-n.ensures (omega (arith, c.if-lines-n.false, c.put_lines-n.auto.lines)) (omega (arith, c.well_formed)) c.clear_bytes_from.ensures in set-good
+    c.args.file.now (fields_of c.args.w ws) c.args.last c.if-copy-file.false v.1 (omega (arith, c.if-lines-n.false, c.put_lines-n.auto.lines)) (c.put_copy.ensures ws) v.2

@@ -24,7 +24,7 @@ is_need-requires c = row_in c.args.items.now c.requires c.loop-i-test.true c.ite
 pub returns-then-not-is_need : goal.returns-then-not-is_need
 returns-then-not-is_need c = needs-no c.args.file.now c.args.tune c.args.items.now c.args.many c.loop-i.invariant.1
     c.loop-i-test.true c.item_at.ensures c.is_need.ensures
-    (not-true c.is_need.result c.if-not-is_need.true)
+    c.if-not-is_need.true
 
 pub loop-i-smaller : goal.loop-i-smaller
 loop-i-smaller c = omega (arith, c.next_row-i-in-loop-i.ensures.low)
@@ -34,7 +34,7 @@ loop-i-preserved c = (
   c.next_row-i-in-loop-i.ensures.high,
   needs-on c.args.file.now c.args.tune c.args.items.now c.args.many
       c.loop-i.invariant.1 c.loop-i-test.true c.item_at.ensures c.is_need.ensures
-      (not-false c.is_need.result c.if-not-is_need.false) c.next_row-i-in-loop-i.ensures,
+      c.if-not-is_need.false c.next_row-i-in-loop-i.ensures,
 )
 
 pub returns : goal.returns

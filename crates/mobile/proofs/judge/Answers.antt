@@ -9,14 +9,22 @@ use borrow.Author.Rules.{rules}
 use Rattle.mobile.proofs.judge.Goals as goal
 
 pub verdict-requires : goal.verdict-requires
-verdict-requires c = let st = standing _ _ _ _ c.read_file.ensures.answer c.read_file.ensures.nodes.0
-    c.read_file.ensures.nodes.1 c.in-Is.is in tables _ _ st
+verdict-requires c = let st = standing _ _ _ _ c.read_file.ensures.answer c.read_file.ensures.nodes
+    c.read_file.ensures.items c.in-Is.is in tables _ _ st
 
 pub returns-in-Refused : goal.returns-in-Refused
-returns-in-Refused c = let all = (let w = says-unread _ _ _ (mobile c.args.file.now) c.read_file.ensures.answer c.in-Refused.is
-    c.read_file.ensures.nodes.0 c.read_file.ensures.nodes.1 in (w.0, (w.1, w.2))) in record { answer = all.0; nodes = all.1; items = all.2 }
+returns-in-Refused c = let w = says-unread _ _ _ (mobile c.args.file.now) c.read_file.ensures.answer c.in-Refused.is
+    c.read_file.ensures.nodes c.read_file.ensures.items in record {
+      answer = w.0;
+      nodes = w.1;
+      items = w.2;
+    }
 
 pub returns-in-Is : goal.returns-in-Is
-returns-in-Is c = let all = (let st = standing _ _ _ _ c.read_file.ensures.answer c.read_file.ensures.nodes.0
-    c.read_file.ensures.nodes.1 c.in-Is.is in let w = judged st c.verdict.ensures _ _
-    c.read_file.ensures.nodes.0 c.read_file.ensures.nodes.1 in (w.0, (w.1, w.2))) in record { answer = all.0; nodes = all.1; items = all.2 }
+returns-in-Is c = let st = standing _ _ _ _ c.read_file.ensures.answer c.read_file.ensures.nodes
+    c.read_file.ensures.items c.in-Is.is in let w = judged st c.verdict.ensures _ _
+    c.read_file.ensures.nodes c.read_file.ensures.items in record {
+      answer = w.0;
+      nodes = w.1;
+      items = w.2;
+    }

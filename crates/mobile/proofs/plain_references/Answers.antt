@@ -17,13 +17,13 @@ loop-i-init c = (omega arith, plain-are _)
 
 pub returns-then-not-is_plain : goal.returns-then-not-is_plain
 returns-then-not-is_plain c = nodes-no _ _ _ _ c.loop-i.invariant.1 c.loop-i-test.true c.node_at-row.ensures
-    (sym c.is_plain.ensures ∙ not-true c.is_plain.result c.if-not-is_plain.true)
+    (sym c.is_plain.ensures ∙ c.if-not-is_plain.true)
 
 pub loop-i-preserved : goal.loop-i-preserved
 loop-i-preserved c = (
   omega arith,
   nodes-on _ _ _ _ c.loop-i.invariant.1 c.loop-i-test.true c.node_at-row.ensures
-      (sym c.is_plain.ensures ∙ not-false c.is_plain.result c.if-not-is_plain.false),
+      (sym c.is_plain.ensures ∙ c.if-not-is_plain.false),
 )
 
 pub returns : goal.returns

@@ -1,7 +1,7 @@
 -- `role_of_row` says what `role_of_row` says.
 -- Assumes nothing.
 use borrow.Author.Tests.{not-true, not-false}
-use Rattle.cursor.specs.Rows.{metaFrame}
+use Rattle.cursor.specs.Rows.{meta_frame}
 use Rattle.cursor.specs.Told.{number_told}
 use Rattle.machine.proofs.Laws.{was}
 use Rattle.mobile.proofs.Roles.{row_other, row-empty, row_first, row_cut, row-left, row_type}
@@ -10,7 +10,7 @@ use borrow.Author.Rules.{rules}
 use Rattle.mobile.proofs.role_of_row.Goals as goal
 
 pub returns-then-not-is_binary : goal.returns-then-not-is_binary
-returns-then-not-is_binary c = row_other c.args.file.now c.args.row c.is_binary.ensures (not-true c.is_binary.result c.if-not-is_binary.true)
+returns-then-not-is_binary c = row_other c.args.file.now c.args.row c.is_binary.ensures c.if-not-is_binary.true
 
 pub returns-then-size-eq0 : goal.returns-then-size-eq0
 returns-then-size-eq0 c = row-empty c.args.file.now c.args.row c.if-size-eq0.true
@@ -19,12 +19,12 @@ pub returns-then-file-place-ne0 : goal.returns-then-file-place-ne0
 returns-then-file-place-ne0 c = row_first c.args.file.now c.args.row c.if-file-place-ne0.true
 
 pub returns-then-at-end : goal.returns-then-at-end
-returns-then-at-end c = row-left c.args.file.now c.args.row (was number_told (c.number.ensures metaFrame) c.in-Is.is) c.if-at-end.true
+returns-then-at-end c = row-left c.args.file.now c.args.row (was number_told (c.number.ensures meta_frame) c.in-Is.is) c.if-at-end.true
 
 pub returns-in-Refused : goal.returns-in-Refused
-returns-in-Refused c = row_cut c.args.file.now c.args.row (was number_told (c.number.ensures metaFrame) c.in-Refused.is)
+returns-in-Refused c = row_cut c.args.file.now c.args.row (was number_told (c.number.ensures meta_frame) c.in-Refused.is)
 
 pub returns-else-at-end : goal.returns-else-at-end
-returns-else-at-end c = row_type c.args.file.now c.args.row (was number_told (c.number.ensures metaFrame) c.in-Is.is)
-    c.is_binary.ensures (not-false c.is_binary.result c.if-not-is_binary.false) c.if-size-eq0.false
+returns-else-at-end c = row_type c.args.file.now c.args.row (was number_told (c.number.ensures meta_frame) c.in-Is.is)
+    c.is_binary.ensures c.if-not-is_binary.false c.if-size-eq0.false
     c.if-file-place-ne0.false c.if-at-end.false c.role_of_type.ensures

@@ -6,7 +6,7 @@ use borrow.Author.Rules.{rules}
 use Rattle.mobile.proofs.small_fields.Goals as goal
 
 pub returns-then-not-short_headers : goal.returns-then-not-short_headers
-returns-then-not-short_headers c = small-long _ _ c.short_headers.ensures (not-true c.short_headers.result c.if-not-short_headers.true)
+returns-then-not-short_headers c = small-long _ _ c.short_headers.ensures c.if-not-short_headers.true
 
 pub returns : goal.returns
-returns c = small_by _ _ c.short_headers.ensures (not-false c.short_headers.result c.if-not-short_headers.false) c.small_items.ensures
+returns c = small_by _ _ c.short_headers.ensures c.if-not-short_headers.false c.small_items.ensures

@@ -11,23 +11,18 @@ pub put_moved-size-requires : goal.put_moved-size-requires
 put_moved-size-requires c = (as_told (JudgedAs c.args.sheet.now) c.judge.ensures c.in-Is.is)
 
 pub returns-then-room-size : goal.returns-then-room-size
-returns-then-room-size c = let all = (let a = c.args in
-    let p = c.put_moved-size.ensures in
-    let w = as_told (JudgedAs a.sheet.now)
+returns-then-room-size c = let all = (let w = as_told (JudgedAs c.args.sheet.now)
     c.judge.ensures
     c.in-Is.is in
-    says-no_room a.sheet.now w p (omega (arith, c.if-room-size.true, p.long)) c.clear_bytes-then-room-size.ensures) in record { answer = all.0; room = all.1 }
+    says-no_room c.args.sheet.now w c.put_moved-size.ensures (omega (arith, c.if-room-size.true, c.put_moved-size.ensures.long)) c.clear_bytes-then-room-size.ensures) in record { answer = all.0; room = all.1 }
 
 pub returns-in-Bad : goal.returns-in-Bad
-returns-in-Bad c = let all = (let a = c.args in
-    let bad = as_told (JudgedAs a.sheet.now) c.judge.ensures
+returns-in-Bad c = let all = (let bad = as_told (JudgedAs c.args.sheet.now) c.judge.ensures
     c.in-Bad.is in
-    says-no_sheet a.sheet.now _ bad c.clear_bytes.ensures) in record { answer = all.0; room = all.1 }
+    says-no_sheet c.args.sheet.now _ bad c.clear_bytes.ensures) in record { answer = all.0; room = all.1 }
 
 pub returns-else-room-size : goal.returns-else-room-size
-returns-else-room-size c = let all = (let a = c.args in
-    let p = c.put_moved-size.ensures in
-    let w = as_told (JudgedAs a.sheet.now)
+returns-else-room-size c = let all = (let w = as_told (JudgedAs c.args.sheet.now)
     c.judge.ensures
     c.in-Is.is in
-    says-moved a.sheet.now w p (omega (arith, c.if-room-size.false, p.long)) (omega arith) c.clear_bytes_from.ensures) in record { answer = all.0; room = all.1 }
+    says-moved c.args.sheet.now w c.put_moved-size.ensures (omega (arith, c.if-room-size.false, c.put_moved-size.ensures.long)) (omega arith) c.clear_bytes_from.ensures) in record { answer = all.0; room = all.1 }

@@ -26,9 +26,7 @@ pub slice_bounds-is_kind-end : goal.slice_bounds-is_kind-end
 slice_bounds-is_kind-end c = c.piece_end-end.ensures.0
 
 pub is_kind-requires : goal.is_kind-requires
-is_kind-requires c = let s = c.args.sheet.now in
-    let at = c.loop-at.at in let e = c.piece_end-end in
-    known-line s at (next-piece 0x0A s at (omega arith) e.ensures.1) (omega (arith, e.ensures.1)) e.ensures.0 c.loop-at.invariant.2
+is_kind-requires c = known-line c.args.sheet.now c.loop-at.at (next-piece 0x0A c.args.sheet.now c.loop-at.at (omega arith) c.piece_end-end.ensures.1) (omega (arith, c.piece_end-end.ensures.1)) c.piece_end-end.ensures.0 c.loop-at.invariant.2
 
 pub slice_bounds-node_of-count : goal.slice_bounds-node_of-count
 slice_bounds-node_of-count c = omega (arith, c.piece_end-end.ensures.1)
@@ -40,15 +38,12 @@ pub slice_bounds-node_of-end : goal.slice_bounds-node_of-end
 slice_bounds-node_of-end c = c.piece_end-end.ensures.0
 
 pub returns-then-is_kind : goal.returns-then-is_kind
-returns-then-is_kind c = let s = c.args.sheet.now in
-    let loop = c.loop-at in let at = loop.at in
-    let e = c.piece_end-end in
-    let line = lent s at e.result (omega (arith, e.ensures.1)) e.ensures.0 in
-    let piece = next-piece 0x0A s at (omega arith) e.ensures.1 in
-    let behind = (known_on s at piece e.ensures.0 loop.invariant.2).1 in
-    item-here s c.args.from at loop.invariant.0 piece e.ensures.0
-    line c.is_kind.ensures c.if-is_kind.true loop.invariant.1
-    c.loop-at-test.true (omega (arith, e.ensures.1)) c.node_of.ensures behind
+returns-then-is_kind c = let line = lent c.args.sheet.now c.loop-at.at c.piece_end-end.result (omega (arith, c.piece_end-end.ensures.1)) c.piece_end-end.ensures.0 in
+    let piece = next-piece 0x0A c.args.sheet.now c.loop-at.at (omega arith) c.piece_end-end.ensures.1 in
+    let behind = (known_on c.args.sheet.now c.loop-at.at piece c.piece_end-end.ensures.0 c.loop-at.invariant.2).1 in
+    item-here c.args.sheet.now c.args.from c.loop-at.at c.loop-at.invariant.0 piece c.piece_end-end.ensures.0
+    line c.is_kind.ensures c.if-is_kind.true c.loop-at.invariant.1
+    c.loop-at-test.true (omega (arith, c.piece_end-end.ensures.1)) c.node_of.ensures behind
 
 pub overflow_add-at : goal.overflow_add-at
 overflow_add-at c = omega (arith, c.piece_end-end.ensures.0)
@@ -57,15 +52,12 @@ pub loop-at-smaller : goal.loop-at-smaller
 loop-at-smaller c = omega (arith, c.piece_end-end.ensures.1)
 
 pub loop-at-preserved : goal.loop-at-preserved
-loop-at-preserved c = let s = c.args.sheet.now in
-    let loop = c.loop-at in let at = loop.at in
-    let e = c.piece_end-end in
-    let line = lent s at e.result (omega (arith, e.ensures.1)) e.ensures.0 in
-    let piece = next-piece 0x0A s at (omega arith) e.ensures.1 in
-    let behind = (known_on s at piece e.ensures.0 loop.invariant.2).1 in (
-      item-past s c.args.from at loop.invariant.0 piece e.ensures.0 line
+loop-at-preserved c = let line = lent c.args.sheet.now c.loop-at.at c.piece_end-end.result (omega (arith, c.piece_end-end.ensures.1)) c.piece_end-end.ensures.0 in
+    let piece = next-piece 0x0A c.args.sheet.now c.loop-at.at (omega arith) c.piece_end-end.ensures.1 in
+    let behind = (known_on c.args.sheet.now c.loop-at.at piece c.piece_end-end.ensures.0 c.loop-at.invariant.2).1 in (
+      item-past c.args.sheet.now c.args.from c.loop-at.at c.loop-at.invariant.0 piece c.piece_end-end.ensures.0 line
           c.is_kind.ensures c.if-is_kind.false,
-      omega (arith, e.ensures.1),
+      omega (arith, c.piece_end-end.ensures.1),
       behind,
     )
 

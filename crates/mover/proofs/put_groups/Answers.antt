@@ -17,9 +17,8 @@ pub next_item-item-requires : goal.next_item-item-requires
 next_item-item-requires c = c.requires.1
 
 pub loop-at-init : goal.loop-at-init
-loop-at-init c = let a = c.args in let i = c.next_item-item in
-    let first = walk_start (nodes_of (parted 0x0A (drop a.from a.sheet.now))) (item_lines a.sheet.now i.result) i.ensures.0 in
-    (going_start _ (omega arith) first, right-low a.sheet.now a.from i.result i.ensures.1, omega arith, c.requires.1)
+loop-at-init c = let first = walk_start (nodes_of (parted 0x0A (drop c.args.from c.args.sheet.now))) (item_lines c.args.sheet.now c.next_item-item.result) c.next_item-item.ensures.0 in
+    (going_start _ (omega arith) first, right-low c.args.sheet.now c.args.from c.next_item-item.result c.next_item-item.ensures.1, omega arith, c.requires.1)
 
 pub slice_bounds-is_kind-count : goal.slice_bounds-is_kind-count
 slice_bounds-is_kind-count c = omega (arith, c.piece_end-end.ensures.1)
@@ -31,9 +30,7 @@ pub slice_bounds-is_kind-end : goal.slice_bounds-is_kind-end
 slice_bounds-is_kind-end c = c.piece_end-end.ensures.0
 
 pub is_kind-requires : goal.is_kind-requires
-is_kind-requires c = let s = c.args.sheet.now in
-    let at = c.loop-at.at in let e = c.piece_end-end in
-    known-line s at (next-piece 0x0A s at (omega arith) e.ensures.1) (omega (arith, e.ensures.1)) e.ensures.0 c.loop-at.invariant.3
+is_kind-requires c = known-line c.args.sheet.now c.loop-at.at (next-piece 0x0A c.args.sheet.now c.loop-at.at (omega arith) c.piece_end-end.ensures.1) (omega (arith, c.piece_end-end.ensures.1)) c.piece_end-end.ensures.0 c.loop-at.invariant.3
 
 pub put_line-next-requires : goal.put_line-next-requires
 put_line-next-requires c = (omega (arith, c.piece_end-end.ensures.1), c.piece_end-end.ensures.0)
@@ -51,19 +48,14 @@ pub loop-at-smaller-then-is_kind : goal.loop-at-smaller-then-is_kind
 loop-at-smaller-then-is_kind c = omega (arith, c.piece_end-end.ensures.1)
 
 pub loop-at-preserved-then-is_kind : goal.loop-at-preserved-then-is_kind
-loop-at-preserved-then-is_kind c = let s = c.args.sheet.now in
-    let loop = c.loop-at in
-    let at = loop.at in
-    let e = c.piece_end-end in
-    let line = lent s at e.result (omega (arith, e.ensures.1)) e.ensures.0 in
-    let piece = next-piece 0x0A s at (omega arith) e.ensures.1 in
-    let behind = (known_on s at piece e.ensures.0 loop.invariant.3).1 in
-    let run = c.put_run-run.ensures in
-    let puts = walk_turn s loop.row at (item_lines s loop.item) piece e.ensures.0 line
+loop-at-preserved-then-is_kind c = let line = lent c.args.sheet.now c.loop-at.at c.piece_end-end.result (omega (arith, c.piece_end-end.ensures.1)) c.piece_end-end.ensures.0 in
+    let piece = next-piece 0x0A c.args.sheet.now c.loop-at.at (omega arith) c.piece_end-end.ensures.1 in
+    let behind = (known_on c.args.sheet.now c.loop-at.at piece c.piece_end-end.ensures.0 c.loop-at.invariant.3).1 in
+    let puts = walk_turn c.args.sheet.now c.loop-at.row c.loop-at.at (item_lines c.args.sheet.now c.loop-at.item) piece c.piece_end-end.ensures.0 line
     c.is_kind.ensures
-    c.if-is_kind.true loop.invariant.0
-    c.put_line-next.ensures run.0 run.1.0 in
-    (puts, run.1.1, omega (arith, loop.invariant.2, e.ensures.1), behind)
+    c.if-is_kind.true c.loop-at.invariant.0
+    c.put_line-next.ensures c.put_run-run.ensures.puts c.put_run-run.ensures.left.0 in
+    (puts, c.put_run-run.ensures.left.1, omega (arith, c.loop-at.invariant.2, c.piece_end-end.ensures.1), behind)
 
 pub overflow_add-at-else-is_kind : goal.overflow_add-at-else-is_kind
 overflow_add-at-else-is_kind c = omega (arith, c.piece_end-end.ensures.0)
@@ -72,14 +64,11 @@ pub loop-at-smaller : goal.loop-at-smaller
 loop-at-smaller c = omega (arith, c.piece_end-end.ensures.1)
 
 pub loop-at-preserved : goal.loop-at-preserved
-loop-at-preserved c = let s = c.args.sheet.now in
-    let loop = c.loop-at in let at = loop.at in
-    let e = c.piece_end-end in
-    let line = lent s at e.result (omega (arith, e.ensures.1)) e.ensures.0 in
-    let piece = next-piece 0x0A s at (omega arith) e.ensures.1 in
-    let behind = (known_on s at piece e.ensures.0 loop.invariant.3).1 in
-    let past = walk-past s loop.row at (item_lines s loop.item) piece e.ensures.0 line c.is_kind.ensures c.if-is_kind.false in
-    (going_as past loop.invariant.0, loop.invariant.1, omega (arith, loop.invariant.2, e.ensures.1), behind)
+loop-at-preserved c = let line = lent c.args.sheet.now c.loop-at.at c.piece_end-end.result (omega (arith, c.piece_end-end.ensures.1)) c.piece_end-end.ensures.0 in
+    let piece = next-piece 0x0A c.args.sheet.now c.loop-at.at (omega arith) c.piece_end-end.ensures.1 in
+    let behind = (known_on c.args.sheet.now c.loop-at.at piece c.piece_end-end.ensures.0 c.loop-at.invariant.3).1 in
+    let past = walk-past c.args.sheet.now c.loop-at.row c.loop-at.at (item_lines c.args.sheet.now c.loop-at.item) piece c.piece_end-end.ensures.0 line c.is_kind.ensures c.if-is_kind.false in
+    (going_as past c.loop-at.invariant.0, c.loop-at.invariant.1, omega (arith, c.loop-at.invariant.2, c.piece_end-end.ensures.1), behind)
 
 pub returns : goal.returns
 returns c = going_end (walk_end c.args.sheet.now c.loop-at.row c.loop-at.at

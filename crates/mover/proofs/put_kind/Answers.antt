@@ -25,9 +25,7 @@ pub slice_bounds-is_kind-end : goal.slice_bounds-is_kind-end
 slice_bounds-is_kind-end c = c.piece_end-end.ensures.0
 
 pub is_kind-requires : goal.is_kind-requires
-is_kind-requires c = let s = c.args.sheet.now in
-    let at = c.loop-at.at in let e = c.piece_end-end in
-    known-line s at (next-piece 0x0A s at (omega arith) e.ensures.1) (omega (arith, e.ensures.1)) e.ensures.0 c.loop-at.invariant.1
+is_kind-requires c = known-line c.args.sheet.now c.loop-at.at (next-piece 0x0A c.args.sheet.now c.loop-at.at (omega arith) c.piece_end-end.ensures.1) (omega (arith, c.piece_end-end.ensures.1)) c.piece_end-end.ensures.0 c.loop-at.invariant.1
 
 pub put_line-next-requires : goal.put_line-next-requires
 put_line-next-requires c = (omega (arith, c.piece_end-end.ensures.1), c.piece_end-end.ensures.0)
@@ -39,14 +37,11 @@ pub loop-at-smaller-then-is_kind : goal.loop-at-smaller-then-is_kind
 loop-at-smaller-then-is_kind c = omega (arith, c.piece_end-end.ensures.1)
 
 pub loop-at-preserved-then-is_kind : goal.loop-at-preserved-then-is_kind
-loop-at-preserved-then-is_kind c = let a = c.args in
-    let loop = c.loop-at in let at = loop.at in
-    let e = c.piece_end-end in
-    let line = lent a.sheet.now at e.result (omega (arith, e.ensures.1)) e.ensures.0 in
-    let piece = next-piece 0x0A a.sheet.now at (omega arith) e.ensures.1 in
-    let behind = (known_on a.sheet.now at piece e.ensures.0 loop.invariant.1).1 in (
-      going_on (put-kind_one a.sheet.now a.items at piece e.ensures.0 line
-          c.is_kind.ensures c.if-is_kind.true) loop.invariant.0
+loop-at-preserved-then-is_kind c = let line = lent c.args.sheet.now c.loop-at.at c.piece_end-end.result (omega (arith, c.piece_end-end.ensures.1)) c.piece_end-end.ensures.0 in
+    let piece = next-piece 0x0A c.args.sheet.now c.loop-at.at (omega arith) c.piece_end-end.ensures.1 in
+    let behind = (known_on c.args.sheet.now c.loop-at.at piece c.piece_end-end.ensures.0 c.loop-at.invariant.1).1 in (
+      going_on (put-kind_one c.args.sheet.now c.args.items c.loop-at.at piece c.piece_end-end.ensures.0 line
+          c.is_kind.ensures c.if-is_kind.true) c.loop-at.invariant.0
           c.put_line-next.ensures,
       behind,
     )
@@ -58,13 +53,10 @@ pub loop-at-smaller : goal.loop-at-smaller
 loop-at-smaller c = omega (arith, c.piece_end-end.ensures.1)
 
 pub loop-at-preserved : goal.loop-at-preserved
-loop-at-preserved c = let a = c.args in
-    let loop = c.loop-at in let at = loop.at in
-    let e = c.piece_end-end in
-    let line = lent a.sheet.now at e.result (omega (arith, e.ensures.1)) e.ensures.0 in
-    let piece = next-piece 0x0A a.sheet.now at (omega arith) e.ensures.1 in
-    let behind = (known_on a.sheet.now at piece e.ensures.0 loop.invariant.1).1 in
-    (going_as (put-kind_past a.sheet.now a.items at piece e.ensures.0 line c.is_kind.ensures c.if-is_kind.false) loop.invariant.0, behind)
+loop-at-preserved c = let line = lent c.args.sheet.now c.loop-at.at c.piece_end-end.result (omega (arith, c.piece_end-end.ensures.1)) c.piece_end-end.ensures.0 in
+    let piece = next-piece 0x0A c.args.sheet.now c.loop-at.at (omega arith) c.piece_end-end.ensures.1 in
+    let behind = (known_on c.args.sheet.now c.loop-at.at piece c.piece_end-end.ensures.0 c.loop-at.invariant.1).1 in
+    (going_as (put-kind_past c.args.sheet.now c.args.items c.loop-at.at piece c.piece_end-end.ensures.0 line c.is_kind.ensures c.if-is_kind.false) c.loop-at.invariant.0, behind)
 
 pub returns : goal.returns
 returns c = going_end (put-kind_end c.args.sheet.now c.args.items c.loop-at.at c.loop-at-test.false) c.loop-at.invariant.0

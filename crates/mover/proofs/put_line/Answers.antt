@@ -7,7 +7,4 @@ use borrow.Author.Rules.{rules}
 use Rattle.mover.proofs.put_line.Goals as goal
 
 pub returns : goal.returns
-returns c = let a = c.args in
-    let pre = c.requires in
-    let put-part = c.put_part-next in
-    put_one (lent a.sheet.now _ _ pre.0 pre.1) put-part.ensures c.put_byte.ensures
+returns c = put_one (lent c.args.sheet.now _ _ c.requires.0 c.requires.1) c.put_part-next.ensures c.put_byte.ensures

@@ -19,30 +19,19 @@ pub returns-then-k-row : goal.returns-then-k-row
 returns-then-k-row c = let all = (run-over c.args.sheet.now c.args.row c.loop-item.invariant c.in-Is.is c.if-k-row.true) in record { puts = all.0; left = all.1 }
 
 pub put_line-next-requires : goal.put_line-next-requires
-put_line-next-requires c = let a = c.args in
-    let loop = c.loop-item in (
-      (as_told (Right a.sheet.now 0) loop.invariant.right c.in-Is.is).2,
-      (as_told (Right a.sheet.now 0) loop.invariant.right c.in-Is.is).3,
-    )
+put_line-next-requires c = (
+  (as_told (Right c.args.sheet.now 0) c.loop-item.invariant.right c.in-Is.is).2,
+  (as_told (Right c.args.sheet.now 0) c.loop-item.invariant.right c.in-Is.is).3,
+)
 
 pub overflow_add-end : goal.overflow_add-end
-overflow_add-end c = let a = c.args in
-    let loop = c.loop-item in
-    let item = c.item-1 in
-    omega (arith, (as_told (Right a.sheet.now 0) loop.invariant.right item.given.1).3)
+overflow_add-end c = omega (arith, (as_told (Right c.args.sheet.now 0) c.loop-item.invariant.right c.in-Is.is).3)
 
 pub next_item-item-requires : goal.next_item-item-requires
 next_item-item-requires c = (as_told (Right c.args.sheet.now 0) c.loop-item.invariant.right c.in-Is.is).5
 
 pub loop-item-smaller : goal.loop-item-smaller
-loop-item-smaller c = let a = c.args in
-    let loop = c.loop-item in
-    let item = c.item-1 in
-    run-less a.sheet.now a.row loop.invariant item.given.1 c.next_item-item.result c.next_item-item.ensures
+loop-item-smaller c = run-less c.args.sheet.now c.args.row c.loop-item.invariant c.in-Is.is c.next_item-item.result c.next_item-item.ensures
 
 pub loop-item-preserved : goal.loop-item-preserved
-loop-item-preserved c = let a = c.args in
-    let loop = c.loop-item in
-    let item = c.item-1 in
-    let test = c.if-k-row in
-    run-turn a.sheet.now a.row loop.invariant item.given.1 test.false c.put_line-next.ensures c.next_item-item.result c.next_item-item.ensures
+loop-item-preserved c = run-turn c.args.sheet.now c.args.row c.loop-item.invariant c.in-Is.is c.if-k-row.false c.put_line-next.ensures c.next_item-item.result c.next_item-item.ensures

@@ -5,5 +5,4 @@ use borrow.Author.Rules.{rules}
 use Rattle.needs.proofs.hidden.Goals as goal
 
 pub returns : goal.returns
-returns c = let clear-bytes = c.clear_bytes in
-    nothing-given _ clear-bytes.ensures
+returns c = nothing-given _ c.clear_bytes.ensures

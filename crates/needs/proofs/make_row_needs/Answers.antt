@@ -11,45 +11,25 @@ use Rattle.needs.proofs.make_row_needs.Goals as goal
 
 pub returns-then-s-row : goal.returns-then-s-row
 unfolding row_needs_answer
-returns-then-s-row c = let node-table = c.node_table-nodes in
-    let item-table = c.item_table-items in
-    let args-c = c.args in
-    let read-file = c.read_file in
-    let s = c.s-1 in
-    let if1 = c.if-s-row in let refuse2 = c.refuse-then-s-row in
-    gives_as (of_past _ node-table.ensures item-table.ensures _ _ shown_needs
-    (standing args-c.file.now _ _ _ read-file.ensures.0 read-file.ensures.1.0 read-file.ensures.1.1 s.given.1)
-    if1.true) refuse2.ensures
+returns-then-s-row c = gives_as (of_past _ c.node_table-nodes.ensures c.item_table-items.ensures _ _ shown_needs
+    (standing c.args.file.now _ _ _ c.read_file.ensures.answer c.read_file.ensures.nodes c.read_file.ensures.items c.in-Is.is)
+    c.if-s-row.true) c.refuse-then-s-row.ensures
 
 pub item_at-requires : goal.item_at-requires
-item_at-requires c = let args-c = c.args in
-    let read-file = c.read_file in
-    let s = c.s-1 in let if1 = c.if-s-row in
-    let w = (standing args-c.file.now _ _ _ read-file.ensures.0 read-file.ensures.1.0 read-file.ensures.1.1 s.given.1)
-    in omega (arith, w.item_room, if1.false)
+item_at-requires c = let w = (standing c.args.file.now _ _ _ c.read_file.ensures.answer c.read_file.ensures.nodes c.read_file.ensures.items c.in-Is.is)
+    in omega (arith, w.item_room, c.if-s-row.false)
 
 pub make_item_needs-requires : goal.make_item_needs-requires
-make_item_needs-requires c = let item-at = c.item_at in
-    let args-c = c.args in
-    let read-file = c.read_file in
-    let s = c.s-1 in let if1 = c.if-s-row in
-    rw item-at.ensures ((item-rows
-    (standing args-c.file.now _ _ _ read-file.ensures.0 read-file.ensures.1.0 read-file.ensures.1.1 s.given.1)).1 _
-    (omega (arith, if1.false)))
+make_item_needs-requires c = rw c.item_at.ensures ((item-rows
+    (standing c.args.file.now _ _ _ c.read_file.ensures.answer c.read_file.ensures.nodes c.read_file.ensures.items c.in-Is.is)).1 _
+    (omega (arith, c.if-s-row.false)))
 
 pub returns-in-Refused : goal.returns-in-Refused
 unfolding row_needs_answer
-returns-in-Refused c = let node-table = c.node_table-nodes in
-    let item-table = c.item_table-items in
-    let read-file = c.read_file in
-    let n = c.n-1 in let refuse = c.refuse in
-    gives_as (of_unread _ node-table.ensures item-table.ensures _ _ shown_needs read-file.ensures.0 n.given.1) refuse.ensures
+returns-in-Refused c = gives_as (of_unread _ c.node_table-nodes.ensures c.item_table-items.ensures _ _ shown_needs c.read_file.ensures.answer c.in-Refused.is) c.refuse.ensures
 
 pub returns-else-s-row : goal.returns-else-s-row
 unfolding row_needs_answer
-returns-else-s-row c = let make-item-needs = c.make_item_needs in
-    let item-at = c.item_at in
-    let if1 = c.if-s-row in let s = c.s-1 in let read-file = c.read_file in let item-table = c.item_table-items in let node-table = c.node_table-nodes in let args-c = c.args in
-    gives_as (of_row_lem _ node-table.ensures item-table.ensures _ _ shown_needs
-    (standing args-c.file.now _ _ _ read-file.ensures.0 read-file.ensures.1.0 read-file.ensures.1.1 s.given.1)
-    (omega (arith, if1.false)) item-at.ensures) make-item-needs.ensures
+returns-else-s-row c = gives_as (of_row_lem _ c.node_table-nodes.ensures c.item_table-items.ensures _ _ shown_needs
+    (standing c.args.file.now _ _ _ c.read_file.ensures.answer c.read_file.ensures.nodes c.read_file.ensures.items c.in-Is.is)
+    (omega (arith, c.if-s-row.false)) c.item_at.ensures) c.make_item_needs.ensures

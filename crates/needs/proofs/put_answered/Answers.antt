@@ -7,9 +7,7 @@ use borrow.Author.Rules.{rules}
 use Rattle.needs.proofs.put_answered.Goals as goal
 
 pub returns-in-Refused : goal.returns-in-Refused
-returns-in-Refused c = let put = c.put-1 in let refuse = c.refuse in
-    λ o x h. let z = puts-bad _ _ _ _ _ h put.given.1 in gives_as (printed-bad plainly _ _ z.0) (refuse-room _ _ _ z.1 refuse.ensures)
+returns-in-Refused c = λ o x h. let z = puts-bad _ _ _ _ _ h c.in-Refused.is in gives_as (printed-bad plainly _ _ z.0) (refuse-room _ _ _ z.1 c.refuse.ensures)
 
 pub returns-in-To : goal.returns-in-To
-returns-in-To c = let put2 = c.put-in-To-1 in let conclude = c.conclude in
-    λ o x h. let z = puts-good _ _ _ _ _ h put2.given.1 in gives_as (printed-good plainly _ _ z.1) (conclude.ensures _ _ z.2)
+returns-in-To c = λ o x h. let z = puts-good _ _ _ _ _ h c.in-To.is in gives_as (printed-good plainly _ _ z.1) (c.conclude.ensures _ _ z.2)

@@ -6,12 +6,6 @@ use borrow.Author.Rules.{rules}
 use Rattle.needs.proofs.put_count.Goals as goal
 
 pub returns : goal.returns
-returns c = let put-byte2 = c.put_byte in
-    let put-number4 = c.put_number-e in
-    let put-number3 = c.put_number-d in
-    let put-number2 = c.put_number-c in
-    let put-number = c.put_number-b in
-    let put_byte = c.put_byte-a in
-    counts-as (count-is _ _ _ _) (counts-then
-    (counts-then (counts-then (counts-then (counts-then put_byte.ensures put-number.ensures) put-number2.ensures)
-    put-number3.ensures) put-number4.ensures) put-byte2.ensures)
+returns c = counts-as (count-is _ _ _ _) (counts-then
+    (counts-then (counts-then (counts-then (counts-then c.put_byte-a.ensures c.put_number-b.ensures) c.put_number-c.ensures)
+    c.put_number-d.ensures) c.put_number-e.ensures) c.put_byte.ensures)

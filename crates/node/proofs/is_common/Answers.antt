@@ -21,4 +21,4 @@ returns-then-size-gt127 c = tt
 
 pub returns : goal.returns
 returns c = unpacker-common _ _ _ c.byte-kind.ensures c.byte-name.ensures c.byte-size.ensures (omega (arith, c.if-end-place-lt3.false))
-    (sym (not-false _ c.if-not-is_numbered.false) ∙ c.is_numbered.ensures) c.if-name-gt127.false c.if-size-gt127.false
+    (sym c.if-not-is_numbered.false ∙ c.is_numbered.ensures) c.if-name-gt127.false c.if-size-gt127.false

@@ -1,6 +1,6 @@
 -- `read_identifier` gives what `identifier` gives.
 -- Assumes nothing.
-use Rattle.cursor.specs.Rows.{unpackFrame}
+use Rattle.cursor.specs.Rows.{unpack_frame}
 use Rattle.cursor.specs.Told.{pass_told}
 use Rattle.machine.proofs.Laws.{was}
 use Rattle.node.proofs.Ways.{identifier-guid, identifier-cut, identifier-two, identifier-one}
@@ -8,13 +8,13 @@ use borrow.Author.Rules.{rules}
 use Rattle.node.proofs.read_identifier.Goals as goal
 
 pub returns-then-kind-eq3 : goal.returns-then-kind-eq3
-returns-then-kind-eq3 c = identifier-guid _ _ _ _ c.if-kind-eq3.true (c.guid.ensures unpackFrame)
+returns-then-kind-eq3 c = identifier-guid _ _ _ _ c.if-kind-eq3.true (c.guid.ensures unpack_frame)
 
 pub returns-in-Refused : goal.returns-in-Refused
-returns-in-Refused c = identifier-cut _ _ _ _ c.if-kind-eq3.false c.if-kind-eq1.true (was pass_told (c.manufacturer.ensures unpackFrame) c.in-Refused.is)
+returns-in-Refused c = identifier-cut _ _ _ _ c.if-kind-eq3.false c.if-kind-eq1.true (was pass_told (c.manufacturer.ensures unpack_frame) c.in-Refused.is)
 
 pub returns-in-To : goal.returns-in-To
-returns-in-To c = identifier-two _ _ _ _ c.if-kind-eq3.false c.if-kind-eq1.true (was pass_told (c.manufacturer.ensures unpackFrame) c.in-To.is) c.read_value.ensures
+returns-in-To c = identifier-two _ _ _ _ c.if-kind-eq3.false c.if-kind-eq1.true (was pass_told (c.manufacturer.ensures unpack_frame) c.in-To.is) c.read_value.ensures
 
 pub returns : goal.returns
 returns c = identifier-one _ _ _ _ c.if-kind-eq3.false c.if-kind-eq1.false c.read_value-2.ensures

@@ -6,10 +6,6 @@ use borrow.Author.Rules.{rules}
 use Rattle.notes.proofs.put_changes.Goals as goal
 
 pub returns : goal.returns
-returns c = let put-bytes = c.put_bytes-a in
-    let put-title = c.put_title-b in let put-title2 = c.put_title-c in
-    let put-bytes2 = c.put_bytes-d in let put-number = c.put_number-e in
-    let put-number2 = c.put_number-f in let put_byte = c.put_byte in
-    counts-as (changes-are _ _ _)
-    (counts-then (counts-then (counts-then (counts-then (counts-then (counts-then put-bytes.ensures put-title.ensures) put-title2.ensures)
-    put-bytes2.ensures) put-number.ensures) put-number2.ensures) put_byte.ensures)
+returns c = counts-as (changes-are _ _ _)
+    (counts-then (counts-then (counts-then (counts-then (counts-then (counts-then c.put_bytes-a.ensures c.put_title-b.ensures) c.put_title-c.ensures)
+    c.put_bytes-d.ensures) c.put_number-e.ensures) c.put_number-f.ensures) c.put_byte.ensures)

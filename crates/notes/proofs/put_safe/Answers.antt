@@ -14,61 +14,32 @@ pub loop-at-init : goal.loop-at-init
 loop-at-init c = (omega arith, omega arith, going_start _ (omega arith) (left-start _ _))
 
 pub overflow_add-at : goal.overflow_add-at
-overflow_add-at c = let safe-size = c.safe_size-size in let loop = c.loop-at in
-    let w = size_in _ _ safe-size.ensures loop.invariant.0 in omega arith
+overflow_add-at c = let w = size_in _ _ c.safe_size-size.ensures c.loop-at.invariant.0 in omega arith
 
 pub returns-then-most-at : goal.returns-then-most-at
-returns-then-most-at c = let put-cut = c.put_cut in
-    let loop = c.loop-at in
-    let loop-test = c.loop-at-test in
-    let safe-size = c.safe_size-size in
-    let if1 = c.if-most-at in
-    going_end refl (going_on (char-cut _ _ _ loop-test.true safe-size.ensures (omega arith) if1.true) loop.invariant.2 put-cut.ensures)
+returns-then-most-at c = going_end refl (going_on (char-cut _ _ _ c.loop-at-test.true c.safe_size-size.ensures (omega arith) c.if-most-at.true) c.loop-at.invariant.2 c.put_cut.ensures)
 
 pub returns-then-most-at-2 : goal.returns-then-most-at-2
-returns-then-most-at-2 c = let put-cut2 = c.put_cut-then-most-at-2 in
-    let loop = c.loop-at in
-    let loop-test = c.loop-at-test in
-    let safe-size = c.safe_size-size in
-    let if2 = c.if-size-eq0 in let if3 = c.if-most-at-2 in
-    going_end refl (going_on (byte_cut _ _ _ loop-test.true safe-size.ensures if2.true if3.true) loop.invariant.2 put-cut2.ensures)
+returns-then-most-at-2 c = going_end refl (going_on (byte_cut _ _ _ c.loop-at-test.true c.safe_size-size.ensures c.if-size-eq0.true c.if-most-at-2.true) c.loop-at.invariant.2 c.put_cut-then-most-at-2.ensures)
 
 pub loop-at-preserved-then-size-eq0 : goal.loop-at-preserved-then-size-eq0
-loop-at-preserved-then-size-eq0 c = let put-escaped = c.put_escaped-next in
-    let loop = c.loop-at in
-    let loop-test = c.loop-at-test in
-    let safe-size = c.safe_size-size in
-    let if2 = c.if-size-eq0 in let if3 = c.if-most-at-2 in
-    (omega arith, omega arith, going_on (byte_put _ _ _ loop-test.true safe-size.ensures if2.true if3.false) loop.invariant.2 put-escaped.ensures)
+loop-at-preserved-then-size-eq0 c = (omega arith, omega arith, going_on (byte_put _ _ _ c.loop-at-test.true c.safe_size-size.ensures c.if-size-eq0.true c.if-most-at-2.false) c.loop-at.invariant.2 c.put_escaped-next.ensures)
 
 pub put_part-next-requires : goal.put_part-next-requires
-put_part-next-requires c = let safe-size = c.safe_size-size in
-    let loop = c.loop-at in
-    size_in _ _ safe-size.ensures loop.invariant.0
+put_part-next-requires c = size_in _ _ c.safe_size-size.ensures c.loop-at.invariant.0
 
 pub overflow_add-at-else-size-eq0 : goal.overflow_add-at-else-size-eq0
-overflow_add-at-else-size-eq0 c = let safe-size = c.safe_size-size in
-    let loop = c.loop-at in
-    let w = size_in _ _ safe-size.ensures loop.invariant.0 in omega arith
+overflow_add-at-else-size-eq0 c = let w = size_in _ _ c.safe_size-size.ensures c.loop-at.invariant.0 in omega arith
 
 pub loop-at-smaller : goal.loop-at-smaller
-loop-at-smaller c = let safe-size = c.safe_size-size in
-    let loop = c.loop-at in
-    let if2 = c.if-size-eq0 in
-    let w = size_in _ _ safe-size.ensures loop.invariant.0 in omega (arith, if2.false)
+loop-at-smaller c = let w = size_in _ _ c.safe_size-size.ensures c.loop-at.invariant.0 in omega (arith, c.if-size-eq0.false)
 
 pub loop-at-preserved : goal.loop-at-preserved
-loop-at-preserved c = let put-part = c.put_part-next in
-    let loop = c.loop-at in
-    let loop-test = c.loop-at-test in
-    let safe-size = c.safe_size-size in
-    let if1 = c.if-most-at in
-    let if2 = c.if-size-eq0 in (
-      size_in _ _ safe-size.ensures loop.invariant.0,
-      if1.false,
-      going_on (char-put _ _ _ loop-test.true safe-size.ensures (omega (arith, if2.false)) if1.false) loop.invariant.2 put-part.ensures,
-    )
+loop-at-preserved c = (
+  size_in _ _ c.safe_size-size.ensures c.loop-at.invariant.0,
+  c.if-most-at.false,
+  going_on (char-put _ _ _ c.loop-at-test.true c.safe_size-size.ensures (omega (arith, c.if-size-eq0.false)) c.if-most-at.false) c.loop-at.invariant.2 c.put_part-next.ensures,
+)
 
 pub returns : goal.returns
-returns c = let loop-test = c.loop-at-test in let loop = c.loop-at in
-    going_end (left_end _ _ _ loop-test.false) loop.invariant.2
+returns c = going_end (left_end _ _ _ c.loop-at-test.false) c.loop-at.invariant.2

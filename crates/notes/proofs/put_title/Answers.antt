@@ -8,20 +8,10 @@ use borrow.Author.Rules.{rules}
 use Rattle.notes.proofs.put_title.Goals as goal
 
 pub returns-then-n-gt196608 : goal.returns-then-n-gt196608
-returns-then-n-gt196608 c = let title-buffer = c.title_buffer-text in
-    let put-row-text = c.put_row_text-n in
-    let put_byte = c.put_byte-next in let if1 = c.if-n-gt196608 in
-    counts-as (field-none _ _ put-row-text.ensures title-buffer.ensures if1.true) put_byte.ensures
+returns-then-n-gt196608 c = counts-as (field-none _ _ c.put_row_text-n.ensures c.title_buffer-text.ensures c.if-n-gt196608.true) c.put_byte-next.ensures
 
 pub slice_bounds-put_safe-end : goal.slice_bounds-put_safe-end
-slice_bounds-put_safe-end c = let put-row-text = c.put_row_text-n in
-    let if1 = c.if-n-gt196608 in
-    let title-buffer = c.title_buffer-text in
-    (prefix_len_of_le put-row-text.result put-row-text.new.0 (omega (arith, if1.false, put-row-text.auto.0, title-buffer.ensures))).1
+slice_bounds-put_safe-end c = (prefix_len_of_le c.put_row_text-n.result c.put_row_text-n.new.0 (omega (arith, c.if-n-gt196608.false, c.put_row_text-n.auto.out, c.title_buffer-text.ensures))).1
 
 pub returns : goal.returns
-returns c = let title-buffer = c.title_buffer-text in
-    let put-row-text = c.put_row_text-n in
-    let put_byte = c.put_byte-next in
-    let if1 = c.if-n-gt196608 in let put-safe = c.put_safe in
-    counts-as (field_is _ _ put-row-text.ensures title-buffer.ensures if1.false) (counts-then put_byte.ensures put-safe.ensures)
+returns c = counts-as (field_is _ _ c.put_row_text-n.ensures c.title_buffer-text.ensures c.if-n-gt196608.false) (counts-then c.put_byte-next.ensures c.put_safe.ensures)

@@ -5,15 +5,10 @@ use borrow.Author.Rules.{rules}
 use Rattle.notes.proofs.safe_size.Goals as goal
 
 pub returns-then-is_safe : goal.returns-then-is_safe
-returns-then-is_safe c = let value = c.value-1 in let char8 = c.char8 in
-    let is-safe = c.is_safe in let if1 = c.if-is_safe in
-    size-safe _ char8.ensures value.given.1 is-safe.ensures if1.true
+returns-then-is_safe c = size-safe _ c.char8.ensures c.in-Is.is c.is_safe.ensures c.if-is_safe.true
 
 pub returns-in-Bad : goal.returns-in-Bad
-returns-in-Bad c = let enum_told-1 = c.enum_told-1 in let char8 = c.char8 in
-    size-bad _ char8.ensures enum_told-1.given.1
+returns-in-Bad c = size-bad _ c.char8.ensures c.in-Bad.is
 
 pub returns-else-is_safe : goal.returns-else-is_safe
-returns-else-is_safe c = let value = c.value-1 in let char8 = c.char8 in
-    let is-safe = c.is_safe in let if1 = c.if-is_safe in
-    size-other _ char8.ensures value.given.1 is-safe.ensures if1.false
+returns-else-is_safe c = size-other _ c.char8.ensures c.in-Is.is c.is_safe.ensures c.if-is_safe.false

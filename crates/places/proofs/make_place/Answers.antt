@@ -6,17 +6,7 @@ use borrow.Author.Rules.{rules}
 use Rattle.places.proofs.make_place.Goals as goal
 
 pub returns-in-Refused : goal.returns-in-Refused
-returns-in-Refused c = let node-table = c.node_table-nodes in
-    let item-table = c.item_table-items in
-    let resolve = c.resolve in
-    let n = c.n-1 in let refuse = c.refuse in
-    gives_as (place-bad _ node-table.ensures item-table.ensures _ _ resolve.ensures.0 n.given.1) refuse.ensures
+returns-in-Refused c = gives_as (place-bad _ c.node_table-nodes.ensures c.item_table-items.ensures _ _ c.resolve.ensures.answer c.in-Refused.is) c.refuse.ensures
 
 pub returns-in-At : goal.returns-in-At
-returns-in-At c = let conclude = c.conclude in
-    let put-place = c.put_place-end in
-    let place = c.place-1 in
-    let resolve = c.resolve in
-    let item-table = c.item_table-items in
-    let node-table = c.node_table-nodes in
-    gives_as (place-good _ node-table.ensures item-table.ensures _ _ resolve.ensures.0 place.given.1) (conclude.ensures _ _ put-place.ensures)
+returns-in-At c = gives_as (place-good _ c.node_table-nodes.ensures c.item_table-items.ensures _ _ c.resolve.ensures.answer c.in-At.is) (c.conclude.ensures _ _ c.put_place-end.ensures)

@@ -8,38 +8,37 @@ use Rattle.resolve.proofs.Copied.{zeros, copy-refused, copy-full, copy-good}
 use Rattle.resolve.proofs.copy_resource.Goals as goal
 
 pub overflow_add-at : goal.overflow_add-at
-overflow_add-at c = let r = c.resolve in
-    let w = c.args in
-    omega (arith, part-inside w.file.now (length w.nodes.now) (length w.items.now) w.row r.result r.ensures.0 c.in-At.is)
+overflow_add-at c = omega (arith, part-inside c.args.file.now (length c.args.nodes.now) (length c.args.items.now) c.args.row c.resolve.result c.resolve.ensures.answer c.in-At.is)
 
 pub slice_bounds-store_bytes-end : goal.slice_bounds-store_bytes-end
-slice_bounds-store_bytes-end c = let r = c.resolve in
-    let w = c.args in
-    omega (arith, part-inside w.file.now (length w.nodes.now) (length w.items.now) w.row r.result r.ensures.0 c.in-At.is)
+slice_bounds-store_bytes-end c = omega (arith, part-inside c.args.file.now (length c.args.nodes.now) (length c.args.items.now) c.args.row c.resolve.result c.resolve.ensures.answer c.in-At.is)
 
 pub returns-then-size-out : goal.returns-then-size-out
-returns-then-size-out c = let all = (let r = c.resolve in
-    let w = c.args in
-    let p = c.place-1 in
-    let i = c.if-size-out in
-    let k = c.store_bytes in
-    let s = copy-good w.file.now (length w.nodes.now) (length w.items.now) w.row w.out.now r.result r.ensures.0
-    p.given.1 i.true r.ensures.1.0 r.ensures.1.1 k.ensures k.auto.0 c.clear_bytes_from.ensures in
-    (s.0, (s.1, (s.2, s.3)))) in record { answer = all.0; nodes = all.1; items = all.2; out = all.3 }
+returns-then-size-out c = let s = copy-good c.args.file.now (length c.args.nodes.now) (length c.args.items.now) c.args.row c.args.out.now c.resolve.result c.resolve.ensures.answer
+    c.in-At.is c.if-size-out.true c.resolve.ensures.nodes c.resolve.ensures.items c.store_bytes.ensures c.store_bytes.auto.out c.clear_bytes_from.ensures in
+    record {
+      answer = s.0;
+      nodes = s.1;
+      items = s.2;
+      out = s.3;
+    }
 
 pub returns-in-Refused : goal.returns-in-Refused
-returns-in-Refused c = let all = (let r = c.resolve in
-    let w = c.args in
-    let s = copy-refused w.file.now (length w.nodes.now) (length w.items.now) w.row w.out.now r.result r.ensures.0
-    c.in-Refused.is r.ensures.1.0 r.ensures.1.1 c.clear_bytes.ensures in
-    (s.0, (s.1, (s.2, s.3)))) in record { answer = all.0; nodes = all.1; items = all.2; out = all.3 }
+returns-in-Refused c = let s = copy-refused c.args.file.now (length c.args.nodes.now) (length c.args.items.now) c.args.row c.args.out.now c.resolve.result c.resolve.ensures.answer
+    c.in-Refused.is c.resolve.ensures.nodes c.resolve.ensures.items c.clear_bytes.ensures in
+    record {
+      answer = s.0;
+      nodes = s.1;
+      items = s.2;
+      out = s.3;
+    }
 
 pub returns-else-size-out : goal.returns-else-size-out
-returns-else-size-out c = let all = (let r = c.resolve in
-    let w = c.args in
-    let p = c.place-1 in
-    let i = c.if-size-out in
-    let k = c.clear_all.ensures in
-    let s = copy-full w.file.now (length w.nodes.now) (length w.items.now) w.row w.out.now r.result r.ensures.0
-    p.given.1 i.false (zeros k.0 r.auto.1.0) (zeros k.1 r.auto.1.1.0) c.clear_bytes-in-At.ensures in
-    (s.0, (s.1, (s.2, s.3)))) in record { answer = all.0; nodes = all.1; items = all.2; out = all.3 }
+returns-else-size-out c = let s = copy-full c.args.file.now (length c.args.nodes.now) (length c.args.items.now) c.args.row c.args.out.now c.resolve.result c.resolve.ensures.answer
+    c.in-At.is c.if-size-out.false (zeros c.clear_all.ensures.nodes c.resolve.auto.nodes) (zeros c.clear_all.ensures.items c.resolve.auto.items) c.clear_bytes-in-At.ensures in
+    record {
+      answer = s.0;
+      nodes = s.1;
+      items = s.2;
+      out = s.3;
+    }

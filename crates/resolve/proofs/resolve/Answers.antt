@@ -9,32 +9,44 @@ use Rattle.resolve.proofs.resolve.Goals as goal
 pub resolve_row-requires : goal.resolve_row-requires
 resolve_row-requires c = (
   rows-room c.args.file.now (length c.args.nodes.now) (length c.args.items.now) c.args.row
-      c.read_file.ensures.answer c.read_file.ensures.nodes.0 c.read_file.ensures.nodes.1
+      c.read_file.ensures.answer c.read_file.ensures.nodes c.read_file.ensures.items
       c.in-Is.is,
   rows-linked c.args.file.now (length c.args.nodes.now) (length c.args.items.now)
-      c.args.row c.read_file.ensures.answer c.read_file.ensures.nodes.0
-      c.read_file.ensures.nodes.1 c.in-Is.is,
+      c.args.row c.read_file.ensures.answer c.read_file.ensures.nodes
+      c.read_file.ensures.items c.in-Is.is,
   tree-among c.args.file.now (length c.args.nodes.now)
-      (length c.args.items.now) c.args.row c.read_file.ensures.answer c.read_file.ensures.nodes.0
-      c.read_file.ensures.nodes.1 c.in-Is.is,
+      (length c.args.items.now) c.args.row c.read_file.ensures.answer c.read_file.ensures.nodes
+      c.read_file.ensures.items c.in-Is.is,
   rows-rising c.args.file.now (length c.args.nodes.now)
-      (length c.args.items.now) c.args.row c.read_file.ensures.answer c.read_file.ensures.nodes.0
-      c.read_file.ensures.nodes.1 c.in-Is.is,
+      (length c.args.items.now) c.args.row c.read_file.ensures.answer c.read_file.ensures.nodes
+      c.read_file.ensures.items c.in-Is.is,
 )
 
 pub returns-in-Refused : goal.returns-in-Refused
-returns-in-Refused c = let all = (let w = ends_unread c.args.file.now (length c.args.nodes.now) (length c.args.items.now) c.args.row
-    c.read_file.ensures.answer c.read_file.ensures.nodes.0 c.read_file.ensures.nodes.1
-    c.in-Refused.is in (w.0, (w.1, w.2))) in record { answer = all.0; nodes = all.1; items = all.2 }
+returns-in-Refused c = let w = ends_unread c.args.file.now (length c.args.nodes.now) (length c.args.items.now) c.args.row
+    c.read_file.ensures.answer c.read_file.ensures.nodes c.read_file.ensures.items
+    c.in-Refused.is in record {
+      answer = w.0;
+      nodes = w.1;
+      items = w.2;
+    }
 
 pub returns-in-Refused-resolve_row : goal.returns-in-Refused-resolve_row
-returns-in-Refused-resolve_row c = let all = (let w = ends_refused c.args.file.now (length c.args.nodes.now) (length c.args.items.now) c.args.row
-    c.read_file.ensures.answer c.read_file.ensures.nodes.0 c.read_file.ensures.nodes.1
+returns-in-Refused-resolve_row c = let w = ends_refused c.args.file.now (length c.args.nodes.now) (length c.args.items.now) c.args.row
+    c.read_file.ensures.answer c.read_file.ensures.nodes c.read_file.ensures.items
     c.in-Is.is _ c.resolve_row.ensures c.in-Refused-resolve_row.is
-    (c.clear_all.ensures.nodes ∙ ap (λ n. replicate n 0) c.read_file.auto.1.0)
-    (c.clear_all.ensures.items ∙ ap (λ n. replicate n 0) c.read_file.auto.1.1.0) in (w.0, (w.1, w.2))) in record { answer = all.0; nodes = all.1; items = all.2 }
+    (c.clear_all.ensures.nodes ∙ ap (λ n. replicate n 0) c.read_file.auto.nodes)
+    (c.clear_all.ensures.items ∙ ap (λ n. replicate n 0) c.read_file.auto.items) in record {
+      answer = w.0;
+      nodes = w.1;
+      items = w.2;
+    }
 
 pub returns-in-At : goal.returns-in-At
-returns-in-At c = let all = (let w = ends_at c.args.file.now (length c.args.nodes.now) (length c.args.items.now) c.args.row
-    c.read_file.ensures.answer c.read_file.ensures.nodes.0 c.read_file.ensures.nodes.1
-    c.in-Is.is _ c.resolve_row.ensures c.in-At.is in (w.0, (w.1, w.2))) in record { answer = all.0; nodes = all.1; items = all.2 }
+returns-in-At c = let w = ends_at c.args.file.now (length c.args.nodes.now) (length c.args.items.now) c.args.row
+    c.read_file.ensures.answer c.read_file.ensures.nodes c.read_file.ensures.items
+    c.in-Is.is _ c.resolve_row.ensures c.in-At.is in record {
+      answer = w.0;
+      nodes = w.1;
+      items = w.2;
+    }

@@ -14,8 +14,7 @@ abbrev least : (items : List ℕ) (from end : ℕ) → ℕ
 least items from end = least_lines (items_from from (end - from) items)
 
 pub returns-then-size-to : goal.returns-then-size-to
-returns-then-size-to c = let a = c.args in
-    over-room (a.to + least a.items.now a.from a.end) a.size (omega (arith, c.if-size-to.true))
+returns-then-size-to c = over-room (c.args.to + least c.args.items.now c.args.from c.args.end) c.args.size (omega (arith, c.if-size-to.true))
 
 pub loop-i-init : goal.loop-i-init
 loop-i-init c = (omega arith, omega (arith, c.if-size-to.false))
@@ -24,18 +23,15 @@ pub item_at-requires : goal.item_at-requires
 item_at-requires c = omega (arith, c.requires.1)
 
 pub returns-then-left-least : goal.returns-then-left-least
-returns-then-left-least c = let a = c.args in
-    let one = least_on a.items.now c.loop-i.i a.end c.loop-i-test.true in
+returns-then-left-least c = let one = least_on c.args.items.now c.loop-i.i c.args.end c.loop-i-test.true in
     let count = c.least_line-least.ensures ∙ ap least_line c.item_at.ensures in
-    over-room (a.to + least a.items.now a.from a.end) a.size (omega (arith, c.loop-i.invariant.1, one, count, c.if-left-least.true))
+    over-room (c.args.to + least c.args.items.now c.args.from c.args.end) c.args.size (omega (arith, c.loop-i.invariant.1, one, count, c.if-left-least.true))
 
 pub loop-i-preserved : goal.loop-i-preserved
-loop-i-preserved c = let a = c.args in
-    let one = least_on a.items.now c.loop-i.i a.end c.loop-i-test.true in
+loop-i-preserved c = let one = least_on c.args.items.now c.loop-i.i c.args.end c.loop-i-test.true in
     let count = c.least_line-least.ensures ∙ ap least_line c.item_at.ensures in
     (omega arith, omega (arith, c.loop-i.invariant.1, one, count, c.if-left-least.false))
 
 pub returns : goal.returns
-returns c = let a = c.args in
-    let none = least-end a.items.now c.loop-i.i a.end c.loop-i-test.false in
-    in_room (a.to + least a.items.now a.from a.end) a.size (omega (arith, c.loop-i.invariant.1, none))
+returns c = let none = least-end c.args.items.now c.loop-i.i c.args.end c.loop-i-test.false in
+    in_room (c.args.to + least c.args.items.now c.args.from c.args.end) c.args.size (omega (arith, c.loop-i.invariant.1, none))

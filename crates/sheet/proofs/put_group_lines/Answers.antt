@@ -12,8 +12,7 @@ use borrow.Author.Rules.{rules}
 use Rattle.sheet.proofs.put_group_lines.Goals as goal
 
 pub loop-i-init : goal.loop-i-init
-loop-i-init c = let a = c.args in
-    (omega arith, filling_start _ (omega arith) (groups-start a.file.now a.nodes.now a.items.now a.rows a.contents))
+loop-i-init c = (omega arith, filling_start _ (omega arith) (groups-start c.args.file.now c.args.nodes.now c.args.items.now c.args.rows c.args.contents))
 
 pub node_at-row-requires : goal.node_at-row-requires
 node_at-row-requires c = omega (arith, c.requires.0)
@@ -22,20 +21,13 @@ pub rows_end-end-requires : goal.rows_end-end-requires
 rows_end-end-requires c = c.loop-i.invariant.0
 
 pub put_item_lines-next-requires : goal.put_item_lines-next-requires
-put_item_lines-next-requires c = let e = c.rows_end-end.ensures in
-    let p = c.requires.1 in
-    (omega arith, (omega (arith, p.0), λ j l. p.1 j (omega arith)))
+put_item_lines-next-requires c = (omega arith, (omega (arith, c.requires.1.0), λ j l. c.requires.1.1 j (omega arith)))
 
 pub loop-i-preserved : goal.loop-i-preserved
-loop-i-preserved c = let a = c.args in
-    let s = c.loop-i in
-    let e = c.rows_end-end in
-    let one = groups-on a.file.now a.nodes.now a.items.now a.rows a.contents s.i s.first e.result
-    c.loop-i-test.true s.invariant.0
-    c.node_at-row.ensures e.ensures in
-    let node = c.put_node_line-next in
-    (omega arith, filling_on refl (filling_on one s.invariant.1 node.ensures) c.put_item_lines-next.ensures)
+loop-i-preserved c = let one = groups-on c.args.file.now c.args.nodes.now c.args.items.now c.args.rows c.args.contents c.loop-i.i c.loop-i.first c.rows_end-end.result
+    c.loop-i-test.true c.loop-i.invariant.0
+    c.node_at-row.ensures c.rows_end-end.ensures in
+    (omega arith, filling_on refl (filling_on one c.loop-i.invariant.1 c.put_node_line-next.ensures) c.put_item_lines-next.ensures)
 
 pub returns : goal.returns
-returns c = let a = c.args in let s = c.loop-i in
-    filling_end (groups-end a.file.now a.nodes.now a.items.now a.rows a.contents s.i s.first c.loop-i-test.false) s.invariant.1
+returns c = filling_end (groups-end c.args.file.now c.args.nodes.now c.args.items.now c.args.rows c.args.contents c.loop-i.i c.loop-i.first c.loop-i-test.false) c.loop-i.invariant.1

@@ -16,11 +16,10 @@ pub may_fit-requires : goal.may_fit-requires
 may_fit-requires c = (c.requires.0, c.requires.1.0)
 
 pub returns-then-not-may_fit : goal.returns-then-not-may_fit
-returns-then-not-may_fit c = let a = c.args in
-    let lines = items_from a.from (a.end - a.from) a.items.now in
-    let least = lines-least a.items.now a.file.now (λ i. omega (arith, c.shared_slice_known-1.given i)) a.from (a.end - a.from)
+returns-then-not-may_fit c = let lines = items_from c.args.from (c.args.end - c.args.from) c.args.items.now in
+    let least = lines-least c.args.items.now c.args.file.now (λ i. omega (arith, c.shared_slice_known-1.given i)) c.args.from (c.args.end - c.args.from)
     (λ j l. c.requires.1.1 j (omega (arith, c.requires.0))) in
-    let over = leb-false (a.to + least_lines lines) _ (sym c.may_fit.ensures ∙ not-true _ c.if-not-may_fit.true) in
+    let over = leb-false (c.args.to + least_lines lines) _ (sym c.may_fit.ensures ∙ c.if-not-may_fit.true) in
     fills-past _ (omega arith) (omega (arith, c.well_formed)) (omega (arith, least, over))
 
 pub loop-i-init : goal.loop-i-init

@@ -11,10 +11,9 @@ pub put_group_lines-requires : goal.put_group_lines-requires
 put_group_lines-requires c = c.requires
 
 pub returns-then-second : goal.returns-then-second
-returns-then-second c = let a = c.args in
-    let head = fills-counts (counts-then c.put_bytes-word.ensures
+returns-then-second c = let head = fills-counts (counts-then c.put_bytes-word.ensures
     c.put_head_fields-head.ensures) in
-    fills-as (put_second a.version a.rows a.contents a.file.now a.nodes.now a.items.now
+    fills-as (put_second c.args.version c.args.rows c.args.contents c.args.file.now c.args.nodes.now c.args.items.now
     c.if-second.true)
     (fills-then head c.put_group_lines.ensures)
 
@@ -25,7 +24,6 @@ pub put_item_lines-requires : goal.put_item_lines-requires
 put_item_lines-requires c = (omega arith, c.requires.1)
 
 pub returns : goal.returns
-returns c = let a = c.args in
-    let head = fills-counts (counts-then c.put_bytes-word-2.ensures c.put_head_fields-head-2.ensures) in
-    fills-as (put_first a.version a.rows a.contents a.file.now a.nodes.now a.items.now c.if-second.false)
+returns c = let head = fills-counts (counts-then c.put_bytes-word-2.ensures c.put_head_fields-head-2.ensures) in
+    fills-as (put_first c.args.version c.args.rows c.args.contents c.args.file.now c.args.nodes.now c.args.items.now c.if-second.false)
     (fills-then (fills-then head c.put_node_lines-lines.ensures) c.put_item_lines.ensures)

@@ -8,35 +8,21 @@ use borrow.Author.Rules.{rules}
 use Rattle.sheet.proofs.write_edition.Goals as goal
 
 pub put_sheet-end-requires : goal.put_sheet-end-requires
-put_sheet-end-requires c = let a = c.args in
-    let f = c.read_file.ensures in
-    let w = standing a.file.now _ _ _ f.0 f.1.0 f.1.1 c.in-Is.is in
+put_sheet-end-requires c = let w = standing c.args.file.now _ _ _ c.read_file.ensures.answer c.read_file.ensures.nodes c.read_file.ensures.items c.in-Is.is in
     (w.node-room, item-rows w)
 
 pub returns-then-sheet-end : goal.returns-then-sheet-end
-returns-then-sheet-end c = let all = (let a = c.args in
-    let f = c.read_file in
-    let w = standing a.file.now _ _ _ f.ensures.0 f.ensures.1.0 f.ensures.1.1
+returns-then-sheet-end c = let all = (let w = standing c.args.file.now _ _ _ c.read_file.ensures.answer c.read_file.ensures.nodes c.read_file.ensures.items
     c.in-Is.is in
-    let p = c.put_sheet-end in
-    let full = c.if-sheet-end.true in
-    let z = c.clear_all.ensures in
-    asked-full a.second a.file.now _ _ a.sheet.now _ f.ensures.1.0 f.ensures.1.1 w p.ensures (omega (arith, full, p.auto.0))
-    (zeros z.0 f.auto.1.0) (zeros z.1 f.auto.1.1.0) (zeros c.clear_bytes-then-sheet-end.ensures p.auto.0)) in record { answer = all.0; nodes = all.1; items = all.2; sheet = all.3 }
+    asked-full c.args.second c.args.file.now _ _ c.args.sheet.now _ c.read_file.ensures.nodes c.read_file.ensures.items w c.put_sheet-end.ensures (omega (arith, c.if-sheet-end.true, c.put_sheet-end.auto.out))
+    (zeros c.clear_all.ensures.nodes c.read_file.auto.nodes) (zeros c.clear_all.ensures.items c.read_file.auto.items) (zeros c.clear_bytes-then-sheet-end.ensures c.put_sheet-end.auto.out)) in record { answer = all.0; nodes = all.1.0; items = all.1.1.0; sheet = all.1.1.1 }
 
 pub returns-in-Refused : goal.returns-in-Refused
-returns-in-Refused c = let all = (let a = c.args in
-    let f = c.read_file.ensures in
-    asked-refused a.second a.file.now _ _ a.sheet.now _ f.1.0 f.1.1 f.0
-    c.in-Refused.is c.clear_bytes.ensures) in record { answer = all.0; nodes = all.1; items = all.2; sheet = all.3 }
+returns-in-Refused c = let all = (asked-refused c.args.second c.args.file.now _ _ c.args.sheet.now _ c.read_file.ensures.nodes c.read_file.ensures.items c.read_file.ensures.answer
+    c.in-Refused.is c.clear_bytes.ensures) in record { answer = all.0; nodes = all.1.0; items = all.1.1.0; sheet = all.1.1.1 }
 
 pub returns-else-sheet-end : goal.returns-else-sheet-end
-returns-else-sheet-end c = let all = (let a = c.args in
-    let f = c.read_file.ensures in
-    let w = standing a.file.now _ _ _ f.0 f.1.0 f.1.1
+returns-else-sheet-end c = let all = (let w = standing c.args.file.now _ _ _ c.read_file.ensures.answer c.read_file.ensures.nodes c.read_file.ensures.items
     c.in-Is.is in
-    let p = c.put_sheet-end in
-    let fits = c.if-sheet-end.false in
-    let good = c.well_formed in
-    asked-good a.second a.file.now _ _ a.sheet.now _ f.1.0 f.1.1 w p.ensures (omega (arith, fits, p.auto.0))
-    (omega (arith, good)) c.clear_bytes_from.ensures) in record { answer = all.0; nodes = all.1; items = all.2; sheet = all.3 }
+    asked-good c.args.second c.args.file.now _ _ c.args.sheet.now _ c.read_file.ensures.nodes c.read_file.ensures.items w c.put_sheet-end.ensures (omega (arith, c.if-sheet-end.false, c.put_sheet-end.auto.out))
+    (omega (arith, c.well_formed)) c.clear_bytes_from.ensures) in record { answer = all.0; nodes = all.1.0; items = all.1.1.0; sheet = all.1.1.1 }

@@ -4,4 +4,9 @@ use borrow.Author.Rules.{rules}
 use Rattle.sheet.proofs.write_sheet.Goals as goal
 
 pub returns : goal.returns
-returns c = let all = (c.write_edition.ensures) in record { answer = all.0; nodes = all.1; items = all.2; sheet = all.3 }
+returns c = record {
+  answer = c.write_edition.ensures.answer;
+  nodes = c.write_edition.ensures.nodes;
+  items = c.write_edition.ensures.items;
+  sheet = c.write_edition.ensures.sheet;
+}

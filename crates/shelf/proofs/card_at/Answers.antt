@@ -6,4 +6,4 @@ use borrow.Author.Rules.{rules}
 use Rattle.shelf.proofs.card_at.Goals as goal
 
 pub returns : goal.returns
-returns c = let a = c.args in card_at a.words.now a.i (omega (arith, count a.words.now))
+returns c = card_at c.args.words.now c.args.i (omega (arith, count c.args.words.now))

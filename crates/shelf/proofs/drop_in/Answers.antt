@@ -8,14 +8,12 @@ use borrow.Author.Rules.{rules}
 use Rattle.shelf.proofs.drop_in.Goals as goal
 
 pub returns-then-n-gt-MOST_CARDS : goal.returns-then-n-gt-MOST_CARDS
-returns-then-n-gt-MOST_CARDS c = let a = c.args in
-    λ ys k e. many-row ys a.n a.text.now c.if-n-gt-MOST_CARDS.true k (dropping (label a.desk a.call a.boat)) a.a e
+returns-then-n-gt-MOST_CARDS c = λ ys k e. many-row ys c.args.n c.args.text.now c.if-n-gt-MOST_CARDS.true k (dropping (label c.args.desk c.args.call c.args.boat)) c.args.a e
 
 pub slice_bounds-drop_words-end : goal.slice_bounds-drop_words-end
 slice_bounds-drop_words-end c = taken-length _ c.args.a c.args.n c.words_of-w.ensures c.well_formed.0.1.0.1 c.if-n-gt-MOST_CARDS.false
 
 pub returns : goal.returns
-returns c = let a = c.args in
-    λ ys k e. in_row a.a ys a.n c.words_of-w.result a.text.now c.if-n-gt-MOST_CARDS.false k e c.words_of-w.ensures (dropping (label a.desk a.call a.boat))
-    (drop_keeps (label a.desk a.call a.boat) (row_of ys a.text.now)) (drop-answer (label a.desk a.call a.boat) (row_of ys a.text.now))
-    c.drop_words-answer.ensures c.cards_of-cards.ensures c.code_of-code.ensures
+returns c = λ ys k e. in_row c.args.a ys c.args.n c.words_of-w.result c.args.text.now c.if-n-gt-MOST_CARDS.false k e c.words_of-w.ensures (dropping (label c.args.desk c.args.call c.args.boat))
+    (drop_keeps (label c.args.desk c.args.call c.args.boat) (row_of ys c.args.text.now)) (drop-answer (label c.args.desk c.args.call c.args.boat) (row_of ys c.args.text.now))
+    (c.drop_words-answer.ensures.result_value, (c.drop_words-answer.ensures.words_value, c.drop_words-answer.ensures.text_value)) c.cards_of-cards.ensures c.code_of-code.ensures

@@ -14,12 +14,12 @@ loop-i-init c = looking_begins (omega (arith, count c.args.words.now))
 
 pub returns-then-is_for : goal.returns-then-is_for
 returns-then-is_for c = looking_here c.loop-i.invariant (omega (arith, count c.args.words.now))
-    (let a = c.args in by_test (is_for (label a.desk a.call a.boat)) c.card_at.ensures
+    (by_test (is_for (label c.args.desk c.args.call c.args.boat)) c.card_at.ensures
     c.is_for.ensures c.if-is_for.true)
 
 pub loop-i-preserved : goal.loop-i-preserved
 loop-i-preserved c = looking_on c.loop-i.invariant (omega (arith, count c.args.words.now))
-    (let a = c.args in by_test (is_for (label a.desk a.call a.boat)) c.card_at.ensures
+    (by_test (is_for (label c.args.desk c.args.call c.args.boat)) c.card_at.ensures
     c.is_for.ensures c.if-is_for.false)
 
 pub returns : goal.returns

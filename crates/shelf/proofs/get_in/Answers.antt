@@ -9,14 +9,12 @@ use borrow.Author.Rules.{rules}
 use Rattle.shelf.proofs.get_in.Goals as goal
 
 pub returns-then-n-gt-MOST_CARDS : goal.returns-then-n-gt-MOST_CARDS
-returns-then-n-gt-MOST_CARDS c = let a = c.args in
-    λ ys k e. many-got ys a.n a.text.now (omega arith) k (getting (label a.desk a.call a.boat) (length a.out.now))
-    (length a.out.now) c.clear_bytes.ensures
+returns-then-n-gt-MOST_CARDS c = λ ys k e. many-got ys c.args.n c.args.text.now (omega arith) k (getting (label c.args.desk c.args.call c.args.boat) (length c.args.out.now))
+    (length c.args.out.now) c.clear_bytes.ensures
 
 pub slice_bounds-get_words-end : goal.slice_bounds-get_words-end
 slice_bounds-get_words-end c = taken-length _ c.args.a c.args.n c.words_of-w.ensures c.well_formed.0.1.0.1 c.if-n-gt-MOST_CARDS.false
 
 pub returns : goal.returns
-returns c = let a = c.args in
-    λ ys k e. got_row a.a ys a.n c.words_of-w.result a.text.now c.if-n-gt-MOST_CARDS.false k e c.words_of-w.ensures
-    (getting (label a.desk a.call a.boat) (length a.out.now)) (length a.out.now) c.get_words.ensures
+returns c = λ ys k e. got_row c.args.a ys c.args.n c.words_of-w.result c.args.text.now c.if-n-gt-MOST_CARDS.false k e c.words_of-w.ensures
+    (getting (label c.args.desk c.args.call c.args.boat) (length c.args.out.now)) (length c.args.out.now) (c.get_words.ensures.result_value, c.get_words.ensures.out_value)

@@ -7,7 +7,7 @@ use borrow.Author.Rules.{rules}
 use Rattle.shelf.proofs.give.Goals as goal
 
 pub returns-then-out-size : goal.returns-then-out-size
-returns-then-out-size c = let a = c.args in given-none a.text.now a.at a.size (length a.out.now) c.requires (omega arith) c.clear_bytes.ensures
+returns-then-out-size c = given-none c.args.text.now c.args.at c.args.size (length c.args.out.now) c.requires (omega arith) c.clear_bytes.ensures
 
 pub returns : goal.returns
-returns c = let a = c.args in given-all a.text.now a.at a.size (length a.out.now) c.requires (omega arith) c.fill.ensures
+returns c = given-all c.args.text.now c.args.at c.args.size (length c.args.out.now) c.requires (omega arith) c.fill.ensures

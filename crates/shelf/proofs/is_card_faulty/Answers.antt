@@ -19,8 +19,7 @@ pub returns-then-part-c : goal.returns-then-part-c
 returns-then-part-c c = faulty-long _ c.card_at-c.ensures _ c.if-c-eq0.false c.if-part-c.true
 
 pub returns : goal.returns
-returns c = let s = c.args in
-    let k : length (cards_of s.words.now) ≡ length s.words.now / 4 = count s.words.now in
+returns c = let k : length (cards_of c.args.words.now) ≡ length c.args.words.now / 4 = count c.args.words.now in
     ap (ltb c.find_from.result) (sym k)
-    ∙ some-from (is_for (label_of c.card_at-c.result)) (cards_of s.words.now) (s.i + 1) c.find_from.result (omega arith) c.find_from.ensures
-    ∙ faulty-twice s.part c.card_at-c.ensures _ c.if-c-eq0.false c.if-part-c.false
+    ∙ some-from (is_for (label_of c.card_at-c.result)) (cards_of c.args.words.now) (c.args.i + 1) c.find_from.result (omega arith) c.find_from.ensures
+    ∙ faulty-twice c.args.part c.card_at-c.ensures _ c.if-c-eq0.false c.if-part-c.false

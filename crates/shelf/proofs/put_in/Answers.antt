@@ -8,16 +8,14 @@ use borrow.Author.Rules.{rules}
 use Rattle.shelf.proofs.put_in.Goals as goal
 
 pub returns-then-n-gt-MOST_CARDS : goal.returns-then-n-gt-MOST_CARDS
-returns-then-n-gt-MOST_CARDS c = let a = c.args in
-    λ ys k e. many-row ys a.n a.text.now c.if-n-gt-MOST_CARDS.true k (putting (label a.desk a.call a.boat) a.sheet.now) a.a e
+returns-then-n-gt-MOST_CARDS c = λ ys k e. many-row ys c.args.n c.args.text.now c.if-n-gt-MOST_CARDS.true k (putting (label c.args.desk c.args.call c.args.boat) c.args.sheet.now) c.args.a e
 
 pub slice_bounds-put_words-end : goal.slice_bounds-put_words-end
 slice_bounds-put_words-end c = taken-length _ c.args.a c.args.n c.words_of-w.ensures c.well_formed.0.1.0.1 c.if-n-gt-MOST_CARDS.false
 
 pub returns : goal.returns
-returns c = let a = c.args in
-    λ ys k e. in_row a.a ys a.n c.words_of-w.result a.text.now c.if-n-gt-MOST_CARDS.false k e c.words_of-w.ensures
-    (putting (label a.desk a.call a.boat) a.sheet.now)
-    (put_keeps (label a.desk a.call a.boat) a.sheet.now (row_of ys a.text.now))
-    (put-answer (label a.desk a.call a.boat) (row_of ys a.text.now) a.sheet.now)
-    c.put_words-answer.ensures c.cards_of-cards.ensures c.code_of-code.ensures
+returns c = λ ys k e. in_row c.args.a ys c.args.n c.words_of-w.result c.args.text.now c.if-n-gt-MOST_CARDS.false k e c.words_of-w.ensures
+    (putting (label c.args.desk c.args.call c.args.boat) c.args.sheet.now)
+    (put_keeps (label c.args.desk c.args.call c.args.boat) c.args.sheet.now (row_of ys c.args.text.now))
+    (put-answer (label c.args.desk c.args.call c.args.boat) (row_of ys c.args.text.now) c.args.sheet.now)
+    (c.put_words-answer.ensures.result_value, (c.put_words-answer.ensures.words_value, c.put_words-answer.ensures.text_value)) c.cards_of-cards.ensures c.code_of-code.ensures

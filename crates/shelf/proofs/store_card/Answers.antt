@@ -7,4 +7,4 @@ use borrow.Author.Rules.{rules}
 use Rattle.shelf.proofs.store_card.Goals as goal
 
 pub returns : goal.returns
-returns c = let a = c.args in c.store.ensures ∙ stored a.words.now a.i a.c (omega (arith, count a.words.now))
+returns c = c.store.ensures ∙ stored c.args.words.now c.args.i c.args.c (omega (arith, count c.args.words.now))

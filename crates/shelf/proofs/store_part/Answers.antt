@@ -7,13 +7,13 @@ use borrow.Author.Rules.{rules}
 use Rattle.shelf.proofs.store_part.Goals as goal
 
 pub overflow_mul-at : goal.overflow_mul-at
-overflow_mul-at c = let a = c.args in let p = c.requires in record { fits = omega (arith, part_in (length a.text.now) a.i p.0) }
+overflow_mul-at c = record { fits = omega (arith, part_in (length c.args.text.now) c.args.i c.requires.0) }
 
 pub overflow_add-end : goal.overflow_add-end
-overflow_add-end c = let a = c.args in let p = c.requires in record { fits = omega (arith, part_in (length a.text.now) a.i p.0) }
+overflow_add-end c = record { fits = omega (arith, part_in (length c.args.text.now) c.args.i c.requires.0) }
 
 pub slice_bounds-fill-end : goal.slice_bounds-fill-end
-slice_bounds-fill-end c = let a = c.args in let p = c.requires in part_in (length a.text.now) a.i p.0
+slice_bounds-fill-end c = part_in (length c.args.text.now) c.args.i c.requires.0
 
 pub returns : goal.returns
-returns c = let a = c.args in let p = c.requires in part_filled a.text.now a.i a.sheet.now p.0 p.1 c.fill.ensures
+returns c = part_filled c.args.text.now c.args.i c.args.sheet.now c.requires.0 c.requires.1 c.fill.ensures

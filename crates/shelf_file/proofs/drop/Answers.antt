@@ -9,16 +9,14 @@ use borrow.Author.Rules.{rules}
 use Rattle.shelf_file.proofs.drop.Goals as goal
 
 pub returns-then-file-ne-SIZE : goal.returns-then-file-ne-SIZE
-returns-then-file-ne-SIZE c = let a = c.args in
-    let x = dropping (label a.desk a.call a.boat) in
+returns-then-file-ne-SIZE c = let x = dropping (label c.args.desk c.args.call c.args.boat) in
     record {
-      result_value = other-answer x a.file.now c.if-file-ne-SIZE.true;
-      file_value = other-file x a.file.now c.if-file-ne-SIZE.true;
+      result_value = other-answer x c.args.file.now c.if-file-ne-SIZE.true;
+      file_value = other-file x c.args.file.now c.if-file-ne-SIZE.true;
     }
 
 pub returns : goal.returns
-returns c = let all = (let a = c.args in
-    left (dropping (label a.desk a.call a.boat)) a.file.now c.if-file-ne-SIZE.false
-    (drop_keeps (label a.desk a.call a.boat) (shelf_in a.file.now)) c.words_in-words.ensures c.drop_words-outcome.ensures
+returns c = let all = (left (dropping (label c.args.desk c.args.call c.args.boat)) c.args.file.now c.if-file-ne-SIZE.false
+    (drop_keeps (label c.args.desk c.args.call c.args.boat) (shelf_in c.args.file.now)) c.words_in-words.ensures (c.drop_words-outcome.ensures.result_value, (c.drop_words-outcome.ensures.words_value, c.drop_words-outcome.ensures.text_value))
     (search rules)
     c.put_words.ensures) in record { result_value = all.0; file_value = all.1 }

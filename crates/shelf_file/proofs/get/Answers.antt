@@ -8,11 +8,9 @@ use borrow.Author.Rules.{rules}
 use Rattle.shelf_file.proofs.get.Goals as goal
 
 pub returns-then-file-ne-SIZE : goal.returns-then-file-ne-SIZE
-returns-then-file-ne-SIZE c = let all = (let a = c.args in
-    other-got (getting (label a.desk a.call a.boat) (length a.out.now)) a.file.now c.if-file-ne-SIZE.true (length a.out.now)
+returns-then-file-ne-SIZE c = let all = (other-got (getting (label c.args.desk c.args.call c.args.boat) (length c.args.out.now)) c.args.file.now c.if-file-ne-SIZE.true (length c.args.out.now)
     c.clear_bytes.ensures) in record { result_value = all.0; out_value = all.1 }
 
 pub returns : goal.returns
-returns c = let all = (let a = c.args in
-    got (getting (label a.desk a.call a.boat) (length a.out.now)) a.file.now c.if-file-ne-SIZE.false (length a.out.now)
-    c.words_in-words.ensures c.get_words.ensures) in record { result_value = all.0; out_value = all.1 }
+returns c = let all = (got (getting (label c.args.desk c.args.call c.args.boat) (length c.args.out.now)) c.args.file.now c.if-file-ne-SIZE.false (length c.args.out.now)
+    c.words_in-words.ensures (c.get_words.ensures.result_value, c.get_words.ensures.out_value)) in record { result_value = all.0; out_value = all.1 }

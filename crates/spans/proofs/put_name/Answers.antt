@@ -33,6 +33,5 @@ pub returns-in-8 : goal.returns-in-8
 returns-in-8 c = counts-as (name-is 8 c.in-8.is) c.put_bytes-in-8.ensures
 
 pub returns-in_default : goal.returns-in_default
-returns-in_default c = let none = c.in_default.in_default-own.rest in
-    counts-as (no_name _ none.0.0.0.0.0.0.0.0.1 none.0.0.0.0.0.0.0.1 none.0.0.0.0.0.0.1 none.0.0.0.0.0.1
-    none.0.0.0.0.1 none.0.0.0.1 none.0.0.1 none.0.1 none.1) c.put_byte.ensures
+returns-in_default c = counts-as (no_name _ c.in_default.in_default-own.rest.0.0.0.0.0.0.0.0.1 c.in_default.in_default-own.rest.0.0.0.0.0.0.0.1 c.in_default.in_default-own.rest.0.0.0.0.0.0.1 c.in_default.in_default-own.rest.0.0.0.0.0.1
+    c.in_default.in_default-own.rest.0.0.0.0.1 c.in_default.in_default-own.rest.0.0.0.1 c.in_default.in_default-own.rest.0.0.1 c.in_default.in_default-own.rest.0.1 c.in_default.in_default-own.rest.1) c.put_byte.ensures

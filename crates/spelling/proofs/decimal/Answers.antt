@@ -20,8 +20,7 @@ pub returns-then-b-gt57 : goal.returns-then-b-gt57
 returns-then-b-gt57 c = read-high _ _ _ c.loop-i.invariant.2 c.loop-i-test.true c.if-b-lt48.false c.if-b-gt57.true
 
 pub loop-i-preserved : goal.loop-i-preserved
-loop-i-preserved c = let inv = c.loop-i.invariant in
-    (omega arith, inv.1, read_more _ _ _ inv.2 c.push-value.result c.loop-i-test.true c.if-b-lt48.false c.if-b-gt57.false c.push-value.ensures)
+loop-i-preserved c = (omega arith, c.loop-i.invariant.1, read_more _ _ _ c.loop-i.invariant.2 c.push-value.result c.loop-i-test.true c.if-b-lt48.false c.if-b-gt57.false c.push-value.ensures)
 
 pub returns : goal.returns
 returns c = read_all _ _ _ c.loop-i.invariant.2 c.loop-i.invariant.1 c.loop-i-test.false

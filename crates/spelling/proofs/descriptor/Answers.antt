@@ -20,5 +20,4 @@ returns-then-digit-gt57 c = simp (le-leb 0x31 _ c.if-digit-lt49.false, lt-leb _ 
 
 pub returns : goal.returns
 unfolding descriptor_of
-returns c = let d = c.args.digit in
-    to_z_pos w32 (d - 0x30) (omega arith) ∙ simp (le-leb 0x31 d c.if-digit-lt49.false, le-leb d 0x39 c.if-digit-gt57.false)
+returns c = to_z_pos w32 (c.args.digit - 0x30) (omega arith) ∙ simp (le-leb 0x31 c.args.digit c.if-digit-lt49.false, le-leb c.args.digit 0x39 c.if-digit-gt57.false)

@@ -17,30 +17,19 @@ pub loop-i-init : goal.loop-i-init
 loop-i-init c = (omega arith, store_none _ _)
 
 pub returns-then-high-gt15 : goal.returns-then-high-gt15
-returns-then-high-gt15 c = let digit = c.digit-high in
-    let loop = c.loop-i in
-    let test = c.loop-i-test in
-    spelt_none _ _ _ (λ h. omega (arith, c.if-high-gt15.true, digit.ensures, test.true, h.each (2 * loop.i) (omega (arith, test.true))))
+returns-then-high-gt15 c = spelt_none _ _ _ (λ h. omega (arith, c.if-high-gt15.true, c.digit-high.ensures, c.loop-i-test.true, h.each (2 * c.loop-i.i) (omega (arith, c.loop-i-test.true))))
 
 pub returns-then-low-gt15 : goal.returns-then-low-gt15
-returns-then-low-gt15 c = let digit2 = c.digit-low in
-    let loop = c.loop-i in
-    let test = c.loop-i-test in
-    spelt_none _ _ _ (λ h. omega (arith, c.if-low-gt15.true, digit2.ensures, h.each (2 * loop.i + 1) (omega (arith, test.true))))
+returns-then-low-gt15 c = spelt_none _ _ _ (λ h. omega (arith, c.if-low-gt15.true, c.digit-low.ensures, h.each (2 * c.loop-i.i + 1) (omega (arith, c.loop-i-test.true))))
 
 pub overflow_mul-bytes : goal.overflow_mul-bytes
-overflow_mul-bytes c = let if3 = c.if-high-gt15 in
-    omega (arith, if3.false)
+overflow_mul-bytes c = omega (arith, c.if-high-gt15.false)
 
 pub overflow_add-bytes : goal.overflow_add-bytes
-overflow_add-bytes c = let if3 = c.if-high-gt15 in let if4 = c.if-low-gt15 in
-    omega (arith, if3.false, if4.false)
+overflow_add-bytes c = omega (arith, c.if-high-gt15.false, c.if-low-gt15.false)
 
 pub bounds-bytes-i : goal.bounds-bytes-i
-bounds-bytes-i c = let loop = c.loop-i in
-    let if2 = c.if-digits-bytes in
-    let loop-test = c.loop-i-test in
-    omega (arith, loop.invariant.1.long, if2.false, loop-test.true)
+bounds-bytes-i c = omega (arith, c.loop-i.invariant.1.long, c.if-digits-bytes.false, c.loop-i-test.true)
 
 pub loop-i-preserved : goal.loop-i-preserved
 loop-i-preserved c = let room : c.loop-i.i < length c.loop-i.bytes = omega (arith, c.loop-i.invariant.1.long, c.if-digits-bytes.false, c.loop-i-test.true) in

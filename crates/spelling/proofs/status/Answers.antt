@@ -23,18 +23,14 @@ pub slice_bounds-same-end : goal.slice_bounds-same-end
 slice_bounds-same-end c = (prefix_len_of_le 9 c.args.word.now (omega (arith, c.if-word-ne10.false))).1
 
 pub returns-then-not-same : goal.returns-then-not-same
-returns-then-not-same c = let same = c.same in
-    record {
-      named = λ d e. absurd (false≢true (sym (not-true _ c.if-not-same.true) ∙ same.ensures.1 (ap (take 9) e)));
-      other = λ n. refl;
-    }
+returns-then-not-same c = record {
+  named = λ d e. absurd (false≢true (sym c.if-not-same.true ∙ c.same.ensures.1 (ap (take 9) e)));
+  other = λ n. refl;
+}
 
 pub returns : goal.returns
-returns c = let same = c.same in
-    let word = c.args.word.now in
-    let descriptor = c.descriptor in
-    let fits : SFits w32 descriptor.result = search rules in
-    rw (to_z-of_z w32 descriptor.result fits) (record {
-      named = λ d e. descriptor.ensures ∙ ap (λ (l : List ℕ). descriptor_of (get_or l 9 0)) e;
-      other = λ n. absurd (n (get_or word 9 0) (last_byte_lem word _ c.if-word-ne10.false (same.ensures.0 (not-false _ c.if-not-same.false))));
+returns c = let fits : SFits w32 c.descriptor.result = search rules in
+    rw (to_z-of_z w32 c.descriptor.result fits) (record {
+      named = λ d e. c.descriptor.ensures ∙ ap (λ (l : List ℕ). descriptor_of (get_or l 9 0)) e;
+      other = λ n. absurd (n (get_or c.args.word.now 9 0) (last_byte_lem c.args.word.now _ c.if-word-ne10.false (c.same.ensures.0 c.if-not-same.false)));
     })

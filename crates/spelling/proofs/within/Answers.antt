@@ -6,15 +6,13 @@ use Rattle.io.proofs.Counting.{prefix_len_of_le}
 use Rattle.spelling.proofs.within.Goals as goal
 
 pub returns-then-n-buf : goal.returns-then-n-buf
-returns-then-n-buf c = let args-c = c.args in
-    record {
-      prefix_len = prefix_len_of_le _ args-c.buf.now (omega arith);
-      value = simp (le-leb _ _ c.if-n-buf.true);
-    }
+returns-then-n-buf c = record {
+  prefix_len = prefix_len_of_le _ c.args.buf.now (omega arith);
+  value = simp (le-leb _ _ c.if-n-buf.true);
+}
 
 pub returns : goal.returns
-returns c = let args-c = c.args in
-    record {
-      prefix_len = prefix_len_of_le 0 args-c.buf.now (omega arith);
-      value = simp (lt-leb _ _ c.if-n-buf.false);
-    }
+returns c = record {
+  prefix_len = prefix_len_of_le 0 c.args.buf.now (omega arith);
+  value = simp (lt-leb _ _ c.if-n-buf.false);
+}

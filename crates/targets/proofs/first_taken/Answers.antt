@@ -50,5 +50,5 @@ loop-i-preserved c = (
 )
 
 pub returns : goal.returns
-returns c = let e = c.loop-i.invariant.2 in e ∙ taken-done c.args.nodes.now c.args.count c.args.tree c.args.place.0
+returns c = c.loop-i.invariant.2 ∙ taken-done c.args.nodes.now c.args.count c.args.tree c.args.place.0
     c.args.end.0 c.loop-i.i (omega arith) c.requires.0 c.requires.3

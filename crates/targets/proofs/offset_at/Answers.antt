@@ -2,7 +2,7 @@
 -- Assumes nothing.
 use mathlib.Core.Path.{sym, ap}
 use Prim.Native.Nat.{◌+◌}
-use Rattle.cursor.specs.Rows.{referenceFrame}
+use Rattle.cursor.specs.Rows.{reference_frame}
 use Rattle.cursor.specs.Told.{number_told}
 use Rattle.cursor.specs.declared.Node.{Node}
 use Rattle.machine.proofs.Laws.{was}
@@ -25,8 +25,8 @@ of-at-requires c = omega (
 
 pub returns-in-Refused : goal.returns-in-Refused
 returns-in-Refused c = offset_is _ _ _ c.requires.0 c.node_at-row.ensures _ _ c.of-at.ensures
-    (sym (was number_told (c.number.ensures referenceFrame) c.in-Refused.is))
+    (sym (was number_told (c.number.ensures reference_frame) c.in-Refused.is))
 
 pub returns-in-Is : goal.returns-in-Is
 returns-in-Is c = offset_is _ _ _ c.requires.0 c.node_at-row.ensures _ _ c.of-at.ensures
-    (sym (was number_told (c.number.ensures referenceFrame) c.in-Is.is))
+    (sym (was number_told (c.number.ensures reference_frame) c.in-Is.is))

@@ -18,7 +18,7 @@ returns-then-not-is_letter c = c.loop-n.invariant.1
 pub loop-n-preserved : goal.loop-n-preserved
 loop-n-preserved c = (
   c.loop-n.invariant.0,
-  letters_more _ _ _ c.loop-n.invariant.1 (omega arith) (sym c.is_letter.ensures ∙ not-false _ c.if-not-is_letter.false),
+  letters_more _ _ _ c.loop-n.invariant.1 (omega arith) (sym c.is_letter.ensures ∙ c.if-not-is_letter.false),
 )
 
 pub returns : goal.returns

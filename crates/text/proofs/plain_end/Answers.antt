@@ -16,7 +16,7 @@ pub returns-then-not-is_plain : goal.returns-then-not-is_plain
 returns-then-not-is_plain c = c.loop-at.invariant
 
 pub loop-at-preserved : goal.loop-at-preserved
-loop-at-preserved c = (plain-join _ c.loop-at.invariant.0 (plain-one _ _ (omega arith) (sym c.is_plain.ensures ∙ not-false _ c.if-not-is_plain.false)), omega arith)
+loop-at-preserved c = (plain-join _ c.loop-at.invariant.0 (plain-one _ _ (omega arith) (sym c.is_plain.ensures ∙ c.if-not-is_plain.false)), omega arith)
 
 pub returns : goal.returns
 returns c = c.loop-at.invariant

@@ -42,11 +42,10 @@ pub loop-at-smaller : goal.loop-at-smaller
 loop-at-smaller c = omega (arith, c.put_hexes-run.ensures.0, c.put_hexes-run.ensures.1)
 
 pub loop-at-preserved : goal.loop-at-preserved
-loop-at-preserved c = let hexes = c.put_hexes-run.ensures in
-    let one = going_on
+loop-at-preserved c = let one = going_on
     (put-hexed _ _ _ c.loop-at-test.true (omega arith) (sym c.is_plain.ensures ∙ c.if-is_plain.false))
     c.loop-at.invariant.2 c.put_hex-one.ensures in
-    (hexes.1, omega arith, going_on (escaped-cut _ _ _ _ hexes.0 hexes.1) one hexes.2)
+    (c.put_hexes-run.ensures.1, omega arith, going_on (escaped-cut _ _ _ _ c.put_hexes-run.ensures.0 c.put_hexes-run.ensures.1) one c.put_hexes-run.ensures.2)
 
 pub returns : goal.returns
 returns c = going_end (put-none _ _ _ c.loop-at-test.false) c.loop-at.invariant.2

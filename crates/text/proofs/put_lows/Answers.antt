@@ -10,21 +10,18 @@ use borrow.Author.Rules.{rules}
 use Rattle.text.proofs.put_lows.Goals as goal
 
 pub returns-then-room_at-size : goal.returns-then-room_at-size
-returns-then-room_at-size c = let a = c.args in
-    let long = lows-length a.units.now a.from a.size in
+returns-then-room_at-size c = let long = lows-length c.args.units.now c.args.from c.args.size in
     counts-over _ (omega (arith, long, c.on.ensures)) (omega (arith, long, c.room_at.ensures, c.if-room_at-size.true))
 
 pub loop-i-init : goal.loop-i-init
 loop-i-init c = none _ _ _
 
 pub loop-i-preserved : goal.loop-i-preserved
-loop-i-preserved c = let s = c.loop-i in let a = c.args in
-    let long = lows-length a.units.now a.from a.size in
-    rw (lows-at a.units.now a.from a.size s.i c.loop-i-test.true) at
-    (more a.out.now a.to (lows a.units.now a.from a.size) s.i s.out (omega (arith, long, c.loop-i-test.true)) s.invariant)
+loop-i-preserved c = let long = lows-length c.args.units.now c.args.from c.args.size in
+    rw (lows-at c.args.units.now c.args.from c.args.size c.loop-i.i c.loop-i-test.true) at
+    (more c.args.out.now c.args.to (lows c.args.units.now c.args.from c.args.size) c.loop-i.i c.loop-i.out (omega (arith, long, c.loop-i-test.true)) c.loop-i.invariant)
 
 pub returns : goal.returns
-returns c = let a = c.args in
-    let long = lows-length a.units.now a.from a.size in
+returns c = let long = lows-length c.args.units.now c.args.from c.args.size in
     counts-stored _ (omega (arith, long, c.room_at.ensures, c.if-room_at-size.false))
     (all _ _ _ _ _ (omega (arith, long, c.loop-i-test.false)) c.loop-i.invariant)

@@ -12,21 +12,18 @@ pub letters-n-requires : goal.letters-n-requires
 letters-n-requires c = c.after_mark-mark.ensures.upper_bound
 
 pub overflow_mul-n : goal.overflow_mul-n
-overflow_mul-n c = let a = c.args in
-    let long = lent_length a.file.now a.from a.size c.requires (lent-part a.file.now a.from a.size refl) in
+overflow_mul-n c = let long = lent_length c.args.file.now c.args.from c.args.size c.requires (lent-part c.args.file.now c.args.from c.args.size refl) in
     omega (arith, long, c.letters-n.ensures.inside)
 
 pub overflow_add-mark : goal.overflow_add-mark
-overflow_add-mark c = let a = c.args in
-    let long = lent_length a.file.now a.from a.size c.requires (lent-part a.file.now a.from a.size refl) in
+overflow_add-mark c = let long = lent_length c.args.file.now c.args.from c.args.size c.requires (lent-part c.args.file.now c.args.from c.args.size refl) in
     omega (arith, long, c.letters-n.ensures.inside)
 
 pub put_lows-requires : goal.put_lows-requires
 put_lows-requires c = c.letters-n.ensures.inside
 
 pub returns-then-mark-n : goal.returns-then-mark-n
-returns-then-mark-n c = let a = c.args in
-    letters_text a.file.now a.from a.size c.requires (lent-part a.file.now a.from a.size refl)
+returns-then-mark-n c = letters_text c.args.file.now c.args.from c.args.size c.requires (lent-part c.args.file.now c.args.from c.args.size refl)
     (λ i. omega (arith, c.shared_slice_known-1.given i)) c.after_mark-mark.ensures.units_value c.after_mark-mark.ensures.upper_bound
     c.letters-n.ensures c.if-mark-n.true (omega arith) c.put_lows.ensures
 

@@ -11,12 +11,12 @@ use Rattle.title.proofs.correct_title.Goals as goal
 
 pub write_titled-requires : goal.write_titled-requires
 write_titled-requires c = stands c.args.file.now (length c.args.nodes.now) (length c.args.items.now)
-    (standing c.args.file.now _ _ _ c.read_file.ensures.answer c.read_file.ensures.nodes.0
-    c.read_file.ensures.nodes.1 c.in-Is.is)
+    (standing c.args.file.now _ _ _ c.read_file.ensures.answer c.read_file.ensures.nodes
+    c.read_file.ensures.items c.in-Is.is)
 
 pub slice_bounds-written-end : goal.slice_bounds-written-end
-slice_bounds-written-end c = let st = (standing c.args.file.now _ _ _ c.read_file.ensures.answer c.read_file.ensures.nodes.0
-    c.read_file.ensures.nodes.1 c.in-Is.is) in omega (
+slice_bounds-written-end c = let st = (standing c.args.file.now _ _ _ c.read_file.ensures.answer c.read_file.ensures.nodes
+    c.read_file.ensures.items c.in-Is.is) in omega (
       arith,
       file-inside c.args.file.now (length c.args.nodes.now) (length c.args.items.now) c.args.row
           c.args.title.now (length c.args.out.now) st
@@ -26,8 +26,8 @@ slice_bounds-written-end c = let st = (standing c.args.file.now _ _ _ c.read_fil
     )
 
 pub slice_bounds-written-end-in-Bytes : goal.slice_bounds-written-end-in-Bytes
-slice_bounds-written-end-in-Bytes c = let st = (standing c.args.file.now _ _ _ c.read_file.ensures.answer c.read_file.ensures.nodes.0
-    c.read_file.ensures.nodes.1 c.in-Is.is) in sym
+slice_bounds-written-end-in-Bytes c = let st = (standing c.args.file.now _ _ _ c.read_file.ensures.answer c.read_file.ensures.nodes
+    c.read_file.ensures.items c.in-Is.is) in sym
     (length-take-le _ _ (omega (
       arith,
       file-inside c.args.file.now (length c.args.nodes.now)
@@ -40,23 +40,23 @@ slice_bounds-written-end-in-Bytes c = let st = (standing c.args.file.now _ _ _ c
 pub returns-in-Refused : goal.returns-in-Refused
 returns-in-Refused c = let all = (asked-refused c.args.file.now (length c.args.nodes.now) (length c.args.items.now) c.args.row
     c.args.title.now (length c.args.out.now) c.read_file.ensures.answer c.in-Refused.is
-    c.read_file.ensures.nodes.0 c.read_file.ensures.nodes.1 c.clear_bytes.ensures) in record { answer = all.0; nodes = all.1; items = all.2; out = all.3 }
+    c.read_file.ensures.nodes c.read_file.ensures.items c.clear_bytes.ensures) in record { answer = all.0; nodes = all.1.0; items = all.1.1.0; out = all.1.1.1 }
 
 pub returns-in-Refused-write_titled : goal.returns-in-Refused-write_titled
-returns-in-Refused-write_titled c = let all = (let st = (standing c.args.file.now _ _ _ c.read_file.ensures.answer c.read_file.ensures.nodes.0
-    c.read_file.ensures.nodes.1 c.in-Is.is) in asked-bad c.args.file.now (length c.args.nodes.now)
+returns-in-Refused-write_titled c = let all = (let st = (standing c.args.file.now _ _ _ c.read_file.ensures.answer c.read_file.ensures.nodes
+    c.read_file.ensures.items c.in-Is.is) in asked-bad c.args.file.now (length c.args.nodes.now)
     (length c.args.items.now) c.args.row c.args.title.now (length c.args.out.now) st
     (c.write_titled.ensures _ _
     (reads_as c.args.file.now (length c.args.nodes.now) (length c.args.items.now) st)) c.in-Refused-write_titled.is
-    (zeros c.clear_all.ensures.nodes c.read_file.auto.1.0)
-    (zeros c.clear_all.ensures.items c.read_file.auto.1.1.0)
-    (zeros c.clear_bytes-in-Refused-write_titled.ensures c.write_titled.auto.0)) in record { answer = all.0; nodes = all.1; items = all.2; out = all.3 }
+    (zeros c.clear_all.ensures.nodes c.read_file.auto.nodes)
+    (zeros c.clear_all.ensures.items c.read_file.auto.items)
+    (zeros c.clear_bytes-in-Refused-write_titled.ensures c.write_titled.auto.out)) in record { answer = all.0; nodes = all.1.0; items = all.1.1.0; out = all.1.1.1 }
 
 pub returns-in-Bytes : goal.returns-in-Bytes
-returns-in-Bytes c = let all = (let st = (standing c.args.file.now _ _ _ c.read_file.ensures.answer c.read_file.ensures.nodes.0
-    c.read_file.ensures.nodes.1 c.in-Is.is) in asked-good c.args.file.now (length c.args.nodes.now)
+returns-in-Bytes c = let all = (let st = (standing c.args.file.now _ _ _ c.read_file.ensures.answer c.read_file.ensures.nodes
+    c.read_file.ensures.items c.in-Is.is) in asked-good c.args.file.now (length c.args.nodes.now)
     (length c.args.items.now) c.args.row c.args.title.now (length c.args.out.now) st
     (c.write_titled.ensures _ _
     (reads_as c.args.file.now (length c.args.nodes.now) (length c.args.items.now) st)) c.in-Bytes.is
-    c.write_titled.auto.0 c.clear_bytes_from.ensures c.read_file.auto.1.0
-    c.read_file.auto.1.1.0 c.read_file-in-Bytes.ensures.nodes.0 c.read_file-in-Bytes.ensures.nodes.1) in record { answer = all.0; nodes = all.1; items = all.2; out = all.3 }
+    c.write_titled.auto.out c.clear_bytes_from.ensures c.read_file.auto.nodes
+    c.read_file.auto.items c.read_file-in-Bytes.ensures.nodes c.read_file-in-Bytes.ensures.items) in record { answer = all.0; nodes = all.1.0; items = all.1.1.0; out = all.1.1.1 }

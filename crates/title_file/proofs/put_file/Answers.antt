@@ -74,19 +74,17 @@ pub slice_bounds-put_tree-end-5 : goal.slice_bounds-put_tree-end-5
 slice_bounds-put_tree-end-5 c = omega (arith, c.measure_tree-tree.kept)
 
 pub put_tree-g-requires : goal.put_tree-g-requires
-put_tree-g-requires c = let all = ((
-  (c.requires.rows, c.measure_tree-tree.ensures.measured),
-  (
-    (
-      omega (arith, c.measure_tree-tree.kept),
-      omega (arith, c.measure_tree-tree.kept),
-      omega (arith, c.measure_tree-tree.kept),
-      omega (arith, c.measure_tree-tree.kept),
-      omega (arith, c.measure_tree-tree.kept),
-    ),
-    omega (arith, c.measure_tree-tree.ensures.tree, c.if-tree-eq-SIZE_STOP.left),
-  ),
-)) in record { rows = all.0; room = all.1; small = all.2 }
+put_tree-g-requires c = record {
+  rows = (c.requires.rows, c.measure_tree-tree.ensures.measured);
+  room = (
+    omega (arith, c.measure_tree-tree.kept),
+    omega (arith, c.measure_tree-tree.kept),
+    omega (arith, c.measure_tree-tree.kept),
+    omega (arith, c.measure_tree-tree.kept),
+    omega (arith, c.measure_tree-tree.kept),
+  );
+  small = omega (arith, c.measure_tree-tree.ensures.tree, c.if-tree-eq-SIZE_STOP.left);
+}
 
 pub put_part-requires : goal.put_part-requires
 put_part-requires c = omega (arith, c.requires.inside)

@@ -45,16 +45,13 @@ pub bounds-metadata-i : goal.bounds-metadata-i
 bounds-metadata-i c = omega (arith, c.loop-i-test.true, c.requires.rows.0.few, c.requires.room.0)
 
 pub put_row-run-requires : goal.put_row-run-requires
-put_row-run-requires c = let all = (let sound = c.requires.rows.0 in let inv = c.loop-i.invariant in let within = c.loop-i-test.true in
-    let row = c.node_at-node.ensures in
-    let laid = c.requires.rows.1.laid _ (omega arith) within in
-    let small = c.requires.room.1 in (
-      (inside-here sound inv within row, sound.small, omega arith, items-room sound inv within row),
-      (
-        (texts-row sound inv within row laid small, packed-row sound inv within row laid small),
-        ((inv.inside, node-here sound inv within row), leaf_row sound inv within row laid small),
-      ),
-    )) in record { rows = all.0; sizes = all.1; inside = all.2; leaf = all.3 }
+put_row-run-requires c = let laid = c.requires.rows.1.laid _ (omega arith) c.loop-i-test.true in
+    record {
+      rows = (inside-here c.requires.rows.0 c.loop-i.invariant c.loop-i-test.true c.node_at-node.ensures, c.requires.rows.0.small, omega arith, items-room c.requires.rows.0 c.loop-i.invariant c.loop-i-test.true c.node_at-node.ensures);
+      sizes = (texts-row c.requires.rows.0 c.loop-i.invariant c.loop-i-test.true c.node_at-node.ensures laid c.requires.room.1, packed-row c.requires.rows.0 c.loop-i.invariant c.loop-i-test.true c.node_at-node.ensures laid c.requires.room.1);
+      inside = (c.loop-i.invariant.inside, node-here c.requires.rows.0 c.loop-i.invariant c.loop-i-test.true c.node_at-node.ensures);
+      leaf = leaf_row c.requires.rows.0 c.loop-i.invariant c.loop-i-test.true c.node_at-node.ensures laid c.requires.room.1;
+    }
 
 pub overflow_add-i : goal.overflow_add-i
 overflow_add-i c = omega (arith, c.loop-i-test.true)

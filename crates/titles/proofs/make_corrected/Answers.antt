@@ -6,9 +6,5 @@ use borrow.Author.Rules.{rules}
 use Rattle.titles.proofs.make_corrected.Goals as goal
 
 pub returns : goal.returns
-returns c = let node-table = c.node_table-nodes in
-    let item-table = c.item_table-items in
-    let settle = c.settle in
-    let correct_title_lem = c.correct_title-written in
-    gives_as (corrected-as _ node-table.ensures item-table.ensures _ _ _)
-    (settle.ensures _ _ correct_title_lem.auto.1.1.1.1.1.0 correct_title_lem.ensures.0 correct_title_lem.ensures.1.1.1)
+returns c = gives_as (corrected-as _ c.node_table-nodes.ensures c.item_table-items.ensures _ _ _)
+    (c.settle.ensures _ _ c.correct_title-written.auto.1.1.1.1.1.0 c.correct_title-written.ensures.answer c.correct_title-written.ensures.out)

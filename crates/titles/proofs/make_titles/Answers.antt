@@ -8,46 +8,20 @@ use borrow.Author.Rules.{rules}
 use Rattle.titles.proofs.make_titles.Goals as goal
 
 pub refers_elsewhere-requires : goal.refers_elsewhere-requires
-refers_elsewhere-requires c = let args-c = c.args in
-    let read-file = c.read_file in let s = c.s-1 in
-    (standing args-c.file.now _ _ _ read-file.ensures.0 read-file.ensures.1.0 read-file.ensures.1.1 s.given.1).node-room
+refers_elsewhere-requires c = (standing c.args.file.now _ _ _ c.read_file.ensures.answer c.read_file.ensures.nodes c.read_file.ensures.items c.in-Is.is).node-room
 
 pub returns-then-refers_elsewhere : goal.returns-then-refers_elsewhere
-returns-then-refers_elsewhere c = let refuse2 = c.refuse-then-refers_elsewhere in
-    let if1 = c.if-refers_elsewhere in
-    let refers-elsewhere = c.refers_elsewhere in
-    let s = c.s-1 in
-    let read-file = c.read_file in
-    let item-table = c.item_table-items in
-    let node-table = c.node_table-nodes in
-    let args-c = c.args in
-    gives_as (titles-none _ node-table.ensures item-table.ensures _
-    (standing args-c.file.now _ _ _ read-file.ensures.0 read-file.ensures.1.0 read-file.ensures.1.1 s.given.1)
-    refers-elsewhere.ensures if1.true) refuse2.ensures
+returns-then-refers_elsewhere c = gives_as (titles-none _ c.node_table-nodes.ensures c.item_table-items.ensures _
+    (standing c.args.file.now _ _ _ c.read_file.ensures.answer c.read_file.ensures.nodes c.read_file.ensures.items c.in-Is.is)
+    c.refers_elsewhere.ensures c.if-refers_elsewhere.true) c.refuse-then-refers_elsewhere.ensures
 
 pub put_title_lines-end-requires : goal.put_title_lines-end-requires
-put_title_lines-end-requires c = let args-c = c.args in
-    let read-file = c.read_file in
-    let s = c.s-1 in
-    item-rows (standing args-c.file.now _ _ _ read-file.ensures.0 read-file.ensures.1.0 read-file.ensures.1.1 s.given.1)
+put_title_lines-end-requires c = item-rows (standing c.args.file.now _ _ _ c.read_file.ensures.answer c.read_file.ensures.nodes c.read_file.ensures.items c.in-Is.is)
 
 pub returns-in-Refused : goal.returns-in-Refused
-returns-in-Refused c = let node-table = c.node_table-nodes in
-    let item-table = c.item_table-items in
-    let read-file = c.read_file in
-    let n = c.n-1 in let refuse = c.refuse in
-    gives_as (titles-bad _ node-table.ensures item-table.ensures _ read-file.ensures.0 n.given.1) refuse.ensures
+returns-in-Refused c = gives_as (titles-bad _ c.node_table-nodes.ensures c.item_table-items.ensures _ c.read_file.ensures.answer c.in-Refused.is) c.refuse.ensures
 
 pub returns-else-refers_elsewhere : goal.returns-else-refers_elsewhere
-returns-else-refers_elsewhere c = let conclude = c.conclude in
-    let put-title-lines = c.put_title_lines-end in
-    let if1 = c.if-refers_elsewhere in
-    let refers-elsewhere = c.refers_elsewhere in
-    let s = c.s-1 in
-    let read-file = c.read_file in
-    let item-table = c.item_table-items in
-    let node-table = c.node_table-nodes in
-    let args-c = c.args in
-    gives_as (titles-good _ node-table.ensures item-table.ensures _
-    (standing args-c.file.now _ _ _ read-file.ensures.0 read-file.ensures.1.0 read-file.ensures.1.1 s.given.1)
-    refers-elsewhere.ensures if1.false) (conclude.ensures _ _ put-title-lines.ensures)
+returns-else-refers_elsewhere c = gives_as (titles-good _ c.node_table-nodes.ensures c.item_table-items.ensures _
+    (standing c.args.file.now _ _ _ c.read_file.ensures.answer c.read_file.ensures.nodes c.read_file.ensures.items c.in-Is.is)
+    c.refers_elsewhere.ensures c.if-refers_elsewhere.false) (c.conclude.ensures _ _ c.put_title_lines-end.ensures)

@@ -7,13 +7,7 @@ use borrow.Author.Rules.{rules}
 use Rattle.titles.proofs.put_title_line.Goals as goal
 
 pub returns-then-is_no_title : goal.returns-then-is_no_title
-returns-then-is_no_title c = let is-no-title = c.is_no_title in let if1 = c.if-is_no_title in
-    counts-as (line-none _ _ _ is-no-title.ensures if1.true) (counts-none _ (omega arith))
+returns-then-is_no_title c = counts-as (line-none _ _ _ c.is_no_title.ensures c.if-is_no_title.true) (counts-none _ (omega arith))
 
 pub returns : goal.returns
-returns c = let is-no-title = c.is_no_title in
-    let if1 = c.if-is_no_title in
-    let put-decimal = c.put_decimal-a in
-    let put_byte = c.put_byte-b in
-    let put-item-line = c.put_item_line in
-    counts-as (line-is _ _ _ is-no-title.ensures if1.false) (counts-then (counts-then put-decimal.ensures put_byte.ensures) put-item-line.ensures)
+returns c = counts-as (line-is _ _ _ c.is_no_title.ensures c.if-is_no_title.false) (counts-then (counts-then c.put_decimal-a.ensures c.put_byte-b.ensures) c.put_item_line.ensures)

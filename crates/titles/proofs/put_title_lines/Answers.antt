@@ -14,15 +14,10 @@ pub loop-i-init : goal.loop-i-init
 loop-i-init c = (omega arith, going_start _ (omega arith) (sym (titles-start _ _ _)))
 
 pub put_title_line-next-requires : goal.put_title_line-next-requires
-put_title_line-next-requires c = let pre-c = c.requires in let loop-test = c.loop-i-test in
-    (omega (arith, pre-c.0), pre-c.1 _ loop-test.true)
+put_title_line-next-requires c = (omega (arith, c.requires.0), c.requires.1 _ c.loop-i-test.true)
 
 pub loop-i-preserved : goal.loop-i-preserved
-loop-i-preserved c = let loop-test = c.loop-i-test in
-    let loop = c.loop-i in
-    let put-title-line = c.put_title_line-next in
-    (omega arith, going_on (lines-on (titles-lined _) _ _ _ _ _ loop-test.true) loop.invariant.1 put-title-line.ensures)
+loop-i-preserved c = (omega arith, going_on (lines-on (titles-lined _) _ _ _ _ _ c.loop-i-test.true) c.loop-i.invariant.1 c.put_title_line-next.ensures)
 
 pub returns : goal.returns
-returns c = let loop-test = c.loop-i-test in let loop = c.loop-i in
-    going_end (lines_end (titles-lined _) _ _ _ _ _ loop-test.false) loop.invariant.1
+returns c = going_end (lines_end (titles-lined _) _ _ _ _ _ c.loop-i-test.false) c.loop-i.invariant.1

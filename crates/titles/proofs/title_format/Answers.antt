@@ -7,56 +7,27 @@ use borrow.Author.Rules.{rules}
 use Rattle.titles.proofs.title_format.Goals as goal
 
 pub returns-then-s-row : goal.returns-then-s-row
-returns-then-s-row c = let node-table = c.node_table-nodes in
-    let item-table = c.item_table-items in
-    let args-c = c.args in
-    let read-file = c.read_file in
-    let s = c.s-1 in let if1 = c.if-s-row in
-    format-past _ node-table.ensures item-table.ensures _
-    (standing args-c.file.now _ _ _ read-file.ensures.0 read-file.ensures.1.0 read-file.ensures.1.1 s.given.1)
-    if1.true
+returns-then-s-row c = format-past _ c.node_table-nodes.ensures c.item_table-items.ensures _
+    (standing c.args.file.now _ _ _ c.read_file.ensures.answer c.read_file.ensures.nodes c.read_file.ensures.items c.in-Is.is)
+    c.if-s-row.true
 
 pub is_no_title-requires : goal.is_no_title-requires
-is_no_title-requires c = let args-c = c.args in
-    let read-file = c.read_file in
-    let s = c.s-1 in let if1 = c.if-s-row in
-    let w = (standing args-c.file.now _ _ _ read-file.ensures.0 read-file.ensures.1.0 read-file.ensures.1.1 s.given.1)
-    in omega (arith, w.item_room, if1.false)
+is_no_title-requires c = let w = (standing c.args.file.now _ _ _ c.read_file.ensures.answer c.read_file.ensures.nodes c.read_file.ensures.items c.in-Is.is)
+    in omega (arith, w.item_room, c.if-s-row.false)
 
 pub returns-then-is_no_title : goal.returns-then-is_no_title
-returns-then-is_no_title c = let node-table = c.node_table-nodes in
-    let item-table = c.item_table-items in
-    let args-c = c.args in
-    let read-file = c.read_file in
-    let s = c.s-1 in let if1 = c.if-s-row in
-    let is-no-title = c.is_no_title in let if2 = c.if-is_no_title in
-    format-none _ node-table.ensures item-table.ensures _
-    (standing args-c.file.now _ _ _ read-file.ensures.0 read-file.ensures.1.0 read-file.ensures.1.1 s.given.1)
-    (omega (arith, if1.false)) is-no-title.ensures if2.true
+returns-then-is_no_title c = format-none _ c.node_table-nodes.ensures c.item_table-items.ensures _
+    (standing c.args.file.now _ _ _ c.read_file.ensures.answer c.read_file.ensures.nodes c.read_file.ensures.items c.in-Is.is)
+    (omega (arith, c.if-s-row.false)) c.is_no_title.ensures c.if-is_no_title.true
 
 pub item_at-requires : goal.item_at-requires
-item_at-requires c = let args-c = c.args in
-    let read-file = c.read_file in
-    let s = c.s-1 in
-    let if1 = c.if-s-row in
-    let w = (standing args-c.file.now _ _ _ read-file.ensures.0 read-file.ensures.1.0 read-file.ensures.1.1 s.given.1)
-    in omega (arith, w.item_room, if1.false)
+item_at-requires c = let w = (standing c.args.file.now _ _ _ c.read_file.ensures.answer c.read_file.ensures.nodes c.read_file.ensures.items c.in-Is.is)
+    in omega (arith, w.item_room, c.if-s-row.false)
 
 pub returns-in-Refused : goal.returns-in-Refused
-returns-in-Refused c = let node-table = c.node_table-nodes in
-    let item-table = c.item_table-items in
-    let read-file = c.read_file in let n = c.n-1 in
-    format-refused _ node-table.ensures item-table.ensures _ read-file.ensures.0 n.given.1
+returns-in-Refused c = format-refused _ c.node_table-nodes.ensures c.item_table-items.ensures _ c.read_file.ensures.answer c.in-Refused.is
 
 pub returns-else-is_no_title : goal.returns-else-is_no_title
-returns-else-is_no_title c = let node-table = c.node_table-nodes in
-    let item-table = c.item_table-items in
-    let args-c = c.args in
-    let read-file = c.read_file in
-    let s = c.s-1 in
-    let if1 = c.if-s-row in
-    let is-no-title = c.is_no_title in let if2 = c.if-is_no_title in
-    let item-at = c.item_at in
-    format-is _ node-table.ensures item-table.ensures _
-    (standing args-c.file.now _ _ _ read-file.ensures.0 read-file.ensures.1.0 read-file.ensures.1.1 s.given.1)
-    (omega (arith, if1.false)) is-no-title.ensures if2.false item-at.ensures
+returns-else-is_no_title c = format-is _ c.node_table-nodes.ensures c.item_table-items.ensures _
+    (standing c.args.file.now _ _ _ c.read_file.ensures.answer c.read_file.ensures.nodes c.read_file.ensures.items c.in-Is.is)
+    (omega (arith, c.if-s-row.false)) c.is_no_title.ensures c.if-is_no_title.false c.item_at.ensures

@@ -14,8 +14,8 @@ returns-then-file-gt-LONGEST c = let s = put_first c.put_too_long.ensures (omega
     }
 
 pub returns-in-Bytes : goal.returns-in-Bytes
-returns-in-Bytes c = let s = sheet_made _ _ _ c.write_sheet.ensures.answer c.write_sheet.auto.1.1.1.0
-    c.write_sheet.ensures.nodes.1.1 c.in-Bytes.is
+returns-in-Bytes c = let s = sheet_made _ _ _ c.write_sheet.ensures.answer c.write_sheet.auto.sheet
+    c.write_sheet.ensures.sheet c.in-Bytes.is
     in record {
       prefix_len = s.0;
       text_value = s.1 ∙ answer-short _ c.node_table-nodes.ensures c.item_table-items.ensures c.requires c.if-file-gt-LONGEST.false;
@@ -26,9 +26,9 @@ returns-in-Refused c = let s = put_first c.put_refusal.ensures
     (omega (
       arith,
       line-short c.in-Refused.number c.in-Refused.place,
-      c.write_sheet.auto.1.1.1.0,
+      c.write_sheet.auto.sheet,
       c.requires,
-    )) (omega (arith, c.write_sheet.auto.1.1.1.0, c.requires))
+    )) (omega (arith, c.write_sheet.auto.sheet, c.requires))
     in record {
       prefix_len = s.0;
       text_value = s.1 ∙ refusal-made _ c.write_sheet.ensures.answer c.in-Refused.is ∙ answer-short _

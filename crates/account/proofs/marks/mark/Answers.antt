@@ -7,19 +7,15 @@ use borrow.Author.Rules.{rules}
 use Rattle.account.proofs.marks.mark.Goals as goal
 
 pub returns-then-marks-size : goal.returns-then-marks-size
-returns-then-marks-size c = let all = (let read = c.read_file in let cleared = c.clear_all.ensures in
-    ends_few c.args.file.now _ _ _ read.ensures.0 read.ensures.1.0 read.ensures.1.1 c.in-Is.is c.if-marks-size.true
-    (zeros cleared.0 read.auto.1.0) (zeros cleared.1 read.auto.1.1.0) c.clear_bytes-then-marks-size.ensures) in record { answer = all.0; nodes = all.1; items = all.2; marks = all.3 }
+returns-then-marks-size c = let all = (ends_few c.args.file.now _ _ _ c.read_file.ensures.answer c.read_file.ensures.nodes c.read_file.ensures.items c.in-Is.is c.if-marks-size.true
+    (zeros c.clear_all.ensures.nodes c.read_file.auto.nodes) (zeros c.clear_all.ensures.items c.read_file.auto.items) c.clear_bytes-then-marks-size.ensures) in record { answer = all.0; nodes = all.1.0; items = all.1.1.0; marks = all.1.1.1 }
 
 pub mark_rows-requires : goal.mark_rows-requires
-mark_rows-requires c = let read = c.read_file.ensures in let is = c.in-Is.is in
-    (nodes-stand _ _ _ read.0 read.1.0 read.1.1 is, items-stand _ _ _ read.0 read.1.0 read.1.1 is)
+mark_rows-requires c = (nodes-stand _ _ _ c.read_file.ensures.answer c.read_file.ensures.nodes c.read_file.ensures.items c.in-Is.is, items-stand _ _ _ c.read_file.ensures.answer c.read_file.ensures.nodes c.read_file.ensures.items c.in-Is.is)
 
 pub returns-in-Refused : goal.returns-in-Refused
-returns-in-Refused c = let all = (let read = c.read_file.ensures in
-    ends_unread c.args.file.now _ _ _ read.0 read.1.0 read.1.1 c.in-Refused.is c.clear_bytes.ensures) in record { answer = all.0; nodes = all.1; items = all.2; marks = all.3 }
+returns-in-Refused c = let all = (ends_unread c.args.file.now _ _ _ c.read_file.ensures.answer c.read_file.ensures.nodes c.read_file.ensures.items c.in-Refused.is c.clear_bytes.ensures) in record { answer = all.0; nodes = all.1.0; items = all.1.1.0; marks = all.1.1.1 }
 
 pub returns-else-marks-size : goal.returns-else-marks-size
-returns-else-marks-size c = let all = (let read = c.read_file.ensures in let marked = c.mark_rows in
-    ends_marked c.args.file.now _ _ _ read.0 read.1.0 read.1.1 c.in-Is.is (omega (arith, c.if-marks-size.false))
-    _ marked.auto.0 marked.ensures c.clear_bytes_from.ensures) in record { answer = all.0; nodes = all.1; items = all.2; marks = all.3 }
+returns-else-marks-size c = let all = (ends_marked c.args.file.now _ _ _ c.read_file.ensures.answer c.read_file.ensures.nodes c.read_file.ensures.items c.in-Is.is (omega (arith, c.if-marks-size.false))
+    _ c.mark_rows.auto.marks c.mark_rows.ensures c.clear_bytes_from.ensures) in record { answer = all.0; nodes = all.1.0; items = all.1.1.0; marks = all.1.1.1 }

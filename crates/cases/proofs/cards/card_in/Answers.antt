@@ -8,9 +8,7 @@ use Rattle.cases.proofs.Row.{past}
 use Rattle.cases.proofs.cards.card_in.Goals as goal
 
 pub returns-then-i-words : goal.returns-then-i-words
-returns-then-i-words c = let a = c.args in
-    card_at a.words.now a.i (omega (arith, count a.words.now, c.if-i-words.true))
+returns-then-i-words c = card_at c.args.words.now c.args.i (omega (arith, count c.args.words.now, c.if-i-words.true))
 
 pub returns : goal.returns
-returns c = let a = c.args in
-    past (cards_of a.words.now) a.i (omega (arith, count a.words.now, c.if-i-words.false))
+returns c = past (cards_of c.args.words.now) c.args.i (omega (arith, count c.args.words.now, c.if-i-words.false))

@@ -5,6 +5,4 @@ use Rattle.cases.proofs.Row.{front, changed}
 use Rattle.cases.proofs.cards.drop.Goals as goal
 
 pub returns : goal.returns
-returns c = let words = c.args.words.now in
-    let loaded = c.load_row-row.ensures in
-    changed _ _ (front words c.load_row-row.result c.count-n.result loaded.0 c.count-n.ensures loaded.1) _ _ _ _ c.drop_row.ensures
+returns c = changed _ _ (front c.args.words.now c.load_row-row.result c.count-n.result c.load_row-row.ensures.0 c.count-n.ensures c.load_row-row.ensures.1) _ _ _ _ c.drop_row.ensures

@@ -25,10 +25,7 @@ pub loop-i-smaller : goal.loop-i-smaller
 loop-i-smaller c = omega (arith, c.loop-i-test.true)
 
 pub loop-i-preserved : goal.loop-i-preserved
-loop-i-preserved c = let test = c.loop-i-test.true in let inv = c.loop-i.invariant in
-    let words = c.args.words.now in let row = c.loop-i.row in let i = c.loop-i.i in
-    (omega (arith, test), length-set {A = Card} row i c.card_in-c.result ∙ inv.1, loaded_more words row i inv.1 test c.card_in-c.ensures inv.2)
+loop-i-preserved c = (omega (arith, c.loop-i-test.true), length-set {A = Card} c.loop-i.row c.loop-i.i c.card_in-c.result ∙ c.loop-i.invariant.1, loaded_more c.args.words.now c.loop-i.row c.loop-i.i c.loop-i.invariant.1 c.loop-i-test.true c.card_in-c.ensures c.loop-i.invariant.2)
 
 pub returns : goal.returns
-returns c = let inv = c.loop-i.invariant in
-    (inv.1, λ k l. inv.2 k (omega (arith, l, c.loop-i-test.false)))
+returns c = (c.loop-i.invariant.1, λ k l. c.loop-i.invariant.2 k (omega (arith, l, c.loop-i-test.false)))

@@ -16,20 +16,17 @@ pub loop-i-init : goal.loop-i-init
 loop-i-init c = (omega arith, c.count-n.ensures, refl, with_none _)
 
 pub store-requires : goal.store-requires
-store-requires c = let inv = c.loop-i.invariant in
-    omega (arith, c.loop-i-test.true, inv.1, inv.2)
+store-requires c = omega (arith, c.loop-i-test.true, c.loop-i.invariant.1, c.loop-i.invariant.2)
 
 pub loop-i-preserved : goal.loop-i-preserved
-loop-i-preserved c = let inv = c.loop-i.invariant in let test = c.loop-i-test.true in
-    let row = c.args.t2 in let i = c.loop-i.i in
-    let four = four_of (get_or row i fresh_card) in (
-      omega (arith, test),
-      inv.1,
-      ap length c.store.ensures ∙ length-sets {A = ℕ} c.loop-i.words (i * 4) four ∙ inv.2,
-      c.store.ensures
-          ∙ stored_more c.args.words.now row i c.well_formed.1.0.1.0.1 (omega (arith, test, inv.1)) inv.3,
-    )
+loop-i-preserved c = let four = four_of (get_or c.args.t2 c.loop-i.i fresh_card) in (
+  omega (arith, c.loop-i-test.true),
+  c.loop-i.invariant.1,
+  ap length c.store.ensures ∙ length-sets {A = ℕ} c.loop-i.words (c.loop-i.i * 4) four ∙ c.loop-i.invariant.2,
+  c.store.ensures
+      ∙ stored_more c.args.words.now c.args.t2 c.loop-i.i c.well_formed.1.0.1.0.1 (omega (arith, c.loop-i-test.true, c.loop-i.invariant.1)) c.loop-i.invariant.3,
+)
 
 pub returns : goal.returns
-returns c = let inv = c.loop-i.invariant in let all : c.loop-i.i ≡ min (length c.args.words.now / 4) 20 = omega (arith, c.loop-i-test.false, inv.0, inv.1) in
-    inv.3 ∙ ap (λ (k : ℕ). words_with c.args.words.now (take k c.args.t2)) all
+returns c = let all : c.loop-i.i ≡ min (length c.args.words.now / 4) 20 = omega (arith, c.loop-i-test.false, c.loop-i.invariant.0, c.loop-i.invariant.1) in
+    c.loop-i.invariant.3 ∙ ap (λ (k : ℕ). words_with c.args.words.now (take k c.args.t2)) all

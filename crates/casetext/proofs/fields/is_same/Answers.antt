@@ -23,12 +23,10 @@ returns-then-one-i c = record {
 }
 
 pub loop-i-preserved : goal.loop-i-preserved
-loop-i-preserved c = let inv = c.loop-i.invariant in
-    (inv.0, omega arith, below_more _ _ inv.2 c.if-one-i.false)
+loop-i-preserved c = (c.loop-i.invariant.0, omega arith, below_more _ _ c.loop-i.invariant.2 c.if-one-i.false)
 
 pub returns : goal.returns
-returns c = let inv = c.loop-i.invariant in
-    record {
-      same = λ e. ext_get_or 0 _ _ inv.0 (λ k l. inv.2 k (omega arith));
-      only = λ e. refl;
-    }
+returns c = record {
+  same = λ e. ext_get_or 0 _ _ c.loop-i.invariant.0 (λ k l. c.loop-i.invariant.2 k (omega arith));
+  only = λ e. refl;
+}

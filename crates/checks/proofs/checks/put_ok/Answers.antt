@@ -6,8 +6,4 @@ use borrow.Author.Rules.{rules}
 use Rattle.checks.proofs.checks.put_ok.Goals as goal
 
 pub returns : goal.returns
-returns c = let put-bytes = c.put_bytes-a in
-    let put-version = c.put_version-b in
-    let put-number = c.put_number-c in
-    let put-end = c.put_end in
-    counts-as (ok-is _ _ _) (counts-then (counts-then (counts-then put-bytes.ensures put-version.ensures) put-number.ensures) put-end.ensures)
+returns c = counts-as (ok-is _ _ _) (counts-then (counts-then (counts-then c.put_bytes-a.ensures c.put_version-b.ensures) c.put_number-c.ensures) c.put_end.ensures)

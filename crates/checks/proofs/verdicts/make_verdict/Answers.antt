@@ -6,17 +6,8 @@ use borrow.Author.Rules.{rules}
 use Rattle.checks.proofs.verdicts.make_verdict.Goals as goal
 
 pub returns-in-Refused : goal.returns-in-Refused
-returns-in-Refused c = let node-table = c.node_table-nodes in
-    let item-table = c.item_table-items in
-    let judge = c.judge in
-    let n = c.n-1 in let refuse = c.refuse in
-    gives_as (verdict-bad _ node-table.ensures item-table.ensures _ _ judge.ensures.0 n.given.1) refuse.ensures
+returns-in-Refused c = gives_as (verdict-bad _ c.node_table-nodes.ensures c.item_table-items.ensures _ _ c.judge.ensures.answer c.in-Refused.is) c.refuse.ensures
 
 pub returns-in-Verdict : goal.returns-in-Verdict
-returns-in-Verdict c = let conclude = c.conclude in
-    let verdict-status = c.verdict_status in
-    let put-verdict = c.put_verdict-end in let v = c.v-1 in let judge = c.judge in
-    let item-table = c.item_table-items in
-    let node-table = c.node_table-nodes in
-    gives_as (verdict-good _ node-table.ensures item-table.ensures _ _ judge.ensures.0 v.given.1 verdict-status.ensures)
-    (conclude.ensures _ _ put-verdict.ensures)
+returns-in-Verdict c = gives_as (verdict-good _ c.node_table-nodes.ensures c.item_table-items.ensures _ _ c.judge.ensures.answer c.in-Verdict.is c.verdict_status.ensures)
+    (c.conclude.ensures _ _ c.put_verdict-end.ensures)

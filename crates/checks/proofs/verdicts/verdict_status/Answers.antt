@@ -4,9 +4,7 @@ use Rattle.checks.proofs.Judging.{status-none, status-some}
 use Rattle.checks.proofs.verdicts.verdict_status.Goals as goal
 
 pub returns-then-verdict-eq0 : goal.returns-then-verdict-eq0
-returns-then-verdict-eq0 c = let if1 = c.if-verdict-eq0 in
-    status-none _ if1.true
+returns-then-verdict-eq0 c = status-none _ c.if-verdict-eq0.true
 
 pub returns : goal.returns
-returns c = let if1 = c.if-verdict-eq0 in
-    status-some _ if1.false
+returns c = status-some _ c.if-verdict-eq0.false

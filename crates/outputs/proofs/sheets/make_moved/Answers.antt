@@ -6,6 +6,4 @@ use Rattle.outputs.proofs.sheets.make_moved.Goals as goal
 
 pub returns : goal.returns
 unfolding moved_answer
-returns c = let settle = c.settle in
-    let move-sheet = c.move_sheet-written in
-    settle.ensures _ _ move-sheet.auto.1.0 move-sheet.ensures.0 move-sheet.ensures.1
+returns c = c.settle.ensures _ _ c.move_sheet-written.auto.room c.move_sheet-written.ensures.answer c.move_sheet-written.ensures.room

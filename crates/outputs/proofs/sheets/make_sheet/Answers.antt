@@ -6,9 +6,5 @@ use borrow.Author.Rules.{rules}
 use Rattle.outputs.proofs.sheets.make_sheet.Goals as goal
 
 pub returns : goal.returns
-returns c = let node-table = c.node_table-nodes in
-    let item-table = c.item_table-items in
-    let settle = c.settle in
-    let write-edition = c.write_edition-written in
-    gives_as (sheet_as _ node-table.ensures item-table.ensures _ _ _)
-    (settle.ensures _ _ write-edition.auto.1.1.1.1.0 write-edition.ensures.0 write-edition.ensures.1)
+returns c = gives_as (sheet_as _ c.node_table-nodes.ensures c.item_table-items.ensures _ _ _)
+    (c.settle.ensures _ _ c.write_edition-written.auto.1.1.1.1.0 c.write_edition-written.ensures.answer c.write_edition-written.ensures.text)

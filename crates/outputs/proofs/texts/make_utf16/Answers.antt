@@ -6,6 +6,4 @@ use Rattle.outputs.proofs.texts.make_utf16.Goals as goal
 
 pub returns : goal.returns
 unfolding utf16_answer
-returns c = let settle = c.settle in
-    let to-utf16 = c.to_utf16-written in
-    settle.ensures _ _ to-utf16.auto.1.0 to-utf16.ensures.0 to-utf16.ensures.1
+returns c = c.settle.ensures _ _ c.to_utf16-written.auto.units c.to_utf16-written.ensures.answer c.to_utf16-written.ensures.units

@@ -8,33 +8,15 @@ use borrow.Author.Rules.{rules}
 use Rattle.tables.proofs.all_rows.make_rows.Goals as goal
 
 pub put_node_rows-a-requires : goal.put_node_rows-a-requires
-put_node_rows-a-requires c = let args-c = c.args in
-    let read-file = c.read_file in
-    let s = c.s-1 in
-    (standing args-c.file.now _ _ _ read-file.ensures.0 read-file.ensures.1.0 read-file.ensures.1.1 s.given.1).node-room
+put_node_rows-a-requires c = (standing c.args.file.now _ _ _ c.read_file.ensures.answer c.read_file.ensures.nodes c.read_file.ensures.items c.in-Is.is).node-room
 
 pub put_item_rows-end-requires : goal.put_item_rows-end-requires
-put_item_rows-end-requires c = let args-c = c.args in
-    let read-file = c.read_file in
-    let s = c.s-1 in
-    (standing args-c.file.now _ _ _ read-file.ensures.0 read-file.ensures.1.0 read-file.ensures.1.1 s.given.1).item_room
+put_item_rows-end-requires c = (standing c.args.file.now _ _ _ c.read_file.ensures.answer c.read_file.ensures.nodes c.read_file.ensures.items c.in-Is.is).item_room
 
 pub returns-in-Refused : goal.returns-in-Refused
-returns-in-Refused c = let node-table = c.node_table-nodes in
-    let item-table = c.item_table-items in
-    let read-file = c.read_file in
-    let n = c.n-1 in let refuse = c.refuse in
-    gives_as (rows-bad _ node-table.ensures item-table.ensures _ read-file.ensures.0 n.given.1) refuse.ensures
+returns-in-Refused c = gives_as (rows-bad _ c.node_table-nodes.ensures c.item_table-items.ensures _ c.read_file.ensures.answer c.in-Refused.is) c.refuse.ensures
 
 pub returns-in-Is : goal.returns-in-Is
-returns-in-Is c = let conclude = c.conclude in
-    let put-item-rows = c.put_item_rows-end in
-    let put-node-rows = c.put_node_rows-a in
-    let s = c.s-1 in
-    let read-file = c.read_file in
-    let item-table = c.item_table-items in
-    let node-table = c.node_table-nodes in
-    let args-c = c.args in
-    gives_as (rows-good _ node-table.ensures item-table.ensures _
-    (standing args-c.file.now _ _ _ read-file.ensures.0 read-file.ensures.1.0 read-file.ensures.1.1 s.given.1))
-    (conclude.ensures _ _ (counts-then put-node-rows.ensures put-item-rows.ensures))
+returns-in-Is c = gives_as (rows-good _ c.node_table-nodes.ensures c.item_table-items.ensures _
+    (standing c.args.file.now _ _ _ c.read_file.ensures.answer c.read_file.ensures.nodes c.read_file.ensures.items c.in-Is.is))
+    (c.conclude.ensures _ _ (counts-then c.put_node_rows-a.ensures c.put_item_rows-end.ensures))

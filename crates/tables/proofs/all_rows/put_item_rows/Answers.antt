@@ -15,19 +15,14 @@ pub loop-i-init : goal.loop-i-init
 loop-i-init c = (omega arith, going_start _ (omega arith) (sym (items-start _ _)))
 
 pub item_at-requires : goal.item_at-requires
-item_at-requires c = let pre-c = c.requires in
-    omega (arith, pre-c)
+item_at-requires c = omega (arith, c.requires)
 
 pub loop-i-preserved : goal.loop-i-preserved
-loop-i-preserved c = let loop-test = c.loop-i-test in
-    let loop = c.loop-i in
-    let item-at = c.item_at in
-    let put-item-row = c.put_item_row-next in (
-      omega arith,
-      going_on (lines-on items-lined _ _ _ _ _ loop-test.true) loop.invariant.1
-          (counts-as (ap (λ x. item_row 0x69 loop.i x) item-at.ensures) put-item-row.ensures),
-    )
+loop-i-preserved c = (
+  omega arith,
+  going_on (lines-on items-lined _ _ _ _ _ c.loop-i-test.true) c.loop-i.invariant.1
+      (counts-as (ap (λ x. item_row 0x69 c.loop-i.i x) c.item_at.ensures) c.put_item_row-next.ensures),
+)
 
 pub returns : goal.returns
-returns c = let loop-test = c.loop-i-test in let loop = c.loop-i in
-    going_end (lines_end items-lined _ _ _ _ _ loop-test.false) loop.invariant.1
+returns c = going_end (lines_end items-lined _ _ _ _ _ c.loop-i-test.false) c.loop-i.invariant.1

@@ -15,19 +15,14 @@ pub loop-i-init : goal.loop-i-init
 loop-i-init c = (omega arith, going_start _ (omega arith) (sym (nodes-start _ _)))
 
 pub node_at-requires : goal.node_at-requires
-node_at-requires c = let pre-c = c.requires in
-    omega (arith, pre-c)
+node_at-requires c = omega (arith, c.requires)
 
 pub loop-i-preserved : goal.loop-i-preserved
-loop-i-preserved c = let loop-test = c.loop-i-test in
-    let loop = c.loop-i in
-    let node_at_lem = c.node_at in
-    let put-node-row = c.put_node_row-next in (
-      omega arith,
-      going_on (lines-on nodes-lined _ _ _ _ _ loop-test.true) loop.invariant.1
-          (counts-as (ap (λ x. node_row loop.i x) node_at_lem.ensures) put-node-row.ensures),
-    )
+loop-i-preserved c = (
+  omega arith,
+  going_on (lines-on nodes-lined _ _ _ _ _ c.loop-i-test.true) c.loop-i.invariant.1
+      (counts-as (ap (λ x. node_row c.loop-i.i x) c.node_at.ensures) c.put_node_row-next.ensures),
+)
 
 pub returns : goal.returns
-returns c = let loop-test = c.loop-i-test in let loop = c.loop-i in
-    going_end (lines_end nodes-lined _ _ _ _ _ loop-test.false) loop.invariant.1
+returns c = going_end (lines_end nodes-lined _ _ _ _ _ c.loop-i-test.false) c.loop-i.invariant.1

@@ -7,27 +7,12 @@ use borrow.Author.Rules.{rules}
 use Rattle.tables.proofs.finds.make_found.Goals as goal
 
 pub put_found-end-requires : goal.put_found-end-requires
-put_found-end-requires c = let node-table = c.node_table-nodes in
-    let item-table = c.item_table-items in
-    let args-c = c.args in
-    let find-field = c.find_field in
-    let i = c.i-1 in
-    found-there _ node-table.ensures item-table.ensures 0 args-c.climbs (wanted_of args-c.field args-c.name.now) args-c.row
-    find-field.ensures.0 i.given.1 find-field.ensures.1
+put_found-end-requires c = found-there _ c.node_table-nodes.ensures c.item_table-items.ensures 0 c.args.climbs (wanted_of c.args.field c.args.name.now) c.args.row
+    c.find_field.ensures.answer c.in-Item.is c.find_field.ensures.items
 
 pub returns-in-Refused : goal.returns-in-Refused
-returns-in-Refused c = let node-table = c.node_table-nodes in
-    let item-table = c.item_table-items in
-    let find-field = c.find_field in
-    let n = c.n-1 in let refuse = c.refuse in
-    gives_as (found-bad _ node-table.ensures item-table.ensures _ _ _ _ find-field.ensures.0 n.given.1) refuse.ensures
+returns-in-Refused c = gives_as (found-bad _ c.node_table-nodes.ensures c.item_table-items.ensures _ _ _ _ c.find_field.ensures.answer c.in-Refused.is) c.refuse.ensures
 
 pub returns-in-Item : goal.returns-in-Item
-returns-in-Item c = let conclude = c.conclude in
-    let put-found = c.put_found-end in
-    let i = c.i-1 in
-    let find-field = c.find_field in
-    let item-table = c.item_table-items in
-    let node-table = c.node_table-nodes in
-    gives_as (found-good _ node-table.ensures item-table.ensures _ _ _ _ find-field.ensures.0 i.given.1 find-field.ensures.1)
-    (conclude.ensures _ _ put-found.ensures)
+returns-in-Item c = gives_as (found-good _ c.node_table-nodes.ensures c.item_table-items.ensures _ _ _ _ c.find_field.ensures.answer c.in-Item.is c.find_field.ensures.items)
+    (c.conclude.ensures _ _ c.put_found-end.ensures)

@@ -6,7 +6,4 @@ use borrow.Author.Rules.{rules}
 use Rattle.tables.proofs.finds.put_found.Goals as goal
 
 pub returns : goal.returns
-returns c = let item-at = c.item_at in
-    let put-item-row = c.put_item_row-next in
-    let put-visible-line = c.put_visible_line in
-    counts-as (found-is _ _ _ item-at.ensures) (counts-then put-item-row.ensures put-visible-line.ensures)
+returns c = counts-as (found-is _ _ _ c.item_at.ensures) (counts-then c.put_item_row-next.ensures c.put_visible_line.ensures)

@@ -8,22 +8,10 @@ use Rattle.usage.proofs.kinds.make_bytes_line.Goals as goal
 
 pub returns-in-Refused : goal.returns-in-Refused
 unfolding bytes_line_answer
-returns-in-Refused c = let node-table = c.node_table-nodes in
-    let item-table = c.item_table-items in
-    let no-totals = c.no_totals in
-    let account = c.account in
-    let n = c.n-1 in let refuse = c.refuse in
-    gives_as (printed-bad (in_line _) _ _ (kinds-told _ node-table.ensures item-table.ensures _ n.given.1 no-totals.ensures account.ensures.0)) refuse.ensures
+returns-in-Refused c = gives_as (printed-bad (in_line _) _ _ (kinds-told _ c.node_table-nodes.ensures c.item_table-items.ensures _ c.in-Refused.is c.no_totals.ensures c.account.ensures.answer)) c.refuse.ensures
 
 pub returns-in-Is : goal.returns-in-Is
 unfolding bytes_line_answer
-returns-in-Is c = let conclude = c.conclude in
-    let put-in-line = c.put_in_line-end in
-    let k = c.k-1 in
-    let account = c.account in
-    let no-totals = c.no_totals in
-    let item-table = c.item_table-items in
-    let node-table = c.node_table-nodes in
-    gives_as (printed-good (in_line _) _ _
-    (kinds-told _ node-table.ensures item-table.ensures _ k.given.1 no-totals.ensures account.ensures.0))
-    (conclude.ensures _ _ put-in-line.ensures)
+returns-in-Is c = gives_as (printed-good (in_line _) _ _
+    (kinds-told _ c.node_table-nodes.ensures c.item_table-items.ensures _ c.in-Is.is c.no_totals.ensures c.account.ensures.answer))
+    (c.conclude.ensures _ _ c.put_in_line-end.ensures)

@@ -6,7 +6,4 @@ use borrow.Author.Rules.{rules}
 use Rattle.usage.proofs.kinds.put_kind.Goals as goal
 
 pub returns : goal.returns
-returns c = let put-bytes = c.put_bytes-a in
-    let put-number = c.put_number-b in
-    let put_byte = c.put_byte in
-    counts-as (kind-is _ _) (counts-then (counts-then put-bytes.ensures put-number.ensures) put_byte.ensures)
+returns c = counts-as (kind-is _ _) (counts-then (counts-then c.put_bytes-a.ensures c.put_number-b.ensures) c.put_byte.ensures)

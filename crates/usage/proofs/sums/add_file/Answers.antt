@@ -6,19 +6,13 @@ use borrow.Author.Rules.{rules}
 use Rattle.usage.proofs.sums.add_file.Goals as goal
 
 pub returns-then-t-ge-MOST_FILES : goal.returns-then-t-ge-MOST_FILES
-returns-then-t-ge-MOST_FILES c = let sums2 = c.sums-in-Of-1 in let if1 = c.if-t-ge-MOST_FILES in
-    with_over _ sums2.given.1 if1.true
+returns-then-t-ge-MOST_FILES c = with_over _ c.in-Of.is c.if-t-ge-MOST_FILES.true
 
 pub returns-then-file-gt-LONGEST : goal.returns-then-file-gt-LONGEST
-returns-then-file-gt-LONGEST c = let sums2 = c.sums-in-Of-1 in let if1 = c.if-t-ge-MOST_FILES in
-    let if2 = c.if-file-gt-LONGEST in let add-long = c.add_long in
-    with_long _ sums2.given.1 (omega (arith, if1.false)) if2.true add-long.ensures
+returns-then-file-gt-LONGEST c = with_long _ c.in-Of.is (omega (arith, c.if-t-ge-MOST_FILES.false)) c.if-file-gt-LONGEST.true c.add_long.ensures
 
 pub returns-in-Refused : goal.returns-in-Refused
-returns-in-Refused c = let sums = c.sums-1 in
-    with_none _ sums.given.1
+returns-in-Refused c = with_none _ c.in-Refused.is
 
 pub returns-else-file-gt-LONGEST : goal.returns-else-file-gt-LONGEST
-returns-else-file-gt-LONGEST c = let sums2 = c.sums-in-Of-1 in let if1 = c.if-t-ge-MOST_FILES in
-    let if2 = c.if-file-gt-LONGEST in let add-short = c.add_short in
-    with_short _ sums2.given.1 (omega (arith, if1.false)) (omega (arith, if2.false)) add-short.ensures
+returns-else-file-gt-LONGEST c = with_short _ c.in-Of.is (omega (arith, c.if-t-ge-MOST_FILES.false)) (omega (arith, c.if-file-gt-LONGEST.false)) c.add_short.ensures

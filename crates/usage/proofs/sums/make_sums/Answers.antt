@@ -8,12 +8,8 @@ use Rattle.usage.proofs.sums.make_sums.Goals as goal
 
 pub returns-in-Refused : goal.returns-in-Refused
 unfolding sums_of
-returns-in-Refused c = let all = (let sums = c.sums-1 in let refuse = c.refuse in
-    answered (gives_as (printed-bad summed _ _ (ap sums_told sums.given.1)) refuse.ensures)) in record { prefix_len = all.0; gives = all.1 }
+returns-in-Refused c = let all = (answered (gives_as (printed-bad summed _ _ (ap sums_told c.in-Refused.is)) c.refuse.ensures)) in record { prefix_len = all.0; gives = all.1 }
 
 pub returns-in-Of : goal.returns-in-Of
 unfolding sums_of
-returns-in-Of c = let all = (let sums2 = c.sums-in-Of-1 in
-    let put-sums = c.put_sums-end in
-    let conclude = c.conclude in
-    answered (gives_as (printed-good summed _ _ (ap sums_told sums2.given.1)) (conclude.ensures _ _ put-sums.ensures))) in record { prefix_len = all.0; gives = all.1 }
+returns-in-Of c = let all = (answered (gives_as (printed-good summed _ _ (ap sums_told c.in-Of.is)) (c.conclude.ensures _ _ c.put_sums-end.ensures))) in record { prefix_len = all.0; gives = all.1 }
