@@ -214,11 +214,11 @@ module _ (f : List ℕ) where
 
     own-sound : (k κ : ℕ) → OfNode f w.row k κ → Meant own k κ
     own-sound k κ (inl (l, h, t)) =
-        let i = z.begins in let a = z.meta_at_lem in
+        let i = z.begins in let a = z.meta_at in
         let (κ', u, v) = run-had (eqb 1) (head-uses tt s) f at z.is.headed k (omega arith) (omega arith) in
         inl (in_front k κ (had_left k κ H (M ++ (U ++ R)) (subst (Had H k) (is_one 1 κ' u ∙ t) v)))
     own-sound k κ (inr (inl (l, h, t))) =
-        let a = z.meta_at_lem in let b = z.meta_end_lem in
+        let a = z.meta_at in let b = z.meta_end in
         let (κ', u, v) = run-had of_meta (metadata-uses tt tt (item-kind of_meta tt tt) x m.nodes (at + z.is.h.header.0) m) f z.is.p
         z.is.told k (omega arith) (omega arith) in
         elim (of_meta_lem κ' u) [
@@ -227,7 +227,7 @@ module _ (f : List ℕ) where
           | inr (inr y) ↦ inr (sym t, inr (in_meta k 4 (subst (Had M k) y v)))
         ]
     own-sound k κ (inr (inr (inl (l, h, t)))) =
-        let b = z.meta_end_lem in let d = z.header-end in
+        let b = z.meta_end in let d = z.header-end in
         let (κ', u, v) = run-had (eqb 5) (unpackers-use tt z.is.h.contained (at + z.is.h.header.0)) f z.is.p' z.is.left.unpacked k (omega arith) (omega arith) in
         inl (in_front k κ (had_right k κ H (M ++ (U ++ R)) (had_right k κ M (U ++ R) (had_left k κ U R (subst (Had U k) (is_one 5 κ' u ∙ t) v)))))
     own-sound k κ (inr (inr (inr (inl (l, h, t))))) =
@@ -248,7 +248,7 @@ module _ (f : List ℕ) where
             let es = trace (front x parent depth s m) f at in
             let (l, u) = covered es at k (chain (front x parent depth s m) f at) (had_covers es k κ y) in
             let v = ends (front x parent depth s m) f at e in
-            let i = z.begins in let a = z.meta_at_lem in let b = z.meta_end_lem in let d = z.header-end in
+            let i = z.begins in let a = z.meta_at in let b = z.meta_end in let d = z.header-end in
             elim (dec_lt k z.is.p) [
               | yes n ↦ (1, inl (omega arith, omega arith, refl))
               | no n ↦ elim (dec_lt k z.is.p') [

@@ -177,8 +177,8 @@ front-is x parent depth s m f at {w} {q} e =
 pub record Ordered (x : Context) (parent depth : ℕ) (s : Bounds) (m : Made) (f : List ℕ) (at : ℕ) (w : Front) (q : ℕ) : Type 0 where
   pub is : FrontIs x parent depth s m f at w q
   pub begins : w.row.start ≡ at
-  pub meta_at_lem : meta_at f w.row ≡ is.p
-  pub meta_end_lem : meta_end f w.row ≡ is.p'
+  pub meta_at : meta_at f w.row ≡ is.p
+  pub meta_end : meta_end f w.row ≡ is.p'
   pub header-end : w.row.start + w.row.header ≡ is.left.p
   pub apart : (is.p < is.p') × (is.p' < is.left.p)
 
@@ -203,8 +203,8 @@ front_ordered x parent depth s m f at {w} {q} e =
     record {
       is = y;
       begins = subst (λ (v : Node). v.start ≡ at) y.row_is refl;
-      meta_at_lem = subst (λ (v : Node). meta_at f v ≡ y.p) y.row_is r₁;
-      meta_end_lem = subst (λ (v : Node). meta_end f v ≡ y.p') y.row_is r₂;
+      meta_at = subst (λ (v : Node). meta_at f v ≡ y.p) y.row_is r₁;
+      meta_end = subst (λ (v : Node). meta_end f v ≡ y.p') y.row_is r₂;
       header-end = subst (λ (v : Node). v.start + v.header ≡ l.p) y.row_is (omega arith);
       apart = (omega arith, omega arith);
     }
@@ -219,7 +219,7 @@ front-spends x parent depth s m f at {w} {q} e =
     let unpack = unpackers h.contained inner in
     let refer = reference x.header_end x.size h.contained stop in
     let others-of = rest x.header_end x.size h.contained inner stop in
-    let i = z.begins in let j = z.meta_at_lem in let k = z.meta_end_lem in let n = z.header-end in
+    let i = z.begins in let j = z.meta_at in let k = z.meta_end in let n = z.header-end in
     let sum : (t : ℕ → Bool) → count t (trace (front x parent depth s m) f at)
     ≡ count t (trace (head s) f at) + (count t (trace meta f y.p) + (count t (trace unpack f y.p') + count t (trace refer f l.p))) =
     λ t. omega (

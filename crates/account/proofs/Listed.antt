@@ -31,7 +31,7 @@ module _ (lim : Limits) (f : List ℕ) where
   module _ (t : Totals) where
     pub account-listed : Among (of_reader ++ refusals) (allowed t (ask (read_file lim f) (kinds_of lim f)))
     unfolding allowed
-    account-listed = among-if _ (leb most_files t.files) _ _ tt (wider (ask (read_file lim f) (kinds_of lim f)) alone-listed)
+    account-listed = among-if (of_reader ++ refusals) (leb most_files t.files) _ _ tt (wider (ask (read_file lim f) (kinds_of lim f)) alone-listed)
       where
         wider : (o : Result Kinds) → Among of_reader o → Among (of_reader ++ refusals) o
         wider (good k) l = tt

@@ -69,8 +69,8 @@ module _ (f : List ℕ) where
       rw (own_row x parent depth s m f at e) (
         record {
           numbers = omega (arith, y.frames);
-          metas = omega (arith, z.meta_at_lem, z.meta_end_lem, z.apart.0);
-          unpacks = omega (arith, z.meta_end_lem, z.header-end, z.apart.1);
+          metas = omega (arith, z.meta_at, z.meta_end, z.apart.0);
+          unpacks = omega (arith, z.meta_end, z.header-end, z.apart.1);
           refers = omega (arith, z.header-end, t.0);
           fronts = omega (arith, o);
         },

@@ -18,7 +18,7 @@ use Rattle.description.specs.Count.{data_read, count_at, count_of, count_in, cou
 
 read-listed : (channel resource : ℕ) (o : Out Description) → Among refusals (count_of channel resource o)
 unfolding count_of count_at
-read-listed channel resource (ok d q) = among-if _ (ltb channel d.channels && ltb resource d.resources) _ _ tt tt
+read-listed channel resource (ok d q) = among-if refusals (ltb channel d.channels && ltb resource d.resources) _ _ tt tt
 read-listed channel resource (refused n p) = tt
 
 row_listed : (f : List ℕ) (channel resource : ℕ) (x : Item) → Among refusals (count_in f channel resource x)

@@ -184,6 +184,7 @@ Taken [] k = ⊥
 Taken (r ∷ ns) k = ((r.detached ≡ 1) × (r.start ≤ k) × (k < r.start + r.size)) ⊎ Taken ns k
 
 taken-on : (ns ms : List Node) (k : ℕ) → Taken ns k → Taken (ns ++ ms) k
+taken-on [] ms k x = elim x [ ]
 taken-on (r ∷ ns) ms k (inl x) = inl x
 taken-on (r ∷ ns) ms k (inr y) = inr (taken-on ns ms k y)
 
@@ -197,11 +198,13 @@ taken-parts (r ∷ ns) ms k (inl x) = inl (inl x)
 taken-parts (r ∷ ns) ms k (inr y) = elim (taken-parts ns ms k y) [ inl z ↦ inl (inr z) | inr z ↦ inr z ]
 
 taken-after : (ns : List Node) (at k : ℕ) → From at ns → Taken ns k → at ≤ k
+taken-after [] at k h x = elim x [ ]
 taken-after (r ∷ ns) at k h (inl x) = omega arith
 taken-after (r ∷ ns) at k h (inr y) = taken-after ns at k h.1 y
 
 taken_is : (ns : List Node) (k : ℕ) → Taken ns k → is_taken ns k ≡ true
 unfolding is_taken
+taken_is [] k x = elim x [ ]
 taken_is (r ∷ ns) k (inl x) = rw (eq-eqb _ _ x.0, le-leb r.start k (omega arith), lt-ltb k (r.start + r.size) (omega arith)) refl
 taken_is (r ∷ ns) k (inr y) = rw (taken_is ns k y) (or_yes (eqb r.detached 1 && (leb r.start k && ltb k (r.start + r.size))))
 
@@ -333,6 +336,7 @@ inline_free (passed (item_row r) p n ∷ es) end size k a h = inr (inline_free e
 inline_free (passed (plain x) p n ∷ es) end size k a h = inr (inline_free es end size k a.1 h)
 
 taken_at : (ns : List Node) (k : ℕ) → Taken ns k → InDetached ns k
+taken_at [] k x = elim x [ ]
 taken_at (r ∷ ns) k (inl x) = (0, omega arith, x.0, x.1, x.2)
 taken_at (r ∷ ns) k (inr y) = let z = taken_at ns k y in (suc z.0, (let l = z.1 in omega arith), z.2, z.3, z.4)
 

@@ -90,6 +90,7 @@ module _ {K W : Type 0} where
 -- ---- rows and bytes of a log
 
 taken_in : (size : ℕ) (ns : List Node) → ((i : ℕ) → i < length ns → NodeIn size (node_at ns i)) → (k : ℕ) → Taken ns k → k < size
+taken_in size [] h k x = elim x [ ]
 taken_in size (r ∷ ns) h k (inl (a, b, c)) = let z = (h 0 (omega arith)).1 in omega arith
 taken_in size (r ∷ ns) h k (inr y) = taken_in size ns (λ i l. h (suc i) (omega arith)) k y
 

@@ -22,7 +22,7 @@ module _ (f : List ℕ) (w : Wanted) where
   among-listed : (rs : List Numbered) → Among refusals (among f w rs)
   unfolding among
   among-listed [] = tt
-  among-listed (r ∷ rs) = among-if _ (matches f w r.item) _ _ tt (among-listed rs)
+  among-listed (r ∷ rs) = among-if refusals (matches f w r.item) _ _ tt (among-listed rs)
 
   look-listed : (is : List Item) (k : ℕ) → Among refusals (look f w is k)
   unfolding look

@@ -24,7 +24,7 @@ module _ (s : List ℕ) where
 
   frame-in : (i : ℕ) (o : Out (List TagFrame)) → frames_of s ≡ o → Among frame_refusals (frame_in i o)
   unfolding frame_in
-  frame-in i (ok xs q) e = among-if _ (ltb i (length xs)) _ _ tt tt
+  frame-in i (ok xs q) e = among-if frame_refusals (ltb i (length xs)) _ _ tt tt
   frame-in i (refused n p) e = allowed-front count_refusals (no_such_row ∷ []) n p (refused-tag s e).0
 
   count-place : (o : Out (List TagFrame)) → frames_of s ≡ o → {n p : ℕ} → count_in o ≡ bad n p → p ≤ length s

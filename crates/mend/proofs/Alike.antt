@@ -45,6 +45,7 @@ covers-behind [] fs k x = x
 covers-behind (e ∷ es) fs k x = inr (covers-behind es fs k x)
 
 none-twice : {K W : Type 0} (es fs : List (Event K W)) (k : ℕ) → Separate (es ++ fs) → Covers es k → Covers fs k → ⊥
+none-twice [] fs k s x y = elim x [ ]
 none-twice (e ∷ es) fs k s (inl x) y = s.0 k x (covers-behind es fs k y)
 none-twice (e ∷ es) fs k s (inr x) y = none-twice es fs k s.1 x y
 

@@ -88,7 +88,7 @@ use Rattle.promises.specs.Promises.{Tables, no_tables, of_file, of_written, Lent
 use Rattle.promises.specs.Promises.{Outcome, saying, row_tables, tables_lent, lent, holding, answer_to, leaves, outcome, resource, IsRefusal, Accepted, InTables, new_file, AnsweredOf, Shows, IsAnswer, Demand1, FitsExactly, StepsMake, FirstApplies, UntilRoot, LieApart}
 use Rattle.promises.specs.Promises.{OnlyThere, PrivateAlone, AlikeIn, EachAlike, OutcomesAlike, Demand3, InTurn, Correction, Corrects, text_of, ButForMark, Undone, ExactlyThere, ThereAndBack, BackAndThere, Account, Accounts, CountsFrames, FramesApart, StaysInTag}
 use Rattle.promises.specs.Calls as calls
-use Rattle.promises.specs.Calls.{Called, left, Over, Fills, read-tree, find-item, find-own, resolve-row, copy-resource, count-for, judge, account, write-sheet, write-sheet2, to-utf8, to-utf16, move-sheet, tag-frame, correct_title_lem, mend-header, EachLeaves, CallsAlike, PartsAlike}
+use Rattle.promises.specs.Calls.{Called, left, Over, Fills, read-tree, find-item, find-own, resolve-row, copy-resource, count-for, judge, account, write-sheet, write-sheet2, to-utf8, to-utf16, move-sheet, tag-frame, correct-title, mend-header, EachLeaves, CallsAlike, PartsAlike}
 
 -- ---- which data may not differ
 
@@ -469,11 +469,13 @@ over-called : {A : Type 0} (question : Asks A) (values : A → List ℕ) {nodes 
     → let ls : Sizes = length nodes ∷ length items ∷ [] in let r = ask (reads ls f) (question f) in left values says (t ∷ u ∷ []) ≡ left values
     r (map (holding f (saying values r) r) (row_tables ls (λ a. f)))
 unfolding reads
-over-called question values k = made (ap (saying values) k.answers) (two (k.in_nodes_lem ∙ in_nodes_lem _ _ _ _ _) (k.in_items_lem ∙ in_items_lem _ _ _ _ _) refl)
+over-called {nodes = nodes} {items = items} {f = f} question values k =
+    let ws : List ℕ = saying values (ask (reads (length nodes ∷ length items ∷ []) f) (question f)) in
+    made (ap (saying values) k.answers) (two (k.in_nodes ∙ in_nodes_lem f ws _ _ _) (k.in_items ∙ in_items_lem f ws _ _ _) refl)
 
 room-called : (f : List ℕ) (r : Result (List ℕ)) {buffer v : List ℕ} {says : Result ℕ} → Fills r buffer says v → left one_value says (v ∷ [])
     ≡ left size_value r (holding f (saying size_value r) r (bytes (length buffer)) ∷ [])
-room-called f r {buffer = b} k = let w = in_buffer f _ (length b) r in made (ap (saying one_value) k.answers ∙ w.0) (one (k.in_buffer ∙ w.1))
+room-called f r {buffer = b} k = let w = in_buffer f (saying size_value r) (length b) r in made (ap (saying one_value) k.answers ∙ w.0) (one (k.in_buffer ∙ w.1))
 
 pub called : {q : Question} {lent : List (List ℕ)} {f : List ℕ} {o : Outcome} → Called q lent f o → o ≡ outcome q (map length lent) f
 unfolding outcome leaves reads
@@ -484,7 +486,7 @@ called (find-item w row r k) = over-called _ _ k
 called (find-own w row r k) = over-called _ _ k
 called (resolve-row row r k) = over-called _ _ k
 called (copy-resource {f = f} row r k v) = made (ap (saying resource_values) k.answers)
-    (two (k.in_nodes_lem ∙ in_nodes_lem _ _ _ _ _) (k.in_items_lem ∙ in_items_lem _ _ _ _ _) (one (v ∙ in_given f _ _)))
+    (two (k.in_nodes ∙ in_nodes_lem _ _ _ _ _) (k.in_items ∙ in_items_lem _ _ _ _ _) (one (v ∙ in_given f _ _)))
 called (count-for item channel resource r k) = over-called _ _ k
 called (judge r k) = over-called _ _ k
 called (account {nodes} {items} {f} totals r a b t u) =
@@ -495,7 +497,7 @@ called (write-sheet {sheet = s} r k t u) = let w = in_buffer _ _ (length s) _ in
     (two (t ∙ in_nodes_lem _ _ _ _ _) (u ∙ in_items_lem _ _ _ _ _) (one (k.in_buffer ∙ w.1)))
 called (write-sheet2 {sheet = s} r k t u) = let w = in_buffer _ _ (length s) _ in made (ap (saying one_value) k.answers ∙ w.0)
     (two (t ∙ in_nodes_lem _ _ _ _ _) (u ∙ in_items_lem _ _ _ _ _) (one (k.in_buffer ∙ w.1)))
-called (correct_title_lem {out = s} item text r k t u) =
+called (correct-title {out = s} item text r k t u) =
     let w = in_buffer _ _ (length s) _ in let x = in_written _ _ _ _ _ _ in made (ap (saying one_value) k.answers ∙ w.0) (two (t ∙ x.0) (u ∙ x.1) (one (k.in_buffer ∙ w.2)))
 called (mend-header {nodes} {items} {copy} {lines} {f} r a t u v w) =
     let x = in_mended f _ (length nodes) (length items) (length copy) (length lines) (limits (length nodes) (length items)) (asked nodes items copy lines f) in
@@ -525,8 +527,8 @@ unfolding outcome leaves reads
 parts_alike row nodes items nodes' items' en ei f g x y t t' u u' h ns is r d a b =
     let ls = length nodes ∷ length items ∷ [] in
     let w = (outcome-alike ls f g h ns is r d (resolve_row row)).1 in (
-      rw (en, ei) at b.in_nodes_lem ∙ in_nodes_lem _ _ _ _ _ ∙ w.0 ∙ sym (a.in_nodes_lem ∙ in_nodes_lem _ _ _ _ _),
-      rw (en, ei) at b.in_items_lem ∙ in_items_lem _ _ _ _ _ ∙ w.1.0 ∙ sym (a.in_items_lem ∙ in_items_lem _ _ _ _ _),
+      rw (en, ei) at b.in_nodes ∙ in_nodes_lem _ _ _ _ _ ∙ w.0 ∙ sym (a.in_nodes ∙ in_nodes_lem _ _ _ _ _),
+      rw (en, ei) at b.in_items ∙ in_items_lem _ _ _ _ _ ∙ w.1.0 ∙ sym (a.in_items ∙ in_items_lem _ _ _ _ _),
       rw (given-part a, given-part b, en, ei) (resource-there ls f g d.same_length (reads_same ls f g h ns is r d) row),
     )
 

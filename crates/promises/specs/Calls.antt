@@ -53,8 +53,8 @@ left values r holds = record { answer = saying values r; holds = holds }
 -- a call over a file with two tables
 pub record Over {A : Type 0} (question : Asks A) (nodes items f : List ℕ) (says : Result A) (t u : List ℕ) : Type 0 where
   pub answers : says ≡ answered nodes items f question
-  pub in_nodes_lem : t ≡ nodes_left nodes items f question
-  pub in_items_lem : u ≡ items_left nodes items f question
+  pub in_nodes : t ≡ nodes_left nodes items f question
+  pub in_items : u ≡ items_left nodes items f question
 
 -- a call that fills a buffer with what it was to write
 pub record Fills (bytes : Result (List ℕ)) (buffer : List ℕ) (says : Result ℕ) (v : List ℕ) : Type 0 where
@@ -108,7 +108,7 @@ pub data Called : Question → (lent : List (List ℕ)) → (file : List ℕ) �
       → t ≡ nodes_left nodes items f (write2 (length sheet)) → u ≡ items_left nodes items f (write2 (length sheet))
       → Called write_sheet2 (nodes ∷ items ∷ sheet ∷ []) f (left one_value (written.told r) (t ∷ u ∷ v ∷ []))
   -- title::correct_title
-  correct_title_lem : {nodes items out f t u v : List ℕ} (item : ℕ) (text : List ℕ) (r : Written)
+  correct-title : {nodes items out f t u v : List ℕ} (item : ℕ) (text : List ℕ) (r : Written)
       → Fills (answered nodes items f (title.correct_title item text (length out))) out (written.told r) v
       → t ≡ nodes_written nodes items (answered nodes items f (title.correct_title item text (length out)))
       → u ≡ items_written nodes items (answered nodes items f (title.correct_title item text (length out)))

@@ -16,7 +16,7 @@ use Rattle.resolve.specs.Resolve.{Resource, resource_of, reached, chain, resolve
 reached-listed : (r : Node) (k hops : ℕ) (two three : Result Resource) → Among refusals two → Among refusals three → Among refusals (reached r k hops two three)
 unfolding reached resource_of
 reached-listed r k hops two three a b =
-    among-if _ (not (eqb r.contained 0)) _ _ tt (among-if _ (eqb r.reference 1) _ _ tt (among-if _ (eqb r.reference 2) _ _ a (among-if _ (eqb r.reference 3) _ _ b tt)))
+    among-if refusals (not (eqb r.contained 0)) _ _ tt (among-if refusals (eqb r.reference 1) _ _ tt (among-if refusals (eqb r.reference 2) _ _ a (among-if refusals (eqb r.reference 3) _ _ b tt)))
 
 chain-listed : (left : ℕ) (ns : List Node) (k hops : ℕ) → Among refusals (chain left ns k hops)
 unfolding chain resource_of
@@ -25,12 +25,12 @@ chain-listed (suc left) ns k hops = reached-listed _ k hops _ _ tt (chain-listed
 
 pub resolve-listed : (row : ℕ) (f : List ℕ) (h : Header) (ns : List Node) (is : List Item) → Among refusals (resolve row f h ns is)
 unfolding resolve resolve_row
-resolve-listed row f h ns is = among-if _ (ltb row (length ns)) _ _ (chain-listed 4 ns row 0) tt
+resolve-listed row f h ns is = among-if refusals (ltb row (length ns)) _ _ (chain-listed 4 ns row 0) tt
 
 -- and those of the copy, which has one more
 fitting-listed : (room : ℕ) (r : Result Resource) → Among refusals r → Among copy_refusals (fitting room r)
 unfolding fitting
-fitting-listed room (good r) k = among-if _ (leb r.size room) _ _ tt tt
+fitting-listed room (good r) k = among-if copy_refusals (leb r.size room) _ _ tt tt
 fitting-listed room (bad n p) k = allowed-front refusals (no_room ∷ []) n p k
 
 pub copy-listed : (row room : ℕ) (f : List ℕ) (h : Header) (ns : List Node) (is : List Item) → Among copy_refusals (copy_into row room f h ns is)

@@ -15,8 +15,8 @@ told (resolved.Refused n p) = bad n p
 -- the second call, of a file and two tables: it gave `bytes` and left the tables t and u
 pub record Given (row : ℕ) (nodes items f bytes t u : List ℕ) : Type 0 where
   pub gives : bytes ≡ part f (answered nodes items f (resolve row))
-  pub in_nodes_lem : t ≡ nodes_left nodes items f (resolve row)
-  pub in_items_lem : u ≡ items_left nodes items f (resolve row)
+  pub in_nodes : t ≡ nodes_left nodes items f (resolve row)
+  pub in_items : u ≡ items_left nodes items f (resolve row)
 
 -- each reference 3 leads to a row
 abbrev pub Linked : List Node → Type 0

@@ -19,9 +19,13 @@ use Rattle.sheet.specs.Sheet.{label, text_of, item_line, visible_line, item_line
 use Rattle.sheet.specs.Inside.{least_text, least_line, least_lines}
 use Rattle.sheet.proofs.Lines.{text-unicode, text-plain, label-custom}
 
+-- what the lines of the rows from `from` to `end` have at least
+abbrev pub least : (items : List ℕ) (from end : ℕ) → ℕ
+least items from end = least_lines (items_from from (end - from) items)
+
 -- ---- the bytes of a line
 
-module _ (f : List ℕ) (h : Bytes f) (r : Item) (in_file_lem : ItemIn (length f) r) where
+module _ (f : List ℕ) (h : Bytes f) (r : Item) (in_file : ItemIn (length f) r) where
   -- a line has more bytes than its label and its text, by two at least
   over : length (label f r) + length (text_of f r) + 2 ≤ length (item_line f r)
   unfolding item_line tabbed
@@ -30,18 +34,18 @@ module _ (f : List ℕ) (h : Bytes f) (r : Item) (in_file_lem : ItemIn (length f
   name-least : r.kind ≡ 1 → r.name_length ≤ length (item_line f r)
   unfolding tabbed
   name-least e =
-      let x = escaped-least f r.field r.name_length (name_in r in_file_lem e) in
+      let x = escaped-least f r.field r.name_length (name_in r in_file e) in
       let y = ap length (label-custom f r e) in let z = over in
       omega arith
 
   line-by : (p : Bool) → eqb r.format 2 ≡ p → cond p (r.size / 2) r.size ≤ length (item_line f r)
   line-by true e =
-      let x = unicode-least f h r.place r.size in_file_lem.0 in
+      let x = unicode-least f h r.place r.size in_file.0 in
       let y = ap length (text-unicode f r (eqb-true r.format 2 e)) in
       let z = over in
       omega arith
   line-by false e =
-      let x = escaped-least f r.place r.size in_file_lem.0 in
+      let x = escaped-least f r.place r.size in_file.0 in
       let y = ap length (text-plain f r (eqb-false r.format 2 e)) in
       let z = over in
       omega arith

@@ -218,6 +218,7 @@ module _ {g k : List ℕ} (big : length g < 2 ^ 28) where
       (times (length cs) (version x l end before) m) p
   unfolding times
   versions_runs x l end before b lab [] ds m p w v o r h h₂ i = runs_ret
+  versions_runs x l end before b lab (c ∷ cs) [] m p w v o r h h₂ i = elim w [ ]
   versions_runs x l end before b lab (c ∷ cs) (d ∷ ds) m p (more w ws) v o r h h₂ i =
       let z = length-append (version_text c) (joined (version_texts cs)) in
       let lc = lies_left (version_text c) (joined (version_texts cs)) h in
@@ -280,6 +281,7 @@ module _ {g k : List ℕ} (big : length g < 2 ^ 28) where
       cs → Lies g p (entry_text cs) → Lies k p (entry_text ds) → p + length (entry_text cs) ≤ end → m.items + length cs ≤ x.limits.items
       → Runs g k (item x node index end m) p
   unfolding item rows_for
+  item-runs x node index end m p none y h h₂ i r = elim y [ ]
   item-runs x node index end m p (more {b = d} w none) (one {c} f a b v dc fm) h h₂ i r =
       let v' : c.version ≡ 0 = sym v in let v₂ : d.version ≡ 0 = sym w.pair.version ∙ v' in
       let ss : List (List ℕ) = field_text c ∷ vlq 0 ∷ universal_text c ∷ [] in

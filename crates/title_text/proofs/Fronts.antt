@@ -92,7 +92,7 @@ pub record Front (limits : Limits) (types : List Declared) (parent depth : ℕ) 
   pub unpacker_count : length packs ≡ r.unpacker_count
   pub parent_is : parent ≡ r.parent
   pub depth_is : depth ≡ r.depth
-  pub in_tree_lem : 0 ≡ r.detached
+  pub in_tree : 0 ≡ r.detached
   pub counted : length cs ≡ r.rows
   pub few : r.contained < 2 ^ 28
   pub node-room : m.nodes < limits.nodes
@@ -104,11 +104,11 @@ pub record Front (limits : Limits) (types : List Declared) (parent depth : ℕ) 
 -- ---- up to the reference
 
 exec-head : (g : List ℕ) (s : Bounds) (f : List ℕ) (at : ℕ) (σ : Collected) → exec (collect g) (node.head s) f at σ ≡ still (run (node.head s) f at) σ
-exec-head g s = (head-quiet (collect-ignores _ g) s).quiet
+exec-head g s = (head-quiet (collect-ignores (λ k r. content g r) g) s).quiet
 
 exec-rest : (g : List ℕ) (header_end size contained inner stop : ℕ) (f : List ℕ) (at : ℕ) (σ : Collected) → exec (collect g)
     (rest header_end size contained inner stop) f at σ ≡ still (run (rest header_end size contained inner stop) f at) σ
-exec-rest g header_end size contained inner stop = (rest-quiet (collect-ignores _ g) header_end size contained inner stop).quiet
+exec-rest g header_end size contained inner stop = (rest-quiet (collect-ignores (λ k r. content g r) g) header_end size contained inner stop).quiet
 
 -- unpackers that end where the header does, and a reference
 rest-run : (header_end size contained inner stop : ℕ) (g : List ℕ) (q : ℕ) {u : unpackers.Unpackers} {o : reference.Reference} {e : ℕ} → run
@@ -256,7 +256,7 @@ module _ (x : Context) (g : List ℕ) (big : length g < 2 ^ 28) (parent depth le
               is = _;
               next = q;
               ran = upto x g big parent depth least end m r cs n p σ f small hn (omega arith) (omega arith) ref;
-              says = row-says g r _ p parent depth _ _ _ refl f.parent_is f.depth_is (sym one) refl rows f.in_tree_lem again
+              says = row-says g r _ p parent depth _ _ _ refl f.parent_is f.depth_is (sym one) refl rows f.in_tree again
                   (body_is r.contained (part g q (p + N - q)) r.body (λ e. part-as (p + N - q) (omega (arith, alone e)) s.1.0) f.empty);
               made = refl;
               contained = refl;
@@ -274,7 +274,7 @@ module _ (x : Context) (g : List ℕ) (big : length g < 2 ^ 28) (parent depth le
               is = _;
               next = p + H + own;
               ran = upto x g big parent depth least end m r cs n p σ f small hn (omega arith) (omega arith) ref;
-              says = row-says g r _ p parent depth _ _ _ refl f.parent_is f.depth_is (sym four) refl rows f.in_tree_lem again
+              says = row-says g r _ p parent depth _ _ _ refl f.parent_is f.depth_is (sym four) refl rows f.in_tree again
                   (body_is r.contained (part g q (length r.body)) r.body (λ e. lies_part (stand_sized r.body s.1.0).1) f.empty);
               made = refl;
               contained = refl;

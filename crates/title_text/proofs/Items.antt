@@ -167,7 +167,7 @@ module _ (g : List ℕ) (big : length g < 2 ^ 28) (end p : ℕ) (c : Content) wh
       }
 
 exec-frame : (g : List ℕ) (end : ℕ) (f : List ℕ) (at : ℕ) (σ : Collected) → exec (collect g) (item_frame end) f at σ ≡ still (run (item_frame end) f at) σ
-exec-frame g end f at σ = (frame-quiet (collect-ignores _ g) end).quiet f at σ
+exec-frame g end f at σ = (frame-quiet (collect-ignores (λ k r. content g r) g) end).quiet f at σ
 
 -- ---- an item
 

@@ -216,7 +216,7 @@ pub record Level (f : List ℕ) (x : Context) (end n : ℕ) (σ : Raw) (at : ℕ
   pub texts : List (List ℕ)
   pub sizes : List Span
   pub nodes-left : τ.nodes ≡ σ.nodes ++ rows
-  pub items_left_lem : τ.items ≡ σ.items ++ contents
+  pub items_left : τ.items ≡ σ.items ++ contents
   pub count : length texts ≡ n
   pub outer-is : (ss : List Shape) (ds : List Content) → outer (map (shape f) rows ++ ss) (contents ++ ds) ≡ texts ++ outer ss ds
   pub sizes_are : (ss : List Shape) (ds : List Content) → spans (map (shape f) rows ++ ss) (contents ++ ds) ≡ sizes ++ spans ss ds
@@ -252,7 +252,7 @@ module _ (f : List ℕ) (x : Context) (end : ℕ) where
     texts = [];
     sizes = [];
     nodes-left = sym (append-nil σ.nodes);
-    items_left_lem = sym (append-nil σ.items);
+    items_left = sym (append-nil σ.items);
     count = refl;
     outer-is = λ ss ds. refl;
     sizes_are = λ ss ds. refl;
@@ -271,7 +271,7 @@ module _ (f : List ℕ) (x : Context) (end : ℕ) where
         texts = s.texts ++ t.texts;
         sizes = s.sizes ++ t.sizes;
         nodes-left = t.nodes-left ∙ ap (λ v. v ++ t.rows) s.nodes-left ∙ append_assoc σ.nodes s.rows t.rows;
-        items_left_lem = t.items_left_lem ∙ ap (λ v. v ++ t.contents) s.items_left_lem ∙ append_assoc σ.items s.contents t.contents;
+        items_left = t.items_left ∙ ap (λ v. v ++ t.contents) s.items_left ∙ append_assoc σ.items s.contents t.contents;
         count = length-append s.texts t.texts ∙ ap₂ ◌+◌ s.count t.count;
         outer-is = λ ss ds.
             rw (
@@ -322,7 +322,7 @@ module _ (f : List ℕ) (x : Context) (end : ℕ) where
         texts = whole_text r cs inner ∷ [];
         sizes = span_of r cs inner ∷ t.sizes;
         nodes-left = t.nodes-left ∙ ap (λ v. (v ++ row ∷ []) ++ t.rows) left₁ ∙ append_assoc σ.nodes (row ∷ []) t.rows;
-        items_left_lem = t.items_left_lem ∙ ap (λ v. v ++ t.contents) left₂ ∙ append_assoc σ.items cs t.contents;
+        items_left = t.items_left ∙ ap (λ v. v ++ t.contents) left₂ ∙ append_assoc σ.items cs t.contents;
         count = refl;
         outer-is = λ ss ds.
             rw (
@@ -392,7 +392,7 @@ module _ (f : List ℕ) (big : length f < 2 ^ 28) (x : Context) where
       post_weaken (post_left (post_known (post_raw f (front-says (plainly-keeps f) x parent depth least end m at (said f σ) o room r)))) λ w q τ s.
       let p : P front.Front = front x parent depth (in_tree least end) m in
       let (cs, fr, made, left, inside, wide) = s.0.0 in let es : Events = trace p f at in
-      let none_made : nodes_of es ≡ [] = no-nodes es (used f at (front-uses (λ κ. tt) (λ x. tt) (λ i. tt) x parent depth (in_tree least end) m)) in
+      let none_made : nodes_of es ≡ [] = no-nodes es (used f at (front-uses {S = passing NoNode} (λ κ. tt) (λ x. tt) (λ i. tt) x parent depth (in_tree least end) m)) in
       let kept : τ.nodes ≡ σ.nodes ++ nodes_of es = ap (λ (v : Raw). v.nodes) (s.1 ∙ keeps_rows f es σ) in (
         cs,
         fr,
@@ -457,4 +457,4 @@ module _ (f : List ℕ) (big : length f < 2 ^ 28) (x : Context) where
       let w = node-level 15 (levels 15) 0 end end (record { nodes = 0; items = 0 }) at σ o i (omega arith) in
       let t : Level f x end 1 σ at m q τ = holds w (exec-puts (keep_as f) p f at σ ∙ ap (λ o. still o τ) e) in
       let k = keeps_rows f (trace p f at) σ in
-      (t, sym t.nodes-left ∙ ap (λ (v : Raw). v.nodes) k, sym t.items_left_lem ∙ ap (λ (v : Raw). v.items) k)
+      (t, sym t.nodes-left ∙ ap (λ (v : Raw). v.nodes) k, sym t.items_left ∙ ap (λ (v : Raw). v.items) k)

@@ -15,5 +15,5 @@ use Rattle.title_text.specs.Title.{elsewhere, is_no_title, titled_file, fitting,
 pub title-listed : (i : ℕ) (text : List ℕ) (room : ℕ) (f : List ℕ) (h : Header) (ns : List Node) (is : List Item) → Among refusals (correct_title i text room f h ns is)
 unfolding correct_title fitting
 title-listed i text room f h ns is =
-    among-if _ (leb (length is) i) _ _ tt (among-if _ (elsewhere ns) _ _ tt (among-if _ (is_no_title (item_at is i)) _ _ tt
-    (among-if _ (leb (2 ^ 28) (length (titled_file i text f h ns is))) _ _ tt (among-if _ (ltb room (length (titled_file i text f h ns is))) _ _ tt tt))))
+    among-if refusals (leb (length is) i) _ _ tt (among-if refusals (elsewhere ns) _ _ tt (among-if refusals (is_no_title (item_at is i)) _ _ tt
+    (among-if refusals (leb (2 ^ 28) (length (titled_file i text f h ns is))) _ _ tt (among-if refusals (ltb room (length (titled_file i text f h ns is))) _ _ tt tt))))

@@ -242,7 +242,7 @@ module _ {f : List ℕ} {say : ℕ → Item → Content} (keeps : Keeps f say) (
         unpacker_count = packs.count;
         parent_is = refl;
         depth_is = refl;
-        in_tree_lem = refl;
+        in_tree = refl;
         counted = omega arith;
         few = few;
         node-room = room;

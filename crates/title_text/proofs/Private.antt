@@ -53,6 +53,7 @@ both false b t = absurd t
 
 free_private : (es : Events) (end size k : ℕ) → All (Inside Nothing end size).asks es → Free private_data es k → HiddenData (items_of es) k ⊎ InlineData (nodes_of es) k
 unfolding rows_of
+free_private [] end size k a x = elim x [ ]
 free_private (seen κ p ∷ es) end size k a x = free_private es end size k a x
 free_private (passed (node_row r) p n ∷ es) end size k a (inl (t, lo, hi)) =
     let w = both (eqb r.contained 0) (eqb r.reference 1) t in

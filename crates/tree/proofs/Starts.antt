@@ -90,7 +90,7 @@ none (passed (item_row r) p n ∷ es) o = none es o.1
 none (passed (plain x) p n ∷ es) o = none es o.1
 
 pub front-none : (f : List ℕ) (x : Context) (parent depth : ℕ) (s : Bounds) (m : Made) (at : ℕ) → nodes_of (trace (front x parent depth s m) f at) ≡ []
-front-none f x parent depth s m at = none _ (used f at (front-uses (λ κ. tt) (λ v. tt) (λ i. tt) x parent depth s m))
+front-none f x parent depth s m at = none _ (used f at (front-uses {S = passing NoNode} (λ κ. tt) (λ v. tt) (λ i. tt) x parent depth s m))
 
 -- ---- the rules
 
@@ -200,7 +200,7 @@ own-front f x parent depth s m at l g h only = record {
 
 no-children : (f : List ℕ) (n : ℕ) → n ≡ 0 → (end : ℕ) (body : Made → P Made) (m : Made) (at : ℕ) → nodes_of (trace (folder end (times n body m)) f at) ≡ []
 unfolding folder times ◌>>=◌
-no-children f zero e end body m at = none _ (used f at (uses.places λ q. uses.checks _ _ _ tt uses.ends))
+no-children f zero e end body m at = none _ (used {S = passing NoNode} f at (uses.places λ q. uses.checks _ _ _ tt uses.ends))
 no-children f (suc n) e end body m at = absurd (omega arith)
 
 own_row : (f : List ℕ) (d : ℕ) (x : Context) (parent : ℕ) (s : Bounds) (m : Made) (at : ℕ) → s.end.0 ≤ x.size → Owns f s parent at (node (suc d) x parent s m) at

@@ -1,10 +1,10 @@
 -- `xmf_correct_title` leaves the outcome of the correction.
 -- Assumes nothing.
-use Rattle.promises.specs.Calls.{correct_title_lem}
+use Rattle.promises.specs.Calls.{correct-title}
 use Rattle.capi.proofs.Calls.{leaves}
 use borrow.Author.Rules.{rules}
 use Rattle.capi.proofs.xmf_correct_title.Goals as goal
 
 pub returns : goal.returns
-returns c = leaves _ (correct_title_lem _ _ c.correct_title.result (record { answers = c.correct_title.ensures.answer; in_buffer = c.correct_title.ensures.out }) c.correct_title.ensures.nodes
+returns c = leaves _ (correct-title _ _ c.correct_title.result (record { answers = c.correct_title.ensures.answer; in_buffer = c.correct_title.ensures.out }) c.correct_title.ensures.nodes
     c.correct_title.ensures.items) c.put_written.ensures

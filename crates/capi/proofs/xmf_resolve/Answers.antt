@@ -6,4 +6,4 @@ use borrow.Author.Rules.{rules}
 use Rattle.capi.proofs.xmf_resolve.Goals as goal
 
 pub returns : goal.returns
-returns c = leaves _ (resolve-row _ c.resolve.result (record { answers = c.resolve.ensures.answer; in_nodes_lem = c.resolve.ensures.nodes; in_items_lem = c.resolve.ensures.items })) c.put_resolved.ensures
+returns c = leaves _ (resolve-row _ c.resolve.result (record { answers = c.resolve.ensures.answer; in_nodes = c.resolve.ensures.nodes; in_items = c.resolve.ensures.items })) c.put_resolved.ensures

@@ -6,7 +6,7 @@ use borrow.Author.Rules.{rules}
 use Rattle.frames.proofs.put_tag.Goals as goal
 
 pub returns-in-All : goal.returns-in-All
-returns-in-All c = puts-as c.args.out.now c.put_frames.new.0 0 c.put_frames.result (tag-all c.args.tag.now c.in-All.is) c.put_frames.ensures
+returns-in-All c = puts-as c.args.out.now c.put_frames.new.out 0 c.put_frames.result (tag-all c.args.tag.now c.in-All.is) c.put_frames.ensures
 
 pub returns-in-One : goal.returns-in-One
-returns-in-One c = puts-as c.args.out.now c.put_one.new.0 0 c.put_one.result (tag_one c.args.tag.now c.in-One.is) c.put_one.ensures
+returns-in-One c = puts-as c.args.out.now c.put_one.new.out 0 c.put_one.result (tag_one c.args.tag.now c.in-One.is) c.put_one.ensures

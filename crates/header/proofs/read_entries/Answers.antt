@@ -24,7 +24,7 @@ overflow_add-made c = omega (arith, c.loop-left.invariant.1.few)
 
 pub loop-left-preserved : goal.loop-left-preserved
 loop-left-preserved c = (
-  c.read_entry.auto.1.1.0 ∙ c.loop-left.invariant.0,
+  c.read_entry.auto.types ∙ c.loop-left.invariant.0,
   entries-on c.loop-left.invariant.1 c.loop-left-test.true _ _
       c.read_entry.ensures c.in-To.is,
 )

@@ -39,7 +39,7 @@ loop-at-preserved c = (
   refl,
   items-on _ _ _ _ _ _ _ c.loop-at.invariant.1 c.loop-at-test.true
       (λ t. rw c.loop-at.invariant.0 at (c.read_item.ensures t)) (ap (walked _) c.in-Done.is)
-      c.read_item.auto.1.1.1.0,
+      c.read_item.auto.items,
 )
 
 pub returns : goal.returns

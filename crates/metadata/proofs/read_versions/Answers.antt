@@ -20,7 +20,7 @@ returns-in-Refused c = versions_no _ _ _ _ _ _ _ _ c.loop-left.invariant c.loop-
 
 pub loop-left-preserved : goal.loop-left-preserved
 loop-left-preserved c = versions_on _ _ _ _ _ _ _ _ c.loop-left.invariant c.loop-left-test.true c.read_version.ensures
-    (ap (walked _) c.in-Done.is) c.read_version.auto.1.1.1.0
+    (ap (walked _) c.in-Done.is) c.read_version.auto.items
 
 pub returns : goal.returns
 returns c = versions_done _ _ _ _ _ _ _ _ c.loop-left.invariant c.loop-left-test.false

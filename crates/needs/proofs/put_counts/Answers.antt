@@ -40,7 +40,7 @@ returns-in-Refused-read_lists c = (
 )
 
 pub returns-in-To : goal.returns-in-To
-returns-in-To c = puts-as c.args.out.now c.put_table.new.0 c.args.to c.put_table.result
+returns-in-To c = puts-as c.args.out.now c.put_table.new.out c.args.to c.put_table.result
     (sym (whole-table _ _ _ c.args.row (was number_told (c.number.ensures meta_frame) c.in-Is.is)
     (was number_told (c.number-in-Is.ensures meta_frame) c.in-Is-number.is) (was number_told (c.number-in-Is-number.ensures meta_frame) c.in-Is-number-2.is)
     (was pass_told c.read_lists.ensures c.in-To.is))) c.put_table.ensures

@@ -18,6 +18,6 @@ pub put_counts-requires : goal.put_counts-requires
 put_counts-requires c = c.requires.0
 
 pub returns : goal.returns
-returns c = puts-as c.args.out.now c.put_counts.new.0 c.args.to c.put_counts.result
+returns c = puts-as c.args.out.now c.put_counts.new.out c.args.to c.put_counts.result
     (row_told c.args.file.now c.args.row c.args.item c.if-item-eq1.false c.is_description.ensures c.if-not-is_description.false)
     c.put_counts.ensures

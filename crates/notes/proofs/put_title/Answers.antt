@@ -11,7 +11,7 @@ pub returns-then-n-gt196608 : goal.returns-then-n-gt196608
 returns-then-n-gt196608 c = counts-as (field-none _ _ c.put_row_text-n.ensures c.title_buffer-text.ensures c.if-n-gt196608.true) c.put_byte-next.ensures
 
 pub slice_bounds-put_safe-end : goal.slice_bounds-put_safe-end
-slice_bounds-put_safe-end c = (prefix_len_of_le c.put_row_text-n.result c.put_row_text-n.new.0 (omega (arith, c.if-n-gt196608.false, c.put_row_text-n.auto.out, c.title_buffer-text.ensures))).1
+slice_bounds-put_safe-end c = (prefix_len_of_le c.put_row_text-n.result c.put_row_text-n.new.out (omega (arith, c.if-n-gt196608.false, c.put_row_text-n.auto.out, c.title_buffer-text.ensures))).1
 
 pub returns : goal.returns
 returns c = counts-as (field_is _ _ c.put_row_text-n.ensures c.title_buffer-text.ensures c.if-n-gt196608.false) (counts-then c.put_byte-next.ensures c.put_safe.ensures)

@@ -17,14 +17,14 @@ pub returns-in-Refused : goal.returns-in-Refused
 returns-in-Refused c = record {
   gives = part_none c.args.file.now c.resolve.result c.resolve.ensures.answer
       c.in-Refused.is;
-  in_nodes_lem = c.resolve.ensures.nodes;
-  in_items_lem = c.resolve.ensures.items;
+  in_nodes = c.resolve.ensures.nodes;
+  in_items = c.resolve.ensures.items;
 }
 
 pub returns-in-At : goal.returns-in-At
 returns-in-At c = record {
   gives = part_at c.args.file.now c.resolve.result c.resolve.ensures.answer
       c.in-At.is;
-  in_nodes_lem = c.resolve.ensures.nodes;
-  in_items_lem = c.resolve.ensures.items;
+  in_nodes = c.resolve.ensures.nodes;
+  in_items = c.resolve.ensures.items;
 }

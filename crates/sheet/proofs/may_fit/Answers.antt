@@ -5,13 +5,10 @@ use mathlib.Core.List.{List}
 use Prim.Native.Nat.{ℕ, ◌+◌, ◌-◌, ◌≤◌}
 use Rattle.rows.specs.Rows.{items_from}
 use Rattle.sheet.specs.Inside.{least_line, least_lines}
-use Rattle.sheet.proofs.Least.{over-room, in_room, least_on, least-end}
+use Rattle.sheet.proofs.Least.{least, over-room, in_room, least_on, least-end}
 use native.Mathlib.Omega.{arith}
 use borrow.Author.Rules.{rules}
 use Rattle.sheet.proofs.may_fit.Goals as goal
-
-abbrev least : (items : List ℕ) (from end : ℕ) → ℕ
-least items from end = least_lines (items_from from (end - from) items)
 
 pub returns-then-size-to : goal.returns-then-size-to
 returns-then-size-to c = over-room (c.args.to + least c.args.items.now c.args.from c.args.end) c.args.size (omega (arith, c.if-size-to.true))

@@ -5,7 +5,7 @@ use mathlib.Core.List.{List}
 use Prim.Native.Nat.{ℕ, ◌+◌, ◌-◌, ◌≤◌}
 use Rattle.rows.specs.Rows.{items_from}
 use Rattle.sheet.specs.Inside.{least_line, least_lines}
-use Rattle.sheet.proofs.Least.{over-room, in_room, least_on, least-end}
+use Rattle.sheet.proofs.Least.{least, over-room, in_room, least_on, least-end}
 use native.Mathlib.Omega.{arith}
 use borrow.Author.Rules.{rules}
 use Rattle.sheet.proofs.may_fit.Given as goal

@@ -27,6 +27,6 @@ returns c = let e = sym (row_is c.args.nodes.now c.args.count c.args.known (omeg
   λ l. absurd (omega (arith, c.if-count-known.false)),
   λ l. record {
     first-is = c.lesser.ensures ∙ ap (λ (r : Node). min r.start c.args.span.first.0) e;
-    beyond-is = c.greater.ensures ∙ ap (λ (r : Node). max c.args.span.beyond.0 (r.start + r.size)) e;
+    beyond_is = c.greater.ensures ∙ ap (λ (r : Node). max c.args.span.beyond.0 (r.start + r.size)) e;
   },
 )

@@ -59,29 +59,29 @@ pub put_part-f-requires : goal.put_part-f-requires
 put_part-f-requires c = omega (arith, c.requires.inside)
 
 pub slice_bounds-put_tree-end : goal.slice_bounds-put_tree-end
-slice_bounds-put_tree-end c = omega (arith, c.measure_tree-tree.kept)
+slice_bounds-put_tree-end c = omega (arith, c.measure_tree-tree.auto)
 
 pub slice_bounds-put_tree-end-2 : goal.slice_bounds-put_tree-end-2
-slice_bounds-put_tree-end-2 c = omega (arith, c.measure_tree-tree.kept)
+slice_bounds-put_tree-end-2 c = omega (arith, c.measure_tree-tree.auto)
 
 pub slice_bounds-put_tree-end-3 : goal.slice_bounds-put_tree-end-3
-slice_bounds-put_tree-end-3 c = omega (arith, c.measure_tree-tree.kept)
+slice_bounds-put_tree-end-3 c = omega (arith, c.measure_tree-tree.auto)
 
 pub slice_bounds-put_tree-end-4 : goal.slice_bounds-put_tree-end-4
-slice_bounds-put_tree-end-4 c = omega (arith, c.measure_tree-tree.kept)
+slice_bounds-put_tree-end-4 c = omega (arith, c.measure_tree-tree.auto)
 
 pub slice_bounds-put_tree-end-5 : goal.slice_bounds-put_tree-end-5
-slice_bounds-put_tree-end-5 c = omega (arith, c.measure_tree-tree.kept)
+slice_bounds-put_tree-end-5 c = omega (arith, c.measure_tree-tree.auto)
 
 pub put_tree-g-requires : goal.put_tree-g-requires
 put_tree-g-requires c = record {
   rows = (c.requires.rows, c.measure_tree-tree.ensures.measured);
   room = (
-    omega (arith, c.measure_tree-tree.kept),
-    omega (arith, c.measure_tree-tree.kept),
-    omega (arith, c.measure_tree-tree.kept),
-    omega (arith, c.measure_tree-tree.kept),
-    omega (arith, c.measure_tree-tree.kept),
+    omega (arith, c.measure_tree-tree.auto),
+    omega (arith, c.measure_tree-tree.auto),
+    omega (arith, c.measure_tree-tree.auto),
+    omega (arith, c.measure_tree-tree.auto),
+    omega (arith, c.measure_tree-tree.auto),
   );
   small = omega (arith, c.measure_tree-tree.ensures.tree, c.if-tree-eq-SIZE_STOP.left);
 }

@@ -7,21 +7,21 @@ use borrow.Author.Rules.{rules}
 use Rattle.title_nodes.proofs.put_row.Goals as goal
 
 pub extend-requires : goal.extend-requires
-extend-requires c = (c.requires.sizes.1.0.0, omega (arith, c.requires.sizes.1.0.1, (c.stands.ensures c.if-stands.true).1))
+extend-requires c = (c.requires.inside.0, omega (arith, c.requires.inside.1, (c.stands.ensures c.if-stands.true).1))
 
 pub returns-then-stands : goal.returns-then-stands
 returns-then-stands c = λ (inner : ℕ) none framed small. append_as
-    (leaf_is c.args.file.now c.args.node _ c.requires.sizes.1.1 c.know_bytes.ensures none
+    (leaf_is c.args.file.now c.args.node _ c.requires.leaf c.know_bytes.ensures none
     (c.stands.ensures c.if-stands.true) framed small)
     c.extend.ensures
 
 pub put_part-a-requires : goal.put_part-a-requires
-put_part-a-requires c = c.requires.sizes.1.0.0
+put_part-a-requires c = c.requires.inside.0
 
 pub put_node-next-requires : goal.put_node-next-requires
 put_node-next-requires c = record {
   rows = c.requires.rows;
-  sizes = c.requires.sizes.0;
+  sizes = c.requires.sizes;
 }
 
 pub returns : goal.returns

@@ -21,36 +21,36 @@ pub offset_bounds-packed-i : goal.offset_bounds-packed-i
 offset_bounds-packed-i c = omega (arith, c.loop-i-test.true, c.requires.rows.0.few)
 
 pub bounds-packed-i : goal.bounds-packed-i
-bounds-packed-i c = omega (arith, c.loop-i-test.true, c.requires.rows.0.few, c.requires.room.0)
+bounds-packed-i c = omega (arith, c.loop-i-test.true, c.requires.rows.0.few, c.requires.room)
 
 pub bounds-same-i : goal.bounds-same-i
-bounds-same-i c = omega (arith, c.loop-i-test.true, c.requires.rows.0.few, c.requires.room.0)
+bounds-same-i c = omega (arith, c.loop-i-test.true, c.requires.rows.0.few, c.requires.room)
 
 pub offset_bounds-headers-i : goal.offset_bounds-headers-i
 offset_bounds-headers-i c = omega (arith, c.loop-i-test.true, c.requires.rows.0.few)
 
 pub bounds-headers-i : goal.bounds-headers-i
-bounds-headers-i c = omega (arith, c.loop-i-test.true, c.requires.rows.0.few, c.requires.room.0)
+bounds-headers-i c = omega (arith, c.loop-i-test.true, c.requires.rows.0.few, c.requires.room)
 
 pub offset_bounds-lengths-i : goal.offset_bounds-lengths-i
 offset_bounds-lengths-i c = omega (arith, c.loop-i-test.true, c.requires.rows.0.few)
 
 pub bounds-lengths-i : goal.bounds-lengths-i
-bounds-lengths-i c = omega (arith, c.loop-i-test.true, c.requires.rows.0.few, c.requires.room.0)
+bounds-lengths-i c = omega (arith, c.loop-i-test.true, c.requires.rows.0.few, c.requires.room)
 
 pub offset_bounds-metadata-i : goal.offset_bounds-metadata-i
 offset_bounds-metadata-i c = omega (arith, c.loop-i-test.true, c.requires.rows.0.few)
 
 pub bounds-metadata-i : goal.bounds-metadata-i
-bounds-metadata-i c = omega (arith, c.loop-i-test.true, c.requires.rows.0.few, c.requires.room.0)
+bounds-metadata-i c = omega (arith, c.loop-i-test.true, c.requires.rows.0.few, c.requires.room)
 
 pub put_row-run-requires : goal.put_row-run-requires
 put_row-run-requires c = let laid = c.requires.rows.1.laid _ (omega arith) c.loop-i-test.true in
     record {
       rows = (inside-here c.requires.rows.0 c.loop-i.invariant c.loop-i-test.true c.node_at-node.ensures, c.requires.rows.0.small, omega arith, items-room c.requires.rows.0 c.loop-i.invariant c.loop-i-test.true c.node_at-node.ensures);
-      sizes = (texts-row c.requires.rows.0 c.loop-i.invariant c.loop-i-test.true c.node_at-node.ensures laid c.requires.room.1, packed-row c.requires.rows.0 c.loop-i.invariant c.loop-i-test.true c.node_at-node.ensures laid c.requires.room.1);
+      sizes = (texts-row c.requires.rows.0 c.loop-i.invariant c.loop-i-test.true c.node_at-node.ensures laid c.requires.small, packed-row c.requires.rows.0 c.loop-i.invariant c.loop-i-test.true c.node_at-node.ensures laid c.requires.small);
       inside = (c.loop-i.invariant.inside, node-here c.requires.rows.0 c.loop-i.invariant c.loop-i-test.true c.node_at-node.ensures);
-      leaf = leaf_row c.requires.rows.0 c.loop-i.invariant c.loop-i-test.true c.node_at-node.ensures laid c.requires.room.1;
+      leaf = leaf_row c.requires.rows.0 c.loop-i.invariant c.loop-i-test.true c.node_at-node.ensures laid c.requires.small;
     }
 
 pub overflow_add-i : goal.overflow_add-i
@@ -61,7 +61,7 @@ loop-i-smaller c = omega (arith, c.loop-i-test.true)
 
 pub loop-i-preserved : goal.loop-i-preserved
 loop-i-preserved c = putting-row c.requires.rows.0 c.loop-i.invariant c.loop-i-test.true c.node_at-node.ensures
-    (c.requires.rows.1.laid _ (omega arith) c.loop-i-test.true) c.requires.room.1
+    (c.requires.rows.1.laid _ (omega arith) c.loop-i-test.true) c.requires.small
     c.put_row-run.ensures
 
 pub put_part-requires : goal.put_part-requires

@@ -7,4 +7,4 @@ use Rattle.titles.proofs.make_corrected.Goals as goal
 
 pub returns : goal.returns
 returns c = gives_as (corrected-as _ c.node_table-nodes.ensures c.item_table-items.ensures _ _ _)
-    (c.settle.ensures _ _ c.correct_title-written.auto.1.1.1.1.1.0 c.correct_title-written.ensures.answer c.correct_title-written.ensures.out)
+    (c.settle.ensures _ _ c.correct_title-written.auto.out c.correct_title-written.ensures.answer c.correct_title-written.ensures.out)

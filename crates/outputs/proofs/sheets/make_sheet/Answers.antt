@@ -7,4 +7,4 @@ use Rattle.outputs.proofs.sheets.make_sheet.Goals as goal
 
 pub returns : goal.returns
 returns c = gives_as (sheet_as _ c.node_table-nodes.ensures c.item_table-items.ensures _ _ _)
-    (c.settle.ensures _ _ c.write_edition-written.auto.1.1.1.1.0 c.write_edition-written.ensures.answer c.write_edition-written.ensures.text)
+    (c.settle.ensures _ _ c.write_edition-written.auto.text c.write_edition-written.ensures.answer c.write_edition-written.ensures.text)

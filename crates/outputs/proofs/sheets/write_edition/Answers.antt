@@ -4,7 +4,7 @@ use borrow.Author.Rules.{rules}
 use Rattle.outputs.proofs.sheets.write_edition.Goals as goal
 
 pub returns-then-second : goal.returns-then-second
-returns-then-second c = let all = (rw c.if-second.true (c.write_sheet2.ensures.answer, c.write_sheet2.ensures.sheet)) in record { answer = all.0; text = all.1 }
+returns-then-second c = record { answer = rw c.if-second.true c.write_sheet2.ensures.answer; text = rw c.if-second.true c.write_sheet2.ensures.sheet }
 
 pub returns : goal.returns
-returns c = let all = (rw c.if-second.false (c.write_sheet.ensures.answer, c.write_sheet.ensures.sheet)) in record { answer = all.0; text = all.1 }
+returns c = record { answer = rw c.if-second.false c.write_sheet.ensures.answer; text = rw c.if-second.false c.write_sheet.ensures.sheet }

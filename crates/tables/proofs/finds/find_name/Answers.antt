@@ -4,7 +4,7 @@ use borrow.Author.Rules.{rules}
 use Rattle.tables.proofs.finds.find_name.Goals as goal
 
 pub returns-then-climbs : goal.returns-then-climbs
-returns-then-climbs c = let all = (rw c.if-climbs.true (c.find_custom.ensures.answer, c.find_custom.ensures.items)) in record { answer = all.0; items = all.1 }
+returns-then-climbs c = record { answer = rw c.if-climbs.true c.find_custom.ensures.answer; items = rw c.if-climbs.true c.find_custom.ensures.items }
 
 pub returns : goal.returns
-returns c = let all = (rw c.if-climbs.false (c.find_own_custom.ensures.answer, c.find_own_custom.ensures.items)) in record { answer = all.0; items = all.1 }
+returns c = record { answer = rw c.if-climbs.false c.find_own_custom.ensures.answer; items = rw c.if-climbs.false c.find_own_custom.ensures.items }
