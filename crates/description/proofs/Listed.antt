@@ -23,8 +23,8 @@ read-listed channel resource (refused n p) = tt
 
 row_listed : (f : List ℕ) (channel resource : ℕ) (x : Item) → Among refusals (count_in f channel resource x)
 unfolding count_in
-row_listed f channel resource x = among-if _ (is_description x) _ _ (read-listed channel resource (data_read f x)) tt
+row_listed f channel resource x = among-if refusals (is_description x) _ _ (read-listed channel resource (data_read f x)) tt
 
 pub count-listed : (item channel resource : ℕ) (f : List ℕ) (h : Header) (ns : List Node) (is : List Item) → Among refusals (count_for item channel resource f h ns is)
 unfolding count_for count_row
-count-listed item channel resource f h ns is = among-if _ (ltb item (length is)) _ _ (row_listed f channel resource (item_at is item)) tt
+count-listed item channel resource f h ns is = among-if refusals (ltb item (length is)) _ _ (row_listed f channel resource (item_at is item)) tt

@@ -192,8 +192,8 @@ module _ {f ws vs : List ℕ} {n m : ℕ} (t : Tables f ws vs n m) where
     rows_are : end ≡ first_row (nodes_in n ws) j + r.rows
     rows_are = a ∙ ap (first_row (nodes_in n ws)) q ∙ first_next (nodes_in n ws) j in_list ∙ ap (λ (x : Node). first_row (nodes_in n ws) j + x.rows) (node_at_lem ws n j l ∙ sym e)
 
-    pub rows_in : r.rows ≤ end
-    rows_in = omega (arith, rows_are)
+    pub rows_in_lem : r.rows ≤ end
+    rows_in_lem = omega (arith, rows_are)
 
     pub end-in : end ≤ m
     end-in =

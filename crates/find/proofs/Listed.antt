@@ -35,8 +35,8 @@ module _ (f : List ℕ) (w : Wanted) where
 
 pub find-listed : (w : Wanted) (row : ℕ) (f : List ℕ) (h : Header) (ns : List Node) (is : List Item) → Among refusals (find w row f h ns is)
 unfolding find nearest
-find-listed w row f h ns is = among-if _ (ltb row (length ns)) _ _ (first-listed f w is (path ns row)) tt
+find-listed w row f h ns is = among-if refusals (ltb row (length ns)) _ _ (first-listed f w is (path ns row)) tt
 
 pub find-own_listed : (w : Wanted) (row : ℕ) (f : List ℕ) (h : Header) (ns : List Node) (is : List Item) → Among refusals (find_own w row f h ns is)
 unfolding find_own
-find-own_listed w row f h ns is = among-if _ (ltb row (length ns)) _ _ (look-listed f w is row) tt
+find-own_listed w row f h ns is = among-if refusals (ltb row (length ns)) _ _ (look-listed f w is row) tt

@@ -469,7 +469,7 @@ over-called : {A : Type 0} (question : Asks A) (values : A → List ℕ) {nodes 
     → let ls : Sizes = length nodes ∷ length items ∷ [] in let r = ask (reads ls f) (question f) in left values says (t ∷ u ∷ []) ≡ left values
     r (map (holding f (saying values r) r) (row_tables ls (λ a. f)))
 unfolding reads
-over-called {nodes = nodes} {items = items} {f = f} question values k =
+over-called question values {nodes = nodes} {items = items} {f = f} k =
     let ws : List ℕ = saying values (ask (reads (length nodes ∷ length items ∷ []) f) (question f)) in
     made (ap (saying values) k.answers) (two (k.in_nodes ∙ in_nodes_lem f ws _ _ _) (k.in_items ∙ in_items_lem f ws _ _ _) refl)
 

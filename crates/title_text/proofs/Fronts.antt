@@ -30,7 +30,7 @@ use Rattle.node.specs.declared.Unpackers as unpackers
 use Rattle.node.specs.declared.Reference as reference
 use Rattle.node.specs.declared.Front as front
 use Rattle.node.proofs.Quiet.{head-quiet, rest-quiet}
-use Rattle.title_text.specs.Description.{Content, Shape, shape, answer, unpacker_text}
+use Rattle.title_text.specs.Description.{Content, Shape, shape, answer, unpacker_text, content}
 use Rattle.title_text.specs.Text.{items_text, header_of, framed, own_text, node_text, whole_text}
 use Rattle.title_text.proofs.Sizes.{framed-length, framed-header, framed-most}
 use Rattle.title_text.proofs.Collecting.{Collected, collect, collect-ignores, with_items}

@@ -83,7 +83,7 @@ put_tree-g-requires c = record {
     omega (arith, c.measure_tree-tree.auto),
     omega (arith, c.measure_tree-tree.auto),
   );
-  small = omega (arith, c.measure_tree-tree.ensures.tree, c.if-tree-eq-SIZE_STOP.left);
+  small = omega (arith, c.measure_tree-tree.ensures.tree, c.if-tree-eq-SIZE_STOP.false);
 }
 
 pub put_part-requires : goal.put_part-requires
