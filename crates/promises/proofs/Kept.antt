@@ -26,6 +26,7 @@ use Rattle.file.specs.Reading.{Reading, rows, refusal, read_file, answer_of, nod
 use Rattle.rows.specs.Rows.{item_at}
 use Rattle.file.specs.Told as tree
 use Rattle.file.specs.Asking.{Result, good, bad, ask, kept_nodes, kept_items, written_nodes, written_items, Asks, counts}
+use Rattle.file.specs.Asking as asking
 use Rattle.file.specs.Hidden.{is_hidden}
 use Rattle.file_laws.specs.Private.{may_differ, DifferInPrivate}
 use Rattle.file_laws.proofs.Demand.{Alike, RowAlike, private_data, private_alike, rows_alike}
@@ -421,6 +422,15 @@ unfolding kept_items
 in_items_lem f ws n o (good a) = refl
 in_items_lem f ws n o (bad k p) = refl
 
+-- the same, over the words of the answer itself
+nodes_held : {A : Type 0} (values : A → List ℕ) (f : List ℕ) (n : ℕ) (o : Reading) (r : Result A)
+    → kept_nodes n o r ≡ holding f (saying values r) r (filled n (λ a. node_table n o))
+nodes_held values f n o r = in_nodes_lem f (saying values r) n o r
+
+items_held : {A : Type 0} (values : A → List ℕ) (f : List ℕ) (n : ℕ) (o : Reading) (r : Result A)
+    → kept_items n o r ≡ holding f (saying values r) r (filled n (λ a. item_table n o))
+items_held values f n o r = in_items_lem f (saying values r) n o r
+
 in_buffer : (f ws : List ℕ) (n : ℕ) (r : Result (List ℕ)) → (saying one_value (room.counted r) ≡ saying size_value r) ×
     (room.kept n r ≡ holding f ws r (filled n (room.padded n))) × (room.kept n r ≡ holding f ws r (copied n (λ g. g)))
 unfolding room.counted room.kept
@@ -486,21 +496,28 @@ called (find-item w row r k) = over-called _ _ k
 called (find-own w row r k) = over-called _ _ k
 called (resolve-row row r k) = over-called _ _ k
 called (copy-resource {f = f} row r k v) = made (ap (saying resource_values) k.answers)
-    (two (k.in_nodes ∙ in_nodes_lem _ _ _ _ _) (k.in_items ∙ in_items_lem _ _ _ _ _) (one (v ∙ in_given f _ _)))
+    (two (k.in_nodes ∙ nodes_held resource_values f _ _ _) (k.in_items ∙ items_held resource_values f _ _ _) (one (v ∙ in_given f _ _)))
 called (count-for item channel resource r k) = over-called _ _ k
 called (judge r k) = over-called _ _ k
 called (account {nodes} {items} {f} totals r a b t u) =
     let lim = limits (length nodes) (length items) in
-    let w = ap total_words (b ∙ left_is lim f totals) ∙ in_totals f _ totals (allowed totals (ask (read_file lim f) (kinds_of lim f))) in
-    made (ap (saying kind_words) a) (two (t ∙ in_nodes_lem _ _ _ _ _) (u ∙ in_items_lem _ _ _ _ _) (one w))
-called (write-sheet {sheet = s} r k t u) = let w = in_buffer _ _ (length s) _ in made (ap (saying one_value) k.answers ∙ w.0)
-    (two (t ∙ in_nodes_lem _ _ _ _ _) (u ∙ in_items_lem _ _ _ _ _) (one (k.in_buffer ∙ w.1)))
-called (write-sheet2 {sheet = s} r k t u) = let w = in_buffer _ _ (length s) _ in made (ap (saying one_value) k.answers ∙ w.0)
-    (two (t ∙ in_nodes_lem _ _ _ _ _) (u ∙ in_items_lem _ _ _ _ _) (one (k.in_buffer ∙ w.1)))
-called (correct-title {out = s} item text r k t u) =
-    let w = in_buffer _ _ (length s) _ in let x = in_written _ _ _ _ _ _ in made (ap (saying one_value) k.answers ∙ w.0) (two (t ∙ x.0) (u ∙ x.1) (one (k.in_buffer ∙ w.2)))
+    let r' : Result Kinds = allowed totals (ask (read_file lim f) (kinds_of lim f)) in
+    let w = ap total_words (b ∙ left_is lim f totals) ∙ in_totals f (saying kind_words r') totals r' in
+    made (ap (saying kind_words) a) (two (t ∙ nodes_held kind_words f _ _ _) (u ∙ items_held kind_words f _ _ _) (one w))
+called (write-sheet {nodes = nodes} {items = items} {sheet = s} {f = f} r k t u) =
+    let o : Result (List ℕ) = asking.answered nodes items f (sheet.write (length s)) in let w = in_buffer f (saying size_value o) (length s) o in
+    made (ap (saying one_value) k.answers ∙ w.0)
+    (two (t ∙ nodes_held size_value f _ _ _) (u ∙ items_held size_value f _ _ _) (one (k.in_buffer ∙ w.1)))
+called (write-sheet2 {nodes = nodes} {items = items} {sheet = s} {f = f} r k t u) =
+    let o : Result (List ℕ) = asking.answered nodes items f (sheet.write2 (length s)) in let w = in_buffer f (saying size_value o) (length s) o in
+    made (ap (saying one_value) k.answers ∙ w.0)
+    (two (t ∙ nodes_held size_value f _ _ _) (u ∙ items_held size_value f _ _ _) (one (k.in_buffer ∙ w.1)))
+called (correct-title {nodes = nodes} {items = items} {out = s} {f = f} item text r k t u) =
+    let o : Result (List ℕ) = asking.answered nodes items f (title.correct_title item text (length s)) in
+    let w = in_buffer f (saying size_value o) (length s) o in
+    let x = in_written f (saying size_value o) (length nodes) (length items) (limits (length nodes) (length items)) o in made (ap (saying one_value) k.answers ∙ w.0) (two (t ∙ x.0) (u ∙ x.1) (one (k.in_buffer ∙ w.2)))
 called (mend-header {nodes} {items} {copy} {lines} {f} r a t u v w) =
-    let x = in_mended f _ (length nodes) (length items) (length copy) (length lines) (limits (length nodes) (length items)) (asked nodes items copy lines f) in
+    let o : Result mend.Mended = asked nodes items copy lines f in let x = in_mended f (saying mended_values o) (length nodes) (length items) (length copy) (length lines) (limits (length nodes) (length items)) o in
     made (ap (saying size_words) a ∙ x.0) (two (t ∙ x.1) (u ∙ x.2) (two (v ∙ x.3) (w ∙ x.4) refl))
 called (to-utf8 r k) = room-called _ _ k
 called (to-utf16 r k) = room-called _ _ k
@@ -527,8 +544,8 @@ unfolding outcome leaves reads
 parts_alike row nodes items nodes' items' en ei f g x y t t' u u' h ns is r d a b =
     let ls = length nodes ∷ length items ∷ [] in
     let w = (outcome-alike ls f g h ns is r d (resolve_row row)).1 in (
-      rw (en, ei) at b.in_nodes ∙ in_nodes_lem _ _ _ _ _ ∙ w.0 ∙ sym (a.in_nodes ∙ in_nodes_lem _ _ _ _ _),
-      rw (en, ei) at b.in_items ∙ in_items_lem _ _ _ _ _ ∙ w.1.0 ∙ sym (a.in_items ∙ in_items_lem _ _ _ _ _),
+      rw (en, ei) at b.in_nodes ∙ nodes_held resource_values g _ _ _ ∙ w.0 ∙ sym (a.in_nodes ∙ nodes_held resource_values f _ _ _),
+      rw (en, ei) at b.in_items ∙ items_held resource_values g _ _ _ ∙ w.1.0 ∙ sym (a.in_items ∙ items_held resource_values f _ _ _),
       rw (given-part a, given-part b, en, ei) (resource-there ls f g d.same_length (reads_same ls f g h ns is r d) row),
     )
 

@@ -11,6 +11,7 @@ use Rattle.cursor.proofs.Leaves.{number-inside}
 use Rattle.description.proofs.Ways.{Picking, numbers-begun, numbers-done, numbers-no, numbers_on}
 use borrow.Author.Rules.{rules}
 use Rattle.description.proofs.read_numbers.Goals as goal
+use Rattle.description.proofs.read_numbers.Goals.{then-i-index, else-i-index}
 
 pub loop-i-init : goal.loop-i-init
 loop-i-init c = numbers-begun _ _ _ _ _
@@ -23,7 +24,7 @@ loop-i-smaller c = omega (arith, number-inside _ _ _ _ _ (was number_told (c.num
 
 pub loop-i-preserved : goal.loop-i-preserved
 loop-i-preserved c = numbers_on c.loop-i.invariant c.loop-i-test.true (was number_told (c.number.ensures meta_frame) c.in-Is.is)
-    (elim c.if-i-index.branch [ inl w ↦ inl (w.0.taken, w.1) | inr w ↦ inr (w.0.left, w.1) ])
+    (elim c.if-i-index.branch [ then-i-index w ↦ inl (w.if-i-index.true, w.kept-is) | else-i-index w ↦ inr (w.if-i-index.false, w.kept-is) ])
 
 pub returns : goal.returns
 returns c = numbers-done c.loop-i.invariant c.loop-i-test.false

@@ -9,6 +9,7 @@ use Rattle.id3.specs.Told.{read_told}
 use Rattle.id3.proofs.Ways.{Walking, walk-begun, walk-done, walk-padding, walk_no, walk-on, further}
 use borrow.Author.Rules.{rules}
 use Rattle.id3.proofs.read_frames.Goals as goal
+use Rattle.id3.proofs.read_frames.Goals.{then-count-want, else-count-want}
 
 pub loop-end-init : goal.loop-end-init
 loop-end-init c = (walk-begun _ _ _ _, omega arith)
@@ -20,7 +21,7 @@ pub loop-end-preserved : goal.loop-end-preserved
 loop-end-preserved c = (
   walk-on c.loop-end.invariant.0 c.if-end-at.false c.if-tag-at-eq0.false
       (was read_told c.read_frame.ensures c.in-Is.is)
-      (elim c.if-count-want.branch [ inl w ↦ inl (w.0.taken, w.1) | inr w ↦ inr (w.0.left, w.1) ]),
+      (elim c.if-count-want.branch [ then-count-want w ↦ inl (w.if-count-want.true, w.kept-is) | else-count-want w ↦ inr (w.if-count-want.false, w.kept-is) ]),
   omega
       (arith, further _ _ _ _ (was read_told c.read_frame.ensures c.in-Is.is)),
 )

@@ -13,6 +13,13 @@ overflow_add-result c = omega (
       c.resolve.result c.resolve.ensures.answer c.in-At.is,
 )
 
+pub slice_bounds-result-end-in-At : goal.slice_bounds-result-end-in-At
+slice_bounds-result-end-in-At c = omega (
+  arith,
+  part-inside c.args.file.now (length c.args.nodes.now) (length c.args.items.now) c.args.row
+      c.resolve.result c.resolve.ensures.answer c.in-At.is,
+)
+
 pub returns-in-Refused : goal.returns-in-Refused
 returns-in-Refused c = record {
   gives = part_none c.args.file.now c.resolve.result c.resolve.ensures.answer
