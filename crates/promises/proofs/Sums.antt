@@ -20,7 +20,7 @@ use Rattle.account.specs.declared.Kinds.{Kinds}
 use Rattle.account.specs.declared.Totals.{Totals}
 use Rattle.account.proofs.Words.{plus-at, at_most}
 use Rattle.account.proofs.Listed.{alone-listed}
-use Rattle.promises.specs.Promises.{account_bytes, Sizes, size, about, Outcome, answer_to, leaves, outcome, reads}
+use Rattle.promises.specs.Promises.{account_bytes, saying, Sizes, size, about, Outcome, answer_to, leaves, outcome, reads}
 use Rattle.promises.specs.Calls.{Called, InSum, none, next, sum_of, unread, Sums}
 use Rattle.promises.proofs.Kept.{in_totals, called, accounts}
 
@@ -120,7 +120,7 @@ further : {t : Totals} {lends : List (List ℕ)} {f : List ℕ} {o : Outcome} �
 unfolding outcome leaves
 further {t} {lends} {f} {o} c =
     let r = answer_to (map length lends) f ((about (account_bytes t)).asks (map length lends)) in
-    by (stepped {t' = by_answer t r} c (ap (λ (v : Outcome). get_or v.holds 2 []) (called c) ∙ sym (in_totals f _ t r)))
+    by (stepped {t' = by_answer t r} c (ap (λ (v : Outcome). get_or v.holds 2 []) (called c) ∙ sym (in_totals f (saying kind_words r) t r)))
   where
     by : {t' : Totals} → Step t t' o → (most_files ≤ t.files → o.answer ≡ 32 ∷ 0 ∷ []) × (t.files < most_files → (get_or o.answer 0 0 ≡ 32) → ⊥)
     by (full l a w) = (λ m. a, λ m. absurd (omega arith))
