@@ -8,7 +8,3 @@ pub mod Apart
 pub mod Listed
 pub mod Cards
 pub mod Rows
-pub mod Calls
-pub mod Shared
-pub mod Turns
-pub mod Walk

@@ -2,7 +2,6 @@
 -- Assumes nothing.
 use native.Mathlib.Omega.{arith}
 use Rattle.shelf.proofs.Words.{count, card_at}
-use borrow.Author.Rules.{rules}
 use Rattle.shelf.proofs.card_at.Goals as goal
 
 pub returns : goal.returns

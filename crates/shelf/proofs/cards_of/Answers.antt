@@ -1,7 +1,6 @@
 -- `cards_of` reads the cards one by one.
 -- Assumes nothing.
 use mathlib.Core.Path.{◌≡◌, refl, sym, ◌∙◌, ap}
-use Prim.Native.Nat.{◌-◌, ◌≤◌}
 use native.Mathlib.Omega.{arith}
 use lib.ListN.{length}
 use Rattle.shelf.specs.Words.{cards_of}
@@ -32,14 +31,14 @@ pub loop-i-smaller : goal.loop-i-smaller
 loop-i-smaller c = omega (arith, c.loop-i-test.true)
 
 pub loop-i-preserved : goal.loop-i-preserved
-loop-i-preserved c = let f : length c.args.t1 ≡ 64 = c.well_formed.0.1.0.1
+loop-i-preserved c = let f : length c.args.w ≡ 64 = c.well_formed.0.1.0.1
     in (
       omega (arith, c.loop-i-test.true),
-      read_more c.args.t1 c.loop-i.i (omega (arith, count c.args.t1))
+      read_more c.args.w c.loop-i.i (omega (arith, count c.args.w))
           c.loop-i-test.true c.card_at-c.ensures c.loop-i.invariant.1,
     )
 
 pub returns : goal.returns
-returns c = let f : length c.args.t1 ≡ 64 = c.well_formed.0.1.0.1 in let e : c.loop-i.i ≡ 16 = omega
-    (arith, c.loop-i-test.false, c.loop-i.invariant.0) in c.loop-i.invariant.1 ∙ ap (λ k. laid k (cards_of c.args.t1) blank) e ∙ laid-all 16
-    (cards_of c.args.t1) blank (omega (arith, count c.args.t1)) refl
+returns c = let f : length c.args.w ≡ 64 = c.well_formed.0.1.0.1 in let e : c.loop-i.i ≡ 16 = omega
+    (arith, c.loop-i-test.false, c.loop-i.invariant.0) in c.loop-i.invariant.1 ∙ ap (λ k. laid k (cards_of c.args.w) blank) e ∙ laid-all 16
+    (cards_of c.args.w) blank (omega (arith, count c.args.w)) refl

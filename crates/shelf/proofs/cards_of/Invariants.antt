@@ -1,13 +1,9 @@
 -- `cards_of` reads the cards one by one.
 -- Assumes nothing.
-use mathlib.Core.Path.{◌≡◌, refl, sym, ◌∙◌, ap}
+use mathlib.Core.Path.{◌≡◌}
 use Prim.Native.Nat.{◌-◌, ◌≤◌}
-use native.Mathlib.Omega.{arith}
-use lib.ListN.{length}
 use Rattle.shelf.specs.Words.{cards_of}
 use Rattle.shelf.specs.Rows.{blank, laid}
-use Rattle.shelf.proofs.Words.{count}
-use Rattle.shelf.proofs.Rows.{read_more, laid-all}
 use Rattle.shelf.proofs.cards_of.Given as goal
 
 abbrev pub invariant-loop-i : goal.invariant-loop-i

@@ -3,7 +3,6 @@
 use native.Mathlib.Omega.{arith}
 use Rattle.shelf.specs.Shelf.{label}
 use Rattle.shelf.proofs.Ways.{sheet_card, sheet_part, drop-refused, drop-done}
-use borrow.Author.Rules.{rules}
 use Rattle.shelf.proofs.drop_words.Goals as goal
 
 pub store_card-requires : goal.store_card-requires

@@ -2,7 +2,6 @@
 -- Assumes nothing.
 use mathlib.Core.Path.{◌∙◌}
 use Rattle.shelf.proofs.Parts.{filled}
-use borrow.Author.Rules.{rules}
 use Rattle.shelf.proofs.fill.Goals as goal
 
 pub returns : goal.returns

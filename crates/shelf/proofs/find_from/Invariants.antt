@@ -1,12 +1,9 @@
 -- `find_from` looks at the cards from some card on.
 -- Assumes nothing.
 use Prim.Native.Nat.{◌-◌}
-use native.Mathlib.Omega.{arith}
-use borrow.Author.Rules.{rules}
 use Rattle.shelf.specs.Shelf.{is_for, label}
 use Rattle.shelf.specs.Words.{cards_of}
-use Rattle.shelf.proofs.Words.{count}
-use Rattle.shelf.proofs.Search.{Looking, looking_begins, looking_here, looking_on, looking_ends, by_test}
+use Rattle.shelf.proofs.Search.{Looking}
 use Rattle.shelf.proofs.find_from.Given as goal
 
 abbrev pub invariant-loop-i : goal.invariant-loop-i

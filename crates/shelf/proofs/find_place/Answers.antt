@@ -4,7 +4,6 @@ use mathlib.Core.Path.{sym, ◌∙◌}
 use native.Mathlib.Omega.{arith}
 use Rattle.shelf.proofs.Words.{count}
 use Rattle.shelf.proofs.Judging.{place-damaged, place-zero, place-there, place-long, place_at, place-full}
-use borrow.Author.Rules.{rules}
 use Rattle.shelf.proofs.find_place.Goals as goal
 
 pub returns-then-is_damaged : goal.returns-then-is_damaged

@@ -5,7 +5,6 @@ use lib.ListN.{length}
 use Rattle.shelf.specs.Shelf.{label}
 use Rattle.shelf.specs.Runs.{getting}
 use Rattle.shelf.proofs.Rows.{taken-length, got_row, many-got}
-use borrow.Author.Rules.{rules}
 use Rattle.shelf.proofs.get_in.Goals as goal
 
 pub returns-then-n-gt-MOST_CARDS : goal.returns-then-n-gt-MOST_CARDS

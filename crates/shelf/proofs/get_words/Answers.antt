@@ -6,7 +6,6 @@ use Rattle.shelf.specs.Shelf.{label}
 use Rattle.shelf.specs.Runs.{answer}
 use Rattle.shelf.proofs.Parts.{part_in}
 use Rattle.shelf.proofs.Ways.{sheet_card, sheet_part, sheet_in, get_refused, get-given, get-done}
-use borrow.Author.Rules.{rules}
 use Rattle.shelf.proofs.get_words.Goals as goal
 
 pub card_at-c-requires : goal.card_at-c-requires

@@ -3,7 +3,6 @@
 use native.Mathlib.Omega.{arith}
 use lib.ListN.{length}
 use Rattle.shelf.proofs.Ways.{given-none, given-all}
-use borrow.Author.Rules.{rules}
 use Rattle.shelf.proofs.give.Goals as goal
 
 pub returns-then-out-size : goal.returns-then-out-size

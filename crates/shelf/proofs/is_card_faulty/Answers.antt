@@ -9,7 +9,6 @@ use Rattle.shelf.specs.Words.{cards_of}
 use native.Mathlib.Omega.{arith}
 use Rattle.shelf.proofs.Words.{count}
 use Rattle.shelf.proofs.Search.{faulty-free, faulty-long, faulty-twice, some-from}
-use borrow.Author.Rules.{rules}
 use Rattle.shelf.proofs.is_card_faulty.Goals as goal
 
 pub returns-then-c-eq0 : goal.returns-then-c-eq0

@@ -3,7 +3,6 @@
 use native.Mathlib.Omega.{arith}
 use Rattle.shelf.proofs.Words.{count}
 use Rattle.shelf.proofs.Judging.{damaged_many, damaged_few}
-use borrow.Author.Rules.{rules}
 use Rattle.shelf.proofs.is_damaged.Goals as goal
 
 pub returns-then-words-gt-MOST_CARDS : goal.returns-then-words-gt-MOST_CARDS

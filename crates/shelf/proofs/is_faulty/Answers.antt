@@ -1,12 +1,9 @@
 -- `is_faulty` looks at the cards one by one.
 -- Assumes nothing.
 use mathlib.Core.Path.{sym, ◌∙◌}
-use Prim.Native.Nat.{◌-◌}
 use native.Mathlib.Omega.{arith}
-use borrow.Author.Rules.{rules}
-use Rattle.shelf.specs.Words.{cards_of}
 use Rattle.shelf.proofs.Words.{count}
-use Rattle.shelf.proofs.Search.{Sifting, sifting_begins, sifting_here, sifting_on, sifting_ends}
+use Rattle.shelf.proofs.Search.{sifting_begins, sifting_here, sifting_on, sifting_ends}
 use Rattle.shelf.proofs.is_faulty.Goals as goal
 
 pub loop-i-init : goal.loop-i-init

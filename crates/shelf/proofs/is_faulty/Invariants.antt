@@ -1,12 +1,8 @@
 -- `is_faulty` looks at the cards one by one.
 -- Assumes nothing.
-use mathlib.Core.Path.{sym, ◌∙◌}
 use Prim.Native.Nat.{◌-◌}
-use native.Mathlib.Omega.{arith}
-use borrow.Author.Rules.{rules}
 use Rattle.shelf.specs.Words.{cards_of}
-use Rattle.shelf.proofs.Words.{count}
-use Rattle.shelf.proofs.Search.{Sifting, sifting_begins, sifting_here, sifting_on, sifting_ends}
+use Rattle.shelf.proofs.Search.{Sifting}
 use Rattle.shelf.proofs.is_faulty.Given as goal
 
 abbrev pub invariant-loop-i : goal.invariant-loop-i

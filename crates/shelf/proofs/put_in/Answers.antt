@@ -4,7 +4,6 @@ use Rattle.shelf.specs.Shelf.{label}
 use Rattle.shelf.specs.Runs.{putting}
 use Rattle.shelf.specs.Rows.{row_of}
 use Rattle.shelf.proofs.Rows.{taken-length, in_row, put_keeps, put-answer, many-row}
-use borrow.Author.Rules.{rules}
 use Rattle.shelf.proofs.put_in.Goals as goal
 
 pub returns-then-n-gt-MOST_CARDS : goal.returns-then-n-gt-MOST_CARDS

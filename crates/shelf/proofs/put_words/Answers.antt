@@ -2,7 +2,6 @@
 -- Assumes nothing.
 use Rattle.shelf.specs.Shelf.{label}
 use Rattle.shelf.proofs.Ways.{place-card, place-part, place_at, put_refused, put-done}
-use borrow.Author.Rules.{rules}
 use Rattle.shelf.proofs.put_words.Goals as goal
 
 pub store_card-requires : goal.store_card-requires

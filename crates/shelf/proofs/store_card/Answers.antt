@@ -3,7 +3,6 @@
 use mathlib.Core.Path.{◌∙◌}
 use native.Mathlib.Omega.{arith}
 use Rattle.shelf.proofs.Words.{count, stored}
-use borrow.Author.Rules.{rules}
 use Rattle.shelf.proofs.store_card.Goals as goal
 
 pub returns : goal.returns

@@ -3,7 +3,6 @@
 use native.Mathlib.Omega.{arith}
 use lib.ListN.{length}
 use Rattle.shelf.proofs.Parts.{part_in, part_filled}
-use borrow.Author.Rules.{rules}
 use Rattle.shelf.proofs.store_part.Goals as goal
 
 pub overflow_mul-at : goal.overflow_mul-at

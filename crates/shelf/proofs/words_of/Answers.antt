@@ -1,9 +1,8 @@
 -- `words_of` stores the cards one by one.
 -- Assumes nothing.
 use mathlib.Core.Path.{refl, sym}
-use Prim.Native.Nat.{◌-◌}
 use native.Mathlib.Omega.{arith}
-use Rattle.shelf.proofs.Rows.{Stored, stored_more, stored-all}
+use Rattle.shelf.proofs.Rows.{stored_more, stored-all}
 use Rattle.shelf.proofs.words_of.Goals as goal
 
 pub loop-i-init : goal.loop-i-init

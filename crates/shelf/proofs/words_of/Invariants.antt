@@ -1,9 +1,7 @@
 -- `words_of` stores the cards one by one.
 -- Assumes nothing.
-use mathlib.Core.Path.{refl, sym}
 use Prim.Native.Nat.{◌-◌}
-use native.Mathlib.Omega.{arith}
-use Rattle.shelf.proofs.Rows.{Stored, stored_more, stored-all}
+use Rattle.shelf.proofs.Rows.{Stored}
 use Rattle.shelf.proofs.words_of.Given as goal
 
 abbrev pub invariant-loop-i : goal.invariant-loop-i

@@ -1,0 +1,12 @@
+-- `store` copies the cards one by one.
+-- Assumes nothing.
+use Prim.Native.Nat.{◌-◌, ◌≤◌}
+use mathlib.Core.Path.{◌≡◌}
+use Rattle.shelf.specs.Rows.{laid}
+use Rattle.shelf.proofs.store.Given as goal
+
+abbrev pub invariant-loop-i : goal.invariant-loop-i
+invariant-loop-i l = record { within : l.i ≤ l.n; cards : l.cards ≡ laid l.i l.a l.fn.cards }
+
+abbrev pub decreases-loop-i : goal.decreases-loop-i
+decreases-loop-i l = l.n - l.i
