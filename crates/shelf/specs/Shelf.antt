@@ -1,4 +1,4 @@
--- A shelf (02, E7): a row of cards, at most 16, and a text of 16 equal parts that holds their sheets; part and card go together by number. What put, get and drop
+-- A shelf: a row of cards, at most 16, and a text of 16 equal parts that holds their sheets; part and card go together by number. What put, get and drop
 -- answer, and what they leave.
 -- Assumes nothing.
 use Rattle.std.specs.Prelude.{Bool, false, cond, not, ◌&&◌, ◌||◌, List, [], ◌∷◌, ℕ, suc, ◌*◌, ◌/◌, ltb, eqb, length, get_or, take, drop, set, replicate}

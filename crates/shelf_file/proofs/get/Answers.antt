@@ -4,7 +4,6 @@ use lib.ListN.{length}
 use Rattle.shelf.specs.Shelf.{label}
 use Rattle.shelf.specs.Runs.{getting}
 use Rattle.shelf_file.proofs.Left.{other-got, got}
-use borrow.Author.Rules.{rules}
 use Rattle.shelf_file.proofs.get.Goals as goal
 
 pub returns-then-file-ne-SIZE : goal.returns-then-file-ne-SIZE

@@ -1,7 +1,6 @@
 -- `put_eight` puts the eight bytes of a number.
 -- Assumes nothing.
 use Rattle.room.proofs.Counting.{counts-as}
-use borrow.Author.Rules.{rules}
 use Rattle.shelf_file.proofs.put_eight.Goals as goal
 
 pub returns : goal.returns

@@ -1,13 +1,9 @@
 -- `put_words` puts the words one by one. The invariant: of the whole, the words from i on are still to be put.
 -- Assumes nothing.
 use mathlib.Core.Path.{refl}
-use Prim.Native.Nat.{◌-◌}
-use lib.ListN.{length, drop}
 use native.Mathlib.Omega.{arith}
-use Rattle.room.proofs.Counting.{Going, going_start, going_on, going_end, going_length}
-use Rattle.shelf_file.specs.Layout.{eights}
+use Rattle.room.proofs.Counting.{going_start, going_on, going_end}
 use Rattle.shelf_file.proofs.Bytes.{eights-next, eights-none}
-use borrow.Author.Rules.{rules}
 use Rattle.shelf_file.proofs.put_words.Goals as goal
 
 pub loop-i-init : goal.loop-i-init

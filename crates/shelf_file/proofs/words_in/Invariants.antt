@@ -1,11 +1,8 @@
 -- `words_in` reads the words one by one. The invariant: the first i are stored.
 -- Assumes nothing.
-use mathlib.Core.Path.{refl}
 use Prim.Native.Nat.{◌-◌}
-use native.Mathlib.Omega.{arith}
-use Rattle.room.proofs.Storing.{Storing, none}
+use Rattle.room.proofs.Storing.{Storing}
 use Rattle.shelf_file.specs.Layout.{words_from}
-use Rattle.shelf_file.proofs.Bytes.{word_more, words-all}
 use Rattle.shelf_file.proofs.words_in.Given as goal
 
 abbrev pub invariant-loop-i : goal.invariant-loop-i
