@@ -2,8 +2,6 @@
 ghost use Rattle.std.specs.Prelude.{◌≡◌, ◌+◌, ◌≤◌, ◌<◌, min, ◌∷◌, [], length, set};
 ghost use Rattle.casetext.specs.Text.{Ends, Puts, digit_of};
 
-use libc::STDOUT_FILENO;
-
 // Where text can be put: `at`, or the buffer's length where `at` is past it.
 fn start(out: &[u8], at: usize) -> usize
     ensures { result ≡ min at (length out.now) }
@@ -156,13 +154,13 @@ pub fn put_refusal(out: &mut [u8], at: usize, number: u64, place: usize) -> usiz
     put_spaced(out, end, place as u64)
 }
 
-// Puts a line end, if there is room for it, and writes the line to standard output; answers whether all of it was written.
-pub fn write_line(out: &mut [u8], at: usize) -> bool
+// Puts a line end, if there is room for it, and writes the line to standard output: an error says that not all of it was written.
+pub fn write_line(rt: &impl Print, out: &mut [u8], at: usize) -> std::io::Result<()>
     ensures { out.new ≡ set out.old at 0x0a }
 {
     if at < out.len() {
         out[at] = b'\n';
-        return io::write_all(STDOUT_FILENO, &out[..at + 1]);
+        return rt.write_all(&out[..at + 1]);
     }
-    io::write_all(STDOUT_FILENO, out)
+    rt.write_all(out)
 }

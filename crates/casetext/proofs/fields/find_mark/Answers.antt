@@ -1,10 +1,6 @@
 -- `casetext::fields::find_mark` meets its contract. Assumes nothing.
-use mathlib.Core.Path.{◌≡◌}
-use Prim.Native.Nat.{ℕ, ◌≤◌, ◌<◌, ◌-◌}
 use native.Mathlib.Omega.{arith}
-use lib.ListN.{length, get_or}
 use borrow.Author.Count.{below_more}
-use borrow.Author.Rules.{rules}
 use Rattle.casetext.proofs.fields.find_mark.Goals as goal
 
 pub returns-then-text-i : goal.returns-then-text-i

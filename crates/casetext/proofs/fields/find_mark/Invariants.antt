@@ -1,10 +1,7 @@
 -- `casetext::fields::find_mark` meets its contract. Assumes nothing.
 use mathlib.Core.Path.{◌≡◌}
 use Prim.Native.Nat.{ℕ, ◌≤◌, ◌<◌, ◌-◌}
-use native.Mathlib.Omega.{arith}
 use lib.ListN.{length, get_or}
-use borrow.Author.Count.{below_more}
-use borrow.Author.Rules.{rules}
 use Rattle.casetext.proofs.fields.find_mark.Given as goal
 
 abbrev pub invariant-loop-i : goal.invariant-loop-i

@@ -1,5 +1,4 @@
 -- `casetext::fields::part` meets its contract. Assumes nothing.
-use borrow.Author.Rules.{rules}
 use Rattle.casetext.proofs.Laws.{part-within, part-unmarked}
 use Rattle.casetext.proofs.fields.part.Goals as goal
 

@@ -1,7 +1,6 @@
 -- `casetext::fields::part_start` meets its contract. Assumes nothing.
 use Prim.Native.Nat.{◌≤◌}
 use lib.ListN.{length}
-use borrow.Author.Rules.{rules}
 use Rattle.casetext.proofs.fields.part_start.Given as goal
 
 abbrev pub invariant-loop-left : goal.invariant-loop-left

@@ -1,7 +1,6 @@
 -- `casetext::input::digit` meets its contract. Assumes nothing.
 use mathlib.Core.Path.{sym}
 use native.Mathlib.Omega.{arith}
-use borrow.Author.Rules.{rules}
 use Rattle.casetext.proofs.Laws.{digit_low, digit_decimal, digit_between, digit_letter, digit_high}
 use Rattle.casetext.proofs.input.digit.Goals as goal
 

@@ -1,13 +1,9 @@
 -- `casetext::input::read_decimal` meets its contract. Assumes nothing.
 use mathlib.Core.Bool.{false≢true}
-use mathlib.Core.Path.{refl, ◌≡◌}
-use Prim.Native.Nat.{◌≤◌, ◌-◌}
+use mathlib.Core.Path.{refl}
 use native.Mathlib.Omega.{arith}
-use lib.ListN.{length, drop}
-use borrow.Author.Rules.{rules}
 use borrow.Author.Tests.{lt-ltb}
 use Rattle.casetext.proofs.Laws.{value-more, value-over, value-all}
-use Rattle.casetext.specs.Text.{value_from}
 use Rattle.casetext.proofs.input.read_decimal.Goals as goal
 
 pub loop-i-init : goal.loop-i-init

@@ -1,12 +1,7 @@
 -- `casetext::input::read_decimal` meets its contract. Assumes nothing.
-use mathlib.Core.Bool.{false≢true}
-use mathlib.Core.Path.{refl, ◌≡◌}
+use mathlib.Core.Path.{◌≡◌}
 use Prim.Native.Nat.{◌≤◌, ◌-◌}
-use native.Mathlib.Omega.{arith}
 use lib.ListN.{length, drop}
-use borrow.Author.Rules.{rules}
-use borrow.Author.Tests.{lt-ltb}
-use Rattle.casetext.proofs.Laws.{value-more, value-over, value-all}
 use Rattle.casetext.specs.Text.{value_from}
 use Rattle.casetext.proofs.input.read_decimal.Given as goal
 

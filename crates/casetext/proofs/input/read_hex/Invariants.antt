@@ -1,13 +1,7 @@
 -- `casetext::input::read_hex` meets its contract. Assumes nothing.
-use mathlib.Core.Logic.{inl, inr}
-use mathlib.Core.Path.{refl, sym, ◌≡◌}
-use Prim.Native.Nat.{ℕ, ◌+◌, ◌*◌, ◌/◌, ◌≤◌, ◌<◌, ◌-◌}
-use native.Mathlib.Omega.{arith}
-use lib.ListN.{length-set, length, get_or}
-use lib.Seq.{length-take-le}
-use borrow.Author.Rules.{rules}
-use borrow.Author.Tests.{eqb-true, eq-eqb}
-use Rattle.casetext.proofs.Laws.{no_bytes, byte_more}
+use mathlib.Core.Path.{◌≡◌}
+use Prim.Native.Nat.{ℕ, ◌*◌, ◌≤◌, ◌<◌, ◌-◌}
+use lib.ListN.{length, get_or}
 use Rattle.casetext.specs.Text.{byte_at}
 use Rattle.casetext.proofs.input.read_hex.Given as goal
 

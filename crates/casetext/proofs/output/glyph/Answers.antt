@@ -2,7 +2,6 @@
 use mathlib.Core.Path.{◌∙◌}
 use Prim.Native.Nat.{◌+◌}
 use native.Mathlib.Omega.{arith}
-use borrow.Author.Rules.{rules}
 use Rattle.casetext.proofs.Laws.{digit_decimal, digit_letter}
 use Rattle.casetext.proofs.output.glyph.Goals as goal
 

@@ -1,12 +1,8 @@
 -- `casetext::output::put` meets its contract. Assumes nothing.
-use mathlib.Core.Path.{◌≡◌, refl}
+use mathlib.Core.Path.{refl}
 use mathlib.Core.List.{[]}
-use Prim.Native.Nat.{◌≤◌, ◌-◌, min}
 use native.Mathlib.Omega.{arith}
-use lib.ListN.{length, take}
-use borrow.Author.Rules.{rules}
 use Rattle.casetext.proofs.Laws.{ends, put-none, put-more, put_all}
-use Rattle.casetext.specs.Text.{Puts}
 use Rattle.casetext.proofs.output.put.Goals as goal
 
 pub loop-i-init : goal.loop-i-init

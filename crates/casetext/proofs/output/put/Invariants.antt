@@ -1,11 +1,7 @@
 -- `casetext::output::put` meets its contract. Assumes nothing.
-use mathlib.Core.Path.{◌≡◌, refl}
-use mathlib.Core.List.{[]}
+use mathlib.Core.Path.{◌≡◌}
 use Prim.Native.Nat.{◌≤◌, ◌-◌, min}
-use native.Mathlib.Omega.{arith}
 use lib.ListN.{length, take}
-use borrow.Author.Rules.{rules}
-use Rattle.casetext.proofs.Laws.{ends, put-none, put-more, put_all}
 use Rattle.casetext.specs.Text.{Puts}
 use Rattle.casetext.proofs.output.put.Given as goal
 

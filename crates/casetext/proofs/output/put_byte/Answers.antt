@@ -2,7 +2,6 @@
 use mathlib.Core.Path.{refl}
 use native.Mathlib.Omega.{arith}
 use lib.ListN.{length-set}
-use borrow.Author.Rules.{rules}
 use Rattle.casetext.proofs.Laws.{ends, set_past}
 use Rattle.casetext.proofs.output.put_byte.Goals as goal
 

@@ -1,9 +1,5 @@
 -- `casetext::output::put_hex` meets its contract. Assumes nothing.
-use mathlib.Core.Path.{◌≡◌}
-use Prim.Native.Nat.{◌≤◌, ◌-◌, min}
 use native.Mathlib.Omega.{arith}
-use lib.ListN.{length}
-use borrow.Author.Rules.{rules}
 use Rattle.casetext.proofs.Laws.{ends}
 use Rattle.casetext.proofs.output.put_hex.Goals as goal
 

@@ -1,7 +1,6 @@
 -- `casetext::words::row_words` meets its contract. Assumes nothing.
 use mathlib.Core.Path.{refl}
 use native.Mathlib.Omega.{arith}
-use borrow.Author.Rules.{rules}
 use Rattle.casetext.proofs.Laws.{rows_none, rows-over, rows_fit}
 use Rattle.casetext.proofs.words.row_words.Goals as goal
 
