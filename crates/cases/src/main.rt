@@ -14,11 +14,11 @@ mod sums;
 mod texts;
 mod written;
 
-ghost use Rattle.std.specs.Prelude.{◌≤◌, length};
+ghost use Rattle.std.specs.Prelude.{◌≤◌, length, IfOk};
 
 use casetext::STALE;
-use libc::STDIN_FILENO;
 use said::put_unless;
+use std::io::{Read, Result};
 
 // The most times that standard input is read.
 const MOST_READS: usize = 1000;
@@ -87,27 +87,27 @@ fn answer(line: &[u8], given: &[u8], bytes: &mut [u8], out: &mut [u8]) -> usize 
 }
 
 // Runs one case and writes its answer.
-fn run(line: &[u8]) {
+fn run(rt: &impl Print, line: &[u8]) -> Result<()> {
     let mut file = io::large_buffer();
     let mut bytes = io::large_buffer();
     let mut out = casetext::text_buffer();
     let k = casetext::read_bytes(line, 1, &mut file);
     let end = answer(line, &file[..k], &mut bytes, &mut out);
-    casetext::write_line(&mut out, end);
+    casetext::write_line(rt, &mut out, end)
 }
 
 // Runs the cases of a text, and answers where the first line starts that has no end.
-fn run_lines(text: &[u8]) -> usize
-    ensures { result ≤ length text.now }
+fn run_lines(rt: &impl Print, text: &[u8]) -> Result<usize>
+    ensures { IfOk result (λ n. n ≤ length text.now) }
 {
     let mut at = 0;
     let mut end = casetext::find_mark(text, 0, b'\n');
     while end < text.len() {
-        run(&text[at..end]);
+        run(rt, &text[at..end])?;
         at = end + 1;
         end = casetext::find_mark(text, at, b'\n');
     }
-    at
+    Ok(at)
 }
 
 // Moves the bytes from `from` to `end` to the front, and answers how many they are.
@@ -123,23 +123,39 @@ fn to_front(text: &mut [u8], from: usize, end: usize) -> usize
     i
 }
 
-// Reads more behind the first bytes, runs what lines there are, and keeps the rest; answers how many bytes that is.
-fn run_more(text: &mut [u8], kept: usize) -> usize
-    requires { kept ≤ length text.old }
-    ensures { result ≤ length text.new }
+// Reads until the buffer is full or the input ends, and answers how many bytes came.
+fn read_full(input: &mut impl Read, buf: &mut [u8]) -> Result<usize>
+    ensures { IfOk result (λ n. n ≤ length buf.new) }
 {
-    let end = kept + io::read_full(STDIN_FILENO, &mut text[kept..]);
-    let at = run_lines(&text[0..end]);
-    to_front(text, at, end)
+    let mut done = 0;
+    while done < buf.len() {
+        let more = input.read(&mut buf[done..])?;
+        if more == 0 {
+            return Ok(done);
+        }
+        done += more;
+    }
+    Ok(done)
+}
+
+// Reads more behind the first bytes, runs what lines there are, and keeps the rest; answers how many bytes that is.
+fn run_more(rt: &(impl Input + Print), text: &mut [u8], kept: usize) -> Result<usize>
+    requires { kept ≤ length text.old }
+    ensures { IfOk result (λ n. n ≤ length text.new) }
+{
+    let end = kept + read_full(&mut rt.reader(), &mut text[kept..])?;
+    let at = run_lines(rt, &text[0..end])?;
+    Ok(to_front(text, at, end))
 }
 
 // Runs the cases of standard input.
-fn main() {
+fn main(rt: HostRuntime) -> Result<()> {
     let mut text = casetext::text_buffer();
     let mut kept = 0;
     let mut left = MOST_READS;
     while left > 0 {
-        kept = run_more(&mut text, kept);
+        kept = run_more(&rt, &mut text, kept)?;
         left -= 1;
     }
+    Ok(())
 }

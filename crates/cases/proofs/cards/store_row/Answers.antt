@@ -19,14 +19,14 @@ pub store-requires : goal.store-requires
 store-requires c = omega (arith, c.loop-i-test.true, c.loop-i.invariant.1, c.loop-i.invariant.2)
 
 pub loop-i-preserved : goal.loop-i-preserved
-loop-i-preserved c = let four = four_of (get_or c.args.t2 c.loop-i.i fresh_card) in (
+loop-i-preserved c = let four = four_of (get_or c.args.row c.loop-i.i fresh_card) in (
   omega (arith, c.loop-i-test.true),
   c.loop-i.invariant.1,
   ap length c.store.ensures ∙ length-sets {A = ℕ} c.loop-i.words (c.loop-i.i * 4) four ∙ c.loop-i.invariant.2,
   c.store.ensures
-      ∙ stored_more c.args.words.now c.args.t2 c.loop-i.i c.well_formed.1.0.1.0.1 (omega (arith, c.loop-i-test.true, c.loop-i.invariant.1)) c.loop-i.invariant.3,
+      ∙ stored_more c.args.words.now c.args.row c.loop-i.i c.well_formed.1.0.1.0.1 (omega (arith, c.loop-i-test.true, c.loop-i.invariant.1)) c.loop-i.invariant.3,
 )
 
 pub returns : goal.returns
 returns c = let all : c.loop-i.i ≡ min (length c.args.words.now / 4) 20 = omega (arith, c.loop-i-test.false, c.loop-i.invariant.0, c.loop-i.invariant.1) in
-    c.loop-i.invariant.3 ∙ ap (λ (k : ℕ). words_with c.args.words.now (take k c.args.t2)) all
+    c.loop-i.invariant.3 ∙ ap (λ (k : ℕ). words_with c.args.words.now (take k c.args.row)) all
