@@ -72,8 +72,8 @@ def proved():
     found = []
     for path in sorted((root / "crates/capi/src").rglob("*.rt")):
         text = path.read_text(encoding="utf-8")
-        exports = re.findall(r'^#\[no_mangle\]\npub extern "C" fn (\w+)\(([^)]*)\)(?=\s*(?:ensures|requires|->|\{))(\s*->)?', text, re.M)
-        if len(exports) != text.count("#[no_mangle]"):
+        exports = re.findall(r'^#\[unsafe\(no_mangle\)\]\npub extern "C" fn (\w+)\(([^)]*)\)(?=\s*(?:ensures|requires|->|\{))(\s*->)?', text, re.M)
+        if len(exports) != text.count("no_mangle"):
             problems.append(f"{path.name}: an export is not understood")
         found += [(name, [tuple(part.split(": ")) for part in split(words)]) for name, words, _ in exports]
     return functions(found)

@@ -26,12 +26,16 @@ def words(text):
     return " ".join(text.split())
 
 
+def snake(name):
+    return re.sub("([A-Z])", r"_\1", name).lower()
+
+
 rows = table("share/refusals.tsv", 4)
 checks = table("share/checks.tsv", 2)
 fields = table("share/fields.tsv", 2)
 meanings = [(int(n), m) for n, _, m, _ in rows]
 names = [(int(n), name) for n, name, _, _ in rows]
-constants = [(n, re.sub("([A-Z])", r"_\1", name).upper()) for n, name in names]
+constants = [(n, snake(name).upper()) for n, name in names]
 sentences = [(int(n), m[0].upper() + m[1:] + ". " + t) for n, _, m, t in rows]
 results = []
 
@@ -69,7 +73,7 @@ found = re.findall(r'(\d+) => (?:\{\s*)?"((?:[^"\\]|\\\n)*)"', text)
 compare("rust/xmf", meanings, [(int(n), words(m.replace("\\\n", ""))) for n, m in found])
 
 text = read("crates/cursor/specs/Refusals.antt") + read("crates/room/specs/Room.antt")
-compare("Refusals.antt", names, sorted((int(n), a) for a, n in re.findall(r"^(\w+) = (\d+)$", text, re.M)))
+compare("Refusals.antt", [(n, snake(name)) for n, name in names], sorted((int(n), snake(a)) for a, n in re.findall(r"^(\w+) = (\d+)$", text, re.M)))
 text = read("crates/cursor/src/lib.rt")
 compare("cursor", constants, [(int(n), a) for a, n in re.findall(r"^pub const (\w+): u64 = (\d+);$", text, re.M)])
 
