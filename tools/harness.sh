@@ -54,19 +54,18 @@ needs = {}
 for line in open(sys.argv[1]):
     name, colon, rest = line.split("#")[0].partition(":")
     if colon:
-        needs[name.strip()] = rest.split()
-level = {}
+        needs[name.split()[0]] = rest.split()
+order = []
 
 
 def visit(name):
-    if name in needs and name not in level:
+    if name in needs and name not in order:
         for other in needs[name]:
             visit(other)
-        level[name] = 1 + max((level[other] for other in needs[name] if other in needs), default=0)
+        order.append(name)
 
 
 visit(sys.argv[2])
-order = sorted(level, key=level.get)
 changed = set(sys.argv[3:] or order)
 for name in order:
     if changed & set(needs[name]):
@@ -80,46 +79,58 @@ PYTHON
 # `slow`, `broken`, `kit` (what it says for version). The file `calls` has the builds that were asked of it.
 make_copy() { # FILE..
     copy=$work/copy
-    guide=$(rt doc) && rt=$(command -v rt) || exit 1
-    kit=${guide%/docs/*} bin=on/$(uname -m)/bin
-    mkdir -p "$copy" "$work/bin" "$work/home/$bin"
-    chmod 755 "$work" # rt runs programs as nobody, who has to reach the kit
-    (cd "$root" && cp -R "$@" samples crates crates.txt share tools README.md "$copy") || exit 1
-    for file in "$kit"/* "$kit/${bin%/*}"/*; do
-        [ -e "$work/home/${file#"$kit/"}" ] || ln -s "$file" "$work/home/${file#"$kit/"}"
+    guide=$(rt doc) || exit 1
+    kit=$(dirname -- "$guide") home=$work/home
+    mkdir -p "$copy" "$work/bin" "$home/bin"
+    chmod 755 "$work" # so that another user can reach it
+    (cd "$root" && cp -R "$@" samples crates.txt share tools README.md "$copy" && mkdir "$copy/crates" &&
+        tar -cf - --exclude='crates/*/out' crates | tar -xf - -C "$copy") || exit 1
+    # `rt` takes as its kit the folder that it lies in
+    for file in "$kit"/* "$kit/bin"/*; do
+        place=$home/${file#"$kit/"}
+        case $place in
+        "$home/bin" | "$home/bin/rattle" | "$home/bin/rattle-link" | */__pycache__) ;;
+        "$home/bin/rt" | *.py) cp -- "$file" "$place" ;;
+        *) ln -s "$file" "$place" ;;
+        esac
     done
     cat >"$work/bin/rt" <<RT
 #!/bin/sh
 if [ "\$1" = version ] && [ -f '$work/kit' ]; then exec cat '$work/kit'; fi
 case \$1 in
-check | staticlib)
+run | lib)
     cat >/dev/null # would take a file on standard input away
-    echo "\$*" >>'$work/calls'
+    echo "\${PWD##*/} \$*" >>'$work/calls'
     [ ! -f '$work/slow' ] || sleep 2
     ;;
 esac
-RATTLE_HOME='$work/home' exec '$rt' "\$@"
+exec '$home/bin/rt' "\$@"
 RT
-    cat >"$work/home/$bin/rattle" <<PROVER
+    cat >"$home/bin/rattle" <<PROVER
 #!/bin/sh
+case "\$*" in *--help*) exec '$kit/bin/rattle' "\$@" ;; esac
 if [ -f '$work/broken' ]; then
     echo 'crates/tree/src/lib.rt:1:1: error: the goal is false'
     echo 'logic=not-proved'
     exit 1
 fi
+if [ "\$1" = check ]; then
+    echo 'only=0 proved=0'
+    exit
+fi
 while [ "\$1" != -o ]; do shift; done
 case \$2 in
-*.rlib) mkdir -p "\$2" ;;
+*.rlib) mkdir -p "\$2" && date +%N >"\$2/format" ;;
 *.a) cp '$root/target/staticlib/libcapi.a' "\$2" 2>/dev/null || : >"\$2" ;;
-*) : >"\$2" ;;
+*) echo object >"\$2" ;;
 esac
 PROVER
-    cat >"$work/home/$bin/rattle-link" <<LINK
+    cat >"$home/bin/rattle-link" <<LINK
 #!/bin/sh
 while [ "\$1" != -o ]; do shift; done
 cp "$root/target/bin/\${2##*/}" "\$2"
 LINK
-    chmod +x "$work/bin/rt" "$work/home/$bin/rattle" "$work/home/$bin/rattle-link"
+    chmod +x "$work/bin/rt" "$home/bin/rattle" "$home/bin/rattle-link"
 }
 copied() { env PATH="$work/bin:$PATH" "$@"; } # COMMAND..
 
