@@ -8,9 +8,9 @@ ghost use Rattle.io.specs.Counts.{IsPrefixLen};
 ghost use Rattle.room.specs.Counts as room;
 ghost use Rattle.xmf_sheet.specs.Answer.{refusal_line, too_long, answer_text};
 
-use libc::{STDERR_FILENO, STDIN_FILENO, STDOUT_FILENO};
-use program::Input;
 use room::Written;
+use std::io::{Eprint, Input, Print, Read, Result};
+use std::rt::{Env, Files};
 
 // Puts the line of a refusal.
 fn put_refusal(out: &mut [u8], number: u64, place: usize) -> usize
@@ -46,52 +46,54 @@ fn make_answer(file: &[u8], text: &mut [u8]) -> usize
     }
 }
 
-// Writes the answer for the bytes of an input, by one write; answers whether all of it was written.
-fn write_answer(file: &[u8]) -> bool {
+// Writes the answer for the bytes of an input, by one write.
+fn write_answer(rt: &impl Print, file: &[u8]) -> Result<()> {
     let mut text = io::large_buffer();
     let n = make_answer(file, &mut text);
-    io::write_all(STDOUT_FILENO, &text[..n])
+    rt.write_all(&text[..n])
 }
 
 // Reads an input and writes the answer.
-fn answer(fd: i32, name: &[u8]) {
+fn answer(rt: &(impl Print + Eprint), input: &mut impl Read, name: &[u8]) {
     let mut file = program::file_buffer();
-    match program::read_input(fd, &mut file) {
-        Input::Failed => program::fail(b"xmf_sheet", name),
-        Input::Bytes(n) => {
-            if !write_answer(&file[..n]) {
-                program::fail(b"xmf_sheet", b"standard output");
+    match program::read_input(input, &mut file) {
+        Err(error) => program::fail(rt, b"xmf_sheet", name, error),
+        Ok(n) => {
+            if let Err(error) = write_answer(rt, &file[..n]) {
+                program::fail(rt, b"xmf_sheet", b"standard output", error);
             }
         }
     }
 }
 
 // Opens the file with this name and writes the answer.
-fn answer_named(name: &[u8]) {
-    let fd = os::open_read(name);
-    if fd < 0 {
-        program::fail(b"xmf_sheet", name);
-        return;
+fn answer_named(rt: &(impl Files + Print + Eprint), name: &[u8]) {
+    match program::open(rt, name) {
+        Err(error) => program::fail(rt, b"xmf_sheet", name, error),
+        Ok(mut file) => answer(rt, &mut file, name),
     }
-    answer(fd, name);
-    libc::close(fd);
 }
 
-fn main() {
-    let count = os::arg_count();
-    if count < 2 {
-        answer(STDIN_FILENO, b"standard input");
-        return;
-    }
-    if count > 2 {
-        io::write_all(STDERR_FILENO, b"xmf_sheet: one file at a time\n");
-        return;
-    }
+// Writes the answer for the file that the first argument names.
+fn answer_first(rt: &(impl Env + Files + Print + Eprint)) {
     let mut name = io::buffer();
-    let n = os::arg(1, &mut name);
-    if os::errno() != 0 {
-        program::fail(b"xmf_sheet", b"the first argument");
-        return;
+    match program::arg(rt, 1, &mut name) {
+        Err(error) => program::fail(rt, b"xmf_sheet", b"the first argument", error),
+        Ok(n) => answer_named(rt, &name[..n]),
     }
-    answer_named(&name[..n]);
+}
+
+fn run(rt: &(impl Env + Files + Input + Print + Eprint)) {
+    let count = program::arg_count(rt);
+    if count < 2 {
+        answer(rt, &mut rt.reader(), b"standard input");
+    } else if count > 2 {
+        program::say(rt, b"xmf_sheet: one file at a time\n");
+    } else {
+        answer_first(rt);
+    }
+}
+
+fn main(rt: HostRuntime) {
+    run(&rt);
 }
