@@ -1,7 +1,7 @@
 // Answers on standard output, and messages on standard error: `xmf: NAME: reason`.
 ghost use Rattle.std.specs.Prelude.{◌≡◌, length};
 
-use libc::{STDERR_FILENO, STDOUT_FILENO};
+use std::io::{Eprint, Error, Print};
 
 // Room for a line with a name of 4,096 bytes, each as a backslash and two digits.
 pub fn line_buffer() -> [u8; 12300]
@@ -11,68 +11,67 @@ pub fn line_buffer() -> [u8; 12300]
 }
 
 // Writes a name, safe on a terminal.
-pub fn say_safe(name: &[u8]) {
+pub fn say_safe(rt: &impl Eprint, name: &[u8]) {
     let mut text = line_buffer();
     let end = notes::put_safe(&mut text, 0, name, name.len());
     let n = spelling::within(end, &text);
-    io::write_all(STDERR_FILENO, &text[..n]);
+    program::say(rt, &text[..n]);
 }
 
 // `-` is standard input.
-fn say_start(name: &[u8]) {
-    io::write_all(STDERR_FILENO, b"xmf: ");
-    if check::same(name, b"-") {
-        io::write_all(STDERR_FILENO, b"standard input");
-        return;
+fn say_start(rt: &impl Eprint, name: &[u8]) {
+    program::say(rt, b"xmf: ");
+    if name == b"-".as_slice() {
+        program::say(rt, b"standard input");
+    } else {
+        say_safe(rt, name);
     }
-    say_safe(name);
 }
 
-// Says what failed, and why: errno's text.
-pub fn failed(name: &[u8]) {
-    say_start(name);
-    os::fail(b"");
+// Says what failed, and why.
+pub fn failed(rt: &impl Eprint, name: &[u8], error: Error) {
+    say_start(rt, name);
+    program::say_reason(rt, error);
 }
 
 // Says what is wrong.
-pub fn trouble(name: &[u8], reason: &[u8]) {
-    say_start(name);
-    io::write_all(STDERR_FILENO, b": ");
-    io::write_all(STDERR_FILENO, reason);
-    io::write_all(STDERR_FILENO, b"\n");
+pub fn trouble(rt: &impl Eprint, name: &[u8], reason: &[u8]) {
+    say_start(rt, name);
+    program::say(rt, b": ");
+    program::say(rt, reason);
+    program::say(rt, b"\n");
 }
 
 // Says whose answer follows.
-pub fn say_name(name: &[u8]) {
-    say_safe(name);
-    io::write_all(STDERR_FILENO, b":\n");
+pub fn say_name(rt: &impl Eprint, name: &[u8]) {
+    say_safe(rt, name);
+    program::say(rt, b":\n");
 }
 
 // Says a refusal. Answers the status.
-pub fn say_refusal(line: &[u8], status: u64) -> u64 {
-    io::write_all(STDERR_FILENO, line);
+pub fn say_refusal(rt: &impl Eprint, line: &[u8], status: u64) -> u64 {
+    program::say(rt, line);
     status
 }
 
 // Says that the words are not those of a command. Answers the status.
-pub fn usage() -> u64 {
-    io::write_all(STDERR_FILENO, b"xmf: bad words\n");
+pub fn usage(rt: &impl Eprint) -> u64 {
+    program::say(rt, b"xmf: bad words\n");
     1
 }
 
 // Writes to standard output; answers whether all was written, and says so where it was not.
-pub fn write(text: &[u8]) -> bool {
-    if !io::write_all(STDOUT_FILENO, text) {
-        failed(b"standard output");
-        return false;
+pub fn write(rt: &(impl Print + Eprint), text: &[u8]) -> bool {
+    match rt.write_all(text) {
+        Ok(()) => true,
+        Err(error) => {
+            failed(rt, b"standard output", error);
+            false
+        }
     }
-    true
 }
 
 // Writes an answer with this status to standard output; answers the status.
-pub fn write_answer(text: &[u8], status: u64) -> u64 {
-    if write(text) {
-        return status;
-    }
-    1
+pub fn write_answer(rt: &(impl Print + Eprint), text: &[u8], status: u64) -> u64 {
+    if write(rt, text) { status } else { 1 }
 }
