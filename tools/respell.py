@@ -135,8 +135,8 @@ def main():
         for old in sorted(found & table.keys()):
             if table[old] in found and table[old] not in table:
                 print(f"together: {path}: {old} and {table[old]}")
-    table.update({name: snake(name) for name in MORE})
-    turn(table, fields)
+    turn({**table, **{name: snake(name) for name in MORE}}, fields)
+    turn_more()
     turn_crates()
 
 
@@ -167,6 +167,16 @@ def turn(table, fields):
             new = "".join(one(line, False) if re.match(r"(old|new):", line) else line for line in text.splitlines(keepends=True))
         else:
             new = "".join(one(piece, not code) if code or path.endswith(".antt") else piece for code, piece in pieces(path, text))
+        if new != text:
+            with open(path, "w", encoding="utf-8", newline="") as file:
+                file.write(new)
+
+
+def turn_more():
+    """The names of MORE in the code of src/ too, where they are fields of structs."""
+    for path in files(".rt", ".antt", ".edit"):
+        text = read(path)
+        new = re.sub(rf"(?<![\w'])({'|'.join(MORE)})(?![\w'])", lambda m: snake(m.group(1)), text)
         if new != text:
             with open(path, "w", encoding="utf-8", newline="") as file:
                 file.write(new)
